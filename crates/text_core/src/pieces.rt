@@ -1,0 +1,21 @@
+//! Cutting a text at a mark.
+
+ghost use Rattle.std.specs.Prelude.{◌≡◌, ◌==◌, position};
+ghost use Rattle.std.specs.Option.{option_map};
+ghost use Rattle.text_core.specs.Pieces.{split_once};
+
+/// The text before the first `mark` and the text behind it, or None where no `mark` stands in it.
+pub fn split_once(text: &[u8], mark: u8) -> Option<(&[u8], &[u8])>
+    ensures { option_map (λ parts. (parts.0.now, parts.1.now)) result ≡ split_once mark text.now }
+{
+    match place_of(text, mark) {
+        Some(at) => Some((&text[..at], &text[at + 1..])),
+        None => None,
+    }
+}
+
+fn place_of(text: &[u8], mark: u8) -> Option<usize>
+    ensures { result ≡ position (λ b. b == mark) text.now }
+{
+    text.iter().position(|byte| *byte == mark)
+}

@@ -1,0 +1,28 @@
+use crate::{put, put_number, read_number, split_once};
+
+#[test]
+fn numbers_are_read(rt: HostRuntime) {
+    assert!(rt; read_number(255, b"0") == Some(0));
+    assert!(rt; read_number(255, b"255") == Some(255));
+    assert!(rt; read_number(255, b"256").is_none());
+    assert!(rt; read_number(255, b"01").is_none());
+    assert!(rt; read_number(255, b"").is_none());
+    assert!(rt; read_number(255, b"+1").is_none());
+    assert!(rt; read_number(u32::MAX, b"4294967295") == Some(u32::MAX));
+}
+
+#[test]
+fn lines_are_put_together(rt: HostRuntime) {
+    let mut buffer = [0; 256];
+    let at = put(&mut buffer, 0, b"10.");
+    let at = put_number(&mut buffer, at, 4294967295);
+    let at = put_number(&mut buffer, at, 0);
+    assert!(rt; &buffer[..at] == b"10.42949672950".as_slice());
+}
+
+#[test]
+fn texts_are_cut_at_the_first_mark(rt: HostRuntime) {
+    let parts = split_once(b"10.0.0.1/24/8", b'/');
+    assert!(rt; parts == Some((b"10.0.0.1".as_slice(), b"24/8".as_slice())));
+    assert!(rt; split_once(b"10.0.0.1", b'/').is_none());
+}
