@@ -1,0 +1,14 @@
+-- The first `done` bytes of the piece are put.
+use Rattle.std.proofs.Common.{◌≡◌, ◌≤◌, ◌-◌, length, take}
+use Rattle.std.specs.Io.KnownBytes.{append_known}
+use Rattle.edge_io.proofs.put.put_all.Given as goal
+
+abbrev pub invariant-loop-done : goal.invariant-loop-done
+invariant-loop-done g l = record {
+  within : l.done ≤ length l.piece;
+  taken : g.O.Sink.held l.sink ≡ append_known (g.O.Sink.held l.fn.sink) (take l.done l.piece);
+  faults_stay : g.O.Sink.faults l.fn.sink ≤ g.O.Sink.faults l.sink;
+}
+
+abbrev pub decreases-loop-done : goal.decreases-loop-done
+decreases-loop-done g l = length l.piece - l.done

@@ -1,0 +1,18 @@
+-- What was taken so far stands in `bytes`, in front of what is left, and fits the limit.
+use Rattle.std.proofs.Common.{◌≡◌, ◌≤◌, ◌-◌, IsTrue, vec_len}
+use Rattle.std.specs.Io.KnownBytes.{prepend_known}
+use Rattle.edge_io.proofs.take.take_rest.Given as goal
+
+abbrev pub invariant-loop-bytes : goal.invariant-loop-bytes
+invariant-loop-bytes g l = record {
+  same_files : g.H.Shelf.files l.shelf ≡ g.H.Shelf.files l.fn.shelf;
+  same_begins : g.H.Shelf.begins l.shelf ≡ g.H.Shelf.begins l.fn.shelf;
+  faults_stay : g.H.Shelf.faults l.fn.shelf ≤ g.H.Shelf.faults l.shelf;
+  begun : IsTrue (g.H.Shelf.begun l.shelf);
+  count : vec_len l.bytes ≡ g.H.Shelf.taken l.shelf;
+  within : vec_len l.bytes ≤ l.limit;
+  moved : g.H.Shelf.left l.fn.shelf ≡ prepend_known l.bytes.items (g.H.Shelf.left l.shelf);
+}
+
+abbrev pub decreases-loop-bytes : goal.decreases-loop-bytes
+decreases-loop-bytes g l = l.limit - vec_len l.bytes

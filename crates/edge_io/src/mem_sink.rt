@@ -1,0 +1,80 @@
+//! A sink in memory, for tests and for runs on given files. It tells all that it took, and fails as
+//! it was told to: writes of certain numbers, and writes that find no room.
+ghost use Rattle.std.specs.Prelude.{◌≡◌, ◌<◌, Some, IfOk};
+
+use crate::fault_plan::FaultPlan;
+use crate::{Failed, Sink};
+use std::alloc::{AllocError, Global};
+use std::marker::Model;
+
+/// A sink of limited room that takes at most `grain` bytes in one write.
+#[derive(Drop)]
+pub struct MemSink {
+    bytes: Vec<u8>,
+    room: usize,
+    grain: usize,
+    plan: FaultPlan,
+}
+
+impl Model for MemSink {
+    ghost use Rattle.std.specs.Prelude.{◌<◌, ◌≤◌, vec_len, vec_capacity};
+    ghost use Rattle.edge_io.specs.MemSink.{Held};
+
+    ghost Value = { Held };
+
+    ghost view = { λ s. record { bytes = s.bytes.items; room = s.room; grain = s.grain; plan = s.plan } };
+
+    ghost invariant = { λ s. (vec_len s.bytes ≤ s.room) × (s.room ≤ vec_capacity s.bytes) × (0 < s.grain) };
+}
+
+impl MemSink {
+    ghost use Rattle.edge_io.specs.MemSink.{fresh_sink};
+
+    /// A sink with room for `room` bytes. `fails` has the numbers of the writes that fail; the first
+    /// write has number 1.
+    pub fn new(
+        alloc: Global,
+        room: usize,
+        grain: usize,
+        fails: Vec<u32>,
+    ) -> Result<MemSink, AllocError>
+        requires { 0 < grain }
+        ensures { IfOk result (λ sink. sink ≡ fresh_sink room grain fails.items) }
+    {
+        Ok(MemSink {
+            bytes: Vec::with_capacity(alloc, room)?,
+            room,
+            grain,
+            plan: FaultPlan::new(fails),
+        })
+    }
+
+    /// What the sink took.
+    pub fn bytes(&self) -> &[u8]
+        ensures { result.now ≡ self.now.bytes }
+    {
+        &self.bytes
+    }
+}
+
+impl Sink for MemSink {
+    ghost use Rattle.edge_io.specs.MemSink.{Writes};
+
+    ghost held = { λ s. Some s.bytes };
+
+    ghost faults = { λ s. s.plan.faults };
+
+    ghost write_gives = { λ old piece result new. Writes old piece result new };
+
+    fn write(&mut self, piece: &[u8]) -> Result<usize, Failed> {
+        self.plan.count_call()?;
+        let free = self.room - self.bytes.len();
+        if free == 0 && !piece.is_empty() {
+            self.plan.count_fault();
+            return Err(Failed);
+        }
+        let count = piece.len().min(self.grain).min(free);
+        self.bytes.extend_from_slice(&piece[..count]).unwrap();
+        Ok(count)
+    }
+}

@@ -1,0 +1,41 @@
+//! Putting pieces into a sink, whole or up to a fault.
+ghost use Rattle.std.specs.Prelude.{◌≡◌, ◌≤◌, OnOk, OnErr};
+ghost use Rattle.std.specs.Io.KnownBytes.{append_known};
+ghost use Rattle.edge_io.specs.Counts.{Rose};
+ghost use Rattle.edge_io.specs.Put.{joined, TookPrefix};
+
+use crate::{Sink, WriteFault};
+
+/// Puts the whole piece into the sink, in as many writes as it takes, and stops at the first fault.
+pub fn put_all<O: Sink>(sink: &mut O, piece: &[u8]) -> Result<(), WriteFault>
+    ensures prefix { TookPrefix (O.held sink.old) (O.held sink.new) piece.now }
+    ensures whole { OnOk result (O.held sink.new ≡ append_known (O.held sink.old) piece.now) }
+    ensures faults_stay { O.faults sink.old ≤ O.faults sink.new }
+    ensures fault { OnErr result (Rose (O.faults sink.old) (O.faults sink.new)) }
+{
+    let mut done = 0;
+    while done < piece.len() {
+        let Ok(count) = sink.write(&piece[done..]) else {
+            return Err(WriteFault);
+        };
+        done += count;
+    }
+    Ok(())
+}
+
+/// Puts the pieces into the sink one behind the other, as one text, and stops at the first fault.
+pub fn put_pieces<O: Sink>(sink: &mut O, pieces: &[&[u8]]) -> Result<(), WriteFault>
+    ensures prefix { TookPrefix (O.held sink.old) (O.held sink.new) (joined pieces.now) }
+    ensures whole { OnOk result (O.held sink.new ≡ append_known (O.held sink.old) (joined pieces.now)) }
+    ensures faults_stay { O.faults sink.old ≤ O.faults sink.new }
+    ensures fault { OnErr result (Rose (O.faults sink.old) (O.faults sink.new)) }
+
+    // Whole too where the answer is not looked at, as long as there was no fault.
+    ensures whole_without_fault { ¬ Rose (O.faults sink.old) (O.faults sink.new) →
+        O.held sink.new ≡ append_known (O.held sink.old) (joined pieces.now) }
+{
+    for piece in pieces {
+        put_all(sink, piece)?;
+    }
+    Ok(())
+}

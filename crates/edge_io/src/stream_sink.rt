@@ -1,0 +1,44 @@
+//! A stream of the system as a sink. Nothing is told of what it took.
+ghost use Rattle.std.specs.Prelude.{◌≡◌, None};
+ghost use Rattle.std.specs.Io.KnownBytes.{WriteAppends};
+ghost use Rattle.edge_io.specs.Counts.{CountsFault};
+
+use crate::{Failed, Sink};
+use std::io::Write;
+
+/// A sink over a stream. Each error of the stream is a fault, and so is a write that took nothing of
+/// a piece that is not empty. The stream is not flushed: give one that holds nothing back.
+#[derive(Drop)]
+pub struct StreamSink<W: Write + Drop> {
+    inner: W,
+    faults: u64,
+}
+
+impl<W: Write + Drop> StreamSink<W> {
+    /// A sink over `inner`, without faults yet.
+    pub fn new(inner: W) -> StreamSink<W>
+        ensures { ⟦<StreamSink<W> as Sink>⟧.faults result ≡ 0 }
+    {
+        StreamSink { inner, faults: 0 }
+    }
+}
+
+impl<W: Write + Drop> Sink for StreamSink<W> {
+    ghost held = { λ _. None };
+
+    ghost faults = { λ s. s.faults };
+
+    // What is answered as taken went to the stream, where the stream tells what it holds.
+    ghost write_gives = { λ old piece result new.
+        WriteAppends (W.contents old.inner) (W.contents new.inner) result piece × CountsFault result old.faults new.faults };
+
+    fn write(&mut self, piece: &[u8]) -> Result<usize, Failed> {
+        match self.inner.write(piece) {
+            Ok(count) if count > 0 || piece.is_empty() => Ok(count),
+            _ => {
+                self.faults = self.faults.saturating_add(1);
+                Err(Failed)
+            }
+        }
+    }
+}

@@ -1,0 +1,84 @@
+//! Taking a whole file off a shelf, piece by piece and never past a limit.
+ghost use Rattle.std.specs.Prelude.{◌≡◌, ◌+◌, ◌^◌, ◌≤◌, ◌<◌, ◌↔◌, ◌⊎◌, IsTrue, IfOk, IfSome, IsSomeAnd, OnOk, IsErrOf, length, vec_len};
+ghost use Rattle.std.specs.Io.KnownBytes.{IsAtEnd};
+ghost use Rattle.std.specs.FinMap.{get};
+ghost use Rattle.edge_io.specs.Counts.{more, Rose};
+ghost use Rattle.edge_io.specs.Told.{Lacks};
+ghost use Rattle.edge_io.specs.Take.{answer_for, outcome_of};
+
+use crate::{Shelf, TakeFault};
+use std::alloc::Global;
+
+/// Begins the file of that name and reads it to its end. Of a file that is longer than `limit`, at
+/// most 64 MiB, it takes one byte too many and no more.
+pub fn take_all<H: Shelf>(
+    alloc: Global,
+    shelf: &mut H,
+    name: &str,
+    limit: usize,
+) -> Result<Vec<u8>, TakeFault>
+    requires { limit ≤ 2 ^ 26 }
+    ensures same_files { H.files shelf.new ≡ H.files shelf.old }
+    ensures one_begin { H.begins shelf.new ≡ more (H.begins shelf.old) 1 }
+    ensures faults_stay { H.faults shelf.old ≤ H.faults shelf.new }
+
+    // The bytes that were taken, up to the end of the file.
+    ensures count { IfOk result (λ bytes. vec_len bytes ≡ H.taken shelf.new) }
+    ensures within { IfOk result (λ bytes. vec_len bytes ≤ limit) }
+    ensures at_end { OnOk result (IsTrue (H.begun shelf.new) × IsAtEnd (H.left shelf.new)) }
+    ensures whole { IfOk result (λ bytes. IfSome (H.files shelf.old) (λ files.
+        get files name.now ≡ Some bytes.items)) }
+
+    // Each refusal has its cause.
+    ensures read { IsErrOf result TakeFault.Read →
+        Rose (H.faults shelf.old) (H.faults shelf.new) ⊎ Lacks (H.files shelf.old) name.now }
+    ensures too_long { IsErrOf result TakeFault.TooLong ↔ (H.taken shelf.new ≡ limit + 1) }
+    ensures longer { IsErrOf result TakeFault.TooLong → IfSome (H.files shelf.old) (λ files.
+        IsSomeAnd (get files name.now) (λ bytes. limit < length bytes)) }
+
+    // Without a fault, what a told file calls for is answered, or there is no memory.
+    ensures complete { ¬ Rose (H.faults shelf.old) (H.faults shelf.new) → IfSome (H.files shelf.old) (λ files.
+        (outcome_of result ≡ answer_for limit (get files name.now)) ⊎ IsErrOf result TakeFault.Memory) }
+{
+    if shelf.begin(name).is_err() {
+        return Err(TakeFault::Read);
+    }
+    take_rest(alloc, shelf, limit)
+}
+
+/// Reads the begun file, of which nothing is taken yet, to its end.
+fn take_rest<H: Shelf>(alloc: Global, shelf: &mut H, limit: usize) -> Result<Vec<u8>, TakeFault>
+    requires small { limit ≤ 2 ^ 26 }
+    requires begun { IsTrue (H.begun shelf.old) }
+    requires none_taken { H.taken shelf.old ≡ 0 }
+    ensures same_files { H.files shelf.new ≡ H.files shelf.old }
+    ensures same_begins { H.begins shelf.new ≡ H.begins shelf.old }
+    ensures faults_stay { H.faults shelf.old ≤ H.faults shelf.new }
+    ensures count { IfOk result (λ bytes. vec_len bytes ≡ H.taken shelf.new) }
+    ensures within { IfOk result (λ bytes. vec_len bytes ≤ limit) }
+    ensures at_end { OnOk result (IsTrue (H.begun shelf.new) × IsAtEnd (H.left shelf.new)) }
+    ensures whole { IfOk result (λ bytes. IfSome (H.left shelf.old) (λ left. left ≡ bytes.items)) }
+    ensures read { IsErrOf result TakeFault.Read → Rose (H.faults shelf.old) (H.faults shelf.new) }
+    ensures too_long { IsErrOf result TakeFault.TooLong ↔ (H.taken shelf.new ≡ limit + 1) }
+    ensures longer { IsErrOf result TakeFault.TooLong → IfSome (H.left shelf.old) (λ left. limit < length left) }
+{
+    let mut bytes = Vec::new(alloc);
+    let mut piece = [0; PIECE];
+    loop {
+        let room = limit - bytes.len();
+        let count = match shelf.read(&mut piece[..PIECE.min(room + 1)]) {
+            Ok(0) => return Ok(bytes),
+            Ok(count) => count,
+            Err(_) => return Err(TakeFault::Read),
+        };
+        if count > room {
+            return Err(TakeFault::TooLong);
+        }
+        if bytes.extend_from_slice(&piece[..count]).is_err() {
+            return Err(TakeFault::Memory);
+        }
+    }
+}
+
+/// How many bytes one read asks for at most.
+const PIECE: usize = 4096;
