@@ -1,0 +1,4 @@
+pub mod HostsKept
+pub mod HostsLemmas
+pub mod OverlapLemmas
+pub mod PaddedLemmas

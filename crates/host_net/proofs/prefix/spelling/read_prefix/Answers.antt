@@ -1,0 +1,9 @@
+use Rattle.std.proofs.Common.{◌∙◌}
+use Rattle.host_net.specs.PrefixTextLaws.{prefix_of-IfSome, prefix_of-read}
+use Rattle.host_net.proofs.prefix.spelling.read_prefix.Goals as goal
+
+pub returns-clause-spelled : goal.returns-clause-spelled
+returns-clause-spelled c = prefix_of-IfSome c.args.text.now c.read_parts.result c.read_parts.ensures
+
+pub returns-clause-read : goal.returns-clause-read
+returns-clause-read c = λ p fits spelling. c.read_parts.ensures ∙ prefix_of-read c.args.text.now p fits spelling

@@ -1,0 +1,49 @@
+-- Hosts in order of declaration, and the owner of an address. A host's number is its place, from 0.
+use Rattle.std.specs.Prelude.{ℕ, Bool, List, Option, map}
+use Rattle.std.specs.List.{list_any, position_from, flat_map, sum_by}
+use Rattle.std.specs.Option.{option_or}
+use Rattle.std.specs.Prelude.{length}
+use Rattle.std.specs.Str.{bytes_eq}
+use Rattle.host_net.specs.Prefix.{covers, meets}
+use Rattle.host_net.specs.declared.prefix.Prefix.{Prefix}
+
+-- a host: its name, its prefixes, and whether it is the rest host
+pub record Host : Type 0 where
+  pub name : List ℕ
+  pub prefixes : List Prefix
+  pub rest : Bool
+
+-- one of the prefixes covers the address
+abbrev pub covers_any : List Prefix → ℕ → Bool
+covers_any ps a = list_any (λ p. covers p a) ps
+
+-- one of the prefixes has an address in common with this one
+abbrev pub meets_any : List Prefix → Prefix → Bool
+meets_any ps p = list_any (meets p) ps
+
+-- the host with the name
+abbrev pub host_named : List Host → List ℕ → Option ℕ
+host_named hs name = position_from (λ h. bytes_eq name h.name) 0 hs
+
+-- the host one of whose prefixes covers the address
+abbrev pub holder_of : List Host → ℕ → Option ℕ
+holder_of hs a = position_from (λ h. covers_any h.prefixes a) 0 hs
+
+-- the rest host
+abbrev pub rest_of : List Host → Option ℕ
+rest_of hs = position_from (λ h. h.rest) 0 hs
+
+-- the host one of whose prefixes covers the address, else the rest host, else nobody
+unfoldable pub owner_of : List Host → ℕ → Option ℕ
+owner_of hs a = option_or (holder_of hs a) (rest_of hs)
+
+-- the prefixes of each host, and of all together, in order
+abbrev pub prefix_lists : List Host → List (List Prefix)
+prefix_lists hs = map (λ h. h.prefixes) hs
+
+abbrev pub all_prefixes : List Host → List Prefix
+all_prefixes hs = flat_map (λ h. h.prefixes) hs
+
+-- how many prefixes all hosts have
+abbrev pub prefix_count : List Host → ℕ
+prefix_count hs = sum_by (λ h. length h.prefixes) hs

@@ -1,0 +1,11 @@
+pub mod Host
+pub mod Hosts
+pub mod Known
+pub mod Name
+pub mod OwnerLaws
+pub mod Packet
+pub mod Padded
+pub mod Prefix
+pub mod PrefixLaws
+pub mod PrefixTextLaws
+pub mod Refusal

@@ -1,0 +1,209 @@
+//! The hosts of a network, by name and by address.
+
+ghost use Rattle.std.specs.Prelude.{◌≡◌, ℕ, ◌≤◌, ◌<◌, ◌^◌, ◌++◌, ◌∷◌, [], Some, None, Ok, Err, IsTrue, IfOk, OnOk, OnErr, MatchResult, length, slice_get};
+ghost use Rattle.std.specs.List.{list_all};
+ghost use Rattle.std.specs.Option.{option_map, ForSome};
+ghost use Rattle.host_net.specs.Host.{Host, covers_any, host_named, owner_of, rest_of};
+ghost use Rattle.host_net.specs.Hosts.{is_network, IsHosts};
+ghost use Rattle.host_net.specs.Refusal.{bad_name, duplicate, is_full, no_address, overlap, refusal_of, two_rests};
+ghost use Rattle.host_net.specs.declared.refusal.HostRefusal.{HostRefusal};
+
+use crate::addresses::{Addresses, holder, prefix_count, rest_host};
+use crate::name::{Name, is_name};
+use crate::overlap::overlap;
+use crate::prefix::Prefix;
+use crate::refusal::{HOST_LIMIT, HostRefusal, PREFIX_LIMIT};
+use indexmap::IndexMap;
+use std::alloc::{AllocError, Global};
+use std::marker::Model;
+
+/// Hosts in order of declaration. A host has the number of its place, from 0.
+#[derive(Drop)]
+pub struct Hosts {
+    known: IndexMap<Name, Addresses>,
+}
+
+impl Model for Hosts {
+    ghost use Rattle.std.specs.Prelude.{List};
+    ghost use Rattle.host_net.specs.Host.{Host};
+    ghost use Rattle.host_net.specs.Hosts.{IsHosts};
+    ghost use Rattle.host_net.specs.Known.{hosts_of};
+
+    ghost Value = { List Host };
+
+    ghost view = { λ hosts. hosts_of hosts.known.entries };
+
+    ghost invariant = { λ hosts. IsHosts (hosts_of hosts.known.entries) };
+}
+
+impl Hosts {
+    pub fn new(alloc: Global) -> Hosts
+        ensures { result ≡ [] }
+    {
+        Hosts {
+            known: IndexMap::new(alloc),
+        }
+    }
+
+    /// Adds a host behind the others and answers its number.
+    ///
+    /// The host owns the addresses that its prefixes `at` cover or, with `rest` set and without
+    /// prefixes, those that no prefix covers. Each prefix must be exact and of length 1 at least.
+    pub fn add(&mut self, name: &[u8], at: &[Prefix], rest: bool) -> Result<u16, HostRefusal>
+        requires { IsTrue (list_all is_network at.now) }
+
+        // The first cause is answered; without a cause only memory can be wanting.
+        ensures refused { (why : HostRefusal) → refusal_of self.old name.now at.now rest ≡ Some why → result ≡ Err why }
+        ensures accepted { refusal_of self.old name.now at.now rest ≡ None →
+            MatchResult result (λ number. number ≡ length self.old) (λ why. why ≡ HostRefusal.Memory) }
+        ensures added { OnOk result (self.new ≡ self.old ++ record { name = name.now; prefixes = at.now; rest = rest } ∷ []) }
+        ensures unchanged { OnErr result (self.new ≡ self.old) }
+    {
+        if let Some(why) = self.refusal(name, at, rest) {
+            return Err(why);
+        }
+        let number = self.count();
+        self.push(Name::of(name), at, rest)?;
+        Ok(number)
+    }
+
+    /// The first cause to refuse a host.
+    #[tactic(auto, unfolding(crate::specs::Refusal::refusal_of))]
+    fn refusal(&self, name: &[u8], at: &[Prefix], rest: bool) -> Option<HostRefusal>
+        ensures { result ≡ refusal_of self.now name.now at.now rest }
+    {
+        if self.is_full(at.len()) {
+            return Some(HostRefusal::TooMany);
+        }
+        bad_name(name)
+            .or(self.duplicate(name))
+            .or(no_address(at, rest))
+            .or(self.two_rests(rest))
+            .or(self.overlap(at))
+    }
+
+    fn is_full(&self, prefixes: usize) -> bool
+        ensures { result ≡ is_full self.now prefixes }
+    {
+        let hosts = self.known.values().as_slice();
+        hosts.len() >= HOST_LIMIT || prefixes > PREFIX_LIMIT - prefix_count(hosts)
+    }
+
+    fn duplicate(&self, name: &[u8]) -> Option<HostRefusal>
+        ensures { result ≡ duplicate self.now name.now }
+    {
+        match self.find(name) {
+            Some(other) => Some(HostRefusal::Duplicate { other }),
+            None => None,
+        }
+    }
+
+    fn two_rests(&self, rest: bool) -> Option<HostRefusal>
+        ensures { result ≡ two_rests self.now rest }
+    {
+        match self.rest() {
+            Some(other) if rest => Some(HostRefusal::TwoRests { other }),
+            _ => None,
+        }
+    }
+
+    fn overlap(&self, at: &[Prefix]) -> Option<HostRefusal>
+        requires { length at.now < 2 ^ 16 }
+        ensures { result ≡ overlap self.now at.now }
+    {
+        overlap(self.known.values().as_slice(), at)
+    }
+
+    fn push(&mut self, name: Name, at: &[Prefix], rest: bool) -> Result<(), AllocError>
+        requires cause { refusal_of self.old name at.now rest ≡ None }
+        requires networks { IsTrue (list_all is_network at.now) }
+        ensures added { OnOk result (self.new ≡ self.old ++ record { name = name; prefixes = at.now; rest = rest } ∷ []) }
+        ensures unchanged { OnErr result (self.new ≡ self.old) }
+    {
+        let prefixes = Vec::from_slice(*self.known.allocator(), at)?;
+        self.known.insert(name, Addresses { prefixes, rest })?;
+        Ok(())
+    }
+
+    /// How many hosts there are.
+    pub fn count(&self) -> u16
+        ensures value { result ≡ length self.now }
+        ensures hosts { IsHosts self.now }
+    {
+        self.known.len() as u16
+    }
+
+    pub fn name(&self, host: u16) -> Name
+        requires { host < length self.now }
+        ensures { option_map (λ h. h.name) (slice_get self.now host) ≡ Some result }
+    {
+        self.known.keys().as_slice()[host as usize]
+    }
+
+    pub fn prefixes(&self, host: u16) -> &[Prefix]
+        requires { host < length self.now }
+        ensures { option_map (λ h. h.prefixes) (slice_get self.now host) ≡ Some result.now }
+    {
+        let addresses = &self.known.values().as_slice()[host as usize];
+        &addresses.prefixes
+    }
+
+    /// The rest host, or None where there is none.
+    pub fn rest(&self) -> Option<u16>
+        ensures { result ≡ rest_of self.now }
+    {
+        number(rest_host(self.known.values().as_slice()))
+    }
+
+    /// The host with the name, or None where no host has it.
+    pub fn find(&self, name: &[u8]) -> Option<u16>
+        ensures { result ≡ host_named self.now name.now }
+    {
+        match Name::new(name) {
+            Some(name) => number(self.known.get_index_of(&name)),
+            None => None,
+        }
+    }
+
+    /// The host that owns the address, or None where it belongs to nobody.
+    #[tactic(auto, unfolding(crate::specs::Host::owner_of))]
+    pub fn owner(&self, addr: u32) -> Option<u16>
+        ensures exact { result ≡ owner_of self.now addr }
+
+        // The prefixes of one host at most cover the address, and it is that host's.
+        ensures sole { (host : ℕ) (h : Host) → slice_get self.now host ≡ Some h → IsTrue (covers_any h.prefixes addr) → result ≡ Some host }
+    {
+        number(holder(self.known.values().as_slice(), addr)).or(self.rest())
+    }
+}
+
+/// The number of the host at a place.
+fn number(place: Option<usize>) -> Option<u16>
+    requires { ForSome place (λ host. host < 2 ^ 16) }
+    ensures { result ≡ place }
+{
+    match place {
+        Some(host) => Some(host as u16),
+        None => None,
+    }
+}
+
+fn bad_name(name: &[u8]) -> Option<HostRefusal>
+    ensures { result ≡ bad_name name.now }
+{
+    if is_name(name) {
+        None
+    } else {
+        Some(HostRefusal::BadName)
+    }
+}
+
+fn no_address(at: &[Prefix], rest: bool) -> Option<HostRefusal>
+    ensures { result ≡ no_address at.now rest }
+{
+    if at.is_empty() == rest {
+        None
+    } else {
+        Some(HostRefusal::NoAddress)
+    }
+}

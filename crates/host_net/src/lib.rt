@@ -1,0 +1,20 @@
+//! Hosts of a network and the packets between them: IPv4 prefixes, packets, host names, and the
+//! list of hosts with the owner of each address. Everything above speaks of addresses through
+//! these types.
+#![tactic(auto)]
+
+mod addresses;
+mod hosts;
+mod name;
+mod overlap;
+mod packet;
+mod prefix;
+mod refusal;
+#[cfg(test)]
+mod tests;
+
+pub use hosts::Hosts;
+pub use name::Name;
+pub use packet::{CtState, Packet};
+pub use prefix::{Prefix, read_prefix};
+pub use refusal::{HOST_LIMIT, HostRefusal, PREFIX_LIMIT};

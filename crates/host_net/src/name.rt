@@ -1,0 +1,122 @@
+//! The name of a host, kept without memory so that refusals and reports can carry it.
+
+ghost use Rattle.std.specs.Prelude.{◌≡◌, ◌≤◌, ◌==◌, ◌||◌, Some, None, [], IsTrue, length, if◌then◌else◌, nat_eq};
+ghost use Rattle.std.proofs.Common.{rules};
+ghost use Rattle.std.specs.Cmp.{partial_equiv_from_equiv};
+ghost use Rattle.std.specs.Cmp.Lexicographic.{nat_list_eq_equiv, pointwise};
+ghost use Rattle.std.specs.Cmp.Rules.{hashing};
+ghost use Rattle.std.specs.Hash as fed;
+ghost use Rattle.std.specs.List.{list_all};
+ghost use Rattle.host_net.specs.Name.{is_name, is_name_byte};
+
+use std::hash::{Hash, Hasher};
+use std::marker::Model;
+
+/// A text of at most 32 bytes: the name of a host, or the empty text where no name is given.
+#[derive(Clone, Copy, Debug)]
+pub struct Name {
+    bytes: [u8; 32],
+    len: u8,
+}
+
+impl Model for Name {
+    ghost use Rattle.std.specs.Prelude.{ℕ, List, ◌-◌, ◌++◌, take, length, replicate};
+    ghost use Rattle.host_net.specs.Padded.{IsPadded, padded_bytes, padded_len};
+
+    ghost Value = { List ℕ };
+
+    ghost view = { λ n. take n.len n.bytes };
+
+    ghost invariant = { λ n. IsPadded n.len n.bytes };
+
+    ghost inverse = { λ text. record { bytes = text ++ replicate (32 - length text) 0; len = length text } };
+
+    ghost inverse_ok = { λ n padded i. record { bytes = padded_bytes n.len n.bytes padded i; len = padded_len n.len n.bytes padded i } };
+}
+
+impl Name {
+    /// The name that `text` is, or None where it is none: a name has 1 to 32 bytes, each a letter
+    /// A to Z or a to z, a digit, `_` or `-`.
+    pub fn new(text: &[u8]) -> Option<Name>
+        ensures { result ≡ (if is_name text.now then Some text.now else None) }
+    {
+        if is_name(text) {
+            Some(Name::of(text))
+        } else {
+            None
+        }
+    }
+
+    /// The name that a text is that was tested.
+    pub(crate) fn of(text: &[u8]) -> Name
+        requires { IsTrue (is_name text.now) }
+        ensures { result ≡ text.now }
+    {
+        let mut bytes = [0; 32];
+        bytes[..text.len()].copy_from_slice(text);
+        Name {
+            bytes,
+            len: text.len() as u8,
+        }
+    }
+
+    /// The empty name, which says that no name is given.
+    pub fn none() -> Name
+        ensures { result ≡ [] }
+    {
+        Name {
+            bytes: [0; 32],
+            len: 0,
+        }
+    }
+
+    pub fn bytes(&self) -> &[u8]
+        ensures value { result.now ≡ self.now }
+        ensures short { length result.now ≤ 32 }
+    {
+        &self.bytes[..self.len as usize]
+    }
+}
+
+impl PartialEq for Name {
+    ghost eq = { pointwise nat_eq };
+
+    ghost laws = { partial_equiv_from_equiv nat_list_eq_equiv };
+
+    fn eq(&self, other: &Name) -> bool {
+        self.bytes() == other.bytes()
+    }
+}
+
+impl Eq for Name {
+    ghost laws = { nat_list_eq_equiv };
+}
+
+impl Hash for Name {
+    ghost hash_input = { λ name. fed.slice fed.u8 name };
+
+    ghost respects_eq = { Prim.search (hashing, rules) };
+
+    fn hash<H: Hasher>(&self, state: &mut H) {
+        self.bytes().hash(state);
+    }
+}
+
+/// Whether the text is a name.
+pub(crate) fn is_name(text: &[u8]) -> bool
+    ensures { result ≡ is_name text.now }
+{
+    !text.is_empty() && text.len() <= 32 && has_name_bytes(text)
+}
+
+fn has_name_bytes(text: &[u8]) -> bool
+    ensures { result ≡ list_all is_name_byte text.now }
+{
+    text.iter().all(|byte| is_name_byte(*byte))
+}
+
+fn is_name_byte(byte: u8) -> bool
+    ensures { result ≡ is_name_byte byte }
+{
+    byte.is_ascii_alphanumeric() || byte == b'_' || byte == b'-'
+}

@@ -1,0 +1,48 @@
+//! The first prefix of a host to be added that has an address in common with an earlier prefix.
+
+ghost use Rattle.std.specs.Prelude.{◌≡◌, ◌≤◌, ◌<◌, ◌^◌, [], length, map, position, IfSome};
+ghost use Rattle.host_net.specs.Host.{meets_any};
+ghost use Rattle.host_net.specs.Refusal.{meeting, overlap_from};
+
+use crate::addresses::{Addresses, meets_any};
+use crate::prefix::Prefix;
+use crate::refusal::HostRefusal;
+
+/// The refusal for the first of the prefixes `at` that meets one of `hosts`, or one before it.
+pub fn overlap(hosts: &[Addresses], at: &[Prefix]) -> Option<HostRefusal>
+    requires few { length hosts.now < 2 ^ 16 }
+    requires short { length at.now < 2 ^ 16 }
+    ensures { result ≡ overlap_from (map (λ h. h.prefixes.items) hosts.now) [] at.now }
+{
+    for item in 0..at.len() {
+        if let Some(other) = neighbour(hosts, &at[..item], &at[item]) {
+            return Some(HostRefusal::Overlap {
+                item: item as u16,
+                other: other as u16,
+            });
+        }
+    }
+    None
+}
+
+/// The place of the host of the earliest prefix that meets the prefix: one of `hosts`, or the one
+/// behind them, of whose prefixes `own` stand before.
+fn neighbour(hosts: &[Addresses], own: &[Prefix], prefix: &Prefix) -> Option<usize>
+    ensures place { result ≡ meeting (map (λ h. h.prefixes.items) hosts.now) own.now prefix.now }
+    ensures within { IfSome result (λ host. host ≤ length hosts.now) }
+{
+    match among(hosts, prefix) {
+        Some(host) => Some(host),
+        None if meets_any(own, prefix) => Some(hosts.len()),
+        None => None,
+    }
+}
+
+fn among(hosts: &[Addresses], prefix: &Prefix) -> Option<usize>
+    ensures place { result ≡ position (λ h. meets_any h.prefixes.items prefix.now) hosts.now }
+    ensures within { IfSome result (λ host. host < length hosts.now) }
+{
+    hosts
+        .iter()
+        .position(|host| meets_any(&host.prefixes, prefix))
+}

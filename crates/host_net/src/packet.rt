@@ -1,0 +1,36 @@
+//! A packet as a firewall sees it, and the state of its connection.
+
+ghost use Rattle.std.specs.Prelude.{◌≡◌};
+ghost use Rattle.host_net.specs.Packet.{swap_of};
+
+/// The header fields that rules look at. A protocol without ports has both ports 0.
+#[derive(Clone, Copy, Debug, PartialEq, Eq, PartialOrd, Ord)]
+pub struct Packet {
+    pub src: u32,
+    pub dst: u32,
+    pub proto: u8,
+    pub sport: u16,
+    pub dport: u16,
+}
+
+impl Packet {
+    /// The packet that answers this one.
+    pub fn swap(&self) -> Packet
+        ensures { result ≡ swap_of self.now }
+    {
+        Packet {
+            src: self.dst,
+            dst: self.src,
+            proto: self.proto,
+            sport: self.dport,
+            dport: self.sport,
+        }
+    }
+}
+
+/// What connection tracking says of a packet.
+#[derive(Clone, Copy, Debug, PartialEq, Eq)]
+pub enum CtState {
+    New,
+    Established,
+}

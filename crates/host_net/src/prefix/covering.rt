@@ -1,0 +1,66 @@
+//! Which addresses a prefix covers.
+
+ghost use Rattle.std.specs.Prelude.{◌≡◌, ◌≤◌, ◌↔◌, IsTrue, IsSome, IfSome};
+ghost use Rattle.host_net.specs.Prefix.{front, covers, is_exact, meets, ShareAddress};
+
+use crate::prefix::Prefix;
+
+impl Prefix {
+    /// The prefix of the first `len` bits of `addr`, or None where no address has so many.
+    pub fn new(addr: u32, len: u8) -> Option<Prefix>
+        ensures fits { IsSome result ↔ (len ≤ 32) }
+        ensures addr { IfSome result (λ p. p.addr ≡ addr) }
+        ensures len { IfSome result (λ p. p.len ≡ len) }
+    {
+        if len <= 32 {
+            Some(Prefix { addr, len })
+        } else {
+            None
+        }
+    }
+
+    pub fn addr(&self) -> u32
+        ensures { result ≡ self.now.addr }
+    {
+        self.addr
+    }
+
+    pub fn len(&self) -> u8
+        ensures value { result ≡ self.now.len }
+        ensures fits { result ≤ 32 }
+    {
+        self.len
+    }
+
+    /// Whether all bits behind the length are 0.
+    #[tactic(auto, using(std::proofs::lemmas::Nat::one_shl), unfolding(crate::specs::Prefix::is_exact))]
+    pub fn exact(&self) -> bool
+        ensures { result ≡ is_exact self.now }
+    {
+        self.addr as u64 % (1u64 << (32 - self.len)) == 0
+    }
+
+    #[tactic(auto, unfolding(crate::specs::Prefix::covers))]
+    pub fn covers(&self, addr: u32) -> bool
+        ensures { result ≡ covers self.now addr }
+    {
+        front(self.len, self.addr) == front(self.len, addr)
+    }
+
+    /// Whether some address is covered by both.
+    #[tactic(auto, unfolding(crate::specs::Prefix::meets))]
+    pub fn meets(&self, other: &Prefix) -> bool
+        ensures exact { result ≡ meets self.now other.now }
+        ensures shared { IsTrue result ↔ ShareAddress self.now other.now }
+    {
+        let len = self.len.min(other.len);
+        front(len, self.addr) == front(len, other.addr)
+    }
+}
+
+fn front(len: u8, addr: u32) -> u64
+    requires { len ≤ 32 }
+    ensures { result ≡ front len addr }
+{
+    (addr as u64) >> (32 - len)
+}

@@ -1,0 +1,86 @@
+//! The text of a prefix, `a.b.c.d/len`.
+
+ghost use Rattle.std.specs.Prelude.{◌≡◌, ◌<◌, ◌≤◌, ◌+◌, ◌*◌, ◌^◌, Some, IfSome};
+ghost use Rattle.host_net.specs.Prefix.{address_of, octet, prefix_of, prefix_text, prefix_with, IsSpelling};
+ghost use Rattle.host_net.specs.declared.prefix.Prefix.{Prefix};
+
+use crate::prefix::Prefix;
+use std::fmt;
+use text_core::{read_number, split_once};
+
+/// Reads `a.b.c.d/len` or `a.b.c.d`, whose length is 32. No number has a leading zero, and bits
+/// behind the length may be set.
+pub fn read_prefix(text: &[u8]) -> Option<Prefix>
+    ensures exact { result ≡ prefix_of text.now }
+    ensures spelled { IfSome result (IsSpelling text.now) }
+    ensures read { (p : Prefix) → p.addr < 2 ^ 32 → IsSpelling text.now p → result ≡ Some p }
+{
+    read_parts(text)
+}
+
+#[tactic(auto, unfolding(crate::specs::Prefix::prefix_of))]
+fn read_parts(text: &[u8]) -> Option<Prefix>
+    ensures { result ≡ prefix_of text.now }
+{
+    match split_once(text, b'/') {
+        None => Some(prefix_with(read_address(text)?, 32)),
+        Some((address, len)) => Some(prefix_with(read_address(address)?, read_number(32, len)?)),
+    }
+}
+
+#[tactic(auto, unfolding(crate::specs::Prefix::address_of))]
+fn read_address(text: &[u8]) -> Option<u32>
+    ensures { result ≡ address_of text.now }
+{
+    let (first, rest) = split_once(text, b'.')?;
+    let (second, rest) = split_once(rest, b'.')?;
+    let (third, fourth) = split_once(rest, b'.')?;
+    Some(address_with(
+        read_number(255, first)?,
+        read_number(255, second)?,
+        read_number(255, third)?,
+        read_number(255, fourth)?,
+    ))
+}
+
+fn address_with(a: u32, b: u32, c: u32, d: u32) -> u32
+    requires { (a < 256) × (b < 256) × (c < 256) × (d < 256) }
+    ensures { result ≡ a * 2 ^ 24 + b * 2 ^ 16 + c * 2 ^ 8 + d }
+{
+    (a << 24) + (b << 16) + (c << 8) + d
+}
+
+fn prefix_with(addr: u32, len: u32) -> Prefix
+    requires { len ≤ 32 }
+    ensures { result ≡ prefix_with addr len }
+{
+    Prefix {
+        addr,
+        len: len as u8,
+    }
+}
+
+impl fmt::Display for Prefix {
+    ghost output = { λ p. Some (prefix_text p) };
+
+    #[tactic(auto, unfolding(crate::specs::Prefix::prefix_text, crate::specs::Prefix::address_text))]
+    fn fmt<W: fmt::Write>(&self, f: &mut fmt::Formatter<W>) -> fmt::Result {
+        write!(
+            f,
+            "{}.{}.{}.{}/{}",
+            octet(self.addr, 24),
+            octet(self.addr, 16),
+            octet(self.addr, 8),
+            octet(self.addr, 0),
+            self.len
+        )
+    }
+}
+
+#[tactic(auto, unfolding(crate::specs::Prefix::octet))]
+fn octet(addr: u32, place: u8) -> u8
+    requires { place < 32 }
+    ensures { result ≡ octet addr place }
+{
+    ((addr >> place) % 256) as u8
+}
