@@ -1,0 +1,14 @@
+//! Flows between numbered hosts and sets of them. A policy, the flows that break a rule and the
+//! flows whose answers pass are all such sets, so every layer above speaks of this crate's lists.
+#![tactic(auto)]
+
+mod flow;
+mod iter;
+mod set;
+
+pub use flow::Flow;
+pub use iter::Iter;
+pub use set::FlowSet;
+
+#[cfg(test)]
+mod tests;

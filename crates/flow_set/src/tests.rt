@@ -1,0 +1,30 @@
+use crate::{Flow, FlowSet};
+use std::test::Fail;
+
+const FIRST: Flow = Flow { from: 0, to: 1 };
+
+const BACK: Flow = Flow { from: 1, to: 0 };
+
+#[test]
+fn sets_of_three_hosts(rt: HostRuntime) -> Result<(), Fail> {
+    let full = FlowSet::full(rt.alloc(), 3)?;
+    let mut fewer = full.copy(rt.alloc())?;
+    assert!(rt; fewer.remove(FIRST));
+    assert_eq!(rt; full.len(), 6);
+    assert_eq!(rt; fewer.len(), 5);
+    assert_eq!(rt; fewer.at_or_after(0, 0), Some(Flow { from: 0, to: 2 }));
+    assert_eq!(rt; fewer.at_or_after(2, 2), None);
+    Ok(())
+}
+
+#[test]
+fn a_flow_with_its_reverse(rt: HostRuntime) -> Result<(), Fail> {
+    let mut asked = FlowSet::empty(rt.alloc(), 2)?;
+    assert!(rt; asked.insert(FIRST));
+    let both = asked.with_back(rt.alloc(), &asked)?;
+    let mut seen = both.iter();
+    assert_eq!(rt; seen.next(), Some(FIRST));
+    assert_eq!(rt; seen.next(), Some(BACK));
+    assert_eq!(rt; seen.next(), None);
+    Ok(())
+}
