@@ -1,0 +1,13 @@
+//! The first subset of a set of flows that meets a condition: compared with any other that does,
+//! it has the first flow on which the two disagree. One pass finds it, and serves the permitted
+//! policy, the flows that break a rule and the flows whose answers may pass.
+#![tactic(auto)]
+
+mod condition;
+mod pass;
+
+pub use condition::Condition;
+pub use pass::first_subset;
+
+#[cfg(test)]
+mod tests;

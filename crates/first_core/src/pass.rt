@@ -1,0 +1,35 @@
+//! The pass: flow by flow, in order, it keeps what the condition still allows. That no other
+//! subset has to be tried is what its proof shows.
+
+ghost use Rattle.std.specs.Prelude.{◌≡◌, [], IfOk};
+ghost use Rattle.flow_set.specs.FlowSet.{IsFlowSet};
+ghost use Rattle.flow_set.specs.Conditions.{IsDownward, IsFirst};
+
+use crate::condition::Condition;
+use flow_set::FlowSet;
+use std::alloc::{AllocError, Global};
+
+/// The first subset of `all` that meets the condition, which holds of nothing and, where it holds
+/// of a set, of every subset.
+pub fn first_subset<C: Condition>(
+    alloc: Global,
+    condition: &C,
+    all: &FlowSet,
+) -> Result<FlowSet, AllocError>
+    requires can { C.can_meet condition.now }
+    requires size { all.now.size ≡ C.size_of condition.now }
+    requires downward { IsDownward all.now.size (C.meets_on condition.now) }
+    requires nothing { C.meets_on condition.now [] }
+    ensures size { IfOk result (λ first. first.size ≡ all.now.size) }
+    ensures set { IfOk result (λ first. IsFlowSet first.size first.flows) }
+    ensures first { IfOk result (λ first. IsFirst (C.meets_on condition.now) all.now.flows first.flows) }
+{
+    let mut kept = FlowSet::empty(alloc, all.size())?;
+    for f in all.iter() {
+        kept.insert(f);
+        if !condition.meets(alloc, &kept, f)? {
+            kept.remove(f);
+        }
+    }
+    Ok(kept)
+}
