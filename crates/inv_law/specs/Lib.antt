@@ -1,0 +1,5 @@
+pub mod Invariants
+pub mod Rules
+pub mod RuleLaws
+pub mod Attributes
+pub mod AttributeLaws

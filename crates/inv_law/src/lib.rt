@@ -1,0 +1,16 @@
+//! Security invariants: what the flows of a network must keep to. An [`Invariant`] is a predicate on
+//! sets of flows with its laws; an [`EdgeRule`] is a test of single flows with one law, and
+//! [`EdgeWise`] makes an invariant of every lawful rule.
+#![tactic(auto)]
+
+mod edge_rule;
+mod edge_wise;
+mod invariant;
+mod strategy;
+#[cfg(test)]
+mod tests;
+
+pub use edge_rule::EdgeRule;
+pub use edge_wise::EdgeWise;
+pub use invariant::Invariant;
+pub use strategy::Strategy;
