@@ -1,0 +1,2 @@
+pub mod Blp
+pub mod Tainting

@@ -1,0 +1,34 @@
+-- The tainting template: a host passes on each label that it has and does not take off.
+-- After the entry Network_Security_Policy_Verification of the Archive of Formal Proofs.
+use Rattle.std.specs.Prelude.{◌≡◌, ℕ, bit_and}
+use Rattle.std.specs.Int.{bit_at}
+use Rattle.std.proofs.Common.{arith}
+use Rattle.std.proofs.lemmas.Nat.Bits.{bit_at-zero}
+use Rattle.inv_law.specs.Attributes.{IsSecureDefault}
+use Rattle.inv_law.specs.declared.strategy.Strategy.TheVariants.{Information}
+use Rattle.tmpl_levels.specs.declared.tainting.Labels.{Labels}
+
+-- a set of labels is a number with one bit for each label
+abbrev pub HasLabel : ℕ → ℕ → Type 0
+HasLabel labels label = bit_at labels label ≡ 1
+
+-- the first labels are all among the second
+abbrev pub AreAmong : ℕ → ℕ → Type 0
+AreAmong some_labels labels = bit_and some_labels labels ≡ some_labels
+
+-- a host without labels
+abbrev pub untainted : Labels
+untainted = record { taints = 0; untaints = 0 }
+
+-- each label that the sender has and does not take off is one of the receiver's
+abbrev pub TaintsPass : Labels → Labels → Type 0
+TaintsPass sender receiver =
+    (label : ℕ) → HasLabel sender.taints label → (HasLabel sender.untaints label → ⊥) → HasLabel receiver.taints label
+
+-- what passes to an untainted receiver has no label left, and passes to every receiver
+pub tainting_secure : IsSecureDefault Information untainted TaintsPass
+tainting_secure sender receiver passes label has keeps =
+    nothing_has (bit_at 0 label) (bit_at-zero label) (passes label has keeps)
+  where
+    nothing_has : {C : Type 0} (bit : ℕ) → bit ≡ 0 → bit ≡ 1 → C
+    nothing_has bit none one = absurd (omega arith)

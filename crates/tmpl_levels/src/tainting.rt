@@ -1,0 +1,105 @@
+//! Tainting: what a host knows has labels, which it passes on unless it takes them off.
+
+ghost use Rattle.std.specs.Prelude.{◌≡◌, ◌<◌, ◌↔◌, IsTrue, IfOk, length, replicate, slice_set};
+ghost use Rattle.inv_law.specs.Attributes.{PassesBetween, PassesAfterReset};
+ghost use Rattle.inv_law.specs.AttributeLaws.{ResetPassesNoMore-attributes};
+ghost use Rattle.inv_law.specs.declared.strategy.Strategy.TheVariants.{Information};
+ghost use Rattle.tmpl_levels.specs.Tainting.{untainted, AreAmong, TaintsPass, tainting_secure};
+
+use inv_law::{EdgeRule, Strategy};
+use std::alloc::{AllocError, Global};
+use std::marker::Model;
+
+// Sets of labels, one bit a label: those that a host has, and those that it takes off what it sends.
+#[derive(Clone, Copy)]
+struct Labels {
+    taints: u64,
+    untaints: u64,
+}
+
+impl Labels {
+    // Whether each label that the sender keeps on is one of the receiver's.
+    fn pass_to(self, receiver: Labels) -> bool
+        ensures { IsTrue result ↔ TaintsPass self receiver }
+    {
+        let kept = self.taints & !self.untaints;
+        kept & receiver.taints == kept
+    }
+}
+
+const UNTAINTED: Labels = Labels {
+    taints: 0,
+    untaints: 0,
+};
+
+/// Keeps what has a label from hosts that lack the label.
+#[derive(Drop)]
+pub struct Tainting {
+    hosts: Vec<Labels>,
+}
+
+impl Model for Tainting {
+    ghost use Rattle.std.specs.Prelude.{List, length, ◌<◌, ◌^◌};
+    ghost use Rattle.tmpl_levels.specs.declared.tainting.Labels.{Labels};
+
+    ghost Value = { List Labels };
+
+    ghost view = { λ tainting. tainting.hosts.items };
+
+    ghost invariant = { λ tainting. length tainting.hosts.items < 2 ^ 16 };
+}
+
+impl Tainting {
+    /// The rule for `n` hosts without labels.
+    pub fn new(alloc: Global, n: u16) -> Result<Self, AllocError>
+        ensures { IfOk result (λ tainting. tainting ≡ replicate n untainted) }
+    {
+        let mut hosts = Vec::new(alloc);
+        hosts.resize(n as usize, UNTAINTED)?;
+        Ok(Tainting { hosts })
+    }
+
+    /// Gives the host these labels, one bit a label. It can only take off labels that it has.
+    pub fn set(&mut self, host: u16, taints: u64, untaints: u64)
+        requires host { host < length self.old }
+        requires among { AreAmong untaints taints }
+        ensures { self.new ≡ slice_set self.old host (record { taints = taints; untaints = untaints }) }
+    {
+        self.hosts[host as usize] = Labels { taints, untaints };
+    }
+}
+
+impl EdgeRule for Tainting {
+    ghost size_of = { λ hosts. length hosts };
+
+    ghost strategy_of = { λ _. Information };
+
+    ghost passes_from = { PassesBetween untainted TaintsPass };
+
+    ghost passes_after_reset = { PassesAfterReset untainted TaintsPass };
+
+    fn strategy(&self) -> Strategy {
+        Strategy::Information
+    }
+
+    fn hosts(&self) -> u16 {
+        self.hosts.len() as u16
+    }
+
+    fn passes(&self, i: u16, j: u16) -> bool {
+        let sender = self.hosts[i as usize];
+        let receiver = self.hosts[j as usize];
+        sender.pass_to(receiver)
+    }
+
+    fn with_default(&self, alloc: Global, host: u16) -> Result<Self, AllocError>
+        requires { host < length self.now }
+        ensures { IfOk result (λ new. new ≡ slice_set self.now host untainted) }
+    {
+        let mut hosts = Vec::from_slice(alloc, &self.hosts)?;
+        hosts[host as usize] = UNTAINTED;
+        Ok(Tainting { hosts })
+    }
+
+    ghost reset_passes_no_more = { λ hosts. ResetPassesNoMore-attributes Information untainted TaintsPass tainting_secure (length hosts) hosts };
+}
