@@ -1,0 +1,3 @@
+pub mod Domains
+pub mod Path
+pub mod DomainView
