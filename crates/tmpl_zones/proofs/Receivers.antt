@@ -1,0 +1,47 @@
+-- One host's row, and the attribute that it stands for.
+use Rattle.std.proofs.Common.{◌≡◌, ℕ, ◌+◌, ◌<◌, Bool, true, List, [], ◌∷◌, ◌++◌, length, map, take, get_or, set, refl, sym, ◌∙◌, ap, arith}
+use Rattle.std.proofs.lemmas.List.{map-set, get_or-map, length-map, map_push, take_more}
+use Rattle.std.proofs.lemmas.List.Elements.{All-get_or}
+use Rattle.tmpl_zones.specs.Partners.{Partner, DontCare, with_sender}
+use Rattle.tmpl_zones.specs.PartnersView.{partner_of, attribute_by, HasRooms}
+use Rattle.tmpl_zones.specs.declared.partners.Receiver.{Receiver}
+use Rattle.tmpl_zones.specs.declared.partners.Taking.{Taking}
+use Rattle.tmpl_zones.specs.declared.partners.Taking.TheVariants as taking
+
+pub length_seen : (rows : List Receiver) (partners : List Partner) → map partner_of rows ≡ partners → length rows ≡ length partners
+length_seen rows partners seen = sym (length-map rows partner_of) ∙ ap length seen
+
+-- a write to a row is a write to the list of attributes
+pub map-partner_of-set : (rows : List Receiver) (partners : List Partner) (i : ℕ) (row : Receiver) (partner : Partner) → map partner_of rows ≡ partners → partner_of row ≡ partner → map partner_of (set rows i row) ≡ set partners i partner
+map-partner_of-set rows partners i row partner seen same =
+    map-set partner_of rows i row ∙ (λ k. set (seen k) i (same k))
+
+-- the row at a place stands for the attribute there
+pub partner_of_row : (rows : List Receiver) (partners : List Partner) (i : ℕ) (row : Receiver) → map partner_of rows ≡ partners → i < length partners → row ≡ get_or rows i row → partner_of row ≡ get_or partners i DontCare
+partner_of_row rows partners i row seen within here =
+    let in_rows : i < length rows = omega (arith, length_seen rows partners seen) in
+    ap partner_of here
+    ∙ sym (get_or-map partner_of rows i row DontCare in_rows)
+    ∙ ap (λ xs. get_or xs i DontCare) seen
+
+-- one more row copied
+pub map-partner_of-copied : (rows copies : List Receiver) (i : ℕ) (row copy : Receiver) → i < length rows → row ≡ get_or rows i row → partner_of copy ≡ partner_of row → map partner_of copies ≡ take i (map partner_of rows) → map partner_of (copies ++ copy ∷ []) ≡ take (i + 1) (map partner_of rows)
+map-partner_of-copied rows copies i row copy within here same seen =
+    let at_row : partner_of row ≡ get_or (map partner_of rows) i DontCare =
+    ap partner_of here ∙ sym (get_or-map partner_of rows i row DontCare within) in
+    let fits : i < length (map partner_of rows) = rw length-map within in
+    map_push partner_of copies copy
+    ∙ (λ k. seen k ++ (same ∙ at_row) k ∷ [])
+    ∙ sym (take_more (map partner_of rows) i DontCare fits)
+
+-- a mark in the row is a mark in the attribute
+pub attribute_by-set : (kind : Taking) (marks : List Bool) (sender : ℕ) → attribute_by kind (set marks sender true) ≡ with_sender (attribute_by kind marks) sender
+attribute_by-set taking.DontCare marks sender = refl
+attribute_by-set taking.Care marks sender = refl
+attribute_by-set taking.Master marks sender = refl
+
+-- a row has a mark for every host
+pub length_row : (rows : List Receiver) (i : ℕ) (row : Receiver) → HasRooms rows → i < length rows → row ≡ get_or rows i row → length row.from.items ≡ length rows
+length_row rows i row rooms within here =
+    ap (λ (r : Receiver). length r.from.items) here
+    ∙ All-get_or (λ receiver. length receiver.from.items ≡ length rows) rows i row within rooms.rows

@@ -1,0 +1,51 @@
+-- The communication partners template: whom a host takes packets from.
+use Rattle.std.specs.Prelude.{ℕ, Bool, true, false, List, slice_index_or, slice_set, refl}
+use Rattle.std.proofs.lemmas.Bool.{false≢true}
+use Rattle.inv_law.specs.Attributes.{PassesBetween, PassesAfterReset, IsSecureDefault}
+use Rattle.inv_law.specs.AttributeLaws.{ResetPassesNoMore-attributes}
+use Rattle.inv_law.specs.Rules.{ResetPassesNoMore}
+use Rattle.inv_law.specs.declared.strategy.Strategy.TheVariants.{Access}
+use Rattle.tmpl_zones.specs.Kinds.{TablePasses}
+
+-- a host takes from all hosts, from all but those that do not care, or from those whose numbers are marked
+pub data Partner : Type 0 where
+  DontCare : Partner
+  Care : Partner
+  Master : (takes_from : List Bool) → Partner
+
+-- whether a flow from the host of this number passes, by the attributes of sender and receiver
+abbrev pub partners_passes : ℕ → Partner → Partner → Bool
+partners_passes number sender DontCare = true
+partners_passes number DontCare Care = false
+partners_passes number Care Care = true
+partners_passes number (Master takes_from) Care = true
+partners_passes number sender (Master takes_from) = slice_index_or takes_from number false
+
+-- a flow passes between two hosts, and does so with the default attribute at one host
+abbrev pub PartnersPass : List Partner → ℕ → ℕ → Type 0
+PartnersPass partners number = PassesBetween DontCare (TablePasses (partners_passes number)) partners number
+
+abbrev pub PartnersPassAfterReset : List Partner → ℕ → ℕ → ℕ → Type 0
+PartnersPassAfterReset partners host number = PassesAfterReset DontCare (TablePasses (partners_passes number)) partners host number
+
+-- a master with one more sender marked
+abbrev pub with_sender : Partner → ℕ → Partner
+with_sender DontCare number = DontCare
+with_sender Care number = Care
+with_sender (Master takes_from) number = Master (slice_set takes_from number true)
+
+-- the host has a list of senders
+abbrev pub IsMaster : Partner → Type 0
+IsMaster DontCare = ⊥
+IsMaster Care = ⊥
+IsMaster (Master takes_from) = Unit {0}
+
+-- whom a sender that does not care reaches, every sender of its number reaches
+pub partners_secure : (number : ℕ) → IsSecureDefault Access DontCare (TablePasses (partners_passes number))
+partners_secure number sender DontCare passes = refl
+partners_secure number sender Care passes = absurd (false≢true passes)
+partners_secure number sender (Master takes_from) passes = passes
+
+pub partners_reset : (n : ℕ) (partners : List Partner) → ResetPassesNoMore n Access (PartnersPass partners) (PartnersPassAfterReset partners)
+partners_reset n partners f =
+    ResetPassesNoMore-attributes Access DontCare (TablePasses (partners_passes f.from)) (partners_secure f.from) n partners f

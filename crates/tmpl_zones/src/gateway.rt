@@ -1,0 +1,53 @@
+//! The security gateway template: members are reached through a gateway, and not by each other. A
+//! gateway may send to a member; an unassigned host may send to an accessible member alone.
+
+use crate::kinds::{Kind, KindRule};
+use inv_law::Strategy;
+
+/// The place of a host before or behind the gateway.
+#[derive(Clone, Copy, Debug, PartialEq, Eq)]
+pub enum GateKind {
+    /// Sends to all, and is not reached by unassigned hosts.
+    Gateway,
+    /// Sends to all, and is reached by all.
+    GatewayIn,
+    /// Is reached by gateways alone.
+    Member,
+    /// A member that is reached by all.
+    Accessible,
+    /// Sends to no member and to no inner gateway.
+    Unassigned,
+}
+
+/// Keeps members behind their gateways.
+pub type Gateway = KindRule<GateKind>;
+
+impl Kind for GateKind {
+    ghost use Rattle.inv_law.specs.declared.strategy.Strategy.TheVariants.{Access};
+    ghost use Rattle.tmpl_zones.specs.Gateway.{gateway_passes, gateway_secure};
+    ghost use Rattle.tmpl_zones.specs.declared.gateway.GateKind.TheVariants.{Unassigned};
+
+    ghost default_kind = { Unassigned };
+
+    ghost kinds_strategy = { Access };
+
+    ghost kind_passes = { gateway_passes };
+
+    fn unassigned() -> Self {
+        Self::Unassigned
+    }
+
+    fn strategy() -> Strategy {
+        Strategy::Access
+    }
+
+    fn passes_to(self, receiver: Self) -> bool {
+        !matches!(
+            (self, receiver),
+            (GateKind::Member | GateKind::Accessible, GateKind::Member)
+                | (GateKind::Unassigned, GateKind::Gateway | GateKind::Member)
+        )
+    }
+
+    ghost secure = { gateway_secure };
+}

@@ -1,0 +1,51 @@
+//! The subnets template: hosts of a subnet send to each other and to the border of their subnet, and
+//! borders send to borders. Subnet 1 may not send to subnet 2 but by the borders of both.
+
+use crate::kinds::{Kind, KindRule};
+use inv_law::Strategy;
+
+/// The place of a host in the subnets.
+#[derive(Clone, Copy, Debug, PartialEq, Eq)]
+pub enum NetKind {
+    /// In the subnet of this number.
+    Subnet(u16),
+    /// At the border of the subnet of this number.
+    Border(u16),
+    /// Outside, where it sends to unassigned hosts alone.
+    Unassigned,
+}
+
+/// Keeps what subnets take to the subnet and to borders.
+pub type Subnets = KindRule<NetKind>;
+
+impl Kind for NetKind {
+    ghost use Rattle.inv_law.specs.declared.strategy.Strategy.TheVariants.{Access};
+    ghost use Rattle.tmpl_zones.specs.Subnets.{subnets_passes, subnets_secure};
+    ghost use Rattle.tmpl_zones.specs.declared.subnets.NetKind.TheVariants.{Unassigned};
+
+    ghost default_kind = { Unassigned };
+
+    ghost kinds_strategy = { Access };
+
+    ghost kind_passes = { subnets_passes };
+
+    fn unassigned() -> Self {
+        Self::Unassigned
+    }
+
+    fn strategy() -> Strategy {
+        Strategy::Access
+    }
+
+    fn passes_to(self, receiver: Self) -> bool {
+        match (self, receiver) {
+            (NetKind::Subnet(a), NetKind::Subnet(b) | NetKind::Border(b)) => a == b,
+            (NetKind::Border(_), NetKind::Subnet(_)) => false,
+            (NetKind::Border(_), NetKind::Border(_)) => true,
+            (NetKind::Unassigned, NetKind::Subnet(_) | NetKind::Border(_)) => false,
+            (_, NetKind::Unassigned) => true,
+        }
+    }
+
+    ghost secure = { subnets_secure };
+}
