@@ -1,0 +1,4 @@
+pub mod HostSets
+pub mod Closes
+pub mod Lasts
+pub mod Counts

@@ -1,0 +1,18 @@
+-- Sets of hosts, and the bits that hold one.
+use Rattle.std.specs.Prelude.{ℕ, zero, suc, ◌-◌, Bool, ◌==◌, nat_lt, if◌then◌else◌}
+use Rattle.std.specs.FinSet as set
+use Rattle.std.specs.Int.{bit_at}
+use Rattle.std.specs.Ordering.{nat_cmp}
+
+-- a set of hosts, each by its number
+abbrev pub Hosts : Type 0
+Hosts = set.FinSet nat_cmp
+
+-- the hosts below n that pass the test
+unfoldable pub hosts_below : ℕ → (ℕ → Bool) → Hosts
+hosts_below zero test = set.empty
+hosts_below (suc n) test = if test n then set.insert (hosts_below n test) n else hosts_below n test
+
+-- whether a host's bit is set: `low` has those of the hosts below 128, `high` those of the others
+abbrev pub is_marked : ℕ → ℕ → ℕ → Bool
+is_marked low high host = if nat_lt host 128 then bit_at low host == 1 else bit_at high (host - 128) == 1

@@ -1,0 +1,6 @@
+pub mod HostSet
+pub mod HostSetLaws
+pub mod Walks
+pub mod WalkLaws
+pub mod ReachLaws
+pub mod Rows

@@ -1,0 +1,121 @@
+-- Laws of what a host reaches and of what it is joined with: over subsets, no flows, one flow and one more flow.
+use Rattle.std.proofs.Common.{◌≡◌, ℕ, ◌<◌, ◌≤◌, false, ◌⊎◌, ◌↔◌, inl, inr, List, [], ◌∷◌, refl, sym, ◌∙◌, ap, arith}
+use Rattle.std.specs.Prelude.{IsTrue, ◌≢◌}
+use Rattle.std.proofs.lemmas.Bool.{or_cases, or_left, or_right, false≢true}
+use Rattle.std.proofs.lemmas.List.Elements.{All-nil, All-cons}
+use Rattle.flow_set.specs.declared.flow.Flow.{Flow}
+use Rattle.flow_set.specs.Flow.{same_flow, back_of}
+use Rattle.flow_set.specs.FlowSet.{IsFlowSet, has, with_flow}
+use Rattle.flow_set.specs.FlowLaws.{same_flow-true, has-with_flow}
+use Rattle.reach_core.specs.Walks.{Reaches, has_either, Joined, ReachesAtMost, ReachesExactly}
+use Rattle.reach_core.specs.WalkLaws.{HasPath, HasWalk-weaker, path_touch, walk_ends}
+
+-- ---- over subsets
+
+pub Reaches-within : (s e : List Flow) → ((f : Flow) → IsTrue (has s f) → IsTrue (has e f)) → (i j : ℕ) → Reaches s i j → Reaches e i j
+Reaches-within s e within = HasWalk-weaker (has s) (has e) within
+
+pub has_either-within : (s e : List Flow) → ((f : Flow) → IsTrue (has s f) → IsTrue (has e f)) → (f : Flow) → IsTrue (has_either s f) → IsTrue (has_either e f)
+has_either-within s e within f shown =
+    elim (or_cases (has s f) (has s (back_of f)) shown) [
+      | inl forth ↦ or_left _ _ (within f forth)
+      | inr back ↦ or_right _ _ (within (back_of f) back)
+    ]
+
+pub Joined-within : (s e : List Flow) → ((f : Flow) → IsTrue (has s f) → IsTrue (has e f)) → (i j : ℕ) → Joined s i j → Joined e i j
+Joined-within s e within = HasWalk-weaker (has_either s) (has_either e) (has_either-within s e within)
+
+pub ReachesAtMost-within : (s e : List Flow) → ((f : Flow) → IsTrue (has s f) → IsTrue (has e f)) → (i limit : ℕ) → ReachesAtMost e i limit → ReachesAtMost s i limit
+ReachesAtMost-within s e within i limit most hosts are =
+    most hosts (record { different = are.different; others = are.others; reached = λ k d below. Reaches-within s e within i _ (are.reached k d below) })
+
+-- walks stay between the hosts of a set
+pub Reaches-below : (n : ℕ) (e : List Flow) → IsFlowSet n e → (i j : ℕ) → Reaches e i j → (i < n) × (j < n)
+Reaches-below n e is_set i j walk =
+    walk_ends (has e) (λ h. h < n) (λ h. h < n) (λ f here. ((is_set.flows f here).0, (is_set.flows f here).1)) i j walk.0 walk.1 walk.2
+
+-- ---- no flows
+
+pub Reaches-none : (i j : ℕ) → Reaches [] i j → ⊥
+Reaches-none i j walk = false≢true walk.2.0
+
+pub Joined-none : (i j : ℕ) → Joined [] i j → ⊥
+Joined-none i j walk = false≢true walk.2.0
+
+pub ReachesAtMost-none : (i limit : ℕ) → ReachesAtMost [] i limit
+ReachesAtMost-none i limit [] are = omega arith
+ReachesAtMost-none i limit (h ∷ hosts) are = absurd (Reaches-none i h (are.reached 0 h (omega arith)))
+
+-- ---- along one flow
+
+pub reaches_over : (e : List Flow) (f : Flow) → IsTrue (has e f) → Reaches e f.from f.to
+reaches_over e f here = (f, [], (here, refl, refl))
+
+pub joined_over : (e : List Flow) (f : Flow) → IsTrue (has e f) → Joined e f.from f.to
+joined_over e f here = (f, [], (or_left _ _ here, refl, refl))
+
+pub Reaches-one : (f : Flow) (i j : ℕ) → Reaches (f ∷ []) i j → (i ≡ f.from) × (j ≡ f.to)
+Reaches-one f i j walk =
+    let one : (g : Flow) → IsTrue (has (f ∷ []) g) → f ≡ g = λ g h. elim (or_cases (same_flow f g) false h) [ inl same ↦ same_flow-true f g same | inr none ↦ absurd (false≢true none) ] in
+    walk_ends (has (f ∷ [])) (λ h. h ≡ f.from) (λ h. h ≡ f.to) (λ g h. (sym (ap (λ (x : Flow). x.from) (one g h)), sym (ap (λ (x : Flow). x.to) (one g h)))) i j walk.0 walk.1 walk.2
+
+-- one of the two hosts of the flow
+abbrev pub IsEnd : Flow → ℕ → Type 0
+IsEnd f h = (h ≡ f.from) ⊎ (h ≡ f.to)
+
+pub Joined-one : (f : Flow) (i j : ℕ) → Joined (f ∷ []) i j → IsEnd f i × IsEnd f j
+Joined-one f i j walk =
+    let one : (g : Flow) → IsTrue (has (f ∷ []) g) → f ≡ g = λ g h. elim (or_cases (same_flow f g) false h) [ inl same ↦ same_flow-true f g same | inr none ↦ absurd (false≢true none) ] in
+    let ends : (g : Flow) → IsTrue (has_either (f ∷ []) g) → IsEnd f g.from × IsEnd f g.to =
+    λ g h. elim (or_cases (has (f ∷ []) g) (has (f ∷ []) (back_of g)) h) [
+      | inl forth ↦ (inl (sym (ap (λ (x : Flow). x.from) (one g forth))), inr (sym (ap (λ (x : Flow). x.to) (one g forth))))
+      | inr back ↦ (inr (sym (ap (λ (x : Flow). x.to) (one (back_of g) back))), inl (sym (ap (λ (x : Flow). x.from) (one (back_of g) back))))
+    ] in
+    walk_ends (has_either (f ∷ [])) (IsEnd f) (IsEnd f) ends i j walk.0 walk.1 walk.2
+
+-- ---- how many others
+
+pub ReachesExactly-at_most : (e : List Flow) (i count limit : ℕ) → ReachesExactly e i count → (count ≤ limit) ↔ ReachesAtMost e i limit
+ReachesExactly-at_most e i count limit exactly = (
+  λ below hosts are. let few = exactly.most hosts are in omega arith,
+  λ most. let few = most exactly.hosts exactly.reached in omega (arith, exactly.counted),
+)
+
+-- a sender reaches some other host
+pub sender_reaches : (e : List Flow) (f : Flow) → IsTrue (has e f) → f.from ≢ f.to → ReachesAtMost e f.from 0 → ⊥
+sender_reaches e f here apart none =
+    let few : 1 ≤ 0 =
+    none (f.to ∷ []) (record {
+      different = λ i j d before below. absurd (omega arith);
+      others = All-cons (λ j. j ≢ f.from) f.to [] (λ same. apart (sym same)) (All-nil (λ j. j ≢ f.from));
+      reached = All-cons (Reaches e f.from) f.to [] (reaches_over e f here) (All-nil (Reaches e f.from));
+    }) in
+    omega arith
+
+-- along one flow its sender alone reaches another host
+pub ReachesAtMost-one : (f : Flow) (i limit : ℕ) → (i ≡ f.from → 0 < limit) → ReachesAtMost (f ∷ []) i limit
+ReachesAtMost-one f i limit allows [] are = omega arith
+ReachesAtMost-one f i limit allows (h ∷ []) are = allows (Reaches-one f i h (are.reached 0 h (omega arith))).0
+ReachesAtMost-one f i limit allows (h ∷ k ∷ hosts) are =
+    absurd (are.different 0 1 h (omega arith) (omega arith) ((Reaches-one f i h (are.reached 0 h (omega arith))).1 ∙ sym (Reaches-one f i k (are.reached 1 h (omega arith))).1))
+
+-- ---- one more flow
+
+-- hosts that are joined with one more flow were joined before, or its receiver stands between them
+pub joined_through : (e : List Flow) (g : Flow) (i j : ℕ) → Joined (with_flow e g) i j → Joined e i j ⊎ (HasPath (has_either (with_flow e g)) i g.to × HasPath (has_either (with_flow e g)) g.to j)
+joined_through e g i j (f, fs, walk) =
+    let further : (h : Flow) → IsTrue (has_either (with_flow e g) h) → IsTrue (has_either e h) ⊎ ((h.from ≡ g.to) ⊎ (h.to ≡ g.to)) =
+    λ h shown. elim (or_cases (has (with_flow e g) h) (has (with_flow e g) (back_of h)) shown) [
+      | inl forth ↦ elim (or_cases (same_flow g h) (has e h) (sym (has-with_flow e g h) ∙ forth)) [
+        | inl same ↦ inr (inr (sym (ap (λ (x : Flow). x.to) (same_flow-true g h same))))
+        | inr there ↦ inl (or_left _ _ there)
+      ]
+      | inr back ↦ elim (or_cases (same_flow g (back_of h)) (has e (back_of h)) (sym (has-with_flow e g (back_of h)) ∙ back)) [
+        | inl same ↦ inr (inl (sym (ap (λ (x : Flow). x.to) (same_flow-true g (back_of h) same))))
+        | inr there ↦ inl (or_right _ _ there)
+      ]
+    ] in
+    elim (path_touch (has_either e) (has_either (with_flow e g)) g.to further i j (f ∷ fs) walk) [
+      | inl stays ↦ inl (f, fs, stays)
+      | inr parts ↦ inr parts
+    ]

@@ -1,0 +1,35 @@
+-- Rows of hosts, one for each host: what the rows of a closure say, and what one more flow opens.
+use Rattle.std.specs.Prelude.{◌≡◌, ℕ, ◌<◌, ◌↔◌, Bool, ◌||◌, ◌==◌, if◌then◌else◌, List, length, slice_index_or, IsTrue}
+use Rattle.std.specs.FinSet as set
+use Rattle.flow_set.specs.declared.flow.Flow.{Flow}
+use Rattle.flow_set.specs.FlowSet.{SetOfFlows, has, IsFlowSet}
+use Rattle.reach_core.specs.HostSet.{Hosts}
+use Rattle.reach_core.specs.Walks.{HasWalk, has_either}
+
+-- a host's row
+abbrev pub row_of : List Hosts → ℕ → Hosts
+row_of rows i = slice_index_or rows i set.empty
+
+-- each row has the hosts that walks lead to from its host
+abbrev pub Closes : (Flow → Bool) → List Hosts → Type 0
+Closes test rows = (i j : ℕ) → i < length rows → IsTrue (set.contains (row_of rows i) j) ↔ HasWalk test i j
+
+-- a host's row after one more flow: whoever is its sender or comes to it goes on to its receiver and to all beyond
+abbrev pub opened : List Hosts → Flow → ℕ → Hosts
+opened rows f i =
+    if (i == f.from) || set.contains (row_of rows i) f.from
+    then set.union (row_of rows i) (set.insert (row_of rows f.to) f.to)
+    else row_of rows i
+
+-- the rows after one more flow
+pub record OpensFlow (old new : List Hosts) (f : Flow) : Type 0 where
+  pub same_length : length new ≡ length old
+  pub rows : (i : ℕ) → i < length old → row_of new i ≡ opened old f i
+
+-- the rows of a set of flows: along its flows, and along those of either direction
+pub record HasRows (e : SetOfFlows) (along either : List Hosts) : Type 0 where
+  pub is_set : IsFlowSet e.size e.flows
+  pub reached_length : length along ≡ e.size
+  pub joined_length : length either ≡ e.size
+  pub reached : Closes (has e.flows) along
+  pub joined : Closes (has_either e.flows) either

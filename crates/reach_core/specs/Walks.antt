@@ -1,0 +1,43 @@
+-- Walks along flows: a walk is the list of its flows.
+use Rattle.std.specs.Prelude.{◌≡◌, ◌≢◌, ℕ, ◌≤◌, Bool, ◌||◌, List, [], ◌∷◌, length, IsTrue, All, AllPairs}
+use Rattle.flow_set.specs.declared.flow.Flow.{Flow}
+use Rattle.flow_set.specs.Flow.{back_of}
+use Rattle.flow_set.specs.FlowSet.{has}
+
+-- whoever follows fs from host to host comes from i to j, on flows that pass the test
+abbrev pub LeadsTo : (Flow → Bool) → ℕ → ℕ → List Flow → Type 0
+LeadsTo test i j [] = i ≡ j
+LeadsTo test i j (f ∷ fs) = IsTrue (test f) × (f.from ≡ i) × LeadsTo test f.to j fs
+
+-- some walk leads from i to j; it takes at least one flow, also where j is i
+abbrev pub HasWalk : (Flow → Bool) → ℕ → ℕ → Type 0
+HasWalk test i j = (f : Flow) × (fs : List Flow) × LeadsTo test i j (f ∷ fs)
+
+-- i reaches j along the flows of e
+abbrev pub Reaches : List Flow → ℕ → ℕ → Type 0
+Reaches e = HasWalk (has e)
+
+-- the flow or its reverse is in e
+abbrev pub has_either : List Flow → Flow → Bool
+has_either e f = has e f || has e (back_of f)
+
+-- flows of e join i and j, taken forwards or backwards
+abbrev pub Joined : List Flow → ℕ → ℕ → Type 0
+Joined e = HasWalk (has_either e)
+
+-- the hosts are different ones, none of them is i, and i reaches each
+pub record AreReached (e : List Flow) (i : ℕ) (hosts : List ℕ) : Type 0 where
+  pub different : AllPairs (λ a b. a ≢ b) hosts
+  pub others : All (λ j. j ≢ i) hosts
+  pub reached : All (Reaches e i) hosts
+
+-- i reaches at most so many other hosts: no longer list of them is reached
+abbrev pub ReachesAtMost : List Flow → ℕ → ℕ → Type 0
+ReachesAtMost e i limit = (hosts : List ℕ) → AreReached e i hosts → length hosts ≤ limit
+
+-- i reaches exactly so many other hosts
+pub record ReachesExactly (e : List Flow) (i count : ℕ) : Type 0 where
+  pub hosts : List ℕ
+  pub reached : AreReached e i hosts
+  pub counted : length hosts ≡ count
+  pub most : ReachesAtMost e i count

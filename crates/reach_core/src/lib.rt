@@ -1,0 +1,12 @@
+//! Walks along flows: which hosts a host reaches, and which are joined. The closure of a set of
+//! flows answers both from rows of bits that grow flow by flow.
+#![tactic(auto)]
+
+mod closure;
+mod host_set;
+mod rows;
+#[cfg(test)]
+mod tests;
+
+pub use closure::Closure;
+pub use host_set::HostSet;
