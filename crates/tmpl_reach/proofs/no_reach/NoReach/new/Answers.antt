@@ -1,0 +1,15 @@
+use Rattle.std.proofs.Common.{List, ◌∷◌, [], ◌++◌, ap, sym, ◌∙◌, arith, zero-add, length}
+use Rattle.std.proofs.lemmas.List.FromFn.{map-range_with_len_more, length-map-range_with_len}
+use Rattle.reach_core.specs.HostSet.{Hosts}
+use Rattle.tmpl_reach.specs.NoReach.{others}
+use Rattle.tmpl_reach.proofs.no_reach.NoReach.new.Goals as goal
+
+pub loop-host-preserved : goal.loop-host-preserved
+loop-host-preserved c =
+    c.in_ok-push.ensures.items ∙ (λ i. c.loop-host.invariant i ++ c.others.ensures i ∷ [])
+    ∙ sym (map-range_with_len_more (others c.args.n) 0 c.loop-host.host c.loop-host.host (zero-add _))
+
+pub invariant_of-result : goal.invariant_of-result
+invariant_of-result c =
+    let counted = ap (λ (xs : List Hosts). length xs) c.loop-host.invariant ∙ length-map-range_with_len (others c.args.n) 0 c.loop-host.host in
+    omega (arith, counted)

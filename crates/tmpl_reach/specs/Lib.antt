@@ -1,0 +1,6 @@
+pub mod Dependability
+pub mod DependabilityLaws
+pub mod NonInterference
+pub mod NonInterferenceLaws
+pub mod NoReach
+pub mod NoReachLaws

@@ -1,0 +1,23 @@
+-- The non-interference template: hosts that must not learn of each other. Whatever joins two of them counts, in either direction.
+-- After the entry Network_Security_Policy_Verification of the Archive of Formal Proofs.
+use Rattle.std.specs.Prelude.{◌≡◌, ◌≢◌, ℕ, List, slice_index_or, slice_set}
+use Rattle.flow_set.specs.declared.flow.Flow.{Flow}
+use Rattle.reach_core.specs.Walks.{Joined}
+use Rattle.tmpl_reach.specs.declared.non_interference.Interference.{Interference}
+use Rattle.tmpl_reach.specs.declared.non_interference.Interference.TheVariants.{Interfering, Unrelated}
+
+-- the host is one of the interfering hosts
+abbrev pub IsInterfering : List Interference → ℕ → Type 0
+IsInterfering hosts i = slice_index_or hosts i Unrelated ≡ Interfering
+
+-- nothing joins i with another interfering host
+abbrev pub IsApart : List Interference → List Flow → ℕ → Type 0
+IsApart hosts e i = (j : ℕ) → i ≢ j → IsInterfering hosts j → Joined e i j → ⊥
+
+-- nothing joins an interfering host with another
+abbrev pub IsNonInterfering : List Interference → List Flow → Type 0
+IsNonInterfering hosts e = (i : ℕ) → IsInterfering hosts i → IsApart hosts e i
+
+-- the same where a host is interfering
+abbrev pub IsNonInterferingAfterReset : List Interference → ℕ → List Flow → Type 0
+IsNonInterferingAfterReset hosts host = IsNonInterfering (slice_set hosts host Interfering)

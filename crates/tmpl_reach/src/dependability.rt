@@ -1,0 +1,112 @@
+//! Dependability: how many others a host may depend on. A host depends on those that it reaches
+//! along the flows, and never on itself.
+
+ghost use Rattle.std.specs.Prelude.{◌≡◌, ◌<◌, ◌↔◌, IfOk, IsTrue, false, length, replicate, slice_set};
+ghost use Rattle.std.proofs.lemmas.Bool.{false≢true};
+ghost use Rattle.inv_law.specs.declared.strategy.Strategy.TheVariants.{Access};
+ghost use Rattle.tmpl_reach.specs.Dependability.{IsDependable, IsDependableAfterReset};
+ghost use Rattle.tmpl_reach.specs.DependabilityLaws.{IsDependable-downward, IsDependable-none, IsDependable-reset};
+
+use flow_set::{Flow, FlowSet};
+use inv_law::{Invariant, Strategy};
+use reach_core::Closure;
+use std::alloc::{AllocError, Global};
+use std::marker::Model;
+
+/// Keeps each host from reaching more other hosts than its limit allows.
+#[derive(Drop)]
+pub struct Dependability {
+    limits: Vec<u16>,
+}
+
+impl Model for Dependability {
+    ghost use Rattle.std.specs.Prelude.{List, ℕ, length, ◌<◌, ◌^◌};
+
+    ghost Value = { List ℕ };
+
+    ghost view = { λ x. x.limits.items };
+
+    ghost invariant = { λ x. length x.limits.items < 2 ^ 16 };
+}
+
+impl Dependability {
+    /// The invariant of `n` hosts of limit 0.
+    pub fn new(alloc: Global, n: u16) -> Result<Self, AllocError>
+        ensures { IfOk result (λ x. x ≡ replicate n 0) }
+    {
+        let mut limits = Vec::new(alloc);
+        limits.resize(n as usize, 0)?;
+        Ok(Dependability { limits })
+    }
+
+    /// Lets the host reach so many other hosts.
+    pub fn set(&mut self, host: u16, limit: u16)
+        requires { host < length self.old }
+        ensures { self.new ≡ slice_set self.old host limit }
+    {
+        self.limits[host as usize] = limit;
+    }
+
+    // Whether no host reaches more others than its limit.
+    fn all_within(&self, closure: &Closure) -> bool
+        requires { closure.now.size ≡ length self.now }
+        ensures { IsTrue result ↔ IsDependable self.now closure.now.flows }
+    {
+        for host in 0..closure.size() {
+            if closure.count(host) > self.limits[host as usize] {
+                return false;
+            }
+        }
+        true
+    }
+}
+
+impl Invariant for Dependability {
+    ghost size_of = { λ limits. length limits };
+
+    ghost strategy_of = { λ _. Access };
+
+    ghost edge_mark = { λ _. false };
+
+    ghost holds_on = { IsDependable };
+
+    ghost holds_after_reset = { IsDependableAfterReset };
+
+    fn strategy(&self) -> Strategy {
+        Strategy::Access
+    }
+
+    fn edge_wise(&self) -> bool {
+        false
+    }
+
+    fn hosts(&self) -> u16 {
+        self.limits.len() as u16
+    }
+
+    fn admits(&self, f: Flow) -> bool {
+        self.limits[f.from as usize] > 0
+    }
+
+    fn holds(&self, alloc: Global, e: &FlowSet) -> Result<bool, AllocError> {
+        let closure = Closure::of(alloc, e)?;
+        Ok(self.all_within(&closure))
+    }
+
+    fn with_default(&self, alloc: Global, host: u16) -> Result<Self, AllocError>
+        requires { host < length self.now }
+        ensures { IfOk result (λ new. new ≡ slice_set self.now host 0) }
+    {
+        let mut limits = Vec::from_slice(alloc, &self.limits)?;
+        limits[host as usize] = 0;
+        Ok(Dependability { limits })
+    }
+
+    ghost downward = { λ limits. IsDependable-downward (length limits) limits };
+
+    ghost holds_on_none = { IsDependable-none };
+
+    ghost reset_mends_nothing = { IsDependable-reset };
+
+    ghost mark_is_right = { λ _ marked. absurd (false≢true marked) };
+}

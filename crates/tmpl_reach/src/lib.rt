@@ -1,0 +1,13 @@
+//! The three templates that look at walks: dependability, non-interference and no-reach. Each is an
+//! invariant with a file of its own, and none of them judges flows one by one.
+#![tactic(auto)]
+
+mod dependability;
+mod no_reach;
+mod non_interference;
+#[cfg(test)]
+mod tests;
+
+pub use dependability::Dependability;
+pub use no_reach::NoReach;
+pub use non_interference::NonInterference;

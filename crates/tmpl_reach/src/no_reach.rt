@@ -1,0 +1,174 @@
+//! No-reach: hosts that a host must not reach, on whatever way.
+
+ghost use Rattle.std.specs.Prelude.{◌≡◌, ◌≢◌, ◌<◌, ◌≤◌, ◌↔◌, IfOk, IsTrue, false, length, slice_set};
+ghost use Rattle.std.specs.FinSet as set;
+ghost use Rattle.std.proofs.lemmas.Bool.{false≢true};
+ghost use Rattle.inv_law.specs.declared.strategy.Strategy.TheVariants.{Access};
+ghost use Rattle.flow_set.specs.FlowSet.{IsFlowSet};
+ghost use Rattle.tmpl_reach.specs.NoReach.{others, all_others, denied_by, ReachesNoDenied, ReachesNoDeniedAfterReset, ReachesNone};
+ghost use Rattle.tmpl_reach.specs.NoReachLaws.{ReachesNoDenied-downward, ReachesNoDenied-none, ReachesNoDenied-reset};
+
+use flow_set::{Flow, FlowSet};
+use inv_law::{Invariant, Strategy};
+use reach_core::{Closure, HostSet};
+use std::alloc::{AllocError, Global};
+use std::marker::Model;
+
+/// Keeps each host from reaching the hosts that it denies.
+#[derive(Drop)]
+pub struct NoReach {
+    denied: Vec<HostSet>,
+}
+
+impl Model for NoReach {
+    ghost use Rattle.std.specs.Prelude.{List, length, ◌≤◌};
+    ghost use Rattle.std.specs.Coded.{coded_list, coded_ℕ};
+    ghost use Rattle.std.specs.FinSet as set;
+    ghost use Rattle.reach_core.specs.HostSet.{Hosts};
+
+    ghost Value = { List Hosts };
+
+    ghost coded = { coded_list (set.code coded_ℕ) };
+
+    ghost view = { λ x. x.denied.items };
+
+    ghost invariant = { λ x. length x.denied.items ≤ 256 };
+}
+
+impl NoReach {
+    /// The invariant of `n` hosts that each deny all others. A set of flows has at most 256 hosts.
+    pub fn new(alloc: Global, n: u16) -> Result<Self, AllocError>
+        requires { n ≤ 256 }
+        ensures { IfOk result (λ x. x ≡ all_others n) }
+    {
+        let mut denied = Vec::with_capacity(alloc, n as usize)?;
+        for host in 0..n {
+            denied.push(others(n, host))?;
+        }
+        Ok(NoReach { denied })
+    }
+
+    /// Lets the host reach all others.
+    pub fn clear(&mut self, host: u16)
+        requires { host < length self.old }
+        ensures { self.new ≡ slice_set self.old host set.empty }
+    {
+        self.denied[host as usize] = HostSet::empty();
+    }
+
+    /// Keeps the host from reaching one more.
+    pub fn deny(&mut self, host: u16, other: u16)
+        requires host { host < length self.old }
+        requires other { other < length self.old }
+        requires apart { host ≢ other }
+        ensures { self.new ≡ slice_set self.old host (set.insert (denied_by self.old host) other) }
+    {
+        let denied = &mut self.denied[host as usize];
+        denied.insert(other);
+    }
+
+    fn denies(&self, host: u16, other: u16) -> bool
+        requires host { host < length self.now }
+        requires other { other < length self.now }
+        ensures { result ≡ set.contains (denied_by self.now host) other }
+    {
+        self.denied[host as usize].has(other)
+    }
+
+    // Whether each host keeps clear of those that it denies.
+    fn none_reached(&self, closure: &Closure) -> bool
+        requires { closure.now.size ≡ length self.now }
+        ensures { IsTrue result ↔ ReachesNoDenied self.now closure.now.flows }
+    {
+        for host in 0..closure.size() {
+            if !self.reaches_none(closure, host) {
+                return false;
+            }
+        }
+        true
+    }
+
+    // Whether the host keeps clear of those that it denies.
+    fn reaches_none(&self, closure: &Closure, host: u16) -> bool
+        requires size { closure.now.size ≡ length self.now }
+        requires host { host < length self.now }
+        ensures { IsTrue result ↔ ReachesNone (denied_by self.now host) closure.now.flows host }
+    {
+        for other in 0..closure.size() {
+            if other != host && self.denies(host, other) && closure.reaches(host, other) {
+                return false;
+            }
+        }
+        true
+    }
+}
+
+impl Invariant for NoReach {
+    ghost size_of = { λ denied. length denied };
+
+    ghost strategy_of = { λ _. Access };
+
+    ghost edge_mark = { λ _. false };
+
+    ghost holds_on = { ReachesNoDenied };
+
+    ghost holds_after_reset = { ReachesNoDeniedAfterReset };
+
+    fn strategy(&self) -> Strategy {
+        Strategy::Access
+    }
+
+    fn edge_wise(&self) -> bool {
+        false
+    }
+
+    fn hosts(&self) -> u16 {
+        self.denied.len() as u16
+    }
+
+    fn admits(&self, f: Flow) -> bool {
+        !self.denies(f.from, f.to)
+    }
+
+    fn holds(&self, alloc: Global, e: &FlowSet) -> Result<bool, AllocError> {
+        let closure = Closure::of(alloc, e)?;
+        Ok(self.none_reached(&closure))
+    }
+
+    fn with_default(&self, alloc: Global, host: u16) -> Result<Self, AllocError>
+        requires { host < length self.now }
+        ensures { IfOk result (λ new. new ≡ slice_set self.now host (others (length self.now) host)) }
+    {
+        let mut denied = copies(alloc, &self.denied)?;
+        denied[host as usize] = others(self.hosts(), host);
+        Ok(NoReach { denied })
+    }
+
+    ghost downward = { λ denied. ReachesNoDenied-downward (length denied) denied };
+
+    ghost holds_on_none = { ReachesNoDenied-none };
+
+    ghost reset_mends_nothing = { ReachesNoDenied-reset };
+
+    ghost mark_is_right = { λ _ marked. absurd (false≢true marked) };
+}
+
+// All hosts of `n` but this one.
+fn others(n: u16, host: u16) -> HostSet
+    requires { n ≤ 256 }
+    ensures { result ≡ others n host }
+{
+    let mut all = HostSet::empty();
+    for other in 0..n {
+        if other != host {
+            all.insert(other);
+        }
+    }
+    all
+}
+
+fn copies(alloc: Global, denied: &[HostSet]) -> Result<Vec<HostSet>, AllocError>
+    ensures { IfOk result (λ copies. copies.items ≡ denied.now) }
+{
+    denied.iter().map(|hosts| hosts.copy()).collect(alloc)
+}

@@ -1,0 +1,87 @@
+ghost use Rattle.std.specs.Prelude.{◌≡◌, ◌<◌};
+ghost use Rattle.flow_set.specs.Flow.{IsFlow};
+
+use crate::{Dependability, NoReach, NonInterference};
+use flow_set::{Flow, FlowSet};
+use inv_law::Invariant;
+use std::alloc::{AllocError, Global};
+use std::test::Fail;
+
+// What an invariant answers of a set, of it with the default at a host, and of a flow alone.
+fn answers<I: Invariant + Drop>(
+    alloc: Global,
+    inv: &I,
+    e: &FlowSet,
+    host: u16,
+    f: Flow,
+) -> Result<(bool, bool, bool), AllocError>
+    requires set { e.now.size ≡ I.size_of inv.now }
+    requires host { host < I.size_of inv.now }
+    requires flow { IsFlow (I.size_of inv.now) f }
+{
+    let reset = inv.with_default(alloc, host)?;
+    Ok((inv.holds(alloc, e)?, reset.holds(alloc, e)?, inv.admits(f)))
+}
+
+const A_TO_B: Flow = Flow { from: 0, to: 1 };
+
+const B_TO_C: Flow = Flow { from: 1, to: 2 };
+
+#[test]
+fn dependability_counts_others(rt: HostRuntime) -> Result<(), Fail> {
+    let mut inv = Dependability::new(rt.alloc(), 3)?;
+    inv.set(0, 1);
+    inv.set(1, 1);
+    let mut e = FlowSet::empty(rt.alloc(), 3)?;
+    e.insert(B_TO_C);
+    assert_eq!(rt;
+        answers(rt.alloc(), &inv, &e, 1, B_TO_C)?,
+        (true, false, true)
+    );
+    e.insert(A_TO_B);
+    assert_eq!(rt;
+        answers(rt.alloc(), &inv, &e, 2, A_TO_B)?,
+        (false, false, true)
+    );
+    Ok(())
+}
+
+#[test]
+fn interfering_hosts_stay_apart(rt: HostRuntime) -> Result<(), Fail> {
+    let mut inv = NonInterference::new(rt.alloc(), 4)?;
+    inv.set_unrelated(3);
+    let mut e = FlowSet::empty(rt.alloc(), 4)?;
+    e.insert(Flow { from: 0, to: 3 });
+    assert_eq!(rt;
+        answers(rt.alloc(), &inv, &e, 3, A_TO_B)?,
+        (true, false, false)
+    );
+    e.insert(Flow { from: 1, to: 3 });
+    e.insert(Flow { from: 3, to: 2 });
+    assert_eq!(rt;
+        answers(rt.alloc(), &inv, &e, 0, Flow { from: 0, to: 3 })?,
+        (false, false, true)
+    );
+    Ok(())
+}
+
+#[test]
+fn denied_hosts_are_not_reached(rt: HostRuntime) -> Result<(), Fail> {
+    let mut inv = NoReach::new(rt.alloc(), 3)?;
+    inv.clear(0);
+    inv.clear(1);
+    inv.clear(2);
+    inv.deny(0, 1);
+    let mut e = FlowSet::empty(rt.alloc(), 3)?;
+    e.insert(B_TO_C);
+    assert_eq!(rt;
+        answers(rt.alloc(), &inv, &e, 1, A_TO_B)?,
+        (true, false, false)
+    );
+    e.insert(A_TO_B);
+    assert_eq!(rt;
+        answers(rt.alloc(), &inv, &e, 2, B_TO_C)?,
+        (false, false, true)
+    );
+    Ok(())
+}
