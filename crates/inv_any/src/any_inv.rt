@@ -1,0 +1,124 @@
+//! An invariant of any template. It means what the invariant in it means, and every call hands on to
+//! that one.
+
+ghost use Rattle.std.specs.Prelude.{◌≡◌};
+ghost use Rattle.inv_any.specs.Templates.{meaning_of, template_name};
+ghost use Rattle.inv_any.specs.TemplateLaws.{lawful};
+
+use flow_set::{Flow, FlowSet};
+use inv_law::{EdgeWise, Invariant, Strategy};
+use std::alloc::{AllocError, Global};
+use tmpl_domains::Domains;
+use tmpl_levels::{Blp, Tainting};
+use tmpl_reach::{Dependability, NoReach, NonInterference};
+use tmpl_zones::{Gateway, Partners, SinkRule, Subnets};
+
+/// An invariant of one of the ten templates.
+#[derive(Drop)]
+pub enum AnyInv {
+    Blp(EdgeWise<Blp>),
+    Tainting(EdgeWise<Tainting>),
+    Sink(EdgeWise<SinkRule>),
+    Gateway(EdgeWise<Gateway>),
+    Subnets(EdgeWise<Subnets>),
+    Partners(EdgeWise<Partners>),
+    Domains(EdgeWise<Domains>),
+    Dependability(Dependability),
+    NonInterference(NonInterference),
+    NoReach(NoReach),
+}
+
+// What the invariant in `any`, here `inv`, answers.
+macro_rules! ask {
+    ($any:expr, $inv:ident => $answer:expr) => {
+        match $any {
+            AnyInv::Blp($inv) => $answer,
+            AnyInv::Tainting($inv) => $answer,
+            AnyInv::Sink($inv) => $answer,
+            AnyInv::Gateway($inv) => $answer,
+            AnyInv::Subnets($inv) => $answer,
+            AnyInv::Partners($inv) => $answer,
+            AnyInv::Domains($inv) => $answer,
+            AnyInv::Dependability($inv) => $answer,
+            AnyInv::NonInterference($inv) => $answer,
+            AnyInv::NoReach($inv) => $answer,
+        }
+    };
+}
+
+impl AnyInv {
+    /// The name of the template, as a description writes it.
+    pub fn template_name(&self) -> &str
+        ensures { result.now ≡ template_name self.now }
+    {
+        match self {
+            AnyInv::Blp(_) => "blp",
+            AnyInv::Tainting(_) => "tainting",
+            AnyInv::Sink(_) => "sink",
+            AnyInv::Gateway(_) => "gateway",
+            AnyInv::Subnets(_) => "subnets",
+            AnyInv::Partners(_) => "partners",
+            AnyInv::Domains(_) => "domains",
+            AnyInv::Dependability(_) => "dependability",
+            AnyInv::NonInterference(_) => "noninterference",
+            AnyInv::NoReach(_) => "noreach",
+        }
+    }
+}
+
+impl Invariant for AnyInv {
+    ghost size_of = { λ any. (meaning_of any).size };
+
+    ghost strategy_of = { λ any. (meaning_of any).strategy };
+
+    ghost edge_mark = { λ any. (meaning_of any).edge_mark };
+
+    ghost holds_on = { λ any. (meaning_of any).holds_on };
+
+    ghost holds_after_reset = { λ any. (meaning_of any).holds_after_reset };
+
+    fn strategy(&self) -> Strategy {
+        ask!(self, inv => inv.strategy())
+    }
+
+    fn edge_wise(&self) -> bool {
+        ask!(self, inv => inv.edge_wise())
+    }
+
+    fn hosts(&self) -> u16 {
+        ask!(self, inv => inv.hosts())
+    }
+
+    fn admits(&self, f: Flow) -> bool {
+        ask!(self, inv => inv.admits(f))
+    }
+
+    fn holds(&self, alloc: Global, e: &FlowSet) -> Result<bool, AllocError> {
+        Ok(ask!(self, inv => inv.holds(alloc, e)?))
+    }
+
+    fn with_default(&self, alloc: Global, host: u16) -> Result<Self, AllocError> {
+        Ok(match self {
+            AnyInv::Blp(inv) => AnyInv::Blp(inv.with_default(alloc, host)?),
+            AnyInv::Tainting(inv) => AnyInv::Tainting(inv.with_default(alloc, host)?),
+            AnyInv::Sink(inv) => AnyInv::Sink(inv.with_default(alloc, host)?),
+            AnyInv::Gateway(inv) => AnyInv::Gateway(inv.with_default(alloc, host)?),
+            AnyInv::Subnets(inv) => AnyInv::Subnets(inv.with_default(alloc, host)?),
+            AnyInv::Partners(inv) => AnyInv::Partners(inv.with_default(alloc, host)?),
+            AnyInv::Domains(inv) => AnyInv::Domains(inv.with_default(alloc, host)?),
+            AnyInv::Dependability(inv) => AnyInv::Dependability(inv.with_default(alloc, host)?),
+            AnyInv::NonInterference(inv) => {
+                AnyInv::NonInterference(inv.with_default(alloc, host)?)
+            }
+            AnyInv::NoReach(inv) => AnyInv::NoReach(inv.with_default(alloc, host)?),
+        })
+    }
+
+    ghost downward = { λ any. (lawful any).downward };
+
+    ghost holds_on_none = { λ any. (lawful any).holds_on_none };
+
+    ghost reset_mends_nothing = { λ any. (lawful any).reset_mends_nothing };
+
+    ghost mark_is_right = { λ any. (lawful any).mark_is_right };
+}

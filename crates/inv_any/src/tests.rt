@@ -1,0 +1,108 @@
+ghost use Rattle.std.specs.Prelude.{◌≡◌};
+
+use crate::AnyInv;
+use flow_set::{Flow, FlowSet};
+use inv_law::{EdgeWise, Invariant};
+use std::alloc::{AllocError, Global};
+use std::test::Fail;
+use tmpl_domains::Domains;
+use tmpl_levels::{Blp, Tainting};
+use tmpl_reach::{Dependability, NoReach, NonInterference};
+use tmpl_zones::{Gateway, Partners, SinkRule, Subnets};
+
+// What the invariant says of a set.
+fn holds_of<I: Invariant>(alloc: Global, inv: &I, e: &FlowSet) -> Result<bool, AllocError>
+    requires { e.now.size ≡ I.size_of inv.now }
+{
+    inv.holds(alloc, e)
+}
+
+// The invariant with the default at its first host, if it has hosts.
+fn first_reset<I: Invariant>(alloc: Global, inv: &I) -> Result<Option<I>, AllocError> {
+    if inv.hosts() == 0 {
+        return Ok(None);
+    }
+    Ok(Some(inv.with_default(alloc, 0)?))
+}
+
+// Whether the invariant has this name, and still has it after a reset.
+fn is_named(alloc: Global, inv: AnyInv, name: &str) -> Result<bool, AllocError> {
+    let Some(reset) = first_reset(alloc, &inv)? else {
+        return Ok(false);
+    };
+    Ok(inv.template_name() == name && reset.template_name() == name)
+}
+
+#[test]
+fn each_template(rt: HostRuntime) -> Result<(), Fail> {
+    let alloc = rt.alloc();
+    let blp = AnyInv::Blp(EdgeWise::new(Blp::new(alloc, 2)?));
+    assert!(rt; is_named(alloc, blp, "blp")?);
+    let tainting = AnyInv::Tainting(EdgeWise::new(Tainting::new(alloc, 2)?));
+    assert!(rt; is_named(alloc, tainting, "tainting")?);
+    let sink = AnyInv::Sink(EdgeWise::new(SinkRule::new(alloc, 2)?));
+    assert!(rt; is_named(alloc, sink, "sink")?);
+    let gateway = AnyInv::Gateway(EdgeWise::new(Gateway::new(alloc, 2)?));
+    assert!(rt; is_named(alloc, gateway, "gateway")?);
+    let subnets = AnyInv::Subnets(EdgeWise::new(Subnets::new(alloc, 2)?));
+    assert!(rt; is_named(alloc, subnets, "subnets")?);
+    let partners = AnyInv::Partners(EdgeWise::new(Partners::new(alloc, 2)?));
+    assert!(rt; is_named(alloc, partners, "partners")?);
+    let domains = AnyInv::Domains(EdgeWise::new(Domains::new(alloc, 2)?));
+    assert!(rt; is_named(alloc, domains, "domains")?);
+    let dependability = AnyInv::Dependability(Dependability::new(alloc, 2)?);
+    assert!(rt; is_named(alloc, dependability, "dependability")?);
+    let non_interference = AnyInv::NonInterference(NonInterference::new(alloc, 2)?);
+    assert!(rt; is_named(alloc, non_interference, "noninterference")?);
+    let no_reach = AnyInv::NoReach(NoReach::new(alloc, 2)?);
+    assert!(rt; is_named(alloc, no_reach, "noreach")?);
+    Ok(())
+}
+
+const A_TO_B: Flow = Flow { from: 0, to: 1 };
+
+const B_TO_C: Flow = Flow { from: 1, to: 2 };
+
+#[test]
+fn one_host_depends_on_too_many(rt: HostRuntime) -> Result<(), Fail> {
+    let mut limits = Dependability::new(rt.alloc(), 3)?;
+    limits.set(0, 1);
+    limits.set(1, 1);
+    let inv = AnyInv::Dependability(limits);
+    let mut e = FlowSet::empty(rt.alloc(), 3)?;
+    e.insert(B_TO_C);
+    assert!(rt; holds_of(rt.alloc(), &inv, &e)?);
+    e.insert(A_TO_B);
+    assert!(rt; !holds_of(rt.alloc(), &inv, &e)?);
+    Ok(())
+}
+
+#[test]
+fn a_denied_host_is_reached(rt: HostRuntime) -> Result<(), Fail> {
+    let mut denied = NoReach::new(rt.alloc(), 3)?;
+    denied.clear(0);
+    denied.clear(1);
+    denied.clear(2);
+    denied.deny(0, 1);
+    let inv = AnyInv::NoReach(denied);
+    let mut e = FlowSet::empty(rt.alloc(), 3)?;
+    e.insert(B_TO_C);
+    assert!(rt; holds_of(rt.alloc(), &inv, &e)?);
+    e.insert(A_TO_B);
+    assert!(rt; !holds_of(rt.alloc(), &inv, &e)?);
+    Ok(())
+}
+
+#[test]
+fn an_unrelated_host_joins(rt: HostRuntime) -> Result<(), Fail> {
+    let mut hosts = NonInterference::new(rt.alloc(), 4)?;
+    hosts.set_unrelated(3);
+    let inv = AnyInv::NonInterference(hosts);
+    let mut e = FlowSet::empty(rt.alloc(), 4)?;
+    e.insert(Flow { from: 0, to: 3 });
+    assert!(rt; holds_of(rt.alloc(), &inv, &e)?);
+    e.insert(Flow { from: 1, to: 3 });
+    e.insert(Flow { from: 3, to: 2 });
+    assert!(rt; !holds_of(rt.alloc(), &inv, &e)?);
+    Ok(())
+}
