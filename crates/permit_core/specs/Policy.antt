@@ -1,0 +1,23 @@
+-- Lists of invariants on one set of flows, and what is said of a flow that they deny. Of an invariant only the predicate is needed, whatever type it is.
+use Rattle.std.specs.Prelude.{◌≡◌, ℕ, List, All, take, slice_get, IsTrue, IsFalse, Some}
+use Rattle.flow_set.specs.declared.flow.Flow.{Flow}
+use Rattle.flow_set.specs.Conditions.{IsFirst}
+use Rattle.flow_set.specs.FlowSet.{has}
+
+-- every invariant of the list holds of the set
+abbrev pub AllHold : {X : Type 0} → (X → List Flow → Type 0) → List X → List Flow → Type 0
+AllHold HoldsOn invs e = All (λ inv. HoldsOn inv e) invs
+
+-- the invariant at the place `number`, from 0, fails on the set, and all before it hold
+pub record IsFirstFailing {X : Type 0} (HoldsOn : X → List Flow → Type 0) (invs : List X) (e : List Flow) (number : ℕ) : Type 0 where
+  pub inv : X
+  pub place : slice_get invs number ≡ Some inv
+  pub fails : HoldsOn inv e → ⊥
+  pub earlier : AllHold HoldsOn (take number invs) e
+
+-- f was among some asked flows of which p is the permitted policy, and p has it not
+pub record IsDenied (Holds : List Flow → Type 0) (p : List Flow) (f : Flow) : Type 0 where
+  pub asked : List Flow
+  pub permitted : IsFirst Holds asked p
+  pub wanted : IsTrue (has asked f)
+  pub left_out : IsFalse (has p f)

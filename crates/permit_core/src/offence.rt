@@ -1,0 +1,63 @@
+//! The flows that break an invariant.
+
+ghost use Rattle.std.specs.Prelude.{◌≡◌, List, IfOk, IfSome, IsNone, ◌↔◌};
+ghost use Rattle.flow_set.specs.declared.flow.Flow.{Flow};
+ghost use Rattle.flow_set.specs.FlowSet.{IsFlowSet, without};
+ghost use Rattle.flow_set.specs.Conditions.{IsFirst, IsMinimalOffending};
+
+use first_core::{Condition, first_subset};
+use flow_set::{Flow, FlowSet};
+use inv_law::Invariant;
+use std::alloc::{AllocError, Global};
+
+/// Flows of `e` without which the invariant holds, none of which can stay. They are those outside
+/// the first subset of `e` on which it holds. `None` where it holds of `e`.
+pub fn offending<I: Invariant>(
+    alloc: Global,
+    inv: &I,
+    e: &FlowSet,
+) -> Result<Option<FlowSet>, AllocError>
+    requires { e.now.size ≡ I.size_of inv.now }
+    ensures none { IfOk result (λ found. IsNone found ↔ I.holds_on inv.now e.now.flows) }
+    ensures size { IfOk result (λ found. IfSome found (λ f. f.size ≡ e.now.size)) }
+    ensures minimal { IfOk result (λ found. IfSome found (λ f.
+        IsMinimalOffending (I.holds_on inv.now) e.now.flows f.flows)) }
+    ensures rest { IfOk result (λ found. IfSome found (λ f. (first : List Flow)
+        × IsFirst (I.holds_on inv.now) e.now.flows first × (f.flows ≡ without e.now.flows first))) }
+{
+    if inv.holds(alloc, e)? {
+        return Ok(None);
+    }
+    let kept = first_subset(alloc, &Alone { inv }, e)?;
+    let mut rest = e.copy(alloc)?;
+    take_out(&mut rest, &kept);
+    Ok(Some(rest))
+}
+
+// Takes the flows of `others` out of the set.
+fn take_out(set: &mut FlowSet, others: &FlowSet)
+    requires { others.now.size ≡ set.old.size }
+    ensures { set.new ≡ record set.old { flows = without set.old.flows others.now.flows } }
+{
+    for f in others.iter() {
+        set.remove(f);
+    }
+}
+
+// The condition that one invariant holds.
+#[derive(Drop)]
+struct Alone<'a, I> {
+    inv: &'a I,
+}
+
+impl<'a, I: Invariant> Condition for Alone<'a, I> {
+    ghost size_of = { λ c. I.size_of c.inv.now };
+
+    ghost can_meet = { λ _. Unit {0} };
+
+    ghost meets_on = { λ c. I.holds_on c.inv.now };
+
+    fn meets(&self, alloc: Global, set: &FlowSet, _added: Flow) -> Result<bool, AllocError> {
+        self.inv.holds(alloc, set)
+    }
+}
