@@ -1,0 +1,2 @@
+pub mod Stateful
+pub mod StatefulLaws

@@ -1,0 +1,58 @@
+-- Laws of answers: which flows there are with answers, that the condition of stateful flows is kept by fewer of them, and that holding on the permitted policy and, if strict, on the answers is compliance.
+use Rattle.std.proofs.Common.{ℕ, inl, inr, Bool, true, false, List, [], ◌∷◌, refl, sym, ◌∙◌}
+use Rattle.std.specs.Prelude.{◌↔◌, ◌⊎◌, IsTrue, IsFalse, All}
+use Rattle.std.proofs.lemmas.Bool.{both_ways, or_cases, or_left, or_right, false_from_ne_true}
+use Rattle.flow_set.specs.declared.flow.Flow.{Flow}
+use Rattle.flow_set.specs.Flow.{IsFlow, same_flow, back_of}
+use Rattle.flow_set.specs.FlowSet.{has, IsFlowSet, with_flow, without, with_back}
+use Rattle.flow_set.specs.Conditions.{IsDownward, IsEdgeWise, IsMinimalOffending}
+use Rattle.flow_set.specs.FlowLaws.{same_fact, has-with_flow, has-with_back}
+use Rattle.flow_set.specs.SubsetLaws.{IsFlowSet-with_flow, IsFlowSet-without, IsFlowSet-with_back}
+use Rattle.flow_set.specs.ConditionLaws.{IsDownward-with_back}
+use Rattle.inv_law.specs.declared.strategy.Strategy.{Strategy}
+use Rattle.inv_law.specs.declared.strategy.Strategy.TheVariants.{Access, Information}
+use Rattle.state_core.specs.Stateful.{is_strict, StrictHold, AreAnswers, Complies}
+
+-- a flow of the policy with answers is one of the policy or an answer
+pub has_answers : (p s : List Flow) (f : Flow) → IsTrue (has (with_back p s) f) ↔ (IsTrue (has p f) ⊎ IsTrue (has s (back_of f)))
+has_answers p s f = (
+  λ there. or_cases _ _ (sym (has-with_back p s f) ∙ there),
+  λ either. has-with_back p s f ∙ elim either [
+    | inl in_p ↦ or_left _ _ in_p
+    | inr answers ↦ or_right _ _ answers
+  ],
+)
+
+pub StrictHold-downward : {X : Type 0} (n : ℕ) (strategy_of : X → Strategy) (edge_mark : X → Bool) (HoldsOn : X → List Flow → Type 0) (invs : List X) (p : List Flow) → IsFlowSet n p → All (λ inv. IsDownward n (HoldsOn inv)) invs → IsDownward n (λ s. StrictHold strategy_of edge_mark HoldsOn invs (with_back p s))
+StrictHold-downward n strategy_of edge_mark HoldsOn invs p within downward e s set sub hold =
+    λ k d below strict. IsDownward-with_back n (HoldsOn _) p within (downward k d below) e s set sub (hold k d below strict)
+
+-- a condition on single flows holds of a set with one more flow of which it holds
+edge_wise_with : (n : ℕ) (Holds : List Flow → Type 0) (e : List Flow) (f : Flow) → IsEdgeWise n Holds → IsFlowSet n e → IsFlow n f → Holds e → Holds (f ∷ []) → Holds (with_flow e f)
+edge_wise_with n Holds e f edge_wise set is_flow holds alone =
+    (edge_wise (with_flow e f) (IsFlowSet-with_flow n e f set is_flow)).1
+    (λ g there. elim (or_cases (same_flow f g) (has e g) (sym (has-with_flow e f g) ∙ there)) [
+      | inl same ↦ same_fact (λ h. Holds (h ∷ [])) f g same alone
+      | inr other ↦ (edge_wise e set).0 holds g other
+    ])
+
+-- what breaks an edge-wise invariant that holds of the policy is an answer
+only_answers : (n : ℕ) (Holds : List Flow → Type 0) (p s : List Flow) → IsFlowSet n p → IsFlowSet n s → IsEdgeWise n Holds → Holds p → (f : List Flow) → IsMinimalOffending Holds (with_back p s) f → AreAnswers p s f
+only_answers n Holds p s p_set s_set edge_wise holds f offends g there =
+    let all : List Flow = with_back p s in
+    let set : IsFlowSet n all = IsFlowSet-with_back n p s p_set s_set in
+    let in_all : IsTrue (has all g) = offends.within.within g there in
+    let not_in_p : IsFalse (has p g) = false_from_ne_true _ (λ in_p.
+    offends.minimal g there (edge_wise_with n Holds (without all f) g edge_wise (IsFlowSet-without n all f set) (set.flows g in_all) offends.mended ((edge_wise p p_set).0 holds g in_p))) in (
+      elim (or_cases (has p g) (has s (back_of g)) (sym (has-with_back p s g) ∙ in_all)) [
+        | inl in_p ↦ absurd (both_ways _ not_in_p in_p)
+        | inr answers ↦ answers
+      ],
+      not_in_p,
+    )
+
+-- an invariant that holds of the policy, and of the answers too if it is strict, is complied with
+pub Complies-from_strict : (n : ℕ) (strategy : Strategy) (edge_wise : Bool) (Holds : List Flow → Type 0) (p s : List Flow) → IsFlowSet n p → IsFlowSet n s → (IsTrue edge_wise → IsEdgeWise n Holds) → Holds p → (IsTrue (is_strict strategy edge_wise) → Holds (with_back p s)) → Complies strategy Holds p s
+Complies-from_strict n Information edge_wise Holds p s p_set s_set right holds strict = strict refl
+Complies-from_strict n Access true Holds p s p_set s_set right holds strict = only_answers n Holds p s p_set s_set (right refl) holds
+Complies-from_strict n Access false Holds p s p_set s_set right holds strict = λ f offends. absurd (offends.fails (strict refl))

@@ -1,0 +1,9 @@
+//! Flows whose answers may pass. A packet filter that tracks connections lets the answers of a
+//! stateful flow back through; this crate finds the flows for which no invariant forbids that.
+#![tactic(auto)]
+
+mod answers;
+mod refinement;
+
+pub use answers::with_answers;
+pub use refinement::refine;

@@ -1,0 +1,74 @@
+//! The stateful flows of a permitted policy.
+
+ghost use Rattle.std.specs.Prelude.{◌≡◌, ◌↔◌, All, IsTrue, IfOk};
+ghost use Rattle.flow_set.specs.FlowSet.{IsFlowSet, with_back};
+ghost use Rattle.flow_set.specs.Conditions.{IsFirst};
+ghost use Rattle.state_core.specs.Stateful.{is_strict, StrictHold, Complies};
+
+use crate::answers::with_answers;
+use first_core::{Condition, first_subset};
+use flow_set::{Flow, FlowSet};
+use inv_law::{Invariant, Strategy};
+use std::alloc::{AllocError, Global};
+
+/// The first flows of `p` whose answers break no strict invariant. Every invariant has to hold of
+/// `p`; then `p` with these answers complies with all of them.
+pub fn refine<I: Invariant>(alloc: Global, invs: &[I], p: &FlowSet) -> Result<FlowSet, AllocError>
+    requires sizes { All (λ inv. I.size_of inv ≡ p.now.size) invs.now }
+    requires permitted { All (λ inv. I.holds_on inv p.now.flows) invs.now }
+    ensures size { IfOk result (λ s. s.size ≡ p.now.size) }
+    ensures set { IfOk result (λ s. IsFlowSet s.size s.flows) }
+    ensures first { IfOk result (λ s. IsFirst
+        (λ answered. StrictHold I.strategy_of I.edge_mark I.holds_on invs.now (with_back p.now.flows answered))
+        p.now.flows s.flows) }
+    ensures complies { IfOk result (λ s. All
+        (λ inv. Complies (I.strategy_of inv) (I.holds_on inv) p.now.flows s.flows) invs.now) }
+{
+    let answered = Answered {
+        invs,
+        permitted: p,
+        size: p.size(),
+    };
+    first_subset(alloc, &answered, p)
+}
+
+// The condition that the strict invariants hold of the permitted flows with answers.
+#[derive(Drop)]
+struct Answered<'a, I> {
+    invs: &'a [I],
+    permitted: &'a FlowSet,
+    size: u16,
+}
+
+impl<'a, I: Invariant> Condition for Answered<'a, I> {
+    ghost size_of = { λ c. c.size };
+
+    ghost can_meet = { λ c. (c.permitted.now.size ≡ c.size) × All (λ inv. I.size_of inv ≡ c.size) c.invs.now };
+
+    ghost meets_on = { λ c s. StrictHold I.strategy_of I.edge_mark I.holds_on c.invs.now (with_back c.permitted.now.flows s) };
+
+    fn meets(&self, alloc: Global, set: &FlowSet, _added: Flow) -> Result<bool, AllocError> {
+        let all = with_answers(alloc, self.permitted, set)?;
+        strict_hold(alloc, self.invs, &all)
+    }
+}
+
+// Whether the strict invariants hold of the set.
+fn strict_hold<I: Invariant>(alloc: Global, invs: &[I], e: &FlowSet) -> Result<bool, AllocError>
+    requires { All (λ inv. I.size_of inv ≡ e.now.size) invs.now }
+    ensures { IfOk result (λ held. IsTrue held
+        ↔ StrictHold I.strategy_of I.edge_mark I.holds_on invs.now e.now.flows) }
+{
+    for inv in invs {
+        if is_strict(inv) && !inv.holds(alloc, e)? {
+            return Ok(false);
+        }
+    }
+    Ok(true)
+}
+
+fn is_strict<I: Invariant>(inv: &I) -> bool
+    ensures { result ≡ is_strict (I.strategy_of inv.now) (I.edge_mark inv.now) }
+{
+    matches!(inv.strategy(), Strategy::Information) || !inv.edge_wise()
+}
