@@ -1,0 +1,2 @@
+pub mod OutLimit
+pub mod OutLimitLaws
