@@ -1,0 +1,12 @@
+pub mod Events
+pub mod Tracking
+pub mod Kept
+pub mod Firewall
+pub mod Connections
+pub mod Expected
+pub mod TestLaws
+pub mod EventLaws
+pub mod TrackingLaws
+pub mod KeptLaws
+pub mod ExpectedLaws
+pub mod ConnectionLaws

@@ -1,0 +1,57 @@
+-- Connection tracking: what is kept of the events, and the state that it gives a packet. The states NEW and ESTABLISHED are those of the match conntrack in iptables-extensions(8), without ageing and related connections.
+use Rattle.std.specs.Prelude.{◌≡◌, Bool, true, false, not, ◌==◌, ◌&&◌, ◌||◌, if◌then◌else◌, List, [], ◌∷◌, Option, Some, None, is_some, IsTrue, ⊤}
+use Rattle.std.specs.Option.{unwrap_or}
+use Rattle.host_net.specs.declared.packet.Packet.{Packet}
+use Rattle.host_net.specs.declared.packet.CtState.{CtState}
+use Rattle.host_net.specs.declared.packet.CtState.TheVariants.{New, Established}
+use Rattle.host_net.specs.Packet.{swap_of}
+use Rattle.pkt_core.specs.declared.event.Event.{Event}
+use Rattle.pkt_core.specs.declared.event.Event.TheVariants.{Seen, Forget}
+
+-- the connections that are kept, each by its first packet: whether it was answered, None for any other packet
+abbrev pub Kept : Type 0
+Kept = Packet → Option Bool
+
+abbrev pub nothing_kept : Kept
+nothing_kept p = None
+
+abbrev pub same_packet : Packet → Packet → Bool
+same_packet p q = (p.src == q.src) && ((p.dst == q.dst) && ((p.proto == q.proto) && ((p.sport == q.sport) && (p.dport == q.dport))))
+
+-- the same but for p
+abbrev pub with_kept : Kept → Packet → Option Bool → Kept
+with_kept kept p now q = if same_packet p q then now else kept q
+
+-- p answers a connection, or is of one that was answered
+abbrev pub is_two_way : Kept → Packet → Bool
+is_two_way kept p = is_some (kept (swap_of p)) || unwrap_or (kept p) false
+
+abbrev pub state_of : Kept → Packet → CtState
+state_of kept p = if is_two_way kept p then Established else New
+
+-- behind a packet: the connection that it answers is answered; else it begins one, where it passes and is of none
+abbrev pub after_seen : Kept → Packet → Bool → Kept
+after_seen kept p passes =
+    if is_some (kept (swap_of p)) then with_kept kept (swap_of p) (Some true)
+    else (if passes && not (is_some (kept p)) then with_kept kept p (Some false) else kept)
+
+-- p begins a connection: it passes and is of none
+abbrev pub Begins : Kept → Packet → Bool → Type 0
+Begins kept p passes = IsTrue passes × (kept p ≡ None) × (kept (swap_of p) ≡ None)
+
+-- a connection is forgotten in both directions
+abbrev pub after_forget : Kept → Packet → Kept
+after_forget kept p = with_kept (with_kept kept p None) (swap_of p) None
+
+-- a run: each packet seen has a verdict in its state, true where it passes, and is tracked with it; a forgetting has none
+abbrev pub Runs : (CtState → Packet → Bool → Type 0) → Kept → List Event → List (Option Bool) → Type 0
+Runs Verdict kept [] [] = ⊤
+Runs Verdict kept (Seen p ∷ events) (Some passes ∷ answers) = Verdict (state_of kept p) p passes × Runs Verdict (after_seen kept p passes) events answers
+Runs Verdict kept (Forget p ∷ events) (None ∷ answers) = Runs Verdict (after_forget kept p) events answers
+Runs Verdict kept events answers = ⊥
+
+-- what is kept behind a run with these answers
+abbrev pub kept_after : Kept → List Event → List (Option Bool) → Kept
+kept_after kept (Seen p ∷ events) (Some passes ∷ answers) = kept_after (after_seen kept p passes) events answers
+kept_after kept (Forget p ∷ events) (None ∷ answers) = kept_after (after_forget kept p) events answers
+kept_after kept events answers = kept

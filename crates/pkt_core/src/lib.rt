@@ -1,0 +1,12 @@
+//! Connections between packets: the events that a firewall meets, and the tracking by which it
+//! tells the answers of a connection from new packets. What a policy expects of each packet is
+//! said over the events alone, and tracking is proved to give just this.
+#![tactic(auto)]
+
+mod event;
+#[cfg(test)]
+mod tests;
+mod track;
+
+pub use event::Event;
+pub use track::Track;

@@ -1,0 +1,109 @@
+//! Connection tracking. A connection is kept under its first packet, in an ordered map, with a mark
+//! that is set once a packet the other way was seen.
+
+ghost use Rattle.std.specs.Prelude.{◌≡◌, [], Some, None, OnOk, OnErr};
+ghost use Rattle.pkt_core.specs.Expected.{TracksAsExpected};
+ghost use Rattle.pkt_core.specs.Kept.{kept_in};
+ghost use Rattle.pkt_core.specs.Tracking.{Begins, after_forget, after_seen, state_of, with_kept};
+
+use host_net::{CtState, Packet};
+use std::alloc::{AllocError, Global};
+use std::collections::BTreeMap;
+use std::marker::Model;
+
+/// The connections that are kept.
+#[derive(Drop)]
+pub struct Track {
+    kept: BTreeMap<Packet, bool>,
+}
+
+impl Model for Track {
+    ghost use Rattle.std.specs.Prelude.{Bool, List};
+    ghost use Rattle.host_net.specs.declared.packet.Packet.{Packet};
+
+    ghost Value = { List (Packet × Bool) };
+
+    ghost view = { λ track. track.kept.entries };
+}
+
+impl Track {
+    /// Keeps no connection.
+    pub fn new(alloc: Global) -> Track
+        ensures empty { result ≡ [] }
+
+        // With the verdicts of a policy, each packet has the answer that the events alone say.
+        ensures expected { TracksAsExpected (kept_in result) }
+    {
+        Track {
+            kept: BTreeMap::new(alloc),
+        }
+    }
+
+    /// The state in which a packet comes: established where it answers a connection, or is of one
+    /// that was answered.
+    pub fn state_of(&self, packet: &Packet) -> CtState
+        ensures { result ≡ state_of (kept_in self.now) packet.now }
+    {
+        let answers = mark(&self.kept, &packet.swap()).is_some();
+        if answers || mark(&self.kept, packet).unwrap_or(false) {
+            CtState::Established
+        } else {
+            CtState::New
+        }
+    }
+
+    /// Tracks a packet that was seen, where `accepted` says that it was let pass.
+    pub fn step(&mut self, packet: &Packet, accepted: bool) -> Result<(), AllocError>
+        ensures tracked { OnOk result (
+            kept_in self.new ≡ after_seen (kept_in self.old) packet.now accepted) }
+        ensures unchanged { OnErr result (self.new ≡ self.old) }
+
+        // Only a connection that begins takes memory.
+        ensures begins { OnErr result (Begins (kept_in self.old) packet.now accepted) }
+    {
+        let answer = packet.swap();
+        if mark(&self.kept, &answer).is_some() {
+            return keep(&mut self.kept, &answer, true);
+        }
+        if accepted && mark(&self.kept, packet).is_none() {
+            return keep(&mut self.kept, packet, false);
+        }
+        Ok(())
+    }
+
+    /// Forgets the connection of a packet, in both directions.
+    pub fn forget(&mut self, packet: &Packet)
+        ensures { kept_in self.new ≡ after_forget (kept_in self.old) packet.now }
+    {
+        remove(&mut self.kept, packet);
+        remove(&mut self.kept, &packet.swap());
+    }
+}
+
+/// Whether the connection that the packet began is answered, where it is kept.
+fn mark(kept: &BTreeMap<Packet, bool>, packet: &Packet) -> Option<bool>
+    ensures { result ≡ kept_in kept.now.entries packet.now }
+{
+    kept.get(packet).copied()
+}
+
+/// Keeps a connection with this mark.
+fn keep(
+    kept: &mut BTreeMap<Packet, bool>,
+    packet: &Packet,
+    answered: bool,
+) -> Result<(), AllocError>
+    ensures kept { OnOk result (
+        kept_in kept.new.entries ≡ with_kept (kept_in kept.old.entries) packet.now (Some answered)) }
+    ensures unchanged { OnErr result (kept.new.entries ≡ kept.old.entries) }
+    ensures refused { OnErr result (kept_in kept.old.entries packet.now ≡ None) }
+{
+    kept.insert(*packet, answered)?;
+    Ok(())
+}
+
+fn remove(kept: &mut BTreeMap<Packet, bool>, packet: &Packet)
+    ensures { kept_in kept.new.entries ≡ with_kept (kept_in kept.old.entries) packet.now None }
+{
+    kept.remove(packet);
+}
