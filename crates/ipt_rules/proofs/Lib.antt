@@ -1,0 +1,6 @@
+pub mod BuildLemmas
+pub mod WalkLemmas
+pub mod ChainLemmas
+pub mod LineLemmas
+pub mod TextLemmas
+pub mod TestLemmas

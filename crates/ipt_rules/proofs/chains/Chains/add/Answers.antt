@@ -1,0 +1,8 @@
+use Rattle.std.proofs.Common.{◌<◌, length}
+use Rattle.ipt_rules.specs.ChainLaws.{IsChainList-added}
+use Rattle.ipt_rules.proofs.chains.Chains.add.Goals as goal
+
+pub invariant_of-self-2 : goal.invariant_of-self-2
+invariant_of-self-2 c =
+    let room : length c.self.inside.chains.items < 65536 = rw c.self.view_is c.requires.room in
+    rw (c.in_ok-push.ensures.items, c.new.ensures) (IsChainList-added c.self.inside.chains.items c.self.inside.rules c.args.name room c.self.invariant)

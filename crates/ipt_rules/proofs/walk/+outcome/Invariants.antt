@@ -1,0 +1,10 @@
+use Rattle.std.proofs.Common.{◌-◌, length, drop}
+use Rattle.ipt_rules.specs.Matching.{matches}
+use Rattle.ipt_rules.proofs.WalkLemmas.{GivesAlso}
+use Rattle.ipt_rules.proofs.walk.+outcome.Given as goal
+
+abbrev pub decreases-outcome : goal.decreases-outcome
+decreases-outcome l = length l.chains.now - l.number
+
+abbrev pub invariant-loop-rule : goal.invariant-loop-rule
+invariant-loop-rule l = GivesAlso (matches l.packet l.state) l.chains (drop l.rule-index l.rules) l.rules

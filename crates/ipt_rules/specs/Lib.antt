@@ -1,0 +1,13 @@
+pub mod Matching
+pub mod Name
+pub mod NameLaws
+pub mod Chain
+pub mod Meaning
+pub mod MeaningLaws
+pub mod Head
+pub mod ChainLaws
+pub mod Build
+pub mod Text
+pub mod Saying
+pub mod SayingLaws
+pub mod BuildLaws

@@ -1,0 +1,61 @@
+-- What becomes of a packet: the walk through the chains (iptables(8), "TARGETS").
+use Rattle.std.specs.Prelude.{◌≡◌, ℕ, Bool, true, false, List, [], ◌∷◌, Option, Some, None, drop}
+use Rattle.host_net.specs.declared.packet.Packet.{Packet}
+use Rattle.host_net.specs.declared.packet.CtState.{CtState}
+use Rattle.ipt_rules.specs.declared.rule.Rule.{Rule}
+use Rattle.ipt_rules.specs.declared.rule.Target.{Target}
+use Rattle.ipt_rules.specs.declared.rule.Target.TheVariants.{Accept, Drop, Reject, Return, Count, Jump}
+use Rattle.ipt_rules.specs.declared.rule.Policy.{Policy}
+use Rattle.ipt_rules.specs.declared.rule.Policy.TheVariants.{Accept as Accepting, Drop as Dropping}
+use Rattle.ipt_rules.specs.declared.rule.Verdict.{Verdict}
+use Rattle.ipt_rules.specs.declared.rule.Verdict.TheVariants.{Forward as Forwarded, Drop as Dropped}
+use Rattle.ipt_rules.specs.declared.walk.Step.{Step}
+use Rattle.ipt_rules.specs.declared.walk.Step.TheVariants.{GoesOn, Ends, Walks}
+use Rattle.ipt_rules.specs.Matching.{matches}
+use Rattle.ipt_rules.specs.Chain.{Chain, rules_of, policy_of}
+
+-- what a rule does, by whether it fits: one that does not goes on, and so does one that only counts
+abbrev pub step_of : Bool → Target → Step
+step_of false target = GoesOn
+step_of true Accept = Ends (Some Forwarded)
+step_of true Drop = Ends (Some Dropped)
+step_of true Reject = Ends (Some Dropped)
+step_of true Return = Ends None
+step_of true Count = GoesOn
+step_of true (Jump c) = Walks c
+
+-- the outcome by the rules that are left: the end of a chain returns; a chain that was walked
+-- decides by its verdict, and where it returns the walk goes on behind the jump
+pub data Gives (fits : Rule → Bool) (chains : List Chain) : List Rule → Option Verdict → Type 0 where
+  at_end : Gives fits chains [] None
+  goes_on : {r : Rule} {rs : List Rule} {o : Option Verdict} → step_of (fits r) r.target ≡ GoesOn → Gives fits chains rs o → Gives fits chains (r ∷ rs) o
+  ends : {r : Rule} {rs : List Rule} {o : Option Verdict} → step_of (fits r) r.target ≡ Ends o → Gives fits chains (r ∷ rs) o
+  decides : {r : Rule} {rs : List Rule} {v : Verdict} {c : ℕ} → step_of (fits r) r.target ≡ Walks c → Gives fits chains (rules_of chains c) (Some v) → Gives fits chains (r ∷ rs) (Some v)
+  comes_back : {r : Rule} {rs : List Rule} {o : Option Verdict} {c : ℕ} → step_of (fits r) r.target ≡ Walks c → Gives fits chains (rules_of chains c) None → Gives fits chains rs o → Gives fits chains (r ∷ rs) o
+
+-- the rules give one outcome, and no other
+pub record GivesOne (fits : Rule → Bool) (chains : List Chain) (rules : List Rule) : Type 0 where
+  pub outcome : Option Verdict
+  pub gives : Gives fits chains rules outcome
+  pub only : (o : Option Verdict) → Gives fits chains rules o → o ≡ outcome
+
+-- whatever the rules fit, each chain gives one outcome from each place
+abbrev pub EachGivesOne : List Chain → Type 0
+EachGivesOne chains = (fits : Rule → Bool) (c k : ℕ) → GivesOne fits chains (drop k (rules_of chains c))
+
+-- what a policy does with a packet
+abbrev pub policy_verdict : Option Policy → Verdict
+policy_verdict None = Dropped
+policy_verdict (Some Accepting) = Forwarded
+policy_verdict (Some Dropping) = Dropped
+
+-- where FORWARD returns its policy decides
+abbrev pub verdict_by : Option Policy → Option Verdict → Verdict
+verdict_by policy None = policy_verdict policy
+verdict_by policy (Some v) = v
+
+-- the verdict of the chains on a packet in a state is that of FORWARD, chain 1, from its first rule
+pub record HasVerdict (chains : List Chain) (packet : Packet) (state : CtState) (v : Verdict) : Type 0 where
+  pub outcome : Option Verdict
+  pub gives : Gives (matches packet state) chains (rules_of chains 1) outcome
+  pub verdict : v ≡ verdict_by (policy_of chains 1) outcome

@@ -1,0 +1,80 @@
+-- The text of a rule set, line by line (iptables-save(8), iptables-restore(8)).
+use Rattle.std.specs.Prelude.{ℕ, Bool, true, false, if◌then◌else◌, List, [], ◌∷◌, ◌++◌, Option, Some, None, map, codes}
+use Rattle.std.specs.List.{flat_map, concat}
+use Rattle.host_net.specs.Prefix.{prefix_text}
+use Rattle.ipt_rules.specs.declared.rule.AddrMatch.{AddrMatch}
+use Rattle.ipt_rules.specs.declared.rule.StateMatch.{StateMatch}
+use Rattle.ipt_rules.specs.declared.rule.Rule.{Rule}
+use Rattle.ipt_rules.specs.declared.rule.Target.{Target}
+use Rattle.ipt_rules.specs.declared.rule.Target.TheVariants.{Accept, Drop, Reject, Return, Count, Jump}
+use Rattle.ipt_rules.specs.declared.rule.Policy.{Policy}
+use Rattle.ipt_rules.specs.declared.rule.Policy.TheVariants.{Accept as Accepting, Drop as Dropping}
+use Rattle.ipt_rules.specs.Chain.{Chain, name_of}
+
+abbrev pub newline : List ℕ
+newline = 10 ∷ []
+
+-- `!` before an option that is turned round
+abbrev pub negation_text : Bool → List ℕ
+negation_text negated = if negated then codes " !" else []
+
+-- an address part behind its option, nothing where it is not given
+abbrev pub address_text : List ℕ → Option AddrMatch → List ℕ
+address_text option None = []
+address_text option (Some part) = negation_text part.negated ++ (option ++ prefix_text part.prefix)
+
+-- the states that are asked for, by the two flags
+abbrev pub states_text : Bool → Bool → List ℕ
+states_text true true = codes "NEW,ESTABLISHED"
+states_text true false = codes "NEW"
+states_text false true = codes "ESTABLISHED"
+states_text false false = codes "INVALID"
+
+abbrev pub state_text : Option StateMatch → List ℕ
+state_text None = []
+state_text (Some part) =
+    codes " -m conntrack" ++ (negation_text part.negated ++ (codes " --ctstate " ++ states_text part.new part.established))
+
+-- where a rule sends a packet; a jump has the name of its chain, and a rule that only counts nothing
+abbrev pub target_text : List Chain → Target → List ℕ
+target_text chains Accept = codes " -j ACCEPT"
+target_text chains Drop = codes " -j DROP"
+target_text chains Reject = codes " -j REJECT"
+target_text chains Return = codes " -j RETURN"
+target_text chains Count = []
+target_text chains (Jump c) = codes " -j " ++ name_of chains c
+
+-- the policy of a built-in chain; a user chain has none
+abbrev pub policy_text : Option Policy → List ℕ
+policy_text None = codes "-"
+policy_text (Some Accepting) = codes "ACCEPT"
+policy_text (Some Dropping) = codes "DROP"
+
+-- the line of a chain
+unfoldable pub chain_line : Chain → List ℕ
+chain_line chain =
+    codes ":" ++ (chain.name ++ (codes " " ++ (policy_text chain.policy ++ (codes " [0:0]" ++ newline))))
+
+-- the line of a rule of the chain of that name
+unfoldable pub rule_line : List Chain → List ℕ → Rule → List ℕ
+rule_line chains name rule =
+    codes "-A " ++ (name ++ (address_text (codes " -s ") rule.src ++ (address_text (codes " -d ") rule.dst ++ (state_text rule.state ++ (target_text chains rule.target ++ newline)))))
+
+-- the lines of a chain's rules
+abbrev pub rule_lines : List Chain → Chain → List (List ℕ)
+rule_lines chains chain = map (rule_line chains chain.name) chain.rules
+
+abbrev pub table_line : List ℕ
+table_line = codes "*filter" ++ newline
+
+abbrev pub commit_line : List ℕ
+commit_line = codes "COMMIT" ++ newline
+
+-- the lines of the text: the table, the chains, their rules chain by chain, and COMMIT
+abbrev pub text_lines : List Chain → List (List ℕ)
+text_lines chains =
+    table_line ∷ (map chain_line chains ++ (flat_map (rule_lines chains) chains ++ commit_line ∷ []))
+
+-- the text: its lines joined
+abbrev pub text : List Chain → List ℕ
+text chains = concat (text_lines chains)

@@ -1,0 +1,119 @@
+//! One chain: its head and its rules. A built-in chain has a policy, a user chain a name of its
+//! own.
+
+ghost use Rattle.std.specs.Prelude.{◌≡◌, ◌≤◌, ◌∷◌, [], ◌++◌, length, OnOk, OnErr, IsSome, Some};
+ghost use Rattle.ipt_rules.specs.Head.{head_name, head_policy};
+
+use crate::name::ChainName;
+use crate::rule::{Policy, Rule};
+use std::alloc::{AllocError, Global};
+use std::marker::Model;
+
+/// What a chain line says of a chain.
+#[derive(Clone, Copy)]
+pub(crate) enum Head {
+    Input(Policy),
+    Forward(Policy),
+    Output(Policy),
+    User(ChainName),
+}
+
+impl Head {
+    #[tactic(auto, using(crate::specs::NameLaws::user_name_fits))]
+    pub(crate) fn name(&self) -> &[u8]
+        ensures value { result.now ≡ head_name self.now }
+        ensures short { length result.now ≤ 64 }
+    {
+        match self {
+            Head::Input(_) => b"INPUT",
+            Head::Forward(_) => b"FORWARD",
+            Head::Output(_) => b"OUTPUT",
+            Head::User(name) => name.bytes(),
+        }
+    }
+
+    fn policy(&self) -> Option<Policy>
+        ensures { result ≡ head_policy self.now }
+    {
+        match self {
+            Head::Input(policy) | Head::Forward(policy) | Head::Output(policy) => Some(*policy),
+            Head::User(_) => None,
+        }
+    }
+
+    fn with_policy(self, policy: Policy) -> Head
+        requires { IsSome (head_policy self) }
+        ensures name { head_name result ≡ head_name self }
+        ensures policy { head_policy result ≡ Some policy }
+    {
+        match self {
+            Head::Input(_) => Head::Input(policy),
+            Head::Forward(_) => Head::Forward(policy),
+            Head::Output(_) => Head::Output(policy),
+            Head::User(_) => self,
+        }
+    }
+}
+
+#[derive(Drop)]
+pub(crate) struct Chain {
+    head: Head,
+    rules: Vec<Rule>,
+}
+
+impl Model for Chain {
+    ghost use Rattle.ipt_rules.specs.Chain.{Chain};
+
+    ghost Value = { Chain };
+
+    ghost use Rattle.ipt_rules.specs.Head.{head_name, head_policy};
+
+    ghost view = { λ c. record { name = head_name c.head; policy = head_policy c.head; rules = c.rules.items } };
+}
+
+impl Chain {
+    /// A chain without rules.
+    pub(crate) fn new(alloc: Global, head: Head) -> Chain
+        ensures { result ≡ record { name = head_name head; policy = head_policy head; rules = [] } }
+    {
+        Chain {
+            head,
+            rules: Vec::new(alloc),
+        }
+    }
+
+    pub(crate) fn name(&self) -> &[u8]
+        ensures value { result.now ≡ self.now.name }
+        ensures short { length result.now ≤ 64 }
+    {
+        self.head.name()
+    }
+
+    pub(crate) fn policy(&self) -> Option<Policy>
+        ensures { result ≡ self.now.policy }
+    {
+        self.head.policy()
+    }
+
+    /// Gives a built-in chain another policy. A user chain has none, and stays as it is.
+    pub(crate) fn set_policy(&mut self, policy: Policy)
+        requires { IsSome self.old.policy }
+        ensures { self.new ≡ record self.old { policy = Some policy } }
+    {
+        self.head = self.head.with_policy(policy);
+    }
+
+    pub(crate) fn rules(&self) -> &[Rule]
+        ensures { result.now ≡ self.now.rules }
+    {
+        &self.rules
+    }
+
+    pub(crate) fn push(&mut self, rule: Rule) -> Result<(), AllocError>
+        ensures ok { OnOk result (self.new ≡ record self.old { rules = self.old.rules ++ rule ∷ [] }) }
+        ensures err { OnErr result (self.new ≡ self.old) }
+    {
+        self.rules.push(rule)?;
+        Ok(())
+    }
+}

@@ -1,0 +1,21 @@
+//! Rule sets of a packet filter: chains of rules, what becomes of a packet that runs through them,
+//! and the text that iptables-restore loads. The reader of such texts and the emitter of layouts
+//! stand on this crate.
+#![tactic(auto)]
+
+mod chain;
+mod chains;
+mod name;
+mod pieces;
+mod rule;
+mod ruleset;
+mod text;
+mod walk;
+
+pub use chains::Chains;
+pub use name::ChainName;
+pub use rule::{AddrMatch, Policy, Rule, StateMatch, Target, Verdict};
+pub use ruleset::{BuildRefusal, Ruleset};
+
+#[cfg(test)]
+mod tests;

@@ -1,0 +1,110 @@
+//! The name of a user chain, a small text that is copied like a number.
+
+ghost use Rattle.std.specs.Prelude.{◌≡◌, ◌-◌, ◌≤◌, ◌↔◌, ◌++◌, length, replicate, IsTrue, IsSome, IfSome};
+ghost use Rattle.std.specs.List.{list_all};
+ghost use Rattle.ipt_rules.specs.Name.{is_user_name, is_name_byte, is_reserved, begins_as_option, has_name_length};
+
+use std::marker::Model;
+
+const MOST: usize = 64;
+
+/// The text of a legal user chain name: 1 to 64 printing bytes without blanks.
+#[derive(Clone, Copy)]
+pub struct ChainName {
+    bytes: [u8; 64],
+    len: u8,
+}
+
+impl Model for ChainName {
+    ghost use Rattle.std.specs.Prelude.{ℕ, ◌-◌, List, ◌++◌, length, take, replicate};
+    ghost use Rattle.ipt_rules.specs.Name.{IsStored};
+    ghost use Rattle.ipt_rules.specs.NameLaws.{stored_bytes};
+
+    ghost Value = { List ℕ };
+
+    ghost view = { λ n. take n.len n.bytes };
+
+    ghost invariant = { λ n. IsStored n.bytes n.len };
+
+    ghost inverse = { λ name. record { bytes = name ++ replicate (64 - length name) 0; len = length name } };
+
+    ghost inverse_ok = { λ n stored. λ i. record { bytes = (stored_bytes n.bytes n.len stored) i; len = stored.counted i } };
+}
+
+impl ChainName {
+    /// The name, or None where the text is no legal one: a byte outside 33 to 126, a first byte
+    /// `-` or `!`, the name of a built-in chain or of a target, or not 1 to 64 bytes.
+    #[tactic(auto, using(crate::specs::NameLaws::user_name_fits))]
+    pub fn new(text: &[u8]) -> Option<ChainName>
+        ensures legal { IsSome result ↔ IsTrue (is_user_name text.now) }
+        ensures value { IfSome result (λ name. name ≡ text.now) }
+    {
+        if !is_user_name(text) {
+            return None;
+        }
+        Some(ChainName {
+            bytes: padded(text),
+            len: text.len() as u8,
+        })
+    }
+
+    pub(crate) fn bytes(&self) -> &[u8]
+        ensures value { result.now ≡ self.now }
+        ensures legal { IsTrue (is_user_name self.now) }
+    {
+        &self.bytes[..self.len as usize]
+    }
+}
+
+fn padded(text: &[u8]) -> [u8; 64]
+    requires { length text.now ≤ 64 }
+    ensures { result ≡ text.now ++ replicate (64 - length text.now) 0 }
+{
+    let mut bytes = [0; 64];
+    let front = &mut bytes[..text.len()];
+    front.copy_from_slice(text);
+    bytes
+}
+
+#[tactic(auto, unfolding(crate::specs::Name::is_user_name))]
+fn is_user_name(text: &[u8]) -> bool
+    ensures { result ≡ is_user_name text.now }
+{
+    has_name_length(text) && has_name_bytes(text) && !begins_as_option(text) && !is_reserved(text)
+}
+
+fn has_name_length(text: &[u8]) -> bool
+    ensures { result ≡ has_name_length text.now }
+{
+    text.len() >= 1 && text.len() <= MOST
+}
+
+fn has_name_bytes(text: &[u8]) -> bool
+    ensures { result ≡ list_all is_name_byte text.now }
+{
+    text.iter().all(|b| *b >= 33 && *b <= 126)
+}
+
+fn begins_as_option(text: &[u8]) -> bool
+    ensures { result ≡ begins_as_option text.now }
+{
+    match text {
+        [first, ..] => *first == b'-' || *first == b'!',
+        [] => false,
+    }
+}
+
+#[tactic(auto, unfolding(crate::specs::Name::is_reserved))]
+fn is_reserved(text: &[u8]) -> bool
+    ensures { result ≡ is_reserved text.now }
+{
+    text == b"INPUT".as_slice()
+        || text == b"FORWARD".as_slice()
+        || text == b"OUTPUT".as_slice()
+        || text == b"ACCEPT".as_slice()
+        || text == b"DROP".as_slice()
+        || text == b"REJECT".as_slice()
+        || text == b"RETURN".as_slice()
+        || text == b"LOG".as_slice()
+        || text == b"QUEUE".as_slice()
+}

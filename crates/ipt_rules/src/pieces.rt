@@ -1,0 +1,154 @@
+//! The pieces of a rule's line: addresses, states and targets, each put behind what the buffer
+//! holds.
+
+ghost use Rattle.std.specs.Prelude.{◌≡◌, ◌<◌, ◌≤◌, ◌++◌, length, take, codes};
+ghost use Rattle.text_core.specs.Line.{cut};
+ghost use Rattle.host_net.specs.Prefix as prefixes;
+ghost use Rattle.ipt_rules.specs.Build.{JumpsIn};
+ghost use Rattle.ipt_rules.specs.Chain.{name_of};
+ghost use Rattle.ipt_rules.specs.Text.{negation_text, address_text, state_text, states_text, target_text, policy_text};
+
+use crate::chain::Chain;
+use crate::rule::{AddrMatch, Policy, StateMatch, Target};
+use host_net::Prefix;
+use text_core::{put, put_number};
+
+/// Puts a prefix as `a.b.c.d/len`.
+#[tactic(auto, unfolding(host_net::specs::Prefix::prefix_text))]
+pub fn put_prefix(buffer: &mut [u8; 256], at: usize, prefix: Prefix) -> usize
+    requires { at ≤ 256 }
+    ensures text { take result buffer.new ≡ cut (take at buffer.old ++ prefixes.prefix_text prefix) }
+    ensures within { result ≤ 256 }
+{
+    let address = put_address(buffer, at, prefix.addr());
+    let slash = put(buffer, address, b"/");
+    put_number(buffer, slash, prefix.len() as u32)
+}
+
+fn put_address(buffer: &mut [u8; 256], at: usize, address: u32) -> usize
+    requires { at ≤ 256 }
+    ensures text { take result buffer.new ≡ cut (take at buffer.old ++ prefixes.address_text address) }
+    ensures within { result ≤ 256 }
+{
+    let first = put_number(buffer, at, octet(address, 24));
+    let dot = put(buffer, first, b".");
+    let second = put_number(buffer, dot, octet(address, 16));
+    let dot = put(buffer, second, b".");
+    let third = put_number(buffer, dot, octet(address, 8));
+    let dot = put(buffer, third, b".");
+    put_number(buffer, dot, octet(address, 0))
+}
+
+#[tactic(auto, unfolding(host_net::specs::Prefix::octet))]
+fn octet(address: u32, place: u8) -> u32
+    requires { place < 32 }
+    ensures { result ≡ prefixes.octet address place }
+{
+    (address >> place) % 256
+}
+
+fn put_negation(buffer: &mut [u8; 256], at: usize, negated: bool) -> usize
+    requires { at ≤ 256 }
+    ensures text { take result buffer.new ≡ cut (take at buffer.old ++ negation_text negated) }
+    ensures within { result ≤ 256 }
+{
+    put(buffer, at, if negated { b" !" } else { b"" })
+}
+
+#[tactic(auto, using(crate::proofs::LineLemmas::nothing_put))]
+pub(crate) fn put_address_part(
+    buffer: &mut [u8; 256],
+    at: usize,
+    option: &[u8],
+    part: Option<AddrMatch>,
+) -> usize
+    requires { at ≤ 256 }
+    ensures text { take result buffer.new ≡ cut (take at buffer.old ++ address_text option.now part) }
+    ensures within { result ≤ 256 }
+{
+    match part {
+        None => at,
+        Some(asked) => {
+            let mark = put_negation(buffer, at, asked.negated);
+            let option = put(buffer, mark, option);
+            put_prefix(buffer, option, asked.prefix)
+        }
+    }
+}
+
+#[tactic(auto, using(crate::proofs::LineLemmas::nothing_put))]
+pub(crate) fn put_state_part(buffer: &mut [u8; 256], at: usize, part: Option<StateMatch>) -> usize
+    requires { at ≤ 256 }
+    ensures text { take result buffer.new ≡ cut (take at buffer.old ++ state_text part) }
+    ensures within { result ≤ 256 }
+{
+    match part {
+        None => at,
+        Some(asked) => {
+            let module = put(buffer, at, b" -m conntrack");
+            let mark = put_negation(buffer, module, asked.negated);
+            let option = put(buffer, mark, b" --ctstate ");
+            put_states(buffer, option, asked.new, asked.established)
+        }
+    }
+}
+
+fn put_states(buffer: &mut [u8; 256], at: usize, new: bool, established: bool) -> usize
+    requires { at ≤ 256 }
+    ensures text { take result buffer.new ≡ cut (take at buffer.old ++ states_text new established) }
+    ensures within { result ≤ 256 }
+{
+    match (new, established) {
+        (true, true) => put(buffer, at, b"NEW,ESTABLISHED"),
+        (true, false) => put(buffer, at, b"NEW"),
+        (false, true) => put(buffer, at, b"ESTABLISHED"),
+        (false, false) => put(buffer, at, b"INVALID"),
+    }
+}
+
+#[tactic(auto, using(crate::proofs::LineLemmas::nothing_put))]
+pub(crate) fn put_target(
+    buffer: &mut [u8; 256],
+    at: usize,
+    chains: &[Chain],
+    target: Target,
+) -> usize
+    requires fits { at ≤ 256 }
+    requires there { JumpsIn (length chains.now) target }
+    ensures text { take result buffer.new ≡ cut (take at buffer.old ++ target_text chains.now target) }
+    ensures within { result ≤ 256 }
+    ensures short { length (target_text chains.now target) ≤ 68 }
+{
+    match target {
+        Target::Accept => put(buffer, at, b" -j ACCEPT"),
+        Target::Drop => put(buffer, at, b" -j DROP"),
+        Target::Reject => put(buffer, at, b" -j REJECT"),
+        Target::Return => put(buffer, at, b" -j RETURN"),
+        Target::Count => at,
+        Target::Jump(chain) => {
+            let option = put(buffer, at, b" -j ");
+            put(buffer, option, name_of(chains, chain))
+        }
+    }
+}
+
+#[tactic(auto, using(crate::proofs::ChainLemmas::name_of_read))]
+fn name_of(chains: &[Chain], number: u16) -> &[u8]
+    requires { number < length chains.now }
+    ensures value { result.now ≡ name_of chains.now number }
+    ensures short { length (name_of chains.now number) ≤ 64 }
+{
+    chains[number as usize].name()
+}
+
+pub(crate) fn put_policy(buffer: &mut [u8; 256], at: usize, policy: Option<Policy>) -> usize
+    requires { at ≤ 256 }
+    ensures text { take result buffer.new ≡ cut (take at buffer.old ++ policy_text policy) }
+    ensures within { result ≤ 256 }
+{
+    match policy {
+        None => put(buffer, at, b"-"),
+        Some(Policy::Accept) => put(buffer, at, b"ACCEPT"),
+        Some(Policy::Drop) => put(buffer, at, b"DROP"),
+    }
+}

@@ -1,0 +1,91 @@
+//! One rule of a chain: which packets it fits, and what it does with them.
+
+ghost use Rattle.std.specs.Prelude.{◌≡◌};
+ghost use Rattle.ipt_rules.specs.Matching.{matches, address_matches, state_matches};
+
+use host_net::{CtState, Packet, Prefix};
+
+/// What a rule asks of one address of a packet: that the prefix covers it, or that it does not.
+#[derive(Clone, Copy, Debug, PartialEq, Eq)]
+pub struct AddrMatch {
+    pub prefix: Prefix,
+    pub negated: bool,
+}
+
+/// What a rule asks of the state of the packet's connection: that its flag is set, or that it is
+/// not. With neither flag no packet has such a state.
+#[derive(Clone, Copy, Debug, PartialEq, Eq)]
+pub struct StateMatch {
+    pub new: bool,
+    pub established: bool,
+    pub negated: bool,
+}
+
+/// What a rule does with a packet that it fits. `Count` only counts it, and `Jump` goes on in the
+/// chain of that number.
+#[derive(Clone, Copy, Debug, PartialEq, Eq)]
+pub enum Target {
+    Accept,
+    Drop,
+    Reject,
+    Return,
+    Count,
+    Jump(u16),
+}
+
+/// A rule fits a packet where each part that is given does.
+#[derive(Clone, Copy, Debug, PartialEq, Eq)]
+pub struct Rule {
+    pub src: Option<AddrMatch>,
+    pub dst: Option<AddrMatch>,
+    pub state: Option<StateMatch>,
+    pub target: Target,
+}
+
+/// What a built-in chain does with a packet that comes to its end.
+#[derive(Clone, Copy, Debug, PartialEq, Eq)]
+pub enum Policy {
+    Accept,
+    Drop,
+}
+
+/// What becomes of a packet.
+#[derive(Clone, Copy, Debug, PartialEq, Eq)]
+pub enum Verdict {
+    Forward,
+    Drop,
+}
+
+impl Rule {
+    pub(crate) fn matches(&self, packet: &Packet, state: CtState) -> bool
+        ensures { result ≡ matches packet.now state self.now }
+    {
+        address_matches(self.src, packet.src)
+            && address_matches(self.dst, packet.dst)
+            && state_matches(self.state, state)
+    }
+}
+
+fn address_matches(part: Option<AddrMatch>, address: u32) -> bool
+    ensures { result ≡ address_matches part address }
+{
+    match part {
+        None => true,
+        Some(asked) => asked.prefix.covers(address) != asked.negated,
+    }
+}
+
+fn state_matches(part: Option<StateMatch>, state: CtState) -> bool
+    ensures { result ≡ state_matches part state }
+{
+    match part {
+        None => true,
+        Some(asked) => {
+            let set = match state {
+                CtState::New => asked.new,
+                CtState::Established => asked.established,
+            };
+            set != asked.negated
+        }
+    }
+}

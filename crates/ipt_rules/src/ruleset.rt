@@ -1,0 +1,137 @@
+//! A rule set: chains whose jumps all lead somewhere and never back, so that each packet has a
+//! verdict.
+
+ghost use Rattle.std.specs.Prelude.{◌≡◌, ◌<◌, ◌≤◌, ◌↔◌, ◌⊎◌, ℕ, List, length, IfOk, IfErr, OnOk, IsNone, IfSome, Some, Option};
+ghost use Rattle.ipt_rules.specs.Chain.{Chain, rules_of, rule_count};
+ghost use Rattle.ipt_rules.specs.Build.{refusal_of, first_unknown, JumpsAscend, jumps_nowhere, place_of_unknown};
+ghost use Rattle.ipt_rules.specs.Meaning.{EachGivesOne, HasVerdict};
+
+use crate::chain::Chain;
+use crate::chains::Chains;
+use crate::rule::{Rule, Target, Verdict};
+use crate::walk::{outcome, policy_verdict};
+use host_net::{CtState, Packet};
+use std::alloc::Global;
+use std::marker::Model;
+
+const FORWARD: u16 = 1;
+
+const MOST_CHAINS: usize = 4096;
+
+const MOST_RULES: u32 = 1_000_000;
+
+/// Why chains make no rule set.
+#[derive(Clone, Copy, Debug, PartialEq, Eq)]
+pub enum BuildRefusal {
+    /// More than 4,096 chains or, where these are few enough, more than 1,000,000 rules.
+    TooMany { count: u32 },
+    /// That rule, from 0, jumps to a built-in chain or to no chain.
+    UnknownChain { chain: u16, rule: u32 },
+    /// From that chain jumps lead back to it.
+    Loop { chain: u16 },
+    /// No memory is left.
+    Memory,
+}
+
+/// Chains of which each gives every packet one outcome.
+#[derive(Drop)]
+pub struct Ruleset {
+    pub(crate) chains: Vec<Chain>,
+    pub(crate) rules: u32,
+}
+
+impl Model for Ruleset {
+    ghost use Rattle.std.specs.Prelude.{List};
+    ghost use Rattle.ipt_rules.specs.Chain.{Chain};
+
+    ghost Value = { List Chain };
+
+    ghost use Rattle.ipt_rules.specs.Build.{IsRuleset};
+
+    ghost view = { λ r. r.chains.items };
+
+    ghost invariant = { λ r. IsRuleset r.chains.items r.rules };
+}
+
+impl Ruleset {
+    /// Makes a rule set of the chains, which it consumes in every case. So far the jumps between
+    /// user chains have to go to greater numbers, and so `Loop` does not come.
+    pub fn build(_alloc: Global, chains: Chains) -> Result<Ruleset, BuildRefusal>
+        requires ascending { JumpsAscend chains }
+        ensures ok { IfOk result (λ rules. rules ≡ chains) }
+        // Each chain gives every packet one outcome, so that the walk of a packet ends.
+        ensures one_outcome { IfOk result EachGivesOne }
+        ensures accepted { OnOk result (IsNone (refusal_of chains)) }
+        ensures refused { IfErr result (λ why. (refusal_of chains ≡ Some why) ⊎ (why ≡ BuildRefusal.Memory)) }
+    {
+        if let Some(why) = refusal(&chains.chains, chains.rules) {
+            return Err(why);
+        }
+        Ok(Ruleset {
+            chains: chains.chains,
+            rules: chains.rules,
+        })
+    }
+
+    /// What becomes of a packet that runs through FORWARD in that state.
+    pub fn verdict(&self, packet: &Packet, state: CtState) -> Verdict
+        ensures { HasVerdict self.now packet.now state result }
+    {
+        match outcome(&self.chains, FORWARD, packet, state) {
+            Some(verdict) => verdict,
+            None => policy_verdict(self.chains[FORWARD as usize].policy()),
+        }
+    }
+}
+
+#[tactic(auto, unfolding(crate::specs::Build::refusal_of))]
+fn refusal(chains: &[Chain], rules: u32) -> Option<BuildRefusal>
+    requires counted { rules ≡ rule_count chains.now }
+    requires numbered { length chains.now ≤ 65536 }
+    ensures { result ≡ refusal_of chains.now }
+{
+    let count = chains.len();
+    if count > MOST_CHAINS {
+        return Some(BuildRefusal::TooMany {
+            count: count as u32,
+        });
+    }
+    if rules > MOST_RULES {
+        return Some(BuildRefusal::TooMany { count: rules });
+    }
+    first_unknown(chains)
+}
+
+fn first_unknown(chains: &[Chain]) -> Option<BuildRefusal>
+    requires few_chains { length chains.now ≤ 4096 }
+    requires few_rules { rule_count chains.now ≤ 1000000 }
+    ensures { result ≡ first_unknown (length chains.now) 0 chains.now }
+{
+    for (number, chain) in chains.iter().enumerate() {
+        if let Some(place) = place_of_unknown(chains.len(), chain.rules()) {
+            return Some(BuildRefusal::UnknownChain {
+                chain: number as u16,
+                rule: place as u32,
+            });
+        }
+    }
+    None
+}
+
+fn place_of_unknown(count: usize, rules: &[Rule]) -> Option<usize>
+    ensures first { result ≡ place_of_unknown count rules.now }
+    ensures within { IfSome result (λ place. place < length rules.now) }
+{
+    rules
+        .iter()
+        .position(|rule| jumps_nowhere(count, rule.target))
+}
+
+fn jumps_nowhere(count: usize, target: Target) -> bool
+    ensures { result ≡ jumps_nowhere count target }
+{
+    match target {
+        Target::Jump(chain) => chain < 3 || chain as usize >= count,
+        _ => false,
+    }
+}

@@ -1,0 +1,258 @@
+//! The text of a small rule set, and the verdicts of packets, with values worked out by hand.
+
+ghost use Rattle.std.specs.Prelude.{◌≡◌, ◌+◌, ◌<◌, length, IsTrue};
+ghost use Rattle.ipt_rules.specs.Chain.{rule_count};
+ghost use Rattle.ipt_rules.specs.Build.{ascends, JumpsAscend};
+
+use crate::{
+    AddrMatch, BuildRefusal, ChainName, Chains, Policy, Rule, Ruleset, StateMatch, Target, Verdict,
+};
+use host_net::{CtState, Packet, Prefix};
+use std::alloc::Global;
+use std::process::Abort;
+
+/// The three built-in chains, of which FORWARD drops.
+#[tactic(auto, using(crate::specs::BuildLaws::with_policy_ascend, crate::proofs::TestLemmas::dropping_length, crate::proofs::TestLemmas::dropping_rules))]
+fn dropping(alloc: Global, rt: &impl Abort) -> Chains
+    ensures length { length result ≡ 3 }
+    ensures rules { rule_count result ≡ 0 }
+    ensures jumps { JumpsAscend result }
+{
+    let mut chains = Chains::new(alloc).expect(rt, "memory");
+    chains.set_policy(1, Policy::Drop);
+    chains
+}
+
+#[tactic(auto, using(crate::specs::BuildLaws::added_ascend, crate::proofs::TestLemmas::added_length, crate::proofs::TestLemmas::added_rules))]
+fn add(rt: &impl Abort, chains: &mut Chains, text: &[u8])
+    requires room { length chains.old < 100 }
+    requires jumps { JumpsAscend chains.old }
+    ensures length { length chains.new ≡ length chains.old + 1 }
+    ensures rules { rule_count chains.new ≡ rule_count chains.old }
+    ensures jumps { JumpsAscend chains.new }
+{
+    let name = ChainName::new(text).expect(rt, "a name");
+    assert!(rt; chains.find(name.bytes()).is_none());
+    chains.add(name).expect(rt, "memory");
+    assert!(rt; chains.find(text).is_some());
+}
+
+#[tactic(auto, using(crate::specs::BuildLaws::with_rule_ascend, crate::proofs::TestLemmas::rule_length, crate::proofs::TestLemmas::rule_rules))]
+fn push(rt: &impl Abort, chains: &mut Chains, chain: u16, rule: Rule)
+    requires there { chain < length chains.old }
+    requires room { rule_count chains.old < 100 }
+    requires jumps { JumpsAscend chains.old }
+    requires jump { IsTrue (ascends (length chains.old) chain rule.target) }
+    ensures length { length chains.new ≡ length chains.old }
+    ensures rules { rule_count chains.new ≡ rule_count chains.old + 1 }
+    ensures jumps { JumpsAscend chains.new }
+{
+    chains.rule(chain, rule).expect(rt, "memory");
+}
+
+fn rule(target: Target) -> Rule
+    ensures { result.target ≡ target }
+{
+    Rule {
+        src: None,
+        dst: None,
+        state: None,
+        target,
+    }
+}
+
+fn part(rt: &impl Abort, addr: u32, len: u8) -> Option<AddrMatch> {
+    let prefix = Prefix::new(addr, len).expect(rt, "a prefix");
+    Some(AddrMatch {
+        prefix,
+        negated: false,
+    })
+}
+
+fn packet(src: u32, dst: u32) -> Packet {
+    Packet {
+        src,
+        dst,
+        proto: 6,
+        sport: 50000,
+        dport: 443,
+    }
+}
+
+#[test]
+fn writes_a_pair(rt: HostRuntime) {
+    let mut chains = dropping(rt.alloc(), &rt);
+    add(&rt, &mut chains, b"H0");
+    add(&rt, &mut chains, b"H1");
+    let (a, b) = (part(&rt, 0x0a00_0001, 32), part(&rt, 0x0a00_0002, 32));
+    push(
+        &rt,
+        &mut chains,
+        1,
+        Rule {
+            src: a,
+            dst: None,
+            state: None,
+            target: Target::Jump(3),
+        },
+    );
+    push(
+        &rt,
+        &mut chains,
+        1,
+        Rule {
+            src: b,
+            dst: None,
+            state: None,
+            target: Target::Jump(4),
+        },
+    );
+    push(
+        &rt,
+        &mut chains,
+        3,
+        Rule {
+            src: None,
+            dst: b,
+            state: None,
+            target: Target::Accept,
+        },
+    );
+    push(&rt, &mut chains, 3, rule(Target::Drop));
+    push(&rt, &mut chains, 4, rule(Target::Drop));
+    let rules = Ruleset::build(rt.alloc(), chains).expect(&rt, "a rule set");
+    let lines: [&[u8]; 12] = [
+        b"*filter\n",
+        b":INPUT ACCEPT [0:0]\n",
+        b":FORWARD DROP [0:0]\n",
+        b":OUTPUT ACCEPT [0:0]\n",
+        b":H0 - [0:0]\n",
+        b":H1 - [0:0]\n",
+        b"-A FORWARD -s 10.0.0.1/32 -j H0\n",
+        b"-A FORWARD -s 10.0.0.2/32 -j H1\n",
+        b"-A H0 -d 10.0.0.2/32 -j ACCEPT\n",
+        b"-A H0 -j DROP\n",
+        b"-A H1 -j DROP\n",
+        b"COMMIT\n",
+    ];
+    assert_eq!(rt; rules.lines(), 12);
+    let mut buffer = [0; 256];
+    for i in 0..rules.lines() {
+        let end = rules.write_line(i, &mut buffer);
+        assert!(rt;
+            lines
+                .get(i as usize)
+                .is_some_and(|line| &buffer[..end] == *line)
+        );
+    }
+}
+
+/// An office behind a router: its hosts may open connections to the outside, but not into
+/// 10.9.0.0/16 or to other private networks.
+#[test]
+fn judges_packets(rt: HostRuntime) {
+    let office = part(&rt, 0xc0a8_0100, 24);
+    let lab = part(&rt, 0x0a09_0000, 16);
+    let outside = Some(AddrMatch {
+        prefix: Prefix::new(0xc0a8_0000, 16).expect(&rt, "a prefix"),
+        negated: true,
+    });
+    let established = Some(StateMatch {
+        new: false,
+        established: true,
+        negated: false,
+    });
+    let mut chains = dropping(rt.alloc(), &rt);
+    add(&rt, &mut chains, b"office");
+    push(
+        &rt,
+        &mut chains,
+        1,
+        Rule {
+            src: office,
+            dst: None,
+            state: None,
+            target: Target::Jump(3),
+        },
+    );
+    push(
+        &rt,
+        &mut chains,
+        1,
+        Rule {
+            src: None,
+            dst: office,
+            state: established,
+            target: Target::Accept,
+        },
+    );
+    push(&rt, &mut chains, 1, rule(Target::Reject));
+    push(
+        &rt,
+        &mut chains,
+        3,
+        Rule {
+            src: None,
+            dst: lab,
+            state: None,
+            target: Target::Return,
+        },
+    );
+    push(
+        &rt,
+        &mut chains,
+        3,
+        Rule {
+            src: None,
+            dst: outside,
+            state: None,
+            target: Target::Accept,
+        },
+    );
+    let rules = Ruleset::build(rt.alloc(), chains).expect(&rt, "a rule set");
+    let (inside, outside) = (0xc0a8_0105, 0x5db8_d822);
+    assert_eq!(rt;
+        rules.verdict(&packet(inside, outside), CtState::New),
+        Verdict::Forward
+    );
+    assert_eq!(rt;
+        rules.verdict(&packet(outside, inside), CtState::Established),
+        Verdict::Forward
+    );
+    assert_eq!(rt;
+        rules.verdict(&packet(inside, 0x0a09_0101), CtState::New),
+        Verdict::Drop
+    );
+    assert_eq!(rt;
+        rules.verdict(&packet(inside, 0xc0a8_0202), CtState::New),
+        Verdict::Drop
+    );
+    assert_eq!(rt;
+        rules.verdict(&packet(outside, inside), CtState::New),
+        Verdict::Drop
+    );
+}
+
+/// The end of a user chain goes back behind the jump, to the policy; and a jump to a built-in
+/// chain is refused.
+#[test]
+fn returns_and_refuses(rt: HostRuntime) {
+    let mut chains = dropping(rt.alloc(), &rt);
+    add(&rt, &mut chains, b"empty");
+    push(&rt, &mut chains, 1, rule(Target::Jump(3)));
+    push(&rt, &mut chains, 1, rule(Target::Accept));
+    let rules = Ruleset::build(rt.alloc(), chains).expect(&rt, "a rule set");
+    assert_eq!(rt;
+        rules.verdict(&packet(1, 2), CtState::New),
+        Verdict::Forward
+    );
+
+    let mut chains = dropping(rt.alloc(), &rt);
+    add(&rt, &mut chains, b"back");
+    push(&rt, &mut chains, 3, rule(Target::Jump(2)));
+    let refused = Ruleset::build(rt.alloc(), chains).err();
+    assert_eq!(rt;
+        refused,
+        Some(BuildRefusal::UnknownChain { chain: 3, rule: 0 })
+    );
+}

@@ -1,0 +1,99 @@
+//! The text of a rule set, written line by line into a buffer and without memory.
+
+ghost use Rattle.std.specs.Prelude.{◌≡◌, ◌<◌, ◌≤◌, ◌++◌, ◌∷◌, [], length, take, slice_get, Some};
+ghost use Rattle.std.specs.List.{flat_map};
+ghost use Rattle.ipt_rules.specs.Build.{JumpsIn, JumpsGoOn};
+ghost use Rattle.ipt_rules.specs.Chain.{rule_count};
+ghost use Rattle.ipt_rules.specs.Text.{text_lines, table_line, commit_line, chain_line, rule_line, rule_lines};
+
+use crate::chain::Chain;
+use crate::pieces::{put_address_part, put_policy, put_state_part, put_target};
+use crate::rule::Rule;
+use crate::ruleset::Ruleset;
+use text_core::put;
+
+impl Ruleset {
+    /// How many lines the text has.
+    pub fn lines(&self) -> u32
+        ensures { result ≡ length (text_lines self.now) }
+    {
+        self.chains.len() as u32 + self.rules + 2
+    }
+
+    /// Writes line `i` of the text, from 0, with its newline to the front of the buffer, and
+    /// answers its length.
+    pub fn write_line(&self, i: u32, buffer: &mut [u8; 256]) -> usize
+        requires { i < length (text_lines self.now) }
+        ensures line { slice_get (text_lines self.now) i ≡ Some (take result buffer.new) }
+        ensures short { result ≤ 225 }
+    {
+        if i == 0 {
+            return write_table_line(buffer);
+        }
+        let place = i as usize - 1;
+        let chains = self.chains.as_slice();
+        if place < chains.len() {
+            return write_chain_line(&chains[place], buffer);
+        }
+        write_rule_or_commit(chains, place - chains.len(), buffer)
+    }
+}
+
+fn write_table_line(buffer: &mut [u8; 256]) -> usize
+    ensures line { take result buffer.new ≡ table_line }
+    ensures short { result ≤ 225 }
+{
+    put(buffer, 0, b"*filter\n")
+}
+
+fn write_chain_line(chain: &Chain, buffer: &mut [u8; 256]) -> usize
+    ensures line { take result buffer.new ≡ chain_line chain.now }
+    ensures short { result ≤ 225 }
+{
+    let colon = put(buffer, 0, b":");
+    let name = put(buffer, colon, chain.name());
+    let blank = put(buffer, name, b" ");
+    let policy = put_policy(buffer, blank, chain.policy());
+    put(buffer, policy, b" [0:0]\n")
+}
+
+/// Writes the line of the rule that stands there among the rules of all chains, or the last line
+/// where so many rules there are.
+fn write_rule_or_commit(chains: &[Chain], place: usize, buffer: &mut [u8; 256]) -> usize
+    requires jumps { JumpsGoOn chains.now }
+    requires there { place ≤ rule_count chains.now }
+    ensures line { slice_get (flat_map (rule_lines chains.now) chains.now ++ commit_line ∷ []) place ≡ Some (take result buffer.new) }
+    ensures short { result ≤ 225 }
+{
+    let mut left = place;
+    for chain in chains {
+        let rules = chain.rules();
+        if left < rules.len() {
+            return write_rule_line(chains, chain.name(), rules[left], buffer);
+        }
+        left -= rules.len();
+    }
+    write_commit_line(buffer)
+}
+
+fn write_commit_line(buffer: &mut [u8; 256]) -> usize
+    ensures line { take result buffer.new ≡ commit_line }
+    ensures short { result ≤ 225 }
+{
+    put(buffer, 0, b"COMMIT\n")
+}
+
+fn write_rule_line(chains: &[Chain], name: &[u8], rule: Rule, buffer: &mut [u8; 256]) -> usize
+    requires jump { JumpsIn (length chains.now) rule.target }
+    requires name { length name.now ≤ 64 }
+    ensures line { take result buffer.new ≡ rule_line chains.now name.now rule }
+    ensures short { result ≤ 225 }
+{
+    let command = put(buffer, 0, b"-A ");
+    let chain = put(buffer, command, name);
+    let src = put_address_part(buffer, chain, b" -s ", rule.src);
+    let dst = put_address_part(buffer, src, b" -d ", rule.dst);
+    let state = put_state_part(buffer, dst, rule.state);
+    let target = put_target(buffer, state, chains, rule.target);
+    put(buffer, target, b"\n")
+}
