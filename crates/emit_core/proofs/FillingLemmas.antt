@@ -1,0 +1,109 @@
+-- What chains are while rules are added to one of them, and when its rules are all there.
+use Rattle.std.proofs.Common.{◌≡◌, ℕ, ◌+◌, ◌^◌, ◌<◌, ◌≤◌, List, [], ◌∷◌, ◌++◌, Option, None, length, drop, get_or, refl, sym, ap, subst, ◌∙◌, arith, append_assoc}
+use Rattle.std.specs.Prelude.{IsNone}
+use Rattle.std.proofs.lemmas.List.{append-nil, at_drop_more}
+use Rattle.std.proofs.lemmas.List.FromFn.{map-range_with_len_more}
+use Rattle.host_net.specs.Host.{Host, prefix_count}
+use Rattle.flow_set.specs.declared.flow.Flow.{Flow}
+use Rattle.ipt_rules.specs.declared.rule.Rule.{Rule}
+use Rattle.ipt_rules.specs.declared.rule.Policy.TheVariants.{Drop as Dropping}
+use Rattle.ipt_rules.specs.Chain.{Chain, built_in_chains, user_chain, with_policy, with_rule, rule_count, number_of}
+use Rattle.ipt_rules.specs.ChainLaws.{rule_count-with_rule, rule_count-append, length-changed_at}
+use Rattle.emit_core.specs.Layout.{chains_up_to, host_chain, host_chain_name, host_rules, forward_rules}
+use Rattle.emit_core.specs.LayoutLaws.{name_unused, fewer_than_600000, few_host_rules}
+use Rattle.emit_core.specs.Filling.{with_rules}
+
+-- some of the rules are added
+pub record IsFilling (c : ℕ) (rules : List Rule) (start now : List Chain) (done : ℕ) : Type 0 where
+  pub left : with_rules now c (drop done rules) ≡ with_rules start c rules
+  pub counted : rule_count now ≡ rule_count start + done
+  pub kept : length now ≡ length start
+
+length-with_rule : (chains : List Chain) (c : ℕ) (rule : Rule) → length (with_rule chains c rule) ≡ length chains
+unfolding with_rule
+length-with_rule chains c rule = length-changed_at chains c (λ x. record x { rules = x.rules ++ rule ∷ [] })
+
+-- one rule more is added
+pub filling_more : (c : ℕ) (rules : List Rule) (start old new : List Chain) (done : ℕ) (rule : Rule)
+    → done < length rules → rule ≡ get_or rules done rule → c < length start → new ≡ with_rule old c rule
+    → IsFilling c rules start old done → IsFilling c rules start new (done + 1)
+filling_more c rules start old new done rule below read there added before = record {
+  left = ap (λ (x : List Chain). with_rules x c (drop (done + 1) rules)) (added ∙ ap (with_rule old c) read)
+      ∙ sym (at_drop_more (with_rules old c) rules done rule below)
+      ∙ before.left;
+  counted = let kept = before.kept in let counted = before.counted in
+      omega (arith, ap rule_count added, rule_count-with_rule old c rule (omega arith));
+  kept = let kept = before.kept in omega (arith, ap length added, length-with_rule old c rule);
+}
+
+with_rule-last : (xs : List Chain) (x : Chain) (rule : Rule)
+    → with_rule (xs ++ x ∷ []) (length xs) rule ≡ xs ++ record x { rules = x.rules ++ rule ∷ [] } ∷ []
+unfolding with_rule
+with_rule-last [] x rule = refl
+with_rule-last (y ∷ xs) x rule = ap (λ (ys : List Chain). y ∷ ys) (with_rule-last xs x rule)
+
+-- the rules stand at the end of the last chain
+with_rules-last : (xs : List Chain) (x : Chain) (rules : List Rule)
+    → with_rules (xs ++ x ∷ []) (length xs) rules ≡ xs ++ record x { rules = x.rules ++ rules } ∷ []
+with_rules-last xs x [] = ap (λ (rs : List Rule). xs ++ record x { rules = rs } ∷ []) (sym (append-nil x.rules))
+with_rules-last xs x (r ∷ rs) =
+    ap (λ (ys : List Chain). with_rules ys (length xs) rs) (with_rule-last xs x r)
+    ∙ with_rules-last xs (record x { rules = x.rules ++ r ∷ [] }) rs
+    ∙ ap (λ (all : List Rule). xs ++ record x { rules = all } ∷ []) (append_assoc x.rules (r ∷ []) rs)
+
+-- and at the end of FORWARD
+with_rules-second : (x y : Chain) (xs : List Chain) (rules : List Rule)
+    → with_rules (x ∷ y ∷ xs) 1 rules ≡ x ∷ record y { rules = y.rules ++ rules } ∷ xs
+unfolding with_rule
+with_rules-second x y xs [] = ap (λ (rs : List Rule). x ∷ record y { rules = rs } ∷ xs) (sym (append-nil y.rules))
+with_rules-second x y xs (r ∷ rs) =
+    with_rules-second x (record y { rules = y.rules ++ r ∷ [] }) xs rs
+    ∙ ap (λ (all : List Rule). x ∷ record y { rules = all } ∷ xs) (append_assoc y.rules (r ∷ []) rs)
+
+-- the built-in chains, of which FORWARD drops, have no rules yet
+pub no_rules_yet : (start : List Chain) → start ≡ with_policy built_in_chains 1 Dropping → (length start ≡ 3) × (rule_count start ≡ 0)
+unfolding with_policy
+no_rules_yet start started = (ap length started, ap rule_count started)
+
+-- the built-in chains, with the rules of FORWARD
+pub forward_filled : (hosts : List Host) (p s : List Flow) (start : List Chain) (rules : List Rule)
+    → start ≡ with_policy built_in_chains 1 Dropping → rules ≡ forward_rules hosts
+    → with_rules start 1 rules ≡ chains_up_to hosts p s 0
+unfolding with_policy
+forward_filled hosts p s start rules started all =
+    rw (started, all) (with_rules-second _ _ _ (forward_rules hosts))
+
+-- the chain of one more host
+pub host_filled : (hosts : List Host) (p s : List Flow) (i : ℕ) (chains : List Chain) (name : List ℕ) (rules : List Rule)
+    → chains ≡ chains_up_to hosts p s i → name ≡ host_chain_name i → rules ≡ host_rules hosts p s i
+    → with_rules (chains ++ user_chain name ∷ []) (length chains) rules ≡ chains_up_to hosts p s (i + 1)
+host_filled hosts p s i chains name rules before named all =
+    with_rules-last chains (user_chain name) rules
+    ∙ ap (λ (x : List ℕ). chains ++ record { name = x; policy = None; rules = rules } ∷ []) named
+    ∙ ap (λ (x : List Rule). chains ++ record { name = host_chain_name i; policy = None; rules = x } ∷ []) all
+    ∙ ap (λ (x : List Chain). x ++ host_chain hosts p s i ∷ []) before
+    ∙ ap (λ (x : List Chain). chains_up_to hosts p s 0 ++ x) (sym (map-range_with_len_more (host_chain hosts p s) 0 i i (omega arith)))
+
+none_is : {A : Type 0} (o : Option A) → o ≡ None → IsNone o
+none_is o is = rw is refl
+
+-- before the chain of a host is added its name is unused
+pub unused : (hosts : List Host) (p s : List Flow) (i : ℕ) (chains : List Chain) (name : List ℕ)
+    → chains ≡ chains_up_to hosts p s i → name ≡ host_chain_name i → i < 2 ^ 16 → IsNone (number_of chains name)
+unused hosts p s i chains name before named fits =
+    subst (λ (x : List ℕ). IsNone (number_of chains x)) (sym named)
+    (subst (λ (x : List Chain). IsNone (number_of x (host_chain_name i))) (sym before) (none_is _ (name_unused hosts p s i fits)))
+
+-- and there is room for its rules
+pub room : (hosts : List Host) (p s : List Flow) (i : ℕ) (chains : List Chain) (name : List ℕ) (rules : List Rule)
+    → chains ≡ chains_up_to hosts p s i → rules ≡ host_rules hosts p s i → i ≤ 256 → prefix_count hosts ≤ 1024
+    → rule_count (chains ++ user_chain name ∷ []) + length rules < 2 ^ 32
+room hosts p s i chains name rules before all few prefixes =
+    omega (
+      arith,
+      rule_count-append chains (user_chain name ∷ []),
+      ap rule_count before,
+      ap length all,
+      fewer_than_600000 hosts p s i few prefixes,
+      few_host_rules hosts p s i,
+    )
