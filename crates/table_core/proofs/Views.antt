@@ -1,0 +1,23 @@
+-- The elements and the keys of a table as `toml` keeps them.
+use Rattle.std.proofs.Common.{Bor, ◌||◌, ◌≡◌, ℕ, List, [], ◌∷◌, map, String, Global, string_bytes, refl, ap}
+use Rattle.std.specs.Map.{keys_of}
+use Rattle.std.specs.List.{list_all, list_any}
+use Rattle.std.specs.Str.{bytes_eq}
+use Rattle.toml.specs.View.{view, items_view, members_view}
+use Rattle.toml.specs.declared.value.Value.{Value}
+use Rattle.table_core.specs.Tables.{elements, has_only}
+
+pub elements_view : (vs : List Value) → elements (items_view vs) ≡ map view vs
+elements_view [] = refl
+elements_view (v ∷ vs) = ap (λ ds. view v ∷ ds) (elements_view vs)
+
+among_now : (key : List ℕ) (keys : List (Bor (List ℕ))) → list_any (λ other. bytes_eq key other.now) keys ≡ list_any (bytes_eq key) (map (λ other. other.now) keys)
+among_now key [] = refl
+among_now key (k ∷ ks) = ap (λ b. bytes_eq key k.now || b) (among_now key ks)
+
+-- what a look at each key of the map answers
+pub has_only_view : (keys : List (Bor (List ℕ))) (es : List (String Global × Value))
+    → list_all (λ key. list_any (λ other. bytes_eq (string_bytes key) other.now) keys) (keys_of es) ≡ has_only (map (λ key. key.now) keys) (members_view es)
+unfolding has_only
+has_only_view keys [] = refl
+has_only_view keys (e ∷ es) = rw (among_now (string_bytes e.0) keys, has_only_view keys es)
