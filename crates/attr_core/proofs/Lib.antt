@@ -1,0 +1,2 @@
+pub mod AtHost
+pub mod Found

@@ -1,0 +1,15 @@
+pub mod Assigns
+pub mod Blp
+pub mod Dependability
+pub mod Domains
+pub mod Gateway
+pub mod Invariants
+pub mod Kinds
+pub mod NoReach
+pub mod NonInterference
+pub mod Partners
+pub mod Peers
+pub mod Sink
+pub mod Subnets
+pub mod Tainting
+pub mod Templates

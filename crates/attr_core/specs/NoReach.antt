@@ -1,0 +1,28 @@
+-- No-reach: `deny` lists other hosts, by their names; the list may be empty.
+use Rattle.std.specs.Prelude.{ℕ, List, [], ◌∷◌, Option, Some, None, option_map, codes, if◌then◌else◌}
+use Rattle.std.specs.FinSet as set
+use Rattle.toml.specs.Data.{Data, Members}
+use Rattle.host_net.specs.Host.{Host}
+use Rattle.reach_core.specs.HostSet.{Hosts}
+use Rattle.table_core.specs.Growing.{grow}
+use Rattle.table_core.specs.Listing.{◌>>=◌}
+use Rattle.table_core.specs.Tables.{has_only, list_at}
+use Rattle.attr_core.specs.Peers.{peer}
+
+-- one more host that this one denies
+abbrev pub and_denied : List Host → ℕ → Hosts → Data → Option Hosts
+and_denied hosts host denied d = option_map (set.insert denied) (peer hosts host d)
+
+-- the hosts that are listed
+unfoldable pub all_denied : List Host → ℕ → List Data → Option Hosts
+all_denied hosts host ds = grow (and_denied hosts host) set.empty ds
+
+-- the list, where the table has no further key
+unfoldable pub listed_denied : Members → Option (List Data)
+listed_denied table = do
+  listed ← list_at (codes "deny") table
+  if has_only (codes "host" ∷ codes "deny" ∷ []) table then Some listed else None
+
+-- the hosts that the table of an assign denies to its host
+unfoldable pub noreach_attribute : List Host → ℕ → Members → Option Hosts
+noreach_attribute hosts host table = listed_denied table >>= all_denied hosts host

@@ -1,0 +1,24 @@
+-- Non-interference: `kind` is one of two names.
+use Rattle.std.specs.Prelude.{ℕ, Bool, true, false, List, Option, Some, None, codes, if◌then◌else◌}
+use Rattle.std.specs.Str.{bytes_eq}
+use Rattle.toml.specs.Data.{Members}
+use Rattle.table_core.specs.Listing.{◌>>=◌}
+use Rattle.attr_core.specs.Kinds.{kind_alone}
+use Rattle.tmpl_reach.specs.declared.non_interference.Interference.{Interference}
+use Rattle.tmpl_reach.specs.declared.non_interference.Interference.TheVariants.{Interfering, Unrelated}
+
+-- whether a host is one of those that are kept apart
+abbrev pub interference_of : Bool → Interference
+interference_of true = Interfering
+interference_of false = Unrelated
+
+-- the kind of a name
+unfoldable pub interference_kind : List ℕ → Option Interference
+interference_kind name =
+    if bytes_eq name (codes "interfering") then Some Interfering
+    else (if bytes_eq name (codes "unrelated") then Some Unrelated
+    else None)
+
+-- the kind that the table of an assign says
+unfoldable pub interference_attribute : Members → Option Interference
+interference_attribute table = kind_alone table >>= interference_kind

@@ -1,0 +1,71 @@
+-- Tainting: `taints` and `untaints` list labels, none where they are absent; a host takes off only labels that it has.
+-- The labels of one invariant are numbered in the order in which they first appear, through its assigns in order and in each of them `taints` before `untaints`. There are at most 64.
+use Rattle.std.specs.Prelude.{ℕ, Bool, ◌^◌, ◌==◌, ◌&&◌, nat_lt, bit_and, bit_or, List, [], ◌∷◌, ◌++◌, length, Option, Some, None, codes, slice_set, if◌then◌else◌}
+use Rattle.std.specs.List.{position_from}
+use Rattle.std.specs.Str.{bytes_eq}
+use Rattle.toml.specs.Data.{Data, Members, as_str}
+use Rattle.host_net.specs.Name.{is_name}
+use Rattle.table_core.specs.Growing.{grow}
+use Rattle.table_core.specs.Listing.{◌>>=◌}
+use Rattle.table_core.specs.Tables.{has_only, list_or_empty}
+use Rattle.tmpl_levels.specs.declared.tainting.Labels.{Labels}
+use Rattle.attr_core.specs.Assigns.{Given}
+
+-- a label has the form of a name
+unfoldable pub label_in : Data → Option (List ℕ)
+label_in d = do
+  text ← as_str d
+  if is_name text then Some text else None
+
+-- the labels so far, each of which has the number of its place, and one of these numbers
+pub record Known : Type 0 where
+  pub labels : List (List ℕ)
+  pub number : ℕ
+
+-- a label that is new has the next number, if that is below 64
+unfoldable pub new_label : List (List ℕ) → List ℕ → Option Known
+new_label labels label = if nat_lt (length labels) 64 then Some (record { labels = labels ++ label ∷ []; number = length labels }) else None
+
+abbrev pub known_or_new : List (List ℕ) → List ℕ → Option ℕ → Option Known
+known_or_new labels label None = new_label labels label
+known_or_new labels label (Some number) = Some (record { labels = labels; number = number })
+
+-- the number of a label
+unfoldable pub numbered : List (List ℕ) → List ℕ → Option Known
+numbered labels label = known_or_new labels label (position_from (bytes_eq label) 0 labels)
+
+-- the labels so far, and a set of them, with one bit for each
+pub record LabelSet : Type 0 where
+  pub labels : List (List ℕ)
+  pub bits : ℕ
+
+-- the set with one label more
+unfoldable pub and_label : LabelSet → Data → Option LabelSet
+and_label s d = do
+  label ← label_in d
+  known ← numbered s.labels label
+  Some (record { labels = known.labels; bits = bit_or s.bits (2 ^ known.number) })
+
+-- the set of the labels that are listed
+unfoldable pub all_labels : List (List ℕ) → List Data → Option LabelSet
+all_labels labels ds = grow and_label (record { labels = labels; bits = 0 }) ds
+
+-- the labels so far, and the labels of each host
+pub record Tainted : Type 0 where
+  pub labels : List (List ℕ)
+  pub hosts : List Labels
+
+-- the labels that the table of an assign says, after those that there were
+unfoldable pub labels_at : List ℕ → List (List ℕ) → Members → Option LabelSet
+labels_at key labels table = list_or_empty key table >>= all_labels labels
+
+-- the table has no other key, and the host takes off only labels that it has
+unfoldable pub are_all_said : ℕ → ℕ → Members → Bool
+are_all_said untaints taints table = has_only (codes "host" ∷ codes "taints" ∷ codes "untaints" ∷ []) table && bit_and untaints taints == untaints
+
+-- the host of an assign gets the labels that it says
+unfoldable pub and_tainted : Tainted → Given → Option Tainted
+and_tainted s a = do
+  taints ← labels_at (codes "taints") s.labels a.table
+  untaints ← labels_at (codes "untaints") taints.labels a.table
+  if are_all_said untaints.bits taints.bits a.table then Some (record { labels = untaints.labels; hosts = slice_set s.hosts a.host (record { taints = taints.bits; untaints = untaints.bits }) }) else None

@@ -1,0 +1,12 @@
+//! One assign of an invariant.
+
+use toml::Table;
+
+/// What says the attribute of a host.
+#[derive(Clone, Copy)]
+pub struct Assign<'a> {
+    /// The number of the host, from 0.
+    pub host: u16,
+    /// The table with the attribute. What it has at the key `host` is not looked at.
+    pub table: &'a Table,
+}

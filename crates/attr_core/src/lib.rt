@@ -1,0 +1,29 @@
+//! The attributes of hosts, as a description assigns them: each template has its own keys, types and
+//! defaults. From the assigns of an invariant, which are tables of TOML, comes the invariant itself,
+//! or the number of the first assign that says no attribute.
+#![tactic(auto)]
+
+mod assign;
+mod blp;
+mod dependability;
+mod domains;
+mod fault;
+mod gateway;
+mod invariant;
+mod kinds;
+mod no_reach;
+mod non_interference;
+mod partners;
+mod peers;
+mod reader;
+mod sink;
+mod subnets;
+mod tainting;
+mod template;
+#[cfg(test)]
+mod tests;
+
+pub use assign::Assign;
+pub use fault::AttrFault;
+pub use invariant::read_invariant;
+pub use template::Template;

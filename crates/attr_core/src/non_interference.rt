@@ -1,0 +1,75 @@
+//! Non-interference: whether a host is one of those that are kept apart.
+ghost use Rattle.std.specs.Prelude.{◌≡◌, ◌<◌, map, option_map, length, All, IfOk};
+ghost use Rattle.attr_core.specs.Assigns.{Gives, given_of};
+ghost use Rattle.attr_core.specs.Invariants.{interference_in};
+ghost use Rattle.attr_core.specs.NonInterference.{interference_attribute, interference_kind, interference_of};
+ghost use Rattle.toml.specs.View.{table_view};
+
+use crate::assign::Assign;
+use crate::fault::AttrFault;
+use crate::kinds::kind_alone;
+use crate::reader::{self, Reader};
+use host_net::Hosts;
+use inv_law::Invariant;
+use std::alloc::{AllocError, Global};
+use tmpl_reach::NonInterference;
+use toml::Table;
+
+#[tactic(auto, unfolding(crate::specs::Invariants::interference_in))]
+pub(crate) fn read(
+    alloc: Global,
+    hosts: &Hosts,
+    assigns: &[Assign<'_>],
+) -> Result<NonInterference, AttrFault>
+    requires { All (λ a. a.host < length hosts.now) assigns.now }
+    ensures attributes { Gives result (interference_in hosts.now (map given_of assigns.now)) }
+    ensures size { IfOk result (λ rule. length rule ≡ length hosts.now) }
+{
+    reader::read(
+        alloc,
+        NonInterference::new(alloc, hosts.count())?,
+        hosts,
+        assigns,
+    )
+}
+
+impl Reader for NonInterference {
+    ghost use Rattle.std.specs.Prelude.{length};
+    ghost use Rattle.attr_core.specs.Assigns.{with_attribute};
+    ghost use Rattle.attr_core.specs.NonInterference.{interference_attribute};
+
+    ghost size_of = { λ attributes. length attributes };
+
+    ghost with_assign = { λ _. with_attribute (λ a. interference_attribute a.table) };
+
+    fn take(&mut self, alloc: Global, _: &Hosts, assign: &Assign<'_>) -> Result<bool, AllocError> {
+        let Some(interferes) = read_attribute(assign.table) else {
+            return Ok(false);
+        };
+        if interferes {
+            *self = self.with_default(alloc, assign.host)?;
+        } else {
+            self.set_unrelated(assign.host);
+        }
+        Ok(true)
+    }
+}
+
+// Whether the host is interfering.
+#[tactic(auto, unfolding(crate::specs::NonInterference::interference_attribute))]
+fn read_attribute(table: &Table) -> Option<bool>
+    ensures { option_map interference_of result ≡ interference_attribute (table_view table.now) }
+{
+    interferes(kind_alone(table)?)
+}
+
+#[tactic(auto, unfolding(crate::specs::NonInterference::interference_kind))]
+fn interferes(name: &str) -> Option<bool>
+    ensures { option_map interference_of result ≡ interference_kind name.now }
+{
+    match name {
+        "interfering" => Some(true),
+        "unrelated" => Some(false),
+        _ => None,
+    }
+}
