@@ -1,0 +1,5 @@
+pub mod FlowsLemmas
+pub mod Growing
+pub mod HostsLemmas
+pub mod RefusedHosts
+pub mod Tables

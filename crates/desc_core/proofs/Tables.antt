@@ -1,0 +1,31 @@
+-- Whether bytes are a table.
+use Rattle.std.proofs.Common.{◌≡◌, ℕ, ◌≤◌, ◌<◌, false, List, length, Some, None, Ok, Err, inl, inr, arith}
+use Rattle.std.proofs.lemmas.Bool.{cases_Bool}
+use Rattle.std.proofs.lemmas.Bool.Decides.{nat_tests}
+use Rattle.std.proofs.lemmas.Str.{is_utf8-from_IsUtf8, IsUtf8-from_is_utf8}
+use Rattle.std.specs.Prelude.{IsUtf8, nat_lt}
+use Rattle.std.specs.Str.{is_utf8}
+use Rattle.toml.specs.Data.{Members}
+use Rattle.toml.specs.Parse.{parse_document}
+use Rattle.desc_core.specs.Document.{document, table_of}
+use Rattle.desc_core.specs.declared.fault.TheConstants.{MOST_BYTES}
+use Rattle.desc_core.specs.declared.fault.DescFault.TheVariants.{TooLong, NotToml}
+
+pub too_long : (bytes : List ℕ) → MOST_BYTES < length bytes → Err TooLong ≡ table_of bytes
+unfolding table_of
+too_long bytes long = grind (arith, nat_tests)
+
+short : (bytes : List ℕ) → length bytes ≤ MOST_BYTES → nat_lt MOST_BYTES (length bytes) ≡ false
+short bytes fits = grind (arith, nat_tests)
+
+pub well_read : (bytes : List ℕ) (table : Members) → length bytes ≤ MOST_BYTES → IsUtf8 bytes → parse_document bytes ≡ Some table → Ok table ≡ table_of bytes
+unfolding table_of document
+well_read bytes table fits utf8 read = rw (short bytes fits, is_utf8-from_IsUtf8 bytes utf8, read)
+
+pub not_toml : (bytes : List ℕ) → length bytes ≤ MOST_BYTES → (IsUtf8 bytes → parse_document bytes ≡ None) → Err NotToml ≡ table_of bytes
+unfolding table_of document
+not_toml bytes fits refused =
+    elim (cases_Bool (is_utf8 bytes)) [
+      | inl utf8 ↦ rw (short bytes fits, utf8, refused (IsUtf8-from_is_utf8 bytes utf8))
+      | inr other ↦ rw (short bytes fits, other)
+    ]

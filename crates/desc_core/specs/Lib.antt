@@ -1,0 +1,9 @@
+pub mod Adding
+pub mod Description
+pub mod DescriptionLaws
+pub mod Document
+pub mod Flows
+pub mod FlowsLaws
+pub mod Form
+pub mod Hosts
+pub mod HostsLaws
