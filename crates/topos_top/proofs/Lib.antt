@@ -1,0 +1,3 @@
+pub mod Seeing
+pub mod RunLaws
+pub mod Lines

@@ -1,0 +1,9 @@
+pub mod Command
+pub mod CommandView
+pub mod StatusNumber
+pub mod Reply
+pub mod Ending
+pub mod Seen
+pub mod Taken
+pub mod AnswerView
+pub mod Promises

@@ -1,0 +1,85 @@
+//! What the program answers to its words, before anything is written: each file is read and then
+//! parsed in the order of the words, and the first thing that fails ends the run.
+
+ghost use Rattle.std.specs.Prelude.{◌≡◌, None, map, string_bytes};
+ghost use Rattle.topos_top.specs.AnswerView.{reply_view, reply_in};
+ghost use Rattle.topos_top.specs.Command.{Rules, command_of};
+ghost use Rattle.topos_top.specs.CommandView.{command_view};
+ghost use Rattle.topos_top.specs.Seen.{shelf_change, MayGive, MayReply};
+
+use crate::command::{Command, command_of_words};
+use crate::reading::description_at;
+use crate::rules::rules_text;
+use desc_core::DescFault;
+use edge_io::Shelf;
+use std::alloc::{AllocError, Global};
+
+/// What the program answers.
+#[derive(Drop)]
+pub enum Answer<'a> {
+    /// The words are no form of the command line.
+    Usage,
+    /// This file cannot be read.
+    CannotRead(&'a str),
+    /// The description is refused.
+    Refused(DescFault),
+    /// This text goes to the output.
+    Done(Vec<u8>),
+    /// There is not enough memory.
+    Memory,
+}
+
+/// The answer to the words, with the files taken off the shelf.
+pub fn answer_to<'a, H: Shelf>(alloc: Global, words: &'a [String], shelf: &mut H) -> Answer<'a>
+    ensures same_files { H.files shelf.new ≡ H.files shelf.old }
+    ensures reply { MayGive (map string_bytes words.now)
+        (shelf_change H.files H.faults H.begins H.taken shelf.old shelf.new) (reply_view result) }
+    ensures usage_reads_nothing { command_of (map string_bytes words.now) ≡ None → shelf.new ≡ shelf.old }
+{
+    match command_of_words(words) {
+        None => Answer::Usage,
+        Some(command) => match reply(alloc, command, shelf) {
+            Ok(answer) => answer,
+            Err(answer) => answer,
+        },
+    }
+}
+
+/// The answer to a command. An `Err` is one that ended the run early.
+fn reply<'a, H: Shelf>(
+    alloc: Global,
+    command: Command<'a>,
+    shelf: &mut H,
+) -> Result<Answer<'a>, Answer<'a>>
+    ensures same_files { H.files shelf.new ≡ H.files shelf.old }
+    ensures reply { MayReply (command_view command.entry)
+        (shelf_change H.files H.faults H.begins H.taken shelf.old shelf.new) (reply_in result) }
+{
+    match command {
+        Command::Rules(file) => rules(alloc, file, shelf),
+    }
+}
+
+/// `rules iptables FILE`.
+fn rules<'a, H: Shelf>(
+    alloc: Global,
+    file: &'a str,
+    shelf: &mut H,
+) -> Result<Answer<'a>, Answer<'a>>
+    ensures same_files { H.files shelf.new ≡ H.files shelf.old }
+    ensures reply { MayReply (Rules file.now)
+        (shelf_change H.files H.faults H.begins H.taken shelf.old shelf.new) (reply_in result) }
+{
+    let description = description_at(alloc, file, shelf)?;
+    Ok(Answer::Done(rules_text(alloc, &description)?))
+}
+
+impl<'a> From<AllocError> for Answer<'a> {
+    ghost use Rattle.topos_top.specs.declared.answer.Answer.TheVariants.{Memory};
+
+    ghost from_gives = { λ _ given. given ≡ Memory };
+
+    fn from(_: AllocError) -> Self {
+        Answer::Memory
+    }
+}

@@ -1,0 +1,57 @@
+//! The whole program, over any shelf of files and any two sinks.
+
+ghost use Rattle.std.specs.Prelude.{◌≡◌, ◌≢◌, ◌↔◌, None, map, string_bytes};
+ghost use Rattle.edge_io.specs.Counts.{Rose};
+ghost use Rattle.topos_top.specs.Command.{command_of};
+ghost use Rattle.topos_top.specs.Ending.{line_behind};
+ghost use Rattle.topos_top.specs.Promises.{LacksFile, HasBadDescription, WroteRules, IsComplete};
+ghost use Rattle.topos_top.specs.Reply.{Reply};
+ghost use Rattle.topos_top.specs.Seen.{shelf_change, MayGive};
+ghost use Rattle.topos_top.specs.Taken.{sink_change, IsWritten, IsSaid};
+
+use crate::answer::answer_to;
+use crate::ending::give;
+use crate::status::Status;
+use edge_io::{Shelf, Sink};
+use std::alloc::Global;
+
+/// Does what the words ask for: takes the files off the shelf, writes the text to `out`, and says on
+/// `err` why there is none. All memory is taken before the first byte is written.
+pub fn run<H: Shelf, O: Sink, E: Sink>(
+    alloc: Global,
+    words: &[String],
+    shelf: &mut H,
+    out: &mut O,
+    err: &mut E,
+) -> Status
+    ensures same_files { H.files shelf.new ≡ H.files shelf.old }
+
+    // The run gives one reply that has its cause: its status, its text in out, its line on err.
+    ensures reply { (given : Reply)
+        × MayGive (map string_bytes words.now) (shelf_change H.files H.faults H.begins H.taken shelf.old shelf.new) given
+        × IsWritten (sink_change O.held O.faults out.old out.new) given result
+        × IsSaid (sink_change E.held E.faults err.old err.new) (line_behind given result) }
+
+    // What follows from it. Usage is given exactly for words that are no form, and reads nothing.
+    ensures usage { (result ≡ Status.Usage) ↔ (command_of (map string_bytes words.now) ≡ None) }
+    ensures usage_reads_nothing { result ≡ Status.Usage → shelf.new ≡ shelf.old }
+
+    // Each other answer has its cause.
+    ensures read_fault { result ≡ Status.ReadFault → LacksFile (map string_bytes words.now)
+        (shelf_change H.files H.faults H.begins H.taken shelf.old shelf.new) }
+    ensures bad_description { result ≡ Status.BadDescription → HasBadDescription (map string_bytes words.now)
+        (shelf_change H.files H.faults H.begins H.taken shelf.old shelf.new) }
+    ensures write_fault { result ≡ Status.WriteFault → Rose (O.faults out.old) (O.faults out.new) }
+    ensures done { result ≡ Status.Done → WroteRules (map string_bytes words.now)
+        (shelf_change H.files H.faults H.begins H.taken shelf.old shelf.new) (sink_change O.held O.faults out.old out.new) }
+
+    // Where nothing is written, the output is as it was.
+    ensures untouched { result ≢ Status.Done → result ≢ Status.WriteFault → O.held out.new ≡ O.held out.old }
+
+    // The words and the told files decide what is given.
+    ensures complete { IsComplete (map string_bytes words.now)
+        (shelf_change H.files H.faults H.begins H.taken shelf.old shelf.new) (sink_change O.held O.faults out.old out.new) result }
+{
+    let answer = answer_to(alloc, words, shelf);
+    give(&answer, out, err)
+}
