@@ -1,0 +1,118 @@
+//! One case: the words, the files and the faults of one run in memory.
+
+use anyhow::{Context, Result, bail};
+use edge_io::{MemShelf, MemSink};
+use std::alloc::Global;
+use topos_top::Status;
+
+/// What a run gave.
+#[derive(Drop)]
+pub struct Ending {
+    pub status: Status,
+    pub out: MemSink,
+    pub err: MemSink,
+}
+
+#[derive(Drop)]
+struct File {
+    name: String,
+    bytes: Vec<u8>,
+}
+
+/// A case as far as its lines are read.
+#[derive(Drop)]
+pub struct Case {
+    words: Vec<String>,
+    files: Vec<File>,
+    shelf_fails: Vec<u32>,
+    out_fails: Vec<u32>,
+    err_fails: Vec<u32>,
+    room: usize,
+    grain: usize,
+}
+
+/// The room of a sink, and the bytes that it takes by one write, where a case says nothing of them.
+const AMPLE: usize = 1 << 20;
+
+impl Case {
+    /// A case without words and files, in which nothing fails.
+    pub fn new(alloc: Global) -> Case {
+        Case {
+            words: Vec::new(alloc),
+            files: Vec::new(alloc),
+            shelf_fails: Vec::new(alloc),
+            out_fails: Vec::new(alloc),
+            err_fails: Vec::new(alloc),
+            room: AMPLE,
+            grain: AMPLE,
+        }
+    }
+
+    /// Reads one line of the case.
+    pub fn read(&mut self, alloc: Global, line: &str) -> Result<()> {
+        if let Some(text) = line.strip_prefix("|") {
+            self.add(text.as_bytes())?;
+            return self.add(b"\n");
+        }
+        if let Some(text) = line.strip_prefix(">") {
+            return self.add(text.as_bytes());
+        }
+        let (key, value) = line.split_once(" ").unwrap_or((line, ""));
+        match key {
+            "" | "#" => Ok(()),
+            "word" => Ok(self.words.push(value.to_string(alloc)?)?),
+            "file" => self.begin(alloc, value),
+            "fill" => self.fill(value),
+            "byte" => self.add(&[value.parse().context("a byte")?]),
+            "shelf" => Ok(self.shelf_fails.push(value.parse().context("a call")?)?),
+            "out" => Ok(self.out_fails.push(value.parse().context("a call")?)?),
+            "err" => Ok(self.err_fails.push(value.parse().context("a call")?)?),
+            _ => self.set(key, value),
+        }
+    }
+
+    fn set(&mut self, key: &str, value: &str) -> Result<()> {
+        let count = value.parse().context("a count")?;
+        match key {
+            "room" => self.room = count,
+            "grain" => self.grain = count,
+            _ => bail!("no such line: {key}"),
+        }
+        Ok(())
+    }
+
+    fn begin(&mut self, alloc: Global, name: &str) -> Result<()> {
+        let name = name.to_string(alloc)?;
+        self.files.push(File {
+            name,
+            bytes: Vec::new(alloc),
+        })?;
+        Ok(())
+    }
+
+    fn fill(&mut self, value: &str) -> Result<()> {
+        let (count, text) = value.split_once(" ").context("a count and a text")?;
+        for _ in 0..count.parse::<u32>().context("a count")? {
+            self.add(text.as_bytes())?;
+        }
+        Ok(())
+    }
+
+    fn add(&mut self, bytes: &[u8]) -> Result<()> {
+        let file = self.files.last_mut().context("bytes without a file")?;
+        file.bytes.extend_from_slice(bytes)?;
+        Ok(())
+    }
+
+    /// Runs the program on the case.
+    pub fn run(self, alloc: Global) -> Result<Ending> {
+        let mut shelf = MemShelf::new(alloc, self.shelf_fails);
+        for file in &self.files {
+            shelf.put(file.name.as_str(), &file.bytes)?;
+        }
+        let mut out = MemSink::new(alloc, self.room, self.grain.max(1), self.out_fails)?;
+        let mut err = MemSink::new(alloc, AMPLE, AMPLE, self.err_fails)?;
+        let status = topos_top::run(alloc, &self.words, &mut shelf, &mut out, &mut err);
+        Ok(Ending { status, out, err })
+    }
+}

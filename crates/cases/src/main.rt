@@ -1,0 +1,37 @@
+//! Runs many cases of the program in memory. The input lists the cases; what each gives is printed
+//! in the same form, so that an expected output is written by hand from the rules of the formats.
+//!
+//! | Line | What it says of the next case |
+//! |---|---|
+//! | `# ..`, an empty line | nothing |
+//! | `word TEXT` | the next word of the command line |
+//! | `file NAME` | a file, with the bytes of the lines below |
+//! | `\|TEXT`, `>TEXT` | bytes of the file, with and without the end of a line |
+//! | `fill COUNT TEXT` | the text that many times |
+//! | `byte NUMBER` | one byte |
+//! | `shelf CALL`, `out CALL`, `err CALL` | this call of the shelf or of the sink fails |
+//! | `room COUNT`, `grain COUNT` | how many bytes `out` takes at all, and at most by one write |
+//! | `run NAME` | the case is run under this name, and the next one begins |
+#![tactic(auto)]
+
+mod case;
+mod show;
+
+use anyhow::Result;
+use case::Case;
+
+fn main(rt: HostRuntime) -> Result<()> {
+    let alloc = rt.alloc();
+    let mut case = Case::new(alloc);
+    for line in rt.lines(alloc) {
+        let line = line?;
+        if let Some(name) = line.as_str().strip_prefix("run ") {
+            let ended = case.run(alloc)?;
+            show::ending(&rt, alloc, name, &ended)?;
+            case = Case::new(alloc);
+        } else {
+            case.read(alloc, line.as_str())?;
+        }
+    }
+    Ok(())
+}

@@ -1,0 +1,24 @@
+//! What a case gave, line by line.
+
+use crate::case::Ending;
+use anyhow::Result;
+use std::alloc::Global;
+
+/// Prints the name, the status and both streams.
+pub fn ending(rt: &impl Print, alloc: Global, name: &str, ended: &Ending) -> Result<()> {
+    println!(rt; "case {name}: status {}", ended.status.number())?;
+    stream(rt, alloc, "out", ended.out.bytes())?;
+    stream(rt, alloc, "err", ended.err.bytes())
+}
+
+// Each line behind the stream's name and a bar; a last one without an end behind `>`.
+fn stream(rt: &impl Print, alloc: Global, name: &str, bytes: &[u8]) -> Result<()> {
+    let text = String::from_utf8_lossy(alloc, bytes)?;
+    for line in text.as_str().split_inclusive("\n") {
+        match line.strip_suffix("\n") {
+            Some(whole) => println!(rt; "{name}|{whole}")?,
+            None => println!(rt; "{name}>{line}")?,
+        }
+    }
+    Ok(())
+}
