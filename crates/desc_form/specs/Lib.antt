@@ -1,0 +1,14 @@
+pub mod Firsts
+pub mod FormConditions
+pub mod KeyLaws
+pub mod KeyView
+pub mod Keys
+pub mod Pairs
+pub mod Places
+pub mod PlacesLaws
+pub mod Refusals
+pub mod Seen
+pub mod Walking
+pub mod Written
+pub mod WrittenForm
+pub mod WrittenLaws

@@ -1,0 +1,92 @@
+-- All places of a description in their order, and the refusals 3 to 5: keys that are unknown, that are missing, and values of a wrong type.
+use Rattle.std.specs.Prelude.{ℕ, Bool, true, false, not, ◌&&◌, List, [], ◌∷◌, ◌++◌, map, flat_map, find, Option, option_map, is_none, codes, unwrap_or, option_and_then}
+use Rattle.std.specs.List.{list_all, list_any}
+use Rattle.std.specs.Option.{option_map_or}
+use Rattle.toml.specs.Data.{Data, table, Members, as_table}
+use Rattle.desc_form.specs.declared.places.FormCondition.{FormCondition}
+use Rattle.desc_form.specs.declared.places.FormCondition.TheVariants as condition
+use Rattle.desc_form.specs.declared.refusal.Place.{Place}
+use Rattle.desc_form.specs.declared.refusal.Place.TheVariants.{Document, Host, Invariant, Assign, FlowAt}
+use Rattle.desc_form.specs.declared.refusal.Refusal.{Refusal}
+use Rattle.desc_form.specs.declared.refusal.Why.TheVariants.{UnknownKey, MissingKey, WrongType}
+use Rattle.desc_form.specs.Firsts.{Numbered, numbered}
+use Rattle.desc_form.specs.Pairs.{pair_of}
+use Rattle.desc_form.specs.Keys.{keys_of, suits_in}
+use Rattle.desc_form.specs.Refusals.{refused}
+use Rattle.table_core.specs.Tables.{has_key, has_only, list_at}
+
+-- a place, and what stands there
+pub record Spot : Type 0 where
+  pub place : Place
+  pub value : Data
+
+-- the elements of the array at a key; none where no array stands there
+unfoldable pub listed : List ℕ → Members → List Data
+listed key ms = unwrap_or (list_at key ms) []
+
+-- the assigns of an invariant; none where it has no such array
+unfoldable pub assigns_of : Data → List Data
+assigns_of d = unwrap_or (option_and_then (list_at (codes "assign")) (as_table d)) []
+
+-- an invariant, and behind it its assigns
+abbrev pub invariant_spots : Numbered Data → List Spot
+invariant_spots d =
+    record { place = Invariant d.number; value = d.what }
+    ∷ map (λ a. record { place = Assign d.number a.number; value = a.what }) (numbered (assigns_of d.what))
+
+-- the document, then the hosts, then each invariant and its assigns, then the flows
+unfoldable pub spots : Members → List Spot
+spots document =
+    record { place = Document; value = table document }
+    ∷ (map (λ h. record { place = Host h.number; value = h.what }) (numbered (listed (codes "host") document))
+    ++ (flat_map invariant_spots (numbered (listed (codes "invariant") document))
+    ++ map (λ f. record { place = FlowAt f.number; value = f.what }) (numbered (listed (codes "flow") document))))
+
+-- the first place where a condition holds of what stands there
+unfoldable pub first_place : (Place → Data → Bool) → Members → Option Place
+first_place holds document = option_map (λ s. s.place) (find (λ s. holds s.place s.value) (spots document))
+
+-- the table has a key outside those of its place; assigns and flows are not looked at
+unfoldable pub has_other_key : Place → Members → Bool
+has_other_key (Assign k m) ms = false
+has_other_key (FlowAt k) ms = false
+has_other_key place ms = not (has_only (map (λ key. key.name) (keys_of place)) ms)
+
+-- the table lacks a key that must be there
+unfoldable pub lacks_needed : Place → Members → Bool
+lacks_needed place ms = list_any (λ key. key.needed && not (has_key key.name ms)) (keys_of place)
+
+-- in the table, what stands at a key is not of its kind
+unfoldable pub has_unsuited : Place → Members → Bool
+has_unsuited place ms = not (list_all (suits_in ms) (keys_of place))
+
+-- 3: what is no table is passed over
+abbrev pub has_unknown_key : Place → Data → Bool
+has_unknown_key place d = option_map_or (has_other_key place) (as_table d) false
+
+-- 4: what is no table is passed over
+abbrev pub lacks_key : Place → Data → Bool
+lacks_key place d = option_map_or (lacks_needed place) (as_table d) false
+
+-- 5: a flow is an array of two texts; at any other place stands a table, in which all is of its kind
+unfoldable pub has_wrong_type : Place → Data → Bool
+has_wrong_type (FlowAt k) d = is_none (pair_of d)
+has_wrong_type place d = option_map_or (has_unsuited place) (as_table d) true
+
+-- the three conditions
+abbrev pub holds_at : FormCondition → Place → Data → Bool
+holds_at condition.UnknownKey place d = has_unknown_key place d
+holds_at condition.MissingKey place d = lacks_key place d
+holds_at condition.WrongType place d = has_wrong_type place d
+
+-- 3
+unfoldable pub unknown_key : Members → Option Refusal
+unknown_key document = option_map (refused UnknownKey) (first_place has_unknown_key document)
+
+-- 4
+unfoldable pub missing_key : Members → Option Refusal
+missing_key document = option_map (refused MissingKey) (first_place lacks_key document)
+
+-- 5
+unfoldable pub wrong_type : Members → Option Refusal
+wrong_type document = option_map (refused WrongType) (first_place has_wrong_type document)

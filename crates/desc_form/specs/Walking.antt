@@ -1,0 +1,37 @@
+-- The first place where a condition holds, part by part: what the private functions find that go through the places.
+use Rattle.std.specs.Prelude.{ℕ, ◌+◌, Bool, List, [], ◌∷◌, Option, None, codes}
+use Rattle.std.specs.Option.{option_or}
+use Rattle.toml.specs.Data.{Data, table, Members}
+use Rattle.desc_form.specs.declared.places.Row.{Row}
+use Rattle.desc_form.specs.declared.places.Row.TheVariants.{Hosts, Assigns, Flows}
+use Rattle.desc_form.specs.declared.refusal.Place.{Place}
+use Rattle.desc_form.specs.declared.refusal.Place.TheVariants.{Document, Host, Invariant, Assign, FlowAt}
+use Rattle.desc_form.specs.Firsts.{where_holds}
+use Rattle.desc_form.specs.Places.{assigns_of, listed}
+
+-- the place with a number in one of the lists
+abbrev pub place_in : Row → ℕ → Place
+place_in Hosts k = Host k
+place_in (Assigns invariant) k = Assign invariant k
+place_in Flows k = FlowAt k
+
+-- in a list of places, from number k on
+abbrev pub first_at : (Place → Data → Bool) → (ℕ → Place) → ℕ → List Data → Option Place
+first_at holds place k [] = None
+first_at holds place k (d ∷ ds) = option_or (where_holds (holds (place k) d) (place k)) (first_at holds place (k + 1) ds)
+
+-- at an invariant and its assigns
+abbrev pub first_of_invariant : (Place → Data → Bool) → ℕ → Data → Option Place
+first_of_invariant holds k d = option_or (where_holds (holds (Invariant k) d) (Invariant k)) (first_at holds (Assign k) 1 (assigns_of d))
+
+-- at the invariants, from number k on
+abbrev pub first_of_invariants : (Place → Data → Bool) → ℕ → List Data → Option Place
+first_of_invariants holds k [] = None
+first_of_invariants holds k (d ∷ ds) = option_or (first_of_invariant holds k d) (first_of_invariants holds (k + 1) ds)
+
+-- at the document, then the hosts, then the invariants, then the flows
+abbrev pub first_by_parts : (Place → Data → Bool) → Members → Option Place
+first_by_parts holds ms =
+    option_or (where_holds (holds Document (table ms)) Document)
+    (option_or (first_at holds Host 1 (listed (codes "host") ms))
+    (option_or (first_of_invariants holds 1 (listed (codes "invariant") ms)) (first_at holds FlowAt 1 (listed (codes "flow") ms))))

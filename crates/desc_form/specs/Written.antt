@@ -1,0 +1,63 @@
+-- A description as it is written: its texts, before any of them is looked up or read as a name, a prefix or a template.
+-- Where a table has a missing key or a value of a wrong type, it is refused for that, and what is said here does not count.
+-- Where none has, this is all that the description says: WrittenForm says it key by key.
+use Rattle.std.specs.Prelude.{ℕ, ℤ, pos, Bool, false, not, List, [], map, filter_map, codes, unwrap_or}
+use Rattle.std.specs.Str.{bytes_eq}
+use Rattle.toml.specs.Data.{Members, as_str, as_table}
+use Rattle.desc_form.specs.Pairs.{pair_of}
+use Rattle.desc_form.specs.Places.{listed}
+use Rattle.table_core.specs.Tables.{boolean_at, has_key, integer_at, text_at}
+
+pub record WrittenHost : Type 0 where
+  pub name : List ℕ
+  pub at : List (List ℕ)
+  pub rest : Bool
+
+-- the name of the host, and the table that says its attribute
+pub record WrittenAssign : Type 0 where
+  pub host : List ℕ
+  pub table : Members
+
+pub record WrittenInvariant : Type 0 where
+  pub template : List ℕ
+  pub assigns : List WrittenAssign
+
+-- given says whether flows are listed at all; answers, whether flows may have answers
+pub record Written : Type 0 where
+  pub version : ℤ
+  pub answers : Bool
+  pub hosts : List WrittenHost
+  pub invariants : List WrittenInvariant
+  pub given : Bool
+  pub flows : List (List ℕ × List ℕ)
+
+-- the text at a key
+abbrev pub text_in : List ℕ → Members → List ℕ
+text_in key ms = unwrap_or (text_at key ms) []
+
+unfoldable pub host_written : Members → WrittenHost
+host_written ms = record {
+  name = text_in (codes "name") ms;
+  at = filter_map as_str (listed (codes "at") ms);
+  rest = unwrap_or (boolean_at (codes "rest") ms) false;
+}
+
+unfoldable pub assign_written : Members → WrittenAssign
+assign_written ms = record { host = text_in (codes "host") ms; table = ms }
+
+unfoldable pub invariant_written : Members → WrittenInvariant
+invariant_written ms = record {
+  template = text_in (codes "template") ms;
+  assigns = map assign_written (filter_map as_table (listed (codes "assign") ms));
+}
+
+-- answers are given unless the description says none
+unfoldable pub written : Members → Written
+written ms = record {
+  version = unwrap_or (integer_at (codes "topos") ms) (pos 0);
+  answers = not (bytes_eq (text_in (codes "answers") ms) (codes "none"));
+  hosts = map host_written (filter_map as_table (listed (codes "host") ms));
+  invariants = map invariant_written (filter_map as_table (listed (codes "invariant") ms));
+  given = has_key (codes "flow") ms;
+  flows = filter_map pair_of (listed (codes "flow") ms);
+}

@@ -1,0 +1,71 @@
+-- The form of a description, table by table: which keys it has, what stands at each, and what the record of its texts says of it.
+use Rattle.std.specs.Prelude.{◌≡◌, ℕ, ℤ, Bool, true, false, if◌then◌else◌, List, [], ◌∷◌, codes, is_some, IsTrue, IsSomeAnd, MatchOption}
+use Rattle.std.specs.List.{AllZip}
+use Rattle.toml.specs.Data.{Data, string, integer, boolean, array, table, Items, no_items, item, Members, get_member}
+use Rattle.desc_form.specs.Written.{Written, WrittenAssign, WrittenHost, WrittenInvariant}
+use Rattle.table_core.specs.Tables.{elements, has_only}
+
+-- values by their type
+abbrev pub IsText : Data → List ℕ → Type 0
+IsText d text = d ≡ string text
+
+abbrev pub IsInteger : Data → ℤ → Type 0
+IsInteger d number = d ≡ integer number
+
+abbrev pub IsBoolean : Data → Bool → Type 0
+IsBoolean d truth = d ≡ boolean truth
+
+-- the words for answers
+abbrev pub IsAnswers : Data → Bool → Type 0
+IsAnswers d answers = d ≡ string (if answers then codes "all" else codes "none")
+
+-- an array of two texts
+abbrev pub IsPair : Data → List ℕ × List ℕ → Type 0
+IsPair d pair = d ≡ array (item (string pair.0) (item (string pair.1) no_items))
+
+-- an array: each of its elements is what the list has in its place
+abbrev pub IsArray : {A : Type 0} → (Data → A → Type 0) → Data → List A → Type 0
+IsArray Is d xs = (ds : Items) × (d ≡ array ds) × AllZip Is (elements ds) xs
+
+abbrev pub IsTable : {A : Type 0} → (Members → A → Type 0) → Data → A → Type 0
+IsTable Is d x = (ms : Members) × (d ≡ table ms) × Is ms x
+
+-- something stands at the key, and that is x
+abbrev pub Stands : {A : Type 0} → (Data → A → Type 0) → List ℕ → Members → A → Type 0
+Stands Is key ms x = IsSomeAnd (get_member key ms) (λ d. Is d x)
+
+-- so it is, or nothing stands there and x is the default
+abbrev pub StandsOr : {A : Type 0} → A → (Data → A → Type 0) → List ℕ → Members → A → Type 0
+StandsOr default Is key ms x = MatchOption (get_member key ms) (x ≡ default) (λ d. Is d x)
+
+-- an element of `host`
+pub record IsHost (ms : Members) (h : WrittenHost) : Type 0 where
+  pub only : IsTrue (has_only (codes "name" ∷ codes "at" ∷ codes "rest" ∷ []) ms)
+  pub name : Stands IsText (codes "name") ms h.name
+  pub at : StandsOr [] (IsArray IsText) (codes "at") ms h.at
+  pub rest : StandsOr false IsBoolean (codes "rest") ms h.rest
+
+-- an element of `assign`; its further keys are left to its template
+pub record IsAssign (ms : Members) (a : WrittenAssign) : Type 0 where
+  pub host : Stands IsText (codes "host") ms a.host
+  pub table : a.table ≡ ms
+
+-- an element of `invariant`
+pub record IsInvariant (ms : Members) (i : WrittenInvariant) : Type 0 where
+  pub only : IsTrue (has_only (codes "template" ∷ codes "assign" ∷ []) ms)
+  pub template : Stands IsText (codes "template") ms i.template
+  pub assigns : StandsOr [] (IsArray (IsTable IsAssign)) (codes "assign") ms i.assigns
+
+-- the document
+pub record IsWritten (ms : Members) (w : Written) : Type 0 where
+  pub only : IsTrue (has_only (codes "topos" ∷ codes "answers" ∷ codes "host" ∷ codes "invariant" ∷ codes "flow" ∷ []) ms)
+  pub version : Stands IsInteger (codes "topos") ms w.version
+  pub answers : StandsOr true IsAnswers (codes "answers") ms w.answers
+  pub hosts : Stands (IsArray (IsTable IsHost)) (codes "host") ms w.hosts
+  pub invariants : StandsOr [] (IsArray (IsTable IsInvariant)) (codes "invariant") ms w.invariants
+  pub given : w.given ≡ is_some (get_member (codes "flow") ms)
+  pub flows : StandsOr [] (IsArray IsPair) (codes "flow") ms w.flows
+
+-- the description is of the right form: some record says what is written in it
+abbrev pub IsFormed : Members → Type 0
+IsFormed ms = (w : Written) × IsWritten ms w

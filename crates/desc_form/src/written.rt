@@ -1,0 +1,191 @@
+//! What stands in the tables of a description, read without looking anything up.
+ghost use Rattle.std.specs.Prelude.{◌≡◌, None, filter_map, IfOk, map, codes};
+ghost use Rattle.desc_form.specs.Firsts.{first_of};
+ghost use Rattle.desc_form.specs.FormConditions.{form_conditions};
+ghost use Rattle.desc_form.specs.Places.{listed};
+ghost use Rattle.desc_form.specs.Seen.{assign_seen, host_seen, invariant_seen, written_seen};
+ghost use Rattle.desc_form.specs.Written.{assign_written, host_written, invariant_written, text_in, written};
+ghost use Rattle.desc_form.specs.WrittenForm.{IsWritten};
+ghost use Rattle.desc_form.specs.Pairs.{pair_of};
+ghost use Rattle.toml.specs.Data.{as_str, as_table};
+ghost use Rattle.toml.specs.View.{view, table_view};
+
+use crate::pairs::read_pair;
+use crate::places::listed;
+use std::alloc::{AllocError, Global};
+use table_core::{boolean_at, has_key, integer_at, text_at};
+use toml::{Table, Value};
+
+/// A host: its name, its prefixes as texts, and whether it is the rest host.
+#[derive(Drop)]
+pub struct WrittenHost<'a> {
+    pub name: &'a str,
+    pub at: Vec<&'a str>,
+    pub rest: bool,
+}
+
+/// An assign: the name of its host, and the table that says an attribute.
+#[derive(Clone, Copy)]
+pub struct WrittenAssign<'a> {
+    pub host: &'a str,
+    pub table: &'a Table,
+}
+
+/// An invariant: the name of its template, and its assigns.
+#[derive(Drop)]
+pub struct WrittenInvariant<'a> {
+    pub template: &'a str,
+    pub assigns: Vec<WrittenAssign<'a>>,
+}
+
+/// A description as it is written, before anything is looked up.
+#[derive(Drop)]
+pub struct Written<'a> {
+    pub version: i64,
+    /// Whether flows may have answers.
+    pub answers: bool,
+    pub hosts: Vec<WrittenHost<'a>>,
+    pub invariants: Vec<WrittenInvariant<'a>>,
+    /// Whether flows are listed at all.
+    pub given: bool,
+    pub flows: Vec<(&'a str, &'a str)>,
+}
+
+/// The text at a key, empty where none stands there.
+fn text_in<'a>(table: &'a Table, key: &str) -> &'a str
+    ensures { result.now ≡ text_in key.now (table_view table.now) }
+{
+    match text_at(table, key) {
+        Some(text) => text,
+        None => "",
+    }
+}
+
+/// The texts among some values.
+fn texts_among(alloc: Global, values: &[Value]) -> Result<Vec<&str>, AllocError>
+    ensures { IfOk result (λ texts. map (λ text. text.now) texts.items ≡ filter_map as_str (map view values.now)) }
+{
+    let mut texts = Vec::new(alloc);
+    for value in values {
+        if let Some(text) = value.as_str() {
+            texts.push(text)?;
+        }
+    }
+    Ok(texts)
+}
+
+#[tactic(auto, unfolding(crate::specs::Written::host_written))]
+fn host_written(alloc: Global, table: &Table) -> Result<WrittenHost<'_>, AllocError>
+    ensures { IfOk result (λ host. host_seen host ≡ host_written (table_view table.now)) }
+{
+    let at = texts_among(alloc, listed(table, "at"))?;
+    Ok(WrittenHost {
+        name: text_in(table, "name"),
+        at,
+        rest: boolean_at(table, "rest").unwrap_or(false),
+    })
+}
+
+/// The hosts among some values.
+fn hosts_among(alloc: Global, values: &[Value]) -> Result<Vec<WrittenHost<'_>>, AllocError>
+    ensures { IfOk result (λ hosts. map host_seen hosts.items ≡ map host_written (filter_map as_table (map view values.now))) }
+{
+    let mut hosts = Vec::new(alloc);
+    for value in values {
+        if let Some(table) = value.as_table() {
+            hosts.push(host_written(alloc, table)?)?;
+        }
+    }
+    Ok(hosts)
+}
+
+#[tactic(auto, unfolding(crate::specs::Written::assign_written))]
+fn assign_written(table: &Table) -> WrittenAssign<'_>
+    ensures { assign_seen result ≡ assign_written (table_view table.now) }
+{
+    WrittenAssign {
+        host: text_in(table, "host"),
+        table,
+    }
+}
+
+/// The assigns among some values.
+fn assigns_among(alloc: Global, values: &[Value]) -> Result<Vec<WrittenAssign<'_>>, AllocError>
+    ensures { IfOk result (λ assigns. map assign_seen assigns.items ≡ map assign_written (filter_map as_table (map view values.now))) }
+{
+    let mut assigns = Vec::new(alloc);
+    for value in values {
+        if let Some(table) = value.as_table() {
+            assigns.push(assign_written(table))?;
+        }
+    }
+    Ok(assigns)
+}
+
+#[tactic(auto, unfolding(crate::specs::Written::invariant_written))]
+fn invariant_written(alloc: Global, table: &Table) -> Result<WrittenInvariant<'_>, AllocError>
+    ensures { IfOk result (λ invariant. invariant_seen invariant ≡ invariant_written (table_view table.now)) }
+{
+    let assigns = assigns_among(alloc, listed(table, "assign"))?;
+    Ok(WrittenInvariant {
+        template: text_in(table, "template"),
+        assigns,
+    })
+}
+
+/// The invariants among some values.
+fn invariants_among(
+    alloc: Global,
+    values: &[Value],
+) -> Result<Vec<WrittenInvariant<'_>>, AllocError>
+    ensures { IfOk result (λ invariants. map invariant_seen invariants.items ≡ map invariant_written (filter_map as_table (map view values.now))) }
+{
+    let mut invariants = Vec::new(alloc);
+    for value in values {
+        if let Some(table) = value.as_table() {
+            invariants.push(invariant_written(alloc, table)?)?;
+        }
+    }
+    Ok(invariants)
+}
+
+/// The pairs of texts among some values.
+fn pairs_among(alloc: Global, values: &[Value]) -> Result<Vec<(&str, &str)>, AllocError>
+    ensures { IfOk result (λ pairs. map (λ pair. (pair.0.now, pair.1.now)) pairs.items ≡ filter_map pair_of (map view values.now)) }
+{
+    let mut pairs = Vec::new(alloc);
+    for value in values {
+        if let Some(pair) = read_pair(value) {
+            pairs.push(pair)?;
+        }
+    }
+    Ok(pairs)
+}
+
+/// What is written in a description. Where a key is missing or a value is of a wrong type, nothing
+/// stands in its place: such a description is refused for that.
+pub fn read_written(alloc: Global, document: &Table) -> Result<Written<'_>, AllocError>
+    ensures read { IfOk result (λ read. written_seen read ≡ written (table_view document.now)) }
+
+    // Where the form is right, nothing is passed over.
+    ensures whole { first_of (form_conditions (table_view document.now)) ≡ None → IfOk result (λ read. IsWritten (table_view document.now) (written_seen read)) }
+{
+    written_in(alloc, document)
+}
+
+#[tactic(auto, unfolding(crate::specs::Written::written))]
+fn written_in(alloc: Global, document: &Table) -> Result<Written<'_>, AllocError>
+    ensures { IfOk result (λ read. written_seen read ≡ written (table_view document.now)) }
+{
+    let hosts = hosts_among(alloc, listed(document, "host"))?;
+    let invariants = invariants_among(alloc, listed(document, "invariant"))?;
+    let flows = pairs_among(alloc, listed(document, "flow"))?;
+    Ok(Written {
+        version: integer_at(document, "topos").unwrap_or(0),
+        answers: text_in(document, "answers") != "none",
+        hosts,
+        invariants,
+        given: has_key(document, "flow"),
+        flows,
+    })
+}
