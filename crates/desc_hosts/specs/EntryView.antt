@@ -1,0 +1,6 @@
+-- What the private type of an entry stands for.
+use Rattle.desc_hosts.specs.HostConditions as condition
+use Rattle.desc_hosts.specs.declared.entries.Entry.{Entry}
+
+abbrev pub entry_seen : Entry → condition.Entry
+entry_seen e = record { host = e.host; item = e.item; text = e.text.now }

@@ -1,0 +1,114 @@
+-- The refusals 6 to 14 of a description: its version, its size, its names, its hosts and their prefixes.
+use Rattle.std.specs.Prelude.{ℕ, ◌+◌, ℤ, pos, Bool, false, not, ◌&&◌, nat_lt, List, [], ◌∷◌, length, map, flat_map, find, slice_get, Option, option_map}
+use Rattle.std.specs.Option.{option_map_or}
+use Rattle.std.specs.Ordering.{int_eq}
+use Rattle.std.specs.Str.{bytes_eq}
+use Rattle.desc_form.specs.declared.refusal.Place.{Place}
+use Rattle.desc_form.specs.declared.refusal.Place.TheVariants.{Document, Host, Invariant}
+use Rattle.desc_form.specs.declared.refusal.Refusal.{Refusal}
+use Rattle.desc_hosts.specs.declared.limits.TheConstants.{INVARIANT_LIMIT}
+use Rattle.desc_form.specs.declared.refusal.Why.TheVariants.{BadVersion, TooMany, BadName, DuplicateHost, BadPrefix, HostBits, NoAddress, TwoRests, Overlap}
+use Rattle.desc_form.specs.Firsts.{where_holds, first_of, numbered, Numbered, first_pair}
+use Rattle.desc_hosts.specs.Mentions.{Mention, all_names}
+use Rattle.desc_form.specs.Refusals.{refused, refused_item, refused_by, refused_item_by}
+use Rattle.desc_form.specs.Written.{Written, WrittenHost, WrittenInvariant}
+use Rattle.host_net.specs.Name.{is_name}
+use Rattle.host_net.specs.Prefix.{is_exact, meets, prefix_of}
+use Rattle.host_net.specs.declared.refusal.TheConstants.{HOST_LIMIT, PREFIX_LIMIT}
+
+-- an entry of the list of prefixes of a host: its number there, and what it says
+pub record Entry : Type 0 where
+  pub host : ℕ
+  pub item : ℕ
+  pub text : List ℕ
+
+abbrev pub entries_at : ℕ → List (List ℕ) → List Entry
+entries_at host texts = map (λ e. record { host = host; item = e.number; text = e.what }) (numbered texts)
+
+abbrev pub entries_of : Numbered WrittenHost → List Entry
+entries_of h = entries_at h.number h.what.at
+
+-- the entries of all hosts, by host and item
+unfoldable pub all_entries : Written → List Entry
+all_entries w = flat_map entries_of (numbered w.hosts)
+
+-- 6: the version is not 1
+unfoldable pub bad_version : ℤ → Option Refusal
+bad_version version = where_holds (not (int_eq version (pos 1))) (refused BadVersion Document)
+
+-- a list has more elements than a limit: the first beyond it
+abbrev pub beyond : {A : Type 0} → ℕ → (ℕ → Place) → List A → Option Refusal
+beyond limit place xs = where_holds (nat_lt limit (length xs)) (refused TooMany (place (limit + 1)))
+
+-- all hosts together have more prefixes than a limit: the first beyond it
+abbrev pub too_many_prefixes : List Entry → Option Refusal
+too_many_prefixes es = option_map (λ e. refused_item TooMany (Host e.host) e.item) (slice_get es PREFIX_LIMIT)
+
+-- 7: there are too many hosts, then too many prefixes, then too many invariants
+unfoldable pub too_many : List WrittenHost → List Entry → List WrittenInvariant → Option Refusal
+too_many hs es invariants = first_of (beyond HOST_LIMIT Host hs ∷ too_many_prefixes es ∷ beyond INVARIANT_LIMIT Invariant invariants ∷ [])
+
+-- 8: a name is none
+unfoldable pub bad_name : List Mention → Option Refusal
+bad_name names = option_map (λ m. refused_item BadName m.place m.item) (find (λ m. not (is_name m.name)) names)
+
+-- 9: a host has the name of an earlier one
+unfoldable pub duplicate_host : List WrittenHost → Option Refusal
+duplicate_host hs =
+    option_map (λ p. refused_by DuplicateHost (Host p.later.number) p.earlier.number)
+    (first_pair (λ h g. bytes_eq h.what.name g.what.name) (numbered hs))
+
+-- the entry is a prefix of at least one bit
+abbrev pub is_prefix : List ℕ → Bool
+is_prefix text = option_map_or (λ p. nat_lt 0 p.len) (prefix_of text) false
+
+-- 10: an entry is no prefix, or one of length 0
+unfoldable pub bad_prefix : List Entry → Option Refusal
+bad_prefix es = option_map (λ e. refused_item BadPrefix (Host e.host) e.item) (find (λ e. not (is_prefix e.text)) es)
+
+-- bits behind the length of the entry's prefix are set
+abbrev pub has_host_bits : List ℕ → Bool
+has_host_bits text = option_map_or (λ p. not (is_exact p)) (prefix_of text) false
+
+-- 11: an entry has bits behind the length
+unfoldable pub host_bits : List Entry → Option Refusal
+host_bits es = option_map (λ e. refused_item HostBits (Host e.host) e.item) (find (λ e. has_host_bits e.text) es)
+
+-- neither a prefix nor the rest mark, or both
+abbrev pub lacks_address : List (List ℕ) → Bool → Bool
+lacks_address [] rest = not rest
+lacks_address (text ∷ texts) rest = rest
+
+-- 12: a host has neither a prefix nor the rest mark, or it has both
+unfoldable pub no_address : List WrittenHost → Option Refusal
+no_address hs = option_map (λ h. refused NoAddress (Host h.number)) (find (λ h. lacks_address h.what.at h.what.rest) (numbered hs))
+
+-- 13: a second host has the rest mark
+unfoldable pub two_rests : List WrittenHost → Option Refusal
+two_rests hs =
+    option_map (λ p. refused_by TwoRests (Host p.later.number) p.earlier.number)
+    (first_pair (λ h g. h.what.rest && g.what.rest) (numbered hs))
+
+-- the prefixes that two entries say have an address in common
+abbrev pub entries_meet : List ℕ → List ℕ → Bool
+entries_meet text other = option_map_or (λ p. option_map_or (meets p) (prefix_of other) false) (prefix_of text) false
+
+-- 14: a prefix has an address in common with an earlier one, by host and item
+unfoldable pub overlap : List Entry → Option Refusal
+overlap es =
+    option_map (λ p. refused_item_by Overlap (Host p.later.host) p.later.item p.earlier.host)
+    (first_pair (λ e f. entries_meet e.text f.text) es)
+
+-- the conditions in the order of their numbers, 6 to 14
+unfoldable pub host_conditions : Written → List (Option Refusal)
+host_conditions w =
+    bad_version w.version
+    ∷ too_many w.hosts (all_entries w) w.invariants
+    ∷ bad_name (all_names w)
+    ∷ duplicate_host w.hosts
+    ∷ bad_prefix (all_entries w)
+    ∷ host_bits (all_entries w)
+    ∷ no_address w.hosts
+    ∷ two_rests w.hosts
+    ∷ overlap (all_entries w)
+    ∷ []

@@ -1,0 +1,6 @@
+-- What the type of a mention stands for.
+use Rattle.desc_hosts.specs.Mentions as meant
+use Rattle.desc_hosts.specs.declared.mentions.Mention.{Mention}
+
+abbrev pub mention_seen : Mention → meant.Mention
+mention_seen m = record { place = m.place; item = m.item; name = m.name.now }

@@ -1,0 +1,12 @@
+-- The hosts that are written. An entry that is no prefix is passed over: a description that has one is refused for it.
+use Rattle.std.specs.Prelude.{List, map, filter_map}
+use Rattle.desc_form.specs.Written.{Written, WrittenHost}
+use Rattle.host_net.specs.Host.{Host}
+use Rattle.host_net.specs.Prefix.{prefix_of}
+
+-- a host with the prefixes that its entries say
+abbrev pub host_of : WrittenHost → Host
+host_of h = record { name = h.name; prefixes = filter_map prefix_of h.at; rest = h.rest }
+
+unfoldable pub hosts_of : Written → List Host
+hosts_of w = map host_of w.hosts

@@ -1,0 +1,120 @@
+//! The names that stand in a description, place by place: of its hosts, in its assigns, in its flows.
+ghost use Rattle.std.specs.Prelude.{◌≡◌, ◌++◌, flat_map, map, IfOk, OnOk};
+ghost use Rattle.desc_form.specs.Firsts.{numbered};
+ghost use Rattle.desc_form.specs.Seen.{assign_seen, host_seen, invariant_seen, written_seen};
+ghost use Rattle.desc_hosts.specs.MentionView.{mention_seen};
+ghost use Rattle.desc_hosts.specs.Mentions.{all_names, assign_name, assign_names_of, flow_names_of, host_name, used_names};
+
+use desc_form::{Place, Written, WrittenAssign, WrittenHost, WrittenInvariant};
+use std::alloc::{AllocError, Global};
+
+/// A name, and the place where it stands: in a flow as item 1 or 2, elsewhere as item 0.
+#[derive(Clone, Copy)]
+pub struct Mention<'a> {
+    pub place: Place,
+    pub item: u64,
+    pub name: &'a str,
+}
+
+/// The names that stand for hosts: in assigns, then in flows.
+pub fn used_names<'a>(alloc: Global, written: &Written<'a>) -> Result<Vec<Mention<'a>>, AllocError>
+    ensures { IfOk result (λ names. map mention_seen names.items ≡ used_names (written_seen written.now)) }
+{
+    let mut names = Vec::new(alloc);
+    push_used_names(&mut names, written)?;
+    Ok(names)
+}
+
+/// All names: of hosts, then those that stand for hosts.
+#[tactic(auto, unfolding(crate::specs::Mentions::all_names))]
+pub(crate) fn all_names<'a>(
+    alloc: Global,
+    written: &Written<'a>,
+) -> Result<Vec<Mention<'a>>, AllocError>
+    ensures { IfOk result (λ names. map mention_seen names.items ≡ all_names (written_seen written.now)) }
+{
+    let mut names = Vec::new(alloc);
+    push_host_names(&mut names, &written.hosts)?;
+    push_used_names(&mut names, written)?;
+    Ok(names)
+}
+
+fn push_host_names<'a>(
+    names: &mut Vec<Mention<'a>>,
+    hosts: &[WrittenHost<'a>],
+) -> Result<(), AllocError>
+    ensures { OnOk result (map mention_seen names.new.items ≡ map mention_seen names.old.items ++ map host_name (numbered (map host_seen hosts.now))) }
+{
+    for (index, host) in hosts.iter().enumerate() {
+        names.push(Mention {
+            place: Place::Host(index as u64 + 1),
+            item: 0,
+            name: host.name,
+        })?;
+    }
+    Ok(())
+}
+
+#[tactic(auto, unfolding(crate::specs::Mentions::used_names, crate::specs::Mentions::assign_names, crate::specs::Mentions::flow_names))]
+fn push_used_names<'a>(
+    names: &mut Vec<Mention<'a>>,
+    written: &Written<'a>,
+) -> Result<(), AllocError>
+    ensures { OnOk result (map mention_seen names.new.items ≡ map mention_seen names.old.items ++ used_names (written_seen written.now)) }
+{
+    push_assign_names(names, &written.invariants)?;
+    push_flow_names(names, &written.flows)?;
+    Ok(())
+}
+
+fn push_assign_names<'a>(
+    names: &mut Vec<Mention<'a>>,
+    invariants: &[WrittenInvariant<'a>],
+) -> Result<(), AllocError>
+    ensures { OnOk result (map mention_seen names.new.items ≡ map mention_seen names.old.items ++ flat_map assign_names_of (numbered (map invariant_seen invariants.now))) }
+{
+    for (index, invariant) in invariants.iter().enumerate() {
+        push_names_of(names, index as u64 + 1, &invariant.assigns)?;
+    }
+    Ok(())
+}
+
+/// The names in the assigns of the invariant with a number.
+fn push_names_of<'a>(
+    names: &mut Vec<Mention<'a>>,
+    number: u64,
+    assigns: &[WrittenAssign<'a>],
+) -> Result<(), AllocError>
+    ensures { OnOk result (map mention_seen names.new.items ≡ map mention_seen names.old.items ++ map (assign_name number) (numbered (map assign_seen assigns.now))) }
+{
+    for (index, assign) in assigns.iter().enumerate() {
+        names.push(Mention {
+            place: Place::Assign(number, index as u64 + 1),
+            item: 0,
+            name: assign.host,
+        })?;
+    }
+    Ok(())
+}
+
+fn push_flow_names<'a>(
+    names: &mut Vec<Mention<'a>>,
+    flows: &[(&'a str, &'a str)],
+) -> Result<(), AllocError>
+    ensures { OnOk result (map mention_seen names.new.items ≡ map mention_seen names.old.items ++ flat_map flow_names_of (numbered (map (λ pair. (pair.0.now, pair.1.now)) flows.now))) }
+{
+    for (index, (from, to)) in flows.iter().enumerate() {
+        let place = Place::FlowAt(index as u64 + 1);
+        names.push(Mention {
+            place,
+            item: 1,
+            name: from,
+        })?;
+        names.push(Mention {
+            place,
+            item: 2,
+            name: to,
+        })?;
+    }
+    Ok(())
+}

@@ -1,0 +1,47 @@
+//! The refusals for a description with too many hosts, prefixes or invariants.
+ghost use Rattle.std.specs.Prelude.{◌≡◌, length, map};
+ghost use Rattle.desc_form.specs.Seen.{host_seen, invariant_seen};
+ghost use Rattle.desc_form.specs.declared.refusal.Place.TheVariants.{Host, Invariant};
+ghost use Rattle.desc_hosts.specs.EntryView.{entry_seen};
+ghost use Rattle.desc_hosts.specs.HostConditions.{beyond, too_many};
+ghost use Rattle.desc_hosts.specs.declared.limits.TheConstants.{INVARIANT_LIMIT};
+ghost use Rattle.host_net.specs.declared.refusal.TheConstants.{HOST_LIMIT};
+
+use crate::entries::{Entry, too_many_prefixes};
+use crate::limits::INVARIANT_LIMIT;
+use desc_form::{Place, Refusal, Why, WrittenHost, WrittenInvariant};
+use host_net::HOST_LIMIT;
+
+/// There are too many hosts, then too many prefixes, then too many invariants.
+#[tactic(auto, unfolding(crate::specs::HostConditions::too_many))]
+pub(crate) fn too_many(
+    hosts: &[WrittenHost<'_>],
+    entries: &[Entry<'_>],
+    invariants: &[WrittenInvariant<'_>],
+) -> Option<Refusal>
+    ensures { result ≡ too_many (map host_seen hosts.now) (map entry_seen entries.now) (map invariant_seen invariants.now) }
+{
+    too_many_hosts(hosts)
+        .or(too_many_prefixes(entries))
+        .or(too_many_invariants(invariants))
+}
+
+/// There are more hosts than there may be.
+fn too_many_hosts(hosts: &[WrittenHost<'_>]) -> Option<Refusal>
+    ensures { result ≡ beyond HOST_LIMIT Host (map host_seen hosts.now) }
+{
+    if hosts.len() <= HOST_LIMIT {
+        return None;
+    }
+    Some(Refusal::at(Why::TooMany, Place::Host(HOST_LIMIT as u64 + 1)))
+}
+
+/// There are more invariants than there may be.
+fn too_many_invariants(invariants: &[WrittenInvariant<'_>]) -> Option<Refusal>
+    ensures { result ≡ beyond INVARIANT_LIMIT Invariant (map invariant_seen invariants.now) }
+{
+    if invariants.len() <= INVARIANT_LIMIT {
+        return None;
+    }
+    Some(Refusal::at(Why::TooMany, Place::Invariant(INVARIANT_LIMIT as u64 + 1)))
+}
