@@ -1,5 +1,8 @@
-pub mod FlowsLemmas
-pub mod Growing
-pub mod HostsLemmas
-pub mod RefusedHosts
+pub mod AskedLemmas
+pub mod DescribeLemmas
+pub mod Examples
+pub mod InvariantsLemmas
+pub mod NetworkLemmas
+pub mod Settled
 pub mod Tables
+pub mod Worked

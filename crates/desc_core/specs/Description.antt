@@ -1,44 +1,35 @@
--- What the bytes of a description describe, or why they are refused.
-use Rattle.std.specs.Prelude.{◌≡◌, ℕ, List, length, Option, Some, Result, Ok, Err}
-use Rattle.std.specs.Option.{ok_or}
+-- What a description says, or the first condition that refuses it.
+use Rattle.std.specs.Prelude.{ℕ, List, ◌++◌, length, nat_lt, Option, Some, None, Result, Ok, Err, if◌then◌else◌}
 use Rattle.toml.specs.Data.{Members}
-use Rattle.flow_set.specs.FlowSet.{SetOfFlows, IsFlowSet}
-use Rattle.host_net.specs.Host.{Host}
-use Rattle.host_net.specs.Hosts.{IsHosts}
-use Rattle.desc_core.specs.Document.{table_of}
-use Rattle.desc_core.specs.Flows.{asked_in}
-use Rattle.desc_core.specs.Form.{Lists, lists_in}
-use Rattle.desc_core.specs.Hosts.{hosts_in}
-use Rattle.table_core.specs.Listing.{◌>>=◌}
-use Rattle.desc_core.specs.declared.fault.DescFault.{DescFault}
-use Rattle.desc_core.specs.declared.fault.DescFault.TheVariants.{NotBuilt}
+use Rattle.desc_core.specs.declared.fault.TheConstants.{MOST_BYTES}
+use Rattle.desc_core.specs.Document.{document}
+use Rattle.desc_core.specs.Network.{Network, network_of}
+use Rattle.desc_core.specs.UseConditions.{use_conditions}
+use Rattle.desc_form.specs.declared.refusal.Place.TheVariants.{Document}
+use Rattle.desc_form.specs.declared.refusal.Refusal.{Refusal}
+use Rattle.desc_form.specs.declared.refusal.Why.TheVariants.{TooLong, NotToml}
+use Rattle.desc_form.specs.Firsts.{first_of}
+use Rattle.desc_form.specs.FormConditions.{form_conditions}
+use Rattle.desc_form.specs.Refusals.{refused}
+use Rattle.desc_form.specs.Written.{Written, written}
+use Rattle.desc_hosts.specs.HostConditions.{host_conditions}
 
--- the hosts, and the flows between them that are asked for
-pub record Described : Type 0 where
-  pub hosts : List Host
-  pub asked : SetOfFlows
+abbrev pub unless_refused : {A B : Type 0} → Option Refusal → (A → Result B Refusal) → A → Result B Refusal
+unless_refused None next x = next x
+unless_refused (Some refusal) next x = Err refusal
 
--- what the two lists describe
-unfoldable pub described_by : Lists → Option Described
-described_by lists = do
-  hosts ← hosts_in lists.hosts
-  asked ← asked_in hosts lists.flows
-  Some (record { hosts = hosts; asked = asked })
+-- the network, or the first of the conditions 6 to 20 that holds
+unfoldable pub network_or : Written → Result Network Refusal
+network_or w = unless_refused (first_of (host_conditions w ++ use_conditions w)) (λ v. Ok (network_of v)) w
 
--- what a table describes, if it has the plain form
-unfoldable pub described_in : Members → Option Described
-described_in table = lists_in table >>= described_by
+-- what a table describes, or the first of the conditions 3 to 20 that holds
+unfoldable pub described_by_table : Members → Result Network Refusal
+described_by_table table = unless_refused (first_of (form_conditions table)) (λ ms. network_or (written ms)) table
 
-abbrev pub described_or : Result Members DescFault → Result Described DescFault
-described_or (Ok table) = ok_or (described_in table) NotBuilt
-described_or (Err why) = Err why
+abbrev pub described_by_document : Option Members → Result Network Refusal
+described_by_document None = Err (refused NotToml Document)
+described_by_document (Some table) = described_by_table table
 
--- what the bytes describe, or the first of these: too many bytes, no TOML, another form
-unfoldable pub described : List ℕ → Result Described DescFault
-described bytes = described_or (table_of bytes)
-
--- what is true of everything that is described
-pub record IsDescribed (d : Described) : Type 0 where
-  pub hosts : IsHosts d.hosts
-  pub sized : d.asked.size ≡ length d.hosts
-  pub asked : IsFlowSet d.asked.size d.asked.flows
+-- what the bytes describe, or the first of the twenty conditions that holds
+unfoldable pub described : List ℕ → Result Network Refusal
+described bytes = if nat_lt MOST_BYTES (length bytes) then Err (refused TooLong Document) else described_by_document (document bytes)

@@ -1,25 +1,38 @@
 //! From the bytes of a description to its TOML table.
-ghost use Rattle.desc_core.specs.Document.{Gives, table_of};
-ghost use Rattle.toml.specs.View.{table_view};
+ghost use Rattle.std.specs.Prelude.{◌≡◌};
 ghost use Rattle.std.specs.Result.{result_map_both};
+ghost use Rattle.desc_core.specs.Document.{table_of};
+ghost use Rattle.desc_core.specs.Given.{Gives};
+ghost use Rattle.desc_core.specs.declared.fault.DescFault.TheVariants.{Refused};
+ghost use Rattle.desc_form.specs.Refusals.{refused};
+ghost use Rattle.desc_form.specs.declared.refusal.Place.TheVariants.{Document};
+ghost use Rattle.toml.specs.View.{table_view};
 
 use crate::fault::{DescFault, MOST_BYTES};
+use desc_form::{Place, Refusal, Why};
 use std::alloc::Global;
 use toml::Table;
 
 /// The table of a description's bytes.
-pub fn read_table(alloc: Global, bytes: &[u8]) -> Result<Table, DescFault>
-    ensures { Gives (result_map_both table_view (λ why. why) result) (table_of bytes.now) }
+pub(crate) fn read_table(alloc: Global, bytes: &[u8]) -> Result<Table, DescFault>
+    ensures { Gives (result_map_both table_view (λ fault. fault) result) (table_of bytes.now) }
 {
     if bytes.len() > MOST_BYTES {
-        return Err(DescFault::TooLong);
+        return Err(of_document(Why::TooLong));
     }
     match toml::table_from_slice(alloc, bytes) {
         Ok(table) => Ok(table),
         Err(error) => Err(if error.is_memory() {
             DescFault::Memory
         } else {
-            DescFault::NotToml
+            of_document(Why::NotToml)
         }),
     }
+}
+
+/// The document as a whole is refused.
+fn of_document(why: Why) -> DescFault
+    ensures { result ≡ Refused (refused why Document) }
+{
+    DescFault::Refused(Refusal::at(why, Place::Document))
 }

@@ -1,22 +1,19 @@
-//! Why a description is refused.
+//! Why there is no description.
 
 ghost use Rattle.std.specs.Prelude.{◌≡◌};
 ghost use Rattle.desc_core.specs.declared.fault.DescFault.TheVariants.{Memory};
 
-use std::alloc::AllocError;
+use desc_form::Refusal;
+use std::alloc::{AllocError, AllocFailed};
 
 /// The most bytes that a description may have.
 pub const MOST_BYTES: usize = 1_048_576;
 
-/// Why a description is refused: the first of these causes in this order, or want of memory.
-#[derive(Clone, Copy, PartialEq, Eq, Debug)]
+/// Why there is no description.
+#[derive(Clone, Copy, Debug)]
 pub enum DescFault {
-    /// It has more than `MOST_BYTES` bytes.
-    TooLong,
-    /// Its bytes are no UTF-8, or `toml` refuses the text.
-    NotToml,
-    /// It is a TOML document of a form that is not read yet.
-    NotBuilt,
+    /// The description is refused, for the first of the conditions that holds.
+    Refused(Refusal),
     /// Memory ran out.
     Memory,
 }
@@ -25,6 +22,14 @@ impl From<AllocError> for DescFault {
     ghost from_gives = { λ _ fault. fault ≡ Memory };
 
     fn from(_: AllocError) -> DescFault {
+        DescFault::Memory
+    }
+}
+
+impl<T: Drop> From<AllocFailed<T>> for DescFault {
+    ghost from_gives = { λ _ fault. fault ≡ Memory };
+
+    fn from(_: AllocFailed<T>) -> DescFault {
         DescFault::Memory
     }
 }

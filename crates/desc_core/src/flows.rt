@@ -1,55 +1,113 @@
-//! From the elements of the key `flow` to the set of flows that are asked for.
-ghost use Rattle.std.specs.Prelude.{◌≡◌, length, map, option_map, IfSome};
-ghost use Rattle.std.specs.Option.{ok_or};
-ghost use Rattle.std.specs.Result.{result_map_both};
-ghost use Rattle.desc_core.specs.Document.{Gives};
-ghost use Rattle.desc_core.specs.Flows.{asked_in, flow_in, pair_of};
-ghost use Rattle.desc_core.specs.declared.fault.DescFault.TheVariants.{NotBuilt};
-ghost use Rattle.desc_core.specs.Adding.{flow_added};
+//! The flows of a description: the refusals for them, and the set of those that are asked for.
+ghost use Rattle.std.specs.Prelude.{◌≡◌, ◌≤◌, ℕ, List, filter_map, find, length, map, option_map, IfOk, IfSome};
+ghost use Rattle.std.specs.Str.{bytes_eq};
+ghost use Rattle.desc_core.specs.Flows.{flow_between, set_of};
+ghost use Rattle.desc_core.specs.Network.{asked_of, every_flow};
+ghost use Rattle.desc_core.specs.Parts.{flow_conditions};
+ghost use Rattle.desc_core.specs.UseConditions.{same_names};
+ghost use Rattle.desc_form.specs.Firsts.{first_of, first_pair, numbered, Numbered};
+ghost use Rattle.desc_form.specs.Refusals.{refused, refused_by};
+ghost use Rattle.desc_form.specs.Seen.{written_seen};
+ghost use Rattle.desc_form.specs.declared.refusal.Place.TheVariants.{FlowAt};
+ghost use Rattle.desc_form.specs.declared.refusal.Why.TheVariants.{DuplicateFlow, SelfFlow};
+ghost use Rattle.desc_hosts.specs.PairsSeen.{pair_seen};
+ghost use Rattle.desc_hosts.specs.WrittenHosts.{hosts_of};
 ghost use Rattle.flow_set.specs.Flow.{IsFlow};
-ghost use Rattle.toml.specs.View.{view};
 
-use crate::fault::DescFault;
+use desc_form::{Place, Refusal, Why, Written};
+use desc_hosts::{Pair, first_pair};
 use flow_set::{Flow, FlowSet};
 use host_net::Hosts;
-use std::alloc::Global;
-use table_core::elements;
-use toml::Value;
+use std::alloc::{AllocError, Global};
 
-/// The set of the flows of the elements, which are all different.
-pub fn read_flows(alloc: Global, hosts: &Hosts, values: &[Value]) -> Result<FlowSet, DescFault>
-    ensures { Gives result (ok_or (asked_in hosts.now (map view values.now)) NotBuilt) }
+/// The first refusal for flows.
+#[tactic(auto, unfolding(crate::specs::UseConditions::self_flow, crate::specs::UseConditions::duplicate_flow))]
+pub(crate) fn flow_refusal(written: &Written<'_>) -> Option<Refusal>
+    ensures { result ≡ first_of (flow_conditions (written_seen written.now)) }
+{
+    let itself = self_flow(&written.flows);
+    if itself.is_some() {
+        return itself;
+    }
+    duplicate_flow(&written.flows)
+}
+
+/// Both names of a flow are the same.
+fn self_flow(flows: &[(&str, &str)]) -> Option<Refusal>
+    ensures { result ≡ option_map (λ f. refused SelfFlow (FlowAt f.number)) (find (λ (f : Numbered (List ℕ × List ℕ)). bytes_eq f.what.0 f.what.1) (numbered (map (λ pair. (pair.0.now, pair.1.now)) flows.now))) }
+{
+    for (index, (from, to)) in flows.iter().enumerate() {
+        if *from == *to {
+            return Some(Refusal::at(Why::SelfFlow, Place::FlowAt(index as u64 + 1)));
+        }
+    }
+    None
+}
+
+/// A flow was listed before.
+fn duplicate_flow(flows: &[(&str, &str)]) -> Option<Refusal>
+    ensures { result ≡ option_map (λ p. refused_by DuplicateFlow (FlowAt p.later.number) p.earlier.number) (first_pair (λ f g. same_names f.what g.what) (numbered (map (λ pair. (pair.0.now, pair.1.now)) flows.now))) }
+{
+    let pair = first_pair(flows, |later, earlier| {
+        later.0 == earlier.0 && later.1 == earlier.1
+    });
+    barred_flow(pair)
+}
+
+/// The refusal for a flow that an earlier one bars.
+fn barred_flow(pair: Option<Pair<'_, (&str, &str)>>) -> Option<Refusal>
+    ensures { result ≡ option_map (λ p. refused_by DuplicateFlow (FlowAt p.later.number) p.earlier.number) (option_map pair_seen pair.entry) }
+{
+    let pair = pair?;
+    let place = Place::FlowAt(pair.later.number);
+    Some(Refusal::at(Why::DuplicateFlow, place).with_other(pair.earlier.number))
+}
+
+/// The flows that are asked for: the listed ones, or every flow where none are listed at all.
+#[tactic(auto, unfolding(crate::specs::Network::asked_of))]
+pub(crate) fn read_asked(
+    alloc: Global,
+    hosts: &Hosts,
+    written: &Written<'_>,
+) -> Result<FlowSet, AllocError>
+    requires { hosts.now ≡ hosts_of (written_seen written.now) }
+    ensures { IfOk result (λ asked. asked ≡ record { size = length hosts.now; flows = asked_of (written_seen written.now) }) }
+{
+    if written.given {
+        listed_flows(alloc, hosts, &written.flows)
+    } else {
+        every_flow(alloc, hosts.count())
+    }
+}
+
+/// Every flow between so many hosts.
+fn every_flow(alloc: Global, hosts: u16) -> Result<FlowSet, AllocError>
+    requires { hosts ≤ 256 }
+    ensures { IfOk result (λ asked. asked ≡ record { size = hosts; flows = every_flow hosts }) }
+{
+    FlowSet::full(alloc, hosts)
+}
+
+/// The flows between the hosts of these names. A pair of names that are not those of two hosts is
+/// passed over: a description with such a pair is refused before.
+#[tactic(auto, unfolding(crate::specs::Flows::set_of))]
+fn listed_flows(alloc: Global, hosts: &Hosts, pairs: &[(&str, &str)]) -> Result<FlowSet, AllocError>
+    ensures { IfOk result (λ asked. asked ≡ record { size = length hosts.now; flows = set_of (filter_map (flow_between hosts.now) (map (λ pair. (pair.0.now, pair.1.now)) pairs.now)) }) }
 {
     let mut asked = FlowSet::empty(alloc, hosts.count())?;
-    for value in values {
-        add_flow(hosts, &mut asked, value)?;
+    for (from, to) in pairs {
+        if let Some(flow) = flow_between(hosts, from, to) {
+            asked.insert(flow);
+        }
     }
     Ok(asked)
 }
 
-// Puts in the flow of an element, unless it is there.
-#[tactic(auto, unfolding(crate::specs::Adding::flow_added))]
-fn add_flow(hosts: &Hosts, asked: &mut FlowSet, value: &Value) -> Result<(), DescFault>
-    requires { asked.old.size ≡ length hosts.now }
-    ensures size { asked.new.size ≡ asked.old.size }
-    ensures added { Gives (result_map_both (λ _. asked.new) (λ why. why) result) (ok_or (flow_added hosts.now asked.old (view value.now)) NotBuilt) }
-{
-    let Some(flow) = read_flow(hosts, value) else {
-        return Err(DescFault::NotBuilt);
-    };
-    if asked.insert(flow) {
-        Ok(())
-    } else {
-        Err(DescFault::NotBuilt)
-    }
-}
-
-#[tactic(auto, unfolding(crate::specs::Flows::flow_in))]
-fn read_flow(hosts: &Hosts, value: &Value) -> Option<Flow>
-    ensures value { result ≡ flow_in hosts.now (view value.now) }
+/// The flow between the hosts of two names, if they are two hosts.
+fn flow_between(hosts: &Hosts, from: &str, to: &str) -> Option<Flow>
+    ensures value { result ≡ flow_between hosts.now (from.now, to.now) }
     ensures flow { IfSome result (IsFlow (length hosts.now)) }
 {
-    let (from, to) = read_pair(value)?;
     let from = hosts.find(from.as_bytes())?;
     let to = hosts.find(to.as_bytes())?;
     if from == to {
@@ -57,15 +115,4 @@ fn read_flow(hosts: &Hosts, value: &Value) -> Option<Flow>
     } else {
         Some(Flow { from, to })
     }
-}
-
-/// The two texts of an array.
-#[tactic(auto, unfolding(crate::specs::Flows::pair_of))]
-fn read_pair(value: &Value) -> Option<(&str, &str)>
-    ensures { option_map (λ pair. (pair.0.now, pair.1.now)) result ≡ pair_of (view value.now) }
-{
-    let [first, second] = elements(value)? else {
-        return None;
-    };
-    Some((first.as_str()?, second.as_str()?))
 }

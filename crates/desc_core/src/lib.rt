@@ -1,16 +1,17 @@
-//! Reading the description of a network: a TOML document that lists the hosts and the flows that
-//! are asked for. Only the plain form is read so far: hosts with one address each, listed flows,
-//! no answers.
+//! The description of a network: a TOML document with the hosts, the flows that are asked for and the
+//! invariants that have to hold. Here stands what it says, or the first condition that refuses it.
 #![tactic(auto)]
 
 mod description;
 mod document;
 mod fault;
 mod flows;
-mod form;
-mod hosts;
+mod invariants;
+mod names;
+mod network;
 #[cfg(test)]
 mod tests;
 
+pub use desc_form::{Place, Refusal, Why};
 pub use description::{Description, describe};
 pub use fault::{DescFault, MOST_BYTES};

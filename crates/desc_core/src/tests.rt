@@ -1,116 +1,96 @@
 use crate::{DescFault, describe};
-use flow_set::Flow;
-use std::alloc::{AllocError, Global};
+use desc_form::Place;
+use std::alloc::Global;
 use std::test::Fail;
 
-const PAIR: &str = r#"topos = 1
+const WHOLE: &str = r#"topos = 1
 answers = "none"
-flow = [["a", "b"]]
-
-[[host]]
-name = "a"
-at = ["10.0.0.1/32"]
-
-[[host]]
-name = "b"
-at = ["10.0.0.2/32"]
+flow = [["a", "b"], ["b", "a"]]
+host = [{ name = "a", at = ["10.0.0.1"] }, { name = "b", rest = true }]
+invariant = [{ template = "blp", assign = [{ host = "a", level = 2 }] }]
 "#;
 
-const HEAD: &str = "topos = 1\nanswers = \"none\"";
-
-const HOSTS: &str = r#"{ name = "a", at = ["10.0.0.1"] }, { name = "b", at = ["10.0.0.2"] }"#;
-
-/// What stands before the hosts, the hosts, and the flows.
-const OTHER_FORMS: [(&str, &str, &str); 14] = [
-    ("topos = 2\nanswers = \"none\"", HOSTS, ""),
-    ("topos = 1\nanswers = \"all\"", HOSTS, ""),
-    ("topos = 1\nanswers = \"none\"\ninvariant = []", HOSTS, ""),
+/// Flows and invariants beside the hosts `a` and `b`; the number, the place, the item and the other
+/// of what refuses them.
+const REFUSED: [(&str, (u8, Place, u64, u64)); 8] = [
     (
-        HEAD,
-        r#"{ name = "a", at = ["10.0.0.1"], rest = true }"#,
-        "",
-    ),
-    (HEAD, r#"{ name = "a", at = ["10.0.0.0/31"] }"#, ""),
-    (HEAD, r#"{ name = "a", at = ["10.0.0.1", "10.0.0.2"] }"#, ""),
-    (HEAD, r#"{ name = "a", at = [] }"#, ""),
-    (HEAD, r#"{ name = "a b", at = ["10.0.0.1"] }"#, ""),
-    (
-        HEAD,
-        r#"{ name = "a", at = ["10.0.0.1"] }, { name = "a", at = ["10.0.0.2"] }"#,
-        "",
+        r#"invariant = [{ template = "sink" }, { template = "Sink" }]"#,
+        (15, Place::Invariant(2), 0, 0),
     ),
     (
-        HEAD,
-        r#"{ name = "a", at = ["10.0.0.1"] }, { name = "b", at = ["10.0.0.1/32"] }"#,
-        "",
+        r#"invariant = [{ template = "sink", assign = [{ host = "a" }, { host = "c" }] }]"#,
+        (16, Place::Assign(1, 2), 0, 0),
     ),
-    (HEAD, HOSTS, r#"["a", "c"]"#),
-    (HEAD, HOSTS, r#"["a", "a"]"#),
-    (HEAD, HOSTS, r#"["a", "b"], ["a", "b"]"#),
-    (HEAD, HOSTS, r#"["a", "b", "a"]"#),
+    (
+        r#"flow = [["a", "b"], ["b", "c"]]"#,
+        (16, Place::FlowAt(2), 2, 0),
+    ),
+    (
+        r#"invariant = [{ template = "blp", assign = [{ host = "a" }, { host = "b" }, { host = "b" }] }]"#,
+        (17, Place::Assign(1, 3), 0, 2),
+    ),
+    (
+        r#"invariant = [{ template = "blp", assign = [{ host = "a" }, { host = "b", level = true }] }]"#,
+        (18, Place::Assign(1, 2), 0, 0),
+    ),
+    (
+        r#"flow = [["a", "b"], ["b", "b"]]"#,
+        (19, Place::FlowAt(2), 0, 0),
+    ),
+    (
+        r#"flow = [["a", "b"], ["b", "a"], ["a", "b"]]"#,
+        (20, Place::FlowAt(3), 0, 1),
+    ),
+    ("flow = [[", (2, Place::Document, 0, 0)),
 ];
 
-/// What `describe` answers to a document of these parts: how many hosts there are, or a fault.
-fn host_count(alloc: Global, head: &str, hosts: &str, flows: &str) -> Result<u16, DescFault> {
-    let text = format!(in alloc; "{head}\nhost = [{hosts}]\nflow = [{flows}]\n")?;
-    Ok(describe(alloc, text.as_bytes())?.hosts().count())
+/// What refuses the description, or None where it is read.
+fn refusal_of(alloc: Global, bytes: &[u8]) -> Result<Option<(u8, Place, u64, u64)>, Fail> {
+    match describe(alloc, bytes) {
+        Err(DescFault::Refused(r)) => Ok(Some((r.why.number(), r.place, r.item, r.other))),
+        read => {
+            read?;
+            Ok(None)
+        }
+    }
 }
 
-/// The list of `count` hosts.
-fn many_hosts(alloc: Global, count: usize) -> Result<String, AllocError> {
-    let mut hosts = String::new(alloc);
-    for k in 0..count {
-        let host = format!(in alloc; "{{ name = \"h{k}\", at = [\"10.0.0.{k}\"] }},")?;
-        hosts.push_str(&host)?;
-    }
-    Ok(hosts)
+/// How many flows are asked for among so many hosts where none are listed.
+fn asked_count(alloc: Global, flows: &str) -> Result<u32, Fail> {
+    let text = format!(in alloc;
+        "topos = 1\nhost = [{{ name = \"a\", rest = true }}, {{ name = \"b\", at = [\"10.0.0.2\"] }}]\n{flows}"
+    )?;
+    Ok(describe(alloc, text.as_bytes())?.asked().len())
 }
 
 #[test]
-fn reads_a_pair(rt: HostRuntime) -> Result<(), Fail> {
-    let pair = describe(rt.alloc(), PAIR.as_bytes())?;
-    assert_eq!(rt; pair.hosts().count(), 2);
-    assert_eq!(rt;
-        pair.asked().at_or_after(0, 0),
-        Some(Flow { from: 0, to: 1 })
-    );
-    assert_eq!(rt; pair.asked().at_or_after(0, 2), None);
+fn a_network_is_read(rt: HostRuntime) -> Result<(), Fail> {
+    let read = describe(rt.alloc(), WHOLE.as_bytes())?;
+    assert_eq!(rt; read.hosts().count(), 2);
+    assert_eq!(rt; read.asked().len(), 2);
+    assert_eq!(rt; read.invariants().len(), 1);
+    assert_eq!(rt; (read.given(), read.answers()), (true, false));
     Ok(())
 }
 
 #[test]
-fn counts_hosts(rt: HostRuntime) -> Result<(), Fail> {
-    let alloc = rt.alloc();
-    assert_eq!(rt; host_count(alloc, HEAD, "", ""), Ok(0));
-    assert_eq!(rt;
-        host_count(alloc, HEAD, &many_hosts(alloc, 32)?, ""),
-        Ok(32)
-    );
-    assert_eq!(rt;
-        host_count(alloc, HEAD, &many_hosts(alloc, 33)?, ""),
-        Err(DescFault::NotBuilt)
-    );
+fn flows_are_listed_or_all(rt: HostRuntime) -> Result<(), Fail> {
+    assert_eq!(rt; asked_count(rt.alloc(), "")?, 2);
+    assert_eq!(rt; asked_count(rt.alloc(), "flow = []")?, 0);
     Ok(())
 }
 
 #[test]
-fn refuses_other_forms(rt: HostRuntime) {
-    for (head, hosts, flows) in OTHER_FORMS {
-        assert_eq!(rt;
-            host_count(rt.alloc(), head, hosts, flows),
-            Err(DescFault::NotBuilt)
-        );
+fn the_first_condition_is_told(rt: HostRuntime) -> Result<(), Fail> {
+    for (rest, told) in REFUSED {
+        let text = format!(in rt.alloc();
+            "topos = 1\nhost = [{{ name = \"a\", at = [\"10.0.0.1\"] }}, {{ name = \"b\", rest = true }}]\n{rest}"
+        )?;
+        assert_eq!(rt; refusal_of(rt.alloc(), text.as_bytes())?, Some(told));
     }
-}
-
-#[test]
-fn refuses_what_is_no_toml(rt: HostRuntime) {
     assert_eq!(rt;
-        describe(rt.alloc(), b"\xff").err(),
-        Some(DescFault::NotToml)
+        refusal_of(rt.alloc(), b"\xff")?,
+        Some((2, Place::Document, 0, 0))
     );
-    assert_eq!(rt;
-        describe(rt.alloc(), b"topos = 1\nflow = [").err(),
-        Some(DescFault::NotToml)
-    );
+    Ok(())
 }

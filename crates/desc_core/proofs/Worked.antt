@@ -1,0 +1,81 @@
+-- Worked refusals: a small description, what is changed in it, and what is told of it.
+use Rattle.std.proofs.Common.{ap, ◌∙◌}
+use Rattle.std.proofs.lemmas.List.{length-replicate}
+use Rattle.desc_core.specs.declared.fault.TheConstants.{MOST_BYTES}
+use Rattle.std.specs.Prelude.{ℕ, nat_lt, length, replicate, ◌≡◌, refl, pos, true, false, List, [], ◌∷◌, map, codes, Ok, Err}
+use Rattle.toml.specs.Data.{string, integer, table, Members, no_members, member}
+use Rattle.attr_core.specs.Blp.{blp_attribute}
+use Rattle.attr_core.specs.Invariants.{invariant_in, blp_in}
+use Rattle.attr_core.specs.Templates.{template_named}
+use Rattle.desc_core.proofs.Examples.{list, host_at, rest_host, flow, level, invariant, host_a, host_b, a_to_b, described_as, of_hosts, of_flows, of_invariants, hosts_below}
+use Rattle.desc_form.specs.declared.refusal.Refusal.{Refusal}
+use Rattle.desc_core.specs.Flows.{set_of}
+use Rattle.desc_form.specs.Pairs.{pair_of}
+use Rattle.desc_hosts.specs.HostConditions.{bad_version, too_many, bad_name, duplicate_host, bad_prefix, host_bits, no_address, two_rests, overlap, all_entries, host_conditions}
+use Rattle.desc_hosts.specs.Mentions.{assign_names, flow_names, used_names, all_names}
+use Rattle.desc_core.specs.Network.{network_of, asked_of, invariants_of, invariant_of, every_flow}
+use Rattle.desc_form.specs.Places.{unknown_key, missing_key, wrong_type, has_other_key, lacks_needed, has_unsuited, has_wrong_type, first_place, spots, listed, assigns_of}
+use Rattle.desc_core.specs.UseConditions.{use_conditions, unknown_template, undeclared_host, duplicate_assign, bad_attribute, self_flow, duplicate_flow}
+use Rattle.desc_core.specs.Description.{described, described_by_table, network_or}
+use Rattle.desc_form.specs.Refusals.{refused, refused_by, refused_item, refused_item_by, refused_name}
+use Rattle.desc_form.specs.declared.refusal.Place.TheVariants.{Assign, Document, FlowAt, Host}
+use Rattle.desc_form.specs.declared.refusal.Why.TheVariants.{TooLong, BadAttribute, BadPrefix, BadVersion, DuplicateFlow, DuplicateHost, HostBits, Overlap, SelfFlow, TooMany, TwoRests, UndeclaredHost, UnknownKey}
+use Rattle.desc_form.specs.FormConditions.{form_conditions}
+use Rattle.desc_form.specs.Written.{written, host_written, invariant_written, assign_written}
+use Rattle.desc_hosts.specs.WrittenHosts.{hosts_of}
+use Rattle.host_net.specs.Prefix.{prefix_of, prefix_with, address_of, is_exact, meets}
+use Rattle.table_core.specs.Tables.{has_only, has_key, text_at, integer_at, boolean_at, number_at, number_or, boolean_or, elements_of, list_at}
+use Rattle.text_core.specs.Decimal.{number, bounded_value}
+
+-- a description, and what it is refused for
+pub record Row : Type 0 where
+  pub document : Members
+  pub refusal : Refusal
+
+abbrev pub row : Members → Refusal → Row
+row document refusal = record { document = document; refusal = refusal }
+
+-- the flow, the invariant, the host, the number of hosts, the version or a key is changed
+abbrev worked_rows : List Row
+worked_rows =
+    row (of_flows (flow (codes "a") (codes "c") ∷ [])) (refused_name UndeclaredHost (FlowAt 1) 2 (codes "c"))
+    ∷ row (of_flows (flow (codes "a") (codes "a") ∷ [])) (refused SelfFlow (FlowAt 1))
+    ∷ row (of_flows (flow (codes "a") (codes "b") ∷ flow (codes "a") (codes "b") ∷ [])) (refused_by DuplicateFlow (FlowAt 2) 1)
+    ∷ row (of_invariants (invariant (codes "blp") (level (codes "a") (string (codes "high")) ∷ []) ∷ [])) (refused BadAttribute (Assign 1 1))
+    ∷ row (of_hosts (host_at (codes "a") (codes "10.0.0.1/24") ∷ host_b ∷ [])) (refused_item HostBits (Host 1) 1)
+    ∷ row (of_hosts (host_at (codes "a") (codes "10.0.0.0/24") ∷ host_b ∷ [])) (refused_item_by Overlap (Host 2) 1 1)
+    ∷ row (of_hosts (host_at (codes "a") (codes "0.0.0.0/0") ∷ host_b ∷ [])) (refused_item BadPrefix (Host 1) 1)
+    ∷ row (of_hosts (rest_host (codes "a") ∷ rest_host (codes "b") ∷ [])) (refused_by TwoRests (Host 2) 1)
+    ∷ row (of_hosts (host_a ∷ host_at (codes "a") (codes "10.0.0.2/32") ∷ [])) (refused_by DuplicateHost (Host 2) 1)
+    ∷ row (of_hosts (hosts_below 33)) (refused TooMany (Host 33))
+    ∷ row (described_as (integer (pos 3)) a_to_b (list (host_a ∷ host_b ∷ []))) (refused BadVersion Document)
+    ∷ row (of_hosts (host_a ∷ table (member (codes "colour") (integer (pos 1)) (member (codes "name") (string (codes "b")) no_members)) ∷ [])) (refused UnknownKey (Host 2))
+    ∷ []
+
+pub worked : map (λ r. described_by_table r.document) worked_rows ≡ map (λ r. Err r.refusal) worked_rows
+unfolding unknown_key missing_key wrong_type has_other_key lacks_needed has_unsuited has_wrong_type first_place spots listed assigns_of has_only has_key text_at integer_at boolean_at number_or number_at boolean_or elements_of list_at pair_of written host_written invariant_written assign_written bad_version too_many bad_name duplicate_host bad_prefix host_bits no_address two_rests overlap all_entries assign_names flow_names used_names all_names unknown_template undeclared_host duplicate_assign bad_attribute self_flow duplicate_flow network_of hosts_of asked_of invariants_of invariant_of every_flow described_by_table network_or form_conditions host_conditions use_conditions prefix_of address_of number bounded_value is_exact meets template_named invariant_in blp_in blp_attribute
+worked = refl
+
+-- without a change it is accepted
+pub accepted : described_by_table (of_flows a_to_b) ≡ Ok (record {
+  hosts =
+      record { name = codes "a"; prefixes = prefix_with 167772161 32 ∷ []; rest = false }
+      ∷ record { name = codes "b"; prefixes = prefix_with 167772162 32 ∷ []; rest = false }
+      ∷ [];
+  asked = record { size = 2; flows = record { from = 0; to = 1 } ∷ [] };
+  given = true;
+  answers = false;
+  invariants = [];
+})
+unfolding unknown_key missing_key wrong_type has_other_key lacks_needed has_unsuited has_wrong_type first_place spots listed assigns_of has_only has_key text_at integer_at boolean_at number_or number_at boolean_or elements_of list_at pair_of written host_written invariant_written assign_written bad_version too_many bad_name duplicate_host bad_prefix host_bits no_address two_rests overlap all_entries assign_names flow_names used_names all_names unknown_template undeclared_host duplicate_assign bad_attribute self_flow duplicate_flow network_of hosts_of asked_of invariants_of invariant_of every_flow described_by_table network_or form_conditions host_conditions use_conditions prefix_of address_of number bounded_value is_exact meets template_named invariant_in blp_in blp_attribute set_of
+accepted = refl
+
+-- whatever stands in it, a file of one byte more than the limit is too long
+longer : (n : ℕ) (byte : ℕ) → nat_lt MOST_BYTES n ≡ true → described (replicate n byte) ≡ Err (refused TooLong Document)
+unfolding described
+longer n byte long =
+    let more : nat_lt MOST_BYTES (length (replicate n byte)) ≡ true = ap (nat_lt MOST_BYTES) (length-replicate n byte) ∙ long in
+    rw more refl
+
+pub too_long : (byte : ℕ) → described (replicate 1048577 byte) ≡ Err (refused TooLong Document)
+too_long byte = longer 1048577 byte refl

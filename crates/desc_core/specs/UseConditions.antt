@@ -1,0 +1,76 @@
+-- The refusals 15 to 20 of a description: its invariants, their assigns, and its flows.
+use Rattle.std.specs.Prelude.{ℕ, ◌+◌, Bool, not, ◌&&◌, List, [], ◌∷◌, find, Option, Some, None, option_map, is_none, Result, Ok, Err}
+use Rattle.std.specs.List.{list_any}
+use Rattle.std.specs.Str.{bytes_eq}
+use Rattle.attr_core.specs.Templates.{template_named}
+use Rattle.desc_form.specs.declared.refusal.Place.TheVariants.{Invariant, Assign, FlowAt}
+use Rattle.desc_form.specs.declared.refusal.Refusal.{Refusal}
+use Rattle.desc_form.specs.declared.refusal.Why.TheVariants.{UnknownTemplate, UndeclaredHost, DuplicateAssign, BadAttribute, SelfFlow, DuplicateFlow}
+use Rattle.desc_form.specs.Firsts.{first_found, numbered, Numbered, first_pair}
+use Rattle.desc_hosts.specs.Mentions.{used_names}
+use Rattle.desc_core.specs.Network.{invariant_of}
+use Rattle.desc_hosts.specs.WrittenHosts.{hosts_of}
+use Rattle.desc_form.specs.Refusals.{refused, refused_by, refused_name}
+use Rattle.desc_form.specs.Written.{Written, WrittenInvariant}
+use Rattle.host_net.specs.Host.{Host}
+use Rattle.inv_any.specs.declared.any_inv.AnyInv.{AnyInv}
+use Rattle.table_core.specs.Listing.{◌>>=◌}
+
+-- 15: no template has the name
+unfoldable pub unknown_template : Written → Option Refusal
+unknown_template w =
+    option_map (λ i. refused UnknownTemplate (Invariant i.number)) (find (λ i. is_none (template_named i.what.template)) (numbered w.invariants))
+
+-- a host of the description has the name
+abbrev pub is_declared : Written → List ℕ → Bool
+is_declared w name = list_any (λ h. bytes_eq name h.name) w.hosts
+
+-- 16: no host has the name in an assign, then in a flow
+unfoldable pub undeclared_host : Written → Option Refusal
+undeclared_host w =
+    option_map (λ m. refused_name UndeclaredHost m.place m.item m.name) (find (λ m. not (is_declared w m.name)) (used_names w))
+
+abbrev pub duplicate_assign_of : Numbered WrittenInvariant → Option Refusal
+duplicate_assign_of i =
+    option_map (λ p. refused_by DuplicateAssign (Assign i.number p.later.number) p.earlier.number)
+    (first_pair (λ a b. bytes_eq a.what.host b.what.host) (numbered i.what.assigns))
+
+-- 17: an assign has the host of an earlier one of the same invariant
+unfoldable pub duplicate_assign : Written → Option Refusal
+duplicate_assign w = first_found duplicate_assign_of (numbered w.invariants)
+
+-- an invariant is refused at its first assign that says no attribute
+abbrev pub at_assign : ℕ → Result AnyInv ℕ → Option Refusal
+at_assign k (Ok inv) = None
+at_assign k (Err assign) = Some (refused BadAttribute (Assign k (assign + 1)))
+
+abbrev pub bad_attribute_of : List Host → Numbered WrittenInvariant → Option Refusal
+bad_attribute_of hosts i = invariant_of hosts i.what >>= at_assign i.number
+
+-- 18: the table of an assign says no attribute of the template
+unfoldable pub bad_attribute : Written → Option Refusal
+bad_attribute w = first_found (bad_attribute_of (hosts_of w)) (numbered w.invariants)
+
+-- 19: both names of a flow are the same
+unfoldable pub self_flow : Written → Option Refusal
+self_flow w = option_map (λ f. refused SelfFlow (FlowAt f.number)) (find (λ f. bytes_eq f.what.0 f.what.1) (numbered w.flows))
+
+abbrev pub same_names : List ℕ × List ℕ → List ℕ × List ℕ → Bool
+same_names f g = bytes_eq f.0 g.0 && bytes_eq f.1 g.1
+
+-- 20: a flow was listed before
+unfoldable pub duplicate_flow : Written → Option Refusal
+duplicate_flow w =
+    option_map (λ p. refused_by DuplicateFlow (FlowAt p.later.number) p.earlier.number)
+    (first_pair (λ f g. same_names f.what g.what) (numbered w.flows))
+
+-- the conditions in the order of their numbers, 15 to 20
+unfoldable pub use_conditions : Written → List (Option Refusal)
+use_conditions w =
+    unknown_template w
+    ∷ undeclared_host w
+    ∷ duplicate_assign w
+    ∷ bad_attribute w
+    ∷ self_flow w
+    ∷ duplicate_flow w
+    ∷ []

@@ -1,0 +1,43 @@
+-- That nothing of a description is passed over: its hosts, its invariants and its flows stand in the network, one for one.
+use Rattle.std.specs.Prelude.{◌≡◌, ℕ, true, false, List, length, Some, Ok}
+use Rattle.std.specs.List.{AllZip}
+use Rattle.toml.specs.Data.{Members}
+use Rattle.desc_core.specs.Document.{document}
+use Rattle.desc_core.specs.Flows.{flow_between}
+use Rattle.desc_core.specs.Network.{Network, invariant_of}
+use Rattle.desc_form.specs.Written.{Written, WrittenHost}
+use Rattle.desc_form.specs.WrittenForm.{IsWritten}
+use Rattle.flow_set.specs.FlowSet.{has, IsFull}
+use Rattle.flow_set.specs.declared.flow.Flow.{Flow}
+use Rattle.host_net.specs.Host.{Host}
+use Rattle.host_net.specs.Prefix.{prefix_of}
+
+-- the host is the written one, and each of its entries is a prefix
+pub record IsHostOf (h : WrittenHost) (host : Host) : Type 0 where
+  pub name : host.name ≡ h.name
+  pub prefixes : AllZip (λ text prefix. prefix_of text ≡ Some prefix) h.at host.prefixes
+  pub rest : host.rest ≡ h.rest
+
+-- the set has one flow for each pair of names, from the host of the first to the host of the second, and no other
+pub record IsSetOf (hosts : List Host) (pairs : List (List ℕ × List ℕ)) (asked : List Flow) : Type 0 where
+  pub flows : List Flow
+  pub each : AllZip (λ names flow. flow_between hosts names ≡ Some flow) pairs flows
+  pub same : (f : Flow) → has asked f ≡ has flows f
+  pub count : length asked ≡ length pairs
+
+-- the network has what is written, in the same order; where no flows are listed at all, every flow is asked for
+pub record IsWhole (w : Written) (d : Network) : Type 0 where
+  pub hosts : AllZip IsHostOf w.hosts d.hosts
+  pub invariants : AllZip (λ i invariant. invariant_of d.hosts i ≡ Some (Ok invariant)) w.invariants d.invariants
+  pub given : d.given ≡ w.given
+  pub answers : d.answers ≡ w.answers
+  pub listed : w.given ≡ true → IsSetOf d.hosts w.flows d.asked.flows
+  pub every : w.given ≡ false → IsFull (length d.hosts) d.asked.flows
+
+-- the bytes are a document, w is all that is written in it, and the network has all of w
+pub record IsDescribed (bytes : List ℕ) (d : Network) : Type 0 where
+  pub table : Members
+  pub document : document bytes ≡ Some table
+  pub w : Written
+  pub written : IsWritten table w
+  pub whole : IsWhole w d

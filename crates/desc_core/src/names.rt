@@ -1,0 +1,126 @@
+//! The refusals for names: of templates that are unknown, of hosts that are not declared, of hosts
+//! that an invariant has twice.
+ghost use Rattle.std.specs.Prelude.{◌≡◌, find, is_none, map, option_map, IfOk, IsTrue, None};
+ghost use Rattle.std.specs.List.{list_all};
+ghost use Rattle.std.specs.Str.{bytes_eq};
+ghost use Rattle.attr_core.specs.Templates.{template_named};
+ghost use Rattle.desc_core.specs.Parts.{name_conditions};
+ghost use Rattle.desc_core.specs.UseConditions.{duplicate_assign_of, undeclared_host};
+ghost use Rattle.desc_form.specs.Firsts.{first_found, first_of, first_pair, numbered};
+ghost use Rattle.desc_form.specs.Refusals.{refused, refused_by, refused_name};
+ghost use Rattle.desc_form.specs.Seen.{assign_seen, invariant_seen, written_seen};
+ghost use Rattle.desc_form.specs.declared.refusal.Place.TheVariants.{Assign, Invariant};
+ghost use Rattle.desc_form.specs.declared.refusal.Why.TheVariants.{DuplicateAssign, UndeclaredHost, UnknownTemplate};
+ghost use Rattle.desc_hosts.specs.HostConditions.{host_conditions};
+ghost use Rattle.desc_hosts.specs.MentionView.{mention_seen};
+ghost use Rattle.desc_hosts.specs.PairsSeen.{pair_seen};
+ghost use Rattle.desc_hosts.specs.WrittenHosts.{hosts_of};
+ghost use Rattle.host_net.specs.Host.{host_named};
+ghost use Rattle.host_net.specs.Name.{is_name};
+
+use attr_core::Template;
+use desc_form::{Place, Refusal, Why, Written, WrittenAssign, WrittenInvariant};
+use desc_hosts::{Mention, Pair, first_pair, used_names};
+use host_net::{Hosts, Name};
+use std::alloc::{AllocError, Global};
+
+/// The first refusal for names, with the hosts of the description.
+#[tactic(auto, unfolding(crate::specs::UseConditions::unknown_template, crate::specs::UseConditions::duplicate_assign))]
+pub(crate) fn name_refusal(
+    alloc: Global,
+    hosts: &Hosts,
+    written: &Written<'_>,
+) -> Result<Option<Refusal>, AllocError>
+    requires hosts { hosts.now ≡ hosts_of (written_seen written.now) }
+    requires unrefused { first_of (host_conditions (written_seen written.now)) ≡ None }
+    ensures { IfOk result (λ refusal. refusal ≡ first_of (name_conditions (written_seen written.now))) }
+{
+    let template = unknown_template(&written.invariants);
+    if template.is_some() {
+        return Ok(template);
+    }
+    let host = undeclared_host(alloc, hosts, written)?;
+    if host.is_some() {
+        return Ok(host);
+    }
+    Ok(duplicate_assign(&written.invariants))
+}
+
+/// No template has the name.
+fn unknown_template(invariants: &[WrittenInvariant<'_>]) -> Option<Refusal>
+    ensures { result ≡ option_map (λ i. refused UnknownTemplate (Invariant i.number)) (find (λ i. is_none (template_named i.what.template)) (numbered (map invariant_seen invariants.now))) }
+{
+    for (index, invariant) in invariants.iter().enumerate() {
+        if Template::named(invariant.template).is_none() {
+            let place = Place::Invariant(index as u64 + 1);
+            return Some(Refusal::at(Why::UnknownTemplate, place));
+        }
+    }
+    None
+}
+
+/// No host has the name, in an assign or in a flow.
+fn undeclared_host(
+    alloc: Global,
+    hosts: &Hosts,
+    written: &Written<'_>,
+) -> Result<Option<Refusal>, AllocError>
+    requires hosts { hosts.now ≡ hosts_of (written_seen written.now) }
+    requires unrefused { first_of (host_conditions (written_seen written.now)) ≡ None }
+    ensures { IfOk result (λ refusal. refusal ≡ undeclared_host (written_seen written.now)) }
+{
+    let names = used_names(alloc, written)?;
+    Ok(first_undeclared(hosts, &names))
+}
+
+fn first_undeclared(hosts: &Hosts, names: &[Mention<'_>]) -> Option<Refusal>
+    requires { IsTrue (list_all (λ m. is_name m.name) (map mention_seen names.now)) }
+    ensures { result ≡ option_map (λ m. refused_name UndeclaredHost m.place m.item m.name) (find (λ m. is_none (host_named hosts.now m.name)) (map mention_seen names.now)) }
+{
+    for mention in names {
+        if hosts.find(mention.name.as_bytes()).is_none() {
+            return Some(no_host(mention));
+        }
+    }
+    None
+}
+
+/// The refusal of a name that no host has.
+fn no_host(mention: &Mention<'_>) -> Refusal
+    requires { IsTrue (is_name mention.now.name.now) }
+    ensures { result ≡ refused_name UndeclaredHost mention.now.place mention.now.item mention.now.name.now }
+{
+    let name = Name::new(mention.name.as_bytes()).unwrap_or(Name::none());
+    let refusal = Refusal::at(Why::UndeclaredHost, mention.place);
+    refusal.with_item(mention.item).with_name(name)
+}
+
+/// An assign has the host of an earlier one of the same invariant.
+fn duplicate_assign(invariants: &[WrittenInvariant<'_>]) -> Option<Refusal>
+    ensures { result ≡ first_found duplicate_assign_of (numbered (map invariant_seen invariants.now)) }
+{
+    for (index, invariant) in invariants.iter().enumerate() {
+        let found = duplicate_in(index as u64 + 1, &invariant.assigns);
+        if found.is_some() {
+            return found;
+        }
+    }
+    None
+}
+
+/// The same among the assigns of the invariant with a number.
+fn duplicate_in(invariant: u64, assigns: &[WrittenAssign<'_>]) -> Option<Refusal>
+    ensures { result ≡ option_map (λ p. refused_by DuplicateAssign (Assign invariant p.later.number) p.earlier.number) (first_pair (λ a b. bytes_eq a.what.host b.what.host) (numbered (map assign_seen assigns.now))) }
+{
+    let pair = first_pair(assigns, |later, earlier| later.host == earlier.host);
+    barred_assign(invariant, pair)
+}
+
+/// The refusal for an assign that an earlier one bars.
+fn barred_assign(invariant: u64, pair: Option<Pair<'_, WrittenAssign<'_>>>) -> Option<Refusal>
+    ensures { result ≡ option_map (λ p. refused_by DuplicateAssign (Assign invariant p.later.number) p.earlier.number) (option_map pair_seen pair.entry) }
+{
+    let pair = pair?;
+    let place = Place::Assign(invariant, pair.later.number);
+    Some(Refusal::at(Why::DuplicateAssign, place).with_other(pair.earlier.number))
+}
