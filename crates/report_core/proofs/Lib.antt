@@ -1,0 +1,6 @@
+mod DenialLemmas
+mod LineLemmas
+mod OffenceLemmas
+mod Pushing
+mod RulingLemmas
+mod Worked

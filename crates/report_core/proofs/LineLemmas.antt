@@ -1,0 +1,82 @@
+-- Lines in the buffer: what is put without a piece, and how long the pieces of a refusal's line are.
+use Rattle.std.proofs.Common.{◌≡◌, ◌≢◌, ℕ, true, false, ◌==◌, zero, suc, ◌+◌, ◌<◌, ◌≤◌, ◌^◌, ◌∙◌, sym, ap, refl, List, [], ◌∷◌, ◌++◌, length, take, arith, append-nil, length-take, length-append}
+use Rattle.std.specs.Prelude.{codes, decimal}
+use Rattle.std.proofs.lemmas.Bool.{eqb-true}
+use Rattle.std.proofs.lemmas.Fmt.{length-decimal-le}
+use Rattle.desc_form.specs.Refusals.{name, number}
+use Rattle.desc_form.specs.declared.refusal.Refusal.{Refusal}
+use Rattle.desc_form.specs.declared.refusal.Why.{Why}
+use Rattle.desc_form.specs.declared.refusal.Why.TheVariants.{TooLong, NotToml, UnknownKey, MissingKey, WrongType, BadVersion, TooMany, BadName, DuplicateHost, BadPrefix, HostBits, NoAddress, TwoRests, Overlap, UnknownTemplate, UndeclaredHost, DuplicateAssign, BadAttribute, SelfFlow, DuplicateFlow}
+use Rattle.report_core.specs.RefusalLine.{cause_text, if_named, if_told, place_text, refusal_text}
+use Rattle.text_core.specs.Line.{cut}
+use Rattle.text_core.specs.LineLaws.{cut_whole}
+
+pub nothing_put : (at : ℕ) (buffer : List ℕ) → at ≤ 256 → take at buffer ≡ cut (take at buffer ++ [])
+nothing_put at buffer h =
+    let short : length (take at buffer) ≤ 256 = omega (arith, length-take at buffer) in
+    sym (ap cut (append-nil (take at buffer)) ∙ cut_whole (take at buffer) short)
+
+pub decimal_short : (n : ℕ) → n < 2 ^ 64 → length (decimal n) ≤ 20
+decimal_short n fits = length-decimal-le 20 n (omega arith) (omega (arith, fits)) fits
+
+-- a number that is told, and a name
+pub told : (word : List ℕ) (n : ℕ) → n ≢ 0 → if_told word n ≡ word ++ decimal n
+told word zero some = absurd (some refl)
+told word (suc k) some = refl
+
+pub told_short : (word : List ℕ) (n : ℕ) → n < 2 ^ 64 → length (if_told word n) ≤ length word + 20
+told_short word zero fits = omega arith
+told_short word (suc k) fits = simp length-append (omega (arith, decimal_short (suc k) fits))
+
+pub named : (name : List ℕ) → (length name == 0) ≡ false → if_named name ≡ codes ": " ++ name
+named [] some = cc
+named (b ∷ bs) some = refl
+
+pub unnamed : (name : List ℕ) → (length name == 0) ≡ true → if_named name ≡ []
+unnamed [] nothing = refl
+unnamed (b ∷ bs) some = absurd (omega (arith, eqb-true _ _ some))
+
+pub named_short : (name : List ℕ) → length name ≤ 32 → length (if_named name) ≤ 34
+named_short [] short = omega arith
+named_short (b ∷ bs) short = omega (arith, short)
+
+name_short : (why : Why) → length (name why) ≤ 15
+name_short TooLong = omega arith
+name_short NotToml = omega arith
+name_short UnknownKey = omega arith
+name_short MissingKey = omega arith
+name_short WrongType = omega arith
+name_short BadVersion = omega arith
+name_short TooMany = omega arith
+name_short BadName = omega arith
+name_short DuplicateHost = omega arith
+name_short BadPrefix = omega arith
+name_short HostBits = omega arith
+name_short NoAddress = omega arith
+name_short TwoRests = omega arith
+name_short Overlap = omega arith
+name_short UnknownTemplate = omega arith
+name_short UndeclaredHost = omega arith
+name_short DuplicateAssign = omega arith
+name_short BadAttribute = omega arith
+name_short SelfFlow = omega arith
+name_short DuplicateFlow = omega arith
+
+pub cause_short : (why : Why) → number why < 2 ^ 64 → length (cause_text why) ≤ 36
+unfolding cause_text
+cause_short why fits = simp length-append (omega (arith, decimal_short (number why) fits, name_short why))
+
+pub numbered_short : (word : List ℕ) (n : ℕ) → n < 2 ^ 64 → length (word ++ decimal n) ≤ length word + 20
+numbered_short word n fits = simp length-append (omega (arith, decimal_short n fits))
+
+-- the pieces of a refusal's line are short, so the line is
+pub record IsShort (r : Refusal) : Type 0 where
+  pub cause : length (cause_text r.why) ≤ 36
+  pub place : length (place_text r.place) ≤ 58
+  pub item : length (if_told (codes " item ") r.item) ≤ 26
+  pub other : length (if_told (codes ", other ") r.other) ≤ 28
+  pub name : length (if_named r.name) ≤ 34
+
+pub refusal_short : (r : Refusal) → IsShort r → length (refusal_text r) ≤ 256
+unfolding refusal_text
+refusal_short r short = simp length-append (omega (arith, short.cause, short.place, short.item, short.other, short.name))

@@ -1,0 +1,28 @@
+use Rattle.std.proofs.Common.{ℕ, Option, None, length, sym, ◌∙◌, subst}
+use Rattle.std.specs.Prelude.{IsTrue, IsFalse, IsSome}
+use Rattle.std.proofs.lemmas.Bool.{false≢true}
+use Rattle.flow_set.specs.FlowSet.{SetOfFlows, has}
+use Rattle.report_core.proofs.DenialLemmas.{IsFlow-in, denied}
+use Rattle.report_core.proofs.policy.ruling_of.Goals as goal
+
+pub has-requires : goal.has-requires
+has-requires c =
+    IsFlow-in (length c.args.description.now.hosts) c.args.flow c.stateful.result.now c.args.policy.now.stateful c.stateful.ensures.value
+    (c.requires.policy.stateful_size ∙ c.asked-asked.ensures.size) c.requires.flow
+
+pub has-requires-2 : goal.has-requires-2
+has-requires-2 c =
+    IsFlow-in (length c.args.description.now.hosts) c.args.flow c.permitted.result.now c.args.policy.now.permitted c.permitted.ensures.value
+    (c.requires.policy.permitted_size ∙ c.asked-asked.ensures.size) c.requires.flow
+
+pub unreachable-requires : goal.unreachable-requires
+unreachable-requires c =
+    let f = c.args.flow in
+    let wanted : IsTrue (has c.args.description.now.asked.flows f) =
+    subst (λ (s : SetOfFlows). IsTrue (has s.flows f)) c.asked-asked.ensures.value (sym c.has-3.ensures ∙ c.if-not-has.false) in
+    let left_out : IsFalse (has c.args.policy.now.permitted.flows f) =
+    subst (λ (s : SetOfFlows). IsFalse (has s.flows f)) c.permitted.ensures.value (sym c.has-2.ensures ∙ c.if-has-2.false) in
+    let blamed : IsSome c.in_ok-number.field-0 =
+    c.in_ok-number.ensures.denied (denied c.args.description.now c.args.policy.now f c.invariants.result.now c.permitted-2.result.now c.requires.policy c.invariants.ensures.value c.permitted-2.ensures.value wanted left_out) in
+    let nobody : IsSome {T = ℕ} None = subst (λ (o : Option ℕ). IsSome o) c.in-None.is blamed in
+    false≢true nobody

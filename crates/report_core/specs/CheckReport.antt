@@ -1,0 +1,44 @@
+-- The report of `check`: for each invariant whether it holds on the asked flows, and if not, which flows offend it.
+use Rattle.std.specs.Prelude.{◌≡◌, ℕ, ◌+◌, List, [], ◌∷◌, ◌++◌, flat_map, Option, None, Some, codes}
+use Rattle.desc_core.specs.Network.{Network}
+use Rattle.flow_set.specs.Conditions.{IsFirst}
+use Rattle.flow_set.specs.FlowSet.{without}
+use Rattle.flow_set.specs.declared.flow.Flow.{Flow}
+use Rattle.host_net.specs.Host.{Host}
+use Rattle.inv_any.specs.declared.any_inv.AnyInv.{AnyInv}
+use Rattle.policy_core.specs.Policies.{holds_on}
+use Rattle.report_core.specs.Names.{flow_text, invariant_text}
+
+-- what is told of an invariant: nothing where it holds on the flows, else the flows outside the first subset of them on which it holds
+abbrev pub IsOffence : (List Flow → Type 0) → List Flow → Option (List Flow) → Type 0
+IsOffence Holds asked None = Holds asked
+IsOffence Holds asked (Some offending) = (Holds asked → ⊥) × ((first : List Flow) × IsFirst Holds asked first × (offending ≡ without asked first))
+
+-- for each invariant in turn
+abbrev pub AreOffences : List AnyInv → List Flow → List (Option (List Flow)) → Type 0
+AreOffences [] asked [] = Unit {0}
+AreOffences [] asked (o ∷ os) = ⊥
+AreOffences (inv ∷ invs) asked [] = ⊥
+AreOffences (inv ∷ invs) asked (o ∷ os) = IsOffence (holds_on inv) asked o × AreOffences invs asked os
+
+-- a flow on a line of its own
+unfoldable pub offending_line : List Host → Flow → List ℕ
+offending_line hosts f = codes "  " ++ (flow_text hosts f ++ codes "\n")
+
+-- one line where the invariant holds; else one that says so, and one for each offending flow
+abbrev pub offence_text : List Host → ℕ → AnyInv → Option (List Flow) → List ℕ
+offence_text hosts number inv None = codes "invariant " ++ (invariant_text number inv ++ codes " ok\n")
+offence_text hosts number inv (Some offending) =
+    codes "invariant " ++ (invariant_text number inv ++ (codes " fails\n" ++ flat_map (offending_line hosts) offending))
+
+-- of all invariants, from a number on
+abbrev pub check_text : List Host → ℕ → List AnyInv → List (Option (List Flow)) → List ℕ
+check_text hosts number [] os = []
+check_text hosts number (inv ∷ invs) [] = []
+check_text hosts number (inv ∷ invs) (o ∷ os) = offence_text hosts number inv o ++ check_text hosts (number + 1) invs os
+
+-- the text is the report of the network
+pub record IsCheckReport (d : Network) (text : List ℕ) : Type 0 where
+  pub offences : List (Option (List Flow))
+  pub found : AreOffences d.invariants d.asked.flows offences
+  pub written : text ≡ check_text d.hosts 1 d.invariants offences

@@ -1,0 +1,8 @@
+-- Texts that grow piece by piece.
+use Rattle.std.specs.Prelude.{◌≡◌, ℕ, List, ◌++◌}
+
+-- the new text is the old one with such a piece behind it
+pub record Grows (IsPiece : List ℕ → Type 0) (old new : List ℕ) : Type 0 where
+  pub piece : List ℕ
+  pub is_piece : IsPiece piece
+  pub behind : new ≡ old ++ piece

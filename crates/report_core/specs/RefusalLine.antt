@@ -1,0 +1,39 @@
+-- The line that tells a refusal of a description.
+use Rattle.std.specs.Prelude.{ℕ, zero, suc, List, [], ◌∷◌, ◌++◌, codes, decimal}
+use Rattle.desc_form.specs.declared.refusal.Place.{Place}
+use Rattle.desc_form.specs.declared.refusal.Place.TheVariants.{Document, Host, Invariant, Assign, FlowAt}
+use Rattle.desc_form.specs.declared.refusal.Refusal.{Refusal}
+use Rattle.desc_form.specs.declared.refusal.Why.{Why}
+use Rattle.desc_form.specs.Refusals.{number, name}
+
+unfoldable pub place_text : Place → List ℕ
+place_text Document = codes "document"
+place_text (Host k) = codes "host " ++ decimal k
+place_text (Invariant k) = codes "invariant " ++ decimal k
+place_text (Assign k m) = codes "invariant " ++ (decimal k ++ (codes " assign " ++ decimal m))
+place_text (FlowAt k) = codes "flow " ++ decimal k
+
+-- a number behind a word, where there is one
+abbrev pub if_told : List ℕ → ℕ → List ℕ
+if_told word zero = []
+if_told word (suc k) = word ++ decimal (suc k)
+
+-- a name behind a colon, where there is one
+abbrev pub if_named : List ℕ → List ℕ
+if_named [] = []
+if_named (b ∷ bs) = codes ": " ++ b ∷ bs
+
+-- a cause by its number and its name: 11 HostBits
+unfoldable pub cause_text : Why → List ℕ
+cause_text why = decimal (number why) ++ (codes " " ++ name why)
+
+-- cause and place, then item, other and name where they are told
+unfoldable pub refusal_text : Refusal → List ℕ
+refusal_text r =
+    codes "topos: description: "
+    ++ (cause_text r.why
+    ++ (codes " at "
+    ++ (place_text r.place
+    ++ (if_told (codes " item ") r.item
+    ++ (if_told (codes ", other ") r.other
+    ++ (if_named r.name ++ codes "\n"))))))

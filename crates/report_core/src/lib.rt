@@ -1,0 +1,17 @@
+//! What is printed of a description: the report of its invariants, the report of its policy, and the
+//! line of a refusal.
+#![tactic(auto)]
+
+mod check;
+mod names;
+mod policy;
+mod refusal;
+mod report;
+mod ruling;
+#[cfg(test)]
+mod tests;
+
+pub use check::check_report;
+pub use policy::policy_report;
+pub use refusal::refusal_line;
+pub use report::Report;

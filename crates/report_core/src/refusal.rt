@@ -1,0 +1,103 @@
+//! The line of a refusal, written into a buffer and without memory.
+ghost use Rattle.std.specs.Prelude.{◌≡◌, ◌≤◌, ◌++◌, ◌+◌, length, take, decimal};
+ghost use Rattle.report_core.specs.RefusalLine.{cause_text, if_named, if_told, place_text, refusal_text};
+ghost use Rattle.text_core.specs.Line.{cut};
+
+use desc_core::{Place, Refusal, Why};
+use host_net::Name;
+use text_core::put;
+
+/// Writes the line of a refusal, with its newline, to the front of the buffer, and answers its
+/// length.
+pub fn refusal_line(refusal: &Refusal, buffer: &mut [u8; 256]) -> usize
+    ensures line { take result buffer.new ≡ refusal_text refusal.now }
+    ensures within { result ≤ 256 }
+{
+    let head = put(buffer, 0, b"topos: description: ");
+    let cause = put_cause(buffer, head, refusal.why);
+    let at = put(buffer, cause, b" at ");
+    let place = put_place(buffer, at, refusal.place);
+    let item = put_told(buffer, place, b" item ", refusal.item);
+    let other = put_told(buffer, item, b", other ", refusal.other);
+    let name = put_name(buffer, other, &refusal.name);
+    put(buffer, name, b"\n")
+}
+
+fn put_cause(buffer: &mut [u8; 256], at: usize, why: Why) -> usize
+    requires { at ≤ 256 }
+    ensures text { take result buffer.new ≡ cut (take at buffer.old ++ cause_text why) }
+    ensures within { result ≤ 256 }
+    ensures short { length (cause_text why) ≤ 36 }
+{
+    let number = put_number(buffer, at, why.number() as u64);
+    let blank = put(buffer, number, b" ");
+    put(buffer, blank, why.name().as_bytes())
+}
+
+#[tactic(auto, unfolding(crate::specs::RefusalLine::place_text))]
+fn put_place(buffer: &mut [u8; 256], at: usize, place: Place) -> usize
+    requires { at ≤ 256 }
+    ensures text { take result buffer.new ≡ cut (take at buffer.old ++ place_text place) }
+    ensures within { result ≤ 256 }
+    ensures short { length (place_text place) ≤ 58 }
+{
+    match place {
+        Place::Document => put(buffer, at, b"document"),
+        Place::Host(host) => put_numbered(buffer, at, b"host ", host),
+        Place::Invariant(invariant) => put_numbered(buffer, at, b"invariant ", invariant),
+        Place::Assign(invariant, assign) => {
+            let invariant = put_numbered(buffer, at, b"invariant ", invariant);
+            put_numbered(buffer, invariant, b" assign ", assign)
+        }
+        Place::FlowAt(flow) => put_numbered(buffer, at, b"flow ", flow),
+    }
+}
+
+// Puts a number behind its word, if it is told.
+fn put_told(buffer: &mut [u8; 256], at: usize, word: &[u8], number: u64) -> usize
+    requires { at ≤ 256 }
+    ensures text { take result buffer.new ≡ cut (take at buffer.old ++ if_told word.now number) }
+    ensures within { result ≤ 256 }
+    ensures short { length (if_told word.now number) ≤ length word.now + 20 }
+{
+    if number == 0 {
+        at
+    } else {
+        put_numbered(buffer, at, word, number)
+    }
+}
+
+// Puts a name behind a colon, if it is told.
+fn put_name(buffer: &mut [u8; 256], at: usize, name: &Name) -> usize
+    requires { at ≤ 256 }
+    ensures text { take result buffer.new ≡ cut (take at buffer.old ++ if_named name.now) }
+    ensures within { result ≤ 256 }
+    ensures short { length (if_named name.now) ≤ 34 }
+{
+    let bytes = name.bytes();
+    if bytes.is_empty() {
+        at
+    } else {
+        let colon = put(buffer, at, b": ");
+        put(buffer, colon, bytes)
+    }
+}
+
+fn put_numbered(buffer: &mut [u8; 256], at: usize, word: &[u8], number: u64) -> usize
+    requires { at ≤ 256 }
+    ensures text { take result buffer.new ≡ cut (take at buffer.old ++ (word.now ++ decimal number)) }
+    ensures within { result ≤ 256 }
+    ensures short { length (word.now ++ decimal number) ≤ length word.now + 20 }
+{
+    let word = put(buffer, at, word);
+    put_number(buffer, word, number)
+}
+
+fn put_number(buffer: &mut [u8; 256], at: usize, number: u64) -> usize
+    requires { at ≤ 256 }
+    ensures text { take result buffer.new ≡ cut (take at buffer.old ++ decimal number) }
+    ensures within { result ≤ 256 }
+{
+    let mut digits = itoa::Buffer::new();
+    put(buffer, at, digits.format(number).as_bytes())
+}
