@@ -2,6 +2,8 @@ pub mod Command
 pub mod CommandView
 pub mod StatusNumber
 pub mod Reply
+pub mod Ends
+pub mod ReplyLaws
 pub mod Ending
 pub mod Seen
 pub mod Taken

@@ -3,10 +3,11 @@ use Rattle.std.specs.Prelude.{◌≡◌, ℕ, ◌+◌, ◌⊎◌, List, [], ◌�
 use Rattle.std.specs.FinMap.{get}
 use Rattle.edge_io.specs.Counts.{more, Rose}
 use Rattle.edge_io.specs.Told.{Files, Lacks}
-use Rattle.desc_core.specs.Description.{Described}
+use Rattle.desc_core.specs.Network.{Network}
 use Rattle.desc_core.specs.declared.fault.TheConstants.{MOST_BYTES}
-use Rattle.topos_top.specs.Command.{Command, Rules, command_of}
-use Rattle.topos_top.specs.Reply.{Reply, Usage, Memory, Sight, description_in, reply_of}
+use Rattle.topos_top.specs.Command.{Command, file_of, command_of}
+use Rattle.topos_top.specs.Ends.{Replies}
+use Rattle.topos_top.specs.Reply.{Reply, Usage, Memory, Sight, description_in}
 
 -- A shelf before a call and after it.
 pub record ShelfChange : Type 0 where
@@ -40,11 +41,11 @@ SawFiles shelf seen (name ∷ names) = SawFile shelf name (seen name) × SawFile
 -- The files that a command begins when it sees them so, in their order: a later one only behind
 -- those that are accepted.
 abbrev pub files_begun : Command → Sight → List (List ℕ)
-files_begun (Rules file) seen = file ∷ []
+files_begun command seen = file_of command ∷ []
 
 -- How many bytes of the last begun file are taken: all, or one more than its limit.
 abbrev pub bytes_taken : Command → Sight → Option ℕ
-bytes_taken (Rules file) seen = option_map (λ bytes. min (length bytes) (MOST_BYTES + 1)) (seen file)
+bytes_taken command seen = option_map (λ bytes. min (length bytes) (MOST_BYTES + 1)) (seen (file_of command))
 
 -- The call saw its files so: it began these and no others, and took their bytes.
 pub record Saw (shelf : ShelfChange) (command : Command) (seen : Sight) : Type 0 where
@@ -54,7 +55,7 @@ pub record Saw (shelf : ShelfChange) (command : Command) (seen : Sight) : Type 0
 
 -- A command may give want of memory, or its reply to the files as the call saw them.
 abbrev pub MayReply : Command → ShelfChange → Reply → Type 0
-MayReply command shelf reply = (reply ≡ Memory) ⊎ ((seen : Sight) × Saw shelf command seen × (reply ≡ reply_of command seen))
+MayReply command shelf reply = (reply ≡ Memory) ⊎ ((seen : Sight) × Saw shelf command seen × Replies command seen reply)
 
 -- Words that are no form of the command line give the usage, and begin no file.
 abbrev pub MayGiveBy : Option Command → ShelfChange → Reply → Type 0
@@ -66,7 +67,7 @@ MayGive words shelf reply = MayGiveBy (command_of words) shelf reply
 
 -- A description that is read of a file: there may be no memory for it, or it is what the file, as the
 -- call saw it, describes.
-abbrev pub MayDescribe : (file : List ℕ) → ShelfChange → Result Described Reply → Type 0
+abbrev pub MayDescribe : (file : List ℕ) → ShelfChange → Result Network Reply → Type 0
 MayDescribe file shelf outcome =
     (outcome ≡ Err Memory)
     ⊎ ((saw : Option (List ℕ)) × SawFile shelf file saw × IfSome saw (λ bytes. shelf.taken_after ≡ min (length bytes) (MOST_BYTES + 1)) × (outcome ≡ description_in file saw))

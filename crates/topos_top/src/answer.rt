@@ -1,17 +1,18 @@
-//! What the program answers to its words, before anything is written: each file is read and then
-//! parsed in the order of the words, and the first thing that fails ends the run.
+//! What the program answers to its words, before anything is written: the file is read, then its
+//! description, and then the command is done. The first thing that fails ends the run.
 
 ghost use Rattle.std.specs.Prelude.{◌≡◌, None, map, string_bytes};
-ghost use Rattle.topos_top.specs.AnswerView.{reply_view, reply_in};
-ghost use Rattle.topos_top.specs.Command.{Rules, command_of};
+ghost use Rattle.topos_top.specs.AnswerView.{reply_view, reply_in, text_view};
+ghost use Rattle.topos_top.specs.Command.{command_of};
 ghost use Rattle.topos_top.specs.CommandView.{command_view};
 ghost use Rattle.topos_top.specs.Seen.{shelf_change, MayGive, MayReply};
 
 use crate::command::{Command, command_of_words};
+use crate::commands::answer_on;
 use crate::reading::description_at;
-use crate::rules::rules_text;
-use desc_core::DescFault;
+use desc_core::Refusal;
 use edge_io::Shelf;
+use report_core::Report;
 use std::alloc::{AllocError, Global};
 
 /// What the program answers.
@@ -22,11 +23,35 @@ pub enum Answer<'a> {
     /// This file cannot be read.
     CannotRead(&'a str),
     /// The description is refused.
-    Refused(DescFault),
+    Refused(Refusal),
+    /// A listed policy breaks an invariant. The report goes to the error stream.
+    Violated(Report),
+    /// The asked flows break an invariant. The report goes to the output.
+    Reported(Report),
     /// This text goes to the output.
-    Done(Vec<u8>),
+    Done(Text),
     /// There is not enough memory.
     Memory,
+}
+
+/// A text for the output.
+#[derive(Drop)]
+pub enum Text {
+    /// A report.
+    Report(Report),
+    /// The rules of a policy.
+    Rules(Vec<u8>),
+}
+
+impl Text {
+    pub fn bytes(&self) -> &[u8]
+        ensures { result.now ≡ text_view self.now }
+    {
+        match self {
+            Text::Report(report) => report.bytes(),
+            Text::Rules(rules) => rules,
+        }
+    }
 }
 
 /// The answer to the words, with the files taken off the shelf.
@@ -55,23 +80,8 @@ fn reply<'a, H: Shelf>(
     ensures reply { MayReply (command_view command.entry)
         (shelf_change H.files H.faults H.begins H.taken shelf.old shelf.new) (reply_in result) }
 {
-    match command {
-        Command::Rules(file) => rules(alloc, file, shelf),
-    }
-}
-
-/// `rules iptables FILE`.
-fn rules<'a, H: Shelf>(
-    alloc: Global,
-    file: &'a str,
-    shelf: &mut H,
-) -> Result<Answer<'a>, Answer<'a>>
-    ensures same_files { H.files shelf.new ≡ H.files shelf.old }
-    ensures reply { MayReply (Rules file.now)
-        (shelf_change H.files H.faults H.begins H.taken shelf.old shelf.new) (reply_in result) }
-{
-    let description = description_at(alloc, file, shelf)?;
-    Ok(Answer::Done(rules_text(alloc, &description)?))
+    let description = description_at(alloc, command.file(), shelf)?;
+    Ok(answer_on(alloc, command, &description)?)
 }
 
 impl<'a> From<AllocError> for Answer<'a> {

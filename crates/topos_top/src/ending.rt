@@ -1,22 +1,24 @@
 //! How an answer ends the run: its text goes to the output, its line to the error stream.
 
-ghost use Rattle.std.specs.Prelude.{◌≡◌};
-ghost use Rattle.topos_top.specs.AnswerView.{reply_view};
+ghost use Rattle.std.specs.Prelude.{◌≡◌, [], is_some, IfSome, IfNone};
 ghost use Rattle.std.specs.List.{flat_map};
-ghost use Rattle.topos_top.specs.Ending.{status_of, err_of, line_behind, refusal_text};
+ghost use Rattle.report_core.specs.RefusalLine.{refusal_text};
+ghost use Rattle.topos_top.specs.AnswerView.{reply_view};
+ghost use Rattle.topos_top.specs.Ending.{status_of, out_of, has_output, err_of, line_behind, usage_text};
 ghost use Rattle.topos_top.specs.Taken.{sink_change, IsWritten, IsSaid};
 
 use crate::answer::Answer;
 use crate::status::Status;
-use desc_core::DescFault;
+use desc_core::Refusal;
 use edge_io::{Sink, put_all, put_pieces};
+use report_core::refusal_line;
 
 /// Writes the answer, and says how the run ended. A failure of `err` changes nothing else.
 pub fn give<O: Sink, E: Sink>(answer: &Answer<'_>, out: &mut O, err: &mut E) -> Status
     ensures written { IsWritten (sink_change O.held O.faults out.old out.new) (reply_view answer.now) result }
     ensures said { IsSaid (sink_change E.held E.faults err.old err.new) (line_behind (reply_view answer.now) result) }
 {
-    if let Answer::Done(text) = answer
+    if let Some(text) = output_of(answer)
         && put_all(out, text).is_err()
     {
         say(err, &[b"topos: cannot write\n"]);
@@ -26,6 +28,19 @@ pub fn give<O: Sink, E: Sink>(answer: &Answer<'_>, out: &mut O, err: &mut E) -> 
     status_of(answer)
 }
 
+/// The bytes for the output, where there are any.
+fn output_of<'a>(answer: &'a Answer<'_>) -> Option<&'a [u8]>
+    ensures some { IfSome result (λ text. text.now ≡ out_of (reply_view answer.now)) }
+    ensures none { is_some result ≡ has_output (reply_view answer.now) }
+    ensures nothing { IfNone result (out_of (reply_view answer.now) ≡ []) }
+{
+    match answer {
+        Answer::Reported(report) => Some(report.bytes()),
+        Answer::Done(text) => Some(text.bytes()),
+        _ => None,
+    }
+}
+
 fn status_of(answer: &Answer<'_>) -> Status
     ensures { result ≡ status_of (reply_view answer.now) }
 {
@@ -33,6 +48,7 @@ fn status_of(answer: &Answer<'_>) -> Status
         Answer::Usage => Status::Usage,
         Answer::CannotRead(_) => Status::ReadFault,
         Answer::Refused(_) => Status::BadDescription,
+        Answer::Violated(_) | Answer::Reported(_) => Status::Violated,
         Answer::Done(_) => Status::Done,
         Answer::Memory => Status::Memory,
     }
@@ -43,30 +59,41 @@ fn explain<E: Sink>(answer: &Answer<'_>, err: &mut E)
     ensures { IsSaid (sink_change E.held E.faults err.old err.new) (err_of (reply_view answer.now)) }
 {
     match answer {
-        Answer::Usage => say(err, &[b"usage: topos rules iptables FILE\n"]),
+        Answer::Usage => say_usage(err),
         Answer::CannotRead(file) => say(err, &[b"topos: cannot read ", file.as_bytes(), b"\n"]),
-        Answer::Refused(why) => say(
-            err,
-            &[b"topos: description: ", refusal(why), b" at document\n"],
-        ),
-        Answer::Done(_) => {}
+        Answer::Refused(why) => say_refusal(err, why),
+        Answer::Violated(report) => say(err, &[report.bytes()]),
+        Answer::Reported(_) | Answer::Done(_) => {}
         Answer::Memory => say(err, &[b"topos: out of memory\n"]),
     }
 }
 
-/// The number and the name of a refusal.
-fn refusal(why: &DescFault) -> &'static [u8]
-    ensures { result.now ≡ refusal_text why.now }
+/// The forms of the command line.
+#[tactic(auto, unfolding(crate::specs::Ending::usage_text))]
+fn say_usage<E: Sink>(err: &mut E)
+    ensures { IsSaid (sink_change E.held E.faults err.old err.new) usage_text }
 {
-    match why {
-        DescFault::TooLong => b"1 TooLong",
-        DescFault::NotToml => b"2 NotToml",
-        DescFault::NotBuilt => b"0 NotBuilt",
-        DescFault::Memory => b"",
-    }
+    say(
+        err,
+        &[
+            b"usage: topos check FILE\n",
+            b"       topos policy FILE\n",
+            b"       topos rules iptables FILE\n",
+            b"       topos repair iptables FILE\n",
+        ],
+    );
 }
 
-/// Puts a line on `err`, whose failure changes no answer.
+/// The line of a refusal.
+fn say_refusal<E: Sink>(err: &mut E, why: &Refusal)
+    ensures { IsSaid (sink_change E.held E.faults err.old err.new) (refusal_text why.now) }
+{
+    let mut line = [0; 256];
+    let length = refusal_line(why, &mut line);
+    say(err, &[&line[..length]]);
+}
+
+/// Puts a text on `err`, whose failure changes no answer.
 fn say<E: Sink>(err: &mut E, pieces: &[&[u8]])
     ensures { IsSaid (sink_change E.held E.faults err.old err.new) (flat_map (λ piece. piece.now) pieces.now) }
 {

@@ -1,9 +1,10 @@
 //! Everything that the program does, over any shelf of files and any two sinks of bytes. The words
-//! give a command, the command an answer from its files, and the answer its ending.
+//! give a command, the command an answer from its file, and the answer its ending.
 #![tactic(auto)]
 
 mod answer;
 mod command;
+mod commands;
 mod ending;
 mod program;
 mod reading;

@@ -4,7 +4,7 @@ ghost use Rattle.std.specs.Prelude.{◌≡◌, ◌≢◌, ◌↔◌, None, map, 
 ghost use Rattle.edge_io.specs.Counts.{Rose};
 ghost use Rattle.topos_top.specs.Command.{command_of};
 ghost use Rattle.topos_top.specs.Ending.{line_behind};
-ghost use Rattle.topos_top.specs.Promises.{LacksFile, HasBadDescription, WroteRules, IsComplete};
+ghost use Rattle.topos_top.specs.Promises.{LacksFile, HasBadDescription, IsViolated, WroteText, KeepsPromise, IsComplete, EndsAsTold};
 ghost use Rattle.topos_top.specs.Reply.{Reply};
 ghost use Rattle.topos_top.specs.Seen.{shelf_change, MayGive};
 ghost use Rattle.topos_top.specs.Taken.{sink_change, IsWritten, IsSaid};
@@ -15,7 +15,7 @@ use crate::status::Status;
 use edge_io::{Shelf, Sink};
 use std::alloc::Global;
 
-/// Does what the words ask for: takes the files off the shelf, writes the text to `out`, and says on
+/// Does what the words ask for: takes the file off the shelf, writes the text to `out`, and says on
 /// `err` why there is none. All memory is taken before the first byte is written.
 pub fn run<H: Shelf, O: Sink, E: Sink>(
     alloc: Global,
@@ -38,18 +38,33 @@ pub fn run<H: Shelf, O: Sink, E: Sink>(
 
     // Each other answer has its cause.
     ensures read_fault { result ≡ Status.ReadFault → LacksFile (map string_bytes words.now)
-        (shelf_change H.files H.faults H.begins H.taken shelf.old shelf.new) }
+        (shelf_change H.files H.faults H.begins H.taken shelf.old shelf.new)
+        (sink_change E.held E.faults err.old err.new) }
     ensures bad_description { result ≡ Status.BadDescription → HasBadDescription (map string_bytes words.now)
-        (shelf_change H.files H.faults H.begins H.taken shelf.old shelf.new) }
+        (shelf_change H.files H.faults H.begins H.taken shelf.old shelf.new)
+        (sink_change E.held E.faults err.old err.new) }
+    ensures violated { result ≡ Status.Violated → IsViolated (map string_bytes words.now)
+        (shelf_change H.files H.faults H.begins H.taken shelf.old shelf.new)
+        (sink_change O.held O.faults out.old out.new) (sink_change E.held E.faults err.old err.new) }
     ensures write_fault { result ≡ Status.WriteFault → Rose (O.faults out.old) (O.faults out.new) }
-    ensures done { result ≡ Status.Done → WroteRules (map string_bytes words.now)
+    ensures done { result ≡ Status.Done → WroteText (map string_bytes words.now)
         (shelf_change H.files H.faults H.begins H.taken shelf.old shelf.new) (sink_change O.held O.faults out.old out.new) }
 
-    // Where nothing is written, the output is as it was.
-    ensures untouched { result ≢ Status.Done → result ≢ Status.WriteFault → O.held out.new ≡ O.held out.old }
+    // The headline: rules that are written forward exactly what the policy expects, over every list
+    // of packets and forgettings, and the policy meets every invariant and is the first that does.
+    ensures headline { result ≡ Status.Done → KeepsPromise (map string_bytes words.now)
+        (shelf_change H.files H.faults H.begins H.taken shelf.old shelf.new) (sink_change O.held O.faults out.old out.new) }
 
-    // The words and the told files decide what is given.
+    // Where nothing is written, the output is as it was. What the Violated of `check` writes stands
+    // in the clause above.
+    ensures untouched { result ≢ Status.Done → result ≢ Status.WriteFault → result ≢ Status.Violated
+        → O.held out.new ≡ O.held out.old }
+
+    // The words and the told files decide what is given, and how the run ends.
     ensures complete { IsComplete (map string_bytes words.now)
+        (shelf_change H.files H.faults H.begins H.taken shelf.old shelf.new)
+        (sink_change O.held O.faults out.old out.new) (sink_change E.held E.faults err.old err.new) result }
+    ensures ends_as_told { EndsAsTold (map string_bytes words.now)
         (shelf_change H.files H.faults H.begins H.taken shelf.old shelf.new) (sink_change O.held O.faults out.old out.new) result }
 {
     let answer = answer_to(alloc, words, shelf);

@@ -1,4 +1,4 @@
-//! Reading and then parsing the files that the words name.
+//! Reading a file and then the description that is in it.
 
 ghost use Rattle.std.specs.Prelude.{◌≡◌, ◌⊎◌, Err};
 ghost use Rattle.edge_io.specs.Counts.{more};
@@ -8,7 +8,7 @@ ghost use Rattle.topos_top.specs.Reply.{Memory as MemoryReply, or_refused};
 ghost use Rattle.topos_top.specs.Seen.{shelf_change, MayDescribe};
 
 use crate::answer::Answer;
-use desc_core::{DescFault, Description, MOST_BYTES, describe};
+use desc_core::{DescFault, Description, MOST_BYTES, Place, Refusal, Why, describe};
 use edge_io::{Shelf, TakeFault, take_all};
 use std::alloc::Global;
 
@@ -26,7 +26,7 @@ pub fn description_at<'a, H: Shelf>(
     match take_all(alloc, shelf, file, MOST_BYTES) {
         Ok(bytes) => description_in(alloc, &bytes),
         Err(TakeFault::Read) => Err(Answer::CannotRead(file)),
-        Err(TakeFault::TooLong) => Err(Answer::Refused(DescFault::TooLong)),
+        Err(TakeFault::TooLong) => Err(Answer::Refused(Refusal::at(Why::TooLong, Place::Document))),
         Err(TakeFault::Memory) => Err(Answer::Memory),
     }
 }
@@ -37,7 +37,7 @@ fn description_in<'a>(alloc: Global, bytes: &[u8]) -> Result<Description, Answer
 {
     match describe(alloc, bytes) {
         Ok(description) => Ok(description),
+        Err(DescFault::Refused(why)) => Err(Answer::Refused(why)),
         Err(DescFault::Memory) => Err(Answer::Memory),
-        Err(why) => Err(Answer::Refused(why)),
     }
 }

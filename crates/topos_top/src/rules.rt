@@ -2,22 +2,25 @@
 
 ghost use Rattle.std.specs.Prelude.{◌≡◌, IfOk};
 ghost use Rattle.ipt_rules.specs.Text.{text};
-ghost use Rattle.topos_top.specs.Reply.{rules_of};
+ghost use Rattle.topos_top.specs.Ends.{IsRules};
 
 use desc_core::Description;
 use emit_core::emit_iptables;
-use flow_set::FlowSet;
 use ipt_rules::Ruleset;
+use policy_core::policy_of;
 use std::alloc::{AllocError, Global};
 
-/// The rules of a description as one text.
-#[tactic(auto, unfolding(crate::specs::Reply::rules_of))]
+/// The rules of the policy of a description, as one text.
 pub fn rules_text(alloc: Global, description: &Description) -> Result<Vec<u8>, AllocError>
-    ensures { IfOk result (λ bytes. bytes.items ≡ rules_of description.now) }
+    ensures { IfOk result (λ bytes. IsRules description.now bytes.items) }
 {
-    let hosts = description.hosts();
-    let no_answers = FlowSet::empty(alloc, hosts.count())?;
-    let rules = emit_iptables(alloc, hosts, description.asked(), &no_answers)?;
+    let policy = policy_of(alloc, description)?;
+    let rules = emit_iptables(
+        alloc,
+        description.hosts(),
+        policy.permitted(),
+        policy.stateful(),
+    )?;
     text_of(alloc, &rules)
 }
 

@@ -15,4 +15,4 @@ pub returns-in-Err-TooLong-clause-description : goal.returns-in-Err-TooLong-clau
 returns-in-Err-TooLong-clause-description g c =
     let shelf = shelf_change g.H.Shelf.files g.H.Shelf.faults g.H.Shelf.begins g.H.Shelf.taken c.args.shelf.now c.take_all.new.shelf in
     let ensures = c.in-Err-TooLong.ensures in
-    described_too_long c.args.file.now shelf (ensures.longer (ap (λ why. Err why) c.in-Err-TooLong.field-0-is)) (ensures.too_long.0 (ap (λ why. Err why) c.in-Err-TooLong.field-0-is))
+    rw c.before.at.ensures (described_too_long c.args.file.now shelf (ensures.longer (ap (λ why. Err why) c.in-Err-TooLong.field-0-is)) (ensures.too_long.0 (ap (λ why. Err why) c.in-Err-TooLong.field-0-is)))
