@@ -1,0 +1,7 @@
+//! The rules of a description over lists of packets and forgettings, from a start without connections.
+//! The crate has tests alone: that the layout forwards what is expected is proved in `emit_core`, and
+//! these are the worked lists of events.
+#![tactic(auto)]
+
+#[cfg(test)]
+mod tests;
