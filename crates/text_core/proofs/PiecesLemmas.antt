@@ -5,7 +5,7 @@ use Rattle.std.specs.List.{position, position_or_len}
 use Rattle.std.proofs.lemmas.List.{take_all}
 use Rattle.std.proofs.lemmas.List.Quantifiers.{position-Some}
 use Rattle.text_core.specs.Pieces.{split_once}
-use Rattle.text_core.specs.PiecesLaws.{lacks, split_once_none}
+use Rattle.text_core.specs.PiecesLaws.{lacks}
 
 pub split_at_place : (mark i : ℕ) (bs : List ℕ) → i < length bs → nat_eq (get_or bs i 0) mark ≡ true → ((k : ℕ) → k < i → nat_eq (get_or bs k 0) mark ≡ false) → split_once mark bs ≡ Some (take i bs, drop (suc i) bs)
 split_at_place mark i [] h here before = absurd (omega arith)
@@ -24,8 +24,8 @@ lacks_far mark (b ∷ bs) h =
 past_end : (mark : ℕ) (bs : List ℕ) → position (λ b. b == mark) bs ≡ None → length bs ≤ position_or_len (λ b. b == mark) bs
 past_end mark bs h = grind (arith, nat_tests)
 
-pub split_nowhere : (mark : ℕ) (bs : List ℕ) → position (λ b. b == mark) bs ≡ None → split_once mark bs ≡ None
-split_nowhere mark bs h = split_once_none mark bs (lacks_far mark bs (past_end mark bs h))
+pub nowhere_lacks : (mark : ℕ) (bs : List ℕ) → position (λ b. b == mark) bs ≡ None → lacks mark bs ≡ true
+nowhere_lacks mark bs h = lacks_far mark bs (past_end mark bs h)
 
 -- the same with the place that a search gives, in the code's words
 pub split_somewhere : (mark at : ℕ) (bs : List ℕ) → position (λ b. b == mark) bs ≡ Some at → Some (take at bs, take (length bs - (at + 1)) (drop (at + 1) bs)) ≡ split_once mark bs

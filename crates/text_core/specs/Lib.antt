@@ -2,6 +2,7 @@ pub mod Decimal
 pub mod DecimalLaws
 pub mod Line
 pub mod LineLaws
+pub mod Name
 pub mod Pieces
 pub mod PiecesLaws
 pub mod Steps

@@ -1,5 +1,5 @@
 -- Laws of lines: pieces that are cut one after another are the whole text, cut once.
-use Rattle.std.proofs.Common.{◌≡◌, ℕ, zero, suc, ◌≤◌, List, [], ◌∷◌, ◌++◌, take, length, refl, ap, arith, length-take}
+use Rattle.std.proofs.Common.{◌≡◌, ℕ, zero, suc, ◌≤◌, ◌∙◌, List, [], ◌∷◌, ◌++◌, take, length, refl, sym, ap, arith, append-nil, length-take}
 use Rattle.std.proofs.lemmas.List.{take_all}
 use Rattle.text_core.specs.Line.{cut}
 
@@ -20,3 +20,9 @@ cut_whole a fits = take_all 256 a fits
 pub length_cut : (a : List ℕ) → length (cut a) ≤ 256
 unfolding cut
 length_cut a = omega (arith, length-take 256 a)
+
+-- a piece of no bytes leaves the line as it was
+pub nothing_put : (at : ℕ) (buffer : List ℕ) → at ≤ 256 → take at buffer ≡ cut (take at buffer ++ [])
+nothing_put at buffer h =
+    let short : length (take at buffer) ≤ 256 = omega (arith, length-take at buffer) in
+    sym (ap cut (append-nil (take at buffer)) ∙ cut_whole (take at buffer) short)

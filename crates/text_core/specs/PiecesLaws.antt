@@ -1,7 +1,9 @@
 -- Laws of cutting: a text is put together again, and what was put together is cut where it was.
-use Rattle.std.proofs.Common.{◌≡◌, ℕ, Bool, cond, true, false, nat_eq, ◌==◌, not, ◌&&◌, List, [], ◌∷◌, ◌++◌, Option, Some, None, refl, ap, ◌∙◌, arith}
+use Rattle.std.proofs.Common.{◌≡◌, ◌≢◌, ℕ, Bool, cond, true, false, nat_eq, ◌==◌, not, ◌&&◌, List, [], ◌∷◌, ◌++◌, Option, Some, None, refl, sym, ap, ◌∙◌, arith}
 use Rattle.std.specs.Option.{option_map}
+use Rattle.std.specs.List.{All}
 use Rattle.std.proofs.lemmas.Bool.Decides.{nat_tests}
+use Rattle.std.proofs.lemmas.List.Elements.{All-nil, All-cons}
 use Rattle.text_core.specs.Pieces.{split_once}
 
 -- no byte of the text is the mark
@@ -55,3 +57,31 @@ pub split_once_joined : (mark : ℕ) (bs front rest : List ℕ) → split_once m
 split_once_joined mark [] front rest h = cc
 split_once_joined mark (b ∷ bs) front rest h =
     joined_by_first mark b bs front rest (split_once mark bs) (nat_eq b mark) (λ f g. split_once_joined mark bs f g) refl h
+
+differs : (b mark : ℕ) → nat_eq b mark ≡ false → b ≢ mark
+differs b mark other same = grind (arith, nat_tests)
+
+-- the same in std's words
+pub lacks_all : (mark : ℕ) (bs : List ℕ) → lacks mark bs ≡ true → All (λ b. b ≢ mark) bs
+lacks_all mark [] h = All-nil (λ b. b ≢ mark)
+lacks_all mark (b ∷ bs) h =
+    let parts = lacks_parts mark b bs h in
+    All-cons (λ b. b ≢ mark) b bs (differs b mark parts.0) (lacks_all mark bs parts.1)
+
+front_behind : (mark b : ℕ) (front rest : List ℕ) (r : Option (List ℕ × List ℕ)) → nat_eq b mark ≡ false → ((f g : List ℕ) → r ≡ Some (f, g) → lacks mark f ≡ true) → option_map (behind b) r ≡ Some (front, rest) → lacks mark front ≡ true
+front_behind mark b front rest None other before h = cc
+front_behind mark b front rest (Some p) other before h =
+    let same : behind b p ≡ (front, rest) = cc in
+    ap (λ q. lacks mark q.0) (sym same) ∙ rw (other, before p.0 p.1 refl) refl
+
+front_by_first : (mark b : ℕ) (bs front rest : List ℕ) (r : Option (List ℕ × List ℕ)) (t : Bool) → ((f g : List ℕ) → r ≡ Some (f, g) → lacks mark f ≡ true) → nat_eq b mark ≡ t → cond {A = Option (List ℕ × List ℕ)} t (Some ([], bs)) (option_map (behind b) r) ≡ Some (front, rest) → lacks mark front ≡ true
+front_by_first mark b bs front rest r true before e h =
+    let same : ◌≡◌ {A = List ℕ × List ℕ} ([], bs) (front, rest) = cc in
+    ap (λ q. lacks mark q.0) (sym same)
+front_by_first mark b bs front rest r false before e h = front_behind mark b front rest r e before h
+
+-- the first part has no mark
+pub split_once_front : (mark : ℕ) (bs front rest : List ℕ) → split_once mark bs ≡ Some (front, rest) → lacks mark front ≡ true
+split_once_front mark [] front rest h = cc
+split_once_front mark (b ∷ bs) front rest h =
+    front_by_first mark b bs front rest (split_once mark bs) (nat_eq b mark) (λ f g. split_once_front mark bs f g) refl h

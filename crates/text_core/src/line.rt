@@ -4,7 +4,8 @@
 ghost use Rattle.std.specs.Prelude.{◌≡◌, ◌≤◌, ◌++◌, take, decimal};
 ghost use Rattle.text_core.specs.Line.{cut};
 
-/// Puts a piece behind the first `at` bytes, and answers where the text now ends.
+/// Puts a piece behind the first `at` bytes, and answers where the text now ends. What the buffer
+/// holds behind that place is left open.
 pub fn put(buffer: &mut [u8; 256], at: usize, piece: &[u8]) -> usize
     requires { at ≤ 256 }
     ensures text { take result buffer.new ≡ cut (take at buffer.old ++ piece.now) }
@@ -15,8 +16,8 @@ pub fn put(buffer: &mut [u8; 256], at: usize, piece: &[u8]) -> usize
     at + fits
 }
 
-/// Puts a number in decimal digits behind the first `at` bytes, and answers where the text now ends.
-pub fn put_number(buffer: &mut [u8; 256], at: usize, number: u32) -> usize
+/// Puts a number in decimal digits behind the first `at` bytes, as `put` does.
+pub fn put_number(buffer: &mut [u8; 256], at: usize, number: u64) -> usize
     requires { at ≤ 256 }
     ensures text { take result buffer.new ≡ cut (take at buffer.old ++ decimal number) }
     ensures within { result ≤ 256 }

@@ -1,12 +1,17 @@
 //! Cutting a text at a mark.
 
-ghost use Rattle.std.specs.Prelude.{◌≡◌, ◌==◌, position};
+ghost use Rattle.std.specs.Prelude.{◌≡◌, ◌≢◌, ◌==◌, ◌∷◌, ◌++◌, All, IfNone, IfSome, position};
 ghost use Rattle.std.specs.Option.{option_map};
 ghost use Rattle.text_core.specs.Pieces.{split_once};
 
 /// The text before the first `mark` and the text behind it, or None where no `mark` stands in it.
 pub fn split_once(text: &[u8], mark: u8) -> Option<(&[u8], &[u8])>
-    ensures { option_map (λ parts. (parts.0.now, parts.1.now)) result ≡ split_once mark text.now }
+    ensures value { option_map (λ parts. (parts.0.now, parts.1.now)) result ≡ split_once mark text.now }
+
+    // The two texts and the mark between them are the text, and the mark is its first.
+    ensures joined { IfSome result (λ parts. text.now ≡ parts.0.now ++ mark ∷ parts.1.now) }
+    ensures first { IfSome result (λ parts. All (λ b. b ≢ mark) parts.0.now) }
+    ensures nowhere { IfNone result (All (λ b. b ≢ mark) text.now) }
 {
     match place_of(text, mark) {
         Some(at) => Some((&text[..at], &text[at + 1..])),

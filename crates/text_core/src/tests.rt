@@ -1,4 +1,4 @@
-use crate::{put, put_number, read_number, split_once};
+use crate::{is_name, put, put_number, read_number, split_once};
 
 #[test]
 fn numbers_are_read(rt: HostRuntime) {
@@ -15,9 +15,9 @@ fn numbers_are_read(rt: HostRuntime) {
 fn lines_are_put_together(rt: HostRuntime) {
     let mut buffer = [0; 256];
     let at = put(&mut buffer, 0, b"10.");
-    let at = put_number(&mut buffer, at, 4294967295);
+    let at = put_number(&mut buffer, at, u64::MAX);
     let at = put_number(&mut buffer, at, 0);
-    assert!(rt; &buffer[..at] == b"10.42949672950".as_slice());
+    assert!(rt; &buffer[..at] == b"10.184467440737095516150".as_slice());
 }
 
 #[test]
@@ -25,4 +25,13 @@ fn texts_are_cut_at_the_first_mark(rt: HostRuntime) {
     let parts = split_once(b"10.0.0.1/24/8", b'/');
     assert!(rt; parts == Some((b"10.0.0.1".as_slice(), b"24/8".as_slice())));
     assert!(rt; split_once(b"10.0.0.1", b'/').is_none());
+}
+
+#[test]
+fn names_are_told_apart_from_other_texts(rt: HostRuntime) {
+    assert!(rt; is_name(b"web_1-A"));
+    assert!(rt; !is_name(b""));
+    assert!(rt; !is_name(b"web.1"));
+    assert!(rt; is_name(b"abcdefghijklmnopqrstuvwxyz012345"));
+    assert!(rt; !is_name(b"abcdefghijklmnopqrstuvwxyz0123456"));
 }
