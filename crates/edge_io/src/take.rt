@@ -21,6 +21,7 @@ pub fn take_all<H: Shelf>(
     ensures same_files { H.files shelf.new ≡ H.files shelf.old }
     ensures one_begin { H.begins shelf.new ≡ more (H.begins shelf.old) 1 }
     ensures faults_stay { H.faults shelf.old ≤ H.faults shelf.new }
+    ensures most { H.taken shelf.new ≤ limit + 1 }
 
     // The bytes that were taken, up to the end of the file.
     ensures count { IfOk result (λ bytes. vec_len bytes ≡ H.taken shelf.new) }
@@ -54,6 +55,7 @@ fn take_rest<H: Shelf>(alloc: Global, shelf: &mut H, limit: usize) -> Result<Vec
     ensures same_files { H.files shelf.new ≡ H.files shelf.old }
     ensures same_begins { H.begins shelf.new ≡ H.begins shelf.old }
     ensures faults_stay { H.faults shelf.old ≤ H.faults shelf.new }
+    ensures most { H.taken shelf.new ≤ limit + 1 }
     ensures count { IfOk result (λ bytes. vec_len bytes ≡ H.taken shelf.new) }
     ensures within { IfOk result (λ bytes. vec_len bytes ≤ limit) }
     ensures at_end { OnOk result (IsTrue (H.begun shelf.new) × IsAtEnd (H.left shelf.new)) }
