@@ -1,40 +1,31 @@
 -- What is true of hosts stays true with a host that there was no cause to refuse.
 use Rattle.std.proofs.Common.{◌≡◌, ℕ, ◌+◌, ◌<◌, ◌≤◌, Bool, true, false, cond, not, ◌&&◌, ◌||◌, List, [], ◌∷◌, ◌++◌, map, length, Option, Some, None, refl, sym, ap, ◌∙◌, arith, length-append, append_assoc, nat_le, nat_lt}
 use Rattle.std.proofs.lemmas.List.{append-nil}
-use Rattle.host_net.specs.declared.refusal.TheConstants.{HOST_LIMIT, PREFIX_LIMIT}
 use Rattle.std.specs.List.{position_from, list_all, list_any, flat_map}
 use Rattle.std.specs.Option.{option_map, option_or}
 use Rattle.std.specs.Map.{values_of}
 use Rattle.std.specs.Str.{bytes_eq}
+use Rattle.std.proofs.lemmas.Bool.{and_from, not-false}
 use Rattle.std.proofs.lemmas.Bool.Decides.{nat_tests}
 use Rattle.std.proofs.lemmas.Grind.{flat_map-append}
 use Rattle.std.proofs.lemmas.List.Folds.{list_all-append}
 use Rattle.std.proofs.lemmas.List.Sums.{sum_by-append}
 use Rattle.indexmap.specs.IndexMap.{insert_entry}
 use Rattle.host_net.proofs.HostsLemmas.{all_parts}
+use Rattle.host_net.specs.AcceptedLaws.{joined_lists}
+use Rattle.host_net.specs.Firsts.{first_of, where_holds}
+use Rattle.host_net.specs.FirstsLaws.{holds_not, neither, none_mapped}
 use Rattle.host_net.specs.Known.{host_of, hosts_of}
 use Rattle.host_net.specs.declared.addresses.Addresses.{Addresses}
 use Rattle.host_net.specs.Host.{Host, all_prefixes, prefix_lists, prefix_count, host_named, rest_of}
-use Rattle.host_net.specs.Hosts.{IsHosts, is_network, no_pair}
-use Rattle.host_net.specs.Name.{is_name}
+use Rattle.host_net.specs.Hosts.{IsHosts, host_limit, is_network, lacks_address, no_pair, prefix_limit}
+use Rattle.text_core.specs.Name.{is_name}
+use Rattle.host_net.specs.PairLaws.{list_all-push, no_pair-push}
 use Rattle.host_net.specs.Prefix.{meets}
-use Rattle.host_net.specs.Refusal.{bad_name, cause_if, duplicate, first_cause, is_full, lacks_address, no_address, meeting, overlap_from, overlap, two_rests, refusal_of}
+use Rattle.host_net.specs.Refusal.{bad_name, duplicate, is_full, no_address, meeting, overlap_from, overlap, two_rests, refusal_of}
 use Rattle.host_net.specs.declared.prefix.Prefix.{Prefix}
 use Rattle.host_net.specs.declared.refusal.HostRefusal.{HostRefusal}
 use Rattle.host_net.specs.declared.refusal.HostRefusal.TheVariants.{TooMany, BadName, Duplicate, NoAddress, TwoRests, Overlap}
-
--- no cause: none of the two
-none_of_two : {A : Type 0} (a b : Option A) → option_or a b ≡ None → (a ≡ None) × (b ≡ None)
-none_of_two None b h = (refl, h)
-none_of_two (Some x) b h = cc
-
-none_of_map : {A B : Type 0} (f : A → B) (o : Option A) → option_map f o ≡ None → o ≡ None
-none_of_map f None h = refl
-none_of_map f (Some x) h = cc
-
-none_of_cause : (b : Bool) (why : HostRefusal) → cause_if b why ≡ None → b ≡ false
-none_of_cause true why h = cc
-none_of_cause false why h = refl
 
 -- what holds where there is no cause
 pub record IsWelcome (hs : List Host) (name : List ℕ) (at : List Prefix) (rest : Bool) : Type 0 where
@@ -45,31 +36,23 @@ pub record IsWelcome (hs : List Host) (name : List ℕ) (at : List Prefix) (rest
   pub one_rest : two_rests hs rest ≡ None
   pub apart : overlap hs at ≡ None
 
-not_false : (b : Bool) → not b ≡ false → b ≡ true
-not_false true h = refl
-not_false false h = cc
-
 pub welcome : (hs : List Host) (name : List ℕ) (at : List Prefix) (rest : Bool) → refusal_of hs name at rest ≡ None → IsWelcome hs name at rest
 unfolding refusal_of
 welcome hs name at rest none =
-    let one = none_of_two (cause_if (is_full hs (length at)) TooMany) _ none in
-    let two = none_of_two (cause_if (not (is_name name)) BadName) _ one.1 in
-    let three = none_of_two (option_map Duplicate (host_named hs name)) _ two.1 in
-    let four = none_of_two (cause_if (lacks_address at rest) NoAddress) _ three.1 in
-    let five = none_of_two (two_rests hs rest) _ four.1 in
-    let six = none_of_two (overlap hs at) _ five.1 in
+    let one = neither (where_holds (is_full hs (length at)) TooMany) _ none in
+    let two = neither (where_holds (not (is_name name)) BadName) _ one.1 in
+    let three = neither (option_map Duplicate (host_named hs name)) _ two.1 in
+    let four = neither (where_holds (lacks_address at rest) NoAddress) _ three.1 in
+    let five = neither (two_rests hs rest) _ four.1 in
+    let six = neither (overlap hs at) _ five.1 in
     record {
-      room = none_of_cause (is_full hs (length at)) TooMany one.0;
-      named = not_false (is_name name) (none_of_cause (not (is_name name)) BadName two.0);
-      fresh = none_of_map Duplicate (host_named hs name) three.0;
-      addressed = none_of_cause (lacks_address at rest) NoAddress four.0;
+      room = holds_not (is_full hs (length at)) TooMany one.0;
+      named = not-false (is_name name) (holds_not (not (is_name name)) BadName two.0);
+      fresh = none_mapped Duplicate (host_named hs name) three.0;
+      addressed = holds_not (lacks_address at rest) NoAddress four.0;
       one_rest = five.0;
       apart = six.0;
     }
-
-first_and_second : (a b : Bool) → (a && b) ≡ true → (a ≡ true) × (b ≡ true)
-first_and_second true b h = (refl, h)
-first_and_second false b h = cc
 
 -- nothing is found: no element passes
 no_place_by : {A : Type 0} (t : A → Bool) (i : ℕ) (x : A) (xs : List A) (b : Bool) → cond b (Some i) (position_from t (i + 1) xs) ≡ None → (position_from t (i + 1) xs ≡ None → list_all (λ y. not (t y)) xs ≡ true) → (not b && list_all (λ y. not (t y)) xs) ≡ true
@@ -80,31 +63,13 @@ pub no_place : {A : Type 0} (t : A → Bool) (i : ℕ) (xs : List A) → positio
 no_place t i [] h = refl
 no_place t i (x ∷ xs) h = no_place_by t i x xs (t x) h (no_place t (i + 1) xs)
 
-both : (a b : Bool) → a ≡ true → b ≡ true → (a && b) ≡ true
-both a b h k = λ i. h i && k i
-
--- a list with one more element behind it has no pair, where the element makes none
-pub no_pair-push : {A : Type 0} (r : A → A → Bool) (xs : List A) (y : A) → no_pair r xs ≡ true → list_all (λ x. not (r y x)) xs ≡ true → no_pair r (xs ++ y ∷ []) ≡ true
-no_pair-push r [] y h new = refl
-no_pair-push r (x ∷ xs) y h new =
-    let old = first_and_second (list_all (λ z. not (r z x)) xs) (no_pair r xs) h in
-    let one = first_and_second (not (r y x)) (list_all (λ z. not (r y z)) xs) new in
-    let last : list_all (λ z. not (r z x)) (xs ++ y ∷ []) ≡ true =
-    list_all-append (λ z. not (r z x)) xs (y ∷ [])
-    ∙ both (list_all (λ z. not (r z x)) xs) (not (r y x) && true) old.0 (both (not (r y x)) true one.0 refl) in
-    both (list_all (λ z. not (r z x)) (xs ++ y ∷ [])) (no_pair r (xs ++ y ∷ [])) last (no_pair-push r xs y old.1 one.1)
-
-pub list_all-push : {A : Type 0} (p : A → Bool) (xs : List A) (y : A) → list_all p xs ≡ true → p y ≡ true → list_all p (xs ++ y ∷ []) ≡ true
-list_all-push p xs y h new =
-    list_all-append p xs (y ∷ []) ∙ both (list_all p xs) (p y && true) h (both (p y) true new refl)
-
 all_true : (hs : List Host) → list_all (λ h. true) hs ≡ true
 all_true [] = refl
 all_true (h ∷ hs) = all_true hs
 
 -- the later rest host
 no_rest_pair : (hs : List Host) (rest : Bool) → two_rests hs rest ≡ None → list_all (λ h. not (rest && h.rest)) hs ≡ true
-no_rest_pair hs true h = no_place (λ (g : Host). g.rest) 0 hs (none_of_map TwoRests (rest_of hs) h)
+no_rest_pair hs true h = no_place (λ (g : Host). g.rest) 0 hs (none_mapped TwoRests (rest_of hs) h)
 no_rest_pair hs false h = all_true hs
 
 -- no list has a prefix that meets p: no prefix of all does
@@ -121,7 +86,7 @@ none_of_lists t [] h = refl
 none_of_lists t (ps ∷ owned) h =
     let parts = all_parts (λ qs. not (list_any t qs)) ps owned h in
     list_all-append (λ x. not (t x)) ps (flat_map (λ qs. qs) owned)
-    ∙ both (list_all (λ x. not (t x)) ps) (list_all (λ x. not (t x)) (flat_map (λ qs. qs) owned)) (none_of_list t ps parts.0) (none_of_lists t owned parts.1)
+    ∙ and_from (list_all (λ x. not (t x)) ps) (list_all (λ x. not (t x)) (flat_map (λ qs. qs) owned)) (none_of_list t ps parts.0) (none_of_lists t owned parts.1)
 
 -- no earlier prefix meets p: none of the others' and none of its own before it
 none_meets : (owned : List (List Prefix)) (own : List Prefix) (p : Prefix) → meeting owned own p ≡ None → list_all (λ q. not (meets p q)) (flat_map (λ ps. ps) owned ++ own) ≡ true
@@ -134,17 +99,13 @@ none_meets owned own p none =
 apart_from : (owned : List (List Prefix)) (own at : List Prefix) → overlap_from owned own at ≡ None → no_pair meets (flat_map (λ ps. ps) owned ++ own) ≡ true → no_pair meets (flat_map (λ ps. ps) owned ++ (own ++ at)) ≡ true
 apart_from owned own [] none h = ap (λ qs. no_pair meets (flat_map (λ (ps : List Prefix). ps) owned ++ qs)) (append-nil own) ∙ h
 apart_from owned own (p ∷ ps) none h =
-    let parts = none_of_two (option_map (λ other. Overlap (length own) other) (meeting owned own p)) (overlap_from owned (own ++ p ∷ []) ps) none in
-    let alone = none_meets owned own p (none_of_map (λ other. Overlap (length own) other) (meeting owned own p) parts.0) in
+    let parts = neither (option_map (λ other. Overlap (length own) other) (meeting owned own p)) (overlap_from owned (own ++ p ∷ []) ps) none in
+    let alone = none_meets owned own p (none_mapped (λ other. Overlap (length own) other) (meeting owned own p) parts.0) in
     let grown : no_pair meets (flat_map (λ qs. qs) owned ++ (own ++ p ∷ [])) ≡ true =
     ap (no_pair meets) (sym (append_assoc (flat_map (λ (qs : List Prefix). qs) owned) own (p ∷ [])))
     ∙ no_pair-push meets (flat_map (λ qs. qs) owned ++ own) p h alone in
     ap (λ qs. no_pair meets (flat_map (λ (ps : List Prefix). ps) owned ++ qs)) (sym (append_assoc own (p ∷ []) ps))
     ∙ apart_from owned (own ++ p ∷ []) ps parts.1 grown
-
-joined_lists : (hs : List Host) → flat_map (λ ps. ps) (prefix_lists hs) ≡ all_prefixes hs
-joined_lists [] = refl
-joined_lists (h ∷ hs) = ap (λ qs. h.prefixes ++ qs) (joined_lists hs)
 
 all_prefixes-push : (hs : List Host) (h : Host) → all_prefixes (hs ++ h ∷ []) ≡ all_prefixes hs ++ h.prefixes
 all_prefixes-push hs h =
@@ -164,7 +125,7 @@ pub kept : (hs : List Host) (name : List ℕ) (at : List Prefix) (rest : Bool) �
 kept hs name at rest known none networks =
     let ok = welcome hs name at rest none in
     let new : Host = record { name = name; prefixes = at; rest = rest } in
-    let room = room_parts HOST_LIMIT (length hs) PREFIX_LIMIT (prefix_count hs + length at) ok.room in
+    let room = room_parts host_limit (length hs) prefix_limit (prefix_count hs + length at) ok.room in
     let joined = all_prefixes-push hs new in
     record {
       few = omega (arith, length-append hs (new ∷ []), room.0);
@@ -173,7 +134,7 @@ kept hs name at rest known none networks =
       distinct = no_pair-push (λ (h g : Host). bytes_eq h.name g.name) hs new known.distinct (no_place (λ (h : Host). bytes_eq name h.name) 0 hs ok.fresh);
       addressed = list_all-push (λ (h : Host). not (lacks_address h.prefixes h.rest)) hs new known.addressed (ap not ok.addressed);
       one_rest = no_pair-push (λ (h g : Host). h.rest && g.rest) hs new known.one_rest (no_rest_pair hs rest ok.one_rest);
-      networks = ap (list_all is_network) joined ∙ list_all-append is_network (all_prefixes hs) at ∙ both (list_all is_network (all_prefixes hs)) (list_all is_network at) known.networks networks;
+      networks = ap (list_all is_network) joined ∙ list_all-append is_network (all_prefixes hs) at ∙ and_from (list_all is_network (all_prefixes hs)) (list_all is_network at) known.networks networks;
       apart = ap (no_pair meets) joined ∙ still_apart hs at ok.apart known.apart;
     }
 
@@ -199,7 +160,7 @@ still_hosts hs es fs name at rest seen known none networks grown =
     rw grown (kept hs name at rest (rw seen at known) none networks)
 
 -- the first of five causes, asked one behind the other
-causes_joined : (a b c d e : Option HostRefusal) → option_or (option_or (option_or (option_or a b) c) d) e ≡ first_cause (a ∷ b ∷ c ∷ d ∷ e ∷ [])
+causes_joined : (a b c d e : Option HostRefusal) → option_or (option_or (option_or (option_or a b) c) d) e ≡ first_of (a ∷ b ∷ c ∷ d ∷ e ∷ [])
 causes_joined (Some x) b c d e = refl
 causes_joined None (Some x) c d e = refl
 causes_joined None None (Some x) d e = refl
@@ -211,7 +172,7 @@ pub causes_behind_room : (hs : List Host) (name : List ℕ) (at : List Prefix) (
 unfolding refusal_of
 causes_behind_room hs name at rest room =
     causes_joined (bad_name name) (duplicate hs name) (no_address at rest) (two_rests hs rest) (overlap hs at)
-    ∙ ap (λ b. option_or (cause_if b TooMany) (first_cause (bad_name name ∷ duplicate hs name ∷ no_address at rest ∷ two_rests hs rest ∷ overlap hs at ∷ []))) (sym room)
+    ∙ ap (λ b. option_or (where_holds b TooMany) (first_of (bad_name name ∷ duplicate hs name ∷ no_address at rest ∷ two_rests hs rest ∷ overlap hs at ∷ []))) (sym room)
 
 -- the values' prefixes are the hosts'
 pub values_lists : (es : List (List ℕ × Addresses)) → map (λ h. h.prefixes.items) (values_of es) ≡ prefix_lists (hosts_of es)

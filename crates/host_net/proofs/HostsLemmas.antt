@@ -10,7 +10,7 @@ use Rattle.std.specs.Map.{keys_of, values_of}
 use Rattle.std.proofs.lemmas.Iterator.Adapters.{position_from-zero}
 use Rattle.host_net.specs.Host.{Host, host_named}
 use Rattle.host_net.specs.Known.{host_of, hosts_of}
-use Rattle.host_net.specs.Name.{is_name}
+use Rattle.text_core.specs.Name.{is_name}
 use Rattle.host_net.specs.declared.addresses.Addresses.{Addresses}
 
 pub all_parts : {A : Type 0} (p : A → Bool) (x : A) (xs : List A) → list_all p (x ∷ xs) ≡ true → (p x ≡ true) × (list_all p xs ≡ true)

@@ -3,7 +3,7 @@ use Rattle.std.proofs.Common.{◌≡◌, ℕ, ◌-◌, ◌≤◌, true, List, �
 use Rattle.std.proofs.lemmas.Bool.Decides.{nat_tests}
 use Rattle.std.proofs.lemmas.List.{drop-replicate}
 use Rattle.std.proofs.Math.Seq.{take-append_seam}
-use Rattle.host_net.specs.Name.{is_name}
+use Rattle.text_core.specs.Name.{is_name}
 use Rattle.host_net.specs.Padded.{IsPadded}
 
 -- a text that was copied into zeros is padded

@@ -1,26 +1,38 @@
--- What is true of the hosts that were added, however they were added.
-use Rattle.std.specs.Prelude.{◌≤◌, Bool, true, not, ◌&&◌, nat_le, IsTrue, List, [], ◌∷◌, length}
+-- What is true of the hosts of a network, however they were added (the description's format, docs/FORMATS.md).
+use Rattle.std.specs.Prelude.{ℕ, ◌≤◌, Bool, true, not, ◌&&◌, nat_le, IsTrue, List, [], ◌∷◌, length}
 use Rattle.std.specs.List.{list_all}
 use Rattle.std.specs.Str.{bytes_eq}
+use Rattle.text_core.specs.Name.{is_name}
 use Rattle.host_net.specs.Host.{Host, all_prefixes, prefix_count}
-use Rattle.host_net.specs.Name.{is_name}
 use Rattle.host_net.specs.Prefix.{is_exact, meets}
-use Rattle.host_net.specs.Refusal.{lacks_address}
 use Rattle.host_net.specs.declared.prefix.Prefix.{Prefix}
-use Rattle.host_net.specs.declared.refusal.TheConstants.{HOST_LIMIT, PREFIX_LIMIT}
+
+-- how many hosts there may be, and how many prefixes all of them may have together
+abbrev pub host_limit : ℕ
+host_limit = 32
+
+abbrev pub prefix_limit : ℕ
+prefix_limit = 128
 
 -- a prefix that a host may own: no bits are set behind its length, and it is no whole address space
 abbrev pub is_network : Prefix → Bool
 is_network p = is_exact p && nat_le 1 p.len
+
+-- neither an entry, as a prefix is one, nor the rest mark, or both
+abbrev pub lacks_address : {A : Type 0} → List A → Bool → Bool
+lacks_address [] rest = not rest
+lacks_address (entry ∷ entries) rest = rest
 
 -- no two stand in the relation, a later one to an earlier one
 abbrev pub no_pair : {A : Type 0} → (A → A → Bool) → List A → Bool
 no_pair r [] = true
 no_pair r (x ∷ xs) = list_all (λ y. not (r y x)) xs && no_pair r xs
 
+-- few hosts with few prefixes; each has a name of its own, and prefixes or the rest mark; one at most has the mark; the
+-- prefixes are networks, and no two of them have an address in common
 pub record IsHosts (hs : List Host) : Type 0 where
-  pub few : length hs ≤ HOST_LIMIT
-  pub few_prefixes : prefix_count hs ≤ PREFIX_LIMIT
+  pub few : length hs ≤ host_limit
+  pub few_prefixes : prefix_count hs ≤ prefix_limit
   pub named : IsTrue (list_all (λ h. is_name h.name) hs)
   pub distinct : IsTrue (no_pair (λ h g. bytes_eq h.name g.name) hs)
   pub addressed : IsTrue (list_all (λ h. not (lacks_address h.prefixes h.rest)) hs)

@@ -1,10 +1,14 @@
+pub mod AcceptedLaws
+pub mod Firsts
+pub mod FirstsLaws
 pub mod Host
 pub mod Hosts
 pub mod Known
-pub mod Name
+pub mod NamedLaws
 pub mod OwnerLaws
 pub mod Packet
 pub mod Padded
+pub mod PairLaws
 pub mod Prefix
 pub mod PrefixLaws
 pub mod PrefixTextLaws

@@ -1,24 +1,20 @@
 -- Laws of owners: the prefixes of one host at most cover an address, so an address has one owner at most.
-use Rattle.std.proofs.Common.{◌≡◌, ℕ, zero, suc, ◌+◌, Bool, true, false, cond, not, ◌&&◌, ◌||◌, IsTrue, List, [], ◌∷◌, ◌++◌, slice_get, Some, refl, sym, ap, ◌∙◌, arith, true≢false}
+use Rattle.std.proofs.Common.{◌≡◌, ℕ, zero, suc, ◌+◌, Bool, true, false, cond, not, ◌||◌, IsTrue, List, [], ◌∷◌, ◌++◌, slice_get, Some, refl, sym, ap, ◌∙◌, arith, true≢false}
 use Rattle.std.specs.List.{position_from, list_all}
 use Rattle.std.specs.Option.{option_or}
+use Rattle.std.proofs.lemmas.Bool.{and_parts, or_left, or_right}
 use Rattle.std.proofs.lemmas.List.Folds.{list_all-append, list_any-append}
+use Rattle.host_net.specs.FirstsLaws.{some_same}
 use Rattle.host_net.specs.Host.{Host, all_prefixes, covers_any, owner_of, rest_of}
 use Rattle.host_net.specs.Hosts.{IsHosts, no_pair}
+use Rattle.host_net.specs.PairLaws.{no_pair-behind}
 use Rattle.host_net.specs.Prefix.{covers, meets}
 use Rattle.host_net.specs.PrefixLaws.{covered_by_both}
 use Rattle.host_net.specs.declared.prefix.Prefix.{Prefix}
 
-first_and_second : (a b : Bool) → (a && b) ≡ true → (a ≡ true) × (b ≡ true)
-first_and_second true b h = (refl, h)
-first_and_second false b h = cc
-
 one_or_other : (a b : Bool) → (a || b) ≡ true → a ≡ false → b ≡ true
 one_or_other true b h none = cc
 one_or_other false b h none = h
-
-some_same : (m n : ℕ) → Some m ≡ Some n → m ≡ n
-some_same m n h = cc
 
 -- where the later prefixes have no address in common with p, none of them covers an address of p
 alone_by : (p q : Prefix) (a : ℕ) (b : Bool) → covers q a ≡ b → covers p a ≡ true → not (meets q p) ≡ true → b ≡ false
@@ -28,7 +24,7 @@ alone_by p q a false by_q by_p none = refl
 alone : (p : Prefix) (a : ℕ) (qs : List Prefix) → covers p a ≡ true → list_all (λ q. not (meets q p)) qs ≡ true → covers_any qs a ≡ true → ⊥
 alone p a [] own none some = true≢false (sym some)
 alone p a (q ∷ qs) own none some =
-    let parts = first_and_second (not (meets q p)) (list_all (λ r. not (meets r p)) qs) none in
+    let parts = and_parts (not (meets q p)) (list_all (λ r. not (meets r p)) qs) none in
     alone p a qs own parts.1 (one_or_other (covers q a) (covers_any qs a) some (alone_by p q a (covers q a) refl own parts.0))
 
 -- prefixes in two parts of a list without a pair that meets do not cover one address
@@ -39,32 +35,20 @@ parts_apart_by p a ps qs false own some none later rest = rest some
 parts_apart : (a : ℕ) (ps qs : List Prefix) → no_pair meets (ps ++ qs) ≡ true → covers_any ps a ≡ true → covers_any qs a ≡ true → ⊥
 parts_apart a [] qs apart first second = true≢false (sym first)
 parts_apart a (p ∷ ps) qs apart first second =
-    let both = first_and_second (list_all (λ q. not (meets q p)) (ps ++ qs)) (no_pair meets (ps ++ qs)) apart in
-    let later = first_and_second (list_all (λ q. not (meets q p)) ps) (list_all (λ q. not (meets q p)) qs) (sym (list_all-append (λ q. not (meets q p)) ps qs) ∙ both.0) in
+    let both = and_parts (list_all (λ q. not (meets q p)) (ps ++ qs)) (no_pair meets (ps ++ qs)) apart in
+    let later = and_parts (list_all (λ q. not (meets q p)) ps) (list_all (λ q. not (meets q p)) qs) (sym (list_all-append (λ q. not (meets q p)) ps qs) ∙ both.0) in
     parts_apart_by p a ps qs (covers p a) refl first later.1 second (λ some. parts_apart a ps qs both.1 some second)
 
-no_pair-behind : (ps qs : List Prefix) → no_pair meets (ps ++ qs) ≡ true → no_pair meets qs ≡ true
-no_pair-behind [] qs apart = apart
-no_pair-behind (p ∷ ps) qs apart = no_pair-behind ps qs (first_and_second (list_all (λ q. not (meets q p)) (ps ++ qs)) (no_pair meets (ps ++ qs)) apart).1
-
 -- what a host covers is covered by all
-or_true : (a b : Bool) → b ≡ true → (a || b) ≡ true
-or_true true b h = refl
-or_true false b h = h
-
-true_or : (a b : Bool) → a ≡ true → (a || b) ≡ true
-true_or true b h = refl
-true_or false b h = cc
-
 covered_among : (hs : List Host) (j : ℕ) (h : Host) (a : ℕ) → slice_get hs j ≡ Some h → covers_any h.prefixes a ≡ true → covers_any (all_prefixes hs) a ≡ true
 covered_among [] j h a there own = cc
 covered_among (x ∷ hs) zero h a there own =
     let same : x ≡ h = cc in
     list_any-append (λ p. covers p a) x.prefixes (all_prefixes hs)
-    ∙ true_or (covers_any x.prefixes a) (covers_any (all_prefixes hs) a) (ap (λ (g : Host). covers_any g.prefixes a) same ∙ own)
+    ∙ or_left (covers_any x.prefixes a) (covers_any (all_prefixes hs) a) (ap (λ (g : Host). covers_any g.prefixes a) same ∙ own)
 covered_among (x ∷ hs) (suc j) h a there own =
     list_any-append (λ p. covers p a) x.prefixes (all_prefixes hs)
-    ∙ or_true (covers_any x.prefixes a) (covers_any (all_prefixes hs) a) (covered_among hs j h a there own)
+    ∙ or_right (covers_any x.prefixes a) (covers_any (all_prefixes hs) a) (covered_among hs j h a there own)
 
 -- so the search for a holder finds the host that covers the address
 holder_by : (hs : List Host) (x : Host) (a i n : ℕ) (b : Bool) → covers_any x.prefixes a ≡ b → (covers_any x.prefixes a ≡ true → ⊥) → position_from (λ h. covers_any h.prefixes a) (i + 1) hs ≡ Some n → cond b (Some i) (position_from (λ h. covers_any h.prefixes a) (i + 1) hs) ≡ Some n
@@ -78,7 +62,7 @@ holder_from (x ∷ hs) i zero h a apart there own =
     let here : covers_any x.prefixes a ≡ true = ap (λ (g : Host). covers_any g.prefixes a) same ∙ own in
     ap (λ b. cond b (Some i) (position_from (λ (g : Host). covers_any g.prefixes a) (i + 1) hs)) here ∙ ap (λ n. Some n) (omega arith)
 holder_from (x ∷ hs) i (suc j) h a apart there own =
-    let behind = no_pair-behind x.prefixes (all_prefixes hs) apart in
+    let behind = no_pair-behind meets x.prefixes (all_prefixes hs) apart in
     let found = holder_from hs (i + 1) j h a behind there own in
     let next : i + 1 + j ≡ i + suc j = omega arith in
     holder_by hs x a i (i + suc j) (covers_any x.prefixes a) refl

@@ -1,4 +1,4 @@
--- A short text in 32 bytes: the text, and zeros behind it.
+-- What the private fields of a name stand for: a short text in 32 bytes, and zeros behind it.
 use Rattle.std.proofs.Common.{◌≡◌, ℕ, ◌-◌, ◌≤◌, List, ◌++◌, take, length, replicate, ap, sym, ◌∙◌, arith, length-take}
 
 pub record IsPadded (len : ℕ) (bytes : List ℕ) : Type 0 where

@@ -10,6 +10,7 @@ use Rattle.text_core.specs.DecimalLaws.{number-decimal, decimal_of_number, decim
 use Rattle.text_core.specs.Pieces.{split_once}
 use Rattle.text_core.specs.PiecesLaws.{lacks, lacks-append, split_once-append, split_once_none, split_once_joined}
 use Rattle.text_core.specs.StepsLaws.{bind_some}
+use Rattle.host_net.specs.FirstsLaws.{some_same}
 use Rattle.host_net.specs.declared.prefix.Prefix.{Prefix}
 use Rattle.host_net.specs.Prefix.{octet, address_text, address_of, prefix_text, prefix_with, prefix_of, prefix_of_parts, IsSpelling}
 
@@ -115,9 +116,6 @@ piece_of_number : (bs : List ℕ) (parts : List ℕ × List ℕ) (n : ℕ) → s
 piece_of_number bs parts n cut said =
     let number_text = decimal_of_number 255 parts.0 n (omega arith) said in
     (split_once_joined 46 bs parts.0 parts.1 cut ∙ ap (λ front. front ++ (46 ∷ parts.1)) number_text.0, number_text.1)
-
-some_same : (m n : ℕ) → Some m ≡ Some n → m ≡ n
-some_same m n h = cc
 
 -- a text that is read as an address is the address, written
 pub address_text-address_of : (text : List ℕ) (a : ℕ) → address_of text ≡ Some a → (text ≡ address_text a) × (a < 2 ^ 32)

@@ -9,13 +9,14 @@ ghost use Rattle.host_net.specs.Refusal.{bad_name, duplicate, is_full, no_addres
 ghost use Rattle.host_net.specs.declared.refusal.HostRefusal.{HostRefusal};
 
 use crate::addresses::{Addresses, holder, prefix_count, rest_host};
-use crate::name::{Name, is_name};
+use crate::name::Name;
 use crate::overlap::overlap;
 use crate::prefix::Prefix;
 use crate::refusal::{HOST_LIMIT, HostRefusal, PREFIX_LIMIT};
 use indexmap::IndexMap;
 use std::alloc::{AllocError, Global};
 use std::marker::Model;
+use text_core::is_name;
 
 /// Hosts in order of declaration. A host has the number of its place, from 0.
 #[derive(Drop)]

@@ -1,16 +1,16 @@
 //! The name of a host, kept without memory so that refusals and reports can carry it.
 
-ghost use Rattle.std.specs.Prelude.{◌≡◌, ◌≤◌, ◌==◌, ◌||◌, Some, None, [], IsTrue, length, if◌then◌else◌, nat_eq};
+ghost use Rattle.std.specs.Prelude.{◌≡◌, ◌≤◌, Some, None, [], IsTrue, length, if◌then◌else◌, nat_eq};
 ghost use Rattle.std.proofs.Common.{rules};
 ghost use Rattle.std.specs.Cmp.{partial_equiv_from_equiv};
 ghost use Rattle.std.specs.Cmp.Lexicographic.{nat_list_eq_equiv, pointwise};
 ghost use Rattle.std.specs.Cmp.Rules.{hashing};
 ghost use Rattle.std.specs.Hash as fed;
-ghost use Rattle.std.specs.List.{list_all};
-ghost use Rattle.host_net.specs.Name.{is_name, is_name_byte};
+ghost use Rattle.text_core.specs.Name.{is_name};
 
 use std::hash::{Hash, Hasher};
 use std::marker::Model;
+use text_core::is_name;
 
 /// A text of at most 32 bytes: the name of a host, or the empty text where no name is given.
 #[derive(Clone, Copy, Debug)]
@@ -100,23 +100,4 @@ impl Hash for Name {
     fn hash<H: Hasher>(&self, state: &mut H) {
         self.bytes().hash(state);
     }
-}
-
-/// Whether the text is a name.
-pub(crate) fn is_name(text: &[u8]) -> bool
-    ensures { result ≡ is_name text.now }
-{
-    !text.is_empty() && text.len() <= 32 && has_name_bytes(text)
-}
-
-fn has_name_bytes(text: &[u8]) -> bool
-    ensures { result ≡ list_all is_name_byte text.now }
-{
-    text.iter().all(|byte| is_name_byte(*byte))
-}
-
-fn is_name_byte(byte: u8) -> bool
-    ensures { result ≡ is_name_byte byte }
-{
-    byte.is_ascii_alphanumeric() || byte == b'_' || byte == b'-'
 }

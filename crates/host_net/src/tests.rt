@@ -1,3 +1,6 @@
+//! Shows what no clause says: that the calls succeed with ample memory. The values are those that
+//! the clauses say.
+
 ghost use Rattle.std.specs.Prelude.{IsTrue};
 ghost use Rattle.host_net.specs.Hosts.{is_network};
 
