@@ -7,11 +7,12 @@ use Rattle.std.specs.Option.{option_map_or, option_copied, option_eq, IfSome, Ma
 use Rattle.std.proofs.lemmas.Option.{slice_get_past, slice_get_read}
 use denote.Ref.{Bor}
 use Rattle.std.proofs.lemmas.Bool.{cond-true, cond-false, or_parts, or_from, false_from_ne_true, both_ways, true_from_ne_false}
+use Rattle.std.proofs.Math.Bool.{or-false}
 use Rattle.flow_set.specs.declared.flow.Flow.{Flow}
 use Rattle.flow_set.specs.Flow.{before, same_flow}
-use Rattle.flow_set.specs.FlowSet.{SetOfFlows, IsFlowSet, has, IsOrdered, with_flow, without_flow, flows_before, first_from}
+use Rattle.flow_set.specs.FlowSet.{IsFlowSet, has, IsOrdered, with_flow, without_flow, first_from}
 use Rattle.flow_set.specs.FlowLaws.{has_nothing, has_first, has_later, before_trans, before_not_back, before_not_same, same_flow_from_order, same_flow_sym, without_flow_absent}
-use Rattle.flow_set.specs.WalkLaws.{flows_before_nothing}
+use Rattle.flow_set.specs.WalkLaws.{flows_before, flows_before_nothing}
 
 pub has_at : (fs : List Flow) (i : ℕ) (d : Flow) → i < length fs → IsTrue (has fs (get_or fs i d))
 has_at [] i d lt = absurd (omega arith)
@@ -46,12 +47,8 @@ has-first_from [] f o = refl
 has-first_from (x ∷ xs) f o =
     elim (before x f) as (λ b. before x f ≡ b → (same_flow x f || has xs f) ≡ option_map_or (λ g. same_flow g f) (cond (not b) (Some x) (first_from xs f)) false) [
       | true ↦ λ early. rw (before_not_same x f early) (has-first_from xs f o.1)
-      | false ↦ λ late. rw (late_absent x xs f o late) (or_false (same_flow x f))
+      | false ↦ λ late. rw (late_absent x xs f o late) (or-false (same_flow x f))
     ] refl
-  where
-    or_false : (b : Bool) → (b || false) ≡ b
-    or_false true = refl
-    or_false false = refl
 
 pub first_from_at_place : (fs : List Flow) (p : Flow) → IsOrdered fs → first_from fs p ≡ slice_get fs (length (flows_before fs p))
 first_from_at_place [] p o = refl
@@ -104,9 +101,6 @@ place_of_member (x ∷ xs) f o there =
           omega (arith, place_of_member xs f o.1 later)
       | false ↦ λ late. rw (flows_before_nothing x xs f o late) (omega arith)
     ] refl
-
-pub set_ext : (s t : SetOfFlows) → s.size ≡ t.size → s.flows ≡ t.flows → s ≡ t
-set_ext s t p q = λ i. record { size = p i; flows = q i }
 
 -- what `get` answers of a list
 pub copied_from_get : (xs : List Flow) (i : ℕ) (r : Option (Bor Flow)) → IfSome r (λ x. x.now ≡ get_or xs i x.now) → MatchOption r (length xs ≤ i) (λ x. (i < length xs) × HoldsAt (λ y. x.now ≡ y) xs i) → option_copied r ≡ slice_get xs i

@@ -1,11 +1,12 @@
--- Laws of flows and sets of flows, by subject: the order of flows, members, equal sets, sets that stay in order, filters, flows put back, the front of a set.
+-- Laws of flows and sets of flows, by subject: the order of flows, members, equal sets, sets that stay in order, filters, flows taken out one by one, a flow that is there or is not, the front of a set.
 use Rattle.std.proofs.Common.{◌≡◌, Bool, true, false, not, ◌&&◌, ◌||◌, cond, List, [], ◌∷◌, ◌++◌, inl, inr, refl, sym, ◌∙◌, ap, subst, arith}
 use Rattle.std.specs.Prelude.{IsTrue, IsFalse, filter}
 use Rattle.std.proofs.lemmas.Bool.{eqb-true, and_parts, or_cases, or_left, or_right, cond_both, false≢true, both_ways, false_from_ne_true, cond-true, cond-false, not_from_false}
 use Rattle.std.proofs.lemmas.Bool.Decides.{nat_tests}
+use Rattle.std.proofs.Math.Bool.{or_assoc, or-false}
 use Rattle.flow_set.specs.declared.flow.Flow.{Flow}
 use Rattle.flow_set.specs.Flow.{before, same_flow, back_of}
-use Rattle.flow_set.specs.FlowSet.{has, IsOrdered, with_flow, without_flow, without, with_back}
+use Rattle.flow_set.specs.FlowSet.{SetOfFlows, has, IsOrdered, with_flow, without_flow, without, with_back}
 
 -- ---- the order of flows
 
@@ -80,10 +81,6 @@ or_again true false c e = cc
 or_again false true c e = cc
 or_again false false c e = refl
 
-or_assoc : (a b c : Bool) → ((a || b) || c) ≡ (a || (b || c))
-or_assoc true b c = refl
-or_assoc false b c = refl
-
 pub has-append : (xs ys : List Flow) (f : Flow) → has (xs ++ ys) f ≡ (has xs f || has ys f)
 has-append [] ys f = refl
 has-append (x ∷ xs) ys f = ap (λ b. same_flow x f || b) (has-append xs ys f) ∙ sym (or_assoc (same_flow x f) (has xs f) (has ys f))
@@ -132,11 +129,7 @@ pub has-without : (fs gs : List Flow) (f : Flow) → has (without fs gs) f ≡ (
 has-without fs gs f = has-filter (λ h. not (has gs h)) fs f
 
 pub has-with_back : (fs gs : List Flow) (f : Flow) → has (with_back fs gs) f ≡ (has fs f || has gs (back_of f))
-has-with_back fs [] f = or_false (has fs f)
-  where
-    or_false : (b : Bool) → b ≡ (b || false)
-    or_false true = refl
-    or_false false = refl
+has-with_back fs [] f = sym (or-false (has fs f))
 has-with_back fs (g ∷ gs) f =
     has-with_flow (with_back fs gs) (back_of g) f
     ∙ ap (λ b. same_flow (back_of g) f || b) (has-with_back fs gs f)
@@ -173,6 +166,10 @@ flows_ext (x ∷ xs) (y ∷ ys) p q same =
     let e : x ≡ y = same_flow-true x y (same_flow_from_order x y (same_heads x y xs ys p q same) (same_heads y x ys xs q p (λ f. sym (same f)))) in
     let rests : xs ≡ ys = flows_ext xs ys p.1 q.1 (same_rests x y xs ys e p q same) in
     λ i. e i ∷ rests i
+
+-- so are whole sets, with the number of hosts
+pub set_ext : (s t : SetOfFlows) → s.size ≡ t.size → s.flows ≡ t.flows → s ≡ t
+set_ext s t p q = λ i. record { size = p i; flows = q i }
 
 -- ---- sets that stay in order
 
@@ -214,18 +211,15 @@ pub IsOrdered-with_back : (fs gs : List Flow) → IsOrdered fs → IsOrdered (wi
 IsOrdered-with_back fs [] o = o
 IsOrdered-with_back fs (g ∷ gs) o = IsOrdered-with_flow (with_back fs gs) (back_of g) (IsOrdered-with_back fs gs o)
 
--- a list stays in order where what is put at its end comes after all of it
-pub IsOrdered-push : (fs : List Flow) (f : Flow) → IsOrdered fs → ((g : Flow) → IsTrue (has fs g) → IsTrue (before g f)) → IsOrdered (fs ++ f ∷ [])
-IsOrdered-push [] f o after = (λ g h. has_nothing g h, tt)
-IsOrdered-push (x ∷ xs) f o after = (
-  λ g h. elim (or_cases (has xs g) (has (f ∷ []) g) (sym (has-append xs (f ∷ []) g) ∙ h)) [
-    | inl m ↦ o.0 g m
-    | inr m ↦ elim (or_cases (same_flow f g) false m) [
-      | inl s ↦ same_fact (λ y. IsTrue (before x y)) f g s (after x (has_first x xs))
-      | inr impossible ↦ absurd (false≢true impossible)
-    ]
+-- two sets, of which the one stands wholly before the other
+pub IsOrdered-append : (xs ys : List Flow) → IsOrdered xs → IsOrdered ys → ((f g : Flow) → IsTrue (has xs f) → IsTrue (has ys g) → IsTrue (before f g)) → IsOrdered (xs ++ ys)
+IsOrdered-append [] ys o p apart = p
+IsOrdered-append (x ∷ xs) ys o p apart = (
+  λ g h. elim (or_cases (has xs g) (has ys g) (sym (has-append xs ys g) ∙ h)) [
+    | inl here ↦ o.0 g here
+    | inr behind ↦ apart x g (has_first x xs) behind
   ],
-  IsOrdered-push xs f o.1 (λ g h. after g (has_later x xs g h)),
+  IsOrdered-append xs ys o.1 p (λ f g here behind. apart f g (has_later x xs f here) behind),
 )
 
 -- ---- the reverse of one more flow
@@ -262,6 +256,23 @@ pub filter_everything : (p : Flow → Bool) (fs : List Flow) → ((f : Flow) →
 filter_everything p [] passed = refl
 filter_everything p (f ∷ fs) passed = cond-true (p f) _ _ (passed f (has_first f fs)) ∙ ap (λ zs. f ∷ zs) (filter_everything p fs (λ g h. passed g (has_later f fs g h)))
 
+-- ---- flows taken out one by one
+
+pub without_nothing : (fs : List Flow) → without fs [] ≡ fs
+without_nothing fs = filter_everything (λ f. not (has [] f)) fs (λ f there. refl)
+
+pub without-push : (fs gs : List Flow) (g : Flow) → without fs (gs ++ g ∷ []) ≡ without_flow (without fs gs) g
+without-push [] gs g = refl
+without-push (f ∷ fs) gs g =
+    elim (has gs f) as (λ b. has gs f ≡ b → cond (not (has (gs ++ g ∷ []) f)) (f ∷ without fs (gs ++ g ∷ [])) (without fs (gs ++ g ∷ [])) ≡ without_flow (cond (not b) (f ∷ without fs gs) (without fs gs)) g) [
+      | true ↦ λ taken. rw (has-append gs (g ∷ []) f, taken) (without-push fs gs g)
+      | false ↦ λ left. rw (has-append gs (g ∷ []) f, left)
+          (elim (same_flow g f) as (λ s. cond (not (s || false)) (f ∷ without fs (gs ++ g ∷ [])) (without fs (gs ++ g ∷ [])) ≡ cond (not s) (f ∷ without_flow (without fs gs) g) (without_flow (without fs gs) g)) [
+            | true ↦ without-push fs gs g
+            | false ↦ ap (λ zs. f ∷ zs) (without-push fs gs g)
+          ])
+    ] refl
+
 -- ---- a flow that is there, or is not
 
 pub with_flow_there : (fs : List Flow) (f : Flow) → IsOrdered fs → IsTrue (has fs f) → with_flow fs f ≡ fs
@@ -271,6 +282,14 @@ with_flow_there fs f o there =
       | true ↦ λ same. sym (sym (same_test (has fs) f g same) ∙ there)
       | false ↦ λ _. refl
     ] refl))
+
+-- a flow that comes after all of a set is put at its end
+pub with_flow-last : (fs : List Flow) (f : Flow) → ((g : Flow) → IsTrue (has fs g) → IsTrue (before g f)) → with_flow fs f ≡ fs ++ f ∷ []
+with_flow-last [] f after = refl
+with_flow-last (g ∷ gs) f after =
+    let earlier : IsTrue (before g f) = after g (has_first g gs) in
+    cond-false (before f g) _ _ (before_not_back g f earlier)
+    ∙ ap (λ hs. g ∷ hs) (cond-true (before g f) _ _ earlier ∙ with_flow-last gs f (λ h there. after h (has_later g gs h there)))
 
 pub without_flow_absent : (fs : List Flow) (f : Flow) → IsFalse (has fs f) → without_flow fs f ≡ fs
 without_flow_absent fs f absent =

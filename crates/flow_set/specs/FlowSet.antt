@@ -1,4 +1,5 @@
--- Sets of flows: what a `FlowSet` is seen as, and what its calls make. A set is written as the list of its flows in ascending order.
+-- Sets of flows: what a `FlowSet` is seen as, and what its calls make.
+-- A set is written as the list of its flows in ascending order, so two sets with the same flows are one list. FlowLaws says which flows each set made here has.
 use Rattle.std.specs.Prelude.{ℕ, ◌≤◌, ◌↔◌, Bool, false, not, ◌||◌, if◌then◌else◌, List, [], ◌∷◌, Option, IsTrue, filter, find}
 use Rattle.flow_set.specs.declared.flow.Flow.{Flow}
 use Rattle.flow_set.specs.Flow.{IsFlow, before, same_flow, back_of}
@@ -50,14 +51,6 @@ without fs gs = filter (λ f. not (has gs f)) fs
 abbrev pub with_back : List Flow → List Flow → List Flow
 with_back fs [] = fs
 with_back fs (g ∷ gs) = with_flow (with_back fs gs) (back_of g)
-
--- the flows before the place p in the order
-abbrev pub flows_before : List Flow → Flow → List Flow
-flows_before fs p = filter (λ f. before f p) fs
-
--- the flows from the place p on
-abbrev pub flows_from : List Flow → Flow → List Flow
-flows_from fs p = filter (λ f. not (before f p)) fs
 
 -- the first flow from the place p on
 abbrev pub first_from : List Flow → Flow → Option Flow

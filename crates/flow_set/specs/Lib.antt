@@ -4,4 +4,5 @@ pub mod Conditions
 pub mod FlowLaws
 pub mod SubsetLaws
 pub mod WalkLaws
+pub mod ListedLaws
 pub mod ConditionLaws

@@ -4,7 +4,7 @@ use Rattle.std.specs.Prelude.{IsTrue, filter}
 use Rattle.std.proofs.lemmas.Bool.{and_parts, or_cases, or_left, or_right, false≢true}
 use Rattle.flow_set.specs.declared.flow.Flow.{Flow}
 use Rattle.flow_set.specs.Flow.{IsFlow, same_flow, back_of}
-use Rattle.flow_set.specs.FlowSet.{has, IsOrdered, IsFlowSet, IsSubset, with_flow, without_flow, without, with_back}
+use Rattle.flow_set.specs.FlowSet.{has, IsOrdered, IsFlowSet, IsSubset, IsFull, with_flow, without_flow, without, with_back}
 use Rattle.flow_set.specs.FlowLaws.{has_nothing, same_fact, has-append, has-with_flow, has-filter, has-with_back, flows_ext, IsOrdered-filter, IsOrdered-with_flow, IsOrdered-with_back, IsOrdered-front}
 
 -- ---- sets between n hosts
@@ -73,6 +73,13 @@ subset_self fs o = record {
   within = λ f h. h;
 }
 
+-- a set that has every flow contains every other set
+pub subset_full : (n : ℕ) (xs full : List Flow) → IsFlowSet n xs → IsFull n full → IsSubset xs full
+subset_full n xs full set is_full = record {
+  ordered = set.ordered;
+  within = λ f h. (is_full f).1 (set.flows f h);
+}
+
 pub subset_trans : (xs ys zs : List Flow) → IsSubset xs ys → IsSubset ys zs → IsSubset xs zs
 subset_trans xs ys zs p q = record {
   ordered = p.ordered;
@@ -87,6 +94,10 @@ subset_both xs ys p q = flows_ext xs ys p.ordered q.ordered (λ f. same_answer (
     same_answer true b h k = sym (h refl)
     same_answer false true h k = k refl
     same_answer false false h k = refl
+
+-- one set alone has every flow between n hosts
+pub full_is_one : (n : ℕ) (xs ys : List Flow) → IsFlowSet n xs → IsFlowSet n ys → IsFull n xs → IsFull n ys → xs ≡ ys
+full_is_one n xs ys p q full other = subset_both xs ys (subset_full n xs ys p other) (subset_full n ys xs q full)
 
 pub subset_filter : (p : Flow → Bool) (fs : List Flow) → IsOrdered fs → IsSubset (filter p fs) fs
 subset_filter p fs o = record {

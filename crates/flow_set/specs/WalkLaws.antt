@@ -1,34 +1,82 @@
--- Laws of going over a set of flows from a place on, and of how many flows there can be.
-use Rattle.std.proofs.Common.{◌≡◌, ℕ, suc, ◌+◌, ◌-◌, ◌*◌, ◌<◌, ◌≤◌, true, false, not, ◌&&◌, ◌||◌, cond, List, [], ◌∷◌, ◌++◌, length, refl, sym, ◌∙◌, ap, subst, arith, inl, inr, length-append, append_assoc, append-nil}
+-- Laws of places in a set of flows, of how many flows there can be, and of loops that go over a set.
+use Rattle.std.proofs.Common.{◌≡◌, ℕ, suc, ◌+◌, ◌*◌, ◌<◌, ◌≤◌, Bool, true, false, not, ◌&&◌, cond, List, [], ◌∷◌, ◌++◌, length, refl, sym, ◌∙◌, ap, subst, arith, inl, inr, append_assoc, append-nil}
+use Rattle.std.proofs.Math.Bool.{and-false}
 use Rattle.std.proofs.Math.Nat.{mul-le-mul_right}
-use Rattle.std.specs.Prelude.{IsTrue, IsFalse, Some, None, nat_lt, ◌==◌}
-use Rattle.std.proofs.lemmas.Bool.{and_parts, or_cases, or_right, cond_both, both_ways, or_parts, not_from_false, ltb-true, eqb-true}
-use Rattle.std.proofs.lemmas.Bool.Decides.{nat_tests}
+use Rattle.std.specs.Prelude.{IsTrue, IsFalse, Some, None, filter, nat_lt, ◌==◌}
+use Rattle.std.proofs.lemmas.Bool.{and_parts, or_cases, or_right, cond_both, both_ways, or_parts, ltb-true, eqb-true}
+use Rattle.std.proofs.lemmas.List.Filters.{length-filter_both}
 use Rattle.flow_set.specs.declared.flow.Flow.{Flow}
 use Rattle.flow_set.specs.Flow.{IsFlow, before, same_flow}
-use Rattle.flow_set.specs.FlowSet.{has, IsOrdered, IsFlowSet, with_flow, flows_before, flows_from, first_from}
-use Rattle.flow_set.specs.FlowLaws.{not_before_from, has_first, has_later, has-append, same_flow_from_order, filter_nothing, filter_everything}
+use Rattle.flow_set.specs.FlowSet.{has, IsOrdered, IsFlowSet, IsSubset, with_flow, first_from}
+use Rattle.flow_set.specs.FlowLaws.{not_before_from, before_self, before_not_back, has_nothing, has_first, has_later, has-append, has-filter, same_fact, same_flow_from_order, flows_ext, filter_nothing, IsOrdered-filter}
 use Rattle.flow_set.specs.SubsetLaws.{IsFlowSet-with_flow}
 
--- ---- before a place and from it on
+-- ---- before a place, and from it on
+
+-- the flows before the place p in the order
+abbrev pub flows_before : List Flow → Flow → List Flow
+flows_before fs p = filter (λ f. before f p) fs
 
 -- the first flow is not before p, so none is
 pub flows_before_nothing : (f : Flow) (fs : List Flow) (p : Flow) → IsOrdered (f ∷ fs) → IsFalse (before f p) → flows_before fs p ≡ []
 flows_before_nothing f fs p o late = filter_nothing (λ g. before g p) fs (λ g h. not_before_from f g p late (o.0 g h))
 
-pub flows_from_everything : (f : Flow) (fs : List Flow) (p : Flow) → IsOrdered (f ∷ fs) → IsFalse (before f p) → flows_from fs p ≡ fs
-flows_from_everything f fs p o late = filter_everything (λ g. not (before g p)) fs (λ g h. not_from_false _ (not_before_from f g p late (o.0 g h)))
+-- ---- the first flow from a place on: it is in the set and not before the place, no other such flow is before it, and where there is none every flow is before the place
 
--- a set is its flows before a place and those from it on
-pub flows_split : (fs : List Flow) (p : Flow) → IsOrdered fs → fs ≡ flows_before fs p ++ flows_from fs p
-flows_split [] p o = refl
-flows_split (f ∷ fs) p o =
-    elim (before f p) as (λ b. before f p ≡ b → f ∷ fs ≡ cond b (f ∷ flows_before fs p) (flows_before fs p) ++ cond (not b) (f ∷ flows_from fs p) (flows_from fs p)) [
-      | true ↦ λ _. ap (λ zs. f ∷ zs) (flows_split fs p o.1)
-      | false ↦ λ late. rw (flows_before_nothing f fs p o late) (ap (λ zs. f ∷ zs) (sym (flows_from_everything f fs p o late)))
-    ] refl
+pub first_from_member : (fs : List Flow) (p f : Flow) → first_from fs p ≡ Some f → IsTrue (has fs f)
+first_from_member [] p f found = cc
+first_from_member (x ∷ xs) p f found =
+    elim (before x p) as (λ b. before x p ≡ b → cond (not b) (Some x) (first_from xs p) ≡ Some f → IsTrue (has (x ∷ xs) f)) [
+      | true ↦ λ _ later. has_later x xs f (first_from_member xs p f later)
+      | false ↦ λ late here. let e : x ≡ f = cc in subst (λ (z : Flow). IsTrue (has (x ∷ xs) z)) e (has_first x xs)
+    ] refl found
+
+pub first_from_late : (fs : List Flow) (p f : Flow) → first_from fs p ≡ Some f → IsFalse (before f p)
+first_from_late [] p f found = cc
+first_from_late (x ∷ xs) p f found =
+    elim (before x p) as (λ b. before x p ≡ b → cond (not b) (Some x) (first_from xs p) ≡ Some f → IsFalse (before f p)) [
+      | true ↦ λ _ later. first_from_late xs p f later
+      | false ↦ λ late here. let e : x ≡ f = cc in subst (λ (z : Flow). IsFalse (before z p)) e late
+    ] refl found
+
+pub first_from_least : (fs : List Flow) (p f : Flow) → IsOrdered fs → first_from fs p ≡ Some f → (g : Flow) → IsTrue (has fs g) → IsFalse (before g p) → IsFalse (before g f)
+first_from_least [] p f o found g there late = has_nothing g there
+first_from_least (x ∷ xs) p f o found g there late =
+    elim (before x p) as (λ b. before x p ≡ b → cond (not b) (Some x) (first_from xs p) ≡ Some f → IsFalse (before g f)) [
+      | true ↦ λ early later. elim (or_cases (same_flow x g) (has xs g) there) [
+        | inl same ↦ absurd (both_ways _ late (same_fact (λ h. IsTrue (before h p)) x g same early))
+        | inr m ↦ first_from_least xs p f o.1 later g m late
+      ]
+      | false ↦ λ _ here. let e : x ≡ f = cc in subst (λ (z : Flow). IsFalse (before g z)) e (elim (or_cases (same_flow x g) (has xs g) there) [
+        | inl same ↦ same_fact (λ h. IsFalse (before h x)) x g same (before_self x)
+        | inr m ↦ before_not_back x g (o.0 g m)
+      ])
+    ] refl found
+
+pub first_from_none : (fs : List Flow) (p : Flow) → first_from fs p ≡ None → (g : Flow) → IsTrue (has fs g) → IsTrue (before g p)
+first_from_none [] p none g there = has_nothing g there
+first_from_none (x ∷ xs) p none g there =
+    elim (before x p) as (λ b. before x p ≡ b → cond (not b) (Some x) (first_from xs p) ≡ None → IsTrue (before g p)) [
+      | true ↦ λ early rest. elim (or_cases (same_flow x g) (has xs g) there) [
+        | inl same ↦ same_fact (λ h. IsTrue (before h p)) x g same early
+        | inr m ↦ first_from_none xs p rest g m
+      ]
+      | false ↦ λ _ some. cc
+    ] refl none
 
 -- ---- lengths
+
+-- a subset has no more flows than the set
+pub length-IsSubset : (xs ys : List Flow) → IsSubset xs ys → IsOrdered ys → length xs ≤ length ys
+length-IsSubset xs ys sub o =
+    let picked : filter (has xs) ys ≡ xs =
+    flows_ext (filter (has xs) ys) xs (IsOrdered-filter (has xs) ys o) sub.ordered (λ f. has-filter (has xs) ys f ∙ and_within (has xs f) (has ys f) (sub.within f)) in
+    let others : length (filter (has xs) ys) + length (filter (λ f. not (has xs f)) ys) ≡ length ys = length-filter_both (has xs) (λ f. not (has xs f)) (λ f. refl) ys in
+    omega (arith, others, ap length picked)
+  where
+    and_within : (a b : Bool) → (IsTrue a → IsTrue b) → (b && a) ≡ a
+    and_within true b h = ap (λ c. c && true) (h refl)
+    and_within false b h = and-false b
 
 -- the number of a flow in the order of all pairs of n hosts
 code_of : ℕ → Flow → ℕ
@@ -79,104 +127,6 @@ pub length_lacking : (n : ℕ) (fs : List Flow) (f : Flow) → IsFlowSet n fs �
 length_lacking n fs f set is_flow absent =
     let h : length (with_flow fs f) ≤ n * n = length-IsFlowSet n (with_flow fs f) (IsFlowSet-with_flow n fs f set is_flow) in
     omega (arith, h, length-with_flow fs f absent)
-
--- ---- a walk over the set: the first flow from a place on, and the place behind it
-
--- the place right behind a flow
-abbrev pub behind : Flow → Flow
-behind f = record { from = f.from; to = suc f.to }
-
-before_behind : (g f : Flow) → before g (behind f) ≡ (before g f || same_flow g f)
-before_behind g f = grind (arith, nat_tests)
-
-pub flows_before_start : (fs : List Flow) → flows_before fs (record { from = 0; to = 0 }) ≡ []
-flows_before_start fs = filter_nothing (λ f. before f (record { from = 0; to = 0 })) fs (λ f _. grind (arith, nat_tests))
-
-pub flows_before_all : (fs : List Flow) (p : Flow) → first_from fs p ≡ None → flows_before fs p ≡ fs
-flows_before_all [] p none = refl
-flows_before_all (f ∷ fs) p none =
-    elim (before f p) as (λ b. before f p ≡ b → cond (not b) (Some f) (first_from fs p) ≡ None → cond b (f ∷ flows_before fs p) (flows_before fs p) ≡ f ∷ fs) [
-      | true ↦ λ _ rest. ap (λ zs. f ∷ zs) (flows_before_all fs p rest)
-      | false ↦ λ _ some. cc
-    ] refl none
-
--- the first flow from a place on is not before that place
-pub first_from_late : (fs : List Flow) (p f : Flow) → first_from fs p ≡ Some f → IsFalse (before f p)
-first_from_late [] p f found = cc
-first_from_late (x ∷ xs) p f found =
-    elim (before x p) as (λ b. before x p ≡ b → cond (not b) (Some x) (first_from xs p) ≡ Some f → IsFalse (before f p)) [
-      | true ↦ λ _ later. first_from_late xs p f later
-      | false ↦ λ late here. let e : x ≡ f = cc in subst (λ (z : Flow). IsFalse (before z p)) e late
-    ] refl found
-
-pub first_from_member : (fs : List Flow) (p f : Flow) → first_from fs p ≡ Some f → IsTrue (has fs f)
-first_from_member [] p f found = cc
-first_from_member (x ∷ xs) p f found =
-    elim (before x p) as (λ b. before x p ≡ b → cond (not b) (Some x) (first_from xs p) ≡ Some f → IsTrue (has (x ∷ xs) f)) [
-      | true ↦ λ _ later. has_later x xs f (first_from_member xs p f later)
-      | false ↦ λ late here. let e : x ≡ f = cc in subst (λ (z : Flow). IsTrue (has (x ∷ xs) z)) e (has_first x xs)
-    ] refl found
-
--- what is before p is before the place behind a flow that is not
-early_before_behind : (x p f : Flow) → IsTrue (before x p) → IsFalse (before f p) → IsTrue (before x (behind f))
-early_before_behind x p f a b = grind (arith, nat_tests)
-
-before_behind_self : (f : Flow) → IsTrue (before f (behind f))
-before_behind_self f = grind (arith, nat_tests)
-
-after_behind : (f g : Flow) → IsTrue (before f g) → IsFalse (before g (behind f))
-after_behind f g a = grind (arith, nat_tests)
-
-nothing_before_behind : (x : Flow) (xs : List Flow) → IsOrdered (x ∷ xs) → flows_before xs (behind x) ≡ []
-nothing_before_behind x xs o = filter_nothing (λ g. before g (behind x)) xs (λ g h. after_behind x g (o.0 g h))
-
-everything_from_behind : (x : Flow) (xs : List Flow) → IsOrdered (x ∷ xs) → flows_from xs (behind x) ≡ xs
-everything_from_behind x xs o = filter_everything (λ g. not (before g (behind x))) xs (λ g h. not_from_false _ (after_behind x g (o.0 g h)))
-
--- what stands from a place on begins with the first flow there, and goes on from the place behind it
-pub flows_from_first : (fs : List Flow) (p f : Flow) → IsOrdered fs → first_from fs p ≡ Some f → flows_from fs p ≡ f ∷ flows_from fs (behind f)
-flows_from_first [] p f o found = cc
-flows_from_first (x ∷ xs) p f o found =
-    elim (before x p) as (λ b. before x p ≡ b → cond (not b) (Some x) (first_from xs p) ≡ Some f → cond (not b) (x ∷ flows_from xs p) (flows_from xs p) ≡ f ∷ flows_from (x ∷ xs) (behind f)) [
-      | true ↦ λ early later.
-          rw (early_before_behind x p f early (first_from_late xs p f later)) (flows_from_first xs p f o.1 later)
-      | false ↦ λ late here.
-          let e : x ≡ f = cc in
-          subst (λ (z : Flow). x ∷ flows_from xs p ≡ z ∷ flows_from (x ∷ xs) (behind z)) e
-          (rw (before_behind_self x) (ap (λ zs. x ∷ zs) (flows_from_everything x xs p o late ∙ sym (everything_from_behind x xs o))))
-    ] refl found
-
-pub flows_from_none : (fs : List Flow) (p : Flow) → first_from fs p ≡ None → flows_from fs p ≡ []
-flows_from_none [] p none = refl
-flows_from_none (x ∷ xs) p none =
-    elim (before x p) as (λ b. before x p ≡ b → cond (not b) (Some x) (first_from xs p) ≡ None → cond (not b) (x ∷ flows_from xs p) (flows_from xs p) ≡ []) [
-      | true ↦ λ _ rest. flows_from_none xs p rest
-      | false ↦ λ _ some. cc
-    ] refl none
-
-pub flows_from_start : (fs : List Flow) → flows_from fs (record { from = 0; to = 0 }) ≡ fs
-flows_from_start fs = filter_everything (λ f. not (before f (record { from = 0; to = 0 }))) fs (λ f _. grind (arith, nat_tests))
-
--- the flows before the place behind the first flow are those before it, and that flow
-pub flows_before_next : (fs : List Flow) (p f : Flow) → IsOrdered fs → first_from fs p ≡ Some f → flows_before fs (behind f) ≡ flows_before fs p ++ f ∷ []
-flows_before_next [] p f o found = cc
-flows_before_next (x ∷ xs) p f o found =
-    elim (before x p) as (λ b. before x p ≡ b → cond (not b) (Some x) (first_from xs p) ≡ Some f → flows_before (x ∷ xs) (behind f) ≡ cond b (x ∷ flows_before xs p) (flows_before xs p) ++ f ∷ []) [
-      | true ↦ λ early later.
-          rw (early_before_behind x p f early (first_from_late xs p f later)) (ap (λ zs. x ∷ zs) (flows_before_next xs p f o.1 later))
-      | false ↦ λ late here.
-          let e : x ≡ f = cc in
-          subst (λ (z : Flow). flows_before (x ∷ xs) (behind z) ≡ flows_before xs p ++ z ∷ []) e
-          (rw (before_behind_self x, nothing_before_behind x xs o, flows_before_nothing x xs p o late) refl)
-    ] refl found
-
--- a walk that goes to the place behind the first flow has fewer flows left
-pub fewer_left : (fs : List Flow) (p f : Flow) → IsOrdered fs → first_from fs p ≡ Some f → length fs - length (flows_before fs (behind f)) < length fs - length (flows_before fs p)
-fewer_left fs p f o found =
-    let next = flows_before_next fs p f o found in
-    let more : length (flows_before fs (behind f)) ≡ length (flows_before fs p) + 1 = ap length next ∙ length-append (flows_before fs p) (f ∷ []) in
-    let whole : length (flows_before fs (behind f)) + length (flows_from fs (behind f)) ≡ length fs = sym (ap length (flows_split fs (behind f) o) ∙ length-append (flows_before fs (behind f)) (flows_from fs (behind f))) in
-    omega (arith, more, whole)
 
 -- ---- a loop over a set, which has gone over xs and has `left` before it
 

@@ -3,7 +3,8 @@
 
 ghost use Rattle.std.specs.Prelude.{◌≡◌, ◌<◌, ◌≤◌, ◌⊎◌, ◌↔◌, [], ◌∷◌, length, not, IsTrue, IfOk, if◌then◌else◌};
 ghost use Rattle.flow_set.specs.Flow.{IsFlow};
-ghost use Rattle.flow_set.specs.FlowSet.{IsFlowSet, IsFull, has, with_flow, without_flow, with_back, flows_before, first_from};
+ghost use Rattle.flow_set.specs.FlowSet.{IsFlowSet, IsFull, has, with_flow, without_flow, with_back, first_from};
+ghost use Rattle.flow_set.specs.WalkLaws.{flows_before};
 
 use crate::flow::Flow;
 use crate::iter::Iter;

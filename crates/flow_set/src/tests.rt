@@ -1,3 +1,6 @@
+//! That memory suffices for a set of all flows, a copy and a set with reversed flows, at three hosts and
+//! two.
+
 use crate::{Flow, FlowSet};
 use std::test::Fail;
 

@@ -1,7 +1,8 @@
 use Rattle.std.proofs.Common.{◌≡◌, List, length, sym, ◌∙◌, ap, subst}
 use Rattle.std.specs.Prelude.{slice_get}
 use Rattle.flow_set.specs.declared.flow.Flow.{Flow}
-use Rattle.flow_set.specs.FlowSet.{SetOfFlows, first_from, flows_before}
+use Rattle.flow_set.specs.FlowSet.{SetOfFlows, first_from}
+use Rattle.flow_set.specs.WalkLaws.{flows_before}
 use Rattle.flow_set.proofs.Places.{first_from_at_place, copied_from_get}
 use Rattle.flow_set.proofs.set.FlowSet.at_or_after.Goals as goal
 

@@ -3,11 +3,11 @@ use Rattle.std.specs.Prelude.{IsFalse, IsOk}
 use Rattle.std.proofs.lemmas.Bool.{cond-true}
 use Rattle.flow_set.specs.declared.flow.Flow.{Flow}
 use Rattle.flow_set.specs.Flow.{IsFlow}
-use Rattle.flow_set.specs.FlowSet.{SetOfFlows, IsFlowSet, has, with_flow, flows_before}
+use Rattle.flow_set.specs.FlowSet.{SetOfFlows, IsFlowSet, has, with_flow}
 use Rattle.flow_set.specs.SubsetLaws.{IsFlowSet-with_flow}
-use Rattle.flow_set.specs.WalkLaws.{length_lacking}
-use Rattle.flow_set.specs.FlowLaws.{with_flow_there}
-use Rattle.flow_set.proofs.Places.{inserted, set_ext}
+use Rattle.flow_set.specs.WalkLaws.{flows_before, length_lacking}
+use Rattle.flow_set.specs.FlowLaws.{set_ext, with_flow_there}
+use Rattle.flow_set.proofs.Places.{inserted}
 use Rattle.flow_set.proofs.set.FlowSet.insert.Goals as goal
 
 pub returns-then-has-clause-set : goal.returns-then-has-clause-set

@@ -3,7 +3,8 @@ use Rattle.std.proofs.lemmas.List.Sorted.{IsPartitionPoint-from_clause}
 use Rattle.std.proofs.lemmas.Bool.Decides.{nat_tests}
 use Rattle.flow_set.specs.declared.flow.Flow.{Flow}
 use Rattle.flow_set.specs.Flow.{before}
-use Rattle.flow_set.specs.FlowSet.{SetOfFlows, IsOrdered, flows_before}
+use Rattle.flow_set.specs.FlowSet.{SetOfFlows, IsOrdered}
+use Rattle.flow_set.specs.WalkLaws.{flows_before}
 use Rattle.flow_set.proofs.Places.{partitioned, length-filter_at_point}
 use Rattle.flow_set.proofs.set.FlowSet.place.Goals as goal
 

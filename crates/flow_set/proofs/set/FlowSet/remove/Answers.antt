@@ -1,10 +1,11 @@
 use Rattle.std.proofs.Common.{◌≡◌, refl, ◌<◌, List, length, sym, ◌∙◌, ap, subst, arith}
 use Rattle.std.specs.Prelude.{IsTrue}
 use Rattle.flow_set.specs.declared.flow.Flow.{Flow}
-use Rattle.flow_set.specs.FlowSet.{SetOfFlows, IsFlowSet, has, without_flow, flows_before}
+use Rattle.flow_set.specs.FlowSet.{SetOfFlows, IsFlowSet, has, without_flow}
+use Rattle.flow_set.specs.WalkLaws.{flows_before}
 use Rattle.flow_set.specs.SubsetLaws.{IsFlowSet-without_flow}
-use Rattle.flow_set.specs.FlowLaws.{without_flow_absent}
-use Rattle.flow_set.proofs.Places.{removed, place_of_member, set_ext}
+use Rattle.flow_set.specs.FlowLaws.{set_ext, without_flow_absent}
+use Rattle.flow_set.proofs.Places.{removed, place_of_member}
 use Rattle.flow_set.proofs.set.FlowSet.remove.Goals as goal
 
 pub returns-then-not-has-clause-set : goal.returns-then-not-has-clause-set
