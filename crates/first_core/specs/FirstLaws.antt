@@ -1,13 +1,15 @@
--- Laws of first subsets, by subject: there is one at most, one more flow in a pass, what is left out, the greatest subset.
-use Rattle.std.proofs.Common.{◌≡◌, ℕ, inl, inr, Bool, true, false, not, ◌&&◌, ◌||◌, List, [], ◌∷◌, ◌++◌, refl, sym, ◌∙◌, ap, subst}
+-- Laws of first subsets, by subject: there is one at most, one more flow in a pass, there is one, what is left out, the greatest subset.
+use Rattle.std.proofs.Common.{◌≡◌, ℕ, ◌⊎◌, inl, inr, Bool, true, false, not, ◌&&◌, ◌||◌, List, [], ◌∷◌, ◌++◌, refl, sym, ◌∙◌, ap, subst, append_assoc, append-nil}
+use Rattle.std.proofs.Math.Bool.{and-true}
 use Rattle.std.specs.Prelude.{IsTrue, IsFalse}
 use Rattle.std.proofs.lemmas.Bool.{both_ways, false≢true, and_parts, or_cases, or_left, or_right, cases_Bool, true_from_ne_false, false_from_ne_true, not-true}
 use Rattle.flow_set.specs.declared.flow.Flow.{Flow}
 use Rattle.flow_set.specs.Flow.{before, same_flow}
 use Rattle.flow_set.specs.FlowSet.{has, IsOrdered, IsFlowSet, IsSubset, with_flow, without_flow, without}
 use Rattle.flow_set.specs.Conditions.{IsDownward, IsEdgeWise, IsMinimalOffending, DiffersFirstIn, IsFirst, IsGreatest}
+use Rattle.flow_set.specs.ConditionLaws.{edge_wise-with_flow}
 use Rattle.flow_set.specs.FlowLaws.{has_nothing, same_flow_self, same_fact, after_not_same, before_trans, same_flow_from_order, has-with_flow, has-without_flow, has-without, has-append, has_first, flows_ext, IsOrdered-without_flow, IsOrdered-without, front_before, with_flow-without_flow, without_flow_absent}
-use Rattle.flow_set.specs.SubsetLaws.{IsFlowSet-subset, IsFlowSet-with_flow, subset_self, subset_trans, subset_without, subset_without_flow, subset_front, with_flow_within, nothing_within}
+use Rattle.flow_set.specs.SubsetLaws.{IsFlowSet-subset, subset_self, subset_trans, subset_without, subset_without_flow, subset_front, with_flow_within, nothing_within}
 
 -- ---- there is one at most
 
@@ -46,11 +48,7 @@ first_of_nothing Holds holds = record {
 
 -- a flow of ys before f is one of ys without f
 same_but_last : (ys : List Flow) (f g : Flow) → IsTrue (before g f) → has ys g ≡ has (without_flow ys f) g
-same_but_last ys f g early = sym (has-without_flow ys f g ∙ ap (λ b. has ys g && not b) (after_not_same g f early) ∙ and_true (has ys g))
-  where
-    and_true : (b : Bool) → (b && true) ≡ b
-    and_true true = refl
-    and_true false = refl
+same_but_last ys f g early = sym (has-without_flow ys f g ∙ ap (λ b. has ys g && not b) (after_not_same g f early) ∙ and-true (has ys g))
 
 -- a flow of kept before f is one of kept with f
 same_but_new : (kept : List Flow) (f g : Flow) → IsTrue (before g f) → has (with_flow kept f) g ≡ has kept g
@@ -130,6 +128,23 @@ first_left n Holds xs kept f set downward p fails = record {
   ];
 }
 
+-- ---- there is one
+
+first_behind : (n : ℕ) (Holds : List Flow → Type 0) (xs rest kept : List Flow) → IsFlowSet n (xs ++ rest) → IsDownward n Holds → ((e : List Flow) → Holds e ⊎ (Holds e → ⊥)) → IsFirst Holds xs kept → (first : List Flow) × IsFirst Holds (xs ++ rest) first
+first_behind n Holds xs [] kept set downward decides p = (kept, subst (λ (zs : List Flow). IsFirst Holds zs kept) (sym (append-nil xs)) p)
+first_behind n Holds xs (f ∷ rest) kept set downward decides p =
+    let same : (xs ++ f ∷ []) ++ rest ≡ xs ++ f ∷ rest = append_assoc xs (f ∷ []) rest in
+    let whole : IsFlowSet n ((xs ++ f ∷ []) ++ rest) = subst (IsFlowSet n) (sym same) set in
+    let so_far : IsFlowSet n (xs ++ f ∷ []) = IsFlowSet-subset n (xs ++ f ∷ []) ((xs ++ f ∷ []) ++ rest) whole (subset_front (xs ++ f ∷ []) rest whole.ordered) in
+    subst (λ (zs : List Flow). (first : List Flow) × IsFirst Holds zs first) same (elim (decides (with_flow kept f)) [
+      | inl holds ↦ first_behind n Holds (xs ++ f ∷ []) rest (with_flow kept f) whole downward decides (first_kept n Holds xs kept f so_far downward p holds)
+      | inr fails ↦ first_behind n Holds (xs ++ f ∷ []) rest kept whole downward decides (first_left n Holds xs kept f so_far downward p fails)
+    ])
+
+-- a set has a first subset for every condition that can be decided, that subsets keep and that holds of nothing
+pub first_exists : (n : ℕ) (Holds : List Flow → Type 0) (all : List Flow) → IsFlowSet n all → IsDownward n Holds → Holds [] → ((e : List Flow) → Holds e ⊎ (Holds e → ⊥)) → (first : List Flow) × IsFirst Holds all first
+first_exists n Holds all set downward nothing decides = first_behind n Holds [] all [] set downward decides (first_of_nothing Holds nothing)
+
 -- ---- what is left out
 
 -- no first subset with one more flow of the set meets the condition
@@ -178,11 +193,6 @@ first_greatest n Holds all xs set edge_wise p = record {
         let here : IsTrue (has all f) = sub.within f there in
         let alone : Holds (f ∷ []) = (edge_wise ys (IsFlowSet-subset n ys all set sub)).0 holds f there in
         let mine : IsFlowSet n xs = IsFlowSet-subset n xs all set p.within in
-        first_with Holds all xs f p here absent
-        ((edge_wise (with_flow xs f) (IsFlowSet-with_flow n xs f mine (set.flows f here))).1
-        (λ g member. elim (or_cases (same_flow f g) (has xs g) (sym (has-with_flow xs f g) ∙ member)) [
-          | inl same ↦ same_fact (λ h. Holds (h ∷ [])) f g same alone
-          | inr m ↦ (edge_wise xs mine).0 p.holds g m
-        ])));
+        first_with Holds all xs f p here absent ((edge_wise-with_flow n Holds xs f edge_wise mine (set.flows f here) p.holds).0 alone));
   };
 }
