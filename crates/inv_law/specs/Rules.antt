@@ -1,4 +1,5 @@
 -- Rules on single flows: a test of the sender and the receiver.
+-- After the all-edges normal form of the entry Network_Security_Policy_Verification of the Archive of Formal Proofs.
 use Rattle.std.specs.Prelude.{ℕ, List, IsTrue}
 use Rattle.flow_set.specs.Flow.{IsFlow}
 use Rattle.flow_set.specs.FlowSet.{has}

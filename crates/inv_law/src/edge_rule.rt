@@ -1,7 +1,7 @@
 //! The trait of rules on single flows. Most templates are such rules, and prove one law in place of
 //! the laws of an invariant.
 
-ghost use Rattle.std.specs.Prelude.{◌≡◌, ℕ, ◌<◌, ◌↔◌, IsTrue, IfOk};
+ghost use Rattle.std.specs.Prelude.{◌≡◌, ℕ, ◌<◌, ◌↔◌, ⊤, IsTrue, IfOk};
 ghost use Rattle.flow_set.specs.Flow.{IsFlow};
 ghost use Rattle.flow_set.specs.declared.flow.Flow.{Flow};
 ghost use Rattle.inv_law.specs.Rules.{ResetPassesNoMore};
@@ -23,6 +23,9 @@ pub trait EdgeRule: Sized {
 
     ghost passes_after_reset: { Self → ℕ → ℕ → ℕ → Type 0 };
 
+    // What `with_default` promises of the rule that it answers, beyond its meaning.
+    ghost reset_gives: { Self → ℕ → Self → Type 0 } = { λ _ _ _. ⊤ };
+
     fn strategy(&self) -> Strategy
         ensures { result ≡ strategy_of self.now };
 
@@ -41,7 +44,8 @@ pub trait EdgeRule: Sized {
         ensures size { IfOk result (λ new. size_of new ≡ size_of self.now) }
         ensures strategy { IfOk result (λ new. strategy_of new ≡ strategy_of self.now) }
         ensures meaning { IfOk result (λ new. (f : Flow) → IsFlow (size_of self.now) f
-            → (passes_from new f.from f.to ↔ passes_after_reset self.now host f.from f.to)) };
+            → (passes_from new f.from f.to ↔ passes_after_reset self.now host f.from f.to)) }
+        ensures given { IfOk result (λ new. reset_gives self.now host new) };
 
     // A flow that does not pass still does not after the reset of the host that it is blamed on.
     ghost reset_passes_no_more: { (x : Self)

@@ -49,6 +49,8 @@ impl<R: EdgeRule> Invariant for EdgeWise<R> {
 
     ghost holds_after_reset = { λ x host e. AllFlowsPass (R.passes_after_reset x host) e };
 
+    ghost reset_gives = { λ x host new. R.reset_gives x host new };
+
     fn strategy(&self) -> Strategy {
         self.rule.strategy()
     }

@@ -1,7 +1,7 @@
 //! The trait of all invariants, with the laws that each of them proves. The engines above use
 //! nothing of an invariant but this trait, so they serve templates that are not in this workspace.
 
-ghost use Rattle.std.specs.Prelude.{◌≡◌, ℕ, ◌<◌, ◌↔◌, Bool, List, [], ◌∷◌, IsTrue, IfOk};
+ghost use Rattle.std.specs.Prelude.{◌≡◌, ℕ, ◌<◌, ◌↔◌, ⊤, Bool, List, [], ◌∷◌, IsTrue, IfOk};
 ghost use Rattle.flow_set.specs.Conditions.{IsDownward, IsEdgeWise};
 ghost use Rattle.flow_set.specs.Flow.{IsFlow};
 ghost use Rattle.flow_set.specs.FlowSet.{IsFlowSet};
@@ -29,6 +29,9 @@ pub trait Invariant: Sized {
     ghost holds_on: { Self → List Flow → Type 0 };
 
     ghost holds_after_reset: { Self → ℕ → List Flow → Type 0 };
+
+    // What `with_default` promises of the invariant that it answers, beyond its meaning.
+    ghost reset_gives: { Self → ℕ → Self → Type 0 } = { λ _ _ _. ⊤ };
 
     fn strategy(&self) -> Strategy
         ensures { result ≡ strategy_of self.now };
@@ -58,7 +61,8 @@ pub trait Invariant: Sized {
         ensures strategy { IfOk result (λ new. strategy_of new ≡ strategy_of self.now) }
         ensures mark { IfOk result (λ new. edge_mark new ≡ edge_mark self.now) }
         ensures meaning { IfOk result (λ new. (e : List Flow) → IsFlowSet (size_of self.now) e
-            → (holds_on new e ↔ holds_after_reset self.now host e)) };
+            → (holds_on new e ↔ holds_after_reset self.now host e)) }
+        ensures given { IfOk result (λ new. reset_gives self.now host new) };
 
     // What holds of a set holds of its subsets.
     ghost downward: { (x : Self) → IsDownward (size_of x) (holds_on x) };
