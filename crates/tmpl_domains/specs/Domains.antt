@@ -1,7 +1,6 @@
 -- The domain hierarchy template: a host sends to its own place and to all places below it, and its trust lets it act as if it stood higher.
+-- In the manner of the template of this name of Network_Security_Policy_Verification in the Archive of Formal Proofs, with the rule of docs/FORMATS.md.
 use Rattle.std.specs.Prelude.{ℕ, ◌-◌, List, length, take, Option, Some, None}
-use Rattle.inv_law.specs.Attributes.{IsSecureDefault}
-use Rattle.inv_law.specs.declared.strategy.Strategy.TheVariants.{Access}
 use Rattle.tmpl_domains.specs.Path.{IsPrefix}
 
 -- a place in the hierarchy, and the trust of a host there
@@ -18,8 +17,3 @@ abbrev pub DomainsPass : Option Place → Option Place → Type 0
 DomainsPass sender None = Unit {0}
 DomainsPass None (Some receiver) = ⊥
 DomainsPass (Some sender) (Some receiver) = IsPrefix (trusted_path sender) receiver.path
-
--- a sender without a place reaches only receivers without one, whom all senders reach
-pub domains_secure : IsSecureDefault Access None DomainsPass
-domains_secure sender None passes = tt
-domains_secure sender (Some receiver) passes = absurd passes

@@ -4,7 +4,8 @@ ghost use Rattle.std.specs.Prelude.{◌≡◌, ◌≤◌, ◌<◌, IsTrue, IfOk,
 ghost use Rattle.inv_law.specs.Attributes.{PassesBetween, PassesAfterReset};
 ghost use Rattle.inv_law.specs.AttributeLaws.{ResetPassesNoMore-attributes};
 ghost use Rattle.inv_law.specs.declared.strategy.Strategy.TheVariants.{Access};
-ghost use Rattle.tmpl_domains.specs.Domains.{DomainsPass, domains_secure};
+ghost use Rattle.tmpl_domains.specs.Domains.{DomainsPass};
+ghost use Rattle.tmpl_domains.specs.DomainsLaws.{domains_secure};
 ghost use Rattle.tmpl_domains.specs.Path.{segments, is_path};
 
 use crate::domain::Domain;
@@ -67,6 +68,8 @@ impl EdgeRule for Domains {
     ghost passes_from = { PassesBetween None DomainsPass };
 
     ghost passes_after_reset = { PassesAfterReset None DomainsPass };
+
+    ghost reset_gives = { λ hosts host new. new ≡ slice_set hosts host None };
 
     fn strategy(&self) -> Strategy {
         Strategy::Access

@@ -46,6 +46,7 @@ fn before_and_after<I: Invariant + Drop>(
     Ok((inv.admits(f), reset.admits(f)))
 }
 
+// That memory suffices, and worked answers of two paths.
 #[test]
 fn places_of_two_hosts(rt: HostRuntime) -> Result<(), Fail> {
     let alloc = rt.alloc();
@@ -62,6 +63,7 @@ fn places_of_two_hosts(rt: HostRuntime) -> Result<(), Fail> {
     Ok(())
 }
 
+// That a reset finds memory, and the template through its bounds.
 #[test]
 fn hosts_without_a_place(rt: HostRuntime) -> Result<(), Fail> {
     let mut rule = Domains::new(rt.alloc(), 2)?;

@@ -1,10 +1,6 @@
 -- The Bell-LaPadula template with trusted hosts: information flows upward, or to a host that is trusted with it.
 -- After the entry Network_Security_Policy_Verification of the Archive of Formal Proofs.
 use Rattle.std.specs.Prelude.{◌≤◌, ◌⊎◌, false, IsTrue}
-use Rattle.std.proofs.Common.{inl, inr, arith}
-use Rattle.std.proofs.lemmas.Bool.{false≢true}
-use Rattle.inv_law.specs.Attributes.{IsSecureDefault}
-use Rattle.inv_law.specs.declared.strategy.Strategy.TheVariants.{Information}
 use Rattle.tmpl_levels.specs.declared.blp.Clearance.{Clearance}
 
 -- a host of level 0 that is not trusted
@@ -14,8 +10,3 @@ unclassified = record { level = 0; trusted = false }
 -- the receiver is trusted, or its level is no lower than the sender's
 abbrev pub BlpPasses : Clearance → Clearance → Type 0
 BlpPasses sender receiver = IsTrue receiver.trusted ⊎ (sender.level ≤ receiver.level)
-
--- what passes to an unclassified receiver is of level 0, and passes to every receiver
-pub blp_secure : IsSecureDefault Information unclassified BlpPasses
-blp_secure sender receiver (inl trusted) = absurd (false≢true trusted)
-blp_secure sender receiver (inr low) = inr (omega arith)

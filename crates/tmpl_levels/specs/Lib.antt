@@ -1,2 +1,4 @@
 pub mod Blp
+pub mod BlpLaws
 pub mod Tainting
+pub mod TaintingLaws

@@ -2,10 +2,6 @@
 -- After the entry Network_Security_Policy_Verification of the Archive of Formal Proofs.
 use Rattle.std.specs.Prelude.{◌≡◌, ℕ, bit_and}
 use Rattle.std.specs.Int.{bit_at}
-use Rattle.std.proofs.Common.{arith}
-use Rattle.std.proofs.lemmas.Nat.Bits.{bit_at-zero}
-use Rattle.inv_law.specs.Attributes.{IsSecureDefault}
-use Rattle.inv_law.specs.declared.strategy.Strategy.TheVariants.{Information}
 use Rattle.tmpl_levels.specs.declared.tainting.Labels.{Labels}
 
 -- a set of labels is a number with one bit for each label
@@ -24,11 +20,3 @@ untainted = record { taints = 0; untaints = 0 }
 abbrev pub TaintsPass : Labels → Labels → Type 0
 TaintsPass sender receiver =
     (label : ℕ) → HasLabel sender.taints label → (HasLabel sender.untaints label → ⊥) → HasLabel receiver.taints label
-
--- what passes to an untainted receiver has no label left, and passes to every receiver
-pub tainting_secure : IsSecureDefault Information untainted TaintsPass
-tainting_secure sender receiver passes label has keeps =
-    nothing_has (bit_at 0 label) (bit_at-zero label) (passes label has keeps)
-  where
-    nothing_has : {C : Type 0} (bit : ℕ) → bit ≡ 0 → bit ≡ 1 → C
-    nothing_has bit none one = absurd (omega arith)

@@ -5,7 +5,8 @@ ghost use Rattle.std.specs.Prelude.{◌≡◌, ◌<◌, IfOk, length, replicate,
 ghost use Rattle.inv_law.specs.Attributes.{PassesBetween, PassesAfterReset};
 ghost use Rattle.inv_law.specs.AttributeLaws.{ResetPassesNoMore-attributes};
 ghost use Rattle.inv_law.specs.declared.strategy.Strategy.TheVariants.{Information};
-ghost use Rattle.tmpl_levels.specs.Blp.{unclassified, BlpPasses, blp_secure};
+ghost use Rattle.tmpl_levels.specs.Blp.{unclassified, BlpPasses};
+ghost use Rattle.tmpl_levels.specs.BlpLaws.{blp_secure};
 
 use inv_law::{EdgeRule, Strategy};
 use std::alloc::{AllocError, Global};
@@ -67,6 +68,8 @@ impl EdgeRule for Blp {
     ghost passes_from = { PassesBetween unclassified BlpPasses };
 
     ghost passes_after_reset = { PassesAfterReset unclassified BlpPasses };
+
+    ghost reset_gives = { λ hosts host new. new ≡ slice_set hosts host unclassified };
 
     fn strategy(&self) -> Strategy {
         Strategy::Information

@@ -4,7 +4,8 @@ ghost use Rattle.std.specs.Prelude.{◌≡◌, ◌<◌, ◌↔◌, IsTrue, IfOk,
 ghost use Rattle.inv_law.specs.Attributes.{PassesBetween, PassesAfterReset};
 ghost use Rattle.inv_law.specs.AttributeLaws.{ResetPassesNoMore-attributes};
 ghost use Rattle.inv_law.specs.declared.strategy.Strategy.TheVariants.{Information};
-ghost use Rattle.tmpl_levels.specs.Tainting.{untainted, AreAmong, TaintsPass, tainting_secure};
+ghost use Rattle.tmpl_levels.specs.Tainting.{untainted, AreAmong, TaintsPass};
+ghost use Rattle.tmpl_levels.specs.TaintingLaws.{tainting_secure};
 
 use inv_law::{EdgeRule, Strategy};
 use std::alloc::{AllocError, Global};
@@ -77,6 +78,8 @@ impl EdgeRule for Tainting {
     ghost passes_from = { PassesBetween untainted TaintsPass };
 
     ghost passes_after_reset = { PassesAfterReset untainted TaintsPass };
+
+    ghost reset_gives = { λ hosts host new. new ≡ slice_set hosts host untainted };
 
     fn strategy(&self) -> Strategy {
         Strategy::Information

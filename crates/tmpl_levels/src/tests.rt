@@ -37,6 +37,7 @@ fn before_and_after<I: Invariant + Drop>(
 
 const FLOW: Flow = Flow { from: 0, to: 1 };
 
+// That memory suffices, the answers of a worked network, and the template through its bounds.
 #[test]
 fn levels(rt: HostRuntime) -> Result<(), Fail> {
     let mut rule = Blp::new(rt.alloc(), 3)?;
@@ -54,6 +55,7 @@ fn levels(rt: HostRuntime) -> Result<(), Fail> {
     Ok(())
 }
 
+// That memory suffices, worked answers, and the template through its bounds.
 #[test]
 fn labels(rt: HostRuntime) -> Result<(), Fail> {
     let mut rule = Tainting::new(rt.alloc(), 3)?;

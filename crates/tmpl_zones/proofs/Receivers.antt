@@ -1,8 +1,9 @@
 -- One host's row, and the attribute that it stands for.
-use Rattle.std.proofs.Common.{◌≡◌, ℕ, ◌+◌, ◌<◌, Bool, true, List, [], ◌∷◌, ◌++◌, length, map, take, get_or, set, refl, sym, ◌∙◌, ap, arith}
+use Rattle.std.proofs.Common.{◌≡◌, ℕ, ◌+◌, ◌<◌, Bool, true, List, [], ◌∷◌, ◌++◌, length, map, take, get_or, set, refl, sym, ◌∙◌, ap, subst, arith}
 use Rattle.std.proofs.lemmas.List.{map-set, get_or-map, length-map, map_push, take_more}
 use Rattle.std.proofs.lemmas.List.Elements.{All-get_or}
-use Rattle.tmpl_zones.specs.Partners.{Partner, DontCare, with_sender}
+use Rattle.tmpl_zones.specs.Partners.{Partner, DontCare, IsMaster, with_sender}
+use Rattle.tmpl_zones.specs.PartnersLaws.{marks_of}
 use Rattle.tmpl_zones.specs.PartnersView.{partner_of, attribute_by, HasRooms}
 use Rattle.tmpl_zones.specs.declared.partners.Receiver.{Receiver}
 use Rattle.tmpl_zones.specs.declared.partners.Taking.{Taking}
@@ -45,3 +46,14 @@ pub length_row : (rows : List Receiver) (i : ℕ) (row : Receiver) → HasRooms 
 length_row rows i row rooms within here =
     ap (λ (r : Receiver). length r.from.items) here
     ∙ All-get_or (λ receiver. length receiver.from.items ≡ length rows) rows i row within rooms.rows
+
+-- a mark of a master's row is a mark of its list
+has_mark_by : (kind : Taking) (marks : List Bool) (sender : ℕ) → IsMaster (attribute_by kind marks) → sender < length marks → sender < length (marks_of (attribute_by kind marks))
+has_mark_by taking.DontCare marks sender is_master within = absurd is_master
+has_mark_by taking.Care marks sender is_master within = absurd is_master
+has_mark_by taking.Master marks sender is_master within = within
+
+pub has_mark : (row : Receiver) (partner : Partner) (sender : ℕ) → partner_of row ≡ partner → IsMaster partner → sender < length row.from.items → sender < length (marks_of partner)
+has_mark row partner sender seen is_master within =
+    subst (λ (p : Partner). sender < length (marks_of p)) seen
+    (has_mark_by row.taking row.from.items sender (subst IsMaster (sym seen) is_master) within)

@@ -1,6 +1,10 @@
 pub mod Gateway
+pub mod GatewayLaws
 pub mod Kinds
 pub mod Partners
+pub mod PartnersLaws
 pub mod PartnersView
 pub mod Sink
+pub mod SinkLaws
 pub mod Subnets
+pub mod SubnetsLaws

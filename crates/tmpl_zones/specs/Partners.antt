@@ -1,10 +1,7 @@
 -- The communication partners template: whom a host takes packets from.
-use Rattle.std.specs.Prelude.{ℕ, Bool, true, false, List, slice_index_or, slice_set, refl}
-use Rattle.std.proofs.lemmas.Bool.{false≢true}
-use Rattle.inv_law.specs.Attributes.{PassesBetween, PassesAfterReset, IsSecureDefault}
-use Rattle.inv_law.specs.AttributeLaws.{ResetPassesNoMore-attributes}
-use Rattle.inv_law.specs.Rules.{ResetPassesNoMore}
-use Rattle.inv_law.specs.declared.strategy.Strategy.TheVariants.{Access}
+-- In the manner of the template of this name of Network_Security_Policy_Verification in the Archive of Formal Proofs, with the table of docs/FORMATS.md.
+use Rattle.std.specs.Prelude.{ℕ, Bool, true, false, List, slice_index_or, slice_set}
+use Rattle.inv_law.specs.Attributes.{PassesBetween, PassesAfterReset}
 use Rattle.tmpl_zones.specs.Kinds.{TablePasses}
 
 -- a host takes from all hosts, from all but those that do not care, or from those whose numbers are marked
@@ -39,13 +36,3 @@ abbrev pub IsMaster : Partner → Type 0
 IsMaster DontCare = ⊥
 IsMaster Care = ⊥
 IsMaster (Master takes_from) = Unit {0}
-
--- whom a sender that does not care reaches, every sender of its number reaches
-pub partners_secure : (number : ℕ) → IsSecureDefault Access DontCare (TablePasses (partners_passes number))
-partners_secure number sender DontCare passes = refl
-partners_secure number sender Care passes = absurd (false≢true passes)
-partners_secure number sender (Master takes_from) passes = passes
-
-pub partners_reset : (n : ℕ) (partners : List Partner) → ResetPassesNoMore n Access (PartnersPass partners) (PartnersPassAfterReset partners)
-partners_reset n partners f =
-    ResetPassesNoMore-attributes Access DontCare (TablePasses (partners_passes f.from)) (partners_secure f.from) n partners f

@@ -1,9 +1,6 @@
 -- The subnets template: a subnet sends within its number, and borders send to each other.
-use Rattle.std.specs.Prelude.{Bool, true, false, ◌==◌, refl}
-use Rattle.std.proofs.lemmas.Bool.{false≢true}
-use Rattle.inv_law.specs.Attributes.{IsSecureDefault}
-use Rattle.inv_law.specs.declared.strategy.Strategy.TheVariants.{Access}
-use Rattle.tmpl_zones.specs.Kinds.{TablePasses}
+-- In the manner of the template of this name of Network_Security_Policy_Verification in the Archive of Formal Proofs, with the table of docs/FORMATS.md.
+use Rattle.std.specs.Prelude.{Bool, true, false, ◌==◌}
 use Rattle.tmpl_zones.specs.declared.subnets.NetKind.{NetKind}
 use Rattle.tmpl_zones.specs.declared.subnets.NetKind.TheVariants.{Subnet, Border, Unassigned}
 
@@ -16,11 +13,3 @@ subnets_passes (Border a) (Border b) = true
 subnets_passes Unassigned (Subnet b) = false
 subnets_passes Unassigned (Border b) = false
 subnets_passes sender Unassigned = true
-
--- an unassigned sender reaches unassigned receivers alone, whom all senders reach
-pub subnets_secure : IsSecureDefault Access Unassigned (TablePasses subnets_passes)
-subnets_secure sender (Subnet b) passes = absurd (false≢true passes)
-subnets_secure sender (Border b) passes = absurd (false≢true passes)
-subnets_secure (Subnet a) Unassigned passes = refl
-subnets_secure (Border a) Unassigned passes = refl
-subnets_secure Unassigned Unassigned passes = refl

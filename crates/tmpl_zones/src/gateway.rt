@@ -1,5 +1,6 @@
-//! The security gateway template: members are reached through a gateway, and not by each other. A
-//! gateway may send to a member; an unassigned host may send to an accessible member alone.
+//! The security gateway template: members are reached by gateways alone, and not by each other. An
+//! unassigned host reaches what is meant to be reached from outside: accessible members, gateways of
+//! the kind `GatewayIn`, and other unassigned hosts.
 
 use crate::kinds::{Kind, KindRule};
 use inv_law::Strategy;
@@ -15,7 +16,7 @@ pub enum GateKind {
     Member,
     /// A member that is reached by all.
     Accessible,
-    /// Sends to no member and to no inner gateway.
+    /// Sends to all but members and gateways of the kind `Gateway`.
     Unassigned,
 }
 
@@ -24,7 +25,8 @@ pub type Gateway = KindRule<GateKind>;
 
 impl Kind for GateKind {
     ghost use Rattle.inv_law.specs.declared.strategy.Strategy.TheVariants.{Access};
-    ghost use Rattle.tmpl_zones.specs.Gateway.{gateway_passes, gateway_secure};
+    ghost use Rattle.tmpl_zones.specs.Gateway.{gateway_passes};
+    ghost use Rattle.tmpl_zones.specs.GatewayLaws.{gateway_secure};
     ghost use Rattle.tmpl_zones.specs.declared.gateway.GateKind.TheVariants.{Unassigned};
 
     ghost default_kind = { Unassigned };

@@ -77,6 +77,8 @@ impl<K: Kind> EdgeRule for KindRule<K> {
 
     ghost passes_after_reset = { PassesAfterReset K.default_kind (TablePasses K.kind_passes) };
 
+    ghost reset_gives = { λ kinds host new. new ≡ slice_set kinds host K.default_kind };
+
     fn strategy(&self) -> Strategy {
         K::strategy()
     }

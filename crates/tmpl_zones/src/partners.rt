@@ -1,9 +1,10 @@
 //! The communication partners template: a master takes packets only from the hosts in its list, and
 //! a host that cares from all hosts but those that do not.
 
-ghost use Rattle.std.specs.Prelude.{◌≡◌, ◌≢◌, ◌<◌, ◌↔◌, true, false, IsTrue, IfOk, length, replicate, slice_index_or, slice_set};
+ghost use Rattle.std.specs.Prelude.{◌≡◌, ◌≢◌, ◌<◌, ◌↔◌, ◌⊎◌, ℕ, true, false, IsTrue, IfOk, length, replicate, slice_index_or, slice_set};
 ghost use Rattle.inv_law.specs.declared.strategy.Strategy.TheVariants.{Access};
-ghost use Rattle.tmpl_zones.specs.Partners.{Partner, DontCare, Care, Master, PartnersPass, PartnersPassAfterReset, IsMaster, with_sender, partners_reset};
+ghost use Rattle.tmpl_zones.specs.Partners.{Partner, DontCare, Care, Master, PartnersPass, PartnersPassAfterReset, IsMaster, with_sender};
+ghost use Rattle.tmpl_zones.specs.PartnersLaws.{partners_reset};
 
 use inv_law::{EdgeRule, Strategy};
 use std::alloc::{AllocError, Global};
@@ -25,7 +26,7 @@ struct Receiver {
     from: Vec<bool>,
 }
 
-/// Keeps what masters and hosts that care take to their partners.
+/// Closes masters to all but the hosts in their lists, and hosts that care to those that do not.
 #[derive(Drop)]
 pub struct Partners {
     hosts: Vec<Receiver>,
@@ -72,7 +73,8 @@ impl Partners {
     /// Makes the host a master that takes from nobody.
     pub fn set_master(&mut self, host: u16)
         requires { host < length self.old }
-        ensures { self.new ≡ slice_set self.old host (Master (replicate (length self.old) false)) }
+        ensures list { self.new ≡ slice_set self.old host (Master (replicate (length self.old) false)) }
+        ensures nobody { (sender : ℕ) → sender < length self.old → PartnersPass self.new sender host → ⊥ }
     {
         let receiver = &mut self.hosts[host as usize];
         receiver.taking = Taking::Master;
@@ -84,7 +86,9 @@ impl Partners {
         requires hosts { (sender < length self.old) × (master < length self.old) }
         requires differ { sender ≢ master }
         requires master { IsMaster (slice_index_or self.old master DontCare) }
-        ensures { self.new ≡ slice_set self.old master (with_sender (slice_index_or self.old master DontCare) sender) }
+        ensures list { self.new ≡ slice_set self.old master (with_sender (slice_index_or self.old master DontCare) sender) }
+        ensures takes { (number : ℕ) → PartnersPass self.new number master
+            ↔ ((number ≡ sender) ⊎ PartnersPass self.old number master) }
     {
         let receiver = &mut self.hosts[master as usize];
         receiver.from[sender as usize] = true;
@@ -120,6 +124,8 @@ impl EdgeRule for Partners {
     ghost passes_from = { PartnersPass };
 
     ghost passes_after_reset = { PartnersPassAfterReset };
+
+    ghost reset_gives = { λ partners host new. new ≡ slice_set partners host DontCare };
 
     fn strategy(&self) -> Strategy {
         Strategy::Access

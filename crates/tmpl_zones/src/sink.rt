@@ -1,5 +1,4 @@
-//! The sink template: hosts that only receive. A pool may send to a sink, and not to a host that
-//! may pass on what it gets.
+//! The sink template: hosts that only receive, and pools, which send to each other and to sinks.
 
 use crate::kinds::{Kind, KindRule};
 use inv_law::Strategy;
@@ -20,7 +19,8 @@ pub type SinkRule = KindRule<SinkKind>;
 
 impl Kind for SinkKind {
     ghost use Rattle.inv_law.specs.declared.strategy.Strategy.TheVariants.{Information};
-    ghost use Rattle.tmpl_zones.specs.Sink.{sink_passes, sink_secure};
+    ghost use Rattle.tmpl_zones.specs.Sink.{sink_passes};
+    ghost use Rattle.tmpl_zones.specs.SinkLaws.{sink_secure};
     ghost use Rattle.tmpl_zones.specs.declared.sink.SinkKind.TheVariants.{Unassigned};
 
     ghost default_kind = { Unassigned };

@@ -1,5 +1,5 @@
 //! The subnets template: hosts of a subnet send to each other and to the border of their subnet, and
-//! borders send to borders. Subnet 1 may not send to subnet 2 but by the borders of both.
+//! borders send to borders. No border sends into a subnet, its own included.
 
 use crate::kinds::{Kind, KindRule};
 use inv_law::Strategy;
@@ -15,12 +15,13 @@ pub enum NetKind {
     Unassigned,
 }
 
-/// Keeps what subnets take to the subnet and to borders.
+/// Closes subnets to each other and to hosts outside.
 pub type Subnets = KindRule<NetKind>;
 
 impl Kind for NetKind {
     ghost use Rattle.inv_law.specs.declared.strategy.Strategy.TheVariants.{Access};
-    ghost use Rattle.tmpl_zones.specs.Subnets.{subnets_passes, subnets_secure};
+    ghost use Rattle.tmpl_zones.specs.Subnets.{subnets_passes};
+    ghost use Rattle.tmpl_zones.specs.SubnetsLaws.{subnets_secure};
     ghost use Rattle.tmpl_zones.specs.declared.subnets.NetKind.TheVariants.{Unassigned};
 
     ghost default_kind = { Unassigned };

@@ -52,6 +52,7 @@ fn before_and_after<I: Invariant + Drop>(
 
 const FLOW: Flow = Flow { from: 0, to: 1 };
 
+// That memory suffices, the table of all kinds, and the template through its bounds.
 #[test]
 fn sinks(rt: HostRuntime) -> Result<(), Fail> {
     let kinds = [SinkKind::Sink, SinkKind::Pool, SinkKind::Unassigned];
@@ -70,6 +71,7 @@ fn sinks(rt: HostRuntime) -> Result<(), Fail> {
     Ok(())
 }
 
+// That memory suffices, the table of all kinds, and the template through its bounds.
 #[test]
 fn gateways(rt: HostRuntime) -> Result<(), Fail> {
     let kinds = [
@@ -96,6 +98,7 @@ fn gateways(rt: HostRuntime) -> Result<(), Fail> {
     Ok(())
 }
 
+// That memory suffices, the table of all kinds, and the template through its bounds.
 #[test]
 fn subnets(rt: HostRuntime) -> Result<(), Fail> {
     let kinds = [
@@ -122,6 +125,7 @@ fn subnets(rt: HostRuntime) -> Result<(), Fail> {
     Ok(())
 }
 
+// That memory suffices, worked answers, and the template through its bounds.
 #[test]
 fn partners(rt: HostRuntime) -> Result<(), Fail> {
     let mut rule = Partners::new(rt.alloc(), 4)?;

@@ -1,0 +1,14 @@
+-- The default of the security gateway template hides no fault.
+use Rattle.std.specs.Prelude.{refl}
+use Rattle.inv_law.specs.Attributes.{IsSecureDefault}
+use Rattle.inv_law.specs.declared.strategy.Strategy.TheVariants.{Access}
+use Rattle.tmpl_zones.specs.Kinds.{TablePasses}
+use Rattle.tmpl_zones.specs.Gateway.{gateway_passes}
+use Rattle.tmpl_zones.specs.declared.gateway.GateKind.TheVariants.{Member, Accessible, Unassigned}
+
+-- whom an unassigned sender reaches, every sender reaches
+pub gateway_secure : IsSecureDefault Access Unassigned (TablePasses gateway_passes)
+gateway_secure Member Member passes = passes
+gateway_secure Accessible Member passes = passes
+gateway_secure Unassigned receiver passes = passes
+gateway_secure sender receiver passes = refl
