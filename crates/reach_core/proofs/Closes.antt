@@ -12,11 +12,11 @@ use Rattle.flow_set.specs.FlowLaws.{same_flow_self, same_flow_back, has-with_flo
 use Rattle.flow_set.specs.SubsetLaws.{IsFlowSet-nothing, IsFlowSet-with_flow}
 use Rattle.reach_core.specs.HostSet.{Hosts}
 use Rattle.reach_core.specs.Walks.{has_either}
-use Rattle.reach_core.specs.WalkLaws.{HasPath, HasWalk-weaker, HasPath-weaker, path_of_walk, cases_path, walk_over, walk_cut}
-use Rattle.reach_core.specs.Rows.{row_of, Closes, opened, OpensFlow, HasRows}
-use Rattle.reach_core.specs.HostSetLaws.{contains-insert}
+use Rattle.reach_core.specs.WalkLaws.{HasPath, HasWalk-weaker, HasWalk-append, HasPath-weaker, path_of_walk, cases_path, walk_over, walk_cut}
+use Rattle.reach_core.specs.Rows.{row_of, Closes, IsClosed, opened, OpensFlow, HasRows}
+use Rattle.reach_core.specs.HostSetLaws.{contains-insert, hosts_ext}
 
--- ---- one more flow
+-- ---- a row after one more flow
 
 contains-either_of : (b : Bool) (s t : Hosts) (j : ℕ) (x y : Bool) → set.contains s j ≡ x → set.contains t j ≡ (x || y) → set.contains (cond b t s) j ≡ (x || (b && y))
 contains-either_of true s t j x y from_s from_t = from_t
@@ -28,6 +28,35 @@ contains-opened rows g i j =
     contains-either_of (nat_eq i g.from || set.contains (row_of rows i) g.from) (row_of rows i) _ j _ _ refl
     (set.contains-union nat_cmp_total (row_of rows i) (set.insert (row_of rows g.to) g.to) j
     ∙ ap (λ b. set.contains (row_of rows i) j || b) (contains-insert (row_of rows g.to) g.to j))
+
+-- ---- a flow whose sender comes to its receiver already
+
+pub IsClosed-closes : (test : Flow → Bool) (rows : List Hosts) → Closes test rows → IsClosed rows
+IsClosed-closes test rows closes i k j first second comes goes =
+    (closes i j first).1 (HasWalk-append test i k j ((closes i k first).0 comes) ((closes k j second).0 goes))
+
+absorbed : (a b c : Bool) → (IsTrue b → IsTrue c → IsTrue a) → (a || (b && c)) ≡ a
+absorbed true b c within = refl
+absorbed false true true within = sym (within refl refl)
+absorbed false true false within = refl
+absorbed false false c within = refl
+
+pub opens_nothing : (rows : List Hosts) (g : Flow) → IsFlow (length rows) g → IsClosed rows → IsTrue (set.contains (row_of rows g.from) g.to) → OpensFlow rows rows g
+opens_nothing rows g is_flow closed there = record {
+  same_length = refl;
+  rows = λ i below. hosts_ext _ _ (λ j.
+      sym (contains-opened rows g i j ∙ absorbed (set.contains (row_of rows i) j) _ _ (λ comes goes.
+      let beyond : IsTrue (set.contains (row_of rows g.from) j) = elim (or_cases (nat_eq j g.to) (set.contains (row_of rows g.to) j) goes) [
+        | inl same ↦ ap (λ h. set.contains (row_of rows g.from) h) (eqb-true _ _ same) ∙ there
+        | inr further ↦ closed g.from g.to j is_flow.0 is_flow.1 there further
+      ] in
+      elim (or_cases (nat_eq i g.from) (set.contains (row_of rows i) g.from) comes) [
+        | inl same ↦ ap (λ h. set.contains (row_of rows h) j) (eqb-true _ _ same) ∙ beyond
+        | inr before ↦ closed i g.from j below is_flow.0 before beyond
+      ])));
+}
+
+-- ---- the rows of one more flow
 
 pub closes_step : (test : Flow → Bool) (old new : List Hosts) (g : Flow) → g.from < length old → g.to < length old → Closes test old → OpensFlow old new g → Closes (λ f. same_flow g f || test f) new
 closes_step test old new g from_in to_in closes opens i j below =
@@ -89,6 +118,21 @@ has_either-with_flow fs g f =
     ∙ regroup (same_flow g f) (has fs f) (same_flow g (back_of f)) (has fs (back_of f))
     ∙ sym (λ i. has-with_flow fs g f i || has-with_flow fs g (back_of f) i)
 
+-- with the flow alone, and its reverse still to come
+closes_halfway : (e : SetOfFlows) (f : Flow) (along either halfway : List Hosts) → IsFlow e.size f → HasRows e along either → OpensFlow either halfway f → Closes (λ g. same_flow f g || has_either e.flows g) halfway
+closes_halfway e f along either halfway is_flow rows one_way =
+    closes_step (has_either e.flows) either halfway f (omega (arith, is_flow.0, rows.joined_length)) (omega (arith, is_flow.1, rows.joined_length)) rows.joined one_way
+
+pub IsClosed-reached : (e : SetOfFlows) (along either : List Hosts) → HasRows e along either → IsClosed along
+IsClosed-reached e along either rows = IsClosed-closes (has e.flows) along rows.reached
+
+pub IsClosed-joined : (e : SetOfFlows) (along either : List Hosts) → HasRows e along either → IsClosed either
+IsClosed-joined e along either rows = IsClosed-closes (has_either e.flows) either rows.joined
+
+pub IsClosed-halfway : (e : SetOfFlows) (f : Flow) (along either halfway : List Hosts) → IsFlow e.size f → HasRows e along either → OpensFlow either halfway f → IsClosed halfway
+IsClosed-halfway e f along either halfway is_flow rows one_way =
+    IsClosed-closes (λ g. same_flow f g || has_either e.flows g) halfway (closes_halfway e f along either halfway is_flow rows one_way)
+
 pub HasRows-with_flow : (e : SetOfFlows) (f : Flow) (along along' either halfway either' : List Hosts) → IsFlow e.size f → HasRows e along either → OpensFlow along along' f → OpensFlow either halfway f → OpensFlow halfway either' (back_of f) → HasRows (record e { flows = with_flow e.flows f }) along' either'
 HasRows-with_flow e f along along' either halfway either' is_flow rows opens one_way other_way =
     record {
@@ -101,8 +145,7 @@ HasRows-with_flow e f along along' either halfway either' is_flow rows opens one
       joined =
           closes_same _ (has_either (with_flow e.flows f)) either' (has_either-with_flow e.flows f)
           (closes_step (λ g. same_flow f g || has_either e.flows g) halfway either' (back_of f) (omega (arith, is_flow.1, rows.joined_length, one_way.same_length)) (omega (arith, is_flow.0, rows.joined_length, one_way.same_length))
-          (closes_step (has_either e.flows) either halfway f (omega (arith, is_flow.0, rows.joined_length)) (omega (arith, is_flow.1, rows.joined_length)) rows.joined one_way)
-          other_way);
+          (closes_halfway e f along either halfway is_flow rows one_way) other_way);
     }
 
 -- ---- no flows

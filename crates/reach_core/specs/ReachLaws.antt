@@ -1,5 +1,5 @@
 -- Laws of what a host reaches and of what it is joined with: over subsets, no flows, one flow and one more flow.
-use Rattle.std.proofs.Common.{◌≡◌, ℕ, ◌<◌, ◌≤◌, false, ◌⊎◌, ◌↔◌, inl, inr, List, [], ◌∷◌, refl, sym, ◌∙◌, ap, arith}
+use Rattle.std.proofs.Common.{◌≡◌, ℕ, ◌<◌, ◌≤◌, false, ◌⊎◌, ◌↔◌, inl, inr, List, [], ◌∷◌, ◌++◌, refl, sym, ◌∙◌, ap, arith}
 use Rattle.std.specs.Prelude.{IsTrue, ◌≢◌}
 use Rattle.std.proofs.lemmas.Bool.{or_cases, or_left, or_right, false≢true}
 use Rattle.std.proofs.lemmas.List.Elements.{All-nil, All-cons}
@@ -7,8 +7,8 @@ use Rattle.flow_set.specs.declared.flow.Flow.{Flow}
 use Rattle.flow_set.specs.Flow.{same_flow, back_of}
 use Rattle.flow_set.specs.FlowSet.{IsFlowSet, has, with_flow}
 use Rattle.flow_set.specs.FlowLaws.{same_flow-true, has-with_flow}
-use Rattle.reach_core.specs.Walks.{Reaches, has_either, Joined, ReachesAtMost, ReachesExactly}
-use Rattle.reach_core.specs.WalkLaws.{HasPath, HasWalk-weaker, path_touch, walk_ends}
+use Rattle.reach_core.specs.Walks.{LeadsTo, Reaches, has_either, Joined, ReachesAtMost, ReachesExactly}
+use Rattle.reach_core.specs.WalkLaws.{HasPath, HasWalk-weaker, LeadsTo-append, walk_over, path_touch, walk_ends}
 
 -- ---- over subsets
 
@@ -73,6 +73,26 @@ Joined-one f i j walk =
     ] in
     walk_ends (has_either (f ∷ [])) (IsEnd f) (IsEnd f) ends i j walk.0 walk.1 walk.2
 
+-- ---- in either direction
+
+has_either-back : (e : List Flow) (f : Flow) → IsTrue (has_either e f) → IsTrue (has_either e (back_of f))
+has_either-back e f shown =
+    elim (or_cases (has e f) (has e (back_of f)) shown) [
+      | inl forth ↦ or_right _ _ forth
+      | inr back ↦ or_left _ _ back
+    ]
+
+turned : (e : List Flow) (i j : ℕ) (fs : List Flow) → LeadsTo (has_either e) i j fs → HasPath (has_either e) j i
+turned e i j [] here = ([], sym here)
+turned e i j (f ∷ fs) walk =
+    let rest = turned e f.to j fs walk.2 in
+    (rest.0 ++ back_of f ∷ [], LeadsTo-append (has_either e) j f.to i rest.0 (back_of f ∷ []) rest.1 (has_either-back e f walk.0, refl, walk.1))
+
+-- hosts that are joined are joined both ways
+pub Joined-back : (e : List Flow) (i j : ℕ) → Joined e i j → Joined e j i
+Joined-back e i j (f, fs, walk) =
+    walk_over (has_either e) (back_of f) (has_either-back e f walk.0) j i (turned e f.to j fs walk.2) ([], walk.1)
+
 -- ---- how many others
 
 pub ReachesExactly-at_most : (e : List Flow) (i count limit : ℕ) → ReachesExactly e i count → (count ≤ limit) ↔ ReachesAtMost e i limit
@@ -80,6 +100,13 @@ ReachesExactly-at_most e i count limit exactly = (
   λ below hosts are. let few = exactly.most hosts are in omega arith,
   λ most. let few = most exactly.hosts exactly.reached in omega (arith, exactly.counted),
 )
+
+-- there is one such number
+pub ReachesExactly-one : (e : List Flow) (i m n : ℕ) → ReachesExactly e i m → ReachesExactly e i n → m ≡ n
+ReachesExactly-one e i m n first second =
+    let no_more = first.most second.hosts second.reached in
+    let no_less = second.most first.hosts first.reached in
+    omega (arith, first.counted, second.counted)
 
 -- a sender reaches some other host
 pub sender_reaches : (e : List Flow) (f : Flow) → IsTrue (has e f) → f.from ≢ f.to → ReachesAtMost e f.from 0 → ⊥

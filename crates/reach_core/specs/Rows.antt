@@ -1,4 +1,4 @@
--- Rows of hosts, one for each host: what the rows of a closure say, and what one more flow opens.
+-- Rows of hosts, one for each host: what the rows of a closure say, and what one more flow opens. No clause of a public call speaks of rows.
 use Rattle.std.specs.Prelude.{◌≡◌, ℕ, ◌<◌, ◌↔◌, Bool, ◌||◌, ◌==◌, if◌then◌else◌, List, length, slice_index_or, IsTrue}
 use Rattle.std.specs.FinSet as set
 use Rattle.flow_set.specs.declared.flow.Flow.{Flow}
@@ -13,6 +13,11 @@ row_of rows i = slice_index_or rows i set.empty
 -- each row has the hosts that walks lead to from its host
 abbrev pub Closes : (Flow → Bool) → List Hosts → Type 0
 Closes test rows = (i j : ℕ) → i < length rows → IsTrue (set.contains (row_of rows i) j) ↔ HasWalk test i j
+
+-- whoever comes to a host comes to all beyond it
+abbrev pub IsClosed : List Hosts → Type 0
+IsClosed rows =
+    (i k j : ℕ) → i < length rows → k < length rows → IsTrue (set.contains (row_of rows i) k) → IsTrue (set.contains (row_of rows k) j) → IsTrue (set.contains (row_of rows i) j)
 
 -- a host's row after one more flow: whoever is its sender or comes to it goes on to its receiver and to all beyond
 abbrev pub opened : List Hosts → Flow → ℕ → Hosts

@@ -36,6 +36,11 @@ pub LeadsTo-append : (test : Flow → Bool) (i k j : ℕ) (fs gs : List Flow) �
 LeadsTo-append test i k j [] gs here walk = let P : ℕ → Type 0 = λ h. LeadsTo test h j gs in subst P (sym here) walk
 LeadsTo-append test i k j (f ∷ fs) gs first second = (first.0, first.1, LeadsTo-append test f.to k j fs gs first.2 second)
 
+-- a walk and a walk are a walk
+pub HasWalk-append : (test : Flow → Bool) (i k j : ℕ) → HasWalk test i k → HasWalk test k j → HasWalk test i j
+HasWalk-append test i k j (f, fs, before) (g, gs, after) =
+    (f, fs ++ g ∷ gs, LeadsTo-append test i k j (f ∷ fs) (g ∷ gs) before after)
+
 -- a path, a flow and a path are a walk
 pub walk_over : (test : Flow → Bool) (g : Flow) → IsTrue (test g) → (i j : ℕ) → HasPath test i g.from → HasPath test g.to j → HasWalk test i j
 walk_over test g passes i j ([], here) (gs, after) = (g, gs, (passes, sym here, after))

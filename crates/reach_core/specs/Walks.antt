@@ -1,4 +1,5 @@
 -- Walks along flows: a walk is the list of its flows.
+-- As reaching in the entry Network_Security_Policy_Verification of the Archive of Formal Proofs, which says it by transitive closures.
 use Rattle.std.specs.Prelude.{◌≡◌, ◌≢◌, ℕ, ◌≤◌, Bool, ◌||◌, List, [], ◌∷◌, length, IsTrue, All, AllPairs}
 use Rattle.flow_set.specs.declared.flow.Flow.{Flow}
 use Rattle.flow_set.specs.Flow.{back_of}

@@ -1,13 +1,12 @@
 //! The closure of a set of flows: for each host a row of the hosts that it reaches and a row of
-//! those that it is joined with. It begins without flows and grows by one flow at a time.
+//! those that it is joined with. The rows begin empty and grow by one flow at a time.
 
-ghost use Rattle.std.specs.Prelude.{◌≡◌, ◌<◌, ◌≤◌, ◌↔◌, [], IsTrue, IfOk};
-ghost use Rattle.flow_set.specs.Flow.{IsFlow};
-ghost use Rattle.flow_set.specs.FlowSet.{IsFlowSet, with_flow};
+ghost use Rattle.std.specs.Prelude.{◌≡◌, ◌<◌, ◌↔◌, IsTrue, IfOk};
+ghost use Rattle.flow_set.specs.FlowSet.{IsFlowSet};
 ghost use Rattle.reach_core.specs.Walks.{Reaches, Joined, ReachesExactly};
 
 use crate::rows::Rows;
-use flow_set::{Flow, FlowSet};
+use flow_set::FlowSet;
 use std::alloc::{AllocError, Global};
 use std::marker::Model;
 
@@ -35,11 +34,19 @@ impl Closure {
     pub fn of(alloc: Global, e: &FlowSet) -> Result<Closure, AllocError>
         ensures { IfOk result (λ closure. closure ≡ e.now) }
     {
-        let mut closure = Closure::empty(alloc, e.size())?;
+        let flows = e.copy(alloc)?;
+        let mut reached = Rows::new(alloc, e.size())?;
+        let mut joined = Rows::new(alloc, e.size())?;
         for f in e.iter() {
-            closure.add(f);
+            reached.open(f);
+            joined.open(f);
+            joined.open(f.back());
         }
-        Ok(closure)
+        Ok(Closure {
+            flows,
+            reached,
+            joined,
+        })
     }
 
     /// The number of hosts.
@@ -75,31 +82,5 @@ impl Closure {
         ensures { IsTrue result ↔ Joined self.now.flows i j }
     {
         self.joined.row(i).has(j)
-    }
-
-    // The closure of no flows between `size` hosts.
-    fn empty(alloc: Global, size: u16) -> Result<Closure, AllocError>
-        requires { size ≤ 256 }
-        ensures { IfOk result (λ closure. closure ≡ record { size = size; flows = [] }) }
-    {
-        let flows = FlowSet::empty(alloc, size)?;
-        let reached = Rows::new(alloc, size)?;
-        let joined = Rows::new(alloc, size)?;
-        Ok(Closure {
-            flows,
-            reached,
-            joined,
-        })
-    }
-
-    // Makes it the closure of its flows and one more, which may be there already.
-    fn add(&mut self, f: Flow)
-        requires { IsFlow self.old.size f }
-        ensures { self.new ≡ record self.old { flows = with_flow self.old.flows f } }
-    {
-        self.flows.insert(f);
-        self.reached.open(f);
-        self.joined.open(f);
-        self.joined.open(f.back());
     }
 }

@@ -3,7 +3,8 @@
 
 ghost use Rattle.std.specs.Prelude.{◌≡◌, ◌<◌, ◌≤◌, length, replicate, IfOk};
 ghost use Rattle.std.specs.FinSet as set;
-ghost use Rattle.reach_core.specs.Rows.{row_of, OpensFlow};
+ghost use Rattle.flow_set.specs.Flow.{IsFlow};
+ghost use Rattle.reach_core.specs.Rows.{row_of, IsClosed, OpensFlow};
 
 use crate::host_set::HostSet;
 use flow_set::Flow;
@@ -49,12 +50,16 @@ impl Rows {
     }
 
     // One more flow: whoever is its sender or comes to it goes on to its receiver and to all beyond.
+    // Where the sender comes to the receiver already, that is nothing new.
     pub fn open(&mut self, f: Flow)
         requires size { length self.old ≤ 256 }
-        requires from { f.from < length self.old }
-        requires to { f.to < length self.old }
+        requires closed { IsClosed self.old }
+        requires flow { IsFlow (length self.old) f }
         ensures { OpensFlow self.old self.new f }
     {
+        if self.row(f.from).has(f.to) {
+            return;
+        }
         let mut beyond = self.row(f.to).copy();
         beyond.insert(f.to);
         for (host, row) in self.rows.iter_mut().enumerate() {
