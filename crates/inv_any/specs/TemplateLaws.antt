@@ -11,17 +11,24 @@ use Rattle.inv_law.specs.Rules.{ResetPassesNoMore}
 use Rattle.inv_law.specs.RuleLaws.{AllFlowsPass-downward, AllFlowsPass-none, AllFlowsPass-edge_wise, AllFlowsPass-reset}
 use Rattle.inv_law.specs.declared.strategy.Strategy.{Strategy}
 use Rattle.inv_law.specs.declared.strategy.Strategy.TheVariants.{Access, Information}
-use Rattle.tmpl_domains.specs.Domains.{DomainsPass, domains_secure}
-use Rattle.tmpl_levels.specs.Blp.{unclassified, BlpPasses, blp_secure}
-use Rattle.tmpl_levels.specs.Tainting.{untainted, TaintsPass, tainting_secure}
+use Rattle.tmpl_domains.specs.Domains.{DomainsPass}
+use Rattle.tmpl_domains.specs.DomainsLaws.{domains_secure}
+use Rattle.tmpl_levels.specs.Blp.{unclassified, BlpPasses}
+use Rattle.tmpl_levels.specs.BlpLaws.{blp_secure}
+use Rattle.tmpl_levels.specs.Tainting.{untainted, TaintsPass}
+use Rattle.tmpl_levels.specs.TaintingLaws.{tainting_secure}
 use Rattle.tmpl_reach.specs.DependabilityLaws.{IsDependable-downward, IsDependable-none, IsDependable-reset}
 use Rattle.tmpl_reach.specs.NonInterferenceLaws.{IsNonInterfering-downward, IsNonInterfering-none, IsNonInterfering-reset}
 use Rattle.tmpl_reach.specs.NoReachLaws.{ReachesNoDenied-downward, ReachesNoDenied-none, ReachesNoDenied-reset}
-use Rattle.tmpl_zones.specs.Gateway.{gateway_passes, gateway_secure}
+use Rattle.tmpl_zones.specs.Gateway.{gateway_passes}
+use Rattle.tmpl_zones.specs.GatewayLaws.{gateway_secure}
 use Rattle.tmpl_zones.specs.Kinds.{TablePasses}
-use Rattle.tmpl_zones.specs.Partners.{PartnersPass, PartnersPassAfterReset, partners_reset}
-use Rattle.tmpl_zones.specs.Sink.{sink_passes, sink_secure}
-use Rattle.tmpl_zones.specs.Subnets.{subnets_passes, subnets_secure}
+use Rattle.tmpl_zones.specs.Partners.{PartnersPass, PartnersPassAfterReset}
+use Rattle.tmpl_zones.specs.PartnersLaws.{partners_reset}
+use Rattle.tmpl_zones.specs.Sink.{sink_passes}
+use Rattle.tmpl_zones.specs.SinkLaws.{sink_secure}
+use Rattle.tmpl_zones.specs.Subnets.{subnets_passes}
+use Rattle.tmpl_zones.specs.SubnetsLaws.{subnets_secure}
 use Rattle.tmpl_zones.specs.declared.gateway.GateKind.TheVariants as gate
 use Rattle.tmpl_zones.specs.declared.sink.SinkKind.TheVariants as sink
 use Rattle.tmpl_zones.specs.declared.subnets.NetKind.TheVariants as net

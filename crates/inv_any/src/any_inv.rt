@@ -2,7 +2,7 @@
 //! that one.
 
 ghost use Rattle.std.specs.Prelude.{◌≡◌};
-ghost use Rattle.inv_any.specs.Templates.{meaning_of, template_name};
+ghost use Rattle.inv_any.specs.Templates.{meaning_of, with_default, template_name};
 ghost use Rattle.inv_any.specs.TemplateLaws.{lawful};
 
 use flow_set::{Flow, FlowSet};
@@ -76,6 +76,8 @@ impl Invariant for AnyInv {
     ghost holds_on = { λ any. (meaning_of any).holds_on };
 
     ghost holds_after_reset = { λ any. (meaning_of any).holds_after_reset };
+
+    ghost reset_gives = { λ any host new. new ≡ with_default any host };
 
     fn strategy(&self) -> Strategy {
         ask!(self, inv => inv.strategy())

@@ -76,33 +76,3 @@ fn one_host_depends_on_too_many(rt: HostRuntime) -> Result<(), Fail> {
     assert!(rt; !holds_of(rt.alloc(), &inv, &e)?);
     Ok(())
 }
-
-#[test]
-fn a_denied_host_is_reached(rt: HostRuntime) -> Result<(), Fail> {
-    let mut denied = NoReach::new(rt.alloc(), 3)?;
-    denied.clear(0);
-    denied.clear(1);
-    denied.clear(2);
-    denied.deny(0, 1);
-    let inv = AnyInv::NoReach(denied);
-    let mut e = FlowSet::empty(rt.alloc(), 3)?;
-    e.insert(B_TO_C);
-    assert!(rt; holds_of(rt.alloc(), &inv, &e)?);
-    e.insert(A_TO_B);
-    assert!(rt; !holds_of(rt.alloc(), &inv, &e)?);
-    Ok(())
-}
-
-#[test]
-fn an_unrelated_host_joins(rt: HostRuntime) -> Result<(), Fail> {
-    let mut hosts = NonInterference::new(rt.alloc(), 4)?;
-    hosts.set_unrelated(3);
-    let inv = AnyInv::NonInterference(hosts);
-    let mut e = FlowSet::empty(rt.alloc(), 4)?;
-    e.insert(Flow { from: 0, to: 3 });
-    assert!(rt; holds_of(rt.alloc(), &inv, &e)?);
-    e.insert(Flow { from: 1, to: 3 });
-    e.insert(Flow { from: 3, to: 2 });
-    assert!(rt; !holds_of(rt.alloc(), &inv, &e)?);
-    Ok(())
-}

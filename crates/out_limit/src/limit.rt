@@ -1,9 +1,10 @@
 //! The template.
 
 ghost use Rattle.std.specs.Prelude.{◌≡◌, ◌<◌, ◌↔◌, false, IsTrue, IfOk, length, replicate, slice_index_or, slice_set};
+ghost use Rattle.std.proofs.lemmas.Bool.{false≢true};
 ghost use Rattle.inv_law.specs.declared.strategy.Strategy.TheVariants.{Access};
 ghost use Rattle.out_limit.specs.OutLimit.{sent_by, KeepsLimits};
-ghost use Rattle.out_limit.specs.OutLimitLaws.{KeepsLimits-downward, KeepsLimits-nothing, KeepsLimits-reset, not_marked};
+ghost use Rattle.out_limit.specs.OutLimitLaws.{KeepsLimits-downward, KeepsLimits-nothing, KeepsLimits-reset};
 
 use flow_set::{Flow, FlowSet};
 use inv_law::{Invariant, Strategy};
@@ -56,6 +57,8 @@ impl Invariant for OutLimit {
 
     ghost holds_after_reset = { λ limits host. KeepsLimits (slice_set limits host 0) };
 
+    ghost reset_gives = { λ limits host new. new ≡ slice_set limits host 0 };
+
     fn strategy(&self) -> Strategy {
         Strategy::Access
     }
@@ -76,7 +79,10 @@ impl Invariant for OutLimit {
         Ok(keeps(&self.limits, e))
     }
 
-    fn with_default(&self, alloc: Global, host: u16) -> Result<Self, AllocError> {
+    fn with_default(&self, alloc: Global, host: u16) -> Result<Self, AllocError>
+        requires { host < length self.now }
+        ensures { IfOk result (λ new. new ≡ slice_set self.now host 0) }
+    {
         let mut limits = Vec::from_slice(alloc, &self.limits)?;
         limits[host as usize] = 0;
         Ok(OutLimit { limits })
@@ -86,9 +92,9 @@ impl Invariant for OutLimit {
 
     ghost holds_on_none = { KeepsLimits-nothing };
 
-    ghost reset_mends_nothing = { λ limits. KeepsLimits-reset limits };
+    ghost reset_mends_nothing = { KeepsLimits-reset };
 
-    ghost mark_is_right = { λ limits. not_marked };
+    ghost mark_is_right = { λ _ marked. absurd (false≢true marked) };
 }
 
 fn keeps(limits: &[u16], e: &FlowSet) -> bool

@@ -72,6 +72,8 @@ impl Invariant for Dependability {
 
     ghost holds_after_reset = { IsDependableAfterReset };
 
+    ghost reset_gives = { λ limits host new. new ≡ slice_set limits host 0 };
+
     fn strategy(&self) -> Strategy {
         Strategy::Access
     }

@@ -4,7 +4,6 @@ ghost use Rattle.std.specs.Prelude.{◌≡◌, ◌≢◌, ◌<◌, ◌≤◌, �
 ghost use Rattle.std.specs.FinSet as set;
 ghost use Rattle.std.proofs.lemmas.Bool.{false≢true};
 ghost use Rattle.inv_law.specs.declared.strategy.Strategy.TheVariants.{Access};
-ghost use Rattle.flow_set.specs.FlowSet.{IsFlowSet};
 ghost use Rattle.tmpl_reach.specs.NoReach.{others, all_others, denied_by, ReachesNoDenied, ReachesNoDeniedAfterReset, ReachesNone};
 ghost use Rattle.tmpl_reach.specs.NoReachLaws.{ReachesNoDenied-downward, ReachesNoDenied-none, ReachesNoDenied-reset};
 
@@ -113,6 +112,8 @@ impl Invariant for NoReach {
     ghost holds_on = { ReachesNoDenied };
 
     ghost holds_after_reset = { ReachesNoDeniedAfterReset };
+
+    ghost reset_gives = { λ denied host new. new ≡ slice_set denied host (others (length denied) host) };
 
     fn strategy(&self) -> Strategy {
         Strategy::Access

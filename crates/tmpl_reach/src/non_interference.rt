@@ -104,6 +104,8 @@ impl Invariant for NonInterference {
 
     ghost holds_after_reset = { IsNonInterferingAfterReset };
 
+    ghost reset_gives = { λ kinds host new. new ≡ slice_set kinds host Interfering };
+
     fn strategy(&self) -> Strategy {
         Strategy::Information
     }
