@@ -35,8 +35,8 @@ pub fn blame<I: Invariant>(
     }
 }
 
-/// The number, from 0, of the first invariant that fails on the set, and `None` where all hold.
-pub(crate) fn first_failing<I: Invariant>(
+// The number, from 0, of the first invariant that fails on the set, and `None` where all hold.
+fn first_failing<I: Invariant>(
     alloc: Global,
     invs: &[I],
     e: &FlowSet,

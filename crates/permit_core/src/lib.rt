@@ -4,6 +4,7 @@
 #![tactic(auto)]
 
 mod denial;
+mod growth;
 mod offence;
 mod policy;
 

@@ -5,6 +5,7 @@ ghost use Rattle.flow_set.specs.declared.flow.Flow.{Flow};
 ghost use Rattle.flow_set.specs.FlowSet.{IsFlowSet, without};
 ghost use Rattle.flow_set.specs.Conditions.{IsFirst, IsMinimalOffending};
 
+use crate::growth::still_holds;
 use first_core::{Condition, first_subset};
 use flow_set::{Flow, FlowSet};
 use inv_law::Invariant;
@@ -57,7 +58,7 @@ impl<'a, I: Invariant> Condition for Alone<'a, I> {
 
     ghost meets_on = { λ c. I.holds_on c.inv.now };
 
-    fn meets(&self, alloc: Global, set: &FlowSet, _added: Flow) -> Result<bool, AllocError> {
-        self.inv.holds(alloc, set)
+    fn meets(&self, alloc: Global, set: &FlowSet, added: Flow) -> Result<bool, AllocError> {
+        still_holds(alloc, self.inv, set, added)
     }
 }

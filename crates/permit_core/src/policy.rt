@@ -5,7 +5,7 @@ ghost use Rattle.flow_set.specs.FlowSet.{IsFlowSet};
 ghost use Rattle.flow_set.specs.Conditions.{IsFirst, IsGreatest};
 ghost use Rattle.permit_core.specs.Policy.{AllHold};
 
-use crate::denial::first_failing;
+use crate::growth::all_still_hold;
 use first_core::{Condition, first_subset};
 use flow_set::{Flow, FlowSet};
 use inv_law::Invariant;
@@ -46,7 +46,7 @@ impl<'a, I: Invariant> Condition for Together<'a, I> {
 
     ghost meets_on = { λ c. AllHold I.holds_on c.invs.now };
 
-    fn meets(&self, alloc: Global, set: &FlowSet, _added: Flow) -> Result<bool, AllocError> {
-        Ok(first_failing(alloc, self.invs, set)?.is_none())
+    fn meets(&self, alloc: Global, set: &FlowSet, added: Flow) -> Result<bool, AllocError> {
+        all_still_hold(alloc, self.invs, set, added)
     }
 }

@@ -2,7 +2,7 @@ use Rattle.std.proofs.Common.{refl, sym, ◌∙◌, ap, subst}
 use Rattle.flow_set.specs.Flow.{IsFlow}
 use Rattle.flow_set.specs.FlowSet.{SetOfFlows, without_flow}
 use Rattle.flow_set.specs.WalkLaws.{walk_next, walk_member}
-use Rattle.permit_core.proofs.TakingOut.{without_nothing, without_push}
+use Rattle.flow_set.specs.FlowLaws.{without_nothing, without-push}
 use Rattle.permit_core.proofs.offence.take_out.Goals as goal
 
 pub loop-f-init : goal.loop-f-init
@@ -24,5 +24,5 @@ loop-f-preserved c =
     record {
       walk = walk_next c.loop-f.yielded c.loop-f.f-iterator c.next.new.self c.args.others.now.flows f c.loop-f.invariant.walk c.in-Some.ensures.steps;
       size = ap (λ (s : SetOfFlows). s.size) c.remove.ensures.set ∙ c.loop-f.invariant.size;
-      flows = ap (λ (s : SetOfFlows). s.flows) c.remove.ensures.set ∙ ap (λ zs. without_flow zs f) c.loop-f.invariant.flows ∙ sym (without_push c.args.set.now.flows c.loop-f.yielded f);
+      flows = ap (λ (s : SetOfFlows). s.flows) c.remove.ensures.set ∙ ap (λ zs. without_flow zs f) c.loop-f.invariant.flows ∙ sym (without-push c.args.set.now.flows c.loop-f.yielded f);
     }

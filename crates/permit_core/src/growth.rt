@@ -1,0 +1,47 @@
+//! Whether invariants still hold of a set that grew by one flow. One that judges flows alone is asked
+//! about the new flow alone, so that a pass does not go over the whole set for each flow.
+
+ghost use Rattle.std.specs.Prelude.{◌≡◌, ◌↔◌, All, IsTrue, IfOk};
+ghost use Rattle.first_core.specs.Grown.{IsGrown};
+ghost use Rattle.permit_core.specs.Policy.{AllHold};
+
+use flow_set::{Flow, FlowSet};
+use inv_law::Invariant;
+use std::alloc::{AllocError, Global};
+
+/// Whether every invariant holds of `set`, of which all held without the flow `added`.
+pub(crate) fn all_still_hold<I: Invariant>(
+    alloc: Global,
+    invs: &[I],
+    set: &FlowSet,
+    added: Flow,
+) -> Result<bool, AllocError>
+    requires sizes { All (λ inv. I.size_of inv ≡ set.now.size) invs.now }
+    requires grown { IsGrown set.now.size (AllHold I.holds_on invs.now) set.now.flows added }
+    ensures { IfOk result (λ answer. IsTrue answer ↔ AllHold I.holds_on invs.now set.now.flows) }
+{
+    for inv in invs {
+        if !still_holds(alloc, inv, set, added)? {
+            return Ok(false);
+        }
+    }
+    Ok(true)
+}
+
+/// Whether the invariant holds of `set`, of which it held without the flow `added`.
+pub(crate) fn still_holds<I: Invariant>(
+    alloc: Global,
+    inv: &I,
+    set: &FlowSet,
+    added: Flow,
+) -> Result<bool, AllocError>
+    requires size { set.now.size ≡ I.size_of inv.now }
+    requires grown { IsGrown (I.size_of inv.now) (I.holds_on inv.now) set.now.flows added }
+    ensures { IfOk result (λ answer. IsTrue answer ↔ I.holds_on inv.now set.now.flows) }
+{
+    if inv.edge_wise() {
+        Ok(inv.admits(added))
+    } else {
+        inv.holds(alloc, set)
+    }
+}
