@@ -43,11 +43,16 @@ struct Answered<'a, I> {
 impl<'a, I: Invariant> Condition for Answered<'a, I> {
     ghost size_of = { λ c. c.size };
 
-    ghost can_meet = { λ c. (c.permitted.now.size ≡ c.size) × All (λ inv. I.size_of inv ≡ c.size) c.invs.now };
+    ghost can_meet = { λ c. (c.permitted.now.size ≡ c.size) × IsFlowSet c.size c.permitted.now.flows
+        × All (λ inv. I.size_of inv ≡ c.size) c.invs.now };
 
     ghost meets_on = { λ c s. StrictHold I.strategy_of I.edge_mark I.holds_on c.invs.now (with_back c.permitted.now.flows s) };
 
-    fn meets(&self, alloc: Global, set: &FlowSet, _added: Flow) -> Result<bool, AllocError> {
+    fn meets(&self, alloc: Global, set: &FlowSet, added: Flow) -> Result<bool, AllocError> {
+        // An answer that is permitted as a flow of its own adds nothing.
+        if self.permitted.has(added.back()) {
+            return Ok(true);
+        }
         let all = with_answers(alloc, self.permitted, set)?;
         strict_hold(alloc, self.invs, &all)
     }
