@@ -4,6 +4,7 @@ use Rattle.std.specs.Prelude.{is_some, if◌then◌else◌, Option, ⊤}
 use Rattle.std.proofs.lemmas.List.{take-append-le}
 use Rattle.std.proofs.Math.Seq.{take-append_seam}
 use Rattle.std.proofs.lemmas.Option.{slice_get_within}
+use Rattle.std.proofs.lemmas.Bool.{cases_Bool, or_cases, or_left}
 use Rattle.host_net.specs.declared.packet.Packet.{Packet}
 use Rattle.host_net.specs.declared.packet.CtState.{CtState}
 use Rattle.host_net.specs.Packet.{swap_of}
@@ -15,9 +16,8 @@ use Rattle.pkt_core.specs.Tracking.{Kept, Runs, after_forget, after_seen, kept_a
 use Rattle.pkt_core.specs.TrackingLaws.{same_packet-is, same_packet-not, same_packet-self, same_packet-swap}
 use Rattle.pkt_core.specs.Connections.{IsFirst, KeepsConnections, WasAnswered}
 use Rattle.pkt_core.specs.Firewall.{AllKnown, IsFirewallFor, IsPolicy, may_pass}
-use Rattle.pkt_core.specs.Expected.{TracksAsExpected}
+use Rattle.pkt_core.specs.PolicyRuns.{TracksAsExpected}
 use Rattle.pkt_core.specs.ExpectedLaws.{runs_as_expected, some_run}
-use Rattle.pkt_core.specs.TestLaws.{either, left_true, true_or_false}
 use Rattle.pkt_core.specs.KeptLaws.{Fits, Fits-forget, Fits-seen, Fits-start, begins_behind_seen, kept_behind_forget, kept_behind_seen, new_permitted, stays_behind_forget, stays_behind_seen}
 
 -- the events before a place are the same behind one more event
@@ -173,7 +173,7 @@ KeepsConnections-seen {Known} permitted stateful past kept p fits keeps = record
 
     -- nothing of a connection that is not kept was seen and is permitted
     no_first : (q : Packet) → is_some (kept q) ≡ false → is_some (kept (swap_of q)) ≡ false → permitted q ≡ true → WasSeen past q → ⊥
-    no_first q own other allowed was = elim (either (is_some (kept q)) (is_some (kept (swap_of q))) (fits.is_kept q was allowed)) [
+    no_first q own other allowed was = elim (or_cases (is_some (kept q)) (is_some (kept (swap_of q))) (fits.is_kept q was allowed)) [
       | inl h ↦ true≢false (sym h ∙ own)
       | inr h ↦ true≢false (sym h ∙ other)
     ]
@@ -190,13 +190,13 @@ KeepsConnections-seen {Known} permitted stateful past kept p fits keeps = record
 
     is_new : (q : Packet) (k : ℕ) → IsNew permitted past p k q → is_some (after_seen kept p passes q) ≡ true
     is_new q k new =
-        elim (true_or_false (is_some (kept q))) [
+        elim (cases_Bool (is_some (kept q))) [
           | inl own ↦ absurd (new.3 (fits.was_seen q own))
-          | inr own ↦ elim (true_or_false (is_some (kept (swap_of q)))) [
+          | inr own ↦ elim (cases_Bool (is_some (kept (swap_of q)))) [
             | inl other ↦ absurd (new.4 (fits.allowed (swap_of q) other) (fits.was_seen (swap_of q) other))
             | inr other ↦
                 subst (λ (r : Packet). is_some (after_seen kept p passes r) ≡ true) new.1
-                (subst (λ (b : Bool). is_some (after_seen kept p b p) ≡ true) (sym (left_true (permitted p) _ (ap permitted new.1 ∙ new.2)))
+                (subst (λ (b : Bool). is_some (after_seen kept p b p) ≡ true) (sym (or_left (permitted p) _ (ap permitted new.1 ∙ new.2)))
                 (begins_behind_seen kept p (ap (λ (r : Packet). is_some (kept r)) new.1 ∙ own) (ap (λ (r : Packet). is_some (kept (swap_of r))) new.1 ∙ other)))
           ]
         ]

@@ -1,4 +1,4 @@
--- Connections, said over the events alone.
+-- Connections, said over the events alone, and that tracking keeps just these.
 use Rattle.std.specs.Prelude.{◌≡◌, ◌↔◌, ℕ, ◌<◌, Bool, true, IsTrue, List, take, Some, is_some}
 use Rattle.host_net.specs.declared.packet.Packet.{Packet}
 use Rattle.host_net.specs.Packet.{swap_of}

@@ -1,13 +1,13 @@
 -- The law of expected answers: a firewall with the verdicts of a policy that tracks connections lets pass exactly the packets that are expected to pass.
 use Rattle.std.proofs.Common.{◌≡◌, inl, inr, ◌↔◌, ℕ, zero, suc, Bool, true, ◌&&◌, IsTrue, List, [], ◌∷◌, ◌++◌, length, take, slice_get, Some, None, refl, sym, ap, subst, append_assoc, append-nil}
 use Rattle.std.specs.Prelude.{is_some, Option}
+use Rattle.std.proofs.lemmas.Bool.{and_from, and_parts, or_cases, or_left, or_right}
 use Rattle.host_net.specs.declared.packet.Packet.{Packet}
 use Rattle.host_net.specs.declared.packet.CtState.{CtState}
 use Rattle.host_net.specs.Packet.{swap_of}
 use Rattle.pkt_core.specs.declared.event.Event.{Event}
 use Rattle.pkt_core.specs.declared.event.Event.TheVariants.{Seen, Forget}
 use Rattle.pkt_core.specs.Events.{ForgottenAt, SeenAt}
-use Rattle.pkt_core.specs.TestLaws.{and_true, both_true, either, left_true, right_true}
 use Rattle.pkt_core.specs.Tracking.{Kept, Runs, after_forget, after_seen, nothing_kept, state_of}
 use Rattle.pkt_core.specs.Firewall.{AllKnown, IsFirewallFor, IsPolicy, is_established, may_pass}
 use Rattle.pkt_core.specs.KeptLaws.{Fits, Fits-forget, Fits-seen, Fits-start, answer_is_established, established_by}
@@ -19,10 +19,10 @@ pub passes_as_expected : {Known : Packet → Type 0} (permitted stateful : Packe
 passes_as_expected permitted stateful policy past kept fits p = (λ h. sound h, λ h. complete h)
   where
     sound : may_pass permitted stateful (state_of kept p) p ≡ true → Expected permitted stateful past p
-    sound h = elim (either (permitted p) (stateful (swap_of p) && is_established (state_of kept p)) h) [
+    sound h = elim (or_cases (permitted p) (stateful (swap_of p) && is_established (state_of kept p)) h) [
       | inl allowed ↦ inl allowed
       | inr answers ↦
-          let parts = both_true (stateful (swap_of p)) (is_established (state_of kept p)) answers in
+          let parts = and_parts (stateful (swap_of p)) (is_established (state_of kept p)) answers in
           elim (established_by kept p parts.1) [
             | inl other ↦ inr (parts.0, fits.was_seen (swap_of p) other)
             | inr own ↦ inl (fits.allowed p own)
@@ -31,10 +31,10 @@ passes_as_expected permitted stateful policy past kept fits p = (λ h. sound h, 
 
     complete : Expected permitted stateful past p → may_pass permitted stateful (state_of kept p) p ≡ true
     complete e = elim e [
-      | inl allowed ↦ left_true (permitted p) _ allowed
-      | inr answers ↦ elim (either (is_some (kept (swap_of p))) (is_some (kept p)) (fits.is_kept (swap_of p) answers.1 (policy (swap_of p) (fits.known (swap_of p) answers.1) answers.0))) [
-        | inl other ↦ right_true (permitted p) _ (and_true (stateful (swap_of p)) _ answers.0 (answer_is_established kept p other))
-        | inr own ↦ left_true (permitted p) _ (fits.allowed p own)
+      | inl allowed ↦ or_left (permitted p) _ allowed
+      | inr answers ↦ elim (or_cases (is_some (kept (swap_of p))) (is_some (kept p)) (fits.is_kept (swap_of p) answers.1 (policy (swap_of p) (fits.known (swap_of p) answers.1) answers.0))) [
+        | inl other ↦ or_right (permitted p) _ (and_from (stateful (swap_of p)) _ answers.0 (answer_is_established kept p other))
+        | inr own ↦ or_left (permitted p) _ (fits.allowed p own)
       ]
     ]
 

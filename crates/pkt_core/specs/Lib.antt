@@ -4,7 +4,7 @@ pub mod Kept
 pub mod Firewall
 pub mod Connections
 pub mod Expected
-pub mod TestLaws
+pub mod PolicyRuns
 pub mod EventLaws
 pub mod TrackingLaws
 pub mod KeptLaws
