@@ -4,6 +4,7 @@ use Rattle.std.proofs.Math.Seq.{drop-cons}
 use Rattle.std.proofs.Math.Numerals.{add-one}
 use Rattle.std.proofs.lemmas.Bool.{and_parts, and_from}
 use Rattle.std.proofs.lemmas.Bool.Decides.{nat_tests}
+use Rattle.std.specs.Prelude.{is_some}
 use Rattle.std.specs.List.{position_from, list_all}
 use Rattle.ipt_rules.specs.declared.rule.Rule.{Rule}
 use Rattle.ipt_rules.specs.declared.rule.Target.{Target}
@@ -11,7 +12,8 @@ use Rattle.ipt_rules.specs.declared.rule.Target.TheVariants.{Accept, Drop, Rejec
 use Rattle.ipt_rules.specs.declared.ruleset.BuildRefusal.{BuildRefusal}
 use Rattle.ipt_rules.specs.declared.ruleset.BuildRefusal.TheVariants.{UnknownChain}
 use Rattle.ipt_rules.specs.Chain.{Chain, rules_of, rule_count, IsChainList}
-use Rattle.ipt_rules.specs.Build.{jumps_nowhere, place_of_unknown, unknown_at, first_unknown, refusal_of, ascends, jumps_ascend, JumpsAscend, goes_on_to, IsRuleset}
+use Rattle.ipt_rules.specs.Build.{jumps_nowhere, place_of_unknown, unknown_at, first_unknown, refusal_of, ascends, jumps_ascend, JumpsAscend}
+use Rattle.ipt_rules.specs.Jumps.{goes_on_to, IsRuleset}
 
 pub chains_at : (xs : List Chain) (i : ℕ) (x : Chain) → i < length xs → x ≡ get_or xs i x → drop i xs ≡ x ∷ drop (i + 1) xs
 chains_at xs i x h is = rw (add-one i) (drop-cons xs i x h ∙ ap (λ y. y ∷ drop (suc i) xs) (sym is))
@@ -85,6 +87,7 @@ built xs n chains ascend fine =
     let parts = fine_parts xs fine in
     record {
       list = chains;
+      accepted = ap is_some fine;
       few_chains = parts.few_chains;
       few_rules = omega (arith, parts.few_rules, chains.counted);
       jumps = record { from = λ c. rules_go_on (length xs) c 0 (rules_of xs c) (chain_known (length xs) 0 xs c parts.known) (ascend_at (length xs) 0 xs c c (omega arith) ascend) };

@@ -3,4 +3,3 @@ pub mod WalkLemmas
 pub mod ChainLemmas
 pub mod LineLemmas
 pub mod TextLemmas
-pub mod TestLemmas

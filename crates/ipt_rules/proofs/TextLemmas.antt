@@ -12,7 +12,7 @@ use Rattle.ipt_rules.specs.declared.rule.Rule.{Rule}
 use Rattle.ipt_rules.specs.declared.rule.Target.{Target}
 use Rattle.ipt_rules.specs.declared.rule.Target.TheVariants.{Accept, Drop, Reject, Return, Count, Jump}
 use Rattle.ipt_rules.specs.Chain.{Chain, rules_of, rule_count}
-use Rattle.ipt_rules.specs.Build.{JumpsGoOn, JumpsIn, goes_on_to}
+use Rattle.ipt_rules.specs.Jumps.{JumpsGoOn, JumpsIn, goes_on_to}
 use Rattle.ipt_rules.specs.Text.{text_lines, commit_line, chain_line, rule_line, rule_lines}
 use Rattle.ipt_rules.proofs.BuildLemmas.{chains_at}
 use Rattle.ipt_rules.proofs.ChainLemmas.{rules_of_read, chain_read}

@@ -14,7 +14,7 @@ use Rattle.ipt_rules.specs.declared.rule.Verdict.{Verdict}
 use Rattle.ipt_rules.specs.declared.walk.Step.{Step}
 use Rattle.ipt_rules.specs.declared.walk.Step.TheVariants.{GoesOn, Ends, Walks}
 use Rattle.ipt_rules.specs.Chain.{Chain, rules_of}
-use Rattle.ipt_rules.specs.Build.{goes_on_to, JumpsGoOn}
+use Rattle.ipt_rules.specs.Jumps.{goes_on_to, JumpsGoOn}
 use Rattle.ipt_rules.specs.MeaningLaws.{gives_once}
 use Rattle.ipt_rules.specs.Meaning.{step_of, EachGivesOne, Gives, at_end, goes_on, ends, decides, comes_back}
 

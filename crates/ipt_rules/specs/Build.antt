@@ -1,12 +1,12 @@
 -- Which chains make a rule set, and why others do not.
-use Rattle.std.specs.Prelude.{ℕ, ◌+◌, ◌<◌, ◌≤◌, Bool, true, false, ◌&&◌, ◌||◌, nat_lt, nat_le, if◌then◌else◌, IsTrue, List, [], ◌∷◌, Option, Some, None, length}
+use Rattle.std.specs.Prelude.{ℕ, ◌+◌, Bool, true, false, ◌&&◌, ◌||◌, nat_lt, nat_le, if◌then◌else◌, IsTrue, List, [], ◌∷◌, Option, Some, None, length}
 use Rattle.std.specs.List.{list_all, position_from}
 use Rattle.ipt_rules.specs.declared.rule.Rule.{Rule}
 use Rattle.ipt_rules.specs.declared.rule.Target.{Target}
 use Rattle.ipt_rules.specs.declared.rule.Target.TheVariants.{Jump}
 use Rattle.ipt_rules.specs.declared.ruleset.BuildRefusal.{BuildRefusal}
 use Rattle.ipt_rules.specs.declared.ruleset.BuildRefusal.TheVariants.{TooMany, UnknownChain}
-use Rattle.ipt_rules.specs.Chain.{Chain, rules_of, rule_count, IsChainList}
+use Rattle.ipt_rules.specs.Chain.{Chain, rule_count}
 
 -- among so many chains, a jump to a built-in chain or to no chain
 abbrev pub jumps_nowhere : ℕ → Target → Bool
@@ -45,24 +45,3 @@ jumps_ascend count c (x ∷ xs) = list_all (λ r. ascends count c r.target) x.ru
 -- jumps between user chains go to greater numbers, so that none leads back
 abbrev pub JumpsAscend : List Chain → Type 0
 JumpsAscend chains = IsTrue (jumps_ascend (length chains) 0 chains)
-
--- a jump of chain c that is no jump to nowhere, and goes to a greater number
-abbrev pub goes_on_to : ℕ → ℕ → Target → Bool
-goes_on_to count c (Jump d) = nat_lt c d && (nat_lt d count && nat_le 3 d)
-goes_on_to count c _ = true
-
--- a jump goes to a chain that is there
-abbrev pub JumpsIn : ℕ → Target → Type 0
-JumpsIn count (Jump d) = d < count
-JumpsIn count _ = Unit {0}
-
--- the jumps of each chain go to user chains that are there, with greater numbers
-pub record JumpsGoOn (chains : List Chain) : Type 0 where
-  pub from : (c : ℕ) → IsTrue (list_all (λ r. goes_on_to (length chains) c r.target) (rules_of chains c))
-
--- what holds of a rule set at all times
-pub record IsRuleset (chains : List Chain) (rules : ℕ) : Type 0 where
-  pub list : IsChainList chains rules
-  pub few_chains : length chains ≤ 4096
-  pub few_rules : rules ≤ 1000000
-  pub jumps : JumpsGoOn chains

@@ -1,5 +1,5 @@
 -- Jumps go on to ascend while chains are put together.
-use Rattle.std.proofs.Common.{◌≡◌, ℕ, zero, suc, ◌+◌, ◌<◌, ◌≤◌, ◌∙◌, ap, refl, Bool, true, ◌&&◌, List, [], ◌∷◌, ◌++◌, length, arith, subst, IsTrue, length-append}
+use Rattle.std.proofs.Common.{◌≡◌, ℕ, zero, suc, ◌+◌, ◌<◌, ◌≤◌, ◌∙◌, ap, refl, Bool, true, ◌&&◌, List, [], ◌∷◌, ◌++◌, length, arith, subst, IsTrue}
 use Rattle.std.proofs.lemmas.Bool.{and_parts, and_from}
 use Rattle.std.proofs.lemmas.Bool.Decides.{nat_tests}
 use Rattle.std.proofs.lemmas.List.Folds.{list_all-append}
@@ -9,7 +9,7 @@ use Rattle.ipt_rules.specs.declared.rule.Policy.{Policy}
 use Rattle.ipt_rules.specs.declared.rule.Target.{Target}
 use Rattle.ipt_rules.specs.declared.rule.Target.TheVariants.{Accept, Drop, Reject, Return, Count, Jump}
 use Rattle.ipt_rules.specs.Chain.{Chain, built_in_chains, user_chain, with_policy, with_rule}
-use Rattle.ipt_rules.specs.ChainLaws.{length-with_policy, length-with_rule}
+use Rattle.ipt_rules.specs.ChainLaws.{length_added, length_with_policy, length_with_rule}
 use Rattle.ipt_rules.specs.Build.{ascends, jumps_ascend, JumpsAscend}
 
 pub built_in_ascend : JumpsAscend built_in_chains
@@ -43,8 +43,7 @@ chain_added count c (x ∷ xs) name =
 -- a chain without rules has no jumps
 pub added_ascend : (xs : List Chain) (name : List ℕ) → JumpsAscend xs → JumpsAscend (xs ++ user_chain name ∷ [])
 added_ascend xs name up =
-    let count : length (xs ++ user_chain name ∷ []) ≡ length xs + 1 = length-append xs (user_chain name ∷ []) in
-    rw count (chain_added (length xs + 1) 0 xs name ∙ chains_more (length xs) 0 xs (omega arith) up)
+    rw (length_added xs name) (chain_added (length xs + 1) 0 xs name ∙ chains_more (length xs) 0 xs (omega arith) up)
 
 policy_changed : (count c : ℕ) (xs : List Chain) (k : ℕ) (policy : Policy) → jumps_ascend count c (with_policy xs k policy) ≡ jumps_ascend count c xs
 unfolding with_policy
@@ -55,7 +54,7 @@ policy_changed count c (x ∷ xs) (suc k) policy =
 
 pub with_policy_ascend : (xs : List Chain) (c : ℕ) (policy : Policy) → JumpsAscend xs → JumpsAscend (with_policy xs c policy)
 with_policy_ascend xs c policy up =
-    rw (length-with_policy xs c policy) (policy_changed (length xs) 0 xs c policy ∙ up)
+    rw (length_with_policy xs c policy) (policy_changed (length xs) 0 xs c policy ∙ up)
 
 rule_added : (count c : ℕ) (xs : List Chain) (k m : ℕ) (rule : Rule) → c + k ≡ m → ascends count m rule.target ≡ true → jumps_ascend count c xs ≡ true → jumps_ascend count c (with_rule xs k rule) ≡ true
 unfolding with_rule
@@ -72,4 +71,4 @@ rule_added count c (x ∷ xs) (suc k) m rule place it up =
 
 pub with_rule_ascend : (xs : List Chain) (c : ℕ) (rule : Rule) → IsTrue (ascends (length xs) c rule.target) → JumpsAscend xs → JumpsAscend (with_rule xs c rule)
 with_rule_ascend xs c rule it up =
-    rw (length-with_rule xs c rule) (rule_added (length xs) 0 xs c c rule (omega arith) it up)
+    rw (length_with_rule xs c rule) (rule_added (length xs) 0 xs c c rule (omega arith) it up)

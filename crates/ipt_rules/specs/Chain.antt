@@ -1,6 +1,7 @@
 -- Chains of rules as contracts see them, numbered from 0 with INPUT, FORWARD and OUTPUT first.
-use Rattle.std.specs.Prelude.{◌≡◌, ◌≤◌, ℕ, zero, suc, ◌+◌, ◌<◌, IsSome, List, [], ◌∷◌, ◌++◌, Option, Some, None, length, codes, slice_get, bytes_eq}
+use Rattle.std.specs.Prelude.{◌≡◌, ◌≤◌, ℕ, zero, suc, ◌+◌, ◌<◌, IsSome, IsTrue, List, [], ◌∷◌, ◌++◌, Option, Some, None, length, codes, slice_get, bytes_eq}
 use Rattle.std.specs.List.{position_from}
+use Rattle.ipt_rules.specs.Name.{is_user_name}
 use Rattle.ipt_rules.specs.declared.rule.Rule.{Rule}
 use Rattle.ipt_rules.specs.declared.rule.Policy.{Policy}
 use Rattle.ipt_rules.specs.declared.rule.Policy.TheVariants.{Accept}
@@ -67,8 +68,17 @@ policy_in (Some chain) = chain.policy
 abbrev pub policy_of : List Chain → ℕ → Option Policy
 policy_of chains c = policy_in (slice_get chains c)
 
--- what holds of chains at all times: the built-in ones are there, the numbers fit, the rules are counted
-pub record IsChainList (chains : List Chain) (rules : ℕ) : Type 0 where
+-- the chains of a table: the built-in ones first, each with a policy, then user chains, each with a legal name and no policy; and each chain is the one that is found by its name, so that no two have the same
+pub record IsTable (chains : List Chain) : Type 0 where
+  pub input : name_of chains 0 ≡ codes "INPUT"
+  pub forward : name_of chains 1 ≡ codes "FORWARD"
+  pub output : name_of chains 2 ≡ codes "OUTPUT"
   pub built_in : (c : ℕ) → c < 3 → IsSome (policy_of chains c)
+  pub user : (c : ℕ) → 3 ≤ c → c < length chains → IsTrue (is_user_name (name_of chains c)) × (policy_of chains c ≡ None)
+  pub found : (c : ℕ) → c < length chains → number_of chains (name_of chains c) ≡ Some c
+
+-- what holds of chains at all times: they are a table, the numbers fit, the rules are counted
+pub record IsChainList (chains : List Chain) (rules : ℕ) : Type 0 where
+  pub table : IsTable chains
   pub numbered : length chains ≤ 65536
   pub counted : rules ≡ rule_count chains

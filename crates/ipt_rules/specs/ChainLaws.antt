@@ -1,11 +1,11 @@
 -- Laws of chains: what a change at one chain leaves as it was.
-use Rattle.std.proofs.Common.{◌≡◌, ℕ, zero, suc, ◌+◌, ◌<◌, ◌∙◌, sym, ap, refl, Bool, false, List, [], ◌∷◌, ◌++◌, Some, None, length, get_or, set, arith, length-append}
-use Rattle.std.specs.Prelude.{IsSome, IsNone, is_some, bytes_eq}
+use Rattle.std.proofs.Common.{◌≡◌, ℕ, zero, suc, ◌+◌, ◌<◌, ◌∙◌, ap, refl, Bool, false, List, [], ◌∷◌, ◌++◌, Some, None, length, get_or, set, arith, length-append}
+use Rattle.std.specs.Prelude.{IsNone, is_some, bytes_eq}
 use Rattle.std.specs.List.{list_any, position_from}
 use Rattle.std.proofs.lemmas.Bool.{or_parts, cond-false}
 use Rattle.ipt_rules.specs.declared.rule.Rule.{Rule}
 use Rattle.ipt_rules.specs.declared.rule.Policy.{Policy}
-use Rattle.ipt_rules.specs.Chain.{Chain, changed_at, with_policy, with_rule, policy_of, rule_count, number_of, user_chain, IsChainList}
+use Rattle.ipt_rules.specs.Chain.{Chain, changed_at, with_policy, with_rule, rule_count, number_of, user_chain}
 
 -- a write at a place is a change there
 pub set_changed : (xs : List Chain) (c : ℕ) (old new : Chain) (change : Chain → Chain) → c < length xs → old ≡ get_or xs c old → new ≡ change old → set xs c new ≡ changed_at xs c change
@@ -19,70 +19,36 @@ length-changed_at [] c change = refl
 length-changed_at (x ∷ xs) zero change = refl
 length-changed_at (x ∷ xs) (suc c) change = ap suc (length-changed_at xs c change)
 
-pub has_built_in : (xs : List Chain) (c : ℕ) → IsSome (policy_of xs c) → c < length xs
-has_built_in [] c h = cc
-has_built_in (x ∷ xs) zero h = omega arith
-has_built_in (x ∷ xs) (suc c) h = omega (arith, has_built_in xs c h)
-
-pub length-with_policy : (xs : List Chain) (c : ℕ) (policy : Policy) → length (with_policy xs c policy) ≡ length xs
+-- how many chains and rules there are behind each change
+pub length_with_policy : (xs : List Chain) (c : ℕ) (policy : Policy) → length (with_policy xs c policy) ≡ length xs
 unfolding with_policy
-length-with_policy xs c policy = length-changed_at xs c (λ x. record x { policy = Some policy })
+length_with_policy xs c policy = length-changed_at xs c (λ x. record x { policy = Some policy })
 
-pub length-with_rule : (xs : List Chain) (c : ℕ) (rule : Rule) → length (with_rule xs c rule) ≡ length xs
+pub length_with_rule : (xs : List Chain) (c : ℕ) (rule : Rule) → length (with_rule xs c rule) ≡ length xs
 unfolding with_rule
-length-with_rule xs c rule = length-changed_at xs c (λ x. record x { rules = x.rules ++ rule ∷ [] })
-
--- a change that leaves each chain its policy leaves all of them
-policy_kept : (change : Chain → Chain) → ((x : Chain) → IsSome x.policy → IsSome (change x).policy) → (xs : List Chain) (c d : ℕ) → IsSome (policy_of xs d) → IsSome (policy_of (changed_at xs c change) d)
-policy_kept change keeps [] c d h = h
-policy_kept change keeps (x ∷ xs) zero zero h = keeps x h
-policy_kept change keeps (x ∷ xs) zero (suc d) h = h
-policy_kept change keeps (x ∷ xs) (suc c) zero h = h
-policy_kept change keeps (x ∷ xs) (suc c) (suc d) h = policy_kept change keeps xs c d h
-
-policy_behind : (xs ys : List Chain) (d : ℕ) → IsSome (policy_of xs d) → IsSome (policy_of (xs ++ ys) d)
-policy_behind [] ys d h = cc
-policy_behind (x ∷ xs) ys zero h = h
-policy_behind (x ∷ xs) ys (suc d) h = policy_behind xs ys d h
+length_with_rule xs c rule = length-changed_at xs c (λ x. record x { rules = x.rules ++ rule ∷ [] })
 
 pub rule_count-append : (xs ys : List Chain) → rule_count (xs ++ ys) ≡ rule_count xs + rule_count ys
 rule_count-append [] ys = omega arith
 rule_count-append (x ∷ xs) ys = omega (arith, rule_count-append xs ys)
 
-pub rule_count-with_rule : (xs : List Chain) (c : ℕ) (rule : Rule) → c < length xs → rule_count (with_rule xs c rule) ≡ rule_count xs + 1
+pub rule_count_with_rule : (xs : List Chain) (c : ℕ) (rule : Rule) → c < length xs → rule_count (with_rule xs c rule) ≡ rule_count xs + 1
 unfolding with_rule
-rule_count-with_rule [] c rule h = absurd (omega arith)
-rule_count-with_rule (x ∷ xs) zero rule h = omega (arith, length-append x.rules (rule ∷ []))
-rule_count-with_rule (x ∷ xs) (suc c) rule h = omega (arith, rule_count-with_rule xs c rule (omega arith))
+rule_count_with_rule [] c rule h = absurd (omega arith)
+rule_count_with_rule (x ∷ xs) zero rule h = omega (arith, length-append x.rules (rule ∷ []))
+rule_count_with_rule (x ∷ xs) (suc c) rule h = omega (arith, rule_count_with_rule xs c rule (omega arith))
 
-pub rule_count-with_policy : (xs : List Chain) (c : ℕ) (policy : Policy) → rule_count (with_policy xs c policy) ≡ rule_count xs
+pub rule_count_with_policy : (xs : List Chain) (c : ℕ) (policy : Policy) → rule_count (with_policy xs c policy) ≡ rule_count xs
 unfolding with_policy
-rule_count-with_policy [] c policy = refl
-rule_count-with_policy (x ∷ xs) zero policy = refl
-rule_count-with_policy (x ∷ xs) (suc c) policy = ap (λ n. length x.rules + n) (rule_count-with_policy xs c policy)
+rule_count_with_policy [] c policy = refl
+rule_count_with_policy (x ∷ xs) zero policy = refl
+rule_count_with_policy (x ∷ xs) (suc c) policy = ap (λ n. length x.rules + n) (rule_count_with_policy xs c policy)
 
-pub IsChainList-with_rule : (xs : List Chain) (n c : ℕ) (rule : Rule) → c < length xs → IsChainList xs n → IsChainList (with_rule xs c rule) (n + 1)
-unfolding with_rule
-IsChainList-with_rule xs n c rule h chains = record {
-  built_in = λ d low. policy_kept (λ x. record x { rules = x.rules ++ rule ∷ [] }) (λ x some. some) xs c d (chains.built_in d low);
-  numbered = omega (arith, length-with_rule xs c rule, chains.numbered);
-  counted = ap (λ m. m + 1) chains.counted ∙ sym (rule_count-with_rule xs c rule h);
-}
+pub length_added : (xs : List Chain) (name : List ℕ) → length (xs ++ user_chain name ∷ []) ≡ length xs + 1
+length_added xs name = length-append xs (user_chain name ∷ [])
 
-pub IsChainList-with_policy : (xs : List Chain) (n c : ℕ) (policy : Policy) → IsChainList xs n → IsChainList (with_policy xs c policy) n
-unfolding with_policy
-IsChainList-with_policy xs n c policy chains = record {
-  built_in = λ d low. policy_kept (λ x. record x { policy = Some policy }) (λ x some. refl) xs c d (chains.built_in d low);
-  numbered = omega (arith, length-with_policy xs c policy, chains.numbered);
-  counted = chains.counted ∙ sym (rule_count-with_policy xs c policy);
-}
-
-pub IsChainList-added : (xs : List Chain) (n : ℕ) (name : List ℕ) → length xs < 65536 → IsChainList xs n → IsChainList (xs ++ user_chain name ∷ []) n
-IsChainList-added xs n name room chains = record {
-  built_in = λ d low. policy_behind xs (user_chain name ∷ []) d (chains.built_in d low);
-  numbered = omega (arith, length-append xs (user_chain name ∷ []));
-  counted = omega (arith, chains.counted, rule_count-append xs (user_chain name ∷ []));
-}
+pub rule_count_added : (xs : List Chain) (name : List ℕ) → rule_count (xs ++ user_chain name ∷ []) ≡ rule_count xs
+rule_count_added xs name = omega (arith, rule_count-append xs (user_chain name ∷ []))
 
 position_none : (p : Chain → Bool) (i : ℕ) (xs : List Chain) → list_any p xs ≡ false → position_from p i xs ≡ None
 position_none p i [] unused = refl

@@ -6,8 +6,11 @@ pub mod Meaning
 pub mod MeaningLaws
 pub mod Head
 pub mod ChainLaws
+pub mod TableLaws
 pub mod Build
+pub mod Jumps
 pub mod Text
+pub mod PrefixLaws
 pub mod Saying
 pub mod SayingLaws
 pub mod BuildLaws

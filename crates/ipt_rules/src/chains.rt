@@ -63,7 +63,7 @@ impl Chains {
         ensures err { OnErr result (self.new ≡ self.old) }
     {
         let number = self.chains.len() as u16;
-        self.chains.push(Chain::new(self.alloc, Head::User(name)))?;
+        self.chains.push(Chain::new(self.alloc, name.head()))?;
         Ok(number)
     }
 

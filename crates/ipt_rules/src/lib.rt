@@ -7,6 +7,7 @@ mod chain;
 mod chains;
 mod name;
 mod pieces;
+mod prefix;
 mod rule;
 mod ruleset;
 mod text;
@@ -14,6 +15,7 @@ mod walk;
 
 pub use chains::Chains;
 pub use name::ChainName;
+pub use prefix::put_prefix;
 pub use rule::{AddrMatch, Policy, Rule, StateMatch, Target, Verdict};
 pub use ruleset::{BuildRefusal, Ruleset};
 

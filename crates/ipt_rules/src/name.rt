@@ -4,6 +4,7 @@ ghost use Rattle.std.specs.Prelude.{◌≡◌, ◌-◌, ◌≤◌, ◌↔◌, �
 ghost use Rattle.std.specs.List.{list_all};
 ghost use Rattle.ipt_rules.specs.Name.{is_user_name, is_name_byte, is_reserved, begins_as_option, has_name_length};
 
+use crate::chain::Head;
 use std::marker::Model;
 
 const MOST: usize = 64;
@@ -46,6 +47,16 @@ impl ChainName {
             bytes: padded(text),
             len: text.len() as u8,
         })
+    }
+
+    /// The head of the user chain of that name.
+    pub(crate) fn head(self) -> Head
+        ensures head { result ≡ Head.User self }
+        ensures legal { IsTrue (is_user_name self) }
+    {
+        // With a field its invariant is seen: the text is legal.
+        let _ = &self.len;
+        Head::User(self)
     }
 
     pub(crate) fn bytes(&self) -> &[u8]

@@ -1,51 +1,16 @@
-//! The pieces of a rule's line: addresses, states and targets, each put behind what the buffer
+//! The pieces of a rule's line: address parts, states and targets, each put behind what the buffer
 //! holds.
 
-ghost use Rattle.std.specs.Prelude.{◌≡◌, ◌<◌, ◌≤◌, ◌++◌, length, take, codes};
+ghost use Rattle.std.specs.Prelude.{◌≡◌, ◌<◌, ◌≤◌, ◌++◌, length, take};
 ghost use Rattle.text_core.specs.Line.{cut};
-ghost use Rattle.host_net.specs.Prefix as prefixes;
-ghost use Rattle.ipt_rules.specs.Build.{JumpsIn};
+ghost use Rattle.ipt_rules.specs.Jumps.{JumpsIn};
 ghost use Rattle.ipt_rules.specs.Chain.{name_of};
 ghost use Rattle.ipt_rules.specs.Text.{negation_text, address_text, state_text, states_text, target_text, policy_text};
 
 use crate::chain::Chain;
+use crate::prefix::put_prefix;
 use crate::rule::{AddrMatch, Policy, StateMatch, Target};
-use host_net::Prefix;
-use text_core::{put, put_number};
-
-/// Puts a prefix as `a.b.c.d/len`.
-#[tactic(auto, unfolding(host_net::specs::Prefix::prefix_text))]
-pub fn put_prefix(buffer: &mut [u8; 256], at: usize, prefix: Prefix) -> usize
-    requires { at ≤ 256 }
-    ensures text { take result buffer.new ≡ cut (take at buffer.old ++ prefixes.prefix_text prefix) }
-    ensures within { result ≤ 256 }
-{
-    let address = put_address(buffer, at, prefix.addr());
-    let slash = put(buffer, address, b"/");
-    put_number(buffer, slash, prefix.len() as u32)
-}
-
-fn put_address(buffer: &mut [u8; 256], at: usize, address: u32) -> usize
-    requires { at ≤ 256 }
-    ensures text { take result buffer.new ≡ cut (take at buffer.old ++ prefixes.address_text address) }
-    ensures within { result ≤ 256 }
-{
-    let first = put_number(buffer, at, octet(address, 24));
-    let dot = put(buffer, first, b".");
-    let second = put_number(buffer, dot, octet(address, 16));
-    let dot = put(buffer, second, b".");
-    let third = put_number(buffer, dot, octet(address, 8));
-    let dot = put(buffer, third, b".");
-    put_number(buffer, dot, octet(address, 0))
-}
-
-#[tactic(auto, unfolding(host_net::specs::Prefix::octet))]
-fn octet(address: u32, place: u8) -> u32
-    requires { place < 32 }
-    ensures { result ≡ prefixes.octet address place }
-{
-    (address >> place) % 256
-}
+use text_core::put;
 
 fn put_negation(buffer: &mut [u8; 256], at: usize, negated: bool) -> usize
     requires { at ≤ 256 }
@@ -55,7 +20,7 @@ fn put_negation(buffer: &mut [u8; 256], at: usize, negated: bool) -> usize
     put(buffer, at, if negated { b" !" } else { b"" })
 }
 
-#[tactic(auto, using(crate::proofs::LineLemmas::nothing_put))]
+#[tactic(auto, using(text_core::specs::LineLaws::nothing_put))]
 pub(crate) fn put_address_part(
     buffer: &mut [u8; 256],
     at: usize,
@@ -76,7 +41,7 @@ pub(crate) fn put_address_part(
     }
 }
 
-#[tactic(auto, using(crate::proofs::LineLemmas::nothing_put))]
+#[tactic(auto, using(text_core::specs::LineLaws::nothing_put))]
 pub(crate) fn put_state_part(buffer: &mut [u8; 256], at: usize, part: Option<StateMatch>) -> usize
     requires { at ≤ 256 }
     ensures text { take result buffer.new ≡ cut (take at buffer.old ++ state_text part) }
@@ -106,7 +71,7 @@ fn put_states(buffer: &mut [u8; 256], at: usize, new: bool, established: bool) -
     }
 }
 
-#[tactic(auto, using(crate::proofs::LineLemmas::nothing_put))]
+#[tactic(auto, using(text_core::specs::LineLaws::nothing_put))]
 pub(crate) fn put_target(
     buffer: &mut [u8; 256],
     at: usize,

@@ -1,8 +1,8 @@
 //! A rule set: chains whose jumps all lead somewhere and never back, so that each packet has a
 //! verdict.
 
-ghost use Rattle.std.specs.Prelude.{◌≡◌, ◌<◌, ◌≤◌, ◌↔◌, ◌⊎◌, ℕ, List, length, IfOk, IfErr, OnOk, IsNone, IfSome, Some, Option};
-ghost use Rattle.ipt_rules.specs.Chain.{Chain, rules_of, rule_count};
+ghost use Rattle.std.specs.Prelude.{◌≡◌, ◌<◌, ◌≤◌, ◌⊎◌, length, IfOk, IfErr, OnOk, IsNone, IfSome, Some};
+ghost use Rattle.ipt_rules.specs.Chain.{Chain, IsTable, rule_count};
 ghost use Rattle.ipt_rules.specs.Build.{refusal_of, first_unknown, JumpsAscend, jumps_nowhere, place_of_unknown};
 ghost use Rattle.ipt_rules.specs.Meaning.{EachGivesOne, HasVerdict};
 
@@ -46,7 +46,7 @@ impl Model for Ruleset {
 
     ghost Value = { List Chain };
 
-    ghost use Rattle.ipt_rules.specs.Build.{IsRuleset};
+    ghost use Rattle.ipt_rules.specs.Jumps.{IsRuleset};
 
     ghost view = { λ r. r.chains.items };
 
@@ -55,10 +55,13 @@ impl Model for Ruleset {
 
 impl Ruleset {
     /// Makes a rule set of the chains, which it consumes in every case. So far the jumps between
-    /// user chains have to go to greater numbers, and so `Loop` does not come.
+    /// user chains have to go to greater numbers, and so `Loop` does not come, and no memory is
+    /// taken: the allocator is for the search for loops.
     pub fn build(_alloc: Global, chains: Chains) -> Result<Ruleset, BuildRefusal>
         requires ascending { JumpsAscend chains }
         ensures ok { IfOk result (λ rules. rules ≡ chains) }
+        // No two chains have one name, and user chains have legal ones.
+        ensures table { IfOk result IsTable }
         // Each chain gives every packet one outcome, so that the walk of a packet ends.
         ensures one_outcome { IfOk result EachGivesOne }
         ensures accepted { OnOk result (IsNone (refusal_of chains)) }

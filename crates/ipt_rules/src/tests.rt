@@ -12,7 +12,7 @@ use std::alloc::Global;
 use std::process::Abort;
 
 /// The three built-in chains, of which FORWARD drops.
-#[tactic(auto, using(crate::specs::BuildLaws::with_policy_ascend, crate::proofs::TestLemmas::dropping_length, crate::proofs::TestLemmas::dropping_rules))]
+#[tactic(auto, using(crate::specs::BuildLaws::with_policy_ascend, crate::specs::ChainLaws::length_with_policy, crate::specs::ChainLaws::rule_count_with_policy))]
 fn dropping(alloc: Global, rt: &impl Abort) -> Chains
     ensures length { length result ≡ 3 }
     ensures rules { rule_count result ≡ 0 }
@@ -23,7 +23,7 @@ fn dropping(alloc: Global, rt: &impl Abort) -> Chains
     chains
 }
 
-#[tactic(auto, using(crate::specs::BuildLaws::added_ascend, crate::proofs::TestLemmas::added_length, crate::proofs::TestLemmas::added_rules))]
+#[tactic(auto, using(crate::specs::BuildLaws::added_ascend, crate::specs::ChainLaws::length_added, crate::specs::ChainLaws::rule_count_added))]
 fn add(rt: &impl Abort, chains: &mut Chains, text: &[u8])
     requires room { length chains.old < 100 }
     requires jumps { JumpsAscend chains.old }
@@ -37,7 +37,7 @@ fn add(rt: &impl Abort, chains: &mut Chains, text: &[u8])
     assert!(rt; chains.find(text).is_some());
 }
 
-#[tactic(auto, using(crate::specs::BuildLaws::with_rule_ascend, crate::proofs::TestLemmas::rule_length, crate::proofs::TestLemmas::rule_rules))]
+#[tactic(auto, using(crate::specs::BuildLaws::with_rule_ascend, crate::specs::ChainLaws::length_with_rule, crate::specs::ChainLaws::rule_count_with_rule))]
 fn push(rt: &impl Abort, chains: &mut Chains, chain: u16, rule: Rule)
     requires there { chain < length chains.old }
     requires room { rule_count chains.old < 100 }
@@ -50,23 +50,25 @@ fn push(rt: &impl Abort, chains: &mut Chains, chain: u16, rule: Rule)
     chains.rule(chain, rule).expect(rt, "memory");
 }
 
-fn rule(target: Target) -> Rule
+fn rule(
+    src: Option<AddrMatch>,
+    dst: Option<AddrMatch>,
+    state: Option<StateMatch>,
+    target: Target,
+) -> Rule
     ensures { result.target ≡ target }
 {
     Rule {
-        src: None,
-        dst: None,
-        state: None,
+        src,
+        dst,
+        state,
         target,
     }
 }
 
-fn part(rt: &impl Abort, addr: u32, len: u8) -> Option<AddrMatch> {
+fn part(rt: &impl Abort, addr: u32, len: u8, negated: bool) -> Option<AddrMatch> {
     let prefix = Prefix::new(addr, len).expect(rt, "a prefix");
-    Some(AddrMatch {
-        prefix,
-        negated: false,
-    })
+    Some(AddrMatch { prefix, negated })
 }
 
 fn packet(src: u32, dst: u32) -> Packet {
@@ -79,69 +81,40 @@ fn packet(src: u32, dst: u32) -> Packet {
     }
 }
 
+const PAIR: [&[u8]; 12] = [
+    b"*filter\n",
+    b":INPUT ACCEPT [0:0]\n",
+    b":FORWARD DROP [0:0]\n",
+    b":OUTPUT ACCEPT [0:0]\n",
+    b":H0 - [0:0]\n",
+    b":H1 - [0:0]\n",
+    b"-A FORWARD -s 10.0.0.1/32 -j H0\n",
+    b"-A FORWARD -s 10.0.0.2/32 -j H1\n",
+    b"-A H0 -d 10.0.0.2/32 -j ACCEPT\n",
+    b"-A H0 -j DROP\n",
+    b"-A H1 -j DROP\n",
+    b"COMMIT\n",
+];
+
 #[test]
 fn writes_a_pair(rt: HostRuntime) {
     let mut chains = dropping(rt.alloc(), &rt);
     add(&rt, &mut chains, b"H0");
     add(&rt, &mut chains, b"H1");
-    let (a, b) = (part(&rt, 0x0a00_0001, 32), part(&rt, 0x0a00_0002, 32));
-    push(
-        &rt,
-        &mut chains,
-        1,
-        Rule {
-            src: a,
-            dst: None,
-            state: None,
-            target: Target::Jump(3),
-        },
-    );
-    push(
-        &rt,
-        &mut chains,
-        1,
-        Rule {
-            src: b,
-            dst: None,
-            state: None,
-            target: Target::Jump(4),
-        },
-    );
-    push(
-        &rt,
-        &mut chains,
-        3,
-        Rule {
-            src: None,
-            dst: b,
-            state: None,
-            target: Target::Accept,
-        },
-    );
-    push(&rt, &mut chains, 3, rule(Target::Drop));
-    push(&rt, &mut chains, 4, rule(Target::Drop));
+    let a = part(&rt, 0x0a00_0001, 32, false);
+    let b = part(&rt, 0x0a00_0002, 32, false);
+    push(&rt, &mut chains, 1, rule(a, None, None, Target::Jump(3)));
+    push(&rt, &mut chains, 1, rule(b, None, None, Target::Jump(4)));
+    push(&rt, &mut chains, 3, rule(None, b, None, Target::Accept));
+    push(&rt, &mut chains, 3, rule(None, None, None, Target::Drop));
+    push(&rt, &mut chains, 4, rule(None, None, None, Target::Drop));
     let rules = Ruleset::build(rt.alloc(), chains).expect(&rt, "a rule set");
-    let lines: [&[u8]; 12] = [
-        b"*filter\n",
-        b":INPUT ACCEPT [0:0]\n",
-        b":FORWARD DROP [0:0]\n",
-        b":OUTPUT ACCEPT [0:0]\n",
-        b":H0 - [0:0]\n",
-        b":H1 - [0:0]\n",
-        b"-A FORWARD -s 10.0.0.1/32 -j H0\n",
-        b"-A FORWARD -s 10.0.0.2/32 -j H1\n",
-        b"-A H0 -d 10.0.0.2/32 -j ACCEPT\n",
-        b"-A H0 -j DROP\n",
-        b"-A H1 -j DROP\n",
-        b"COMMIT\n",
-    ];
     assert_eq!(rt; rules.lines(), 12);
     let mut buffer = [0; 256];
     for i in 0..rules.lines() {
         let end = rules.write_line(i, &mut buffer);
         assert!(rt;
-            lines
-                .get(i as usize)
+            PAIR.get(i as usize)
                 .is_some_and(|line| &buffer[..end] == *line)
         );
     }
@@ -151,12 +124,9 @@ fn writes_a_pair(rt: HostRuntime) {
 /// 10.9.0.0/16 or to other private networks.
 #[test]
 fn judges_packets(rt: HostRuntime) {
-    let office = part(&rt, 0xc0a8_0100, 24);
-    let lab = part(&rt, 0x0a09_0000, 16);
-    let outside = Some(AddrMatch {
-        prefix: Prefix::new(0xc0a8_0000, 16).expect(&rt, "a prefix"),
-        negated: true,
-    });
+    let office = part(&rt, 0xc0a8_0100, 24, false);
+    let lab = part(&rt, 0x0a09_0000, 16, false);
+    let outside = part(&rt, 0xc0a8_0000, 16, true);
     let established = Some(StateMatch {
         new: false,
         established: true,
@@ -168,46 +138,21 @@ fn judges_packets(rt: HostRuntime) {
         &rt,
         &mut chains,
         1,
-        Rule {
-            src: office,
-            dst: None,
-            state: None,
-            target: Target::Jump(3),
-        },
+        rule(office, None, None, Target::Jump(3)),
     );
     push(
         &rt,
         &mut chains,
         1,
-        Rule {
-            src: None,
-            dst: office,
-            state: established,
-            target: Target::Accept,
-        },
+        rule(None, office, established, Target::Accept),
     );
-    push(&rt, &mut chains, 1, rule(Target::Reject));
+    push(&rt, &mut chains, 1, rule(None, None, None, Target::Reject));
+    push(&rt, &mut chains, 3, rule(None, lab, None, Target::Return));
     push(
         &rt,
         &mut chains,
         3,
-        Rule {
-            src: None,
-            dst: lab,
-            state: None,
-            target: Target::Return,
-        },
-    );
-    push(
-        &rt,
-        &mut chains,
-        3,
-        Rule {
-            src: None,
-            dst: outside,
-            state: None,
-            target: Target::Accept,
-        },
+        rule(None, outside, None, Target::Accept),
     );
     let rules = Ruleset::build(rt.alloc(), chains).expect(&rt, "a rule set");
     let (inside, outside) = (0xc0a8_0105, 0x5db8_d822);
@@ -239,8 +184,8 @@ fn judges_packets(rt: HostRuntime) {
 fn returns_and_refuses(rt: HostRuntime) {
     let mut chains = dropping(rt.alloc(), &rt);
     add(&rt, &mut chains, b"empty");
-    push(&rt, &mut chains, 1, rule(Target::Jump(3)));
-    push(&rt, &mut chains, 1, rule(Target::Accept));
+    push(&rt, &mut chains, 1, rule(None, None, None, Target::Jump(3)));
+    push(&rt, &mut chains, 1, rule(None, None, None, Target::Accept));
     let rules = Ruleset::build(rt.alloc(), chains).expect(&rt, "a rule set");
     assert_eq!(rt;
         rules.verdict(&packet(1, 2), CtState::New),
@@ -249,7 +194,7 @@ fn returns_and_refuses(rt: HostRuntime) {
 
     let mut chains = dropping(rt.alloc(), &rt);
     add(&rt, &mut chains, b"back");
-    push(&rt, &mut chains, 3, rule(Target::Jump(2)));
+    push(&rt, &mut chains, 3, rule(None, None, None, Target::Jump(2)));
     let refused = Ruleset::build(rt.alloc(), chains).err();
     assert_eq!(rt;
         refused,

@@ -1,9 +1,10 @@
 //! The text of a rule set, written line by line into a buffer and without memory.
 
-ghost use Rattle.std.specs.Prelude.{◌≡◌, ◌<◌, ◌≤◌, ◌++◌, ◌∷◌, [], length, take, slice_get, Some};
+ghost use Rattle.std.specs.Prelude.{◌≡◌, ◌<◌, ◌≤◌, ◌++◌, ◌∷◌, [], length, take, slice_get, IsNone, Some};
 ghost use Rattle.std.specs.List.{flat_map};
-ghost use Rattle.ipt_rules.specs.Build.{JumpsIn, JumpsGoOn};
-ghost use Rattle.ipt_rules.specs.Chain.{rule_count};
+ghost use Rattle.ipt_rules.specs.Build.{refusal_of};
+ghost use Rattle.ipt_rules.specs.Jumps.{JumpsIn, JumpsGoOn};
+ghost use Rattle.ipt_rules.specs.Chain.{IsTable, rule_count};
 ghost use Rattle.ipt_rules.specs.Text.{text_lines, table_line, commit_line, chain_line, rule_line, rule_lines};
 
 use crate::chain::Chain;
@@ -15,13 +16,17 @@ use text_core::put;
 impl Ruleset {
     /// How many lines the text has.
     pub fn lines(&self) -> u32
-        ensures { result ≡ length (text_lines self.now) }
+        ensures count { result ≡ length (text_lines self.now) }
+
+        // The names in it tell the chains apart, and its jumps lead to them.
+        ensures table { IsTable self.now }
+        ensures accepted { IsNone (refusal_of self.now) }
     {
         self.chains.len() as u32 + self.rules + 2
     }
 
     /// Writes line `i` of the text, from 0, with its newline to the front of the buffer, and
-    /// answers its length.
+    /// answers its length. What the buffer holds behind it is left open.
     pub fn write_line(&self, i: u32, buffer: &mut [u8; 256]) -> usize
         requires { i < length (text_lines self.now) }
         ensures line { slice_get (text_lines self.now) i ≡ Some (take result buffer.new) }

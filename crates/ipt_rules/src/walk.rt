@@ -3,7 +3,7 @@
 ghost use Rattle.std.specs.Prelude.{◌≡◌, ◌<◌, length};
 ghost use Rattle.ipt_rules.specs.Matching.{matches};
 ghost use Rattle.ipt_rules.specs.Chain.{rules_of};
-ghost use Rattle.ipt_rules.specs.Build.{JumpsGoOn};
+ghost use Rattle.ipt_rules.specs.Jumps.{JumpsGoOn};
 ghost use Rattle.ipt_rules.specs.Meaning.{step_of, Gives, policy_verdict};
 
 use crate::chain::Chain;

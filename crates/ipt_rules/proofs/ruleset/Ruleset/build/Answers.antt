@@ -1,5 +1,6 @@
 use Rattle.std.proofs.Common.{◌∙◌, sym, ap, subst}
-use Rattle.ipt_rules.specs.Build.{refusal_of, JumpsAscend, IsRuleset}
+use Rattle.ipt_rules.specs.Build.{refusal_of, JumpsAscend}
+use Rattle.ipt_rules.specs.Jumps.{IsRuleset}
 use Rattle.ipt_rules.proofs.BuildLemmas.{built}
 use Rattle.ipt_rules.proofs.WalkLemmas.{each_gives_one}
 use Rattle.ipt_rules.proofs.ruleset.Ruleset.build.Goals as goal
@@ -13,3 +14,6 @@ invariant_of-result c = rules c
 
 pub returns-clause-one_outcome : goal.returns-clause-one_outcome
 returns-clause-one_outcome c = each_gives_one c.chains.inside.chains.items (rules c).jumps
+
+pub returns-clause-table : goal.returns-clause-table
+returns-clause-table c = (rules c).list.table

@@ -1,7 +1,7 @@
 use Rattle.std.proofs.Common.{append_assoc}
 use Rattle.host_net.specs.Prefix.{prefix_text}
 use Rattle.text_core.specs.LineLaws.{cut_cut}
-use Rattle.ipt_rules.proofs.pieces.put_prefix.Goals as goal
+use Rattle.ipt_rules.proofs.prefix.put_prefix.Goals as goal
 
 pub returns-clause-text : goal.returns-clause-text
 unfolding prefix_text
