@@ -8,7 +8,7 @@ use Rattle.flow_set.specs.declared.flow.Flow.{Flow}
 use Rattle.ipt_rules.specs.declared.rule.Rule.{Rule}
 use Rattle.ipt_rules.specs.declared.rule.Policy.TheVariants.{Drop as Dropping}
 use Rattle.ipt_rules.specs.Chain.{Chain, built_in_chains, user_chain, with_policy, with_rule, rule_count, number_of}
-use Rattle.ipt_rules.specs.ChainLaws.{rule_count-with_rule, rule_count-append, length-changed_at}
+use Rattle.ipt_rules.specs.ChainLaws.{length_with_rule, rule_count_with_rule, rule_count-append}
 use Rattle.emit_core.specs.Layout.{chains_up_to, host_chain, host_chain_name, host_rules, forward_rules}
 use Rattle.emit_core.specs.LayoutLaws.{name_unused, fewer_than_600000, few_host_rules}
 use Rattle.emit_core.specs.Filling.{with_rules}
@@ -19,10 +19,6 @@ pub record IsFilling (c : ℕ) (rules : List Rule) (start now : List Chain) (don
   pub counted : rule_count now ≡ rule_count start + done
   pub kept : length now ≡ length start
 
-length-with_rule : (chains : List Chain) (c : ℕ) (rule : Rule) → length (with_rule chains c rule) ≡ length chains
-unfolding with_rule
-length-with_rule chains c rule = length-changed_at chains c (λ x. record x { rules = x.rules ++ rule ∷ [] })
-
 -- one rule more is added
 pub filling_more : (c : ℕ) (rules : List Rule) (start old new : List Chain) (done : ℕ) (rule : Rule)
     → done < length rules → rule ≡ get_or rules done rule → c < length start → new ≡ with_rule old c rule
@@ -32,8 +28,8 @@ filling_more c rules start old new done rule below read there added before = rec
       ∙ sym (at_drop_more (with_rules old c) rules done rule below)
       ∙ before.left;
   counted = let kept = before.kept in let counted = before.counted in
-      omega (arith, ap rule_count added, rule_count-with_rule old c rule (omega arith));
-  kept = let kept = before.kept in omega (arith, ap length added, length-with_rule old c rule);
+      omega (arith, ap rule_count added, rule_count_with_rule old c rule (omega arith));
+  kept = let kept = before.kept in omega (arith, ap length added, length_with_rule old c rule);
 }
 
 with_rule-last : (xs : List Chain) (x : Chain) (rule : Rule)

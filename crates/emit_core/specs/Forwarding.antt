@@ -18,7 +18,7 @@ flow_between None to = None
 flow_between (Some i) None = None
 flow_between (Some i) (Some j) = if i == j then None else Some (record { from = i; to = j })
 
--- the flow of a packet: from the owner of its source to the owner of its destination
+-- the flow of a packet: from the owner of its source to the owner of its destination; none within a host, and none where an address has no owner
 abbrev pub flow_of : List Host → Packet → Option Flow
 flow_of hosts packet = flow_between (owner_of hosts packet.src) (owner_of hosts packet.dst)
 

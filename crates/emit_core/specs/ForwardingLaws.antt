@@ -3,11 +3,11 @@ use Rattle.std.proofs.Common.{◌≡◌, ℕ, ◌+◌, ◌<◌, ◌≤◌, zero,
 use Rattle.std.specs.Prelude.{if◌then◌else◌, slice_get, option_map, map}
 use Rattle.std.specs.List.{flat_map, range_with_len, position_from}
 use Rattle.std.specs.Option.{option_or, option_and_then, option_map_or}
+use Rattle.std.proofs.Math.Bool.{and-true}
 use Rattle.host_net.specs.declared.prefix.Prefix.{Prefix}
 use Rattle.host_net.specs.declared.packet.Packet.{Packet}
 use Rattle.host_net.specs.declared.packet.CtState.{CtState}
 use Rattle.host_net.specs.declared.packet.CtState.TheVariants.{New, Established}
-use Rattle.host_net.specs.Packet.{swap_of}
 use Rattle.host_net.specs.Hosts.{IsHosts}
 use Rattle.host_net.specs.Prefix.{covers}
 use Rattle.host_net.specs.Host.{Host, owner_of, holder_of, rest_of, covers_any}
@@ -72,10 +72,6 @@ says_for_each fits chains a n said written each k (h ∷ hs) within once =
     (says_flat_map fits chains (written k) (λ q. if covers q a then said k else None) (each k here) h.prefixes))
     (says_for_each fits chains a n said written each (k + 1) hs later once.1))
 
-and_true : (b : Bool) → (b && true) ≡ b
-and_true true = refl
-and_true false = refl
-
 -- the address lies behind the destination; no destination is every address
 abbrev lies_in : Option Prefix → ℕ → Bool
 lies_in None a = true
@@ -84,12 +80,12 @@ lies_in (Some q) a = covers q a
 source_fits : (q : Option Prefix) (target : Target) (packet : Packet) (state : CtState)
     → matches packet state (from_source q target) ≡ lies_in q packet.src
 source_fits None target packet state = refl
-source_fits (Some q) target packet state = and_true (covers q packet.src)
+source_fits (Some q) target packet state = and-true (covers q packet.src)
 
 whole_fits : (q : Option Prefix) (target : Target) (packet : Packet) (state : CtState)
     → matches packet state (to_destination q None target) ≡ lies_in q packet.dst
 whole_fits None target packet state = refl
-whole_fits (Some q) target packet state = and_true (covers q packet.dst)
+whole_fits (Some q) target packet state = and-true (covers q packet.dst)
 
 answer_fits : (q : Option Prefix) (target : Target) (packet : Packet) (state : CtState)
     → matches packet state (to_destination q answering target) ≡ (lies_in q packet.dst && is_established state)
@@ -309,7 +305,7 @@ by_default sends None = refl
 by_default sends (Some i) = refl
 
 -- each packet has the verdict that the policy asks for
-pub layout_verdict : (hosts : List Host) (p s : List Flow) (packet : Packet) (state : CtState)
+layout_verdict : (hosts : List Host) (p s : List Flow) (packet : Packet) (state : CtState)
     → IsHeldOnce packet.src hosts → IsHeldOnce packet.dst hosts
     → HasVerdict (layout hosts p s) packet state (verdict_of (lets_pass hosts p s packet state))
 layout_verdict hosts p s packet state source destination =
@@ -329,21 +325,6 @@ layout_enforces hosts p s is =
       given = λ packet state. layout_verdict hosts p s packet state (once packet.src) (once packet.dst);
       only = λ packet state v has. verdict_once has (layout_verdict hosts p s packet state (once packet.src) (once packet.dst));
     }
-
-of_none : (flow : Option Flow) → option_map_or (λ f. has [] f) flow false ≡ false
-of_none None = refl
-of_none (Some f) = refl
-
-or_false : (b : Bool) → (b || false) ≡ b
-or_false true = refl
-or_false false = refl
-
--- where no flow is stateful, packets of permitted flows pass in each state, and no others
-pub lets_pass-none : (hosts : List Host) (p : List Flow) (packet : Packet) (state : CtState)
-    → lets_pass hosts p [] packet state ≡ is_of hosts p packet
-lets_pass-none hosts p packet state =
-    ap (λ (b : Bool). is_of hosts p packet || (b && is_established state)) (of_none (flow_of hosts (swap_of packet)))
-    ∙ or_false (is_of hosts p packet)
 
 of_more : (s p : List Flow) (flow : Option Flow) → IsSubset s p
     → option_map_or (λ f. has s f) flow false ≡ true → option_map_or (λ f. has p f) flow false ≡ true

@@ -84,7 +84,7 @@ few_host_chains hosts p s k zero = omega arith
 few_host_chains hosts p s k (suc n) = omega (arith, few_host_rules hosts p s k, few_host_chains hosts p s (k + 1) n)
 
 -- how many rules the chains up to the n-th host have, at most
-pub few_rules : (hosts : List Host) (p s : List Flow) (n : ℕ)
+few_rules : (hosts : List Host) (p s : List Flow) (n : ℕ)
     → rule_count (chains_up_to hosts p s n) ≤ prefix_count hosts + 1 + n * (2 * prefix_count hosts + 2)
 few_rules hosts p s n = omega (arith, few_forward_rules hosts, few_host_chains hosts p s 0 n)
 
@@ -114,7 +114,7 @@ all_for_each test written n each k (h ∷ hs) within =
     ∙ and_from _ _ (all_flat_map test (written k) (each k (omega arith)) h.prefixes) (all_for_each test written n each (k + 1) hs (omega arith))
 
 -- the rule ends the walk of a packet that it fits
-abbrev pub decides : Target → Bool
+abbrev decides : Target → Bool
 decides Accept = true
 decides Drop = true
 decides _ = false
@@ -134,7 +134,7 @@ decide_to_rest p s i None = refl
 decide_to_rest p s i (Some r) = decide_accepts None (permits p i r) (permits s r i)
 
 -- no rule of a host's chain jumps or returns
-pub host_rules_decide : (hosts : List Host) (p s : List Flow) (i : ℕ) → list_all (λ r. decides r.target) (host_rules hosts p s i) ≡ true
+host_rules_decide : (hosts : List Host) (p s : List Flow) (i : ℕ) → list_all (λ r. decides r.target) (host_rules hosts p s i) ≡ true
 host_rules_decide hosts p s i =
     let test : Rule → Bool = λ r. decides r.target in
     let rest = rest_of hosts in
@@ -147,7 +147,7 @@ host_rules_decide hosts p s i =
     (list_all-append test (to_rest p s i rest) (to_destination None None Drop ∷ []) ∙ and_from _ _ (decide_to_rest p s i rest) refl)
 
 -- the rule jumps to the chain of one of n hosts
-abbrev pub jumps_to_host : ℕ → Target → Bool
+abbrev jumps_to_host : ℕ → Target → Bool
 jumps_to_host n (Jump c) = nat_le 3 c && nat_lt c (n + 3)
 jumps_to_host n _ = false
 
@@ -162,7 +162,7 @@ rest_jump_there n None below = refl
 rest_jump_there n (Some r) below = jump_from_there n r None (below r refl)
 
 -- each rule of FORWARD jumps to the chain of a host
-pub forward_rules_jump : (hosts : List Host) → list_all (λ r. jumps_to_host (length hosts) r.target) (forward_rules hosts) ≡ true
+forward_rules_jump : (hosts : List Host) → list_all (λ r. jumps_to_host (length hosts) r.target) (forward_rules hosts) ≡ true
 forward_rules_jump hosts =
     let test : Rule → Bool = λ r. jumps_to_host (length hosts) r.target in
     list_all-append test (for_each_prefix jump_from 0 hosts) (rest_jump (rest_of hosts))
@@ -256,7 +256,7 @@ layout_ascends hosts p s =
     (host_chains_ascend hosts p s count 3 0 (length hosts))
 
 -- hosts with different numbers have chains with different names
-pub host_chain_name_injective : (i j : ℕ) → i < 2 ^ 16 → j < 2 ^ 16 → host_chain_name i ≡ host_chain_name j → i ≡ j
+host_chain_name_injective : (i j : ℕ) → i < 2 ^ 16 → j < 2 ^ 16 → host_chain_name i ≡ host_chain_name j → i ≡ j
 host_chain_name_injective i j i_fits j_fits same =
     decimal_injective i j (omega arith) (omega arith) (append_cancel_left (codes "H") (decimal i) (decimal j) same)
 

@@ -1,6 +1,6 @@
 //! The chains of a policy, put together.
 
-ghost use Rattle.std.specs.Prelude.{◌≡◌, ◌+◌, ◌<◌, ◌≤◌, ◌^◌, length, IfOk, OnOk};
+ghost use Rattle.std.specs.Prelude.{◌≡◌, ◌+◌, ◌<◌, ◌^◌, length, IfOk, OnOk};
 ghost use Rattle.flow_set.specs.FlowSet.{IsSubset};
 ghost use Rattle.host_net.specs.Host.{rest_of};
 ghost use Rattle.host_net.specs.Hosts.{IsHosts};

@@ -1,6 +1,6 @@
 //! The chain of one host: what the host may send, by the destination.
 
-ghost use Rattle.std.specs.Prelude.{◌≡◌, ◌+◌, ◌<◌, ◌≤◌, ◌++◌, [], ◌∷◌, length, IfOk, OnOk};
+ghost use Rattle.std.specs.Prelude.{◌≡◌, ◌+◌, ◌<◌, ◌++◌, length, IfOk, OnOk};
 ghost use Rattle.std.specs.List.{flat_map};
 ghost use Rattle.std.specs.Option.{ForSome};
 ghost use Rattle.emit_core.specs.Layout.{permits, accepts, is_open, drops, to_prefix, to_rest, for_each_prefix, host_rules};
