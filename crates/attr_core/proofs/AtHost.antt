@@ -1,17 +1,12 @@
 -- An attribute that grows step by step, at one host of a list.
-use Rattle.std.proofs.Common.{◌≡◌, ℕ, zero, suc, ◌<◌, length, List, [], ◌∷◌, Option, Some, None, option_map, option_and_then, slice_index_or, slice_set, map, drop, get_or, ◌+◌, refl, sym, ap, ◌∙◌, arith}
-use Rattle.std.proofs.lemmas.List.{get_or-set_same, set-get_or}
+use Rattle.std.proofs.Common.{◌≡◌, ℕ, suc, ◌<◌, length, List, ◌∷◌, Option, Some, None, option_map, option_and_then, slice_index_or, slice_set, map, drop, get_or, ◌+◌, refl, sym, ap, ◌∙◌, arith}
+use Rattle.std.proofs.lemmas.List.{get_or-set_same, set-set}
 use Rattle.std.proofs.Math.Seq.{drop-cons}
-use Rattle.table_core.specs.Growing.{grow}
-
-set_again : {A : Type 0} (xs : List A) (i : ℕ) (x y : A) → slice_set (slice_set xs i x) i y ≡ slice_set xs i y
-set_again [] i x y = refl
-set_again (z ∷ zs) zero x y = refl
-set_again (z ∷ zs) (suc i) x y = ap (λ ws. z ∷ ws) (set_again zs i x y)
+use Rattle.table_core.specs.Listing.{grow}
 
 map_again : {A : Type 0} (xs : List A) (i : ℕ) (x : A) (o : Option A) → option_map (slice_set (slice_set xs i x) i) o ≡ option_map (slice_set xs i) o
 map_again xs i x None = refl
-map_again xs i x (Some y) = ap Some (set_again xs i x y)
+map_again xs i x (Some y) = ap Some (set-set xs i x y)
 
 -- it begins with x at the host
 pub begun_at : {A D : Type 0} (step : A → D → Option A) (xs : List A) (i : ℕ) (x d : A) (es : List D) → i < length xs
@@ -24,15 +19,6 @@ pub grown_at : {A D : Type 0} (step : A → D → Option A) (xs : List A) (i : �
     → option_map (slice_set (slice_set xs i x) i) (grow step (slice_index_or (slice_set xs i x) i d) es) ≡ option_map (slice_set xs i) (grow step (slice_index_or xs i d) (e ∷ es))
 grown_at step xs i x d e es within is =
     begun_at step xs i x d es within ∙ ap (λ o. option_map (slice_set xs i) (option_and_then (λ y. grow step y es) o)) (sym is)
-
--- a step that fails
-pub stopped_at : {A D : Type 0} (step : A → D → Option A) (xs : List A) (i : ℕ) (d : A) (e : D) (es : List D) → step (slice_index_or xs i d) e ≡ None
-    → option_map (slice_set xs i) (grow step (slice_index_or xs i d) (e ∷ es)) ≡ None
-stopped_at step xs i d e es is = ap (λ o. option_map (slice_set xs i) (option_and_then (λ y. grow step y es) o)) is
-
--- no step is left
-pub ended_at : {A : Type 0} (xs : List A) (i : ℕ) (d : A) → option_map (slice_set xs i) (Some (slice_index_or xs i d)) ≡ Some xs
-ended_at xs i d = ap Some (set-get_or xs i d)
 
 -- the elements from one on are that one and those behind it
 pub rest_from : {V D : Type 0} (f : V → D) (vs : List V) (j : ℕ) (v : V) → j < length vs → v ≡ get_or vs j v → f v ∷ map f (drop (j + 1) vs) ≡ map f (drop j vs)

@@ -1,2 +1,2 @@
 pub mod AtHost
-pub mod Found
+pub mod PeersWalk

@@ -15,7 +15,7 @@ pub record Given : Type 0 where
 abbrev pub given_of : Assign → Given
 given_of assign = record { host = assign.host; table = table_view assign.table.now }
 
--- a step that may fail, and what is done after it; k is the number of what failed
+-- a step that may fail, and what is done after it; k is its number
 abbrev pub after : {S : Type 0} → ℕ → (S → Result S ℕ) → Option S → Result S ℕ
 after k next None = Err k
 after k next (Some s) = next s

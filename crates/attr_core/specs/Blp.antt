@@ -1,7 +1,8 @@
 -- Bell-LaPadula: `level`, a whole number to 65,535, is 0 where it is absent; `trusted` is false.
+-- The keys of an assign of this template: docs/FORMATS.md.
 use Rattle.std.specs.Prelude.{false, [], ◌∷◌, Option, Some, None, codes, if◌then◌else◌}
 use Rattle.toml.specs.Data.{Members}
-use Rattle.table_core.specs.Listing.{◌>>=◌}
+use Rattle.text_core.specs.Steps.{◌>>=◌}
 use Rattle.table_core.specs.Tables.{has_only, number_or, boolean_or}
 use Rattle.tmpl_levels.specs.declared.blp.Clearance.{Clearance}
 

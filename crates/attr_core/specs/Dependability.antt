@@ -1,7 +1,8 @@
 -- Dependability: `limit` is a whole number to 65,535.
+-- The keys of an assign of this template: docs/FORMATS.md.
 use Rattle.std.specs.Prelude.{ℕ, [], ◌∷◌, Option, Some, None, codes, if◌then◌else◌}
 use Rattle.toml.specs.Data.{Members}
-use Rattle.table_core.specs.Listing.{◌>>=◌}
+use Rattle.text_core.specs.Steps.{◌>>=◌}
 use Rattle.table_core.specs.Tables.{has_only, number_at}
 
 -- the limit that the table of an assign says

@@ -1,8 +1,9 @@
 -- Security gateways: `kind` is one of five names.
+-- The keys of an assign of this template: docs/FORMATS.md.
 use Rattle.std.specs.Prelude.{ℕ, List, Option, Some, None, codes, if◌then◌else◌}
 use Rattle.std.specs.Str.{bytes_eq}
 use Rattle.toml.specs.Data.{Members}
-use Rattle.table_core.specs.Listing.{◌>>=◌}
+use Rattle.text_core.specs.Steps.{◌>>=◌}
 use Rattle.attr_core.specs.Kinds.{kind_alone}
 use Rattle.tmpl_zones.specs.declared.gateway.GateKind.{GateKind}
 use Rattle.tmpl_zones.specs.declared.gateway.GateKind.TheVariants.{Gateway, GatewayIn, Member, Accessible, Unassigned}

@@ -1,10 +1,16 @@
+pub mod Assigned
 pub mod Assigns
+pub mod AssignsLaws
 pub mod Blp
 pub mod Dependability
 pub mod Domains
 pub mod Gateway
+pub mod InterferenceView
 pub mod Invariants
+pub mod InvariantsLaws
 pub mod Kinds
+pub mod Labels
+pub mod LabelsLaws
 pub mod NoReach
 pub mod NonInterference
 pub mod Partners

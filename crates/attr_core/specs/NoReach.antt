@@ -1,21 +1,18 @@
 -- No-reach: `deny` lists other hosts, by their names; the list may be empty.
+-- The keys of an assign of this template: docs/FORMATS.md.
 use Rattle.std.specs.Prelude.{ℕ, List, [], ◌∷◌, Option, Some, None, option_map, codes, if◌then◌else◌}
 use Rattle.std.specs.FinSet as set
 use Rattle.toml.specs.Data.{Data, Members}
 use Rattle.host_net.specs.Host.{Host}
 use Rattle.reach_core.specs.HostSet.{Hosts}
-use Rattle.table_core.specs.Growing.{grow}
-use Rattle.table_core.specs.Listing.{◌>>=◌}
+use Rattle.table_core.specs.Listing.{each}
+use Rattle.text_core.specs.Steps.{◌>>=◌}
 use Rattle.table_core.specs.Tables.{has_only, list_at}
 use Rattle.attr_core.specs.Peers.{peer}
 
--- one more host that this one denies
-abbrev pub and_denied : List Host → ℕ → Hosts → Data → Option Hosts
-and_denied hosts host denied d = option_map (set.insert denied) (peer hosts host d)
-
--- the hosts that are listed
+-- the set of the hosts that are listed, each of them another declared host
 unfoldable pub all_denied : List Host → ℕ → List Data → Option Hosts
-all_denied hosts host ds = grow (and_denied hosts host) set.empty ds
+all_denied hosts host ds = option_map set.from_list (each (peer hosts host) ds)
 
 -- the list, where the table has no further key
 unfoldable pub listed_denied : Members → Option (List Data)

@@ -1,16 +1,12 @@
 -- Non-interference: `kind` is one of two names.
-use Rattle.std.specs.Prelude.{ℕ, Bool, true, false, List, Option, Some, None, codes, if◌then◌else◌}
+-- The keys of an assign of this template: docs/FORMATS.md.
+use Rattle.std.specs.Prelude.{ℕ, List, Option, Some, None, codes, if◌then◌else◌}
 use Rattle.std.specs.Str.{bytes_eq}
 use Rattle.toml.specs.Data.{Members}
-use Rattle.table_core.specs.Listing.{◌>>=◌}
+use Rattle.text_core.specs.Steps.{◌>>=◌}
 use Rattle.attr_core.specs.Kinds.{kind_alone}
 use Rattle.tmpl_reach.specs.declared.non_interference.Interference.{Interference}
 use Rattle.tmpl_reach.specs.declared.non_interference.Interference.TheVariants.{Interfering, Unrelated}
-
--- whether a host is one of those that are kept apart
-abbrev pub interference_of : Bool → Interference
-interference_of true = Interfering
-interference_of false = Unrelated
 
 -- the kind of a name
 unfoldable pub interference_kind : List ℕ → Option Interference

@@ -1,21 +1,19 @@
 -- Partners: `kind` is one of three names; a master lists in `from` the other hosts that it takes packets from.
+-- The keys of an assign of this template: docs/FORMATS.md.
 use Rattle.std.specs.Prelude.{ℕ, false, List, [], ◌∷◌, length, replicate, Option, Some, None, option_map, codes, if◌then◌else◌}
+use Rattle.std.specs.List.{fold}
 use Rattle.std.specs.Str.{bytes_eq}
 use Rattle.toml.specs.Data.{Data, Members}
 use Rattle.host_net.specs.Host.{Host}
-use Rattle.table_core.specs.Growing.{grow}
-use Rattle.table_core.specs.Listing.{◌>>=◌}
+use Rattle.table_core.specs.Listing.{each}
+use Rattle.text_core.specs.Steps.{◌>>=◌}
 use Rattle.table_core.specs.Tables.{has_only, list_at, text_at}
 use Rattle.tmpl_zones.specs.Partners.{Partner, DontCare, Care, Master, with_sender}
 use Rattle.attr_core.specs.Peers.{peer}
 
--- one more host that a master takes from
-abbrev pub and_sender : List Host → ℕ → Partner → Data → Option Partner
-and_sender hosts host master d = option_map (with_sender master) (peer hosts host d)
-
--- a master that takes from the hosts that are listed
+-- a master that takes from the hosts that are listed, each of them another declared host, and from no others
 unfoldable pub master_of : List Host → ℕ → List Data → Option Partner
-master_of hosts host ds = grow (and_sender hosts host) (Master (replicate (length hosts) false)) ds
+master_of hosts host ds = option_map (fold with_sender (Master (replicate (length hosts) false))) (each (peer hosts host) ds)
 
 -- the list, where the table has no further key
 unfoldable pub listed_senders : Members → Option (List Data)

@@ -2,7 +2,7 @@
 use Rattle.std.specs.Prelude.{ℕ, ◌==◌, List, Option, Some, None, if◌then◌else◌}
 use Rattle.toml.specs.Data.{Data, as_str}
 use Rattle.host_net.specs.Host.{Host, host_named}
-use Rattle.table_core.specs.Listing.{◌>>=◌}
+use Rattle.text_core.specs.Steps.{◌>>=◌}
 
 -- the declared host that an element names, if it is not this one
 unfoldable pub peer : List Host → ℕ → Data → Option ℕ

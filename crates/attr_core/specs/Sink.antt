@@ -1,8 +1,9 @@
 -- Sinks: `kind` is one of three names.
+-- The keys of an assign of this template: docs/FORMATS.md.
 use Rattle.std.specs.Prelude.{ℕ, List, Option, Some, None, codes, if◌then◌else◌}
 use Rattle.std.specs.Str.{bytes_eq}
 use Rattle.toml.specs.Data.{Members}
-use Rattle.table_core.specs.Listing.{◌>>=◌}
+use Rattle.text_core.specs.Steps.{◌>>=◌}
 use Rattle.attr_core.specs.Kinds.{kind_alone}
 use Rattle.tmpl_zones.specs.declared.sink.SinkKind.{SinkKind}
 use Rattle.tmpl_zones.specs.declared.sink.SinkKind.TheVariants.{Sink, Pool, Unassigned}

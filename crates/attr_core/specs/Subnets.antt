@@ -1,8 +1,9 @@
 -- Subnets: `kind` is one of three names; a subnet and a border have a `number` to 65,535 too.
+-- The keys of an assign of this template: docs/FORMATS.md.
 use Rattle.std.specs.Prelude.{ℕ, List, [], ◌∷◌, Option, Some, None, option_map, codes, if◌then◌else◌}
 use Rattle.std.specs.Str.{bytes_eq}
 use Rattle.toml.specs.Data.{Members}
-use Rattle.table_core.specs.Listing.{◌>>=◌}
+use Rattle.text_core.specs.Steps.{◌>>=◌}
 use Rattle.table_core.specs.Tables.{has_only, number_at, text_at}
 use Rattle.tmpl_zones.specs.declared.subnets.NetKind.{NetKind}
 use Rattle.tmpl_zones.specs.declared.subnets.NetKind.TheVariants.{Subnet, Border, Unassigned}

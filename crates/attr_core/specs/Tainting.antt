@@ -1,12 +1,13 @@
 -- Tainting: `taints` and `untaints` list labels, none where they are absent; a host takes off only labels that it has.
 -- The labels of one invariant are numbered in the order in which they first appear, through its assigns in order and in each of them `taints` before `untaints`. There are at most 64.
+-- The keys of an assign of this template: docs/FORMATS.md.
 use Rattle.std.specs.Prelude.{ℕ, Bool, ◌^◌, ◌==◌, ◌&&◌, nat_lt, bit_and, bit_or, List, [], ◌∷◌, ◌++◌, length, Option, Some, None, codes, slice_set, if◌then◌else◌}
 use Rattle.std.specs.List.{position_from}
 use Rattle.std.specs.Str.{bytes_eq}
 use Rattle.toml.specs.Data.{Data, Members, as_str}
-use Rattle.host_net.specs.Name.{is_name}
-use Rattle.table_core.specs.Growing.{grow}
-use Rattle.table_core.specs.Listing.{◌>>=◌}
+use Rattle.text_core.specs.Name.{is_name}
+use Rattle.table_core.specs.Listing.{grow}
+use Rattle.text_core.specs.Steps.{◌>>=◌}
 use Rattle.table_core.specs.Tables.{has_only, list_or_empty}
 use Rattle.tmpl_levels.specs.declared.tainting.Labels.{Labels}
 use Rattle.attr_core.specs.Assigns.{Given}

@@ -1,4 +1,4 @@
--- The names of the ten templates.
+-- The names of the ten templates: docs/FORMATS.md.
 use Rattle.std.specs.Prelude.{ℕ, List, Option, Some, None, codes, if◌then◌else◌}
 use Rattle.std.specs.Str.{bytes_eq}
 use Rattle.attr_core.specs.declared.template.Template.{Template}

@@ -1,42 +1,33 @@
 //! Domains: the place of a host in the hierarchy, and its trust.
-ghost use Rattle.std.specs.Prelude.{◌≡◌, ◌<◌, ◌≤◌, IsTrue, IfSome, map, option_map, length, All, IfOk};
-ghost use Rattle.attr_core.specs.Assigns.{Gives, given_of};
-ghost use Rattle.attr_core.specs.Invariants.{domains_in};
+ghost use Rattle.std.specs.Prelude.{◌≡◌, ◌≤◌, IsTrue, IfSome, option_map, length};
 ghost use Rattle.attr_core.specs.Domains.{domains_attribute};
 ghost use Rattle.std.specs.List.{list_all};
-ghost use Rattle.tmpl_domains.specs.Path.{is_name, is_path, segments};
+ghost use Rattle.text_core.specs.Name.{is_name};
+ghost use Rattle.tmpl_domains.specs.Path.{is_path, segments};
 ghost use Rattle.toml.specs.View.{table_view};
 
 use crate::assign::Assign;
-use crate::fault::AttrFault;
-use crate::reader::{self, Reader};
+use crate::reader::Reader;
 use host_net::{Hosts, Name};
 use std::alloc::{AllocError, Global};
 use table_core::{has_only, number_or, text_at};
 use tmpl_domains::Domains;
 use toml::Table;
 
-#[tactic(auto, unfolding(crate::specs::Invariants::domains_in))]
-pub(crate) fn read(
-    alloc: Global,
-    hosts: &Hosts,
-    assigns: &[Assign<'_>],
-) -> Result<Domains, AttrFault>
-    requires { All (λ a. a.host < length hosts.now) assigns.now }
-    ensures attributes { Gives result (domains_in hosts.now (map given_of assigns.now)) }
-    ensures size { IfOk result (λ rule. length rule ≡ length hosts.now) }
-{
-    reader::read(alloc, Domains::new(alloc, hosts.count())?, hosts, assigns)
-}
-
 impl Reader for Domains {
-    ghost use Rattle.std.specs.Prelude.{length, Some, option_map};
+    ghost use Rattle.std.specs.Prelude.{length, replicate, Some, None, option_map};
     ghost use Rattle.attr_core.specs.Assigns.{with_attribute};
     ghost use Rattle.attr_core.specs.Domains.{domains_attribute};
 
     ghost size_of = { λ attributes. length attributes };
 
+    ghost start_of = { λ hosts. replicate (length hosts) None };
+
     ghost with_assign = { λ _. with_attribute (λ a. option_map Some (domains_attribute a.table)) };
+
+    fn start(alloc: Global, hosts: &Hosts) -> Result<Self, AllocError> {
+        Domains::new(alloc, hosts.count())
+    }
 
     fn take(&mut self, _: Global, _: &Hosts, assign: &Assign<'_>) -> Result<bool, AllocError> {
         let Some((path, trust)) = read_attribute(assign.table) else {

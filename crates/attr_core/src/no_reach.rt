@@ -1,41 +1,32 @@
 //! No-reach: the hosts that a host must not reach.
-ghost use Rattle.std.specs.Prelude.{◌≡◌, ◌<◌, Some, None, if◌then◌else◌, map, option_map, length, slice_set, All, IfOk};
-ghost use Rattle.attr_core.specs.Assigns.{Gives, given_of};
-ghost use Rattle.attr_core.specs.Invariants.{noreach_in};
-ghost use Rattle.attr_core.specs.NoReach.{all_denied, listed_denied, noreach_attribute};
+ghost use Rattle.std.specs.Prelude.{◌≡◌, ◌<◌, Some, None, if◌then◌else◌, map, option_map, length, slice_set};
+ghost use Rattle.attr_core.specs.NoReach.{all_denied, listed_denied};
 ghost use Rattle.toml.specs.View.{view, table_view};
 
 use crate::assign::Assign;
-use crate::fault::AttrFault;
 use crate::peers::peer;
-use crate::reader::{self, Reader};
+use crate::reader::Reader;
 use host_net::Hosts;
 use std::alloc::{AllocError, Global};
 use table_core::{has_only, list_at};
 use tmpl_reach::NoReach;
 use toml::{Table, Value};
 
-#[tactic(auto, unfolding(crate::specs::Invariants::noreach_in))]
-pub(crate) fn read(
-    alloc: Global,
-    hosts: &Hosts,
-    assigns: &[Assign<'_>],
-) -> Result<NoReach, AttrFault>
-    requires { All (λ a. a.host < length hosts.now) assigns.now }
-    ensures attributes { Gives result (noreach_in hosts.now (map given_of assigns.now)) }
-    ensures size { IfOk result (λ rule. length rule ≡ length hosts.now) }
-{
-    reader::read(alloc, NoReach::new(alloc, hosts.count())?, hosts, assigns)
-}
-
 impl Reader for NoReach {
     ghost use Rattle.std.specs.Prelude.{length};
     ghost use Rattle.attr_core.specs.Assigns.{with_attribute};
     ghost use Rattle.attr_core.specs.NoReach.{noreach_attribute};
+    ghost use Rattle.tmpl_reach.specs.NoReach.{all_others};
 
     ghost size_of = { λ denied. length denied };
 
+    ghost start_of = { λ hosts. all_others (length hosts) };
+
     ghost with_assign = { λ hosts. with_attribute (λ a. noreach_attribute hosts a.host a.table) };
+
+    fn start(alloc: Global, hosts: &Hosts) -> Result<Self, AllocError> {
+        NoReach::new(alloc, hosts.count())
+    }
 
     #[tactic(auto, unfolding(crate::specs::NoReach::noreach_attribute))]
     fn take(&mut self, _: Global, hosts: &Hosts, assign: &Assign<'_>) -> Result<bool, AllocError> {

@@ -1,46 +1,33 @@
 //! Non-interference: whether a host is one of those that are kept apart.
-ghost use Rattle.std.specs.Prelude.{◌≡◌, ◌<◌, map, option_map, length, All, IfOk};
-ghost use Rattle.attr_core.specs.Assigns.{Gives, given_of};
-ghost use Rattle.attr_core.specs.Invariants.{interference_in};
-ghost use Rattle.attr_core.specs.NonInterference.{interference_attribute, interference_kind, interference_of};
+ghost use Rattle.std.specs.Prelude.{◌≡◌, option_map};
+ghost use Rattle.attr_core.specs.InterferenceView.{interference_of};
+ghost use Rattle.attr_core.specs.NonInterference.{interference_attribute, interference_kind};
 ghost use Rattle.toml.specs.View.{table_view};
 
 use crate::assign::Assign;
-use crate::fault::AttrFault;
 use crate::kinds::kind_alone;
-use crate::reader::{self, Reader};
+use crate::reader::Reader;
 use host_net::Hosts;
 use inv_law::Invariant;
 use std::alloc::{AllocError, Global};
 use tmpl_reach::NonInterference;
 use toml::Table;
 
-#[tactic(auto, unfolding(crate::specs::Invariants::interference_in))]
-pub(crate) fn read(
-    alloc: Global,
-    hosts: &Hosts,
-    assigns: &[Assign<'_>],
-) -> Result<NonInterference, AttrFault>
-    requires { All (λ a. a.host < length hosts.now) assigns.now }
-    ensures attributes { Gives result (interference_in hosts.now (map given_of assigns.now)) }
-    ensures size { IfOk result (λ rule. length rule ≡ length hosts.now) }
-{
-    reader::read(
-        alloc,
-        NonInterference::new(alloc, hosts.count())?,
-        hosts,
-        assigns,
-    )
-}
-
 impl Reader for NonInterference {
-    ghost use Rattle.std.specs.Prelude.{length};
+    ghost use Rattle.std.specs.Prelude.{length, replicate};
     ghost use Rattle.attr_core.specs.Assigns.{with_attribute};
     ghost use Rattle.attr_core.specs.NonInterference.{interference_attribute};
+    ghost use Rattle.tmpl_reach.specs.declared.non_interference.Interference.TheVariants.{Interfering};
 
     ghost size_of = { λ attributes. length attributes };
 
+    ghost start_of = { λ hosts. replicate (length hosts) Interfering };
+
     ghost with_assign = { λ _. with_attribute (λ a. interference_attribute a.table) };
+
+    fn start(alloc: Global, hosts: &Hosts) -> Result<Self, AllocError> {
+        NonInterference::new(alloc, hosts.count())
+    }
 
     fn take(&mut self, alloc: Global, _: &Hosts, assign: &Assign<'_>) -> Result<bool, AllocError> {
         let Some(interferes) = read_attribute(assign.table) else {

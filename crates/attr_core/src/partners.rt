@@ -1,15 +1,12 @@
 //! Partners: whom a host takes packets from.
-ghost use Rattle.std.specs.Prelude.{◌≡◌, ◌<◌, Some, None, if◌then◌else◌, map, option_map, length, slice_set, All, IfOk};
-ghost use Rattle.attr_core.specs.Assigns.{Gives, given_of};
-ghost use Rattle.attr_core.specs.Invariants.{partners_in};
+ghost use Rattle.std.specs.Prelude.{◌≡◌, ◌<◌, Some, None, if◌then◌else◌, map, option_map, length, slice_set, IfOk};
 ghost use Rattle.attr_core.specs.Partners.{listed_senders, master_in, master_of, without_list};
 ghost use Rattle.tmpl_zones.specs.Partners.{DontCare, Care};
 ghost use Rattle.toml.specs.View.{view, table_view};
 
 use crate::assign::Assign;
-use crate::fault::AttrFault;
 use crate::peers::peer;
-use crate::reader::{self, Reader};
+use crate::reader::Reader;
 use host_net::Hosts;
 use inv_law::EdgeRule;
 use std::alloc::{AllocError, Global};
@@ -17,27 +14,21 @@ use table_core::{has_only, list_at, text_at};
 use tmpl_zones::Partners;
 use toml::{Table, Value};
 
-#[tactic(auto, unfolding(crate::specs::Invariants::partners_in))]
-pub(crate) fn read(
-    alloc: Global,
-    hosts: &Hosts,
-    assigns: &[Assign<'_>],
-) -> Result<Partners, AttrFault>
-    requires { All (λ a. a.host < length hosts.now) assigns.now }
-    ensures attributes { Gives result (partners_in hosts.now (map given_of assigns.now)) }
-    ensures size { IfOk result (λ rule. length rule ≡ length hosts.now) }
-{
-    reader::read(alloc, Partners::new(alloc, hosts.count())?, hosts, assigns)
-}
-
 impl Reader for Partners {
-    ghost use Rattle.std.specs.Prelude.{length};
+    ghost use Rattle.std.specs.Prelude.{length, replicate};
     ghost use Rattle.attr_core.specs.Assigns.{with_attribute};
     ghost use Rattle.attr_core.specs.Partners.{partners_attribute};
+    ghost use Rattle.tmpl_zones.specs.Partners.{DontCare};
 
     ghost size_of = { λ partners. length partners };
 
+    ghost start_of = { λ hosts. replicate (length hosts) DontCare };
+
     ghost with_assign = { λ hosts. with_attribute (λ a. partners_attribute hosts a.host a.table) };
+
+    fn start(alloc: Global, hosts: &Hosts) -> Result<Self, AllocError> {
+        Partners::new(alloc, hosts.count())
+    }
 
     #[tactic(auto, unfolding(crate::specs::Partners::partners_attribute, crate::specs::Partners::partner_kind))]
     fn take(

@@ -11,10 +11,18 @@ use std::alloc::{AllocError, Global};
 
 /// What takes in the assigns of one template.
 pub(crate) trait Reader: Sized + Drop {
-    // How many hosts it has, and what it is with one assign more, if that says an attribute.
+    // How many hosts it has, what it is before the first assign, and what with one assign more, if that
+    // says an attribute.
     ghost size_of: { Self → ℕ };
 
+    ghost start_of: { List Host → Self };
+
     ghost with_assign: { List Host → Self → Given → Option Self };
+
+    /// Gives each host the default of the template.
+    fn start(alloc: Global, hosts: &Hosts) -> Result<Self, AllocError>
+        ensures size { IfOk result (λ reader. size_of reader ≡ length hosts.now) }
+        ensures start { IfOk result (λ reader. reader ≡ start_of hosts.now) };
 
     /// Gives the host of the assign its attribute, or answers false where the assign says none.
     fn take(
@@ -32,16 +40,14 @@ pub(crate) trait Reader: Sized + Drop {
 /// Takes in all assigns.
 pub(crate) fn read<R: Reader>(
     alloc: Global,
-    reader: R,
     hosts: &Hosts,
     assigns: &[Assign<'_>],
 ) -> Result<R, AttrFault>
-    requires size { R.size_of reader ≡ length hosts.now }
-    requires hosts { All (λ a. a.host < length hosts.now) assigns.now }
-    ensures given { Gives result (in_turn (R.with_assign hosts.now) 0 reader (map given_of assigns.now)) }
+    requires { All (λ a. a.host < length hosts.now) assigns.now }
+    ensures given { Gives result (in_turn (R.with_assign hosts.now) 0 (R.start_of hosts.now) (map given_of assigns.now)) }
     ensures size { IfOk result (λ read. R.size_of read ≡ length hosts.now) }
 {
-    let mut reader = reader;
+    let mut reader = R::start(alloc, hosts)?;
     for (place, assign) in assigns.iter().enumerate() {
         if !reader.take(alloc, hosts, assign)? {
             return Err(AttrFault::BadAttribute { assign: place });

@@ -1,40 +1,31 @@
 //! Sinks: the kind of a host.
-ghost use Rattle.std.specs.Prelude.{◌≡◌, ◌<◌, map, length, All, IfOk};
-ghost use Rattle.attr_core.specs.Assigns.{Gives, given_of};
-ghost use Rattle.attr_core.specs.Invariants.{sink_in};
+ghost use Rattle.std.specs.Prelude.{◌≡◌};
 ghost use Rattle.attr_core.specs.Sink.{sink_attribute, sink_kind};
 ghost use Rattle.toml.specs.View.{table_view};
 
 use crate::assign::Assign;
-use crate::fault::AttrFault;
 use crate::kinds::kind_alone;
-use crate::reader::{self, Reader};
+use crate::reader::Reader;
 use host_net::Hosts;
 use std::alloc::{AllocError, Global};
 use tmpl_zones::{SinkKind, SinkRule};
 use toml::Table;
 
-#[tactic(auto, unfolding(crate::specs::Invariants::sink_in))]
-pub(crate) fn read(
-    alloc: Global,
-    hosts: &Hosts,
-    assigns: &[Assign<'_>],
-) -> Result<SinkRule, AttrFault>
-    requires { All (λ a. a.host < length hosts.now) assigns.now }
-    ensures attributes { Gives result (sink_in hosts.now (map given_of assigns.now)) }
-    ensures size { IfOk result (λ rule. length rule ≡ length hosts.now) }
-{
-    reader::read(alloc, SinkRule::new(alloc, hosts.count())?, hosts, assigns)
-}
-
 impl Reader for SinkRule {
-    ghost use Rattle.std.specs.Prelude.{length};
+    ghost use Rattle.std.specs.Prelude.{length, replicate};
     ghost use Rattle.attr_core.specs.Assigns.{with_attribute};
     ghost use Rattle.attr_core.specs.Sink.{sink_attribute};
+    ghost use Rattle.tmpl_zones.specs.declared.sink.SinkKind.TheVariants.{Unassigned};
 
     ghost size_of = { λ attributes. length attributes };
 
+    ghost start_of = { λ hosts. replicate (length hosts) Unassigned };
+
     ghost with_assign = { λ _. with_attribute (λ a. sink_attribute a.table) };
+
+    fn start(alloc: Global, hosts: &Hosts) -> Result<Self, AllocError> {
+        SinkRule::new(alloc, hosts.count())
+    }
 
     fn take(&mut self, _: Global, _: &Hosts, assign: &Assign<'_>) -> Result<bool, AllocError> {
         let Some(kind) = read_attribute(assign.table) else {

@@ -1,40 +1,31 @@
 //! Subnets: the kind of a host, and the number of its subnet.
-ghost use Rattle.std.specs.Prelude.{◌≡◌, ◌<◌, map, length, All, IfOk};
-ghost use Rattle.attr_core.specs.Assigns.{Gives, given_of};
-ghost use Rattle.attr_core.specs.Invariants.{subnets_in};
+ghost use Rattle.std.specs.Prelude.{◌≡◌};
 ghost use Rattle.attr_core.specs.Subnets.{subnets_attribute, net_kind, net_number, net_unassigned};
 ghost use Rattle.toml.specs.View.{table_view};
 
 use crate::assign::Assign;
-use crate::fault::AttrFault;
-use crate::reader::{self, Reader};
+use crate::reader::Reader;
 use host_net::Hosts;
 use std::alloc::{AllocError, Global};
 use table_core::{has_only, number_at, text_at};
 use tmpl_zones::{NetKind, Subnets};
 use toml::Table;
 
-#[tactic(auto, unfolding(crate::specs::Invariants::subnets_in))]
-pub(crate) fn read(
-    alloc: Global,
-    hosts: &Hosts,
-    assigns: &[Assign<'_>],
-) -> Result<Subnets, AttrFault>
-    requires { All (λ a. a.host < length hosts.now) assigns.now }
-    ensures attributes { Gives result (subnets_in hosts.now (map given_of assigns.now)) }
-    ensures size { IfOk result (λ rule. length rule ≡ length hosts.now) }
-{
-    reader::read(alloc, Subnets::new(alloc, hosts.count())?, hosts, assigns)
-}
-
 impl Reader for Subnets {
-    ghost use Rattle.std.specs.Prelude.{length};
+    ghost use Rattle.std.specs.Prelude.{length, replicate};
     ghost use Rattle.attr_core.specs.Assigns.{with_attribute};
     ghost use Rattle.attr_core.specs.Subnets.{subnets_attribute};
+    ghost use Rattle.tmpl_zones.specs.declared.subnets.NetKind.TheVariants.{Unassigned};
 
     ghost size_of = { λ attributes. length attributes };
 
+    ghost start_of = { λ hosts. replicate (length hosts) Unassigned };
+
     ghost with_assign = { λ _. with_attribute (λ a. subnets_attribute a.table) };
+
+    fn start(alloc: Global, hosts: &Hosts) -> Result<Self, AllocError> {
+        Subnets::new(alloc, hosts.count())
+    }
 
     fn take(&mut self, _: Global, _: &Hosts, assign: &Assign<'_>) -> Result<bool, AllocError> {
         let Some(kind) = read_attribute(assign.table) else {

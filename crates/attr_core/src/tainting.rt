@@ -29,11 +29,7 @@ pub(crate) fn read(
     ensures attributes { Gives result (tainting_in hosts.now (map given_of assigns.now)) }
     ensures size { IfOk result (λ rule. length rule ≡ length hosts.now) }
 {
-    let unread = TaintReader {
-        labels: Vec::new(alloc),
-        hosts: Tainting::new(alloc, hosts.count())?,
-    };
-    let reader = reader::read(alloc, unread, hosts, assigns)?;
+    let reader: TaintReader = reader::read(alloc, hosts, assigns)?;
     Ok(reader.hosts)
 }
 
@@ -56,12 +52,22 @@ impl Model for TaintReader {
 }
 
 impl Reader for TaintReader {
-    ghost use Rattle.std.specs.Prelude.{length};
+    ghost use Rattle.std.specs.Prelude.{length, replicate, []};
     ghost use Rattle.attr_core.specs.Tainting.{and_tainted};
+    ghost use Rattle.tmpl_levels.specs.Tainting.{untainted};
 
     ghost size_of = { λ tainted. length tainted.hosts };
 
+    ghost start_of = { λ hosts. record { labels = []; hosts = replicate (length hosts) untainted } };
+
     ghost with_assign = { λ _. and_tainted };
+
+    fn start(alloc: Global, hosts: &Hosts) -> Result<Self, AllocError> {
+        Ok(TaintReader {
+            labels: Vec::new(alloc),
+            hosts: Tainting::new(alloc, hosts.count())?,
+        })
+    }
 
     #[tactic(auto, unfolding(crate::specs::Tainting::and_tainted, crate::specs::Tainting::are_all_said))]
     fn take(&mut self, _: Global, _: &Hosts, assign: &Assign<'_>) -> Result<bool, AllocError> {

@@ -63,6 +63,7 @@ fn fault_of(alloc: Global, hosts: &Hosts, template: Template, text: &str) -> Opt
     read_invariant(alloc, hosts, template, &assigns).err()
 }
 
+// That memory suffices, and that keys, limits and defaults are those of docs/FORMATS.md.
 #[test]
 fn attributes_are_read_or_refused(rt: HostRuntime) {
     let alloc = rt.alloc();

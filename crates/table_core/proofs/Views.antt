@@ -1,15 +1,12 @@
--- The elements and the keys of a table as `toml` keeps them.
-use Rattle.std.proofs.Common.{Bor, ◌||◌, ◌≡◌, ℕ, List, [], ◌∷◌, map, String, Global, string_bytes, refl, ap}
+-- A look at each key of a map, against keys that the code keeps.
+use Rattle.std.proofs.Common.{Bor, ◌||◌, ◌≡◌, ℕ, List, [], ◌∷◌, map, String, Global, string_bytes, refl, ap, ◌∙◌}
 use Rattle.std.specs.Map.{keys_of}
 use Rattle.std.specs.List.{list_all, list_any}
 use Rattle.std.specs.Str.{bytes_eq}
-use Rattle.toml.specs.View.{view, items_view, members_view}
+use Rattle.toml.specs.View.{members_view}
 use Rattle.toml.specs.declared.value.Value.{Value}
-use Rattle.table_core.specs.Tables.{elements, has_only}
-
-pub elements_view : (vs : List Value) → elements (items_view vs) ≡ map view vs
-elements_view [] = refl
-elements_view (v ∷ vs) = ap (λ ds. view v ∷ ds) (elements_view vs)
+use Rattle.table_core.specs.Tables.{all_keys, has_only}
+use Rattle.table_core.specs.TablesLaws.{all_keys_view}
 
 among_now : (key : List ℕ) (keys : List (Bor (List ℕ))) → list_any (λ other. bytes_eq key other.now) keys ≡ list_any (bytes_eq key) (map (λ other. other.now) keys)
 among_now key [] = refl
@@ -19,5 +16,6 @@ among_now key (k ∷ ks) = ap (λ b. bytes_eq key k.now || b) (among_now key ks)
 pub has_only_view : (keys : List (Bor (List ℕ))) (es : List (String Global × Value))
     → list_all (λ key. list_any (λ other. bytes_eq (string_bytes key) other.now) keys) (keys_of es) ≡ has_only (map (λ key. key.now) keys) (members_view es)
 unfolding has_only
-has_only_view keys [] = refl
-has_only_view keys (e ∷ es) = rw (among_now (string_bytes e.0) keys, has_only_view keys es)
+has_only_view keys es =
+    all_keys_view (λ key. list_any (λ other. bytes_eq key other.now) keys) es
+    ∙ ap (λ test. all_keys test (members_view es)) (λ i key. among_now key keys i)

@@ -1,4 +1,4 @@
-pub mod Growing
-pub mod GrowingLaws
 pub mod Listing
+pub mod ListingLaws
 pub mod Tables
+pub mod TablesLaws

@@ -1,4 +1,4 @@
--- Elements that are read one by one.
+-- Lists that are read element by element. Where one element says nothing, the list says nothing.
 use Rattle.std.specs.Prelude.{List, [], ◌∷◌, Option, Some, option_and_then, option_map}
 
 -- what each element is read as, if each of them can be read
@@ -6,7 +6,7 @@ abbrev pub each : {D A : Type 0} → (D → Option A) → List D → Option (Lis
 each read [] = Some []
 each read (d ∷ ds) = option_and_then (λ x. option_map (λ xs. x ∷ xs) (each read ds)) (read d)
 
--- a step that may find nothing, and what is made of what it finds
-infixl 10 ◌>>=◌
-abbrev pub ◌>>=◌ : {A B : Type 0} → Option A → (A → Option B) → Option B
-o >>= f = option_and_then f o
+-- each element in turn makes more of s; what one makes may depend on those before it
+abbrev pub grow : {S D : Type 0} → (S → D → Option S) → S → List D → Option S
+grow step s [] = Some s
+grow step s (d ∷ ds) = option_and_then (λ t. grow step t ds) (step s d)

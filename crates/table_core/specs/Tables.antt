@@ -1,4 +1,4 @@
--- What stands at a key of a TOML table, by its type.
+-- What a TOML table says: its keys, and what stands at a key, by its type. Tables, arrays and values are those that the crate `toml` reads (its module Data).
 use Rattle.std.specs.Prelude.{ℕ, ℤ, pos, negsuc, Bool, List, [], ◌∷◌, Option, Some, None, option_and_then, option_map, is_some, nat_le, if◌then◌else◌}
 use Rattle.std.specs.List.{list_all, list_any}
 use Rattle.std.specs.Str.{bytes_eq}
@@ -14,9 +14,13 @@ abbrev pub keys_in : Members → List (List ℕ)
 keys_in no_members = []
 keys_in (member k d ms) = k ∷ keys_in ms
 
+-- each key of the table passes a test
+abbrev pub all_keys : (List ℕ → Bool) → Members → Bool
+all_keys test table = list_all test (keys_in table)
+
 -- the table has no key but these
 unfoldable pub has_only : List (List ℕ) → Members → Bool
-has_only keys table = list_all (λ k. list_any (bytes_eq k) keys) (keys_in table)
+has_only keys table = all_keys (λ k. list_any (bytes_eq k) keys) table
 
 -- the table has the key
 unfoldable pub has_key : List ℕ → Members → Bool
@@ -34,7 +38,7 @@ integer_at key table = option_and_then as_integer (get_member key table)
 unfoldable pub boolean_at : List ℕ → Members → Option Bool
 boolean_at key table = option_and_then as_bool (get_member key table)
 
--- a whole number from 0 to `most`
+-- a whole number, if it is from 0 to `most`
 abbrev pub number_of : ℕ → ℤ → Option ℕ
 number_of most (pos n) = if nat_le n most then Some n else None
 number_of most (negsuc n) = None
@@ -51,12 +55,16 @@ elements_of d = option_map elements (as_array d)
 unfoldable pub list_at : List ℕ → Members → Option (List Data)
 list_at key table = option_and_then elements_of (get_member key table)
 
--- the same at a key that may be absent: then a default counts
+-- The same at a key that may be absent: then a default counts. A key that is there still needs its type.
+
+-- the whole number from 0 to `most` at a key, or the default
 unfoldable pub number_or : ℕ → ℕ → List ℕ → Members → Option ℕ
 number_or default most key table = if has_key key table then number_at most key table else Some default
 
+-- true or false at a key, or the default
 unfoldable pub boolean_or : Bool → List ℕ → Members → Option Bool
 boolean_or default key table = if has_key key table then boolean_at key table else Some default
 
+-- the elements of the array at a key, or none
 unfoldable pub list_or_empty : List ℕ → Members → Option (List Data)
 list_or_empty key table = if has_key key table then list_at key table else Some []

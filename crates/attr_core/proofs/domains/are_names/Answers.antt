@@ -1,7 +1,7 @@
 use Rattle.std.proofs.Common.{rules, tests}
 use Rattle.std.proofs.lemmas.Iterator.Search.{all_from_yields_List}
 use Rattle.std.proofs.lemmas.Iterator.Splits.{YieldsList-from_slice_split}
-use Rattle.tmpl_domains.specs.Path.{is_name}
+use Rattle.text_core.specs.Name.{is_name}
 use Rattle.attr_core.proofs.domains.are_names.Goals as goal
 
 pub returns : goal.returns

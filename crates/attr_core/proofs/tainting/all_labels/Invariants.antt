@@ -1,6 +1,6 @@
 use Rattle.std.proofs.Common.{◌≡◌, ◌≤◌, length, map, drop}
 use Rattle.toml.specs.View.{view}
-use Rattle.table_core.specs.Growing.{grow}
+use Rattle.table_core.specs.Listing.{grow}
 use Rattle.attr_core.specs.Tainting.{all_labels, and_label}
 use Rattle.attr_core.proofs.tainting.all_labels.Given as goal
 
