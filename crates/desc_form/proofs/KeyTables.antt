@@ -1,5 +1,5 @@
 -- Tests over a table of keys in the code are tests over the keys that it stands for.
-use Rattle.std.proofs.Common.{Bool, ◌&&◌, ◌||◌, ◌≡◌, List, [], ◌∷◌, ℕ, map, String, Global, string_bytes, refl, ap, sym, ◌∙◌}
+use Rattle.std.proofs.Common.{Bool, ◌||◌, ◌≡◌, List, [], ◌∷◌, ℕ, map, String, Global, string_bytes, refl, ap, sym, ◌∙◌}
 use Rattle.std.proofs.lemmas.List.Folds.{list_all-map}
 use Rattle.std.specs.List.{list_all, list_any}
 use Rattle.std.specs.Map as maps
@@ -8,6 +8,7 @@ use Rattle.desc_form.specs.declared.keys.Key.{Key}
 use Rattle.desc_form.specs.KeyView.{key_seen}
 use Rattle.desc_form.specs.Keys as meant
 use Rattle.table_core.specs.Tables.{has_only, keys_in}
+use Rattle.table_core.specs.TablesLaws.{all_keys_view}
 use Rattle.toml.specs.View.{members_view}
 use Rattle.toml.specs.declared.value.Value.{Value}
 
@@ -21,11 +22,6 @@ some_key test keys seen same = sym (list_any-map test key_seen keys) ∙ ap (lis
 pub all_keys : (test : meant.Key → Bool) (keys : List Key) (seen : List meant.Key) → map key_seen keys ≡ seen → list_all (λ key. test (key_seen key)) keys ≡ list_all test seen
 all_keys test keys seen same = sym (list_all-map test key_seen keys) ∙ ap (list_all test) same
 
--- a test of each key of a map
-all_names : (test : List ℕ → Bool) (es : List (String Global × Value)) → list_all (λ name. test (string_bytes name)) (maps.keys_of es) ≡ list_all test (keys_in (members_view es))
-all_names test [] = refl
-all_names test (e ∷ es) = ap (λ b. test (string_bytes e.0) && b) (all_names test es)
-
 list_any-names : (name : List ℕ) (keys : List Key) → list_any (λ key. bytes_eq name (key_seen key).name) keys ≡ list_any (bytes_eq name) (map (λ key. key.name) (map key_seen keys))
 list_any-names name keys = sym (list_any-map (bytes_eq name) (λ key. key.name) (map key_seen keys) ∙ list_any-map (λ key. bytes_eq name key.name) key_seen keys)
 
@@ -33,5 +29,5 @@ pub only_keys : (keys : List Key) (es : List (String Global × Value))
     → list_all (λ name. list_any (λ key. bytes_eq (string_bytes name) (key_seen key).name) keys) (maps.keys_of es) ≡ has_only (map (λ key. key.name) (map key_seen keys)) (members_view es)
 unfolding has_only
 only_keys keys es =
-    all_names (λ name. list_any (λ key. bytes_eq name (key_seen key).name) keys) es
+    all_keys_view (λ name. list_any (λ key. bytes_eq name (key_seen key).name) keys) es
     ∙ ap (λ test. list_all test (keys_in (members_view es))) (λ i name. list_any-names name keys i)

@@ -1,1 +1,2 @@
+pub mod FirstsLemmas
 pub mod KeyTables

@@ -1,15 +1,9 @@
 -- The first of several, and the first element that an earlier one bars.
-use Rattle.std.specs.Prelude.{ℕ, ◌+◌, Bool, List, [], ◌∷◌, ◌++◌, Option, Some, None, find, if◌then◌else◌}
+use Rattle.std.specs.Prelude.{◌≡◌, ℕ, ◌+◌, Bool, not, IsTrue, List, [], ◌∷◌, ◌++◌, Option, None, find}
+use Rattle.std.specs.List.{list_all}
 use Rattle.std.specs.Option.{option_map, option_or}
-
--- an answer, where a condition holds
-abbrev pub where_holds : {A : Type 0} → Bool → A → Option A
-where_holds holds x = if holds then Some x else None
-
--- the first answer that is there
-abbrev pub first_of : {A : Type 0} → List (Option A) → Option A
-first_of [] = None
-first_of (answer ∷ answers) = option_or answer (first_of answers)
+use Rattle.host_net.specs.Hosts.{no_pair}
+pub use Rattle.host_net.specs.Firsts.{first_of, where_holds}
 
 -- the answer for the first element for which there is one
 abbrev pub first_found : {A B : Type 0} → (A → Option B) → List A → Option B
@@ -33,6 +27,7 @@ pub record Pair (A : Type 0) : Type 0 where
   pub later : A
   pub earlier : A
 
+-- the same among some elements that stand behind others
 abbrev pub first_pair_behind : {A : Type 0} → (A → A → Bool) → List A → List A → Option (Pair A)
 first_pair_behind bars before [] = None
 first_pair_behind bars before (x ∷ xs) =
@@ -41,3 +36,13 @@ first_pair_behind bars before (x ∷ xs) =
 -- the first element that an earlier one bars, and the earliest one that does
 abbrev pub first_pair : {A : Type 0} → (A → A → Bool) → List A → Option (Pair A)
 first_pair bars xs = first_pair_behind bars [] xs
+
+-- p is this pair: no element before p.later is barred by an earlier one, and p.earlier is the first element that bars p.later
+pub record IsFirstPair {A : Type 0} (bars : A → A → Bool) (xs : List A) (p : Pair A) : Type 0 where
+  pub before : List A
+  pub between : List A
+  pub behind : List A
+  pub whole : xs ≡ before ++ (p.earlier ∷ (between ++ (p.later ∷ behind)))
+  pub barred : IsTrue (bars p.later p.earlier)
+  pub earliest : IsTrue (list_all (λ y. not (bars p.later y)) before)
+  pub first : IsTrue (no_pair bars (before ++ (p.earlier ∷ between)))

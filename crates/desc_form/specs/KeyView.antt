@@ -1,4 +1,4 @@
--- What a key of the tables in the code stands for.
+-- What the private type of a key in the code stands for.
 use Rattle.desc_form.specs.Keys as meant
 use Rattle.desc_form.specs.declared.keys.Key.{Key}
 use Rattle.desc_form.specs.declared.keys.Key.TheVariants.{Needed, Optional}

@@ -1,4 +1,4 @@
--- What may stand at which key of a description, place by place.
+-- What may stand at which key of a description, place by place (the description's format, docs/FORMATS.md).
 use Rattle.std.specs.Prelude.{ℕ, Bool, true, false, not, ◌||◌, List, [], ◌∷◌, codes, is_some}
 use Rattle.std.specs.List.{list_all}
 use Rattle.std.specs.Option.{option_map_or}

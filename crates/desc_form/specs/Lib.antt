@@ -1,4 +1,7 @@
+pub mod FirstPairLaws
 pub mod Firsts
+pub mod FirstsLaws
+pub mod FirstsSeen
 pub mod FormConditions
 pub mod KeyLaws
 pub mod KeyView

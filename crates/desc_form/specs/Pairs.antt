@@ -2,7 +2,7 @@
 use Rattle.std.specs.Prelude.{ℕ, List, [], ◌∷◌, Option, Some, None}
 use Rattle.toml.specs.Data.{Data, as_str}
 use Rattle.table_core.specs.Tables.{elements_of}
-use Rattle.table_core.specs.Listing.{◌>>=◌}
+use Rattle.text_core.specs.Steps.{◌>>=◌}
 
 -- two texts
 abbrev pub two_texts : List Data → Option (List ℕ × List ℕ)

@@ -1,4 +1,5 @@
--- All places of a description in their order, and the refusals 3 to 5: keys that are unknown, that are missing, and values of a wrong type.
+-- All places of a description in their order, and the refusals 3 to 5: keys that are unknown, that are missing, and values of a
+-- wrong type (the description's format, docs/FORMATS.md).
 use Rattle.std.specs.Prelude.{ℕ, Bool, true, false, not, ◌&&◌, List, [], ◌∷◌, ◌++◌, map, flat_map, find, Option, option_map, is_none, codes, unwrap_or, option_and_then}
 use Rattle.std.specs.List.{list_all, list_any}
 use Rattle.std.specs.Option.{option_map_or}

@@ -4,6 +4,7 @@ use Rattle.std.proofs.lemmas.Bool.{or_parts}
 use Rattle.std.specs.Prelude.{find, flat_map, codes}
 use Rattle.std.specs.Option.{option_or}
 use Rattle.toml.specs.Data.{Data, table, Members}
+use Rattle.host_net.specs.FirstsLaws.{none_mapped}
 use Rattle.desc_form.specs.declared.refusal.Place.{Place}
 use Rattle.desc_form.specs.declared.refusal.Place.TheVariants.{Document, Host, Invariant, Assign, FlowAt}
 use Rattle.desc_form.specs.Firsts.{Numbered, numbered_from, numbered, where_holds}
@@ -77,10 +78,6 @@ cond_none : {A : Type 0} (b : Bool) (x : A) (o : Option A) → cond b (Some x) o
 cond_none true x o found = cc
 cond_none false x o found = (refl, found)
 
-pub map_none : {A B : Type 0} (f : A → B) (o : Option A) → option_map f o ≡ None → o ≡ None
-map_none f None found = refl
-map_none f (Some x) found = cc
-
 find_either : (p q : Spot → Bool) (ss : List Spot) → find p ss ≡ None → find q ss ≡ None → find (λ s. p s || q s) ss ≡ None
 find_either p q [] p_found q_found = refl
 find_either p q (s ∷ ss) p_found q_found =
@@ -91,7 +88,7 @@ find_either p q (s ∷ ss) p_found q_found =
 pub nowhere_either : (p q : Place → Data → Bool) (ms : Members) → first_place p ms ≡ None → first_place q ms ≡ None → first_place (λ place d. p place d || q place d) ms ≡ None
 unfolding first_place
 nowhere_either p q ms p_found q_found =
-    ap (option_map (λ (s : Spot). s.place)) (find_either (λ s. p s.place s.value) (λ s. q s.place s.value) (spots ms) (map_none _ _ p_found) (map_none _ _ q_found))
+    ap (option_map (λ (s : Spot). s.place)) (find_either (λ s. p s.place s.value) (λ s. q s.place s.value) (spots ms) (none_mapped _ _ p_found) (none_mapped _ _ q_found))
 
 -- where one of two conditions holds nowhere, each holds nowhere
 find_both : (p q : Spot → Bool) (ss : List Spot) → find (λ s. p s || q s) ss ≡ None → (find p ss ≡ None) × (find q ss ≡ None)
@@ -105,5 +102,5 @@ find_both p q (s ∷ ss) found =
 pub nowhere_both : (p q : Place → Data → Bool) (ms : Members) → first_place (λ place d. p place d || q place d) ms ≡ None → (first_place p ms ≡ None) × (first_place q ms ≡ None)
 unfolding first_place
 nowhere_both p q ms found =
-    let both = find_both (λ s. p s.place s.value) (λ s. q s.place s.value) (spots ms) (map_none _ _ found) in
+    let both = find_both (λ s. p s.place s.value) (λ s. q s.place s.value) (spots ms) (none_mapped _ _ found) in
     (ap (option_map (λ (s : Spot). s.place)) both.0, ap (option_map (λ (s : Spot). s.place)) both.1)

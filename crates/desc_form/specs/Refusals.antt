@@ -1,4 +1,5 @@
--- Refusals of a description: why, where, and what is told with it. The causes in their order, from 1, and their names.
+-- Refusals of a description: why, where, and what is told with it. The causes in their order, from 1, and their names
+-- (the description's format, docs/FORMATS.md).
 use Rattle.std.specs.Prelude.{ℕ, List, [], codes}
 use Rattle.desc_form.specs.declared.refusal.Place.{Place}
 use Rattle.desc_form.specs.declared.refusal.Refusal.{Refusal}

@@ -1,4 +1,5 @@
--- The first place where a condition holds, part by part: what the private functions find that go through the places.
+-- The first place where a condition holds, part by part: what the private functions find that go through the places. Nothing
+-- here has to be believed: PlacesLaws proves that the parts give the first of all places.
 use Rattle.std.specs.Prelude.{ℕ, ◌+◌, Bool, List, [], ◌∷◌, Option, None, codes}
 use Rattle.std.specs.Option.{option_or}
 use Rattle.toml.specs.Data.{Data, table, Members}

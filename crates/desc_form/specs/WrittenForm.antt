@@ -1,4 +1,5 @@
--- The form of a description, table by table: which keys it has, what stands at each, and what the record of its texts says of it.
+-- The form of a description (its format, docs/FORMATS.md), table by table: which keys it has, what stands at each, and what the
+-- record of its texts says of it.
 use Rattle.std.specs.Prelude.{◌≡◌, ℕ, ℤ, Bool, true, false, if◌then◌else◌, List, [], ◌∷◌, codes, is_some, IsTrue, IsSomeAnd, MatchOption}
 use Rattle.std.specs.List.{AllZip}
 use Rattle.toml.specs.Data.{Data, string, integer, boolean, array, table, Items, no_items, item, Members, get_member}

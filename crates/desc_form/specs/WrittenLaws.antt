@@ -7,10 +7,11 @@ use Rattle.std.specs.Prelude.{codes, is_none, filter_map, unwrap_or}
 use Rattle.std.specs.List.{AllZip, cons_option, list_all}
 use Rattle.std.specs.Option.{option_or}
 use Rattle.toml.specs.Data.{Data, string, array, table, Items, no_items, item, Members, as_table, get_member}
-use Rattle.desc_form.specs.PlacesLaws.{by_parts, map_none, nowhere_both, nowhere_either}
+use Rattle.desc_form.specs.PlacesLaws.{by_parts, nowhere_both, nowhere_either}
 use Rattle.desc_form.specs.declared.refusal.Place.{Place}
 use Rattle.desc_form.specs.declared.refusal.Place.TheVariants.{Document, Host, Invariant, Assign, FlowAt}
 use Rattle.desc_form.specs.Firsts.{first_of, where_holds}
+use Rattle.host_net.specs.FirstsLaws.{holds_not, neither, none_mapped}
 use Rattle.desc_form.specs.FormConditions.{form_conditions}
 use Rattle.desc_form.specs.KeyLaws.{answers_stand, answers_suit, array_needed, array_stands, array_stands_or, array_suits, array_zips, boolean_stands, boolean_suits, integer_stands, integer_suits, text_stands, text_suits, texts_stand_or, texts_suit}
 use Rattle.desc_form.specs.Keys.{keys_of, suits_in}
@@ -64,14 +65,6 @@ assign_reads k m (table ms) good =
     (ms, refl, assign_stands k m ms rest.0 rest.1)
 assign_reads k m _ good = cc
 
-or_none : {A : Type 0} (a b : Option A) → option_or a b ≡ None → (a ≡ None) × (b ≡ None)
-or_none None b found = (refl, found)
-or_none (Some x) b found = cc
-
-where_none : {A : Type 0} (holds : Bool) (x : A) → where_holds holds x ≡ None → holds ≡ false
-where_none true x found = cc
-where_none false x found = refl
-
 zip_first : {A : Type 0} (Is : Members → A → Type 0) (read : Members → A) (d : Data) (ds : List Data) → IsReadIn Is read d
     → AllZip (IsTable Is) ds (map read (filter_map as_table ds)) → AllZip (IsTable Is) (d ∷ ds) (map read (filter_map as_table (d ∷ ds)))
 zip_first Is read d ds (ms, is_table, fits) rest =
@@ -82,8 +75,8 @@ tables_read : {A : Type 0} (Is : Members → A → Type 0) (read : Members → A
     → (k : ℕ) (ds : List Data) → first_at bad place k ds ≡ None → AllZip (IsTable Is) ds (map read (filter_map as_table ds))
 tables_read Is read place reads k [] found = tt
 tables_read Is read place reads k (d ∷ ds) found =
-    let parts = or_none (where_holds (bad (place k) d) (place k)) _ found in
-    zip_first Is read d ds (reads k d (where_none _ _ parts.0)) (tables_read Is read place reads (k + 1) ds parts.1)
+    let parts = neither (where_holds (bad (place k) d) (place k)) _ found in
+    zip_first Is read d ds (reads k d (holds_not _ _ parts.0)) (tables_read Is read place reads (k + 1) ds parts.1)
 
 invariant_stands : (k : ℕ) (ms : Members) → has_other_key (Invariant k) ms ≡ false → lacks_needed (Invariant k) ms ≡ false → has_unsuited (Invariant k) ms ≡ false
     → first_at bad (Assign k) 1 (listed (codes "assign") ms) ≡ None → IsInvariant ms (invariant_written ms)
@@ -101,8 +94,8 @@ invariant_stands k ms other lacks unsuited found =
 invariant_reads : (k : ℕ) (d : Data) → first_of_invariant bad k d ≡ None → IsReadIn IsInvariant invariant_written d
 unfolding has_wrong_type assigns_of listed
 invariant_reads k (table ms) found =
-    let parts = or_none (where_holds (bad (Invariant k) (table ms)) (Invariant k)) _ found in
-    let here = or_parts _ _ (where_none _ _ parts.0) in
+    let parts = neither (where_holds (bad (Invariant k) (table ms)) (Invariant k)) _ found in
+    let here = or_parts _ _ (holds_not _ _ parts.0) in
     let rest = or_parts _ _ here.1 in
     (ms, refl, invariant_stands k ms here.0 rest.0 rest.1 parts.1)
 invariant_reads k _ found = cc
@@ -110,7 +103,7 @@ invariant_reads k _ found = cc
 invariants_read : (k : ℕ) (ds : List Data) → first_of_invariants bad k ds ≡ None → AllZip (IsTable IsInvariant) ds (map invariant_written (filter_map as_table ds))
 invariants_read k [] found = tt
 invariants_read k (d ∷ ds) found =
-    let parts = or_none (first_of_invariant bad k d) _ found in
+    let parts = neither (first_of_invariant bad k d) _ found in
     zip_first IsInvariant invariant_written d ds (invariant_reads k d parts.0) (invariants_read (k + 1) ds parts.1)
 
 two_read : (ds : Items) (pair : List ℕ × List ℕ) → two_texts (elements ds) ≡ Some pair → ds ≡ item (string pair.0) (item (string pair.1) no_items)
@@ -135,17 +128,17 @@ pairs_read : (k : ℕ) (ds : List Data) → first_at bad FlowAt k ds ≡ None �
 unfolding has_wrong_type
 pairs_read k [] found = tt
 pairs_read k (d ∷ ds) found =
-    let parts = or_none (where_holds (bad (FlowAt k) d) (FlowAt k)) _ found in
-    let here = or_parts _ _ (or_parts _ _ (where_none _ _ parts.0)).1 in
+    let parts = neither (where_holds (bad (FlowAt k) d) (FlowAt k)) _ found in
+    let here = or_parts _ _ (or_parts _ _ (holds_not _ _ parts.0)).1 in
     pair_first d ds (pair_of d) refl here.1 (pairs_read (k + 1) ds parts.1)
 
 document_stands : (ms : Members) → first_by_parts bad ms ≡ None → IsWritten ms (written ms)
 unfolding has_wrong_type has_other_key lacks_needed has_unsuited written listed has_key text_at integer_at list_at
 document_stands ms found =
-    let document = or_none (where_holds (bad Document (table ms)) Document) _ found in
-    let hosts = or_none (first_at bad Host 1 (listed (codes "host") ms)) _ document.1 in
-    let invariants = or_none (first_of_invariants bad 1 (listed (codes "invariant") ms)) _ hosts.1 in
-    let here = or_parts _ _ (where_none _ _ document.0) in
+    let document = neither (where_holds (bad Document (table ms)) Document) _ found in
+    let hosts = neither (first_at bad Host 1 (listed (codes "host") ms)) _ document.1 in
+    let invariants = neither (first_of_invariants bad 1 (listed (codes "invariant") ms)) _ hosts.1 in
+    let here = or_parts _ _ (holds_not _ _ document.0) in
     let rest = or_parts _ _ here.1 in
     let lacks = or_parts _ _ rest.0 in
     let lacks_host = or_parts (not (has_key (codes "host") ms)) false lacks.1 in
@@ -173,11 +166,11 @@ document_stands ms found =
 pub written_stands : (ms : Members) → first_of (form_conditions ms) ≡ None → IsWritten ms (written ms)
 unfolding form_conditions unknown_key missing_key wrong_type
 written_stands ms formed =
-    let unknown = or_none _ _ formed in
-    let missing = or_none _ _ unknown.1 in
-    let wrong = or_none _ _ missing.1 in
-    let nowhere = nowhere_either lacks_key has_wrong_type ms (map_none _ _ missing.0) (map_none _ _ wrong.0) in
-    document_stands ms (by_parts bad ms ∙ nowhere_either has_unknown_key (λ place d. lacks_key place d || has_wrong_type place d) ms (map_none _ _ unknown.0) nowhere)
+    let unknown = neither _ _ formed in
+    let missing = neither _ _ unknown.1 in
+    let wrong = neither _ _ missing.1 in
+    let nowhere = nowhere_either lacks_key has_wrong_type ms (none_mapped _ _ missing.0) (none_mapped _ _ wrong.0) in
+    document_stands ms (by_parts bad ms ∙ nowhere_either has_unknown_key (λ place d. lacks_key place d || has_wrong_type place d) ms (none_mapped _ _ unknown.0) nowhere)
 
 -- The other way: where something is written, none of the three conditions holds.
 

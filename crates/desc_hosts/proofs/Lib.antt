@@ -1,3 +1,2 @@
-pub mod Accepted
+pub mod AddingLemmas
 pub mod FirstRefusal
-pub mod PairsLemmas

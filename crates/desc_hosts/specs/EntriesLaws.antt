@@ -10,7 +10,7 @@ use Rattle.std.specs.List.{cons_option, list_all, filter_map, flat_map}
 use Rattle.std.specs.Option.{option_map_or}
 use Rattle.desc_form.specs.Firsts.{Numbered, numbered_from}
 use Rattle.desc_form.specs.Written.{Written, WrittenHost}
-use Rattle.desc_hosts.specs.FirstsLaws.{no_pair-map}
+use Rattle.host_net.specs.PairLaws.{no_pair-map}
 use Rattle.desc_hosts.specs.HostConditions.{Entry, all_entries, entries_at, entries_of, entries_meet, is_prefix, has_host_bits}
 use Rattle.desc_hosts.specs.WrittenHosts.{host_of, hosts_of}
 use Rattle.host_net.specs.Host.{Host, all_prefixes, prefix_count}
@@ -60,7 +60,8 @@ shorter_by : {A : Type 0} (o : Option A) (xs : List A) (n : ℕ) → length xs �
 shorter_by None xs n h = omega arith
 shorter_by (Some x) xs n h = omega arith
 
-no_longer : {A B : Type 0} (f : A → Option B) (xs : List A) → length (filter_map f xs) ≤ length xs
+-- what is made of some elements is no longer than they are
+pub no_longer : {A B : Type 0} (f : A → Option B) (xs : List A) → length (filter_map f xs) ≤ length xs
 no_longer f [] = omega arith
 no_longer f (x ∷ xs) = shorter_by (f x) (filter_map f xs) (length xs) (no_longer f xs)
 

@@ -1,4 +1,5 @@
--- The refusals 6 to 14 of a description: its version, its size, its names, its hosts and their prefixes.
+-- The refusals 6 to 14 of a description: its version, its size, its names, its hosts and their prefixes (the
+-- description's format, docs/FORMATS.md).
 use Rattle.std.specs.Prelude.{ℕ, ◌+◌, ℤ, pos, Bool, false, not, ◌&&◌, nat_lt, List, [], ◌∷◌, length, map, flat_map, find, slice_get, Option, option_map}
 use Rattle.std.specs.Option.{option_map_or}
 use Rattle.std.specs.Ordering.{int_eq}
@@ -6,15 +7,14 @@ use Rattle.std.specs.Str.{bytes_eq}
 use Rattle.desc_form.specs.declared.refusal.Place.{Place}
 use Rattle.desc_form.specs.declared.refusal.Place.TheVariants.{Document, Host, Invariant}
 use Rattle.desc_form.specs.declared.refusal.Refusal.{Refusal}
-use Rattle.desc_hosts.specs.declared.limits.TheConstants.{INVARIANT_LIMIT}
 use Rattle.desc_form.specs.declared.refusal.Why.TheVariants.{BadVersion, TooMany, BadName, DuplicateHost, BadPrefix, HostBits, NoAddress, TwoRests, Overlap}
 use Rattle.desc_form.specs.Firsts.{where_holds, first_of, numbered, Numbered, first_pair}
 use Rattle.desc_hosts.specs.Mentions.{Mention, all_names}
 use Rattle.desc_form.specs.Refusals.{refused, refused_item, refused_by, refused_item_by}
 use Rattle.desc_form.specs.Written.{Written, WrittenHost, WrittenInvariant}
-use Rattle.host_net.specs.Name.{is_name}
+use Rattle.text_core.specs.Name.{is_name}
+use Rattle.host_net.specs.Hosts.{host_limit, lacks_address, prefix_limit}
 use Rattle.host_net.specs.Prefix.{is_exact, meets, prefix_of}
-use Rattle.host_net.specs.declared.refusal.TheConstants.{HOST_LIMIT, PREFIX_LIMIT}
 
 -- an entry of the list of prefixes of a host: its number there, and what it says
 pub record Entry : Type 0 where
@@ -36,17 +36,21 @@ all_entries w = flat_map entries_of (numbered w.hosts)
 unfoldable pub bad_version : ℤ → Option Refusal
 bad_version version = where_holds (not (int_eq version (pos 1))) (refused BadVersion Document)
 
+-- how many invariants there may be
+abbrev pub invariant_limit : ℕ
+invariant_limit = 16
+
 -- a list has more elements than a limit: the first beyond it
 abbrev pub beyond : {A : Type 0} → ℕ → (ℕ → Place) → List A → Option Refusal
 beyond limit place xs = where_holds (nat_lt limit (length xs)) (refused TooMany (place (limit + 1)))
 
 -- all hosts together have more prefixes than a limit: the first beyond it
 abbrev pub too_many_prefixes : List Entry → Option Refusal
-too_many_prefixes es = option_map (λ e. refused_item TooMany (Host e.host) e.item) (slice_get es PREFIX_LIMIT)
+too_many_prefixes es = option_map (λ e. refused_item TooMany (Host e.host) e.item) (slice_get es prefix_limit)
 
 -- 7: there are too many hosts, then too many prefixes, then too many invariants
 unfoldable pub too_many : List WrittenHost → List Entry → List WrittenInvariant → Option Refusal
-too_many hs es invariants = first_of (beyond HOST_LIMIT Host hs ∷ too_many_prefixes es ∷ beyond INVARIANT_LIMIT Invariant invariants ∷ [])
+too_many hs es invariants = first_of (beyond host_limit Host hs ∷ too_many_prefixes es ∷ beyond invariant_limit Invariant invariants ∷ [])
 
 -- 8: a name is none
 unfoldable pub bad_name : List Mention → Option Refusal
@@ -73,11 +77,6 @@ has_host_bits text = option_map_or (λ p. not (is_exact p)) (prefix_of text) fal
 -- 11: an entry has bits behind the length
 unfoldable pub host_bits : List Entry → Option Refusal
 host_bits es = option_map (λ e. refused_item HostBits (Host e.host) e.item) (find (λ e. has_host_bits e.text) es)
-
--- neither a prefix nor the rest mark, or both
-abbrev pub lacks_address : List (List ℕ) → Bool → Bool
-lacks_address [] rest = not rest
-lacks_address (text ∷ texts) rest = rest
 
 -- 12: a host has neither a prefix nor the rest mark, or it has both
 unfoldable pub no_address : List WrittenHost → Option Refusal

@@ -14,20 +14,16 @@ use Rattle.desc_form.specs.declared.refusal.Place.{Place}
 use Rattle.desc_form.specs.declared.refusal.Place.TheVariants as at_host
 use Rattle.desc_form.specs.declared.refusal.Refusal.{Refusal}
 use Rattle.desc_form.specs.declared.refusal.Why.TheVariants.{TooMany, BadName}
-use Rattle.desc_hosts.specs.FirstsLaws.{neither, none_mapped, holds_not, none_found, none_barred, all_numbered, no_pair_numbered, no_pair-map, all_twice}
+use Rattle.desc_form.specs.FirstsLaws.{neither, none_mapped, holds_not, none_found, none_barred, all_numbered, no_pair_numbered, no_pair-map, all_twice}
 use Rattle.desc_hosts.specs.EntriesLaws.{texts, all_texts, no_pair_texts, prefixes_of_texts, prefix_count_entries, networks, prefixes_apart}
-use Rattle.desc_hosts.specs.HostConditions as condition
-use Rattle.desc_hosts.specs.HostConditions.{Entry, all_entries, entries_at, entries_of, entries_meet, bad_version, beyond, too_many, bad_name, duplicate_host, is_prefix, bad_prefix, has_host_bits, host_bits, no_address, two_rests, overlap, host_conditions}
+use Rattle.desc_hosts.specs.HostConditions.{Entry, all_entries, entries_meet, bad_version, beyond, too_many, bad_name, duplicate_host, is_prefix, bad_prefix, has_host_bits, host_bits, invariant_limit, no_address, two_rests, overlap, host_conditions}
 use Rattle.desc_hosts.specs.Mentions.{Mention, all_names, host_name, used_names}
 use Rattle.desc_hosts.specs.WrittenHosts.{host_of, hosts_of}
-use Rattle.desc_hosts.specs.declared.limits.TheConstants.{INVARIANT_LIMIT}
+use Rattle.text_core.specs.Name.{is_name}
 use Rattle.host_net.specs.Host.{Host}
-use Rattle.host_net.specs.Hosts.{is_network, no_pair, IsHosts}
-use Rattle.host_net.specs.Name.{is_name}
+use Rattle.host_net.specs.Hosts.{IsHosts, host_limit, is_network, lacks_address, no_pair, prefix_limit}
 use Rattle.host_net.specs.Prefix.{meets, prefix_of}
-use Rattle.host_net.specs.Refusal.{lacks_address}
 use Rattle.host_net.specs.declared.prefix.Prefix.{Prefix}
-use Rattle.host_net.specs.declared.refusal.TheConstants.{HOST_LIMIT, PREFIX_LIMIT}
 
 -- none of the conditions refuses the description
 pub record IsUnrefused (w : Written) : Type 0 where
@@ -87,20 +83,20 @@ none_beyond (x ∷ xs) (suc limit) h =
 
 -- 7: the sizes are within the limits
 pub record IsSmall (w : Written) : Type 0 where
-  pub hosts : length w.hosts ≤ HOST_LIMIT
-  pub prefixes : length (all_entries w) ≤ PREFIX_LIMIT
-  pub invariants : length w.invariants ≤ INVARIANT_LIMIT
+  pub hosts : length w.hosts ≤ host_limit
+  pub prefixes : length (all_entries w) ≤ prefix_limit
+  pub invariants : length w.invariants ≤ invariant_limit
 
 small_by : (w : Written) → too_many w.hosts (all_entries w) w.invariants ≡ None → IsSmall w
 unfolding too_many
 small_by w h =
-    let (hosts, others) = neither (beyond HOST_LIMIT at_host.Host w.hosts) _ h in
-    let (prefixes, last) = neither (option_map (λ (e : Entry). refused_item TooMany (at_host.Host e.host) e.item) (slice_get (all_entries w) PREFIX_LIMIT)) _ others in
-    let (invariants, _) = neither (beyond INVARIANT_LIMIT at_host.Invariant w.invariants) _ last in
+    let (hosts, others) = neither (beyond host_limit at_host.Host w.hosts) _ h in
+    let (prefixes, last) = neither (option_map (λ (e : Entry). refused_item TooMany (at_host.Host e.host) e.item) (slice_get (all_entries w) prefix_limit)) _ others in
+    let (invariants, _) = neither (beyond invariant_limit at_host.Invariant w.invariants) _ last in
     record {
-      hosts = few_by HOST_LIMIT at_host.Host w.hosts hosts;
-      prefixes = none_beyond (all_entries w) PREFIX_LIMIT (none_mapped _ (slice_get (all_entries w) PREFIX_LIMIT) prefixes);
-      invariants = few_by INVARIANT_LIMIT at_host.Invariant w.invariants invariants;
+      hosts = few_by host_limit at_host.Host w.hosts hosts;
+      prefixes = none_beyond (all_entries w) prefix_limit (none_mapped _ (slice_get (all_entries w) prefix_limit) prefixes);
+      invariants = few_by invariant_limit at_host.Invariant w.invariants invariants;
     }
 
 pub is_small : (w : Written) → first_of (host_conditions w) ≡ None → IsSmall w
@@ -145,11 +141,11 @@ unfolding host_bits
 exact_by w h = sym (all_texts (λ t. not (has_host_bits t)) w) ∙ passed (λ (e : Entry). has_host_bits e.text) _ (all_entries w) h
 
 -- 12: each host has prefixes or is the rest host
-addressed_by : (w : Written) → no_address w.hosts ≡ None → list_all (λ (h : WrittenHost). not (condition.lacks_address h.at h.rest)) w.hosts ≡ true
+addressed_by : (w : Written) → no_address w.hosts ≡ None → list_all (λ (h : WrittenHost). not (lacks_address h.at h.rest)) w.hosts ≡ true
 unfolding no_address
 addressed_by w h =
-    sym (all_numbered (λ (h : WrittenHost). not (condition.lacks_address h.at h.rest)) 1 w.hosts)
-    ∙ passed (λ (h : Numbered WrittenHost). condition.lacks_address h.what.at h.what.rest) _ (numbered w.hosts) h
+    sym (all_numbered (λ (h : WrittenHost). not (lacks_address h.at h.rest)) 1 w.hosts)
+    ∙ passed (λ (h : Numbered WrittenHost). lacks_address h.what.at h.what.rest) _ (numbered w.hosts) h
 
 -- 13: there are no two rest hosts
 one_rest_by : (w : Written) → two_rests w.hosts ≡ None → no_pair (λ (h g : WrittenHost). h.rest && g.rest) w.hosts ≡ true
@@ -169,19 +165,19 @@ addressed_said : (o : Option Prefix) (ps : List Prefix) (rest : Bool) → not (n
 addressed_said None ps rest prefix address = cc
 addressed_said (Some p) ps rest prefix address = address
 
-addressed_host : (ts : List (List ℕ)) (rest : Bool) → list_all (λ t. not (not (is_prefix t))) ts ≡ true → not (condition.lacks_address ts rest) ≡ true
+addressed_host : (ts : List (List ℕ)) (rest : Bool) → list_all (λ t. not (not (is_prefix t))) ts ≡ true → not (lacks_address ts rest) ≡ true
     → not (lacks_address (filter_map prefix_of ts) rest) ≡ true
 addressed_host [] rest prefixes address = address
 addressed_host (t ∷ ts) rest prefixes address =
     let (prefix, _) = and_parts (not (not (is_prefix t))) _ prefixes in
     addressed_said (prefix_of t) (filter_map prefix_of ts) rest prefix address
 
-addressed_hosts : (hs : List WrittenHost) → list_all (λ t. not (not (is_prefix t))) (texts hs) ≡ true → list_all (λ (h : WrittenHost). not (condition.lacks_address h.at h.rest)) hs ≡ true
+addressed_hosts : (hs : List WrittenHost) → list_all (λ t. not (not (is_prefix t))) (texts hs) ≡ true → list_all (λ (h : WrittenHost). not (lacks_address h.at h.rest)) hs ≡ true
     → list_all (λ (h : Host). not (lacks_address h.prefixes h.rest)) (map host_of hs) ≡ true
 addressed_hosts [] prefixes addresses = refl
 addressed_hosts (h ∷ hs) prefixes addresses =
     let (here, behind) = and_parts (list_all (λ t. not (not (is_prefix t))) h.at) _ (sym (list_all-append (λ t. not (not (is_prefix t))) h.at (texts hs)) ∙ prefixes) in
-    let (address, addresses_behind) = and_parts (not (condition.lacks_address h.at h.rest)) _ addresses in
+    let (address, addresses_behind) = and_parts (not (lacks_address h.at h.rest)) _ addresses in
     rw (addressed_host h.at h.rest here address, addressed_hosts hs behind addresses_behind)
 
 pub length-hosts_of : (w : Written) → length (hosts_of w) ≡ length w.hosts

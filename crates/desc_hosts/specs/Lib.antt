@@ -1,10 +1,7 @@
 pub mod EntryView
 pub mod EntriesLaws
-pub mod FirstsLaws
 pub mod HostConditions
 pub mod HostsLaws
 pub mod MentionView
 pub mod Mentions
-pub mod PairsLaws
-pub mod PairsSeen
 pub mod WrittenHosts

@@ -1,4 +1,4 @@
--- The names that stand in a description, place by place.
+-- The names that stand in a description, place by place (the description's format, docs/FORMATS.md).
 use Rattle.std.specs.Prelude.{ℕ, List, [], ◌∷◌, ◌++◌, map, flat_map}
 use Rattle.desc_form.specs.declared.refusal.Place.{Place}
 use Rattle.desc_form.specs.declared.refusal.Place.TheVariants.{Host, Assign, FlowAt}

@@ -3,14 +3,13 @@ ghost use Rattle.std.specs.Prelude.{◌≡◌, map, option_map};
 ghost use Rattle.desc_form.specs.declared.refusal.Place.TheVariants.{Host};
 ghost use Rattle.desc_form.specs.declared.refusal.Why.TheVariants.{Overlap};
 ghost use Rattle.desc_form.specs.Refusals.{refused_by, refused_item_by};
+ghost use Rattle.desc_form.specs.FirstsSeen.{pair_seen};
 ghost use Rattle.desc_form.specs.Seen.{host_seen};
 ghost use Rattle.desc_hosts.specs.EntryView.{entry_seen};
 ghost use Rattle.desc_hosts.specs.HostConditions.{duplicate_host, entries_meet, overlap, two_rests};
-ghost use Rattle.desc_hosts.specs.PairsSeen.{pair_seen};
 
 use crate::entries::Entry;
-use crate::pairs::{Pair, first_pair};
-use desc_form::{Place, Refusal, Why, WrittenHost};
+use desc_form::{Pair, Place, Refusal, Why, WrittenHost, first_pair};
 use host_net::read_prefix;
 
 /// A host has the name of an earlier one.

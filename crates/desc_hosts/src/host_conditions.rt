@@ -3,18 +3,19 @@ ghost use Rattle.std.specs.Prelude.{◌≡◌, map, IfOk};
 ghost use Rattle.desc_form.specs.Firsts.{first_of};
 ghost use Rattle.desc_form.specs.Seen.{host_seen, written_seen};
 ghost use Rattle.desc_hosts.specs.EntryView.{entry_seen};
-ghost use Rattle.desc_hosts.specs.HostConditions.{all_entries, bad_name, bad_version, host_conditions, lacks_address, no_address};
+ghost use Rattle.desc_hosts.specs.HostConditions.{all_entries, bad_name, bad_version, host_conditions, no_address};
 ghost use Rattle.desc_hosts.specs.MentionView.{mention_seen};
 ghost use Rattle.desc_hosts.specs.Mentions.{all_names};
-ghost use Rattle.host_net.specs.Name.{is_name};
+ghost use Rattle.host_net.specs.Hosts.{lacks_address};
+ghost use Rattle.text_core.specs.Name.{is_name};
 
 use crate::barred::{duplicate_host, overlap, two_rests};
 use crate::entries::{Entry, all_entries, bad_prefix, host_bits};
 use crate::mentions::{Mention, all_names};
 use crate::sizes::too_many;
 use desc_form::{Place, Refusal, Why, Written, WrittenHost};
-use host_net::Name;
 use std::alloc::{AllocError, Global};
+use text_core::is_name;
 
 /// The first condition on the version, the sizes, the names and the hosts of a description that
 /// refuses it.
@@ -58,18 +59,12 @@ fn bad_name(names: &[Mention<'_>]) -> Option<Refusal>
     ensures { result ≡ bad_name (map mention_seen names.now) }
 {
     for mention in names {
-        if !is_name(mention.name) {
+        if !is_name(mention.name.as_bytes()) {
             let refusal = Refusal::at(Why::BadName, mention.place);
             return Some(refusal.with_item(mention.item));
         }
     }
     None
-}
-
-fn is_name(text: &str) -> bool
-    ensures { result ≡ is_name text.now }
-{
-    Name::new(text.as_bytes()).is_some()
 }
 
 /// The version is another than 1.

@@ -6,15 +6,11 @@ mod barred;
 mod entries;
 mod host_conditions;
 mod hosts;
-mod limits;
 mod mentions;
-mod pairs;
 mod sizes;
 #[cfg(test)]
 mod tests;
 
 pub use host_conditions::host_refusal;
 pub use hosts::read_hosts;
-pub use limits::INVARIANT_LIMIT;
 pub use mentions::{Mention, used_names};
-pub use pairs::{Numbered, Pair, first_pair};

@@ -3,14 +3,15 @@ ghost use Rattle.std.specs.Prelude.{◌≡◌, length, map};
 ghost use Rattle.desc_form.specs.Seen.{host_seen, invariant_seen};
 ghost use Rattle.desc_form.specs.declared.refusal.Place.TheVariants.{Host, Invariant};
 ghost use Rattle.desc_hosts.specs.EntryView.{entry_seen};
-ghost use Rattle.desc_hosts.specs.HostConditions.{beyond, too_many};
-ghost use Rattle.desc_hosts.specs.declared.limits.TheConstants.{INVARIANT_LIMIT};
-ghost use Rattle.host_net.specs.declared.refusal.TheConstants.{HOST_LIMIT};
+ghost use Rattle.desc_hosts.specs.HostConditions.{beyond, invariant_limit, too_many};
+ghost use Rattle.host_net.specs.Hosts.{host_limit};
 
 use crate::entries::{Entry, too_many_prefixes};
-use crate::limits::INVARIANT_LIMIT;
 use desc_form::{Place, Refusal, Why, WrittenHost, WrittenInvariant};
 use host_net::HOST_LIMIT;
+
+/// How many invariants there may be.
+const INVARIANT_LIMIT: usize = 16;
 
 /// There are too many hosts, then too many prefixes, then too many invariants.
 #[tactic(auto, unfolding(crate::specs::HostConditions::too_many))]
@@ -28,7 +29,7 @@ pub(crate) fn too_many(
 
 /// There are more hosts than there may be.
 fn too_many_hosts(hosts: &[WrittenHost<'_>]) -> Option<Refusal>
-    ensures { result ≡ beyond HOST_LIMIT Host (map host_seen hosts.now) }
+    ensures { result ≡ beyond host_limit Host (map host_seen hosts.now) }
 {
     if hosts.len() <= HOST_LIMIT {
         return None;
@@ -38,7 +39,7 @@ fn too_many_hosts(hosts: &[WrittenHost<'_>]) -> Option<Refusal>
 
 /// There are more invariants than there may be.
 fn too_many_invariants(invariants: &[WrittenInvariant<'_>]) -> Option<Refusal>
-    ensures { result ≡ beyond INVARIANT_LIMIT Invariant (map invariant_seen invariants.now) }
+    ensures { result ≡ beyond invariant_limit Invariant (map invariant_seen invariants.now) }
 {
     if invariants.len() <= INVARIANT_LIMIT {
         return None;

@@ -1,3 +1,6 @@
+//! Shows what no clause says: that the calls succeed with ample memory. The values are those that
+//! the clauses say.
+
 use crate::{host_refusal, read_hosts};
 use desc_form::{Place, read_written};
 use std::alloc::Global;

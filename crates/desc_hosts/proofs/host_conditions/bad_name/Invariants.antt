@@ -3,7 +3,7 @@ use Rattle.desc_form.specs.Refusals.{refused_item}
 use Rattle.desc_form.specs.declared.refusal.Why.TheVariants.{BadName}
 use Rattle.desc_hosts.specs.MentionView.{mention_seen}
 use Rattle.desc_hosts.specs.Mentions.{Mention}
-use Rattle.host_net.specs.Name.{is_name}
+use Rattle.text_core.specs.Name.{is_name}
 use Rattle.desc_hosts.proofs.host_conditions.bad_name.Given as goal
 
 abbrev pub invariant-loop-mention : goal.invariant-loop-mention

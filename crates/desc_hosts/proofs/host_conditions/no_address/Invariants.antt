@@ -3,7 +3,7 @@ use Rattle.std.specs.Prelude.{find}
 use Rattle.desc_form.specs.declared.refusal.Place.TheVariants.{Host}
 use Rattle.desc_form.specs.declared.refusal.Why.TheVariants.{NoAddress}
 use Rattle.desc_form.specs.Firsts.{Numbered, numbered_from}
-use Rattle.desc_hosts.specs.HostConditions.{lacks_address}
+use Rattle.host_net.specs.Hosts.{lacks_address}
 use Rattle.desc_form.specs.Refusals.{refused}
 use Rattle.desc_form.specs.Seen.{host_seen}
 use Rattle.desc_form.specs.Written.{WrittenHost}

@@ -9,7 +9,8 @@ use Rattle.host_net.specs.Hosts.{IsHosts}
 use Rattle.desc_hosts.specs.HostConditions.{host_conditions}
 use Rattle.desc_hosts.specs.HostsLaws.{IsHosts-hosts_of}
 use Rattle.desc_hosts.specs.WrittenHosts.{host_of, hosts_of}
-use Rattle.desc_hosts.proofs.Accepted.{accepted, known_here, networks_of}
+use Rattle.desc_hosts.proofs.AddingLemmas.{known_here}
+use Rattle.host_net.specs.AcceptedLaws.{accepted, networks_of}
 use Rattle.desc_hosts.proofs.hosts.read_hosts.Goals as goal
 
 -- the hosts that were added, the next one and those that are left

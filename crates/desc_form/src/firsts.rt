@@ -1,7 +1,8 @@
 //! The first element of a list that an earlier one bars, as one that has its name.
-ghost use Rattle.std.specs.Prelude.{◌≡◌, Bool, find, option_map};
-ghost use Rattle.desc_form.specs.Firsts.{first_pair, numbered};
-ghost use Rattle.desc_hosts.specs.PairsSeen.{numbered_seen, pair_seen, Tests};
+ghost use Rattle.std.specs.Prelude.{◌≡◌, Bool, IfSome, IsTrue, None, find, option_map};
+ghost use Rattle.desc_form.specs.Firsts.{first_pair, numbered, IsFirstPair};
+ghost use Rattle.desc_form.specs.FirstsSeen.{numbered_seen, pair_seen, Tests};
+ghost use Rattle.host_net.specs.Hosts.{no_pair};
 
 /// An element of a list and its number there, from 1.
 #[derive(Drop)]
@@ -20,6 +21,15 @@ pub struct Pair<'a, T> {
 /// The first element that an earlier one bars, and the earliest one that does. `bars` is asked of a
 /// later and an earlier element.
 pub fn first_pair<T, F: Fn(&T, &T) -> bool>(items: &[T], bars: F) -> Option<Pair<'_, T>>
+    requires { F.IsAlwaysCallable bars }
+    ensures exact { (test : T → T → Bool) → Tests F.Fn bars test → option_map pair_seen result ≡ first_pair (λ x y. test x.what y.what) (numbered items.now) }
+    ensures first { (test : T → T → Bool) → Tests F.Fn bars test → IfSome result (λ pair. IsFirstPair (λ x y. test x.what y.what) (numbered items.now) (pair_seen pair)) }
+    ensures none { (test : T → T → Bool) → Tests F.Fn bars test → result ≡ None → IsTrue (no_pair test items.now) }
+{
+    found_pair(items, bars)
+}
+
+fn found_pair<T, F: Fn(&T, &T) -> bool>(items: &[T], bars: F) -> Option<Pair<'_, T>>
     requires { F.IsAlwaysCallable bars }
     ensures { (test : T → T → Bool) → Tests F.Fn bars test → option_map pair_seen result ≡ first_pair (λ x y. test x.what y.what) (numbered items.now) }
 {

@@ -1,7 +1,7 @@
 use Rattle.std.proofs.Common.{◌≡◌, ◌+◌, Bool, take, drop}
 use Rattle.desc_form.specs.Firsts.{Numbered, first_pair, first_pair_behind, numbered, numbered_from}
-use Rattle.desc_hosts.specs.PairsSeen.{Tests}
-use Rattle.desc_hosts.proofs.pairs.first_pair.Given as goal
+use Rattle.desc_form.specs.FirstsSeen.{Tests}
+use Rattle.desc_form.proofs.firsts.found_pair.Given as goal
 
 abbrev pub invariant-loop-index : goal.invariant-loop-index
 invariant-loop-index g l =

@@ -3,8 +3,8 @@ use Rattle.std.specs.Prelude.{◌≡◌, Bool}
 use Rattle.std.specs.Fn.{Shared}
 use denote.Ref.{Bor}
 use Rattle.desc_form.specs.Firsts as meant
-use Rattle.desc_hosts.specs.declared.pairs.Numbered.{Numbered}
-use Rattle.desc_hosts.specs.declared.pairs.Pair.{Pair}
+use Rattle.desc_form.specs.declared.firsts.Numbered.{Numbered}
+use Rattle.desc_form.specs.declared.firsts.Pair.{Pair}
 
 abbrev pub numbered_seen : {T : Type 0} → Numbered T → meant.Numbered T
 numbered_seen n = record { number = n.number; what = n.what.now }

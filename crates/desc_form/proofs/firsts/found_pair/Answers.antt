@@ -1,8 +1,8 @@
 use Rattle.std.proofs.Common.{option_map, sym, ap, ◌∙◌}
-use Rattle.desc_hosts.specs.PairsSeen.{numbered_seen}
-use Rattle.desc_hosts.proofs.PairsLemmas.{pair_here, pair_passed, no_pair_left}
+use Rattle.desc_form.specs.FirstsSeen.{numbered_seen}
+use Rattle.desc_form.proofs.FirstsLemmas.{pair_here, pair_passed, no_pair_left}
 use Rattle.desc_form.specs.Firsts.{Numbered}
-use Rattle.desc_hosts.proofs.pairs.first_pair.Goals as goal
+use Rattle.desc_form.proofs.firsts.found_pair.Goals as goal
 
 pub returns-in-Some : goal.returns-in-Some
 returns-in-Some g c = λ test is.

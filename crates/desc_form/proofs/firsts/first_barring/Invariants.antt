@@ -1,7 +1,7 @@
 use Rattle.std.proofs.Common.{◌≡◌, ◌+◌, Bool, drop, find}
 use Rattle.desc_form.specs.Firsts.{Numbered, numbered_from}
-use Rattle.desc_hosts.specs.PairsSeen.{Tests}
-use Rattle.desc_hosts.proofs.pairs.first_barring.Given as goal
+use Rattle.desc_form.specs.FirstsSeen.{Tests}
+use Rattle.desc_form.proofs.firsts.first_barring.Given as goal
 
 abbrev pub invariant-loop-index : goal.invariant-loop-index
 invariant-loop-index g l =

@@ -1,24 +1,12 @@
 -- Laws of firsts: where there is no first, no element meets the condition, and no element is barred.
-use Rattle.std.proofs.Common.{◌≡◌, ℕ, ◌+◌, Bool, true, false, cond, not, ◌&&◌, List, [], ◌∷◌, ◌++◌, map, Option, Some, None, option_map, refl, sym, ◌∙◌}
+use Rattle.std.proofs.Common.{◌≡◌, ℕ, ◌+◌, Bool, true, false, cond, not, ◌&&◌, List, [], ◌∷◌, ◌++◌, Option, Some, None, option_map, refl, sym, ◌∙◌}
 use Rattle.std.proofs.lemmas.Bool.{and_parts}
-use Rattle.std.proofs.lemmas.List.Folds.{list_all-append, list_all-map}
+use Rattle.std.proofs.lemmas.List.Folds.{list_all-append}
 use Rattle.std.specs.List.{list_all, find}
-use Rattle.std.specs.Option.{option_or}
-use Rattle.desc_form.specs.Firsts.{first_pair, first_pair_behind, where_holds, Numbered, Pair, numbered_from}
+use Rattle.desc_form.specs.Firsts.{first_pair, first_pair_behind, Numbered, Pair, numbered_from}
 use Rattle.host_net.specs.Hosts.{no_pair}
-
-pub neither : {A : Type 0} (o p : Option A) → option_or o p ≡ None → (o ≡ None) × (p ≡ None)
-neither None p h = (refl, h)
-neither (Some x) p h = cc
-
-pub none_mapped : {A B : Type 0} (f : A → B) (o : Option A) → option_map f o ≡ None → o ≡ None
-none_mapped f None h = refl
-none_mapped f (Some x) h = cc
-
--- the condition does not hold
-pub holds_not : {A : Type 0} (holds : Bool) (x : A) → where_holds holds x ≡ None → holds ≡ false
-holds_not true x h = cc
-holds_not false x h = refl
+pub use Rattle.host_net.specs.FirstsLaws.{holds_not, neither, none_mapped}
+pub use Rattle.host_net.specs.PairLaws.{no_pair-map}
 
 missed : {A : Type 0} (t : Bool) (x : A) (o : Option A) → cond t (Some x) o ≡ None → (not t ≡ true) × (o ≡ None)
 missed true x o h = cc
@@ -68,11 +56,6 @@ all_numbered p k (x ∷ xs) = rw (all_numbered p (k + 1) xs)
 pub no_pair_numbered : {A : Type 0} (r : A → A → Bool) (k : ℕ) (xs : List A) → no_pair (λ (x y : Numbered A). r x.what y.what) (numbered_from k xs) ≡ no_pair r xs
 no_pair_numbered r k [] = refl
 no_pair_numbered r k (x ∷ xs) = rw (all_numbered (λ y. not (r y x)) (k + 1) xs, no_pair_numbered r (k + 1) xs)
-
--- and of what was made of elements
-pub no_pair-map : {A B : Type 0} (r : B → B → Bool) (f : A → B) (xs : List A) → no_pair r (map f xs) ≡ no_pair (λ x y. r (f x) (f y)) xs
-no_pair-map r f [] = refl
-no_pair-map r f (x ∷ xs) = rw (list_all-map (λ y. not (r y (f x))) f xs, no_pair-map r f xs)
 
 not_not : (b : Bool) → not (not b) ≡ true → b ≡ true
 not_not true h = refl

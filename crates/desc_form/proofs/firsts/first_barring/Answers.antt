@@ -1,6 +1,6 @@
 use Rattle.std.proofs.Common.{refl, sym, ◌∙◌}
-use Rattle.desc_hosts.proofs.PairsLemmas.{found_here, passed_here, nothing_left}
-use Rattle.desc_hosts.proofs.pairs.first_barring.Goals as goal
+use Rattle.desc_form.proofs.FirstsLemmas.{found_here, passed_here, nothing_left}
+use Rattle.desc_form.proofs.firsts.first_barring.Goals as goal
 
 pub loop-index-init : goal.loop-index-init
 loop-index-init g c = λ test is. refl
