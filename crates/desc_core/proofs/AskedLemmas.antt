@@ -9,15 +9,12 @@ use Rattle.desc_form.specs.Written.{Written}
 use Rattle.desc_hosts.specs.HostsLaws.{length-hosts_of}
 use Rattle.desc_hosts.specs.WrittenHosts.{hosts_of}
 use Rattle.host_net.specs.Host.{Host}
+use Rattle.flow_set.specs.FlowLaws.{set_ext}
 use Rattle.flow_set.specs.FlowSet.{SetOfFlows, IsFlowSet, IsFull}
-use Rattle.flow_set.specs.declared.flow.Flow.{Flow}
-
-set_ext : (set : SetOfFlows) (n : ℕ) (flows : List Flow) → set.size ≡ n → set.flows ≡ flows → set ≡ record { size = n; flows = flows }
-set_ext set n flows size same = λ i. record { size = size i; flows = same i }
 
 pub full_is_every : {E : Type 0} (n : ℕ) (made : Result SetOfFlows E)
     → IfOk made (λ set. set.size ≡ n) → IfOk made (λ set. IsFlowSet n set.flows) → IfOk made (λ set. IsFull n set.flows) → IfOk made (λ set. set ≡ record { size = n; flows = every_flow n })
-full_is_every n (Ok set) size is_set full = set_ext set n (every_flow n) size (every_flow_is n set.flows is_set full)
+full_is_every n (Ok set) size is_set full = set_ext set (record { size = n; flows = every_flow n }) size (every_flow_is n set.flows is_set full)
 full_is_every n (Err e) size is_set full = tt
 
 -- where no flows are listed, they are those that are asked for

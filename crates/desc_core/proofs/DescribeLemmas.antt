@@ -3,17 +3,19 @@ use Rattle.std.proofs.Common.{◌≡◌, ℕ, Bool, true, false, List, length, O
 use Rattle.std.specs.Option.{ok_or}
 use Rattle.std.specs.Prelude.{if◌then◌else◌, nat_lt, IfOk}
 use Rattle.toml.specs.Data.{Members}
-use Rattle.desc_core.specs.Description.{described, described_by_document, described_by_table, network_or}
-use Rattle.desc_core.specs.Document.{document, table_of}
+use Rattle.desc_core.specs.Conditions.{conditions, most_bytes}
+use Rattle.desc_core.specs.Description.{described}
+use Rattle.desc_core.specs.DescriptionLaws.{in_steps}
+use Rattle.desc_core.specs.Document.{document}
 use Rattle.desc_core.specs.Given.{Gives}
 use Rattle.desc_core.specs.Network.{Network}
-use Rattle.desc_core.specs.Order.{conditions, IsLeast}
-use Rattle.desc_core.specs.OrderLaws.{IsLeast-described}
+use Rattle.desc_core.specs.Order.{IsLeast, NoneHolds}
+use Rattle.desc_core.specs.Parts.{described_by_document, described_by_table, network_or, table_of}
+use Rattle.desc_core.specs.OrderLaws.{IsLeast-described, NoneHolds-described}
 use Rattle.desc_core.specs.Whole.{IsDescribed}
 use Rattle.desc_core.specs.WholeLaws.{IsDescribed-described}
 use Rattle.desc_core.specs.declared.fault.DescFault.{DescFault}
 use Rattle.desc_core.specs.declared.fault.DescFault.TheVariants.{Memory, Refused}
-use Rattle.desc_core.specs.declared.fault.TheConstants.{MOST_BYTES}
 use Rattle.desc_form.specs.Firsts.{first_of}
 use Rattle.desc_form.specs.FormConditions.{form_conditions}
 use Rattle.desc_form.specs.Refusals.{refused}
@@ -45,8 +47,8 @@ by_length true read = refl
 by_length false read = by_document read
 
 described_is : (bytes : List ℕ) → described bytes ≡ by_table (table_of bytes)
-unfolding described table_of
-described_is bytes = by_length (nat_lt MOST_BYTES (length bytes)) (document bytes)
+unfolding table_of
+described_is bytes = in_steps bytes ∙ by_length (nat_lt most_bytes (length bytes)) (document bytes)
 
 pub table_refused : (bytes : List ℕ) (fault : DescFault) → Gives {A = Members} (Err fault) (table_of bytes) → Gives {A = Network} (Err fault) (described bytes)
 table_refused bytes (Refused r) none = described_is bytes ∙ ap by_table none
@@ -61,3 +63,7 @@ least_told bytes result given r is = IsLeast-described bytes r (subst (λ (x : R
 pub whole_read : (bytes : List ℕ) (result : Result Network DescFault) → Gives result (described bytes) → IfOk result (λ d. IsDescribed bytes d)
 whole_read bytes (Ok d) given = IsDescribed-described bytes d given
 whole_read bytes (Err fault) given = tt
+
+pub none_holds : (bytes : List ℕ) (result : Result Network DescFault) → Gives result (described bytes) → IfOk result (λ d. NoneHolds (conditions bytes))
+none_holds bytes (Ok d) given = NoneHolds-described bytes d given
+none_holds bytes (Err fault) given = tt

@@ -1,5 +1,5 @@
 -- One invariant after the other: what is read of it, or what refuses it.
-use Rattle.std.proofs.Common.{◌≡◌, ℕ, ◌+◌, ◌<◌, List, [], ◌∷◌, ◌++◌, map, drop, drop-cons, add-one, get_or, length, append_assoc, Option, Some, None, option_map, option_and_then, Result, Ok, Err, refl, sym, ap, ◌∙◌}
+use Rattle.std.proofs.Common.{◌≡◌, ℕ, ◌+◌, ◌<◌, List, [], ◌∷◌, ◌++◌, map, drop, drop-cons, add-one, get_or, length, Option, Some, None, option_map, Result, Ok, Err, refl, sym, ap, ◌∙◌}
 use Rattle.std.proofs.lemmas.List.{map-append}
 use Rattle.attr_core.specs.Assigns as attr
 use Rattle.attr_core.specs.Assigns.{Given, given_of}
@@ -9,11 +9,10 @@ use Rattle.attr_core.specs.declared.fault.AttrFault.{AttrFault}
 use Rattle.attr_core.specs.declared.fault.AttrFault.TheVariants as cause
 use Rattle.attr_core.specs.declared.template.Template.{Template}
 use Rattle.attr_core.specs.declared.assign.Assign as read
-use Rattle.desc_core.specs.Description.{unless_refused}
 use Rattle.desc_core.specs.Given.{Gives}
 use Rattle.desc_core.specs.Network.{given_by, if_read, invariant_of}
-use Rattle.desc_core.specs.Parts.{fault_at, invariant_or, read_if_known}
-use Rattle.desc_core.specs.SizesLaws.{refused_within}
+use Rattle.desc_core.specs.Parts.{fault_at, invariant_or, read_if_known, unless_refused}
+use Rattle.attr_core.specs.InvariantsLaws.{refused_within}
 use Rattle.desc_core.specs.UseConditions.{at_assign}
 use Rattle.desc_form.specs.Refusals.{refused}
 use Rattle.desc_form.specs.Seen.{assign_seen}
@@ -24,18 +23,9 @@ use Rattle.desc_form.specs.declared.refusal.Why.TheVariants.{BadAttribute}
 use Rattle.desc_form.specs.declared.written.WrittenAssign.{WrittenAssign}
 use Rattle.host_net.specs.Host.{Host}
 use Rattle.inv_any.specs.declared.any_inv.AnyInv.{AnyInv}
-use Rattle.table_core.specs.Listing.{each, ◌>>=◌}
-
--- one element more
-listed_more : {A : Type 0} (xs : List A) (x : A) (rest : Option (List A))
-    → option_map (λ ys. (xs ++ x ∷ []) ++ ys) rest ≡ option_map (λ ys. xs ++ ys) (option_map (λ ys. x ∷ ys) rest)
-listed_more xs x None = refl
-listed_more xs x (Some ys) = ap Some (append_assoc xs (x ∷ []) ys)
-
-pub each_more : {A B : Type 0} (f : A → Option B) (xs : List B) (x : B) (here : Option B) (rest whole : Option (List B)) → here ≡ Some x
-    → option_map (λ ys. xs ++ ys) (option_and_then (λ y. option_map (λ ys. y ∷ ys) rest) here) ≡ whole
-    → option_map (λ ys. (xs ++ x ∷ []) ++ ys) rest ≡ whole
-each_more f xs x here rest whole is so_far = listed_more xs x rest ∙ (rw is at so_far)
+use Rattle.table_core.specs.Listing.{each}
+use Rattle.table_core.specs.ListingLaws.{each_more}
+use Rattle.text_core.specs.Steps.{◌>>=◌}
 
 -- what an assign gives, behind those that came before
 pub assigns_more : (hosts : List Host) (given items : List read.Assign) (a : read.Assign) (w : WrittenAssign) (ws : List WrittenAssign) (i : ℕ) (whole : Option (List Given))
@@ -45,7 +35,7 @@ pub assigns_more : (hosts : List Host) (given items : List read.Assign) (a : rea
 assigns_more hosts given items a w ws i whole more within here says so_far =
     let more_given : map given_of items ≡ map given_of given ++ given_of a ∷ [] = ap (map given_of) more ∙ map-append given_of given (a ∷ []) in
     let next : drop i ws ≡ w ∷ drop (i + 1) ws = drop-cons ws i w within ∙ (λ k. sym here k ∷ drop (sym (add-one i) k) ws) in
-    rw more_given (each_more (given_by hosts) (map given_of given) (given_of a) (given_by hosts (assign_seen w)) (each (given_by hosts) (map assign_seen (drop (i + 1) ws))) whole says (rw next at so_far))
+    rw more_given (each_more (given_by hosts) (map given_of given) (given_of a) (assign_seen w) (map assign_seen (drop (i + 1) ws)) whole says (rw next at so_far))
 
 -- what comes of an invariant that is read or not, or has no template or no host
 abbrev one_or : ℕ → Option (Result AnyInv ℕ) → Result (Option AnyInv) Refusal

@@ -2,11 +2,10 @@
 use Rattle.std.proofs.Common.{◌≡◌, List, ◌∷◌, ◌++◌, length, Some, None, Ok, Err, refl, sym, ap, ◌∙◌, inl, inr}
 use Rattle.std.specs.List.{filter_map}
 use Rattle.std.specs.Option.{option_or}
-use Rattle.desc_core.specs.Description.{network_or}
 use Rattle.desc_core.specs.DescriptionLaws.{first_of-append, passes, stops}
 use Rattle.desc_core.specs.Given.{Gives}
 use Rattle.desc_core.specs.Network.{Network, asked_of, invariants_of, network_of}
-use Rattle.desc_core.specs.Parts.{flow_conditions, invariants_or, name_conditions, network_by_uses, read_if_known}
+use Rattle.desc_core.specs.Parts.{flow_conditions, invariants_or, name_conditions, network_by_uses, network_or, read_if_known}
 use Rattle.desc_core.specs.UseConditions.{bad_attribute, bad_attribute_of, use_conditions}
 use Rattle.desc_core.specs.declared.fault.DescFault.{DescFault}
 use Rattle.desc_core.specs.declared.fault.DescFault.TheVariants.{Memory, Refused}

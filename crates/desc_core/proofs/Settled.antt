@@ -1,4 +1,4 @@
--- Worked refusals of descriptions with more than one fault, or at the edge of a rule.
+-- Worked refusals of descriptions with more than one fault, or at the edge of a rule. No contract names these laws either.
 use Rattle.std.specs.Prelude.{◌≡◌, refl, pos, List, [], ◌∷◌, map, replicate, codes, Err}
 use Rattle.toml.specs.Data.{string, integer, table, no_members, member}
 use Rattle.attr_core.specs.Blp.{blp_attribute}
@@ -11,7 +11,7 @@ use Rattle.desc_hosts.specs.Mentions.{assign_names, flow_names, used_names, all_
 use Rattle.desc_core.specs.Network.{network_of, asked_of, invariants_of, invariant_of, every_flow}
 use Rattle.desc_form.specs.Places.{unknown_key, missing_key, wrong_type, has_other_key, lacks_needed, has_unsuited, has_wrong_type, first_place, spots, listed, assigns_of}
 use Rattle.desc_core.specs.UseConditions.{use_conditions, unknown_template, undeclared_host, duplicate_assign, bad_attribute, self_flow, duplicate_flow}
-use Rattle.desc_core.specs.Description.{described_by_table, network_or}
+use Rattle.desc_core.specs.Parts.{described_by_table, network_or}
 use Rattle.desc_form.specs.Refusals.{refused, refused_by, refused_item, refused_item_by, refused_name}
 use Rattle.desc_form.specs.declared.refusal.Place.TheVariants.{Assign, Document, FlowAt, Host, Invariant}
 use Rattle.desc_form.specs.declared.refusal.Why.TheVariants.{BadName, BadPrefix, DuplicateAssign, MissingKey, NoAddress, Overlap, TooMany, TwoRests, UndeclaredHost, UnknownTemplate, WrongType}

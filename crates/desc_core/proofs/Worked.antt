@@ -1,8 +1,9 @@
--- Worked refusals: a small description, what is changed in it, and what is told of it.
-use Rattle.std.proofs.Common.{ap, ◌∙◌}
+-- Worked refusals: a small description, what is changed in it, and what is told of it. No contract names these laws: they show
+-- that the definitions say what they are meant to.
+use Rattle.std.proofs.Common.{arith}
 use Rattle.std.proofs.lemmas.List.{length-replicate}
-use Rattle.desc_core.specs.declared.fault.TheConstants.{MOST_BYTES}
-use Rattle.std.specs.Prelude.{ℕ, nat_lt, length, replicate, ◌≡◌, refl, pos, true, false, List, [], ◌∷◌, map, codes, Ok, Err}
+use Rattle.desc_core.specs.Conditions.{most_bytes}
+use Rattle.std.specs.Prelude.{ℕ, ◌<◌, length, replicate, ◌≡◌, refl, pos, true, false, List, [], ◌∷◌, map, codes, Ok, Err}
 use Rattle.toml.specs.Data.{string, integer, table, Members, no_members, member}
 use Rattle.attr_core.specs.Blp.{blp_attribute}
 use Rattle.attr_core.specs.Invariants.{invariant_in, blp_in}
@@ -16,7 +17,9 @@ use Rattle.desc_hosts.specs.Mentions.{assign_names, flow_names, used_names, all_
 use Rattle.desc_core.specs.Network.{network_of, asked_of, invariants_of, invariant_of, every_flow}
 use Rattle.desc_form.specs.Places.{unknown_key, missing_key, wrong_type, has_other_key, lacks_needed, has_unsuited, has_wrong_type, first_place, spots, listed, assigns_of}
 use Rattle.desc_core.specs.UseConditions.{use_conditions, unknown_template, undeclared_host, duplicate_assign, bad_attribute, self_flow, duplicate_flow}
-use Rattle.desc_core.specs.Description.{described, described_by_table, network_or}
+use Rattle.desc_core.specs.Description.{described}
+use Rattle.desc_core.specs.DescriptionLaws.{described-too_long}
+use Rattle.desc_core.specs.Parts.{described_by_table, network_or}
 use Rattle.desc_form.specs.Refusals.{refused, refused_by, refused_item, refused_item_by, refused_name}
 use Rattle.desc_form.specs.declared.refusal.Place.TheVariants.{Assign, Document, FlowAt, Host}
 use Rattle.desc_form.specs.declared.refusal.Why.TheVariants.{TooLong, BadAttribute, BadPrefix, BadVersion, DuplicateFlow, DuplicateHost, HostBits, Overlap, SelfFlow, TooMany, TwoRests, UndeclaredHost, UnknownKey}
@@ -71,11 +74,8 @@ unfolding unknown_key missing_key wrong_type has_other_key lacks_needed has_unsu
 accepted = refl
 
 -- whatever stands in it, a file of one byte more than the limit is too long
-longer : (n : ℕ) (byte : ℕ) → nat_lt MOST_BYTES n ≡ true → described (replicate n byte) ≡ Err (refused TooLong Document)
-unfolding described
-longer n byte long =
-    let more : nat_lt MOST_BYTES (length (replicate n byte)) ≡ true = ap (nat_lt MOST_BYTES) (length-replicate n byte) ∙ long in
-    rw more refl
-
 pub too_long : (byte : ℕ) → described (replicate 1048577 byte) ≡ Err (refused TooLong Document)
-too_long byte = longer 1048577 byte refl
+too_long byte = described-too_long (replicate 1048577 byte) (longer 1048577 byte (omega arith))
+  where
+    longer : (n byte : ℕ) → most_bytes < n → most_bytes < length (replicate n byte)
+    longer n byte h = omega (arith, length-replicate n byte, h)

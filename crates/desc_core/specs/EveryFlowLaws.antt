@@ -1,6 +1,5 @@
 -- The list of every flow between n hosts is a set, and it is the only one that has every flow.
-use Rattle.std.proofs.Common.{refl, ◌≡◌, ◌≢◌, ℕ, zero, suc, sym, ◌==◌, ◌<◌, ◌+◌, ◌≤◌, Bool, true, false, not, ◌&&◌, ◌||◌, List, [], ◌∷◌, ◌++◌, ◌∙◌, inl, inr, arith}
-use Rattle.std.proofs.lemmas.Bool.{or_cases}
+use Rattle.std.proofs.Common.{refl, ◌≡◌, ◌≢◌, ℕ, zero, suc, sym, ◌==◌, ◌<◌, ◌+◌, ◌≤◌, Bool, true, false, not, ◌&&◌, ◌||◌, List, [], ◌∷◌, ◌++◌, ◌∙◌, arith}
 use Rattle.std.proofs.lemmas.Bool.Decides.{nat_tests}
 use Rattle.std.specs.List.{flat_map, range_with_len}
 use Rattle.std.specs.Prelude.{IsTrue, if◌then◌else◌, nat_lt, nat_le}
@@ -8,7 +7,8 @@ use Rattle.desc_core.specs.Network.{every_flow, flow_or_none}
 use Rattle.flow_set.specs.declared.flow.Flow.{Flow}
 use Rattle.flow_set.specs.Flow.{before, same_flow, IsFlow}
 use Rattle.flow_set.specs.FlowSet.{has, IsFlowSet, IsFull, IsOrdered}
-use Rattle.flow_set.specs.FlowLaws.{flows_ext, has-append, has_first, has_later}
+use Rattle.flow_set.specs.FlowLaws.{IsOrdered-append, has-append}
+use Rattle.flow_set.specs.SubsetLaws.{full_is_one}
 
 -- the flows from one host to the m hosts from k on, and those from the m hosts from k on to all n
 abbrev row : ℕ → ℕ → ℕ → List Flow
@@ -51,17 +51,6 @@ one_in_rows n k m f = grind (arith, nat_tests)
 has-rows : (n k m : ℕ) (f : Flow) → has (rows n k m) f ≡ in_rows n k m f
 has-rows n k zero f = none_in_rows n k f
 has-rows n k (suc m) f = has-append (row k 0 n) (rows n (k + 1) m) f ∙ rw (has-row k 0 n f, has-rows n (k + 1) m f) (one_in_rows n k m f)
-
--- sets of which the one stands wholly before the other
-IsOrdered-append : (xs ys : List Flow) → IsOrdered xs → IsOrdered ys → ((f g : Flow) → IsTrue (has xs f) → IsTrue (has ys g) → IsTrue (before f g)) → IsOrdered (xs ++ ys)
-IsOrdered-append [] ys first second apart = second
-IsOrdered-append (x ∷ xs) ys first second apart = (
-  λ g h. elim (or_cases (has xs g) (has ys g) (sym (has-append xs ys g) ∙ h)) [
-    | inl here ↦ first.0 g here
-    | inr behind ↦ apart x g (has_first x xs) behind
-  ],
-  IsOrdered-append xs ys first.1 second (λ f g here behind. apart f g (has_later x xs f here) behind),
-)
 
 ordered_step : (f : Flow) (rest : List Flow) (b : Bool) → IsOrdered rest → ((g : Flow) → IsTrue (has rest g) → IsTrue (before f g)) → IsOrdered ((if b then [] else (f ∷ [])) ++ rest)
 ordered_step f rest true behind apart = behind
@@ -110,15 +99,6 @@ pub IsFlowSet-every_flow : (n : ℕ) → n ≤ 256 → IsFlowSet n (every_flow n
 unfolding every_flow
 IsFlowSet-every_flow n small = record { small = small; ordered = IsOrdered-rows n 0 n; flows = λ f h. (IsFull-every_flow n f).0 h }
 
-same_bool : (a b : Bool) → (IsTrue a → IsTrue b) → (IsTrue b → IsTrue a) → a ≡ b
-same_bool true true there back = refl
-same_bool true false there back = sym (there refl)
-same_bool false true there back = back refl
-same_bool false false there back = refl
-
 -- a set that has every flow is that list
 pub every_flow_is : (n : ℕ) (fs : List Flow) → IsFlowSet n fs → IsFull n fs → fs ≡ every_flow n
-every_flow_is n fs set full =
-    let every = IsFlowSet-every_flow n set.small in
-    flows_ext fs (every_flow n) set.ordered every.ordered (λ f.
-    same_bool (has fs f) (has (every_flow n) f) (λ h. (IsFull-every_flow n f).1 ((full f).0 h)) (λ h. (full f).1 ((IsFull-every_flow n f).0 h)))
+every_flow_is n fs set full = full_is_one n fs (every_flow n) set (IsFlowSet-every_flow n set.small) full (IsFull-every_flow n)

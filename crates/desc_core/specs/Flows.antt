@@ -4,7 +4,7 @@ use Rattle.std.specs.List.{fold}
 use Rattle.flow_set.specs.declared.flow.Flow.{Flow}
 use Rattle.flow_set.specs.FlowSet.{with_flow}
 use Rattle.host_net.specs.Host.{Host, host_named}
-use Rattle.table_core.specs.Listing.{◌>>=◌}
+use Rattle.text_core.specs.Steps.{◌>>=◌}
 
 -- the flow between the hosts of two names, if they are two hosts
 abbrev pub flow_between : List Host → List ℕ × List ℕ → Option Flow

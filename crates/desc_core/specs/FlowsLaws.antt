@@ -1,56 +1,29 @@
 -- What follows of the flows of a description: each lies between two hosts, and their set has each of them and no other.
-use Rattle.std.proofs.Common.{refl, ◌≡◌, ℕ, suc, inl, inr, true, sym, subst, eq-eqb, ◌==◌, ◌<◌, ◌+◌, length, Option, Some, None, ◌≤◌, Bool, false, ◌||◌, List, [], ◌∷◌, ◌∙◌, arith}
+use Rattle.std.proofs.Common.{refl, ◌≡◌, ℕ, inl, inr, true, sym, subst, eq-eqb, ◌==◌, ◌<◌, length, Option, Some, None, ◌≤◌, Bool, false, List, [], ◌∷◌, ◌∙◌}
+use Rattle.std.proofs.Math.Bool.{or-false}
 use Rattle.std.proofs.lemmas.Bool.{false≢true, or_cases}
-use Rattle.std.proofs.lemmas.Bool.Decides.{nat_tests}
 use Rattle.std.proofs.lemmas.Option.{option_and_then_some}
-use Rattle.std.specs.List.{fold, position_from, filter_map}
+use Rattle.std.specs.List.{filter_map}
 use Rattle.std.specs.Prelude.{IsTrue, if◌then◌else◌}
-use Rattle.std.specs.Str.{bytes_eq}
 use Rattle.desc_core.specs.Flows.{set_of, flow_between}
 use Rattle.flow_set.specs.declared.flow.Flow.{Flow}
 use Rattle.flow_set.specs.Flow.{same_flow, IsFlow}
-use Rattle.flow_set.specs.FlowSet.{has, with_flow, IsFlowSet}
-use Rattle.flow_set.specs.FlowLaws.{has-with_flow, has_first, has_later, has_nothing, same_flow-true}
-use Rattle.flow_set.specs.SubsetLaws.{IsFlowSet-nothing, IsFlowSet-with_flow}
+use Rattle.flow_set.specs.FlowSet.{has, IsFlowSet}
+use Rattle.flow_set.specs.FlowLaws.{has_nothing, same_flow-true}
+use Rattle.flow_set.specs.ListedLaws.{has-fold_with_flow, IsFlowSet-fold_with_flow}
+use Rattle.flow_set.specs.SubsetLaws.{IsFlowSet-nothing}
 use Rattle.host_net.specs.Host.{Host, host_named}
-
-or_turn : (a b c : Bool) → (a || (b || c)) ≡ ((b || a) || c)
-or_turn a b c = grind (arith, nat_tests)
-
-or_nothing : (a : Bool) → (a || false) ≡ a
-or_nothing a = grind (arith, nat_tests)
-
-has-fold : (set flows : List Flow) (f : Flow) → has (fold with_flow set flows) f ≡ (has flows f || has set f)
-has-fold set [] f = refl
-has-fold set (g ∷ gs) f = has-fold (with_flow set g) gs f ∙ rw (has-with_flow set g f) (or_turn (has gs f) (same_flow g f) (has set f))
+use Rattle.host_net.specs.NamedLaws.{host_named_within}
 
 -- the set has the listed flows and no other
 pub has-set_of : (flows : List Flow) (f : Flow) → has (set_of flows) f ≡ has flows f
 unfolding set_of
-has-set_of flows f = has-fold [] flows f ∙ or_nothing (has flows f)
-
-IsFlowSet-fold : (n : ℕ) (set flows : List Flow) → IsFlowSet n set → ((f : Flow) → IsTrue (has flows f) → IsFlow n f) → IsFlowSet n (fold with_flow set flows)
-IsFlowSet-fold n set [] is_set each = is_set
-IsFlowSet-fold n set (g ∷ gs) is_set each =
-    IsFlowSet-fold n (with_flow set g) gs (IsFlowSet-with_flow n set g is_set (each g (has_first g gs))) (λ f h. each f (has_later g gs f h))
+has-set_of flows f = has-fold_with_flow [] flows f ∙ or-false (has flows f)
 
 -- flows between n hosts make a set of flows between n hosts
 pub IsFlowSet-set_of : (n : ℕ) (flows : List Flow) → n ≤ 256 → ((f : Flow) → IsTrue (has flows f) → IsFlow n f) → IsFlowSet n (set_of flows)
 unfolding set_of
-IsFlowSet-set_of n flows small each = IsFlowSet-fold n [] flows (IsFlowSet-nothing n small) each
-
-found_below : (b : Bool) (n k m : ℕ) (o : Option ℕ) → (if b then Some n else o) ≡ Some k → n < m → (o ≡ Some k → k < m) → k < m
-found_below true n k m o is below later = let same : n ≡ k = cc in omega arith
-found_below false n k m o is below later = later is
-
-position_within : {A : Type 0} (p : A → Bool) (n k : ℕ) (xs : List A) → position_from p n xs ≡ Some k → k < n + length xs
-position_within p n k [] is = cc
-position_within p n k (x ∷ xs) is =
-    found_below (p x) n k (n + suc (length xs)) (position_from p (n + 1) xs) is (omega arith) (λ later. omega (arith, position_within p (n + 1) k xs later))
-
--- a host with a name is one of the hosts
-pub host_named_within : (hosts : List Host) (name : List ℕ) (k : ℕ) → host_named hosts name ≡ Some k → k < length hosts
-host_named_within hosts name k is = omega (arith, position_within (λ h. bytes_eq name h.name) 0 k hosts is)
+IsFlowSet-set_of n flows small each = IsFlowSet-fold_with_flow n [] flows (IsFlowSet-nothing n small) each
 
 abbrev flow_unless : Bool → ℕ → ℕ → Option Flow
 flow_unless same from to = if same then None else Some (record { from = from; to = to })

@@ -1,3 +1,4 @@
+pub mod Conditions
 pub mod Description
 pub mod DescriptionLaws
 pub mod Document
@@ -13,7 +14,6 @@ pub mod Order
 pub mod OrderLaws
 pub mod Parts
 pub mod SetLaws
-pub mod SizesLaws
 pub mod UseConditions
 pub mod UsesLaws
 pub mod Whole

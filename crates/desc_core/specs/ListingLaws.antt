@@ -1,8 +1,7 @@
 -- What is read of each element of a list, where each can be read.
-use Rattle.std.proofs.Common.{◌≡◌, suc, Bool, true, List, [], ◌∷◌, length, Option, Some, None, option_map, option_and_then, is_some, refl, ap}
+use Rattle.std.proofs.Common.{◌≡◌, suc, Bool, true, List, [], ◌∷◌, length, Option, Some, None, is_some, refl, ap}
 use Rattle.std.proofs.lemmas.Bool.{and_parts}
 use Rattle.std.specs.List.{AllZip, cons_option, filter_map, list_all}
-use Rattle.table_core.specs.Listing.{each}
 
 zip_by : {A B : Type 0} (f : A → Option B) (x : A) (xs : List A) (ys : List B) (o : Option B) → f x ≡ o → is_some o ≡ true → AllZip (λ x y. f x ≡ Some y) xs ys → AllZip (λ x y. f x ≡ Some y) (x ∷ xs) (cons_option o ys)
 zip_by f x xs ys None is there rest = cc
@@ -39,14 +38,3 @@ all_both p q r both (x ∷ xs) all_p all_q =
     let (here_p, behind_p) = and_parts (p x) _ all_p in
     let (here_q, behind_q) = and_parts (q x) _ all_q in
     rw (both x here_p here_q, all_both p q r both xs behind_p behind_q)
-
-each_by : {B : Type 0} (here : Option B) (rest : Option (List B)) → is_some here ≡ true → is_some rest ≡ true → is_some (option_and_then (λ y. option_map (λ ys. y ∷ ys) rest) here) ≡ true
-each_by None rest there behind = cc
-each_by (Some y) None there behind = cc
-each_by (Some y) (Some ys) there behind = refl
-
-pub each_some : {A B : Type 0} (f : A → Option B) (xs : List A) → list_all (λ x. is_some (f x)) xs ≡ true → is_some (each f xs) ≡ true
-each_some f [] all = refl
-each_some f (x ∷ xs) all =
-    let (here, behind) = and_parts (is_some (f x)) _ all in
-    each_by (f x) (each f xs) here (each_some f xs behind)

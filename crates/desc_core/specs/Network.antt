@@ -1,4 +1,5 @@
--- The network that a written description says: its hosts, the flows between them, and the invariant of each template.
+-- The network that a written description says: its hosts, the flows between them, and the invariant of each template
+-- (the description's format, docs/FORMATS.md).
 -- What is refused is passed over here: where a description is refused, what is said here does not count.
 use Rattle.std.specs.Prelude.{◌≡◌, ◌≤◌, All, ℕ, ◌==◌, Bool, List, [], ◌∷◌, length, filter_map, flat_map, Option, Some, None, option_map, Result, Ok, Err, if◌then◌else◌}
 use Rattle.std.specs.List.{range_with_len}
@@ -8,14 +9,15 @@ use Rattle.attr_core.specs.Templates.{template_named}
 use Rattle.desc_core.specs.Flows.{flow_between, set_of}
 use Rattle.desc_form.specs.Written.{Written, WrittenAssign, WrittenInvariant}
 use Rattle.desc_hosts.specs.WrittenHosts.{hosts_of}
-use Rattle.desc_hosts.specs.declared.limits.TheConstants.{INVARIANT_LIMIT}
+use Rattle.desc_hosts.specs.HostConditions.{invariant_limit}
 use Rattle.flow_set.specs.FlowSet.{SetOfFlows, IsFlowSet}
 use Rattle.flow_set.specs.declared.flow.Flow.{Flow}
 use Rattle.host_net.specs.Host.{Host, host_named}
 use Rattle.host_net.specs.Hosts.{IsHosts}
 use Rattle.inv_any.specs.Templates.{meaning_of}
 use Rattle.inv_any.specs.declared.any_inv.AnyInv.{AnyInv}
-use Rattle.table_core.specs.Listing.{each, ◌>>=◌}
+use Rattle.table_core.specs.Listing.{each}
+use Rattle.text_core.specs.Steps.{◌>>=◌}
 
 -- the hosts, the flows that are asked for, whether they are listed, whether they may have answers, and the invariants
 pub record Network : Type 0 where
@@ -69,4 +71,4 @@ pub record IsNetwork (d : Network) : Type 0 where
   pub sized : d.asked.size ≡ length d.hosts
   pub asked : IsFlowSet d.asked.size d.asked.flows
   pub invariants : All (λ inv. (meaning_of inv).size ≡ length d.hosts) d.invariants
-  pub few : length d.invariants ≤ INVARIANT_LIMIT
+  pub few : length d.invariants ≤ invariant_limit

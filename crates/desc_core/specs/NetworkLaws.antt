@@ -1,5 +1,5 @@
 -- What is true of every network that is described.
-use Rattle.std.proofs.Common.{◌≡◌, ℕ, suc, ◌≤◌, Bool, true, false, List, [], ◌∷◌, length, Option, Some, None, Result, Ok, Err, refl, sym, ◌∙◌, subst, arith}
+use Rattle.std.proofs.Common.{◌≡◌, ℕ, ◌≤◌, Bool, true, false, List, [], ◌∷◌, length, Option, Some, None, Result, Ok, Err, refl, sym, ◌∙◌, subst, arith}
 use Rattle.std.proofs.lemmas.List.Elements.{All-from_recursion}
 use Rattle.std.proofs.lemmas.Option.{option_and_then_some}
 use Rattle.std.specs.List.{AllByRecursion, cons_option, filter_map}
@@ -14,32 +14,26 @@ use Rattle.desc_core.specs.EveryFlowLaws.{IsFlowSet-every_flow}
 use Rattle.desc_core.specs.Flows.{flow_between, set_of}
 use Rattle.desc_core.specs.FlowsLaws.{are_between, IsFlowSet-set_of}
 use Rattle.desc_core.specs.Network.{Network, IsNetwork, asked_of, every_flow, given_by, if_read, invariant_of, invariants_of, network_of}
-use Rattle.desc_core.specs.SizesLaws.{invariant_sized}
+use Rattle.attr_core.specs.InvariantsLaws.{invariant_sized}
 use Rattle.desc_core.specs.UseConditions.{use_conditions}
 use Rattle.desc_form.specs.Firsts.{first_of}
 use Rattle.desc_form.specs.Written.{Written, WrittenInvariant, written}
-use Rattle.desc_hosts.specs.FirstsLaws.{neither}
+use Rattle.desc_form.specs.FirstsLaws.{neither}
+use Rattle.desc_hosts.specs.EntriesLaws.{no_longer}
 use Rattle.desc_hosts.specs.HostConditions.{host_conditions}
 use Rattle.desc_hosts.specs.HostsLaws.{IsHosts-hosts_of, is_small, length-hosts_of}
 use Rattle.desc_hosts.specs.WrittenHosts.{hosts_of}
 use Rattle.host_net.specs.Host.{Host}
 use Rattle.flow_set.specs.FlowSet.{IsFlowSet}
 use Rattle.inv_any.specs.Templates.{meaning_of}
-use Rattle.table_core.specs.Listing.{each, ◌>>=◌}
+use Rattle.table_core.specs.Listing.{each}
+use Rattle.text_core.specs.Steps.{◌>>=◌}
 use Rattle.inv_any.specs.declared.any_inv.AnyInv.{AnyInv}
 
 asked_by : (w : Written) (given : Bool) → length w.hosts ≤ 256 → IsFlowSet (length w.hosts) (if given then set_of (filter_map (flow_between (hosts_of w)) w.flows) else every_flow (length w.hosts))
 asked_by w true few =
     IsFlowSet-set_of (length w.hosts) (filter_map (flow_between (hosts_of w)) w.flows) few (λ f listed. rw (← length-hosts_of w) (are_between (hosts_of w) w.flows f listed))
 asked_by w false few = IsFlowSet-every_flow (length w.hosts) few
-
-shorter_by : {A : Type 0} (o : Option A) (xs : List A) (n : ℕ) → length xs ≤ n → length (cons_option o xs) ≤ suc n
-shorter_by None xs n h = omega arith
-shorter_by (Some x) xs n h = omega arith
-
-no_longer : {A B : Type 0} (f : A → Option B) (xs : List A) → length (filter_map f xs) ≤ length xs
-no_longer f [] = omega arith
-no_longer f (x ∷ xs) = shorter_by (f x) (filter_map f xs) (length xs) (no_longer f xs)
 
 -- each invariant that is read has an attribute for each host
 sized_read : (hosts : List Host) (t : Template) (assigns : List Given) (read : Result AnyInv ℕ) (inv : AnyInv) → invariant_in hosts t assigns ≡ read → if_read read ≡ Some inv → (meaning_of inv).size ≡ length hosts

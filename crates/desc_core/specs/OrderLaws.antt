@@ -1,27 +1,28 @@
 -- The conditions stand in the order of their numbers, so what is told is the least number whose condition holds.
 use Rattle.std.proofs.Common.{◌≡◌, ◌<◌, arith, ℕ, length, slice_get, zero, suc, ◌+◌, Bool, true, false, List, [], ◌∷◌, ◌++◌, Option, Some, None, option_map, Result, Ok, Err, refl, ap, ◌∙◌, sym, subst}
 use Rattle.std.specs.Option.{option_or}
-use Rattle.std.specs.Prelude.{nat_lt}
+use Rattle.std.specs.List.{list_all}
+use Rattle.std.specs.Prelude.{is_none, nat_lt}
 use Rattle.toml.specs.Data.{Members}
 use Rattle.desc_form.specs.declared.refusal.Place.{Place}
 use Rattle.desc_form.specs.declared.refusal.Place.TheVariants.{Host, Invariant}
 use Rattle.desc_form.specs.declared.refusal.Refusal.{Refusal}
-use Rattle.desc_hosts.specs.declared.limits.TheConstants.{INVARIANT_LIMIT}
 use Rattle.desc_form.specs.declared.refusal.Why.TheVariants.{TooMany}
 use Rattle.desc_form.specs.Firsts.{where_holds, first_of, first_found, Numbered, numbered}
-use Rattle.desc_hosts.specs.HostConditions.{Entry, host_conditions, bad_version, too_many, too_many_prefixes, bad_name, duplicate_host, bad_prefix, host_bits, no_address, two_rests, overlap, beyond, all_entries}
+use Rattle.desc_hosts.specs.HostConditions.{Entry, host_conditions, bad_version, too_many, too_many_prefixes, bad_name, duplicate_host, bad_prefix, host_bits, no_address, two_rests, overlap, beyond, all_entries, invariant_limit}
 use Rattle.desc_core.specs.Description.{described}
-use Rattle.desc_core.specs.DescriptionLaws.{told}
+use Rattle.desc_core.specs.DescriptionLaws.{none_told, told}
 use Rattle.desc_core.specs.Document.{document}
-use Rattle.desc_core.specs.Network.{invariant_of}
-use Rattle.desc_core.specs.Order.{conditions, table_conditions, too_long, not_toml, IsLeast}
+use Rattle.desc_core.specs.Network.{Network, invariant_of}
+use Rattle.desc_core.specs.Conditions.{conditions, not_toml, table_conditions, too_long}
+use Rattle.desc_core.specs.Order.{IsLeast, NoneHolds}
 use Rattle.desc_hosts.specs.WrittenHosts.{hosts_of}
 use Rattle.desc_form.specs.Places.{unknown_key, missing_key, wrong_type}
 use Rattle.desc_form.specs.Refusals.{number, refused, refused_item}
 use Rattle.desc_core.specs.UseConditions.{use_conditions, unknown_template, undeclared_host, duplicate_assign, duplicate_assign_of, bad_attribute, bad_attribute_of, at_assign, self_flow, duplicate_flow}
 use Rattle.desc_form.specs.FormConditions.{form_conditions}
 use Rattle.desc_form.specs.Written.{Written, WrittenHost, WrittenInvariant, written}
-use Rattle.host_net.specs.declared.refusal.TheConstants.{HOST_LIMIT, PREFIX_LIMIT}
+use Rattle.host_net.specs.Hosts.{host_limit, prefix_limit}
 use Rattle.inv_any.specs.declared.any_inv.AnyInv.{AnyInv}
 
 -- what the condition refuses has this number
@@ -61,15 +62,15 @@ tells_beyond : {A : Type 0} (limit : ℕ) (place : ℕ → Place) (xs : List A) 
 tells_beyond limit place xs = tells_where 7 (refused TooMany (place (limit + 1))) refl (nat_lt limit (length xs))
 
 tells_prefixes : (es : List Entry) → Tells 7 (too_many_prefixes es)
-tells_prefixes es = tells_map 7 (λ e. refused_item TooMany (Host e.host) e.item) (λ e. refl) (slice_get es PREFIX_LIMIT)
+tells_prefixes es = tells_map 7 (λ e. refused_item TooMany (Host e.host) e.item) (λ e. refl) (slice_get es prefix_limit)
 
 tells_too_many : (hs : List WrittenHost) (es : List Entry) (is : List WrittenInvariant) → Tells 7 (too_many hs es is)
 unfolding too_many
 tells_too_many hs es is =
-    let invariants = beyond INVARIANT_LIMIT Invariant is in
-    tells_or 7 (beyond HOST_LIMIT Host hs) (option_or (too_many_prefixes es) (option_or invariants None)) (tells_beyond HOST_LIMIT Host hs)
+    let invariants = beyond invariant_limit Invariant is in
+    tells_or 7 (beyond host_limit Host hs) (option_or (too_many_prefixes es) (option_or invariants None)) (tells_beyond host_limit Host hs)
     (tells_or 7 (too_many_prefixes es) (option_or invariants None) (tells_prefixes es)
-    (tells_or 7 invariants None (tells_beyond INVARIANT_LIMIT Invariant is) (tells_none 7)))
+    (tells_or 7 invariants None (tells_beyond invariant_limit Invariant is) (tells_none 7)))
 
 tells_at_assign : (k : ℕ) (read : Result AnyInv ℕ) → Tells 18 (at_assign k read)
 tells_at_assign k (Ok inv) = tells_none 18
@@ -193,3 +194,13 @@ pub IsLeast-described : (bytes : List ℕ) (r : Refusal) → described bytes ≡
 IsLeast-described bytes r said =
     let found = least 1 (conditions bytes) r (in_order bytes) (told bytes r said) in
     record { before = found.place; numbered = found.told ∙ omega arith; refuses = found.refuses; first = found.first }
+
+-- what is not told does not hold
+none_first : (os : List (Option Refusal)) → first_of os ≡ None → list_all is_none os ≡ true
+none_first [] none = refl
+none_first (None ∷ os) none = none_first os none
+none_first (Some s ∷ os) none = cc
+
+-- no condition holds of bytes that describe a network
+pub NoneHolds-described : (bytes : List ℕ) (d : Network) → described bytes ≡ Ok d → NoneHolds (conditions bytes)
+NoneHolds-described bytes d said = none_first (conditions bytes) (none_told bytes d said)

@@ -1,6 +1,6 @@
 -- The set of the flows that are listed has as many as are listed, where none is listed twice.
-use Rattle.std.proofs.Common.{◌≡◌, ℕ, ◌+◌, ◌==◌, Bool, true, false, not, ◌||◌, ◌&&◌, List, [], ◌∷◌, length, Option, Some, None, refl, sym, ap, ◌∙◌, arith}
-use Rattle.std.proofs.lemmas.Bool.{and_parts}
+use Rattle.std.proofs.Common.{◌≡◌, ℕ, ◌+◌, ◌==◌, Bool, true, false, not, ◌||◌, List, [], ◌∷◌, length, Option, Some, None, refl, sym, ap, ◌∙◌, arith}
+use Rattle.std.proofs.lemmas.Bool.{and_from, and_parts, not-true}
 use Rattle.std.proofs.lemmas.Bool.Decides.{nat_tests}
 use Rattle.std.proofs.lemmas.Option.{option_and_then_some}
 use Rattle.std.proofs.lemmas.Slice.Eq.{bytes_eq-Decides}
@@ -9,7 +9,6 @@ use Rattle.std.specs.Prelude.{if◌then◌else◌}
 use Rattle.std.specs.Str.{bytes_eq}
 use Rattle.desc_core.specs.Flows.{flow_between, set_of}
 use Rattle.desc_core.specs.ListingLaws.{all_both}
-use Rattle.desc_core.specs.NamesLaws.{one_name}
 use Rattle.desc_core.specs.UseConditions.{same_names}
 use Rattle.flow_set.specs.declared.flow.Flow.{Flow}
 use Rattle.flow_set.specs.Flow.{same_flow}
@@ -18,10 +17,7 @@ use Rattle.flow_set.specs.FlowLaws.{has-with_flow, same_flow-true, same_flow_sym
 use Rattle.flow_set.specs.WalkLaws.{length-with_flow}
 use Rattle.host_net.specs.Host.{Host, host_named}
 use Rattle.host_net.specs.Hosts.{no_pair}
-
-not_true : (b : Bool) → not b ≡ true → b ≡ false
-not_true true h = cc
-not_true false h = refl
+use Rattle.host_net.specs.NamedLaws.{one_name}
 
 neither_has : (a b : Bool) → not a ≡ true → not b ≡ true → not (b || a) ≡ true
 neither_has a b not_a not_b = grind (arith, nat_tests)
@@ -36,7 +32,7 @@ length-fold set (g ∷ gs) new once =
     let (here, behind) = and_parts (not (has set g)) _ new in
     let (first, rest) = and_parts (list_all (λ f. not (same_flow f g)) gs) (no_pair same_flow gs) once in
     let later = length-fold (with_flow set g) gs (all_both (λ f. not (has set f)) (λ f. not (same_flow f g)) (λ f. not (has (with_flow set g) f)) (still_new set g) gs behind first) rest in
-    omega (arith, later, length-with_flow set g (not_true (has set g) here))
+    omega (arith, later, length-with_flow set g (not-true (has set g) here))
 
 all_new : (flows : List Flow) → list_all (λ f. not (has [] f)) flows ≡ true
 all_new [] = refl
@@ -61,14 +57,11 @@ ends_of hosts names f is =
     let ends = flow_by (from == to) from to f last in
     (is_from ∙ ap Some ends.0, is_to ∙ ap Some ends.1)))
 
-both_true : (a b : Bool) → a ≡ true → b ≡ true → (a && b) ≡ true
-both_true a b is_a is_b = rw (is_a, is_b) refl
-
 same_pair : (hosts : List Host) (p q : List ℕ × List ℕ) (f : Flow) → flow_between hosts p ≡ Some f → flow_between hosts q ≡ Some f → same_names q p ≡ true
 same_pair hosts p q f is_p is_q =
     let (from_p, to_p) = ends_of hosts p f is_p in
     let (from_q, to_q) = ends_of hosts q f is_q in
-    both_true (bytes_eq q.0 p.0) (bytes_eq q.1 p.1)
+    and_from (bytes_eq q.0 p.0) (bytes_eq q.1 p.1)
     ((bytes_eq-Decides q.0 p.0).1 (one_name hosts q.0 p.0 f.from from_q from_p))
     ((bytes_eq-Decides q.1 p.1).1 (one_name hosts q.1 p.1 f.to to_q to_p))
 

@@ -1,4 +1,5 @@
--- The refusals 15 to 20 of a description: its invariants, their assigns, and its flows.
+-- The refusals 15 to 20 of a description: its invariants, their assigns, and its flows (the description's format,
+-- docs/FORMATS.md).
 use Rattle.std.specs.Prelude.{ℕ, ◌+◌, Bool, not, ◌&&◌, List, [], ◌∷◌, find, Option, Some, None, option_map, is_none, Result, Ok, Err}
 use Rattle.std.specs.List.{list_any}
 use Rattle.std.specs.Str.{bytes_eq}
@@ -14,7 +15,7 @@ use Rattle.desc_form.specs.Refusals.{refused, refused_by, refused_name}
 use Rattle.desc_form.specs.Written.{Written, WrittenInvariant}
 use Rattle.host_net.specs.Host.{Host}
 use Rattle.inv_any.specs.declared.any_inv.AnyInv.{AnyInv}
-use Rattle.table_core.specs.Listing.{◌>>=◌}
+use Rattle.text_core.specs.Steps.{◌>>=◌}
 
 -- 15: no template has the name
 unfoldable pub unknown_template : Written → Option Refusal

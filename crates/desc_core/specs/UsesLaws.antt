@@ -12,21 +12,24 @@ use Rattle.attr_core.specs.Invariants.{invariant_in}
 use Rattle.attr_core.specs.Templates.{template_named}
 use Rattle.attr_core.specs.declared.template.Template.{Template}
 use Rattle.desc_core.specs.Flows.{flow_between}
-use Rattle.desc_core.specs.ListingLaws.{all_both, all_weaker, each_some}
-use Rattle.desc_core.specs.NamesLaws.{one_name, undeclared}
+use Rattle.desc_core.specs.ListingLaws.{all_both, all_weaker}
+use Rattle.desc_core.specs.NamesLaws.{undeclared}
 use Rattle.desc_core.specs.Network.{given_by, if_read, invariant_of}
 use Rattle.desc_core.specs.Parts.{read_if_known}
 use Rattle.desc_core.specs.UseConditions.{at_assign, bad_attribute, bad_attribute_of, duplicate_assign, duplicate_flow, is_declared, same_names, self_flow, undeclared_host, unknown_template, use_conditions}
 use Rattle.desc_form.specs.Firsts.{Numbered, first_found, first_of, numbered, numbered_from}
 use Rattle.desc_form.specs.Written.{Written, WrittenAssign, WrittenInvariant}
-use Rattle.desc_hosts.specs.FirstsLaws.{all_numbered, all_twice, neither, no_pair_numbered, none_barred, none_found, none_mapped}
+use Rattle.desc_form.specs.FirstsLaws.{all_numbered, all_twice, neither, no_pair_numbered, none_barred, none_found, none_mapped}
 use Rattle.desc_hosts.specs.Mentions.{Mention, assign_name, assign_names, assign_names_of, flow_names, flow_names_of, used_names}
 use Rattle.desc_hosts.specs.WrittenHosts.{hosts_of}
 use Rattle.flow_set.specs.declared.flow.Flow.{Flow}
 use Rattle.host_net.specs.Host.{Host, host_named}
 use Rattle.host_net.specs.Hosts.{no_pair}
+use Rattle.host_net.specs.NamedLaws.{one_name}
 use Rattle.inv_any.specs.declared.any_inv.AnyInv.{AnyInv}
-use Rattle.table_core.specs.Listing.{each, ◌>>=◌}
+use Rattle.table_core.specs.Listing.{each}
+use Rattle.table_core.specs.ListingLaws.{each_some}
+use Rattle.text_core.specs.Steps.{◌>>=◌}
 
 -- none of the conditions refuses the description
 pub record AreGood (w : Written) : Type 0 where

@@ -31,6 +31,7 @@ pub record IsWhole (w : Written) (d : Network) : Type 0 where
   pub invariants : AllZip (λ i invariant. invariant_of d.hosts i ≡ Some (Ok invariant)) w.invariants d.invariants
   pub given : d.given ≡ w.given
   pub answers : d.answers ≡ w.answers
+  pub sized : d.asked.size ≡ length d.hosts
   pub listed : w.given ≡ true → IsSetOf d.hosts w.flows d.asked.flows
   pub every : w.given ≡ false → IsFull (length d.hosts) d.asked.flows
 

@@ -20,7 +20,7 @@ use Rattle.desc_form.specs.Firsts.{first_of}
 use Rattle.desc_form.specs.Written.{Written, WrittenHost, written}
 use Rattle.desc_form.specs.WrittenLaws.{written_stands}
 use Rattle.desc_hosts.specs.EntriesLaws.{all_texts, texts}
-use Rattle.desc_hosts.specs.FirstsLaws.{all_twice, neither, none_found, none_mapped}
+use Rattle.desc_form.specs.FirstsLaws.{all_twice, neither, none_found, none_mapped}
 use Rattle.desc_hosts.specs.HostConditions.{Entry, all_entries, bad_prefix, host_conditions, is_prefix}
 use Rattle.desc_hosts.specs.HostsLaws.{length-hosts_of, unrefused}
 use Rattle.desc_hosts.specs.WrittenHosts.{host_of, hosts_of}
@@ -28,7 +28,7 @@ use Rattle.flow_set.specs.declared.flow.Flow.{Flow}
 use Rattle.host_net.specs.Prefix.{prefix_of}
 use Rattle.host_net.specs.declared.prefix.Prefix.{Prefix}
 use Rattle.inv_any.specs.declared.any_inv.AnyInv.{AnyInv}
-use Rattle.table_core.specs.Listing.{◌>>=◌}
+use Rattle.text_core.specs.Steps.{◌>>=◌}
 
 -- each entry is a prefix
 none_bad : (es : List Entry) → bad_prefix es ≡ None → list_all (λ (e : Entry). is_prefix e.text) es ≡ true
@@ -95,6 +95,7 @@ IsWhole-network_of w no_host no_use =
       invariants = invariants_whole w good;
       given = refl;
       answers = refl;
+      sized = sym (length-hosts_of w);
       listed = λ given. listed_by w (asked_of w) good (asked_listed w given);
       every = λ given. rw (asked_every w given, length-hosts_of w) (IsFull-every_flow (length w.hosts));
     }

@@ -1,13 +1,15 @@
 //! The description of a network: its hosts, the flows between them that are asked for, and its
 //! invariants.
 ghost use Rattle.std.specs.Prelude.{◌≡◌, ◌≤◌, All, length, IfOk};
-ghost use Rattle.desc_core.specs.Description.{described, described_by_table};
+ghost use Rattle.desc_core.specs.Conditions.{conditions};
+ghost use Rattle.desc_core.specs.Description.{described};
 ghost use Rattle.desc_core.specs.Given.{Gives};
-ghost use Rattle.desc_core.specs.Order.{conditions, IsLeast};
+ghost use Rattle.desc_core.specs.Order.{IsLeast, NoneHolds};
+ghost use Rattle.desc_core.specs.Parts.{described_by_table};
 ghost use Rattle.desc_core.specs.Whole.{IsDescribed};
 ghost use Rattle.desc_core.specs.declared.fault.DescFault.TheVariants.{Refused};
 ghost use Rattle.desc_form.specs.declared.refusal.Refusal.{Refusal};
-ghost use Rattle.desc_hosts.specs.declared.limits.TheConstants.{INVARIANT_LIMIT};
+ghost use Rattle.desc_hosts.specs.HostConditions.{invariant_limit};
 ghost use Rattle.flow_set.specs.FlowSet.{IsFlowSet};
 ghost use Rattle.host_net.specs.Hosts.{IsHosts};
 ghost use Rattle.inv_any.specs.Templates.{meaning_of};
@@ -96,7 +98,7 @@ impl Description {
     pub fn invariants(&self) -> &[AnyInv]
         ensures value { result.now ≡ self.now.invariants }
         ensures sizes { All (λ inv. (meaning_of inv).size ≡ length self.now.hosts) self.now.invariants }
-        ensures few { length self.now.invariants ≤ INVARIANT_LIMIT }
+        ensures few { length self.now.invariants ≤ invariant_limit }
     {
         &self.invariants
     }
@@ -108,6 +110,9 @@ pub fn describe(alloc: Global, bytes: &[u8]) -> Result<Description, DescFault>
 
     // What is read is all that is written in the document: nothing is passed over.
     ensures whole { IfOk result (λ d. IsDescribed bytes.now d) }
+
+    // It is read only where none of the twenty conditions holds.
+    ensures none { IfOk result (λ _. NoneHolds (conditions bytes.now)) }
 
     // What is told has the least number whose condition holds.
     ensures least { (refusal : Refusal) → result ≡ Err (Refused refusal) → IsLeast (conditions bytes.now) refusal }

@@ -1,7 +1,7 @@
 //! From the bytes of a description to its TOML table.
 ghost use Rattle.std.specs.Prelude.{◌≡◌};
 ghost use Rattle.std.specs.Result.{result_map_both};
-ghost use Rattle.desc_core.specs.Document.{table_of};
+ghost use Rattle.desc_core.specs.Parts.{table_of};
 ghost use Rattle.desc_core.specs.Given.{Gives};
 ghost use Rattle.desc_core.specs.declared.fault.DescFault.TheVariants.{Refused};
 ghost use Rattle.desc_form.specs.Refusals.{refused};

@@ -6,16 +6,15 @@ ghost use Rattle.desc_core.specs.Network.{asked_of, every_flow};
 ghost use Rattle.desc_core.specs.Parts.{flow_conditions};
 ghost use Rattle.desc_core.specs.UseConditions.{same_names};
 ghost use Rattle.desc_form.specs.Firsts.{first_of, first_pair, numbered, Numbered};
+ghost use Rattle.desc_form.specs.FirstsSeen.{pair_seen};
 ghost use Rattle.desc_form.specs.Refusals.{refused, refused_by};
 ghost use Rattle.desc_form.specs.Seen.{written_seen};
 ghost use Rattle.desc_form.specs.declared.refusal.Place.TheVariants.{FlowAt};
 ghost use Rattle.desc_form.specs.declared.refusal.Why.TheVariants.{DuplicateFlow, SelfFlow};
-ghost use Rattle.desc_hosts.specs.PairsSeen.{pair_seen};
 ghost use Rattle.desc_hosts.specs.WrittenHosts.{hosts_of};
 ghost use Rattle.flow_set.specs.Flow.{IsFlow};
 
-use desc_form::{Place, Refusal, Why, Written};
-use desc_hosts::{Pair, first_pair};
+use desc_form::{Pair, Place, Refusal, Why, Written, first_pair};
 use flow_set::{Flow, FlowSet};
 use host_net::Hosts;
 use std::alloc::{AllocError, Global};

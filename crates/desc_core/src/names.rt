@@ -7,20 +7,20 @@ ghost use Rattle.attr_core.specs.Templates.{template_named};
 ghost use Rattle.desc_core.specs.Parts.{name_conditions};
 ghost use Rattle.desc_core.specs.UseConditions.{duplicate_assign_of, undeclared_host};
 ghost use Rattle.desc_form.specs.Firsts.{first_found, first_of, first_pair, numbered};
+ghost use Rattle.desc_form.specs.FirstsSeen.{pair_seen};
 ghost use Rattle.desc_form.specs.Refusals.{refused, refused_by, refused_name};
 ghost use Rattle.desc_form.specs.Seen.{assign_seen, invariant_seen, written_seen};
 ghost use Rattle.desc_form.specs.declared.refusal.Place.TheVariants.{Assign, Invariant};
 ghost use Rattle.desc_form.specs.declared.refusal.Why.TheVariants.{DuplicateAssign, UndeclaredHost, UnknownTemplate};
 ghost use Rattle.desc_hosts.specs.HostConditions.{host_conditions};
 ghost use Rattle.desc_hosts.specs.MentionView.{mention_seen};
-ghost use Rattle.desc_hosts.specs.PairsSeen.{pair_seen};
 ghost use Rattle.desc_hosts.specs.WrittenHosts.{hosts_of};
 ghost use Rattle.host_net.specs.Host.{host_named};
-ghost use Rattle.host_net.specs.Name.{is_name};
+ghost use Rattle.text_core.specs.Name.{is_name};
 
 use attr_core::Template;
-use desc_form::{Place, Refusal, Why, Written, WrittenAssign, WrittenInvariant};
-use desc_hosts::{Mention, Pair, first_pair, used_names};
+use desc_form::{Pair, Place, Refusal, Why, Written, WrittenAssign, WrittenInvariant, first_pair};
+use desc_hosts::{Mention, used_names};
 use host_net::{Hosts, Name};
 use std::alloc::{AllocError, Global};
 

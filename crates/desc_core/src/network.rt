@@ -1,8 +1,7 @@
 //! From what is written to the network, once the form is right.
 ghost use Rattle.std.specs.Prelude.{◌≡◌, None};
-ghost use Rattle.desc_core.specs.Description.{network_or};
 ghost use Rattle.desc_core.specs.Given.{Gives};
-ghost use Rattle.desc_core.specs.Parts.{network_by_uses};
+ghost use Rattle.desc_core.specs.Parts.{network_by_uses, network_or};
 ghost use Rattle.desc_form.specs.Firsts.{first_of};
 ghost use Rattle.desc_form.specs.Seen.{written_seen};
 ghost use Rattle.desc_hosts.specs.HostConditions.{host_conditions};

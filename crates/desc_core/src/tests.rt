@@ -1,3 +1,6 @@
+//! Shows what no clause says: that the calls succeed with ample memory. The values are those that
+//! the clauses say.
+
 use crate::{DescFault, describe};
 use desc_form::Place;
 use std::alloc::Global;

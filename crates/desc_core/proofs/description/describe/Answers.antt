@@ -1,5 +1,5 @@
 use Rattle.std.proofs.lemmas.Result.{err_from_is_err_and}
-use Rattle.desc_core.proofs.DescribeLemmas.{least_told, table_read, table_refused, whole_read}
+use Rattle.desc_core.proofs.DescribeLemmas.{least_told, none_holds, table_read, table_refused, whole_read}
 use Rattle.toml.specs.View.{table_view}
 use Rattle.desc_core.proofs.description.describe.Goals as goal
 
@@ -23,3 +23,7 @@ returns-clause-least c =
 pub returns-clause-whole : goal.returns-clause-whole
 returns-clause-whole c =
     whole_read c.args.bytes.now c.describe_table.result (rw (table_read c.args.bytes.now (table_view c.in_ok-table.table) c.in_ok-table.ensures) c.describe_table.ensures)
+
+pub returns-clause-none : goal.returns-clause-none
+returns-clause-none c =
+    none_holds c.args.bytes.now c.describe_table.result (rw (table_read c.args.bytes.now (table_view c.in_ok-table.table) c.in_ok-table.ensures) c.describe_table.ensures)

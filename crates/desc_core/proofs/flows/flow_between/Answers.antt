@@ -1,5 +1,5 @@
 use Rattle.std.proofs.Common.{sym}
-use Rattle.desc_core.specs.FlowsLaws.{host_named_within}
+use Rattle.host_net.specs.NamedLaws.{host_named_within}
 use Rattle.desc_core.proofs.flows.flow_between.Goals as goal
 
 pub returns-else-from-to-clause-flow : goal.returns-else-from-to-clause-flow

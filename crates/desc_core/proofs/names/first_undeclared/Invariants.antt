@@ -6,7 +6,7 @@ use Rattle.desc_form.specs.declared.refusal.Why.TheVariants.{UndeclaredHost}
 use Rattle.desc_hosts.specs.MentionView.{mention_seen}
 use Rattle.desc_hosts.specs.Mentions.{Mention}
 use Rattle.host_net.specs.Host.{host_named}
-use Rattle.host_net.specs.Name.{is_name}
+use Rattle.text_core.specs.Name.{is_name}
 use Rattle.desc_core.proofs.names.first_undeclared.Given as goal
 
 abbrev pub invariant-loop-mention : goal.invariant-loop-mention
