@@ -1,5 +1,5 @@
 -- The policy of a network: the flows that its invariants permit, and those among them whose answers may pass.
--- Permitted is what comes first among the asked flows, in the order of the flows, so that one policy is singled out.
+-- Both are after C. Diekmann, Provably Secure Networks: Methodology and Toolset for Configuration Management. That the first sets in the order of flows are meant, so that a network has one policy (PolicyLaws: policy_is_one), is topoS's own choice; the key `answers` is of the description's format, docs/FORMATS.md.
 use Rattle.std.specs.Prelude.{◌≡◌, Bool, true, false, List, [], IsTrue, All}
 use Rattle.desc_core.specs.Network.{Network}
 use Rattle.flow_set.specs.Conditions.{IsFirst, IsGreatest}

@@ -2,7 +2,7 @@
 use Rattle.std.proofs.Common.{◌≡◌, Bool, true, false, List, sym, ◌∙◌, subst}
 use Rattle.desc_core.specs.Network.{Network, IsNetwork}
 use Rattle.first_core.specs.FirstLaws.{first_unique, first_whole}
-use Rattle.flow_set.proofs.Places.{set_ext}
+use Rattle.flow_set.specs.FlowLaws.{set_ext}
 use Rattle.flow_set.specs.FlowSet.{IsFlowSet, IsSubset, with_back}
 use Rattle.flow_set.specs.SubsetLaws.{IsFlowSet-subset, nothing_within}
 use Rattle.flow_set.specs.declared.flow.Flow.{Flow}
