@@ -1,5 +1,5 @@
--- Lines in the buffer: what is put without a piece, and how long the pieces of a refusal's line are.
-use Rattle.std.proofs.Common.{◌≡◌, ◌≢◌, ℕ, true, false, ◌==◌, zero, suc, ◌+◌, ◌<◌, ◌≤◌, ◌^◌, ◌∙◌, sym, ap, refl, List, [], ◌∷◌, ◌++◌, length, take, arith, append-nil, length-take, length-append}
+-- How long the pieces of a refusal's line are.
+use Rattle.std.proofs.Common.{◌≡◌, ◌≢◌, ℕ, true, false, ◌==◌, zero, suc, ◌+◌, ◌<◌, ◌≤◌, ◌^◌, refl, List, [], ◌∷◌, ◌++◌, length, arith, length-append}
 use Rattle.std.specs.Prelude.{codes, decimal}
 use Rattle.std.proofs.lemmas.Bool.{eqb-true}
 use Rattle.std.proofs.lemmas.Fmt.{length-decimal-le}
@@ -8,13 +8,6 @@ use Rattle.desc_form.specs.declared.refusal.Refusal.{Refusal}
 use Rattle.desc_form.specs.declared.refusal.Why.{Why}
 use Rattle.desc_form.specs.declared.refusal.Why.TheVariants.{TooLong, NotToml, UnknownKey, MissingKey, WrongType, BadVersion, TooMany, BadName, DuplicateHost, BadPrefix, HostBits, NoAddress, TwoRests, Overlap, UnknownTemplate, UndeclaredHost, DuplicateAssign, BadAttribute, SelfFlow, DuplicateFlow}
 use Rattle.report_core.specs.RefusalLine.{cause_text, if_named, if_told, place_text, refusal_text}
-use Rattle.text_core.specs.Line.{cut}
-use Rattle.text_core.specs.LineLaws.{cut_whole}
-
-pub nothing_put : (at : ℕ) (buffer : List ℕ) → at ≤ 256 → take at buffer ≡ cut (take at buffer ++ [])
-nothing_put at buffer h =
-    let short : length (take at buffer) ≤ 256 = omega (arith, length-take at buffer) in
-    sym (ap cut (append-nil (take at buffer)) ∙ cut_whole (take at buffer) short)
 
 pub decimal_short : (n : ℕ) → n < 2 ^ 64 → length (decimal n) ≤ 20
 decimal_short n fits = length-decimal-le 20 n (omega arith) (omega (arith, fits)) fits

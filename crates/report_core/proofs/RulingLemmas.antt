@@ -1,13 +1,23 @@
 -- Texts that tell what becomes of flows, put together.
-use Rattle.std.proofs.Common.{◌≡◌, ℕ, zero, suc, ◌+◌, List, [], ◌∷◌, ◌++◌, refl, sym, ◌∙◌, ap, subst, arith, append_assoc, append-nil, add-one}
+use Rattle.std.proofs.Common.{◌≡◌, ℕ, zero, suc, ◌+◌, length, List, [], ◌∷◌, ◌++◌, refl, sym, ◌∙◌, ap, subst, arith, append_assoc, append-nil, add-one}
 use Rattle.std.specs.List.{flat_map, range_with_len}
 use Rattle.std.proofs.lemmas.Bool.Decides.{nat_tests}
+use Rattle.std.proofs.lemmas.Option.{slice_get_within}
 use Rattle.desc_core.specs.Network.{Network, flow_or_none}
 use Rattle.flow_set.specs.declared.flow.Flow.{Flow}
 use Rattle.policy_core.specs.Policies.{Policy}
 use Rattle.report_core.specs.Growing.{Grows}
 use Rattle.report_core.specs.PolicyReport.{IsRuling, AreRulings, ruling_line, policy_text, TellsRulings}
+use Rattle.report_core.specs.RulingNumber.{IsWithin}
 use Rattle.report_core.specs.declared.ruling.Ruling.{Ruling}
+use Rattle.report_core.specs.declared.ruling.Ruling.TheVariants.{Answered, Allowed, NotAsked, Denied}
+
+-- a ruling by an invariant names one that is there
+pub is_within : (d : Network) (policy : Policy) (f : Flow) (r : Ruling) → IsRuling d policy f r → IsWithin (length d.invariants) r
+is_within d policy f Answered is = tt
+is_within d policy f Allowed is = tt
+is_within d policy f NotAsked is = tt
+is_within d policy f (Denied k) is = slice_get_within d.invariants k is.2.inv is.2.place
 
 rulings-append : (d : Network) (policy : Policy) (fs gs : List Flow) (rs ss : List Ruling) → AreRulings d policy fs rs → AreRulings d policy gs ss → AreRulings d policy (fs ++ gs) (rs ++ ss)
 rulings-append d policy [] gs [] ss a b = b

@@ -1,4 +1,4 @@
--- Texts that grow piece by piece.
+-- Texts that grow piece by piece, for the private steps of a report.
 use Rattle.std.specs.Prelude.{◌≡◌, ℕ, List, ◌++◌}
 
 -- the new text is the old one with such a piece behind it

@@ -3,4 +3,7 @@ pub mod Growing
 pub mod Names
 pub mod PolicyReport
 pub mod RefusalLine
+pub mod RulingNumber
 pub mod ReportLaws
+pub mod ReportPromises
+pub mod ReportPromisesLaws

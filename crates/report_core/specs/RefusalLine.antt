@@ -1,4 +1,4 @@
--- The line that tells a refusal of a description.
+-- The line that tells a refusal of a description (docs/FORMATS.md).
 use Rattle.std.specs.Prelude.{ℕ, zero, suc, List, [], ◌∷◌, ◌++◌, codes, decimal}
 use Rattle.desc_form.specs.declared.refusal.Place.{Place}
 use Rattle.desc_form.specs.declared.refusal.Place.TheVariants.{Document, Host, Invariant, Assign, FlowAt}

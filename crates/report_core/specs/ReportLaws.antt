@@ -75,11 +75,11 @@ first_failing_is_one HoldsOn invs e n m a b = elim (cases_lt n m) [
 ]
 
 -- a flow whose answers may pass is permitted, and a permitted one was asked for
-record Nests (d : Network) (policy : Policy) : Type 0 where
-  permitted : (f : Flow) → IsTrue (has policy.stateful.flows f) → IsTrue (has policy.permitted.flows f)
-  asked : (f : Flow) → IsTrue (has policy.permitted.flows f) → IsTrue (has d.asked.flows f)
+pub record Nests (d : Network) (policy : Policy) : Type 0 where
+  pub permitted : (f : Flow) → IsTrue (has policy.stateful.flows f) → IsTrue (has policy.permitted.flows f)
+  pub asked : (f : Flow) → IsTrue (has policy.permitted.flows f) → IsTrue (has d.asked.flows f)
 
-nests : (d : Network) (policy : Policy) → IsPolicy d policy → Nests d policy
+pub nests : (d : Network) (policy : Policy) → IsPolicy d policy → Nests d policy
 nests d policy is_policy = record {
   permitted = (IsSubset-stateful d policy.permitted.flows policy.stateful.flows is_policy.stateful).within;
   asked = is_policy.permitted.within.within;

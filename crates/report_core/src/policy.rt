@@ -6,6 +6,7 @@ ghost use Rattle.flow_set.specs.Flow.{IsFlow};
 ghost use Rattle.policy_core.specs.Policies.{IsPolicy};
 ghost use Rattle.report_core.specs.Growing.{Grows};
 ghost use Rattle.report_core.specs.PolicyReport.{IsPolicyReport, IsRuling, TellsRulings, ruling_line, ruling_text};
+ghost use Rattle.report_core.specs.RulingNumber.{IsWithin};
 ghost use Rattle.report_core.specs.declared.ruling.Ruling.{Ruling};
 
 use crate::names::{push_flow, push_invariant};
@@ -118,7 +119,8 @@ fn push_ruling_line(
     flow: Flow,
     ruling: Ruling,
 ) -> Result<(), AllocError>
-    requires { IsFlow (length description.now.hosts) flow }
+    requires flow { IsFlow (length description.now.hosts) flow }
+    requires ruling { IsWithin (length description.now.invariants) ruling }
     ensures { OnOk result (text.new.items ≡ text.old.items ++ ruling_line description.now flow ruling) }
 {
     push_flow(text, description.hosts(), flow)?;
@@ -128,6 +130,7 @@ fn push_ruling_line(
 }
 
 fn push_ruling(text: &mut Vec<u8>, invariants: &[AnyInv], ruling: Ruling) -> Result<(), AllocError>
+    requires { IsWithin (length invariants.now) ruling }
     ensures { OnOk result (text.new.items ≡ text.old.items ++ ruling_text invariants.now ruling) }
 {
     match ruling {
@@ -140,11 +143,10 @@ fn push_ruling(text: &mut Vec<u8>, invariants: &[AnyInv], ruling: Ruling) -> Res
 
 // Puts the invariant of a number, from 0, that denies a flow.
 fn push_denial(text: &mut Vec<u8>, invariants: &[AnyInv], number: u16) -> Result<(), AllocError>
+    requires { number < length invariants.now }
     ensures { OnOk result (text.new.items ≡ text.old.items ++ ruling_text invariants.now (Ruling.Denied number)) }
 {
     text.extend_from_slice(b"denied by ")?;
-    match invariants.get(number as usize) {
-        Some(invariant) => push_invariant(text, number as usize + 1, invariant),
-        None => Ok(()),
-    }
+    let place = number as usize;
+    push_invariant(text, place + 1, &invariants[place])
 }

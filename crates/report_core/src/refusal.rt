@@ -5,7 +5,7 @@ ghost use Rattle.text_core.specs.Line.{cut};
 
 use desc_core::{Place, Refusal, Why};
 use host_net::Name;
-use text_core::put;
+use text_core::{put, put_number};
 
 /// Writes the line of a refusal, with its newline, to the front of the buffer, and answers its
 /// length.
@@ -91,13 +91,4 @@ fn put_numbered(buffer: &mut [u8; 256], at: usize, word: &[u8], number: u64) -> 
 {
     let word = put(buffer, at, word);
     put_number(buffer, word, number)
-}
-
-fn put_number(buffer: &mut [u8; 256], at: usize, number: u64) -> usize
-    requires { at ≤ 256 }
-    ensures text { take result buffer.new ≡ cut (take at buffer.old ++ decimal number) }
-    ensures within { result ≤ 256 }
-{
-    let mut digits = itoa::Buffer::new();
-    put(buffer, at, digits.format(number).as_bytes())
 }

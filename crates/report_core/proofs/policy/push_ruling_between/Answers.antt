@@ -3,8 +3,12 @@ use Rattle.std.proofs.lemmas.Result.{on_ok_weaker}
 use Rattle.flow_set.specs.declared.flow.Flow.{Flow}
 use Rattle.report_core.specs.Growing.{Grows}
 use Rattle.report_core.specs.PolicyReport.{TellsRulings}
-use Rattle.report_core.proofs.RulingLemmas.{flow_between, grows_by_one}
+use Rattle.report_core.proofs.RulingLemmas.{flow_between, grows_by_one, is_within}
 use Rattle.report_core.proofs.policy.push_ruling_between.Goals as goal
+
+pub push_ruling_line-requires-clause-ruling : goal.push_ruling_line-requires-clause-ruling
+push_ruling_line-requires-clause-ruling c =
+    is_within c.args.description.now c.args.policy.now (record { from = c.args.from; to = c.args.to }) c.in_ok-ruling.ruling c.in_ok-ruling.ensures
 
 pub returns : goal.returns
 returns c =

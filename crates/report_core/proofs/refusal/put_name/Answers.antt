@@ -1,6 +1,6 @@
 use Rattle.std.proofs.Common.{◌≡◌, ℕ, List, length, true, false, ◌==◌, sym, ◌∙◌, subst, append_assoc}
-use Rattle.text_core.specs.LineLaws.{cut_cut}
-use Rattle.report_core.proofs.LineLemmas.{nothing_put, named, unnamed}
+use Rattle.text_core.specs.LineLaws.{cut_cut, nothing_put}
+use Rattle.report_core.proofs.LineLemmas.{named, unnamed}
 use Rattle.report_core.proofs.refusal.put_name.Goals as goal
 
 pub returns-then-is_empty-clause-text : goal.returns-then-is_empty-clause-text

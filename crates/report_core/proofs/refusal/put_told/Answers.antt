@@ -1,4 +1,5 @@
-use Rattle.report_core.proofs.LineLemmas.{nothing_put, told_short}
+use Rattle.text_core.specs.LineLaws.{nothing_put}
+use Rattle.report_core.proofs.LineLemmas.{told_short}
 use Rattle.report_core.proofs.refusal.put_told.Goals as goal
 
 pub returns-then-number-eq0-clause-text : goal.returns-then-number-eq0-clause-text
