@@ -34,7 +34,7 @@ pub cause_of : (asked : Option Command) (shelf : ShelfChange) (given : Reply) �
 unfolding Replies
 cause_of None shelf given may = NoForm refl may.0
 cause_of (Some command) shelf given may = elim may [
-  | inl no_memory ↦ NoMemory command refl no_memory
+  | inl no_memory ↦ NoMemory command refl no_memory.0
   | inr seen ↦ cause_seen (Some command) command shelf given refl (seen.0 (file_of command)) seen.1.files.0 seen.2
 ]
 

@@ -1,16 +1,21 @@
 -- What follows from the one reply of a run, by its cause.
-use Rattle.std.proofs.Common.{◌≡◌, ℕ, List, Option, None, Some, refl, ap, sym, subst, ◌∙◌}
+use Rattle.std.proofs.Common.{◌≡◌, inl, inr, ℕ, zero, suc, take, List, Option, None, Some, refl, ap, sym, subst, ◌∙◌}
 use Rattle.std.proofs.lemmas.List.{append-nil}
 use Rattle.std.specs.Io.KnownBytes.{append_known}
-use Rattle.std.specs.Prelude.{◌↔◌, []}
-use Rattle.desc_core.specs.Network.{Network}
+use Rattle.std.specs.Prelude.{◌↔◌, [], IsTrue, IsFalse}
+use Rattle.desc_core.specs.Network.{Network, IsNetwork}
+use Rattle.edge_io.specs.Counts.{Rose}
+use Rattle.desc_core.specs.NetworkLaws.{IsNetwork-described}
+use Rattle.report_core.specs.CheckReport.{IsCheckReport}
+use Rattle.report_core.specs.PolicyReport.{IsPolicyReport}
+use Rattle.report_core.specs.ReportPromisesLaws.{tells_offences, tells_policy}
 use Rattle.topos_top.specs.Command.{Command, Check, Policy, Rules, Repair, command_of}
-use Rattle.topos_top.specs.Ending.{status_of, out_of, has_output, err_of, line_behind}
+use Rattle.topos_top.specs.Ending.{status_of, out_of, has_output, err_of, line_behind, write_fault_line}
 use Rattle.topos_top.specs.Ends.{Ends}
-use Rattle.topos_top.specs.Promises.{LacksFile, HasBadDescription, ReportsViolation, IsViolated, WroteBy, WroteText}
-use Rattle.topos_top.specs.Reply.{Reply, Violated, Reported, Done}
-use Rattle.topos_top.specs.Seen.{ShelfChange, MayGive, MayGiveBy}
-use Rattle.topos_top.specs.Taken.{SinkChange, Took, IsWritten, IsSaid}
+use Rattle.topos_top.specs.Promises.{GaveReply, LacksFile, HasBadDescription, ReportsOffences, ReportsPolicy, ReportsViolation, IsViolated, WroteBy, WroteText, IsTextFor, WasCutOff, RanOut}
+use Rattle.topos_top.specs.Reply.{Reply, Usage, CannotRead, Refused, Violated, Reported, Done, Memory}
+use Rattle.topos_top.specs.Seen.{ShelfChange, MayGiveBy}
+use Rattle.topos_top.specs.Taken.{SinkChange, Took, TookSome, IsWritten, IsSaid}
 use Rattle.topos_top.specs.declared.status.Status.{Status}
 use Rattle.topos_top.specs.declared.status.Status.TheVariants as status
 use Rattle.topos_top.proofs.Causes.{Cause, NoForm, NoMemory, Unread, Bad, Ended, cause_of, ends_otherwise, ends_so, ends_as}
@@ -32,10 +37,10 @@ usage_given : (asked : Option Command) (shelf : ShelfChange) (out : SinkChange) 
 usage_given None shelf out given s may written none = ends_so out given s (ap has_output may.0) written ∙ ap status_of may.0
 usage_given (Some command) shelf out given s may written none = cc none
 
-pub usage_law : (asked : Option Command) (shelf : ShelfChange) (out : SinkChange) (given : Reply) (s : Status) → MayGiveBy asked shelf given → IsWritten out given s → (s ≡ status.Usage) ↔ (asked ≡ None)
-usage_law asked shelf out given s may written = (
-  λ is. usage_asked asked shelf given (cause_of asked shelf given may) (said out given s status.Usage written is (λ e. cc e)),
-  usage_given asked shelf out given s may written,
+pub usage_law : (words : List (List ℕ)) (shelf : ShelfChange) (out err : SinkChange) (s : Status) → GaveReply words shelf out err s → (s ≡ status.Usage) ↔ (command_of words ≡ None)
+usage_law words shelf out err s gave = (
+  λ is. usage_asked (command_of words) shelf gave.given (cause_of (command_of words) shelf gave.given gave.allowed) (said out gave.given s status.Usage gave.written is (λ e. cc e)),
+  usage_given (command_of words) shelf out gave.given s gave.allowed gave.written,
 )
 
 -- ---- refused files
@@ -52,10 +57,10 @@ lacks_file words shelf err given (Unread command named held is) says line = reco
 lacks_file words shelf err given (Bad command named bytes held why read is) says line = cc (ap status_of is)
 lacks_file words shelf err given (Ended command named d read ends) says line = ends_otherwise command d given status.ReadFault ends says (λ e. cc e) (λ e. cc e)
 
-pub read_fault_law : (words : List (List ℕ)) (shelf : ShelfChange) (out err : SinkChange) (given : Reply) (s : Status) → MayGive words shelf given → IsWritten out given s → IsSaid err (line_behind given s) → s ≡ status.ReadFault → LacksFile words shelf err
-read_fault_law words shelf out err given s may written line is =
-    lacks_file words shelf err given (cause_of (command_of words) shelf given may) (said out given s status.ReadFault written is (λ e. cc e))
-    (subst (λ (t : Status). IsSaid err (line_behind given t)) is line)
+pub read_fault_law : (words : List (List ℕ)) (shelf : ShelfChange) (out err : SinkChange) (s : Status) → GaveReply words shelf out err s → s ≡ status.ReadFault → LacksFile words shelf err
+read_fault_law words shelf out err s gave is =
+    lacks_file words shelf err gave.given (cause_of (command_of words) shelf gave.given gave.allowed) (said out gave.given s status.ReadFault gave.written is (λ e. cc e))
+    (subst (λ (t : Status). IsSaid err (line_behind gave.given t)) is gave.said)
 
 bad_description : (words : List (List ℕ)) (shelf : ShelfChange) (err : SinkChange) (given : Reply) → Cause (command_of words) shelf given → status_of given ≡ status.BadDescription → IsSaid err (err_of given) → HasBadDescription words shelf err
 bad_description words shelf err given (NoForm none is) says line = cc (ap status_of is)
@@ -72,10 +77,28 @@ bad_description words shelf err given (Bad command named bytes held why read is)
 }
 bad_description words shelf err given (Ended command named d read ends) says line = ends_otherwise command d given status.BadDescription ends says (λ e. cc e) (λ e. cc e)
 
-pub bad_description_law : (words : List (List ℕ)) (shelf : ShelfChange) (out err : SinkChange) (given : Reply) (s : Status) → MayGive words shelf given → IsWritten out given s → IsSaid err (line_behind given s) → s ≡ status.BadDescription → HasBadDescription words shelf err
-bad_description_law words shelf out err given s may written line is =
-    bad_description words shelf err given (cause_of (command_of words) shelf given may) (said out given s status.BadDescription written is (λ e. cc e))
-    (subst (λ (t : Status). IsSaid err (line_behind given t)) is line)
+pub bad_description_law : (words : List (List ℕ)) (shelf : ShelfChange) (out err : SinkChange) (s : Status) → GaveReply words shelf out err s → s ≡ status.BadDescription → HasBadDescription words shelf err
+bad_description_law words shelf out err s gave is =
+    bad_description words shelf err gave.given (cause_of (command_of words) shelf gave.given gave.allowed) (said out gave.given s status.BadDescription gave.written is (λ e. cc e))
+    (subst (λ (t : Status). IsSaid err (line_behind gave.given t)) is gave.said)
+
+-- ---- want of memory
+
+ran_out : (words : List (List ℕ)) (shelf : ShelfChange) (err : SinkChange) (given : Reply) → Cause (command_of words) shelf given → status_of given ≡ status.Memory → IsSaid err (err_of given) → RanOut words err
+ran_out words shelf err given (NoForm none is) says line = cc (ap status_of is)
+ran_out words shelf err given (NoMemory command named is) says line = record {
+  command = command;
+  named = named;
+  said = subst (λ (reply : Reply). IsSaid err (err_of reply)) is line;
+}
+ran_out words shelf err given (Unread command named held is) says line = cc (ap status_of is)
+ran_out words shelf err given (Bad command named bytes held why read is) says line = cc (ap status_of is)
+ran_out words shelf err given (Ended command named d read ends) says line = ends_otherwise command d given status.Memory ends says (λ e. cc e) (λ e. cc e)
+
+pub memory_law : (words : List (List ℕ)) (shelf : ShelfChange) (out err : SinkChange) (s : Status) → GaveReply words shelf out err s → s ≡ status.Memory → RanOut words err
+memory_law words shelf out err s gave is =
+    ran_out words shelf err gave.given (cause_of (command_of words) shelf gave.given gave.allowed) (said out gave.given s status.Memory gave.written is (λ e. cc e))
+    (subst (λ (t : Status). IsSaid err (line_behind gave.given t)) is gave.said)
 
 -- ---- violations
 
@@ -87,17 +110,32 @@ took_nothing sink took = took ∙ same sink.held_before
     same None = refl
     same (Some bytes) = ap Some (append-nil bytes)
 
-reports_violation : (command : Command) (d : Network) (out err : SinkChange) (given : Reply) → Ends command d given → status_of given ≡ status.Violated → Took out (out_of given) → IsSaid err (err_of given) → ReportsViolation command d out err
-reports_violation (Check file) d out err (Reported report) ends says took line = (ends.0, (report, ends.1, took))
-reports_violation (Check file) d out err (Done report) ends says took line = cc says
-reports_violation (Check file) d out err given ends says took line = absurd ends
-reports_violation (Policy file) d out err (Done report) ends says took line = cc says
-reports_violation (Policy file) d out err given ends says took line = absurd ends
-reports_violation (Rules file) d out err (Violated report) ends says took line = (ends.0, took_nothing out took, (report, ends.1, line))
-reports_violation (Rules file) d out err (Done rules) ends says took line = cc says
-reports_violation (Rules file) d out err given ends says took line = absurd ends
-reports_violation (Repair file) d out err (Done rules) ends says took line = cc says
-reports_violation (Repair file) d out err given ends says took line = absurd ends
+take_nothing : (n : ℕ) → take {A = ℕ} n [] ≡ []
+take_nothing zero = refl
+take_nothing (suc n) = refl
+
+-- a sink to which nothing was said is as it was
+said_nothing : (sink : SinkChange) → IsSaid sink [] → sink.held_after ≡ sink.held_before
+said_nothing sink line = took_nothing sink (line.0.taken ∙ ap (append_known sink.held_before) (take_nothing line.0.count))
+
+-- a report with what an operator may rely on
+offences_reported : (d : Network) (report : List ℕ) → IsNetwork d → IsCheckReport d report → ReportsOffences d report
+offences_reported d report network is = record { is_report = is; tells = tells_offences d report network is }
+
+policy_reported : (d : Network) (report : List ℕ) → IsNetwork d → IsPolicyReport d report → ReportsPolicy d report
+policy_reported d report network is = record { is_report = is; tells = tells_policy d report network is }
+
+reports_violation : (command : Command) (d : Network) (out err : SinkChange) (given : Reply) → IsNetwork d → Ends command d given → status_of given ≡ status.Violated → Took out (out_of given) → IsSaid err (err_of given) → ReportsViolation command d out err
+reports_violation (Check file) d out err (Reported report) network ends says took line = (ends.0, (report, offences_reported d report network ends.1, took), said_nothing err line)
+reports_violation (Check file) d out err (Done report) network ends says took line = cc says
+reports_violation (Check file) d out err given network ends says took line = absurd ends
+reports_violation (Policy file) d out err (Done report) network ends says took line = cc says
+reports_violation (Policy file) d out err given network ends says took line = absurd ends
+reports_violation (Rules file) d out err (Violated report) network ends says took line = (ends.0, took_nothing out took, (report, offences_reported d report network ends.1, line))
+reports_violation (Rules file) d out err (Done rules) network ends says took line = cc says
+reports_violation (Rules file) d out err given network ends says took line = absurd ends
+reports_violation (Repair file) d out err (Done rules) network ends says took line = cc says
+reports_violation (Repair file) d out err given network ends says took line = absurd ends
 
 is_violated : (words : List (List ℕ)) (shelf : ShelfChange) (out err : SinkChange) (given : Reply) → Cause (command_of words) shelf given → status_of given ≡ status.Violated → Took out (out_of given) → IsSaid err (err_of given) → IsViolated words shelf out err
 is_violated words shelf out err given (NoForm none is) says took line = cc (ap status_of is)
@@ -109,28 +147,28 @@ is_violated words shelf out err given (Ended command named d read ends) says too
   named = named;
   network = d;
   read = read;
-  reports = reports_violation command d out err given ends says took line;
+  reports = reports_violation command d out err given (IsNetwork-described read.bytes d read.read) ends says took line;
 }
 
-pub violated_law : (words : List (List ℕ)) (shelf : ShelfChange) (out err : SinkChange) (given : Reply) (s : Status) → MayGive words shelf given → IsWritten out given s → IsSaid err (line_behind given s) → s ≡ status.Violated → IsViolated words shelf out err
-violated_law words shelf out err given s may written line is =
-    let ends = ends_as out given s (λ cut. cc (is, cut)) written in
-    is_violated words shelf out err given (cause_of (command_of words) shelf given may) (sym ends.0 ∙ is) ends.1
-    (subst (λ (t : Status). IsSaid err (line_behind given t)) is line)
+pub violated_law : (words : List (List ℕ)) (shelf : ShelfChange) (out err : SinkChange) (s : Status) → GaveReply words shelf out err s → s ≡ status.Violated → IsViolated words shelf out err
+violated_law words shelf out err s gave is =
+    let ends = ends_as out gave.given s (λ cut. cc (is, cut)) gave.written in
+    is_violated words shelf out err gave.given (cause_of (command_of words) shelf gave.given gave.allowed) (sym ends.0 ∙ is) ends.1
+    (subst (λ (t : Status). IsSaid err (line_behind gave.given t)) is gave.said)
 
 -- ---- done
 
-wrote_by : (command : Command) (d : Network) (out : SinkChange) (given : Reply) → Ends command d given → status_of given ≡ status.Done → Took out (out_of given) → WroteBy command d out
-wrote_by (Check file) d out (Done report) ends says took = (ends.0, (report, ends.1, took))
-wrote_by (Check file) d out (Reported report) ends says took = cc says
-wrote_by (Check file) d out given ends says took = absurd ends
-wrote_by (Policy file) d out (Done report) ends says took = (report, ends, took)
-wrote_by (Policy file) d out given ends says took = absurd ends
-wrote_by (Rules file) d out (Done rules) ends says took = (ends.0, (rules, ends.1, took))
-wrote_by (Rules file) d out (Violated report) ends says took = cc says
-wrote_by (Rules file) d out given ends says took = absurd ends
-wrote_by (Repair file) d out (Done rules) ends says took = (rules, ends, took)
-wrote_by (Repair file) d out given ends says took = absurd ends
+wrote_by : (command : Command) (d : Network) (out : SinkChange) (given : Reply) → IsNetwork d → Ends command d given → status_of given ≡ status.Done → Took out (out_of given) → WroteBy command d out
+wrote_by (Check file) d out (Done report) network ends says took = (ends.0, (report, offences_reported d report network ends.1, took))
+wrote_by (Check file) d out (Reported report) network ends says took = cc says
+wrote_by (Check file) d out given network ends says took = absurd ends
+wrote_by (Policy file) d out (Done report) network ends says took = (report, policy_reported d report network ends, took)
+wrote_by (Policy file) d out given network ends says took = absurd ends
+wrote_by (Rules file) d out (Done rules) network ends says took = (ends.0, (rules, ends.1, took))
+wrote_by (Rules file) d out (Violated report) network ends says took = cc says
+wrote_by (Rules file) d out given network ends says took = absurd ends
+wrote_by (Repair file) d out (Done rules) network ends says took = (rules, ends, took)
+wrote_by (Repair file) d out given network ends says took = absurd ends
 
 wrote_text : (words : List (List ℕ)) (shelf : ShelfChange) (out : SinkChange) (given : Reply) → Cause (command_of words) shelf given → status_of given ≡ status.Done → Took out (out_of given) → WroteText words shelf out
 wrote_text words shelf out given (NoForm none is) says took = cc (ap status_of is)
@@ -142,10 +180,76 @@ wrote_text words shelf out given (Ended command named d read ends) says took = r
   named = named;
   network = d;
   read = read;
-  written = wrote_by command d out given ends says took;
+  written = wrote_by command d out given (IsNetwork-described read.bytes d read.read) ends says took;
 }
 
-pub done_law : (words : List (List ℕ)) (shelf : ShelfChange) (out : SinkChange) (given : Reply) (s : Status) → MayGive words shelf given → IsWritten out given s → s ≡ status.Done → WroteText words shelf out
-done_law words shelf out given s may written is =
-    let ends = ends_as out given s (λ cut. cc (is, cut)) written in
-    wrote_text words shelf out given (cause_of (command_of words) shelf given may) (sym ends.0 ∙ is) ends.1
+pub done_law : (words : List (List ℕ)) (shelf : ShelfChange) (out err : SinkChange) (s : Status) → GaveReply words shelf out err s → s ≡ status.Done → WroteText words shelf out
+done_law words shelf out err s gave is =
+    let ends = ends_as out gave.given s (λ cut. cc (is, cut)) gave.written in
+    wrote_text words shelf out gave.given (cause_of (command_of words) shelf gave.given gave.allowed) (sym ends.0 ∙ is) ends.1
+
+-- ---- a fault of the output
+
+-- what a command gives for the output is what it is to write
+text_for : (command : Command) (d : Network) (given : Reply) → Ends command d given → IsTrue (has_output given) → IsTextFor command d (out_of given)
+text_for (Check file) d (Done report) ends some = ends.1
+text_for (Check file) d (Reported report) ends some = ends.1
+text_for (Check file) d given ends some = absurd ends
+text_for (Policy file) d (Done report) ends some = ends
+text_for (Policy file) d given ends some = absurd ends
+text_for (Rules file) d (Done rules) ends some = ends
+text_for (Rules file) d (Violated report) ends some = cc some
+text_for (Rules file) d given ends some = absurd ends
+text_for (Repair file) d (Done rules) ends some = ends
+text_for (Repair file) d given ends some = absurd ends
+
+was_cut_off : (words : List (List ℕ)) (shelf : ShelfChange) (out err : SinkChange) (given : Reply) → Cause (command_of words) shelf given → IsTrue (has_output given) → Rose out.faults_before out.faults_after → TookSome out (out_of given) → IsSaid err write_fault_line → WasCutOff words shelf out err
+was_cut_off words shelf out err given (NoForm none is) some fault prefix line = cc (some, ap has_output is)
+was_cut_off words shelf out err given (NoMemory command named is) some fault prefix line = cc (some, ap has_output is)
+was_cut_off words shelf out err given (Unread command named held is) some fault prefix line = cc (some, ap has_output is)
+was_cut_off words shelf out err given (Bad command named bytes held why read is) some fault prefix line = cc (some, ap has_output is)
+was_cut_off words shelf out err given (Ended command named d read ends) some fault prefix line = record {
+  command = command;
+  named = named;
+  network = d;
+  read = read;
+  text = out_of given;
+  is_text = text_for command d given ends some;
+  prefix = prefix;
+  fault = fault;
+  said = line;
+}
+
+-- no reply has the status of a write fault
+no_write_fault : (given : Reply) → status.WriteFault ≡ status_of given → ⊥
+no_write_fault Usage is = cc is
+no_write_fault (CannotRead file) is = cc is
+no_write_fault (Refused why) is = cc is
+no_write_fault (Violated report) is = cc is
+no_write_fault (Reported report) is = cc is
+no_write_fault (Done text) is = cc is
+no_write_fault Memory is = cc is
+
+pub write_fault_law : (words : List (List ℕ)) (shelf : ShelfChange) (out err : SinkChange) (s : Status) → GaveReply words shelf out err s → s ≡ status.WriteFault → WasCutOff words shelf out err
+write_fault_law words shelf out err s gave is = elim gave.written [
+  | inl whole ↦ absurd (no_write_fault gave.given (sym is ∙ whole.0))
+  | inr cut ↦ was_cut_off words shelf out err gave.given (cause_of (command_of words) shelf gave.given gave.allowed) cut.1 cut.2 cut.3
+      (subst (λ (t : Status). IsSaid err (line_behind gave.given t)) is gave.said)
+]
+
+-- ---- an output that is as it was
+
+silent_reply : (given : Reply) → (status_of given ≡ status.Done → ⊥) → (status_of given ≡ status.Violated → ⊥) → IsFalse (has_output given)
+silent_reply Usage not_done not_violated = refl
+silent_reply (CannotRead file) not_done not_violated = refl
+silent_reply (Refused why) not_done not_violated = refl
+silent_reply (Violated report) not_done not_violated = refl
+silent_reply (Reported report) not_done not_violated = absurd (not_violated refl)
+silent_reply (Done text) not_done not_violated = absurd (not_done refl)
+silent_reply Memory not_done not_violated = refl
+
+-- a run that ends otherwise than done, violated or by a write fault has nothing for the output
+pub nothing_to_write : (out : SinkChange) (given : Reply) (s : Status) → IsWritten out given s → (s ≡ status.Done → ⊥) → (s ≡ status.WriteFault → ⊥) → (s ≡ status.Violated → ⊥) → IsFalse (has_output given)
+nothing_to_write out given s written not_done not_cut not_violated =
+    let is : s ≡ status_of given = (ends_as out given s not_cut written).0 in
+    silent_reply given (λ done. not_done (is ∙ done)) (λ violated. not_violated (is ∙ violated))

@@ -1,12 +1,12 @@
 -- How a file that was taken off the shelf, or was not, is what the call saw of it.
 use Rattle.std.proofs.Common.{◌≡◌, ℕ, ◌+◌, ◌<◌, ◌≤◌, ◌⊎◌, inl, inr, min, List, length, Option, None, Some, Result, Err, refl, ap, sym, subst, arith, replicate, option_map}
 use Rattle.std.proofs.lemmas.List.{length-replicate}
-use Rattle.std.proofs.lemmas.Bool.{lt-ltb}
 use Rattle.std.specs.Prelude.{IfSome, IsSomeAnd}
 use Rattle.std.specs.FinMap.{get}
 use Rattle.edge_io.specs.Counts.{more}
 use Rattle.edge_io.specs.Told.{Files}
 use Rattle.desc_core.specs.Description.{described}
+use Rattle.desc_core.specs.DescriptionLaws.{described-too_long}
 use Rattle.desc_core.specs.Network.{Network}
 use Rattle.desc_core.specs.declared.fault.TheConstants.{MOST_BYTES}
 use Rattle.desc_form.specs.Refusals.{refused}
@@ -23,11 +23,6 @@ described_whole file shelf bytes outcome told taken within said = elim said [
   | inl memory ↦ inl memory
   | inr is ↦ inr (Some bytes, told, omega arith, is)
 ]
-
--- what is longer than the limit describes nothing
-described-longer : (bytes : List ℕ) → MOST_BYTES < length bytes → described bytes ≡ Err (refused TooLong Document)
-unfolding described
-described-longer bytes longer = let above = lt-ltb _ _ longer in rw above refl
 
 -- there are bytes past every limit
 some_longer : (limit : ℕ) → (bytes : List ℕ) × (limit < length bytes)
@@ -48,7 +43,7 @@ too_long_seen file (Some files) longer = told_longer (get files file) longer
 pub described_too_long : (file : List ℕ) (shelf : ShelfChange) → IfSome shelf.told (λ files. IsSomeAnd (get files file) (λ bytes. MOST_BYTES < length bytes)) → shelf.taken_after ≡ MOST_BYTES + 1 → MayDescribe file shelf (Err (Refused (refused TooLong Document)))
 described_too_long file shelf longer taken =
     let seen = too_long_seen file shelf.told longer in
-    inr (Some seen.0, seen.1, taken_all seen.0 seen.2, ap or_refused (sym (described-longer seen.0 seen.2)))
+    inr (Some seen.0, seen.1, taken_all seen.0 seen.2, ap or_refused (sym (described-too_long seen.0 seen.2)))
   where
     taken_all : (bytes : List ℕ) → MOST_BYTES < length bytes → shelf.taken_after ≡ min (length bytes) (MOST_BYTES + 1)
     taken_all bytes longer = omega arith
@@ -62,6 +57,6 @@ taken_by shelf (Some bytes) h = h
 pub reply_on : (command : Command) (shelf : ShelfChange) (outcome : Result Network Reply) (given : Reply) → shelf.begins_after ≡ more shelf.begins_before 1 → MayDescribe (file_of command) shelf outcome → (outcome >>= Ends command) given → MayReply command shelf given
 unfolding Replies
 reply_on command shelf outcome given begins may ends = elim may [
-  | inl memory ↦ inl (subst (λ (o : Result Network Reply). (o >>= Ends command) given) memory ends)
+  | inl memory ↦ inl (subst (λ (o : Result Network Reply). (o >>= Ends command) given) memory ends, begins)
   | inr seen ↦ inr (λ _. seen.0, record { files = (seen.1, tt); begins = begins; taken = taken_by shelf seen.0 seen.2 }, subst (λ (o : Result Network Reply). (o >>= Ends command) given) seen.3 ends)
 ]

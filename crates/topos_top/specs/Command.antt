@@ -1,4 +1,4 @@
--- The commands of the program, and the words that ask for them.
+-- The commands of the program, and the words that ask for them (docs/GUIDE.md).
 use Rattle.std.specs.Prelude.{ℕ, List, [], ◌∷◌, Option, None, Some, codes, if◌then◌else◌}
 use Rattle.std.specs.Str.{bytes_eq}
 

@@ -1,4 +1,4 @@
--- How a reply ends the run: its status, what goes to the output, and its line on the error stream.
+-- How a reply ends the run: its status, what goes to the output, and its line on the error stream (docs/GUIDE.md, docs/FORMATS.md).
 use Rattle.std.specs.Prelude.{ℕ, List, [], ◌++◌, codes, Bool, true, false}
 use Rattle.report_core.specs.RefusalLine.{refusal_text}
 use Rattle.topos_top.specs.Reply.{Reply, Usage, CannotRead, Refused, Violated, Reported, Done, Memory}
@@ -38,6 +38,10 @@ usage_text =
 abbrev pub cannot_read_line : (file : List ℕ) → List ℕ
 cannot_read_line file = codes "topos: cannot read " ++ (file ++ codes "\n")
 
+-- the line of want of memory
+abbrev pub memory_line : List ℕ
+memory_line = codes "topos: out of memory\n"
+
 -- what goes to the error stream
 abbrev pub err_of : Reply → List ℕ
 err_of Usage = usage_text
@@ -46,7 +50,7 @@ err_of (Refused why) = refusal_text why
 err_of (Violated report) = report
 err_of (Reported report) = []
 err_of (Done text) = []
-err_of Memory = codes "topos: out of memory\n"
+err_of Memory = memory_line
 
 -- the line behind a write fault of the output
 abbrev pub write_fault_line : List ℕ

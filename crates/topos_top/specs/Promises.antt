@@ -13,14 +13,22 @@ use Rattle.policy_core.specs.Policies.{CompliesWithAll, IsGreatestPolicy, IsPerm
 use Rattle.report_core.specs.CheckReport.{IsCheckReport}
 use Rattle.report_core.specs.PolicyReport.{IsPolicyReport}
 use Rattle.report_core.specs.RefusalLine.{refusal_text}
+use Rattle.report_core.specs.ReportPromises.{TellsOffences, TellsPolicy}
 use Rattle.topos_top.specs.Command.{Command, Check, Policy, Rules, Repair, file_of, command_of}
-use Rattle.topos_top.specs.Ending.{cannot_read_line, line_behind}
+use Rattle.topos_top.specs.Ending.{status_of, out_of, cannot_read_line, line_behind, memory_line, write_fault_line}
 use Rattle.topos_top.specs.Ends.{AskedHolds, ListedFails, ListedHolds, IsRules, chains_of, RepliesTo}
 use Rattle.topos_top.specs.Reply.{Reply, Sight}
-use Rattle.topos_top.specs.Seen.{ShelfChange, SawFile}
-use Rattle.topos_top.specs.Taken.{SinkChange, Took, IsWritten, IsSaid}
+use Rattle.topos_top.specs.Seen.{ShelfChange, SawFile, MayGive}
+use Rattle.topos_top.specs.Taken.{SinkChange, Took, TookSome, IsWritten, IsSaid}
 use Rattle.topos_top.specs.declared.status.Status.{Status}
 use Rattle.topos_top.specs.declared.status.Status.TheVariants as status
+
+-- The run gave one reply that the files as it saw them allow: its status, its text on the output, its line on the error stream.
+pub record GaveReply (words : List (List ℕ)) (shelf : ShelfChange) (out err : SinkChange) (ended : Status) : Type 0 where
+  pub given : Reply
+  pub allowed : MayGive words shelf given
+  pub written : IsWritten out given ended
+  pub said : IsSaid err (line_behind given ended)
 
 -- ---- the causes of each end
 
@@ -55,10 +63,20 @@ WroteSome IsText out = (written : List ℕ) × IsText written × Took out writte
 abbrev pub SaidSome : (List ℕ → Type 0) → SinkChange → Type 0
 SaidSome IsText err = (line : List ℕ) × IsText line × IsSaid err line
 
+-- the report of `check`: it names exactly the broken invariants, each with a minimal offending set of the asked flows
+pub record ReportsOffences (d : Network) (report : List ℕ) : Type 0 where
+  pub is_report : IsCheckReport d report
+  pub tells : TellsOffences d report
+
+-- the report of `policy`: it says of each flow whether the permitted policy lets it pass, and which invariant denies it
+pub record ReportsPolicy (d : Network) (report : List ℕ) : Type 0 where
+  pub is_report : IsPolicyReport d report
+  pub tells : TellsPolicy d report
+
 -- an invariant fails: `check` reports it on the output, and `rules` on the error stream, if a listed policy breaks it; the others never do
 abbrev pub ReportsViolation : Command → Network → (out err : SinkChange) → Type 0
-ReportsViolation (Check file) d out err = (AskedHolds d → ⊥) × WroteSome (IsCheckReport d) out
-ReportsViolation (Rules file) d out err = ListedFails d × (out.held_after ≡ out.held_before) × SaidSome (IsCheckReport d) err
+ReportsViolation (Check file) d out err = (AskedHolds d → ⊥) × WroteSome (ReportsOffences d) out × (err.held_after ≡ err.held_before)
+ReportsViolation (Rules file) d out err = ListedFails d × (out.held_after ≡ out.held_before) × SaidSome (ReportsOffences d) err
 ReportsViolation _ d out err = ⊥
 
 pub record IsViolated (words : List (List ℕ)) (shelf : ShelfChange) (out err : SinkChange) : Type 0 where
@@ -70,8 +88,8 @@ pub record IsViolated (words : List (List ℕ)) (shelf : ShelfChange) (out err :
 
 -- what the command is for went to the output: a report, or rules
 abbrev pub WroteBy : Command → Network → SinkChange → Type 0
-WroteBy (Check file) d out = AskedHolds d × WroteSome (IsCheckReport d) out
-WroteBy (Policy file) d out = WroteSome (IsPolicyReport d) out
+WroteBy (Check file) d out = AskedHolds d × WroteSome (ReportsOffences d) out
+WroteBy (Policy file) d out = WroteSome (ReportsPolicy d) out
 WroteBy (Rules file) d out = ListedHolds d × WroteSome (IsRules d) out
 WroteBy (Repair file) d out = WroteSome (IsRules d) out
 
@@ -81,6 +99,31 @@ pub record WroteText (words : List (List ℕ)) (shelf : ShelfChange) (out : Sink
   pub network : Network
   pub read : Describes shelf command network
   pub written : WroteBy command network out
+
+-- what the command is to write to the output
+abbrev pub IsTextFor : Command → Network → List ℕ → Type 0
+IsTextFor (Check file) d text = IsCheckReport d text
+IsTextFor (Policy file) d text = IsPolicyReport d text
+IsTextFor (Rules file) d text = ListedHolds d × IsRules d text
+IsTextFor (Repair file) d text = IsRules d text
+
+-- the output had a fault behind a prefix of what the command is to write, and the error stream says so
+pub record WasCutOff (words : List (List ℕ)) (shelf : ShelfChange) (out err : SinkChange) : Type 0 where
+  pub command : Command
+  pub named : command_of words ≡ Some command
+  pub network : Network
+  pub read : Describes shelf command network
+  pub text : List ℕ
+  pub is_text : IsTextFor command network text
+  pub prefix : TookSome out text
+  pub fault : Rose out.faults_before out.faults_after
+  pub said : IsSaid err write_fault_line
+
+-- there was no memory for what the words ask for
+pub record RanOut (words : List (List ℕ)) (err : SinkChange) : Type 0 where
+  pub command : Command
+  pub named : command_of words ≡ Some command
+  pub said : IsSaid err memory_line
 
 -- ---- what rules do
 
@@ -129,12 +172,18 @@ pub record IsTheReply (words : List (List ℕ)) (seen : Sight) (given : Reply) :
   pub allowed : RepliesTo words seen given
   pub only : (other : Reply) → RepliesTo words seen other → other ≡ given
 
+-- The run ended by this reply. Where the output had no fault, its status is that of the reply and the output took the whole text; where the error stream had none, it took the whole line.
+pub record EndedBy (out err : SinkChange) (given : Reply) (ended : Status) : Type 0 where
+  pub written : IsWritten out given ended
+  pub said : IsSaid err (line_behind given ended)
+  pub whole : (Rose out.faults_before out.faults_after → ⊥) → (ended ≡ status_of given) × Took out (out_of given)
+  pub heard : (Rose err.faults_before err.faults_after → ⊥) → Took err (line_behind given ended)
+
 -- The words and the told files alone decide what the run gives, unless there is no memory.
 abbrev pub IsComplete : List (List ℕ) → ShelfChange → (out err : SinkChange) → Status → Type 0
 IsComplete words shelf out err ended =
     IfSome shelf.told (λ files. (Rose shelf.faults_before shelf.faults_after → ⊥)
-    → (ended ≡ status.Memory)
-    ⊎ ((given : Reply) × IsTheReply words (told_sight files) given × IsWritten out given ended × IsSaid err (line_behind given ended)))
+    → (ended ≡ status.Memory) ⊎ ((given : Reply) × IsTheReply words (told_sight files) given × EndedBy out err given ended))
 
 -- the network breaks an invariant that the command has to keep, or it does not
 abbrev pub Violates : Command → Network → Type 0

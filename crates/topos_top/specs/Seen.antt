@@ -53,9 +53,9 @@ pub record Saw (shelf : ShelfChange) (command : Command) (seen : Sight) : Type 0
   pub begins : shelf.begins_after ≡ more shelf.begins_before (length (files_begun command seen))
   pub taken : IfSome (bytes_taken command seen) (λ n. shelf.taken_after ≡ n)
 
--- A command may give want of memory, or its reply to the files as the call saw them.
+-- A command may give want of memory, having begun its file and no other, or its reply to the files as the call saw them.
 abbrev pub MayReply : Command → ShelfChange → Reply → Type 0
-MayReply command shelf reply = (reply ≡ Memory) ⊎ ((seen : Sight) × Saw shelf command seen × Replies command seen reply)
+MayReply command shelf reply = ((reply ≡ Memory) × (shelf.begins_after ≡ more shelf.begins_before 1)) ⊎ ((seen : Sight) × Saw shelf command seen × Replies command seen reply)
 
 -- Words that are no form of the command line give the usage, and begin no file.
 abbrev pub MayGiveBy : Option Command → ShelfChange → Reply → Type 0

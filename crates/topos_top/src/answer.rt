@@ -1,7 +1,7 @@
 //! What the program answers to its words, before anything is written: the file is read, then its
 //! description, and then the command is done. The first thing that fails ends the run.
 
-ghost use Rattle.std.specs.Prelude.{◌≡◌, None, map, string_bytes};
+ghost use Rattle.std.specs.Prelude.{◌≡◌, ◌≤◌, None, map, string_bytes};
 ghost use Rattle.topos_top.specs.AnswerView.{reply_view, reply_in, text_view};
 ghost use Rattle.topos_top.specs.Command.{command_of};
 ghost use Rattle.topos_top.specs.CommandView.{command_view};
@@ -57,6 +57,7 @@ impl Text {
 /// The answer to the words, with the files taken off the shelf.
 pub fn answer_to<'a, H: Shelf>(alloc: Global, words: &'a [String], shelf: &mut H) -> Answer<'a>
     ensures same_files { H.files shelf.new ≡ H.files shelf.old }
+    ensures faults_stay { H.faults shelf.old ≤ H.faults shelf.new }
     ensures reply { MayGive (map string_bytes words.now)
         (shelf_change H.files H.faults H.begins H.taken shelf.old shelf.new) (reply_view result) }
     ensures usage_reads_nothing { command_of (map string_bytes words.now) ≡ None → shelf.new ≡ shelf.old }
@@ -77,6 +78,7 @@ fn reply<'a, H: Shelf>(
     shelf: &mut H,
 ) -> Result<Answer<'a>, Answer<'a>>
     ensures same_files { H.files shelf.new ≡ H.files shelf.old }
+    ensures faults_stay { H.faults shelf.old ≤ H.faults shelf.new }
     ensures reply { MayReply (command_view command.entry)
         (shelf_change H.files H.faults H.begins H.taken shelf.old shelf.new) (reply_in result) }
 {

@@ -1,6 +1,6 @@
 //! How an answer ends the run: its text goes to the output, its line to the error stream.
 
-ghost use Rattle.std.specs.Prelude.{◌≡◌, [], is_some, IfSome, IfNone};
+ghost use Rattle.std.specs.Prelude.{◌≡◌, ◌≤◌, [], is_some, IsTrue, IsFalse, IfSome, IfNone};
 ghost use Rattle.std.specs.List.{flat_map};
 ghost use Rattle.report_core.specs.RefusalLine.{refusal_text};
 ghost use Rattle.topos_top.specs.AnswerView.{reply_view};
@@ -17,6 +17,10 @@ use report_core::refusal_line;
 pub fn give<O: Sink, E: Sink>(answer: &Answer<'_>, out: &mut O, err: &mut E) -> Status
     ensures written { IsWritten (sink_change O.held O.faults out.old out.new) (reply_view answer.now) result }
     ensures said { IsSaid (sink_change E.held E.faults err.old err.new) (line_behind (reply_view answer.now) result) }
+    ensures untouched { IsFalse (has_output (reply_view answer.now)) → out.new ≡ out.old }
+    ensures silent { result ≡ Status.Done → err.new ≡ err.old }
+    ensures out_faults_stay { O.faults out.old ≤ O.faults out.new }
+    ensures err_faults_stay { E.faults err.old ≤ E.faults err.new }
 {
     if let Some(text) = output_of(answer)
         && put_all(out, text).is_err()
@@ -56,7 +60,9 @@ fn status_of(answer: &Answer<'_>) -> Status
 
 /// Says on `err` why there is no text.
 fn explain<E: Sink>(answer: &Answer<'_>, err: &mut E)
-    ensures { IsSaid (sink_change E.held E.faults err.old err.new) (err_of (reply_view answer.now)) }
+    ensures said { IsSaid (sink_change E.held E.faults err.old err.new) (err_of (reply_view answer.now)) }
+    ensures silent { IsTrue (has_output (reply_view answer.now)) → err.new ≡ err.old }
+    ensures faults_stay { E.faults err.old ≤ E.faults err.new }
 {
     match answer {
         Answer::Usage => say_usage(err),
@@ -71,7 +77,8 @@ fn explain<E: Sink>(answer: &Answer<'_>, err: &mut E)
 /// The forms of the command line.
 #[tactic(auto, unfolding(crate::specs::Ending::usage_text))]
 fn say_usage<E: Sink>(err: &mut E)
-    ensures { IsSaid (sink_change E.held E.faults err.old err.new) usage_text }
+    ensures said { IsSaid (sink_change E.held E.faults err.old err.new) usage_text }
+    ensures faults_stay { E.faults err.old ≤ E.faults err.new }
 {
     say(
         err,
@@ -86,7 +93,8 @@ fn say_usage<E: Sink>(err: &mut E)
 
 /// The line of a refusal.
 fn say_refusal<E: Sink>(err: &mut E, why: &Refusal)
-    ensures { IsSaid (sink_change E.held E.faults err.old err.new) (refusal_text why.now) }
+    ensures said { IsSaid (sink_change E.held E.faults err.old err.new) (refusal_text why.now) }
+    ensures faults_stay { E.faults err.old ≤ E.faults err.new }
 {
     let mut line = [0; 256];
     let length = refusal_line(why, &mut line);
@@ -95,7 +103,8 @@ fn say_refusal<E: Sink>(err: &mut E, why: &Refusal)
 
 /// Puts a text on `err`, whose failure changes no answer.
 fn say<E: Sink>(err: &mut E, pieces: &[&[u8]])
-    ensures { IsSaid (sink_change E.held E.faults err.old err.new) (flat_map (λ piece. piece.now) pieces.now) }
+    ensures said { IsSaid (sink_change E.held E.faults err.old err.new) (flat_map (λ piece. piece.now) pieces.now) }
+    ensures faults_stay { E.faults err.old ≤ E.faults err.new }
 {
     let _ = put_pieces(err, pieces);
 }

@@ -1,13 +1,10 @@
 //! The whole program, over any shelf of files and any two sinks.
 
-ghost use Rattle.std.specs.Prelude.{◌≡◌, ◌≢◌, ◌↔◌, None, map, string_bytes};
-ghost use Rattle.edge_io.specs.Counts.{Rose};
+ghost use Rattle.std.specs.Prelude.{◌≡◌, ◌≢◌, ◌≤◌, ◌↔◌, None, map, string_bytes};
 ghost use Rattle.topos_top.specs.Command.{command_of};
-ghost use Rattle.topos_top.specs.Ending.{line_behind};
-ghost use Rattle.topos_top.specs.Promises.{LacksFile, HasBadDescription, IsViolated, WroteText, KeepsPromise, IsComplete, EndsAsTold};
-ghost use Rattle.topos_top.specs.Reply.{Reply};
-ghost use Rattle.topos_top.specs.Seen.{shelf_change, MayGive};
-ghost use Rattle.topos_top.specs.Taken.{sink_change, IsWritten, IsSaid};
+ghost use Rattle.topos_top.specs.Promises.{GaveReply, LacksFile, HasBadDescription, IsViolated, WroteText, WasCutOff, RanOut, KeepsPromise, IsComplete, EndsAsTold};
+ghost use Rattle.topos_top.specs.Seen.{shelf_change};
+ghost use Rattle.topos_top.specs.Taken.{sink_change};
 
 use crate::answer::answer_to;
 use crate::ending::give;
@@ -25,12 +22,13 @@ pub fn run<H: Shelf, O: Sink, E: Sink>(
     err: &mut E,
 ) -> Status
     ensures same_files { H.files shelf.new ≡ H.files shelf.old }
+    ensures faults_stay { (H.faults shelf.old ≤ H.faults shelf.new) × (O.faults out.old ≤ O.faults out.new)
+        × (E.faults err.old ≤ E.faults err.new) }
 
     // The run gives one reply that has its cause: its status, its text in out, its line on err.
-    ensures reply { (given : Reply)
-        × MayGive (map string_bytes words.now) (shelf_change H.files H.faults H.begins H.taken shelf.old shelf.new) given
-        × IsWritten (sink_change O.held O.faults out.old out.new) given result
-        × IsSaid (sink_change E.held E.faults err.old err.new) (line_behind given result) }
+    ensures reply { GaveReply (map string_bytes words.now)
+        (shelf_change H.files H.faults H.begins H.taken shelf.old shelf.new)
+        (sink_change O.held O.faults out.old out.new) (sink_change E.held E.faults err.old err.new) result }
 
     // What follows from it. Usage is given exactly for words that are no form, and reads nothing.
     ensures usage { (result ≡ Status.Usage) ↔ (command_of (map string_bytes words.now) ≡ None) }
@@ -46,7 +44,11 @@ pub fn run<H: Shelf, O: Sink, E: Sink>(
     ensures violated { result ≡ Status.Violated → IsViolated (map string_bytes words.now)
         (shelf_change H.files H.faults H.begins H.taken shelf.old shelf.new)
         (sink_change O.held O.faults out.old out.new) (sink_change E.held E.faults err.old err.new) }
-    ensures write_fault { result ≡ Status.WriteFault → Rose (O.faults out.old) (O.faults out.new) }
+    ensures write_fault { result ≡ Status.WriteFault → WasCutOff (map string_bytes words.now)
+        (shelf_change H.files H.faults H.begins H.taken shelf.old shelf.new)
+        (sink_change O.held O.faults out.old out.new) (sink_change E.held E.faults err.old err.new) }
+    ensures memory { result ≡ Status.Memory → RanOut (map string_bytes words.now)
+        (sink_change E.held E.faults err.old err.new) }
     ensures done { result ≡ Status.Done → WroteText (map string_bytes words.now)
         (shelf_change H.files H.faults H.begins H.taken shelf.old shelf.new) (sink_change O.held O.faults out.old out.new) }
 
@@ -55,10 +57,11 @@ pub fn run<H: Shelf, O: Sink, E: Sink>(
     ensures headline { result ≡ Status.Done → KeepsPromise (map string_bytes words.now)
         (shelf_change H.files H.faults H.begins H.taken shelf.old shelf.new) (sink_change O.held O.faults out.old out.new) }
 
-    // Where nothing is written, the output is as it was. What the Violated of `check` writes stands
-    // in the clause above.
+    // Where nothing is written or said, the stream is as it was. Which of the two has the report of a
+    // broken invariant stands in `violated`.
     ensures untouched { result ≢ Status.Done → result ≢ Status.WriteFault → result ≢ Status.Violated
-        → O.held out.new ≡ O.held out.old }
+        → out.new ≡ out.old }
+    ensures silent { result ≡ Status.Done → err.new ≡ err.old }
 
     // The words and the told files decide what is given, and how the run ends.
     ensures complete { IsComplete (map string_bytes words.now)

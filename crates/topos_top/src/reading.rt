@@ -1,6 +1,6 @@
 //! Reading a file and then the description that is in it.
 
-ghost use Rattle.std.specs.Prelude.{◌≡◌, ◌⊎◌, Err};
+ghost use Rattle.std.specs.Prelude.{◌≡◌, ◌≤◌, ◌⊎◌, Err};
 ghost use Rattle.edge_io.specs.Counts.{more};
 ghost use Rattle.desc_core.specs.Description.{described};
 ghost use Rattle.topos_top.specs.AnswerView.{outcome_view};
@@ -19,6 +19,7 @@ pub fn description_at<'a, H: Shelf>(
     shelf: &mut H,
 ) -> Result<Description, Answer<'a>>
     ensures same_files { H.files shelf.new ≡ H.files shelf.old }
+    ensures faults_stay { H.faults shelf.old ≤ H.faults shelf.new }
     ensures begins { H.begins shelf.new ≡ more (H.begins shelf.old) 1 }
     ensures description { MayDescribe file.now
         (shelf_change H.files H.faults H.begins H.taken shelf.old shelf.new) (outcome_view result) }
