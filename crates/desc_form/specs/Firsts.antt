@@ -27,7 +27,7 @@ pub record Pair (A : Type 0) : Type 0 where
   pub later : A
   pub earlier : A
 
--- the same among some elements that stand behind others
+-- the first of xs that one of `before` bars, or an earlier one of xs
 abbrev pub first_pair_behind : {A : Type 0} → (A → A → Bool) → List A → List A → Option (Pair A)
 first_pair_behind bars before [] = None
 first_pair_behind bars before (x ∷ xs) =

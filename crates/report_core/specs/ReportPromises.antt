@@ -36,7 +36,7 @@ is_allowed Allowed = true
 is_allowed NotAsked = false
 is_allowed (Denied number) = false
 
--- A flow is told as allowed exactly where the policy permits it, with answers exactly where they may pass, and as not asked for exactly where it is.
+-- A flow is told as allowed exactly where the policy permits it, with answers exactly where they may pass, and as not asked for exactly where nobody asked for it.
 -- The invariant that denies a flow is the first that fails on the permitted flows with this one.
 pub record TellsRuling (d : Network) (policy : Policy) (f : Flow) (ruling : Ruling) : Type 0 where
   pub allowed : is_allowed ruling ≡ has policy.permitted.flows f

@@ -7,7 +7,7 @@ use Rattle.flow_set.specs.declared.flow.Flow.{Flow}
 use Rattle.reach_core.specs.HostSet.{Hosts, hosts_below}
 use Rattle.reach_core.specs.Walks.{Reaches}
 
--- all hosts of n but this one, which it denies where it names none
+-- all hosts of n but this one: what a host without an entry denies
 abbrev pub others : ℕ → ℕ → Hosts
 others n host = hosts_below n (λ other. not (other == host))
 

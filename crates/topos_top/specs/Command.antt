@@ -2,7 +2,7 @@
 use Rattle.std.specs.Prelude.{ℕ, List, [], ◌∷◌, Option, None, Some, codes, if◌then◌else◌}
 use Rattle.std.specs.Str.{bytes_eq}
 
--- A constructor for each form of the command line, with the words of its files.
+-- A constructor for each form of the command line, with the word of its file.
 pub data Command : Type 0 where
   Check : (file : List ℕ) → Command  -- whether the asked flows meet the invariants
   Policy : (file : List ℕ) → Command  -- what becomes of each flow

@@ -79,6 +79,7 @@ ReportsViolation (Check file) d out err = (AskedHolds d → ⊥) × WroteSome (R
 ReportsViolation (Rules file) d out err = ListedFails d × (out.held_after ≡ out.held_before) × SaidSome (ReportsOffences d) err
 ReportsViolation _ d out err = ⊥
 
+-- the words name a command whose file describes a network, and the command reports that this network breaks an invariant
 pub record IsViolated (words : List (List ℕ)) (shelf : ShelfChange) (out err : SinkChange) : Type 0 where
   pub command : Command
   pub named : command_of words ≡ Some command
@@ -93,6 +94,7 @@ WroteBy (Policy file) d out = WroteSome (ReportsPolicy d) out
 WroteBy (Rules file) d out = ListedHolds d × WroteSome (IsRules d) out
 WroteBy (Repair file) d out = WroteSome (IsRules d) out
 
+-- the words name a command whose file describes a network, and what the command is for went to the output
 pub record WroteText (words : List (List ℕ)) (shelf : ShelfChange) (out : SinkChange) : Type 0 where
   pub command : Command
   pub named : command_of words ≡ Some command
@@ -185,7 +187,7 @@ IsComplete words shelf out err ended =
     IfSome shelf.told (λ files. (Rose shelf.faults_before shelf.faults_after → ⊥)
     → (ended ≡ status.Memory) ⊎ ((given : Reply) × IsTheReply words (told_sight files) given × EndedBy out err given ended))
 
--- the network breaks an invariant that the command has to keep, or it does not
+-- the network breaks an invariant that the command has to keep
 abbrev pub Violates : Command → Network → Type 0
 Violates (Check file) d = AskedHolds d → ⊥
 Violates (Rules file) d = ListedFails d

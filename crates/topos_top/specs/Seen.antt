@@ -38,12 +38,11 @@ abbrev pub SawFiles : ShelfChange → Sight → (names : List (List ℕ)) → Ty
 SawFiles shelf seen [] = Unit {0}
 SawFiles shelf seen (name ∷ names) = SawFile shelf name (seen name) × SawFiles shelf seen names
 
--- The files that a command begins when it sees them so, in their order: a later one only behind
--- those that are accepted.
+-- The files that a command begins when it sees them so, in their order.
 abbrev pub files_begun : Command → Sight → List (List ℕ)
 files_begun command seen = file_of command ∷ []
 
--- How many bytes of the last begun file are taken: all, or one more than its limit.
+-- How many bytes of the file are taken: all, or one more than the limit.
 abbrev pub bytes_taken : Command → Sight → Option ℕ
 bytes_taken command seen = option_map (λ bytes. min (length bytes) (MOST_BYTES + 1)) (seen (file_of command))
 

@@ -4,7 +4,7 @@ ghost use Rattle.std.specs.Prelude.{◌≡◌, map, string_bytes, option_map};
 ghost use Rattle.topos_top.specs.Command.{command_of, file_of, report_command, rules_command};
 ghost use Rattle.topos_top.specs.CommandView.{command_view};
 
-/// What the program is asked to do, with its files as the words name them.
+/// What the program is asked to do, with its file as the word names it.
 #[derive(Clone, Copy)]
 pub enum Command<'a> {
     /// `check FILE`: whether the asked flows meet the invariants.

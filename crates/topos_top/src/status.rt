@@ -14,9 +14,9 @@ pub enum Status {
     Violated,
     /// The description is refused.
     BadDescription,
-    /// A rules, events or edits text is refused.
+    /// A text of rules or of events is refused. No command reads one yet.
     BadText,
-    /// The rules cannot be written in this form.
+    /// The rules cannot be written in the form that is asked for. The one form so far can write all.
     NotEmittable,
     /// A file cannot be read.
     ReadFault,
