@@ -2,14 +2,14 @@
 use Rattle.std.proofs.Common.{◌≡◌, inl, inr, ℕ, zero, suc, take, List, Option, None, Some, refl, ap, sym, subst, ◌∙◌}
 use Rattle.std.proofs.lemmas.List.{append-nil}
 use Rattle.std.specs.Io.KnownBytes.{append_known}
-use Rattle.std.specs.Prelude.{◌↔◌, [], IsTrue, IsFalse}
+use Rattle.std.specs.Prelude.{◌↔◌, ◌⊎◌, [], IsTrue, IsFalse}
 use Rattle.desc_core.specs.Network.{Network, IsNetwork}
 use Rattle.edge_io.specs.Counts.{Rose}
 use Rattle.desc_core.specs.NetworkLaws.{IsNetwork-described}
 use Rattle.report_core.specs.CheckReport.{IsCheckReport}
 use Rattle.report_core.specs.PolicyReport.{IsPolicyReport}
 use Rattle.report_core.specs.ReportPromisesLaws.{tells_offences, tells_policy}
-use Rattle.topos_top.specs.Command.{Command, Check, Policy, Rules, Repair, command_of}
+use Rattle.topos_top.specs.Command.{Command, Check, Policy, Rules, Repair, command_of, AsksToCheck}
 use Rattle.topos_top.specs.Ending.{status_of, out_of, has_output, err_of, line_behind, write_fault_line}
 use Rattle.topos_top.specs.Ends.{Ends}
 use Rattle.topos_top.specs.Promises.{GaveReply, LacksFile, HasBadDescription, ReportsOffences, ReportsPolicy, ReportsViolation, IsViolated, WroteBy, WroteText, IsTextFor, WasCutOff, RanOut}
@@ -237,19 +237,68 @@ write_fault_law words shelf out err s gave is = elim gave.written [
       (subst (λ (t : Status). IsSaid err (line_behind gave.given t)) is gave.said)
 ]
 
--- ---- an output that is as it was
+-- ---- streams that are as they were
 
-silent_reply : (given : Reply) → (status_of given ≡ status.Done → ⊥) → (status_of given ≡ status.Violated → ⊥) → IsFalse (has_output given)
-silent_reply Usage not_done not_violated = refl
-silent_reply (CannotRead file) not_done not_violated = refl
-silent_reply (Refused why) not_done not_violated = refl
-silent_reply (Violated report) not_done not_violated = refl
-silent_reply (Reported report) not_done not_violated = absurd (not_violated refl)
-silent_reply (Done text) not_done not_violated = absurd (not_done refl)
-silent_reply Memory not_done not_violated = refl
+-- only `check` has a report of a broken invariant for the output
+nothing_by : (words : List (List ℕ)) (command : Command) (d : Network) (given : Reply) → command_of words ≡ Some command → Ends command d given → (status_of given ≡ status.Done → ⊥) → (status_of given ≡ status.Violated → AsksToCheck words → ⊥) → IsFalse (has_output given)
+nothing_by words (Check file) d (Done report) named ends not_done not_reported = absurd (not_done refl)
+nothing_by words (Check file) d (Reported report) named ends not_done not_reported = absurd (not_reported refl (file, named))
+nothing_by words (Check file) d given named ends not_done not_reported = absurd ends
+nothing_by words (Policy file) d (Done report) named ends not_done not_reported = absurd (not_done refl)
+nothing_by words (Policy file) d given named ends not_done not_reported = absurd ends
+nothing_by words (Rules file) d (Done rules) named ends not_done not_reported = absurd (not_done refl)
+nothing_by words (Rules file) d (Violated report) named ends not_done not_reported = refl
+nothing_by words (Rules file) d given named ends not_done not_reported = absurd ends
+nothing_by words (Repair file) d (Done rules) named ends not_done not_reported = absurd (not_done refl)
+nothing_by words (Repair file) d given named ends not_done not_reported = absurd ends
 
--- a run that ends otherwise than done, violated or by a write fault has nothing for the output
-pub nothing_to_write : (out : SinkChange) (given : Reply) (s : Status) → IsWritten out given s → (s ≡ status.Done → ⊥) → (s ≡ status.WriteFault → ⊥) → (s ≡ status.Violated → ⊥) → IsFalse (has_output given)
-nothing_to_write out given s written not_done not_cut not_violated =
-    let is : s ≡ status_of given = (ends_as out given s not_cut written).0 in
-    silent_reply given (λ done. not_done (is ∙ done)) (λ violated. not_violated (is ∙ violated))
+nothing_given : (words : List (List ℕ)) (shelf : ShelfChange) (given : Reply) → Cause (command_of words) shelf given → (status_of given ≡ status.Done → ⊥) → (status_of given ≡ status.Violated → AsksToCheck words → ⊥) → IsFalse (has_output given)
+nothing_given words shelf given (NoForm none is) not_done not_reported = ap has_output is
+nothing_given words shelf given (NoMemory command named is) not_done not_reported = ap has_output is
+nothing_given words shelf given (Unread command named held is) not_done not_reported = ap has_output is
+nothing_given words shelf given (Bad command named bytes held why read is) not_done not_reported = ap has_output is
+nothing_given words shelf given (Ended command named d read ends) not_done not_reported = nothing_by words command d given named ends not_done not_reported
+
+-- a run that ends otherwise than done, by a write fault, or with the report of `check` has nothing for the output
+pub nothing_to_write : (words : List (List ℕ)) (shelf : ShelfChange) (out err : SinkChange) (s : Status) (gave : GaveReply words shelf out err s) → (s ≡ status.Done → ⊥) → (s ≡ status.WriteFault → ⊥) → (s ≡ status.Violated → AsksToCheck words → ⊥) → IsFalse (has_output gave.given)
+nothing_to_write words shelf out err s gave not_done not_cut not_reported =
+    let is : s ≡ status_of gave.given = (ends_as out gave.given s not_cut gave.written).0 in
+    nothing_given words shelf gave.given (cause_of (command_of words) shelf gave.given gave.allowed) (λ done. not_done (is ∙ done)) (λ violated. not_reported (is ∙ violated))
+
+some_by : (command : Command) (d : Network) (given : Reply) → Ends command d given → (status_of given ≡ status.Done) ⊎ ((status_of given ≡ status.Violated) × ((file : List ℕ) × (command ≡ Check file))) → IsTrue (has_output given)
+some_by (Check file) d (Done report) ends says = refl
+some_by (Check file) d (Reported report) ends says = refl
+some_by (Check file) d given ends says = absurd ends
+some_by (Policy file) d (Done report) ends says = refl
+some_by (Policy file) d given ends says = absurd ends
+some_by (Rules file) d (Done rules) ends says = refl
+some_by (Rules file) d (Violated report) ends (inl done) = cc done
+some_by (Rules file) d (Violated report) ends (inr (violated, (other, asked))) = cc asked
+some_by (Rules file) d given ends says = absurd ends
+some_by (Repair file) d (Done rules) ends says = refl
+some_by (Repair file) d given ends says = absurd ends
+
+some_given : (words : List (List ℕ)) (shelf : ShelfChange) (given : Reply) → Cause (command_of words) shelf given → (status_of given ≡ status.Done) ⊎ ((status_of given ≡ status.Violated) × AsksToCheck words) → IsTrue (has_output given)
+some_given words shelf given (NoForm none is) (inl done) = cc (done, ap status_of is)
+some_given words shelf given (NoForm none is) (inr (violated, asked)) = cc (violated, ap status_of is)
+some_given words shelf given (NoMemory command named is) (inl done) = cc (done, ap status_of is)
+some_given words shelf given (NoMemory command named is) (inr (violated, asked)) = cc (violated, ap status_of is)
+some_given words shelf given (Unread command named held is) (inl done) = cc (done, ap status_of is)
+some_given words shelf given (Unread command named held is) (inr (violated, asked)) = cc (violated, ap status_of is)
+some_given words shelf given (Bad command named bytes held why read is) (inl done) = cc (done, ap status_of is)
+some_given words shelf given (Bad command named bytes held why read is) (inr (violated, asked)) = cc (violated, ap status_of is)
+some_given words shelf given (Ended command named d read ends) (inl done) = some_by command d given ends (inl done)
+some_given words shelf given (Ended command named d read ends) (inr (violated, (file, asked))) =
+    let same : command ≡ Check file = cc (named, asked) in
+    some_by command d given ends (inr (violated, (file, same)))
+
+-- a run that is done, or ends with the report of `check`, has a text for the output
+pub something_to_write : (words : List (List ℕ)) (shelf : ShelfChange) (out err : SinkChange) (s : Status) (gave : GaveReply words shelf out err s) → (s ≡ status.Done) ⊎ ((s ≡ status.Violated) × AsksToCheck words) → IsTrue (has_output gave.given)
+something_to_write words shelf out err s gave (inl done) =
+    some_given words shelf gave.given (cause_of (command_of words) shelf gave.given gave.allowed) (inl (said out gave.given s status.Done gave.written done (λ e. cc e)))
+something_to_write words shelf out err s gave (inr (violated, asked)) =
+    some_given words shelf gave.given (cause_of (command_of words) shelf gave.given gave.allowed) (inr (said out gave.given s status.Violated gave.written violated (λ e. cc e), asked))
+
+pub no_fault : (words : List (List ℕ)) (s : Status) → (s ≡ status.Done) ⊎ ((s ≡ status.Violated) × AsksToCheck words) → s ≡ status.WriteFault → ⊥
+no_fault words s (inl done) cut = cc (done, cut)
+no_fault words s (inr (violated, asked)) cut = cc (violated, cut)

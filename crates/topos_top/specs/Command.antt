@@ -1,5 +1,5 @@
 -- The commands of the program, and the words that ask for them (docs/GUIDE.md).
-use Rattle.std.specs.Prelude.{ℕ, List, [], ◌∷◌, Option, None, Some, codes, if◌then◌else◌}
+use Rattle.std.specs.Prelude.{◌≡◌, ℕ, List, [], ◌∷◌, Option, None, Some, codes, if◌then◌else◌}
 use Rattle.std.specs.Str.{bytes_eq}
 
 -- A constructor for each form of the command line, with the word of its file.
@@ -35,3 +35,7 @@ unfoldable pub command_of : List (List ℕ) → Option Command
 command_of (verb ∷ file ∷ []) = report_command verb file
 command_of (verb ∷ kind ∷ file ∷ []) = if bytes_eq kind (codes "iptables") then rules_command verb file else None
 command_of _ = None
+
+-- the words ask for `check`
+abbrev pub AsksToCheck : List (List ℕ) → Type 0
+AsksToCheck words = (file : List ℕ) × (command_of words ≡ Some (Check file))

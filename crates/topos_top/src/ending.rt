@@ -1,6 +1,6 @@
 //! How an answer ends the run: its text goes to the output, its line to the error stream.
 
-ghost use Rattle.std.specs.Prelude.{◌≡◌, ◌≤◌, [], is_some, IsTrue, IsFalse, IfSome, IfNone};
+ghost use Rattle.std.specs.Prelude.{◌≡◌, ◌≢◌, ◌≤◌, [], is_some, IsTrue, IsFalse, IfSome, IfNone};
 ghost use Rattle.std.specs.List.{flat_map};
 ghost use Rattle.report_core.specs.RefusalLine.{refusal_text};
 ghost use Rattle.topos_top.specs.AnswerView.{reply_view};
@@ -18,7 +18,7 @@ pub fn give<O: Sink, E: Sink>(answer: &Answer<'_>, out: &mut O, err: &mut E) -> 
     ensures written { IsWritten (sink_change O.held O.faults out.old out.new) (reply_view answer.now) result }
     ensures said { IsSaid (sink_change E.held E.faults err.old err.new) (line_behind (reply_view answer.now) result) }
     ensures untouched { IsFalse (has_output (reply_view answer.now)) → out.new ≡ out.old }
-    ensures silent { result ≡ Status.Done → err.new ≡ err.old }
+    ensures silent { result ≢ Status.WriteFault → IsTrue (has_output (reply_view answer.now)) → err.new ≡ err.old }
     ensures out_faults_stay { O.faults out.old ≤ O.faults out.new }
     ensures err_faults_stay { E.faults err.old ≤ E.faults err.new }
 {

@@ -1,7 +1,7 @@
 //! The whole program, over any shelf of files and any two sinks.
 
-ghost use Rattle.std.specs.Prelude.{◌≡◌, ◌≢◌, ◌≤◌, ◌↔◌, None, map, string_bytes};
-ghost use Rattle.topos_top.specs.Command.{command_of};
+ghost use Rattle.std.specs.Prelude.{◌≡◌, ◌≢◌, ◌≤◌, ◌↔◌, ◌⊎◌, None, map, string_bytes};
+ghost use Rattle.topos_top.specs.Command.{command_of, AsksToCheck};
 ghost use Rattle.topos_top.specs.Promises.{GaveReply, LacksFile, HasBadDescription, IsViolated, WroteText, WasCutOff, RanOut, KeepsPromise, IsComplete, EndsAsTold};
 ghost use Rattle.topos_top.specs.Seen.{shelf_change};
 ghost use Rattle.topos_top.specs.Taken.{sink_change};
@@ -57,11 +57,12 @@ pub fn run<H: Shelf, O: Sink, E: Sink>(
     ensures headline { result ≡ Status.Done → KeepsPromise (map string_bytes words.now)
         (shelf_change H.files H.faults H.begins H.taken shelf.old shelf.new) (sink_change O.held O.faults out.old out.new) }
 
-    // Where nothing is written or said, the stream is as it was. Which of the two has the report of a
-    // broken invariant stands in `violated`.
-    ensures untouched { result ≢ Status.Done → result ≢ Status.WriteFault → result ≢ Status.Violated
-        → out.new ≡ out.old }
-    ensures silent { result ≡ Status.Done → err.new ≡ err.old }
+    // Where nothing is written or said, the stream is as it was. Of a broken invariant `check` reports on
+    // the output, and `rules` on the error stream.
+    ensures untouched { result ≢ Status.Done → result ≢ Status.WriteFault
+        → (result ≡ Status.Violated → AsksToCheck (map string_bytes words.now) → ⊥) → out.new ≡ out.old }
+    ensures silent { (result ≡ Status.Done) ⊎ ((result ≡ Status.Violated) × AsksToCheck (map string_bytes words.now))
+        → err.new ≡ err.old }
 
     // The words and the told files decide what is given, and how the run ends.
     ensures complete { IsComplete (map string_bytes words.now)

@@ -4,7 +4,7 @@ use Rattle.topos_top.specs.Promises.{GaveReply}
 use Rattle.topos_top.specs.Seen.{shelf_change}
 use Rattle.topos_top.specs.Taken.{sink_change}
 use Rattle.topos_top.proofs.HeadlineLaw.{headline_law}
-use Rattle.topos_top.proofs.RunLaws.{usage_law, read_fault_law, bad_description_law, violated_law, write_fault_law, memory_law, done_law, nothing_to_write}
+use Rattle.topos_top.proofs.RunLaws.{usage_law, read_fault_law, bad_description_law, violated_law, write_fault_law, memory_law, done_law, no_fault, nothing_to_write, something_to_write}
 use Rattle.topos_top.proofs.ToldLaws.{complete_law, ends_as_told_law}
 use Rattle.topos_top.proofs.program.run.Given as given
 use Rattle.topos_top.proofs.program.run.Goals as goal
@@ -51,8 +51,14 @@ pub returns-clause-headline : goal.returns-clause-headline
 returns-clause-headline g c = λ is. headline_law _ _ _ (done_law _ _ _ _ _ (gave g c) is)
 
 pub returns-clause-untouched : goal.returns-clause-untouched
-returns-clause-untouched g c = λ not_done not_cut not_violated.
-    c.give.ensures.untouched (nothing_to_write _ (reply_view c.answer_to-answer.result) c.give.result c.give.ensures.written not_done not_cut not_violated)
+unfolding gave
+returns-clause-untouched g c = λ not_done not_cut not_reported.
+    c.give.ensures.untouched (nothing_to_write _ _ _ _ _ (gave g c) not_done not_cut not_reported)
+
+pub returns-clause-silent : goal.returns-clause-silent
+unfolding gave
+returns-clause-silent g c = λ says.
+    c.give.ensures.silent (no_fault (map string_bytes c.args.words.now) c.give.result says) (something_to_write _ _ _ _ _ (gave g c) says)
 
 pub returns-clause-complete : goal.returns-clause-complete
 returns-clause-complete g c = complete_law _ _ _ _ _ (gave g c)
