@@ -4,7 +4,7 @@ use Rattle.std.proofs.Math.Seq.{take-add}
 use Rattle.std.proofs.lemmas.Grind.{flat_map-append}
 use Rattle.std.specs.Io.KnownBytes.{append_known}
 use Rattle.edge_io.specs.Put.{joined}
-use Rattle.edge_io.specs.PutLaws.{append_known-append}
+use Rattle.edge_io.proofs.PutLemmas.{append_known-append}
 
 -- the bytes up to i, and then n of the rest
 pub took_more : (old now new : Option (List ℕ)) (i n : ℕ) (bytes rest : List ℕ) → rest ≡ drop i bytes → now ≡ append_known old (take i bytes)
@@ -15,7 +15,7 @@ took_more old now new i n bytes rest behind before step =
     ∙ ap (λ more. append_known old (take i bytes ++ take n more)) behind
     ∙ ap (append_known old) (sym (take-add i n bytes))
 
--- what stands before a piece and behind it
+-- what stands before a piece and after it
 pub joined_at : (pieces : List (Bor (List ℕ))) (i : ℕ) (d : Bor (List ℕ)) → i < length pieces
     → joined pieces ≡ joined (take i pieces) ++ ((get_or pieces i d).now ++ joined (drop (i + 1) pieces))
 joined_at pieces i d inside =

@@ -4,7 +4,7 @@ use Rattle.std.specs.List.{slice_get}
 use Rattle.edge_io.specs.declared.stored_files.StoredFile.{StoredFile}
 use Rattle.edge_io.specs.declared.begun.Begun.{Begun}
 
--- the bytes behind those that were read
+-- the bytes after those that were read
 abbrev pub bytes_from : Option StoredFile → ℕ → List ℕ
 bytes_from None done = []
 bytes_from (Some file) done = drop done file.bytes.items

@@ -5,7 +5,6 @@ pub mod MemShelf
 pub mod MemShelfCode
 pub mod MemSink
 pub mod Put
-pub mod PutLaws
 pub mod StoredFiles
 pub mod Take
 pub mod Told

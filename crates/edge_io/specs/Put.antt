@@ -10,6 +10,6 @@ pub record TookPrefix (old new : Option (List ℕ)) (bytes : List ℕ) : Type 0 
   pub within : count ≤ length bytes
   pub taken : new ≡ append_known old (take count bytes)
 
--- the bytes of the pieces, one piece behind the other
+-- the bytes of the pieces, one piece after the other
 abbrev pub joined : List (Bor (List ℕ)) → List ℕ
 joined pieces = flat_map (λ piece. piece.now) pieces

@@ -23,7 +23,7 @@ pub fn put_all<O: Sink>(sink: &mut O, piece: &[u8]) -> Result<(), WriteFault>
     Ok(())
 }
 
-/// Puts the pieces into the sink one behind the other, as one text, and stops at the first fault.
+/// Puts the pieces into the sink one after the other, as one text, and stops at the first fault.
 pub fn put_pieces<O: Sink>(sink: &mut O, pieces: &[&[u8]]) -> Result<(), WriteFault>
     ensures prefix { TookPrefix (O.held sink.old) (O.held sink.new) (joined pieces.now) }
     ensures whole { OnOk result (O.held sink.new ≡ append_known (O.held sink.old) (joined pieces.now)) }

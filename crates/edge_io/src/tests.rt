@@ -12,30 +12,41 @@ const TEXT: &[u8] = b"one line of text, and some";
 #[test]
 fn takes_files_from_memory(rt: HostRuntime) -> Result<(), Fail> {
     let alloc = rt.alloc();
-    let mut shelf = MemShelf::new(alloc, vec![in alloc; 5]?);
+    let mut shelf = MemShelf::new(alloc, Vec::new(alloc));
     shelf.put("net", b"old")?;
-    shelf.put("empty", b"")?;
     shelf.put("net", TEXT)?;
-
-    // Calls 1 to 3: a call of begin, a read of all bytes, and one that finds the end.
     let taken = take_all(alloc, &mut shelf, "net", TEXT.len());
     assert_eq!(rt; taken.ok().as_deref(), Some(TEXT));
-
-    // Calls 4 and 5: the read fails by its number.
-    assert_eq!(rt;
-        take_all(alloc, &mut shelf, "net", 64).err(),
-        Some(TakeFault::Read)
-    );
-
-    let taken = take_all(alloc, &mut shelf, "empty", 0);
-    assert_eq!(rt; taken.ok().as_deref(), Some(b"".as_slice()));
-    let short = TEXT.len() - 1;
-    assert_eq!(rt;
-        take_all(alloc, &mut shelf, "net", short).err(),
-        Some(TakeFault::TooLong)
-    );
     assert_eq!(rt;
         take_all(alloc, &mut shelf, "other", 64).err(),
+        Some(TakeFault::Read)
+    );
+    Ok(())
+}
+
+#[test]
+fn takes_no_more_than_the_limit(rt: HostRuntime) -> Result<(), Fail> {
+    let alloc = rt.alloc();
+    let mut shelf = MemShelf::new(alloc, Vec::new(alloc));
+    shelf.put("empty", b"")?;
+    let taken = take_all(alloc, &mut shelf, "empty", 0);
+    assert_eq!(rt; taken.ok().as_deref(), Some(b"".as_slice()));
+    shelf.put("net", TEXT)?;
+    assert_eq!(rt;
+        take_all(alloc, &mut shelf, "net", TEXT.len() - 1).err(),
+        Some(TakeFault::TooLong)
+    );
+    Ok(())
+}
+
+#[test]
+fn reads_fail_by_their_number(rt: HostRuntime) -> Result<(), Fail> {
+    let alloc = rt.alloc();
+    // Call 1 begins the file, and call 2 is a read.
+    let mut shelf = MemShelf::new(alloc, vec![in alloc; 2]?);
+    shelf.put("net", TEXT)?;
+    assert_eq!(rt;
+        take_all(alloc, &mut shelf, "net", 64).err(),
         Some(TakeFault::Read)
     );
     Ok(())
@@ -46,19 +57,23 @@ fn puts_pieces_into_memory(rt: HostRuntime) -> Result<(), Fail> {
     let alloc = rt.alloc();
     let mut sink = MemSink::new(alloc, 64, 7, vec![in alloc; 3]?)?;
     assert_eq!(rt; put_all(&mut sink, TEXT), Err(WriteFault));
-    assert_eq!(rt; sink.bytes(), &TEXT[..14]);
     assert_eq!(rt; put_pieces(&mut sink, &[b" a ", b"", b"line"]), Ok(()));
     assert_eq!(rt; sink.bytes(), b"one line of te a line".as_slice());
-
-    let mut small = MemSink::new(alloc, 5, 99, Vec::new(alloc))?;
-    assert_eq!(rt; put_all(&mut small, TEXT), Err(WriteFault));
-    assert_eq!(rt; small.bytes(), &TEXT[..5]);
-    assert_eq!(rt; small.write(b""), Ok(0));
-    assert_eq!(rt; small.write(b"x"), Err(Failed));
     Ok(())
 }
 
-/// A stream that takes one byte at once, six in all, and is broken behind them.
+#[test]
+fn a_sink_in_memory_has_its_room(rt: HostRuntime) -> Result<(), Fail> {
+    let alloc = rt.alloc();
+    let mut sink = MemSink::new(alloc, 5, 99, Vec::new(alloc))?;
+    assert_eq!(rt; put_all(&mut sink, TEXT), Err(WriteFault));
+    assert_eq!(rt; sink.bytes(), &TEXT[..5]);
+    assert_eq!(rt; sink.write(b""), Ok(0));
+    assert_eq!(rt; sink.write(b"x"), Err(Failed));
+    Ok(())
+}
+
+/// A stream that takes one byte at once, six in all, and is broken after them.
 #[derive(Drop)]
 struct Narrow {
     taken: Vec<u8>,

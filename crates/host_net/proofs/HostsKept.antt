@@ -13,14 +13,14 @@ use Rattle.std.proofs.lemmas.List.Sums.{sum_by-append}
 use Rattle.indexmap.specs.IndexMap.{insert_entry}
 use Rattle.host_net.proofs.HostsLemmas.{all_parts}
 use Rattle.host_net.specs.AcceptedLaws.{joined_lists}
-use Rattle.host_net.specs.Firsts.{first_of, where_holds}
-use Rattle.host_net.specs.FirstsLaws.{holds_not, neither, none_mapped}
-use Rattle.host_net.specs.Known.{host_of, hosts_of}
+use Rattle.text_core.specs.Firsts.{first_of, where_holds, no_pair}
+use Rattle.text_core.specs.FirstsLaws.{holds_not, neither, none_mapped}
+use Rattle.host_net.specs.HostsView.{host_view, hosts_view}
 use Rattle.host_net.specs.declared.addresses.Addresses.{Addresses}
 use Rattle.host_net.specs.Host.{Host, all_prefixes, prefix_lists, prefix_count, host_named, rest_of}
-use Rattle.host_net.specs.Hosts.{IsHosts, host_limit, is_network, lacks_address, no_pair, prefix_limit}
+use Rattle.host_net.specs.Hosts.{IsHosts, host_limit, is_network, lacks_address, prefix_limit}
 use Rattle.text_core.specs.Name.{is_name}
-use Rattle.host_net.specs.PairLaws.{list_all-push, no_pair-push}
+use Rattle.text_core.specs.PairLaws.{list_all-push, no_pair-push}
 use Rattle.host_net.specs.Prefix.{meets}
 use Rattle.host_net.specs.Refusal.{bad_name, duplicate, is_full, no_address, meeting, overlap_from, overlap, two_rests, refusal_of}
 use Rattle.host_net.specs.declared.prefix.Prefix.{Prefix}
@@ -120,7 +120,7 @@ still_apart hs at none h =
 room_parts : (a b c d : ℕ) → (nat_le a b || nat_lt c d) ≡ false → (b < a) × (d ≤ c)
 room_parts a b c d h = grind (arith, nat_tests)
 
--- a host that there was no cause to refuse may stand behind the others
+-- a host that there was no cause to refuse may stand after the others
 pub kept : (hs : List Host) (name : List ℕ) (at : List Prefix) (rest : Bool) → IsHosts hs → refusal_of hs name at rest ≡ None → list_all is_network at ≡ true → IsHosts (hs ++ record { name = name; prefixes = at; rest = rest } ∷ [])
 kept hs name at rest known none networks =
     let ok = welcome hs name at rest none in
@@ -138,28 +138,28 @@ kept hs name at rest known none networks =
       apart = ap (no_pair meets) joined ∙ still_apart hs at ok.apart known.apart;
     }
 
--- a new name goes behind the others
-entry_pushed_by : (e : List ℕ × Addresses) (es : List (List ℕ × Addresses)) (name : List ℕ) (v : Addresses) (i : ℕ) (b : Bool) → cond b (Some i) (position_from (λ h. bytes_eq name h.name) (i + 1) (hosts_of es)) ≡ None → (position_from (λ h. bytes_eq name h.name) (i + 1) (hosts_of es) ≡ None → hosts_of (insert_entry bytes_eq es name v) ≡ hosts_of es ++ host_of (name, v) ∷ []) → hosts_of (cond b ((e.0, v) ∷ es) (e ∷ insert_entry bytes_eq es name v)) ≡ host_of e ∷ (hosts_of es ++ host_of (name, v) ∷ [])
+-- a new name goes after the others
+entry_pushed_by : (e : List ℕ × Addresses) (es : List (List ℕ × Addresses)) (name : List ℕ) (v : Addresses) (i : ℕ) (b : Bool) → cond b (Some i) (position_from (λ h. bytes_eq name h.name) (i + 1) (hosts_view es)) ≡ None → (position_from (λ h. bytes_eq name h.name) (i + 1) (hosts_view es) ≡ None → hosts_view (insert_entry bytes_eq es name v) ≡ hosts_view es ++ host_view (name, v) ∷ []) → hosts_view (cond b ((e.0, v) ∷ es) (e ∷ insert_entry bytes_eq es name v)) ≡ host_view e ∷ (hosts_view es ++ host_view (name, v) ∷ [])
 entry_pushed_by e es name v i true h rest = cc
-entry_pushed_by e es name v i false h rest = ap (λ hs. host_of e ∷ hs) (rest h)
+entry_pushed_by e es name v i false h rest = ap (λ hs. host_view e ∷ hs) (rest h)
 
-entry_pushed : (es : List (List ℕ × Addresses)) (name : List ℕ) (v : Addresses) (i : ℕ) → position_from (λ h. bytes_eq name h.name) i (hosts_of es) ≡ None → hosts_of (insert_entry bytes_eq es name v) ≡ hosts_of es ++ host_of (name, v) ∷ []
+entry_pushed : (es : List (List ℕ × Addresses)) (name : List ℕ) (v : Addresses) (i : ℕ) → position_from (λ h. bytes_eq name h.name) i (hosts_view es) ≡ None → hosts_view (insert_entry bytes_eq es name v) ≡ hosts_view es ++ host_view (name, v) ∷ []
 entry_pushed [] name v i h = refl
 entry_pushed (e ∷ es) name v i h = entry_pushed_by e es name v i (bytes_eq name e.0) h (entry_pushed es name v (i + 1))
 
 -- the hosts after an insertion that there was no cause to refuse
-pub pushed : (hs : List Host) (es fs : List (List ℕ × Addresses)) (name : List ℕ) (v : Addresses) (at : List Prefix) (rest : Bool) → hosts_of es ≡ hs → refusal_of hs name at rest ≡ None → fs ≡ insert_entry bytes_eq es name v → v.prefixes.items ≡ at → v.rest ≡ rest → hosts_of fs ≡ hs ++ record { name = name; prefixes = at; rest = rest } ∷ []
+pub pushed : (hs : List Host) (es fs : List (List ℕ × Addresses)) (name : List ℕ) (v : Addresses) (at : List Prefix) (rest : Bool) → hosts_view es ≡ hs → refusal_of hs name at rest ≡ None → fs ≡ insert_entry bytes_eq es name v → v.prefixes.items ≡ at → v.rest ≡ rest → hosts_view fs ≡ hs ++ record { name = name; prefixes = at; rest = rest } ∷ []
 pushed hs es fs name v at rest seen none inserted items mark =
-    let fresh : host_named (hosts_of es) name ≡ None = ap (λ gs. host_named gs name) seen ∙ (welcome hs name at rest none).fresh in
-    ap hosts_of inserted
+    let fresh : host_named (hosts_view es) name ≡ None = ap (λ gs. host_named gs name) seen ∙ (welcome hs name at rest none).fresh in
+    ap hosts_view inserted
     ∙ entry_pushed es name v 0 fresh
     ∙ (λ i. seen i ++ record { name = name; prefixes = items i; rest = mark i } ∷ [])
 
-pub still_hosts : (hs : List Host) (es fs : List (List ℕ × Addresses)) (name : List ℕ) (at : List Prefix) (rest : Bool) → hosts_of es ≡ hs → IsHosts (hosts_of es) → refusal_of hs name at rest ≡ None → list_all is_network at ≡ true → hosts_of fs ≡ hs ++ record { name = name; prefixes = at; rest = rest } ∷ [] → IsHosts (hosts_of fs)
+pub still_hosts : (hs : List Host) (es fs : List (List ℕ × Addresses)) (name : List ℕ) (at : List Prefix) (rest : Bool) → hosts_view es ≡ hs → IsHosts (hosts_view es) → refusal_of hs name at rest ≡ None → list_all is_network at ≡ true → hosts_view fs ≡ hs ++ record { name = name; prefixes = at; rest = rest } ∷ [] → IsHosts (hosts_view fs)
 still_hosts hs es fs name at rest seen known none networks grown =
     rw grown (kept hs name at rest (rw seen at known) none networks)
 
--- the first of five causes, asked one behind the other
+-- the first of five causes, asked one after the other
 causes_joined : (a b c d e : Option HostRefusal) → option_or (option_or (option_or (option_or a b) c) d) e ≡ first_of (a ∷ b ∷ c ∷ d ∷ e ∷ [])
 causes_joined (Some x) b c d e = refl
 causes_joined None (Some x) c d e = refl
@@ -175,6 +175,6 @@ causes_behind_room hs name at rest room =
     ∙ ap (λ b. option_or (where_holds b TooMany) (first_of (bad_name name ∷ duplicate hs name ∷ no_address at rest ∷ two_rests hs rest ∷ overlap hs at ∷ []))) (sym room)
 
 -- the values' prefixes are the hosts'
-pub values_lists : (es : List (List ℕ × Addresses)) → map (λ h. h.prefixes.items) (values_of es) ≡ prefix_lists (hosts_of es)
+pub values_lists : (es : List (List ℕ × Addresses)) → map (λ h. h.prefixes.items) (values_of es) ≡ prefix_lists (hosts_view es)
 values_lists [] = refl
 values_lists (e ∷ es) = ap (λ ps. e.1.prefixes.items ∷ ps) (values_lists es)

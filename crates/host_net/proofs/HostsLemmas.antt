@@ -9,7 +9,7 @@ use Rattle.std.specs.Str.{bytes_eq}
 use Rattle.std.specs.Map.{keys_of, values_of}
 use Rattle.std.proofs.lemmas.Iterator.Adapters.{position_from-zero}
 use Rattle.host_net.specs.Host.{Host, host_named}
-use Rattle.host_net.specs.Known.{host_of, hosts_of}
+use Rattle.host_net.specs.HostsView.{host_view, hosts_view}
 use Rattle.text_core.specs.Name.{is_name}
 use Rattle.host_net.specs.declared.addresses.Addresses.{Addresses}
 
@@ -22,26 +22,26 @@ position_from-map f t i [] = refl
 position_from-map f t i (x ∷ xs) = ap (λ o. cond (t (f x)) (Some i) o) (position_from-map f t (i + 1) xs)
 
 -- a search over the values, or over the keys, finds the host
-pub value_place : (t : Host → Bool) (u : Addresses → Bool) → ((e : List ℕ × Addresses) → u e.1 ≡ t (host_of e)) → (es : List (List ℕ × Addresses)) → position u (values_of es) ≡ position_from t 0 (hosts_of es)
+pub value_place : (t : Host → Bool) (u : Addresses → Bool) → ((e : List ℕ × Addresses) → u e.1 ≡ t (host_view e)) → (es : List (List ℕ × Addresses)) → position u (values_of es) ≡ position_from t 0 (hosts_view es)
 value_place t u same es =
     position_from-zero u (values_of es)
     ∙ position_from-map (λ e. e.1) u 0 es
     ∙ ap (λ (test : List ℕ × Addresses → Bool). position_from test 0 es) (λ i e. same e i)
-    ∙ sym (position_from-map host_of t 0 es)
+    ∙ sym (position_from-map host_view t 0 es)
 
-pub key_place : (name : List ℕ) (es : List (List ℕ × Addresses)) → position (bytes_eq name) (keys_of es) ≡ host_named (hosts_of es) name
+pub key_place : (name : List ℕ) (es : List (List ℕ × Addresses)) → position (bytes_eq name) (keys_of es) ≡ host_named (hosts_view es) name
 key_place name es =
     position_from-zero (bytes_eq name) (keys_of es)
     ∙ position_from-map (λ e. e.0) (bytes_eq name) 0 es
-    ∙ sym (position_from-map host_of (λ h. bytes_eq name h.name) 0 es)
+    ∙ sym (position_from-map host_view (λ h. bytes_eq name h.name) 0 es)
 
 -- the key, or the value, at a place is that of the host there
-pub key_at : (es : List (List ℕ × Addresses)) (i : ℕ) (n : List ℕ) → i < length (hosts_of es) → n ≡ get_or (keys_of es) i n → option_map (λ (h : Host). h.name) (slice_get (hosts_of es) i) ≡ Some n
+pub key_at : (es : List (List ℕ × Addresses)) (i : ℕ) (n : List ℕ) → i < length (hosts_view es) → n ≡ get_or (keys_of es) i n → option_map (λ (h : Host). h.name) (slice_get (hosts_view es) i) ≡ Some n
 key_at [] i n h e = absurd (omega arith)
 key_at (x ∷ es) zero n h e = ap (λ bs. Some bs) (sym e)
 key_at (x ∷ es) (suc i) n h e = key_at es i n (omega arith) e
 
-pub value_at : (es : List (List ℕ × Addresses)) (i : ℕ) (v : Addresses) → i < length (hosts_of es) → v ≡ get_or (values_of es) i v → option_map (λ (h : Host). h.prefixes) (slice_get (hosts_of es) i) ≡ Some v.prefixes.items
+pub value_at : (es : List (List ℕ × Addresses)) (i : ℕ) (v : Addresses) → i < length (hosts_view es) → v ≡ get_or (values_of es) i v → option_map (λ (h : Host). h.prefixes) (slice_get (hosts_view es) i) ≡ Some v.prefixes.items
 value_at [] i v h e = absurd (omega arith)
 value_at (x ∷ es) zero v h e = ap (λ (d : Addresses). Some d.prefixes.items) (sym e)
 value_at (x ∷ es) (suc i) v h e = value_at es i v (omega arith) e

@@ -12,7 +12,7 @@ use Rattle.host_net.specs.declared.addresses.Addresses.{Addresses}
 use Rattle.host_net.specs.declared.prefix.Prefix.{Prefix}
 use Rattle.host_net.specs.declared.refusal.HostRefusal.TheVariants.{Overlap}
 
--- a search over a list with one more element behind it
+-- a search over a list with one more element at its end
 pub position_from-push : {A : Type 0} (t : A → Bool) (i : ℕ) (xs : List A) (y : A) → position_from t i (xs ++ y ∷ []) ≡ option_or (position_from t i xs) (cond (t y) (Some (i + length xs)) None)
 position_from-push t i [] y = ap (λ n. cond (t y) (Some n) None) (omega arith)
 position_from-push t i (x ∷ xs) y =
@@ -24,7 +24,7 @@ position_from-push t i (x ∷ xs) y =
       | false ↦ behind
     ]
 
--- the earliest host that meets a prefix: among the others, or else the one behind them
+-- the earliest host that meets a prefix: among the others, or else the one after them
 pub meeting_is : (hosts : List Addresses) (own : List Prefix) (p : Prefix) → meeting (map (λ h. h.prefixes.items) hosts) own p ≡ option_or (position (λ h. meets_any h.prefixes.items p) hosts) (cond (meets_any own p) (Some (length hosts)) None)
 meeting_is hosts own p =
     let lists : List (List Prefix) = map (λ (h : Addresses). h.prefixes.items) hosts in

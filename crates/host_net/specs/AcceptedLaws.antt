@@ -1,4 +1,4 @@
--- Hosts that are hosts together are not refused one behind the other.
+-- Hosts that are hosts together are not refused one after the other.
 use Rattle.std.proofs.Common.{◌≡◌, ℕ, suc, ◌+◌, ◌≤◌, ◌<◌, Bool, true, false, not, ◌&&◌, ◌||◌, nat_lt, nat_le, List, [], ◌∷◌, ◌++◌, length, None, refl, sym, ap, ◌∙◌, arith, append-nil, append_assoc, length-append}
 use Rattle.std.proofs.lemmas.Bool.{and_parts, not-true}
 use Rattle.std.proofs.lemmas.Bool.Decides.{nat_tests}
@@ -9,10 +9,10 @@ use Rattle.std.specs.List.{list_all, list_any, flat_map, position_from}
 use Rattle.std.specs.Option.{option_map}
 use Rattle.std.specs.Str.{bytes_eq}
 use Rattle.text_core.specs.Name.{is_name}
-use Rattle.host_net.specs.Firsts.{first_of, where_holds}
+use Rattle.text_core.specs.Firsts.{first_of, where_holds, no_pair}
 use Rattle.host_net.specs.Host.{Host, all_prefixes, host_named, prefix_count, prefix_lists}
-use Rattle.host_net.specs.Hosts.{IsHosts, host_limit, is_network, lacks_address, no_pair, prefix_limit}
-use Rattle.host_net.specs.PairLaws.{all_here, alone_behind, no_pair-front}
+use Rattle.host_net.specs.Hosts.{IsHosts, host_limit, is_network, lacks_address, prefix_limit}
+use Rattle.text_core.specs.PairLaws.{all_here, alone_behind, no_pair-front}
 use Rattle.host_net.specs.Prefix.{meets}
 use Rattle.host_net.specs.Refusal.{is_full, overlap, overlap_from, refusal_of, two_rests}
 use Rattle.host_net.specs.declared.prefix.Prefix.{Prefix}
@@ -90,7 +90,7 @@ rest_alone : (before : List Host) (rest : Bool) → list_all (λ g. not (rest &&
 rest_alone before true h = ap (option_map TwoRests) (none_placed (λ (g : Host). g.rest) 0 before h)
 rest_alone before false h = refl
 
--- a host between others has no cause to be refused behind those before it
+-- a host between others has no cause to be refused after those before it
 pub accepted : (before : List Host) (h : Host) (after : List Host) → IsHosts (before ++ h ∷ after) → refusal_of before h.name h.prefixes h.rest ≡ None
 unfolding refusal_of
 accepted before h after known =

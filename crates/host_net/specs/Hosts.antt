@@ -1,7 +1,8 @@
 -- What is true of the hosts of a network, however they were added (the description's format, docs/FORMATS.md).
-use Rattle.std.specs.Prelude.{ℕ, ◌≤◌, Bool, true, not, ◌&&◌, nat_le, IsTrue, List, [], ◌∷◌, length}
+use Rattle.std.specs.Prelude.{ℕ, ◌≤◌, Bool, not, ◌&&◌, nat_le, nat_lt, ◌^◌, IsTrue, List, [], ◌∷◌, length}
 use Rattle.std.specs.List.{list_all}
 use Rattle.std.specs.Str.{bytes_eq}
+use Rattle.text_core.specs.Firsts.{no_pair}
 use Rattle.text_core.specs.Name.{is_name}
 use Rattle.host_net.specs.Host.{Host, all_prefixes, prefix_count}
 use Rattle.host_net.specs.Prefix.{is_exact, meets}
@@ -14,19 +15,14 @@ host_limit = 32
 abbrev pub prefix_limit : ℕ
 prefix_limit = 128
 
--- a prefix that a host may own: no bits are set behind its length, and it is no whole address space
+-- a prefix that a host may own: its address has 32 bits, none of them is set after its length, and it is no whole address space
 abbrev pub is_network : Prefix → Bool
-is_network p = is_exact p && nat_le 1 p.len
+is_network p = nat_lt p.addr (2 ^ 32) && (is_exact p && nat_le 1 p.len)
 
 -- neither an entry, as a prefix is one, nor the rest mark, or both
 abbrev pub lacks_address : {A : Type 0} → List A → Bool → Bool
 lacks_address [] rest = not rest
 lacks_address (entry ∷ entries) rest = rest
-
--- no two stand in the relation, a later one to an earlier one
-abbrev pub no_pair : {A : Type 0} → (A → A → Bool) → List A → Bool
-no_pair r [] = true
-no_pair r (x ∷ xs) = list_all (λ y. not (r y x)) xs && no_pair r xs
 
 -- few hosts with few prefixes; each has a name of its own, and prefixes or the rest mark; one at most has the mark; the
 -- prefixes are networks, and no two of them have an address in common

@@ -14,7 +14,14 @@ front len a = a / 2 ^ (32 - len)
 unfoldable pub covers : Prefix → ℕ → Bool
 covers p a = front p.len p.addr == front p.len a
 
--- all bits behind the first `len` are 0
+-- the first and the last address that a prefix covers: its first `len` bits, and 0 or 1 in all places after them
+unfoldable pub first_address : Prefix → ℕ
+first_address p = front p.len p.addr * 2 ^ (32 - p.len)
+
+unfoldable pub last_address : Prefix → ℕ
+last_address p = front p.len p.addr * 2 ^ (32 - p.len) + (2 ^ (32 - p.len) - 1)
+
+-- all bits after the first `len` are 0
 unfoldable pub is_exact : Prefix → Bool
 is_exact p = p.addr % 2 ^ (32 - p.len) == 0
 

@@ -1,10 +1,12 @@
--- Laws of prefixes: what follows where two of them cover one address, or one front is shared.
-use Rattle.std.proofs.Common.{◌≡◌, ℕ, ◌/◌, ◌^◌, ◌+◌, ◌-◌, ◌≤◌, ◌<◌, min, IsTrue, ap, sym, ◌∙◌, refl, arith, ◌↔◌, inl, inr}
-use Rattle.std.proofs.lemmas.Nat.{shr-shr}
+-- Laws of prefixes: what follows where two of them cover one address, or one front is shared, and between which addresses a
+-- prefix lies.
+use Rattle.std.proofs.Common.{◌≡◌, ℕ, ◌/◌, ◌^◌, ◌*◌, ◌+◌, ◌-◌, ◌≤◌, ◌<◌, min, IsTrue, ap, sym, ◌∙◌, refl, arith, ◌↔◌, inl, inr}
+use Rattle.std.proofs.Math.Nat.{div-lt_iff_lt-mul, div-mul-le_self, lt-div-mul-add, mul-le-mul_right}
+use Rattle.std.proofs.lemmas.Nat.{div-mul-add, pow-add, pow_pos, shr-shr}
 use Rattle.std.proofs.lemmas.Bool.Decides.{nat_tests}
 use Rattle.std.proofs.lemmas.Bool.{cases_lt}
 use Rattle.host_net.specs.declared.prefix.Prefix.{Prefix}
-use Rattle.host_net.specs.Prefix.{front, covers, meets, ShareAddress}
+use Rattle.host_net.specs.Prefix.{front, covers, first_address, last_address, meets, ShareAddress}
 
 -- the first bits are the first of more bits
 pub front_of_longer : (k m a : ℕ) → k ≤ m → m ≤ 32 → front k a ≡ front m a / 2 ^ (m - k)
@@ -67,3 +69,37 @@ share_where_meets p q in_p in_q h = elim (cases_lt p.len q.len) [
 pub meets_ShareAddress : (p q : Prefix) → p.addr < 2 ^ 32 → q.addr < 2 ^ 32 → IsTrue (meets p q) ↔ ShareAddress p q
 meets_ShareAddress p q in_p in_q =
     (share_where_meets p q in_p in_q, λ shared. covered_by_both p q shared.0 shared.2 shared.3)
+
+-- the numbers that a division by m takes to q are the m numbers from q * m on
+taken_to : (q m a : ℕ) → 0 < m → q ≡ a / m → (q * m ≤ a) × (a ≤ q * m + (m - 1))
+taken_to q m a some same =
+    rw same (div-mul-le_self a m, let above : a < a / m * m + m = lt-div-mul-add some in omega arith)
+
+taken_from : (q m a : ℕ) → 0 < m → q * m ≤ a → a ≤ q * m + (m - 1) → q ≡ a / m
+taken_from q m a some from to =
+    let place : q * m + (a - q * m) ≡ a = omega arith in
+    sym (div-mul-add q m (a - q * m) (omega arith)) ∙ ap (λ n. n / m) place
+
+-- a prefix covers the addresses from its first to its last
+pub covers_between : (p : Prefix) (a : ℕ) → IsTrue (covers p a) ↔ ((first_address p ≤ a) × (a ≤ last_address p))
+unfolding first_address last_address
+covers_between p a =
+    let some : 0 < 2 ^ (32 - p.len) = pow_pos (32 - p.len) in (
+      λ covered. taken_to (front p.len p.addr) (2 ^ (32 - p.len)) a some (covers_front p a covered),
+      λ between. front_covers p a (taken_from (front p.len p.addr) (2 ^ (32 - p.len)) a some between.0 between.1),
+    )
+
+last_below : (q n m : ℕ) → 0 < m → q < n → q * m + (m - 1) < n * m
+last_below q n m some less =
+    let room : (q + 1) * m ≤ n * m = mul-le-mul_right m (let next : q + 1 ≤ n = omega arith in next) in
+    let more : (q + 1) * m ≡ q * m + m = grind arith in
+    omega arith
+
+pub last_address_fits : (p : Prefix) → p.addr < 2 ^ 32 → last_address p < 2 ^ 32
+unfolding last_address
+last_address_fits p fits =
+    let some : 0 < 2 ^ (32 - p.len) = pow_pos (32 - p.len) in
+    let places : p.len + (32 - p.len) ≡ 32 = omega (arith, p.fits) in
+    let whole : 2 ^ p.len * 2 ^ (32 - p.len) ≡ 2 ^ 32 = sym (pow-add 2 p.len (32 - p.len)) ∙ ap (λ n. 2 ^ n) places in
+    let below : p.addr / 2 ^ (32 - p.len) < 2 ^ p.len = (div-lt_iff_lt-mul some).1 (rw whole fits) in
+    rw (← whole) (last_below (front p.len p.addr) (2 ^ p.len) (2 ^ (32 - p.len)) some below)

@@ -1,16 +1,17 @@
 -- Laws of the texts of prefixes: a text is read as a prefix exactly where it is a spelling of it.
-use Rattle.std.proofs.Common.{◌≡◌, ℕ, ◌+◌, ◌*◌, ◌^◌, ◌≤◌, ◌<◌, min, nat_eq, true, false, List, ◌∷◌, ◌++◌, Option, Some, None, inl, inr, refl, sym, ap, ◌∙◌, arith, subst}
+use Rattle.std.proofs.Common.{◌≡◌, ℕ, ◌+◌, ◌*◌, ◌/◌, ◌%◌, ◌^◌, ◌≤◌, ◌<◌, length, length-append, min, nat_eq, true, false, List, ◌∷◌, ◌++◌, Option, Some, None, inl, inr, refl, sym, ap, ◌∙◌, arith, subst}
 use Rattle.std.proofs.Math.Bridge.{le_prop}
 use Rattle.std.specs.Char.{is_ascii_digit}
 use Rattle.std.specs.Fmt.{decimal}
 use Rattle.std.specs.Prelude.{IfSome}
 use Rattle.std.proofs.lemmas.Nat.{shr-shr}
+use Rattle.std.proofs.lemmas.Fmt.{length-decimal-le}
 use Rattle.text_core.specs.Decimal.{number}
 use Rattle.text_core.specs.DecimalLaws.{number-decimal, decimal_of_number, decimal_lacks}
 use Rattle.text_core.specs.Pieces.{split_once}
 use Rattle.text_core.specs.PiecesLaws.{lacks, lacks-append, split_once-append, split_once_none, split_once_joined}
 use Rattle.text_core.specs.StepsLaws.{bind_some}
-use Rattle.host_net.specs.FirstsLaws.{some_same}
+use Rattle.text_core.specs.FirstsLaws.{some_same}
 use Rattle.host_net.specs.declared.prefix.Prefix.{Prefix}
 use Rattle.host_net.specs.Prefix.{octet, address_text, address_of, prefix_text, prefix_with, prefix_of, prefix_of_parts, IsSpelling}
 
@@ -35,12 +36,14 @@ octets_joined : (a : ℕ) → a < 2 ^ 32 → octet a 24 * 2 ^ 24 + octet a 16 * 
 unfolding octet
 octets_joined a h = omega (arith, shr-shr a 8 8, shr-shr a 16 8)
 
-octets_apart : (a b c d : ℕ) → a ≤ 255 → b ≤ 255 → c ≤ 255 → d ≤ 255 → (octet (a * 2 ^ 24 + b * 2 ^ 16 + c * 2 ^ 8 + d) 24 ≡ a) × (octet (a * 2 ^ 24 + b * 2 ^ 16 + c * 2 ^ 8 + d) 16 ≡ b) × (octet (a * 2 ^ 24 + b * 2 ^ 16 + c * 2 ^ 8 + d) 8 ≡ c) × (octet (a * 2 ^ 24 + b * 2 ^ 16 + c * 2 ^ 8 + d) 0 ≡ d)
+octets_apart : (a b c d : ℕ) → a ≤ 255 → b ≤ 255 → c ≤ 255 → d ≤ 255
+    → (octet (a * 2 ^ 24 + b * 2 ^ 16 + c * 2 ^ 8 + d) 24 ≡ a) × (octet (a * 2 ^ 24 + b * 2 ^ 16 + c * 2 ^ 8 + d) 16 ≡ b) × (octet (a * 2 ^ 24 + b * 2 ^ 16 + c * 2 ^ 8 + d) 8 ≡ c) × (octet (a * 2 ^ 24 + b * 2 ^ 16 + c * 2 ^ 8 + d) 0 ≡ d)
 unfolding octet
 octets_apart a b c d ha hb hc hd = (omega arith, omega arith, omega arith, omega arith)
 
 -- a number in front of a mark is cut off there
-number_cut : (mark n : ℕ) (rest : List ℕ) → is_ascii_digit mark ≡ false → n ≤ 255 → split_once mark (decimal n ++ (mark ∷ rest)) ≡ Some (decimal n, rest)
+number_cut : (mark n : ℕ) (rest : List ℕ) → is_ascii_digit mark ≡ false → n ≤ 255
+    → split_once mark (decimal n ++ (mark ∷ rest)) ≡ Some (decimal n, rest)
 number_cut mark n rest other small = split_once-append mark (decimal n) rest (decimal_lacks mark n other (omega arith))
 
 octet_read : (a place : ℕ) → number 255 (decimal (octet a place)) ≡ Some (octet a place)
@@ -65,7 +68,8 @@ octet_lacks : (mark a place : ℕ) → is_ascii_digit mark ≡ false → lacks m
 octet_lacks mark a place other = decimal_lacks mark (octet a place) other (omega (arith, octet_fits a place))
 
 -- no mark but a dot stands in an address
-dotted_lacks : (mark a place : ℕ) (rest : List ℕ) → is_ascii_digit mark ≡ false → nat_eq 46 mark ≡ false → lacks mark rest ≡ true → lacks mark (decimal (octet a place) ++ (46 ∷ rest)) ≡ true
+dotted_lacks : (mark a place : ℕ) (rest : List ℕ) → is_ascii_digit mark ≡ false → nat_eq 46 mark ≡ false → lacks mark rest ≡ true
+    → lacks mark (decimal (octet a place) ++ (46 ∷ rest)) ≡ true
 dotted_lacks mark a place rest other no_dot h =
     let behind : lacks mark (46 ∷ rest) ≡ true = rw (no_dot, h) refl in
     lacks-append mark (decimal (octet a place)) (46 ∷ rest) (octet_lacks mark a place other) behind
@@ -105,14 +109,16 @@ prefix_of-read text p fits spelling = elim spelling [
 ]
 
 -- the text of the address of four octets
-address_text-joined : (a b c d : ℕ) → a ≤ 255 → b ≤ 255 → c ≤ 255 → d ≤ 255 → address_text (a * 2 ^ 24 + b * 2 ^ 16 + c * 2 ^ 8 + d) ≡ decimal a ++ (46 ∷ (decimal b ++ (46 ∷ (decimal c ++ (46 ∷ decimal d)))))
+address_text-joined : (a b c d : ℕ) → a ≤ 255 → b ≤ 255 → c ≤ 255 → d ≤ 255
+    → address_text (a * 2 ^ 24 + b * 2 ^ 16 + c * 2 ^ 8 + d) ≡ decimal a ++ (46 ∷ (decimal b ++ (46 ∷ (decimal c ++ (46 ∷ decimal d)))))
 unfolding address_text
 address_text-joined a b c d ha hb hc hd =
     let apart = octets_apart a b c d ha hb hc hd in
     rw (apart.0, apart.1, apart.2, apart.3) refl
 
 -- a piece that was cut off, where it says a number
-piece_of_number : (bs : List ℕ) (parts : List ℕ × List ℕ) (n : ℕ) → split_once 46 bs ≡ Some parts → number 255 parts.0 ≡ Some n → (bs ≡ decimal n ++ (46 ∷ parts.1)) × (n ≤ 255)
+piece_of_number : (bs : List ℕ) (parts : List ℕ × List ℕ) (n : ℕ) → split_once 46 bs ≡ Some parts → number 255 parts.0 ≡ Some n
+    → (bs ≡ decimal n ++ (46 ∷ parts.1)) × (n ≤ 255)
 piece_of_number bs parts n cut said =
     let number_text = decimal_of_number 255 parts.0 n (omega arith) said in
     (split_once_joined 46 bs parts.0 parts.1 cut ∙ ap (λ front. front ++ (46 ∷ parts.1)) number_text.0, number_text.1)
@@ -137,7 +143,8 @@ address_text-address_of text a read =
     one.0 ∙ ap (λ bs. decimal first.0 ++ (46 ∷ bs)) (two.0 ∙ ap (λ bs. decimal second.0 ++ (46 ∷ bs)) (three.0 ∙ ap (λ bs. decimal third.0 ++ (46 ∷ bs)) four.0)) in
     (whole ∙ sym (address_text-joined first.0 second.0 third.0 fourth.0 one.1 two.1 three.1 four.1) ∙ ap address_text sum, omega (arith, sum, one.1, two.1, three.1, four.1))
 
-spelled_parts : (text : List ℕ) (o : Option (List ℕ × List ℕ)) (p : Prefix) → split_once 47 text ≡ o → prefix_of_parts text o ≡ Some p → IsSpelling text p
+spelled_parts : (text : List ℕ) (o : Option (List ℕ × List ℕ)) (p : Prefix) → split_once 47 text ≡ o → prefix_of_parts text o ≡ Some p
+    → IsSpelling text p
 unfolding prefix_text
 spelled_parts text None p cut read =
     let address = bind_some (address_of text) _ p read in
@@ -163,3 +170,46 @@ prefix_of-spelled text p read = spelled_parts text (split_once 47 text) p refl r
 pub prefix_of-IfSome : (text : List ℕ) (r : Option Prefix) → r ≡ prefix_of text → IfSome r (IsSpelling text)
 prefix_of-IfSome text None e = tt
 prefix_of-IfSome text (Some p) e = prefix_of-spelled text p (sym e)
+
+-- and the address that is read has 32 bits
+parts_fit : (text : List ℕ) (o : Option (List ℕ × List ℕ)) (p : Prefix) → prefix_of_parts text o ≡ Some p → p.addr < 2 ^ 32
+parts_fit text None p read =
+    let address = bind_some (address_of text) _ p read in
+    let same : prefix_with address.0 32 ≡ p = cc in
+    let written = address_text-address_of text address.0 address.1 in
+    subst (λ (q : Prefix). q.addr < 2 ^ 32) same written.1
+parts_fit text (Some parts) p read =
+    let address = bind_some (address_of parts.0) _ p read in
+    let len = bind_some (number 32 parts.1) _ p address.2 in
+    let same : prefix_with address.0 len.0 ≡ p = cc in
+    let written = address_text-address_of parts.0 address.0 address.1 in
+    subst (λ (q : Prefix). q.addr < 2 ^ 32) same written.1
+
+pub prefix_of-fits : (text : List ℕ) (p : Prefix) → prefix_of text ≡ Some p → p.addr < 2 ^ 32
+unfolding prefix_of
+prefix_of-fits text p read = parts_fit text (split_once 47 text) p read
+
+-- the two directions for an answer that is the address of a text
+pub address_said : (text : List ℕ) (r : Option ℕ) → r ≡ address_of text → IfSome r (λ a. text ≡ address_text a)
+address_said text None e = tt
+address_said text (Some a) e = (address_text-address_of text a (sym e)).0
+
+pub address_read : (text : List ℕ) (r : Option ℕ) (a : ℕ) → r ≡ address_of text → a < 2 ^ 32 → text ≡ address_text a → r ≡ Some a
+address_read text r a e fits written = e ∙ ap address_of written ∙ address_of-address_text a fits
+
+-- how long the text of a prefix is
+octet_short : (a place : ℕ) → length (decimal (octet a place)) ≤ 3
+unfolding octet
+octet_short a place =
+    let small : a / 2 ^ place % 256 < 256 = omega arith in
+    length-decimal-le 3 (octet a place) (omega arith) (omega arith) (omega arith)
+
+address_short : (a : ℕ) → length (address_text a) ≤ 15
+unfolding address_text
+address_short a =
+    simp length-append (omega (arith, octet_short a 24, octet_short a 16, octet_short a 8, octet_short a 0))
+
+pub prefix_short : (p : Prefix) → length (prefix_text p) ≤ 18
+unfolding prefix_text
+prefix_short p =
+    simp length-append (omega (arith, address_short p.addr, length-decimal-le 2 p.len (omega arith) (omega (arith, p.fits)) (omega (arith, p.fits))))

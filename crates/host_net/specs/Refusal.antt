@@ -3,7 +3,7 @@ use Rattle.std.specs.Prelude.{ℕ, ◌+◌, Bool, not, ◌||◌, nat_lt, nat_le,
 use Rattle.std.specs.List.{position_from}
 use Rattle.std.specs.Option.{option_map, option_or}
 use Rattle.text_core.specs.Name.{is_name}
-use Rattle.host_net.specs.Firsts.{first_of, where_holds}
+use Rattle.text_core.specs.Firsts.{first_of, where_holds}
 use Rattle.host_net.specs.Host.{Host, host_named, rest_of, meets_any, prefix_count, prefix_lists}
 use Rattle.host_net.specs.Hosts.{host_limit, lacks_address, prefix_limit}
 use Rattle.host_net.specs.declared.prefix.Prefix.{Prefix}
@@ -32,7 +32,7 @@ no_address at rest = where_holds (lacks_address at rest) NoAddress
 abbrev pub two_rests : List Host → Bool → Option HostRefusal
 two_rests hs rest = if rest then option_map TwoRests (rest_of hs) else None
 
--- the host of the earliest prefix that meets p: one of those whose prefixes are `owned`, or the one behind them, of whose
+-- the host of the earliest prefix that meets p: one of those whose prefixes are `owned`, or the one after them, of whose
 -- prefixes `own` stand before p
 abbrev pub meeting : List (List Prefix) → List Prefix → Prefix → Option ℕ
 meeting owned own p = position_from (λ ps. meets_any ps p) 0 (owned ++ own ∷ [])

@@ -1,10 +1,11 @@
 //! The hosts of a network, by name and by address.
 
-ghost use Rattle.std.specs.Prelude.{◌≡◌, ℕ, ◌≤◌, ◌<◌, ◌^◌, ◌++◌, ◌∷◌, [], Some, None, Ok, Err, IsTrue, IfOk, OnOk, OnErr, MatchResult, length, slice_get};
+ghost use Rattle.std.specs.Prelude.{◌≡◌, ℕ, ◌≤◌, ◌<◌, ◌^◌, ◌++◌, ◌∷◌, [], Some, None, Ok, Err, IsTrue, IsFalse, IfOk, OnOk, OnErr, MatchResult, length, slice_get};
 ghost use Rattle.std.specs.List.{list_all};
 ghost use Rattle.std.specs.Option.{option_map, ForSome};
-ghost use Rattle.host_net.specs.Host.{Host, covers_any, host_named, owner_of, rest_of};
+ghost use Rattle.host_net.specs.Host.{Host, all_prefixes, covers_any, host_named, owner_of, rest_of};
 ghost use Rattle.host_net.specs.Hosts.{is_network, IsHosts};
+ghost use Rattle.host_net.specs.Overlaps.{IsFirstOverlap};
 ghost use Rattle.host_net.specs.Refusal.{bad_name, duplicate, is_full, no_address, overlap, refusal_of, two_rests};
 ghost use Rattle.host_net.specs.declared.refusal.HostRefusal.{HostRefusal};
 
@@ -28,13 +29,13 @@ impl Model for Hosts {
     ghost use Rattle.std.specs.Prelude.{List};
     ghost use Rattle.host_net.specs.Host.{Host};
     ghost use Rattle.host_net.specs.Hosts.{IsHosts};
-    ghost use Rattle.host_net.specs.Known.{hosts_of};
+    ghost use Rattle.host_net.specs.HostsView.{hosts_view};
 
     ghost Value = { List Host };
 
-    ghost view = { λ hosts. hosts_of hosts.known.entries };
+    ghost view = { λ hosts. hosts_view hosts.known.entries };
 
-    ghost invariant = { λ hosts. IsHosts (hosts_of hosts.known.entries) };
+    ghost invariant = { λ hosts. IsHosts (hosts_view hosts.known.entries) };
 }
 
 impl Hosts {
@@ -46,7 +47,7 @@ impl Hosts {
         }
     }
 
-    /// Adds a host behind the others and answers its number.
+    /// Adds a host after the others and answers its number.
     ///
     /// The host owns the addresses that its prefixes `at` cover or, with `rest` set and without
     /// prefixes, those that no prefix covers. Each prefix must be exact and of length 1 at least.
@@ -59,6 +60,9 @@ impl Hosts {
             MatchResult result (λ number. number ≡ length self.old) (λ why. why ≡ HostRefusal.Memory) }
         ensures added { OnOk result (self.new ≡ self.old ++ record { name = name.now; prefixes = at.now; rest = rest } ∷ []) }
         ensures unchanged { OnErr result (self.new ≡ self.old) }
+
+        // The prefix at `item` meets one of host `other`, and no prefix before it meets an earlier one.
+        ensures overlaps { (item other : ℕ) → result ≡ Err (HostRefusal.Overlap item other) → IsFirstOverlap self.old at.now item other }
     {
         if let Some(why) = self.refusal(name, at, rest) {
             return Err(why);
@@ -173,6 +177,9 @@ impl Hosts {
 
         // The prefixes of one host at most cover the address, and it is that host's.
         ensures sole { (host : ℕ) (h : Host) → slice_get self.now host ≡ Some h → IsTrue (covers_any h.prefixes addr) → result ≡ Some host }
+
+        // Where no prefix covers the address, it is the rest host's, or nobody's.
+        ensures uncovered { IsFalse (covers_any (all_prefixes self.now) addr) → result ≡ rest_of self.now }
     {
         number(holder(self.known.values().as_slice(), addr)).or(self.rest())
     }

@@ -15,6 +15,6 @@ mod tests;
 
 pub use hosts::Hosts;
 pub use name::Name;
-pub use packet::{CtState, Packet};
-pub use prefix::{Prefix, read_prefix};
+pub use packet::{CtState, Packet, Verdict};
+pub use prefix::{Prefix, put_prefix, read_address, read_prefix};
 pub use refusal::{HOST_LIMIT, HostRefusal, PREFIX_LIMIT};

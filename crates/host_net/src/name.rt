@@ -10,7 +10,7 @@ ghost use Rattle.text_core.specs.Name.{is_name};
 
 use std::hash::{Hash, Hasher};
 use std::marker::Model;
-use text_core::is_name;
+use text_core::{is_name, padded};
 
 /// A text of at most 32 bytes: the name of a host, or the empty text where no name is given.
 #[derive(Clone, Copy, Debug)]
@@ -20,22 +20,22 @@ pub struct Name {
 }
 
 impl Model for Name {
-    ghost use Rattle.std.specs.Prelude.{ℕ, List, ◌-◌, ◌++◌, take, length, replicate};
-    ghost use Rattle.host_net.specs.Padded.{IsPadded, padded_bytes, padded_len};
+    ghost use Rattle.std.specs.Prelude.{ℕ, List, take, length};
+    ghost use Rattle.text_core.specs.Padded.{IsPadded, padded, padded_bytes, padded_len};
 
     ghost Value = { List ℕ };
 
     ghost view = { λ n. take n.len n.bytes };
 
-    ghost invariant = { λ n. IsPadded n.len n.bytes };
+    ghost invariant = { λ n. IsPadded 32 n.len n.bytes };
 
-    ghost inverse = { λ text. record { bytes = text ++ replicate (32 - length text) 0; len = length text } };
+    ghost inverse = { λ text. record { bytes = padded 32 text; len = length text } };
 
-    ghost inverse_ok = { λ n padded i. record { bytes = padded_bytes n.len n.bytes padded i; len = padded_len n.len n.bytes padded i } };
+    ghost inverse_ok = { λ n short i. record { bytes = padded_bytes 32 n.len n.bytes short i; len = padded_len 32 n.len n.bytes short i } };
 }
 
 impl Name {
-    /// The name that `text` is, or None where it is none: a name has 1 to 32 bytes, each a letter
+    /// The text as a name, or None where it is no name: a name has 1 to 32 bytes, each a letter
     /// A to Z or a to z, a digit, `_` or `-`.
     pub fn new(text: &[u8]) -> Option<Name>
         ensures { result ≡ (if is_name text.now then Some text.now else None) }
@@ -47,15 +47,13 @@ impl Name {
         }
     }
 
-    /// The name that a text is that was tested.
+    /// A text that was tested, as a name.
     pub(crate) fn of(text: &[u8]) -> Name
         requires { IsTrue (is_name text.now) }
         ensures { result ≡ text.now }
     {
-        let mut bytes = [0; 32];
-        bytes[..text.len()].copy_from_slice(text);
         Name {
-            bytes,
+            bytes: padded(text),
             len: text.len() as u8,
         }
     }

@@ -26,7 +26,7 @@ pub fn overlap(hosts: &[Addresses], at: &[Prefix]) -> Option<HostRefusal>
 }
 
 /// The place of the host of the earliest prefix that meets the prefix: one of `hosts`, or the one
-/// behind them, of whose prefixes `own` stand before.
+/// after them, of whose prefixes `own` stand before.
 fn neighbour(hosts: &[Addresses], own: &[Prefix], prefix: &Prefix) -> Option<usize>
     ensures place { result ≡ meeting (map (λ h. h.prefixes.items) hosts.now) own.now prefix.now }
     ensures within { IfSome result (λ host. host ≤ length hosts.now) }

@@ -1,9 +1,10 @@
-//! A packet as a firewall sees it, and the state of its connection.
+//! A packet as a firewall sees it, the state of its connection, and what becomes of it.
 
 ghost use Rattle.std.specs.Prelude.{◌≡◌};
 ghost use Rattle.host_net.specs.Packet.{swap_of};
 
-/// The header fields that rules look at. A protocol without ports has both ports 0.
+/// The header fields that rules look at. The ports mean something for protocols that have them, and
+/// are carried along for all others.
 #[derive(Clone, Copy, Debug, PartialEq, Eq, PartialOrd, Ord)]
 pub struct Packet {
     pub src: u32,
@@ -33,4 +34,11 @@ impl Packet {
 pub enum CtState {
     New,
     Established,
+}
+
+/// What becomes of a packet.
+#[derive(Clone, Copy, Debug, PartialEq, Eq)]
+pub enum Verdict {
+    Forward,
+    Drop,
 }

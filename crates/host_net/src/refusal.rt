@@ -14,7 +14,7 @@ pub const PREFIX_LIMIT: usize = 128;
 pub enum HostRefusal {
     /// There are as many hosts as there may be, or there would be too many prefixes.
     TooMany,
-    /// The name is none.
+    /// The text is no name.
     BadName,
     /// The host `other` has the name.
     Duplicate { other: u16 },

@@ -4,25 +4,29 @@
 ghost use Rattle.std.specs.Prelude.{IsTrue};
 ghost use Rattle.host_net.specs.Hosts.{is_network};
 
-use crate::{HostRefusal, Hosts, Name, Packet, Prefix, read_prefix};
-use std::alloc::AllocError;
+use crate::{HostRefusal, Hosts, Name, Packet, Prefix, put_prefix, read_prefix};
+use std::alloc::Global;
 use std::process::Abort;
 
 #[test]
-fn prefixes_are_read_and_written(rt: HostRuntime) -> Result<(), AllocError> {
+fn prefixes_are_read(rt: HostRuntime) {
     assert!(rt; read_prefix(b"10.0.0.01").is_none());
-    assert!(rt; read_prefix(b"10.0.0").is_none());
-    assert!(rt; read_prefix(b"10.0.0.1.2").is_none());
     assert!(rt; read_prefix(b"10.0.0.1/33").is_none());
     assert!(rt; read_prefix(b"10.0.0.1") == Prefix::new(0x0a000001, 32));
-    assert!(rt; read_prefix(b"192.168.4.0/22") == Prefix::new(0xc0a80400, 22));
+}
+
+#[test]
+fn prefixes_are_written(rt: HostRuntime) {
+    let mut line = [0; 18];
+    let end = put_prefix(&mut line, 0, network(&rt, 0xc0a80400, 22));
+    assert!(rt; &line[..end] == b"192.168.4.0/22".as_slice());
+}
+
+#[test]
+fn prefixes_cover_and_meet(rt: HostRuntime) {
     let prefix = network(&rt, 0xc0a80400, 22);
     assert!(rt; prefix.covers(0xc0a807ff) && !prefix.covers(0xc0a80800));
     assert!(rt; prefix.meets(&network(&rt, 0xc0a80000, 16)));
-    assert!(rt; prefix.addr() == 0xc0a80400);
-    let text = format!(in rt.alloc(); "{prefix}")?;
-    assert!(rt; text.as_str() == "192.168.4.0/22");
-    Ok(())
 }
 
 #[test]
@@ -45,35 +49,56 @@ fn packets_are_answered(rt: HostRuntime) {
 }
 
 #[test]
-fn hosts_are_added_or_refused(rt: HostRuntime) {
+fn addresses_have_owners(rt: HostRuntime) {
     let mut hosts = Hosts::new(rt.alloc());
+    assert!(rt; hosts.add(b"a", &[network(&rt, 0x0a000001, 32)], false) == Ok(0));
+    assert!(rt; hosts.add(b"r", &[], true) == Ok(1));
+    assert!(rt; hosts.owner(0x0a000001) == Some(0));
+    assert!(rt; hosts.owner(0x0a000002) == Some(1));
+}
+
+#[test]
+fn hosts_are_found(rt: HostRuntime) {
+    let hosts = two_hosts(&rt, rt.alloc());
+    assert!(rt; hosts.count() == 2);
+    assert!(rt; hosts.name(0) == name(&rt, b"a"));
+    assert!(rt; hosts.prefixes(0) == [network(&rt, 0x0a000001, 32)].as_slice());
+    assert!(rt; hosts.find(b"r") == Some(1));
+    assert!(rt; hosts.rest() == Some(1));
+}
+
+#[test]
+fn hosts_are_refused(rt: HostRuntime) {
+    let mut hosts = two_hosts(&rt, rt.alloc());
     let one = network(&rt, 0x0a000001, 32);
     let two = network(&rt, 0x0a010000, 16);
-    let within = network(&rt, 0x0a010200, 24);
-    assert!(rt; hosts.add(b"a", &[one], false) == Ok(0));
     assert!(rt; hosts.add(b"a", &[one], false) == Err(HostRefusal::Duplicate { other: 0 }));
-    assert!(rt; hosts.add(b"a.b", &[one], false) == Err(HostRefusal::BadName));
-    assert!(rt; hosts.add(b"b", &[], false) == Err(HostRefusal::NoAddress));
     assert!(rt; hosts.add(b"b", &[one], true) == Err(HostRefusal::NoAddress));
+    assert!(rt; hosts.add(b"s", &[], true) == Err(HostRefusal::TwoRests { other: 1 }));
     assert!(rt;
         hosts.add(b"b", &[two, one], false) == Err(HostRefusal::Overlap { item: 1, other: 0 })
     );
     assert!(rt;
-        hosts.add(b"b", &[two, within], false) == Err(HostRefusal::Overlap { item: 1, other: 1 })
+        hosts.add(b"b", &[two, two], false) == Err(HostRefusal::Overlap { item: 1, other: 2 })
     );
-    assert!(rt; hosts.add(b"r", &[], true) == Ok(1));
-    assert!(rt; hosts.add(b"s", &[], true) == Err(HostRefusal::TwoRests { other: 1 }));
-    assert!(rt; hosts.owner(0x0a000001) == Some(0));
-    assert!(rt; hosts.owner(0x0a000002) == Some(1));
-    assert!(rt; hosts.find(b"r") == Some(1) && hosts.find(b"a.b").is_none());
-    assert!(rt; hosts.rest() == Some(1));
-    assert!(rt; hosts.count() == 2);
-    assert!(rt; hosts.name(0) == name(&rt, b"a") && hosts.prefixes(0) == [one].as_slice());
-    fill(&rt, &mut hosts);
-    assert!(rt; hosts.add(b"z", &[two], false) == Err(HostRefusal::TooMany));
 }
 
-// Adds thirty hosts h0 to hM.
+#[test]
+fn no_more_hosts_than_the_limit(rt: HostRuntime) {
+    let mut hosts = two_hosts(&rt, rt.alloc());
+    fill(&rt, &mut hosts);
+    let at = network(&rt, 0x0a010000, 16);
+    assert!(rt; hosts.add(b"z", &[at], false) == Err(HostRefusal::TooMany));
+}
+
+fn two_hosts(rt: &impl Abort, alloc: Global) -> Hosts {
+    let mut hosts = Hosts::new(alloc);
+    assert!(rt; hosts.add(b"a", &[network(rt, 0x0a000001, 32)], false) == Ok(0));
+    assert!(rt; hosts.add(b"r", &[], true) == Ok(1));
+    hosts
+}
+
+// Adds thirty hosts, h0A to h9C.
 fn fill(rt: &impl Abort, hosts: &mut Hosts) {
     for k in 0..30u8 {
         let at = network(rt, 0x0a020000 + k as u32, 32);

@@ -1,3 +1,5 @@
 pub mod LineLemmas
 pub mod DecimalLemmas
 pub mod PiecesLemmas
+pub mod FirstsLemmas
+pub mod LinesRows

@@ -1,6 +1,6 @@
--- Lines in a buffer of 256 bytes.
+-- Lines in a buffer of fixed size.
 use Rattle.std.specs.Prelude.{ℕ, List, take}
 
--- what the buffer has room for
-unfoldable pub cut : List ℕ → List ℕ
-cut bs = take 256 bs
+-- what a buffer of `room` bytes has room for
+unfoldable pub cut : ℕ → List ℕ → List ℕ
+cut room bs = take room bs

@@ -8,21 +8,32 @@ take_front zero a b = refl
 take_front (suc n) [] b = refl
 take_front (suc n) (x ∷ a) b = ap (λ bs. x ∷ bs) (take_front n a b)
 
-pub cut_cut : (a b : List ℕ) → cut (cut a ++ b) ≡ cut (a ++ b)
+pub cut_cut : (room : ℕ) (a b : List ℕ) → cut room (cut room a ++ b) ≡ cut room (a ++ b)
 unfolding cut
-cut_cut a b = take_front 256 a b
+cut_cut room a b = take_front room a b
 
 -- a text that fits is whole
-pub cut_whole : (a : List ℕ) → length a ≤ 256 → cut a ≡ a
+pub cut_whole : (room : ℕ) (a : List ℕ) → length a ≤ room → cut room a ≡ a
 unfolding cut
-cut_whole a fits = take_all 256 a fits
+cut_whole room a fits = take_all room a fits
 
-pub length_cut : (a : List ℕ) → length (cut a) ≤ 256
+pub length_cut : (room : ℕ) (a : List ℕ) → length (cut room a) ≤ room
 unfolding cut
-length_cut a = omega (arith, length-take 256 a)
+length_cut room a = omega (arith, length-take room a)
 
 -- a piece of no bytes leaves the line as it was
-pub nothing_put : (at : ℕ) (buffer : List ℕ) → at ≤ 256 → take at buffer ≡ cut (take at buffer ++ [])
-nothing_put at buffer h =
-    let short : length (take at buffer) ≤ 256 = omega (arith, length-take at buffer) in
-    sym (ap cut (append-nil (take at buffer)) ∙ cut_whole (take at buffer) short)
+pub nothing_put : (room at : ℕ) (buffer : List ℕ) → at ≤ room → take at buffer ≡ cut room (take at buffer ++ [])
+nothing_put room at buffer h =
+    let short : length (take at buffer) ≤ room = omega (arith, length-take at buffer) in
+    sym (ap (cut room) (append-nil (take at buffer)) ∙ cut_whole room (take at buffer) short)
+
+-- a line of at most `most` bytes stands whole in the buffer
+pub record IsWhole (most : ℕ) (buffer line : List ℕ) (end : ℕ) : Type 0 where
+  pub same : take end buffer ≡ line
+  pub short : end ≤ most
+
+pub put_whole : (room most : ℕ) (buffer line : List ℕ) (end : ℕ) → length buffer ≡ room → end ≤ room → most ≤ room → length line ≤ most
+    → take end buffer ≡ cut room line → IsWhole most buffer line end
+put_whole room most buffer line end wide within fits short put =
+    let same : take end buffer ≡ line = put ∙ cut_whole room line (omega (arith, short, fits)) in
+    record { same = same; short = omega (arith, length-take end buffer, ap length same, short, within, wide) }

@@ -4,13 +4,19 @@
 #![tactic(auto)]
 
 mod decimals;
+mod firsts;
 mod line;
+mod lines;
 mod names;
+mod padding;
 mod pieces;
 #[cfg(test)]
 mod tests;
 
 pub use decimals::read_number;
+pub use firsts::{Numbered, Pair, first_pair};
 pub use line::{put, put_number};
+pub use lines::{Lines, Words, begins_with, is_comment};
 pub use names::is_name;
+pub use padding::padded;
 pub use pieces::split_once;

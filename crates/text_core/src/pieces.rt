@@ -4,7 +4,7 @@ ghost use Rattle.std.specs.Prelude.{◌≡◌, ◌≢◌, ◌==◌, ◌∷◌, �
 ghost use Rattle.std.specs.Option.{option_map};
 ghost use Rattle.text_core.specs.Pieces.{split_once};
 
-/// The text before the first `mark` and the text behind it, or None where no `mark` stands in it.
+/// The text before the first `mark` and the text after it, or None where no `mark` stands in it.
 pub fn split_once(text: &[u8], mark: u8) -> Option<(&[u8], &[u8])>
     ensures value { option_map (λ parts. (parts.0.now, parts.1.now)) result ≡ split_once mark text.now }
 

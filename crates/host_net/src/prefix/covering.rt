@@ -1,7 +1,7 @@
 //! Which addresses a prefix covers.
 
-ghost use Rattle.std.specs.Prelude.{◌≡◌, ◌≤◌, ◌↔◌, IsTrue, IsSome, IfSome};
-ghost use Rattle.host_net.specs.Prefix.{front, covers, is_exact, meets, ShareAddress};
+ghost use Rattle.std.specs.Prelude.{◌≡◌, ◌-◌, ◌^◌, ◌≤◌, ◌↔◌, IsTrue, IsSome, IfSome};
+ghost use Rattle.host_net.specs.Prefix.{front, covers, first_address, last_address, is_exact, meets, ShareAddress};
 
 use crate::prefix::Prefix;
 
@@ -32,7 +32,7 @@ impl Prefix {
         self.len
     }
 
-    /// Whether all bits behind the length are 0.
+    /// Whether all bits after the length are 0.
     #[tactic(auto, using(std::proofs::lemmas::Nat::one_shl), unfolding(crate::specs::Prefix::is_exact))]
     pub fn exact(&self) -> bool
         ensures { result ≡ is_exact self.now }
@@ -40,11 +40,29 @@ impl Prefix {
         self.addr as u64 % (1u64 << (32 - self.len)) == 0
     }
 
-    #[tactic(auto, unfolding(crate::specs::Prefix::covers))]
+    /// Whether the address agrees with the prefix in the bits that count.
+    #[tactic(auto, using(crate::specs::PrefixLaws::covers_between), unfolding(crate::specs::Prefix::covers))]
     pub fn covers(&self, addr: u32) -> bool
-        ensures { result ≡ covers self.now addr }
+        ensures exact { result ≡ covers self.now addr }
+        ensures between { IsTrue result ↔ ((first_address self.now ≤ addr) × (addr ≤ last_address self.now)) }
     {
         front(self.len, self.addr) == front(self.len, addr)
+    }
+
+    /// The first address that the prefix covers.
+    #[tactic(auto, unfolding(crate::specs::Prefix::first_address))]
+    pub fn first(&self) -> u32
+        ensures { result ≡ first_address self.now }
+    {
+        (front(self.len, self.addr) << (32 - self.len)) as u32
+    }
+
+    /// The last address that the prefix covers.
+    #[tactic(auto, using(crate::specs::PrefixLaws::last_address_fits), unfolding(crate::specs::Prefix::first_address, crate::specs::Prefix::last_address))]
+    pub fn last(&self) -> u32
+        ensures { result ≡ last_address self.now }
+    {
+        self.first() + others(self.len)
     }
 
     /// Whether some address is covered by both.
@@ -63,4 +81,13 @@ fn front(len: u8, addr: u32) -> u64
     ensures { result ≡ front len addr }
 {
     (addr as u64) >> (32 - len)
+}
+
+/// The number of which all bits after the first `len` of 32 are 1, and no others.
+#[tactic(auto, using(std::proofs::lemmas::Nat::one_shl))]
+fn others(len: u8) -> u32
+    requires { len ≤ 32 }
+    ensures { result ≡ 2 ^ (32 - len) - 1 }
+{
+    ((1u64 << (32 - len)) - 1) as u32
 }

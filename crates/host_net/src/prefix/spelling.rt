@@ -1,15 +1,14 @@
-//! The text of a prefix, `a.b.c.d/len`.
+//! Reading the text of a prefix, `a.b.c.d/len`.
 
-ghost use Rattle.std.specs.Prelude.{◌≡◌, ◌<◌, ◌≤◌, ◌+◌, ◌*◌, ◌^◌, Some, IfSome};
-ghost use Rattle.host_net.specs.Prefix.{address_of, octet, prefix_of, prefix_text, prefix_with, IsSpelling};
+ghost use Rattle.std.specs.Prelude.{◌≡◌, ℕ, ◌<◌, ◌≤◌, ◌+◌, ◌*◌, ◌^◌, Some, IfSome};
+ghost use Rattle.host_net.specs.Prefix.{address_of, address_text, prefix_of, prefix_with, IsSpelling};
 ghost use Rattle.host_net.specs.declared.prefix.Prefix.{Prefix};
 
 use crate::prefix::Prefix;
-use std::fmt;
 use text_core::{read_number, split_once};
 
 /// Reads `a.b.c.d/len` or `a.b.c.d`, whose length is 32. No number has a leading zero, and bits
-/// behind the length may be set.
+/// after the length may be set.
 pub fn read_prefix(text: &[u8]) -> Option<Prefix>
     ensures exact { result ≡ prefix_of text.now }
     ensures spelled { IfSome result (IsSpelling text.now) }
@@ -28,8 +27,17 @@ fn read_parts(text: &[u8]) -> Option<Prefix>
     }
 }
 
+/// Reads `a.b.c.d`, four numbers of at most 255, none with a leading zero.
+pub fn read_address(text: &[u8]) -> Option<u32>
+    ensures exact { result ≡ address_of text.now }
+    ensures said { IfSome result (λ a. text.now ≡ address_text a) }
+    ensures read { (a : ℕ) → a < 2 ^ 32 → text.now ≡ address_text a → result ≡ Some a }
+{
+    read_octets(text)
+}
+
 #[tactic(auto, unfolding(crate::specs::Prefix::address_of))]
-fn read_address(text: &[u8]) -> Option<u32>
+fn read_octets(text: &[u8]) -> Option<u32>
     ensures { result ≡ address_of text.now }
 {
     let (first, rest) = split_once(text, b'.')?;
@@ -58,29 +66,4 @@ fn prefix_with(addr: u32, len: u32) -> Prefix
         addr,
         len: len as u8,
     }
-}
-
-impl fmt::Display for Prefix {
-    ghost output = { λ p. Some (prefix_text p) };
-
-    #[tactic(auto, unfolding(crate::specs::Prefix::prefix_text, crate::specs::Prefix::address_text))]
-    fn fmt<W: fmt::Write>(&self, f: &mut fmt::Formatter<W>) -> fmt::Result {
-        write!(
-            f,
-            "{}.{}.{}.{}/{}",
-            octet(self.addr, 24),
-            octet(self.addr, 16),
-            octet(self.addr, 8),
-            octet(self.addr, 0),
-            self.len
-        )
-    }
-}
-
-#[tactic(auto, unfolding(crate::specs::Prefix::octet))]
-fn octet(addr: u32, place: u8) -> u8
-    requires { place < 32 }
-    ensures { result ≡ octet addr place }
-{
-    ((addr >> place) % 256) as u8
 }

@@ -7,7 +7,7 @@ returns-in-Some-clause-ok c =
     files_in-replaced _ c.deref.result.now _ _ _ _ c.in_ok-to_owned.ensures.ok (c.in_ok-to_vec.ensures.items_if_clones_equal (λ x y same. same))
     c.deref.ensures.value c.in-Some.ensures
 
--- the file stands behind those that have other names
+-- the file stands after those that have other names
 pub returns-in_ok-push-in-None-clause-ok : goal.returns-in_ok-push-in-None-clause-ok
 returns-in_ok-push-in-None-clause-ok c =
     files_in-added _ c.deref.result.now _ _ _ _ c.in_ok-to_owned.ensures.ok (c.in_ok-to_vec.ensures.items_if_clones_equal (λ x y same. same))

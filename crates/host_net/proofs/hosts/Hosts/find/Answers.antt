@@ -1,5 +1,5 @@
 use Rattle.std.proofs.Common.{◌≡◌, sym, ◌∙◌}
-use Rattle.host_net.specs.Known.{hosts_of}
+use Rattle.host_net.specs.HostsView.{hosts_view}
 use Rattle.host_net.proofs.HostsLemmas.{key_place, name_given, name_missing, unnamed}
 use Rattle.host_net.proofs.hosts.Hosts.find.Goals as goal
 
@@ -11,4 +11,4 @@ returns-in-Some c =
 pub returns-in-None : goal.returns-in-None
 returns-in-None c =
     let bad = name_missing c.args.name.now c.new.result c.new.ensures c.in-None.is in
-    rw (← c.self.view_is) (sym (unnamed c.args.name.now (hosts_of c.self.inside.known.entries) 0 bad c.self.invariant.named))
+    rw (← c.self.view_is) (sym (unnamed c.args.name.now (hosts_view c.self.inside.known.entries) 0 bad c.self.invariant.named))

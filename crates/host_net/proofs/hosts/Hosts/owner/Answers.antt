@@ -2,7 +2,7 @@ use Rattle.std.proofs.Common.{◌≡◌, refl, ◌∙◌}
 use Rattle.std.specs.Option.{option_or}
 use Rattle.host_net.specs.Host.{covers_any, holder_of, owner_of}
 use Rattle.host_net.specs.Hosts.{IsHosts}
-use Rattle.host_net.specs.OwnerLaws.{owner_of_covered}
+use Rattle.host_net.specs.OwnerLaws.{owner_of_covered, owner_of_uncovered}
 use Rattle.host_net.proofs.HostsLemmas.{value_place}
 use Rattle.host_net.proofs.hosts.Hosts.owner.Goals as goal
 
@@ -17,4 +17,5 @@ returns c =
     record {
       exact = exact;
       sole = λ host h there own. exact ∙ owner_of_covered c.args.self.now host h c.args.addr known there own;
+      uncovered = λ none. exact ∙ owner_of_uncovered c.args.self.now c.args.addr none;
     }

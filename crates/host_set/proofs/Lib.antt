@@ -1,0 +1,2 @@
+pub mod HostSets
+pub mod Apart

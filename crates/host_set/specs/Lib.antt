@@ -1,0 +1,2 @@
+pub mod HostSet
+pub mod HostSetLaws

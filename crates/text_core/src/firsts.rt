@@ -1,0 +1,65 @@
+//! The first element of a list that an earlier one bars, as one that has its name.
+ghost use Rattle.std.specs.Prelude.{◌≡◌, Bool, IfSome, IsTrue, None, find, option_map};
+ghost use Rattle.text_core.specs.Firsts.{first_pair, no_pair, numbered, IsFirstPair};
+ghost use Rattle.text_core.specs.FirstsSeen.{numbered_seen, pair_seen, Tests};
+
+/// An element of a list and its number there, from 1.
+#[derive(Drop)]
+pub struct Numbered<'a, T> {
+    pub number: u64,
+    pub what: &'a T,
+}
+
+/// An element, and the earliest one that bars it.
+#[derive(Drop)]
+pub struct Pair<'a, T> {
+    pub later: Numbered<'a, T>,
+    pub earlier: Numbered<'a, T>,
+}
+
+/// The first element that an earlier one bars, and the earliest one that does. `bars` is asked of a
+/// later and an earlier element.
+pub fn first_pair<T, F: Fn(&T, &T) -> bool>(items: &[T], bars: F) -> Option<Pair<'_, T>>
+    requires { F.IsAlwaysCallable bars }
+    ensures exact { (test : T → T → Bool) → Tests F.Fn bars test → option_map pair_seen result ≡ first_pair (λ x y. test x.what y.what) (numbered items.now) }
+    ensures first { (test : T → T → Bool) → Tests F.Fn bars test → IfSome result (λ pair. IsFirstPair (λ x y. test x.what y.what) (numbered items.now) (pair_seen pair)) }
+    ensures none { (test : T → T → Bool) → Tests F.Fn bars test → result ≡ None → IsTrue (no_pair test items.now) }
+{
+    found_pair(items, bars)
+}
+
+fn found_pair<T, F: Fn(&T, &T) -> bool>(items: &[T], bars: F) -> Option<Pair<'_, T>>
+    requires { F.IsAlwaysCallable bars }
+    ensures { (test : T → T → Bool) → Tests F.Fn bars test → option_map pair_seen result ≡ first_pair (λ x y. test x.what y.what) (numbered items.now) }
+{
+    for (index, item) in items.iter().enumerate() {
+        if let Some(earlier) = first_barring(&items[..index], item, &bars) {
+            let later = Numbered {
+                number: index as u64 + 1,
+                what: item,
+            };
+            return Some(Pair { later, earlier });
+        }
+    }
+    None
+}
+
+/// The first of the elements before an element that bars it.
+fn first_barring<'a, T, F: Fn(&T, &T) -> bool>(
+    before: &'a [T],
+    item: &T,
+    bars: &F,
+) -> Option<Numbered<'a, T>>
+    requires { F.IsAlwaysCallable bars.now }
+    ensures { (test : T → T → Bool) → Tests F.Fn bars.now test → option_map numbered_seen result ≡ find (λ y. test item.now y.what) (numbered before.now) }
+{
+    for (index, earlier) in before.iter().enumerate() {
+        if bars(item, earlier) {
+            return Some(Numbered {
+                number: index as u64 + 1,
+                what: earlier,
+            });
+        }
+    }
+    None
+}
