@@ -9,7 +9,7 @@ use Rattle.flow_set.specs.Conditions.{IsFirst}
 use Rattle.flow_set.specs.FlowLaws.{before_self, has-append, has_first, front_before, without_flow-with_flow}
 use Rattle.flow_set.specs.SubsetLaws.{IsFlowSet-subset, subset_trans, subset_front}
 use Rattle.flow_set.specs.WalkLaws.{walk_next}
-use Rattle.first_core.specs.Grown.{IsGrown}
+use Rattle.first_core.specs.Grown.{IsGrown, IsNew}
 
 -- the flows so far and f are a set
 pub walked : (n : ℕ) (xs left rest whole : List Flow) (f : Flow) → IsFlowSet n whole → xs ++ left ≡ whole → left ≡ f ∷ rest → IsFlowSet n (xs ++ f ∷ [])
@@ -28,6 +28,14 @@ kept_lacks n xs kept f set sub =
 
 pub kept_set : (n : ℕ) (xs kept : List Flow) (f : Flow) → IsFlowSet n (xs ++ f ∷ []) → IsSubset kept xs → IsFlowSet n kept
 kept_set n xs kept f set sub = IsFlowSet-subset n kept (xs ++ f ∷ []) set (subset_trans kept xs (xs ++ f ∷ []) sub (subset_front xs (f ∷ []) set.ordered))
+
+-- f is one more flow for what was kept
+pub kept_new : (n : ℕ) (xs kept : List Flow) (f : Flow) → IsFlowSet n (xs ++ f ∷ []) → IsSubset kept xs → IsNew n kept f
+kept_new n xs kept f set sub = record {
+  set = kept_set n xs kept f set sub;
+  flow = flow_walked n xs f set;
+  absent = kept_lacks n xs kept f set sub;
+}
 
 -- what is kept, with f, is a set that met the condition with one more flow
 pub kept_grown : (n m : ℕ) (Holds : List Flow → Type 0) (xs kept fs : List Flow) (f : Flow) → n ≡ m → IsFlowSet n (xs ++ f ∷ []) → IsFirst Holds xs kept → fs ≡ with_flow kept f → IsGrown m Holds fs f

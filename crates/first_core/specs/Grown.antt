@@ -12,3 +12,9 @@ pub record IsGrown (n : ℕ) (Holds : List Flow → Type 0) (fs : List Flow) (ad
   pub flow : IsFlow n added
   pub absent : IsFalse (has old added)
   pub grown : fs ≡ with_flow old added
+
+-- one more flow for a set between n hosts
+pub record IsNew (n : ℕ) (kept : List Flow) (f : Flow) : Type 0 where
+  pub set : IsFlowSet n kept
+  pub flow : IsFlow n f
+  pub absent : IsFalse (has kept f)

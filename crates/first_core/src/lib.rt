@@ -5,9 +5,11 @@
 
 mod condition;
 mod pass;
+mod steps;
 
 pub use condition::Condition;
 pub use pass::first_subset;
+pub use steps::{SteppedCondition, first_subset_by_steps};
 
 #[cfg(test)]
 mod tests;

@@ -1,2 +1,3 @@
-pub mod Places
 pub mod Filling
+pub mod BitRows
+pub mod Onward

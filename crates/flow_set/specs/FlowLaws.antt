@@ -217,9 +217,9 @@ IsOrdered-append [] ys o p apart = p
 IsOrdered-append (x ∷ xs) ys o p apart = (
   λ g h. elim (or_cases (has xs g) (has ys g) (sym (has-append xs ys g) ∙ h)) [
     | inl here ↦ o.0 g here
-    | inr behind ↦ apart x g (has_first x xs) behind
+    | inr later ↦ apart x g (has_first x xs) later
   ],
-  IsOrdered-append xs ys o.1 p (λ f g here behind. apart f g (has_later x xs f here) behind),
+  IsOrdered-append xs ys o.1 p (λ f g here later. apart f g (has_later x xs f here) later),
 )
 
 -- ---- the reverse of one more flow

@@ -4,5 +4,11 @@ pub mod Conditions
 pub mod FlowLaws
 pub mod SubsetLaws
 pub mod WalkLaws
+pub mod EveryFlow
+pub mod EveryFlowLaws
+pub mod SetOf
 pub mod ListedLaws
 pub mod ConditionLaws
+pub mod Steps
+pub mod LastStep
+pub mod BitRows

@@ -1,6 +1,6 @@
 -- Laws of sets of flows between n hosts and of their subsets.
 use Rattle.std.proofs.Common.{◌≡◌, ℕ, ◌≤◌, Bool, true, false, not, List, [], ◌∷◌, ◌++◌, inl, inr, refl, sym, ◌∙◌}
-use Rattle.std.specs.Prelude.{IsTrue, filter}
+use Rattle.std.specs.Prelude.{IsTrue, filter, ◌↔◌, ◌⊎◌}
 use Rattle.std.proofs.lemmas.Bool.{and_parts, or_cases, or_left, or_right, false≢true}
 use Rattle.flow_set.specs.declared.flow.Flow.{Flow}
 use Rattle.flow_set.specs.Flow.{IsFlow, same_flow, back_of}
@@ -58,6 +58,16 @@ IsFlowSet-with_back n fs gs p q = record {
     | inr m ↦ IsFlow-back_of n (back_of f) (q.flows (back_of f) m)
   ];
 }
+
+-- a flow of a set with answers is one of the set or an answer
+pub with_back_members : (fs gs : List Flow) (f : Flow) → IsTrue (has (with_back fs gs) f) ↔ (IsTrue (has fs f) ⊎ IsTrue (has gs (back_of f)))
+with_back_members fs gs f = (
+  λ there. or_cases _ _ (sym (has-with_back fs gs f) ∙ there),
+  λ either. has-with_back fs gs f ∙ elim either [
+    | inl own ↦ or_left _ _ own
+    | inr answer ↦ or_right _ _ answer
+  ],
+)
 
 -- ---- subsets
 

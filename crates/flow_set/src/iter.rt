@@ -3,33 +3,39 @@
 
 ghost use Rattle.std.specs.Prelude.{◌≡◌};
 ghost use Rattle.std.specs.Iterator.{YieldsFirst, item_count};
+ghost use Rattle.flow_set.specs.FlowSet.{IsFlowSet};
 
 use crate::flow::Flow;
+use crate::set::FlowSet;
 use std::marker::Model;
-use std::slice;
 
 /// The flows of a set that are left, in order.
 #[derive(Drop)]
 pub struct Iter<'a> {
-    flows: slice::Iter<'a, Flow>,
+    set: &'a FlowSet,
+    // The place from which on flows are left.
+    from: u16,
+    to: u16,
 }
 
 impl<'a> Model for Iter<'a> {
     ghost use Rattle.std.specs.Prelude.{List};
-    ghost use Rattle.std.specs.Slice.Iter.{iter_rest};
+    ghost use Rattle.flow_set.specs.BitRows.{flows_from};
     ghost use Rattle.flow_set.specs.declared.flow.Flow.{Flow};
 
     ghost Value = { List Flow };
 
-    ghost view = { λ i. iter_rest i.flows };
+    ghost view = { λ i. flows_from i.set.now.flows (record { from = i.from; to = i.to }) };
 }
 
 impl<'a> Iter<'a> {
-    pub(crate) fn new(flows: &'a [Flow]) -> Iter<'a>
-        ensures { result ≡ flows.now }
+    pub(crate) fn new(set: &'a FlowSet) -> Iter<'a>
+        ensures { result ≡ set.now.flows }
     {
         Iter {
-            flows: flows.iter(),
+            set,
+            from: 0,
+            to: 0,
         }
     }
 }
@@ -42,6 +48,14 @@ impl<'a> Iterator for Iter<'a> {
     ghost remaining = { item_count (λ left. left) };
 
     fn next(&mut self) -> Option<Flow> {
-        self.flows.next().copied()
+        let set: &FlowSet = self.set;
+        match set.at_or_after(self.from, self.to) {
+            None => None,
+            Some(f) => {
+                self.from = f.from;
+                self.to = f.to + 1;
+                Some(f)
+            }
+        }
     }
 }

@@ -5,10 +5,12 @@
 mod flow;
 mod iter;
 mod set;
+mod steps;
 
 pub use flow::Flow;
 pub use iter::Iter;
 pub use set::FlowSet;
+pub use steps::FlowSteps;
 
 #[cfg(test)]
 mod tests;

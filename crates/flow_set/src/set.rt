@@ -1,13 +1,14 @@
-//! A set of flows between `size` hosts, kept as a sorted vector. Memory for every possible flow is
-//! reserved when a set is made, so that putting in and taking out never ask for more.
+//! A set of flows between `size` hosts, kept as one row of bits for each sender. All rows are made with
+//! the set, so that putting in and taking out never ask for memory.
 
 ghost use Rattle.std.specs.Prelude.{◌≡◌, ◌<◌, ◌≤◌, ◌⊎◌, ◌↔◌, [], ◌∷◌, length, not, IsTrue, IfOk, if◌then◌else◌};
-ghost use Rattle.flow_set.specs.Flow.{IsFlow};
+ghost use Rattle.flow_set.specs.EveryFlow.{every_flow};
+ghost use Rattle.flow_set.specs.Flow.{IsFlow, back_of};
 ghost use Rattle.flow_set.specs.FlowSet.{IsFlowSet, IsFull, has, with_flow, without_flow, with_back, first_from};
-ghost use Rattle.flow_set.specs.WalkLaws.{flows_before};
 
 use crate::flow::Flow;
 use crate::iter::Iter;
+use host_set::HostSet;
 use std::alloc::{AllocError, Global};
 use std::marker::Model;
 
@@ -15,35 +16,37 @@ use std::marker::Model;
 #[derive(Drop)]
 pub struct FlowSet {
     size: u16,
-    sorted: Vec<Flow>,
+    rows: Vec<HostSet>,
 }
 
 impl Model for FlowSet {
-    ghost use Rattle.std.specs.Prelude.{◌*◌, ◌≤◌, vec_capacity};
-    ghost use Rattle.flow_set.specs.FlowSet.{SetOfFlows, IsFlowSet};
+    ghost use Rattle.flow_set.specs.BitRows.{flows_of, AreRows};
+    ghost use Rattle.flow_set.specs.FlowSet.{SetOfFlows};
 
     ghost Value = { SetOfFlows };
 
-    ghost view = { λ s. record { size = s.size; flows = s.sorted.items } };
+    ghost view = { λ s. record { size = s.size; flows = flows_of s.rows.items s.size } };
 
-    ghost invariant = { λ s. IsFlowSet s.size s.sorted.items × (s.size * s.size ≤ vec_capacity s.sorted) };
+    ghost invariant = { λ s. AreRows s.size s.rows.items };
 }
 
 impl FlowSet {
-    /// The set without flows, with room for every flow between `size` hosts.
+    /// The set without flows.
     pub fn empty(alloc: Global, size: u16) -> Result<FlowSet, AllocError>
         requires { size ≤ 256 }
         ensures { IfOk result (λ set. set ≡ record { size = size; flows = [] }) }
     {
-        let hosts = size as usize;
-        let sorted = Vec::with_capacity(alloc, hosts * hosts)?;
-        Ok(FlowSet { size, sorted })
+        let mut rows = Vec::with_capacity(alloc, size as usize)?;
+        for _ in 0..size {
+            rows.push(HostSet::empty())?;
+        }
+        Ok(FlowSet { size, rows })
     }
 
     /// The set of all flows between `size` hosts.
     pub fn full(alloc: Global, size: u16) -> Result<FlowSet, AllocError>
         requires { size ≤ 256 }
-        ensures size { IfOk result (λ set. set.size ≡ size) }
+        ensures every { IfOk result (λ set. set ≡ record { size = size; flows = every_flow size }) }
         ensures set { IfOk result (λ set. IsFlowSet size set.flows) }
         ensures full { IfOk result (λ set. IsFull size set.flows) }
     {
@@ -66,13 +69,17 @@ impl FlowSet {
     pub fn len(&self) -> u32
         ensures { result ≡ length self.now.flows }
     {
-        self.sorted.len() as u32
+        let mut total = 0;
+        for row in &self.rows {
+            total += u32::from(row.len());
+        }
+        total
     }
 
     pub fn is_empty(&self) -> bool
         ensures { IsTrue result ↔ (self.now.flows ≡ []) }
     {
-        self.sorted.is_empty()
+        self.len() == 0
     }
 
     /// Whether the flow is in the set.
@@ -80,7 +87,7 @@ impl FlowSet {
         requires { IsFlow self.now.size f }
         ensures { result ≡ has self.now.flows f }
     {
-        self.at_or_after(f.from, f.to) == Some(f)
+        self.rows[f.from as usize].has(f.to)
     }
 
     /// Puts the flow into the set, and answers whether it was not there.
@@ -92,8 +99,9 @@ impl FlowSet {
         if self.has(f) {
             return false;
         }
-        let place = self.place(f);
-        self.sorted.insert(place, f).is_ok()
+        let row = &mut self.rows[f.from as usize];
+        row.insert(f.to);
+        true
     }
 
     /// Takes the flow out of the set, and answers whether it was there.
@@ -105,8 +113,8 @@ impl FlowSet {
         if !self.has(f) {
             return false;
         }
-        let place = self.place(f);
-        self.sorted.remove(place);
+        let row = &mut self.rows[f.from as usize];
+        row.remove(f.to);
         true
     }
 
@@ -116,8 +124,18 @@ impl FlowSet {
         ensures flow { result ≡ first_from self.now.flows (record { from = from; to = to }) }
         ensures set { IsFlowSet self.now.size self.now.flows }
     {
-        let place = self.place(Flow { from, to });
-        self.sorted.get(place).copied()
+        let size = self.size();
+        let mut start = to;
+        for sender in from..size {
+            if let Some(receiver) = self.rows[sender as usize].first_from(start) {
+                return Some(Flow {
+                    from: sender,
+                    to: receiver,
+                });
+            }
+            start = 0;
+        }
+        None
     }
 
     /// The flows in order.
@@ -125,7 +143,8 @@ impl FlowSet {
         ensures flows { result ≡ self.now.flows }
         ensures set { IsFlowSet self.now.size self.now.flows }
     {
-        Iter::new(&self.sorted)
+        let _ = self.size();
+        Iter::new(self)
     }
 
     /// A copy with room of its own.
@@ -133,9 +152,12 @@ impl FlowSet {
         ensures same { IfOk result (λ copy. copy ≡ self.now) }
         ensures set { IsFlowSet self.now.size self.now.flows }
     {
-        let mut copy = FlowSet::empty(alloc, self.size)?;
-        copy.sorted.extend_from_slice(&self.sorted)?;
-        Ok(copy)
+        let _ = self.size();
+        let rows = copies(alloc, &self.rows)?;
+        Ok(FlowSet {
+            size: self.size,
+            rows,
+        })
     }
 
     /// The set and, for each flow of `s`, the flow in the other direction.
@@ -143,20 +165,13 @@ impl FlowSet {
         requires { s.now.size ≡ self.now.size }
         ensures size { IfOk result (λ all. all.size ≡ self.now.size) }
         ensures flows { IfOk result (λ all. all.flows ≡ with_back self.now.flows s.now.flows) }
+        ensures members { IfOk result (λ all. (f : Flow) → IsTrue (has all.flows f) ↔ (IsTrue (has self.now.flows f) ⊎ IsTrue (has s.now.flows (back_of f)))) }
     {
         let mut all = self.copy(alloc)?;
         for f in s.iter() {
             all.insert(f.back());
         }
         Ok(all)
-    }
-
-    // How many flows of the set are before `f`.
-    fn place(&self, f: Flow) -> usize
-        ensures place { result ≡ length (flows_before self.now.flows f) }
-        ensures within { result ≤ length self.now.flows }
-    {
-        self.sorted.partition_point(|g| *g < f)
     }
 
     // Puts in every flow that begins at `from`.
@@ -172,4 +187,10 @@ impl FlowSet {
             }
         }
     }
+}
+
+fn copies(alloc: Global, rows: &[HostSet]) -> Result<Vec<HostSet>, AllocError>
+    ensures { IfOk result (λ copies. copies.items ≡ rows.now) }
+{
+    rows.iter().map(|row| row.copy()).collect(alloc)
 }

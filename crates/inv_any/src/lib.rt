@@ -2,7 +2,9 @@
 #![tactic(auto)]
 
 mod any_inv;
+mod any_trial;
 #[cfg(test)]
 mod tests;
 
 pub use any_inv::AnyInv;
+pub use any_trial::AnyTrial;

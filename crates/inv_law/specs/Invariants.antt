@@ -18,7 +18,7 @@ pub record IsOffendingHost (strategy : Strategy) (f : List Flow) (host : ℕ) : 
   pub offends : IsTrue (has f flow)
   pub blamed : blamed_host strategy flow ≡ host
 
--- where it fails it still fails after the reset of an offending host: a forgotten attribute hides no fault
+-- an invariant that fails on a set still fails on it after the reset of an offending host: a forgotten attribute hides no fault
 abbrev pub ResetMendsNothing : ℕ → Strategy → (List Flow → Type 0) → (ℕ → List Flow → Type 0) → Type 0
 ResetMendsNothing n strategy Holds HoldsAfterReset =
     (e f : List Flow) (host : ℕ) → IsFlowSet n e → IsMinimalOffending Holds e f → IsOffendingHost strategy f host → HoldsAfterReset host e → ⊥

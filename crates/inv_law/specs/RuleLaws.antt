@@ -1,9 +1,9 @@
 -- The laws of an invariant that holds where every flow passes a rule, from the law of the rule alone.
 use Rattle.std.proofs.Common.{ℕ, ⊎_elim, List, [], ◌∷◌, ◌++◌, ◌∙◌, subst, sym}
-use Rattle.std.specs.Prelude.{IsTrue}
-use Rattle.std.proofs.lemmas.Bool.{false≢true, or_cases}
+use Rattle.std.specs.Prelude.{IsTrue, ◌↔◌}
+use Rattle.std.proofs.lemmas.Bool.{false≢true, or_cases, or_left}
 use Rattle.flow_set.specs.Conditions.{IsDownward, IsEdgeWise}
-use Rattle.flow_set.specs.FlowLaws.{has-append, has_first, has-with_flow, same_fact}
+use Rattle.flow_set.specs.FlowLaws.{has-append, has_first, has-with_flow, same_fact, same_flow_self}
 use Rattle.flow_set.specs.FlowSet.{has, with_flow, without}
 use Rattle.flow_set.specs.declared.flow.Flow.{Flow}
 use Rattle.inv_law.specs.Invariants.{ResetMendsNothing}
@@ -30,6 +30,13 @@ AllFlowsPass-push Passes e f passes pass g in_both =
 
 pub passes_alone : (Passes : ℕ → ℕ → Type 0) (f : Flow) → AllFlowsPass Passes (f ∷ []) → Passes f.from f.to
 passes_alone Passes f passes = passes f (has_first f [])
+
+-- where all flows pass, one more flow passes alone exactly where they all pass with it
+pub AllFlowsPass-with_flow : (Passes : ℕ → ℕ → Type 0) (e : List Flow) (f : Flow) → AllFlowsPass Passes e → AllFlowsPass Passes (f ∷ []) ↔ AllFlowsPass Passes (with_flow e f)
+AllFlowsPass-with_flow Passes e f passes = (
+  λ alone g there. AllFlowsPass-with Passes f e (passes_alone Passes f alone) passes g (sym (has-with_flow e f g) ∙ there),
+  λ together. AllFlowsPass-one Passes f (together f (has-with_flow e f f ∙ or_left _ _ (same_flow_self f))),
+)
 
 pub AllFlowsPass-edge_wise : (n : ℕ) (Passes : ℕ → ℕ → Type 0) → IsEdgeWise n (AllFlowsPass Passes)
 AllFlowsPass-edge_wise n Passes e is_set =

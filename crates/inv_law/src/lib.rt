@@ -4,13 +4,17 @@
 #![tactic(auto)]
 
 mod edge_rule;
+mod edge_trial;
 mod edge_wise;
 mod invariant;
+mod stepwise;
 mod strategy;
 #[cfg(test)]
 mod tests;
 
 pub use edge_rule::EdgeRule;
+pub use edge_trial::EdgeTrial;
 pub use edge_wise::EdgeWise;
 pub use invariant::Invariant;
+pub use stepwise::{Stepwise, Trial};
 pub use strategy::Strategy;

@@ -1,3 +1,5 @@
+//! A rule of the least kind, and its invariant.
+
 ghost use Rattle.std.specs.Prelude.{◌≡◌};
 ghost use Rattle.flow_set.specs.Flow.{IsFlow};
 
@@ -43,7 +45,7 @@ impl EdgeRule for Upward {
     ghost reset_passes_no_more = { λ _ _ _ fails passes. fails passes };
 }
 
-// What an invariant of three hosts answers of the flow and of the set.
+// What an invariant answers of the flow and of the set.
 fn answers<I: Invariant>(
     alloc: Global,
     inv: &I,
@@ -66,10 +68,15 @@ fn every_flow_passes(rt: HostRuntime) -> Result<(), Fail> {
     assert_eq!(rt; answers(rt.alloc(), &inv, up, &e)?, (true, true));
     e.insert(down);
     assert_eq!(rt; answers(rt.alloc(), &inv, up, &e)?, (true, false));
+    Ok(())
+}
+
+#[test]
+fn a_reset_keeps_the_rest(rt: HostRuntime) -> Result<(), Fail> {
+    let inv = EdgeWise::new(Upward { hosts: 3 });
     let reset = inv.with_default(rt.alloc(), 2)?;
     assert_eq!(rt; reset.hosts(), 3);
     assert!(rt; reset.edge_wise());
-    assert_eq!(rt; reset.rule().hosts(), 3);
     assert_eq!(rt; reset.strategy(), Strategy::Access);
     Ok(())
 }

@@ -4,6 +4,8 @@
 
 mod limit;
 #[cfg(test)]
+mod steps_only;
+#[cfg(test)]
 mod tests;
 
 pub use limit::OutLimit;

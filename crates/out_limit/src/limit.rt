@@ -79,10 +79,7 @@ impl Invariant for OutLimit {
         Ok(keeps(&self.limits, e))
     }
 
-    fn with_default(&self, alloc: Global, host: u16) -> Result<Self, AllocError>
-        requires { host < length self.now }
-        ensures { IfOk result (λ new. new ≡ slice_set self.now host 0) }
-    {
+    fn with_default(&self, alloc: Global, host: u16) -> Result<Self, AllocError> {
         let mut limits = Vec::from_slice(alloc, &self.limits)?;
         limits[host as usize] = 0;
         Ok(OutLimit { limits })

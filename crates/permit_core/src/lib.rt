@@ -4,10 +4,15 @@
 #![tactic(auto)]
 
 mod denial;
-mod growth;
+mod denial_by_steps;
 mod offence;
+mod offence_by_steps;
 mod policy;
+mod policy_by_steps;
 
 pub use denial::blame;
+pub use denial_by_steps::blame_by_steps;
 pub use offence::offending;
+pub use offence_by_steps::offending_by_steps;
 pub use policy::permit;
+pub use policy_by_steps::permit_by_steps;

@@ -5,11 +5,11 @@ ghost use Rattle.flow_set.specs.FlowSet.{IsFlowSet};
 ghost use Rattle.flow_set.specs.Conditions.{IsFirst, IsGreatest};
 ghost use Rattle.permit_core.specs.Policy.{AllHold};
 
-use crate::growth::all_still_hold;
 use first_core::{Condition, first_subset};
 use flow_set::{Flow, FlowSet};
 use inv_law::Invariant;
 use std::alloc::{AllocError, Global};
+use trial_core::{Every, chosen_still_hold};
 
 /// The first subset of the asked flows on which every invariant holds. Where each invariant judges
 /// flows alone, it contains every other such subset.
@@ -47,6 +47,6 @@ impl<'a, I: Invariant> Condition for Together<'a, I> {
     ghost meets_on = { λ c. AllHold I.holds_on c.invs.now };
 
     fn meets(&self, alloc: Global, set: &FlowSet, added: Flow) -> Result<bool, AllocError> {
-        all_still_hold(alloc, self.invs, set, added)
+        chosen_still_hold(alloc, &Every, self.invs, set, added)
     }
 }

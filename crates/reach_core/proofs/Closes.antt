@@ -10,11 +10,11 @@ use Rattle.flow_set.specs.Flow.{IsFlow, same_flow, back_of}
 use Rattle.flow_set.specs.FlowSet.{SetOfFlows, IsFlowSet, has, with_flow}
 use Rattle.flow_set.specs.FlowLaws.{same_flow_self, same_flow_back, has-with_flow}
 use Rattle.flow_set.specs.SubsetLaws.{IsFlowSet-nothing, IsFlowSet-with_flow}
-use Rattle.reach_core.specs.HostSet.{Hosts}
+use Rattle.host_set.specs.HostSet.{Hosts}
 use Rattle.reach_core.specs.Walks.{has_either}
 use Rattle.reach_core.specs.WalkLaws.{HasPath, HasWalk-weaker, HasWalk-append, HasPath-weaker, path_of_walk, cases_path, walk_over, walk_cut}
 use Rattle.reach_core.specs.Rows.{row_of, Closes, IsClosed, opened, OpensFlow, HasRows}
-use Rattle.reach_core.specs.HostSetLaws.{contains-insert, hosts_ext}
+use Rattle.host_set.specs.HostSetLaws.{contains-insert, hosts_ext}
 
 -- ---- a row after one more flow
 

@@ -8,9 +8,9 @@ use Rattle.std.specs.Cmp.{nat_cmp_total, unsigned_tied}
 use Rattle.std.proofs.lemmas.Bool.{and_parts, and_from, or_left, eqb-false, eq-eqb, ne_eqb, not-true, not_from_false, cases_eq, cond-true, cond-false, false≢true}
 use Rattle.std.proofs.lemmas.List.Elements.{All-nil, All-cons, All-head, All-tail}
 use Rattle.flow_set.specs.declared.flow.Flow.{Flow}
-use Rattle.reach_core.specs.HostSet.{Hosts}
+use Rattle.host_set.specs.HostSet.{Hosts}
 use Rattle.reach_core.specs.Walks.{Reaches, ReachesExactly}
-use Rattle.reach_core.specs.HostSetLaws.{hosts_ext, contains-remove}
+use Rattle.host_set.specs.HostSetLaws.{hosts_ext, contains-remove}
 
 -- ---- members, one by one
 

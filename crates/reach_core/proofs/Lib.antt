@@ -1,4 +1,5 @@
-pub mod HostSets
 pub mod Closes
 pub mod Lasts
 pub mod Counts
+pub mod Steps
+pub mod Shows

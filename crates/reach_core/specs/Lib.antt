@@ -1,5 +1,3 @@
-pub mod HostSet
-pub mod HostSetLaws
 pub mod Walks
 pub mod WalkLaws
 pub mod ReachLaws

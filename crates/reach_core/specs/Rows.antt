@@ -1,9 +1,10 @@
 -- Rows of hosts, one for each host: what the rows of a closure say, and what one more flow opens. No clause of a public call speaks of rows.
-use Rattle.std.specs.Prelude.{◌≡◌, ℕ, ◌<◌, ◌↔◌, Bool, ◌||◌, ◌==◌, if◌then◌else◌, List, length, slice_index_or, IsTrue}
+use Rattle.std.specs.Prelude.{◌≡◌, ℕ, ◌<◌, ◌↔◌, Bool, ◌||◌, ◌==◌, if◌then◌else◌, List, length, slice_index_or, IsTrue, IfSome}
 use Rattle.std.specs.FinSet as set
 use Rattle.flow_set.specs.declared.flow.Flow.{Flow}
 use Rattle.flow_set.specs.FlowSet.{SetOfFlows, has, IsFlowSet}
-use Rattle.reach_core.specs.HostSet.{Hosts}
+use Rattle.flow_set.specs.Steps.{TriedFlows}
+use Rattle.host_set.specs.HostSet.{Hosts}
 use Rattle.reach_core.specs.Walks.{HasWalk, has_either}
 
 -- a host's row
@@ -38,3 +39,10 @@ pub record HasRows (e : SetOfFlows) (along either : List Hosts) : Type 0 where
   pub joined_length : length either ≡ e.size
   pub reached : Closes (has e.flows) along
   pub joined : Closes (has_either e.flows) either
+
+-- the rows of flows that are tried in steps, and those before the last step
+pub record HasSteppedRows (t : TriedFlows) (along either along_before either_before : List Hosts) : Type 0 where
+  pub now : HasRows (record { size = t.size; flows = t.flows }) along either
+  pub along_room : length along_before ≡ t.size
+  pub either_room : length either_before ≡ t.size
+  pub before : IfSome t.before (λ fs. HasRows (record { size = t.size; flows = fs }) along_before either_before)

@@ -1,52 +1,87 @@
 //! The closure of a set of flows: for each host a row of the hosts that it reaches and a row of
 //! those that it is joined with. The rows begin empty and grow by one flow at a time.
 
-ghost use Rattle.std.specs.Prelude.{◌≡◌, ◌<◌, ◌↔◌, IsTrue, IfOk};
+ghost use Rattle.std.specs.Prelude.{◌≡◌, ℕ, ◌<◌, ◌↔◌, IsTrue, IfOk, IsSome};
+ghost use Rattle.std.specs.FinSet as set;
+ghost use Rattle.flow_set.specs.Flow.{IsFlow};
 ghost use Rattle.flow_set.specs.FlowSet.{IsFlowSet};
+ghost use Rattle.flow_set.specs.Steps.{untried, stepped, taken_back};
 ghost use Rattle.reach_core.specs.Walks.{Reaches, Joined, ReachesExactly};
 
 use crate::rows::Rows;
-use flow_set::FlowSet;
+use flow_set::{Flow, FlowSet, FlowSteps};
+use host_set::HostSet;
 use std::alloc::{AllocError, Global};
 use std::marker::Model;
+use std::mem;
 
 /// The walks along a set of flows.
 #[derive(Drop)]
 pub struct Closure {
-    flows: FlowSet,
+    steps: FlowSteps,
     reached: Rows,
     joined: Rows,
+    // The rows before the last step, and room for them where there is none.
+    reached_before: Rows,
+    joined_before: Rows,
 }
 
 impl Model for Closure {
-    ghost use Rattle.flow_set.specs.FlowSet.{SetOfFlows};
-    ghost use Rattle.reach_core.specs.Rows.{HasRows};
+    ghost use Rattle.flow_set.specs.Steps.{TriedFlows};
+    ghost use Rattle.reach_core.specs.Rows.{HasSteppedRows};
 
-    ghost Value = { SetOfFlows };
+    ghost Value = { TriedFlows };
 
-    ghost view = { λ c. c.flows };
+    ghost view = { λ c. c.steps };
 
-    ghost invariant = { λ c. HasRows c.flows c.reached c.joined };
+    ghost invariant = { λ c. HasSteppedRows c.steps c.reached c.joined c.reached_before c.joined_before };
 }
 
 impl Closure {
     /// The closure of the flows of `e`.
     pub fn of(alloc: Global, e: &FlowSet) -> Result<Closure, AllocError>
-        ensures { IfOk result (λ closure. closure ≡ e.now) }
+        ensures { IfOk result (λ closure. closure ≡ untried e.now) }
     {
-        let flows = e.copy(alloc)?;
+        let steps = FlowSteps::new(alloc, e)?;
         let mut reached = Rows::new(alloc, e.size())?;
         let mut joined = Rows::new(alloc, e.size())?;
+        let reached_before = Rows::new(alloc, e.size())?;
+        let joined_before = Rows::new(alloc, e.size())?;
         for f in e.iter() {
             reached.open(f);
             joined.open(f);
             joined.open(f.back());
         }
         Ok(Closure {
-            flows,
+            steps,
             reached,
             joined,
+            reached_before,
+            joined_before,
         })
+    }
+
+    /// One more flow, which may be there already.
+    pub fn try_add(&mut self, f: Flow)
+        requires { IsFlow self.old.size f }
+        ensures { self.new ≡ stepped self.old f }
+    {
+        self.reached_before.copy_from(&self.reached);
+        self.joined_before.copy_from(&self.joined);
+        self.steps.step(f);
+        self.reached.open(f);
+        self.joined.open(f);
+        self.joined.open(f.back());
+    }
+
+    /// Takes the last `try_add` back.
+    pub fn undo(&mut self)
+        requires { IsSome self.old.before }
+        ensures { self.new ≡ taken_back self.old }
+    {
+        mem::swap(&mut self.reached, &mut self.reached_before);
+        mem::swap(&mut self.joined, &mut self.joined_before);
+        self.steps.back();
     }
 
     /// The number of hosts.
@@ -54,16 +89,25 @@ impl Closure {
         ensures size { result ≡ self.now.size }
         ensures set { IsFlowSet self.now.size self.now.flows }
     {
-        self.flows.size()
+        self.steps.size()
     }
 
-    /// Whether one gets from `i` to `j` along flows. A host gets back to itself by a round trip only.
+    /// The hosts that one gets to from `i` along flows. A host gets back to itself by a round trip only.
+    pub fn reached_from(&self, i: u16) -> &HostSet
+        requires { i < self.now.size }
+        ensures { (j : ℕ) → IsTrue (set.contains result.now j) ↔ Reaches self.now.flows i j }
+    {
+        self.reached.row(i)
+    }
+
+    /// Whether one gets from `i` to `j` along flows.
     pub fn reaches(&self, i: u16, j: u16) -> bool
         requires i { i < self.now.size }
         requires j { j < self.now.size }
         ensures { IsTrue result ↔ Reaches self.now.flows i j }
     {
-        self.reached.row(i).has(j)
+        let _ = self.size();
+        self.reached_from(i).has(j)
     }
 
     /// How many other hosts `i` reaches. A round trip adds nothing.
@@ -71,8 +115,17 @@ impl Closure {
         requires { i < self.now.size }
         ensures { ReachesExactly self.now.flows i result }
     {
-        let row = self.reached.row(i);
+        let _ = self.size();
+        let row = self.reached_from(i);
         if row.has(i) { row.len() - 1 } else { row.len() }
+    }
+
+    /// The hosts that flows join with `i`, taken forwards or backwards.
+    pub fn joined_with(&self, i: u16) -> &HostSet
+        requires { i < self.now.size }
+        ensures { (j : ℕ) → IsTrue (set.contains result.now j) ↔ Joined self.now.flows i j }
+    {
+        self.joined.row(i)
     }
 
     /// Whether flows join `i` and `j`, taken forwards or backwards.
@@ -81,6 +134,7 @@ impl Closure {
         requires j { j < self.now.size }
         ensures { IsTrue result ↔ Joined self.now.flows i j }
     {
-        self.joined.row(i).has(j)
+        let _ = self.size();
+        self.joined_with(i).has(j)
     }
 }

@@ -3,7 +3,6 @@
 #![tactic(auto)]
 
 mod closure;
-mod host_set;
 mod rows;
 #[cfg(test)]
 mod tests;

@@ -6,8 +6,8 @@ ghost use Rattle.std.specs.FinSet as set;
 ghost use Rattle.flow_set.specs.Flow.{IsFlow};
 ghost use Rattle.reach_core.specs.Rows.{row_of, IsClosed, OpensFlow};
 
-use crate::host_set::HostSet;
 use flow_set::Flow;
+use host_set::HostSet;
 use std::alloc::{AllocError, Global};
 use std::marker::Model;
 
@@ -21,7 +21,7 @@ impl Model for Rows {
     ghost use Rattle.std.specs.Prelude.{List};
     ghost use Rattle.std.specs.Coded.{coded_list, coded_ℕ};
     ghost use Rattle.std.specs.FinSet as set;
-    ghost use Rattle.reach_core.specs.HostSet.{Hosts};
+    ghost use Rattle.host_set.specs.HostSet.{Hosts};
 
     ghost Value = { List Hosts };
 
@@ -47,6 +47,16 @@ impl Rows {
         ensures { result.now ≡ row_of self.now host }
     {
         &self.rows[host as usize]
+    }
+
+    // Takes over the rows of others, in the room of its own.
+    pub fn copy_from(&mut self, other: &Rows)
+        requires { length self.old ≡ length other.now }
+        ensures { self.new ≡ other.now }
+    {
+        for (host, row) in self.rows.iter_mut().enumerate() {
+            *row = other.rows[host].copy();
+        }
     }
 
     // One more flow: whoever is its sender or comes to it goes on to its receiver and to all beyond.

@@ -3,7 +3,7 @@
 use Rattle.std.specs.Prelude.{Bool, true, not, List, All, IsTrue, IsFalse}
 use Rattle.flow_set.specs.declared.flow.Flow.{Flow}
 use Rattle.flow_set.specs.Flow.{back_of}
-use Rattle.flow_set.specs.FlowSet.{has, with_back}
+use Rattle.flow_set.specs.FlowSet.{has, IsSubset, with_back}
 use Rattle.flow_set.specs.Conditions.{IsMinimalOffending}
 use Rattle.inv_law.specs.declared.strategy.Strategy.{Strategy}
 use Rattle.inv_law.specs.declared.strategy.Strategy.TheVariants.{Access, Information}
@@ -25,3 +25,8 @@ AreAnswers p s f = (g : Flow) → IsTrue (has f g) → IsTrue (has s (back_of g)
 abbrev pub Complies : Strategy → (List Flow → Type 0) → List Flow → List Flow → Type 0
 Complies Information Holds p s = Holds (with_back p s)
 Complies Access Holds p s = (f : List Flow) → IsMinimalOffending Holds (with_back p s) f → AreAnswers p s f
+
+-- the stateful flows s are flows of the policy p, and with their answers p complies with each invariant
+pub record CompliesWithEach {X : Type 0} (strategy_of : X → Strategy) (HoldsOn : X → List Flow → Type 0) (invs : List X) (p s : List Flow) : Type 0 where
+  pub within : IsSubset s p
+  pub each : All (λ inv. Complies (strategy_of inv) (HoldsOn inv) p s) invs

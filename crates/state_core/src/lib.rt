@@ -4,6 +4,8 @@
 
 mod answers;
 mod refinement;
+mod refinement_by_steps;
 
 pub use answers::with_answers;
 pub use refinement::refine;
+pub use refinement_by_steps::refine_by_steps;

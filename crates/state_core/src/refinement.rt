@@ -1,15 +1,16 @@
 //! The stateful flows of a permitted policy.
 
-ghost use Rattle.std.specs.Prelude.{◌≡◌, ◌↔◌, All, IsTrue, IfOk};
+ghost use Rattle.std.specs.Prelude.{◌≡◌, All, IfOk};
 ghost use Rattle.flow_set.specs.FlowSet.{IsFlowSet, with_back};
 ghost use Rattle.flow_set.specs.Conditions.{IsFirst};
-ghost use Rattle.state_core.specs.Stateful.{is_strict, StrictHold, Complies};
+ghost use Rattle.state_core.specs.Stateful.{is_strict, StrictHold, CompliesWithEach};
 
 use crate::answers::with_answers;
 use first_core::{Condition, first_subset};
 use flow_set::{Flow, FlowSet};
 use inv_law::{Invariant, Strategy};
 use std::alloc::{AllocError, Global};
+use trial_core::{Choice, chosen_still_hold};
 
 /// The first flows of `p` whose answers break no strict invariant. Every invariant has to hold of
 /// `p`; then `p` with these answers complies with all of them.
@@ -21,8 +22,7 @@ pub fn refine<I: Invariant>(alloc: Global, invs: &[I], p: &FlowSet) -> Result<Fl
     ensures first { IfOk result (λ s. IsFirst
         (λ answered. StrictHold I.strategy_of I.edge_mark I.holds_on invs.now (with_back p.now.flows answered))
         p.now.flows s.flows) }
-    ensures complies { IfOk result (λ s. All
-        (λ inv. Complies (I.strategy_of inv) (I.holds_on inv) p.now.flows s.flows) invs.now) }
+    ensures complies { IfOk result (λ s. CompliesWithEach I.strategy_of I.holds_on invs.now p.now.flows s.flows) }
 {
     let answered = Answered {
         invs,
@@ -49,27 +49,26 @@ impl<'a, I: Invariant> Condition for Answered<'a, I> {
     ghost meets_on = { λ c s. StrictHold I.strategy_of I.edge_mark I.holds_on c.invs.now (with_back c.permitted.now.flows s) };
 
     fn meets(&self, alloc: Global, set: &FlowSet, added: Flow) -> Result<bool, AllocError> {
+        let answer = added.back();
         // An answer that is permitted as a flow of its own adds nothing.
-        if self.permitted.has(added.back()) {
+        if self.permitted.has(answer) {
             return Ok(true);
         }
         let all = with_answers(alloc, self.permitted, set)?;
-        strict_hold(alloc, self.invs, &all)
+        chosen_still_hold(alloc, &Strict, self.invs, &all, answer)
     }
 }
 
-// Whether the strict invariants hold of the set.
-fn strict_hold<I: Invariant>(alloc: Global, invs: &[I], e: &FlowSet) -> Result<bool, AllocError>
-    requires { All (λ inv. I.size_of inv ≡ e.now.size) invs.now }
-    ensures { IfOk result (λ held. IsTrue held
-        ↔ StrictHold I.strategy_of I.edge_mark I.holds_on invs.now e.now.flows) }
-{
-    for inv in invs {
-        if is_strict(inv) && !inv.holds(alloc, e)? {
-            return Ok(false);
-        }
+// The invariants that have to hold of answers too.
+#[derive(Drop)]
+pub(crate) struct Strict;
+
+impl<I: Invariant> Choice<I> for Strict {
+    ghost chosen = { λ _ inv. is_strict (I.strategy_of inv) (I.edge_mark inv) };
+
+    fn chooses(&self, inv: &I) -> bool {
+        is_strict(inv)
     }
-    Ok(true)
 }
 
 fn is_strict<I: Invariant>(inv: &I) -> bool

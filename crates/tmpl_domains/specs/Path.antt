@@ -7,9 +7,13 @@ use Rattle.text_core.specs.Name.{is_name}
 abbrev pub segments : List ℕ → List (List ℕ)
 segments bytes = slice_split (λ b. b == 47) bytes
 
+-- at most 16 names
+abbrev pub are_names : List (List ℕ) → Bool
+are_names path = nat_le (length path) 16 && list_all is_name path
+
 -- a path is 1 to 16 names
 abbrev pub is_path : List ℕ → Bool
-is_path bytes = nat_le (length (segments bytes)) 16 && list_all is_name (segments bytes)
+is_path bytes = are_names (segments bytes)
 
 -- the path begins with all segments of the front
 abbrev pub IsPrefix : List (List ℕ) → List (List ℕ) → Type 0

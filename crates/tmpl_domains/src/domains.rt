@@ -89,10 +89,7 @@ impl EdgeRule for Domains {
         sender.sends_to(receiver)
     }
 
-    fn with_default(&self, alloc: Global, host: u16) -> Result<Self, AllocError>
-        requires { host < length self.now }
-        ensures { IfOk result (λ new. new ≡ slice_set self.now host None) }
-    {
+    fn with_default(&self, alloc: Global, host: u16) -> Result<Self, AllocError> {
         let mut hosts = copied(alloc, &self.hosts)?;
         hosts[host as usize] = None;
         Ok(Domains { alloc, hosts })

@@ -85,10 +85,7 @@ impl EdgeRule for Blp {
         receiver.trusted || sender.level <= receiver.level
     }
 
-    fn with_default(&self, alloc: Global, host: u16) -> Result<Self, AllocError>
-        requires { host < length self.now }
-        ensures { IfOk result (λ new. new ≡ slice_set self.now host unclassified) }
-    {
+    fn with_default(&self, alloc: Global, host: u16) -> Result<Self, AllocError> {
         let mut hosts = Vec::from_slice(alloc, &self.hosts)?;
         hosts[host as usize] = UNCLASSIFIED;
         Ok(Blp { hosts })

@@ -40,14 +40,15 @@ pub struct Tainting {
 }
 
 impl Model for Tainting {
-    ghost use Rattle.std.specs.Prelude.{List, length, ◌<◌, ◌^◌};
+    ghost use Rattle.std.specs.Prelude.{List};
+    ghost use Rattle.tmpl_levels.specs.Tainting.{AreLabelled};
     ghost use Rattle.tmpl_levels.specs.declared.tainting.Labels.{Labels};
 
     ghost Value = { List Labels };
 
     ghost view = { λ tainting. tainting.hosts.items };
 
-    ghost invariant = { λ tainting. length tainting.hosts.items < 2 ^ 16 };
+    ghost invariant = { λ tainting. AreLabelled tainting.hosts.items };
 }
 
 impl Tainting {
@@ -95,10 +96,7 @@ impl EdgeRule for Tainting {
         sender.pass_to(receiver)
     }
 
-    fn with_default(&self, alloc: Global, host: u16) -> Result<Self, AllocError>
-        requires { host < length self.now }
-        ensures { IfOk result (λ new. new ≡ slice_set self.now host untainted) }
-    {
+    fn with_default(&self, alloc: Global, host: u16) -> Result<Self, AllocError> {
         let mut hosts = Vec::from_slice(alloc, &self.hosts)?;
         hosts[host as usize] = UNTAINTED;
         Ok(Tainting { hosts })

@@ -1,3 +1,5 @@
+//! Each template on a worked network of three hosts, and through its bounds.
+
 ghost use Rattle.std.specs.Prelude.{◌≡◌, ◌<◌};
 ghost use Rattle.flow_set.specs.Flow.{IsFlow};
 

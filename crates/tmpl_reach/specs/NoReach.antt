@@ -4,7 +4,7 @@ use Rattle.std.specs.Prelude.{◌≢◌, ℕ, not, ◌==◌, List, length, map, 
 use Rattle.std.specs.List.{range_with_len}
 use Rattle.std.specs.FinSet as set
 use Rattle.flow_set.specs.declared.flow.Flow.{Flow}
-use Rattle.reach_core.specs.HostSet.{Hosts, hosts_below}
+use Rattle.host_set.specs.HostSet.{Hosts, hosts_below}
 use Rattle.reach_core.specs.Walks.{Reaches}
 
 -- all hosts of n but this one: what a host without an entry denies

@@ -11,8 +11,8 @@ use Rattle.flow_set.specs.FlowLaws.{has_first}
 use Rattle.flow_set.specs.Conditions.{IsDownward}
 use Rattle.inv_law.specs.Invariants.{ResetMendsNothing}
 use Rattle.inv_law.specs.declared.strategy.Strategy.TheVariants.{Access}
-use Rattle.reach_core.specs.HostSet.{Hosts}
-use Rattle.reach_core.specs.HostSetLaws.{contains-hosts_below, hosts_ext}
+use Rattle.host_set.specs.HostSet.{Hosts}
+use Rattle.host_set.specs.HostSetLaws.{contains-hosts_below, hosts_ext}
 use Rattle.reach_core.specs.ReachLaws.{Reaches-within, Reaches-none, Reaches-one, reaches_over}
 use Rattle.tmpl_reach.specs.NoReach.{others, denied_by, ReachesNoDenied, ReachesNoDeniedAfterReset}
 

@@ -7,8 +7,9 @@ ghost use Rattle.inv_law.specs.declared.strategy.Strategy.TheVariants.{Access};
 ghost use Rattle.tmpl_reach.specs.Dependability.{IsDependable, IsDependableAfterReset};
 ghost use Rattle.tmpl_reach.specs.DependabilityLaws.{IsDependable-downward, IsDependable-none, IsDependable-reset};
 
+use crate::trial::ReachTrial;
 use flow_set::{Flow, FlowSet};
-use inv_law::{Invariant, Strategy};
+use inv_law::{Invariant, Stepwise, Strategy};
 use reach_core::Closure;
 use std::alloc::{AllocError, Global};
 use std::marker::Model;
@@ -95,10 +96,7 @@ impl Invariant for Dependability {
         Ok(self.all_within(&closure))
     }
 
-    fn with_default(&self, alloc: Global, host: u16) -> Result<Self, AllocError>
-        requires { host < length self.now }
-        ensures { IfOk result (λ new. new ≡ slice_set self.now host 0) }
-    {
+    fn with_default(&self, alloc: Global, host: u16) -> Result<Self, AllocError> {
         let mut limits = Vec::from_slice(alloc, &self.limits)?;
         limits[host as usize] = 0;
         Ok(Dependability { limits })
@@ -111,4 +109,25 @@ impl Invariant for Dependability {
     ghost reset_mends_nothing = { IsDependable-reset };
 
     ghost mark_is_right = { λ _ marked. absurd (false≢true marked) };
+}
+
+impl Stepwise for Dependability {
+    type Tried = ReachTrial;
+
+    ghost fits = { λ x tried. tried.size ≡ length x };
+
+    fn trial(&self, alloc: Global, e: &FlowSet) -> Result<ReachTrial, AllocError> {
+        ReachTrial::new(alloc, e)
+    }
+
+    fn step(&self, tried: &mut ReachTrial, f: Flow) -> bool {
+        tried.step(f);
+        self.all_within(tried.closure())
+    }
+
+    fn back(&self, tried: &mut ReachTrial) {
+        tried.back();
+    }
+
+    ghost fits_size = { λ x tried fits. fits };
 }

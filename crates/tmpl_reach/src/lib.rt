@@ -7,7 +7,9 @@ mod no_reach;
 mod non_interference;
 #[cfg(test)]
 mod tests;
+mod trial;
 
 pub use dependability::Dependability;
 pub use no_reach::NoReach;
 pub use non_interference::NonInterference;
+pub use trial::ReachTrial;

@@ -7,8 +7,9 @@ ghost use Rattle.inv_law.specs.declared.strategy.Strategy.TheVariants.{Access};
 ghost use Rattle.tmpl_reach.specs.NoReach.{others, all_others, denied_by, ReachesNoDenied, ReachesNoDeniedAfterReset, ReachesNone};
 ghost use Rattle.tmpl_reach.specs.NoReachLaws.{ReachesNoDenied-downward, ReachesNoDenied-none, ReachesNoDenied-reset};
 
+use crate::trial::ReachTrial;
 use flow_set::{Flow, FlowSet};
-use inv_law::{Invariant, Strategy};
+use inv_law::{Invariant, Stepwise, Strategy};
 use reach_core::{Closure, HostSet};
 use std::alloc::{AllocError, Global};
 use std::marker::Model;
@@ -23,7 +24,7 @@ impl Model for NoReach {
     ghost use Rattle.std.specs.Prelude.{List, length, ◌≤◌};
     ghost use Rattle.std.specs.Coded.{coded_list, coded_ℕ};
     ghost use Rattle.std.specs.FinSet as set;
-    ghost use Rattle.reach_core.specs.HostSet.{Hosts};
+    ghost use Rattle.host_set.specs.HostSet.{Hosts};
 
     ghost Value = { List Hosts };
 
@@ -93,12 +94,10 @@ impl NoReach {
         requires host { host < length self.now }
         ensures { IsTrue result ↔ ReachesNone (denied_by self.now host) closure.now.flows host }
     {
-        for other in 0..closure.size() {
-            if other != host && self.denies(host, other) && closure.reaches(host, other) {
-                return false;
-            }
-        }
-        true
+        let _ = closure.size();
+        let mut others = closure.reached_from(host).copy();
+        others.remove(host);
+        others.is_apart(&self.denied[host as usize])
     }
 }
 
@@ -136,10 +135,7 @@ impl Invariant for NoReach {
         Ok(self.none_reached(&closure))
     }
 
-    fn with_default(&self, alloc: Global, host: u16) -> Result<Self, AllocError>
-        requires { host < length self.now }
-        ensures { IfOk result (λ new. new ≡ slice_set self.now host (others (length self.now) host)) }
-    {
+    fn with_default(&self, alloc: Global, host: u16) -> Result<Self, AllocError> {
         let mut denied = copies(alloc, &self.denied)?;
         denied[host as usize] = others(self.hosts(), host);
         Ok(NoReach { denied })
@@ -152,6 +148,27 @@ impl Invariant for NoReach {
     ghost reset_mends_nothing = { ReachesNoDenied-reset };
 
     ghost mark_is_right = { λ _ marked. absurd (false≢true marked) };
+}
+
+impl Stepwise for NoReach {
+    type Tried = ReachTrial;
+
+    ghost fits = { λ x tried. tried.size ≡ length x };
+
+    fn trial(&self, alloc: Global, e: &FlowSet) -> Result<ReachTrial, AllocError> {
+        ReachTrial::new(alloc, e)
+    }
+
+    fn step(&self, tried: &mut ReachTrial, f: Flow) -> bool {
+        tried.step(f);
+        self.none_reached(tried.closure())
+    }
+
+    fn back(&self, tried: &mut ReachTrial) {
+        tried.back();
+    }
+
+    ghost fits_size = { λ x tried fits. fits };
 }
 
 // All hosts of `n` but this one.

@@ -1,15 +1,19 @@
 //! Non-interference: hosts that must not learn of each other. Whatever joins two of them counts, in
 //! either direction.
 
-ghost use Rattle.std.specs.Prelude.{◌≡◌, ◌<◌, ◌↔◌, IfOk, IsTrue, false, length, replicate, slice_set};
+ghost use Rattle.std.specs.Prelude.{◌≡◌, ◌≢◌, ℕ, ◌<◌, ◌≤◌, ◌↔◌, IfOk, IsTrue, false, length, replicate, slice_set};
+ghost use Rattle.std.specs.FinSet as set;
 ghost use Rattle.std.proofs.lemmas.Bool.{false≢true};
 ghost use Rattle.inv_law.specs.declared.strategy.Strategy.TheVariants.{Information};
+ghost use Rattle.reach_core.specs.Walks.{Joined};
 ghost use Rattle.tmpl_reach.specs.NonInterference.{IsInterfering, IsApart, IsNonInterfering, IsNonInterferingAfterReset};
 ghost use Rattle.tmpl_reach.specs.NonInterferenceLaws.{IsNonInterfering-downward, IsNonInterfering-none, IsNonInterfering-reset};
 ghost use Rattle.tmpl_reach.specs.declared.non_interference.Interference.TheVariants.{Interfering, Unrelated};
 
+use crate::trial::ReachTrial;
 use flow_set::{Flow, FlowSet};
-use inv_law::{Invariant, Strategy};
+use host_set::HostSet;
+use inv_law::{Invariant, Stepwise, Strategy};
 use reach_core::Closure;
 use std::alloc::{AllocError, Global};
 use std::marker::Model;
@@ -65,32 +69,45 @@ impl NonInterference {
         self.kinds[host as usize] == Interference::Interfering
     }
 
+    // The interfering hosts.
+    fn interfering(&self) -> HostSet
+        requires { length self.now ≤ 256 }
+        ensures { (host : ℕ) → IsTrue (set.contains result host) ↔ IsInterfering self.now host }
+    {
+        let mut hosts = HostSet::empty();
+        for host in 0..self.kinds.len() as u16 {
+            if self.interferes(host) {
+                hosts.insert(host);
+            }
+        }
+        hosts
+    }
+
     // Whether nothing joins an interfering host with another.
     fn all_apart(&self, closure: &Closure) -> bool
         requires { closure.now.size ≡ length self.now }
         ensures { IsTrue result ↔ IsNonInterfering self.now closure.now.flows }
     {
-        for host in 0..closure.size() {
-            if self.interferes(host) && !self.is_apart(closure, host) {
+        let size = closure.size();
+        let interfering = self.interfering();
+        for host in 0..size {
+            if interfering.has(host) && !is_apart(&interfering, closure, host) {
                 return false;
             }
         }
         true
     }
+}
 
-    // Whether nothing joins the host with another that is interfering.
-    fn is_apart(&self, closure: &Closure, host: u16) -> bool
-        requires size { closure.now.size ≡ length self.now }
-        requires host { host < length self.now }
-        ensures { IsTrue result ↔ IsApart self.now closure.now.flows host }
-    {
-        for other in 0..closure.size() {
-            if other != host && self.interferes(other) && closure.joined(host, other) {
-                return false;
-            }
-        }
-        true
-    }
+// Whether nothing joins the host with another of these.
+fn is_apart(hosts: &HostSet, closure: &Closure, host: u16) -> bool
+    requires host { host < closure.now.size }
+    requires few { closure.now.size ≤ 256 }
+    ensures { IsTrue result ↔ ((other : ℕ) → host ≢ other → IsTrue (set.contains hosts.now other) → Joined closure.now.flows host other → ⊥) }
+{
+    let mut others = closure.joined_with(host).copy();
+    others.remove(host);
+    others.is_apart(hosts)
 }
 
 impl Invariant for NonInterference {
@@ -127,10 +144,7 @@ impl Invariant for NonInterference {
         Ok(self.all_apart(&closure))
     }
 
-    fn with_default(&self, alloc: Global, host: u16) -> Result<Self, AllocError>
-        requires { host < length self.now }
-        ensures { IfOk result (λ new. new ≡ slice_set self.now host Interfering) }
-    {
+    fn with_default(&self, alloc: Global, host: u16) -> Result<Self, AllocError> {
         let mut kinds = Vec::from_slice(alloc, &self.kinds)?;
         kinds[host as usize] = Interference::Interfering;
         Ok(NonInterference { kinds })
@@ -143,4 +157,25 @@ impl Invariant for NonInterference {
     ghost reset_mends_nothing = { IsNonInterfering-reset };
 
     ghost mark_is_right = { λ _ marked. absurd (false≢true marked) };
+}
+
+impl Stepwise for NonInterference {
+    type Tried = ReachTrial;
+
+    ghost fits = { λ x tried. tried.size ≡ length x };
+
+    fn trial(&self, alloc: Global, e: &FlowSet) -> Result<ReachTrial, AllocError> {
+        ReachTrial::new(alloc, e)
+    }
+
+    fn step(&self, tried: &mut ReachTrial, f: Flow) -> bool {
+        tried.step(f);
+        self.all_apart(tried.closure())
+    }
+
+    fn back(&self, tried: &mut ReachTrial) {
+        tried.back();
+    }
+
+    ghost fits_size = { λ x tried fits. fits };
 }

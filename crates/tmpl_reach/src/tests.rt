@@ -1,9 +1,10 @@
+//! Each template on walks, asked of sets with the default at a host, and in steps.
 ghost use Rattle.std.specs.Prelude.{◌≡◌, ◌<◌};
 ghost use Rattle.flow_set.specs.Flow.{IsFlow};
 
 use crate::{Dependability, NoReach, NonInterference};
 use flow_set::{Flow, FlowSet};
-use inv_law::Invariant;
+use inv_law::{Invariant, Stepwise, Trial};
 use std::alloc::{AllocError, Global};
 use std::test::Fail;
 
@@ -70,7 +71,6 @@ fn denied_hosts_are_not_reached(rt: HostRuntime) -> Result<(), Fail> {
     let mut inv = NoReach::new(rt.alloc(), 3)?;
     inv.clear(0);
     inv.clear(1);
-    inv.clear(2);
     inv.deny(0, 1);
     let mut e = FlowSet::empty(rt.alloc(), 3)?;
     e.insert(B_TO_C);
@@ -78,10 +78,44 @@ fn denied_hosts_are_not_reached(rt: HostRuntime) -> Result<(), Fail> {
         answers(rt.alloc(), &inv, &e, 1, A_TO_B)?,
         (true, false, false)
     );
-    e.insert(A_TO_B);
+    Ok(())
+}
+
+// What an invariant answers of two steps from a set on which it holds, and of the first again after the
+// second is taken back.
+fn steps<I: Stepwise>(
+    alloc: Global,
+    inv: &I,
+    e: &FlowSet,
+    first: Flow,
+    second: Flow,
+) -> Result<Option<(bool, bool, bool)>, AllocError>
+    requires set { e.now.size ≡ I.size_of inv.now }
+    requires first { IsFlow (I.size_of inv.now) first }
+    requires second { IsFlow (I.size_of inv.now) second }
+{
+    if !inv.holds(alloc, e)? {
+        return Ok(None);
+    }
+    let mut trial = inv.trial(alloc, e)?;
+    if !inv.step(&mut trial, first) {
+        return Ok(None);
+    }
+    let both = inv.step(&mut trial, second);
+    inv.back(&mut trial);
+    let again = inv.step(&mut trial, first);
+    Ok(Some((trial.size() == inv.hosts(), both, again)))
+}
+
+#[test]
+fn steps_of_dependability(rt: HostRuntime) -> Result<(), Fail> {
+    let mut limits = Dependability::new(rt.alloc(), 3)?;
+    limits.set(0, 1);
+    limits.set(1, 1);
+    let none = FlowSet::empty(rt.alloc(), 3)?;
     assert_eq!(rt;
-        answers(rt.alloc(), &inv, &e, 2, B_TO_C)?,
-        (false, false, true)
+        steps(rt.alloc(), &limits, &none, A_TO_B, B_TO_C)?,
+        Some((true, false, true))
     );
     Ok(())
 }

@@ -1,1 +1,2 @@
 pub mod Receivers
+pub mod Masters

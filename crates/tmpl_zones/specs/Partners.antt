@@ -10,26 +10,26 @@ pub data Partner : Type 0 where
   Care : Partner
   Master : (takes_from : List Bool) → Partner
 
--- whether a flow from the host of this number passes, by the attributes of sender and receiver
+-- whether a flow passes, by the number of its sender and the attributes of its sender and its receiver
 abbrev pub partners_passes : ℕ → Partner → Partner → Bool
-partners_passes number sender DontCare = true
-partners_passes number DontCare Care = false
-partners_passes number Care Care = true
-partners_passes number (Master takes_from) Care = true
-partners_passes number sender (Master takes_from) = slice_index_or takes_from number false
+partners_passes from sender DontCare = true
+partners_passes from DontCare Care = false
+partners_passes from Care Care = true
+partners_passes from (Master takes_from) Care = true
+partners_passes from sender (Master takes_from) = slice_index_or takes_from from false
 
 -- a flow passes between two hosts, and does so with the default attribute at one host
 abbrev pub PartnersPass : List Partner → ℕ → ℕ → Type 0
-PartnersPass partners number = PassesBetween DontCare (TablePasses (partners_passes number)) partners number
+PartnersPass partners from to = PassesBetween DontCare (TablePasses (partners_passes from)) partners from to
 
 abbrev pub PartnersPassAfterReset : List Partner → ℕ → ℕ → ℕ → Type 0
-PartnersPassAfterReset partners host number = PassesAfterReset DontCare (TablePasses (partners_passes number)) partners host number
+PartnersPassAfterReset partners host from to = PassesAfterReset DontCare (TablePasses (partners_passes from)) partners host from to
 
 -- a master with one more sender marked
 abbrev pub with_sender : Partner → ℕ → Partner
-with_sender DontCare number = DontCare
-with_sender Care number = Care
-with_sender (Master takes_from) number = Master (slice_set takes_from number true)
+with_sender DontCare sender = DontCare
+with_sender Care sender = Care
+with_sender (Master takes_from) sender = Master (slice_set takes_from sender true)
 
 -- the host has a list of senders
 abbrev pub IsMaster : Partner → Type 0

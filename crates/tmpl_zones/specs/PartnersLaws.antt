@@ -1,67 +1,19 @@
--- The default of the partners template hides no fault, and a master takes from the hosts that were added to its list.
-use Rattle.std.proofs.Common.{◌≡◌, ℕ, ◌<◌, Bool, true, false, List, [], length, replicate, get_or, set, inl, inr, refl, sym, ◌∙◌, subst, get_or-set_other}
-use Rattle.std.specs.Prelude.{◌⊎◌, ◌↔◌, IsTrue}
-use Rattle.std.proofs.lemmas.Bool.{false≢true, cases_eq}
-use Rattle.std.proofs.lemmas.List.{get_or-set_same, get_or-replicate}
+-- The default of the partners template hides no fault.
+use Rattle.std.proofs.Common.{ℕ, List, refl}
+use Rattle.std.proofs.lemmas.Bool.{false≢true}
 use Rattle.inv_law.specs.AttributeLaws.{ResetPassesNoMore-attributes}
 use Rattle.inv_law.specs.Attributes.{IsSecureDefault}
 use Rattle.inv_law.specs.Rules.{ResetPassesNoMore}
 use Rattle.inv_law.specs.declared.strategy.Strategy.TheVariants.{Access}
 use Rattle.tmpl_zones.specs.Kinds.{TablePasses}
-use Rattle.tmpl_zones.specs.Partners.{Partner, DontCare, Care, Master, IsMaster, PartnersPass, PartnersPassAfterReset, partners_passes, with_sender}
+use Rattle.tmpl_zones.specs.Partners.{Partner, DontCare, Care, Master, PartnersPass, PartnersPassAfterReset, partners_passes}
 
 -- whom a sender that does not care reaches, every sender of its number reaches
-pub partners_secure : (number : ℕ) → IsSecureDefault Access DontCare (TablePasses (partners_passes number))
-partners_secure number sender DontCare passes = refl
-partners_secure number sender Care passes = absurd (false≢true passes)
-partners_secure number sender (Master takes_from) passes = passes
+pub partners_secure : (from : ℕ) → IsSecureDefault Access DontCare (TablePasses (partners_passes from))
+partners_secure from sender DontCare passes = refl
+partners_secure from sender Care passes = absurd (false≢true passes)
+partners_secure from sender (Master takes_from) passes = passes
 
 pub partners_reset : (n : ℕ) (partners : List Partner) → ResetPassesNoMore n Access (PartnersPass partners) (PartnersPassAfterReset partners)
 partners_reset n partners f =
     ResetPassesNoMore-attributes Access DontCare (TablePasses (partners_passes f.from)) (partners_secure f.from) n partners f
-
--- ---- the list of a master
-
--- a mark for each host
-abbrev pub marks_of : Partner → List Bool
-marks_of DontCare = []
-marks_of Care = []
-marks_of (Master takes_from) = takes_from
-
--- one more mark
-marked : (marks : List Bool) (sender number : ℕ) → sender < length marks → IsTrue (get_or (set marks sender true) number false) ↔ ((number ≡ sender) ⊎ IsTrue (get_or marks number false))
-marked marks sender number within = elim (cases_eq number sender) [
-  | inl same ↦ (
-    λ _. inl same,
-    λ _. subst (λ n. IsTrue (get_or (set marks sender true) n false)) (sym same) (get_or-set_same marks sender true false within),
-  )
-  | inr differs ↦ let stays = get_or-set_other marks sender number true false differs in (
-    λ has. inr (sym stays ∙ has),
-    λ either. stays ∙ elim either [
-      | inl same ↦ absurd (differs same)
-      | inr has ↦ has
-    ],
-  )
-]
-
-takes-with_sender : (number sender : ℕ) (p a b : Partner) → IsMaster p → sender < length (marks_of p) → IsTrue (partners_passes number a (with_sender p sender)) ↔ ((number ≡ sender) ⊎ IsTrue (partners_passes number b p))
-takes-with_sender number sender DontCare a b is_master within = absurd is_master
-takes-with_sender number sender Care a b is_master within = absurd is_master
-takes-with_sender number sender (Master marks) a b is_master within = marked marks sender number within
-
--- a master takes from one more sender, and from those before
-pub PartnersPass-with_sender : (partners : List Partner) (sender master : ℕ) → master < length partners → IsMaster (get_or partners master DontCare) → sender < length (marks_of (get_or partners master DontCare)) → (number : ℕ) → PartnersPass (set partners master (with_sender (get_or partners master DontCare) sender)) number master ↔ ((number ≡ sender) ⊎ PartnersPass partners number master)
-PartnersPass-with_sender partners sender master within is_master room number =
-    let p = get_or partners master DontCare in
-    let new = set partners master (with_sender p sender) in
-    subst (λ (q : Partner). IsTrue (partners_passes number (get_or new number DontCare) q) ↔ ((number ≡ sender) ⊎ PartnersPass partners number master))
-    (sym (get_or-set_same partners master (with_sender p sender) DontCare within))
-    (takes-with_sender number sender p (get_or new number DontCare) (get_or partners number DontCare) is_master room)
-
--- a new master takes from nobody
-pub PartnersPass-nobody : (partners : List Partner) (n host : ℕ) → host < length partners → (sender : ℕ) → sender < n → PartnersPass (set partners host (Master (replicate n false))) sender host → ⊥
-PartnersPass-nobody partners n host within sender is_host passes =
-    let none = Master (replicate n false) in
-    let new = set partners host none in
-    let taken = subst (λ (q : Partner). IsTrue (partners_passes sender (get_or new sender DontCare) q)) (get_or-set_same partners host none DontCare within) passes in
-    false≢true (sym (get_or-replicate n sender false false is_host) ∙ taken)

@@ -93,10 +93,7 @@ impl<K: Kind> EdgeRule for KindRule<K> {
         sender.passes_to(receiver)
     }
 
-    fn with_default(&self, alloc: Global, host: u16) -> Result<Self, AllocError>
-        requires { host < length self.now }
-        ensures { IfOk result (λ new. new ≡ slice_set self.now host K.default_kind) }
-    {
+    fn with_default(&self, alloc: Global, host: u16) -> Result<Self, AllocError> {
         let mut kinds = Vec::from_slice(alloc, &self.kinds)?;
         kinds[host as usize] = K::unassigned();
         Ok(KindRule { kinds })

@@ -87,8 +87,8 @@ impl Partners {
         requires differ { sender ≢ master }
         requires master { IsMaster (slice_index_or self.old master DontCare) }
         ensures list { self.new ≡ slice_set self.old master (with_sender (slice_index_or self.old master DontCare) sender) }
-        ensures takes { (number : ℕ) → PartnersPass self.new number master
-            ↔ ((number ≡ sender) ⊎ PartnersPass self.old number master) }
+        ensures takes { (from : ℕ) → PartnersPass self.new from master
+            ↔ ((from ≡ sender) ⊎ PartnersPass self.old from master) }
     {
         let receiver = &mut self.hosts[master as usize];
         receiver.from[sender as usize] = true;
@@ -144,10 +144,7 @@ impl EdgeRule for Partners {
         }
     }
 
-    fn with_default(&self, alloc: Global, host: u16) -> Result<Self, AllocError>
-        requires { host < length self.now }
-        ensures { IfOk result (λ new. new ≡ slice_set self.now host DontCare) }
-    {
+    fn with_default(&self, alloc: Global, host: u16) -> Result<Self, AllocError> {
         let mut new = self.copy(alloc)?;
         new.reset(host);
         Ok(new)

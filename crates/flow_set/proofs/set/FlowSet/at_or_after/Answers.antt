@@ -1,17 +1,47 @@
-use Rattle.std.proofs.Common.{◌≡◌, List, length, sym, ◌∙◌, ap, subst}
-use Rattle.std.specs.Prelude.{slice_get}
+use Rattle.std.proofs.Common.{◌≡◌, ◌<◌, ◌+◌, List, length, sym, ◌∙◌, ap, subst, arith}
+use Rattle.std.specs.FinSet as set
 use Rattle.flow_set.specs.declared.flow.Flow.{Flow}
 use Rattle.flow_set.specs.FlowSet.{SetOfFlows, first_from}
-use Rattle.flow_set.specs.WalkLaws.{flows_before}
-use Rattle.flow_set.proofs.Places.{first_from_at_place, copied_from_get}
+use Rattle.flow_set.specs.BitRows.{row_of, flows_of, IsAsFar}
+use Rattle.host_set.specs.HostSet.{Hosts, HasNone, IsFirstAfter}
+use Rattle.flow_set.proofs.BitRows.{row_read}
+use Rattle.flow_set.proofs.Onward.{found_in_row, as_far_more, none_in_rows}
 use Rattle.flow_set.proofs.set.FlowSet.at_or_after.Goals as goal
+
+pub returns-in-Some-clause-flow : goal.returns-in-Some-clause-flow
+returns-in-Some-clause-flow c =
+    let p : Flow = record { from = c.args.from; to = c.args.to } in
+    let n = c.self.inside.size in
+    let rows = c.self.inside.rows.items in
+    let sender = c.loop-sender.sender in
+    let start = c.loop-sender.start in
+    let flows : flows_of rows n ≡ c.args.self.now.flows = ap (λ (s : SetOfFlows). s.flows) c.self.view_is in
+    let far : IsAsFar (flows_of rows n) p (record { from = sender; to = start }) = subst (λ (fs : List Flow). IsAsFar fs p (record { from = sender; to = start })) (sym flows) c.loop-sender.invariant in
+    let within : sender < length rows = omega (arith, c.loop-sender-test.true, c.size-size.ensures.size, c.self.invariant.counted, ap (λ (s : SetOfFlows). s.size) c.self.view_is) in
+    let row : c.index.result.now ≡ row_of rows sender = row_read rows sender c.index.result.now within c.index.ensures in
+    let is : IsFirstAfter (set.contains (row_of rows sender)) start c.in-Some.receiver = subst (λ (s : Hosts). IsFirstAfter (set.contains s) start c.in-Some.receiver) row c.in-Some.ensures in
+    sym (found_in_row n rows p sender start c.in-Some.receiver c.self.invariant far is) ∙ ap (λ (fs : List Flow). first_from fs p) flows
+
+pub loop-sender-preserved : goal.loop-sender-preserved
+loop-sender-preserved c =
+    let p : Flow = record { from = c.args.from; to = c.args.to } in
+    let n = c.self.inside.size in
+    let rows = c.self.inside.rows.items in
+    let sender = c.loop-sender.sender in
+    let start = c.loop-sender.start in
+    let flows : flows_of rows n ≡ c.args.self.now.flows = ap (λ (s : SetOfFlows). s.flows) c.self.view_is in
+    let far : IsAsFar (flows_of rows n) p (record { from = sender; to = start }) = subst (λ (fs : List Flow). IsAsFar fs p (record { from = sender; to = start })) (sym flows) c.loop-sender.invariant in
+    let within : sender < length rows = omega (arith, c.loop-sender-test.true, c.size-size.ensures.size, c.self.invariant.counted, ap (λ (s : SetOfFlows). s.size) c.self.view_is) in
+    let row : c.index.result.now ≡ row_of rows sender = row_read rows sender c.index.result.now within c.index.ensures in
+    let none : HasNone (set.contains (row_of rows sender)) start 256 = subst (λ (s : Hosts). HasNone (set.contains s) start 256) row c.in_default.ensures in
+    subst (λ (fs : List Flow). IsAsFar fs p (record { from = sender + 1; to = 0 })) flows (as_far_more n rows p sender start c.self.invariant far none)
 
 pub returns-clause-flow : goal.returns-clause-flow
 returns-clause-flow c =
     let p : Flow = record { from = c.args.from; to = c.args.to } in
-    let found : c.copied.result ≡ slice_get c.self.inside.sorted.items c.place-place.result =
-    c.copied.ensures ∙ copied_from_get c.deref.result.now c.place-place.result c.get.result c.get.ensures.lookup.1 c.get.ensures.lookup.3 ∙ ap (λ (fs : List Flow). slice_get fs c.place-place.result) c.deref.ensures.value in
-    let place : c.place-place.result ≡ length (flows_before c.self.inside.sorted.items p) =
-    subst (λ (s : SetOfFlows). c.place-place.result ≡ length (flows_before s.flows p)) (sym c.self.view_is) c.place-place.ensures.place in
-    subst (λ (s : SetOfFlows). c.copied.result ≡ first_from s.flows p) c.self.view_is
-    (found ∙ ap (slice_get c.self.inside.sorted.items) place ∙ sym (first_from_at_place c.self.inside.sorted.items p c.self.invariant.0.ordered))
+    let n = c.self.inside.size in
+    let rows = c.self.inside.rows.items in
+    let place : Flow = record { from = c.loop-sender.sender; to = c.loop-sender.start } in
+    let flows : flows_of rows n ≡ c.args.self.now.flows = ap (λ (s : SetOfFlows). s.flows) c.self.view_is in
+    let far : IsAsFar (flows_of rows n) p place = subst (λ (fs : List Flow). IsAsFar fs p place) (sym flows) c.loop-sender.invariant in
+    sym (none_in_rows n rows p c.loop-sender.sender c.loop-sender.start c.self.invariant far (omega (arith, c.loop-sender-test.false, c.size-size.ensures.size, ap (λ (s : SetOfFlows). s.size) c.self.view_is))) ∙ ap (λ (fs : List Flow). first_from fs p) flows

@@ -1,14 +1,14 @@
-use Rattle.std.proofs.Common.{sym, ◌∙◌, ap, arith, false}
-use Rattle.std.specs.Option.{option_map_or}
-use Rattle.std.specs.Prelude.{Option}
-use Rattle.std.proofs.lemmas.Bool.Decides.{nat_tests}
-use Rattle.flow_set.specs.declared.flow.Flow.{Flow}
-use Rattle.flow_set.specs.Flow.{same_flow}
-use Rattle.flow_set.proofs.Places.{is_that_flow, has-first_from}
+use Rattle.std.proofs.Common.{◌<◌, length, sym, ◌∙◌, ap, arith}
+use Rattle.std.specs.FinSet as set
+use Rattle.std.proofs.lemmas.List.{get_or_read}
+use Rattle.flow_set.specs.FlowSet.{SetOfFlows, has}
+use Rattle.host_set.specs.HostSet.{Hosts}
+use Rattle.flow_set.proofs.BitRows.{has-flows_of}
 use Rattle.flow_set.proofs.set.FlowSet.has.Goals as goal
 
 pub returns : goal.returns
 returns c =
-    c.eq.ensures ∙ is_that_flow _ (λ g f. grind (arith, nat_tests)) c.at_or_after.result c.args.f
-    ∙ ap (λ (o : Option Flow). option_map_or (λ g. same_flow g c.args.f) o false) c.at_or_after.ensures.flow
-    ∙ sym (has-first_from c.args.self.now.flows c.args.f c.at_or_after.ensures.set.ordered)
+    let rows = c.self.inside.rows.items in
+    let within : c.args.f.from < length rows = omega (arith, c.requires.0, c.self.invariant.counted, ap (λ (s : SetOfFlows). s.size) c.self.view_is) in
+    c.has.ensures ∙ ap (λ (s : Hosts). set.contains s c.args.f.to) (get_or_read rows c.args.f.from c.index.result.now within c.index.ensures set.empty)
+    ∙ sym (has-flows_of c.self.inside.size rows c.args.f c.self.invariant) ∙ ap (λ (s : SetOfFlows). has s.flows c.args.f) c.self.view_is

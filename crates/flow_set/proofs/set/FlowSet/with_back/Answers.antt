@@ -1,11 +1,11 @@
-use Rattle.std.proofs.Common.{List, ap, sym, ◌∙◌, subst}
-use Rattle.std.specs.Prelude.{IsTrue}
+use Rattle.std.proofs.Common.{◌≡◌, List, ap, sym, ◌∙◌, subst}
+use Rattle.std.specs.Prelude.{IsTrue, ◌↔◌, ◌⊎◌}
 use Rattle.flow_set.specs.declared.flow.Flow.{Flow}
 use Rattle.flow_set.specs.Flow.{IsFlow, back_of}
-use Rattle.flow_set.specs.FlowSet.{SetOfFlows, has, with_flow}
+use Rattle.flow_set.specs.FlowSet.{SetOfFlows, has, with_flow, with_back}
 use Rattle.flow_set.specs.FlowLaws.{with_back-push}
-use Rattle.flow_set.specs.SubsetLaws.{IsFlow-back_of}
-use Rattle.flow_set.specs.WalkLaws.{walk_next, walk_member}
+use Rattle.flow_set.specs.SubsetLaws.{IsFlow-back_of, with_back_members}
+use Rattle.flow_set.specs.WalkLaws.{walk_next, walk_member, walk_end}
 use Rattle.flow_set.proofs.set.FlowSet.with_back.Goals as goal
 
 pub insert-requires : goal.insert-requires
@@ -27,3 +27,12 @@ loop-f-preserved c =
           ∙ sym (with_back-push c.args.self.now.flows c.loop-f.yielded c.in-Some.f c.copy.ensures.set.ordered);
       walk = walk_next c.loop-f.yielded c.loop-f.f-iterator c.next.new.self c.args.s.now.flows c.in-Some.f kept.walk c.in-Some.ensures.steps;
     }
+
+members_of : (fs gs all : List Flow) → all ≡ with_back fs gs → (f : Flow) → IsTrue (has all f) ↔ (IsTrue (has fs f) ⊎ IsTrue (has gs (back_of f)))
+members_of fs gs all is f = subst (λ (xs : List Flow). IsTrue (has xs f) ↔ (IsTrue (has fs f) ⊎ IsTrue (has gs (back_of f)))) (sym is) (with_back_members fs gs f)
+
+pub returns-clause-members : goal.returns-clause-members
+returns-clause-members c =
+    let kept = c.loop-f.invariant in
+    members_of c.args.self.now.flows c.args.s.now.flows c.loop-f.all.flows
+    (kept.flows ∙ ap (with_back c.args.self.now.flows) (walk_end c.loop-f.yielded c.loop-f.f-iterator c.args.s.now.flows kept.walk c.in-None.ensures.steps.0))

@@ -4,7 +4,7 @@ use Rattle.flow_set.specs.declared.flow.Flow.{Flow}
 use Rattle.flow_set.specs.Flow.{IsFlow, back_of}
 use Rattle.flow_set.specs.FlowSet.{IsFlowSet, IsOrdered}
 use Rattle.flow_set.specs.WalkLaws.{walk_next, walk_member}
-use Rattle.reach_core.specs.HostSet.{Hosts}
+use Rattle.host_set.specs.HostSet.{Hosts}
 use Rattle.reach_core.specs.Rows.{HasRows, OpensFlow}
 use Rattle.reach_core.proofs.Closes.{HasRows-nothing, HasRows-with_flow, IsClosed-reached, IsClosed-joined, IsClosed-halfway}
 use Rattle.reach_core.proofs.Lasts.{with_flow-last}

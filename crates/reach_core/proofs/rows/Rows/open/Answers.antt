@@ -1,7 +1,7 @@
 use Rattle.std.proofs.Common.{subst, sym, ◌∙◌}
 use Rattle.std.specs.FinSet as set
 use Rattle.std.specs.Prelude.{IsTrue}
-use Rattle.reach_core.specs.HostSet.{Hosts}
+use Rattle.host_set.specs.HostSet.{Hosts}
 use Rattle.reach_core.proofs.Closes.{opens_nothing}
 use Rattle.reach_core.proofs.rows.Rows.open.Goals as goal
 

@@ -1,11 +1,22 @@
-use Rattle.std.proofs.Common.{arith, refl}
-use Rattle.reach_core.specs.ReachLaws.{Reaches-below}
+use Rattle.std.proofs.Common.{◌≡◌, ◌<◌, List, length, ◌∙◌, sym, ap, arith, subst}
+use Rattle.std.proofs.lemmas.List.{get_or_read}
+use Rattle.std.specs.FinSet as set
+use Rattle.host_set.specs.HostSet.{Hosts, AreApart}
+use Rattle.reach_core.specs.Walks.{Reaches}
+use Rattle.tmpl_reach.specs.NoReach.{denied_by}
+use Rattle.tmpl_reach.proofs.OtherHosts.{apart_but}
 use Rattle.tmpl_reach.proofs.no_reach.NoReach.reaches_none.Goals as goal
 
+pub remove-requires : goal.remove-requires
+remove-requires c = omega (arith, c.requires.host, c.requires.size, c.size.ensures.set.small)
+
 pub returns : goal.returns
-returns c = (
-  λ yes j apart denies walk.
-      let below = (Reaches-below c.args.closure.now.size c.args.closure.now.flows c.size-other-end.ensures.set c.args.host j walk).1 in
-      c.loop-other.invariant j (omega (arith, below)) apart denies walk,
-  λ holds. refl,
-)
+returns c =
+    let host = c.args.host in
+    let within : host < length c.self.inside.denied.items = subst (λ (xs : List Hosts). host < length xs) (sym c.self.view_is) c.requires.host in
+    let denied : c.index.result.now ≡ denied_by c.args.self.now host =
+    get_or_read c.self.inside.denied.items host c.index.result.now within c.index.ensures set.empty ∙ ap (λ (xs : List Hosts). denied_by xs host) c.self.view_is in
+    let law = apart_but c.reached_from.result.now c.remove.new.self (denied_by c.args.self.now host) host (Reaches c.args.closure.now.flows host) c.reached_from.ensures (c.remove.ensures ∙ ap (λ (s : Hosts). set.remove s host) c.copy-others.ensures) in (
+      λ yes. law.0 (subst (AreApart c.remove.new.self) denied (c.is_apart.ensures.0 yes)),
+      λ none. c.is_apart.ensures.1 (subst (AreApart c.remove.new.self) (sym denied) (law.1 none)),
+    )

@@ -1,7 +1,7 @@
 use Rattle.std.proofs.Common.{◌≡◌, ◌<◌, List, length, ap, sym, ◌∙◌, subst, arith}
 use Rattle.std.specs.Prelude.{◌⊎◌, ◌↔◌}
 use Rattle.tmpl_zones.specs.Partners.{Partner, PartnersPass, with_sender}
-use Rattle.tmpl_zones.specs.PartnersLaws.{PartnersPass-with_sender}
+use Rattle.tmpl_zones.proofs.Masters.{PartnersPass-with_sender}
 use Rattle.tmpl_zones.proofs.Receivers.{map-partner_of-set, partner_of_row, attribute_by-set, has_mark, length_row, length_seen}
 use Rattle.tmpl_zones.proofs.partners.Partners.allow.Goals as goal
 

@@ -1,6 +1,6 @@
 use Rattle.std.proofs.Common.{◌≡◌, ◌<◌, false, List, length, replicate, ap, ◌∙◌, subst, arith, vec_len}
 use Rattle.tmpl_zones.specs.Partners.{Partner, Master, PartnersPass}
-use Rattle.tmpl_zones.specs.PartnersLaws.{PartnersPass-nobody}
+use Rattle.tmpl_zones.proofs.Masters.{PartnersPass-nobody}
 use Rattle.tmpl_zones.proofs.Receivers.{map-partner_of-set, length_row, length_seen}
 use Rattle.tmpl_zones.proofs.partners.Partners.set_master.Goals as goal
 

@@ -1,0 +1,6 @@
+use Rattle.flow_set.specs.BitRows.{IsAsFar}
+use Rattle.flow_set.proofs.set.FlowSet.at_or_after.Given as goal
+
+-- the flows before the place asked for are those before this place
+abbrev pub invariant-loop-sender : goal.invariant-loop-sender
+invariant-loop-sender l = IsAsFar l.self.flows (record { from = l.from; to = l.to }) (record { from = l.sender; to = l.start })

@@ -1,0 +1,56 @@
+//! The steps of an invariant that judges flows alone: it looks at the new flow and at nothing else.
+
+ghost use Rattle.std.specs.Prelude.{◌≡◌};
+
+use crate::edge_rule::EdgeRule;
+use crate::edge_wise::EdgeWise;
+use crate::invariant::Invariant;
+use crate::stepwise::{Stepwise, Trial};
+use flow_set::{Flow, FlowSet, FlowSteps};
+use std::alloc::{AllocError, Global};
+use std::marker::Model;
+
+/// A set of flows that is tried in steps by an edge-wise invariant.
+#[derive(Drop)]
+pub struct EdgeTrial {
+    steps: FlowSteps,
+}
+
+impl Model for EdgeTrial {
+    ghost use Rattle.flow_set.specs.Steps.{TriedFlows};
+
+    ghost Value = { TriedFlows };
+
+    ghost view = { λ t. t.steps };
+}
+
+impl Trial for EdgeTrial {
+    ghost tried = { λ t. t };
+
+    fn size(&self) -> u16 {
+        self.steps.size()
+    }
+}
+
+impl<R: EdgeRule> Stepwise for EdgeWise<R> {
+    type Tried = EdgeTrial;
+
+    ghost fits = { λ x tried. tried.size ≡ R.size_of x };
+
+    fn trial(&self, alloc: Global, e: &FlowSet) -> Result<EdgeTrial, AllocError> {
+        Ok(EdgeTrial {
+            steps: FlowSteps::new(alloc, e)?,
+        })
+    }
+
+    fn step(&self, tried: &mut EdgeTrial, f: Flow) -> bool {
+        tried.steps.step(f);
+        self.admits(f)
+    }
+
+    fn back(&self, tried: &mut EdgeTrial) {
+        tried.steps.back();
+    }
+
+    ghost fits_size = { λ x tried fits. fits };
+}

@@ -1,0 +1,40 @@
+//! Which invariant denies a flow, by trials of the policy.
+
+ghost use Rattle.std.specs.Prelude.{◌≡◌, ◌≤◌, All, length, true, IsSome, MatchOption};
+ghost use Rattle.flow_set.specs.Flow.{IsFlow};
+ghost use Rattle.flow_set.specs.FlowSet.{with_flow};
+ghost use Rattle.permit_core.specs.Policy.{AllHold, IsFirstFailing, IsDenied};
+ghost use Rattle.trial_core.specs.Trials.{AreTried};
+
+use flow_set::{Flow, FlowSet};
+use inv_law::Stepwise;
+use trial_core::holds_with;
+
+/// What `blame` answers of a permitted set, from trials with its flows. They have these flows again
+/// afterwards, so that they serve for every flow of a report. The set is not read: it stands here for the
+/// contract alone.
+pub fn blame_by_steps<I: Stepwise>(
+    invs: &[I],
+    trials: &mut Vec<I::Tried>,
+    _permitted: &FlowSet,
+    f: Flow,
+) -> Option<u16>
+    requires sizes { All (λ inv. I.size_of inv ≡ _permitted.now.size) invs.now }
+    requires flow { IsFlow _permitted.now.size f }
+    requires numbers { length invs.now ≤ 65536 }
+    requires held { AllHold I.holds_on invs.now _permitted.now.flows }
+    requires tried { AreTried I.fits I.Tried.tried (λ _. true) invs.now trials.old.items _permitted.now.flows }
+    ensures least { let with = with_flow _permitted.now.flows f in
+        MatchOption result
+        (AllHold I.holds_on invs.now with)
+        (λ number. IsFirstFailing I.holds_on invs.now with number) }
+    ensures denied { IsDenied (AllHold I.holds_on invs.now) _permitted.now.flows f → IsSome result }
+    ensures tried { AreTried I.fits I.Tried.tried (λ _. true) invs.now trials.new.items _permitted.now.flows }
+{
+    for number in 0..invs.len() {
+        if !holds_with(&invs[number], &mut trials[number], f) {
+            return Some(number as u16);
+        }
+    }
+    None
+}

@@ -1,0 +1,74 @@
+//! The flows that break an invariant, by one trial.
+
+ghost use Rattle.std.specs.Prelude.{◌≡◌, List, IfOk, IfSome, IsNone, ◌↔◌};
+ghost use Rattle.flow_set.specs.declared.flow.Flow.{Flow};
+ghost use Rattle.flow_set.specs.FlowSet.{IsFlowSet, IsSubset, without};
+ghost use Rattle.flow_set.specs.Conditions.{IsFirst, IsMinimalOffending};
+
+use first_core::{SteppedCondition, first_subset_by_steps};
+use flow_set::{Flow, FlowSet};
+use inv_law::{Stepwise, Trial};
+use std::alloc::{AllocError, Global};
+
+/// What `offending` answers, from one trial. It is made first, and after it only the answer takes
+/// memory.
+pub fn offending_by_steps<I: Stepwise>(
+    alloc: Global,
+    inv: &I,
+    e: &FlowSet,
+) -> Result<Option<FlowSet>, AllocError>
+    requires { e.now.size ≡ I.size_of inv.now }
+    ensures none { IfOk result (λ found. IsNone found ↔ I.holds_on inv.now e.now.flows) }
+    ensures size { IfOk result (λ found. IfSome found (λ f. f.size ≡ e.now.size)) }
+    ensures minimal { IfOk result (λ found. IfSome found (λ f.
+        IsMinimalOffending (I.holds_on inv.now) e.now.flows f.flows)) }
+    ensures rest { IfOk result (λ found. IfSome found (λ f. (first : List Flow)
+        × IsFirst (I.holds_on inv.now) e.now.flows first × (f.flows ≡ without e.now.flows first))) }
+{
+    let none = FlowSet::empty(alloc, e.size())?;
+    let mut trial = inv.trial(alloc, &none)?;
+    let mut flows = first_subset_by_steps(alloc, &Alone { inv }, &mut trial, e)?;
+    turn_out(&mut flows, e);
+    if flows.is_empty() {
+        Ok(None)
+    } else {
+        Ok(Some(flows))
+    }
+}
+
+// Turns the set, which is one of flows of `all`, into the other flows of `all`, in the room of its own.
+fn turn_out(set: &mut FlowSet, all: &FlowSet)
+    requires size { all.now.size ≡ set.old.size }
+    requires within { IsSubset set.old.flows all.now.flows }
+    ensures { set.new ≡ record set.old { flows = without all.now.flows set.old.flows } }
+{
+    for f in all.iter() {
+        if !set.remove(f) {
+            set.insert(f);
+        }
+    }
+}
+
+// The condition that one invariant holds.
+#[derive(Drop)]
+struct Alone<'a, I> {
+    inv: &'a I,
+}
+
+impl<'a, I: Stepwise> SteppedCondition for Alone<'a, I> {
+    type State = I::Tried;
+
+    ghost size_of = { λ c. I.size_of c.inv.now };
+
+    ghost meets_on = { λ c. I.holds_on c.inv.now };
+
+    ghost has_come_to = { λ c trial e. I.fits c.inv.now trial × ((I.Tried.tried trial).flows ≡ e) };
+
+    fn goes_on(&self, trial: &mut I::Tried, _kept: &FlowSet, f: Flow) -> bool {
+        if self.inv.step(trial, f) {
+            return true;
+        }
+        self.inv.back(trial);
+        false
+    }
+}

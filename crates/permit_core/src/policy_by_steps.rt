@@ -1,0 +1,55 @@
+//! The permitted policy by trials: no invariant is asked about the whole set again.
+
+ghost use Rattle.std.specs.Prelude.{◌≡◌, All, true, IsTrue, IfOk};
+ghost use Rattle.flow_set.specs.FlowSet.{IsFlowSet};
+ghost use Rattle.flow_set.specs.Conditions.{IsFirst, IsGreatest};
+ghost use Rattle.permit_core.specs.Policy.{AllHold};
+ghost use Rattle.trial_core.specs.Trials.{AreTried};
+
+use first_core::{SteppedCondition, first_subset_by_steps};
+use flow_set::{Flow, FlowSet};
+use inv_law::Stepwise;
+use std::alloc::{AllocError, Global};
+use trial_core::{Every, step_chosen, trials_of};
+
+/// What `permit` answers, from one trial of each invariant. They are made first, and after them only
+/// the answer takes memory.
+pub fn permit_by_steps<I: Stepwise>(
+    alloc: Global,
+    invs: &[I],
+    asked: &FlowSet,
+) -> Result<FlowSet, AllocError>
+    requires { All (λ inv. I.size_of inv ≡ asked.now.size) invs.now }
+    ensures size { IfOk result (λ p. p.size ≡ asked.now.size) }
+    ensures set { IfOk result (λ p. IsFlowSet p.size p.flows) }
+    ensures first { IfOk result (λ p. IsFirst (AllHold I.holds_on invs.now) asked.now.flows p.flows) }
+    ensures greatest { All (λ inv. IsTrue (I.edge_mark inv)) invs.now
+        → IfOk result (λ p. IsGreatest (AllHold I.holds_on invs.now) asked.now.flows p.flows) }
+{
+    let size = asked.size();
+    let none = FlowSet::empty(alloc, size)?;
+    let mut trials = trials_of(alloc, invs, &none)?;
+    first_subset_by_steps(alloc, &Together { invs, size }, &mut trials, asked)
+}
+
+// The condition that all of the invariants hold.
+#[derive(Drop)]
+struct Together<'a, I> {
+    invs: &'a [I],
+    size: u16,
+}
+
+impl<'a, I: Stepwise> SteppedCondition for Together<'a, I> {
+    type State = Vec<I::Tried>;
+
+    ghost size_of = { λ c. c.size };
+
+    ghost meets_on = { λ c. AllHold I.holds_on c.invs.now };
+
+    ghost has_come_to = { λ c trials e. All (λ inv. I.size_of inv ≡ c.size) c.invs.now
+        × AreTried I.fits I.Tried.tried (λ _. true) c.invs.now trials.items e };
+
+    fn goes_on(&self, trials: &mut Vec<I::Tried>, _kept: &FlowSet, f: Flow) -> bool {
+        step_chosen(&Every, self.invs, trials, f)
+    }
+}

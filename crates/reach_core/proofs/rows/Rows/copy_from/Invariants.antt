@@ -1,0 +1,9 @@
+use Rattle.std.proofs.Common.{◌≡◌, ℕ, ◌<◌, length}
+use Rattle.reach_core.specs.Rows.{row_of}
+use Rattle.reach_core.proofs.rows.Rows.copy_from.Given as goal
+
+abbrev pub invariant-loop-host : goal.invariant-loop-host
+invariant-loop-host l = record {
+  same_length : length l.row-items ≡ length l.other;
+  done : (i : ℕ) → i < l.host → row_of l.row-items i ≡ row_of l.other i;
+}

@@ -1,0 +1,21 @@
+use Rattle.std.proofs.Common.{get_or, subst}
+use Rattle.flow_set.specs.Conditions.{IsDownward, IsEdgeWise}
+use Rattle.state_core.proofs.Refining.{StrictHold-downward, complies_found}
+use Rattle.state_core.proofs.refinement_by_steps.refine_by_steps.Goals as goal
+
+pub first_subset_by_steps-requires-clause-downward : goal.first_subset_by_steps-requires-clause-downward
+first_subset_by_steps-requires-clause-downward g c =
+    let n = c.args.p.now.size in
+    let inv = g.I.Invariant in
+    let invs = c.args.invs.now in
+    StrictHold-downward n inv.strategy_of inv.edge_mark inv.holds_on invs c.args.p.now.flows c.size.ensures.set
+    (λ k d below. subst (λ m. IsDownward m (inv.holds_on (get_or invs k d))) (c.requires.sizes k d below) (g.met.I.Invariant.downward (get_or invs k d)))
+
+pub returns-clause-complies : goal.returns-clause-complies
+returns-clause-complies g c =
+    let n = c.args.p.now.size in
+    let inv = g.I.Invariant in
+    let invs = c.args.invs.now in
+    complies_found n inv.strategy_of inv.edge_mark inv.holds_on invs c.args.p.now.flows c.first_subset_by_steps.result c.size.ensures.set
+    (λ k d below marked. subst (λ m. IsEdgeWise m (inv.holds_on (get_or invs k d))) (c.requires.sizes k d below) (g.met.I.Invariant.mark_is_right (get_or invs k d) marked))
+    c.requires.permitted c.first_subset_by_steps.ensures.first

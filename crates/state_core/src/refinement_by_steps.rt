@@ -1,0 +1,63 @@
+//! The stateful flows by trials: each begins with the permitted flows and takes the answers as steps.
+
+ghost use Rattle.std.specs.Prelude.{◌≡◌, All, IfOk};
+ghost use Rattle.flow_set.specs.FlowSet.{IsFlowSet, with_back};
+ghost use Rattle.flow_set.specs.Conditions.{IsFirst};
+ghost use Rattle.state_core.specs.Stateful.{is_strict, StrictHold, CompliesWithEach};
+ghost use Rattle.trial_core.specs.Trials.{AreTried};
+
+use crate::refinement::Strict;
+use first_core::{SteppedCondition, first_subset_by_steps};
+use flow_set::{Flow, FlowSet};
+use inv_law::Stepwise;
+use std::alloc::{AllocError, Global};
+use trial_core::{step_chosen, trials_of};
+
+/// What `refine` answers, from one trial of each invariant. They are made first, and after them only
+/// the answer takes memory.
+pub fn refine_by_steps<I: Stepwise>(
+    alloc: Global,
+    invs: &[I],
+    p: &FlowSet,
+) -> Result<FlowSet, AllocError>
+    requires sizes { All (λ inv. I.size_of inv ≡ p.now.size) invs.now }
+    requires permitted { All (λ inv. I.holds_on inv p.now.flows) invs.now }
+    ensures size { IfOk result (λ s. s.size ≡ p.now.size) }
+    ensures set { IfOk result (λ s. IsFlowSet s.size s.flows) }
+    ensures first { IfOk result (λ s. IsFirst
+        (λ answered. StrictHold I.strategy_of I.edge_mark I.holds_on invs.now (with_back p.now.flows answered))
+        p.now.flows s.flows) }
+    ensures complies { IfOk result (λ s. CompliesWithEach I.strategy_of I.holds_on invs.now p.now.flows s.flows) }
+{
+    let mut trials = trials_of(alloc, invs, p)?;
+    let answered = Answered {
+        invs,
+        permitted: p,
+        size: p.size(),
+    };
+    first_subset_by_steps(alloc, &answered, &mut trials, p)
+}
+
+// The condition that the strict invariants hold of the permitted flows with answers.
+#[derive(Drop)]
+struct Answered<'a, I> {
+    invs: &'a [I],
+    permitted: &'a FlowSet,
+    size: u16,
+}
+
+impl<'a, I: Stepwise> SteppedCondition for Answered<'a, I> {
+    type State = Vec<I::Tried>;
+
+    ghost size_of = { λ c. c.size };
+
+    ghost meets_on = { λ c s. StrictHold I.strategy_of I.edge_mark I.holds_on c.invs.now (with_back c.permitted.now.flows s) };
+
+    ghost has_come_to = { λ c trials s. IsFlowSet c.size c.permitted.now.flows
+        × All (λ inv. I.size_of inv ≡ c.size) c.invs.now
+        × AreTried I.fits I.Tried.tried (λ inv. is_strict (I.strategy_of inv) (I.edge_mark inv)) c.invs.now trials.items (with_back c.permitted.now.flows s) };
+
+    fn goes_on(&self, trials: &mut Vec<I::Tried>, _kept: &FlowSet, f: Flow) -> bool {
+        step_chosen(&Strict, self.invs, trials, f.back())
+    }
+}

@@ -1,0 +1,63 @@
+//! The trial of an invariant that looks at walks: the closure of the flows, which takes one step back.
+
+ghost use Rattle.std.specs.Prelude.{◌≡◌, IfOk, IsSome};
+ghost use Rattle.flow_set.specs.Flow.{IsFlow};
+ghost use Rattle.flow_set.specs.Steps.{untried, stepped, taken_back};
+
+use flow_set::{Flow, FlowSet};
+use inv_law::Trial;
+use reach_core::Closure;
+use std::alloc::{AllocError, Global};
+use std::marker::Model;
+
+/// A set of flows that is tried in steps by a template on walks.
+#[derive(Drop)]
+pub struct ReachTrial {
+    closure: Closure,
+}
+
+impl Model for ReachTrial {
+    ghost use Rattle.flow_set.specs.Steps.{TriedFlows};
+
+    ghost Value = { TriedFlows };
+
+    ghost view = { λ t. t.closure };
+}
+
+impl ReachTrial {
+    pub(crate) fn new(alloc: Global, e: &FlowSet) -> Result<ReachTrial, AllocError>
+        ensures { IfOk result (λ new. new ≡ untried e.now) }
+    {
+        Ok(ReachTrial {
+            closure: Closure::of(alloc, e)?,
+        })
+    }
+
+    pub(crate) fn closure(&self) -> &Closure
+        ensures { result.now ≡ self.now }
+    {
+        &self.closure
+    }
+
+    pub(crate) fn step(&mut self, f: Flow)
+        requires { IsFlow self.old.size f }
+        ensures { self.new ≡ stepped self.old f }
+    {
+        self.closure.try_add(f);
+    }
+
+    pub(crate) fn back(&mut self)
+        requires { IsSome self.old.before }
+        ensures { self.new ≡ taken_back self.old }
+    {
+        self.closure.undo();
+    }
+}
+
+impl Trial for ReachTrial {
+    ghost tried = { λ t. t };
+
+    fn size(&self) -> u16 {
+        self.closure.size()
+    }
+}
