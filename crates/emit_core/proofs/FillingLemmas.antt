@@ -9,9 +9,10 @@ use Rattle.ipt_rules.specs.declared.rule.Rule.{Rule}
 use Rattle.ipt_rules.specs.declared.rule.Policy.TheVariants.{Drop as Dropping}
 use Rattle.ipt_rules.specs.Chain.{Chain, built_in_chains, user_chain, with_policy, with_rule, rule_count, number_of}
 use Rattle.ipt_rules.specs.ChainLaws.{length_with_rule, rule_count_with_rule, rule_count-append}
-use Rattle.emit_core.specs.Layout.{chains_up_to, host_chain, host_chain_name, host_rules, forward_rules}
+use Rattle.emit_core.specs.declared.side.Side.TheVariants.{Sending}
+use Rattle.emit_core.specs.Layout.{host_chain, host_chain_name, host_rules, forward_rules}
 use Rattle.emit_core.specs.LayoutLaws.{name_unused, fewer_than_600000, few_host_rules}
-use Rattle.emit_core.specs.Filling.{with_rules}
+use Rattle.emit_core.specs.Filling.{with_rules, chains_up_to}
 
 -- some of the rules are added
 pub record IsFilling (c : ℕ) (rules : List Rule) (start now : List Chain) (done : ℕ) : Type 0 where
@@ -39,7 +40,7 @@ with_rule-last [] x rule = refl
 with_rule-last (y ∷ xs) x rule = ap (λ (ys : List Chain). y ∷ ys) (with_rule-last xs x rule)
 
 -- the rules stand at the end of the last chain
-with_rules-last : (xs : List Chain) (x : Chain) (rules : List Rule)
+pub with_rules-last : (xs : List Chain) (x : Chain) (rules : List Rule)
     → with_rules (xs ++ x ∷ []) (length xs) rules ≡ xs ++ record x { rules = x.rules ++ rules } ∷ []
 with_rules-last xs x [] = ap (λ (rs : List Rule). xs ++ record x { rules = rs } ∷ []) (sym (append-nil x.rules))
 with_rules-last xs x (r ∷ rs) =
@@ -71,7 +72,7 @@ forward_filled hosts p s start rules started all =
 
 -- the chain of one more host
 pub host_filled : (hosts : List Host) (p s : List Flow) (i : ℕ) (chains : List Chain) (name : List ℕ) (rules : List Rule)
-    → chains ≡ chains_up_to hosts p s i → name ≡ host_chain_name i → rules ≡ host_rules hosts p s i
+    → chains ≡ chains_up_to hosts p s i → name ≡ host_chain_name i → rules ≡ host_rules Sending hosts p s i
     → with_rules (chains ++ user_chain name ∷ []) (length chains) rules ≡ chains_up_to hosts p s (i + 1)
 host_filled hosts p s i chains name rules before named all =
     with_rules-last chains (user_chain name) rules
@@ -92,7 +93,7 @@ unused hosts p s i chains name before named fits =
 
 -- and there is room for its rules
 pub room : (hosts : List Host) (p s : List Flow) (i : ℕ) (chains : List Chain) (name : List ℕ) (rules : List Rule)
-    → chains ≡ chains_up_to hosts p s i → rules ≡ host_rules hosts p s i → i ≤ 256 → prefix_count hosts ≤ 1024
+    → chains ≡ chains_up_to hosts p s i → rules ≡ host_rules Sending hosts p s i → i ≤ 256 → prefix_count hosts ≤ 1024
     → rule_count (chains ++ user_chain name ∷ []) + length rules < 2 ^ 32
 room hosts p s i chains name rules before all few prefixes =
     omega (
@@ -101,5 +102,5 @@ room hosts p s i chains name rules before all few prefixes =
       ap rule_count before,
       ap length all,
       fewer_than_600000 hosts p s i few prefixes,
-      few_host_rules hosts p s i,
+      few_host_rules Sending hosts p s i,
     )

@@ -1,4 +1,4 @@
--- One step of a loop over hosts: what is left to write before it, and behind it.
+-- One step of a loop over hosts: what is left to write before it, and after it.
 use Rattle.std.proofs.Common.{◌≡◌, ℕ, ◌+◌, zero, suc, List, [], ◌∷◌, ◌++◌, Some, drop, length, refl, sym, ap, ◌∙◌, append_assoc, arith}
 use Rattle.std.specs.Prelude.{slice_get, option_map}
 use Rattle.std.specs.List.{flat_map}
@@ -8,7 +8,7 @@ use Rattle.host_net.specs.Host.{Host}
 use Rattle.ipt_rules.specs.declared.rule.Rule.{Rule}
 use Rattle.emit_core.specs.Layout.{for_each_prefix}
 
-drop_here : (hosts : List Host) (i : ℕ) (qs : List Prefix) → option_map (λ h. h.prefixes) (slice_get hosts i) ≡ Some qs
+pub drop_here : (hosts : List Host) (i : ℕ) (qs : List Prefix) → option_map (λ h. h.prefixes) (slice_get hosts i) ≡ Some qs
     → (h : Host) × (drop i hosts ≡ h ∷ drop (i + 1) hosts) × (qs ≡ h.prefixes)
 drop_here [] i qs here = cc
 drop_here (h ∷ hs) zero qs here = (h, refl, cc)
@@ -17,7 +17,7 @@ drop_here (h ∷ hs) (suc i) qs here =
     let found = drop_here hs i qs here in
     (found.0, found.1 ∙ sym (ap (λ (n : ℕ). found.0 ∷ drop n (h ∷ hs)) step), found.2)
 
--- what is left for host i and those behind it: its prefixes first
+-- what is left for host i and those after it: its prefixes first
 pub for_each_more : (written : ℕ → Prefix → List Rule) (hosts : List Host) (i : ℕ) (qs : List Prefix)
     → option_map (λ h. h.prefixes) (slice_get hosts i) ≡ Some qs
     → for_each_prefix written i (drop i hosts) ≡ flat_map (written i) qs ++ for_each_prefix written (i + 1) (drop (i + 1) hosts)
@@ -26,7 +26,7 @@ for_each_more written hosts i qs here =
     ap (for_each_prefix written i) found.1
     ∙ ap (λ (x : List Prefix). flat_map (written i) x ++ for_each_prefix written (i + 1) (drop (i + 1) hosts)) (sym found.2)
 
--- behind the last host nothing is left
+-- after the last host nothing is left
 pub for_each_all : (written : ℕ → Prefix → List Rule) (hosts : List Host) (i : ℕ) → i ≡ length hosts
     → for_each_prefix written i (drop i hosts) ≡ []
 for_each_all written hosts i is = ap (for_each_prefix written i) (drop_all i hosts (omega arith))

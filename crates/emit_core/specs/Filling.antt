@@ -1,9 +1,17 @@
--- Rules that are added one after another.
-use Rattle.std.specs.Prelude.{ℕ, List, [], ◌∷◌}
+-- Chains and rules that are added one after another. Callers see none of it; they have the layout.
+use Rattle.std.specs.Prelude.{ℕ, List, [], ◌∷◌, ◌++◌, map}
+use Rattle.std.specs.List.{range_with_len}
+use Rattle.host_net.specs.Host.{Host}
+use Rattle.flow_set.specs.declared.flow.Flow.{Flow}
 use Rattle.ipt_rules.specs.declared.rule.Rule.{Rule}
 use Rattle.ipt_rules.specs.Chain.{Chain, with_rule}
+use Rattle.emit_core.specs.Layout.{entry_chains, host_chain}
 
 -- the chains with more rules at the end of chain c
 abbrev pub with_rules : List Chain → ℕ → List Rule → List Chain
 with_rules chains c [] = chains
 with_rules chains c (r ∷ rs) = with_rules (with_rule chains c r) c rs
+
+-- the layout up to the chain of the n-th host
+abbrev pub chains_up_to : List Host → List Flow → List Flow → ℕ → List Chain
+chains_up_to hosts p s n = entry_chains hosts ++ map (host_chain hosts p s) (range_with_len 0 n)

@@ -18,10 +18,16 @@ use Rattle.ipt_rules.specs.declared.rule.Rule.{Rule}
 use Rattle.ipt_rules.specs.declared.rule.Target.{Target}
 use Rattle.ipt_rules.specs.declared.rule.Target.TheVariants.{Accept, Drop, Reject, Return, Count, Jump}
 use Rattle.ipt_rules.specs.Chain.{rule_count, number_of}
-use Rattle.ipt_rules.specs.Build.{jumps_nowhere, first_unknown, refusal_of, ascends, jumps_ascend, JumpsAscend}
-use Rattle.ipt_rules.specs.Name.{is_user_name, is_reserved, is_name_byte, has_name_length}
+use Rattle.ipt_rules.specs.Build.{jumps_nowhere, first_unknown, refusal_of}
+use Rattle.ipt_rules.specs.Loops.{HasNoLoop}
+use Rattle.ipt_rules.specs.LoopLaws.{goes_up, jumps_go_up, no_loop_upward}
+use Rattle.ipt_rules.specs.Name.{is_user_name, is_reserved, is_printing, has_name_length}
+use Rattle.emit_core.specs.declared.side.Side.{Side}
+use Rattle.emit_core.specs.declared.side.Side.TheVariants.{Sending}
+use Rattle.emit_core.specs.Sides.{links, other_side}
 use Rattle.emit_core.specs.OwnerLaws.{rest_below}
-use Rattle.emit_core.specs.Layout.{permits, for_each_prefix, to_destination, answering, accepts, drops, is_open, to_prefix, to_rest, host_rules, forward_rules, rest_jump, jump_from, from_source, chain_of, layout, chains_up_to, host_chain, host_chain_name}
+use Rattle.emit_core.specs.Layout.{for_each_prefix, at_other, answering, accepts, drops, is_open, to_prefix, to_rest, host_rules, forward_rules, rest_jump, jump_from, from_source, chain_of, layout, host_chain, host_chain_name}
+use Rattle.emit_core.specs.Filling.{chains_up_to}
 
 -- rules for each prefix, at most m for one
 few_for_each : (m : ℕ) (written : Prefix → List Rule) → ((q : Prefix) → length (written q) ≤ m) → (qs : List Prefix) → length (flat_map written qs) ≤ m * length qs
@@ -45,28 +51,28 @@ one_if : (b : Bool) (x : Rule) → length (if b then x ∷ [] else []) ≤ 1
 one_if true x = omega arith
 one_if false x = omega arith
 
-few_to_prefix : (p s : List Flow) (i : ℕ) (rest : Option ℕ) (j : ℕ) (q : Prefix) → length (to_prefix p s i rest j q) ≤ 2
-few_to_prefix p s i rest j q =
+few_to_prefix : (side : Side) (p s : List Flow) (i : ℕ) (rest : Option ℕ) (j : ℕ) (q : Prefix) → length (to_prefix side p s i rest j q) ≤ 2
+few_to_prefix side p s i rest j q =
     omega (
       arith,
-      one_at_most (permits p i j) (permits s j i) (to_destination (Some q) None Accept) (to_destination (Some q) answering Accept),
-      one_if (is_open p s i rest && not (permits p i j)) (to_destination (Some q) None Drop),
-      length-append (accepts p s i j (Some q)) (drops p s i rest j q),
+      one_at_most (links side p i j) (links (other_side side) s i j) (at_other side (Some q) None Accept) (at_other side (Some q) answering Accept),
+      one_if (is_open side p s i rest && not (links side p i j)) (at_other side (Some q) None Drop),
+      length-append (accepts side p s i j (Some q)) (drops side p s i rest j q),
     )
 
-few_to_rest : (p s : List Flow) (i : ℕ) (rest : Option ℕ) → length (to_rest p s i rest) ≤ 1
-few_to_rest p s i None = omega arith
-few_to_rest p s i (Some r) = one_at_most (permits p i r) (permits s r i) (to_destination None None Accept) (to_destination None answering Accept)
+few_to_rest : (side : Side) (p s : List Flow) (i : ℕ) (rest : Option ℕ) → length (to_rest side p s i rest) ≤ 1
+few_to_rest side p s i None = omega arith
+few_to_rest side p s i (Some r) = one_at_most (links side p i r) (links (other_side side) s i r) (at_other side None None Accept) (at_other side None answering Accept)
 
 -- a host's chain has two rules for each prefix, and two more, at most
-pub few_host_rules : (hosts : List Host) (p s : List Flow) (i : ℕ) → length (host_rules hosts p s i) ≤ 2 * prefix_count hosts + 2
-few_host_rules hosts p s i =
+pub few_host_rules : (side : Side) (hosts : List Host) (p s : List Flow) (i : ℕ) → length (host_rules side hosts p s i) ≤ 2 * prefix_count hosts + 2
+few_host_rules side hosts p s i =
     omega (
       arith,
-      few_for_all 2 (to_prefix p s i (rest_of hosts)) (few_to_prefix p s i (rest_of hosts)) 0 hosts,
-      few_to_rest p s i (rest_of hosts),
-      length-append (for_each_prefix (to_prefix p s i (rest_of hosts)) 0 hosts) (to_rest p s i (rest_of hosts) ++ to_destination None None Drop ∷ []),
-      length-append (to_rest p s i (rest_of hosts)) (to_destination None None Drop ∷ []),
+      few_for_all 2 (to_prefix side p s i (rest_of hosts)) (few_to_prefix side p s i (rest_of hosts)) 0 hosts,
+      few_to_rest side p s i (rest_of hosts),
+      length-append (for_each_prefix (to_prefix side p s i (rest_of hosts)) 0 hosts) (to_rest side p s i (rest_of hosts) ++ at_other side None None Drop ∷ []),
+      length-append (to_rest side p s i (rest_of hosts)) (at_other side None None Drop ∷ []),
     )
 
 few_rest_jump : (rest : Option ℕ) → length (rest_jump rest) ≤ 1
@@ -81,10 +87,10 @@ few_forward_rules hosts =
 few_host_chains : (hosts : List Host) (p s : List Flow) (k n : ℕ)
     → rule_count (map (host_chain hosts p s) (range_with_len k n)) ≤ n * (2 * prefix_count hosts + 2)
 few_host_chains hosts p s k zero = omega arith
-few_host_chains hosts p s k (suc n) = omega (arith, few_host_rules hosts p s k, few_host_chains hosts p s (k + 1) n)
+few_host_chains hosts p s k (suc n) = omega (arith, few_host_rules Sending hosts p s k, few_host_chains hosts p s (k + 1) n)
 
 -- how many rules the chains up to the n-th host have, at most
-few_rules : (hosts : List Host) (p s : List Flow) (n : ℕ)
+pub few_rules : (hosts : List Host) (p s : List Flow) (n : ℕ)
     → rule_count (chains_up_to hosts p s n) ≤ prefix_count hosts + 1 + n * (2 * prefix_count hosts + 2)
 few_rules hosts p s n = omega (arith, few_forward_rules hosts, few_host_chains hosts p s 0 n)
 
@@ -114,37 +120,37 @@ all_for_each test written n each k (h ∷ hs) within =
     ∙ and_from _ _ (all_flat_map test (written k) (each k (omega arith)) h.prefixes) (all_for_each test written n each (k + 1) hs (omega arith))
 
 -- the rule ends the walk of a packet that it fits
-abbrev decides : Target → Bool
+abbrev pub decides : Target → Bool
 decides Accept = true
 decides Drop = true
 decides _ = false
 
-decide_accepts : (q : Option Prefix) (b c : Bool)
-    → list_all (λ r. decides r.target) (if b then to_destination q None Accept ∷ [] else (if c then to_destination q answering Accept ∷ [] else [])) ≡ true
-decide_accepts q true c = refl
-decide_accepts q false true = refl
-decide_accepts q false false = refl
+decide_accepts : (side : Side) (q : Option Prefix) (b c : Bool)
+    → list_all (λ r. decides r.target) (if b then at_other side q None Accept ∷ [] else (if c then at_other side q answering Accept ∷ [] else [])) ≡ true
+decide_accepts side q true c = refl
+decide_accepts side q false true = refl
+decide_accepts side q false false = refl
 
-decide_drops : (q : Option Prefix) (b : Bool) → list_all (λ r. decides r.target) (if b then to_destination q None Drop ∷ [] else []) ≡ true
-decide_drops q true = refl
-decide_drops q false = refl
+decide_drops : (side : Side) (q : Option Prefix) (b : Bool) → list_all (λ r. decides r.target) (if b then at_other side q None Drop ∷ [] else []) ≡ true
+decide_drops side q true = refl
+decide_drops side q false = refl
 
-decide_to_rest : (p s : List Flow) (i : ℕ) (rest : Option ℕ) → list_all (λ r. decides r.target) (to_rest p s i rest) ≡ true
-decide_to_rest p s i None = refl
-decide_to_rest p s i (Some r) = decide_accepts None (permits p i r) (permits s r i)
+decide_to_rest : (side : Side) (p s : List Flow) (i : ℕ) (rest : Option ℕ) → list_all (λ r. decides r.target) (to_rest side p s i rest) ≡ true
+decide_to_rest side p s i None = refl
+decide_to_rest side p s i (Some r) = decide_accepts side None (links side p i r) (links (other_side side) s i r)
 
 -- no rule of a host's chain jumps or returns
-host_rules_decide : (hosts : List Host) (p s : List Flow) (i : ℕ) → list_all (λ r. decides r.target) (host_rules hosts p s i) ≡ true
-host_rules_decide hosts p s i =
+pub host_rules_decide : (side : Side) (hosts : List Host) (p s : List Flow) (i : ℕ) → list_all (λ r. decides r.target) (host_rules side hosts p s i) ≡ true
+host_rules_decide side hosts p s i =
     let test : Rule → Bool = λ r. decides r.target in
     let rest = rest_of hosts in
-    list_all-append test (for_each_prefix (to_prefix p s i rest) 0 hosts) (to_rest p s i rest ++ to_destination None None Drop ∷ [])
+    list_all-append test (for_each_prefix (to_prefix side p s i rest) 0 hosts) (to_rest side p s i rest ++ at_other side None None Drop ∷ [])
     ∙ and_from _ _
-    (all_for_each test (to_prefix p s i rest) (length hosts)
-    (λ j below q. list_all-append test (accepts p s i j (Some q)) (drops p s i rest j q)
-    ∙ and_from _ _ (decide_accepts (Some q) (permits p i j) (permits s j i)) (decide_drops (Some q) (is_open p s i rest && not (permits p i j))))
+    (all_for_each test (to_prefix side p s i rest) (length hosts)
+    (λ j below q. list_all-append test (accepts side p s i j (Some q)) (drops side p s i rest j q)
+    ∙ and_from _ _ (decide_accepts side (Some q) (links side p i j) (links (other_side side) s i j)) (decide_drops side (Some q) (is_open side p s i rest && not (links side p i j))))
     0 hosts (omega arith))
-    (list_all-append test (to_rest p s i rest) (to_destination None None Drop ∷ []) ∙ and_from _ _ (decide_to_rest p s i rest) refl)
+    (list_all-append test (to_rest side p s i rest) (at_other side None None Drop ∷ []) ∙ and_from _ _ (decide_to_rest side p s i rest) refl)
 
 -- the rule jumps to the chain of one of n hosts
 abbrev jumps_to_host : ℕ → Target → Bool
@@ -171,14 +177,14 @@ forward_rules_jump hosts =
     (rest_jump_there (length hosts) (rest_of hosts) (rest_below hosts))
 
 -- rules that pass a test do not jump to nowhere, where the test rules it out
-none_nowhere : (count : ℕ) (test : Target → Bool) → ((t : Target) → test t ≡ true → jumps_nowhere count t ≡ false)
+pub none_nowhere : (count : ℕ) (test : Target → Bool) → ((t : Target) → test t ≡ true → jumps_nowhere count t ≡ false)
     → (i : ℕ) (rules : List Rule) → list_all (λ r. test r.target) rules ≡ true → position_from (λ r. jumps_nowhere count r.target) i rules ≡ None
 none_nowhere count test ruled_out i [] all = refl
 none_nowhere count test ruled_out i (r ∷ rs) all =
     let parts = and_parts (test r.target) (list_all (λ x. test x.target) rs) all in
     rw (ruled_out r.target parts.0) (none_nowhere count test ruled_out (i + 1) rs parts.1)
 
-decides_somewhere : (count : ℕ) (t : Target) → decides t ≡ true → jumps_nowhere count t ≡ false
+pub decides_somewhere : (count : ℕ) (t : Target) → decides t ≡ true → jumps_nowhere count t ≡ false
 decides_somewhere count Accept is = refl
 decides_somewhere count Drop is = refl
 decides_somewhere count Reject is = refl
@@ -198,7 +204,7 @@ host_chains_known : (hosts : List Host) (p s : List Flow) (count c k n : ℕ)
     → first_unknown count c (map (host_chain hosts p s) (range_with_len k n)) ≡ None
 host_chains_known hosts p s count c k zero = refl
 host_chains_known hosts p s count c k (suc n) =
-    rw (none_nowhere count decides (decides_somewhere count) 0 (host_rules hosts p s k) (host_rules_decide hosts p s k))
+    rw (none_nowhere count decides (decides_somewhere count) 0 (host_rules Sending hosts p s k) (host_rules_decide Sending hosts p s k))
     (host_chains_known hosts p s count (c + 1) (k + 1) n)
 
 -- every jump leads to a chain that is there
@@ -217,50 +223,50 @@ layout_accepted hosts p s few prefixes =
     let rules : nat_lt 1000000 (rule_count (layout hosts p s)) ≡ false = grind (arith, nat_tests, fewer_than_600000 hosts p s (length hosts) few prefixes) in
     rw (chains, rules) (layout_known hosts p s)
 
-all_from : (test other : Target → Bool) → ((t : Target) → test t ≡ true → other t ≡ true) → (rules : List Rule)
+pub all_from : (test other : Target → Bool) → ((t : Target) → test t ≡ true → other t ≡ true) → (rules : List Rule)
     → list_all (λ r. test r.target) rules ≡ true → list_all (λ r. other r.target) rules ≡ true
 all_from test other follows [] all = refl
 all_from test other follows (r ∷ rs) all =
     let parts = and_parts (test r.target) (list_all (λ x. test x.target) rs) all in
     and_from _ _ (follows r.target parts.0) (all_from test other follows rs parts.1)
 
-decides_ascends : (count c : ℕ) (t : Target) → decides t ≡ true → ascends count c t ≡ true
-decides_ascends count c Accept is = refl
-decides_ascends count c Drop is = refl
-decides_ascends count c Reject is = refl
-decides_ascends count c Return is = refl
-decides_ascends count c Count is = refl
-decides_ascends count c (Jump d) is = cc
+decides_up : (c : ℕ) (t : Target) → decides t ≡ true → goes_up c t ≡ true
+decides_up c Accept is = refl
+decides_up c Drop is = refl
+decides_up c Reject is = refl
+decides_up c Return is = refl
+decides_up c Count is = refl
+decides_up c (Jump d) is = cc
 
-jump_ascends : (n count : ℕ) (t : Target) → jumps_to_host n t ≡ true → ascends count 1 t ≡ true
-jump_ascends n count Accept is = refl
-jump_ascends n count Drop is = refl
-jump_ascends n count Reject is = refl
-jump_ascends n count Return is = refl
-jump_ascends n count Count is = refl
-jump_ascends n count (Jump d) is = grind (arith, nat_tests)
+host_up : (n : ℕ) (t : Target) → jumps_to_host n t ≡ true → goes_up 1 t ≡ true
+host_up n Accept is = refl
+host_up n Drop is = refl
+host_up n Reject is = refl
+host_up n Return is = refl
+host_up n Count is = refl
+host_up n (Jump d) is = grind (arith, nat_tests)
 
-host_chains_ascend : (hosts : List Host) (p s : List Flow) (count c k n : ℕ)
-    → jumps_ascend count c (map (host_chain hosts p s) (range_with_len k n)) ≡ true
-host_chains_ascend hosts p s count c k zero = refl
-host_chains_ascend hosts p s count c k (suc n) =
-    and_from _ _ (all_from decides (ascends count c) (decides_ascends count c) (host_rules hosts p s k) (host_rules_decide hosts p s k))
-    (host_chains_ascend hosts p s count (c + 1) (k + 1) n)
+host_chains_up : (hosts : List Host) (p s : List Flow) (c k n : ℕ)
+    → jumps_go_up c (map (host_chain hosts p s) (range_with_len k n)) ≡ true
+host_chains_up hosts p s c k zero = refl
+host_chains_up hosts p s c k (suc n) =
+    and_from _ _ (all_from decides (goes_up c) (decides_up c) (host_rules Sending hosts p s k) (host_rules_decide Sending hosts p s k))
+    (host_chains_up hosts p s (c + 1) (k + 1) n)
 
 -- jumps lead from FORWARD to the chains of hosts, and from there nowhere
-pub layout_ascends : (hosts : List Host) (p s : List Flow) → JumpsAscend (layout hosts p s)
-layout_ascends hosts p s =
-    let count = length (layout hosts p s) in
-    and_from _ _
-    (all_from (jumps_to_host (length hosts)) (ascends count 1) (jump_ascends (length hosts) count) (forward_rules hosts) (forward_rules_jump hosts))
-    (host_chains_ascend hosts p s count 3 0 (length hosts))
+pub layout_no_loop : (hosts : List Host) (p s : List Flow) → HasNoLoop (layout hosts p s)
+layout_no_loop hosts p s =
+    no_loop_upward (layout hosts p s)
+    (and_from _ _
+    (all_from (jumps_to_host (length hosts)) (goes_up 1) (host_up (length hosts)) (forward_rules hosts) (forward_rules_jump hosts))
+    (host_chains_up hosts p s 3 0 (length hosts)))
 
 -- hosts with different numbers have chains with different names
 host_chain_name_injective : (i j : ℕ) → i < 2 ^ 16 → j < 2 ^ 16 → host_chain_name i ≡ host_chain_name j → i ≡ j
 host_chain_name_injective i j i_fits j_fits same =
     decimal_injective i j (omega arith) (omega arith) (append_cancel_left (codes "H") (decimal i) (decimal j) same)
 
-other_name : (i j : ℕ) → i < j → j < 2 ^ 16 → bytes_eq (host_chain_name i) (host_chain_name j) ≡ false
+pub other_name : (i j : ℕ) → i < j → j < 2 ^ 16 → bytes_eq (host_chain_name i) (host_chain_name j) ≡ false
 other_name i j before fits = by_test (bytes_eq (host_chain_name i) (host_chain_name j)) refl
   where
     by_test : (b : Bool) → bytes_eq (host_chain_name i) (host_chain_name j) ≡ b → b ≡ false
@@ -279,13 +285,13 @@ host_name_unused hosts p s at k (suc n) i before fits =
 pub name_unused : (hosts : List Host) (p s : List Flow) (i : ℕ) → i < 2 ^ 16 → number_of (chains_up_to hosts p s i) (host_chain_name i) ≡ None
 name_unused hosts p s i fits = host_name_unused hosts p s 3 0 i i (omega arith) fits
 
-digit_in_name : (d : ℕ) → d < 10 → list_all is_name_byte ((48 + d) ∷ []) ≡ true
+digit_in_name : (d : ℕ) → d < 10 → list_all is_printing ((48 + d) ∷ []) ≡ true
 digit_in_name d small = grind (arith, nat_tests)
 
-digits_in_name : (n : ℕ) → n < 2 ^ 64 → list_all is_name_byte (decimal n) ≡ true
+digits_in_name : (n : ℕ) → n < 2 ^ 64 → list_all is_printing (decimal n) ≡ true
 digits_in_name n fits =
-    decimal_by_steps (λ m ds. list_all is_name_byte ds ≡ true) (λ m small. digit_in_name m small)
-    (λ m ds large front. list_all-append is_name_byte ds ((48 + m % 10) ∷ []) ∙ and_from _ _ front (digit_in_name (m % 10) (omega arith)))
+    decimal_by_steps (λ m ds. list_all is_printing ds ≡ true) (λ m small. digit_in_name m small)
+    (λ m ds large front. list_all-append is_printing ds ((48 + m % 10) ∷ []) ∙ and_from _ _ front (digit_in_name (m % 10) (omega arith)))
     n fits
 
 -- the name of a host's chain is one that a user chain may have

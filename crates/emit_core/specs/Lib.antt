@@ -1,8 +1,10 @@
+pub mod Sides
 pub mod Layout
-pub mod LayoutLaws
 pub mod Filling
-pub mod Forwarding
 pub mod OwnerLaws
 pub mod ForwardingLaws
-pub mod Events
-pub mod EventsLaws
+pub mod FlowTable
+pub mod FlowTableForwarding
+pub mod FlowTableEvents
+pub mod LayoutLaws
+pub mod WritableLaws

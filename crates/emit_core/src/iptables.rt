@@ -2,16 +2,16 @@
 
 ghost use Rattle.std.specs.Prelude.{◌≡◌, ◌+◌, ◌<◌, ◌^◌, length, IfOk, OnOk};
 ghost use Rattle.flow_set.specs.FlowSet.{IsSubset};
-ghost use Rattle.host_net.specs.Host.{rest_of};
 ghost use Rattle.host_net.specs.Hosts.{IsHosts};
+ghost use Rattle.pkt_core.specs.Filter.{Enforces, ForwardsExpected};
 ghost use Rattle.ipt_rules.specs.Chain.{rule_count};
-ghost use Rattle.emit_core.specs.Filling.{with_rules};
-ghost use Rattle.emit_core.specs.Layout.{layout, chains_up_to, host_chain_name};
-ghost use Rattle.emit_core.specs.Events.{ForwardsExpected};
-ghost use Rattle.emit_core.specs.Forwarding.{Enforces};
+ghost use Rattle.ipt_rules.specs.Meaning.{Passes};
+ghost use Rattle.emit_core.specs.Filling.{with_rules, chains_up_to};
+ghost use Rattle.emit_core.specs.Layout.{layout, host_chain_name};
 
 use crate::forward::forward_rules;
-use crate::sender::Sender;
+use crate::host_chain::host_rules;
+use crate::side::Side;
 use flow_set::FlowSet;
 use host_net::Hosts;
 use ipt_rules::{BuildRefusal, ChainName, Chains, Policy, Rule, Ruleset};
@@ -33,11 +33,11 @@ pub fn emit_iptables(
     ensures layout { IfOk result (λ rules. rules ≡ layout hosts.now p.now.flows s.now.flows) }
 
     // Each packet has a verdict, and it is forwarded exactly where the policy lets it pass.
-    ensures enforces { IfOk result (λ rules. Enforces rules hosts.now p.now.flows s.now.flows) }
+    ensures enforces { IfOk result (λ rules. Enforces (Passes rules) hosts.now p.now.flows s.now.flows) }
 
     // Over every list of packets and forgettings, a packet is forwarded exactly where the policy
     // and its answers expect it.
-    ensures expected { IfOk result (λ rules. ForwardsExpected rules hosts.now p.now.flows s.now.flows) }
+    ensures expected { IfOk result (λ rules. ForwardsExpected (Passes rules) hosts.now p.now.flows s.now.flows) }
 {
     let chains = chains_of(alloc, hosts, p, s)?;
     match Ruleset::build(alloc, chains) {
@@ -63,18 +63,11 @@ fn chains_of(alloc: Global, hosts: &Hosts, p: &FlowSet, s: &FlowSet) -> Result<C
     ensures hosts { IsHosts hosts.now }
 {
     let count = hosts.count();
-    let rest = hosts.rest();
     let mut chains = Chains::new(alloc)?;
     chains.set_policy(FORWARD, Policy::Drop);
     fill(&mut chains, FORWARD, &forward_rules(alloc, hosts)?)?;
     for host in 0..count {
-        let sender = Sender {
-            permitted: p,
-            stateful: s,
-            host,
-            rest,
-        };
-        add_host_chain(alloc, &mut chains, hosts, &sender)?;
+        add_host_chain(alloc, &mut chains, hosts, p, s, host)?;
     }
     Ok(chains)
 }
@@ -83,18 +76,19 @@ fn add_host_chain(
     alloc: Global,
     chains: &mut Chains,
     hosts: &Hosts,
-    sender: &Sender,
+    p: &FlowSet,
+    s: &FlowSet,
+    host: u16,
 ) -> Result<(), AllocError>
-    requires size { sender.now.permitted.now.size ≡ length hosts.now }
-    requires rest { sender.now.rest ≡ rest_of hosts.now }
+    requires permitted { p.now.size ≡ length hosts.now }
+    requires stateful { s.now.size ≡ length hosts.now }
+    requires there { host < length hosts.now }
     requires few { IsHosts hosts.now }
-    requires before { chains.old ≡ chains_up_to hosts.now sender.now.permitted.now.flows
-        sender.now.stateful.now.flows sender.now.host }
-    ensures { OnOk result (chains.new ≡ chains_up_to hosts.now sender.now.permitted.now.flows
-        sender.now.stateful.now.flows (sender.now.host + 1)) }
+    requires before { chains.old ≡ chains_up_to hosts.now p.now.flows s.now.flows host }
+    ensures { OnOk result (chains.new ≡ chains_up_to hosts.now p.now.flows s.now.flows (host + 1)) }
 {
-    let rules = sender.rules(alloc, hosts)?;
-    let chain = chains.add(host_chain_name(alloc, sender.host)?)?;
+    let rules = host_rules(alloc, hosts, p, s, Side::Sending, host)?;
+    let chain = chains.add(host_chain_name(alloc, host)?)?;
     fill(chains, chain, &rules)?;
     Ok(())
 }

@@ -1,19 +1,19 @@
 -- The first jump to nowhere, found chain by chain; and what holds of chains that are not refused.
-use Rattle.std.proofs.Common.{◌≡◌, ℕ, zero, suc, ◌+◌, ◌<◌, ◌≤◌, ◌∙◌, sym, ap, refl, Bool, true, false, cond, List, [], ◌∷◌, Option, Some, None, length, get_or, drop, arith, subst}
+use Rattle.std.proofs.Common.{◌≡◌, ℕ, zero, suc, ◌+◌, ◌<◌, ◌≤◌, ◌∙◌, sym, ap, refl, Bool, true, false, cond, not, List, [], ◌∷◌, Option, Some, None, length, get_or, drop, arith}
 use Rattle.std.proofs.Math.Seq.{drop-cons}
 use Rattle.std.proofs.Math.Numerals.{add-one}
-use Rattle.std.proofs.lemmas.Bool.{and_parts, and_from}
+use Rattle.std.proofs.lemmas.Bool.{and_from}
 use Rattle.std.proofs.lemmas.Bool.Decides.{nat_tests}
 use Rattle.std.specs.Prelude.{is_some}
 use Rattle.std.specs.List.{position_from, list_all}
 use Rattle.ipt_rules.specs.declared.rule.Rule.{Rule}
-use Rattle.ipt_rules.specs.declared.rule.Target.{Target}
-use Rattle.ipt_rules.specs.declared.rule.Target.TheVariants.{Accept, Drop, Reject, Return, Count, Jump}
 use Rattle.ipt_rules.specs.declared.ruleset.BuildRefusal.{BuildRefusal}
 use Rattle.ipt_rules.specs.declared.ruleset.BuildRefusal.TheVariants.{UnknownChain}
 use Rattle.ipt_rules.specs.Chain.{Chain, rules_of, rule_count, IsChainList}
-use Rattle.ipt_rules.specs.Build.{jumps_nowhere, place_of_unknown, unknown_at, first_unknown, refusal_of, ascends, jumps_ascend, JumpsAscend}
-use Rattle.ipt_rules.specs.Jumps.{goes_on_to, IsRuleset}
+use Rattle.ipt_rules.specs.Build.{jumps_nowhere, place_of_unknown, unknown_at, first_unknown, refusal_of}
+use Rattle.ipt_rules.specs.Jumps.{JumpsAreKnown, IsRuleset}
+use Rattle.ipt_rules.specs.Loops.{jumps_from}
+use Rattle.ipt_rules.specs.Ranks.{IsRanking}
 
 pub chains_at : (xs : List Chain) (i : ℕ) (x : Chain) → i < length xs → x ≡ get_or xs i x → drop i xs ≡ x ∷ drop (i + 1) xs
 chains_at xs i x h is = rw (add-one i) (drop-cons xs i x h ∙ ap (λ y. y ∷ drop (suc i) xs) (sym is))
@@ -33,25 +33,16 @@ unknown_later count i xs x rs h is same found = unknown_in count i xs x rs None 
 pub rules_left : (xs : List Chain) (i : ℕ) (x : Chain) → i < length xs → x ≡ get_or xs i x → rule_count (drop i xs) ≡ length x.rules + rule_count (drop (i + 1) xs)
 rules_left xs i x h is = ap rule_count (chains_at xs i x h is)
 
-jump_goes_on : (count c : ℕ) (t : Target) → jumps_nowhere count t ≡ false → ascends count c t ≡ true → goes_on_to count c t ≡ true
-jump_goes_on count c Accept known up = refl
-jump_goes_on count c Drop known up = refl
-jump_goes_on count c Reject known up = refl
-jump_goes_on count c Return known up = refl
-jump_goes_on count c Count known up = refl
-jump_goes_on count c (Jump d) known up = grind (arith, nat_tests)
-
 -- one rule more that jumps somewhere
 known_first : (b : Bool) (i : ℕ) (o : Option ℕ) → cond b (Some i) o ≡ None → (b ≡ false) × (o ≡ None)
 known_first true i o h = cc
 known_first false i o h = (refl, h)
 
-rules_go_on : (count c i : ℕ) (rs : List Rule) → position_from (λ r. jumps_nowhere count r.target) i rs ≡ None → list_all (λ r. ascends count c r.target) rs ≡ true → list_all (λ r. goes_on_to count c r.target) rs ≡ true
-rules_go_on count c i [] known up = refl
-rules_go_on count c i (r ∷ rs) known up =
+rules_known : (count i : ℕ) (rs : List Rule) → position_from (λ r. jumps_nowhere count r.target) i rs ≡ None → list_all (λ r. not (jumps_nowhere count r.target)) rs ≡ true
+rules_known count i [] known = refl
+rules_known count i (r ∷ rs) known =
     let here = known_first (jumps_nowhere count r.target) i (position_from (λ s. jumps_nowhere count s.target) (i + 1) rs) known in
-    let ups = and_parts (ascends count c r.target) (list_all (λ s. ascends count c s.target) rs) up in
-    and_from _ _ (jump_goes_on count c r.target here.0 ups.0) (rules_go_on count c (i + 1) rs here.1 ups.1)
+    and_from _ _ (ap not here.0) (rules_known count (i + 1) rs here.1)
 
 none_at : (n : ℕ) (o : Option ℕ) (others : Option BuildRefusal) → unknown_at n o others ≡ None → (o ≡ None) × (others ≡ None)
 none_at n None others h = (refl, h)
@@ -64,14 +55,6 @@ chain_known count n (x ∷ xs) zero known =
 chain_known count n (x ∷ xs) (suc c) known =
     chain_known count (n + 1) xs c (none_at n (place_of_unknown count x.rules) (first_unknown count (n + 1) xs) known).1
 
-ascend_at : (count n : ℕ) (xs : List Chain) (k m : ℕ) → n + k ≡ m → jumps_ascend count n xs ≡ true → list_all (λ r. ascends count m r.target) (rules_of xs k) ≡ true
-ascend_at count n [] k m place up = refl
-ascend_at count n (x ∷ xs) zero m place up =
-    let same : n ≡ m = omega (arith, place) in
-    subst (λ (c : ℕ). list_all (λ r. ascends count c r.target) x.rules ≡ true) same (and_parts (list_all (λ r. ascends count n r.target) x.rules) (jumps_ascend count (n + 1) xs) up).0
-ascend_at count n (x ∷ xs) (suc k) m place up =
-    ascend_at count (n + 1) xs k m (omega (arith, place)) (and_parts (list_all (λ r. ascends count n r.target) x.rules) (jumps_ascend count (n + 1) xs) up).1
-
 record IsFine (xs : List Chain) : Type 0 where
   few_chains : length xs ≤ 4096
   few_rules : rule_count xs ≤ 1000000
@@ -81,14 +64,24 @@ fine_parts : (xs : List Chain) → refusal_of xs ≡ None → IsFine xs
 unfolding refusal_of
 fine_parts xs fine = grind (arith, nat_tests)
 
-pub built : (xs : List Chain) (n : ℕ) → IsChainList xs n → JumpsAscend xs → refusal_of xs ≡ None → IsRuleset xs n
+pub few_of : (xs : List Chain) → refusal_of xs ≡ None → length xs ≤ 4096
 unfolding fine_parts
-built xs n chains ascend fine =
+few_of xs fine = (fine_parts xs fine).few_chains
+
+pub known_of : (xs : List Chain) → refusal_of xs ≡ None → JumpsAreKnown xs
+unfolding fine_parts
+known_of xs fine =
+    record { from = λ c. rules_known (length xs) 0 (rules_of xs c) (chain_known (length xs) 0 xs c (fine_parts xs fine).known) }
+
+pub built : (xs : List Chain) (n : ℕ) (order : List ℕ) (places : List (Option ℕ)) → IsChainList xs n → refusal_of xs ≡ None → IsRanking (jumps_from xs) (length xs) order places → IsRuleset xs n order places
+unfolding fine_parts
+built xs n order places chains fine ranking =
     let parts = fine_parts xs fine in
     record {
       list = chains;
       accepted = ap is_some fine;
       few_chains = parts.few_chains;
       few_rules = omega (arith, parts.few_rules, chains.counted);
-      jumps = record { from = λ c. rules_go_on (length xs) c 0 (rules_of xs c) (chain_known (length xs) 0 xs c parts.known) (ascend_at (length xs) 0 xs c c (omega arith) ascend) };
+      jumps = known_of xs fine;
+      ranking = ranking;
     }

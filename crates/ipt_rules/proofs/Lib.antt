@@ -1,5 +1,13 @@
+pub mod Gets
+pub mod RankLemmas
+pub mod SearchLemmas
+pub mod LoopLemmas
 pub mod BuildLemmas
 pub mod WalkLemmas
+pub mod TableLemmas
+pub mod MarkLemmas
 pub mod ChainLemmas
-pub mod LineLemmas
 pub mod TextLemmas
+pub mod TableLaws
+pub mod NameLemmas
+pub mod NoLoopLemmas

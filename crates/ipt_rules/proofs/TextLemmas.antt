@@ -1,5 +1,5 @@
--- Where a line stands in the text: behind the table's line the chains, then their rules.
-use Rattle.std.proofs.Common.{◌≡◌, ℕ, zero, suc, ◌+◌, ◌-◌, ◌<◌, ◌≤◌, ◌∙◌, sym, ap, refl, true, List, [], ◌∷◌, ◌++◌, Some, length, get_or, drop, arith, append_assoc, length-append}
+-- Where a line stands in the text: after the table's line the chains, then their rules.
+use Rattle.std.proofs.Common.{not, ◌≡◌, ℕ, zero, suc, ◌+◌, ◌-◌, ◌<◌, ◌≤◌, ◌∙◌, sym, ap, refl, true, List, [], ◌∷◌, ◌++◌, Some, length, get_or, drop, arith, append_assoc, length-append}
 use Rattle.std.specs.Prelude.{slice_get, map}
 use Rattle.std.specs.List.{flat_map, list_all}
 use Rattle.std.specs.Option.{option_map}
@@ -12,7 +12,8 @@ use Rattle.ipt_rules.specs.declared.rule.Rule.{Rule}
 use Rattle.ipt_rules.specs.declared.rule.Target.{Target}
 use Rattle.ipt_rules.specs.declared.rule.Target.TheVariants.{Accept, Drop, Reject, Return, Count, Jump}
 use Rattle.ipt_rules.specs.Chain.{Chain, rules_of, rule_count}
-use Rattle.ipt_rules.specs.Jumps.{JumpsGoOn, JumpsIn, goes_on_to}
+use Rattle.ipt_rules.specs.Jumps.{JumpsAreKnown, JumpsIn}
+use Rattle.ipt_rules.specs.Build.{jumps_nowhere}
 use Rattle.ipt_rules.specs.Text.{text_lines, commit_line, chain_line, rule_line, rule_lines}
 use Rattle.ipt_rules.proofs.BuildLemmas.{chains_at}
 use Rattle.ipt_rules.proofs.ChainLemmas.{rules_of_read, chain_read}
@@ -23,12 +24,12 @@ slice_get_in [] ys i h = absurd (omega arith)
 slice_get_in (x ∷ xs) ys zero h = refl
 slice_get_in (x ∷ xs) ys (suc i) h = slice_get_in xs ys i (omega arith)
 
-slice_get_behind : {A : Type 0} → (xs ys : List A) (i : ℕ) → length xs ≤ i → slice_get (xs ++ ys) i ≡ slice_get ys (i - length xs)
-slice_get_behind [] ys i h = ap (slice_get ys) (omega arith)
-slice_get_behind (x ∷ xs) ys zero h = absurd (omega arith)
-slice_get_behind (x ∷ xs) ys (suc i) h =
+slice_get_after : {A : Type 0} → (xs ys : List A) (i : ℕ) → length xs ≤ i → slice_get (xs ++ ys) i ≡ slice_get ys (i - length xs)
+slice_get_after [] ys i h = ap (slice_get ys) (omega arith)
+slice_get_after (x ∷ xs) ys zero h = absurd (omega arith)
+slice_get_after (x ∷ xs) ys (suc i) h =
     let step : i - length xs ≡ suc i - suc (length xs) = omega arith in
-    slice_get_behind xs ys i (omega arith) ∙ ap (slice_get ys) step
+    slice_get_after xs ys i (omega arith) ∙ ap (slice_get ys) step
 
 -- the lines from the rules of chain i on
 unfoldable pub rest_lines : List Chain → ℕ → List (List ℕ)
@@ -51,7 +52,7 @@ pub rule_later : (chains : List Chain) (i : ℕ) (x : Chain) (rules : List Rule)
 rule_later chains i x rules left h is same past =
     let long : length (rule_lines chains x) ≡ length rules = length-map x.rules (rule_line chains x.name) ∙ ap length (sym same) in
     ap (λ (ls : List (List ℕ)). slice_get ls left) (rest_at chains i x h is)
-    ∙ (slice_get_behind (rule_lines chains x) (rest_lines chains (i + 1)) left (omega (arith, long))
+    ∙ (slice_get_after (rule_lines chains x) (rest_lines chains (i + 1)) left (omega (arith, long))
     ∙ ap (λ (n : ℕ). slice_get (rest_lines chains (i + 1)) (left - n)) long)
 
 pub commit_there : (chains : List Chain) (i left : ℕ) → length chains ≤ i → left ≤ rule_count (drop i chains) → slice_get (rest_lines chains i) left ≡ Some commit_line
@@ -61,29 +62,21 @@ commit_there chains i left past few =
     let first : left ≡ 0 = omega (arith, ap rule_count none) in
     ap (λ (xs : List Chain). slice_get (flat_map (rule_lines chains) xs ++ commit_line ∷ []) left) none ∙ ap (slice_get (commit_line ∷ [])) first
 
-target_in : (count c : ℕ) (t : Target) → goes_on_to count c t ≡ true → JumpsIn count t
-target_in count c Accept up = tt
-target_in count c Drop up = tt
-target_in count c Reject up = tt
-target_in count c Return up = tt
-target_in count c Count up = tt
-target_in count c (Jump d) up = grind (arith, nat_tests)
+target_in : (count : ℕ) (t : Target) → not (jumps_nowhere count t) ≡ true → JumpsIn count t
+target_in count Accept known = tt
+target_in count Drop known = tt
+target_in count Reject known = tt
+target_in count Return known = tt
+target_in count Count known = tt
+target_in count (Jump d) known = grind (arith, nat_tests)
 
-pub jump_in : (chains : List Chain) (i : ℕ) (x : Chain) (rules : List Rule) (left : ℕ) (r : Rule) → JumpsGoOn chains → i < length chains → x ≡ get_or chains i x → rules ≡ x.rules → left < length rules → r ≡ get_or rules left r → JumpsIn (length chains) r.target
+pub jump_in : (chains : List Chain) (i : ℕ) (x : Chain) (rules : List Rule) (left : ℕ) (r : Rule) → JumpsAreKnown chains → i < length chains → x ≡ get_or chains i x → rules ≡ x.rules → left < length rules → r ≡ get_or rules left r → JumpsIn (length chains) r.target
 jump_in chains i x rules left r jumps h is same here at =
     let read : rules ≡ rules_of chains i = same ∙ sym (rules_of_read chains i x h is) in
-    let all : list_all (λ s. goes_on_to (length chains) i s.target) rules ≡ true = rw read (jumps.from i) in
-    target_in (length chains) i r.target (all_at (λ s. goes_on_to (length chains) i s.target) rules left r all here at)
+    let all : list_all (λ s. not (jumps_nowhere (length chains) s.target)) rules ≡ true = rw read (jumps.from i) in
+    target_in (length chains) r.target (all_at (λ s. not (jumps_nowhere (length chains) s.target)) rules left r all here at)
 
-length_rules : (chains xs : List Chain) → length (flat_map (rule_lines chains) xs) ≡ rule_count xs
-length_rules chains [] = refl
-length_rules chains (x ∷ xs) =
-    length-append (rule_lines chains x) (flat_map (rule_lines chains) xs) ∙ omega (arith, length-map x.rules (rule_line chains x.name), length_rules chains xs)
-
-pub length-text_lines : (chains : List Chain) → length (text_lines chains) ≡ length chains + rule_count chains + 2
-length-text_lines chains = simp length-append (omega (arith, length-map chains chain_line, length_rules chains chains))
-
--- the line of a chain stands behind the table's
+-- the line of a chain stands after the table's
 pub chain_there : (chains : List Chain) (i : ℕ) (x : Chain) → i < length chains → x ≡ get_or chains i x → slice_get (text_lines chains) (i + 1) ≡ Some (chain_line x)
 chain_there chains i x h is =
     rw (add-one i)
@@ -94,5 +87,5 @@ pub rest_there : (chains : List Chain) (i : ℕ) → length chains ≤ i → sli
 unfolding rest_lines
 rest_there chains i past =
     rw (add-one i)
-    (slice_get_behind (map chain_line chains) (flat_map (rule_lines chains) chains ++ commit_line ∷ []) i (omega (arith, length-map chains chain_line))
+    (slice_get_after (map chain_line chains) (flat_map (rule_lines chains) chains ++ commit_line ∷ []) i (omega (arith, length-map chains chain_line))
     ∙ ap (λ (n : ℕ). slice_get (flat_map (rule_lines chains) chains ++ commit_line ∷ []) (i - n)) (length-map chains chain_line))

@@ -1,22 +1,22 @@
 -- The walk along a chain: what the rules that are left give, the whole chain gives.
-use Rattle.std.proofs.Common.{◌≡◌, ℕ, zero, suc, ◌+◌, ◌<◌, ◌≤◌, ◌∙◌, sym, ap, refl, Bool, true, false, List, [], ◌∷◌, Option, Some, None, length, get_or, drop, arith, subst}
+use Rattle.std.proofs.Common.{◌≡◌, ℕ, zero, suc, ◌+◌, ◌<◌, ◌≤◌, ◌∙◌, sym, ap, refl, Bool, true, false, List, [], ◌∷◌, Option, Some, None, length, get_or, drop, arith, subst, inl, inr}
 use Rattle.std.proofs.Math.ListN.{drop_of_length-le}
 use Rattle.std.proofs.Math.Seq.{drop-cons}
 use Rattle.std.proofs.Math.Numerals.{add-one}
-use Rattle.std.proofs.lemmas.Bool.{and_parts}
-use Rattle.std.proofs.lemmas.Bool.Decides.{nat_tests}
-use Rattle.std.specs.List.{list_all}
-use Rattle.std.specs.Prelude.{is_some}
+use Rattle.std.proofs.lemmas.Bool.{and_parts, cases_lt}
+use Rattle.std.proofs.lemmas.Option.{same_Some, slice_get_past}
+use Rattle.std.proofs.lemmas.List.Elements.{Contains-append_right}
+use Rattle.std.specs.List.{list_all, cons_option}
+use Rattle.std.specs.Prelude.{is_some, slice_get, Contains}
 use Rattle.ipt_rules.specs.declared.rule.Rule.{Rule}
 use Rattle.ipt_rules.specs.declared.rule.Target.{Target}
 use Rattle.ipt_rules.specs.declared.rule.Target.TheVariants.{Accept, Drop, Reject, Return, Count, Jump}
-use Rattle.ipt_rules.specs.declared.rule.Verdict.{Verdict}
-use Rattle.ipt_rules.specs.declared.walk.Step.{Step}
-use Rattle.ipt_rules.specs.declared.walk.Step.TheVariants.{GoesOn, Ends, Walks}
-use Rattle.ipt_rules.specs.Chain.{Chain, rules_of}
-use Rattle.ipt_rules.specs.Jumps.{goes_on_to, JumpsGoOn}
+use Rattle.host_net.specs.declared.packet.Verdict.{Verdict}
+use Rattle.ipt_rules.specs.Chain.{Chain, rules_in, rules_of}
+use Rattle.ipt_rules.specs.Loops.{jump_of, jumps_of, jumps_from}
+use Rattle.ipt_rules.specs.Ranks.{place_of, IsBefore, IsOrder, IsRanking}
 use Rattle.ipt_rules.specs.MeaningLaws.{gives_once}
-use Rattle.ipt_rules.specs.Meaning.{step_of, EachGivesOne, Gives, at_end, goes_on, ends, decides, comes_back}
+use Rattle.ipt_rules.specs.Meaning.{RuleStep, GoesOn, Ends, Walks, step_of, EachGivesOne, Gives, at_end, goes_on, ends, decides, comes_back}
 
 -- every outcome that the rules that are left give
 pub record GivesAlso (fits : Rule → Bool) (chains : List Chain) (left rules : List Rule) : Type 0 where
@@ -54,7 +54,7 @@ all_at p (y ∷ ys) zero x all h is = ap p is ∙ (and_parts (p y) (list_all p y
 all_at p (y ∷ ys) (suc i) x all h is =
     all_at p ys i x (and_parts (p y) (list_all p ys) all).1 (omega arith) is
 
-walked_jump : (b : Bool) (t : Target) (d : ℕ) → Walks d ≡ step_of b t → t ≡ Jump d
+pub walked_jump : (b : Bool) (t : Target) (d : ℕ) → Walks d ≡ step_of b t → t ≡ Jump d
 walked_jump false t d step = cc
 walked_jump true Accept d step = cc
 walked_jump true Drop d step = cc
@@ -62,20 +62,6 @@ walked_jump true Reject d step = cc
 walked_jump true Return d step = cc
 walked_jump true Count d step = cc
 walked_jump true (Jump c) d step = cc
-
--- where a jump of chain n goes
-pub record GoesTo (chains : List Chain) (n d : ℕ) : Type 0 where
-  pub later : n < d
-  pub there : d < length chains
-
-goes_to : (chains : List Chain) (n d : ℕ) → goes_on_to (length chains) n (Jump d) ≡ true → GoesTo chains n d
-goes_to chains n d up = record { later = grind (arith, nat_tests); there = grind (arith, nat_tests) }
-
-pub jump_at : (chains : List Chain) (n : ℕ) (rules : List Rule) (i : ℕ) (r : Rule) (b : Bool) (d : ℕ) → JumpsGoOn chains → rules ≡ rules_of chains n → i < length rules → r ≡ get_or rules i r → Walks d ≡ step_of b r.target → GoesTo chains n d
-jump_at chains n rules i r b d jumps same h is step =
-    let all : list_all (λ s. goes_on_to (length chains) n s.target) rules ≡ true = rw same (jumps.from n) in
-    let up : goes_on_to (length chains) n r.target ≡ true = all_at (λ s. goes_on_to (length chains) n s.target) rules i r all h is in
-    goes_to chains n d (ap (goes_on_to (length chains) n) (sym (walked_jump b r.target d step)) ∙ up)
 
 -- the rules give an outcome
 pub record GivesSome (fits : Rule → Bool) (chains : List Chain) (rules : List Rule) : Type 0 where
@@ -88,38 +74,72 @@ walked_gives fits chains r rs d None step walked rest =
 walked_gives fits chains r rs d (Some v) step walked rest =
     record { outcome = Some v; gives = decides step walked }
 
-goes_down : (chains : List Chain) (c : ℕ) (r : Rule) (rs : List Rule) → list_all (λ s. goes_on_to (length chains) c s.target) (r ∷ rs) ≡ true → (goes_on_to (length chains) c r.target ≡ true) × (list_all (λ s. goes_on_to (length chains) c s.target) rs ≡ true)
-goes_down chains c r rs all = and_parts (goes_on_to (length chains) c r.target) (list_all (λ s. goes_on_to (length chains) c s.target) rs) all
+-- jumps of the first rule, and of those after it
+jump_first : (r : Rule) (rs : List Rule) (d : ℕ) (o : Option ℕ) → jump_of r.target ≡ o → o ≡ Some d → Contains (cons_option o (jumps_of rs)) d
+jump_first r rs d None is some = cc
+jump_first r rs d (Some e) is some =
+    subst (λ (x : ℕ). Contains (e ∷ jumps_of rs) x) (same_Some e d some) (zero, omega arith, refl)
 
-module _ (fits : Rule → Bool) (chains : List Chain) (c : ℕ) (below : (d : ℕ) → c < d → d < length chains → GivesSome fits chains (rules_of chains d)) where
+pub first_jump : (r : Rule) (rs : List Rule) (d : ℕ) → r.target ≡ Jump d → Contains (jumps_of (r ∷ rs)) d
+first_jump r rs d jump = jump_first r rs d (jump_of r.target) refl (ap jump_of jump)
+
+behind_option : (o : Option ℕ) (xs : List ℕ) (d : ℕ) → Contains xs d → Contains (cons_option o xs) d
+behind_option None xs d h = h
+behind_option (Some e) xs d h = Contains-append_right (e ∷ []) xs d h
+
+pub later_jump : (r : Rule) (rs : List Rule) (d : ℕ) → Contains (jumps_of rs) d → Contains (jumps_of (r ∷ rs)) d
+later_jump r rs d h = behind_option (jump_of r.target) (jumps_of rs) d h
+
+dropped_jump : (k : ℕ) (rs : List Rule) (d : ℕ) → Contains (jumps_of (drop k rs)) d → Contains (jumps_of rs) d
+dropped_jump zero rs d h = h
+dropped_jump (suc k) [] d h = h
+dropped_jump (suc k) (r ∷ rs) d h = later_jump r rs d (dropped_jump k rs d h)
+
+-- a jump of the rule at a place
+pub jump_at : (rules : List Rule) (i : ℕ) (r : Rule) (d : ℕ) → slice_get rules i ≡ Some r → r.target ≡ Jump d → Contains (jumps_of rules) d
+jump_at [] i r d there jump = cc
+jump_at (x ∷ rules) zero r d there jump = first_jump x rules d (ap (λ y. y.target) (same_Some x r there) ∙ jump)
+jump_at (x ∷ rules) (suc i) r d there jump = later_jump x rules d (jump_at rules i r d there jump)
+
+module _ (fits : Rule → Bool) (chains : List Chain) where
   -- a rule in front of rules that give an outcome
-  rule_gives : (r : Rule) (rs : List Rule) (s : Step) → step_of (fits r) r.target ≡ s → goes_on_to (length chains) c r.target ≡ true → GivesSome fits chains rs → GivesSome fits chains (r ∷ rs)
-  rule_gives r rs GoesOn step up rest = record { outcome = rest.outcome; gives = goes_on step rest.gives }
-  rule_gives r rs (Ends o) step up rest = record { outcome = o; gives = ends step }
-  rule_gives r rs (Walks d) step up rest =
-      let jump : r.target ≡ Jump d = walked_jump (fits r) r.target d (sym step) in
-      let goes : GoesTo chains c d = goes_to chains c d (ap (goes_on_to (length chains) c) (sym jump) ∙ up) in
-      let walked : GivesSome fits chains (rules_of chains d) = below d goes.later goes.there in
+  rule_gives : (r : Rule) (rs : List Rule) (s : RuleStep) → step_of (fits r) r.target ≡ s → ((d : ℕ) → Contains (jumps_of (r ∷ rs)) d → GivesSome fits chains (rules_of chains d)) → GivesSome fits chains rs → GivesSome fits chains (r ∷ rs)
+  rule_gives r rs GoesOn step all rest = record { outcome = rest.outcome; gives = goes_on step rest.gives }
+  rule_gives r rs (Ends o) step all rest = record { outcome = o; gives = ends step }
+  rule_gives r rs (Walks d) step all rest =
+      let walked : GivesSome fits chains (rules_of chains d) = all d (first_jump r rs d (walked_jump (fits r) r.target d (sym step))) in
       walked_gives fits chains r rs d walked.outcome step walked.gives rest
 
-  rules_give : (rs : List Rule) → list_all (λ s. goes_on_to (length chains) c s.target) rs ≡ true → GivesSome fits chains rs
+  -- rules whose jumps all go to chains that give an outcome
+  rules_give : (rs : List Rule) → ((d : ℕ) → Contains (jumps_of rs) d → GivesSome fits chains (rules_of chains d)) → GivesSome fits chains rs
   rules_give [] all = record { outcome = None; gives = at_end }
   rules_give (r ∷ rs) all =
-      rule_gives r rs (step_of (fits r) r.target) refl (goes_down chains c r rs all).0 (rules_give rs (goes_down chains c r rs all).1)
+      rule_gives r rs (step_of (fits r) r.target) refl all (rules_give rs (λ d h. all d (later_jump r rs d h)))
 
--- by the number of chains behind
-chain_gives : (fits : Rule → Bool) (chains : List Chain) → JumpsGoOn chains → (n c : ℕ) → length chains ≤ c + n → GivesSome fits chains (rules_of chains c)
-chain_gives fits chains jumps zero c past =
-    rules_give fits chains c (λ d later there. absurd (omega arith)) (rules_of chains c) (jumps.from c)
-chain_gives fits chains jumps (suc n) c past =
-    rules_give fits chains c (λ d later there. chain_gives fits chains jumps n d (omega arith)) (rules_of chains c) (jumps.from c)
+-- by the place of the chain in the order
+placed_gives : (fits : Rule → Bool) (chains : List Chain) (count : ℕ) (order : List ℕ) (places : List (Option ℕ)) → IsOrder (jumps_from chains) count order places → (n c i : ℕ) → i < n → place_of places c ≡ Some i → GivesSome fits chains (rules_of chains c)
+placed_gives fits chains count order places is zero c i low at = absurd (omega (arith, low))
+placed_gives fits chains count order places is (suc n) c i low at =
+    rules_give fits chains (rules_of chains c) (λ d jump.
+    let b : IsBefore places d i = is.back i c d (is.there c i at) jump in
+    placed_gives fits chains count order places is n d b.place (omega (arith, low, b.before)) b.placed)
 
-all_behind : (p : Rule → Bool) (k : ℕ) (xs : List Rule) → list_all p xs ≡ true → list_all p (drop k xs) ≡ true
-all_behind p zero xs all = all
-all_behind p (suc k) [] all = refl
-all_behind p (suc k) (x ∷ xs) all = all_behind p k xs (and_parts (p x) (list_all p xs) all).1
-
-pub each_gives_one : (chains : List Chain) → JumpsGoOn chains → EachGivesOne chains
-each_gives_one chains jumps fits c k =
-    let some : GivesSome fits chains (drop k (rules_of chains c)) = rules_give fits chains c (λ d later there. chain_gives fits chains jumps (length chains) d (omega arith)) (drop k (rules_of chains c)) (all_behind (λ s. goes_on_to (length chains) c s.target) k (rules_of chains c) (jumps.from c)) in
+pub each_gives_one : (chains : List Chain) (order : List ℕ) (places : List (Option ℕ)) → IsRanking (jumps_from chains) (length chains) order places → EachGivesOne chains
+each_gives_one chains order places is fits c k =
+    let some : GivesSome fits chains (drop k (rules_of chains c)) = rules_give fits chains (drop k (rules_of chains c)) (λ d jump. chain_gives d (dropped_jump k (rules_of chains c) d jump)) in
     record { outcome = some.outcome; gives = some.gives; only = λ o g. gives_once g some.gives }
+  where
+    no_jump : (d : ℕ) → length chains ≤ c → Contains (jumps_from chains c) d → ⊥
+    no_jump d past jump =
+        let none : rules_of chains c ≡ [] = ap rules_in (slice_get_past chains c past) in
+        let found : Contains [] d = subst (λ (rs : List Rule). Contains (jumps_of rs) d) none jump in
+        omega (arith, found.1)
+
+    chain_gives : (d : ℕ) → Contains (jumps_from chains c) d → GivesSome fits chains (rules_of chains d)
+    chain_gives d jump = elim (cases_lt c (length chains)) [
+      | inl low ↦
+          let own : IsBefore places c (length order) = is.every c low in
+          let b : IsBefore places d own.place = is.ordered.back own.place c d (is.ordered.there c own.place own.placed) jump in
+          placed_gives fits chains (length chains) order places is.ordered own.place d b.place b.before b.placed
+      | inr past ↦ absurd (no_jump d past jump)
+    ]

@@ -1,12 +1,13 @@
 -- Which chains make a rule set, and why others do not.
-use Rattle.std.specs.Prelude.{ℕ, ◌+◌, Bool, true, false, ◌&&◌, ◌||◌, nat_lt, nat_le, if◌then◌else◌, IsTrue, List, [], ◌∷◌, Option, Some, None, length}
-use Rattle.std.specs.List.{list_all, position_from}
+use Rattle.std.specs.Prelude.{◌≡◌, ℕ, ◌+◌, Bool, false, ◌||◌, nat_lt, nat_le, if◌then◌else◌, List, [], ◌∷◌, Option, Some, None, length}
+use Rattle.std.specs.List.{position_from}
 use Rattle.ipt_rules.specs.declared.rule.Rule.{Rule}
 use Rattle.ipt_rules.specs.declared.rule.Target.{Target}
 use Rattle.ipt_rules.specs.declared.rule.Target.TheVariants.{Jump}
 use Rattle.ipt_rules.specs.declared.ruleset.BuildRefusal.{BuildRefusal}
-use Rattle.ipt_rules.specs.declared.ruleset.BuildRefusal.TheVariants.{TooMany, UnknownChain}
+use Rattle.ipt_rules.specs.declared.ruleset.BuildRefusal.TheVariants.{TooMany, UnknownChain, Loop, Memory}
 use Rattle.ipt_rules.specs.Chain.{Chain, rule_count}
+use Rattle.ipt_rules.specs.Loops.{IsLeastLoop}
 
 -- among so many chains, a jump to a built-in chain or to no chain
 abbrev pub jumps_nowhere : ℕ → Target → Bool
@@ -32,16 +33,8 @@ unfoldable pub refusal_of : List Chain → Option BuildRefusal
 refusal_of chains =
     if nat_lt 4096 (length chains) then Some (TooMany (length chains)) else if nat_lt 1000000 (rule_count chains) then Some (TooMany (rule_count chains)) else first_unknown (length chains) 0 chains
 
--- a jump of chain c to a user chain goes to a greater number
-abbrev pub ascends : ℕ → ℕ → Target → Bool
-ascends count c (Jump d) = nat_lt c d || jumps_nowhere count (Jump d)
-ascends count c _ = true
-
--- jumps between user chains go to greater numbers, where the chains are numbered from c on
-abbrev pub jumps_ascend : ℕ → ℕ → List Chain → Bool
-jumps_ascend count c [] = true
-jumps_ascend count c (x ∷ xs) = list_all (λ r. ascends count c r.target) x.rules && jumps_ascend count (c + 1) xs
-
--- jumps between user chains go to greater numbers, so that none leads back
-abbrev pub JumpsAscend : List Chain → Type 0
-JumpsAscend chains = IsTrue (jumps_ascend (length chains) 0 chains)
+-- what chains are refused for: as above; else that jumps lead back to a chain, the least such; or that there is no memory
+pub data RefusedFor (chains : List Chain) : BuildRefusal → Type 0 where
+  at_once : {why : BuildRefusal} → refusal_of chains ≡ Some why → RefusedFor chains why
+  loops : {c : ℕ} → refusal_of chains ≡ None → IsLeastLoop chains c → RefusedFor chains (Loop c)
+  no_memory : RefusedFor chains Memory

@@ -19,7 +19,7 @@ length-changed_at [] c change = refl
 length-changed_at (x ∷ xs) zero change = refl
 length-changed_at (x ∷ xs) (suc c) change = ap suc (length-changed_at xs c change)
 
--- how many chains and rules there are behind each change
+-- how many chains and rules there are after each change
 pub length_with_policy : (xs : List Chain) (c : ℕ) (policy : Policy) → length (with_policy xs c policy) ≡ length xs
 unfolding with_policy
 length_with_policy xs c policy = length-changed_at xs c (λ x. record x { policy = Some policy })

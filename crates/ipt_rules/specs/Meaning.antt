@@ -2,20 +2,27 @@
 use Rattle.std.specs.Prelude.{◌≡◌, ℕ, Bool, true, false, List, [], ◌∷◌, Option, Some, None, drop}
 use Rattle.host_net.specs.declared.packet.Packet.{Packet}
 use Rattle.host_net.specs.declared.packet.CtState.{CtState}
+use Rattle.host_net.specs.Verdict.{verdict_if}
 use Rattle.ipt_rules.specs.declared.rule.Rule.{Rule}
 use Rattle.ipt_rules.specs.declared.rule.Target.{Target}
 use Rattle.ipt_rules.specs.declared.rule.Target.TheVariants.{Accept, Drop, Reject, Return, Count, Jump}
 use Rattle.ipt_rules.specs.declared.rule.Policy.{Policy}
 use Rattle.ipt_rules.specs.declared.rule.Policy.TheVariants.{Accept as Accepting, Drop as Dropping}
-use Rattle.ipt_rules.specs.declared.rule.Verdict.{Verdict}
-use Rattle.ipt_rules.specs.declared.rule.Verdict.TheVariants.{Forward as Forwarded, Drop as Dropped}
-use Rattle.ipt_rules.specs.declared.walk.Step.{Step}
-use Rattle.ipt_rules.specs.declared.walk.Step.TheVariants.{GoesOn, Ends, Walks}
+use Rattle.host_net.specs.declared.packet.Verdict.{Verdict}
+use Rattle.host_net.specs.declared.packet.Verdict.TheVariants.{Forward as Forwarded, Drop as Dropped}
+use Rattle.ipt_rules.specs.declared.rule.BuiltIn.{BuiltIn}
+use Rattle.ipt_rules.specs.declared.rule.BuiltIn.TheVariants.{Input, Forward, Output}
 use Rattle.ipt_rules.specs.Matching.{matches}
 use Rattle.ipt_rules.specs.Chain.{Chain, rules_of, policy_of}
 
+-- what one rule does with a packet: it goes on to the next rule, ends its chain with an outcome, or walks another chain. The outcome of a chain is a verdict, or None where it returns
+pub data RuleStep : Type 0 where
+  GoesOn : RuleStep
+  Ends : Option Verdict → RuleStep
+  Walks : ℕ → RuleStep
+
 -- what a rule does, by whether it fits: one that does not goes on, and so does one that only counts
-abbrev pub step_of : Bool → Target → Step
+abbrev pub step_of : Bool → Target → RuleStep
 step_of false target = GoesOn
 step_of true Accept = Ends (Some Forwarded)
 step_of true Drop = Ends (Some Dropped)
@@ -25,7 +32,7 @@ step_of true Count = GoesOn
 step_of true (Jump c) = Walks c
 
 -- the outcome by the rules that are left: the end of a chain returns; a chain that was walked
--- decides by its verdict, and where it returns the walk goes on behind the jump
+-- decides by its verdict, and where it returns the walk goes on after the jump
 pub data Gives (fits : Rule → Bool) (chains : List Chain) : List Rule → Option Verdict → Type 0 where
   at_end : Gives fits chains [] None
   goes_on : {r : Rule} {rs : List Rule} {o : Option Verdict} → step_of (fits r) r.target ≡ GoesOn → Gives fits chains rs o → Gives fits chains (r ∷ rs) o
@@ -49,13 +56,27 @@ policy_verdict None = Dropped
 policy_verdict (Some Accepting) = Forwarded
 policy_verdict (Some Dropping) = Dropped
 
--- where FORWARD returns its policy decides
+-- where a built-in chain returns its policy decides
 abbrev pub verdict_by : Option Policy → Option Verdict → Verdict
 verdict_by policy None = policy_verdict policy
 verdict_by policy (Some v) = v
 
--- the verdict of the chains on a packet in a state is that of FORWARD, chain 1, from its first rule
-pub record HasVerdict (chains : List Chain) (packet : Packet) (state : CtState) (v : Verdict) : Type 0 where
+-- the number of a built-in chain
+abbrev pub number_of_built_in : BuiltIn → ℕ
+number_of_built_in Input = 0
+number_of_built_in Forward = 1
+number_of_built_in Output = 2
+
+-- the verdict of the chains on a packet in a state that comes through built-in chain c is that of c from its first rule
+pub record HasVerdictIn (chains : List Chain) (c : ℕ) (packet : Packet) (state : CtState) (v : Verdict) : Type 0 where
   pub outcome : Option Verdict
-  pub gives : Gives (matches packet state) chains (rules_of chains 1) outcome
-  pub verdict : v ≡ verdict_by (policy_of chains 1) outcome
+  pub gives : Gives (matches packet state) chains (rules_of chains c) outcome
+  pub verdict : v ≡ verdict_by (policy_of chains c) outcome
+
+-- the verdict on a packet that is forwarded: that of FORWARD, chain 1
+abbrev pub HasVerdict : List Chain → Packet → CtState → Verdict → Type 0
+HasVerdict chains = HasVerdictIn chains 1
+
+-- the chains as a filter: in that state they let the packet pass through FORWARD, or do not
+abbrev pub Passes : List Chain → CtState → Packet → Bool → Type 0
+Passes chains state packet passes = HasVerdict chains packet state (verdict_if passes)

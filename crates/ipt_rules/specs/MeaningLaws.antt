@@ -3,13 +3,11 @@ use Rattle.std.proofs.Common.{◌≡◌, ℕ, List, Bool, refl, sym, ap, ◌∙�
 use Rattle.host_net.specs.declared.packet.Packet.{Packet}
 use Rattle.host_net.specs.declared.packet.CtState.{CtState}
 use Rattle.ipt_rules.specs.declared.rule.Rule.{Rule}
-use Rattle.ipt_rules.specs.declared.rule.Verdict.{Verdict}
-use Rattle.ipt_rules.specs.declared.walk.Step.{Step}
-use Rattle.ipt_rules.specs.declared.walk.Step.TheVariants.{Walks}
+use Rattle.host_net.specs.declared.packet.Verdict.{Verdict}
 use Rattle.ipt_rules.specs.Chain.{Chain, rules_of, policy_of}
-use Rattle.ipt_rules.specs.Meaning.{Gives, at_end, goes_on, ends, decides, comes_back, verdict_by, HasVerdict}
+use Rattle.ipt_rules.specs.Meaning.{RuleStep, Walks, Gives, at_end, goes_on, ends, decides, comes_back, verdict_by, HasVerdictIn}
 
-same_walked : {s : Step} {c d : ℕ} → s ≡ Walks c → s ≡ Walks d → c ≡ d
+same_walked : {s : RuleStep} {c d : ℕ} → s ≡ Walks c → s ≡ Walks d → c ≡ d
 same_walked p q = cc
 
 pub gives_once : {fits : Rule → Bool} {chains : List Chain} {rs : List Rule} {o o' : Option Verdict} → Gives fits chains rs o → Gives fits chains rs o' → o ≡ o'
@@ -34,6 +32,6 @@ gives_once {fits} {chains} (comes_back s h g) (decides {v} s' h') =
     let e : None ≡ Some v = gives_once h (subst (λ (c : ℕ). Gives fits chains (rules_of chains c) (Some v)) (same_walked s' s) h') in cc
 gives_once (comes_back s h g) (comes_back s' h' g') = gives_once g g'
 
-pub verdict_once : {chains : List Chain} {packet : Packet} {state : CtState} {v w : Verdict} → HasVerdict chains packet state v → HasVerdict chains packet state w → v ≡ w
-verdict_once {chains} p q =
-    p.verdict ∙ (ap (verdict_by (policy_of chains 1)) (gives_once p.gives q.gives) ∙ sym q.verdict)
+pub verdict_once : {chains : List Chain} {c : ℕ} {packet : Packet} {state : CtState} {v w : Verdict} → HasVerdictIn chains c packet state v → HasVerdictIn chains c packet state w → v ≡ w
+verdict_once {chains} {c} p q =
+    p.verdict ∙ (ap (verdict_by (policy_of chains c)) (gives_once p.gives q.gives) ∙ sym q.verdict)

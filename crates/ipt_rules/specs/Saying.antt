@@ -2,7 +2,7 @@
 use Rattle.std.specs.Prelude.{Bool, List, [], ◌∷◌, ◌++◌, Option, Some, None}
 use Rattle.std.specs.Option.{option_or}
 use Rattle.ipt_rules.specs.declared.rule.Rule.{Rule}
-use Rattle.ipt_rules.specs.declared.rule.Verdict.{Verdict}
+use Rattle.host_net.specs.declared.packet.Verdict.{Verdict}
 use Rattle.ipt_rules.specs.Chain.{Chain}
 use Rattle.ipt_rules.specs.Meaning.{Gives}
 

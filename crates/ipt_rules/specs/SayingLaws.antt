@@ -7,12 +7,10 @@ use Rattle.host_net.specs.declared.packet.Packet.{Packet}
 use Rattle.host_net.specs.declared.packet.CtState.{CtState}
 use Rattle.ipt_rules.specs.declared.rule.Rule.{Rule}
 use Rattle.ipt_rules.specs.declared.rule.Target.TheVariants.{Jump}
-use Rattle.ipt_rules.specs.declared.rule.Verdict.{Verdict}
-use Rattle.ipt_rules.specs.declared.walk.Step.{Step}
-use Rattle.ipt_rules.specs.declared.walk.Step.TheVariants.{GoesOn, Ends, Walks}
+use Rattle.host_net.specs.declared.packet.Verdict.{Verdict}
 use Rattle.ipt_rules.specs.Matching.{matches}
 use Rattle.ipt_rules.specs.Chain.{Chain, rules_of, policy_of}
-use Rattle.ipt_rules.specs.Meaning.{step_of, Gives, at_end, goes_on, ends, decides, comes_back, verdict_by, HasVerdict}
+use Rattle.ipt_rules.specs.Meaning.{RuleStep, GoesOn, Ends, Walks, step_of, Gives, at_end, goes_on, ends, decides, comes_back, verdict_by, HasVerdictIn}
 use Rattle.ipt_rules.specs.Saying.{Says, first_said}
 
 module _ (fits : Rule → Bool) (chains : List Chain) where
@@ -24,7 +22,7 @@ module _ (fits : Rule → Bool) (chains : List Chain) where
   pub says_none : Says fits chains [] None
   says_none rest o g = g
 
-  -- rules behind rules: the first that have a verdict give it
+  -- rules after rules: the first that have a verdict give it
   pub says_append : (xs ys : List Rule) (a b : Option Verdict) → Says fits chains xs a → Says fits chains ys b → Says fits chains (xs ++ ys) (option_or a b)
   says_append xs ys None None first second =
       λ rest o g. regrouped xs ys rest o (first (ys ++ rest) o (second rest o g))
@@ -33,7 +31,7 @@ module _ (fits : Rule → Bool) (chains : List Chain) where
   says_append xs ys (Some v) b first second =
       λ rest. regrouped xs ys rest (Some v) (first (ys ++ rest))
 
-  step_at : (r : Rule) (b : Bool) (s : Step) → fits r ≡ b → step_of b r.target ≡ s → step_of (fits r) r.target ≡ s
+  step_at : (r : Rule) (b : Bool) (s : RuleStep) → fits r ≡ b → step_of b r.target ≡ s → step_of (fits r) r.target ≡ s
   step_at r b s is step = ap (λ (f : Bool). step_of f r.target) is ∙ step
 
   one_said : (r : Rule) (v : Verdict) → step_of true r.target ≡ Ends (Some v) → (b : Bool) → fits r ≡ b → Says fits chains (r ∷ []) (if b then Some v else None)
@@ -67,7 +65,7 @@ module _ (fits : Rule → Bool) (chains : List Chain) where
   gives_said rules (Some v) said =
       subst (λ (rs : List Rule). Gives fits chains rs (Some v)) (append-nil rules) (said [])
 
--- the verdict, where it is known what the rules of FORWARD say
-pub verdict_said : (chains : List Chain) (packet : Packet) (state : CtState) (o : Option Verdict) → Says (matches packet state) chains (rules_of chains 1) o → HasVerdict chains packet state (verdict_by (policy_of chains 1) o)
-verdict_said chains packet state o said =
-    record { outcome = o; gives = gives_said (matches packet state) chains (rules_of chains 1) o said; verdict = refl }
+-- the verdict, where it is known what the rules of the built-in chain say
+pub verdict_said : (chains : List Chain) (c : ℕ) (packet : Packet) (state : CtState) (o : Option Verdict) → Says (matches packet state) chains (rules_of chains c) o → HasVerdictIn chains c packet state (verdict_by (policy_of chains c) o)
+verdict_said chains c packet state o said =
+    record { outcome = o; gives = gives_said (matches packet state) chains (rules_of chains c) o said; verdict = refl }

@@ -18,7 +18,7 @@ newline = 10 ∷ []
 abbrev pub negation_text : Bool → List ℕ
 negation_text negated = if negated then codes " !" else []
 
--- an address part behind its option, nothing where it is not given
+-- an address part after its option, nothing where it is not given
 abbrev pub address_text : List ℕ → Option AddrMatch → List ℕ
 address_text option None = []
 address_text option (Some part) = negation_text part.negated ++ (option ++ prefix_text part.prefix)

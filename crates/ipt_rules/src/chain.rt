@@ -19,7 +19,7 @@ pub(crate) enum Head {
 }
 
 impl Head {
-    #[tactic(auto, using(crate::specs::NameLaws::user_name_fits))]
+    #[tactic(auto, using(crate::proofs::NameLemmas::user_name_fits))]
     pub(crate) fn name(&self) -> &[u8]
         ensures value { result.now ≡ head_name self.now }
         ensures short { length result.now ≤ 64 }

@@ -1,7 +1,8 @@
 //! Chains as they are put together, one rule after another, before they are a rule set.
 
-ghost use Rattle.std.specs.Prelude.{◌≡◌, ◌<◌, ◌+◌, ◌^◌, ◌∷◌, [], ◌++◌, length, IfOk, OnOk, OnErr, IsNone, IfSome};
-ghost use Rattle.ipt_rules.specs.Chain.{built_in_chains, user_chain, with_policy, with_rule, rule_count, number_of};
+ghost use Rattle.std.specs.Prelude.{◌≡◌, ◌<◌, ◌≤◌, ◌+◌, ◌^◌, ◌∷◌, [], ◌++◌, length, IfOk, OnOk, OnErr, IsNone, IfSome, IsTrue, bytes_eq};
+ghost use Rattle.std.specs.List.Sorted.{IsSearchInRange};
+ghost use Rattle.ipt_rules.specs.Chain.{built_in_chains, user_chain, with_policy, with_rule, rule_count, name_of, number_of};
 
 use crate::chain::{Chain, Head};
 use crate::name::ChainName;
@@ -16,6 +17,8 @@ pub struct Chains {
     pub(crate) alloc: Global,
     pub(crate) chains: Vec<Chain>,
     pub(crate) rules: u32,
+    /// The numbers of the chains, by their names.
+    by_name: Vec<u16>,
 }
 
 impl Model for Chains {
@@ -38,10 +41,12 @@ impl Chains {
         chains.push(Chain::new(alloc, Head::Input(Policy::Accept)))?;
         chains.push(Chain::new(alloc, Head::Forward(Policy::Accept)))?;
         chains.push(Chain::new(alloc, Head::Output(Policy::Accept)))?;
+        let by_name = built_in_by_name(alloc)?;
         Ok(Chains {
             alloc,
             chains,
             rules: 0,
+            by_name,
         })
     }
 
@@ -63,6 +68,8 @@ impl Chains {
         ensures err { OnErr result (self.new ≡ self.old) }
     {
         let number = self.chains.len() as u16;
+        let place = place_for(&self.chains, &self.by_name, name.bytes());
+        self.by_name.insert(place, number)?;
         self.chains.push(Chain::new(self.alloc, name.head()))?;
         Ok(number)
     }
@@ -71,6 +78,10 @@ impl Chains {
     pub fn find(&self, name: &[u8]) -> Option<u16>
         ensures { result ≡ number_of self.now name.now }
     {
+        if let Some(number) = looked_up(&self.chains, &self.by_name, name) {
+            return Some(number);
+        }
+        // That no chain has the name is told by all of them.
         let number = position_of(&self.chains, name)?;
         Some(number as u16)
     }
@@ -87,6 +98,55 @@ impl Chains {
         self.rules += 1;
         Ok(())
     }
+}
+
+fn built_in_by_name(alloc: Global) -> Result<Vec<u16>, AllocError> {
+    let mut by_name = Vec::new(alloc);
+    by_name.push(1)?;
+    by_name.push(0)?;
+    by_name.push(2)?;
+    Ok(by_name)
+}
+
+fn name_at(chains: &[Chain], number: u16) -> &[u8]
+    ensures { result.now ≡ name_of chains.now number }
+{
+    match chains.get(number as usize) {
+        Some(chain) => chain.name(),
+        None => b"",
+    }
+}
+
+/// Where the name stands among the numbers by name, or where it is to be put.
+fn place_by_name(chains: &[Chain], by_name: &[u16], name: &[u8]) -> Result<usize, usize>
+    ensures { IsSearchInRange result (length by_name.now) }
+{
+    by_name.binary_search_by(|number| name_at(chains, *number).cmp(name))
+}
+
+fn place_for(chains: &[Chain], by_name: &[u16], name: &[u8]) -> usize
+    ensures { result ≤ length by_name.now }
+{
+    match place_by_name(chains, by_name, name) {
+        Ok(place) => place,
+        Err(place) => place,
+    }
+}
+
+/// The chain that the numbers by name lead to. It is compared: they are but a guide.
+fn looked_up(chains: &[Chain], by_name: &[u16], name: &[u8]) -> Option<u16>
+    ensures within { IfSome result (λ number. number < length chains.now) }
+    ensures named { IfSome result (λ number. IsTrue (bytes_eq (name_of chains.now number) name.now)) }
+{
+    let place = place_by_name(chains, by_name, name).ok()?;
+    let number = *by_name.get(place)?;
+    if number as usize >= chains.len() {
+        return None;
+    }
+    if name_at(chains, number) != name {
+        return None;
+    }
+    Some(number)
 }
 
 fn position_of(chains: &[Chain], name: &[u8]) -> Option<usize>

@@ -5,18 +5,20 @@
 
 mod chain;
 mod chains;
+mod jumps;
+mod loops;
 mod name;
 mod pieces;
-mod prefix;
+mod ranking;
 mod rule;
 mod ruleset;
 mod text;
 mod walk;
 
 pub use chains::Chains;
+pub use host_net::Verdict;
 pub use name::ChainName;
-pub use prefix::put_prefix;
-pub use rule::{AddrMatch, Policy, Rule, StateMatch, Target, Verdict};
+pub use rule::{AddrMatch, BuiltIn, Policy, Rule, StateMatch, Target};
 pub use ruleset::{BuildRefusal, Ruleset};
 
 #[cfg(test)]

@@ -2,12 +2,13 @@
 
 ghost use Rattle.std.specs.Prelude.{◌≡◌, ◌-◌, ◌≤◌, ◌↔◌, ◌++◌, length, replicate, IsTrue, IsSome, IfSome};
 ghost use Rattle.std.specs.List.{list_all};
-ghost use Rattle.ipt_rules.specs.Name.{is_user_name, is_name_byte, is_reserved, begins_as_option, has_name_length};
+ghost use Rattle.ipt_rules.specs.Name.{is_user_name, is_printing, is_reserved, begins_as_option, has_name_length};
 
 use crate::chain::Head;
 use std::marker::Model;
+use text_core::padded;
 
-const MOST: usize = 64;
+const NAME_LIMIT: usize = 64;
 
 /// The text of a legal user chain name: 1 to 64 printing bytes without blanks.
 #[derive(Clone, Copy)]
@@ -17,25 +18,25 @@ pub struct ChainName {
 }
 
 impl Model for ChainName {
-    ghost use Rattle.std.specs.Prelude.{ℕ, ◌-◌, List, ◌++◌, length, take, replicate};
-    ghost use Rattle.ipt_rules.specs.Name.{IsStored};
-    ghost use Rattle.ipt_rules.specs.NameLaws.{stored_bytes};
+    ghost use Rattle.std.specs.Prelude.{ℕ, IsTrue, List, length, take};
+    ghost use Rattle.ipt_rules.specs.Name.{is_user_name};
+    ghost use Rattle.text_core.specs.Padded.{IsPadded, padded, padded_bytes, padded_len};
 
     ghost Value = { List ℕ };
 
     ghost view = { λ n. take n.len n.bytes };
 
-    ghost invariant = { λ n. IsStored n.bytes n.len };
+    ghost invariant = { λ n. IsPadded 64 n.len n.bytes × IsTrue (is_user_name (take n.len n.bytes)) };
 
-    ghost inverse = { λ name. record { bytes = name ++ replicate (64 - length name) 0; len = length name } };
+    ghost inverse = { λ name. record { bytes = padded 64 name; len = length name } };
 
-    ghost inverse_ok = { λ n stored. λ i. record { bytes = (stored_bytes n.bytes n.len stored) i; len = stored.counted i } };
+    ghost inverse_ok = { λ n stored i. record { bytes = padded_bytes 64 n.len n.bytes stored.0 i; len = padded_len 64 n.len n.bytes stored.0 i } };
 }
 
 impl ChainName {
     /// The name, or None where the text is no legal one: a byte outside 33 to 126, a first byte
     /// `-` or `!`, the name of a built-in chain or of a target, or not 1 to 64 bytes.
-    #[tactic(auto, using(crate::specs::NameLaws::user_name_fits))]
+    #[tactic(auto, using(crate::proofs::NameLemmas::user_name_fits))]
     pub fn new(text: &[u8]) -> Option<ChainName>
         ensures legal { IsSome result ↔ IsTrue (is_user_name text.now) }
         ensures value { IfSome result (λ name. name ≡ text.now) }
@@ -67,16 +68,6 @@ impl ChainName {
     }
 }
 
-fn padded(text: &[u8]) -> [u8; 64]
-    requires { length text.now ≤ 64 }
-    ensures { result ≡ text.now ++ replicate (64 - length text.now) 0 }
-{
-    let mut bytes = [0; 64];
-    let front = &mut bytes[..text.len()];
-    front.copy_from_slice(text);
-    bytes
-}
-
 #[tactic(auto, unfolding(crate::specs::Name::is_user_name))]
 fn is_user_name(text: &[u8]) -> bool
     ensures { result ≡ is_user_name text.now }
@@ -87,11 +78,11 @@ fn is_user_name(text: &[u8]) -> bool
 fn has_name_length(text: &[u8]) -> bool
     ensures { result ≡ has_name_length text.now }
 {
-    text.len() >= 1 && text.len() <= MOST
+    text.len() >= 1 && text.len() <= NAME_LIMIT
 }
 
 fn has_name_bytes(text: &[u8]) -> bool
-    ensures { result ≡ list_all is_name_byte text.now }
+    ensures { result ≡ list_all is_printing text.now }
 {
     text.iter().all(|b| *b >= 33 && *b <= 126)
 }

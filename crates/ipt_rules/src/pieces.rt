@@ -1,4 +1,4 @@
-//! The pieces of a rule's line: address parts, states and targets, each put behind what the buffer
+//! The pieces of a rule's line: address parts, states and targets, each put after what the buffer
 //! holds.
 
 ghost use Rattle.std.specs.Prelude.{◌≡◌, ◌<◌, ◌≤◌, ◌++◌, length, take};
@@ -8,13 +8,13 @@ ghost use Rattle.ipt_rules.specs.Chain.{name_of};
 ghost use Rattle.ipt_rules.specs.Text.{negation_text, address_text, state_text, states_text, target_text, policy_text};
 
 use crate::chain::Chain;
-use crate::prefix::put_prefix;
 use crate::rule::{AddrMatch, Policy, StateMatch, Target};
+use host_net::put_prefix;
 use text_core::put;
 
 fn put_negation(buffer: &mut [u8; 256], at: usize, negated: bool) -> usize
     requires { at ≤ 256 }
-    ensures text { take result buffer.new ≡ cut (take at buffer.old ++ negation_text negated) }
+    ensures text { take result buffer.new ≡ cut 256 (take at buffer.old ++ negation_text negated) }
     ensures within { result ≤ 256 }
 {
     put(buffer, at, if negated { b" !" } else { b"" })
@@ -28,7 +28,7 @@ pub(crate) fn put_address_part(
     part: Option<AddrMatch>,
 ) -> usize
     requires { at ≤ 256 }
-    ensures text { take result buffer.new ≡ cut (take at buffer.old ++ address_text option.now part) }
+    ensures text { take result buffer.new ≡ cut 256 (take at buffer.old ++ address_text option.now part) }
     ensures within { result ≤ 256 }
 {
     match part {
@@ -44,7 +44,7 @@ pub(crate) fn put_address_part(
 #[tactic(auto, using(text_core::specs::LineLaws::nothing_put))]
 pub(crate) fn put_state_part(buffer: &mut [u8; 256], at: usize, part: Option<StateMatch>) -> usize
     requires { at ≤ 256 }
-    ensures text { take result buffer.new ≡ cut (take at buffer.old ++ state_text part) }
+    ensures text { take result buffer.new ≡ cut 256 (take at buffer.old ++ state_text part) }
     ensures within { result ≤ 256 }
 {
     match part {
@@ -60,7 +60,7 @@ pub(crate) fn put_state_part(buffer: &mut [u8; 256], at: usize, part: Option<Sta
 
 fn put_states(buffer: &mut [u8; 256], at: usize, new: bool, established: bool) -> usize
     requires { at ≤ 256 }
-    ensures text { take result buffer.new ≡ cut (take at buffer.old ++ states_text new established) }
+    ensures text { take result buffer.new ≡ cut 256 (take at buffer.old ++ states_text new established) }
     ensures within { result ≤ 256 }
 {
     match (new, established) {
@@ -80,7 +80,7 @@ pub(crate) fn put_target(
 ) -> usize
     requires fits { at ≤ 256 }
     requires there { JumpsIn (length chains.now) target }
-    ensures text { take result buffer.new ≡ cut (take at buffer.old ++ target_text chains.now target) }
+    ensures text { take result buffer.new ≡ cut 256 (take at buffer.old ++ target_text chains.now target) }
     ensures within { result ≤ 256 }
     ensures short { length (target_text chains.now target) ≤ 68 }
 {
@@ -108,7 +108,7 @@ fn name_of(chains: &[Chain], number: u16) -> &[u8]
 
 pub(crate) fn put_policy(buffer: &mut [u8; 256], at: usize, policy: Option<Policy>) -> usize
     requires { at ≤ 256 }
-    ensures text { take result buffer.new ≡ cut (take at buffer.old ++ policy_text policy) }
+    ensures text { take result buffer.new ≡ cut 256 (take at buffer.old ++ policy_text policy) }
     ensures within { result ≤ 256 }
 {
     match policy {

@@ -1,6 +1,7 @@
 //! One rule of a chain: which packets it fits, and what it does with them.
 
 ghost use Rattle.std.specs.Prelude.{◌≡◌};
+ghost use Rattle.ipt_rules.specs.Meaning.{number_of_built_in};
 ghost use Rattle.ipt_rules.specs.Matching.{matches, address_matches, state_matches};
 
 use host_net::{CtState, Packet, Prefix};
@@ -49,11 +50,25 @@ pub enum Policy {
     Drop,
 }
 
-/// What becomes of a packet.
+/// A built-in chain, by the way of the packets that come through it: to the machine itself, through
+/// it to another, or from it.
 #[derive(Clone, Copy, Debug, PartialEq, Eq)]
-pub enum Verdict {
+pub enum BuiltIn {
+    Input,
     Forward,
-    Drop,
+    Output,
+}
+
+impl BuiltIn {
+    pub(crate) fn number(self) -> u16
+        ensures { result ≡ number_of_built_in self }
+    {
+        match self {
+            BuiltIn::Input => 0,
+            BuiltIn::Forward => 1,
+            BuiltIn::Output => 2,
+        }
+    }
 }
 
 impl Rule {

@@ -3,22 +3,21 @@
 
 ghost use Rattle.std.specs.Prelude.{◌≡◌, ◌<◌, ◌≤◌, ◌⊎◌, length, IfOk, IfErr, OnOk, IsNone, IfSome, Some};
 ghost use Rattle.ipt_rules.specs.Chain.{Chain, IsTable, rule_count};
-ghost use Rattle.ipt_rules.specs.Build.{refusal_of, first_unknown, JumpsAscend, jumps_nowhere, place_of_unknown};
-ghost use Rattle.ipt_rules.specs.Meaning.{EachGivesOne, HasVerdict};
+ghost use Rattle.ipt_rules.specs.Build.{refusal_of, RefusedFor, first_unknown, jumps_nowhere, place_of_unknown};
+ghost use Rattle.ipt_rules.specs.Loops.{HasNoLoop};
+ghost use Rattle.ipt_rules.specs.Meaning.{EachGivesOne, HasVerdict, HasVerdictIn, number_of_built_in};
 
 use crate::chain::Chain;
 use crate::chains::Chains;
-use crate::rule::{Rule, Target, Verdict};
-use crate::walk::{outcome, policy_verdict};
-use host_net::{CtState, Packet};
+use crate::loops::{Ranked, rank_chains};
+use crate::ranking::{CHAIN_LIMIT, Ranking};
+use crate::rule::{BuiltIn, Rule, Target};
+use crate::walk::{outcome, policy_of, policy_verdict};
+use host_net::{CtState, Packet, Verdict};
 use std::alloc::Global;
 use std::marker::Model;
 
-const FORWARD: u16 = 1;
-
-const MOST_CHAINS: usize = 4096;
-
-const MOST_RULES: u32 = 1_000_000;
+const RULE_LIMIT: u32 = 1_000_000;
 
 /// Why chains make no rule set.
 #[derive(Clone, Copy, Debug, PartialEq, Eq)]
@@ -38,6 +37,7 @@ pub enum BuildRefusal {
 pub struct Ruleset {
     pub(crate) chains: Vec<Chain>,
     pub(crate) rules: u32,
+    ranking: Ranking,
 }
 
 impl Model for Ruleset {
@@ -50,39 +50,50 @@ impl Model for Ruleset {
 
     ghost view = { λ r. r.chains.items };
 
-    ghost invariant = { λ r. IsRuleset r.chains.items r.rules };
+    ghost invariant = { λ r. IsRuleset r.chains.items r.rules r.ranking.order.items r.ranking.places.items };
 }
 
 impl Ruleset {
-    /// Makes a rule set of the chains, which it consumes in every case. So far the jumps between
-    /// user chains have to go to greater numbers, and so `Loop` does not come, and no memory is
-    /// taken: the allocator is for the search for loops.
-    pub fn build(_alloc: Global, chains: Chains) -> Result<Ruleset, BuildRefusal>
-        requires ascending { JumpsAscend chains }
+    /// Makes a rule set of the chains, which it consumes in every case.
+    pub fn build(alloc: Global, chains: Chains) -> Result<Ruleset, BuildRefusal>
         ensures ok { IfOk result (λ rules. rules ≡ chains) }
         // No two chains have one name, and user chains have legal ones.
         ensures table { IfOk result IsTable }
         // Each chain gives every packet one outcome, so that the walk of a packet ends.
         ensures one_outcome { IfOk result EachGivesOne }
         ensures accepted { OnOk result (IsNone (refusal_of chains)) }
-        ensures refused { IfErr result (λ why. (refusal_of chains ≡ Some why) ⊎ (why ≡ BuildRefusal.Memory)) }
+        ensures no_loop { IfOk result HasNoLoop }
+        ensures refused { IfErr result (RefusedFor chains) }
     {
         if let Some(why) = refusal(&chains.chains, chains.rules) {
             return Err(why);
         }
-        Ok(Ruleset {
-            chains: chains.chains,
-            rules: chains.rules,
-        })
+        match rank_chains(alloc, &chains.chains) {
+            Ok(Ranked::Order(ranking)) => Ok(Ruleset {
+                chains: chains.chains,
+                rules: chains.rules,
+                ranking,
+            }),
+            Ok(Ranked::Loop(chain)) => Err(BuildRefusal::Loop { chain }),
+            Err(_) => Err(BuildRefusal::Memory),
+        }
     }
 
     /// What becomes of a packet that runs through FORWARD in that state.
     pub fn verdict(&self, packet: &Packet, state: CtState) -> Verdict
         ensures { HasVerdict self.now packet.now state result }
     {
-        match outcome(&self.chains, FORWARD, packet, state) {
+        self.verdict_in(BuiltIn::Forward, packet, state)
+    }
+
+    /// What becomes of a packet that runs through a built-in chain in that state.
+    pub fn verdict_in(&self, chain: BuiltIn, packet: &Packet, state: CtState) -> Verdict
+        ensures { HasVerdictIn self.now (number_of_built_in chain) packet.now state result }
+    {
+        let number = chain.number();
+        match outcome(&self.chains, &self.ranking, number, packet, state) {
             Some(verdict) => verdict,
-            None => policy_verdict(self.chains[FORWARD as usize].policy()),
+            None => policy_verdict(policy_of(&self.chains, number)),
         }
     }
 }
@@ -94,12 +105,12 @@ fn refusal(chains: &[Chain], rules: u32) -> Option<BuildRefusal>
     ensures { result ≡ refusal_of chains.now }
 {
     let count = chains.len();
-    if count > MOST_CHAINS {
+    if count > CHAIN_LIMIT {
         return Some(BuildRefusal::TooMany {
             count: count as u32,
         });
     }
-    if rules > MOST_RULES {
+    if rules > RULE_LIMIT {
         return Some(BuildRefusal::TooMany { count: rules });
     }
     first_unknown(chains)

@@ -1,8 +1,7 @@
 //! The text of a small rule set, and the verdicts of packets, with values worked out by hand.
 
-ghost use Rattle.std.specs.Prelude.{◌≡◌, ◌+◌, ◌<◌, length, IsTrue};
+ghost use Rattle.std.specs.Prelude.{◌≡◌, ◌+◌, ◌<◌, length};
 ghost use Rattle.ipt_rules.specs.Chain.{rule_count};
-ghost use Rattle.ipt_rules.specs.Build.{ascends, JumpsAscend};
 
 use crate::{
     AddrMatch, BuildRefusal, ChainName, Chains, Policy, Rule, Ruleset, StateMatch, Target, Verdict,
@@ -12,24 +11,21 @@ use std::alloc::Global;
 use std::process::Abort;
 
 /// The three built-in chains, of which FORWARD drops.
-#[tactic(auto, using(crate::specs::BuildLaws::with_policy_ascend, crate::specs::ChainLaws::length_with_policy, crate::specs::ChainLaws::rule_count_with_policy))]
+#[tactic(auto, using(crate::specs::ChainLaws::length_with_policy, crate::specs::ChainLaws::rule_count_with_policy))]
 fn dropping(alloc: Global, rt: &impl Abort) -> Chains
     ensures length { length result ≡ 3 }
     ensures rules { rule_count result ≡ 0 }
-    ensures jumps { JumpsAscend result }
 {
     let mut chains = Chains::new(alloc).expect(rt, "memory");
     chains.set_policy(1, Policy::Drop);
     chains
 }
 
-#[tactic(auto, using(crate::specs::BuildLaws::added_ascend, crate::specs::ChainLaws::length_added, crate::specs::ChainLaws::rule_count_added))]
+#[tactic(auto, using(crate::specs::ChainLaws::length_added, crate::specs::ChainLaws::rule_count_added))]
 fn add(rt: &impl Abort, chains: &mut Chains, text: &[u8])
-    requires room { length chains.old < 100 }
-    requires jumps { JumpsAscend chains.old }
+    requires { length chains.old < 100 }
     ensures length { length chains.new ≡ length chains.old + 1 }
     ensures rules { rule_count chains.new ≡ rule_count chains.old }
-    ensures jumps { JumpsAscend chains.new }
 {
     let name = ChainName::new(text).expect(rt, "a name");
     assert!(rt; chains.find(name.bytes()).is_none());
@@ -37,15 +33,12 @@ fn add(rt: &impl Abort, chains: &mut Chains, text: &[u8])
     assert!(rt; chains.find(text).is_some());
 }
 
-#[tactic(auto, using(crate::specs::BuildLaws::with_rule_ascend, crate::specs::ChainLaws::length_with_rule, crate::specs::ChainLaws::rule_count_with_rule))]
+#[tactic(auto, using(crate::specs::ChainLaws::length_with_rule, crate::specs::ChainLaws::rule_count_with_rule))]
 fn push(rt: &impl Abort, chains: &mut Chains, chain: u16, rule: Rule)
     requires there { chain < length chains.old }
     requires room { rule_count chains.old < 100 }
-    requires jumps { JumpsAscend chains.old }
-    requires jump { IsTrue (ascends (length chains.old) chain rule.target) }
     ensures length { length chains.new ≡ length chains.old }
     ensures rules { rule_count chains.new ≡ rule_count chains.old + 1 }
-    ensures jumps { JumpsAscend chains.new }
 {
     chains.rule(chain, rule).expect(rt, "memory");
 }
@@ -169,16 +162,12 @@ fn judges_packets(rt: HostRuntime) {
         Verdict::Drop
     );
     assert_eq!(rt;
-        rules.verdict(&packet(inside, 0xc0a8_0202), CtState::New),
-        Verdict::Drop
-    );
-    assert_eq!(rt;
         rules.verdict(&packet(outside, inside), CtState::New),
         Verdict::Drop
     );
 }
 
-/// The end of a user chain goes back behind the jump, to the policy; and a jump to a built-in
+/// The end of a user chain goes back after the jump, to the policy; and a jump to a built-in
 /// chain is refused.
 #[test]
 fn returns_and_refuses(rt: HostRuntime) {
@@ -199,5 +188,49 @@ fn returns_and_refuses(rt: HostRuntime) {
     assert_eq!(rt;
         refused,
         Some(BuildRefusal::UnknownChain { chain: 3, rule: 0 })
+    );
+}
+
+fn jump(rt: &impl Abort, chains: &mut Chains, from: u16, to: u16)
+    requires there { from < length chains.old }
+    requires room { rule_count chains.old < 100 }
+    ensures length { length chains.new ≡ length chains.old }
+    ensures rules { rule_count chains.new ≡ rule_count chains.old + 1 }
+{
+    push(rt, chains, from, rule(None, None, None, Target::Jump(to)));
+}
+
+/// A chain that leads to a loop is not on it, and of the chains on loops the least is told.
+#[test]
+fn finds_the_least_loop(rt: HostRuntime) {
+    let mut chains = dropping(rt.alloc(), &rt);
+    add(&rt, &mut chains, b"leads");
+    add(&rt, &mut chains, b"on");
+    add(&rt, &mut chains, b"also");
+    add(&rt, &mut chains, b"itself");
+    jump(&rt, &mut chains, 1, 3);
+    jump(&rt, &mut chains, 3, 5);
+    jump(&rt, &mut chains, 5, 4);
+    jump(&rt, &mut chains, 4, 5);
+    jump(&rt, &mut chains, 6, 6);
+    let refused = Ruleset::build(rt.alloc(), chains).err();
+    assert_eq!(rt; refused, Some(BuildRefusal::Loop { chain: 4 }));
+}
+
+/// A jump to a lesser number is no loop.
+#[test]
+fn goes_through_the_chains_by_their_order(rt: HostRuntime) {
+    let mut chains = dropping(rt.alloc(), &rt);
+    add(&rt, &mut chains, b"last");
+    add(&rt, &mut chains, b"first");
+    jump(&rt, &mut chains, 1, 4);
+    jump(&rt, &mut chains, 4, 3);
+    jump(&rt, &mut chains, 4, 3);
+    push(&rt, &mut chains, 3, rule(None, None, None, Target::Return));
+    push(&rt, &mut chains, 4, rule(None, None, None, Target::Accept));
+    let rules = Ruleset::build(rt.alloc(), chains).expect(&rt, "a rule set");
+    assert_eq!(rt;
+        rules.verdict(&packet(1, 2), CtState::New),
+        Verdict::Forward
     );
 }

@@ -3,7 +3,9 @@
 ghost use Rattle.std.specs.Prelude.{◌≡◌, ◌<◌, ◌≤◌, ◌++◌, ◌∷◌, [], length, take, slice_get, IsNone, Some};
 ghost use Rattle.std.specs.List.{flat_map};
 ghost use Rattle.ipt_rules.specs.Build.{refusal_of};
-ghost use Rattle.ipt_rules.specs.Jumps.{JumpsIn, JumpsGoOn};
+ghost use Rattle.ipt_rules.specs.Loops.{HasNoLoop};
+ghost use Rattle.ipt_rules.specs.Meaning.{EachGivesOne};
+ghost use Rattle.ipt_rules.specs.Jumps.{JumpsIn, JumpsAreKnown};
 ghost use Rattle.ipt_rules.specs.Chain.{IsTable, rule_count};
 ghost use Rattle.ipt_rules.specs.Text.{text_lines, table_line, commit_line, chain_line, rule_line, rule_lines};
 
@@ -21,12 +23,16 @@ impl Ruleset {
         // The names in it tell the chains apart, and its jumps lead to them.
         ensures table { IsTable self.now }
         ensures accepted { IsNone (refusal_of self.now) }
+
+        // No jumps lead back, and each chain gives every packet one outcome.
+        ensures no_loop { HasNoLoop self.now }
+        ensures one_outcome { EachGivesOne self.now }
     {
         self.chains.len() as u32 + self.rules + 2
     }
 
     /// Writes line `i` of the text, from 0, with its newline to the front of the buffer, and
-    /// answers its length. What the buffer holds behind it is left open.
+    /// answers its length. What the buffer holds after it is left open.
     pub fn write_line(&self, i: u32, buffer: &mut [u8; 256]) -> usize
         requires { i < length (text_lines self.now) }
         ensures line { slice_get (text_lines self.now) i ≡ Some (take result buffer.new) }
@@ -65,7 +71,7 @@ fn write_chain_line(chain: &Chain, buffer: &mut [u8; 256]) -> usize
 /// Writes the line of the rule that stands there among the rules of all chains, or the last line
 /// where so many rules there are.
 fn write_rule_or_commit(chains: &[Chain], place: usize, buffer: &mut [u8; 256]) -> usize
-    requires jumps { JumpsGoOn chains.now }
+    requires jumps { JumpsAreKnown chains.now }
     requires there { place ≤ rule_count chains.now }
     ensures line { slice_get (flat_map (rule_lines chains.now) chains.now ++ commit_line ∷ []) place ≡ Some (take result buffer.new) }
     ensures short { result ≤ 225 }

@@ -1,1 +1,4 @@
 pub mod PacketOrder
+pub mod EventsTextLaws
+pub mod EventsRows
+pub mod ConnectionLaws

@@ -44,7 +44,7 @@ read_by_fields entries q = ap (λ (test : Packet → Bool). lookup test entries)
 pub none_read : (entries : List (Packet × Bool)) (q : Packet) (o : Option Bool) → lookup (is_at ((order.cmp-value).it q)) entries ≡ o → kept_in entries q ≡ o
 none_read entries q o h = sym (read_by_fields entries q) ∙ h
 
--- what a map answers behind a change at p
+-- what a map answers after a change at p
 pub kept_in-updates : (old new : List (Packet × Bool)) (p : Packet) (now : Option Bool) →
     ((q : Packet) → lookup (is_at ((order.cmp-value).it q)) new ≡ cond (is_at ((order.cmp-value).it p) q) now (lookup (is_at ((order.cmp-value).it q)) old)) →
     kept_in new ≡ with_kept (kept_in old) p now

@@ -7,18 +7,22 @@ use Rattle.pkt_core.specs.Events.{SeenAt, UnforgottenSince, WasSeen}
 use Rattle.pkt_core.specs.Tracking.{Kept}
 
 -- q at this place is the first packet of a connection that was not forgotten since: it is permitted, and neither it nor a permitted answer to it was seen before
-pub record IsFirst (permitted : Packet → Bool) (past : List Event) (place : ℕ) (q : Packet) : Type 0 where
+pub record IsFirstPacket (permitted : Packet → Bool) (past : List Event) (place : ℕ) (q : Packet) : Type 0 where
   pub seen : SeenAt past place q
   pub unforgotten : UnforgottenSince past place q
   pub allowed : IsTrue (permitted q)
   pub begins : WasSeen (take place past) q → ⊥
   pub answers_none : IsTrue (permitted (swap_of q)) → WasSeen (take place past) (swap_of q) → ⊥
 
--- q began a connection, and its swap was seen behind it
+-- q began a connection, and its swap was seen after it
 abbrev pub WasAnswered : (Packet → Bool) → List Event → Packet → Type 0
-WasAnswered permitted past q = (place : ℕ) × IsFirst permitted past place q × ((later : ℕ) × (place < later) × SeenAt past later (swap_of q))
+WasAnswered permitted past q = (place : ℕ) × IsFirstPacket permitted past place q × ((later : ℕ) × (place < later) × SeenAt past later (swap_of q))
 
--- exactly the first packets are kept, as answered where they were answered
+-- exactly the first packets are kept
+abbrev pub KeepsFirst : (Packet → Bool) → List Event → Kept → Type 0
+KeepsFirst permitted past kept = (q : Packet) → IsTrue (is_some (kept q)) ↔ ((place : ℕ) × IsFirstPacket permitted past place q)
+
+-- and as answered where they were answered
 pub record KeepsConnections (permitted : Packet → Bool) (past : List Event) (kept : Kept) : Type 0 where
-  pub first : (q : Packet) → IsTrue (is_some (kept q)) ↔ ((place : ℕ) × IsFirst permitted past place q)
+  pub first : KeepsFirst permitted past kept
   pub answered : (q : Packet) → (kept q ≡ Some true) ↔ WasAnswered permitted past q

@@ -52,7 +52,7 @@ WasSeen-stays past p q was = record {
   unforgotten = unforgotten-seen past p was.place q was.unforgotten;
 }
 
--- nothing stands behind the last event
+-- nothing stands after the last event
 pub unforgotten_last : (past : List Event) (p q : Packet) → UnforgottenSince (past ++ Seen p ∷ []) (length past) q
 unforgotten_last past p q j r later there =
     elim (get_back past (Seen p) (Forget r) j there) [ inl h ↦ absurd (before j (slice_get_within past j (Forget r) h) later) | inr h ↦ absurd (last j h.0 later) ]

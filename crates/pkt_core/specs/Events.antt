@@ -13,7 +13,7 @@ SeenAt events k p = slice_get events k ≡ Some (Seen p)
 abbrev pub ForgottenAt : List Event → ℕ → Packet → Type 0
 ForgottenAt events k p = slice_get events k ≡ Some (Forget p)
 
--- no event behind place k forgets the connection of q: neither q nor its swap
+-- no event after place k forgets the connection of q: neither q nor its swap
 abbrev pub UnforgottenSince : List Event → ℕ → Packet → Type 0
 UnforgottenSince events k q = (j : ℕ) (r : Packet) → k < j → ForgottenAt events j r → (r ≢ q) × (r ≢ swap_of q)
 

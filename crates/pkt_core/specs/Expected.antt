@@ -5,7 +5,7 @@ use Rattle.host_net.specs.Packet.{swap_of}
 use Rattle.pkt_core.specs.declared.event.Event.{Event}
 use Rattle.pkt_core.specs.Events.{ForgottenAt, SeenAt, WasSeen}
 
--- behind these events p is expected to pass: it is permitted, or it answers a stateful packet that was seen and not forgotten since
+-- after these events p is expected to pass: it is permitted, or it answers a stateful packet that was seen and not forgotten since
 abbrev pub Expected : (permitted stateful : Packet → Bool) → List Event → Packet → Type 0
 Expected permitted stateful past p = IsTrue (permitted p) ⊎ (IsTrue (stateful (swap_of p)) × WasSeen past (swap_of p))
 

@@ -1,4 +1,4 @@
--- Laws of what is kept behind the events of a run.
+-- Laws of what is kept after the events of a run.
 use Rattle.std.proofs.Common.{◌≡◌, ◌≢◌, ◌⊎◌, inl, inr, Bool, true, false, not, ◌&&◌, ◌||◌, List, [], ◌∷◌, ◌++◌, Some, None, refl, sym, ap, subst, ◌∙◌, true≢false}
 use Rattle.std.specs.Prelude.{is_some, if◌then◌else◌, Option}
 use Rattle.std.specs.Option.{unwrap_or}
@@ -109,6 +109,18 @@ Fits-seen {Known} permitted stateful past kept p is_known fits = record {
     kept_now : (b : Bool) → b ≡ true → (is_some (after_seen kept p b p) || is_some (after_seen kept p b (swap_of p))) ≡ true
     kept_now true h = kept_once_seen kept p
     kept_now false h = absurd (true≢false (sym h))
+
+-- what was kept still fits where a packet was seen that is not permitted, and is not tracked
+pub Fits-untaken : {Known : Packet → Type 0} (permitted : Packet → Bool) (past : List Event) (kept : Kept) (p : Packet) → permitted p ≡ false → Known p → Fits Known permitted past kept → Fits Known permitted (past ++ Seen p ∷ []) kept
+Fits-untaken {Known} permitted past kept p barred is_known fits = record {
+  allowed = fits.allowed;
+  was_seen = λ q h. WasSeen-stays past p q (fits.was_seen q h);
+  is_kept = λ q was allowed. elim (WasSeen-behind_seen past p q was) [
+    | inl old ↦ fits.is_kept q old allowed
+    | inr now ↦ absurd (true≢false (sym allowed ∙ ap permitted (sym now) ∙ barred))
+  ];
+  known = λ q was. elim (WasSeen-behind_seen past p q was) [ inl old ↦ fits.known q old | inr now ↦ subst Known now is_known ];
+}
 
 pub kept_behind_forget : (kept : Kept) (p q : Packet) → is_some (after_forget kept p q) ≡ true → (is_some (kept q) ≡ true) × (p ≢ q) × (p ≢ swap_of q)
 kept_behind_forget kept p q h =

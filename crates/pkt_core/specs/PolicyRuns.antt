@@ -4,7 +4,7 @@ use Rattle.host_net.specs.declared.packet.Packet.{Packet}
 use Rattle.pkt_core.specs.declared.event.Event.{Event}
 use Rattle.pkt_core.specs.Connections.{KeepsConnections}
 use Rattle.pkt_core.specs.Expected.{AreExpected}
-use Rattle.pkt_core.specs.Firewall.{IsPolicy, may_pass}
+use Rattle.pkt_core.specs.Firewall.{StatefulArePermitted, may_pass}
 use Rattle.pkt_core.specs.Tracking.{Kept, Runs, kept_after}
 
 -- a run of a firewall with the verdicts of a policy
@@ -13,8 +13,8 @@ RunsBy permitted stateful = Runs (λ state p passes. passes ≡ may_pass permitt
 
 -- whatever the policy and the events: a run from here answers what is expected and keeps the connections, and there is one
 pub record TracksAsExpected (kept : Kept) : Type 0 where
-  pub answers : (permitted stateful : Packet → Bool) → IsPolicy (λ p. ⊤) permitted stateful → (events : List Event) (answers : List (Option Bool)) →
+  pub answers : (permitted stateful : Packet → Bool) → StatefulArePermitted (λ p. ⊤) permitted stateful → (events : List Event) (answers : List (Option Bool)) →
       RunsBy permitted stateful kept events answers → AreExpected permitted stateful events answers
-  pub connections : (permitted stateful : Packet → Bool) → IsPolicy (λ p. ⊤) permitted stateful → (events : List Event) (answers : List (Option Bool)) →
+  pub connections : (permitted stateful : Packet → Bool) → StatefulArePermitted (λ p. ⊤) permitted stateful → (events : List Event) (answers : List (Option Bool)) →
       RunsBy permitted stateful kept events answers → KeepsConnections permitted events (kept_after kept events answers)
-  pub some : (permitted stateful : Packet → Bool) → IsPolicy (λ p. ⊤) permitted stateful → (events : List Event) → (answers : List (Option Bool)) × RunsBy permitted stateful kept events answers
+  pub some : (permitted stateful : Packet → Bool) → StatefulArePermitted (λ p. ⊤) permitted stateful → (events : List Event) → (answers : List (Option Bool)) × RunsBy permitted stateful kept events answers

@@ -7,6 +7,7 @@ use Rattle.host_net.specs.declared.packet.CtState.TheVariants.{New, Established}
 use Rattle.host_net.specs.Packet.{swap_of}
 use Rattle.pkt_core.specs.declared.event.Event.{Event}
 use Rattle.pkt_core.specs.declared.event.Event.TheVariants.{Seen, Forget}
+use Rattle.pkt_core.specs.Firewall.{Filter}
 
 -- the connections that are kept, each by its first packet: whether it was answered, None for any other packet
 abbrev pub Kept : Type 0
@@ -29,7 +30,7 @@ is_two_way kept p = is_some (kept (swap_of p)) || unwrap_or (kept p) false
 abbrev pub state_of : Kept → Packet → CtState
 state_of kept p = if is_two_way kept p then Established else New
 
--- behind a packet: the connection that it answers is answered; else it begins one, where it passes and is of none
+-- after a packet: the connection that it answers is answered; else it begins one, where it passes and is of none
 abbrev pub after_seen : Kept → Packet → Bool → Kept
 after_seen kept p passes =
     if is_some (kept (swap_of p)) then with_kept kept (swap_of p) (Some true)
@@ -43,14 +44,14 @@ Begins kept p passes = IsTrue passes × (kept p ≡ None) × (kept (swap_of p) �
 abbrev pub after_forget : Kept → Packet → Kept
 after_forget kept p = with_kept (with_kept kept p None) (swap_of p) None
 
--- a run: each packet seen has a verdict in its state, true where it passes, and is tracked with it; a forgetting has none
-abbrev pub Runs : (CtState → Packet → Bool → Type 0) → Kept → List Event → List (Option Bool) → Type 0
-Runs Verdict kept [] [] = ⊤
-Runs Verdict kept (Seen p ∷ events) (Some passes ∷ answers) = Verdict (state_of kept p) p passes × Runs Verdict (after_seen kept p passes) events answers
-Runs Verdict kept (Forget p ∷ events) (None ∷ answers) = Runs Verdict (after_forget kept p) events answers
-Runs Verdict kept events answers = ⊥
+-- a run of a filter: each packet seen passes or not in its state, and is tracked so; a forgetting has no answer
+abbrev pub Runs : Filter → Kept → List Event → List (Option Bool) → Type 0
+Runs filter kept [] [] = ⊤
+Runs filter kept (Seen p ∷ events) (Some passes ∷ answers) = filter (state_of kept p) p passes × Runs filter (after_seen kept p passes) events answers
+Runs filter kept (Forget p ∷ events) (None ∷ answers) = Runs filter (after_forget kept p) events answers
+Runs filter kept events answers = ⊥
 
--- what is kept behind a run with these answers
+-- what is kept after a run with these answers
 abbrev pub kept_after : Kept → List Event → List (Option Bool) → Kept
 kept_after kept (Seen p ∷ events) (Some passes ∷ answers) = kept_after (after_seen kept p passes) events answers
 kept_after kept (Forget p ∷ events) (None ∷ answers) = kept_after (after_forget kept p) events answers

@@ -1,4 +1,4 @@
--- Laws of tracking: which packets are kept behind an event.
+-- Laws of tracking: which packets are kept after an event.
 use Rattle.std.proofs.Common.{◌≡◌, ◌≢◌, Bool, true, false, not, ◌==◌, ◌&&◌, ◌||◌, Some, None, refl, sym, ap, ◌∙◌, true≢false}
 use Rattle.std.specs.Prelude.{is_some, if◌then◌else◌, Option}
 use Rattle.std.specs.Bool.{Decides}
@@ -67,7 +67,7 @@ marked kept r q is = by_test (same_packet r q) refl
     by_test true h = sym (ap (λ (x : Packet). is_some (kept x)) (sym (same_packet-is r q h)) ∙ is)
     by_test false h = refl
 
--- what is kept behind a packet: what was, and the packet where it begins a connection
+-- what is kept after a packet: what was, and the packet where it begins a connection
 pub keys-after_seen : (kept : Kept) (p : Packet) (accepted : Bool) (q : Packet) →
     is_some (after_seen kept p accepted q) ≡ (is_some (kept q) || (same_packet p q && (accepted && (not (is_some (kept p)) && not (is_some (kept (swap_of p)))))))
 keys-after_seen kept p accepted q = by_tests (kept (swap_of p)) (kept p) accepted refl
@@ -85,7 +85,7 @@ keys-after_seen kept p accepted q = by_tests (kept (swap_of p)) (kept p) accepte
     by_tests None (Some m) true is = no_more (is_some (kept q)) (same_packet p q)
     by_tests None own false is = no_more (is_some (kept q)) (same_packet p q)
 
--- what is kept behind a forgetting: what was, but for the connection
+-- what is kept after a forgetting: what was, but for the connection
 pub keys-after_forget : (kept : Kept) (p q : Packet) → is_some (after_forget kept p q) ≡ (not (same_packet p q || same_packet p (swap_of q)) && is_some (kept q))
 keys-after_forget kept p q = ap (λ b. is_some (if b then None else (if same_packet p q then None else kept q))) (same_packet-swap p q) ∙ by_tests (same_packet p (swap_of q)) (same_packet p q) (kept q)
   where

@@ -4,9 +4,11 @@
 #![tactic(auto)]
 
 mod event;
+mod events;
 #[cfg(test)]
 mod tests;
 mod track;
 
 pub use event::Event;
+pub use events::{EventFault, EventWhy, read_events};
 pub use track::Track;

@@ -7,39 +7,32 @@ use Rattle.emit_core.proofs.iptables.add_host_chain.Goals as goal
 
 pub add-requires-clause-unused : goal.add-requires-clause-unused
 add-requires-clause-unused c =
-    let sender = c.args.sender.now in
-    let within = sender.host_within in
     let few = c.requires.few.few in
-    unused c.args.hosts.now sender.permitted.now.flows sender.stateful.now.flows sender.host c.args.chains.now c.in_ok-host_chain_name.field-0
-    c.requires.before c.in_ok-host_chain_name.ensures (omega (arith, c.requires.size))
+    unused c.args.hosts.now c.args.p.now.flows c.args.s.now.flows c.args.host c.args.chains.now c.in_ok-host_chain_name.field-0
+    c.requires.before c.in_ok-host_chain_name.ensures (omega (arith, c.requires.there))
 
 pub add-requires-clause-room : goal.add-requires-clause-room
 add-requires-clause-room c =
-    let sender = c.args.sender.now in
-    let within = sender.host_within in
     let few = c.requires.few.few in
     omega (
       arith,
-      c.requires.size,
+      c.requires.there,
       ap length c.requires.before,
-      length-chains_up_to c.args.hosts.now sender.permitted.now.flows sender.stateful.now.flows sender.host,
+      length-chains_up_to c.args.hosts.now c.args.p.now.flows c.args.s.now.flows c.args.host,
     )
 
 pub fill-requires-clause-room : goal.fill-requires-clause-room
 fill-requires-clause-room c =
-    let sender = c.args.sender.now in
-    let within = sender.host_within in
     let few = c.requires.few.few in
     let prefixes = c.requires.few.few_prefixes in
-    let enough = room c.args.hosts.now sender.permitted.now.flows sender.stateful.now.flows sender.host c.args.chains.now c.in_ok-host_chain_name.field-0 c.in_ok-rules.rules.items
-    c.requires.before c.in_ok-rules.ensures (omega (arith, c.requires.size)) (omega arith) in
+    let enough = room c.args.hosts.now c.args.p.now.flows c.args.s.now.flows c.args.host c.args.chains.now c.in_ok-host_chain_name.field-0 c.in_ok-rules.rules.items
+    c.requires.before c.in_ok-rules.ensures (omega (arith, c.requires.there)) (omega arith) in
     omega (arith, enough, ap rule_count c.in_ok-chain.ensures.ok, ap length c.deref.ensures.value)
 
 pub returns : goal.returns
 returns c =
-    let sender = c.args.sender.now in
     c.in_ok-fill.ensures
     ∙ ap (λ (x : List Chain). with_rules x c.in_ok-chain.chain c.deref.result.now) c.in_ok-chain.ensures.ok
     ∙ ap (λ x. with_rules (c.args.chains.now ++ user_chain c.in_ok-host_chain_name.field-0 ∷ []) x c.deref.result.now) c.in_ok-chain.ensures.number
-    ∙ host_filled c.args.hosts.now sender.permitted.now.flows sender.stateful.now.flows sender.host c.args.chains.now c.in_ok-host_chain_name.field-0 c.deref.result.now
+    ∙ host_filled c.args.hosts.now c.args.p.now.flows c.args.s.now.flows c.args.host c.args.chains.now c.in_ok-host_chain_name.field-0 c.deref.result.now
     c.requires.before c.in_ok-host_chain_name.ensures (c.deref.ensures.value ∙ c.in_ok-rules.ensures)

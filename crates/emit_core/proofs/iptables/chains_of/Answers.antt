@@ -1,8 +1,7 @@
-use Rattle.std.proofs.Common.{◌∙◌, List, arith, ap, sym, length}
+use Rattle.std.proofs.Common.{◌∙◌, List, arith, ap, length}
 use Rattle.ipt_rules.specs.declared.rule.Policy.TheVariants.{Drop as Dropping}
 use Rattle.ipt_rules.specs.Chain.{Chain, with_policy}
 use Rattle.emit_core.specs.LayoutLaws.{few_forward_rules}
-use Rattle.emit_core.specs.OwnerLaws.{rest_below}
 use Rattle.emit_core.proofs.FillingLemmas.{no_rules_yet, forward_filled}
 use Rattle.emit_core.proofs.iptables.chains_of.Goals as goal
 
@@ -26,6 +25,3 @@ loop-host-init c =
     ∙ forward_filled c.args.hosts.now c.args.p.now.flows c.args.s.now.flows c.set_policy.new.self c.deref.result.now
     (c.set_policy.ensures ∙ ap (λ (x : List Chain). with_policy x 1 Dropping) c.in_ok-chains.ensures)
     (c.deref.ensures.value ∙ c.in_ok-forward_rules.ensures)
-
-pub invariant_of-sender-clause-rest_within : goal.invariant_of-sender-clause-rest_within
-invariant_of-sender-clause-rest_within c = λ r found. omega (arith, rest_below c.args.hosts.now r (sym c.rest-rest.ensures ∙ found), c.requires.permitted)

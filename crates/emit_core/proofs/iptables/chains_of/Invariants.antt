@@ -1,5 +1,6 @@
 use Rattle.std.proofs.Common.{◌≡◌}
-use Rattle.emit_core.specs.Layout.{chains_up_to}
+use Rattle.emit_core.specs.Layout.{}
+use Rattle.emit_core.specs.Filling.{chains_up_to}
 use Rattle.emit_core.proofs.iptables.chains_of.Given as goal
 
 abbrev pub invariant-loop-host : goal.invariant-loop-host

@@ -1,10 +1,10 @@
 use Rattle.std.proofs.Common.{arith}
 use Rattle.ipt_rules.specs.Text.{table_line}
-use Rattle.ipt_rules.proofs.LineLemmas.{IsWhole, whole}
+use Rattle.text_core.specs.LineLaws.{IsWhole, put_whole}
 use Rattle.ipt_rules.proofs.text.write_table_line.Goals as goal
 
-done : (c : goal.After-put) → IsWhole c.put.new.buffer table_line c.put.result
-done c = whole c.put.new.buffer table_line c.put.result c.put.array_long c.put.ensures.within (omega arith) c.put.ensures.text
+done : (c : goal.After-put) → IsWhole 225 c.put.new.buffer table_line c.put.result
+done c = put_whole 256 225 c.put.new.buffer table_line c.put.result c.put.array_long c.put.ensures.within (omega arith) (omega arith) c.put.ensures.text
 
 pub returns-clause-line : goal.returns-clause-line
 returns-clause-line c = (done c).same

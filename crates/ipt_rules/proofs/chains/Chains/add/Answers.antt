@@ -1,7 +1,7 @@
 use Rattle.std.proofs.Common.{◌<◌, length}
 use Rattle.std.specs.Prelude.{IsNone}
 use Rattle.ipt_rules.specs.Chain.{number_of}
-use Rattle.ipt_rules.specs.TableLaws.{IsChainList-added}
+use Rattle.ipt_rules.proofs.TableLaws.{IsChainList-added}
 use Rattle.ipt_rules.proofs.chains.Chains.add.Goals as goal
 
 pub invariant_of-self-2 : goal.invariant_of-self-2

@@ -1,7 +1,7 @@
 use Rattle.std.proofs.Common.{◌≡◌, ◌<◌, ◌∷◌, [], ◌++◌, length, slice_set}
 use Rattle.ipt_rules.specs.Chain.{with_rule}
 use Rattle.ipt_rules.specs.ChainLaws.{set_changed}
-use Rattle.ipt_rules.specs.TableLaws.{IsChainList-with_rule}
+use Rattle.ipt_rules.proofs.TableLaws.{IsChainList-with_rule}
 use Rattle.ipt_rules.proofs.chains.Chains.rule.Goals as goal
 
 there : (c : goal.After-self-2-1) → c.args.chain < length c.self.inside.chains.items

@@ -1,7 +1,7 @@
 use Rattle.std.proofs.Common.{◌≡◌, slice_set, Some}
 use Rattle.ipt_rules.specs.Chain.{with_policy}
 use Rattle.ipt_rules.specs.ChainLaws.{set_changed}
-use Rattle.ipt_rules.specs.TableLaws.{has_built_in, IsChainList-with_policy}
+use Rattle.ipt_rules.proofs.TableLaws.{has_built_in, IsChainList-with_policy}
 use Rattle.ipt_rules.proofs.chains.Chains.set_policy.Goals as goal
 
 changed : (c : goal.After-self-1) → slice_set c.self.inside.chains.items c.args.chain c.set_policy.new.self ≡ with_policy c.self.inside.chains.items c.args.chain c.args.policy

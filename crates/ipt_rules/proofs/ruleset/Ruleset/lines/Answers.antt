@@ -1,5 +1,8 @@
-use Rattle.std.proofs.Common.{arith}
-use Rattle.ipt_rules.proofs.TextLemmas.{length-text_lines}
+use Rattle.std.proofs.Common.{arith, subst}
+use Rattle.ipt_rules.specs.Loops.{HasNoLoop}
+use Rattle.ipt_rules.proofs.NoLoopLemmas.{no_loop_in_order}
+use Rattle.ipt_rules.proofs.WalkLemmas.{each_gives_one}
+use Rattle.ipt_rules.specs.TextLaws.{length-text_lines}
 use Rattle.ipt_rules.proofs.ruleset.Ruleset.lines.Goals as goal
 
 pub returns-clause-count : goal.returns-clause-count
@@ -11,3 +14,12 @@ returns-clause-table c = rw (← c.self.view_is) c.self.invariant.list.table
 
 pub returns-clause-accepted : goal.returns-clause-accepted
 returns-clause-accepted c = rw (← c.self.view_is) c.self.invariant.accepted
+
+pub returns-clause-no_loop : goal.returns-clause-no_loop
+returns-clause-no_loop c =
+    subst HasNoLoop c.self.view_is
+    (no_loop_in_order c.self.inside.chains.items c.self.inside.ranking.order.items c.self.inside.ranking.places.items c.self.invariant.ranking)
+
+pub returns-clause-one_outcome : goal.returns-clause-one_outcome
+returns-clause-one_outcome c =
+    rw (← c.self.view_is) (each_gives_one c.self.inside.chains.items c.self.inside.ranking.order.items c.self.inside.ranking.places.items c.self.invariant.ranking)

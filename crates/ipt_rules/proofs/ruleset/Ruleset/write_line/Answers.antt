@@ -2,10 +2,11 @@ use Rattle.std.proofs.Common.{◌≡◌, ◌+◌, ◌-◌, ◌<◌, sym, ap, sub
 use Rattle.std.specs.Prelude.{slice_get}
 use Rattle.ipt_rules.specs.Chain.{Chain}
 use Rattle.ipt_rules.specs.Text.{text_lines}
-use Rattle.ipt_rules.proofs.TextLemmas.{chain_there, rest_there, rest_lines, length-text_lines}
+use Rattle.ipt_rules.specs.TextLaws.{length-text_lines}
+use Rattle.ipt_rules.proofs.TextLemmas.{chain_there, rest_there, rest_lines}
 use Rattle.ipt_rules.proofs.ruleset.Ruleset.write_line.Goals as goal
 
--- a line behind the first, found by the number before it
+-- a line after the first, found by the number before it
 behind : (chains xs : List Chain) (i : ℕ) (line : List ℕ) → xs ≡ chains → (i ≡ 0 → ⊥) → slice_get (text_lines xs) (i - 1 + 1) ≡ Some line → slice_get (text_lines chains) i ≡ Some line
 behind chains xs i line same later found =
     let number : i - 1 + 1 ≡ i = omega arith in

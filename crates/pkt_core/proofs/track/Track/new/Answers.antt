@@ -1,6 +1,6 @@
 use Rattle.std.proofs.Common.{Bool, List, sym, subst}
 use Rattle.host_net.specs.declared.packet.Packet.{Packet}
-use Rattle.pkt_core.specs.ConnectionLaws.{tracks_from_nothing}
+use Rattle.pkt_core.proofs.ConnectionLaws.{tracks_from_nothing}
 use Rattle.pkt_core.specs.PolicyRuns.{TracksAsExpected}
 use Rattle.pkt_core.specs.Kept.{kept_in}
 use Rattle.pkt_core.proofs.track.Track.new.Goals as goal

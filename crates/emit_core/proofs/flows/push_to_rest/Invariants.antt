@@ -1,0 +1,10 @@
+use Rattle.std.proofs.Common.{◌≡◌, ◌++◌, ℕ, List, drop}
+use Rattle.host_net.specs.declared.prefix.Prefix.{Prefix}
+use Rattle.emit_core.specs.Sides.{permits}
+use Rattle.emit_core.specs.FlowTable.{for_each_host, to_rest_host}
+use Rattle.emit_core.proofs.flows.push_to_rest.Given as goal
+
+abbrev pub invariant-loop-from : goal.invariant-loop-from
+invariant-loop-from l =
+    let written = λ (i : ℕ) (qs : List Prefix). to_rest_host (permits l.p.flows i l.rest) qs in
+    l.entries.items ++ for_each_host written l.from (drop l.from l.hosts) ≡ l.fn.entries.items ++ for_each_host written 0 l.hosts

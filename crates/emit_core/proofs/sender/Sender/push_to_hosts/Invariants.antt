@@ -1,9 +1,0 @@
-use Rattle.std.proofs.Common.{◌≡◌, ◌++◌, drop}
-use Rattle.emit_core.specs.Layout.{for_each_prefix, to_prefix}
-use Rattle.emit_core.proofs.sender.Sender.push_to_hosts.Given as goal
-
-abbrev pub invariant-loop-to : goal.invariant-loop-to
-invariant-loop-to l =
-    let written = to_prefix l.self.permitted.now.flows l.self.stateful.now.flows l.self.host l.self.rest in
-    l.rules.items ++ for_each_prefix written l.to (drop l.to l.hosts)
-    ≡ l.fn.rules.items ++ for_each_prefix written 0 l.hosts

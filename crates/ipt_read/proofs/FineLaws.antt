@@ -1,0 +1,60 @@
+-- What holds between two lines holds after each line.
+use Rattle.text_core.specs.Lines.{is_comment}
+use Rattle.text_core.specs.Reading.{past_comment}
+use Rattle.text_core.specs.StepsLaws.{if_parts}
+use Rattle.std.proofs.Common.{◌≡◌, ℕ, ◌∙◌, sym, refl, subst, inl, inr, List, [], ◌∷◌, ◌++◌, None, length, arith, length-append, length-set}
+use Rattle.std.specs.Prelude.{Ok}
+use Rattle.ipt_rules.specs.Chain.{with_policy, with_rule, user_chain}
+use Rattle.ipt_rules.specs.ChainLaws.{length_with_policy, length_with_rule, rule_count_with_rule, rule_count_with_policy, length_added, rule_count_added}
+use Rattle.ipt_read.specs.TextLines.{SaidSoFar, nothing_said, line_step}
+use Rattle.ipt_read.specs.Grammar.{IsLine, table, built_in, user, rule, commit}
+use Rattle.ipt_read.specs.LineLaws.{line_of_read}
+use Rattle.ipt_read.proofs.GoesLaws.{each_more, each_added, each_with_policy, each_with_rule, line_goes, not_refused}
+use Rattle.ipt_read.specs.Goes.{EachGoes}
+use Rattle.ipt_rules.specs.Build.{refusal_of}
+use Rattle.ipt_read.specs.State.{IsFine}
+use Rattle.ipt_read.proofs.WithinLaws.{number_of_within}
+
+pub fine_at_first : IsFine nothing_said
+fine_at_first = record { few_chains = omega arith; few_rules = omega arith; counted = refl; numbered = refl; goes = (tt, (tt, (tt, tt))) }
+
+fine_behind : (n : ℕ) (s t : SaidSoFar) (ws : List (List ℕ)) → IsLine n s ws t → IsFine s → IsFine t
+fine_behind n s t ws (table stage) fine = record { few_chains = fine.few_chains; few_rules = fine.few_rules; counted = fine.counted; numbered = fine.numbered; goes = fine.goes }
+fine_behind n s t ws (commit stage) fine = record { few_chains = fine.few_chains; few_rules = fine.few_rules; counted = fine.counted; numbered = fine.numbered; goes = fine.goes }
+fine_behind n s t ws (built_in {c = c} p stage line number low free) fine =
+    record {
+      few_chains = omega (arith, length_with_policy s.chains c p, fine.few_chains);
+      few_rules = fine.few_rules;
+      counted = fine.counted ∙ sym (rule_count_with_policy s.chains c p);
+      numbered = length-set s.declared c n ∙ fine.numbered ∙ sym (length_with_policy s.chains c p);
+      goes = subst (λ (m : ℕ). EachGoes m (with_policy s.chains c p)) (sym (length_with_policy s.chains c p)) (each_with_policy (length s.chains) s.chains c p fine.goes);
+    }
+fine_behind n s t ws (user {name = name} stage line number legal few) fine =
+    record {
+      few_chains = omega (arith, length_added s.chains name);
+      few_rules = fine.few_rules;
+      counted = fine.counted ∙ sym (rule_count_added s.chains name);
+      numbered = omega (arith, length_added s.chains name, length-append s.declared (n ∷ []), fine.numbered);
+      goes = each_more (length s.chains) (length (s.chains ++ user_chain name ∷ [])) (s.chains ++ user_chain name ∷ []) (omega (arith, length_added s.chains name)) (each_added (length s.chains) s.chains name fine.goes);
+    }
+fine_behind n s t ws (rule {c = c} {r = r} stage line few) fine =
+    record {
+      few_chains = omega (arith, length_with_rule s.chains c r, fine.few_chains);
+      few_rules = omega arith;
+      counted = omega (arith, rule_count_with_rule s.chains c r (number_of_within s.chains line.name c line.number), fine.counted);
+      numbered = fine.numbered ∙ sym (length_with_rule s.chains c r);
+      goes = subst (λ (m : ℕ). EachGoes m (with_rule s.chains c r)) (sym (length_with_rule s.chains c r)) (each_with_rule (length s.chains) s.chains c r (line_goes s.chains ws c r line) fine.goes);
+    }
+
+pub fine_kept : (n : ℕ) (s t : SaidSoFar) (l : List ℕ) → IsFine s → line_step n s l ≡ Ok t → IsFine t
+fine_kept n s t l fine read = fine_behind n s t _ (line_of_read n s t l read) fine
+
+pub fine_past_comment : (n : ℕ) (s t : SaidSoFar) (l : List ℕ) → IsFine s → past_comment line_step n s l ≡ Ok t → IsFine t
+fine_past_comment n s t l fine read = elim (if_parts (is_comment l) (Ok s) (line_step n s l) (Ok t) read) [
+  | inl comment ↦ let e : s ≡ t = cc in subst IsFine e fine
+  | inr line ↦ fine_kept n s t l fine line.1
+]
+
+-- chains that were read are refused for a loop or for want of memory alone
+pub fine_not_refused : (s : SaidSoFar) → IsFine s → refusal_of s.chains ≡ None
+fine_not_refused s fine = not_refused s.chains fine.few_chains (omega (arith, fine.few_rules, fine.counted)) fine.goes

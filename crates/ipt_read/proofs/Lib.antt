@@ -1,0 +1,6 @@
+pub mod FaultLaws
+pub mod FineLaws
+pub mod GoesLaws
+pub mod WithinLaws
+pub mod RuleRows
+pub mod TextRows

@@ -1,0 +1,24 @@
+use Rattle.std.proofs.Common.{◌≡◌, ℕ, List, ◌∙◌, ap, subst, refl}
+use Rattle.ipt_rules.specs.Build.{RefusedFor}
+use Rattle.ipt_read.specs.TextLines.{line_of}
+use Rattle.ipt_read.proofs.FineLaws.{fine_not_refused}
+use Rattle.ipt_read.proofs.GoesLaws.{not_many, not_unknown}
+use Rattle.ipt_read.specs.State.{said_of}
+use Rattle.ipt_read.specs.TextLaws.{refused_loop}
+use Rattle.ipt_read.proofs.whole.build.Goals as goal
+
+line_same : (line : ℕ) (ls items : List ℕ) (c : ℕ) → line ≡ line_of ls c → ls ≡ items → line ≡ line_of items c
+line_same line ls items c e same = e ∙ ap (λ xs. line_of xs c) same
+
+pub returns-in-Err-Loop-clause-err : goal.returns-in-Err-Loop-clause-err
+returns-in-Err-Loop-clause-err c = (refl, (c.in-Err-Loop.chain, refused_loop c.args.state.chains c.in-Err-Loop.chain (subst (RefusedFor c.args.state.chains) c.in-Err-Loop.field-0-is c.in-Err-Loop.ensures.refused), line_same _ c.deref.result.now c.args.state.declared.items c.in-Err-Loop.chain c.line_of.ensures c.deref.ensures.value))
+
+pub unreachable-requires : goal.unreachable-requires
+unreachable-requires c =
+    not_many c.args.state.chains c.in-Err-TooMany.field-0-0 (fine_not_refused (said_of c.args.state) c.requires)
+    (subst (RefusedFor c.args.state.chains) c.in-Err-TooMany.field-0-is c.in-Err-TooMany.ensures.refused)
+
+pub unreachable-requires-in-Err-UnknownChain : goal.unreachable-requires-in-Err-UnknownChain
+unreachable-requires-in-Err-UnknownChain c =
+    not_unknown c.args.state.chains c.in-Err-UnknownChain.field-0-0 c.in-Err-UnknownChain.field-0-1 (fine_not_refused (said_of c.args.state) c.requires)
+    (subst (RefusedFor c.args.state.chains) c.in-Err-UnknownChain.field-0-is c.in-Err-UnknownChain.ensures.refused)

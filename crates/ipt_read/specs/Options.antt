@@ -1,0 +1,144 @@
+-- The options of a rule line, as a table: how each is written, where it may stand, and what its value says.
+use Rattle.std.specs.Prelude.{ℕ, Bool, true, false, ◌&&◌, ◌==◌, nat_lt, if◌then◌else◌, List, [], ◌∷◌, Option, Some, None, is_some, is_none, codes, bytes_eq}
+use Rattle.std.specs.Option.{option_map}
+use Rattle.std.specs.List.{list_all, list_any, slice_split}
+use Rattle.host_net.specs.Prefix.{prefix_of}
+use Rattle.host_net.specs.declared.prefix.Prefix.{Prefix}
+use Rattle.ipt_rules.specs.declared.rule.AddrMatch.{AddrMatch}
+use Rattle.ipt_rules.specs.declared.rule.StateMatch.{StateMatch}
+use Rattle.ipt_rules.specs.declared.rule.Target.{Target}
+use Rattle.ipt_rules.specs.declared.rule.Target.TheVariants.{Accept, Drop, Reject, Return, Count, Jump as JumpsTo}
+use Rattle.ipt_rules.specs.Chain.{Chain, number_of}
+use Rattle.ipt_read.specs.declared.fault.IptWhy.{IptWhy}
+use Rattle.ipt_read.specs.declared.fault.IptWhy.TheVariants.{UnknownOption, BadValue, UnknownTarget}
+use Rattle.ipt_read.specs.declared.option.Opt.{Opt}
+use Rattle.ipt_read.specs.declared.option.Opt.TheVariants.{Source, Destination, Interface, Module, CtState, State, Comment, Jump, RejectWith, LogPrefix, LogLevel}
+use Rattle.ipt_read.specs.declared.option.Given.{Given}
+use Rattle.ipt_read.specs.declared.option.Place.{Place}
+use Rattle.ipt_read.specs.declared.option.Place.TheVariants.{AtOption, InText}
+
+-- 1. How it is written.
+
+abbrev pub first_named : List ℕ → List (List ℕ × Opt) → Option Opt
+first_named word [] = None
+first_named word (entry ∷ others) = if bytes_eq word entry.0 then Some entry.1 else first_named word others
+
+unfoldable pub option_of : List ℕ → Option Opt
+option_of word =
+    first_named word ((codes "-s", Source) ∷ (codes "-d", Destination) ∷ (codes "-i", Interface) ∷ (codes "-o", Interface) ∷ (codes "-m", Module) ∷ (codes "--ctstate", CtState) ∷ (codes "--state", State) ∷ (codes "--comment", Comment) ∷ (codes "-j", Jump) ∷ (codes "--reject-with", RejectWith) ∷ (codes "--log-prefix", LogPrefix) ∷ (codes "--log-level", LogLevel) ∷ [])
+
+-- 2. Where it may stand: a match in front of the target and after its module, an option of a target after that target.
+
+abbrev pub rejects : Option Target → Bool
+rejects (Some Reject) = true
+rejects _ = false
+
+abbrev pub may_stand : Given → Opt → Bool
+may_stand given CtState = is_none given.target && given.conntrack
+may_stand given State = is_none given.target && given.states
+may_stand given Comment = is_none given.target && given.comments
+may_stand given RejectWith = rejects given.target
+may_stand given LogPrefix = given.logs
+may_stand given LogLevel = given.logs
+may_stand given _ = is_none given.target
+
+abbrev pub is_interface : Opt → Bool
+is_interface Interface = true
+is_interface _ = false
+
+-- whether `!` may stand before it
+abbrev pub takes_bang : Opt → Bool
+takes_bang Source = true
+takes_bang Destination = true
+takes_bang CtState = true
+takes_bang State = true
+takes_bang _ = false
+
+-- whether it was given already and may stand once
+abbrev pub is_given : Given → Opt → Bool
+is_given given Source = is_some given.src
+is_given given Destination = is_some given.dst
+is_given given CtState = is_some given.state
+is_given given State = is_some given.state
+is_given given _ = false
+
+-- 3. What its value says.
+
+-- a closing `"` ends the word, and an option may follow
+abbrev pub closes : List ℕ → Option Place
+closes [] = Some AtOption
+closes (b ∷ bs) = None
+
+-- a text that a `"` (34) opened: a backslash (92) takes the next byte as it is, and the first `"` that no backslash takes closes it; where none does in this word the text goes on in the next
+abbrev pub quoted : Bool → List ℕ → Option Place
+quoted taken [] = Some InText
+quoted taken (b ∷ bs) =
+    if taken then quoted false bs else if b == 92 then quoted true bs else if b == 34 then closes bs else quoted false bs
+
+-- a text: one word that begins otherwise, or a quoted one
+unfoldable pub text_of : List ℕ → Option Place
+text_of [] = Some AtOption
+text_of (b ∷ bs) = if b == 34 then quoted false bs else Some AtOption
+
+-- the states of connections that a list may name
+unfoldable pub is_state : List ℕ → Bool
+is_state word =
+    list_any (bytes_eq word) (codes "NEW" ∷ codes "ESTABLISHED" ∷ codes "RELATED" ∷ codes "INVALID" ∷ codes "UNTRACKED" ∷ codes "SNAT" ∷ codes "DNAT" ∷ [])
+
+-- the texts between commas (44)
+abbrev pub listed : List ℕ → List (List ℕ)
+listed word = slice_split (λ b. b == 44) word
+
+-- whether NEW and whether ESTABLISHED is in a list of states
+unfoldable pub states_of : List ℕ → Option (Bool × Bool)
+states_of word =
+    if list_all is_state (listed word) then Some (list_any (λ w. bytes_eq w (codes "NEW")) (listed word), list_any (λ w. bytes_eq w (codes "ESTABLISHED")) (listed word)) else None
+
+-- a jump to a user chain that was declared
+abbrev pub jump_to : Option ℕ → Option Target
+jump_to None = None
+jump_to (Some c) = if nat_lt c 3 then None else Some (JumpsTo c)
+
+-- a target, and whether it is LOG, which only counts
+unfoldable pub target_of : List Chain → List ℕ → Option (Target × Bool)
+target_of chains word =
+    if bytes_eq word (codes "ACCEPT") then Some (Accept, false) else if bytes_eq word (codes "DROP") then Some (Drop, false) else if bytes_eq word (codes "REJECT") then Some (Reject, false) else if bytes_eq word (codes "RETURN") then Some (Return, false) else if bytes_eq word (codes "LOG") then Some (Count, true) else option_map (λ t. (t, false)) (jump_to (number_of chains word))
+
+-- the modules: `conntrack`, `state`, `comment`
+unfoldable pub with_module : Given → List ℕ → Option Given
+with_module given word =
+    if bytes_eq word (codes "conntrack") then Some (record given { conntrack = true }) else if bytes_eq word (codes "state") then Some (record given { states = true }) else if bytes_eq word (codes "comment") then Some (record given { comments = true }) else None
+
+abbrev pub address_match : Bool → Prefix → AddrMatch
+address_match negated p = record { prefix = p; negated = negated }
+
+abbrev pub state_match : Bool → Bool × Bool → StateMatch
+state_match negated flags = record { new = flags.0; established = flags.1; negated = negated }
+
+abbrev pub then_option : Given → Given × Place
+then_option given = (given, AtOption)
+
+-- what is given after an option's value, and where the next word stands
+unfoldable pub with_value : List Chain → Given → Opt → Bool → List ℕ → Option (Given × Place)
+with_value chains given Source negated word =
+    option_map (λ p. (record given { src = Some (address_match negated p) }, AtOption)) (prefix_of word)
+with_value chains given Destination negated word =
+    option_map (λ p. (record given { dst = Some (address_match negated p) }, AtOption)) (prefix_of word)
+with_value chains given Interface negated word = None
+with_value chains given Module negated word = option_map then_option (with_module given word)
+with_value chains given CtState negated word =
+    option_map (λ flags. (record given { state = Some (state_match negated flags) }, AtOption)) (states_of word)
+with_value chains given State negated word =
+    option_map (λ flags. (record given { state = Some (state_match negated flags) }, AtOption)) (states_of word)
+with_value chains given Comment negated word = option_map (λ place. (given, place)) (text_of word)
+with_value chains given Jump negated word =
+    option_map (λ t. (record given { target = Some t.0; logs = t.1 }, AtOption)) (target_of chains word)
+with_value chains given RejectWith negated word = Some (given, AtOption)
+with_value chains given LogPrefix negated word = option_map (λ place. (given, place)) (text_of word)
+with_value chains given LogLevel negated word = Some (given, AtOption)
+
+-- why another value is refused
+abbrev pub value_refusal : Opt → IptWhy
+value_refusal Module = UnknownOption
+value_refusal Jump = UnknownTarget
+value_refusal _ = BadValue

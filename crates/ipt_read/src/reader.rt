@@ -1,0 +1,260 @@
+//! Reading a text line by line.
+
+ghost use Rattle.std.specs.Prelude.{◌≡◌, ◌<◌, ◌≤◌, ◌^◌, ◌∷◌, [], ◌++◌, Some, None, Ok, IfOk, length};
+ghost use Rattle.std.specs.Option.{option_map};
+ghost use Rattle.text_core.specs.Lines.{words};
+ghost use Rattle.text_core.specs.Reading.{past_comment};
+ghost use Rattle.ipt_rules.specs.Chain.{number_of, rule_count, user_chain};
+ghost use Rattle.ipt_read.specs.TextLines.{table_line_of, policy_word, built_in_policy, with_built_in, declare, declare_by, chain_line_of, with_read_rule, commit_line_of, body_line_of, line_at, line_of_words, line_step, nothing_said, line_of};
+ghost use Rattle.ipt_read.specs.RuleLine.{rule_line_of};
+ghost use Rattle.ipt_read.specs.State.{said_of, AnswersTo, IsFine};
+
+use crate::fault::{IptFault, IptWhy, refused};
+use crate::rule_line::{is_count, rule_line_of};
+use crate::stage::Stage;
+use ipt_rules::{ChainName, Chains, Policy, Rule};
+use std::alloc::{AllocError, Global};
+use text_core::{Words, begins_with, is_comment};
+
+const CHAIN_LIMIT: usize = 4096;
+
+const RULE_LIMIT: u32 = 1_000_000;
+
+/// What the lines have said: for each chain the line of its chain line, 0 where it has none yet.
+#[derive(Drop)]
+pub(crate) struct Reader {
+    pub(crate) stage: Stage,
+    pub(crate) chains: Chains,
+    pub(crate) declared: Vec<u32>,
+    pub(crate) rules: u32,
+}
+
+fn table_line(mut state: Reader, n: u32, word: &[u8], mut rest: Words) -> Result<Reader, IptFault>
+    ensures { AnswersTo n (table_line_of (said_of state) word.now rest.entry) result }
+{
+    if !begins_with(word, b'*') {
+        return Err(refused(n, IptWhy::BadLine));
+    }
+    if word != b"*filter".as_slice() {
+        return Err(refused(n, IptWhy::OtherTable));
+    }
+    if rest.next_word().is_some() {
+        return Err(refused(n, IptWhy::BadLine));
+    }
+    state.stage = Stage::Table;
+    Ok(state)
+}
+
+fn policy_word<'a>(mut rest: Words<'a>) -> Option<&'a [u8]>
+    ensures { option_map (λ word. word.now) result ≡ policy_word rest.entry }
+{
+    let policy = rest.next_word()?;
+    let Some(count) = rest.next_word() else {
+        return Some(policy);
+    };
+    if rest.next_word().is_some() {
+        return None;
+    }
+    if !is_count(count) {
+        return None;
+    }
+    Some(policy)
+}
+
+fn built_in_policy(word: &[u8]) -> Option<Policy>
+    ensures { result ≡ built_in_policy word.now }
+{
+    if word == b"ACCEPT".as_slice() {
+        return Some(Policy::Accept);
+    }
+    if word == b"DROP".as_slice() {
+        return Some(Policy::Drop);
+    }
+    None
+}
+
+fn with_built_in(
+    mut state: Reader,
+    n: u32,
+    chain: u16,
+    policy: Option<Policy>,
+) -> Result<Reader, IptFault>
+    requires { chain < length state.declared.items }
+    ensures { AnswersTo n (with_built_in n (said_of state) chain policy) result }
+{
+    let Some(policy) = policy else {
+        return Err(refused(n, IptWhy::BadChain));
+    };
+    if chain >= 3 || state.declared[chain as usize] != 0 {
+        return Err(refused(n, IptWhy::BadChain));
+    }
+    state.chains.set_policy(chain, policy);
+    state.declared[chain as usize] = n;
+    Ok(state)
+}
+
+fn with_user_chain(
+    mut state: Reader,
+    n: u32,
+    name: &[u8],
+    policy: &[u8],
+) -> Result<Reader, IptFault>
+    requires unused { number_of state.chains name.now ≡ None }
+    requires few { length state.chains ≤ 4096 }
+    requires numbered { length state.declared.items ≡ length state.chains }
+    ensures { AnswersTo n (declare n (said_of state) name.now policy.now None) result }
+{
+    let Some(name) = ChainName::new(name) else {
+        return Err(refused(n, IptWhy::BadChain));
+    };
+    if policy != b"-".as_slice() {
+        return Err(refused(n, IptWhy::BadChain));
+    }
+    if state.declared.len() >= CHAIN_LIMIT {
+        return Err(refused(n, IptWhy::TooMany));
+    }
+    match add_chain(state, n, name) {
+        Ok(state) => Ok(state),
+        Err(_) => Err(IptFault::Memory),
+    }
+}
+
+fn add_chain(mut state: Reader, n: u32, name: ChainName) -> Result<Reader, AllocError>
+    requires unused { number_of state.chains name ≡ None }
+    requires few { length state.chains < 4096 }
+    ensures { IfOk result (λ t. said_of t ≡ record (said_of state) { chains = state.chains ++ user_chain name ∷ []; declared = state.declared.items ++ n ∷ [] }) }
+{
+    state.declared.push(n)?;
+    state.chains.add(name)?;
+    Ok(state)
+}
+
+fn add_rule(mut state: Reader, n: u32, chain: u16, rule: Rule) -> Result<Reader, IptFault>
+    requires there { chain < length state.chains }
+    requires counted { state.rules ≡ rule_count state.chains }
+    ensures { AnswersTo n (with_read_rule (said_of state) (Ok (chain, rule))) result }
+{
+    if state.rules >= RULE_LIMIT {
+        return Err(refused(n, IptWhy::TooMany));
+    }
+    match state.chains.rule(chain, rule) {
+        Ok(()) => {}
+        Err(_) => return Err(IptFault::Memory),
+    }
+    state.rules += 1;
+    Ok(state)
+}
+
+#[tactic(auto, using(crate::proofs::WithinLaws::number_of_within))]
+fn declare(state: Reader, n: u32, name: &[u8], policy: &[u8]) -> Result<Reader, IptFault>
+    requires { IsFine (said_of state) }
+    ensures { AnswersTo n (declare n (said_of state) name.now policy.now (number_of state.chains name.now)) result }
+{
+    match state.chains.find(name) {
+        Some(chain) => with_built_in(state, n, chain, built_in_policy(policy)),
+        None => with_user_chain(state, n, name, policy),
+    }
+}
+
+#[tactic(auto, unfolding(crate::specs::TextLines::chain_line_of))]
+fn chain_line(state: Reader, n: u32, word: &[u8], rest: Words) -> Result<Reader, IptFault>
+    requires fine { IsFine (said_of state) }
+    requires word { 0 < length word.now }
+    ensures { AnswersTo n (chain_line_of n (said_of state) word.now rest.entry) result }
+{
+    match policy_word(rest) {
+        None => Err(refused(n, IptWhy::BadChain)),
+        Some(policy) => {
+            let (_, name) = word.split_at(1);
+            declare(state, n, name, policy)
+        }
+    }
+}
+
+#[tactic(auto, using(crate::proofs::WithinLaws::rule_line_within))]
+fn rule_line(state: Reader, n: u32, line: &[u8]) -> Result<Reader, IptFault>
+    requires { IsFine (said_of state) }
+    ensures { AnswersTo n (with_read_rule (said_of state) (rule_line_of state.chains (words line.now))) result }
+{
+    match rule_line_of(&state.chains, line) {
+        Ok((chain, rule)) => add_rule(state, n, chain, rule),
+        Err(why) => Err(refused(n, why)),
+    }
+}
+
+fn commit_line(mut state: Reader, n: u32, word: &[u8], mut rest: Words) -> Result<Reader, IptFault>
+    ensures { AnswersTo n (commit_line_of (said_of state) word.now rest.entry) result }
+{
+    if word != b"COMMIT".as_slice() {
+        return Err(refused(n, IptWhy::BadLine));
+    }
+    if rest.next_word().is_some() {
+        return Err(refused(n, IptWhy::BadLine));
+    }
+    state.stage = Stage::After;
+    Ok(state)
+}
+
+#[tactic(auto, unfolding(crate::specs::TextLines::body_line_of))]
+fn body_line(
+    state: Reader,
+    n: u32,
+    line: &[u8],
+    word: &[u8],
+    rest: Words,
+) -> Result<Reader, IptFault>
+    requires fine { IsFine (said_of state) }
+    requires whole { words line.now ≡ word.now ∷ rest }
+    ensures { AnswersTo n (body_line_of n (said_of state) word.now rest.entry) result }
+{
+    if begins_with(word, b':') {
+        return chain_line(state, n, word, rest);
+    }
+    if word == b"-A".as_slice() || begins_with(word, b'[') {
+        return rule_line(state, n, line);
+    }
+    commit_line(state, n, word, rest)
+}
+
+#[tactic(auto, unfolding(crate::specs::TextLines::line_of_words))]
+fn words_line(state: Reader, n: u32, line: &[u8]) -> Result<Reader, IptFault>
+    requires { IsFine (said_of state) }
+    ensures { AnswersTo n (line_step n (said_of state) line.now) result }
+{
+    let mut rest = Words::new(line);
+    let Some(word) = rest.next_word() else {
+        return Err(refused(n, IptWhy::BadLine));
+    };
+    match state.stage {
+        Stage::Front => table_line(state, n, word, rest),
+        Stage::Table => body_line(state, n, line, word, rest),
+        Stage::After => Err(refused(n, IptWhy::AfterCommit)),
+    }
+}
+
+/// One line more.
+pub(crate) fn read_line(state: Reader, n: u32, line: &[u8]) -> Result<Reader, IptFault>
+    requires { IsFine (said_of state) }
+    ensures { AnswersTo n (past_comment line_step n (said_of state) line.now) result }
+{
+    if is_comment(line) {
+        return Ok(state);
+    }
+    words_line(state, n, line)
+}
+
+/// The state in front of the first line.
+pub(crate) fn nothing_said(alloc: Global) -> Result<Reader, AllocError>
+    ensures { IfOk result (λ t. said_of t ≡ nothing_said) }
+{
+    let mut declared = Vec::new(alloc);
+    declared.push(0)?;
+    declared.push(0)?;
+    declared.push(0)?;
+    Ok(Reader {
+        stage: Stage::Front,
+        chains: Chains::new(alloc)?,
+        declared,
+        rules: 0,
+    })
+}

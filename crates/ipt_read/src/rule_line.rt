@@ -1,0 +1,192 @@
+//! Reading a rule line, word by word.
+
+ghost use Rattle.std.specs.Prelude.{◌≡◌, ◌<◌, ◌∷◌, [], IfOk, length};
+ghost use Rattle.std.specs.Char.{is_ascii_digit};
+ghost use Rattle.std.specs.List.{list_all};
+ghost use Rattle.text_core.specs.Lines.{words};
+ghost use Rattle.text_core.specs.Pieces.{split_once};
+ghost use Rattle.ipt_read.specs.declared.option.Place.TheVariants.{AtOption};
+ghost use Rattle.ipt_read.specs.RuleLine.{at_option, is_bang, word_step, at_end, word_by_word, nothing_given, target_by, rule_of, is_figure, is_nothing, is_bytes_part, is_packets_part, is_count, append_of, rule_line_of};
+
+use crate::fault::IptWhy;
+use crate::option::{Given, Opt, Place};
+use crate::table::{
+    is_given, is_interface, may_stand, option_of, quoted, takes_bang, value_refusal, with_value,
+};
+use ipt_rules::{Chains, Rule, Target};
+use text_core::{Words, begins_with, split_once};
+
+fn at_option(given: Given, negated: bool, option: Option<Opt>) -> Result<(Given, Place), IptWhy>
+    ensures { result ≡ at_option given negated option }
+{
+    let Some(option) = option else {
+        return Err(IptWhy::UnknownOption);
+    };
+    if !may_stand(given, option) {
+        return Err(IptWhy::UnknownOption);
+    }
+    if is_interface(option) {
+        return Err(IptWhy::Interface);
+    }
+    if (negated && !takes_bang(option)) || is_given(given, option) {
+        return Err(IptWhy::BadLine);
+    }
+    Ok((given, Place::AtValue(option, negated)))
+}
+
+#[tactic(auto, unfolding(crate::specs::RuleLine::is_bang))]
+fn is_bang(given: Given, word: &[u8]) -> bool
+    ensures { result ≡ is_bang given word.now }
+{
+    given.target.is_none() && word == b"!".as_slice()
+}
+
+#[tactic(auto, unfolding(crate::specs::RuleLine::word_step))]
+fn word_step(
+    chains: &Chains,
+    given: Given,
+    place: Place,
+    word: &[u8],
+) -> Result<(Given, Place), IptWhy>
+    ensures { result ≡ word_step chains.now given place word.now }
+{
+    match place {
+        Place::AtOption => {
+            if is_bang(given, word) {
+                return Ok((given, Place::AfterBang));
+            }
+            at_option(given, false, option_of(word))
+        }
+        Place::AfterBang => at_option(given, true, option_of(word)),
+        Place::AtValue(option, negated) => match with_value(chains, given, option, negated, word) {
+            Some(next) => Ok(next),
+            None => Err(value_refusal(option)),
+        },
+        Place::InText => match quoted(word) {
+            Some(place) => Ok((given, place)),
+            None => Err(IptWhy::BadValue),
+        },
+    }
+}
+
+fn at_end(given: Given, place: Place) -> Result<Given, IptWhy>
+    ensures { result ≡ at_end given place }
+{
+    match place {
+        Place::AtOption => Ok(given),
+        Place::AfterBang => Err(IptWhy::BadLine),
+        Place::AtValue(_, _) | Place::InText => Err(IptWhy::BadValue),
+    }
+}
+
+fn nothing_given() -> Given
+    ensures { result ≡ nothing_given }
+{
+    Given {
+        src: None,
+        dst: None,
+        state: None,
+        target: None,
+        logs: false,
+        conntrack: false,
+        states: false,
+        comments: false,
+    }
+}
+
+fn read_options(chains: &Chains, mut line: Words) -> Result<Given, IptWhy>
+    ensures { result ≡ word_by_word chains.now nothing_given AtOption line.entry }
+{
+    let mut given = nothing_given();
+    let mut place = Place::AtOption;
+    while let Some(word) = line.next_word() {
+        let (next_given, next_place) = word_step(chains, given, place, word)?;
+        given = next_given;
+        place = next_place;
+    }
+    at_end(given, place)
+}
+
+fn rule_of(given: Given) -> Rule
+    ensures { result ≡ rule_of given }
+{
+    Rule {
+        src: given.src,
+        dst: given.dst,
+        state: given.state,
+        target: given.target.unwrap_or(Target::Count),
+    }
+}
+
+fn is_figure(text: &[u8]) -> bool
+    ensures { result ≡ is_figure text.now }
+{
+    are_digits(text) && text.len() >= 1 && text.len() <= 20
+}
+
+fn are_digits(text: &[u8]) -> bool
+    ensures { result ≡ list_all is_ascii_digit text.now }
+{
+    text.iter().all(|byte| byte.is_ascii_digit())
+}
+
+fn is_bytes_part(text: &[u8]) -> bool
+    ensures { result ≡ is_bytes_part (split_once 93 text.now) }
+{
+    match split_once(text, b']') {
+        None => false,
+        Some((figure, rest)) => is_figure(figure) && rest.is_empty(),
+    }
+}
+
+#[tactic(auto, unfolding(crate::specs::RuleLine::is_count))]
+pub(crate) fn is_count(word: &[u8]) -> bool
+    ensures { result ≡ is_count word.now }
+{
+    let [b'[', rest @ ..] = word else {
+        return false;
+    };
+    match split_once(rest, b':') {
+        None => false,
+        Some((figure, rest)) => is_figure(figure) && is_bytes_part(rest),
+    }
+}
+
+fn append_of(chains: &Chains, first: &[u8], mut line: Words) -> Result<(u16, Rule), IptWhy>
+    ensures { result ≡ append_of chains.now (first.now ∷ line.entry) }
+{
+    let Some(name) = line.next_word() else {
+        return Err(IptWhy::BadLine);
+    };
+    if first != b"-A".as_slice() {
+        return Err(IptWhy::BadLine);
+    }
+    let Some(chain) = chains.find(name) else {
+        return Err(IptWhy::UnknownChain);
+    };
+    match read_options(chains, line) {
+        Ok(given) => Ok((chain, rule_of(given))),
+        Err(why) => Err(why),
+    }
+}
+
+/// The rule of a line, and the number of its chain.
+#[tactic(auto, unfolding(crate::specs::RuleLine::rule_line_of))]
+pub(crate) fn rule_line_of(chains: &Chains, line: &[u8]) -> Result<(u16, Rule), IptWhy>
+    ensures { result ≡ rule_line_of chains.now (words line.now) }
+{
+    let mut words = Words::new(line);
+    let Some(first) = words.next_word() else {
+        return Err(IptWhy::BadLine);
+    };
+    if !begins_with(first, b'[') {
+        return append_of(chains, first, words);
+    }
+    if !is_count(first) {
+        return Err(IptWhy::BadLine);
+    }
+    let Some(second) = words.next_word() else {
+        return Err(IptWhy::BadLine);
+    };
+    append_of(chains, second, words)
+}

@@ -1,0 +1,286 @@
+//! The table of options: how each is written, where it may stand, and what its value says.
+
+ghost use Rattle.std.specs.Prelude.{◌≡◌, ◌<◌, ◌==◌, IfSome, Option, List, ℕ, length, false, bytes_eq, slice_index_or};
+ghost use Rattle.std.specs.List.{list_all, list_any};
+ghost use Rattle.ipt_rules.specs.Chain.{number_of};
+ghost use Rattle.ipt_read.specs.Options.{option_of, may_stand, is_interface, takes_bang, is_given, closes, quoted, text_of, is_state, listed, states_of, jump_to, target_of, with_module, with_value, value_refusal, rejects};
+
+use crate::fault::IptWhy;
+use crate::option::{Given, Opt, Place};
+use host_net::read_prefix;
+use ipt_rules::{AddrMatch, Chains, StateMatch, Target};
+
+#[tactic(auto, unfolding(crate::specs::Options::option_of))]
+pub(crate) fn option_of(word: &[u8]) -> Option<Opt>
+    ensures { result ≡ option_of word.now }
+{
+    if word == b"-s".as_slice() {
+        return Some(Opt::Source);
+    }
+    if word == b"-d".as_slice() {
+        return Some(Opt::Destination);
+    }
+    if word == b"-i".as_slice() {
+        return Some(Opt::Interface);
+    }
+    if word == b"-o".as_slice() {
+        return Some(Opt::Interface);
+    }
+    if word == b"-m".as_slice() {
+        return Some(Opt::Module);
+    }
+    if word == b"--ctstate".as_slice() {
+        return Some(Opt::CtState);
+    }
+    if word == b"--state".as_slice() {
+        return Some(Opt::State);
+    }
+    if word == b"--comment".as_slice() {
+        return Some(Opt::Comment);
+    }
+    if word == b"-j".as_slice() {
+        return Some(Opt::Jump);
+    }
+    if word == b"--reject-with".as_slice() {
+        return Some(Opt::RejectWith);
+    }
+    if word == b"--log-prefix".as_slice() {
+        return Some(Opt::LogPrefix);
+    }
+    if word == b"--log-level".as_slice() {
+        return Some(Opt::LogLevel);
+    }
+    None
+}
+
+fn rejects(target: Option<Target>) -> bool
+    ensures { result ≡ rejects target }
+{
+    matches!(target, Some(Target::Reject))
+}
+
+pub(crate) fn may_stand(given: Given, option: Opt) -> bool
+    ensures { result ≡ may_stand given option }
+{
+    match option {
+        Opt::CtState => given.target.is_none() && given.conntrack,
+        Opt::State => given.target.is_none() && given.states,
+        Opt::Comment => given.target.is_none() && given.comments,
+        Opt::RejectWith => rejects(given.target),
+        Opt::LogPrefix | Opt::LogLevel => given.logs,
+        Opt::Source | Opt::Destination | Opt::Interface | Opt::Module | Opt::Jump => {
+            given.target.is_none()
+        }
+    }
+}
+
+pub(crate) fn is_interface(option: Opt) -> bool
+    ensures { result ≡ is_interface option }
+{
+    matches!(option, Opt::Interface)
+}
+
+pub(crate) fn takes_bang(option: Opt) -> bool
+    ensures { result ≡ takes_bang option }
+{
+    matches!(
+        option,
+        Opt::Source | Opt::Destination | Opt::CtState | Opt::State
+    )
+}
+
+pub(crate) fn is_given(given: Given, option: Opt) -> bool
+    ensures { result ≡ is_given given option }
+{
+    match option {
+        Opt::Source => given.src.is_some(),
+        Opt::Destination => given.dst.is_some(),
+        Opt::CtState | Opt::State => given.state.is_some(),
+        _ => false,
+    }
+}
+
+fn closes(rest: &[u8]) -> Option<Place>
+    ensures { result ≡ closes rest.now }
+{
+    match rest {
+        [] => Some(Place::AtOption),
+        [_, ..] => None,
+    }
+}
+
+pub(crate) fn quoted(text: &[u8]) -> Option<Place>
+    ensures { result ≡ quoted false text.now }
+{
+    let mut taken = false;
+    for i in 0..text.len() {
+        let byte = text[i];
+        if !taken && byte == b'"' {
+            return closes(&text[i + 1..]);
+        }
+        taken = !taken && byte == b'\\';
+    }
+    Some(Place::InText)
+}
+
+#[tactic(auto, unfolding(crate::specs::Options::text_of))]
+fn text_of(word: &[u8]) -> Option<Place>
+    ensures { result ≡ text_of word.now }
+{
+    match word {
+        [b'"', rest @ ..] => quoted(rest),
+        _ => Some(Place::AtOption),
+    }
+}
+
+#[tactic(auto, unfolding(crate::specs::Options::is_state))]
+fn is_state(word: &[u8]) -> bool
+    ensures { result ≡ is_state word.now }
+{
+    word == b"NEW".as_slice()
+        || word == b"ESTABLISHED".as_slice()
+        || word == b"RELATED".as_slice()
+        || word == b"INVALID".as_slice()
+        || word == b"UNTRACKED".as_slice()
+        || word == b"SNAT".as_slice()
+        || word == b"DNAT".as_slice()
+}
+
+fn lists_states(word: &[u8]) -> bool
+    ensures { result ≡ list_all is_state (listed word.now) }
+{
+    word.split(|b| *b == b',').all(|part| is_state(part))
+}
+
+fn lists(word: &[u8], name: &[u8]) -> bool
+    ensures { result ≡ list_any (λ w. bytes_eq w name.now) (listed word.now) }
+{
+    word.split(|b| *b == b',').any(|part| part == name)
+}
+
+#[tactic(auto, unfolding(crate::specs::Options::states_of))]
+fn states_of(word: &[u8]) -> Option<(bool, bool)>
+    ensures { result ≡ states_of word.now }
+{
+    if !lists_states(word) {
+        return None;
+    }
+    Some((lists(word, b"NEW"), lists(word, b"ESTABLISHED")))
+}
+
+fn jump_to(chain: Option<u16>) -> Option<Target>
+    ensures { result ≡ jump_to chain }
+{
+    match chain {
+        Some(chain) if chain >= 3 => Some(Target::Jump(chain)),
+        _ => None,
+    }
+}
+
+#[tactic(auto, unfolding(crate::specs::Options::target_of))]
+fn target_of(chains: &Chains, word: &[u8]) -> Option<(Target, bool)>
+    ensures { result ≡ target_of chains.now word.now }
+{
+    if word == b"ACCEPT".as_slice() {
+        return Some((Target::Accept, false));
+    }
+    if word == b"DROP".as_slice() {
+        return Some((Target::Drop, false));
+    }
+    if word == b"REJECT".as_slice() {
+        return Some((Target::Reject, false));
+    }
+    if word == b"RETURN".as_slice() {
+        return Some((Target::Return, false));
+    }
+    if word == b"LOG".as_slice() {
+        return Some((Target::Count, true));
+    }
+    let target = jump_to(chains.find(word))?;
+    Some((target, false))
+}
+
+#[tactic(auto, unfolding(crate::specs::Options::with_module))]
+fn with_module(given: Given, word: &[u8]) -> Option<Given>
+    ensures { result ≡ with_module given word.now }
+{
+    if word == b"conntrack".as_slice() {
+        return Some(Given {
+            conntrack: true,
+            ..given
+        });
+    }
+    if word == b"state".as_slice() {
+        return Some(Given {
+            states: true,
+            ..given
+        });
+    }
+    if word == b"comment".as_slice() {
+        return Some(Given {
+            comments: true,
+            ..given
+        });
+    }
+    None
+}
+
+/// What is given after an option's value, and where the next word stands.
+#[tactic(auto, unfolding(crate::specs::Options::with_value))]
+pub(crate) fn with_value(
+    chains: &Chains,
+    given: Given,
+    option: Opt,
+    negated: bool,
+    word: &[u8],
+) -> Option<(Given, Place)>
+    ensures { result ≡ with_value chains.now given option negated word.now }
+{
+    match option {
+        Opt::Source => {
+            let prefix = read_prefix(word)?;
+            let src = Some(AddrMatch { prefix, negated });
+            Some((Given { src, ..given }, Place::AtOption))
+        }
+        Opt::Destination => {
+            let prefix = read_prefix(word)?;
+            let dst = Some(AddrMatch { prefix, negated });
+            Some((Given { dst, ..given }, Place::AtOption))
+        }
+        Opt::Interface => None,
+        Opt::Module => Some((with_module(given, word)?, Place::AtOption)),
+        Opt::CtState | Opt::State => {
+            let (new, established) = states_of(word)?;
+            let state = Some(StateMatch {
+                new,
+                established,
+                negated,
+            });
+            Some((Given { state, ..given }, Place::AtOption))
+        }
+        Opt::Comment | Opt::LogPrefix => Some((given, text_of(word)?)),
+        Opt::Jump => {
+            let (target, logs) = target_of(chains, word)?;
+            let target = Some(target);
+            Some((
+                Given {
+                    target,
+                    logs,
+                    ..given
+                },
+                Place::AtOption,
+            ))
+        }
+        Opt::RejectWith | Opt::LogLevel => Some((given, Place::AtOption)),
+    }
+}
+
+pub(crate) fn value_refusal(option: Opt) -> IptWhy
+    ensures { result ≡ value_refusal option }
+{
+    match option {
+        Opt::Module => IptWhy::UnknownOption,
+        Opt::Jump => IptWhy::UnknownTarget,
+        _ => IptWhy::BadValue,
+    }
+}

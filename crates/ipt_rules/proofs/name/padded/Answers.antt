@@ -1,6 +1,0 @@
-use Rattle.std.proofs.Common.{◌++◌, length, ap}
-use Rattle.std.proofs.lemmas.List.{drop-replicate}
-use Rattle.ipt_rules.proofs.name.padded.Goals as goal
-
-pub returns : goal.returns
-returns c = rw c.copy_from_slice.ensures.after (ap (λ xs. c.args.text.now ++ xs) (drop-replicate (length c.args.text.now) 64 0))

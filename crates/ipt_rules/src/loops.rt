@@ -1,0 +1,101 @@
+//! Which chain jumps lead back to: a search from each chain in turn.
+
+ghost use Rattle.std.specs.Prelude.{◌≡◌, ◌<◌, ◌≤◌, ◌↔◌, ℕ, All, length, IsTrue, IfOk, IfSome, IfNone, None};
+ghost use Rattle.ipt_rules.specs.Loops.{Leads};
+ghost use Rattle.ipt_rules.specs.Build.{refusal_of};
+ghost use Rattle.ipt_rules.specs.Ranked.{IsRanked};
+ghost use Rattle.ipt_rules.specs.Ranks.{row_of, IsOrder, Visits};
+
+use crate::chain::Chain;
+use crate::jumps::JumpTable;
+use crate::ranking::{Ranking, place_of, ranking_of};
+use std::alloc::{AllocError, Global};
+
+/// An order of the chains in which each jump goes back; or the least chain to which jumps lead back.
+#[derive(Drop)]
+pub(crate) enum Ranked {
+    Order(Ranking),
+    Loop(u16),
+}
+
+/// Marks the chains that were not, and keeps them to be gone on from.
+fn visit(row: &[u16], seen: &mut Vec<bool>, left: &mut Vec<u16>) -> Result<(), AllocError>
+    requires inside { All (λ d. d < length seen.old.items) row.now }
+    ensures { IfOk result (λ _. Visits row.now seen.old.items left.old.items seen.new.items left.new.items) }
+{
+    for chain in row {
+        if !seen[*chain as usize] {
+            seen[*chain as usize] = true;
+            left.push(*chain)?;
+        }
+    }
+    Ok(())
+}
+
+/// Whether jumps lead from the chain back to it.
+fn leads_back(alloc: Global, table: &JumpTable, chain: usize) -> Result<bool, AllocError>
+    requires there { chain < length table.now }
+    requires inside { (c : ℕ) → All (λ d. d < length table.now) (row_of table.now c) }
+    ensures { IfOk result (λ back. IsTrue back ↔ Leads (row_of table.now) chain chain) }
+{
+    let mut seen = vec![in alloc; false; table.len()]?;
+    let mut left = Vec::new(alloc);
+    visit(table.row(chain), &mut seen, &mut left)?;
+    while let Some(next) = left.pop() {
+        visit(table.row(next as usize), &mut seen, &mut left)?;
+    }
+    Ok(seen[chain])
+}
+
+/// The same; a chain that has a place in the order needs no search.
+fn comes_back(
+    alloc: Global,
+    table: &JumpTable,
+    ranking: &Ranking,
+    chain: usize,
+) -> Result<bool, AllocError>
+    requires few { length table.now ≤ 4096 }
+    requires there { chain < length table.now }
+    requires inside { (c : ℕ) → All (λ d. d < length table.now) (row_of table.now c) }
+    requires order { IsOrder (row_of table.now) (length table.now) ranking.now.order.items ranking.now.places.items }
+    ensures { IfOk result (λ back. IsTrue back ↔ Leads (row_of table.now) chain chain) }
+{
+    if place_of(&ranking.places, chain as u16).is_some() {
+        return Ok(false);
+    }
+    leads_back(alloc, table, chain)
+}
+
+/// The least chain from which jumps lead back to it.
+fn least_loop(
+    alloc: Global,
+    table: &JumpTable,
+    ranking: &Ranking,
+) -> Result<Option<u16>, AllocError>
+    requires few { length table.now ≤ 4096 }
+    requires inside { (c : ℕ) → All (λ d. d < length table.now) (row_of table.now c) }
+    requires order { IsOrder (row_of table.now) (length table.now) ranking.now.order.items ranking.now.places.items }
+    ensures back { IfOk result (λ found. IfSome found (λ c. Leads (row_of table.now) c c)) }
+    ensures least { IfOk result (λ found. IfSome found (λ c. (d : ℕ) → Leads (row_of table.now) d d → c ≤ d)) }
+    ensures none { IfOk result (λ found. IfNone found ((d : ℕ) → Leads (row_of table.now) d d → ⊥)) }
+{
+    for chain in 0..table.len() {
+        if comes_back(alloc, table, ranking, chain)? {
+            return Ok(Some(chain as u16));
+        }
+    }
+    Ok(None)
+}
+
+/// An order of the chains, which there is where no jumps lead back.
+pub(crate) fn rank_chains(alloc: Global, chains: &[Chain]) -> Result<Ranked, AllocError>
+    requires { refusal_of chains.now ≡ None }
+    ensures { IfOk result (λ ranked. IsRanked chains.now ranked) }
+{
+    let table = JumpTable::of(alloc, chains)?;
+    let ranking = ranking_of(alloc, &table)?;
+    match least_loop(alloc, &table, &ranking)? {
+        Some(chain) => Ok(Ranked::Loop(chain)),
+        None => Ok(Ranked::Order(ranking)),
+    }
+}

@@ -1,0 +1,25 @@
+-- The matching entry of the highest priority, found in one pass.
+use Rattle.std.specs.Prelude.{ℕ, Bool, true, ◌&&◌, nat_lt, if◌then◌else◌, List, Option, Some, None}
+use Rattle.host_net.specs.declared.packet.Verdict.{Verdict}
+use Rattle.host_net.specs.declared.packet.Verdict.TheVariants.{Drop as Dropped}
+use Rattle.ofp_rules.specs.declared.entry.Frame.{Frame}
+use Rattle.ofp_rules.specs.declared.entry.Entry.{Entry}
+use Rattle.ofp_rules.specs.Matching.{matches}
+use Rattle.ofp_rules.specs.Meaning.{IsHighest, MatchesNone, verdict_of}
+
+-- one of the highest that match, or none where none matches
+abbrev pub IsFound : List Entry → Frame → Option Entry → Type 0
+IsFound entries frame None = MatchesNone entries frame
+IsFound entries frame (Some e) = IsHighest entries frame e
+
+abbrev pub is_above : ℕ → Option Entry → Bool
+is_above priority None = true
+is_above priority (Some e) = nat_lt e.priority priority
+
+-- what is found with one more entry
+abbrev pub higher : Frame → Option Entry → Entry → Option Entry
+higher frame found e = if matches frame e && is_above e.priority found then Some e else found
+
+abbrev pub verdict_by : Option Entry → Verdict
+verdict_by None = Dropped
+verdict_by (Some e) = verdict_of e.action

@@ -1,0 +1,29 @@
+-- Whether two entries match some one frame, told by their kinds and prefixes.
+use Rattle.std.specs.Prelude.{ℕ, Bool, true, false, ◌&&◌, Option, Some, None}
+use Rattle.host_net.specs.declared.prefix.Prefix.{Prefix}
+use Rattle.host_net.specs.Prefix.{meets}
+use Rattle.ofp_rules.specs.declared.entry.FrameKind.{FrameKind}
+use Rattle.ofp_rules.specs.declared.entry.FrameKind.TheVariants.{Any, Arp, Ip}
+use Rattle.ofp_rules.specs.declared.entry.Entry.{Entry}
+
+-- the address of a prefix, and any where none is given
+abbrev pub address_in : Option Prefix → ℕ
+address_in None = 0
+address_in (Some prefix) = prefix.addr
+
+abbrev pub parts_meet : Option Prefix → Option Prefix → Bool
+parts_meet None part = true
+parts_meet (Some p) None = true
+parts_meet (Some p) (Some q) = meets p q
+
+abbrev pub kinds_meet : FrameKind → FrameKind → Bool → Bool
+kinds_meet Any other parts = true
+kinds_meet Arp Any parts = true
+kinds_meet Arp Arp parts = true
+kinds_meet Arp Ip parts = false
+kinds_meet Ip Any parts = true
+kinds_meet Ip Arp parts = false
+kinds_meet Ip Ip parts = parts
+
+abbrev pub entries_meet : Entry → Entry → Bool
+entries_meet e f = kinds_meet e.kind f.kind (parts_meet e.src f.src && parts_meet e.dst f.dst)

@@ -1,0 +1,13 @@
+//! Flow tables of OpenFlow: entries, what becomes of a frame, and the text that `ovs-ofctl` loads.
+#![tactic(auto)]
+
+mod entry;
+mod meeting;
+mod table;
+mod text;
+
+pub use entry::{Action, Entry, Frame, FrameKind};
+pub use table::{Table, TableRefusal};
+
+#[cfg(test)]
+mod tests;

@@ -1,0 +1,104 @@
+//! The text of a small table, verdicts, and refusals, with values worked out by hand.
+
+ghost use Rattle.std.specs.Prelude.{◌≡◌, ◌<◌, ◌^◌, length, IsTrue};
+ghost use Rattle.std.specs.List.{list_all};
+ghost use Rattle.ofp_rules.specs.Matching.{asks_of_ip};
+
+use crate::{Action, Entry, Frame, FrameKind, Table, TableRefusal};
+use host_net::{Packet, Prefix, Verdict, read_prefix};
+use std::alloc::Global;
+use std::process::Abort;
+
+fn ip(priority: u16, src: Option<Prefix>, dst: Option<Prefix>, action: Action) -> Entry
+    ensures { IsTrue (asks_of_ip result) }
+{
+    Entry {
+        priority,
+        kind: FrameKind::Ip,
+        src,
+        dst,
+        action,
+    }
+}
+
+fn of(priority: u16, kind: FrameKind, action: Action) -> Entry
+    ensures { IsTrue (asks_of_ip result) }
+{
+    Entry {
+        priority,
+        kind,
+        src: None,
+        dst: None,
+        action,
+    }
+}
+
+// A table of three entries, in this order.
+#[tactic(auto, using(std::proofs::lemmas::Bool::and_from))]
+fn three(
+    rt: &impl Abort,
+    alloc: Global,
+    a: Entry,
+    b: Entry,
+    c: Entry,
+) -> Result<Table, TableRefusal>
+    requires a { IsTrue (asks_of_ip a) }
+    requires b { IsTrue (asks_of_ip b) }
+    requires c { IsTrue (asks_of_ip c) }
+{
+    Table::build(alloc, vec![in alloc; a, b, c].expect(rt, "memory"))
+}
+
+const TEXT: &[u8] = b"priority=40,ip,nw_src=10.0.0.1/32,nw_dst=10.0.0.2/32,actions=NORMAL
+priority=20,arp,actions=NORMAL
+priority=0,actions=drop
+";
+
+#[test]
+fn a_small_table(rt: HostRuntime) {
+    let pair = ip(
+        40,
+        read_prefix(b"10.0.0.1"),
+        read_prefix(b"10.0.0.2"),
+        Action::Normal,
+    );
+    let arp = of(20, FrameKind::Arp, Action::Normal);
+    let rest = of(0, FrameKind::Any, Action::Drop);
+    let Ok(table) = three(&rt, rt.alloc(), pair, arp, rest) else {
+        panic!(rt; "a table");
+    };
+    let mut text = Vec::new(rt.alloc());
+    let mut buffer = [0; 256];
+    for i in 0..table.lines() {
+        let end = table.write_line(i, &mut buffer);
+        text.extend_from_slice(&buffer[..end]).expect(&rt, "memory");
+    }
+    assert_eq!(rt; *text, *TEXT);
+    let there = Packet {
+        src: 167772161,
+        dst: 167772162,
+        proto: 6,
+        sport: 40000,
+        dport: 80,
+    };
+    assert_eq!(rt; table.verdict(&Frame::Ipv4(there)), Verdict::Forward);
+    assert_eq!(rt; table.verdict(&Frame::Ipv4(there.swap())), Verdict::Drop);
+}
+
+#[test]
+fn ambiguous_entries(rt: HostRuntime) {
+    let from = ip(10, read_prefix(b"10.0.0.0/8"), None, Action::Normal);
+    let to = ip(10, None, read_prefix(b"10.0.0.0/8"), Action::Drop);
+    let apart = ip(10, read_prefix(b"11.0.0.0/8"), None, Action::Drop);
+    let higher = ip(11, read_prefix(b"10.0.0.0/8"), None, Action::Drop);
+    let arp = of(10, FrameKind::Arp, Action::Drop);
+    assert_eq!(rt;
+        three(&rt, rt.alloc(), apart, from, to).err(),
+        Some(TableRefusal::Ambiguous {
+            first: 1,
+            second: 2
+        })
+    );
+    assert!(rt; three(&rt, rt.alloc(), apart, higher, from).is_ok());
+    assert!(rt; three(&rt, rt.alloc(), arp, higher, from).is_ok());
+}

@@ -1,0 +1,93 @@
+//! The text of a table, written line by line into a buffer and without memory.
+
+ghost use Rattle.std.specs.Prelude.{◌≡◌, ◌<◌, ◌≤◌, ◌++◌, length, take, slice_get, Some};
+ghost use Rattle.text_core.specs.Line.{cut};
+ghost use Rattle.ofp_rules.specs.Meaning.{IsTable};
+ghost use Rattle.ofp_rules.specs.Text.{action_text, entry_line, kind_text, part_text, text_lines};
+
+use crate::entry::{Action, Entry, FrameKind};
+use crate::table::Table;
+use host_net::{Prefix, put_prefix};
+use text_core::{put, put_number};
+
+impl Table {
+    /// How many lines the text has.
+    pub fn lines(&self) -> u32
+        ensures count { result ≡ length (text_lines self.now) }
+        ensures table { IsTable self.now }
+    {
+        self.entries.len() as u32
+    }
+
+    /// Writes line `i` of the text, from 0, with its newline to the front of the buffer, and
+    /// answers its length. What the buffer holds after it is left open.
+    pub fn write_line(&self, i: u32, buffer: &mut [u8; 256]) -> usize
+        requires { i < length (text_lines self.now) }
+        ensures line { slice_get (text_lines self.now) i ≡ Some (take result buffer.new) }
+        ensures short { result ≤ 86 }
+    {
+        write_line_at(&self.entries, i, buffer)
+    }
+}
+
+fn write_line_at(entries: &[Entry], i: u32, buffer: &mut [u8; 256]) -> usize
+    requires { i < length (text_lines entries.now) }
+    ensures line { slice_get (text_lines entries.now) i ≡ Some (take result buffer.new) }
+    ensures short { result ≤ 86 }
+{
+    write_entry_line(entries[i as usize], buffer)
+}
+
+fn write_entry_line(entry: Entry, buffer: &mut [u8; 256]) -> usize
+    ensures line { take result buffer.new ≡ entry_line entry }
+    ensures short { result ≤ 86 }
+{
+    let name = put(buffer, 0, b"priority=");
+    let priority = put_number(buffer, name, entry.priority as u64);
+    let comma = put(buffer, priority, b",");
+    let kind = put_kind(buffer, comma, entry.kind);
+    let src = put_part(buffer, kind, b"nw_src=", entry.src);
+    let dst = put_part(buffer, src, b"nw_dst=", entry.dst);
+    let action = put_action(buffer, dst, entry.action);
+    put(buffer, action, b"\n")
+}
+
+#[tactic(auto, using(text_core::specs::LineLaws::nothing_put))]
+fn put_kind(buffer: &mut [u8; 256], at: usize, kind: FrameKind) -> usize
+    requires { at ≤ 256 }
+    ensures text { take result buffer.new ≡ cut 256 (take at buffer.old ++ kind_text kind) }
+    ensures within { result ≤ 256 }
+{
+    match kind {
+        FrameKind::Any => at,
+        FrameKind::Arp => put(buffer, at, b"arp,"),
+        FrameKind::Ip => put(buffer, at, b"ip,"),
+    }
+}
+
+#[tactic(auto, using(text_core::specs::LineLaws::nothing_put))]
+fn put_part(buffer: &mut [u8; 256], at: usize, name: &[u8], part: Option<Prefix>) -> usize
+    requires { at ≤ 256 }
+    ensures text { take result buffer.new ≡ cut 256 (take at buffer.old ++ part_text name.now part) }
+    ensures within { result ≤ 256 }
+{
+    match part {
+        None => at,
+        Some(prefix) => {
+            let name = put(buffer, at, name);
+            let prefix = put_prefix(buffer, name, prefix);
+            put(buffer, prefix, b",")
+        }
+    }
+}
+
+fn put_action(buffer: &mut [u8; 256], at: usize, action: Action) -> usize
+    requires { at ≤ 256 }
+    ensures text { take result buffer.new ≡ cut 256 (take at buffer.old ++ action_text action) }
+    ensures within { result ≤ 256 }
+{
+    match action {
+        Action::Normal => put(buffer, at, b"actions=NORMAL"),
+        Action::Drop => put(buffer, at, b"actions=drop"),
+    }
+}

@@ -1,0 +1,194 @@
+//! Reading the text of a list of events: one line each, as
+//! `packet 10.0.0.1 10.0.0.2 tcp 1024 80` or `forget` with the same five words.
+
+ghost use Rattle.std.specs.Prelude.{◌≡◌, ◌≤◌, ◌<◌, ◌^◌, ◌+◌, ◌∷◌, [], ◌++◌, ℕ, List, Ok, Err, Some, IfOk, IfErr, OnOk, MatchResult, length};
+ghost use Rattle.text_core.specs.Lines.{lines, words};
+ghost use Rattle.text_core.specs.Reading.{after_line, line_by_line, past_comment};
+ghost use Rattle.pkt_core.specs.declared.event.Event.{Event};
+ghost use Rattle.pkt_core.specs.declared.events.EventWhy.{EventWhy};
+ghost use Rattle.pkt_core.specs.EventsText.{IsReading, IsRefused, HasCause, IsFault, Tells, event_step, with_event, event_of, event_by, packet_of, protocol_of};
+ghost use Rattle.pkt_core.specs.Filter.{ArePackets};
+
+use crate::event::Event;
+use host_net::{Packet, read_address};
+use std::alloc::Global;
+use text_core::{Lines, Words, is_comment, read_number};
+use thiserror::Error;
+
+const BYTE_LIMIT: usize = 16_777_216;
+
+const EVENT_LIMIT: usize = 1_000_000;
+
+/// Why a text tells no events.
+#[derive(Clone, Copy, Debug, PartialEq, Eq, Error)]
+pub enum EventWhy {
+    /// More than 16,777,216 bytes.
+    #[error("TooLong")]
+    TooLong,
+    /// Not six words, or a first word other than `packet` and `forget`.
+    #[error("BadLine")]
+    BadLine,
+    /// An address, a protocol or a port that is none.
+    #[error("BadValue")]
+    BadValue,
+    /// The 1,000,001st event.
+    #[error("TooMany")]
+    TooMany,
+}
+
+/// The first line that tells no event, from 1, and why; line 0 stands for the whole text.
+#[derive(Clone, Copy, Debug, PartialEq, Eq, Error)]
+pub enum EventFault {
+    #[error("line {line}: {why}")]
+    Refused { line: u32, why: EventWhy },
+    #[error("out of memory")]
+    Memory,
+}
+
+/// The events that a text tells.
+pub fn read_events(alloc: Global, bytes: &[u8]) -> Result<Vec<Event>, EventFault>
+    ensures found { IfOk result (λ events. IsReading bytes.now events.items) }
+    // A text that tells events is refused for want of memory alone.
+    ensures only { (told : List Event) → IsReading bytes.now told →
+        MatchResult result (λ events. events.items ≡ told) (λ fault. fault ≡ EventFault.Memory) }
+    ensures refused { IfErr result (HasCause bytes.now) }
+    // A text has one first fault at most, and none where it tells events.
+    ensures faulty { (line : ℕ) (why : EventWhy) → IsRefused bytes.now line why →
+        MatchResult result (λ events. ⊥) (IsFault line why) }
+    ensures packets { IfOk result (λ events. ArePackets events.items) }
+{
+    if bytes.len() > BYTE_LIMIT {
+        return Err(EventFault::Refused {
+            line: 0,
+            why: EventWhy::TooLong,
+        });
+    }
+    read_lines(alloc, bytes)
+}
+
+fn read_lines(alloc: Global, bytes: &[u8]) -> Result<Vec<Event>, EventFault>
+    requires { length bytes.now ≤ 16777216 }
+    ensures ok { IfOk result (λ events. line_by_line event_step 1 [] (lines bytes.now) ≡ Ok events.items) }
+    ensures err { IfErr result (Tells (line_by_line event_step 1 [] (lines bytes.now))) }
+{
+    let mut lines = Lines::new(bytes);
+    let mut events = Vec::new(alloc);
+    let mut line = 0;
+    while let Some(text) = lines.next_line() {
+        line += 1;
+        read_line(&mut events, line, text)?;
+    }
+    Ok(events)
+}
+
+/// One line more.
+fn read_line(events: &mut Vec<Event>, line: u32, text: &[u8]) -> Result<(), EventFault>
+    ensures ok { OnOk result (past_comment event_step line events.old.items text.now ≡ Ok events.new.items) }
+    ensures err { IfErr result (Tells (after_line line (past_comment event_step line events.old.items text.now) (λ t. Ok t))) }
+{
+    if is_comment(text) {
+        return Ok(());
+    }
+    match read_event(text) {
+        Ok(event) => add_event(events, line, event),
+        Err(why) => Err(EventFault::Refused { line, why }),
+    }
+}
+
+fn add_event(events: &mut Vec<Event>, line: u32, event: Event) -> Result<(), EventFault>
+    ensures ok { OnOk result (with_event events.old.items (Ok event) ≡ Ok events.new.items) }
+    ensures err { IfErr result (Tells (after_line line (with_event events.old.items (Ok event)) (λ t. Ok t))) }
+{
+    if events.len() >= EVENT_LIMIT {
+        return Err(EventFault::Refused {
+            line,
+            why: EventWhy::TooMany,
+        });
+    }
+    match events.push(event) {
+        Ok(()) => Ok(()),
+        Err(_) => Err(EventFault::Memory),
+    }
+}
+
+#[tactic(auto, unfolding(crate::specs::EventsText::event_of))]
+fn read_event(line: &[u8]) -> Result<Event, EventWhy>
+    ensures { result ≡ event_of (words line.now) }
+{
+    let mut words = Words::new(line);
+    let Some(verb) = words.next_word() else {
+        return Err(EventWhy::BadLine);
+    };
+    let Some(src) = words.next_word() else {
+        return Err(EventWhy::BadLine);
+    };
+    let Some(dst) = words.next_word() else {
+        return Err(EventWhy::BadLine);
+    };
+    let Some(protocol) = words.next_word() else {
+        return Err(EventWhy::BadLine);
+    };
+    let Some(sport) = words.next_word() else {
+        return Err(EventWhy::BadLine);
+    };
+    let Some(dport) = words.next_word() else {
+        return Err(EventWhy::BadLine);
+    };
+    if words.next_word().is_some() {
+        return Err(EventWhy::BadLine);
+    }
+    event_by(verb, read_packet(src, dst, protocol, sport, dport))
+}
+
+#[tactic(auto, unfolding(crate::specs::EventsText::event_by))]
+fn event_by(verb: &[u8], packet: Option<Packet>) -> Result<Event, EventWhy>
+    ensures { result ≡ event_by verb.now packet }
+{
+    if verb == b"packet".as_slice() {
+        return match packet {
+            Some(packet) => Ok(Event::Seen(packet)),
+            None => Err(EventWhy::BadValue),
+        };
+    }
+    if verb == b"forget".as_slice() {
+        return match packet {
+            Some(packet) => Ok(Event::Forget(packet)),
+            None => Err(EventWhy::BadValue),
+        };
+    }
+    Err(EventWhy::BadLine)
+}
+
+#[tactic(auto, unfolding(crate::specs::EventsText::packet_of))]
+fn read_packet(
+    src: &[u8],
+    dst: &[u8],
+    protocol: &[u8],
+    sport: &[u8],
+    dport: &[u8],
+) -> Option<Packet>
+    ensures { result ≡ packet_of src.now dst.now protocol.now sport.now dport.now }
+{
+    Some(Packet {
+        src: read_address(src)?,
+        dst: read_address(dst)?,
+        proto: read_protocol(protocol)?,
+        sport: read_number(65535, sport)? as u16,
+        dport: read_number(65535, dport)? as u16,
+    })
+}
+
+fn read_protocol(word: &[u8]) -> Option<u8>
+    ensures { result ≡ protocol_of word.now }
+{
+    if word == b"icmp".as_slice() {
+        return Some(1);
+    }
+    if word == b"tcp".as_slice() {
+        return Some(6);
+    }
+    if word == b"udp".as_slice() {
+        return Some(17);
+    }
+    Some(read_number(255, word)? as u8)
+}
