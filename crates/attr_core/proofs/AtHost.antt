@@ -20,7 +20,7 @@ pub grown_at : {A D : Type 0} (step : A → D → Option A) (xs : List A) (i : �
 grown_at step xs i x d e es within is =
     begun_at step xs i x d es within ∙ ap (λ o. option_map (slice_set xs i) (option_and_then (λ y. grow step y es) o)) (sym is)
 
--- the elements from one on are that one and those behind it
+-- the elements from one on are that one and those after it
 pub rest_from : {V D : Type 0} (f : V → D) (vs : List V) (j : ℕ) (v : V) → j < length vs → v ≡ get_or vs j v → f v ∷ map f (drop (j + 1) vs) ≡ map f (drop j vs)
 rest_from f vs j v within is =
     let next : j + 1 ≡ suc j = omega arith in

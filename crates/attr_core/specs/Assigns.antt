@@ -33,8 +33,8 @@ with_attribute attribute attributes a = option_map (slice_set attributes a.host)
 abbrev pub attributes : {A : Type 0} → (Given → Option A) → A → ℕ → List Given → Result (List A) ℕ
 attributes attribute default n assigns = in_turn (with_attribute attribute) 0 (replicate n default) assigns
 
--- what a call gave is what the definition says; want of memory may come at any time instead
-abbrev pub Gives : {A : Type 0} → Result A AttrFault → Result A ℕ → Type 0
-Gives (Ok x) said = said ≡ Ok x
-Gives (Err (BadAttribute assign)) said = said ≡ Err assign
-Gives (Err Memory) said = Unit {0}
+-- what a call gave is what the definition says; memory may run out instead at any time
+abbrev pub Reads : {A : Type 0} → Result A AttrFault → Result A ℕ → Type 0
+Reads (Ok x) said = said ≡ Ok x
+Reads (Err (BadAttribute assign)) said = said ≡ Err assign
+Reads (Err Memory) said = Unit {0}

@@ -1,5 +1,5 @@
 -- Assigns that are taken in one after the other: what they come to at each host, and where they stop.
-use Rattle.std.proofs.Common.{◌≡◌, ◌≢◌, ℕ, zero, suc, ◌+◌, ◌<◌, ◌==◌, Bool, true, false, IsSomeAnd, IsTrue, List, [], ◌∷◌, length, length-set, map, take, Option, Some, None, option_map, is_some, Result, Ok, Err, refl, sym, ap, ◌∙◌, subst, arith}
+use Rattle.std.proofs.Common.{◌≡◌, ◌≢◌, ℕ, zero, suc, ◌+◌, ◌<◌, ◌==◌, Bool, true, false, List, [], ◌∷◌, length, length-set, map, take, Option, Some, None, option_map, is_some, Ok, Err, refl, sym, ap, ◌∙◌, subst, arith}
 use Rattle.std.proofs.lemmas.Bool.Decides.{nat_tests}
 use Rattle.std.proofs.lemmas.List.{length-replicate}
 use Rattle.std.proofs.lemmas.List.FromFn.{length-map-range_with_len}
@@ -142,7 +142,7 @@ are_assigned_by attribute default n assigns xs is =
           ∙ ap (option_map_or attribute (last_for host assigns)) (get-map_range default 0 n host within ∙ ap (λ k. Some (default k)) (from_start host));
     }
 
--- a place behind the first is one further
+-- a place after the first is one further
 bad_behind : {A : Type 0} (attribute : Given → Option A) (k j : ℕ) (a : Given) (x : A) (rest : List Given) → attribute a ≡ Some x
     → (i : ℕ) × (j ≡ k + 1 + i) × IsFirstBad attribute rest i → (i : ℕ) × (j ≡ k + i) × IsFirstBad attribute (a ∷ rest) i
 bad_behind attribute k j a x rest says (i, place, bad) = (suc i, omega (arith, place), record { here = bad.here; before = said_too attribute a x (take i rest) says bad.before })

@@ -17,7 +17,7 @@ use Rattle.attr_core.specs.Subnets.{subnets_attribute}
 use Rattle.attr_core.specs.Tainting.{and_tainted}
 use Rattle.attr_core.specs.declared.template.Template.{Template}
 use Rattle.attr_core.specs.declared.template.Template.TheVariants as template
-use Rattle.reach_core.specs.HostSet.{Hosts}
+use Rattle.host_set.specs.HostSet.{Hosts}
 use Rattle.tmpl_domains.specs.Domains.{Place}
 use Rattle.tmpl_levels.specs.Blp.{unclassified}
 use Rattle.tmpl_levels.specs.declared.blp.Clearance.{Clearance}

@@ -1,11 +1,11 @@
 -- What read_invariant promises, of the definition: an invariant has an attribute for each host, as it is assigned, and it is refused at one of its assigns, the first that says no attribute.
-use Rattle.std.proofs.Common.{◌≡◌, ℕ, ◌<◌, true, IsSomeAnd, IfOk, List, [], length, take, Option, Some, None, option_map, is_some, Result, Ok, Err, refl, sym, ap, ◌∙◌, subst, arith}
+use Rattle.std.proofs.Common.{◌≡◌, ℕ, ◌<◌, IsSomeAnd, IfOk, List, [], length, take, Option, Some, None, option_map, is_some, Result, Ok, Err, refl, sym, ap, ◌∙◌, subst, arith}
 use Rattle.std.proofs.lemmas.Option.{slice_get_within}
 use Rattle.std.specs.List.{list_all, slice_get}
 use Rattle.std.specs.Prelude.{replicate}
 use Rattle.std.specs.Result.{result_map_both}
 use Rattle.attr_core.specs.Assigned.{AreAssigned, IsAsAssigned, IsFirstBad, IsRefusedAt}
-use Rattle.attr_core.specs.Assigns.{Given, Gives, in_turn}
+use Rattle.attr_core.specs.Assigns.{Given, Reads, in_turn}
 use Rattle.attr_core.specs.AssignsLaws.{are_assigned, are_assigned_by, fails_within, is_first_bad}
 use Rattle.attr_core.specs.Invariants.{blp_in, dependability_in, domains_in, gateway_in, interference_in, invariant_in, made_by, noreach_in, partners_in, sink_in, subnets_in, tainting_in}
 use Rattle.attr_core.specs.Labels.{tainting_attribute}
@@ -144,11 +144,11 @@ invariant_named hosts template.NonInterference assigns inv is = made (λ i. temp
 invariant_named hosts template.NoReach assigns inv is = made (λ i. template_named (template_name i) ≡ Some template.NoReach) any.NoReach (noreach_in hosts assigns) inv (λ xs read. refl) is
 
 -- the same of what a call gave
-pub gave : (Is : AnyInv → Type 0) (said : Result AnyInv ℕ) (result : Result AnyInv AttrFault) → ((inv : AnyInv) → said ≡ Ok inv → Is inv) → Gives result said → IfOk result Is
+pub gave : (Is : AnyInv → Type 0) (said : Result AnyInv ℕ) (result : Result AnyInv AttrFault) → ((inv : AnyInv) → said ≡ Ok inv → Is inv) → Reads result said → IfOk result Is
 gave Is said (Ok inv) each given = each inv given
 gave Is said (Err fault) each given = tt
 
-pub gave_refused : (hosts : List Host) (t : Template) (assigns : List Given) (result : Result AnyInv AttrFault) → Gives result (invariant_in hosts t assigns) → (k : ℕ) → result ≡ Err (BadAttribute k) → invariant_in hosts t assigns ≡ Err k
+pub gave_refused : (hosts : List Host) (t : Template) (assigns : List Given) (result : Result AnyInv AttrFault) → Reads result (invariant_in hosts t assigns) → (k : ℕ) → result ≡ Err (BadAttribute k) → invariant_in hosts t assigns ≡ Err k
 gave_refused hosts t assigns (Ok inv) given k is = cc
 gave_refused hosts t assigns (Err (BadAttribute j)) given k is = let same : j ≡ k = cc in given ∙ ap Err same
 gave_refused hosts t assigns (Err Memory) given k is = cc

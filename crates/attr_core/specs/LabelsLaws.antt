@@ -1,20 +1,19 @@
 -- Labels that are numbered as they come have the numbers of their places among all labels of the invariant.
-use Rattle.std.proofs.Common.{◌≡◌, ℕ, suc, ◌+◌, ◌^◌, bit_or, nat_lt, Bool, true, false, List, [], ◌∷◌, ◌++◌, append_assoc, append-nil, length, Option, Some, None, option_map, option_and_then, Result, Ok, Err, refl, sym, ap, ◌∙◌, subst, arith}
+use Rattle.std.proofs.Common.{◌≡◌, ℕ, ◌+◌, nat_lt, Bool, true, false, List, [], ◌∷◌, ◌++◌, append_assoc, append-nil, length, Option, Some, None, option_map, option_and_then, Ok, refl, sym, ap, ◌∙◌, subst, arith}
 use Rattle.std.proofs.lemmas.Option.{option_and_then_some}
 use Rattle.std.proofs.lemmas.Slice.Eq.{bytes_eq-Decides}
-use Rattle.std.specs.List.{fold, position_from}
+use Rattle.std.specs.List.{position_from}
 use Rattle.std.specs.Prelude.{codes, if◌then◌else◌, slice_set}
 use Rattle.std.specs.Str.{bytes_eq}
-use Rattle.table_core.specs.Listing.{each, grow}
+use Rattle.table_core.specs.Listing.{grow}
 use Rattle.table_core.specs.ListingLaws.{grow_each}
 use Rattle.table_core.specs.Tables.{list_or_empty}
 use Rattle.toml.specs.Data.{Data, Members}
 use Rattle.attr_core.specs.Assigns.{Given, after, in_turn, with_attribute}
 use Rattle.attr_core.specs.Labels.{and_bit, bits_of, number_in, place_of, tainting_attribute}
 use Rattle.attr_core.specs.Tainting.{Known, LabelSet, Tainted, all_labels, and_label, and_tainted, are_all_said, known_or_new, label_in, labels_at, new_label, numbered}
-use Rattle.tmpl_levels.specs.declared.tainting.Labels.{Labels}
 
--- some labels, and more behind them
+-- some labels, and more after them
 abbrev pub Extends : List (List ℕ) → List (List ℕ) → Type 0
 Extends all labels = (more : List (List ℕ)) × (all ≡ labels ++ more)
 

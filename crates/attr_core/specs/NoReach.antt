@@ -4,7 +4,7 @@ use Rattle.std.specs.Prelude.{ℕ, List, [], ◌∷◌, Option, Some, None, opti
 use Rattle.std.specs.FinSet as set
 use Rattle.toml.specs.Data.{Data, Members}
 use Rattle.host_net.specs.Host.{Host}
-use Rattle.reach_core.specs.HostSet.{Hosts}
+use Rattle.host_set.specs.HostSet.{Hosts}
 use Rattle.table_core.specs.Listing.{each}
 use Rattle.text_core.specs.Steps.{◌>>=◌}
 use Rattle.table_core.specs.Tables.{has_only, list_at}

@@ -1,7 +1,7 @@
 //! The invariant of a template, made of its assigns.
 ghost use Rattle.std.specs.Prelude.{◌≡◌, ◌<◌, ℕ, map, length, All, IfOk, Some, Err};
 ghost use Rattle.attr_core.specs.Assigned.{IsAsAssigned, IsRefusedAt};
-ghost use Rattle.attr_core.specs.Assigns.{Gives, given_of};
+ghost use Rattle.attr_core.specs.Assigns.{Reads, given_of};
 ghost use Rattle.attr_core.specs.Invariants.{invariant_in};
 ghost use Rattle.attr_core.specs.Templates.{template_named};
 ghost use Rattle.inv_any.specs.Templates.{meaning_of, template_name};
@@ -27,7 +27,7 @@ pub fn read_invariant(
     assigns: &[Assign<'_>],
 ) -> Result<AnyInv, AttrFault>
     requires { All (λ a. a.host < length hosts.now) assigns.now }
-    ensures invariant { Gives result (invariant_in hosts.now template (map given_of assigns.now)) }
+    ensures invariant { Reads result (invariant_in hosts.now template (map given_of assigns.now)) }
     ensures size { IfOk result (λ any. (meaning_of any).size ≡ length hosts.now) }
     ensures named { IfOk result (λ any. template_named (template_name any) ≡ Some template) }
 
@@ -47,7 +47,7 @@ fn by_template(
     assigns: &[Assign<'_>],
 ) -> Result<AnyInv, AttrFault>
     requires { All (λ a. a.host < length hosts.now) assigns.now }
-    ensures invariant { Gives result (invariant_in hosts.now template (map given_of assigns.now)) }
+    ensures invariant { Reads result (invariant_in hosts.now template (map given_of assigns.now)) }
     ensures size { IfOk result (λ any. (meaning_of any).size ≡ length hosts.now) }
 {
     Ok(match template {

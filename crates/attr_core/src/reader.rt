@@ -1,7 +1,7 @@
 //! The way from assigns to an invariant, which is the same for all templates: each assign in turn
 //! gives its host an attribute, until one says none.
 ghost use Rattle.std.specs.Prelude.{◌≡◌, ◌<◌, ℕ, map, List, Option, Some, None, IfOk, All, if◌then◌else◌, length};
-ghost use Rattle.attr_core.specs.Assigns.{Given, given_of, in_turn, Gives};
+ghost use Rattle.attr_core.specs.Assigns.{Given, given_of, in_turn, Reads};
 ghost use Rattle.host_net.specs.Host.{Host};
 
 use crate::assign::Assign;
@@ -44,7 +44,7 @@ pub(crate) fn read<R: Reader>(
     assigns: &[Assign<'_>],
 ) -> Result<R, AttrFault>
     requires { All (λ a. a.host < length hosts.now) assigns.now }
-    ensures given { Gives result (in_turn (R.with_assign hosts.now) 0 (R.start_of hosts.now) (map given_of assigns.now)) }
+    ensures given { Reads result (in_turn (R.with_assign hosts.now) 0 (R.start_of hosts.now) (map given_of assigns.now)) }
     ensures size { IfOk result (λ read. R.size_of read ≡ length hosts.now) }
 {
     let mut reader = R::start(alloc, hosts)?;

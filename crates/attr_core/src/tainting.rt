@@ -1,7 +1,7 @@
 //! Tainting: the labels of a host, and those that it takes off what it sends. A label of an invariant
 //! has a number, by the place where it first stands.
 ghost use Rattle.std.specs.Prelude.{◌≡◌, ◌<◌, ◌≤◌, IsTrue, map, option_map, length, All, IfOk, IfSome};
-ghost use Rattle.attr_core.specs.Assigns.{Gives, given_of};
+ghost use Rattle.attr_core.specs.Assigns.{Reads, given_of};
 ghost use Rattle.attr_core.specs.Invariants.{tainting_in};
 ghost use Rattle.attr_core.specs.Tainting.{all_labels, and_label, are_all_said, label_in, labels_at, numbered};
 ghost use Rattle.std.specs.List.{position_from};
@@ -26,7 +26,7 @@ pub(crate) fn read(
     assigns: &[Assign<'_>],
 ) -> Result<Tainting, AttrFault>
     requires { All (λ a. a.host < length hosts.now) assigns.now }
-    ensures attributes { Gives result (tainting_in hosts.now (map given_of assigns.now)) }
+    ensures attributes { Reads result (tainting_in hosts.now (map given_of assigns.now)) }
     ensures size { IfOk result (λ rule. length rule ≡ length hosts.now) }
 {
     let reader: TaintReader = reader::read(alloc, hosts, assigns)?;

@@ -7,16 +7,16 @@ use Rattle.desc_core.specs.Conditions.{conditions, most_bytes}
 use Rattle.desc_core.specs.Description.{described}
 use Rattle.desc_core.specs.DescriptionLaws.{in_steps}
 use Rattle.desc_core.specs.Document.{document}
-use Rattle.desc_core.specs.Given.{Gives}
-use Rattle.desc_core.specs.Network.{Network}
+use Rattle.desc_core.specs.Reads.{Reads}
+use Rattle.net_core.specs.Network.{Network}
 use Rattle.desc_core.specs.Order.{IsLeast, NoneHolds}
 use Rattle.desc_core.specs.Parts.{described_by_document, described_by_table, network_or, table_of}
-use Rattle.desc_core.specs.OrderLaws.{IsLeast-described, NoneHolds-described}
+use Rattle.desc_core.proofs.OrderLaws.{IsLeast-described, NoneHolds-described}
 use Rattle.desc_core.specs.Whole.{IsDescribed}
-use Rattle.desc_core.specs.WholeLaws.{IsDescribed-described}
+use Rattle.desc_core.proofs.WholeLaws.{IsDescribed-described}
 use Rattle.desc_core.specs.declared.fault.DescFault.{DescFault}
 use Rattle.desc_core.specs.declared.fault.DescFault.TheVariants.{Memory, Refused}
-use Rattle.desc_form.specs.Firsts.{first_of}
+use Rattle.text_core.specs.Firsts.{first_of}
 use Rattle.desc_form.specs.FormConditions.{form_conditions}
 use Rattle.desc_form.specs.Refusals.{refused}
 use Rattle.desc_form.specs.Written.{written}
@@ -50,20 +50,20 @@ described_is : (bytes : List ℕ) → described bytes ≡ by_table (table_of byt
 unfolding table_of
 described_is bytes = in_steps bytes ∙ by_length (nat_lt most_bytes (length bytes)) (document bytes)
 
-pub table_refused : (bytes : List ℕ) (fault : DescFault) → Gives {A = Members} (Err fault) (table_of bytes) → Gives {A = Network} (Err fault) (described bytes)
+pub table_refused : (bytes : List ℕ) (fault : DescFault) → Reads {A = Members} (Err fault) (table_of bytes) → Reads {A = Network} (Err fault) (described bytes)
 table_refused bytes (Refused r) none = described_is bytes ∙ ap by_table none
 table_refused bytes Memory none = tt
 
 pub table_read : (bytes : List ℕ) (table : Members) → table_of bytes ≡ Ok table → described bytes ≡ described_by_table table
 table_read bytes table read = described_is bytes ∙ ap by_table read
 
-pub least_told : (bytes : List ℕ) (result : Result Network DescFault) → Gives result (described bytes) → (r : Refusal) → result ≡ Err (Refused r) → IsLeast (conditions bytes) r
-least_told bytes result given r is = IsLeast-described bytes r (subst (λ (x : Result Network DescFault). Gives x (described bytes)) is given)
+pub least_told : (bytes : List ℕ) (result : Result Network DescFault) → Reads result (described bytes) → (r : Refusal) → result ≡ Err (Refused r) → IsLeast (conditions bytes) r
+least_told bytes result given r is = IsLeast-described bytes r (subst (λ (x : Result Network DescFault). Reads x (described bytes)) is given)
 
-pub whole_read : (bytes : List ℕ) (result : Result Network DescFault) → Gives result (described bytes) → IfOk result (λ d. IsDescribed bytes d)
+pub whole_read : (bytes : List ℕ) (result : Result Network DescFault) → Reads result (described bytes) → IfOk result (λ d. IsDescribed bytes d)
 whole_read bytes (Ok d) given = IsDescribed-described bytes d given
 whole_read bytes (Err fault) given = tt
 
-pub none_holds : (bytes : List ℕ) (result : Result Network DescFault) → Gives result (described bytes) → IfOk result (λ d. NoneHolds (conditions bytes))
+pub none_holds : (bytes : List ℕ) (result : Result Network DescFault) → Reads result (described bytes) → IfOk result (λ d. NoneHolds (conditions bytes))
 none_holds bytes (Ok d) given = NoneHolds-described bytes d given
 none_holds bytes (Err fault) given = tt

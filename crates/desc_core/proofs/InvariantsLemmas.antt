@@ -9,13 +9,13 @@ use Rattle.attr_core.specs.declared.fault.AttrFault.{AttrFault}
 use Rattle.attr_core.specs.declared.fault.AttrFault.TheVariants as cause
 use Rattle.attr_core.specs.declared.template.Template.{Template}
 use Rattle.attr_core.specs.declared.assign.Assign as read
-use Rattle.desc_core.specs.Given.{Gives}
-use Rattle.desc_core.specs.Network.{given_by, if_read, invariant_of}
+use Rattle.desc_core.specs.Reads.{Reads}
+use Rattle.desc_core.specs.WrittenNetwork.{given_by, if_read, invariant_of}
 use Rattle.desc_core.specs.Parts.{fault_at, invariant_or, read_if_known, unless_refused}
 use Rattle.attr_core.specs.InvariantsLaws.{refused_within}
 use Rattle.desc_core.specs.UseConditions.{at_assign}
 use Rattle.desc_form.specs.Refusals.{refused}
-use Rattle.desc_form.specs.Seen.{assign_seen}
+use Rattle.desc_form.specs.WrittenView.{assign_view}
 use Rattle.desc_form.specs.Written.{WrittenInvariant}
 use Rattle.desc_form.specs.declared.refusal.Place.TheVariants.{Assign}
 use Rattle.desc_form.specs.declared.refusal.Refusal.{Refusal}
@@ -27,15 +27,15 @@ use Rattle.table_core.specs.Listing.{each}
 use Rattle.table_core.specs.ListingLaws.{each_more}
 use Rattle.text_core.specs.Steps.{◌>>=◌}
 
--- what an assign gives, behind those that came before
+-- what an assign gives, after those that came before
 pub assigns_more : (hosts : List Host) (given items : List read.Assign) (a : read.Assign) (w : WrittenAssign) (ws : List WrittenAssign) (i : ℕ) (whole : Option (List Given))
-    → items ≡ given ++ a ∷ [] → i < length ws → w ≡ get_or ws i w → given_by hosts (assign_seen w) ≡ Some (given_of a)
-    → option_map (λ rest. map given_of given ++ rest) (each (given_by hosts) (map assign_seen (drop i ws))) ≡ whole
-    → option_map (λ rest. map given_of items ++ rest) (each (given_by hosts) (map assign_seen (drop (i + 1) ws))) ≡ whole
+    → items ≡ given ++ a ∷ [] → i < length ws → w ≡ get_or ws i w → given_by hosts (assign_view w) ≡ Some (given_of a)
+    → option_map (λ rest. map given_of given ++ rest) (each (given_by hosts) (map assign_view (drop i ws))) ≡ whole
+    → option_map (λ rest. map given_of items ++ rest) (each (given_by hosts) (map assign_view (drop (i + 1) ws))) ≡ whole
 assigns_more hosts given items a w ws i whole more within here says so_far =
     let more_given : map given_of items ≡ map given_of given ++ given_of a ∷ [] = ap (map given_of) more ∙ map-append given_of given (a ∷ []) in
     let next : drop i ws ≡ w ∷ drop (i + 1) ws = drop-cons ws i w within ∙ (λ k. sym here k ∷ drop (sym (add-one i) k) ws) in
-    rw more_given (each_more (given_by hosts) (map given_of given) (given_of a) (assign_seen w) (map assign_seen (drop (i + 1) ws)) whole says (rw next at so_far))
+    rw more_given (each_more (given_by hosts) (map given_of given) (given_of a) (assign_view w) (map assign_view (drop (i + 1) ws)) whole says (rw next at so_far))
 
 -- what comes of an invariant that is read or not, or has no template or no host
 abbrev one_or : ℕ → Option (Result AnyInv ℕ) → Result (Option AnyInv) Refusal
@@ -76,13 +76,13 @@ pub was_read : (hosts : List Host) (number : ℕ) (i : WrittenInvariant) (t : Te
 was_read hosts number i t assigns inv named given read = one_or_is hosts number i (Some (Ok inv)) (read_of hosts i t assigns named given ∙ ap Some read)
 
 pub was_refused : (hosts : List Host) (number : ℕ) (i : WrittenInvariant) (t : Template) (assigns : List Given) (fault : AttrFault)
-    → template_named i.template ≡ Some t → each (given_by hosts) i.assigns ≡ Some assigns → attr.Gives {A = AnyInv} (Err fault) (invariant_in hosts t assigns)
-    → Gives {A = Option AnyInv} (Err (fault_at number fault)) (invariant_or hosts number i)
+    → template_named i.template ≡ Some t → each (given_by hosts) i.assigns ≡ Some assigns → attr.Reads {A = AnyInv} (Err fault) (invariant_in hosts t assigns)
+    → Reads {A = Option AnyInv} (Err (fault_at number fault)) (invariant_or hosts number i)
 was_refused hosts number i t assigns (cause.BadAttribute k) named given read = one_or_is hosts number i (Some (Err k)) (read_of hosts i t assigns named given ∙ ap Some read)
 was_refused hosts number i t assigns cause.Memory named given read = tt
 
 -- the assign that is refused is one of those that are given
-pub is_given : (hosts : List Host) (t : Template) (assigns : List Given) (fault : AttrFault) → attr.Gives {A = AnyInv} (Err fault) (invariant_in hosts t assigns)
+pub is_given : (hosts : List Host) (t : Template) (assigns : List Given) (fault : AttrFault) → attr.Reads {A = AnyInv} (Err fault) (invariant_in hosts t assigns)
     → (k : ℕ) → fault ≡ cause.BadAttribute k → k < length assigns
 is_given hosts t assigns (cause.BadAttribute j) read k is =
     let same : j ≡ k = cc in

@@ -2,7 +2,13 @@ pub mod AskedLemmas
 pub mod DescribeLemmas
 pub mod Examples
 pub mod InvariantsLemmas
+pub mod ListingLaws
+pub mod NamesLaws
 pub mod NetworkLemmas
+pub mod OrderLaws
+pub mod SetLaws
 pub mod Settled
 pub mod Tables
+pub mod UsesLaws
+pub mod WholeLaws
 pub mod Worked

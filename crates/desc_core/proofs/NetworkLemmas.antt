@@ -3,18 +3,19 @@ use Rattle.std.proofs.Common.{◌≡◌, List, ◌∷◌, ◌++◌, length, Some
 use Rattle.std.specs.List.{filter_map}
 use Rattle.std.specs.Option.{option_or}
 use Rattle.desc_core.specs.DescriptionLaws.{first_of-append, passes, stops}
-use Rattle.desc_core.specs.Given.{Gives}
-use Rattle.desc_core.specs.Network.{Network, asked_of, invariants_of, network_of}
+use Rattle.desc_core.specs.Reads.{Reads}
+use Rattle.net_core.specs.Network.{Network}
+use Rattle.desc_core.specs.WrittenNetwork.{asked_of, invariants_of, network_of}
 use Rattle.desc_core.specs.Parts.{flow_conditions, invariants_or, name_conditions, network_by_uses, network_or, read_if_known}
 use Rattle.desc_core.specs.UseConditions.{bad_attribute, bad_attribute_of, use_conditions}
 use Rattle.desc_core.specs.declared.fault.DescFault.{DescFault}
 use Rattle.desc_core.specs.declared.fault.DescFault.TheVariants.{Memory, Refused}
-use Rattle.desc_form.specs.Firsts.{first_found, first_of, numbered}
+use Rattle.text_core.specs.Firsts.{first_found, first_of, numbered}
 use Rattle.desc_form.specs.Written.{Written}
 use Rattle.desc_form.specs.declared.refusal.Refusal.{Refusal}
 use Rattle.desc_hosts.specs.HostConditions.{host_conditions}
-use Rattle.desc_hosts.specs.HostsLaws.{length-hosts_of}
-use Rattle.desc_hosts.specs.WrittenHosts.{hosts_of}
+use Rattle.desc_hosts.specs.HostsLaws.{length-network_hosts}
+use Rattle.desc_hosts.specs.WrittenHosts.{network_hosts}
 use Rattle.flow_set.specs.FlowSet.{SetOfFlows}
 use Rattle.host_net.specs.Host.{Host}
 use Rattle.inv_any.specs.declared.any_inv.AnyInv.{AnyInv}
@@ -42,31 +43,31 @@ unrefused w no_name no_attribute no_flow =
     rw none refl
 
 -- what is read of the invariants is the network's, and they are refused where one of its attributes is
-attribute_told : (w : Written) (r : Refusal) → invariants_or (hosts_of w) w.invariants ≡ Err r → bad_attribute w ≡ Some r
+attribute_told : (w : Written) (r : Refusal) → invariants_or (network_hosts w) w.invariants ≡ Err r → bad_attribute w ≡ Some r
 unfolding bad_attribute
 attribute_told w r is =
-    elim (stops (first_found (bad_attribute_of (hosts_of w)) (numbered w.invariants)) (λ js. Ok (filter_map (read_if_known (hosts_of w)) js)) w.invariants r is) [
+    elim (stops (first_found (bad_attribute_of (network_hosts w)) (numbered w.invariants)) (λ js. Ok (filter_map (read_if_known (network_hosts w)) js)) w.invariants r is) [
       | inl here ↦ here
       | inr later ↦ let never = later.1 in cc
     ]
 
-pub invariants_refused : (w : Written) (fault : DescFault) → first_of (name_conditions w) ≡ None → Gives {A = List AnyInv} (Err fault) (invariants_or (hosts_of w) w.invariants) → Gives {A = Network} (Err fault) (network_by_uses w)
+pub invariants_refused : (w : Written) (fault : DescFault) → first_of (name_conditions w) ≡ None → Reads {A = List AnyInv} (Err fault) (invariants_or (network_hosts w) w.invariants) → Reads {A = Network} (Err fault) (network_by_uses w)
 invariants_refused w (Refused r) no_name read = refused_for_attribute w r no_name (attribute_told w r read)
 invariants_refused w Memory no_name read = tt
 
-pub invariants_read : (w : Written) (invariants : List AnyInv) → invariants_or (hosts_of w) w.invariants ≡ Ok invariants → (bad_attribute w ≡ None) × (invariants_of w ≡ invariants)
+pub invariants_read : (w : Written) (invariants : List AnyInv) → invariants_or (network_hosts w) w.invariants ≡ Ok invariants → (bad_attribute w ≡ None) × (invariants_of w ≡ invariants)
 unfolding bad_attribute invariants_of
 invariants_read w invariants is =
-    let (none, read) = passes (first_found (bad_attribute_of (hosts_of w)) (numbered w.invariants)) (λ js. Ok (filter_map (read_if_known (hosts_of w)) js)) w.invariants invariants is in
+    let (none, read) = passes (first_found (bad_attribute_of (network_hosts w)) (numbered w.invariants)) (λ js. Ok (filter_map (read_if_known (network_hosts w)) js)) w.invariants invariants is in
     (none, cc)
 
 -- the network, part by part
 pub network_is : (w : Written) (hosts : List Host) (asked : SetOfFlows) (invariants : List AnyInv)
-    → hosts ≡ hosts_of w → asked ≡ record { size = length hosts; flows = asked_of w } → invariants_of w ≡ invariants
+    → hosts ≡ network_hosts w → asked ≡ record { size = length hosts; flows = asked_of w } → invariants_of w ≡ invariants
     → network_of w ≡ record { hosts = hosts; asked = asked; given = w.given; answers = w.answers; invariants = invariants }
 unfolding network_of
 network_is w hosts asked invariants are flows read =
-    let size : length w.hosts ≡ length hosts = sym (ap length are ∙ length-hosts_of w) in
+    let size : length w.hosts ≡ length hosts = sym (ap length are ∙ length-network_hosts w) in
     let set : record { size = length w.hosts; flows = asked_of w } ≡ asked = (λ i. record { size = size i; flows = asked_of w }) ∙ sym flows in
     λ i. record { hosts = sym are i; asked = set i; given = w.given; answers = w.answers; invariants = read i }
 

@@ -8,7 +8,8 @@ use Rattle.desc_core.proofs.Examples.{list, texts, host_with, host_at, rest_host
 use Rattle.desc_form.specs.Pairs.{pair_of}
 use Rattle.desc_hosts.specs.HostConditions.{bad_version, too_many, bad_name, duplicate_host, bad_prefix, host_bits, no_address, two_rests, overlap, all_entries, host_conditions}
 use Rattle.desc_hosts.specs.Mentions.{assign_names, flow_names, used_names, all_names}
-use Rattle.desc_core.specs.Network.{network_of, asked_of, invariants_of, invariant_of, every_flow}
+use Rattle.desc_core.specs.WrittenNetwork.{network_of, asked_of, invariants_of, invariant_of}
+use Rattle.flow_set.specs.EveryFlow.{every_flow}
 use Rattle.desc_form.specs.Places.{unknown_key, missing_key, wrong_type, has_other_key, lacks_needed, has_unsuited, has_wrong_type, first_place, spots, listed, assigns_of}
 use Rattle.desc_core.specs.UseConditions.{use_conditions, unknown_template, undeclared_host, duplicate_assign, bad_attribute, self_flow, duplicate_flow}
 use Rattle.desc_core.specs.Parts.{described_by_table, network_or}
@@ -17,7 +18,7 @@ use Rattle.desc_form.specs.declared.refusal.Place.TheVariants.{Assign, Document,
 use Rattle.desc_form.specs.declared.refusal.Why.TheVariants.{BadName, BadPrefix, DuplicateAssign, MissingKey, NoAddress, Overlap, TooMany, TwoRests, UndeclaredHost, UnknownTemplate, WrongType}
 use Rattle.desc_form.specs.FormConditions.{form_conditions}
 use Rattle.desc_form.specs.Written.{written, host_written, invariant_written, assign_written}
-use Rattle.desc_hosts.specs.WrittenHosts.{hosts_of}
+use Rattle.desc_hosts.specs.WrittenHosts.{network_hosts}
 use Rattle.host_net.specs.Prefix.{prefix_of, address_of, is_exact, meets}
 use Rattle.table_core.specs.Tables.{has_only, has_key, text_at, integer_at, boolean_at, number_at, number_or, boolean_or, elements_of, list_at}
 use Rattle.text_core.specs.Decimal.{number, bounded_value}
@@ -47,5 +48,5 @@ settled_rows =
     ∷ []
 
 pub settled : map (λ r. described_by_table r.document) settled_rows ≡ map (λ r. Err r.refusal) settled_rows
-unfolding unknown_key missing_key wrong_type has_other_key lacks_needed has_unsuited has_wrong_type first_place spots listed assigns_of has_only has_key text_at integer_at boolean_at number_or number_at boolean_or elements_of list_at pair_of written host_written invariant_written assign_written bad_version too_many bad_name duplicate_host bad_prefix host_bits no_address two_rests overlap all_entries assign_names flow_names used_names all_names unknown_template undeclared_host duplicate_assign bad_attribute self_flow duplicate_flow network_of hosts_of asked_of invariants_of invariant_of every_flow described_by_table network_or form_conditions host_conditions use_conditions prefix_of address_of number bounded_value is_exact meets template_named invariant_in blp_in blp_attribute
+unfolding unknown_key missing_key wrong_type has_other_key lacks_needed has_unsuited has_wrong_type first_place spots listed assigns_of has_only has_key text_at integer_at boolean_at number_or number_at boolean_or elements_of list_at pair_of written host_written invariant_written assign_written bad_version too_many bad_name duplicate_host bad_prefix host_bits no_address two_rests overlap all_entries assign_names flow_names used_names all_names unknown_template undeclared_host duplicate_assign bad_attribute self_flow duplicate_flow network_of network_hosts asked_of invariants_of invariant_of every_flow described_by_table network_or form_conditions host_conditions use_conditions prefix_of address_of number bounded_value is_exact meets template_named invariant_in blp_in blp_attribute
 settled = refl

@@ -10,11 +10,12 @@ use Rattle.attr_core.specs.Invariants.{invariant_in, blp_in}
 use Rattle.attr_core.specs.Templates.{template_named}
 use Rattle.desc_core.proofs.Examples.{list, host_at, rest_host, flow, level, invariant, host_a, host_b, a_to_b, described_as, of_hosts, of_flows, of_invariants, hosts_below}
 use Rattle.desc_form.specs.declared.refusal.Refusal.{Refusal}
-use Rattle.desc_core.specs.Flows.{set_of}
+use Rattle.flow_set.specs.SetOf.{set_of}
 use Rattle.desc_form.specs.Pairs.{pair_of}
 use Rattle.desc_hosts.specs.HostConditions.{bad_version, too_many, bad_name, duplicate_host, bad_prefix, host_bits, no_address, two_rests, overlap, all_entries, host_conditions}
 use Rattle.desc_hosts.specs.Mentions.{assign_names, flow_names, used_names, all_names}
-use Rattle.desc_core.specs.Network.{network_of, asked_of, invariants_of, invariant_of, every_flow}
+use Rattle.desc_core.specs.WrittenNetwork.{network_of, asked_of, invariants_of, invariant_of}
+use Rattle.flow_set.specs.EveryFlow.{every_flow}
 use Rattle.desc_form.specs.Places.{unknown_key, missing_key, wrong_type, has_other_key, lacks_needed, has_unsuited, has_wrong_type, first_place, spots, listed, assigns_of}
 use Rattle.desc_core.specs.UseConditions.{use_conditions, unknown_template, undeclared_host, duplicate_assign, bad_attribute, self_flow, duplicate_flow}
 use Rattle.desc_core.specs.Description.{described}
@@ -25,7 +26,7 @@ use Rattle.desc_form.specs.declared.refusal.Place.TheVariants.{Assign, Document,
 use Rattle.desc_form.specs.declared.refusal.Why.TheVariants.{TooLong, BadAttribute, BadPrefix, BadVersion, DuplicateFlow, DuplicateHost, HostBits, Overlap, SelfFlow, TooMany, TwoRests, UndeclaredHost, UnknownKey}
 use Rattle.desc_form.specs.FormConditions.{form_conditions}
 use Rattle.desc_form.specs.Written.{written, host_written, invariant_written, assign_written}
-use Rattle.desc_hosts.specs.WrittenHosts.{hosts_of}
+use Rattle.desc_hosts.specs.WrittenHosts.{network_hosts}
 use Rattle.host_net.specs.Prefix.{prefix_of, prefix_with, address_of, is_exact, meets}
 use Rattle.table_core.specs.Tables.{has_only, has_key, text_at, integer_at, boolean_at, number_at, number_or, boolean_or, elements_of, list_at}
 use Rattle.text_core.specs.Decimal.{number, bounded_value}
@@ -56,7 +57,7 @@ worked_rows =
     ∷ []
 
 pub worked : map (λ r. described_by_table r.document) worked_rows ≡ map (λ r. Err r.refusal) worked_rows
-unfolding unknown_key missing_key wrong_type has_other_key lacks_needed has_unsuited has_wrong_type first_place spots listed assigns_of has_only has_key text_at integer_at boolean_at number_or number_at boolean_or elements_of list_at pair_of written host_written invariant_written assign_written bad_version too_many bad_name duplicate_host bad_prefix host_bits no_address two_rests overlap all_entries assign_names flow_names used_names all_names unknown_template undeclared_host duplicate_assign bad_attribute self_flow duplicate_flow network_of hosts_of asked_of invariants_of invariant_of every_flow described_by_table network_or form_conditions host_conditions use_conditions prefix_of address_of number bounded_value is_exact meets template_named invariant_in blp_in blp_attribute
+unfolding unknown_key missing_key wrong_type has_other_key lacks_needed has_unsuited has_wrong_type first_place spots listed assigns_of has_only has_key text_at integer_at boolean_at number_or number_at boolean_or elements_of list_at pair_of written host_written invariant_written assign_written bad_version too_many bad_name duplicate_host bad_prefix host_bits no_address two_rests overlap all_entries assign_names flow_names used_names all_names unknown_template undeclared_host duplicate_assign bad_attribute self_flow duplicate_flow network_of network_hosts asked_of invariants_of invariant_of every_flow described_by_table network_or form_conditions host_conditions use_conditions prefix_of address_of number bounded_value is_exact meets template_named invariant_in blp_in blp_attribute
 worked = refl
 
 -- without a change it is accepted
@@ -70,7 +71,7 @@ pub accepted : described_by_table (of_flows a_to_b) ≡ Ok (record {
   answers = false;
   invariants = [];
 })
-unfolding unknown_key missing_key wrong_type has_other_key lacks_needed has_unsuited has_wrong_type first_place spots listed assigns_of has_only has_key text_at integer_at boolean_at number_or number_at boolean_or elements_of list_at pair_of written host_written invariant_written assign_written bad_version too_many bad_name duplicate_host bad_prefix host_bits no_address two_rests overlap all_entries assign_names flow_names used_names all_names unknown_template undeclared_host duplicate_assign bad_attribute self_flow duplicate_flow network_of hosts_of asked_of invariants_of invariant_of every_flow described_by_table network_or form_conditions host_conditions use_conditions prefix_of address_of number bounded_value is_exact meets template_named invariant_in blp_in blp_attribute set_of
+unfolding unknown_key missing_key wrong_type has_other_key lacks_needed has_unsuited has_wrong_type first_place spots listed assigns_of has_only has_key text_at integer_at boolean_at number_or number_at boolean_or elements_of list_at pair_of written host_written invariant_written assign_written bad_version too_many bad_name duplicate_host bad_prefix host_bits no_address two_rests overlap all_entries assign_names flow_names used_names all_names unknown_template undeclared_host duplicate_assign bad_attribute self_flow duplicate_flow network_of network_hosts asked_of invariants_of invariant_of every_flow described_by_table network_or form_conditions host_conditions use_conditions prefix_of address_of number bounded_value is_exact meets template_named invariant_in blp_in blp_attribute set_of
 accepted = refl
 
 -- whatever stands in it, a file of one byte more than the limit is too long

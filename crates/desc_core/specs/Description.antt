@@ -3,8 +3,9 @@ use Rattle.std.specs.Prelude.{ℕ, List, Option, Some, None, unwrap_or, Result, 
 use Rattle.toml.specs.Data.{no_members}
 use Rattle.desc_core.specs.Conditions.{conditions}
 use Rattle.desc_core.specs.Document.{document}
-use Rattle.desc_core.specs.Network.{Network, network_of}
-use Rattle.desc_form.specs.Firsts.{first_of}
+use Rattle.net_core.specs.Network.{Network}
+use Rattle.desc_core.specs.WrittenNetwork.{network_of}
+use Rattle.text_core.specs.Firsts.{first_of}
 use Rattle.desc_form.specs.Written.{written}
 use Rattle.desc_form.specs.declared.refusal.Refusal.{Refusal}
 

@@ -7,10 +7,11 @@ use Rattle.toml.specs.Data.{Members, no_members}
 use Rattle.desc_core.specs.Conditions.{conditions, most_bytes, not_toml, table_conditions, too_long}
 use Rattle.desc_core.specs.Description.{described, refused_or}
 use Rattle.desc_core.specs.Document.{document}
-use Rattle.desc_core.specs.Network.{Network, network_of}
+use Rattle.net_core.specs.Network.{Network}
+use Rattle.desc_core.specs.WrittenNetwork.{network_of}
 use Rattle.desc_core.specs.Parts.{described_by_document, described_by_table, network_or, unless_refused}
 use Rattle.desc_core.specs.UseConditions.{use_conditions}
-use Rattle.desc_form.specs.Firsts.{first_of, where_holds}
+use Rattle.text_core.specs.Firsts.{first_of, where_holds}
 use Rattle.desc_form.specs.FormConditions.{form_conditions}
 use Rattle.desc_form.specs.Refusals.{refused}
 use Rattle.desc_form.specs.Written.{written}

@@ -1,18 +1,12 @@
 -- The flows of a description, between the hosts that their names say.
-use Rattle.std.specs.Prelude.{ℕ, List, [], ◌==◌, if◌then◌else◌, Option, Some, None}
-use Rattle.std.specs.List.{fold}
+use Rattle.std.specs.Prelude.{ℕ, List, ◌==◌, if◌then◌else◌, Option, Some, None}
 use Rattle.flow_set.specs.declared.flow.Flow.{Flow}
-use Rattle.flow_set.specs.FlowSet.{with_flow}
 use Rattle.host_net.specs.Host.{Host, host_named}
 use Rattle.text_core.specs.Steps.{◌>>=◌}
 
 -- the flow between the hosts of two names, if they are two hosts
-abbrev pub flow_between : List Host → List ℕ × List ℕ → Option Flow
-flow_between hosts names = do
+abbrev pub flow_of_names : List Host → List ℕ × List ℕ → Option Flow
+flow_of_names hosts names = do
   from ← host_named hosts names.0
   to ← host_named hosts names.1
   if from == to then None else Some (record { from = from; to = to })
-
--- the set of some flows
-unfoldable pub set_of : List Flow → List Flow
-set_of flows = fold with_flow [] flows

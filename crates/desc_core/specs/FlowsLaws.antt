@@ -1,29 +1,16 @@
--- What follows of the flows of a description: each lies between two hosts, and their set has each of them and no other.
-use Rattle.std.proofs.Common.{refl, ◌≡◌, ℕ, inl, inr, true, sym, subst, eq-eqb, ◌==◌, ◌<◌, length, Option, Some, None, ◌≤◌, Bool, false, List, [], ◌∷◌, ◌∙◌}
-use Rattle.std.proofs.Math.Bool.{or-false}
+-- What follows of the flows of a description: each lies between two of its hosts.
+use Rattle.std.proofs.Common.{refl, ◌≡◌, ℕ, inl, inr, true, sym, subst, eq-eqb, ◌==◌, ◌<◌, length, Option, Some, None, Bool, false, List, [], ◌∷◌, ◌∙◌}
 use Rattle.std.proofs.lemmas.Bool.{false≢true, or_cases}
 use Rattle.std.proofs.lemmas.Option.{option_and_then_some}
 use Rattle.std.specs.List.{filter_map}
 use Rattle.std.specs.Prelude.{IsTrue, if◌then◌else◌}
-use Rattle.desc_core.specs.Flows.{set_of, flow_between}
+use Rattle.desc_core.specs.Flows.{flow_of_names}
 use Rattle.flow_set.specs.declared.flow.Flow.{Flow}
 use Rattle.flow_set.specs.Flow.{same_flow, IsFlow}
-use Rattle.flow_set.specs.FlowSet.{has, IsFlowSet}
+use Rattle.flow_set.specs.FlowSet.{has}
 use Rattle.flow_set.specs.FlowLaws.{has_nothing, same_flow-true}
-use Rattle.flow_set.specs.ListedLaws.{has-fold_with_flow, IsFlowSet-fold_with_flow}
-use Rattle.flow_set.specs.SubsetLaws.{IsFlowSet-nothing}
 use Rattle.host_net.specs.Host.{Host, host_named}
 use Rattle.host_net.specs.NamedLaws.{host_named_within}
-
--- the set has the listed flows and no other
-pub has-set_of : (flows : List Flow) (f : Flow) → has (set_of flows) f ≡ has flows f
-unfolding set_of
-has-set_of flows f = has-fold_with_flow [] flows f ∙ or-false (has flows f)
-
--- flows between n hosts make a set of flows between n hosts
-pub IsFlowSet-set_of : (n : ℕ) (flows : List Flow) → n ≤ 256 → ((f : Flow) → IsTrue (has flows f) → IsFlow n f) → IsFlowSet n (set_of flows)
-unfolding set_of
-IsFlowSet-set_of n flows small each = IsFlowSet-fold_with_flow n [] flows (IsFlowSet-nothing n small) each
 
 abbrev flow_unless : Bool → ℕ → ℕ → Option Flow
 flow_unless same from to = if same then None else Some (record { from = from; to = to })
@@ -36,23 +23,23 @@ ends_differ false n from to f same is_from is_to is =
     subst (IsFlow n) ends (is_from, is_to, λ e. false≢true (sym same ∙ eq-eqb from to e))
 
 -- a flow between two names is one between two of the hosts
-pub IsFlow-flow_between : (hosts : List Host) (names : List ℕ × List ℕ) (f : Flow) → flow_between hosts names ≡ Some f → IsFlow (length hosts) f
-IsFlow-flow_between hosts names f is =
+pub IsFlow-flow_of_names : (hosts : List Host) (names : List ℕ × List ℕ) (f : Flow) → flow_of_names hosts names ≡ Some f → IsFlow (length hosts) f
+IsFlow-flow_of_names hosts names f is =
     option_and_then_some _ (host_named hosts names.0) f is (λ from is_from with_to.
     option_and_then_some (λ to. flow_unless (from == to) from to) (host_named hosts names.1) f with_to (λ to is_to last.
     ends_differ (from == to) (length hosts) from to f refl (host_named_within hosts names.0 from is_from) (host_named_within hosts names.1 to is_to) last))
 
-between_by : (hosts : List Host) (names : List ℕ × List ℕ) (pairs : List (List ℕ × List ℕ)) (o : Option Flow) → flow_between hosts names ≡ o
-    → ((f : Flow) → IsTrue (has (filter_map (flow_between hosts) pairs) f) → IsFlow (length hosts) f)
-    → (f : Flow) → IsTrue (has (filter_map (flow_between hosts) (names ∷ pairs)) f) → IsFlow (length hosts) f
+between_by : (hosts : List Host) (names : List ℕ × List ℕ) (pairs : List (List ℕ × List ℕ)) (o : Option Flow) → flow_of_names hosts names ≡ o
+    → ((f : Flow) → IsTrue (has (filter_map (flow_of_names hosts) pairs) f) → IsFlow (length hosts) f)
+    → (f : Flow) → IsTrue (has (filter_map (flow_of_names hosts) (names ∷ pairs)) f) → IsFlow (length hosts) f
 between_by hosts names pairs None is later f listed = later f (rw is at listed)
 between_by hosts names pairs (Some g) is later f listed =
-    elim (or_cases (same_flow g f) (has (filter_map (flow_between hosts) pairs) f) (rw is at listed)) [
-      | inl same ↦ subst (IsFlow (length hosts)) (same_flow-true g f same) (IsFlow-flow_between hosts names g is)
+    elim (or_cases (same_flow g f) (has (filter_map (flow_of_names hosts) pairs) f) (rw is at listed)) [
+      | inl same ↦ subst (IsFlow (length hosts)) (same_flow-true g f same) (IsFlow-flow_of_names hosts names g is)
       | inr behind ↦ later f behind
     ]
 
 -- what a description lists are flows between two of its hosts
-pub are_between : (hosts : List Host) (pairs : List (List ℕ × List ℕ)) (f : Flow) → IsTrue (has (filter_map (flow_between hosts) pairs) f) → IsFlow (length hosts) f
+pub are_between : (hosts : List Host) (pairs : List (List ℕ × List ℕ)) (f : Flow) → IsTrue (has (filter_map (flow_of_names hosts) pairs) f) → IsFlow (length hosts) f
 are_between hosts [] f listed = has_nothing f listed
-are_between hosts (names ∷ pairs) f listed = between_by hosts names pairs (flow_between hosts names) refl (are_between hosts pairs) f listed
+are_between hosts (names ∷ pairs) f listed = between_by hosts names pairs (flow_of_names hosts names) refl (are_between hosts pairs) f listed

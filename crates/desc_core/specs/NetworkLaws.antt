@@ -10,19 +10,23 @@ use Rattle.attr_core.specs.Templates.{template_named}
 use Rattle.attr_core.specs.declared.template.Template.{Template}
 use Rattle.desc_core.specs.Description.{described}
 use Rattle.desc_core.specs.DescriptionLaws.{accepted, first_of-append}
-use Rattle.desc_core.specs.EveryFlowLaws.{IsFlowSet-every_flow}
-use Rattle.desc_core.specs.Flows.{flow_between, set_of}
-use Rattle.desc_core.specs.FlowsLaws.{are_between, IsFlowSet-set_of}
-use Rattle.desc_core.specs.Network.{Network, IsNetwork, asked_of, every_flow, given_by, if_read, invariant_of, invariants_of, network_of}
+use Rattle.flow_set.specs.EveryFlowLaws.{IsFlowSet-every_flow}
+use Rattle.desc_core.specs.Flows.{flow_of_names}
+use Rattle.flow_set.specs.SetOf.{set_of}
+use Rattle.desc_core.specs.FlowsLaws.{are_between}
+use Rattle.flow_set.specs.ListedLaws.{IsFlowSet-set_of}
+use Rattle.net_core.specs.Network.{Network, IsNetwork}
+use Rattle.desc_core.specs.WrittenNetwork.{asked_of, given_by, if_read, invariant_of, invariants_of, network_of}
+use Rattle.flow_set.specs.EveryFlow.{every_flow}
 use Rattle.attr_core.specs.InvariantsLaws.{invariant_sized}
 use Rattle.desc_core.specs.UseConditions.{use_conditions}
-use Rattle.desc_form.specs.Firsts.{first_of}
+use Rattle.text_core.specs.Firsts.{first_of}
 use Rattle.desc_form.specs.Written.{Written, WrittenInvariant, written}
-use Rattle.desc_form.specs.FirstsLaws.{neither}
+use Rattle.text_core.specs.FirstsLaws.{neither}
 use Rattle.desc_hosts.specs.EntriesLaws.{no_longer}
 use Rattle.desc_hosts.specs.HostConditions.{host_conditions}
-use Rattle.desc_hosts.specs.HostsLaws.{IsHosts-hosts_of, is_small, length-hosts_of}
-use Rattle.desc_hosts.specs.WrittenHosts.{hosts_of}
+use Rattle.desc_hosts.specs.HostsLaws.{IsHosts-network_hosts, is_small, length-network_hosts}
+use Rattle.desc_hosts.specs.WrittenHosts.{network_hosts}
 use Rattle.host_net.specs.Host.{Host}
 use Rattle.flow_set.specs.FlowSet.{IsFlowSet}
 use Rattle.inv_any.specs.Templates.{meaning_of}
@@ -30,9 +34,9 @@ use Rattle.table_core.specs.Listing.{each}
 use Rattle.text_core.specs.Steps.{◌>>=◌}
 use Rattle.inv_any.specs.declared.any_inv.AnyInv.{AnyInv}
 
-asked_by : (w : Written) (given : Bool) → length w.hosts ≤ 256 → IsFlowSet (length w.hosts) (if given then set_of (filter_map (flow_between (hosts_of w)) w.flows) else every_flow (length w.hosts))
+asked_by : (w : Written) (given : Bool) → length w.hosts ≤ 256 → IsFlowSet (length w.hosts) (if given then set_of (filter_map (flow_of_names (network_hosts w)) w.flows) else every_flow (length w.hosts))
 asked_by w true few =
-    IsFlowSet-set_of (length w.hosts) (filter_map (flow_between (hosts_of w)) w.flows) few (λ f listed. rw (← length-hosts_of w) (are_between (hosts_of w) w.flows f listed))
+    IsFlowSet-set_of (length w.hosts) (filter_map (flow_of_names (network_hosts w)) w.flows) few (λ f listed. rw (← length-network_hosts w) (are_between (network_hosts w) w.flows f listed))
 asked_by w false few = IsFlowSet-every_flow (length w.hosts) few
 
 -- each invariant that is read has an attribute for each host
@@ -61,10 +65,10 @@ unfolding network_of asked_of invariants_of
 IsNetwork-network_of w free =
     let small = is_small w free in
     record {
-      hosts = IsHosts-hosts_of w free;
-      sized = sym (length-hosts_of w);
+      hosts = IsHosts-network_hosts w free;
+      sized = sym (length-network_hosts w);
       asked = asked_by w w.given (omega (arith, small.hosts));
-      invariants = All-from_recursion (λ (inv : AnyInv). (meaning_of inv).size ≡ length (hosts_of w)) (invariants_of w) (sized_all (hosts_of w) w.invariants);
+      invariants = All-from_recursion (λ (inv : AnyInv). (meaning_of inv).size ≡ length (network_hosts w)) (invariants_of w) (sized_all (network_hosts w) w.invariants);
       few = omega (arith, small.invariants, no_longer {A = WrittenInvariant} {B = AnyInv});
     }
 

@@ -7,14 +7,15 @@ use Rattle.attr_core.specs.declared.fault.AttrFault.{AttrFault}
 use Rattle.attr_core.specs.declared.fault.AttrFault.TheVariants as attr
 use Rattle.desc_core.specs.Conditions.{most_bytes}
 use Rattle.desc_core.specs.Document.{document}
-use Rattle.desc_core.specs.Network.{Network, if_read, invariant_of, network_of}
+use Rattle.net_core.specs.Network.{Network}
+use Rattle.desc_core.specs.WrittenNetwork.{if_read, invariant_of, network_of}
 use Rattle.desc_core.specs.UseConditions.{bad_attribute_of, duplicate_assign, duplicate_flow, self_flow, undeclared_host, unknown_template, use_conditions}
 use Rattle.desc_core.specs.declared.fault.DescFault.{DescFault}
 use Rattle.desc_core.specs.declared.fault.DescFault.TheVariants.{Memory, Refused}
 use Rattle.desc_form.specs.Refusals.{refused}
 use Rattle.desc_form.specs.declared.refusal.Place.TheVariants.{Assign, Document}
 use Rattle.desc_form.specs.declared.refusal.Why.TheVariants.{BadAttribute, NotToml, TooLong}
-use Rattle.desc_form.specs.Firsts.{first_found, first_of, numbered}
+use Rattle.text_core.specs.Firsts.{first_found, first_of, numbered}
 use Rattle.desc_form.specs.FormConditions.{form_conditions}
 use Rattle.desc_form.specs.Written.{Written, WrittenInvariant, written}
 use Rattle.desc_hosts.specs.HostConditions.{host_conditions}

@@ -7,10 +7,10 @@ use Rattle.attr_core.specs.Templates.{template_named}
 use Rattle.desc_form.specs.declared.refusal.Place.TheVariants.{Invariant, Assign, FlowAt}
 use Rattle.desc_form.specs.declared.refusal.Refusal.{Refusal}
 use Rattle.desc_form.specs.declared.refusal.Why.TheVariants.{UnknownTemplate, UndeclaredHost, DuplicateAssign, BadAttribute, SelfFlow, DuplicateFlow}
-use Rattle.desc_form.specs.Firsts.{first_found, numbered, Numbered, first_pair}
+use Rattle.text_core.specs.Firsts.{first_found, numbered, Numbered, first_pair}
 use Rattle.desc_hosts.specs.Mentions.{used_names}
-use Rattle.desc_core.specs.Network.{invariant_of}
-use Rattle.desc_hosts.specs.WrittenHosts.{hosts_of}
+use Rattle.desc_core.specs.WrittenNetwork.{invariant_of}
+use Rattle.desc_hosts.specs.WrittenHosts.{network_hosts}
 use Rattle.desc_form.specs.Refusals.{refused, refused_by, refused_name}
 use Rattle.desc_form.specs.Written.{Written, WrittenInvariant}
 use Rattle.host_net.specs.Host.{Host}
@@ -50,7 +50,7 @@ bad_attribute_of hosts i = invariant_of hosts i.what >>= at_assign i.number
 
 -- 18: the table of an assign says no attribute of the template
 unfoldable pub bad_attribute : Written → Option Refusal
-bad_attribute w = first_found (bad_attribute_of (hosts_of w)) (numbered w.invariants)
+bad_attribute w = first_found (bad_attribute_of (network_hosts w)) (numbered w.invariants)
 
 -- 19: both names of a flow are the same
 unfoldable pub self_flow : Written → Option Refusal

@@ -3,8 +3,9 @@ use Rattle.std.specs.Prelude.{◌≡◌, ℕ, true, false, List, length, Some, O
 use Rattle.std.specs.List.{AllZip}
 use Rattle.toml.specs.Data.{Members}
 use Rattle.desc_core.specs.Document.{document}
-use Rattle.desc_core.specs.Flows.{flow_between}
-use Rattle.desc_core.specs.Network.{Network, invariant_of}
+use Rattle.desc_core.specs.Flows.{flow_of_names}
+use Rattle.net_core.specs.Network.{Network}
+use Rattle.desc_core.specs.WrittenNetwork.{invariant_of}
 use Rattle.desc_form.specs.Written.{Written, WrittenHost}
 use Rattle.desc_form.specs.WrittenForm.{IsWritten}
 use Rattle.flow_set.specs.FlowSet.{has, IsFull}
@@ -21,11 +22,11 @@ pub record IsHostOf (h : WrittenHost) (host : Host) : Type 0 where
 -- the set has one flow for each pair of names, from the host of the first to the host of the second, and no other
 pub record IsSetOf (hosts : List Host) (pairs : List (List ℕ × List ℕ)) (asked : List Flow) : Type 0 where
   pub flows : List Flow
-  pub each : AllZip (λ names flow. flow_between hosts names ≡ Some flow) pairs flows
+  pub each : AllZip (λ names flow. flow_of_names hosts names ≡ Some flow) pairs flows
   pub same : (f : Flow) → has asked f ≡ has flows f
   pub count : length asked ≡ length pairs
 
--- the network has what is written, in the same order; where no flows are listed at all, every flow is asked for
+-- the network has what is written, in the same order; where the key `flow` is absent, every flow is asked for
 pub record IsWhole (w : Written) (d : Network) : Type 0 where
   pub hosts : AllZip IsHostOf w.hosts d.hosts
   pub invariants : AllZip (λ i invariant. invariant_of d.hosts i ≡ Some (Ok invariant)) w.invariants d.invariants

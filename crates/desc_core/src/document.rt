@@ -2,7 +2,7 @@
 ghost use Rattle.std.specs.Prelude.{◌≡◌};
 ghost use Rattle.std.specs.Result.{result_map_both};
 ghost use Rattle.desc_core.specs.Parts.{table_of};
-ghost use Rattle.desc_core.specs.Given.{Gives};
+ghost use Rattle.desc_core.specs.Reads.{Reads};
 ghost use Rattle.desc_core.specs.declared.fault.DescFault.TheVariants.{Refused};
 ghost use Rattle.desc_form.specs.Refusals.{refused};
 ghost use Rattle.desc_form.specs.declared.refusal.Place.TheVariants.{Document};
@@ -15,7 +15,7 @@ use toml::Table;
 
 /// The table of a description's bytes.
 pub(crate) fn read_table(alloc: Global, bytes: &[u8]) -> Result<Table, DescFault>
-    ensures { Gives (result_map_both table_view (λ fault. fault) result) (table_of bytes.now) }
+    ensures { Reads (result_map_both table_view (λ fault. fault) result) (table_of bytes.now) }
 {
     if bytes.len() > MOST_BYTES {
         return Err(of_document(Why::TooLong));

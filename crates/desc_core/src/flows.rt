@@ -1,28 +1,30 @@
 //! The flows of a description: the refusals for them, and the set of those that are asked for.
 ghost use Rattle.std.specs.Prelude.{◌≡◌, ◌≤◌, ℕ, List, filter_map, find, length, map, option_map, IfOk, IfSome};
 ghost use Rattle.std.specs.Str.{bytes_eq};
-ghost use Rattle.desc_core.specs.Flows.{flow_between, set_of};
-ghost use Rattle.desc_core.specs.Network.{asked_of, every_flow};
+ghost use Rattle.desc_core.specs.Flows.{flow_of_names};
+ghost use Rattle.flow_set.specs.SetOf.{set_of};
+ghost use Rattle.desc_core.specs.WrittenNetwork.{asked_of};
 ghost use Rattle.desc_core.specs.Parts.{flow_conditions};
 ghost use Rattle.desc_core.specs.UseConditions.{same_names};
-ghost use Rattle.desc_form.specs.Firsts.{first_of, first_pair, numbered, Numbered};
-ghost use Rattle.desc_form.specs.FirstsSeen.{pair_seen};
+ghost use Rattle.text_core.specs.Firsts.{first_of, first_pair, numbered, Numbered};
+ghost use Rattle.text_core.specs.FirstsSeen.{pair_seen};
 ghost use Rattle.desc_form.specs.Refusals.{refused, refused_by};
-ghost use Rattle.desc_form.specs.Seen.{written_seen};
+ghost use Rattle.desc_form.specs.WrittenView.{written_view};
 ghost use Rattle.desc_form.specs.declared.refusal.Place.TheVariants.{FlowAt};
 ghost use Rattle.desc_form.specs.declared.refusal.Why.TheVariants.{DuplicateFlow, SelfFlow};
-ghost use Rattle.desc_hosts.specs.WrittenHosts.{hosts_of};
+ghost use Rattle.desc_hosts.specs.WrittenHosts.{network_hosts};
 ghost use Rattle.flow_set.specs.Flow.{IsFlow};
 
-use desc_form::{Pair, Place, Refusal, Why, Written, first_pair};
+use desc_form::{Place, Refusal, Why, Written};
 use flow_set::{Flow, FlowSet};
 use host_net::Hosts;
 use std::alloc::{AllocError, Global};
+use text_core::{Pair, first_pair};
 
 /// The first refusal for flows.
 #[tactic(auto, unfolding(crate::specs::UseConditions::self_flow, crate::specs::UseConditions::duplicate_flow))]
 pub(crate) fn flow_refusal(written: &Written<'_>) -> Option<Refusal>
-    ensures { result ≡ first_of (flow_conditions (written_seen written.now)) }
+    ensures { result ≡ first_of (flow_conditions (written_view written.now)) }
 {
     let itself = self_flow(&written.flows);
     if itself.is_some() {
@@ -62,40 +64,32 @@ fn barred_flow(pair: Option<Pair<'_, (&str, &str)>>) -> Option<Refusal>
     Some(Refusal::at(Why::DuplicateFlow, place).with_other(pair.earlier.number))
 }
 
-/// The flows that are asked for: the listed ones, or every flow where none are listed at all.
-#[tactic(auto, unfolding(crate::specs::Network::asked_of))]
+/// The flows that are asked for: the listed ones, or every flow where the key `flow` is absent.
+#[tactic(auto, unfolding(crate::specs::WrittenNetwork::asked_of))]
 pub(crate) fn read_asked(
     alloc: Global,
     hosts: &Hosts,
     written: &Written<'_>,
 ) -> Result<FlowSet, AllocError>
-    requires { hosts.now ≡ hosts_of (written_seen written.now) }
-    ensures { IfOk result (λ asked. asked ≡ record { size = length hosts.now; flows = asked_of (written_seen written.now) }) }
+    requires { hosts.now ≡ network_hosts (written_view written.now) }
+    ensures { IfOk result (λ asked. asked ≡ record { size = length hosts.now; flows = asked_of (written_view written.now) }) }
 {
     if written.given {
         listed_flows(alloc, hosts, &written.flows)
     } else {
-        every_flow(alloc, hosts.count())
+        FlowSet::full(alloc, hosts.count())
     }
-}
-
-/// Every flow between so many hosts.
-fn every_flow(alloc: Global, hosts: u16) -> Result<FlowSet, AllocError>
-    requires { hosts ≤ 256 }
-    ensures { IfOk result (λ asked. asked ≡ record { size = hosts; flows = every_flow hosts }) }
-{
-    FlowSet::full(alloc, hosts)
 }
 
 /// The flows between the hosts of these names. A pair of names that are not those of two hosts is
 /// passed over: a description with such a pair is refused before.
-#[tactic(auto, unfolding(crate::specs::Flows::set_of))]
+#[tactic(auto, unfolding(flow_set::specs::SetOf::set_of))]
 fn listed_flows(alloc: Global, hosts: &Hosts, pairs: &[(&str, &str)]) -> Result<FlowSet, AllocError>
-    ensures { IfOk result (λ asked. asked ≡ record { size = length hosts.now; flows = set_of (filter_map (flow_between hosts.now) (map (λ pair. (pair.0.now, pair.1.now)) pairs.now)) }) }
+    ensures { IfOk result (λ asked. asked ≡ record { size = length hosts.now; flows = set_of (filter_map (flow_of_names hosts.now) (map (λ pair. (pair.0.now, pair.1.now)) pairs.now)) }) }
 {
     let mut asked = FlowSet::empty(alloc, hosts.count())?;
     for (from, to) in pairs {
-        if let Some(flow) = flow_between(hosts, from, to) {
+        if let Some(flow) = flow_of_names(hosts, from, to) {
             asked.insert(flow);
         }
     }
@@ -103,8 +97,8 @@ fn listed_flows(alloc: Global, hosts: &Hosts, pairs: &[(&str, &str)]) -> Result<
 }
 
 /// The flow between the hosts of two names, if they are two hosts.
-fn flow_between(hosts: &Hosts, from: &str, to: &str) -> Option<Flow>
-    ensures value { result ≡ flow_between hosts.now (from.now, to.now) }
+fn flow_of_names(hosts: &Hosts, from: &str, to: &str) -> Option<Flow>
+    ensures value { result ≡ flow_of_names hosts.now (from.now, to.now) }
     ensures flow { IfSome result (IsFlow (length hosts.now)) }
 {
     let from = hosts.find(from.as_bytes())?;

@@ -3,10 +3,10 @@
 ghost use Rattle.std.specs.Prelude.{◌≡◌, ◌<◌, ◌+◌, ◌^◌, ℕ, length, map, option_map, All, IfOk, IfSome};
 ghost use Rattle.std.specs.Result.{result_map_both};
 ghost use Rattle.attr_core.specs.Assigns.{given_of};
-ghost use Rattle.desc_core.specs.Given.{Gives};
-ghost use Rattle.desc_core.specs.Network.{given_by};
+ghost use Rattle.desc_core.specs.Reads.{Reads};
+ghost use Rattle.desc_core.specs.WrittenNetwork.{given_by};
 ghost use Rattle.desc_core.specs.Parts.{fault_at, invariant_or, invariants_or};
-ghost use Rattle.desc_form.specs.Seen.{assign_seen, invariant_seen};
+ghost use Rattle.desc_form.specs.WrittenView.{assign_view, invariant_view};
 ghost use Rattle.table_core.specs.Listing.{each};
 
 use crate::fault::DescFault;
@@ -23,7 +23,7 @@ pub(crate) fn read_invariants(
     hosts: &Hosts,
     written: &[WrittenInvariant<'_>],
 ) -> Result<Vec<AnyInv>, DescFault>
-    ensures { Gives (result_map_both (λ invariants. invariants.items) (λ fault. fault) result) (invariants_or hosts.now (map invariant_seen written.now)) }
+    ensures { Reads (result_map_both (λ invariants. invariants.items) (λ fault. fault) result) (invariants_or hosts.now (map invariant_view written.now)) }
 {
     let mut invariants = Vec::new(alloc);
     for (index, invariant) in written.iter().enumerate() {
@@ -41,7 +41,7 @@ fn read_if_known(
     number: u64,
     written: &WrittenInvariant<'_>,
 ) -> Result<Option<AnyInv>, DescFault>
-    ensures { Gives result (invariant_or hosts.now number (invariant_seen written.now)) }
+    ensures { Reads result (invariant_or hosts.now number (invariant_view written.now)) }
 {
     let Some(template) = Template::named(written.template) else {
         return Ok(None);
@@ -61,7 +61,7 @@ fn assigns_among<'a>(
     hosts: &Hosts,
     written: &[WrittenAssign<'a>],
 ) -> Result<Option<Vec<Assign<'a>>>, AllocError>
-    ensures given { IfOk result (λ among. option_map (λ assigns. map given_of assigns.items) among ≡ each (given_by hosts.now) (map assign_seen written.now)) }
+    ensures given { IfOk result (λ among. option_map (λ assigns. map given_of assigns.items) among ≡ each (given_by hosts.now) (map assign_view written.now)) }
     ensures hosts { IfOk result (λ among. IfSome among (λ assigns. All (λ a. a.host < length hosts.now) assigns.items)) }
 {
     let mut assigns = Vec::new(alloc);

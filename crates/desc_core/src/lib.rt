@@ -13,5 +13,6 @@ mod network;
 mod tests;
 
 pub use desc_form::{Place, Refusal, Why};
-pub use description::{Description, describe};
+pub use description::describe;
 pub use fault::{DescFault, MOST_BYTES};
+pub use net_core::Description;

@@ -6,23 +6,24 @@ ghost use Rattle.std.specs.Str.{bytes_eq};
 ghost use Rattle.attr_core.specs.Templates.{template_named};
 ghost use Rattle.desc_core.specs.Parts.{name_conditions};
 ghost use Rattle.desc_core.specs.UseConditions.{duplicate_assign_of, undeclared_host};
-ghost use Rattle.desc_form.specs.Firsts.{first_found, first_of, first_pair, numbered};
-ghost use Rattle.desc_form.specs.FirstsSeen.{pair_seen};
+ghost use Rattle.text_core.specs.Firsts.{first_found, first_of, first_pair, numbered};
+ghost use Rattle.text_core.specs.FirstsSeen.{pair_seen};
 ghost use Rattle.desc_form.specs.Refusals.{refused, refused_by, refused_name};
-ghost use Rattle.desc_form.specs.Seen.{assign_seen, invariant_seen, written_seen};
+ghost use Rattle.desc_form.specs.WrittenView.{assign_view, invariant_view, written_view};
 ghost use Rattle.desc_form.specs.declared.refusal.Place.TheVariants.{Assign, Invariant};
 ghost use Rattle.desc_form.specs.declared.refusal.Why.TheVariants.{DuplicateAssign, UndeclaredHost, UnknownTemplate};
 ghost use Rattle.desc_hosts.specs.HostConditions.{host_conditions};
-ghost use Rattle.desc_hosts.specs.MentionView.{mention_seen};
-ghost use Rattle.desc_hosts.specs.WrittenHosts.{hosts_of};
+ghost use Rattle.desc_hosts.specs.MentionView.{mention_view};
+ghost use Rattle.desc_hosts.specs.WrittenHosts.{network_hosts};
 ghost use Rattle.host_net.specs.Host.{host_named};
 ghost use Rattle.text_core.specs.Name.{is_name};
 
 use attr_core::Template;
-use desc_form::{Pair, Place, Refusal, Why, Written, WrittenAssign, WrittenInvariant, first_pair};
+use desc_form::{Place, Refusal, Why, Written, WrittenAssign, WrittenInvariant};
 use desc_hosts::{Mention, used_names};
 use host_net::{Hosts, Name};
 use std::alloc::{AllocError, Global};
+use text_core::{Pair, first_pair};
 
 /// The first refusal for names, with the hosts of the description.
 #[tactic(auto, unfolding(crate::specs::UseConditions::unknown_template, crate::specs::UseConditions::duplicate_assign))]
@@ -31,9 +32,9 @@ pub(crate) fn name_refusal(
     hosts: &Hosts,
     written: &Written<'_>,
 ) -> Result<Option<Refusal>, AllocError>
-    requires hosts { hosts.now ≡ hosts_of (written_seen written.now) }
-    requires unrefused { first_of (host_conditions (written_seen written.now)) ≡ None }
-    ensures { IfOk result (λ refusal. refusal ≡ first_of (name_conditions (written_seen written.now))) }
+    requires hosts { hosts.now ≡ network_hosts (written_view written.now) }
+    requires unrefused { first_of (host_conditions (written_view written.now)) ≡ None }
+    ensures { IfOk result (λ refusal. refusal ≡ first_of (name_conditions (written_view written.now))) }
 {
     let template = unknown_template(&written.invariants);
     if template.is_some() {
@@ -48,7 +49,7 @@ pub(crate) fn name_refusal(
 
 /// No template has the name.
 fn unknown_template(invariants: &[WrittenInvariant<'_>]) -> Option<Refusal>
-    ensures { result ≡ option_map (λ i. refused UnknownTemplate (Invariant i.number)) (find (λ i. is_none (template_named i.what.template)) (numbered (map invariant_seen invariants.now))) }
+    ensures { result ≡ option_map (λ i. refused UnknownTemplate (Invariant i.number)) (find (λ i. is_none (template_named i.what.template)) (numbered (map invariant_view invariants.now))) }
 {
     for (index, invariant) in invariants.iter().enumerate() {
         if Template::named(invariant.template).is_none() {
@@ -65,17 +66,17 @@ fn undeclared_host(
     hosts: &Hosts,
     written: &Written<'_>,
 ) -> Result<Option<Refusal>, AllocError>
-    requires hosts { hosts.now ≡ hosts_of (written_seen written.now) }
-    requires unrefused { first_of (host_conditions (written_seen written.now)) ≡ None }
-    ensures { IfOk result (λ refusal. refusal ≡ undeclared_host (written_seen written.now)) }
+    requires hosts { hosts.now ≡ network_hosts (written_view written.now) }
+    requires unrefused { first_of (host_conditions (written_view written.now)) ≡ None }
+    ensures { IfOk result (λ refusal. refusal ≡ undeclared_host (written_view written.now)) }
 {
     let names = used_names(alloc, written)?;
     Ok(first_undeclared(hosts, &names))
 }
 
 fn first_undeclared(hosts: &Hosts, names: &[Mention<'_>]) -> Option<Refusal>
-    requires { IsTrue (list_all (λ m. is_name m.name) (map mention_seen names.now)) }
-    ensures { result ≡ option_map (λ m. refused_name UndeclaredHost m.place m.item m.name) (find (λ m. is_none (host_named hosts.now m.name)) (map mention_seen names.now)) }
+    requires { IsTrue (list_all (λ m. is_name m.name) (map mention_view names.now)) }
+    ensures { result ≡ option_map (λ m. refused_name UndeclaredHost m.place m.item m.name) (find (λ m. is_none (host_named hosts.now m.name)) (map mention_view names.now)) }
 {
     for mention in names {
         if hosts.find(mention.name.as_bytes()).is_none() {
@@ -97,7 +98,7 @@ fn no_host(mention: &Mention<'_>) -> Refusal
 
 /// An assign has the host of an earlier one of the same invariant.
 fn duplicate_assign(invariants: &[WrittenInvariant<'_>]) -> Option<Refusal>
-    ensures { result ≡ first_found duplicate_assign_of (numbered (map invariant_seen invariants.now)) }
+    ensures { result ≡ first_found duplicate_assign_of (numbered (map invariant_view invariants.now)) }
 {
     for (index, invariant) in invariants.iter().enumerate() {
         let found = duplicate_in(index as u64 + 1, &invariant.assigns);
@@ -110,7 +111,7 @@ fn duplicate_assign(invariants: &[WrittenInvariant<'_>]) -> Option<Refusal>
 
 /// The same among the assigns of the invariant with a number.
 fn duplicate_in(invariant: u64, assigns: &[WrittenAssign<'_>]) -> Option<Refusal>
-    ensures { result ≡ option_map (λ p. refused_by DuplicateAssign (Assign invariant p.later.number) p.earlier.number) (first_pair (λ a b. bytes_eq a.what.host b.what.host) (numbered (map assign_seen assigns.now))) }
+    ensures { result ≡ option_map (λ p. refused_by DuplicateAssign (Assign invariant p.later.number) p.earlier.number) (first_pair (λ a b. bytes_eq a.what.host b.what.host) (numbered (map assign_view assigns.now))) }
 {
     let pair = first_pair(assigns, |later, earlier| later.host == earlier.host);
     barred_assign(invariant, pair)

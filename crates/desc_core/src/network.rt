@@ -1,13 +1,12 @@
 //! From what is written to the network, once the form is right.
 ghost use Rattle.std.specs.Prelude.{◌≡◌, None};
-ghost use Rattle.desc_core.specs.Given.{Gives};
+ghost use Rattle.desc_core.specs.Reads.{Reads};
 ghost use Rattle.desc_core.specs.Parts.{network_by_uses, network_or};
-ghost use Rattle.desc_form.specs.Firsts.{first_of};
-ghost use Rattle.desc_form.specs.Seen.{written_seen};
+ghost use Rattle.text_core.specs.Firsts.{first_of};
+ghost use Rattle.desc_form.specs.WrittenView.{written_view};
 ghost use Rattle.desc_hosts.specs.HostConditions.{host_conditions};
-ghost use Rattle.desc_hosts.specs.WrittenHosts.{hosts_of};
+ghost use Rattle.desc_hosts.specs.WrittenHosts.{network_hosts};
 
-use crate::description::Description;
 use crate::fault::DescFault;
 use crate::flows::{flow_refusal, read_asked};
 use crate::invariants::read_invariants;
@@ -15,11 +14,12 @@ use crate::names::name_refusal;
 use desc_form::Written;
 use desc_hosts::{host_refusal, read_hosts};
 use host_net::Hosts;
+use net_core::Description;
 use std::alloc::Global;
 
 /// The network that is written, or the first refusal of what is written.
 pub(crate) fn read_network(alloc: Global, written: &Written<'_>) -> Result<Description, DescFault>
-    ensures { Gives result (network_or (written_seen written.now)) }
+    ensures { Reads result (network_or (written_view written.now)) }
 {
     if let Some(refusal) = host_refusal(alloc, written)? {
         return Err(DescFault::Refused(refusal));
@@ -34,9 +34,9 @@ fn network_of_hosts(
     hosts: Hosts,
     written: &Written<'_>,
 ) -> Result<Description, DescFault>
-    requires hosts { hosts ≡ hosts_of (written_seen written.now) }
-    requires unrefused { first_of (host_conditions (written_seen written.now)) ≡ None }
-    ensures { Gives result (network_by_uses (written_seen written.now)) }
+    requires hosts { hosts ≡ network_hosts (written_view written.now) }
+    requires unrefused { first_of (host_conditions (written_view written.now)) ≡ None }
+    ensures { Reads result (network_by_uses (written_view written.now)) }
 {
     if let Some(refusal) = name_refusal(alloc, &hosts, written)? {
         return Err(DescFault::Refused(refusal));
@@ -46,11 +46,5 @@ fn network_of_hosts(
         return Err(DescFault::Refused(refusal));
     }
     let asked = read_asked(alloc, &hosts, written)?;
-    Ok(Description {
-        hosts,
-        asked,
-        given: written.given,
-        answers: written.answers,
-        invariants,
-    })
+    Ok(Description::new(hosts, asked, written.given, written.answers, invariants))
 }

@@ -3,6 +3,8 @@
 
 use crate::{DescFault, describe};
 use desc_form::Place;
+use flow_set::Flow;
+use net_core::policy_of;
 use std::alloc::Global;
 use std::test::Fail;
 
@@ -11,6 +13,12 @@ answers = "none"
 flow = [["a", "b"], ["b", "a"]]
 host = [{ name = "a", at = ["10.0.0.1"] }, { name = "b", rest = true }]
 invariant = [{ template = "blp", assign = [{ host = "a", level = 2 }] }]
+"#;
+
+/// No answer may go back to the lower level.
+const TWO_LEVELS: &str = r#"topos = 1
+host = [{ name = "a", at = ["10.0.0.1/32"] }, { name = "b", rest = true }]
+invariant = [{ template = "blp", assign = [{ host = "a", level = 1 }] }]
 "#;
 
 /// Flows and invariants beside the hosts `a` and `b`; the number, the place, the item and the other
@@ -58,7 +66,7 @@ fn refusal_of(alloc: Global, bytes: &[u8]) -> Result<Option<(u8, Place, u64, u64
     }
 }
 
-/// How many flows are asked for among so many hosts where none are listed.
+/// How many flows are asked for between two hosts, by the key `flow` or without it.
 fn asked_count(alloc: Global, flows: &str) -> Result<u32, Fail> {
     let text = format!(in alloc;
         "topos = 1\nhost = [{{ name = \"a\", rest = true }}, {{ name = \"b\", at = [\"10.0.0.2\"] }}]\n{flows}"
@@ -95,5 +103,18 @@ fn the_first_condition_is_told(rt: HostRuntime) -> Result<(), Fail> {
         refusal_of(rt.alloc(), b"\xff")?,
         Some((2, Place::Document, 0, 0))
     );
+    Ok(())
+}
+
+#[test]
+fn a_policy_without_answers(rt: HostRuntime) -> Result<(), Fail> {
+    let network = describe(rt.alloc(), TWO_LEVELS.as_bytes())?;
+    let policy = policy_of(rt.alloc(), &network)?;
+    assert_eq!(rt; policy.permitted().len(), 1);
+    assert_eq!(rt;
+        policy.permitted().at_or_after(0, 0),
+        Some(Flow { from: 1, to: 0 })
+    );
+    assert!(rt; policy.stateful().is_empty());
     Ok(())
 }

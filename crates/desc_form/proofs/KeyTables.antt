@@ -5,7 +5,7 @@ use Rattle.std.specs.List.{list_all, list_any}
 use Rattle.std.specs.Map as maps
 use Rattle.std.specs.Str.{bytes_eq}
 use Rattle.desc_form.specs.declared.keys.Key.{Key}
-use Rattle.desc_form.specs.KeyView.{key_seen}
+use Rattle.desc_form.specs.KeyView.{key_view}
 use Rattle.desc_form.specs.Keys as meant
 use Rattle.table_core.specs.Tables.{has_only, keys_in}
 use Rattle.table_core.specs.TablesLaws.{all_keys_view}
@@ -16,18 +16,18 @@ list_any-map : {A B : Type 0} (test : B → Bool) (seen : A → B) (xs : List A)
 list_any-map test seen [] = refl
 list_any-map test seen (x ∷ xs) = ap (λ b. test (seen x) || b) (list_any-map test seen xs)
 
-pub some_key : (test : meant.Key → Bool) (keys : List Key) (seen : List meant.Key) → map key_seen keys ≡ seen → list_any (λ key. test (key_seen key)) keys ≡ list_any test seen
-some_key test keys seen same = sym (list_any-map test key_seen keys) ∙ ap (list_any test) same
+pub some_key : (test : meant.Key → Bool) (keys : List Key) (seen : List meant.Key) → map key_view keys ≡ seen → list_any (λ key. test (key_view key)) keys ≡ list_any test seen
+some_key test keys seen same = sym (list_any-map test key_view keys) ∙ ap (list_any test) same
 
-pub all_keys : (test : meant.Key → Bool) (keys : List Key) (seen : List meant.Key) → map key_seen keys ≡ seen → list_all (λ key. test (key_seen key)) keys ≡ list_all test seen
-all_keys test keys seen same = sym (list_all-map test key_seen keys) ∙ ap (list_all test) same
+pub all_keys : (test : meant.Key → Bool) (keys : List Key) (seen : List meant.Key) → map key_view keys ≡ seen → list_all (λ key. test (key_view key)) keys ≡ list_all test seen
+all_keys test keys seen same = sym (list_all-map test key_view keys) ∙ ap (list_all test) same
 
-list_any-names : (name : List ℕ) (keys : List Key) → list_any (λ key. bytes_eq name (key_seen key).name) keys ≡ list_any (bytes_eq name) (map (λ key. key.name) (map key_seen keys))
-list_any-names name keys = sym (list_any-map (bytes_eq name) (λ key. key.name) (map key_seen keys) ∙ list_any-map (λ key. bytes_eq name key.name) key_seen keys)
+list_any-names : (name : List ℕ) (keys : List Key) → list_any (λ key. bytes_eq name (key_view key).name) keys ≡ list_any (bytes_eq name) (map (λ key. key.name) (map key_view keys))
+list_any-names name keys = sym (list_any-map (bytes_eq name) (λ key. key.name) (map key_view keys) ∙ list_any-map (λ key. bytes_eq name key.name) key_view keys)
 
 pub only_keys : (keys : List Key) (es : List (String Global × Value))
-    → list_all (λ name. list_any (λ key. bytes_eq (string_bytes name) (key_seen key).name) keys) (maps.keys_of es) ≡ has_only (map (λ key. key.name) (map key_seen keys)) (members_view es)
+    → list_all (λ name. list_any (λ key. bytes_eq (string_bytes name) (key_view key).name) keys) (maps.keys_of es) ≡ has_only (map (λ key. key.name) (map key_view keys)) (members_view es)
 unfolding has_only
 only_keys keys es =
-    all_keys_view (λ name. list_any (λ key. bytes_eq name (key_seen key).name) keys) es
+    all_keys_view (λ name. list_any (λ key. bytes_eq name (key_view key).name) keys) es
     ∙ ap (λ test. list_all test (keys_in (members_view es))) (λ i name. list_any-names name keys i)

@@ -1,2 +1,1 @@
-pub mod FirstsLemmas
 pub mod KeyTables

@@ -4,11 +4,18 @@ use Rattle.std.specs.List.{list_all}
 use Rattle.std.specs.Option.{option_map_or}
 use Rattle.std.specs.Str.{bytes_eq}
 use Rattle.toml.specs.Data.{Data, Members, as_str}
-use Rattle.desc_form.specs.declared.kinds.Kind.{Kind}
-use Rattle.desc_form.specs.declared.kinds.Kind.TheVariants as kind
 use Rattle.desc_form.specs.declared.refusal.Place.{Place}
 use Rattle.desc_form.specs.declared.refusal.Place.TheVariants.{Document, Host, Invariant, Assign, FlowAt}
 use Rattle.table_core.specs.Tables.{boolean_at, has_key, integer_at, list_at, text_at}
+
+-- what may stand at a key: a text, a whole number, true or false, an array, an array of texts, one of the words for answers
+pub data Kind : Type 0 where
+  Text : Kind
+  Integer : Kind
+  Boolean : Kind
+  Array : Kind
+  Texts : Kind
+  Answers : Kind
 
 -- a key, whether it must be there, and what may stand at it
 pub record Key : Type 0 where
@@ -31,25 +38,25 @@ is_answers word = bytes_eq word (codes "all") || bytes_eq word (codes "none")
 
 -- a value of the kind stands at the key
 abbrev pub stands_at : Kind → List ℕ → Members → Bool
-stands_at kind.Text key ms = is_some (text_at key ms)
-stands_at kind.Integer key ms = is_some (integer_at key ms)
-stands_at kind.Boolean key ms = is_some (boolean_at key ms)
-stands_at kind.List key ms = is_some (list_at key ms)
-stands_at kind.Texts key ms = option_map_or (list_all is_text) (list_at key ms) false
-stands_at kind.Answers key ms = option_map_or is_answers (text_at key ms) false
+stands_at Text key ms = is_some (text_at key ms)
+stands_at Integer key ms = is_some (integer_at key ms)
+stands_at Boolean key ms = is_some (boolean_at key ms)
+stands_at Array key ms = is_some (list_at key ms)
+stands_at Texts key ms = option_map_or (list_all is_text) (list_at key ms) false
+stands_at Answers key ms = option_map_or is_answers (text_at key ms) false
 
 -- the keys of the table at a place. An assign has further keys by its template; a flow is no table
 abbrev pub keys_of : Place → List Key
 keys_of Document =
-    needed (codes "topos") kind.Integer
-    ∷ optional (codes "answers") kind.Answers
-    ∷ needed (codes "host") kind.List
-    ∷ optional (codes "invariant") kind.List
-    ∷ optional (codes "flow") kind.List
+    needed (codes "topos") Integer
+    ∷ optional (codes "answers") Answers
+    ∷ needed (codes "host") Array
+    ∷ optional (codes "invariant") Array
+    ∷ optional (codes "flow") Array
     ∷ []
-keys_of (Host k) = needed (codes "name") kind.Text ∷ optional (codes "at") kind.Texts ∷ optional (codes "rest") kind.Boolean ∷ []
-keys_of (Invariant k) = needed (codes "template") kind.Text ∷ optional (codes "assign") kind.List ∷ []
-keys_of (Assign k m) = needed (codes "host") kind.Text ∷ []
+keys_of (Host k) = needed (codes "name") Text ∷ optional (codes "at") Texts ∷ optional (codes "rest") Boolean ∷ []
+keys_of (Invariant k) = needed (codes "template") Text ∷ optional (codes "assign") Array ∷ []
+keys_of (Assign k m) = needed (codes "host") Text ∷ []
 keys_of (FlowAt k) = []
 
 -- a value of its kind stands at the key, or the key is absent

@@ -1,7 +1,3 @@
-pub mod FirstPairLaws
-pub mod Firsts
-pub mod FirstsLaws
-pub mod FirstsSeen
 pub mod FormConditions
 pub mod KeyLaws
 pub mod KeyView
@@ -10,8 +6,8 @@ pub mod Pairs
 pub mod Places
 pub mod PlacesLaws
 pub mod Refusals
-pub mod Seen
 pub mod Walking
 pub mod Written
 pub mod WrittenForm
 pub mod WrittenLaws
+pub mod WrittenView

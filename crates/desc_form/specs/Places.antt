@@ -4,13 +4,11 @@ use Rattle.std.specs.Prelude.{ℕ, Bool, true, false, not, ◌&&◌, List, [], �
 use Rattle.std.specs.List.{list_all, list_any}
 use Rattle.std.specs.Option.{option_map_or}
 use Rattle.toml.specs.Data.{Data, table, Members, as_table}
-use Rattle.desc_form.specs.declared.places.FormCondition.{FormCondition}
-use Rattle.desc_form.specs.declared.places.FormCondition.TheVariants as condition
 use Rattle.desc_form.specs.declared.refusal.Place.{Place}
 use Rattle.desc_form.specs.declared.refusal.Place.TheVariants.{Document, Host, Invariant, Assign, FlowAt}
 use Rattle.desc_form.specs.declared.refusal.Refusal.{Refusal}
 use Rattle.desc_form.specs.declared.refusal.Why.TheVariants.{UnknownKey, MissingKey, WrongType}
-use Rattle.desc_form.specs.Firsts.{Numbered, numbered}
+use Rattle.text_core.specs.Firsts.{Numbered, numbered}
 use Rattle.desc_form.specs.Pairs.{pair_of}
 use Rattle.desc_form.specs.Keys.{keys_of, suits_in}
 use Rattle.desc_form.specs.Refusals.{refused}
@@ -29,7 +27,7 @@ listed key ms = unwrap_or (list_at key ms) []
 unfoldable pub assigns_of : Data → List Data
 assigns_of d = unwrap_or (option_and_then (list_at (codes "assign")) (as_table d)) []
 
--- an invariant, and behind it its assigns
+-- an invariant, and after it its assigns
 abbrev pub invariant_spots : Numbered Data → List Spot
 invariant_spots d =
     record { place = Invariant d.number; value = d.what }
@@ -73,12 +71,6 @@ lacks_key place d = option_map_or (lacks_needed place) (as_table d) false
 unfoldable pub has_wrong_type : Place → Data → Bool
 has_wrong_type (FlowAt k) d = is_none (pair_of d)
 has_wrong_type place d = option_map_or (has_unsuited place) (as_table d) true
-
--- the three conditions
-abbrev pub holds_at : FormCondition → Place → Data → Bool
-holds_at condition.UnknownKey place d = has_unknown_key place d
-holds_at condition.MissingKey place d = lacks_key place d
-holds_at condition.WrongType place d = has_wrong_type place d
 
 -- 3
 unfoldable pub unknown_key : Members → Option Refusal

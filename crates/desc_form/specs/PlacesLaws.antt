@@ -4,10 +4,10 @@ use Rattle.std.proofs.lemmas.Bool.{or_parts}
 use Rattle.std.specs.Prelude.{find, flat_map, codes}
 use Rattle.std.specs.Option.{option_or}
 use Rattle.toml.specs.Data.{Data, table, Members}
-use Rattle.host_net.specs.FirstsLaws.{none_mapped}
+use Rattle.text_core.specs.FirstsLaws.{none_mapped}
 use Rattle.desc_form.specs.declared.refusal.Place.{Place}
 use Rattle.desc_form.specs.declared.refusal.Place.TheVariants.{Document, Host, Invariant, Assign, FlowAt}
-use Rattle.desc_form.specs.Firsts.{Numbered, numbered_from, numbered, where_holds}
+use Rattle.text_core.specs.Firsts.{Numbered, numbered_from, numbered, where_holds}
 use Rattle.desc_form.specs.Places.{Spot, invariant_spots, spots, first_place, listed, assigns_of}
 use Rattle.desc_form.specs.Walking.{first_at, first_by_parts, first_of_invariant, first_of_invariants}
 

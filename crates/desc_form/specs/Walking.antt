@@ -3,12 +3,20 @@
 use Rattle.std.specs.Prelude.{ℕ, ◌+◌, Bool, List, [], ◌∷◌, Option, None, codes}
 use Rattle.std.specs.Option.{option_or}
 use Rattle.toml.specs.Data.{Data, table, Members}
+use Rattle.desc_form.specs.declared.places.FormCondition.{FormCondition}
+use Rattle.desc_form.specs.declared.places.FormCondition.TheVariants as condition
 use Rattle.desc_form.specs.declared.places.Row.{Row}
 use Rattle.desc_form.specs.declared.places.Row.TheVariants.{Hosts, Assigns, Flows}
 use Rattle.desc_form.specs.declared.refusal.Place.{Place}
 use Rattle.desc_form.specs.declared.refusal.Place.TheVariants.{Document, Host, Invariant, Assign, FlowAt}
-use Rattle.desc_form.specs.Firsts.{where_holds}
-use Rattle.desc_form.specs.Places.{assigns_of, listed}
+use Rattle.text_core.specs.Firsts.{where_holds}
+use Rattle.desc_form.specs.Places.{assigns_of, has_unknown_key, has_wrong_type, lacks_key, listed}
+
+-- the condition of this name holds of what stands at a place
+abbrev pub holds_at : FormCondition → Place → Data → Bool
+holds_at condition.UnknownKey place d = has_unknown_key place d
+holds_at condition.MissingKey place d = lacks_key place d
+holds_at condition.WrongType place d = has_wrong_type place d
 
 -- the place with a number in one of the lists
 abbrev pub place_in : Row → ℕ → Place

@@ -22,7 +22,7 @@ pub record WrittenInvariant : Type 0 where
   pub template : List ℕ
   pub assigns : List WrittenAssign
 
--- given says whether flows are listed at all; answers, whether flows may have answers
+-- given says whether the key `flow` is there; answers, whether flows may have answers
 pub record Written : Type 0 where
   pub version : ℤ
   pub answers : Bool

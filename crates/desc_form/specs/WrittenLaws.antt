@@ -10,8 +10,8 @@ use Rattle.toml.specs.Data.{Data, string, array, table, Items, no_items, item, M
 use Rattle.desc_form.specs.PlacesLaws.{by_parts, nowhere_both, nowhere_either}
 use Rattle.desc_form.specs.declared.refusal.Place.{Place}
 use Rattle.desc_form.specs.declared.refusal.Place.TheVariants.{Document, Host, Invariant, Assign, FlowAt}
-use Rattle.desc_form.specs.Firsts.{first_of, where_holds}
-use Rattle.host_net.specs.FirstsLaws.{holds_not, neither, none_mapped}
+use Rattle.text_core.specs.Firsts.{first_of, where_holds}
+use Rattle.text_core.specs.FirstsLaws.{holds_not, neither, none_mapped}
 use Rattle.desc_form.specs.FormConditions.{form_conditions}
 use Rattle.desc_form.specs.KeyLaws.{answers_stand, answers_suit, array_needed, array_stands, array_stands_or, array_suits, array_zips, boolean_stands, boolean_suits, integer_stands, integer_suits, text_stands, text_suits, texts_stand_or, texts_suit}
 use Rattle.desc_form.specs.Keys.{keys_of, suits_in}

@@ -3,7 +3,7 @@
 ghost use Rattle.std.specs.Prelude.{◌≡◌, ◌&&◌, not, map};
 ghost use Rattle.std.specs.List.{list_all, list_any};
 ghost use Rattle.std.specs.Str.{bytes_eq};
-ghost use Rattle.desc_form.specs.KeyView.{key_seen};
+ghost use Rattle.desc_form.specs.KeyView.{key_view};
 ghost use Rattle.desc_form.specs.Keys.{keys_of, suits_in};
 ghost use Rattle.desc_form.specs.Places.{has_other_key, lacks_needed, has_unsuited};
 ghost use Rattle.table_core.specs.Tables.{has_key, has_only};
@@ -46,7 +46,7 @@ const ASSIGN: [Key; 1] = [Key::Needed("host", Kind::Text)];
 
 /// The keys of the table at a place. An assign has further keys by its template.
 fn keys_of(place: Place) -> &'static [Key]
-    ensures { map key_seen result.now ≡ keys_of place }
+    ensures { map key_view result.now ≡ keys_of place }
 {
     match place {
         Place::Document => &DOCUMENT,
@@ -59,7 +59,7 @@ fn keys_of(place: Place) -> &'static [Key]
 
 impl Key {
     fn name(&self) -> &'static str
-        ensures { result.now ≡ (key_seen self.now).name }
+        ensures { result.now ≡ (key_view self.now).name }
     {
         match self {
             Key::Needed(name, _) | Key::Optional(name, _) => name,
@@ -68,7 +68,7 @@ impl Key {
 
     /// Whether the table lacks the key though it has to be there.
     fn is_missing(&self, table: &Table) -> bool
-        ensures { result ≡ ((key_seen self.now).needed && not (has_key (key_seen self.now).name (table_view table.now))) }
+        ensures { result ≡ ((key_view self.now).needed && not (has_key (key_view self.now).name (table_view table.now))) }
     {
         match self {
             Key::Needed(name, _) => !has_key(table, name),
@@ -78,7 +78,7 @@ impl Key {
 
     /// Whether what stands at the key, if anything does, is of its kind.
     fn suits(&self, table: &Table) -> bool
-        ensures { result ≡ suits_in (table_view table.now) (key_seen self.now) }
+        ensures { result ≡ suits_in (table_view table.now) (key_view self.now) }
     {
         match self {
             Key::Needed(name, kind) | Key::Optional(name, kind) => {
@@ -106,13 +106,13 @@ fn has_known_keys(place: Place, here: &Table) -> bool
 }
 
 fn has_only(table: &Table, keys: &[Key]) -> bool
-    ensures { result ≡ has_only (map (λ key. key.name) (map key_seen keys.now)) (table_view table.now) }
+    ensures { result ≡ has_only (map (λ key. key.name) (map key_view keys.now)) (table_view table.now) }
 {
     table.keys().all(|key| is_among(key.as_str(), keys))
 }
 
 fn is_among(name: &str, keys: &[Key]) -> bool
-    ensures { result ≡ list_any (λ key. bytes_eq name.now (key_seen key).name) keys.now }
+    ensures { result ≡ list_any (λ key. bytes_eq name.now (key_view key).name) keys.now }
 {
     keys.iter().any(|key| name == key.name())
 }
@@ -125,7 +125,7 @@ pub(crate) fn lacks_needed(place: Place, here: &Table) -> bool
 }
 
 fn is_one_missing(table: &Table, keys: &[Key]) -> bool
-    ensures { result ≡ list_any (λ key. (key_seen key).needed && not (has_key (key_seen key).name (table_view table.now))) keys.now }
+    ensures { result ≡ list_any (λ key. (key_view key).needed && not (has_key (key_view key).name (table_view table.now))) keys.now }
 {
     keys.iter().any(|key| key.is_missing(table))
 }
@@ -138,7 +138,7 @@ pub(crate) fn has_unsuited(place: Place, here: &Table) -> bool
 }
 
 fn all_suit(table: &Table, keys: &[Key]) -> bool
-    ensures { result ≡ list_all (λ key. suits_in (table_view table.now) (key_seen key)) keys.now }
+    ensures { result ≡ list_all (λ key. suits_in (table_view table.now) (key_view key)) keys.now }
 {
     keys.iter().all(|key| key.suits(table))
 }

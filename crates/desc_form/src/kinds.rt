@@ -1,6 +1,7 @@
 //! What may stand at a key of a description, by its kind.
 ghost use Rattle.std.specs.Prelude.{◌≡◌, map};
 ghost use Rattle.std.specs.List.{list_all};
+ghost use Rattle.desc_form.specs.KeyView.{kind_view};
 ghost use Rattle.desc_form.specs.Keys.{is_text, stands_at};
 ghost use Rattle.desc_form.specs.declared.kinds.Kind.TheVariants.{Texts, Answers};
 ghost use Rattle.toml.specs.View.{view, table_view};
@@ -23,7 +24,7 @@ pub(crate) enum Kind {
 
 /// Whether a value of the kind stands at the key.
 pub(crate) fn stands_at(kind: Kind, key: &str, table: &Table) -> bool
-    ensures { result ≡ stands_at kind key.now (table_view table.now) }
+    ensures { result ≡ stands_at (kind_view kind) key.now (table_view table.now) }
 {
     match kind {
         Kind::Text => text_at(table, key).is_some(),
@@ -36,7 +37,7 @@ pub(crate) fn stands_at(kind: Kind, key: &str, table: &Table) -> bool
 }
 
 fn has_texts_at(key: &str, table: &Table) -> bool
-    ensures { result ≡ stands_at Texts key.now (table_view table.now) }
+    ensures { result ≡ stands_at (kind_view Texts) key.now (table_view table.now) }
 {
     match list_at(table, key) {
         Some(values) => are_texts(values),
@@ -57,7 +58,7 @@ fn all_are_texts(values: &[Value]) -> bool
 }
 
 fn has_answers_at(key: &str, table: &Table) -> bool
-    ensures { result ≡ stands_at Answers key.now (table_view table.now) }
+    ensures { result ≡ stands_at (kind_view Answers) key.now (table_view table.now) }
 {
     match text_at(table, key) {
         Some(word) => word == "all" || word == "none",

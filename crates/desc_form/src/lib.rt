@@ -1,9 +1,8 @@
 //! The form of a description, before any name is looked up: which keys its tables have, which values
 //! stand at them, and the texts that are written there. Here also stand the refusals of a description,
-//! since their order begins with the form, and the search for what an earlier one bars.
+//! since their order begins with the form.
 #![tactic(auto)]
 
-mod firsts;
 mod keys;
 mod kinds;
 mod pairs;
@@ -14,7 +13,6 @@ mod tests;
 mod well_formed;
 mod written;
 
-pub use firsts::{Numbered, Pair, first_pair};
 pub use refusal::{Place, Refusal, Why};
 pub use well_formed::form_refusal;
 pub use written::{Written, WrittenAssign, WrittenHost, WrittenInvariant, read_written};

@@ -6,8 +6,8 @@ ghost use Rattle.std.specs.Option.{option_or};
 ghost use Rattle.toml.specs.Data.{table};
 ghost use Rattle.toml.specs.View.{view, table_view};
 ghost use Rattle.desc_form.specs.declared.refusal.Place.TheVariants.{Document};
-ghost use Rattle.desc_form.specs.Places.{assigns_of, first_place, has_unknown_key, has_wrong_type, holds_at, lacks_key, listed};
-ghost use Rattle.desc_form.specs.Walking.{first_at, first_by_parts, first_of_invariant, first_of_invariants, place_in};
+ghost use Rattle.desc_form.specs.Places.{assigns_of, first_place, has_unknown_key, has_wrong_type, lacks_key, listed};
+ghost use Rattle.desc_form.specs.Walking.{holds_at, first_at, first_by_parts, first_of_invariant, first_of_invariants, place_in};
 
 use crate::keys::{has_other_key, has_unsuited, lacks_needed};
 use crate::pairs::read_pair;

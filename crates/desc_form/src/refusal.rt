@@ -39,13 +39,13 @@ pub enum Why {
     BadVersion,
     /// There are more hosts, prefixes or invariants than there may be.
     TooMany,
-    /// What stands in the place of a host name is none.
+    /// A text in the place of a host name is no legal name.
     BadName,
     /// Two hosts have the same name.
     DuplicateHost,
     /// An entry of `at` is no prefix, or is one of length 0.
     BadPrefix,
-    /// A prefix has bits set behind its length.
+    /// A prefix has bits set after its length.
     HostBits,
     /// A host has neither a prefix nor the rest mark, or it has both.
     NoAddress,

@@ -1,6 +1,6 @@
 //! Whether a description is well formed: the refusals for keys and for types of values.
 ghost use Rattle.std.specs.Prelude.{◌≡◌, ◌↔◌, None};
-ghost use Rattle.desc_form.specs.Firsts.{first_of};
+ghost use Rattle.text_core.specs.Firsts.{first_of};
 ghost use Rattle.desc_form.specs.Places.{missing_key, unknown_key, wrong_type};
 ghost use Rattle.desc_form.specs.FormConditions.{form_conditions};
 ghost use Rattle.desc_form.specs.WrittenForm.{IsFormed};

@@ -1,9 +1,9 @@
 //! What stands in the tables of a description, read without looking anything up.
-ghost use Rattle.std.specs.Prelude.{◌≡◌, None, filter_map, IfOk, map, codes};
-ghost use Rattle.desc_form.specs.Firsts.{first_of};
+ghost use Rattle.std.specs.Prelude.{◌≡◌, None, filter_map, IfOk, map};
+ghost use Rattle.text_core.specs.Firsts.{first_of};
 ghost use Rattle.desc_form.specs.FormConditions.{form_conditions};
 ghost use Rattle.desc_form.specs.Places.{listed};
-ghost use Rattle.desc_form.specs.Seen.{assign_seen, host_seen, invariant_seen, written_seen};
+ghost use Rattle.desc_form.specs.WrittenView.{assign_view, host_view, invariant_view, written_view};
 ghost use Rattle.desc_form.specs.Written.{assign_written, host_written, invariant_written, text_in, written};
 ghost use Rattle.desc_form.specs.WrittenForm.{IsWritten};
 ghost use Rattle.desc_form.specs.Pairs.{pair_of};
@@ -46,7 +46,7 @@ pub struct Written<'a> {
     pub answers: bool,
     pub hosts: Vec<WrittenHost<'a>>,
     pub invariants: Vec<WrittenInvariant<'a>>,
-    /// Whether flows are listed at all.
+    /// Whether the key `flow` is there, if only with an empty list.
     pub given: bool,
     pub flows: Vec<(&'a str, &'a str)>,
 }
@@ -76,7 +76,7 @@ fn texts_among(alloc: Global, values: &[Value]) -> Result<Vec<&str>, AllocError>
 
 #[tactic(auto, unfolding(crate::specs::Written::host_written))]
 fn host_written(alloc: Global, table: &Table) -> Result<WrittenHost<'_>, AllocError>
-    ensures { IfOk result (λ host. host_seen host ≡ host_written (table_view table.now)) }
+    ensures { IfOk result (λ host. host_view host ≡ host_written (table_view table.now)) }
 {
     let at = texts_among(alloc, listed(table, "at"))?;
     Ok(WrittenHost {
@@ -88,7 +88,7 @@ fn host_written(alloc: Global, table: &Table) -> Result<WrittenHost<'_>, AllocEr
 
 /// The hosts among some values.
 fn hosts_among(alloc: Global, values: &[Value]) -> Result<Vec<WrittenHost<'_>>, AllocError>
-    ensures { IfOk result (λ hosts. map host_seen hosts.items ≡ map host_written (filter_map as_table (map view values.now))) }
+    ensures { IfOk result (λ hosts. map host_view hosts.items ≡ map host_written (filter_map as_table (map view values.now))) }
 {
     let mut hosts = Vec::new(alloc);
     for value in values {
@@ -101,7 +101,7 @@ fn hosts_among(alloc: Global, values: &[Value]) -> Result<Vec<WrittenHost<'_>>, 
 
 #[tactic(auto, unfolding(crate::specs::Written::assign_written))]
 fn assign_written(table: &Table) -> WrittenAssign<'_>
-    ensures { assign_seen result ≡ assign_written (table_view table.now) }
+    ensures { assign_view result ≡ assign_written (table_view table.now) }
 {
     WrittenAssign {
         host: text_in(table, "host"),
@@ -111,7 +111,7 @@ fn assign_written(table: &Table) -> WrittenAssign<'_>
 
 /// The assigns among some values.
 fn assigns_among(alloc: Global, values: &[Value]) -> Result<Vec<WrittenAssign<'_>>, AllocError>
-    ensures { IfOk result (λ assigns. map assign_seen assigns.items ≡ map assign_written (filter_map as_table (map view values.now))) }
+    ensures { IfOk result (λ assigns. map assign_view assigns.items ≡ map assign_written (filter_map as_table (map view values.now))) }
 {
     let mut assigns = Vec::new(alloc);
     for value in values {
@@ -124,7 +124,7 @@ fn assigns_among(alloc: Global, values: &[Value]) -> Result<Vec<WrittenAssign<'_
 
 #[tactic(auto, unfolding(crate::specs::Written::invariant_written))]
 fn invariant_written(alloc: Global, table: &Table) -> Result<WrittenInvariant<'_>, AllocError>
-    ensures { IfOk result (λ invariant. invariant_seen invariant ≡ invariant_written (table_view table.now)) }
+    ensures { IfOk result (λ invariant. invariant_view invariant ≡ invariant_written (table_view table.now)) }
 {
     let assigns = assigns_among(alloc, listed(table, "assign"))?;
     Ok(WrittenInvariant {
@@ -138,7 +138,7 @@ fn invariants_among(
     alloc: Global,
     values: &[Value],
 ) -> Result<Vec<WrittenInvariant<'_>>, AllocError>
-    ensures { IfOk result (λ invariants. map invariant_seen invariants.items ≡ map invariant_written (filter_map as_table (map view values.now))) }
+    ensures { IfOk result (λ invariants. map invariant_view invariants.items ≡ map invariant_written (filter_map as_table (map view values.now))) }
 {
     let mut invariants = Vec::new(alloc);
     for value in values {
@@ -165,17 +165,17 @@ fn pairs_among(alloc: Global, values: &[Value]) -> Result<Vec<(&str, &str)>, All
 /// What is written in a description. Where a key is missing or a value is of a wrong type, nothing
 /// stands in its place: such a description is refused for that.
 pub fn read_written(alloc: Global, document: &Table) -> Result<Written<'_>, AllocError>
-    ensures read { IfOk result (λ read. written_seen read ≡ written (table_view document.now)) }
+    ensures read { IfOk result (λ read. written_view read ≡ written (table_view document.now)) }
 
     // Where the form is right, nothing is passed over.
-    ensures whole { first_of (form_conditions (table_view document.now)) ≡ None → IfOk result (λ read. IsWritten (table_view document.now) (written_seen read)) }
+    ensures whole { first_of (form_conditions (table_view document.now)) ≡ None → IfOk result (λ read. IsWritten (table_view document.now) (written_view read)) }
 {
     written_in(alloc, document)
 }
 
 #[tactic(auto, unfolding(crate::specs::Written::written))]
 fn written_in(alloc: Global, document: &Table) -> Result<Written<'_>, AllocError>
-    ensures { IfOk result (λ read. written_seen read ≡ written (table_view document.now)) }
+    ensures { IfOk result (λ read. written_view read ≡ written (table_view document.now)) }
 {
     let hosts = hosts_among(alloc, listed(document, "host"))?;
     let invariants = invariants_among(alloc, listed(document, "invariant"))?;

@@ -1,4 +1,4 @@
--- Hosts that are added one behind the other from a list.
+-- Hosts that are added one after the other from a list.
 use Rattle.std.proofs.Common.{◌≡◌, ℕ, suc, ◌<◌, get_or, drop, drop-cons, List, ◌∷◌, ◌++◌, map, length, sym, ap, subst, ◌∙◌}
 use Rattle.host_net.specs.Host.{Host}
 use Rattle.host_net.specs.Hosts.{IsHosts}

@@ -1,7 +1,7 @@
 -- The first of nine answers, of which the first two are asked before the others.
 use Rattle.std.proofs.Common.{◌≡◌, false, [], ◌∷◌, Option, Some, None, is_some, refl}
 use Rattle.std.specs.Option.{option_or}
-use Rattle.desc_form.specs.Firsts.{first_of}
+use Rattle.text_core.specs.Firsts.{first_of}
 
 pub late_first : {A : Type 0} (a b c d e f g h i : Option A) → is_some (option_or a b) ≡ false
     → option_or (option_or (option_or (option_or (option_or (option_or c d) e) f) g) h) i ≡ first_of (a ∷ b ∷ c ∷ d ∷ e ∷ f ∷ g ∷ h ∷ i ∷ [])

@@ -8,14 +8,15 @@ use Rattle.std.proofs.lemmas.List.Elements.{filter_map-append}
 use Rattle.std.proofs.lemmas.List.Folds.{list_all-map}
 use Rattle.std.specs.List.{cons_option, list_all, filter_map, flat_map}
 use Rattle.std.specs.Option.{option_map_or}
-use Rattle.desc_form.specs.Firsts.{Numbered, numbered_from}
+use Rattle.text_core.specs.Firsts.{Numbered, numbered_from, no_pair}
 use Rattle.desc_form.specs.Written.{Written, WrittenHost}
-use Rattle.host_net.specs.PairLaws.{no_pair-map}
+use Rattle.text_core.specs.PairLaws.{no_pair-map}
 use Rattle.desc_hosts.specs.HostConditions.{Entry, all_entries, entries_at, entries_of, entries_meet, is_prefix, has_host_bits}
-use Rattle.desc_hosts.specs.WrittenHosts.{host_of, hosts_of}
+use Rattle.desc_hosts.specs.WrittenHosts.{network_host, network_hosts}
 use Rattle.host_net.specs.Host.{Host, all_prefixes, prefix_count}
-use Rattle.host_net.specs.Hosts.{is_network, no_pair}
+use Rattle.host_net.specs.Hosts.{is_network}
 use Rattle.host_net.specs.Prefix.{is_exact, meets, prefix_of}
+use Rattle.host_net.specs.PrefixTextLaws.{prefix_of-fits}
 use Rattle.host_net.specs.declared.prefix.Prefix.{Prefix}
 
 -- the texts of all entries
@@ -47,13 +48,13 @@ pub length_texts : (w : Written) → length (texts w.hosts) ≡ length (all_entr
 length_texts w = sym (ap length (texts_of_entries w)) ∙ length-map (all_entries w) (λ (e : Entry). e.text)
 
 -- the prefixes of all hosts are those that their entries say
-prefixes_from : (hs : List WrittenHost) → all_prefixes (map host_of hs) ≡ filter_map prefix_of (texts hs)
+prefixes_from : (hs : List WrittenHost) → all_prefixes (map network_host hs) ≡ filter_map prefix_of (texts hs)
 prefixes_from [] = refl
 prefixes_from (h ∷ hs) =
     ap (λ ps. filter_map prefix_of h.at ++ ps) (prefixes_from hs) ∙ sym (filter_map-append prefix_of h.at (texts hs))
 
-pub prefixes_of_texts : (w : Written) → all_prefixes (hosts_of w) ≡ filter_map prefix_of (texts w.hosts)
-unfolding hosts_of
+pub prefixes_of_texts : (w : Written) → all_prefixes (network_hosts w) ≡ filter_map prefix_of (texts w.hosts)
+unfolding network_hosts
 prefixes_of_texts w = prefixes_from w.hosts
 
 shorter_by : {A : Type 0} (o : Option A) (xs : List A) (n : ℕ) → length xs ≤ n → length (cons_option o xs) ≤ suc n
@@ -65,19 +66,19 @@ pub no_longer : {A B : Type 0} (f : A → Option B) (xs : List A) → length (fi
 no_longer f [] = omega arith
 no_longer f (x ∷ xs) = shorter_by (f x) (filter_map f xs) (length xs) (no_longer f xs)
 
-pub prefix_count_entries : (w : Written) → prefix_count (hosts_of w) ≤ length (all_entries w)
+pub prefix_count_entries : (w : Written) → prefix_count (network_hosts w) ≤ length (all_entries w)
 prefix_count_entries w =
     let few = no_longer prefix_of (texts w.hosts) in
-    let all : length (filter_map prefix_of (texts w.hosts)) ≡ prefix_count (hosts_of w) =
-    sym (ap length (prefixes_of_texts w)) ∙ length-flat_map (λ (h : Host). h.prefixes) (hosts_of w) in
+    let all : length (filter_map prefix_of (texts w.hosts)) ≡ prefix_count (network_hosts w) =
+    sym (ap length (prefixes_of_texts w)) ∙ length-flat_map (λ (h : Host). h.prefixes) (network_hosts w) in
     omega (arith, few, all, length_texts w)
 
--- what an entry says is a network, where it is a prefix of at least one bit without bits behind its length
-network_said : (o : Option Prefix) (ps : List Prefix)
+-- what an entry says is a network, where it is a prefix of at least one bit without bits after its length
+network_said : (t : List ℕ) (o : Option Prefix) (ps : List Prefix) → prefix_of t ≡ o
     → not (not (option_map_or (λ p. nat_lt 0 p.len) o false)) ≡ true → not (option_map_or (λ p. not (is_exact p)) o false) ≡ true
     → list_all is_network ps ≡ true → list_all is_network (cons_option o ps) ≡ true
-network_said None ps prefix exact all = cc
-network_said (Some p) ps prefix exact all = grind (arith, nat_tests)
+network_said t None ps said prefix exact all = cc
+network_said t (Some p) ps said prefix exact all = grind (arith, nat_tests, prefix_of-fits t p said)
 
 pub networks : (ts : List (List ℕ)) → list_all (λ t. not (not (is_prefix t))) ts ≡ true → list_all (λ t. not (has_host_bits t)) ts ≡ true
     → list_all is_network (filter_map prefix_of ts) ≡ true
@@ -85,7 +86,7 @@ networks [] prefixes exact = refl
 networks (t ∷ ts) prefixes exact =
     let (prefix, prefixes_behind) = and_parts (not (not (is_prefix t))) _ prefixes in
     let (exact_here, exact_behind) = and_parts (not (has_host_bits t)) _ exact in
-    network_said (prefix_of t) (filter_map prefix_of ts) prefix exact_here (networks ts prefixes_behind exact_behind)
+    network_said t (prefix_of t) (filter_map prefix_of ts) refl prefix exact_here (networks ts prefixes_behind exact_behind)
 
 -- entries that do not meet say prefixes that do not meet
 abbrev said_meet : Option Prefix → Option Prefix → Bool

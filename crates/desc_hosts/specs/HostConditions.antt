@@ -8,12 +8,13 @@ use Rattle.desc_form.specs.declared.refusal.Place.{Place}
 use Rattle.desc_form.specs.declared.refusal.Place.TheVariants.{Document, Host, Invariant}
 use Rattle.desc_form.specs.declared.refusal.Refusal.{Refusal}
 use Rattle.desc_form.specs.declared.refusal.Why.TheVariants.{BadVersion, TooMany, BadName, DuplicateHost, BadPrefix, HostBits, NoAddress, TwoRests, Overlap}
-use Rattle.desc_form.specs.Firsts.{where_holds, first_of, numbered, Numbered, first_pair}
+use Rattle.text_core.specs.Firsts.{where_holds, first_of, numbered, Numbered, first_pair}
 use Rattle.desc_hosts.specs.Mentions.{Mention, all_names}
 use Rattle.desc_form.specs.Refusals.{refused, refused_item, refused_by, refused_item_by}
 use Rattle.desc_form.specs.Written.{Written, WrittenHost, WrittenInvariant}
 use Rattle.text_core.specs.Name.{is_name}
 use Rattle.host_net.specs.Hosts.{host_limit, lacks_address, prefix_limit}
+use Rattle.host_net.specs.Limits.{invariant_limit}
 use Rattle.host_net.specs.Prefix.{is_exact, meets, prefix_of}
 
 -- an entry of the list of prefixes of a host: its number there, and what it says
@@ -36,10 +37,6 @@ all_entries w = flat_map entries_of (numbered w.hosts)
 unfoldable pub bad_version : ℤ → Option Refusal
 bad_version version = where_holds (not (int_eq version (pos 1))) (refused BadVersion Document)
 
--- how many invariants there may be
-abbrev pub invariant_limit : ℕ
-invariant_limit = 16
-
 -- a list has more elements than a limit: the first beyond it
 abbrev pub beyond : {A : Type 0} → ℕ → (ℕ → Place) → List A → Option Refusal
 beyond limit place xs = where_holds (nat_lt limit (length xs)) (refused TooMany (place (limit + 1)))
@@ -52,7 +49,7 @@ too_many_prefixes es = option_map (λ e. refused_item TooMany (Host e.host) e.it
 unfoldable pub too_many : List WrittenHost → List Entry → List WrittenInvariant → Option Refusal
 too_many hs es invariants = first_of (beyond host_limit Host hs ∷ too_many_prefixes es ∷ beyond invariant_limit Invariant invariants ∷ [])
 
--- 8: a name is none
+-- 8: a text in the place of a name is no legal name
 unfoldable pub bad_name : List Mention → Option Refusal
 bad_name names = option_map (λ m. refused_item BadName m.place m.item) (find (λ m. not (is_name m.name)) names)
 
@@ -70,11 +67,11 @@ is_prefix text = option_map_or (λ p. nat_lt 0 p.len) (prefix_of text) false
 unfoldable pub bad_prefix : List Entry → Option Refusal
 bad_prefix es = option_map (λ e. refused_item BadPrefix (Host e.host) e.item) (find (λ e. not (is_prefix e.text)) es)
 
--- bits behind the length of the entry's prefix are set
+-- bits after the length of the entry's prefix are set
 abbrev pub has_host_bits : List ℕ → Bool
 has_host_bits text = option_map_or (λ p. not (is_exact p)) (prefix_of text) false
 
--- 11: an entry has bits behind the length
+-- 11: an entry has bits after the length
 unfoldable pub host_bits : List Entry → Option Refusal
 host_bits es = option_map (λ e. refused_item HostBits (Host e.host) e.item) (find (λ e. has_host_bits e.text) es)
 

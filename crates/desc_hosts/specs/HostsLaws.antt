@@ -7,21 +7,23 @@ use Rattle.std.proofs.lemmas.List.Folds.{list_all-append, list_all-map}
 use Rattle.std.specs.List.{cons_option, find, list_all, filter_map}
 use Rattle.std.specs.Option.{option_map_or}
 use Rattle.std.specs.Str.{bytes_eq}
-use Rattle.desc_form.specs.Firsts.{first_of, first_pair, Numbered, Pair, numbered_from, numbered}
+use Rattle.text_core.specs.Firsts.{first_of, first_pair, Numbered, Pair, numbered_from, numbered, no_pair}
 use Rattle.desc_form.specs.Refusals.{refused, refused_item}
 use Rattle.desc_form.specs.Written.{Written, WrittenHost}
 use Rattle.desc_form.specs.declared.refusal.Place.{Place}
 use Rattle.desc_form.specs.declared.refusal.Place.TheVariants as at_host
 use Rattle.desc_form.specs.declared.refusal.Refusal.{Refusal}
 use Rattle.desc_form.specs.declared.refusal.Why.TheVariants.{TooMany, BadName}
-use Rattle.desc_form.specs.FirstsLaws.{neither, none_mapped, holds_not, none_found, none_barred, all_numbered, no_pair_numbered, no_pair-map, all_twice}
+use Rattle.text_core.specs.FirstsLaws.{neither, none_mapped, holds_not, none_found, none_barred, all_numbered, no_pair_numbered, all_twice}
+use Rattle.text_core.specs.PairLaws.{no_pair-map}
 use Rattle.desc_hosts.specs.EntriesLaws.{texts, all_texts, no_pair_texts, prefixes_of_texts, prefix_count_entries, networks, prefixes_apart}
-use Rattle.desc_hosts.specs.HostConditions.{Entry, all_entries, entries_meet, bad_version, beyond, too_many, bad_name, duplicate_host, is_prefix, bad_prefix, has_host_bits, host_bits, invariant_limit, no_address, two_rests, overlap, host_conditions}
+use Rattle.desc_hosts.specs.HostConditions.{Entry, all_entries, entries_meet, bad_version, beyond, too_many, bad_name, duplicate_host, is_prefix, bad_prefix, has_host_bits, host_bits, no_address, two_rests, overlap, host_conditions}
+use Rattle.host_net.specs.Limits.{invariant_limit}
 use Rattle.desc_hosts.specs.Mentions.{Mention, all_names, host_name, used_names}
-use Rattle.desc_hosts.specs.WrittenHosts.{host_of, hosts_of}
+use Rattle.desc_hosts.specs.WrittenHosts.{network_host, network_hosts}
 use Rattle.text_core.specs.Name.{is_name}
 use Rattle.host_net.specs.Host.{Host}
-use Rattle.host_net.specs.Hosts.{IsHosts, host_limit, is_network, lacks_address, no_pair, prefix_limit}
+use Rattle.host_net.specs.Hosts.{IsHosts, host_limit, is_network, lacks_address, prefix_limit}
 use Rattle.host_net.specs.Prefix.{meets, prefix_of}
 use Rattle.host_net.specs.declared.prefix.Prefix.{Prefix}
 
@@ -135,7 +137,7 @@ prefixes_by : (w : Written) → bad_prefix (all_entries w) ≡ None → list_all
 unfolding bad_prefix
 prefixes_by w h = sym (all_texts (λ t. not (not (is_prefix t))) w) ∙ passed (λ (e : Entry). not (is_prefix e.text)) _ (all_entries w) h
 
--- 11: none has bits behind its length
+-- 11: none has bits after its length
 exact_by : (w : Written) → host_bits (all_entries w) ≡ None → list_all (λ t. not (has_host_bits t)) (texts w.hosts) ≡ true
 unfolding host_bits
 exact_by w h = sym (all_texts (λ t. not (has_host_bits t)) w) ∙ passed (λ (e : Entry). has_host_bits e.text) _ (all_entries w) h
@@ -173,34 +175,34 @@ addressed_host (t ∷ ts) rest prefixes address =
     addressed_said (prefix_of t) (filter_map prefix_of ts) rest prefix address
 
 addressed_hosts : (hs : List WrittenHost) → list_all (λ t. not (not (is_prefix t))) (texts hs) ≡ true → list_all (λ (h : WrittenHost). not (lacks_address h.at h.rest)) hs ≡ true
-    → list_all (λ (h : Host). not (lacks_address h.prefixes h.rest)) (map host_of hs) ≡ true
+    → list_all (λ (h : Host). not (lacks_address h.prefixes h.rest)) (map network_host hs) ≡ true
 addressed_hosts [] prefixes addresses = refl
 addressed_hosts (h ∷ hs) prefixes addresses =
     let (here, behind) = and_parts (list_all (λ t. not (not (is_prefix t))) h.at) _ (sym (list_all-append (λ t. not (not (is_prefix t))) h.at (texts hs)) ∙ prefixes) in
     let (address, addresses_behind) = and_parts (not (lacks_address h.at h.rest)) _ addresses in
     rw (addressed_host h.at h.rest here address, addressed_hosts hs behind addresses_behind)
 
-pub length-hosts_of : (w : Written) → length (hosts_of w) ≡ length w.hosts
-unfolding hosts_of
-length-hosts_of w = length-map w.hosts host_of
+pub length-network_hosts : (w : Written) → length (network_hosts w) ≡ length w.hosts
+unfolding network_hosts
+length-network_hosts w = length-map w.hosts network_host
 
-all_hosts : (p : Host → Bool) (w : Written) → list_all (λ h. p (host_of h)) w.hosts ≡ true → list_all p (hosts_of w) ≡ true
-unfolding hosts_of
-all_hosts p w h = list_all-map p host_of w.hosts ∙ h
+all_hosts : (p : Host → Bool) (w : Written) → list_all (λ h. p (network_host h)) w.hosts ≡ true → list_all p (network_hosts w) ≡ true
+unfolding network_hosts
+all_hosts p w h = list_all-map p network_host w.hosts ∙ h
 
-no_pair_hosts : (r : Host → Host → Bool) (w : Written) → no_pair (λ h g. r (host_of h) (host_of g)) w.hosts ≡ true → no_pair r (hosts_of w) ≡ true
-unfolding hosts_of
-no_pair_hosts r w h = no_pair-map r host_of w.hosts ∙ h
+no_pair_hosts : (r : Host → Host → Bool) (w : Written) → no_pair (λ h g. r (network_host h) (network_host g)) w.hosts ≡ true → no_pair r (network_hosts w) ≡ true
+unfolding network_hosts
+no_pair_hosts r w h = no_pair-map r network_host w.hosts ∙ h
 
 -- the hosts of a description that no condition on hosts refuses
-hosts_by : (w : Written) → IsUnrefused w → IsHosts (hosts_of w)
-unfolding hosts_of
+hosts_by : (w : Written) → IsUnrefused w → IsHosts (network_hosts w)
+unfolding network_hosts
 hosts_by w free =
     let small = small_by w free.sizes in
     let prefixes = prefixes_by w free.prefixes in
     let exact = exact_by w free.exact in
     record {
-      few = omega (arith, length-hosts_of w, small.hosts);
+      few = omega (arith, length-network_hosts w, small.hosts);
       few_prefixes = omega (arith, prefix_count_entries w, small.prefixes);
       named = all_hosts (λ h. is_name h.name) w (named_by w free.names);
       distinct = no_pair_hosts (λ h g. bytes_eq h.name g.name) w (distinct_by w free.distinct);
@@ -210,5 +212,5 @@ hosts_by w free =
       apart = ap (no_pair meets) (prefixes_of_texts w) ∙ prefixes_apart (texts w.hosts) (apart_by w free.apart);
     }
 
-pub IsHosts-hosts_of : (w : Written) → first_of (host_conditions w) ≡ None → IsHosts (hosts_of w)
-IsHosts-hosts_of w h = hosts_by w (unrefused w h)
+pub IsHosts-network_hosts : (w : Written) → first_of (host_conditions w) ≡ None → IsHosts (network_hosts w)
+IsHosts-network_hosts w h = hosts_by w (unrefused w h)

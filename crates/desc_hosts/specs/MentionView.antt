@@ -2,5 +2,5 @@
 use Rattle.desc_hosts.specs.Mentions as meant
 use Rattle.desc_hosts.specs.declared.mentions.Mention.{Mention}
 
-abbrev pub mention_seen : Mention → meant.Mention
-mention_seen m = record { place = m.place; item = m.item; name = m.name.now }
+abbrev pub mention_view : Mention → meant.Mention
+mention_view m = record { place = m.place; item = m.item; name = m.name.now }

@@ -2,7 +2,7 @@
 use Rattle.std.specs.Prelude.{ℕ, List, [], ◌∷◌, ◌++◌, map, flat_map}
 use Rattle.desc_form.specs.declared.refusal.Place.{Place}
 use Rattle.desc_form.specs.declared.refusal.Place.TheVariants.{Host, Assign, FlowAt}
-use Rattle.desc_form.specs.Firsts.{numbered, Numbered}
+use Rattle.text_core.specs.Firsts.{numbered, Numbered}
 use Rattle.desc_form.specs.Written.{Written, WrittenHost, WrittenAssign, WrittenInvariant}
 
 -- a name that stands at a place; in a flow as item 1 or 2

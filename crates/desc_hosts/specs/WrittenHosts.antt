@@ -5,8 +5,8 @@ use Rattle.host_net.specs.Host.{Host}
 use Rattle.host_net.specs.Prefix.{prefix_of}
 
 -- a host with the prefixes that its entries say
-abbrev pub host_of : WrittenHost → Host
-host_of h = record { name = h.name; prefixes = filter_map prefix_of h.at; rest = h.rest }
+abbrev pub network_host : WrittenHost → Host
+network_host h = record { name = h.name; prefixes = filter_map prefix_of h.at; rest = h.rest }
 
-unfoldable pub hosts_of : Written → List Host
-hosts_of w = map host_of w.hosts
+unfoldable pub network_hosts : Written → List Host
+network_hosts w = map network_host w.hosts

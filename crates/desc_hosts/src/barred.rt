@@ -3,18 +3,19 @@ ghost use Rattle.std.specs.Prelude.{◌≡◌, map, option_map};
 ghost use Rattle.desc_form.specs.declared.refusal.Place.TheVariants.{Host};
 ghost use Rattle.desc_form.specs.declared.refusal.Why.TheVariants.{Overlap};
 ghost use Rattle.desc_form.specs.Refusals.{refused_by, refused_item_by};
-ghost use Rattle.desc_form.specs.FirstsSeen.{pair_seen};
-ghost use Rattle.desc_form.specs.Seen.{host_seen};
-ghost use Rattle.desc_hosts.specs.EntryView.{entry_seen};
+ghost use Rattle.text_core.specs.FirstsSeen.{pair_seen};
+ghost use Rattle.desc_form.specs.WrittenView.{host_view};
+ghost use Rattle.desc_hosts.specs.EntryView.{entry_view};
 ghost use Rattle.desc_hosts.specs.HostConditions.{duplicate_host, entries_meet, overlap, two_rests};
 
 use crate::entries::Entry;
-use desc_form::{Pair, Place, Refusal, Why, WrittenHost, first_pair};
+use desc_form::{Place, Refusal, Why, WrittenHost};
 use host_net::read_prefix;
+use text_core::{Pair, first_pair};
 
 /// A host has the name of an earlier one.
 pub(crate) fn duplicate_host(hosts: &[WrittenHost<'_>]) -> Option<Refusal>
-    ensures { result ≡ duplicate_host (map host_seen hosts.now) }
+    ensures { result ≡ duplicate_host (map host_view hosts.now) }
 {
     let pair = first_pair(hosts, |later, earlier| later.name == earlier.name);
     barred_host(Why::DuplicateHost, pair)
@@ -22,7 +23,7 @@ pub(crate) fn duplicate_host(hosts: &[WrittenHost<'_>]) -> Option<Refusal>
 
 /// A second host has the rest mark.
 pub(crate) fn two_rests(hosts: &[WrittenHost<'_>]) -> Option<Refusal>
-    ensures { result ≡ two_rests (map host_seen hosts.now) }
+    ensures { result ≡ two_rests (map host_view hosts.now) }
 {
     let pair = first_pair(hosts, |later, earlier| later.rest && earlier.rest);
     barred_host(Why::TwoRests, pair)
@@ -39,7 +40,7 @@ fn barred_host(why: Why, pair: Option<Pair<'_, WrittenHost<'_>>>) -> Option<Refu
 
 /// A prefix has an address in common with an earlier one.
 pub(crate) fn overlap(entries: &[Entry<'_>]) -> Option<Refusal>
-    ensures { result ≡ overlap (map entry_seen entries.now) }
+    ensures { result ≡ overlap (map entry_view entries.now) }
 {
     let pair = first_pair(
         entries,

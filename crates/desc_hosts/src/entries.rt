@@ -1,11 +1,11 @@
 //! The entries of the lists of prefixes, by host and item, and the refusals that look at them alone.
 ghost use Rattle.std.specs.Prelude.{◌≡◌, ◌++◌, flat_map, map, IfOk, OnOk};
 ghost use Rattle.desc_form.specs.declared.refusal.Place.TheVariants.{Host};
-ghost use Rattle.desc_form.specs.Firsts.{numbered};
+ghost use Rattle.text_core.specs.Firsts.{numbered};
 ghost use Rattle.desc_hosts.specs.HostConditions.{bad_prefix, entries_at, entries_of, has_host_bits, host_bits, is_prefix, too_many_prefixes};
 ghost use Rattle.desc_form.specs.Refusals.{refused_item};
-ghost use Rattle.desc_form.specs.Seen.{host_seen};
-ghost use Rattle.desc_hosts.specs.EntryView.{entry_seen};
+ghost use Rattle.desc_form.specs.WrittenView.{host_view};
+ghost use Rattle.desc_hosts.specs.EntryView.{entry_view};
 
 use desc_form::{Place, Refusal, Why, WrittenHost};
 use host_net::{PREFIX_LIMIT, read_prefix};
@@ -33,7 +33,7 @@ pub(crate) fn all_entries<'a>(
     alloc: Global,
     hosts: &[WrittenHost<'a>],
 ) -> Result<Vec<Entry<'a>>, AllocError>
-    ensures { IfOk result (λ entries. map entry_seen entries.items ≡ flat_map entries_of (numbered (map host_seen hosts.now))) }
+    ensures { IfOk result (λ entries. map entry_view entries.items ≡ flat_map entries_of (numbered (map host_view hosts.now))) }
 {
     let mut entries = Vec::new(alloc);
     for (index, host) in hosts.iter().enumerate() {
@@ -47,7 +47,7 @@ fn push_entries<'a>(
     host: u64,
     texts: &[&'a str],
 ) -> Result<(), AllocError>
-    ensures { OnOk result (map entry_seen entries.new.items ≡ map entry_seen entries.old.items ++ entries_at host (map (λ text. text.now) texts.now)) }
+    ensures { OnOk result (map entry_view entries.new.items ≡ map entry_view entries.old.items ++ entries_at host (map (λ text. text.now) texts.now)) }
 {
     for (index, text) in texts.iter().enumerate() {
         entries.push(Entry {
@@ -61,7 +61,7 @@ fn push_entries<'a>(
 
 /// All hosts together have more prefixes than they may have.
 pub(crate) fn too_many_prefixes(entries: &[Entry<'_>]) -> Option<Refusal>
-    ensures { result ≡ too_many_prefixes (map entry_seen entries.now) }
+    ensures { result ≡ too_many_prefixes (map entry_view entries.now) }
 {
     let entry = entries.get(PREFIX_LIMIT)?;
     Some(entry.refused(Why::TooMany))
@@ -70,7 +70,7 @@ pub(crate) fn too_many_prefixes(entries: &[Entry<'_>]) -> Option<Refusal>
 /// An entry is no prefix, or one of length 0.
 #[tactic(auto, unfolding(crate::specs::HostConditions::bad_prefix))]
 pub(crate) fn bad_prefix(entries: &[Entry<'_>]) -> Option<Refusal>
-    ensures { result ≡ bad_prefix (map entry_seen entries.now) }
+    ensures { result ≡ bad_prefix (map entry_view entries.now) }
 {
     for entry in entries {
         if !is_prefix(entry.text) {
@@ -80,10 +80,10 @@ pub(crate) fn bad_prefix(entries: &[Entry<'_>]) -> Option<Refusal>
     None
 }
 
-/// An entry has bits behind its length.
+/// An entry has bits after its length.
 #[tactic(auto, unfolding(crate::specs::HostConditions::host_bits))]
 pub(crate) fn host_bits(entries: &[Entry<'_>]) -> Option<Refusal>
-    ensures { result ≡ host_bits (map entry_seen entries.now) }
+    ensures { result ≡ host_bits (map entry_view entries.now) }
 {
     for entry in entries {
         if has_host_bits(entry.text) {
@@ -103,7 +103,7 @@ fn is_prefix(text: &str) -> bool
     }
 }
 
-/// Whether the entry is a prefix with bits behind its length.
+/// Whether the entry is a prefix with bits after its length.
 fn has_host_bits(text: &str) -> bool
     ensures { result ≡ has_host_bits text.now }
 {

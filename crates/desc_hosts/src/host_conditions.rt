@@ -1,10 +1,10 @@
 //! The refusals of a written description for its version, its size and its hosts.
 ghost use Rattle.std.specs.Prelude.{◌≡◌, map, IfOk};
-ghost use Rattle.desc_form.specs.Firsts.{first_of};
-ghost use Rattle.desc_form.specs.Seen.{host_seen, written_seen};
-ghost use Rattle.desc_hosts.specs.EntryView.{entry_seen};
+ghost use Rattle.text_core.specs.Firsts.{first_of};
+ghost use Rattle.desc_form.specs.WrittenView.{host_view, written_view};
+ghost use Rattle.desc_hosts.specs.EntryView.{entry_view};
 ghost use Rattle.desc_hosts.specs.HostConditions.{all_entries, bad_name, bad_version, host_conditions, no_address};
-ghost use Rattle.desc_hosts.specs.MentionView.{mention_seen};
+ghost use Rattle.desc_hosts.specs.MentionView.{mention_view};
 ghost use Rattle.desc_hosts.specs.Mentions.{all_names};
 ghost use Rattle.host_net.specs.Hosts.{lacks_address};
 ghost use Rattle.text_core.specs.Name.{is_name};
@@ -21,7 +21,7 @@ use text_core::is_name;
 /// refuses it.
 #[tactic(auto, unfolding(crate::specs::HostConditions::all_entries))]
 pub fn host_refusal(alloc: Global, written: &Written<'_>) -> Result<Option<Refusal>, AllocError>
-    ensures { IfOk result (λ refused. refused ≡ first_of (host_conditions (written_seen written.now))) }
+    ensures { IfOk result (λ refused. refused ≡ first_of (host_conditions (written_view written.now))) }
 {
     let entries = all_entries(alloc, &written.hosts)?;
     let names = all_names(alloc, written)?;
@@ -36,9 +36,9 @@ fn first_refusal(
     names: &[Mention<'_>],
     entries: &[Entry<'_>],
 ) -> Option<Refusal>
-    requires names { map mention_seen names.now ≡ all_names (written_seen written.now) }
-    requires entries { map entry_seen entries.now ≡ all_entries (written_seen written.now) }
-    ensures { result ≡ first_of (host_conditions (written_seen written.now)) }
+    requires names { map mention_view names.now ≡ all_names (written_view written.now) }
+    requires entries { map entry_view entries.now ≡ all_entries (written_view written.now) }
+    ensures { result ≡ first_of (host_conditions (written_view written.now)) }
 {
     let early = bad_version(written).or(too_many(&written.hosts, entries, &written.invariants));
     if early.is_some() {
@@ -53,10 +53,10 @@ fn first_refusal(
         .or(overlap(entries))
 }
 
-/// A name is none.
+/// A text in the place of a name is no legal name.
 #[tactic(auto, unfolding(crate::specs::HostConditions::bad_name))]
 fn bad_name(names: &[Mention<'_>]) -> Option<Refusal>
-    ensures { result ≡ bad_name (map mention_seen names.now) }
+    ensures { result ≡ bad_name (map mention_view names.now) }
 {
     for mention in names {
         if !is_name(mention.name.as_bytes()) {
@@ -80,7 +80,7 @@ fn bad_version(written: &Written<'_>) -> Option<Refusal>
 
 /// The host has neither a prefix nor the rest mark, or it has both.
 fn lacks_address(host: &WrittenHost<'_>) -> bool
-    ensures { result ≡ lacks_address (host_seen host.now).at (host_seen host.now).rest }
+    ensures { result ≡ lacks_address (host_view host.now).at (host_view host.now).rest }
 {
     if host.at.is_empty() {
         !host.rest
@@ -92,7 +92,7 @@ fn lacks_address(host: &WrittenHost<'_>) -> bool
 /// The first host that has neither a prefix nor the rest mark, or both.
 #[tactic(auto, unfolding(crate::specs::HostConditions::no_address))]
 fn no_address(hosts: &[WrittenHost<'_>]) -> Option<Refusal>
-    ensures { result ≡ no_address (map host_seen hosts.now) }
+    ensures { result ≡ no_address (map host_view hosts.now) }
 {
     for (index, host) in hosts.iter().enumerate() {
         if lacks_address(host) {

@@ -1,10 +1,10 @@
 //! From a written description to its hosts.
 ghost use Rattle.std.specs.Prelude.{◌≡◌, ◌++◌, ◌∷◌, [], None, filter_map, map, IfOk, IsTrue, OnOk};
 ghost use Rattle.std.specs.List.{list_all};
-ghost use Rattle.desc_form.specs.Firsts.{first_of};
-ghost use Rattle.desc_form.specs.Seen.{host_seen, written_seen};
+ghost use Rattle.text_core.specs.Firsts.{first_of};
+ghost use Rattle.desc_form.specs.WrittenView.{host_view, written_view};
 ghost use Rattle.desc_hosts.specs.HostConditions.{host_conditions};
-ghost use Rattle.desc_hosts.specs.WrittenHosts.{host_of, hosts_of};
+ghost use Rattle.desc_hosts.specs.WrittenHosts.{network_host, network_hosts};
 ghost use Rattle.host_net.specs.Hosts.{is_network};
 ghost use Rattle.host_net.specs.Prefix.{prefix_of};
 ghost use Rattle.host_net.specs.Refusal.{refusal_of};
@@ -15,8 +15,8 @@ use std::alloc::{AllocError, Global};
 
 /// The hosts of a description that none of the conditions on hosts refuses.
 pub fn read_hosts(alloc: Global, written: &Written<'_>) -> Result<Hosts, AllocError>
-    requires { first_of (host_conditions (written_seen written.now)) ≡ None }
-    ensures { IfOk result (λ hosts. hosts ≡ hosts_of (written_seen written.now)) }
+    requires { first_of (host_conditions (written_view written.now)) ≡ None }
+    ensures { IfOk result (λ hosts. hosts ≡ network_hosts (written_view written.now)) }
 {
     let mut hosts = Hosts::new(alloc);
     for host in &written.hosts {
@@ -27,9 +27,9 @@ pub fn read_hosts(alloc: Global, written: &Written<'_>) -> Result<Hosts, AllocEr
 
 /// Adds a host that is not refused.
 fn add_host(alloc: Global, hosts: &mut Hosts, host: &WrittenHost<'_>) -> Result<(), AllocError>
-    requires networks { let added = host_of (host_seen host.now) in IsTrue (list_all is_network added.prefixes) }
-    requires accepted { let added = host_of (host_seen host.now) in refusal_of hosts.old added.name added.prefixes added.rest ≡ None }
-    ensures { OnOk result (hosts.new ≡ hosts.old ++ host_of (host_seen host.now) ∷ []) }
+    requires networks { let added = network_host (host_view host.now) in IsTrue (list_all is_network added.prefixes) }
+    requires accepted { let added = network_host (host_view host.now) in refusal_of hosts.old added.name added.prefixes added.rest ≡ None }
+    ensures { OnOk result (hosts.new ≡ hosts.old ++ network_host (host_view host.now) ∷ []) }
 {
     let prefixes = prefixes_among(alloc, &host.at)?;
     match hosts.add(host.name.as_bytes(), &prefixes, host.rest) {

@@ -1,8 +1,8 @@
 //! The names that stand in a description, place by place: of its hosts, in its assigns, in its flows.
 ghost use Rattle.std.specs.Prelude.{◌≡◌, ◌++◌, flat_map, map, IfOk, OnOk};
-ghost use Rattle.desc_form.specs.Firsts.{numbered};
-ghost use Rattle.desc_form.specs.Seen.{assign_seen, host_seen, invariant_seen, written_seen};
-ghost use Rattle.desc_hosts.specs.MentionView.{mention_seen};
+ghost use Rattle.text_core.specs.Firsts.{numbered};
+ghost use Rattle.desc_form.specs.WrittenView.{assign_view, host_view, invariant_view, written_view};
+ghost use Rattle.desc_hosts.specs.MentionView.{mention_view};
 ghost use Rattle.desc_hosts.specs.Mentions.{all_names, assign_name, assign_names_of, flow_names_of, host_name, used_names};
 
 use desc_form::{Place, Written, WrittenAssign, WrittenHost, WrittenInvariant};
@@ -18,7 +18,7 @@ pub struct Mention<'a> {
 
 /// The names that stand for hosts: in assigns, then in flows.
 pub fn used_names<'a>(alloc: Global, written: &Written<'a>) -> Result<Vec<Mention<'a>>, AllocError>
-    ensures { IfOk result (λ names. map mention_seen names.items ≡ used_names (written_seen written.now)) }
+    ensures { IfOk result (λ names. map mention_view names.items ≡ used_names (written_view written.now)) }
 {
     let mut names = Vec::new(alloc);
     push_used_names(&mut names, written)?;
@@ -31,7 +31,7 @@ pub(crate) fn all_names<'a>(
     alloc: Global,
     written: &Written<'a>,
 ) -> Result<Vec<Mention<'a>>, AllocError>
-    ensures { IfOk result (λ names. map mention_seen names.items ≡ all_names (written_seen written.now)) }
+    ensures { IfOk result (λ names. map mention_view names.items ≡ all_names (written_view written.now)) }
 {
     let mut names = Vec::new(alloc);
     push_host_names(&mut names, &written.hosts)?;
@@ -43,7 +43,7 @@ fn push_host_names<'a>(
     names: &mut Vec<Mention<'a>>,
     hosts: &[WrittenHost<'a>],
 ) -> Result<(), AllocError>
-    ensures { OnOk result (map mention_seen names.new.items ≡ map mention_seen names.old.items ++ map host_name (numbered (map host_seen hosts.now))) }
+    ensures { OnOk result (map mention_view names.new.items ≡ map mention_view names.old.items ++ map host_name (numbered (map host_view hosts.now))) }
 {
     for (index, host) in hosts.iter().enumerate() {
         names.push(Mention {
@@ -60,7 +60,7 @@ fn push_used_names<'a>(
     names: &mut Vec<Mention<'a>>,
     written: &Written<'a>,
 ) -> Result<(), AllocError>
-    ensures { OnOk result (map mention_seen names.new.items ≡ map mention_seen names.old.items ++ used_names (written_seen written.now)) }
+    ensures { OnOk result (map mention_view names.new.items ≡ map mention_view names.old.items ++ used_names (written_view written.now)) }
 {
     push_assign_names(names, &written.invariants)?;
     push_flow_names(names, &written.flows)?;
@@ -71,7 +71,7 @@ fn push_assign_names<'a>(
     names: &mut Vec<Mention<'a>>,
     invariants: &[WrittenInvariant<'a>],
 ) -> Result<(), AllocError>
-    ensures { OnOk result (map mention_seen names.new.items ≡ map mention_seen names.old.items ++ flat_map assign_names_of (numbered (map invariant_seen invariants.now))) }
+    ensures { OnOk result (map mention_view names.new.items ≡ map mention_view names.old.items ++ flat_map assign_names_of (numbered (map invariant_view invariants.now))) }
 {
     for (index, invariant) in invariants.iter().enumerate() {
         push_names_of(names, index as u64 + 1, &invariant.assigns)?;
@@ -85,7 +85,7 @@ fn push_names_of<'a>(
     number: u64,
     assigns: &[WrittenAssign<'a>],
 ) -> Result<(), AllocError>
-    ensures { OnOk result (map mention_seen names.new.items ≡ map mention_seen names.old.items ++ map (assign_name number) (numbered (map assign_seen assigns.now))) }
+    ensures { OnOk result (map mention_view names.new.items ≡ map mention_view names.old.items ++ map (assign_name number) (numbered (map assign_view assigns.now))) }
 {
     for (index, assign) in assigns.iter().enumerate() {
         names.push(Mention {
@@ -101,7 +101,7 @@ fn push_flow_names<'a>(
     names: &mut Vec<Mention<'a>>,
     flows: &[(&'a str, &'a str)],
 ) -> Result<(), AllocError>
-    ensures { OnOk result (map mention_seen names.new.items ≡ map mention_seen names.old.items ++ flat_map flow_names_of (numbered (map (λ pair. (pair.0.now, pair.1.now)) flows.now))) }
+    ensures { OnOk result (map mention_view names.new.items ≡ map mention_view names.old.items ++ flat_map flow_names_of (numbered (map (λ pair. (pair.0.now, pair.1.now)) flows.now))) }
 {
     for (index, (from, to)) in flows.iter().enumerate() {
         let place = Place::FlowAt(index as u64 + 1);

@@ -1,9 +1,10 @@
 //! The refusals for a description with too many hosts, prefixes or invariants.
 ghost use Rattle.std.specs.Prelude.{◌≡◌, length, map};
-ghost use Rattle.desc_form.specs.Seen.{host_seen, invariant_seen};
+ghost use Rattle.desc_form.specs.WrittenView.{host_view, invariant_view};
 ghost use Rattle.desc_form.specs.declared.refusal.Place.TheVariants.{Host, Invariant};
-ghost use Rattle.desc_hosts.specs.EntryView.{entry_seen};
-ghost use Rattle.desc_hosts.specs.HostConditions.{beyond, invariant_limit, too_many};
+ghost use Rattle.desc_hosts.specs.EntryView.{entry_view};
+ghost use Rattle.desc_hosts.specs.HostConditions.{beyond, too_many};
+ghost use Rattle.host_net.specs.Limits.{invariant_limit};
 ghost use Rattle.host_net.specs.Hosts.{host_limit};
 
 use crate::entries::{Entry, too_many_prefixes};
@@ -20,7 +21,7 @@ pub(crate) fn too_many(
     entries: &[Entry<'_>],
     invariants: &[WrittenInvariant<'_>],
 ) -> Option<Refusal>
-    ensures { result ≡ too_many (map host_seen hosts.now) (map entry_seen entries.now) (map invariant_seen invariants.now) }
+    ensures { result ≡ too_many (map host_view hosts.now) (map entry_view entries.now) (map invariant_view invariants.now) }
 {
     too_many_hosts(hosts)
         .or(too_many_prefixes(entries))
@@ -29,7 +30,7 @@ pub(crate) fn too_many(
 
 /// There are more hosts than there may be.
 fn too_many_hosts(hosts: &[WrittenHost<'_>]) -> Option<Refusal>
-    ensures { result ≡ beyond host_limit Host (map host_seen hosts.now) }
+    ensures { result ≡ beyond host_limit Host (map host_view hosts.now) }
 {
     if hosts.len() <= HOST_LIMIT {
         return None;
@@ -39,7 +40,7 @@ fn too_many_hosts(hosts: &[WrittenHost<'_>]) -> Option<Refusal>
 
 /// There are more invariants than there may be.
 fn too_many_invariants(invariants: &[WrittenInvariant<'_>]) -> Option<Refusal>
-    ensures { result ≡ beyond invariant_limit Invariant (map invariant_seen invariants.now) }
+    ensures { result ≡ beyond invariant_limit Invariant (map invariant_view invariants.now) }
 {
     if invariants.len() <= INVARIANT_LIMIT {
         return None;

@@ -1,20 +1,24 @@
--- Flows that were asked for and are not permitted.
-use Rattle.std.proofs.Common.{◌≡◌, ℕ, List, sym, subst}
+-- Flows that were asked for and are not permitted, and what their blame rests on.
+use Rattle.std.proofs.Common.{◌≡◌, ℕ, true, List, sym, subst}
 use Rattle.std.specs.Prelude.{IsTrue, IsFalse}
-use Rattle.desc_core.specs.Network.{Network}
+use Rattle.net_core.specs.Network.{Network}
 use Rattle.flow_set.specs.Flow.{IsFlow}
 use Rattle.flow_set.specs.FlowSet.{SetOfFlows, has}
 use Rattle.flow_set.specs.declared.flow.Flow.{Flow}
+use Rattle.inv_any.specs.AnyTrials.{FitsAny, tried_of}
 use Rattle.inv_any.specs.declared.any_inv.AnyInv.{AnyInv}
+use Rattle.inv_any.specs.declared.any_trial.AnyTrial.{AnyTrial}
 use Rattle.permit_core.specs.Policy.{AllHold, IsDenied}
-use Rattle.policy_core.specs.Policies.{Policy, IsPolicy, MeetsAll, holds_on}
+use Rattle.report_core.specs.Trying.{AreTriedOn}
+use Rattle.trial_core.specs.Trials.{AreTried}
+use Rattle.net_core.specs.Policies.{Policy, IsPolicyOf, MeetsAll, holds_on}
 
 -- a flow between the hosts is one in a set that was read
 pub IsFlow-in : (n : ℕ) (f : Flow) (read kept : SetOfFlows) → read ≡ kept → kept.size ≡ n → IsFlow n f → IsFlow read.size f
 IsFlow-in n f read kept same sized is_flow =
     subst (λ (s : SetOfFlows). IsFlow s.size f) (sym same) (subst (λ m. IsFlow m f) (sym sized) is_flow)
 
-pub denied : (d : Network) (policy : Policy) (f : Flow) (invs : List AnyInv) (read : SetOfFlows) → IsPolicy d policy → invs ≡ d.invariants → read ≡ policy.permitted → IsTrue (has d.asked.flows f) → IsFalse (has policy.permitted.flows f) → IsDenied (AllHold holds_on invs) read.flows f
+pub denied : (d : Network) (policy : Policy) (f : Flow) (invs : List AnyInv) (read : SetOfFlows) → IsPolicyOf d policy → invs ≡ d.invariants → read ≡ policy.permitted → IsTrue (has d.asked.flows f) → IsFalse (has policy.permitted.flows f) → IsDenied (AllHold holds_on invs) read.flows f
 denied d policy f invs read is_policy same_invs same wanted left_out =
     let found : IsDenied (MeetsAll d) policy.permitted.flows f = record {
       asked = d.asked.flows;
@@ -24,3 +28,22 @@ denied d policy f invs read is_policy same_invs same wanted left_out =
     } in
     subst (λ (xs : List AnyInv). IsDenied (AllHold holds_on xs) read.flows f) (sym same_invs)
     (subst (λ (s : SetOfFlows). IsDenied (MeetsAll d) s.flows f) (sym same) found)
+
+-- what is read of the network and its policy is what they have
+pub held : (d : Network) (policy : Policy) (invs : List AnyInv) (read : SetOfFlows) → IsPolicyOf d policy → invs ≡ d.invariants → read ≡ policy.permitted → AllHold holds_on invs read.flows
+held d policy invs read is_policy same_invs same =
+    subst (λ (xs : List AnyInv). AllHold holds_on xs read.flows) (sym same_invs)
+    (subst (λ (s : SetOfFlows). MeetsAll d s.flows) (sym same) is_policy.permitted.holds)
+
+abbrev are_tried : List AnyInv → List AnyTrial → List Flow → Type 0
+are_tried invs trials flows = AreTried (λ inv trial. FitsAny inv trial.case) (λ trial. tried_of trial.case) (λ _. true) invs trials flows
+
+pub tried_of_read : (d : Network) (policy : Policy) (invs : List AnyInv) (read : SetOfFlows) (trials : List AnyTrial) → invs ≡ d.invariants → read ≡ policy.permitted
+    → AreTriedOn d policy.permitted.flows trials → are_tried invs trials read.flows
+tried_of_read d policy invs read trials same_invs same tried =
+    subst (λ (xs : List AnyInv). are_tried xs trials read.flows) (sym same_invs) (subst (λ (s : SetOfFlows). AreTriedOn d s.flows trials) (sym same) tried)
+
+pub tried_again : (d : Network) (policy : Policy) (invs : List AnyInv) (read : SetOfFlows) (trials : List AnyTrial) → invs ≡ d.invariants → read ≡ policy.permitted
+    → are_tried invs trials read.flows → AreTriedOn d policy.permitted.flows trials
+tried_again d policy invs read trials same_invs same tried =
+    subst (λ (s : SetOfFlows). AreTriedOn d s.flows trials) same (subst (λ (xs : List AnyInv). are_tried xs trials read.flows) same_invs tried)

@@ -4,13 +4,13 @@ use Rattle.std.specs.Prelude.{◌↔◌, IsTrue, IsNone, IfSome, is_some, option
 use Rattle.std.proofs.lemmas.Bool.{false≢true, and_parts, and_from, not-false}
 use Rattle.std.proofs.lemmas.List.{take_all}
 use Rattle.std.proofs.lemmas.List.Elements.{All-more}
-use Rattle.desc_core.specs.Network.{Network}
+use Rattle.net_core.specs.Network.{Network}
 use Rattle.flow_set.specs.Conditions.{IsFirst}
 use Rattle.flow_set.specs.FlowSet.{SetOfFlows, without}
 use Rattle.flow_set.specs.declared.flow.Flow.{Flow}
 use Rattle.inv_any.specs.declared.any_inv.AnyInv.{AnyInv}
 use Rattle.permit_core.specs.Policy.{AllHold}
-use Rattle.policy_core.specs.Policies.{holds_on}
+use Rattle.net_core.specs.Policies.{holds_on}
 use Rattle.report_core.specs.CheckReport.{IsOffence, AreOffences, offence_text, check_text, IsCheckReport}
 
 -- with what is told of the invariants that are left, from a number on, the text is the report

@@ -1,4 +1,4 @@
--- A text that a last piece was put behind.
+-- A text with a last piece put after it.
 use Rattle.std.proofs.Common.{◌≡◌, ℕ, List, ◌++◌, Result, Ok, Err, ◌∙◌}
 use Rattle.std.specs.Prelude.{OnOk, is_ok, if◌then◌else◌}
 

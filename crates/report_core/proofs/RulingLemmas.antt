@@ -3,14 +3,13 @@ use Rattle.std.proofs.Common.{◌≡◌, ℕ, zero, suc, ◌+◌, length, List, 
 use Rattle.std.specs.List.{flat_map, range_with_len}
 use Rattle.std.proofs.lemmas.Bool.Decides.{nat_tests}
 use Rattle.std.proofs.lemmas.Option.{slice_get_within}
-use Rattle.desc_core.specs.Network.{Network, flow_or_none}
+use Rattle.net_core.specs.Network.{Network}
+use Rattle.flow_set.specs.EveryFlow.{flow_or_none}
 use Rattle.flow_set.specs.declared.flow.Flow.{Flow}
-use Rattle.policy_core.specs.Policies.{Policy}
+use Rattle.net_core.specs.Policies.{Policy}
 use Rattle.report_core.specs.Growing.{Grows}
-use Rattle.report_core.specs.PolicyReport.{IsRuling, AreRulings, ruling_line, policy_text, TellsRulings}
-use Rattle.report_core.specs.RulingNumber.{IsWithin}
-use Rattle.report_core.specs.declared.ruling.Ruling.{Ruling}
-use Rattle.report_core.specs.declared.ruling.Ruling.TheVariants.{Answered, Allowed, NotAsked, Denied}
+use Rattle.report_core.specs.PolicyReport.{IsRuling, AreRulings, ruling_line, policy_text, TellsRulings, Ruling, Answered, Allowed, NotAsked, Denied}
+use Rattle.report_core.specs.RulingView.{IsWithin}
 
 -- a ruling by an invariant names one that is there
 pub is_within : (d : Network) (policy : Policy) (f : Flow) (r : Ruling) → IsRuling d policy f r → IsWithin (length d.invariants) r
@@ -45,25 +44,25 @@ pub grows_by_none : (d : Network) (policy : Policy) (text : List ℕ) → Grows 
 grows_by_none d policy text = record {
   piece = [];
   is_piece = record { rulings = []; found = tt; written = refl };
-  behind = sym (append-nil text);
+  after = sym (append-nil text);
 }
 
 pub grows_by_one : (d : Network) (policy : Policy) (f : Flow) (r : Ruling) (old new : List ℕ) → IsRuling d policy f r → new ≡ old ++ ruling_line d f r → Grows (TellsRulings d policy (f ∷ [])) old new
 grows_by_one d policy f r old new is_ruling written = record {
   piece = ruling_line d f r;
   is_piece = record { rulings = r ∷ []; found = (is_ruling, tt); written = sym (append-nil (ruling_line d f r)) };
-  behind = written;
+  after = written;
 }
 
-pub flow_between : (from to : ℕ) → (from ≡ to → ⊥) → flow_or_none from to ≡ record { from = from; to = to } ∷ []
-flow_between from to differ = grind (arith, nat_tests)
+pub one_flow : (from to : ℕ) → (from ≡ to → ⊥) → flow_or_none from to ≡ record { from = from; to = to } ∷ []
+one_flow from to differ = grind (arith, nat_tests)
 
 -- some flows, and then some more
 pub grows_on : (d : Network) (policy : Policy) (fs gs : List Flow) (old mid new : List ℕ) → Grows (TellsRulings d policy fs) old mid → Grows (TellsRulings d policy gs) mid new → Grows (TellsRulings d policy (fs ++ gs)) old new
 grows_on d policy fs gs old mid new p q = record {
   piece = p.piece ++ q.piece;
   is_piece = told-append d policy fs gs p.piece q.piece p.is_piece q.is_piece;
-  behind = q.behind ∙ ap (λ text. text ++ q.piece) p.behind ∙ append_assoc old p.piece q.piece;
+  after = q.after ∙ ap (λ text. text ++ q.piece) p.after ∙ append_assoc old p.piece q.piece;
 }
 
 flat_map_last : (f : ℕ → List Flow) (a n : ℕ) → flat_map f (range_with_len a (suc n)) ≡ flat_map f (range_with_len a n) ++ f (a + n)

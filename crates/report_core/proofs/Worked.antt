@@ -1,7 +1,8 @@
 -- Worked texts: what is printed of given refusals, offences and rulings.
 use Rattle.std.specs.Fmt.{digits}
 use Rattle.std.specs.Prelude.{◌≡◌, ℕ, true, false, List, [], ◌∷◌, ◌++◌, length, None, Some, map, codes, refl}
-use Rattle.desc_core.specs.Network.{Network, every_flow}
+use Rattle.net_core.specs.Network.{Network}
+use Rattle.flow_set.specs.EveryFlow.{every_flow}
 use Rattle.desc_form.specs.Refusals.{refused, refused_item, refused_by, refused_item_by, refused_name}
 use Rattle.desc_form.specs.declared.refusal.Place.TheVariants.{Document, Host, Assign, FlowAt}
 use Rattle.desc_form.specs.declared.refusal.Refusal.{Refusal}
@@ -12,13 +13,12 @@ use Rattle.inv_any.specs.declared.any_inv.AnyInv.{AnyInv}
 use Rattle.inv_any.specs.declared.any_inv.AnyInv.TheVariants.{Blp, Sink, Dependability, NoReach, NonInterference}
 use Rattle.report_core.specs.CheckReport.{check_text, offending_line}
 use Rattle.report_core.specs.Names.{flow_text, invariant_text}
-use Rattle.report_core.specs.PolicyReport.{policy_text, ruling_line}
+use Rattle.report_core.specs.PolicyReport.{policy_text, ruling_line, Answered, Allowed, NotAsked, Denied}
 use Rattle.report_core.specs.RefusalLine.{refusal_text, cause_text, place_text}
-use Rattle.report_core.specs.declared.ruling.Ruling.TheVariants.{Answered, Allowed, NotAsked, Denied}
 
 -- ---- lines of refusals
 
--- a refusal, and its line behind the program's name
+-- a refusal, and its line after the program's name
 record Row : Type 0 where
   refusal : Refusal
   line : List ℕ
@@ -63,7 +63,7 @@ offences_are_told : check_text (named (codes "a" ∷ codes "b" ∷ codes "c" ∷
 unfolding digits invariant_text flow_text offending_line
 offences_are_told = refl
 
--- an invariant that two flows offend, behind one that holds
+-- an invariant that two flows offend, after one that holds
 some_offences_are_told : check_text (named (codes "a" ∷ codes "b" ∷ codes "c" ∷ codes "u" ∷ [])) 1 (Sink [] ∷ NonInterference [] ∷ []) (None ∷ Some (flow 1 3 ∷ flow 3 2 ∷ []) ∷ []) ≡ codes "invariant 1 sink ok\ninvariant 2 noninterference fails\n  b -> u\n  u -> c\n"
 unfolding digits invariant_text flow_text offending_line
 some_offences_are_told = refl

@@ -1,12 +1,12 @@
 -- The report of `check` (docs/FORMATS.md): for each invariant whether it holds on the asked flows, and if not, which flows offend it.
 use Rattle.std.specs.Prelude.{◌≡◌, ℕ, ◌+◌, List, [], ◌∷◌, ◌++◌, flat_map, Option, None, Some, codes}
-use Rattle.desc_core.specs.Network.{Network}
+use Rattle.net_core.specs.Network.{Network}
 use Rattle.flow_set.specs.Conditions.{IsFirst}
 use Rattle.flow_set.specs.FlowSet.{without}
 use Rattle.flow_set.specs.declared.flow.Flow.{Flow}
 use Rattle.host_net.specs.Host.{Host}
 use Rattle.inv_any.specs.declared.any_inv.AnyInv.{AnyInv}
-use Rattle.policy_core.specs.Policies.{holds_on}
+use Rattle.net_core.specs.Policies.{holds_on}
 use Rattle.report_core.specs.Names.{flow_text, invariant_text}
 
 -- what is told of an invariant: nothing where it holds on the flows, else the flows outside the first subset of them on which it holds

@@ -3,7 +3,8 @@ pub mod Growing
 pub mod Names
 pub mod PolicyReport
 pub mod RefusalLine
-pub mod RulingNumber
+pub mod RulingView
+pub mod Trying
 pub mod ReportLaws
 pub mod ReportPromises
 pub mod ReportPromisesLaws

@@ -1,17 +1,24 @@
 -- The report of `policy` (docs/FORMATS.md): for each flow between two hosts what becomes of it, and why.
 use Rattle.std.specs.Prelude.{◌≡◌, ℕ, ◌+◌, List, [], ◌∷◌, ◌++◌, length, slice_get, codes, IsTrue, IsFalse}
 use Rattle.std.specs.Option.{option_map_or}
-use Rattle.desc_core.specs.Network.{Network, every_flow}
+use Rattle.net_core.specs.Network.{Network}
+use Rattle.flow_set.specs.EveryFlow.{every_flow}
 use Rattle.flow_set.specs.FlowSet.{has, with_flow}
 use Rattle.flow_set.specs.declared.flow.Flow.{Flow}
 use Rattle.inv_any.specs.declared.any_inv.AnyInv.{AnyInv}
 use Rattle.permit_core.specs.Policy.{IsFirstFailing}
-use Rattle.policy_core.specs.Policies.{Policy, IsPolicy, holds_on}
+use Rattle.net_core.specs.Policies.{Policy, IsPolicyOf, holds_on}
 use Rattle.report_core.specs.Names.{flow_text, invariant_text}
-use Rattle.report_core.specs.declared.ruling.Ruling.{Ruling}
-use Rattle.report_core.specs.declared.ruling.Ruling.TheVariants.{Answered, Allowed, NotAsked, Denied}
 
--- what becomes of a flow: it is stateful, it is permitted and no more, nobody asked for it, or the first invariant that it breaks denies it
+-- what becomes of a flow: it is permitted and so are its answers, it is permitted but its answers are not, nobody asked for it,
+-- or the invariant of this number, from 0, denies it
+pub data Ruling : Type 0 where
+  Answered : Ruling
+  Allowed : Ruling
+  NotAsked : Ruling
+  Denied : (number : ℕ) → Ruling
+
+-- a flow is denied by the first invariant that fails on the permitted flows with this one
 abbrev pub IsRuling : Network → Policy → Flow → Ruling → Type 0
 IsRuling d policy f Answered = IsTrue (has policy.stateful.flows f)
 IsRuling d policy f Allowed = IsTrue (has policy.permitted.flows f) × IsFalse (has policy.stateful.flows f)
@@ -52,5 +59,5 @@ pub record TellsRulings (d : Network) (policy : Policy) (flows : List Flow) (tex
 -- the text is the report of the network: it tells of every flow between two hosts
 pub record IsPolicyReport (d : Network) (text : List ℕ) : Type 0 where
   pub policy : Policy
-  pub is_policy : IsPolicy d policy
+  pub is_policy : IsPolicyOf d policy
   pub told : TellsRulings d policy (every_flow (length d.hosts)) text

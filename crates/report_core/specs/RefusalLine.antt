@@ -13,12 +13,12 @@ place_text (Invariant k) = codes "invariant " ++ decimal k
 place_text (Assign k m) = codes "invariant " ++ (decimal k ++ (codes " assign " ++ decimal m))
 place_text (FlowAt k) = codes "flow " ++ decimal k
 
--- a number behind a word, where there is one
+-- a number after a word, where there is one
 abbrev pub if_told : List ℕ → ℕ → List ℕ
 if_told word zero = []
 if_told word (suc k) = word ++ decimal (suc k)
 
--- a name behind a colon, where there is one
+-- a name after a colon, where there is one
 abbrev pub if_named : List ℕ → List ℕ
 if_named [] = []
 if_named (b ∷ bs) = codes ": " ++ b ∷ bs

@@ -3,19 +3,18 @@ use Rattle.std.proofs.Common.{◌≡◌, ℕ, zero, suc, ◌<◌, List, [], ◌�
 use Rattle.std.specs.Prelude.{IsTrue, slice_get}
 use Rattle.std.proofs.lemmas.Bool.{both_ways, cases_lt}
 use Rattle.std.proofs.lemmas.Option.{get_or_from_slice_get, slice_get_within}
-use Rattle.desc_core.specs.Network.{Network, every_flow}
+use Rattle.net_core.specs.Network.{Network}
+use Rattle.flow_set.specs.EveryFlow.{every_flow}
 use Rattle.first_core.specs.FirstLaws.{first_unique, first_offending}
 use Rattle.flow_set.specs.Conditions.{IsMinimalOffending}
 use Rattle.flow_set.specs.FlowSet.{has, IsOrdered, without, with_flow}
 use Rattle.flow_set.specs.declared.flow.Flow.{Flow}
 use Rattle.inv_any.specs.declared.any_inv.AnyInv.{AnyInv}
 use Rattle.permit_core.specs.Policy.{IsFirstFailing}
-use Rattle.policy_core.specs.Policies.{Policy, IsPolicy, holds_on}
-use Rattle.policy_core.specs.PolicyLaws.{policy_is_one, IsSubset-stateful}
+use Rattle.net_core.specs.Policies.{Policy, IsPolicyOf, holds_on}
+use Rattle.net_core.specs.PolicyLaws.{policy_is_one, IsSubset-stateful}
 use Rattle.report_core.specs.CheckReport.{IsOffence, AreOffences, check_text, IsCheckReport}
-use Rattle.report_core.specs.PolicyReport.{IsRuling, AreRulings, policy_text, TellsRulings, IsPolicyReport}
-use Rattle.report_core.specs.declared.ruling.Ruling.{Ruling}
-use Rattle.report_core.specs.declared.ruling.Ruling.TheVariants.{Answered, Allowed, NotAsked, Denied}
+use Rattle.report_core.specs.PolicyReport.{IsRuling, AreRulings, policy_text, TellsRulings, IsPolicyReport, Ruling, Answered, Allowed, NotAsked, Denied}
 
 -- ---- the report of the invariants
 
@@ -79,7 +78,7 @@ pub record Nests (d : Network) (policy : Policy) : Type 0 where
   pub permitted : (f : Flow) → IsTrue (has policy.stateful.flows f) → IsTrue (has policy.permitted.flows f)
   pub asked : (f : Flow) → IsTrue (has policy.permitted.flows f) → IsTrue (has d.asked.flows f)
 
-pub nests : (d : Network) (policy : Policy) → IsPolicy d policy → Nests d policy
+pub nests : (d : Network) (policy : Policy) → IsPolicyOf d policy → Nests d policy
 nests d policy is_policy = record {
   permitted = (IsSubset-stateful d policy.permitted.flows policy.stateful.flows is_policy.stateful).within;
   asked = is_policy.permitted.within.within;

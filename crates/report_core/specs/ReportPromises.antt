@@ -1,16 +1,15 @@
 -- What an operator may rely on in a report. It follows from what the report is.
 use Rattle.std.specs.Prelude.{◌≡◌, ◌↔◌, ℕ, Bool, true, false, List, Option, Some, IsTrue, IsFalse, IsSome, IfSome, length, slice_get}
-use Rattle.desc_core.specs.Network.{Network, every_flow}
+use Rattle.net_core.specs.Network.{Network}
+use Rattle.flow_set.specs.EveryFlow.{every_flow}
 use Rattle.flow_set.specs.Conditions.{IsMinimalOffending}
 use Rattle.flow_set.specs.FlowSet.{has, with_flow, IsFull}
 use Rattle.flow_set.specs.declared.flow.Flow.{Flow}
 use Rattle.inv_any.specs.declared.any_inv.AnyInv.{AnyInv}
 use Rattle.permit_core.specs.Policy.{IsFirstFailing}
-use Rattle.policy_core.specs.Policies.{Policy, IsPermitted, IsStateful, IsGreatestPolicy, JudgesFlowsAlone, MeetsAll, CompliesWithAll, holds_on}
+use Rattle.net_core.specs.Policies.{Policy, IsPermitted, IsStateful, IsGreatestPolicy, JudgesFlowsAlone, MeetsAll, CompliesWithAll, holds_on}
 use Rattle.report_core.specs.CheckReport.{check_text}
-use Rattle.report_core.specs.PolicyReport.{policy_text}
-use Rattle.report_core.specs.declared.ruling.Ruling.{Ruling}
-use Rattle.report_core.specs.declared.ruling.Ruling.TheVariants.{Answered, Allowed, NotAsked, Denied}
+use Rattle.report_core.specs.PolicyReport.{policy_text, Ruling, Answered, Allowed, NotAsked, Denied}
 
 -- ---- the report of `check`
 

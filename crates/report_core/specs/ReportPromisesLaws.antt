@@ -3,20 +3,19 @@ use Rattle.std.proofs.Common.{◌≡◌, ℕ, zero, suc, Bool, true, false, List
 use Rattle.std.specs.Prelude.{IsTrue, IsFalse, slice_get}
 use Rattle.std.proofs.lemmas.Bool.{both_ways, false≢true}
 use Rattle.std.proofs.lemmas.List.Elements.{All-cons, All-nil}
-use Rattle.desc_core.specs.EveryFlowLaws.{IsFull-every_flow}
-use Rattle.desc_core.specs.Network.{Network, IsNetwork, every_flow}
+use Rattle.flow_set.specs.EveryFlowLaws.{IsFull-every_flow}
+use Rattle.net_core.specs.Network.{Network, IsNetwork}
+use Rattle.flow_set.specs.EveryFlow.{every_flow}
 use Rattle.flow_set.specs.FlowSet.{has, IsOrdered, with_flow}
 use Rattle.flow_set.specs.declared.flow.Flow.{Flow}
 use Rattle.inv_any.specs.declared.any_inv.AnyInv.{AnyInv}
 use Rattle.permit_core.specs.Policy.{AllHold, IsFirstFailing}
-use Rattle.policy_core.specs.HeadlineLaws.{IsGreatestPolicy-from_policy, CompliesWithAll-from_policy}
-use Rattle.policy_core.specs.Policies.{Policy, holds_on}
+use Rattle.net_core.specs.HeadlineLaws.{IsGreatestPolicy-from_policy, CompliesWithAll-from_policy}
+use Rattle.net_core.specs.Policies.{Policy, holds_on}
 use Rattle.report_core.specs.CheckReport.{IsOffence, AreOffences, IsCheckReport}
-use Rattle.report_core.specs.PolicyReport.{IsRuling, AreRulings, IsPolicyReport}
+use Rattle.report_core.specs.PolicyReport.{IsRuling, AreRulings, IsPolicyReport, Ruling, Answered, Allowed, NotAsked, Denied}
 use Rattle.report_core.specs.ReportLaws.{Nests, nests, offence_is_minimal}
 use Rattle.report_core.specs.ReportPromises.{TellsOffence, TellsOffences, TellsRuling, TellsPolicy}
-use Rattle.report_core.specs.declared.ruling.Ruling.{Ruling}
-use Rattle.report_core.specs.declared.ruling.Ruling.TheVariants.{Answered, Allowed, NotAsked, Denied}
 
 -- ---- the report of `check`
 

@@ -2,16 +2,16 @@
 ghost use Rattle.std.specs.Prelude.{◌≡◌, ◌<◌, ◌↔◌, ◌++◌, [], length, IfOk, IsTrue, OnOk};
 ghost use Rattle.std.specs.List.{flat_map};
 ghost use Rattle.std.specs.Option.{option_map, ForSome};
-ghost use Rattle.policy_core.specs.Policies.{MeetsAll};
+ghost use Rattle.net_core.specs.Policies.{MeetsAll};
 ghost use Rattle.report_core.specs.CheckReport.{IsCheckReport, offence_text, offending_line};
 
 use crate::names::{push_flow, push_invariant};
 use crate::report::Report;
-use desc_core::Description;
 use flow_set::{Flow, FlowSet};
 use host_net::Hosts;
 use inv_any::AnyInv;
-use permit_core::offending;
+use net_core::Description;
+use permit_core::offending_by_steps;
 use std::alloc::{AllocError, Global};
 
 /// The report, and whether every invariant holds on the asked flows.
@@ -38,7 +38,7 @@ fn push_offences(
     let invariants = description.invariants();
     let mut holds = true;
     for (place, invariant) in invariants.iter().enumerate() {
-        let offence = offending(alloc, invariant, asked)?;
+        let offence = offending_by_steps(alloc, invariant, asked)?;
         push_offence(text, hosts, place + 1, invariant, &offence)?;
         holds &= offence.is_none();
     }

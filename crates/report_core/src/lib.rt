@@ -8,8 +8,6 @@ mod policy;
 mod refusal;
 mod report;
 mod ruling;
-#[cfg(test)]
-mod tests;
 
 pub use check::check_report;
 pub use policy::policy_report;

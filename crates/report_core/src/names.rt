@@ -1,4 +1,4 @@
-//! The names of hosts, flows and invariants, put behind a text.
+//! The names of hosts, flows and invariants, put after a text.
 ghost use Rattle.std.specs.Prelude.{◌≡◌, ◌<◌, ◌++◌, length, OnOk};
 ghost use Rattle.report_core.specs.Names.{flow_text, host_name, invariant_text};
 

@@ -1,113 +1,121 @@
 //! The report of the policy.
 ghost use Rattle.std.specs.Prelude.{◌≡◌, ◌<◌, ◌++◌, length, IfOk, OnOk};
 ghost use Rattle.std.specs.List.{flat_map, range_with_len};
-ghost use Rattle.desc_core.specs.Network.{every_flow, flow_or_none};
+ghost use Rattle.flow_set.specs.EveryFlow.{every_flow, flow_or_none};
 ghost use Rattle.flow_set.specs.Flow.{IsFlow};
-ghost use Rattle.policy_core.specs.Policies.{IsPolicy};
+ghost use Rattle.net_core.specs.Policies.{IsPolicyOf};
 ghost use Rattle.report_core.specs.Growing.{Grows};
 ghost use Rattle.report_core.specs.PolicyReport.{IsPolicyReport, IsRuling, TellsRulings, ruling_line, ruling_text};
-ghost use Rattle.report_core.specs.RulingNumber.{IsWithin};
-ghost use Rattle.report_core.specs.declared.ruling.Ruling.{Ruling};
+ghost use Rattle.report_core.specs.PolicyReport as meant;
+ghost use Rattle.report_core.specs.RulingView.{IsWithin, ruling_view};
+ghost use Rattle.report_core.specs.Trying.{AreTriedOn};
 
 use crate::names::{push_flow, push_invariant};
 use crate::report::Report;
 use crate::ruling::Ruling;
-use desc_core::Description;
 use flow_set::Flow;
-use inv_any::AnyInv;
-use permit_core::blame;
-use policy_core::{Policy, policy_of};
+use inv_any::{AnyInv, AnyTrial};
+use net_core::{Description, Policy, policy_of};
+use permit_core::blame_by_steps;
 use std::alloc::{AllocError, Global};
+use trial_core::trials_of;
 
 /// For each flow between two hosts what becomes of it, and why.
 pub fn policy_report(alloc: Global, description: &Description) -> Result<Report, AllocError>
     ensures report { IfOk result (λ made. IsPolicyReport description.now made) }
 {
     let policy = policy_of(alloc, description)?;
+    let mut trials = trials_of(alloc, description.invariants(), policy.permitted())?;
     let mut text = Vec::new(alloc);
-    push_rulings(alloc, &mut text, description, &policy)?;
+    push_rulings(&mut text, description, &policy, &mut trials)?;
     Ok(Report::of(text))
 }
 
-// Puts the lines of all flows.
-#[tactic(auto, unfolding(desc_core::specs::Network::every_flow))]
+// Puts the lines of all flows. The trials have the permitted flows, before and afterwards.
+#[tactic(auto, unfolding(flow_set::specs::EveryFlow::every_flow))]
 fn push_rulings(
-    alloc: Global,
     text: &mut Vec<u8>,
     description: &Description,
     policy: &Policy,
+    trials: &mut Vec<AnyTrial>,
 ) -> Result<(), AllocError>
-    requires { IsPolicy description.now policy.now }
+    requires policy { IsPolicyOf description.now policy.now }
+    requires tried { AreTriedOn description.now policy.now.permitted.flows trials.old.items }
     ensures { OnOk result (Grows (TellsRulings description.now policy.now (every_flow (length description.now.hosts))) text.old.items text.new.items) }
 {
     for from in 0..description.hosts().count() {
-        push_rulings_from(alloc, text, description, policy, from)?;
+        push_rulings_from(text, description, policy, trials, from)?;
     }
     Ok(())
 }
 
 // Puts the lines of the flows that one host sends.
 fn push_rulings_from(
-    alloc: Global,
     text: &mut Vec<u8>,
     description: &Description,
     policy: &Policy,
+    trials: &mut Vec<AnyTrial>,
     from: u16,
 ) -> Result<(), AllocError>
-    requires policy { IsPolicy description.now policy.now }
+    requires policy { IsPolicyOf description.now policy.now }
+    requires tried { AreTriedOn description.now policy.now.permitted.flows trials.old.items }
     requires from { from < length description.now.hosts }
-    ensures { OnOk result (Grows (TellsRulings description.now policy.now (flat_map (flow_or_none from) (range_with_len 0 (length description.now.hosts)))) text.old.items text.new.items) }
+    ensures told { OnOk result (Grows (TellsRulings description.now policy.now (flat_map (flow_or_none from) (range_with_len 0 (length description.now.hosts)))) text.old.items text.new.items) }
+    ensures tried { AreTriedOn description.now policy.now.permitted.flows trials.new.items }
 {
     for to in 0..description.hosts().count() {
-        push_ruling_between(alloc, text, description, policy, from, to)?;
+        push_ruling_between(text, description, policy, trials, Flow { from, to })?;
     }
     Ok(())
 }
 
-// Puts the line of the flow from one host to another, and nothing where they are the same.
+// Puts the line of the flow, and nothing where both ends are the same host.
 fn push_ruling_between(
-    alloc: Global,
     text: &mut Vec<u8>,
     description: &Description,
     policy: &Policy,
-    from: u16,
-    to: u16,
+    trials: &mut Vec<AnyTrial>,
+    flow: Flow,
 ) -> Result<(), AllocError>
-    requires policy { IsPolicy description.now policy.now }
-    requires from { from < length description.now.hosts }
-    requires to { to < length description.now.hosts }
-    ensures { OnOk result (Grows (TellsRulings description.now policy.now (flow_or_none from to)) text.old.items text.new.items) }
+    requires policy { IsPolicyOf description.now policy.now }
+    requires tried { AreTriedOn description.now policy.now.permitted.flows trials.old.items }
+    requires from { flow.from < length description.now.hosts }
+    requires to { flow.to < length description.now.hosts }
+    ensures told { OnOk result (Grows (TellsRulings description.now policy.now (flow_or_none flow.from flow.to)) text.old.items text.new.items) }
+    ensures tried { AreTriedOn description.now policy.now.permitted.flows trials.new.items }
 {
-    if from == to {
+    if flow.from == flow.to {
         return Ok(());
     }
-    let flow = Flow { from, to };
-    let ruling = ruling_of(alloc, description, policy, flow)?;
+    let ruling = ruling_of(description, policy, trials, flow);
     push_ruling_line(text, description, flow, ruling)
 }
 
 fn ruling_of(
-    alloc: Global,
     description: &Description,
     policy: &Policy,
+    trials: &mut Vec<AnyTrial>,
     flow: Flow,
-) -> Result<Ruling, AllocError>
-    requires policy { IsPolicy description.now policy.now }
+) -> Ruling
+    requires policy { IsPolicyOf description.now policy.now }
+    requires tried { AreTriedOn description.now policy.now.permitted.flows trials.old.items }
     requires flow { IsFlow (length description.now.hosts) flow }
-    ensures { IfOk result (λ ruling. IsRuling description.now policy.now flow ruling) }
+    ensures ruling { IsRuling description.now policy.now flow (ruling_view result) }
+    ensures tried { AreTriedOn description.now policy.now.permitted.flows trials.new.items }
 {
     let asked = description.asked();
     if policy.stateful().has(flow) {
-        return Ok(Ruling::Answered);
+        return Ruling::Answered;
     }
     if policy.permitted().has(flow) {
-        return Ok(Ruling::Allowed);
+        return Ruling::Allowed;
     }
     if !asked.has(flow) {
-        return Ok(Ruling::NotAsked);
+        return Ruling::NotAsked;
     }
-    match blame(alloc, description.invariants(), policy.permitted(), flow)? {
-        Some(number) => Ok(Ruling::Denied(number)),
+    let invariants = description.invariants();
+    match blame_by_steps(invariants, trials, policy.permitted(), flow) {
+        Some(number) => Ruling::Denied(number),
         None => unreachable!(),
     }
 }
@@ -120,8 +128,8 @@ fn push_ruling_line(
     ruling: Ruling,
 ) -> Result<(), AllocError>
     requires flow { IsFlow (length description.now.hosts) flow }
-    requires ruling { IsWithin (length description.now.invariants) ruling }
-    ensures { OnOk result (text.new.items ≡ text.old.items ++ ruling_line description.now flow ruling) }
+    requires ruling { IsWithin (length description.now.invariants) (ruling_view ruling) }
+    ensures { OnOk result (text.new.items ≡ text.old.items ++ ruling_line description.now flow (ruling_view ruling)) }
 {
     push_flow(text, description.hosts(), flow)?;
     text.extend_from_slice(b" ")?;
@@ -130,8 +138,8 @@ fn push_ruling_line(
 }
 
 fn push_ruling(text: &mut Vec<u8>, invariants: &[AnyInv], ruling: Ruling) -> Result<(), AllocError>
-    requires { IsWithin (length invariants.now) ruling }
-    ensures { OnOk result (text.new.items ≡ text.old.items ++ ruling_text invariants.now ruling) }
+    requires { IsWithin (length invariants.now) (ruling_view ruling) }
+    ensures { OnOk result (text.new.items ≡ text.old.items ++ ruling_text invariants.now (ruling_view ruling)) }
 {
     match ruling {
         Ruling::Answered => text.extend_from_slice(b"allowed with answers"),
@@ -144,7 +152,7 @@ fn push_ruling(text: &mut Vec<u8>, invariants: &[AnyInv], ruling: Ruling) -> Res
 // Puts the invariant of a number, from 0, that denies a flow.
 fn push_denial(text: &mut Vec<u8>, invariants: &[AnyInv], number: u16) -> Result<(), AllocError>
     requires { number < length invariants.now }
-    ensures { OnOk result (text.new.items ≡ text.old.items ++ ruling_text invariants.now (Ruling.Denied number)) }
+    ensures { OnOk result (text.new.items ≡ text.old.items ++ ruling_text invariants.now (meant.Denied number)) }
 {
     text.extend_from_slice(b"denied by ")?;
     let place = number as usize;

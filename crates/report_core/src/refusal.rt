@@ -3,7 +3,7 @@ ghost use Rattle.std.specs.Prelude.{◌≡◌, ◌≤◌, ◌++◌, ◌+◌, len
 ghost use Rattle.report_core.specs.RefusalLine.{cause_text, if_named, if_told, place_text, refusal_text};
 ghost use Rattle.text_core.specs.Line.{cut};
 
-use desc_core::{Place, Refusal, Why};
+use desc_form::{Place, Refusal, Why};
 use host_net::Name;
 use text_core::{put, put_number};
 
@@ -25,7 +25,7 @@ pub fn refusal_line(refusal: &Refusal, buffer: &mut [u8; 256]) -> usize
 
 fn put_cause(buffer: &mut [u8; 256], at: usize, why: Why) -> usize
     requires { at ≤ 256 }
-    ensures text { take result buffer.new ≡ cut (take at buffer.old ++ cause_text why) }
+    ensures text { take result buffer.new ≡ cut 256 (take at buffer.old ++ cause_text why) }
     ensures within { result ≤ 256 }
     ensures short { length (cause_text why) ≤ 36 }
 {
@@ -37,7 +37,7 @@ fn put_cause(buffer: &mut [u8; 256], at: usize, why: Why) -> usize
 #[tactic(auto, unfolding(crate::specs::RefusalLine::place_text))]
 fn put_place(buffer: &mut [u8; 256], at: usize, place: Place) -> usize
     requires { at ≤ 256 }
-    ensures text { take result buffer.new ≡ cut (take at buffer.old ++ place_text place) }
+    ensures text { take result buffer.new ≡ cut 256 (take at buffer.old ++ place_text place) }
     ensures within { result ≤ 256 }
     ensures short { length (place_text place) ≤ 58 }
 {
@@ -53,10 +53,10 @@ fn put_place(buffer: &mut [u8; 256], at: usize, place: Place) -> usize
     }
 }
 
-// Puts a number behind its word, if it is told.
+// Puts a number after its word, if it is told.
 fn put_told(buffer: &mut [u8; 256], at: usize, word: &[u8], number: u64) -> usize
     requires { at ≤ 256 }
-    ensures text { take result buffer.new ≡ cut (take at buffer.old ++ if_told word.now number) }
+    ensures text { take result buffer.new ≡ cut 256 (take at buffer.old ++ if_told word.now number) }
     ensures within { result ≤ 256 }
     ensures short { length (if_told word.now number) ≤ length word.now + 20 }
 {
@@ -67,10 +67,10 @@ fn put_told(buffer: &mut [u8; 256], at: usize, word: &[u8], number: u64) -> usiz
     }
 }
 
-// Puts a name behind a colon, if it is told.
+// Puts a name after a colon, if it is told.
 fn put_name(buffer: &mut [u8; 256], at: usize, name: &Name) -> usize
     requires { at ≤ 256 }
-    ensures text { take result buffer.new ≡ cut (take at buffer.old ++ if_named name.now) }
+    ensures text { take result buffer.new ≡ cut 256 (take at buffer.old ++ if_named name.now) }
     ensures within { result ≤ 256 }
     ensures short { length (if_named name.now) ≤ 34 }
 {
@@ -85,7 +85,7 @@ fn put_name(buffer: &mut [u8; 256], at: usize, name: &Name) -> usize
 
 fn put_numbered(buffer: &mut [u8; 256], at: usize, word: &[u8], number: u64) -> usize
     requires { at ≤ 256 }
-    ensures text { take result buffer.new ≡ cut (take at buffer.old ++ (word.now ++ decimal number)) }
+    ensures text { take result buffer.new ≡ cut 256 (take at buffer.old ++ (word.now ++ decimal number)) }
     ensures within { result ≤ 256 }
     ensures short { length (word.now ++ decimal number) ≤ length word.now + 20 }
 {

@@ -21,7 +21,7 @@ listed_more : {A : Type 0} (xs : List A) (x : A) (rest : Option (List A))
 listed_more xs x None = refl
 listed_more xs x (Some ys) = ap Some (append_assoc xs (x ∷ []) ys)
 
--- a walk: behind the elements that are read so far stands one that is read as x
+-- a walk: after the elements that are read so far stands one that is read as x
 pub each_more : {D A : Type 0} (read : D → Option A) (xs : List A) (x : A) (d : D) (ds : List D) (whole : Option (List A)) → read d ≡ Some x
     → option_map (λ ys. xs ++ ys) (each read (d ∷ ds)) ≡ whole → option_map (λ ys. (xs ++ x ∷ []) ++ ys) (each read ds) ≡ whole
 each_more read xs x d ds whole is so_far = listed_more xs x (each read ds) ∙ (rw is at so_far)

@@ -1,7 +1,9 @@
 //! The rules of a description over lists of packets and forgettings, from a start without connections.
 //! The crate has tests alone: that the layout forwards what is expected is proved in `emit_core`, and
-//! these are the worked lists of events.
+//! these are the worked lists of events. So are the reports of a description.
 #![tactic(auto)]
 
+#[cfg(test)]
+mod reports;
 #[cfg(test)]
 mod tests;

@@ -4,8 +4,8 @@ use desc_core::{DescFault, describe};
 use emit_core::emit_iptables;
 use host_net::Packet;
 use ipt_rules::{Ruleset, Verdict};
+use net_core::policy_of;
 use pkt_core::{Event, Track};
-use policy_core::policy_of;
 use std::alloc::{AllocError, Global};
 use std::test::Fail;
 

@@ -3,8 +3,8 @@ use Rattle.desc_core.specs.UseConditions.{same_names}
 use Rattle.desc_form.specs.Refusals.{refused_by}
 use Rattle.desc_form.specs.declared.refusal.Place.TheVariants.{FlowAt}
 use Rattle.desc_form.specs.declared.refusal.Why.TheVariants.{DuplicateFlow}
-use Rattle.desc_form.specs.FirstPairLaws.{told_numbered}
-use Rattle.desc_form.specs.FirstsSeen.{pair_seen}
+use Rattle.text_core.specs.FirstPairLaws.{told_numbered}
+use Rattle.text_core.specs.FirstsSeen.{pair_seen}
 use Rattle.desc_core.proofs.flows.duplicate_flow.Goals as goal
 
 pub returns : goal.returns

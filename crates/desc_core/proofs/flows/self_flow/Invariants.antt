@@ -1,7 +1,7 @@
 use Rattle.std.proofs.Common.{◌≡◌, ◌+◌, map, drop, option_map, Bor, List, ℕ}
 use Rattle.std.specs.Prelude.{find}
 use Rattle.std.specs.Str.{bytes_eq}
-use Rattle.desc_form.specs.Firsts.{Numbered, numbered_from}
+use Rattle.text_core.specs.Firsts.{Numbered, numbered_from}
 use Rattle.desc_form.specs.Refusals.{refused}
 use Rattle.desc_form.specs.declared.refusal.Place.TheVariants.{FlowAt}
 use Rattle.desc_form.specs.declared.refusal.Why.TheVariants.{SelfFlow}

@@ -1,16 +1,16 @@
 use Rattle.std.proofs.Common.{rules, option_map, ◌∙◌}
 use Rattle.std.specs.Str.{bytes_eq}
 use Rattle.desc_form.specs.Refusals.{refused_by}
-use Rattle.desc_form.specs.Seen.{assign_seen}
+use Rattle.desc_form.specs.WrittenView.{assign_view}
 use Rattle.desc_form.specs.Written.{WrittenAssign}
 use Rattle.desc_form.specs.declared.refusal.Place.TheVariants.{Assign}
 use Rattle.desc_form.specs.declared.refusal.Why.TheVariants.{DuplicateAssign}
-use Rattle.desc_form.specs.FirstPairLaws.{told_numbered}
-use Rattle.desc_form.specs.FirstsSeen.{pair_seen}
+use Rattle.text_core.specs.FirstPairLaws.{told_numbered}
+use Rattle.text_core.specs.FirstsSeen.{pair_seen}
 use Rattle.desc_core.proofs.names.duplicate_in.Goals as goal
 
 pub returns : goal.returns
 returns c =
     c.barred_assign.ensures
-    ∙ told_numbered (λ (a b : WrittenAssign). bytes_eq a.host b.host) assign_seen (λ p. refused_by DuplicateAssign (Assign c.args.invariant p.later.number) p.earlier.number) c.args.assigns.now (option_map pair_seen c.first_pair-pair.result)
+    ∙ told_numbered (λ (a b : WrittenAssign). bytes_eq a.host b.host) assign_view (λ p. refused_by DuplicateAssign (Assign c.args.invariant p.later.number) p.earlier.number) c.args.assigns.now (option_map pair_seen c.first_pair-pair.result)
     (c.first_pair-pair.ensures.exact (λ a b. bytes_eq a.host.now b.host.now) (λ later earlier answer post. search rules))

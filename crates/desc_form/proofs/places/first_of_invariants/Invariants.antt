@@ -1,7 +1,6 @@
 use Rattle.std.proofs.Common.{◌≡◌, ◌+◌, map, drop}
 use Rattle.toml.specs.View.{view}
-use Rattle.desc_form.specs.Places.{holds_at}
-use Rattle.desc_form.specs.Walking.{first_of_invariants}
+use Rattle.desc_form.specs.Walking.{holds_at, first_of_invariants}
 use Rattle.desc_form.proofs.places.first_of_invariants.Given as goal
 
 abbrev pub invariant-loop-index : goal.invariant-loop-index

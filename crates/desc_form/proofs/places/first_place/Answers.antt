@@ -1,6 +1,6 @@
 use Rattle.std.proofs.Common.{◌∙◌}
 use Rattle.toml.specs.View.{table_view}
-use Rattle.desc_form.specs.Places.{holds_at}
+use Rattle.desc_form.specs.Walking.{holds_at}
 use Rattle.desc_form.specs.PlacesLaws.{by_parts}
 use Rattle.desc_form.proofs.places.first_place.Goals as goal
 

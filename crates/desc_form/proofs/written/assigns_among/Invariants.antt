@@ -2,11 +2,11 @@ use Rattle.std.proofs.Common.{◌≡◌, ◌++◌, map, drop}
 use Rattle.std.specs.Prelude.{filter_map}
 use Rattle.toml.specs.Data.{as_table}
 use Rattle.toml.specs.View.{view}
-use Rattle.desc_form.specs.Seen.{assign_seen}
+use Rattle.desc_form.specs.WrittenView.{assign_view}
 use Rattle.desc_form.specs.Written.{assign_written}
 use Rattle.desc_form.proofs.written.assigns_among.Given as goal
 
 abbrev pub invariant-loop-value : goal.invariant-loop-value
 invariant-loop-value l = record {
-  grown : map assign_seen l.assigns.items ++ map assign_written (filter_map as_table (map view (drop l.value-index l.values))) ≡ map assign_written (filter_map as_table (map view l.values));
+  grown : map assign_view l.assigns.items ++ map assign_written (filter_map as_table (map view (drop l.value-index l.values))) ≡ map assign_written (filter_map as_table (map view l.values));
 }

@@ -2,11 +2,11 @@ use Rattle.std.proofs.Common.{◌≡◌, ◌++◌, map, drop}
 use Rattle.std.specs.Prelude.{filter_map}
 use Rattle.toml.specs.Data.{as_table}
 use Rattle.toml.specs.View.{view}
-use Rattle.desc_form.specs.Seen.{host_seen}
+use Rattle.desc_form.specs.WrittenView.{host_view}
 use Rattle.desc_form.specs.Written.{host_written}
 use Rattle.desc_form.proofs.written.hosts_among.Given as goal
 
 abbrev pub invariant-loop-value : goal.invariant-loop-value
 invariant-loop-value l = record {
-  grown : map host_seen l.hosts.items ++ map host_written (filter_map as_table (map view (drop l.value-index l.values))) ≡ map host_written (filter_map as_table (map view l.values));
+  grown : map host_view l.hosts.items ++ map host_written (filter_map as_table (map view (drop l.value-index l.values))) ≡ map host_written (filter_map as_table (map view l.values));
 }

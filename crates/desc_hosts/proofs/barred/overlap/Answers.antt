@@ -2,16 +2,16 @@ use Rattle.std.proofs.Common.{rules, option_map, ◌∙◌}
 use Rattle.desc_form.specs.Refusals.{refused_item_by}
 use Rattle.desc_form.specs.declared.refusal.Place.TheVariants.{Host}
 use Rattle.desc_form.specs.declared.refusal.Why.TheVariants.{Overlap}
-use Rattle.desc_hosts.specs.EntryView.{entry_seen}
-use Rattle.desc_form.specs.FirstPairLaws.{told}
+use Rattle.desc_hosts.specs.EntryView.{entry_view}
+use Rattle.text_core.specs.FirstPairLaws.{told}
 use Rattle.desc_hosts.specs.HostConditions as meant
 use Rattle.desc_hosts.specs.HostConditions.{overlap, entries_meet}
-use Rattle.desc_form.specs.FirstsSeen.{pair_seen}
+use Rattle.text_core.specs.FirstsSeen.{pair_seen}
 use Rattle.desc_hosts.proofs.barred.overlap.Goals as goal
 
 pub returns : goal.returns
 unfolding overlap
 returns c =
     c.met_entry.ensures
-    ∙ told (λ (e f : meant.Entry). entries_meet e.text f.text) entry_seen (λ p. refused_item_by Overlap (Host p.later.host) p.later.item p.earlier.host) c.args.entries.now (option_map pair_seen c.first_pair-pair.result)
+    ∙ told (λ (e f : meant.Entry). entries_meet e.text f.text) entry_view (λ p. refused_item_by Overlap (Host p.later.host) p.later.item p.earlier.host) c.args.entries.now (option_map pair_seen c.first_pair-pair.result)
     (c.first_pair-pair.ensures.exact (λ e f. entries_meet e.text.now f.text.now) (λ later earlier answer post. search rules))

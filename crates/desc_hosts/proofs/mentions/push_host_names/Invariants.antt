@@ -1,11 +1,11 @@
 use Rattle.std.proofs.Common.{◌≡◌, ◌+◌, ◌++◌, map, drop}
-use Rattle.desc_form.specs.Firsts.{numbered_from}
-use Rattle.desc_form.specs.Seen.{host_seen}
-use Rattle.desc_hosts.specs.MentionView.{mention_seen}
+use Rattle.text_core.specs.Firsts.{numbered_from}
+use Rattle.desc_form.specs.WrittenView.{host_view}
+use Rattle.desc_hosts.specs.MentionView.{mention_view}
 use Rattle.desc_hosts.specs.Mentions.{host_name}
 use Rattle.desc_hosts.proofs.mentions.push_host_names.Given as goal
 
 abbrev pub invariant-loop-index : goal.invariant-loop-index
 invariant-loop-index l = record {
-  grown : map mention_seen l.names.items ++ map host_name (numbered_from (l.index + 1) (map host_seen (drop l.index l.hosts))) ≡ map mention_seen l.fn.names.items ++ map host_name (numbered_from 1 (map host_seen l.hosts));
+  grown : map mention_view l.names.items ++ map host_name (numbered_from (l.index + 1) (map host_view (drop l.index l.hosts))) ≡ map mention_view l.fn.names.items ++ map host_name (numbered_from 1 (map host_view l.hosts));
 }

@@ -5,7 +5,7 @@ use Rattle.flow_set.specs.FlowSet.{SetOfFlows}
 use Rattle.host_net.specs.Host.{Host}
 use Rattle.inv_any.specs.declared.any_inv.AnyInv.{AnyInv}
 use Rattle.permit_core.specs.Policy.{AllHold}
-use Rattle.policy_core.specs.Policies.{holds_on}
+use Rattle.net_core.specs.Policies.{holds_on}
 use Rattle.report_core.specs.CheckReport.{offence_text}
 use Rattle.report_core.proofs.OffenceLemmas.{goes_next, goes_end, offence_found, held_next, all_next, all_at_end}
 use Rattle.report_core.proofs.check.push_offences.Goals as goal

@@ -1,7 +1,7 @@
 use Rattle.std.proofs.Common.{◌+◌, drop, take}
 use Rattle.std.specs.Prelude.{IsTrue}
 use Rattle.permit_core.specs.Policy.{AllHold}
-use Rattle.policy_core.specs.Policies.{MeetsAll, holds_on}
+use Rattle.net_core.specs.Policies.{MeetsAll, holds_on}
 use Rattle.report_core.proofs.OffenceLemmas.{GoesOn}
 use Rattle.report_core.proofs.check.push_offences.Given as goal
 

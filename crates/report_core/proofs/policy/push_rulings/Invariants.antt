@@ -1,12 +1,16 @@
 use Rattle.std.proofs.Common.{length}
 use Rattle.std.specs.List.{flat_map, range_with_len}
-use Rattle.desc_core.specs.Network.{flow_or_none}
+use Rattle.flow_set.specs.EveryFlow.{flow_or_none}
 use Rattle.report_core.specs.Growing.{Grows}
 use Rattle.report_core.specs.PolicyReport.{TellsRulings}
+use Rattle.report_core.specs.Trying.{AreTriedOn}
 use Rattle.report_core.proofs.policy.push_rulings.Given as goal
 
 -- the flows of the hosts so far are told
 abbrev pub invariant-loop-from : goal.invariant-loop-from
-invariant-loop-from l =
-    Grows (TellsRulings l.fn.description l.fn.policy (flat_map (λ from. flat_map (flow_or_none from) (range_with_len 0 (length l.fn.description.hosts))) (range_with_len 0 l.from)))
-    l.fn.text.items l.text.items
+invariant-loop-from l = record {
+  told :
+      Grows (TellsRulings l.fn.description l.fn.policy (flat_map (λ from. flat_map (flow_or_none from) (range_with_len 0 (length l.fn.description.hosts))) (range_with_len 0 l.from)))
+      l.fn.text.items l.text.items;
+  tried : AreTriedOn l.fn.description l.fn.policy.permitted.flows l.trials.items;
+}

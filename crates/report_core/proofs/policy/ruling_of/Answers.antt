@@ -2,7 +2,7 @@ use Rattle.std.proofs.Common.{ℕ, Option, None, length, sym, ◌∙◌, subst}
 use Rattle.std.specs.Prelude.{IsTrue, IsFalse, IsSome}
 use Rattle.std.proofs.lemmas.Bool.{false≢true}
 use Rattle.flow_set.specs.FlowSet.{SetOfFlows, has}
-use Rattle.report_core.proofs.DenialLemmas.{IsFlow-in, denied}
+use Rattle.report_core.proofs.DenialLemmas.{IsFlow-in, denied, held, tried_again, tried_of_read}
 use Rattle.report_core.proofs.policy.ruling_of.Goals as goal
 
 pub has-requires : goal.has-requires
@@ -22,7 +22,22 @@ unreachable-requires c =
     subst (λ (s : SetOfFlows). IsTrue (has s.flows f)) c.asked-asked.ensures.value (sym c.has-3.ensures ∙ c.if-not-has.false) in
     let left_out : IsFalse (has c.args.policy.now.permitted.flows f) =
     subst (λ (s : SetOfFlows). IsFalse (has s.flows f)) c.permitted.ensures.value (sym c.has-2.ensures ∙ c.if-has-2.false) in
-    let blamed : IsSome c.in_ok-number.field-0 =
-    c.in_ok-number.ensures.denied (denied c.args.description.now c.args.policy.now f c.invariants.result.now c.permitted-2.result.now c.requires.policy c.invariants.ensures.value c.permitted-2.ensures.value wanted left_out) in
+    let blamed : IsSome c.blame_by_steps.result =
+    c.blame_by_steps.ensures.denied (denied c.args.description.now c.args.policy.now f c.invariants-invariants.result.now c.permitted-2.result.now c.requires.policy
+    c.invariants-invariants.ensures.value c.permitted-2.ensures.value wanted left_out) in
     let nobody : IsSome {T = ℕ} None = subst (λ (o : Option ℕ). IsSome o) c.in-None.is blamed in
     false≢true nobody
+
+pub blame_by_steps-requires-clause-held : goal.blame_by_steps-requires-clause-held
+blame_by_steps-requires-clause-held c =
+    held c.args.description.now c.args.policy.now c.invariants-invariants.result.now c.permitted-2.result.now c.requires.policy c.invariants-invariants.ensures.value c.permitted-2.ensures.value
+
+pub blame_by_steps-requires-clause-tried : goal.blame_by_steps-requires-clause-tried
+blame_by_steps-requires-clause-tried c =
+    tried_of_read c.args.description.now c.args.policy.now c.invariants-invariants.result.now c.permitted-2.result.now c.args.trials.now.items
+    c.invariants-invariants.ensures.value c.permitted-2.ensures.value c.requires.tried
+
+pub returns-clause-tried : goal.returns-clause-tried
+returns-clause-tried c =
+    tried_again c.args.description.now c.args.policy.now c.invariants-invariants.result.now c.permitted-2.result.now c.blame_by_steps.new.trials.items
+    c.invariants-invariants.ensures.value c.permitted-2.ensures.value c.blame_by_steps.ensures.tried

@@ -7,7 +7,7 @@ pub returns-then-is_empty-clause-text : goal.returns-then-is_empty-clause-text
 returns-then-is_empty-clause-text c =
     let empty : (length c.args.name.now == 0) ≡ true =
     subst (λ (bs : List ℕ). (length bs == 0) ≡ true) c.bytes-bytes.ensures.value (sym c.is_empty.ensures ∙ c.if-is_empty.true) in
-    rw (unnamed c.args.name.now empty) (nothing_put c.args.at c.args.buffer.now c.requires)
+    rw (unnamed c.args.name.now empty) (nothing_put 256 c.args.at c.args.buffer.now c.requires)
 
 pub returns-else-is_empty-clause-text : goal.returns-else-is_empty-clause-text
 returns-else-is_empty-clause-text c =

@@ -1,0 +1,11 @@
+-- What a call reads of a description, against what the definition says.
+use Rattle.std.specs.Prelude.{◌≡◌, Result, Ok, Err}
+use Rattle.desc_core.specs.declared.fault.DescFault.{DescFault}
+use Rattle.desc_core.specs.declared.fault.DescFault.TheVariants.{Refused, Memory}
+use Rattle.desc_form.specs.declared.refusal.Refusal.{Refusal}
+
+-- what is read is what is said, a refusal included; memory may run out instead at any time
+abbrev pub Reads : {A : Type 0} → Result A DescFault → Result A Refusal → Type 0
+Reads (Ok x) said = said ≡ Ok x
+Reads (Err (Refused refusal)) said = said ≡ Err refusal
+Reads (Err Memory) said = Unit {0}

@@ -1,0 +1,27 @@
+-- What the code's types of a written description stand for.
+use Rattle.std.specs.Prelude.{map}
+use Rattle.toml.specs.View.{table_view}
+use Rattle.desc_form.specs.Written as meant
+use Rattle.desc_form.specs.declared.written.Written.{Written}
+use Rattle.desc_form.specs.declared.written.WrittenAssign.{WrittenAssign}
+use Rattle.desc_form.specs.declared.written.WrittenHost.{WrittenHost}
+use Rattle.desc_form.specs.declared.written.WrittenInvariant.{WrittenInvariant}
+
+abbrev pub host_view : WrittenHost → meant.WrittenHost
+host_view h = record { name = h.name.now; at = map (λ text. text.now) h.at.items; rest = h.rest }
+
+abbrev pub assign_view : WrittenAssign → meant.WrittenAssign
+assign_view a = record { host = a.host.now; table = table_view a.table.now }
+
+abbrev pub invariant_view : WrittenInvariant → meant.WrittenInvariant
+invariant_view i = record { template = i.template.now; assigns = map assign_view i.assigns.items }
+
+abbrev pub written_view : Written → meant.Written
+written_view w = record {
+  version = w.version;
+  answers = w.answers;
+  hosts = map host_view w.hosts.items;
+  invariants = map invariant_view w.invariants.items;
+  given = w.given;
+  flows = map (λ pair. (pair.0.now, pair.1.now)) w.flows.items;
+}

@@ -1,0 +1,4 @@
+pub mod HeadlineLaws
+pub mod Network
+pub mod Policies
+pub mod PolicyLaws

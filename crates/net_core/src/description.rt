@@ -1,0 +1,111 @@
+//! A network: its hosts, the flows between them that are asked for, and its invariants.
+ghost use Rattle.std.specs.Prelude.{◌≡◌, ◌≤◌, All, length};
+ghost use Rattle.flow_set.specs.FlowSet.{IsFlowSet};
+ghost use Rattle.host_net.specs.Hosts.{IsHosts};
+ghost use Rattle.host_net.specs.Limits.{invariant_limit};
+ghost use Rattle.inv_any.specs.Templates.{meaning_of};
+ghost use Rattle.net_core.specs.Network.{IsNetwork};
+
+use flow_set::FlowSet;
+use host_net::Hosts;
+use inv_any::AnyInv;
+use std::marker::Model;
+
+/// What a description says: a network.
+#[derive(Drop)]
+pub struct Description {
+    hosts: Hosts,
+    asked: FlowSet,
+    given: bool,
+    answers: bool,
+    invariants: Vec<AnyInv>,
+}
+
+impl Model for Description {
+    ghost use Rattle.std.specs.Coded.{codes};
+    ghost use Rattle.net_core.specs.Network.{Network, IsNetwork};
+    ghost use Rattle.inv_any.specs.contracts.any_inv.AnyInv as any;
+
+    ghost Value = { Network };
+
+    ghost coded = { Prim.hlevel (codes, any.the_row.coded) };
+
+    ghost view = { λ d. record {
+      hosts = d.hosts;
+      asked = d.asked;
+      given = d.given;
+      answers = d.answers;
+      invariants = d.invariants.items;
+    } };
+
+    ghost invariant = { λ d. IsNetwork (record {
+      hosts = d.hosts;
+      asked = d.asked;
+      given = d.given;
+      answers = d.answers;
+      invariants = d.invariants.items;
+    }) };
+}
+
+impl Description {
+    /// The network of these parts.
+    pub fn new(
+        hosts: Hosts,
+        asked: FlowSet,
+        given: bool,
+        answers: bool,
+        invariants: Vec<AnyInv>,
+    ) -> Description
+        requires { IsNetwork (record { hosts = hosts; asked = asked; given = given; answers = answers; invariants = invariants.items }) }
+        ensures { result ≡ record { hosts = hosts; asked = asked; given = given; answers = answers; invariants = invariants.items } }
+    {
+        Description {
+            hosts,
+            asked,
+            given,
+            answers,
+            invariants,
+        }
+    }
+
+    /// The hosts, in the order of their numbers.
+    pub fn hosts(&self) -> &Hosts
+        ensures value { result.now ≡ self.now.hosts }
+        ensures hosts { IsHosts self.now.hosts }
+    {
+        &self.hosts
+    }
+
+    /// The flows that are asked for.
+    pub fn asked(&self) -> &FlowSet
+        ensures value { result.now ≡ self.now.asked }
+        ensures size { self.now.asked.size ≡ length self.now.hosts }
+        ensures set { IsFlowSet self.now.asked.size self.now.asked.flows }
+    {
+        &self.asked
+    }
+
+    /// Whether the flows that are asked for were listed, if only as an empty list. Where they were
+    /// not, every flow is asked for.
+    pub fn given(&self) -> bool
+        ensures { result ≡ self.now.given }
+    {
+        self.given
+    }
+
+    /// Whether flows may have answers.
+    pub fn answers(&self) -> bool
+        ensures { result ≡ self.now.answers }
+    {
+        self.answers
+    }
+
+    /// The invariants, in their order.
+    pub fn invariants(&self) -> &[AnyInv]
+        ensures value { result.now ≡ self.now.invariants }
+        ensures sizes { All (λ inv. (meaning_of inv).size ≡ length self.now.hosts) self.now.invariants }
+        ensures few { length self.now.invariants ≤ invariant_limit }
+    {
+        &self.invariants
+    }
+}

@@ -1,0 +1,16 @@
+-- What the code's private type of rulings stands for, and which rulings can be told under so many invariants.
+use Rattle.std.specs.Prelude.{◌<◌, ℕ}
+use Rattle.report_core.specs.PolicyReport as meant
+use Rattle.report_core.specs.declared.ruling.Ruling.{Ruling}
+use Rattle.report_core.specs.declared.ruling.Ruling.TheVariants.{Answered, Allowed, NotAsked, Denied}
+
+abbrev pub ruling_view : Ruling → meant.Ruling
+ruling_view Answered = meant.Answered
+ruling_view Allowed = meant.Allowed
+ruling_view NotAsked = meant.NotAsked
+ruling_view (Denied number) = meant.Denied number
+
+-- an invariant that denies a flow is one of them
+abbrev pub IsWithin : ℕ → meant.Ruling → Type 0
+IsWithin count (meant.Denied number) = number < count
+IsWithin count _ = Unit {0}
