@@ -62,7 +62,8 @@ impl Case {
             "" | "#" => Ok(()),
             "word" => Ok(self.words.push(value.to_string(alloc)?)?),
             "file" => self.begin(alloc, value),
-            "fill" => self.fill(value),
+            "fill" => self.fill(value, b""),
+            "lines" => self.fill(value, b"\n"),
             "byte" => self.add(&[value.parse().context("a byte")?]),
             "shelf" => Ok(self.shelf_fails.push(value.parse().context("a call")?)?),
             "out" => Ok(self.out_fails.push(value.parse().context("a call")?)?),
@@ -90,10 +91,12 @@ impl Case {
         Ok(())
     }
 
-    fn fill(&mut self, value: &str) -> Result<()> {
+    // Adds the text, each time with `end` after it.
+    fn fill(&mut self, value: &str, end: &[u8]) -> Result<()> {
         let (count, text) = value.split_once(" ").context("a count and a text")?;
         for _ in 0..count.parse::<u32>().context("a count")? {
             self.add(text.as_bytes())?;
+            self.add(end)?;
         }
         Ok(())
     }
@@ -102,6 +105,17 @@ impl Case {
         let file = self.files.last_mut().context("bytes without a file")?;
         file.bytes.extend_from_slice(bytes)?;
         Ok(())
+    }
+
+    /// Whether no line has said anything of the case.
+    pub fn is_empty(&self) -> bool {
+        self.words.is_empty()
+            && self.files.is_empty()
+            && self.shelf_fails.is_empty()
+            && self.out_fails.is_empty()
+            && self.err_fails.is_empty()
+            && self.room == AMPLE
+            && self.grain == AMPLE
     }
 
     /// Runs the program on the case.

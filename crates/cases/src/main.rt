@@ -7,17 +7,19 @@
 //! | `word TEXT` | the next word of the command line |
 //! | `file NAME` | a file, with the bytes of the lines below |
 //! | `\|TEXT`, `>TEXT` | bytes of the file, with and without the end of a line |
-//! | `fill COUNT TEXT` | the text that many times |
+//! | `fill COUNT TEXT`, `lines COUNT TEXT` | the text that many times, without and with the end of a line |
 //! | `byte NUMBER` | one byte |
 //! | `shelf CALL`, `out CALL`, `err CALL` | this call of the shelf or of the sink fails |
 //! | `room COUNT`, `grain COUNT` | how many bytes `out` takes at all, and at most by one write |
 //! | `run NAME` | the case is run under this name, and the next one begins |
+//!
+//! A case that no `run` follows is a fault.
 #![tactic(auto)]
 
 mod case;
 mod show;
 
-use anyhow::Result;
+use anyhow::{Result, bail};
 use case::Case;
 
 fn main(rt: HostRuntime) -> Result<()> {
@@ -32,6 +34,9 @@ fn main(rt: HostRuntime) -> Result<()> {
         } else {
             case.read(alloc, line.as_str())?;
         }
+    }
+    if !case.is_empty() {
+        bail!("lines after the last run");
     }
     Ok(())
 }

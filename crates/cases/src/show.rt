@@ -11,7 +11,7 @@ pub fn ending(rt: &impl Print, alloc: Global, name: &str, ended: &Ending) -> Res
     stream(rt, alloc, "err", ended.err.bytes())
 }
 
-// Each line behind the stream's name and a bar; a last one without an end behind `>`.
+// Each line after the stream's name and a bar; a last one without an end after `>`.
 fn stream(rt: &impl Print, alloc: Global, name: &str, bytes: &[u8]) -> Result<()> {
     let text = String::from_utf8_lossy(alloc, bytes)?;
     for line in text.as_str().split_inclusive("\n") {

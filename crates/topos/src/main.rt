@@ -8,7 +8,7 @@ use std::{env, io};
 use topos_top::Status;
 
 fn main(rt: HostRuntime) -> ExitCode {
-    let words = match words_behind_name(&rt) {
+    let words = match words_after_name(&rt) {
         Ok(words) => words,
         Err(error) if error.kind() == io::ErrorKind::OutOfMemory => {
             return ExitCode::from(Status::Memory.number());
@@ -23,8 +23,8 @@ fn main(rt: HostRuntime) -> ExitCode {
     ExitCode::from(status.number())
 }
 
-/// The words behind the program's own name.
-fn words_behind_name<R: Env + AllocGlobal>(rt: &R) -> io::Result<Vec<String>> {
+/// The words after the program's own name.
+fn words_after_name<R: Env + AllocGlobal>(rt: &R) -> io::Result<Vec<String>> {
     let words = env::args(rt)?.skip(1).collect(rt.alloc())?;
     Ok(words)
 }

@@ -1,67 +1,80 @@
 -- The cause of each reply that may be given, and how a run ends by its reply.
-use Rattle.std.proofs.Common.{◌≡◌, ◌⊎◌, inl, inr, ℕ, List, Option, None, Some, Result, Ok, Err, refl, sym, ◌∙◌, false}
-use Rattle.desc_core.specs.Description.{described}
-use Rattle.desc_core.specs.Network.{Network}
+use Rattle.std.proofs.Common.{◌≡◌, inl, inr, ℕ, List, Option, None, Some, Result, Ok, Err, refl, sym, subst, false}
+use Rattle.std.specs.Prelude.{IsTrue, IsFalse}
 use Rattle.desc_form.specs.declared.refusal.Refusal.{Refusal}
-use Rattle.topos_top.specs.Command.{Command, Check, Policy, Rules, Repair, file_of}
+use Rattle.ipt_read.specs.declared.fault.IptWhy.{IptWhy}
+use Rattle.pkt_core.specs.declared.events.EventWhy.{EventWhy}
+use Rattle.topos_top.specs.Command.{Command, files_of, reports_on_output, command_of}
 use Rattle.topos_top.specs.Ending.{status_of, out_of, has_output}
-use Rattle.topos_top.specs.Ends.{Ends, Replies}
-use Rattle.topos_top.specs.Promises.{Describes}
-use Rattle.topos_top.specs.Reply.{Reply, Usage, CannotRead, Refused, Violated, Reported, Done, Memory, description_in, or_refused, ◌>>=◌}
-use Rattle.topos_top.specs.Seen.{ShelfChange, SawFile, MayGiveBy}
+use Rattle.topos_top.specs.File.{File, Reads}
+use Rattle.topos_top.specs.Promises.{Accepted, job_with}
+use Rattle.topos_top.specs.Reply.{Reply, Usage, CannotRead, Refused, Violated, Reported, Done, Memory, ReadsIn}
+use Rattle.topos_top.specs.Seen.{ShelfChange, CameTo, BeganSome, NoMemory, Stopped, RepliesOn, Early, Ended, MayGiveBy, MayGive}
 use Rattle.topos_top.specs.Taken.{SinkChange, Took, IsWritten}
+use Rattle.topos_top.specs.declared.fault.Fault.{Fault}
+use Rattle.topos_top.specs.declared.fault.Fault.TheVariants as fault
+use Rattle.topos_top.specs.declared.reading.Reading.{Reading}
 use Rattle.topos_top.specs.declared.status.Status.{Status}
 use Rattle.topos_top.specs.declared.status.Status.TheVariants as status
 
--- every reply that may be given, with its cause
-pub data Cause (asked : Option Command) (shelf : ShelfChange) (given : Reply) : Type 0 where
-  NoForm : asked ≡ None → given ≡ Usage → Cause asked shelf given
-  NoMemory : (command : Command) → asked ≡ Some command → given ≡ Memory → Cause asked shelf given
-  Unread : (command : Command) → asked ≡ Some command → SawFile shelf (file_of command) None → given ≡ CannotRead (file_of command) → Cause asked shelf given
-  Bad : (command : Command) → asked ≡ Some command → (bytes : List ℕ) → SawFile shelf (file_of command) (Some bytes) → (why : Refusal) → described bytes ≡ Err why → given ≡ Refused why → Cause asked shelf given
-  Ended : (command : Command) → asked ≡ Some command → (d : Network) → Describes shelf command d → Ends command d given → Cause asked shelf given
+-- the one cause of each reply
+pub data Cause (words : List (List ℕ)) (shelf : ShelfChange) : Reply → Type 0 where
+  NoForm : command_of words ≡ None → Cause words shelf Usage
+  OutOfMemory : (command : Command) → command_of words ≡ Some command → BeganSome shelf (files_of command) → Cause words shelf Memory
+  Unread : (command : Command) → command_of words ≡ Some command → (file : File) → CameTo shelf (files_of command) file None
+      → Cause words shelf (CannotRead file.name)
+  BadDescription : (command : Command) → command_of words ≡ Some command → (file : File) (bytes : List ℕ)
+      → CameTo shelf (files_of command) file (Some bytes)
+      → (why : Refusal) → Reads file.kind bytes (Err (fault.Description why)) → Cause words shelf (Refused (fault.Description why))
+  BadRules : (command : Command) → command_of words ≡ Some command → (file : File) (bytes : List ℕ)
+      → CameTo shelf (files_of command) file (Some bytes)
+      → (line : ℕ) (why : IptWhy) → Reads file.kind bytes (Err (fault.Rules line why)) → Cause words shelf (Refused (fault.Rules line why))
+  BadEvents : (command : Command) → command_of words ≡ Some command → (file : File) (bytes : List ℕ)
+      → CameTo shelf (files_of command) file (Some bytes)
+      → (line : ℕ) (why : EventWhy) → Reads file.kind bytes (Err (fault.Events line why)) → Cause words shelf (Refused (fault.Events line why))
+  Fails : (a : Accepted words shelf) → IsFalse (reports_on_output a.command) → (job_with a).fails → (report : List ℕ)
+      → (job_with a).report.is report → Cause words shelf (Violated report)
+  FailsOnOutput : (a : Accepted words shelf) → IsTrue (reports_on_output a.command) → (job_with a).fails → (report : List ℕ)
+      → (job_with a).report.is report → Cause words shelf (Reported report)
+  Holds : (a : Accepted words shelf) → (job_with a).holds → (text : List ℕ) → (job_with a).text.is text → Cause words shelf (Done text)
 
--- the cause of a reply to a command, by what was seen of its file
-cause_seen : (asked : Option Command) (command : Command) (shelf : ShelfChange) (given : Reply) → asked ≡ Some command → (saw : Option (List ℕ)) → SawFile shelf (file_of command) saw → (description_in (file_of command) saw >>= Ends command) given → Cause asked shelf given
-cause_seen asked command shelf given named None held replies = Unread command named held replies
-cause_seen asked command shelf given named (Some bytes) held replies = by_reading (described bytes) refl replies
-  where
-    by_reading : (reading : Result Network Refusal) → described bytes ≡ reading → (or_refused reading >>= Ends command) given → Cause asked shelf given
-    by_reading (Ok d) read ends = Ended command named d (record { bytes = bytes; held = held; read = read }) ends
-    by_reading (Err why) read is = Bad command named bytes held why read is
+cause_refused : (words : List (List ℕ)) (command : Command) (shelf : ShelfChange) (given : Reply) → command_of words ≡ Some command
+    → (file : File) (bytes : List ℕ) → CameTo shelf (files_of command) file (Some bytes) → ReadsIn file (Some bytes) (Err given) → Cause words shelf given
+cause_refused words command shelf (Refused (fault.Description why)) named file bytes came is = BadDescription command named file bytes came why is
+cause_refused words command shelf (Refused (fault.Rules line why)) named file bytes came is = BadRules command named file bytes came line why is
+cause_refused words command shelf (Refused (fault.Events line why)) named file bytes came is = BadEvents command named file bytes came line why is
+cause_refused words command shelf given named file bytes came is = absurd is
 
-pub cause_of : (asked : Option Command) (shelf : ShelfChange) (given : Reply) → MayGiveBy asked shelf given → Cause asked shelf given
-unfolding Replies
-cause_of None shelf given may = NoForm refl may.0
-cause_of (Some command) shelf given may = elim may [
-  | inl no_memory ↦ NoMemory command refl no_memory.0
-  | inr seen ↦ cause_seen (Some command) command shelf given refl (seen.0 (file_of command)) seen.1.files.0 seen.2
-]
+cause_stopped : (words : List (List ℕ)) (command : Command) (shelf : ShelfChange) (given : Reply) → command_of words ≡ Some command
+    → (file : File) (saw : Option (List ℕ)) → CameTo shelf (files_of command) file saw → ReadsIn file saw (Err given)
+    → Cause words shelf given
+cause_stopped words command shelf given named file None came is =
+    let same : CannotRead file.name ≡ given = cc is in
+    subst (Cause words shelf) same (Unread command named file came)
+cause_stopped words command shelf given named file (Some bytes) came is = cause_refused words command shelf given named file bytes came is
 
--- a command that came to its end is done, or tells a violation
-pub ends_done_or_violated : (command : Command) (d : Network) (given : Reply) → Ends command d given → (status_of given ≡ status.Done) ⊎ (status_of given ≡ status.Violated)
-ends_done_or_violated (Check file) d (Done text) ends = inl refl
-ends_done_or_violated (Check file) d (Reported report) ends = inr refl
-ends_done_or_violated (Check file) d given ends = absurd ends
-ends_done_or_violated (Policy file) d (Done text) ends = inl refl
-ends_done_or_violated (Policy file) d given ends = absurd ends
-ends_done_or_violated (Rules file) d (Done text) ends = inl refl
-ends_done_or_violated (Rules file) d (Violated report) ends = inr refl
-ends_done_or_violated (Rules file) d given ends = absurd ends
-ends_done_or_violated (Repair file) d (Done text) ends = inl refl
-ends_done_or_violated (Repair file) d given ends = absurd ends
+cause_ended : (words : List (List ℕ)) (shelf : ShelfChange) (given : Reply) (a : Accepted words shelf)
+    → RepliesOn a.command a.readings given → Cause words shelf given
+cause_ended words shelf (Done text) a ends = Holds a ends.0 text ends.1
+cause_ended words shelf (Reported report) a ends = FailsOnOutput a ends.0 ends.1 report ends.2
+cause_ended words shelf (Violated report) a ends = Fails a ends.0 ends.1 report ends.2
+cause_ended words shelf given a ends = absurd ends
 
--- so it ends in no other way
-pub ends_otherwise : {P : Type 0} (command : Command) (d : Network) (given : Reply) (s : Status) → Ends command d given → status_of given ≡ s → (s ≡ status.Done → ⊥) → (s ≡ status.Violated → ⊥) → P
-ends_otherwise command d given s ends is not_done not_violated = elim (ends_done_or_violated command d given ends) [
-  | inl done ↦ absurd (not_done (sym is ∙ done))
-  | inr violated ↦ absurd (not_violated (sym is ∙ violated))
-]
+cause_by : (words : List (List ℕ)) (asked : Option Command) (shelf : ShelfChange) (given : Reply) → command_of words ≡ asked
+    → MayGiveBy asked shelf given → Cause words shelf given
+cause_by words None shelf given none may = subst (Cause words shelf) (sym may.0) (NoForm none)
+cause_by words (Some command) shelf given named (Early (NoMemory began is)) = subst (Cause words shelf) (sym is) (OutOfMemory command named began)
+cause_by words (Some command) shelf given named (Early (Stopped file saw came is)) = cause_stopped words command shelf given named file saw came is
+cause_by words (Some command) shelf given named (Ended readings read ends) = cause_ended words shelf given (record { command = command; named = named; readings = readings; read = read }) ends
+
+pub cause_of : (words : List (List ℕ)) (shelf : ShelfChange) (given : Reply) → MayGive words shelf given → Cause words shelf given
+cause_of words shelf given may = cause_by words (command_of words) shelf given refl may
 
 -- how a run ends where its reply has nothing for the output
 pub ends_so : (out : SinkChange) (given : Reply) (s : Status) → has_output given ≡ false → IsWritten out given s → s ≡ status_of given
 ends_so out given s silent written = elim written [ inl whole ↦ whole.0 | inr cut ↦ cc (cut.1, silent) ]
 
 -- a run that does not end in a write fault ends as its reply says
-pub ends_as : (out : SinkChange) (given : Reply) (s : Status) → (s ≡ status.WriteFault → ⊥) → IsWritten out given s → (s ≡ status_of given) × Took out (out_of given)
+pub ends_as : (out : SinkChange) (given : Reply) (s : Status) → (s ≡ status.WriteFault → ⊥) → IsWritten out given s
+    → (s ≡ status_of given) × Took out (out_of given)
 ends_as out given s not_cut written = elim written [ inl whole ↦ whole | inr cut ↦ absurd (not_cut cut.0) ]

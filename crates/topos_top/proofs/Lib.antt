@@ -1,3 +1,8 @@
+pub mod FileLaws
+pub mod ReadingLaws
+pub mod RulesLaws
+pub mod JobLaws
+pub mod ReplyLaws
 pub mod Seeing
 pub mod Causes
 pub mod RunLaws

@@ -1,7 +1,7 @@
 -- The forms of the command line word by word, and some words that are none of them.
 use Rattle.std.proofs.Common.{◌≡◌, ℕ, List, [], ◌∷◌, None, Some, refl}
 use Rattle.std.specs.Prelude.{codes}
-use Rattle.topos_top.specs.Command.{Check, Policy, Rules, Repair, command_of}
+use Rattle.topos_top.specs.Command.{Check, Policy, Rules, Repair, Trace, command_of}
 
 check_words : (file : List ℕ) → command_of (codes "check" ∷ file ∷ []) ≡ Some (Check file)
 unfolding command_of
@@ -18,6 +18,10 @@ rules_words file = refl
 repair_words : (file : List ℕ) → command_of (codes "repair" ∷ codes "iptables" ∷ file ∷ []) ≡ Some (Repair file)
 unfolding command_of
 repair_words file = refl
+
+trace_words : (rules events : List ℕ) → command_of (codes "trace" ∷ codes "iptables" ∷ rules ∷ events ∷ []) ≡ Some (Trace rules events)
+unfolding command_of
+trace_words rules events = refl
 
 -- rules of another kind, a word too few, a word too many
 other_rules : (file : List ℕ) → command_of (codes "rules" ∷ codes "openflow" ∷ file ∷ []) ≡ None

@@ -2,13 +2,18 @@
 use Rattle.std.specs.Prelude.{ℕ, List, [], ◌++◌, codes, Bool, true, false}
 use Rattle.report_core.specs.RefusalLine.{refusal_text}
 use Rattle.topos_top.specs.Reply.{Reply, Usage, CannotRead, Refused, Violated, Reported, Done, Memory}
+use Rattle.topos_top.specs.TextFault.{rules_fault_line, events_fault_line}
+use Rattle.topos_top.specs.declared.fault.Fault.{Fault}
+use Rattle.topos_top.specs.declared.fault.Fault.TheVariants as fault
 use Rattle.topos_top.specs.declared.status.Status.{Status}
 use Rattle.topos_top.specs.declared.status.Status.TheVariants as status
 
 abbrev pub status_of : Reply → Status
 status_of Usage = status.Usage
 status_of (CannotRead file) = status.ReadFault
-status_of (Refused why) = status.BadDescription
+status_of (Refused (fault.Description why)) = status.BadDescription
+status_of (Refused (fault.Rules line why)) = status.BadText
+status_of (Refused (fault.Events line why)) = status.BadText
 status_of (Violated report) = status.Violated
 status_of (Reported report) = status.Violated
 status_of (Done text) = status.Done
@@ -32,7 +37,8 @@ usage_text =
     codes "usage: topos check FILE\n"
     ++ (codes "       topos policy FILE\n"
     ++ (codes "       topos rules iptables FILE\n"
-    ++ codes "       topos repair iptables FILE\n"))
+    ++ (codes "       topos repair iptables FILE\n"
+    ++ codes "       topos trace iptables RULES EVENTS\n")))
 
 -- the line of a file that cannot be read
 abbrev pub cannot_read_line : (file : List ℕ) → List ℕ
@@ -42,21 +48,27 @@ cannot_read_line file = codes "topos: cannot read " ++ (file ++ codes "\n")
 abbrev pub memory_line : List ℕ
 memory_line = codes "topos: out of memory\n"
 
+-- the line of a refused file
+abbrev pub refused_line : Fault → List ℕ
+refused_line (fault.Description why) = refusal_text why
+refused_line (fault.Rules line why) = rules_fault_line line why
+refused_line (fault.Events line why) = events_fault_line line why
+
 -- what goes to the error stream
 abbrev pub err_of : Reply → List ℕ
 err_of Usage = usage_text
 err_of (CannotRead file) = cannot_read_line file
-err_of (Refused why) = refusal_text why
+err_of (Refused why) = refused_line why
 err_of (Violated report) = report
 err_of (Reported report) = []
 err_of (Done text) = []
 err_of Memory = memory_line
 
--- the line behind a write fault of the output
+-- the line after a write fault of the output
 abbrev pub write_fault_line : List ℕ
 write_fault_line = codes "topos: cannot write\n"
 
 -- what goes to the error stream, where the run ended so
-abbrev pub line_behind : Reply → Status → List ℕ
-line_behind reply status.WriteFault = write_fault_line
-line_behind reply _ = err_of reply
+abbrev pub line_after : Reply → Status → List ℕ
+line_after reply status.WriteFault = write_fault_line
+line_after reply _ = err_of reply

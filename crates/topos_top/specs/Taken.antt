@@ -32,7 +32,7 @@ abbrev pub TookSome : SinkChange → List ℕ → Type 0
 TookSome sink bytes = TookPrefix sink.held_before sink.held_after bytes
 
 -- The text of the reply is written whole and the status is that of the reply; or the output had a
--- fault behind a prefix of the text. So the reply alone decides status and output where there was no
+-- fault after a prefix of the text. So the reply alone decides status and output where there was no
 -- fault; how much of the text stands before one is the sink's to say.
 abbrev pub IsWritten : SinkChange → Reply → Status → Type 0
 IsWritten out reply ended =

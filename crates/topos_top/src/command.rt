@@ -1,10 +1,10 @@
 //! The words of a command line, and the command that they ask for.
 
 ghost use Rattle.std.specs.Prelude.{◌≡◌, map, string_bytes, option_map};
-ghost use Rattle.topos_top.specs.Command.{command_of, file_of, report_command, rules_command};
+ghost use Rattle.topos_top.specs.Command.{command_of, report_command, rules_command, trace_command};
 ghost use Rattle.topos_top.specs.CommandView.{command_view};
 
-/// What the program is asked to do, with its file as the word names it.
+/// What the program is asked to do, with its files as the words name them.
 #[derive(Clone, Copy)]
 pub enum Command<'a> {
     /// `check FILE`: whether the asked flows meet the invariants.
@@ -16,20 +16,8 @@ pub enum Command<'a> {
     Rules(&'a str),
     /// `repair iptables FILE`: the rules of the permitted policy.
     Repair(&'a str),
-}
-
-impl<'a> Command<'a> {
-    /// The file of the description that the command is about.
-    pub fn file(&self) -> &'a str
-        ensures { result.now ≡ file_of (command_view self.now) }
-    {
-        match self {
-            Command::Check(file)
-            | Command::Policy(file)
-            | Command::Rules(file)
-            | Command::Repair(file) => file,
-        }
-    }
+    /// `trace iptables RULES EVENTS`: what becomes of each event.
+    Trace { rules: &'a str, events: &'a str },
 }
 
 /// The command that the words ask for, where they are one of the forms.
@@ -41,6 +29,9 @@ pub fn command_of_words(words: &[String]) -> Option<Command<'_>>
         [verb, file] => report_command(verb.as_str(), file.as_str()),
         [verb, kind, file] if kind.as_str() == "iptables" => {
             rules_command(verb.as_str(), file.as_str())
+        }
+        [verb, kind, rules, events] if kind.as_str() == "iptables" => {
+            trace_command(verb.as_str(), rules.as_str(), events.as_str())
         }
         _ => None,
     }
@@ -64,6 +55,16 @@ fn rules_command<'a>(verb: &str, file: &'a str) -> Option<Command<'a>>
     match verb {
         "rules" => Some(Command::Rules(file)),
         "repair" => Some(Command::Repair(file)),
+        _ => None,
+    }
+}
+
+/// The command that says what rules do with events.
+fn trace_command<'a>(verb: &str, rules: &'a str, events: &'a str) -> Option<Command<'a>>
+    ensures { option_map command_view result ≡ trace_command verb.now rules.now events.now }
+{
+    match verb {
+        "trace" => Some(Command::Trace { rules, events }),
         _ => None,
     }
 }

@@ -1,70 +1,62 @@
-//! What each command does with the description that it is about.
+//! The table of the commands: each answers its readings.
 
-ghost use Rattle.std.specs.Prelude.{IfOk};
+ghost use Rattle.std.specs.Prelude.{◌≡◌, IfOk, [], ◌∷◌};
 ghost use Rattle.topos_top.specs.AnswerView.{reply_view};
+ghost use Rattle.topos_top.specs.Command.{files_of};
 ghost use Rattle.topos_top.specs.CommandView.{command_view};
-ghost use Rattle.topos_top.specs.Ends.{Ends, EndsCheck, EndsPolicy, EndsRules, EndsRepair};
+ghost use Rattle.topos_top.specs.File.{kinds_of, kinds_in};
+ghost use Rattle.topos_top.specs.Seen.{RepliesOn};
 
-use crate::answer::{Answer, Text};
+use crate::answer::Answer;
 use crate::command::Command;
-use crate::rules::rules_text;
+use crate::events::EventList;
+use crate::reading::Reading;
+use crate::{check, policy, repair, rules, trace};
 use desc_core::Description;
-use report_core::{check_report, policy_report};
+use ipt_rules::Ruleset;
 use std::alloc::{AllocError, Global};
 
-/// The answer of a command to its description.
+/// The answer of a command to its readings.
 pub fn answer_on<'a>(
     alloc: Global,
     command: Command<'a>,
-    description: &Description,
+    readings: &[Reading],
 ) -> Result<Answer<'a>, AllocError>
-    ensures { IfOk result (λ answer. Ends (command_view command.entry) description.now (reply_view answer)) }
+    requires { kinds_in readings.now ≡ kinds_of (files_of (command_view command)) }
+    ensures { IfOk result (λ answer. RepliesOn (command_view command.entry) readings.now (reply_view answer)) }
 {
     match command {
-        Command::Check(_) => check(alloc, description),
-        Command::Policy(_) => policy(alloc, description),
-        Command::Rules(_) => rules(alloc, description),
-        Command::Repair(_) => repair(alloc, description),
-    }
-}
-
-/// `check FILE`.
-fn check<'a>(alloc: Global, description: &Description) -> Result<Answer<'a>, AllocError>
-    ensures { IfOk result (λ answer. EndsCheck description.now (reply_view answer)) }
-{
-    let (report, holds) = check_report(alloc, description)?;
-    if holds {
-        Ok(Answer::Done(Text::Report(report)))
-    } else {
-        Ok(Answer::Reported(report))
-    }
-}
-
-/// `policy FILE`.
-fn policy<'a>(alloc: Global, description: &Description) -> Result<Answer<'a>, AllocError>
-    ensures { IfOk result (λ answer. EndsPolicy description.now (reply_view answer)) }
-{
-    let report = policy_report(alloc, description)?;
-    Ok(Answer::Done(Text::Report(report)))
-}
-
-/// `rules iptables FILE`. Where no policy is listed, there is none to break an invariant.
-fn rules<'a>(alloc: Global, description: &Description) -> Result<Answer<'a>, AllocError>
-    ensures { IfOk result (λ answer. EndsRules description.now (reply_view answer)) }
-{
-    if description.given() {
-        let (report, holds) = check_report(alloc, description)?;
-        if !holds {
-            return Ok(Answer::Violated(report));
+        Command::Check(_) => check::answer(alloc, network(readings)),
+        Command::Policy(_) => policy::answer(alloc, network(readings)),
+        Command::Rules(_) => rules::answer(alloc, network(readings)),
+        Command::Repair(_) => repair::answer(alloc, network(readings)),
+        Command::Trace { .. } => {
+            let (rules, events) = rules_and_events(readings);
+            trace::answer(alloc, rules, events)
         }
     }
-    repair(alloc, description)
 }
 
-/// `repair iptables FILE`.
-fn repair<'a>(alloc: Global, description: &Description) -> Result<Answer<'a>, AllocError>
-    ensures { IfOk result (λ answer. EndsRepair description.now (reply_view answer)) }
+ghost use Rattle.topos_top.specs.declared.file.Kind.TheVariants.{Description as DescriptionKind, Rules as RulesKind, Events as EventsKind};
+
+/// The network, where that is the one reading.
+fn network(readings: &[Reading]) -> &Description
+    requires { kinds_in readings.now ≡ DescriptionKind ∷ [] }
+    ensures { readings.now ≡ Reading.Network result.now ∷ [] }
 {
-    let rules = rules_text(alloc, description)?;
-    Ok(Answer::Done(Text::Rules(rules)))
+    match readings {
+        [Reading::Network(description)] => description,
+        _ => unreachable!(),
+    }
+}
+
+/// The rules and the events, where those are the readings.
+fn rules_and_events(readings: &[Reading]) -> (&Ruleset, &EventList)
+    requires { kinds_in readings.now ≡ RulesKind ∷ EventsKind ∷ [] }
+    ensures { readings.now ≡ Reading.Rules result.0.now ∷ Reading.Events result.1.now ∷ [] }
+{
+    match readings {
+        [Reading::Rules(rules), Reading::Events(events)] => (rules, events),
+        _ => unreachable!(),
+    }
 }

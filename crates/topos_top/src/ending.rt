@@ -2,13 +2,16 @@
 
 ghost use Rattle.std.specs.Prelude.{◌≡◌, ◌≢◌, ◌≤◌, [], is_some, IsTrue, IsFalse, IfSome, IfNone};
 ghost use Rattle.std.specs.List.{flat_map};
-ghost use Rattle.report_core.specs.RefusalLine.{refusal_text};
 ghost use Rattle.topos_top.specs.AnswerView.{reply_view};
-ghost use Rattle.topos_top.specs.Ending.{status_of, out_of, has_output, err_of, line_behind, usage_text};
+ghost use Rattle.topos_top.specs.Ending.{status_of, out_of, has_output, err_of, line_after, usage_text, refused_line};
+ghost use Rattle.report_core.specs.RefusalLine.{refusal_text};
 ghost use Rattle.topos_top.specs.Taken.{sink_change, IsWritten, IsSaid};
+ghost use Rattle.topos_top.specs.TextFault.{fault_line};
 
 use crate::answer::Answer;
+use crate::fault::Fault;
 use crate::status::Status;
+use crate::text_fault::{events_reason, rules_reason};
 use desc_core::Refusal;
 use edge_io::{Sink, put_all, put_pieces};
 use report_core::refusal_line;
@@ -16,7 +19,7 @@ use report_core::refusal_line;
 /// Writes the answer, and says how the run ended. A failure of `err` changes nothing else.
 pub fn give<O: Sink, E: Sink>(answer: &Answer<'_>, out: &mut O, err: &mut E) -> Status
     ensures written { IsWritten (sink_change O.held O.faults out.old out.new) (reply_view answer.now) result }
-    ensures said { IsSaid (sink_change E.held E.faults err.old err.new) (line_behind (reply_view answer.now) result) }
+    ensures said { IsSaid (sink_change E.held E.faults err.old err.new) (line_after (reply_view answer.now) result) }
     ensures untouched { IsFalse (has_output (reply_view answer.now)) → out.new ≡ out.old }
     ensures silent { result ≢ Status.WriteFault → IsTrue (has_output (reply_view answer.now)) → err.new ≡ err.old }
     ensures out_faults_stay { O.faults out.old ≤ O.faults out.new }
@@ -39,8 +42,7 @@ fn output_of<'a>(answer: &'a Answer<'_>) -> Option<&'a [u8]>
     ensures nothing { IfNone result (out_of (reply_view answer.now) ≡ []) }
 {
     match answer {
-        Answer::Reported(report) => Some(report.bytes()),
-        Answer::Done(text) => Some(text.bytes()),
+        Answer::Reported(text) | Answer::Done(text) => Some(text.bytes()),
         _ => None,
     }
 }
@@ -51,7 +53,8 @@ fn status_of(answer: &Answer<'_>) -> Status
     match answer {
         Answer::Usage => Status::Usage,
         Answer::CannotRead(_) => Status::ReadFault,
-        Answer::Refused(_) => Status::BadDescription,
+        Answer::Refused(Fault::Description(_)) => Status::BadDescription,
+        Answer::Refused(Fault::Rules(..) | Fault::Events(..)) => Status::BadText,
         Answer::Violated(_) | Answer::Reported(_) => Status::Violated,
         Answer::Done(_) => Status::Done,
         Answer::Memory => Status::Memory,
@@ -67,7 +70,7 @@ fn explain<E: Sink>(answer: &Answer<'_>, err: &mut E)
     match answer {
         Answer::Usage => say_usage(err),
         Answer::CannotRead(file) => say(err, &[b"topos: cannot read ", file.as_bytes(), b"\n"]),
-        Answer::Refused(why) => say_refusal(err, why),
+        Answer::Refused(why) => say_refused(err, why),
         Answer::Violated(report) => say(err, &[report.bytes()]),
         Answer::Reported(_) | Answer::Done(_) => {}
         Answer::Memory => say(err, &[b"topos: out of memory\n"]),
@@ -87,11 +90,26 @@ fn say_usage<E: Sink>(err: &mut E)
             b"       topos policy FILE\n",
             b"       topos rules iptables FILE\n",
             b"       topos repair iptables FILE\n",
+            b"       topos trace iptables RULES EVENTS\n",
         ],
     );
 }
 
-/// The line of a refusal.
+/// The line of a refused file.
+fn say_refused<E: Sink>(err: &mut E, why: &Fault)
+    ensures said { IsSaid (sink_change E.held E.faults err.old err.new) (refused_line why.now) }
+    ensures faults_stay { E.faults err.old ≤ E.faults err.new }
+{
+    match why {
+        Fault::Description(why) => say_refusal(err, why),
+        Fault::Rules(line, why) => say_line(err, b"topos: rules: line ", *line, rules_reason(*why)),
+        Fault::Events(line, why) => {
+            say_line(err, b"topos: events: line ", *line, events_reason(*why));
+        }
+    }
+}
+
+/// The line of a refused description.
 fn say_refusal<E: Sink>(err: &mut E, why: &Refusal)
     ensures said { IsSaid (sink_change E.held E.faults err.old err.new) (refusal_text why.now) }
     ensures faults_stay { E.faults err.old ≤ E.faults err.new }
@@ -99,6 +117,18 @@ fn say_refusal<E: Sink>(err: &mut E, why: &Refusal)
     let mut line = [0; 256];
     let length = refusal_line(why, &mut line);
     say(err, &[&line[..length]]);
+}
+
+/// The line of a refused text, with the number of its line and the reason.
+fn say_line<E: Sink>(err: &mut E, text: &[u8], line: u32, reason: &[u8])
+    ensures said { IsSaid (sink_change E.held E.faults err.old err.new) (fault_line text.now line reason.now) }
+    ensures faults_stay { E.faults err.old ≤ E.faults err.new }
+{
+    let mut digits = itoa::Buffer::new();
+    say(
+        err,
+        &[text, digits.format(line).as_bytes(), b": ", reason, b"\n"],
+    );
 }
 
 /// Puts a text on `err`, whose failure changes no answer.

@@ -1,8 +1,8 @@
 //! The whole program, over any shelf of files and any two sinks.
 
 ghost use Rattle.std.specs.Prelude.{◌≡◌, ◌≢◌, ◌≤◌, ◌↔◌, ◌⊎◌, None, map, string_bytes};
-ghost use Rattle.topos_top.specs.Command.{command_of, AsksToCheck};
-ghost use Rattle.topos_top.specs.Promises.{GaveReply, LacksFile, HasBadDescription, IsViolated, WroteText, WasCutOff, RanOut, KeepsPromise, IsComplete, EndsAsTold};
+ghost use Rattle.topos_top.specs.Command.{command_of, AsksToReport, NamesNoFile};
+ghost use Rattle.topos_top.specs.Promises.{GaveReply, LacksFile, HasBadDescription, HasBadText, IsViolated, WroteText, WasCutOff, RanOut, KeepsPromise, IsComplete, EndsAsTold};
 ghost use Rattle.topos_top.specs.Seen.{shelf_change};
 ghost use Rattle.topos_top.specs.Taken.{sink_change};
 
@@ -12,7 +12,7 @@ use crate::status::Status;
 use edge_io::{Shelf, Sink};
 use std::alloc::Global;
 
-/// Does what the words ask for: takes the file off the shelf, writes the text to `out`, and says on
+/// Does what the words ask for: takes the files off the shelf, writes the text to `out`, and says on
 /// `err` why there is none. All memory is taken before the first byte is written.
 pub fn run<H: Shelf, O: Sink, E: Sink>(
     alloc: Global,
@@ -33,12 +33,16 @@ pub fn run<H: Shelf, O: Sink, E: Sink>(
     // What follows from it. Usage is given exactly for words that are no form, and reads nothing.
     ensures usage { (result ≡ Status.Usage) ↔ (command_of (map string_bytes words.now) ≡ None) }
     ensures usage_reads_nothing { result ≡ Status.Usage → shelf.new ≡ shelf.old }
+    ensures reads_nothing { NamesNoFile (map string_bytes words.now) → shelf.new ≡ shelf.old }
 
     // Each other answer has its cause.
     ensures read_fault { result ≡ Status.ReadFault → LacksFile (map string_bytes words.now)
         (shelf_change H.files H.faults H.begins H.taken shelf.old shelf.new)
         (sink_change E.held E.faults err.old err.new) }
     ensures bad_description { result ≡ Status.BadDescription → HasBadDescription (map string_bytes words.now)
+        (shelf_change H.files H.faults H.begins H.taken shelf.old shelf.new)
+        (sink_change E.held E.faults err.old err.new) }
+    ensures bad_text { result ≡ Status.BadText → HasBadText (map string_bytes words.now)
         (shelf_change H.files H.faults H.begins H.taken shelf.old shelf.new)
         (sink_change E.held E.faults err.old err.new) }
     ensures violated { result ≡ Status.Violated → IsViolated (map string_bytes words.now)
@@ -48,20 +52,21 @@ pub fn run<H: Shelf, O: Sink, E: Sink>(
         (shelf_change H.files H.faults H.begins H.taken shelf.old shelf.new)
         (sink_change O.held O.faults out.old out.new) (sink_change E.held E.faults err.old err.new) }
     ensures memory { result ≡ Status.Memory → RanOut (map string_bytes words.now)
-        (sink_change E.held E.faults err.old err.new) }
+        (shelf_change H.files H.faults H.begins H.taken shelf.old shelf.new) (sink_change E.held E.faults err.old err.new) }
     ensures done { result ≡ Status.Done → WroteText (map string_bytes words.now)
         (shelf_change H.files H.faults H.begins H.taken shelf.old shelf.new) (sink_change O.held O.faults out.old out.new) }
 
     // The headline: rules that are written forward exactly what the policy expects, over every list
-    // of packets and forgettings, and the policy meets every invariant and is the first that does.
+    // of packets and forgettings, also as they are read again, and the policy meets every invariant
+    // and is the first that does.
     ensures headline { result ≡ Status.Done → KeepsPromise (map string_bytes words.now)
         (shelf_change H.files H.faults H.begins H.taken shelf.old shelf.new) (sink_change O.held O.faults out.old out.new) }
 
-    // Where nothing is written or said, the stream is as it was. Of a broken invariant `check` reports on
-    // the output, and `rules` on the error stream.
+    // Where nothing is written or said, the stream is as it was. A command reports what fails on one stream,
+    // and leaves the other as it was.
     ensures untouched { result ≢ Status.Done → result ≢ Status.WriteFault
-        → (result ≡ Status.Violated → AsksToCheck (map string_bytes words.now) → ⊥) → out.new ≡ out.old }
-    ensures silent { (result ≡ Status.Done) ⊎ ((result ≡ Status.Violated) × AsksToCheck (map string_bytes words.now))
+        → (result ≡ Status.Violated → AsksToReport (map string_bytes words.now) → ⊥) → out.new ≡ out.old }
+    ensures silent { (result ≡ Status.Done) ⊎ ((result ≡ Status.Violated) × AsksToReport (map string_bytes words.now))
         → err.new ≡ err.old }
 
     // The words and the told files decide what is given, and how the run ends.

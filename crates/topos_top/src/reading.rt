@@ -1,44 +1,129 @@
-//! Reading a file and then the description that is in it.
+//! Reading the files of a command in their order, and what is in each.
 
-ghost use Rattle.std.specs.Prelude.{◌≡◌, ◌≤◌, ◌⊎◌, Err};
+ghost use Rattle.std.specs.Prelude.{◌≡◌, ◌≤◌, [], map};
 ghost use Rattle.edge_io.specs.Counts.{more};
-ghost use Rattle.desc_core.specs.Description.{described};
-ghost use Rattle.topos_top.specs.AnswerView.{outcome_view};
-ghost use Rattle.topos_top.specs.Reply.{Memory as MemoryReply, or_refused};
-ghost use Rattle.topos_top.specs.Seen.{shelf_change, MayDescribe};
+ghost use Rattle.topos_top.specs.AnswerView.{outcome_view, readings_view};
+ghost use Rattle.topos_top.specs.Command.{files_of};
+ghost use Rattle.topos_top.specs.CommandView.{command_view, file_view};
+ghost use Rattle.topos_top.specs.Reads.{IsOutcome, MayReadOne, MayRead};
+ghost use Rattle.topos_top.specs.Seen.{shelf_change};
 
 use crate::answer::Answer;
-use desc_core::{DescFault, Description, MOST_BYTES, Place, Refusal, Why, describe};
+use crate::command::Command;
+use crate::events::EventList;
+use crate::fault::Fault;
+use crate::file::{File, Kind};
+use desc_core::{DescFault, Description, describe};
 use edge_io::{Shelf, TakeFault, take_all};
+use ipt_read::IptFault;
+use ipt_rules::Ruleset;
+use pkt_core::{EventFault, read_events};
 use std::alloc::Global;
 
-/// The description in a file, or the answer that ends the run.
-pub fn description_at<'a, H: Shelf>(
+/// What is read of a file.
+#[derive(Drop)]
+pub enum Reading {
+    /// The network of a description.
+    Network(Description),
+    /// Rules of iptables.
+    Rules(Ruleset),
+    /// The events of a list.
+    Events(EventList),
+}
+
+/// The readings of the files that a command names, or the answer that ends the run.
+pub fn read_files<'a, H: Shelf>(
     alloc: Global,
-    file: &'a str,
+    command: Command<'a>,
     shelf: &mut H,
-) -> Result<Description, Answer<'a>>
+) -> Result<Vec<Reading>, Answer<'a>>
+    ensures same_files { H.files shelf.new ≡ H.files shelf.old }
+    ensures faults_stay { H.faults shelf.old ≤ H.faults shelf.new }
+    ensures no_files { files_of (command_view command.entry) ≡ [] → shelf.new ≡ shelf.old }
+    ensures readings { MayRead (shelf_change H.files H.faults H.begins H.taken shelf.old shelf.new)
+        (files_of (command_view command.entry)) (readings_view result) }
+{
+    match command {
+        Command::Check(name)
+        | Command::Policy(name)
+        | Command::Rules(name)
+        | Command::Repair(name) => read_all(alloc, &[file(Kind::Description, name)], shelf),
+        Command::Trace { rules, events } => read_all(
+            alloc,
+            &[file(Kind::Rules, rules), file(Kind::Events, events)],
+            shelf,
+        ),
+    }
+}
+
+fn file<'a>(kind: Kind, name: &'a str) -> File<'a>
+    ensures { file_view result ≡ record { kind = kind; name = name.now } }
+{
+    File { kind, name }
+}
+
+/// The readings of the files, or the answer that ends the run. No file is begun before those that
+/// stand before it are accepted.
+fn read_all<'a, H: Shelf>(
+    alloc: Global,
+    files: &[File<'a>],
+    shelf: &mut H,
+) -> Result<Vec<Reading>, Answer<'a>>
+    ensures same_files { H.files shelf.new ≡ H.files shelf.old }
+    ensures faults_stay { H.faults shelf.old ≤ H.faults shelf.new }
+    ensures no_files { files.now ≡ [] → shelf.new ≡ shelf.old }
+    ensures readings { MayRead (shelf_change H.files H.faults H.begins H.taken shelf.old shelf.new)
+        (map file_view files.now) (readings_view result) }
+{
+    let mut readings = Vec::new(alloc);
+    for file in files {
+        let reading = read_one(alloc, *file, shelf)?;
+        readings.push(reading)?;
+    }
+    Ok(readings)
+}
+
+/// The reading of a file, or the answer that ends the run.
+fn read_one<'a, H: Shelf>(
+    alloc: Global,
+    file: File<'a>,
+    shelf: &mut H,
+) -> Result<Reading, Answer<'a>>
     ensures same_files { H.files shelf.new ≡ H.files shelf.old }
     ensures faults_stay { H.faults shelf.old ≤ H.faults shelf.new }
     ensures begins { H.begins shelf.new ≡ more (H.begins shelf.old) 1 }
-    ensures description { MayDescribe file.now
+    ensures reading { MayReadOne (file_view file.entry)
         (shelf_change H.files H.faults H.begins H.taken shelf.old shelf.new) (outcome_view result) }
 {
-    match take_all(alloc, shelf, file, MOST_BYTES) {
-        Ok(bytes) => description_in(alloc, &bytes),
-        Err(TakeFault::Read) => Err(Answer::CannotRead(file)),
-        Err(TakeFault::TooLong) => Err(Answer::Refused(Refusal::at(Why::TooLong, Place::Document))),
+    match take_all(alloc, shelf, file.name, file.kind.most()) {
+        Ok(bytes) => read_as(alloc, file.kind, &bytes),
+        Err(TakeFault::Read) => Err(Answer::CannotRead(file.name)),
+        Err(TakeFault::TooLong) => Err(Answer::Refused(file.kind.too_long())),
         Err(TakeFault::Memory) => Err(Answer::Memory),
     }
 }
 
-/// The description in the bytes of a file.
-fn description_in<'a>(alloc: Global, bytes: &[u8]) -> Result<Description, Answer<'a>>
-    ensures { (outcome_view result ≡ Err MemoryReply) ⊎ (outcome_view result ≡ or_refused (described bytes.now)) }
+/// The reading of the bytes of a file.
+fn read_as<'a>(alloc: Global, kind: Kind, bytes: &[u8]) -> Result<Reading, Answer<'a>>
+    ensures { IsOutcome kind bytes.now (outcome_view result) }
 {
-    match describe(alloc, bytes) {
-        Ok(description) => Ok(description),
-        Err(DescFault::Refused(why)) => Err(Answer::Refused(why)),
-        Err(DescFault::Memory) => Err(Answer::Memory),
+    match kind {
+        Kind::Description => match describe(alloc, bytes) {
+            Ok(description) => Ok(Reading::Network(description)),
+            Err(DescFault::Refused(why)) => Err(Answer::Refused(Fault::Description(why))),
+            Err(DescFault::Memory) => Err(Answer::Memory),
+        },
+        Kind::Rules => match ipt_read::read(alloc, bytes) {
+            Ok(rules) => Ok(Reading::Rules(rules)),
+            Err(IptFault::Refused { line, why }) => Err(Answer::Refused(Fault::Rules(line, why))),
+            Err(IptFault::Memory) => Err(Answer::Memory),
+        },
+        Kind::Events => match read_events(alloc, bytes) {
+            Ok(events) => Ok(Reading::Events(EventList::new(events))),
+            Err(EventFault::Refused { line, why }) => {
+                Err(Answer::Refused(Fault::Events(line, why)))
+            }
+            Err(EventFault::Memory) => Err(Answer::Memory),
+        },
     }
 }

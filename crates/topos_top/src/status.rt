@@ -10,17 +10,17 @@ pub enum Status {
     Done,
     /// The words are no form of the command line.
     Usage,
-    /// The policy breaks an invariant.
+    /// What has to hold fails.
     Violated,
     /// The description is refused.
     BadDescription,
-    /// A text of rules or of events is refused. No command reads one yet.
+    /// A text of rules or of events is refused.
     BadText,
-    /// The rules cannot be written in the form that is asked for. The one form so far can write all.
+    /// What is asked for cannot be written.
     NotEmittable,
     /// A file cannot be read.
     ReadFault,
-    /// The output failed, behind a prefix of the text.
+    /// The output failed, after a prefix of the text.
     WriteFault,
     /// There is not enough memory.
     Memory,

@@ -4,7 +4,7 @@ use Rattle.topos_top.specs.Promises.{GaveReply}
 use Rattle.topos_top.specs.Seen.{shelf_change}
 use Rattle.topos_top.specs.Taken.{sink_change}
 use Rattle.topos_top.proofs.HeadlineLaw.{headline_law}
-use Rattle.topos_top.proofs.RunLaws.{usage_law, read_fault_law, bad_description_law, violated_law, write_fault_law, memory_law, done_law, no_fault, nothing_to_write, something_to_write}
+use Rattle.topos_top.proofs.RunLaws.{usage_law, read_fault_law, bad_description_law, bad_text_law, violated_law, write_fault_law, memory_law, done_law, no_fault, nothing_to_write, something_to_write}
 use Rattle.topos_top.proofs.ToldLaws.{complete_law, ends_as_told_law}
 use Rattle.topos_top.proofs.program.run.Given as given
 use Rattle.topos_top.proofs.program.run.Goals as goal
@@ -27,13 +27,16 @@ pub returns-clause-usage : goal.returns-clause-usage
 returns-clause-usage g c = usage_law _ _ _ _ _ (gave g c)
 
 pub returns-clause-usage_reads_nothing : goal.returns-clause-usage_reads_nothing
-returns-clause-usage_reads_nothing g c = λ is. c.answer_to-answer.ensures.usage_reads_nothing ((usage_law _ _ _ _ _ (gave g c)).0 is)
+returns-clause-usage_reads_nothing g c = λ is. let none = (usage_law _ _ _ _ _ (gave g c)).0 is in c.answer_to-answer.ensures.reads_nothing (λ command named. cc (none, named))
 
 pub returns-clause-read_fault : goal.returns-clause-read_fault
 returns-clause-read_fault g c = read_fault_law _ _ _ _ _ (gave g c)
 
 pub returns-clause-bad_description : goal.returns-clause-bad_description
 returns-clause-bad_description g c = bad_description_law _ _ _ _ _ (gave g c)
+
+pub returns-clause-bad_text : goal.returns-clause-bad_text
+returns-clause-bad_text g c = bad_text_law _ _ _ _ _ (gave g c)
 
 pub returns-clause-violated : goal.returns-clause-violated
 returns-clause-violated g c = violated_law _ _ _ _ _ (gave g c)

@@ -1,0 +1,37 @@
+-- The line of a text of rules or of events that is refused, with its first line that is faulty and why (docs/FORMATS.md).
+use Rattle.std.specs.Prelude.{ℕ, List, ◌++◌, codes, decimal}
+use Rattle.ipt_read.specs.declared.fault.IptWhy.{IptWhy}
+use Rattle.ipt_read.specs.declared.fault.IptWhy.TheVariants as rules
+use Rattle.pkt_core.specs.declared.events.EventWhy.{EventWhy}
+use Rattle.pkt_core.specs.declared.events.EventWhy.TheVariants as events
+
+abbrev pub rules_reason : IptWhy → List ℕ
+rules_reason rules.TooLong = codes "TooLong"
+rules_reason rules.BadLine = codes "BadLine"
+rules_reason rules.OtherTable = codes "OtherTable"
+rules_reason rules.BadChain = codes "BadChain"
+rules_reason rules.UnknownChain = codes "UnknownChain"
+rules_reason rules.Interface = codes "Interface"
+rules_reason rules.UnknownOption = codes "UnknownOption"
+rules_reason rules.BadValue = codes "BadValue"
+rules_reason rules.UnknownTarget = codes "UnknownTarget"
+rules_reason rules.Loop = codes "Loop"
+rules_reason rules.NoCommit = codes "NoCommit"
+rules_reason rules.AfterCommit = codes "AfterCommit"
+rules_reason rules.TooMany = codes "TooMany"
+
+abbrev pub events_reason : EventWhy → List ℕ
+events_reason events.TooLong = codes "TooLong"
+events_reason events.BadLine = codes "BadLine"
+events_reason events.BadValue = codes "BadValue"
+events_reason events.TooMany = codes "TooMany"
+
+-- a line by its number, from 1, and the reason; line 0 stands for the whole text
+abbrev pub fault_line : (text : List ℕ) → (line : ℕ) → (reason : List ℕ) → List ℕ
+fault_line text line reason = text ++ (decimal line ++ (codes ": " ++ (reason ++ codes "\n")))
+
+abbrev pub rules_fault_line : (line : ℕ) → IptWhy → List ℕ
+rules_fault_line line why = fault_line (codes "topos: rules: line ") line (rules_reason why)
+
+abbrev pub events_fault_line : (line : ℕ) → EventWhy → List ℕ
+events_fault_line line why = fault_line (codes "topos: events: line ") line (events_reason why)

@@ -1,0 +1,17 @@
+//! Why a file that could be read is not accepted.
+
+use desc_core::Refusal;
+use ipt_read::IptWhy;
+use pkt_core::EventWhy;
+
+/// Why a file is refused, by what it was to hold. The number is that of a line, from 1, or 0 for the
+/// whole text.
+#[derive(Drop)]
+pub enum Fault {
+    /// The description is refused.
+    Description(Refusal),
+    /// A line of the rules is refused.
+    Rules(u32, IptWhy),
+    /// A line of the events is refused.
+    Events(u32, EventWhy),
+}
