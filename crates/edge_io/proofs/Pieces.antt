@@ -3,8 +3,8 @@ use Rattle.std.proofs.Common.{◌≡◌, ℕ, ◌+◌, ◌<◌, Option, List, �
 use Rattle.std.proofs.Math.Seq.{take-add}
 use Rattle.std.proofs.lemmas.Grind.{flat_map-append}
 use Rattle.std.specs.Io.KnownBytes.{append_known}
-use Rattle.edge_io.specs.Put.{joined}
-use Rattle.edge_io.proofs.PutLemmas.{append_known-append}
+use Rattle.edge_io.specs.Calls.{joined}
+use Rattle.edge_io.specs.PutLaws.{append_known-append}
 
 -- the bytes up to i, and then n of the rest
 pub took_more : (old now new : Option (List ℕ)) (i n : ℕ) (bytes rest : List ℕ) → rest ≡ drop i bytes → now ≡ append_known old (take i bytes)

@@ -1,5 +1,5 @@
 -- Counts of 64 bits that stand still at their last value.
-use Rattle.std.specs.Prelude.{◌≡◌, ℕ, ◌+◌, ◌-◌, ◌^◌, ◌≤◌, Result, is_err, if◌then◌else◌, min}
+use Rattle.std.specs.Prelude.{ℕ, ◌+◌, ◌-◌, ◌^◌, ◌≤◌, min}
 
 -- the last value of a count, 18,446,744,073,709,551,615
 abbrev pub last_count : ℕ
@@ -12,7 +12,3 @@ more count n = min (count + n) last_count
 -- the count rose: it is greater than before, or it stands at its last value
 abbrev pub Rose : ℕ → ℕ → Type 0
 Rose before now = more before 1 ≤ now
-
--- a call that failed counts one fault, and any other none
-abbrev pub CountsFault : {T E : Type 0} → Result T E → ℕ → ℕ → Type 0
-CountsFault result before now = now ≡ (if is_err result then more before 1 else before)

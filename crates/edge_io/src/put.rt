@@ -2,7 +2,8 @@
 ghost use Rattle.std.specs.Prelude.{◌≡◌, ◌≤◌, OnOk, OnErr};
 ghost use Rattle.std.specs.Io.KnownBytes.{append_known};
 ghost use Rattle.edge_io.specs.Counts.{Rose};
-ghost use Rattle.edge_io.specs.Put.{joined, TookPrefix};
+ghost use Rattle.edge_io.specs.Told.{TookPrefix};
+ghost use Rattle.edge_io.specs.Calls.{joined};
 
 use crate::{Sink, WriteFault};
 

@@ -5,7 +5,8 @@ ghost use Rattle.std.specs.Prelude.{◌≡◌, ℕ, Bool, ◌<◌, ◌≤◌, �
 ghost use Rattle.std.specs.Io.KnownBytes.{prepend_known, append_known, IsAtEnd};
 ghost use Rattle.edge_io.specs.declared.faults.Failed.{Failed};
 ghost use Rattle.edge_io.specs.Counts.{more, Rose};
-ghost use Rattle.edge_io.specs.Told.{Files, file_told, HasIfTold, Lacks};
+ghost use Rattle.edge_io.specs.Told.{Files, Lacks};
+ghost use Rattle.edge_io.specs.Calls.{file_told, HasIfTold};
 
 use crate::Failed;
 

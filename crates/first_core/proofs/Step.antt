@@ -4,7 +4,8 @@ use Rattle.std.specs.Prelude.{IsFalse}
 use Rattle.std.proofs.lemmas.Bool.{both_ways, false_from_ne_true, or_right}
 use Rattle.flow_set.specs.declared.flow.Flow.{Flow}
 use Rattle.flow_set.specs.Flow.{IsFlow}
-use Rattle.flow_set.specs.FlowSet.{has, IsOrdered, IsFlowSet, IsSubset, with_flow, without_flow}
+use Rattle.flow_set.specs.FlowSet.{has, IsOrdered, IsSubset, with_flow}
+use Rattle.flow_set.specs.FlowSetView.{IsFlowSet, without_flow}
 use Rattle.flow_set.specs.Conditions.{IsFirst}
 use Rattle.flow_set.specs.FlowLaws.{before_self, has-append, has_first, front_before, without_flow-with_flow}
 use Rattle.flow_set.specs.SubsetLaws.{IsFlowSet-subset, subset_trans, subset_front}

@@ -5,8 +5,10 @@ use Rattle.std.specs.Prelude.{IsTrue, IsFalse}
 use Rattle.std.proofs.lemmas.Bool.{both_ways, false≢true, and_parts, or_cases, or_left, or_right, cases_Bool, true_from_ne_false, false_from_ne_true, not-true}
 use Rattle.flow_set.specs.declared.flow.Flow.{Flow}
 use Rattle.flow_set.specs.Flow.{before, same_flow}
-use Rattle.flow_set.specs.FlowSet.{has, IsOrdered, IsFlowSet, IsSubset, with_flow, without_flow, without}
-use Rattle.flow_set.specs.Conditions.{IsDownward, IsEdgeWise, IsMinimalOffending, DiffersFirstIn, IsFirst, IsGreatest}
+use Rattle.flow_set.specs.FlowSet.{has, IsOrdered, IsSubset, with_flow, without}
+use Rattle.flow_set.specs.FlowSetView.{IsFlowSet, without_flow}
+use Rattle.flow_set.specs.Conditions.{IsMinimalOffending, DiffersFirstIn, IsFirst, IsGreatest}
+use Rattle.flow_set.specs.Downward.{IsDownward, IsEdgeWise}
 use Rattle.flow_set.specs.ConditionLaws.{edge_wise-with_flow}
 use Rattle.flow_set.specs.FlowLaws.{has_nothing, same_flow_self, same_fact, after_not_same, before_trans, same_flow_from_order, has-with_flow, has-without_flow, has-without, has-append, has_first, flows_ext, IsOrdered-without_flow, IsOrdered-without, front_before, with_flow-without_flow, without_flow_absent}
 use Rattle.flow_set.specs.SubsetLaws.{IsFlowSet-subset, subset_self, subset_trans, subset_without, subset_without_flow, subset_front, with_flow_within, nothing_within}

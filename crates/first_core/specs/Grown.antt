@@ -2,7 +2,8 @@
 use Rattle.std.specs.Prelude.{◌≡◌, ℕ, List, IsFalse}
 use Rattle.flow_set.specs.declared.flow.Flow.{Flow}
 use Rattle.flow_set.specs.Flow.{IsFlow}
-use Rattle.flow_set.specs.FlowSet.{has, IsFlowSet, with_flow}
+use Rattle.flow_set.specs.FlowSet.{has, with_flow}
+use Rattle.flow_set.specs.FlowSetView.{IsFlowSet}
 
 -- fs is a set between n hosts that met the condition, with one more flow
 pub record IsGrown (n : ℕ) (Holds : List Flow → Type 0) (fs : List Flow) (added : Flow) : Type 0 where

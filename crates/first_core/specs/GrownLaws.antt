@@ -2,7 +2,7 @@
 use Rattle.std.proofs.Common.{ℕ, List, [], ◌∷◌, sym, subst}
 use Rattle.std.specs.Prelude.{◌↔◌}
 use Rattle.flow_set.specs.declared.flow.Flow.{Flow}
-use Rattle.flow_set.specs.Conditions.{IsEdgeWise}
+use Rattle.flow_set.specs.Downward.{IsEdgeWise}
 use Rattle.flow_set.specs.ConditionLaws.{edge_wise-with_flow}
 use Rattle.first_core.specs.Grown.{IsGrown}
 

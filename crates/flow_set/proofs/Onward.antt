@@ -5,13 +5,15 @@ use Rattle.std.proofs.lemmas.Bool.{both_ways, cases_Bool, not_from_true, not_fro
 use Rattle.std.proofs.lemmas.Bool.Decides.{nat_tests}
 use Rattle.flow_set.specs.declared.flow.Flow.{Flow}
 use Rattle.flow_set.specs.Flow.{before}
-use Rattle.flow_set.specs.FlowSet.{has, IsOrdered, first_from}
+use Rattle.flow_set.specs.FlowSet.{has, IsOrdered}
+use Rattle.flow_set.specs.FlowSetView.{first_from}
 use Rattle.flow_set.specs.FlowLaws.{same_flow-true, same_flow_from_order, filter_nothing, filter_everything, not_before_from}
 use Rattle.flow_set.specs.WalkLaws.{first_from_member, first_from_late, first_from_least, first_from_none}
 use Rattle.std.specs.FinSet as set
 use Rattle.flow_set.specs.BitRows.{row_of, marks, flows_of, AreRows, flows_from, IsAsFar}
 use Rattle.flow_set.proofs.BitRows.{marked_flow, has-flows_of, IsOrdered-rows_flows}
-use Rattle.host_set.specs.HostSet.{Hosts, HasNone, IsFirstAfter}
+use Rattle.host_set.specs.HostSet.{HostNumbers}
+use Rattle.host_set.specs.Calls.{HasNone, IsFirstAfter}
 
 -- ---- the first flow from a place on
 
@@ -83,7 +85,7 @@ row_passed : (a b row start : ℕ) → (a ≡ row → b < start) → before (rec
 row_passed a b row start small = grind (arith, nat_tests)
 
 -- no flow is left in this row
-pub as_far_more : (n : ℕ) (rows : List Hosts) (p : Flow) (row start : ℕ) → AreRows n rows → IsAsFar (flows_of rows n) p (record { from = row; to = start }) → HasNone (set.contains (row_of rows row)) start 256 → IsAsFar (flows_of rows n) p (record { from = row + 1; to = 0 })
+pub as_far_more : (n : ℕ) (rows : List HostNumbers) (p : Flow) (row start : ℕ) → AreRows n rows → IsAsFar (flows_of rows n) p (record { from = row; to = start }) → HasNone (set.contains (row_of rows row)) start 256 → IsAsFar (flows_of rows n) p (record { from = row + 1; to = 0 })
 as_far_more n rows p row start are far none g there =
     let shown : IsTrue (marks rows g) = sym (has-flows_of n rows g are) ∙ there in
     let within = marked_flow n rows g are shown in
@@ -99,7 +101,7 @@ not_earlier : (a b row start first : ℕ) → IsFalse (before (record { from = a
 not_earlier a b row start first late least = grind (arith, nat_tests)
 
 -- the first flow that is left is in this row
-pub found_in_row : (n : ℕ) (rows : List Hosts) (p : Flow) (row start first : ℕ) → AreRows n rows → IsAsFar (flows_of rows n) p (record { from = row; to = start }) → IsFirstAfter (set.contains (row_of rows row)) start first → first_from (flows_of rows n) p ≡ Some (record { from = row; to = first })
+pub found_in_row : (n : ℕ) (rows : List HostNumbers) (p : Flow) (row start first : ℕ) → AreRows n rows → IsAsFar (flows_of rows n) p (record { from = row; to = start }) → IsFirstAfter (set.contains (row_of rows row)) start first → first_from (flows_of rows n) p ≡ Some (record { from = row; to = first })
 found_in_row n rows p row start first are far is =
     let f : Flow = record { from = row; to = first } in
     let there : IsTrue (has (flows_of rows n) f) = has-flows_of n rows f are ∙ is.passes in
@@ -114,7 +116,7 @@ lower : (a b row start : ℕ) → a < row → IsTrue (before (record { from = a;
 lower a b row start below = grind (arith, nat_tests)
 
 -- no flow is left after the last row
-pub none_in_rows : (n : ℕ) (rows : List Hosts) (p : Flow) (row start : ℕ) → AreRows n rows → IsAsFar (flows_of rows n) p (record { from = row; to = start }) → n ≤ row → first_from (flows_of rows n) p ≡ None
+pub none_in_rows : (n : ℕ) (rows : List HostNumbers) (p : Flow) (row start : ℕ) → AreRows n rows → IsAsFar (flows_of rows n) p (record { from = row; to = start }) → n ≤ row → first_from (flows_of rows n) p ≡ None
 none_in_rows n rows p row start are far over =
     first_from_lost (flows_of rows n) p (λ g there.
     far g there ∙ lower g.from g.to row start (omega (arith, over, (marked_flow n rows g are (sym (has-flows_of n rows g are) ∙ there)).0)))

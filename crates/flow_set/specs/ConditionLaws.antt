@@ -4,8 +4,9 @@ use Rattle.std.specs.Prelude.{◌↔◌}
 use Rattle.std.proofs.lemmas.Bool.{or_cases, or_left}
 use Rattle.flow_set.specs.declared.flow.Flow.{Flow}
 use Rattle.flow_set.specs.Flow.{IsFlow, same_flow}
-use Rattle.flow_set.specs.FlowSet.{has, IsFlowSet, with_flow, with_back}
-use Rattle.flow_set.specs.Conditions.{IsDownward, IsEdgeWise}
+use Rattle.flow_set.specs.FlowSet.{has, with_flow, with_back}
+use Rattle.flow_set.specs.FlowSetView.{IsFlowSet}
+use Rattle.flow_set.specs.Downward.{IsDownward, IsEdgeWise}
 use Rattle.flow_set.specs.FlowLaws.{has_nothing, has-with_flow, same_fact, same_flow_self}
 use Rattle.flow_set.specs.SubsetLaws.{IsFlowSet-nothing, IsFlowSet-subset, IsFlowSet-with_flow, IsFlowSet-with_back, with_back_grows}
 

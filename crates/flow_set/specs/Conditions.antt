@@ -1,20 +1,8 @@
 -- Conditions on sets of flows: which are kept by every subset, which look at single flows alone, and what is singled out by one: minimal offending sets, the first subset, the greatest.
-use Rattle.std.specs.Prelude.{◌≡◌, ℕ, ◌⊎◌, List, [], ◌∷◌, IsTrue, IsFalse}
+use Rattle.std.specs.Prelude.{◌≡◌, ◌⊎◌, List, IsTrue, IsFalse}
 use Rattle.flow_set.specs.declared.flow.Flow.{Flow}
 use Rattle.flow_set.specs.Flow.{before}
-use Rattle.flow_set.specs.FlowSet.{has, IsFlowSet, IsSubset, with_flow, without}
-
--- where the condition holds of a set of flows between n hosts, it holds of every subset
-abbrev pub IsDownward : ℕ → (List Flow → Type 0) → Type 0
-IsDownward n Holds = (e s : List Flow) → IsFlowSet n e → IsSubset s e → Holds e → Holds s
-
--- the condition holds of each flow of e alone
-abbrev pub HoldsOfEach : (List Flow → Type 0) → List Flow → Type 0
-HoldsOfEach Holds e = (f : Flow) → IsTrue (has e f) → Holds (f ∷ [])
-
--- the condition looks at flows one by one: it holds of a set between n hosts if it holds of each flow alone, and only then
-abbrev pub IsEdgeWise : ℕ → (List Flow → Type 0) → Type 0
-IsEdgeWise n Holds = (e : List Flow) → IsFlowSet n e → (Holds e → HoldsOfEach Holds e) × (HoldsOfEach Holds e → Holds e)
+use Rattle.flow_set.specs.FlowSet.{has, IsSubset, with_flow, without}
 
 -- f is a set of flows of e whose removal mends e, and none of them can stay (Network_Security_Policy_Verification in the Archive of Formal Proofs: a minimal set of offending flows)
 pub record IsMinimalOffending (Holds : List Flow → Type 0) (e f : List Flow) : Type 0 where

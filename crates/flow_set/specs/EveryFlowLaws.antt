@@ -6,7 +6,8 @@ use Rattle.std.specs.Prelude.{IsTrue, if◌then◌else◌, nat_lt, nat_le}
 use Rattle.flow_set.specs.EveryFlow.{every_flow, flow_or_none}
 use Rattle.flow_set.specs.declared.flow.Flow.{Flow}
 use Rattle.flow_set.specs.Flow.{before, same_flow, IsFlow}
-use Rattle.flow_set.specs.FlowSet.{has, IsFlowSet, IsFull, IsOrdered}
+use Rattle.flow_set.specs.FlowSet.{has, IsFull, IsOrdered}
+use Rattle.flow_set.specs.FlowSetView.{IsFlowSet}
 use Rattle.flow_set.specs.FlowLaws.{IsOrdered-append, has-append}
 use Rattle.flow_set.specs.SubsetLaws.{full_is_one}
 

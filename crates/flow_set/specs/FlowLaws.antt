@@ -6,7 +6,8 @@ use Rattle.std.proofs.lemmas.Bool.Decides.{nat_tests}
 use Rattle.std.proofs.Math.Bool.{or_assoc, or-false}
 use Rattle.flow_set.specs.declared.flow.Flow.{Flow}
 use Rattle.flow_set.specs.Flow.{before, same_flow, back_of}
-use Rattle.flow_set.specs.FlowSet.{SetOfFlows, has, IsOrdered, with_flow, without_flow, without, with_back}
+use Rattle.flow_set.specs.FlowSet.{SetOfFlows, has, IsOrdered, with_flow, without, with_back}
+use Rattle.flow_set.specs.FlowSetView.{without_flow}
 
 -- ---- the order of flows
 

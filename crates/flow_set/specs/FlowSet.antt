@@ -1,8 +1,9 @@
 -- Sets of flows: what a `FlowSet` is seen as, and what its calls make.
 -- A set is written as the list of its flows in ascending order, so two sets with the same flows are one list. FlowLaws says which flows each set made here has.
-use Rattle.std.specs.Prelude.{ℕ, ◌≤◌, ◌↔◌, Bool, false, not, ◌||◌, if◌then◌else◌, List, [], ◌∷◌, Option, IsTrue, filter, find}
+use Rattle.std.specs.Prelude.{ℕ, ◌↔◌, Bool, false, not, ◌||◌, if◌then◌else◌, List, [], ◌∷◌, IsTrue, filter}
 use Rattle.flow_set.specs.declared.flow.Flow.{Flow}
 use Rattle.flow_set.specs.Flow.{IsFlow, before, same_flow, back_of}
+use Rattle.std.specs.List.{fold}
 
 -- the number of hosts, and the flows in order
 pub record SetOfFlows : Type 0 where
@@ -19,12 +20,6 @@ abbrev pub IsOrdered : List Flow → Type 0
 IsOrdered [] = Unit {0}
 IsOrdered (f ∷ fs) = ((g : Flow) → IsTrue (has fs g) → IsTrue (before f g)) × IsOrdered fs
 
--- a set of flows between n hosts
-pub record IsFlowSet (n : ℕ) (fs : List Flow) : Type 0 where
-  pub small : n ≤ 256
-  pub ordered : IsOrdered fs
-  pub flows : (f : Flow) → IsTrue (has fs f) → IsFlow n f
-
 -- xs is a set, and ys has all its flows
 pub record IsSubset (xs ys : List Flow) : Type 0 where
   pub ordered : IsOrdered xs
@@ -39,10 +34,6 @@ abbrev pub with_flow : List Flow → Flow → List Flow
 with_flow [] f = f ∷ []
 with_flow (g ∷ gs) f = if before f g then f ∷ g ∷ gs else (g ∷ (if before g f then with_flow gs f else gs))
 
--- the set without f
-abbrev pub without_flow : List Flow → Flow → List Flow
-without_flow fs f = filter (λ g. not (same_flow f g)) fs
-
 -- the set without the flows of gs
 abbrev pub without : List Flow → List Flow → List Flow
 without fs gs = filter (λ f. not (has gs f)) fs
@@ -52,6 +43,6 @@ abbrev pub with_back : List Flow → List Flow → List Flow
 with_back fs [] = fs
 with_back fs (g ∷ gs) = with_flow (with_back fs gs) (back_of g)
 
--- the first flow from the place p on
-abbrev pub first_from : List Flow → Flow → Option Flow
-first_from fs p = find (λ f. not (before f p)) fs
+-- the set of the listed flows
+unfoldable pub set_of : List Flow → List Flow
+set_of listed = fold with_flow [] listed

@@ -2,7 +2,8 @@
 use Rattle.std.specs.Prelude.{ℕ, List, Option, Some, None}
 use Rattle.flow_set.specs.declared.flow.Flow.{Flow}
 use Rattle.flow_set.specs.Flow.{IsFlow}
-use Rattle.flow_set.specs.FlowSet.{SetOfFlows, without_flow}
+use Rattle.flow_set.specs.FlowSet.{SetOfFlows}
+use Rattle.flow_set.specs.FlowSetView.{without_flow}
 use Rattle.flow_set.specs.Steps.{TriedFlows}
 use Rattle.flow_set.specs.declared.steps.LastStep.{LastStep}
 use Rattle.flow_set.specs.declared.steps.LastStep.TheVariants.{Never, Nothing, Added}

@@ -6,8 +6,9 @@ use Rattle.std.specs.List.{fold, list_all}
 use Rattle.std.specs.Prelude.{IsTrue, IsFalse}
 use Rattle.flow_set.specs.declared.flow.Flow.{Flow}
 use Rattle.flow_set.specs.Flow.{IsFlow, same_flow}
-use Rattle.flow_set.specs.FlowSet.{has, IsFlowSet, with_flow}
-use Rattle.flow_set.specs.SetOf.{set_of, AreDifferent}
+use Rattle.flow_set.specs.FlowSet.{has, with_flow, set_of}
+use Rattle.flow_set.specs.FlowSetView.{IsFlowSet}
+use Rattle.flow_set.specs.Different.{AreDifferent}
 use Rattle.flow_set.specs.FlowLaws.{same_test, has-with_flow, has_first, has_later}
 use Rattle.flow_set.specs.SubsetLaws.{IsFlowSet-nothing, IsFlowSet-with_flow}
 use Rattle.flow_set.specs.WalkLaws.{length-with_flow}

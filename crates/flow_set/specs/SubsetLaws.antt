@@ -4,7 +4,8 @@ use Rattle.std.specs.Prelude.{IsTrue, filter, ◌↔◌, ◌⊎◌}
 use Rattle.std.proofs.lemmas.Bool.{and_parts, or_cases, or_left, or_right, false≢true}
 use Rattle.flow_set.specs.declared.flow.Flow.{Flow}
 use Rattle.flow_set.specs.Flow.{IsFlow, same_flow, back_of}
-use Rattle.flow_set.specs.FlowSet.{has, IsOrdered, IsFlowSet, IsSubset, IsFull, with_flow, without_flow, without, with_back}
+use Rattle.flow_set.specs.FlowSet.{has, IsOrdered, IsSubset, IsFull, with_flow, without, with_back}
+use Rattle.flow_set.specs.FlowSetView.{IsFlowSet, without_flow}
 use Rattle.flow_set.specs.FlowLaws.{has_nothing, same_fact, has-append, has-with_flow, has-filter, has-with_back, flows_ext, IsOrdered-filter, IsOrdered-with_flow, IsOrdered-with_back, IsOrdered-front}
 
 -- ---- sets between n hosts

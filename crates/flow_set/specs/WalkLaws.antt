@@ -7,7 +7,8 @@ use Rattle.std.proofs.lemmas.Bool.{and_parts, or_cases, or_right, cond_both, bot
 use Rattle.std.proofs.lemmas.List.Filters.{length-filter_both}
 use Rattle.flow_set.specs.declared.flow.Flow.{Flow}
 use Rattle.flow_set.specs.Flow.{IsFlow, before, same_flow}
-use Rattle.flow_set.specs.FlowSet.{has, IsOrdered, IsFlowSet, IsSubset, with_flow, first_from}
+use Rattle.flow_set.specs.FlowSet.{has, IsOrdered, IsSubset, with_flow}
+use Rattle.flow_set.specs.FlowSetView.{IsFlowSet, first_from}
 use Rattle.flow_set.specs.FlowLaws.{not_before_from, before_self, before_not_back, has_nothing, has_first, has_later, has-append, has-filter, same_fact, same_flow_from_order, flows_ext, filter_nothing, IsOrdered-filter}
 use Rattle.flow_set.specs.SubsetLaws.{IsFlowSet-with_flow}
 

@@ -4,7 +4,8 @@
 ghost use Rattle.std.specs.Prelude.{◌≡◌, ◌<◌, ◌≤◌, ◌⊎◌, ◌↔◌, [], ◌∷◌, length, not, IsTrue, IfOk, if◌then◌else◌};
 ghost use Rattle.flow_set.specs.EveryFlow.{every_flow};
 ghost use Rattle.flow_set.specs.Flow.{IsFlow, back_of};
-ghost use Rattle.flow_set.specs.FlowSet.{IsFlowSet, IsFull, has, with_flow, without_flow, with_back, first_from};
+ghost use Rattle.flow_set.specs.FlowSet.{IsFull, has, with_flow, with_back};
+ghost use Rattle.flow_set.specs.FlowSetView.{IsFlowSet, without_flow, first_from};
 
 use crate::flow::Flow;
 use crate::iter::Iter;

@@ -2,7 +2,7 @@
 
 ghost use Rattle.std.specs.Prelude.{◌≡◌, IsSome, IfOk};
 ghost use Rattle.flow_set.specs.Flow.{IsFlow};
-ghost use Rattle.flow_set.specs.FlowSet.{IsFlowSet};
+ghost use Rattle.flow_set.specs.FlowSetView.{IsFlowSet};
 ghost use Rattle.flow_set.specs.Steps.{untried, stepped, taken_back};
 
 use crate::flow::Flow;

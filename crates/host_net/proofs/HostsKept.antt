@@ -13,12 +13,14 @@ use Rattle.std.proofs.lemmas.List.Sums.{sum_by-append}
 use Rattle.indexmap.specs.IndexMap.{insert_entry}
 use Rattle.host_net.proofs.HostsLemmas.{all_parts}
 use Rattle.host_net.specs.AcceptedLaws.{joined_lists}
-use Rattle.text_core.specs.Firsts.{first_of, where_holds, no_pair}
+use Rattle.text_core.specs.Firsts.{first_of, where_holds}
+use Rattle.text_core.specs.Pairs.{no_pair}
 use Rattle.text_core.specs.FirstsLaws.{holds_not, neither, none_mapped}
 use Rattle.host_net.specs.HostsView.{host_view, hosts_view}
 use Rattle.host_net.specs.declared.addresses.Addresses.{Addresses}
-use Rattle.host_net.specs.Host.{Host, all_prefixes, prefix_lists, prefix_count, host_named, rest_of}
-use Rattle.host_net.specs.Hosts.{IsHosts, host_limit, is_network, lacks_address, prefix_limit}
+use Rattle.host_net.specs.Host.{Host, host_named, rest_of, lacks_address}
+use Rattle.host_net.specs.Hosts.{all_prefixes, prefix_lists, prefix_count, IsHosts, is_network}
+use Rattle.host_net.specs.Limits.{host_limit, prefix_limit}
 use Rattle.text_core.specs.Name.{is_name}
 use Rattle.text_core.specs.PairLaws.{list_all-push, no_pair-push}
 use Rattle.host_net.specs.Prefix.{meets}
@@ -111,7 +113,7 @@ all_prefixes-push : (hs : List Host) (h : Host) → all_prefixes (hs ++ h ∷ []
 all_prefixes-push hs h =
     flat_map-append (λ (g : Host). g.prefixes) hs (h ∷ []) ∙ ap (λ qs. all_prefixes hs ++ qs) (append-nil h.prefixes)
 
-still_apart : (hs : List Host) (at : List Prefix) → overlap hs at ≡ None → no_pair meets (all_prefixes hs) ≡ true → no_pair meets (all_prefixes hs ++ at) ≡ true
+pub still_apart : (hs : List Host) (at : List Prefix) → overlap hs at ≡ None → no_pair meets (all_prefixes hs) ≡ true → no_pair meets (all_prefixes hs ++ at) ≡ true
 still_apart hs at none h =
     let before : flat_map (λ ps. ps) (prefix_lists hs) ++ [] ≡ all_prefixes hs = append-nil (flat_map (λ (ps : List Prefix). ps) (prefix_lists hs)) ∙ joined_lists hs in
     ap (λ qs. no_pair meets (qs ++ at)) (sym (joined_lists hs))

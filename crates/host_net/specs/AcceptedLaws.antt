@@ -9,9 +9,11 @@ use Rattle.std.specs.List.{list_all, list_any, flat_map, position_from}
 use Rattle.std.specs.Option.{option_map}
 use Rattle.std.specs.Str.{bytes_eq}
 use Rattle.text_core.specs.Name.{is_name}
-use Rattle.text_core.specs.Firsts.{first_of, where_holds, no_pair}
-use Rattle.host_net.specs.Host.{Host, all_prefixes, host_named, prefix_count, prefix_lists}
-use Rattle.host_net.specs.Hosts.{IsHosts, host_limit, is_network, lacks_address, prefix_limit}
+use Rattle.text_core.specs.Firsts.{first_of, where_holds}
+use Rattle.text_core.specs.Pairs.{no_pair}
+use Rattle.host_net.specs.Host.{Host, host_named, lacks_address}
+use Rattle.host_net.specs.Hosts.{all_prefixes, prefix_count, prefix_lists, IsHosts, is_network}
+use Rattle.host_net.specs.Limits.{host_limit, prefix_limit}
 use Rattle.text_core.specs.PairLaws.{all_here, alone_behind, no_pair-front}
 use Rattle.host_net.specs.Prefix.{meets}
 use Rattle.host_net.specs.Refusal.{is_full, overlap, overlap_from, refusal_of, two_rests}

@@ -1,10 +1,9 @@
 -- Hosts in order of declaration, and the owner of an address. A host's number is its place, from 0.
-use Rattle.std.specs.Prelude.{ℕ, Bool, List, Option, map}
-use Rattle.std.specs.List.{list_any, position_from, flat_map, sum_by}
+use Rattle.std.specs.Prelude.{ℕ, Bool, not, List, [], ◌∷◌, Option}
+use Rattle.std.specs.List.{list_any, position_from}
 use Rattle.std.specs.Option.{option_or}
-use Rattle.std.specs.Prelude.{length}
 use Rattle.std.specs.Str.{bytes_eq}
-use Rattle.host_net.specs.Prefix.{covers, meets}
+use Rattle.host_net.specs.Prefix.{covers}
 use Rattle.host_net.specs.declared.prefix.Prefix.{Prefix}
 
 -- a host: its name, its prefixes, and whether it is the rest host
@@ -16,10 +15,6 @@ pub record Host : Type 0 where
 -- one of the prefixes covers the address
 abbrev pub covers_any : List Prefix → ℕ → Bool
 covers_any ps a = list_any (λ p. covers p a) ps
-
--- one of the prefixes has an address in common with this one
-abbrev pub meets_any : List Prefix → Prefix → Bool
-meets_any ps p = list_any (meets p) ps
 
 -- the host with the name
 abbrev pub host_named : List Host → List ℕ → Option ℕ
@@ -37,13 +32,7 @@ rest_of hs = position_from (λ h. h.rest) 0 hs
 unfoldable pub owner_of : List Host → ℕ → Option ℕ
 owner_of hs a = option_or (holder_of hs a) (rest_of hs)
 
--- the prefixes of each host, and of all together, in order
-abbrev pub prefix_lists : List Host → List (List Prefix)
-prefix_lists hs = map (λ h. h.prefixes) hs
-
-abbrev pub all_prefixes : List Host → List Prefix
-all_prefixes hs = flat_map (λ h. h.prefixes) hs
-
--- how many prefixes all hosts have
-abbrev pub prefix_count : List Host → ℕ
-prefix_count hs = sum_by (λ h. length h.prefixes) hs
+-- neither an entry, as a prefix is one, nor the rest mark, or both
+abbrev pub lacks_address : {A : Type 0} → List A → Bool → Bool
+lacks_address [] rest = not rest
+lacks_address (entry ∷ entries) rest = rest

@@ -1,28 +1,32 @@
 -- What is true of the hosts of a network, however they were added (the description's format, docs/FORMATS.md).
-use Rattle.std.specs.Prelude.{ℕ, ◌≤◌, Bool, not, ◌&&◌, nat_le, nat_lt, ◌^◌, IsTrue, List, [], ◌∷◌, length}
-use Rattle.std.specs.List.{list_all}
+use Rattle.std.specs.Prelude.{◌≤◌, Bool, not, ◌&&◌, nat_le, nat_lt, ◌^◌, IsTrue, List, length, ℕ, map}
+use Rattle.std.specs.List.{list_all, list_any, flat_map, sum_by}
 use Rattle.std.specs.Str.{bytes_eq}
-use Rattle.text_core.specs.Firsts.{no_pair}
+use Rattle.text_core.specs.Pairs.{no_pair}
 use Rattle.text_core.specs.Name.{is_name}
-use Rattle.host_net.specs.Host.{Host, all_prefixes, prefix_count}
+use Rattle.host_net.specs.Host.{Host, lacks_address}
+use Rattle.host_net.specs.Limits.{host_limit, prefix_limit}
 use Rattle.host_net.specs.Prefix.{is_exact, meets}
 use Rattle.host_net.specs.declared.prefix.Prefix.{Prefix}
 
--- how many hosts there may be, and how many prefixes all of them may have together
-abbrev pub host_limit : ℕ
-host_limit = 32
+-- one of the prefixes has an address in common with this one
+abbrev pub meets_any : List Prefix → Prefix → Bool
+meets_any ps p = list_any (meets p) ps
 
-abbrev pub prefix_limit : ℕ
-prefix_limit = 128
+-- the prefixes of each host, and of all together, in order
+abbrev pub prefix_lists : List Host → List (List Prefix)
+prefix_lists hs = map (λ h. h.prefixes) hs
+
+abbrev pub all_prefixes : List Host → List Prefix
+all_prefixes hs = flat_map (λ h. h.prefixes) hs
+
+-- how many prefixes all hosts have
+abbrev pub prefix_count : List Host → ℕ
+prefix_count hs = sum_by (λ h. length h.prefixes) hs
 
 -- a prefix that a host may own: its address has 32 bits, none of them is set after its length, and it is no whole address space
 abbrev pub is_network : Prefix → Bool
 is_network p = nat_lt p.addr (2 ^ 32) && (is_exact p && nat_le 1 p.len)
-
--- neither an entry, as a prefix is one, nor the rest mark, or both
-abbrev pub lacks_address : {A : Type 0} → List A → Bool → Bool
-lacks_address [] rest = not rest
-lacks_address (entry ∷ entries) rest = rest
 
 -- few hosts with few prefixes; each has a name of its own, and prefixes or the rest mark; one at most has the mark; the
 -- prefixes are networks, and no two of them have an address in common

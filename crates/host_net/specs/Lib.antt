@@ -1,8 +1,8 @@
 pub mod AcceptedLaws
 pub mod Host
 pub mod Hosts
-pub mod Limits
 pub mod HostsView
+pub mod Limits
 pub mod NamedLaws
 pub mod Overlaps
 pub mod OwnerLaws
@@ -10,6 +10,8 @@ pub mod Packet
 pub mod Prefix
 pub mod PrefixLaws
 pub mod PrefixTextLaws
+pub mod PrefixView
+pub mod Ranges
 pub mod Refusal
 pub mod Verdict
 pub mod VerdictLaws

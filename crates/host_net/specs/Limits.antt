@@ -1,5 +1,12 @@
--- How large a network may be, beside its hosts and prefixes (Hosts).
+-- How large a network may be.
 use Rattle.std.specs.Prelude.{ℕ}
+
+-- how many hosts there may be, and how many prefixes all of them may have together
+abbrev pub host_limit : ℕ
+host_limit = 128
+
+abbrev pub prefix_limit : ℕ
+prefix_limit = 512
 
 -- how many invariants there may be
 abbrev pub invariant_limit : ℕ

@@ -1,6 +1,7 @@
 -- What an overlap says of the prefixes of a new host, in plain words.
 use Rattle.std.specs.Prelude.{◌≡◌, ℕ, ◌≤◌, IsTrue, List, [], ◌∷◌, ◌++◌, Some, take, slice_get}
-use Rattle.host_net.specs.Host.{Host, meets_any, prefix_lists}
+use Rattle.host_net.specs.Host.{Host}
+use Rattle.host_net.specs.Hosts.{meets_any, prefix_lists}
 use Rattle.host_net.specs.declared.prefix.Prefix.{Prefix}
 
 -- the prefixes before the one at place k of a new host, host by host: those of the other hosts, and the first k of its own

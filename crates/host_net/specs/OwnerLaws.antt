@@ -5,9 +5,9 @@ use Rattle.std.specs.Option.{option_or}
 use Rattle.std.proofs.lemmas.Bool.{and_parts, or_left, or_right}
 use Rattle.std.proofs.lemmas.List.Folds.{list_all-append, list_any-append}
 use Rattle.text_core.specs.FirstsLaws.{some_same}
-use Rattle.host_net.specs.Host.{Host, all_prefixes, covers_any, owner_of, rest_of}
-use Rattle.host_net.specs.Hosts.{IsHosts}
-use Rattle.text_core.specs.Firsts.{no_pair}
+use Rattle.host_net.specs.Host.{Host, covers_any, owner_of, rest_of}
+use Rattle.host_net.specs.Hosts.{all_prefixes, IsHosts}
+use Rattle.text_core.specs.Pairs.{no_pair}
 use Rattle.text_core.specs.PairLaws.{no_pair-behind}
 use Rattle.host_net.specs.Prefix.{covers, meets}
 use Rattle.host_net.specs.PrefixLaws.{covered_by_both}
@@ -35,7 +35,7 @@ parts_apart_by : (p : Prefix) (a : ℕ) (ps qs : List Prefix) (b : Bool) → cov
 parts_apart_by p a ps qs true own some none later rest = alone p a qs own none later
 parts_apart_by p a ps qs false own some none later rest = rest some
 
-parts_apart : (a : ℕ) (ps qs : List Prefix) → no_pair meets (ps ++ qs) ≡ true → covers_any ps a ≡ true → covers_any qs a ≡ true → ⊥
+pub parts_apart : (a : ℕ) (ps qs : List Prefix) → no_pair meets (ps ++ qs) ≡ true → covers_any ps a ≡ true → covers_any qs a ≡ true → ⊥
 parts_apart a [] qs apart first second = true≢false (sym first)
 parts_apart a (p ∷ ps) qs apart first second =
     let both = and_parts (list_all (λ q. not (meets q p)) (ps ++ qs)) (no_pair meets (ps ++ qs)) apart in
@@ -94,7 +94,7 @@ neither_covers : (a b : Bool) → (a || b) ≡ false → (a ≡ false) × (b ≡
 neither_covers true b h = cc
 neither_covers false b h = (refl, h)
 
-not_held : (hs : List Host) (i a : ℕ) → covers_any (all_prefixes hs) a ≡ false
+pub not_held : (hs : List Host) (i a : ℕ) → covers_any (all_prefixes hs) a ≡ false
     → position_from (λ h. covers_any h.prefixes a) i hs ≡ None
 not_held [] i a none = refl
 not_held (x ∷ hs) i a none =

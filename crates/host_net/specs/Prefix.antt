@@ -1,5 +1,5 @@
 -- IPv4 prefixes: which addresses they cover, and how they are written (RFC 4632, section 3.1).
-use Rattle.std.specs.Prelude.{◌≡◌, ℕ, ◌+◌, ◌*◌, ◌/◌, ◌%◌, ◌^◌, ◌-◌, ◌<◌, min, Bool, ◌==◌, IsTrue, List, ◌++◌, ◌⊎◌, decimal, codes, Option, Some, None}
+use Rattle.std.specs.Prelude.{ℕ, ◌+◌, ◌*◌, ◌/◌, ◌%◌, ◌^◌, ◌-◌, min, Bool, ◌==◌, List, ◌++◌, decimal, codes, Option, Some, None}
 use Rattle.std.proofs.Math.Nat.{min-le_right}
 use Rattle.text_core.specs.Decimal.{number}
 use Rattle.text_core.specs.Pieces.{split_once}
@@ -14,13 +14,6 @@ front len a = a / 2 ^ (32 - len)
 unfoldable pub covers : Prefix → ℕ → Bool
 covers p a = front p.len p.addr == front p.len a
 
--- the first and the last address that a prefix covers: its first `len` bits, and 0 or 1 in all places after them
-unfoldable pub first_address : Prefix → ℕ
-first_address p = front p.len p.addr * 2 ^ (32 - p.len)
-
-unfoldable pub last_address : Prefix → ℕ
-last_address p = front p.len p.addr * 2 ^ (32 - p.len) + (2 ^ (32 - p.len) - 1)
-
 -- all bits after the first `len` are 0
 unfoldable pub is_exact : Prefix → Bool
 is_exact p = p.addr % 2 ^ (32 - p.len) == 0
@@ -28,10 +21,6 @@ is_exact p = p.addr % 2 ^ (32 - p.len) == 0
 -- the two agree in the bits that count for both
 unfoldable pub meets : Prefix → Prefix → Bool
 meets p q = front (min p.len q.len) p.addr == front (min p.len q.len) q.addr
-
--- some address is covered by both
-abbrev pub ShareAddress : Prefix → Prefix → Type 0
-ShareAddress p q = (a : ℕ) × (a < 2 ^ 32) × IsTrue (covers p a) × IsTrue (covers q a)
 
 -- the eight bits of an address that stand at a place, counted from the lowest bit
 unfoldable pub octet : ℕ → ℕ → ℕ
@@ -45,10 +34,6 @@ address_text a =
 -- a prefix as it is written: the address, a slash, the length
 unfoldable pub prefix_text : Prefix → List ℕ
 prefix_text p = address_text p.addr ++ (codes "/" ++ decimal p.len)
-
--- the texts that stand for a prefix: the written one, and the bare address where all bits count
-abbrev pub IsSpelling : List ℕ → Prefix → Type 0
-IsSpelling text p = (text ≡ prefix_text p) ⊎ ((p.len ≡ 32) × (text ≡ address_text p.addr))
 
 -- the prefix of an address with as many bits as it has at most
 abbrev pub prefix_with : ℕ → ℕ → Prefix

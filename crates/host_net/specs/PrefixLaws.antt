@@ -6,7 +6,8 @@ use Rattle.std.proofs.lemmas.Nat.{div-mul-add, pow-add, pow_pos, shr-shr}
 use Rattle.std.proofs.lemmas.Bool.Decides.{nat_tests}
 use Rattle.std.proofs.lemmas.Bool.{cases_lt}
 use Rattle.host_net.specs.declared.prefix.Prefix.{Prefix}
-use Rattle.host_net.specs.Prefix.{front, covers, first_address, last_address, meets, ShareAddress}
+use Rattle.host_net.specs.Prefix.{front, covers, meets}
+use Rattle.host_net.specs.PrefixView.{first_address, last_address, ShareAddress}
 
 -- the first bits are the first of more bits
 pub front_of_longer : (k m a : ℕ) → k ≤ m → m ≤ 32 → front k a ≡ front m a / 2 ^ (m - k)

@@ -13,7 +13,8 @@ use Rattle.text_core.specs.PiecesLaws.{lacks, lacks-append, split_once-append, s
 use Rattle.text_core.specs.StepsLaws.{bind_some}
 use Rattle.text_core.specs.FirstsLaws.{some_same}
 use Rattle.host_net.specs.declared.prefix.Prefix.{Prefix}
-use Rattle.host_net.specs.Prefix.{octet, address_text, address_of, prefix_text, prefix_with, prefix_of, prefix_of_parts, IsSpelling}
+use Rattle.host_net.specs.Prefix.{octet, address_text, address_of, prefix_text, prefix_with, prefix_of, prefix_of_parts}
+use Rattle.host_net.specs.PrefixView.{IsSpelling}
 
 -- a prefix is its address and its length
 pub prefix_same : (p q : Prefix) → p.addr ≡ q.addr → p.len ≡ q.len → p ≡ q

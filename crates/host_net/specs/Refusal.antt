@@ -4,8 +4,9 @@ use Rattle.std.specs.List.{position_from}
 use Rattle.std.specs.Option.{option_map, option_or}
 use Rattle.text_core.specs.Name.{is_name}
 use Rattle.text_core.specs.Firsts.{first_of, where_holds}
-use Rattle.host_net.specs.Host.{Host, host_named, rest_of, meets_any, prefix_count, prefix_lists}
-use Rattle.host_net.specs.Hosts.{host_limit, lacks_address, prefix_limit}
+use Rattle.host_net.specs.Host.{Host, host_named, rest_of, lacks_address}
+use Rattle.host_net.specs.Hosts.{meets_any, prefix_count, prefix_lists}
+use Rattle.host_net.specs.Limits.{host_limit, prefix_limit}
 use Rattle.host_net.specs.declared.prefix.Prefix.{Prefix}
 use Rattle.host_net.specs.declared.refusal.HostRefusal.{HostRefusal}
 use Rattle.host_net.specs.declared.refusal.HostRefusal.TheVariants.{TooMany, BadName, Duplicate, NoAddress, TwoRests, Overlap}

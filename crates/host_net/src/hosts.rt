@@ -3,16 +3,17 @@
 ghost use Rattle.std.specs.Prelude.{◌≡◌, ℕ, ◌≤◌, ◌<◌, ◌^◌, ◌++◌, ◌∷◌, [], Some, None, Ok, Err, IsTrue, IsFalse, IfOk, OnOk, OnErr, MatchResult, length, slice_get};
 ghost use Rattle.std.specs.List.{list_all};
 ghost use Rattle.std.specs.Option.{option_map, ForSome};
-ghost use Rattle.host_net.specs.Host.{Host, all_prefixes, covers_any, host_named, owner_of, rest_of};
-ghost use Rattle.host_net.specs.Hosts.{is_network, IsHosts};
+ghost use Rattle.host_net.specs.Host.{Host, covers_any, host_named, owner_of, rest_of};
+ghost use Rattle.host_net.specs.Hosts.{all_prefixes, is_network, IsHosts};
 ghost use Rattle.host_net.specs.Overlaps.{IsFirstOverlap};
 ghost use Rattle.host_net.specs.Refusal.{bad_name, duplicate, is_full, no_address, overlap, refusal_of, two_rests};
 ghost use Rattle.host_net.specs.declared.refusal.HostRefusal.{HostRefusal};
 
-use crate::addresses::{Addresses, holder, prefix_count, rest_host};
+use crate::addresses::{Addresses, prefix_count, rest_host};
 use crate::name::Name;
 use crate::overlap::overlap;
 use crate::prefix::Prefix;
+use crate::ranges::{Range, holder, with_host};
 use crate::refusal::{HOST_LIMIT, HostRefusal, PREFIX_LIMIT};
 use indexmap::IndexMap;
 use std::alloc::{AllocError, Global};
@@ -23,6 +24,7 @@ use text_core::is_name;
 #[derive(Drop)]
 pub struct Hosts {
     known: IndexMap<Name, Addresses>,
+    ranges: Vec<Range>,
 }
 
 impl Model for Hosts {
@@ -30,12 +32,13 @@ impl Model for Hosts {
     ghost use Rattle.host_net.specs.Host.{Host};
     ghost use Rattle.host_net.specs.Hosts.{IsHosts};
     ghost use Rattle.host_net.specs.HostsView.{hosts_view};
+    ghost use Rattle.host_net.specs.Ranges.{AreRanges};
 
     ghost Value = { List Host };
 
     ghost view = { λ hosts. hosts_view hosts.known.entries };
 
-    ghost invariant = { λ hosts. IsHosts (hosts_view hosts.known.entries) };
+    ghost invariant = { λ hosts. IsHosts (hosts_view hosts.known.entries) × AreRanges (hosts_view hosts.known.entries) hosts.ranges.items };
 }
 
 impl Hosts {
@@ -44,6 +47,7 @@ impl Hosts {
     {
         Hosts {
             known: IndexMap::new(alloc),
+            ranges: Vec::new(alloc),
         }
     }
 
@@ -125,8 +129,12 @@ impl Hosts {
         ensures added { OnOk result (self.new ≡ self.old ++ record { name = name; prefixes = at.now; rest = rest } ∷ []) }
         ensures unchanged { OnErr result (self.new ≡ self.old) }
     {
-        let prefixes = Vec::from_slice(*self.known.allocator(), at)?;
+        let host = self.count();
+        let alloc = *self.known.allocator();
+        let ranges = with_host(alloc, &self.ranges, at, host)?;
+        let prefixes = Vec::from_slice(alloc, at)?;
         self.known.insert(name, Addresses { prefixes, rest })?;
+        self.ranges = ranges;
         Ok(())
     }
 
@@ -181,7 +189,7 @@ impl Hosts {
         // Where no prefix covers the address, it is the rest host's, or nobody's.
         ensures uncovered { IsFalse (covers_any (all_prefixes self.now) addr) → result ≡ rest_of self.now }
     {
-        number(holder(self.known.values().as_slice(), addr)).or(self.rest())
+        holder(&self.ranges, addr).or(self.rest())
     }
 }
 

@@ -9,6 +9,7 @@ mod name;
 mod overlap;
 mod packet;
 mod prefix;
+mod ranges;
 mod refusal;
 #[cfg(test)]
 mod tests;

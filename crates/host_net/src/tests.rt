@@ -1,10 +1,13 @@
 //! Shows what no clause says: that the calls succeed with ample memory. The values are those that
 //! the clauses say.
 
-ghost use Rattle.std.specs.Prelude.{IsTrue};
+ghost use Rattle.std.specs.Prelude.{◌≤◌, IsTrue};
+ghost use Rattle.std.specs.List.{list_all};
 ghost use Rattle.host_net.specs.Hosts.{is_network};
 
-use crate::{HostRefusal, Hosts, Name, Packet, Prefix, put_prefix, read_prefix};
+use crate::{
+    HOST_LIMIT, HostRefusal, Hosts, Name, PREFIX_LIMIT, Packet, Prefix, put_prefix, read_prefix,
+};
 use std::alloc::Global;
 use std::process::Abort;
 
@@ -58,6 +61,19 @@ fn addresses_have_owners(rt: HostRuntime) {
 }
 
 #[test]
+fn falling_prefixes_have_owners(rt: HostRuntime) {
+    let hosts = falling_hosts(&rt, rt.alloc());
+    for place in 0..PREFIX_LIMIT as u16 {
+        let first = falling_address(place);
+        let host = place / EACH;
+        assert!(rt; hosts.owner(first - 1).is_none());
+        assert!(rt; hosts.owner(first) == Some(host));
+        assert!(rt; hosts.owner(first + 0xff) == Some(host));
+        assert!(rt; hosts.owner(first + 0x100).is_none());
+    }
+}
+
+#[test]
 fn hosts_are_found(rt: HostRuntime) {
     let hosts = two_hosts(&rt, rt.alloc());
     assert!(rt; hosts.count() == 2);
@@ -98,9 +114,47 @@ fn two_hosts(rt: &impl Abort, alloc: Global) -> Hosts {
     hosts
 }
 
-// Adds thirty hosts, h0A to h9C.
+// How many prefixes each of the most hosts has, where all have as many.
+const EACH: u16 = (PREFIX_LIMIT / HOST_LIMIT) as u16;
+
+// The address of a prefix of 24 bits. The next one lies lower, behind a gap.
+fn falling_address(place: u16) -> u32
+    ensures low { 0x1000000 ≤ result }
+    ensures high { result ≤ 0xb000000 }
+{
+    0xb000000 - place as u32 * 0x200
+}
+
+// As many hosts with as many prefixes as there may be.
+fn falling_hosts(rt: &impl Abort, alloc: Global) -> Hosts {
+    assert!(rt; EACH == 4);
+    let mut hosts = Hosts::new(alloc);
+    for host in 0..HOST_LIMIT as u8 {
+        let at = falling_networks(rt, host);
+        assert!(rt;
+            hosts
+                .add(&[b'h', b'0' + host % 10, b'A' + host / 10], &at, false)
+                .is_ok()
+        );
+    }
+    hosts
+}
+
+fn falling_networks(rt: &impl Abort, host: u8) -> [Prefix; 4]
+    ensures { IsTrue (list_all is_network result) }
+{
+    let first = host as u16 * 4;
+    [
+        network(rt, falling_address(first), 24),
+        network(rt, falling_address(first + 1), 24),
+        network(rt, falling_address(first + 2), 24),
+        network(rt, falling_address(first + 3), 24),
+    ]
+}
+
+// Adds 126 hosts, h0A to h5M.
 fn fill(rt: &impl Abort, hosts: &mut Hosts) {
-    for k in 0..30u8 {
+    for k in 0..126u8 {
         let at = network(rt, 0x0a020000 + k as u32, 32);
         assert!(rt;
             hosts

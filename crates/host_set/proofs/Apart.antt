@@ -6,7 +6,9 @@ use Rattle.std.proofs.Math.Nat.{add-sub_cancel}
 use Rattle.std.specs.FinSet as set
 use Rattle.std.specs.Int.{bit_at}
 use lib.Bits.{and_le_l}
-use Rattle.host_set.specs.HostSet.{Hosts, AreApart, hosts_below, is_marked}
+use Rattle.host_set.specs.HostSet.{HostNumbers, hosts_below}
+use Rattle.host_set.specs.Calls.{AreApart}
+use Rattle.host_set.specs.HostBits.{is_marked}
 use Rattle.host_set.specs.HostSetLaws.{contains-hosts_below}
 
 none_common : (a b q : ℕ) → bit_and a b ≡ 0 → nat_eq (bit_at a q) 1 ≡ true → nat_eq (bit_at b q) 1 ≡ true → ⊥
@@ -46,28 +48,28 @@ shown_of : (test : ℕ → Bool) (host : ℕ) → set.contains (hosts_below 256 
 shown_of test host there = (and_parts _ _ (sym (contains-hosts_below 256 test host) ∙ there)).1
 
 -- the set that the bits make
-pub record HasBits (low high : ℕ) (s : Hosts) : Type 0 where
+pub record HasBits (low high : ℕ) (s : HostNumbers) : Type 0 where
   pub made : hosts_below 256 (is_marked low high) ≡ s
 
-there_from : (low high : ℕ) (s : Hosts) (host : ℕ) → HasBits low high s → host < 256 → is_marked low high host ≡ true
+there_from : (low high : ℕ) (s : HostNumbers) (host : ℕ) → HasBits low high s → host < 256 → is_marked low high host ≡ true
     → set.contains s host ≡ true
-there_from low high s host bits below shown = ap (λ (x : Hosts). set.contains x host) (sym bits.made) ∙ within_256 (is_marked low high) host below shown
+there_from low high s host bits below shown = ap (λ (x : HostNumbers). set.contains x host) (sym bits.made) ∙ within_256 (is_marked low high) host below shown
 
-marked_from : (low high : ℕ) (s : Hosts) (host : ℕ) → HasBits low high s → set.contains s host ≡ true → is_marked low high host ≡ true
-marked_from low high s host bits there = shown_of (is_marked low high) host (ap (λ (x : Hosts). set.contains x host) bits.made ∙ there)
+marked_from : (low high : ℕ) (s : HostNumbers) (host : ℕ) → HasBits low high s → set.contains s host ≡ true → is_marked low high host ≡ true
+marked_from low high s host bits there = shown_of (is_marked low high) host (ap (λ (x : HostNumbers). set.contains x host) bits.made ∙ there)
 
-pub apart_from_bits : (low high low_other high_other : ℕ) (s t : Hosts) → HasBits low high s → HasBits low_other high_other t
+pub apart_from_bits : (low high low_other high_other : ℕ) (s t : HostNumbers) → HasBits low high s → HasBits low_other high_other t
     → bit_and low low_other ≡ 0 → bit_and high high_other ≡ 0 → AreApart s t
 apart_from_bits low high low_other high_other s t first second none_low none_high host there other =
     marked_apart low high low_other high_other host none_low none_high (marked_from low high s host first there) (marked_from low_other high_other t host second other)
 
-pub low_apart : (low high low_other high_other : ℕ) (s t : Hosts) → HasBits low high s → HasBits low_other high_other t → low < 2 ^ 128
+pub low_apart : (low high low_other high_other : ℕ) (s t : HostNumbers) → HasBits low high s → HasBits low_other high_other t → low < 2 ^ 128
     → AreApart s t → bit_and low low_other ≡ 0
 low_apart low high low_other high_other s t first second small apart =
     common_none low low_other small (λ q below here there.
     apart q (there_from low high s q first (omega (arith, below)) (in_low low high q below here)) (there_from low_other high_other t q second (omega (arith, below)) (in_low low_other high_other q below there)))
 
-pub high_apart : (low high low_other high_other : ℕ) (s t : Hosts) → HasBits low high s → HasBits low_other high_other t
+pub high_apart : (low high low_other high_other : ℕ) (s t : HostNumbers) → HasBits low high s → HasBits low_other high_other t
     → high < 2 ^ 128 → AreApart s t → bit_and high high_other ≡ 0
 high_apart low high low_other high_other s t first second small apart =
     common_none high high_other small (λ q below here there.

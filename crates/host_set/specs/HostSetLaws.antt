@@ -4,16 +4,16 @@ use Rattle.std.proofs.lemmas.Bool.{cond_both}
 use Rattle.std.proofs.lemmas.Bool.Decides.{nat_tests}
 use Rattle.std.specs.Cmp.{nat_cmp_total, unsigned_tied}
 use Rattle.std.specs.FinSet as set
-use Rattle.host_set.specs.HostSet.{Hosts, hosts_below}
+use Rattle.host_set.specs.HostSet.{HostNumbers, hosts_below}
 
-pub contains-insert : (s : Hosts) (k q : ℕ) → set.contains (set.insert s k) q ≡ (nat_eq q k || set.contains s q)
+pub contains-insert : (s : HostNumbers) (k q : ℕ) → set.contains (set.insert s k) q ≡ (nat_eq q k || set.contains s q)
 contains-insert s k q = set.contains-insert nat_cmp_total s k q ∙ ap (λ b. b || set.contains s q) (unsigned_tied q k)
 
-pub contains-remove : (s : Hosts) (k q : ℕ) → set.contains (set.remove s k) q ≡ (not (nat_eq q k) && set.contains s q)
+pub contains-remove : (s : HostNumbers) (k q : ℕ) → set.contains (set.remove s k) q ≡ (not (nat_eq q k) && set.contains s q)
 contains-remove s k q = set.contains-remove nat_cmp_total s k q ∙ ap (λ b. not b && set.contains s q) (unsigned_tied q k)
 
 -- sets with the same members are equal
-pub hosts_ext : (s t : Hosts) → ((q : ℕ) → set.contains s q ≡ set.contains t q) → s ≡ t
+pub hosts_ext : (s t : HostNumbers) → ((q : ℕ) → set.contains s q ≡ set.contains t q) → s ≡ t
 hosts_ext s t alike = set.same_set nat_cmp_total set.nat_cmp-IsAntisymmetric s t alike
 
 pub below_none : (n q : ℕ) (b : Bool) → (q < n → b ≡ false) → (nat_lt q n && b) ≡ false

@@ -1,2 +1,4 @@
+pub mod Calls
+pub mod HostBits
 pub mod HostSet
 pub mod HostSetLaws

@@ -3,7 +3,7 @@
 
 ghost use Rattle.std.specs.Prelude.{◌≡◌, ◌<◌, ◌↔◌, IsTrue, MatchOption};
 ghost use Rattle.std.specs.FinSet as set;
-ghost use Rattle.host_set.specs.HostSet.{AreApart, HasNone, IsFirstAfter};
+ghost use Rattle.host_set.specs.Calls.{AreApart, HasNone, IsFirstAfter};
 
 use std::marker::Model;
 
@@ -20,9 +20,10 @@ pub struct HostSet {
 impl Model for HostSet {
     ghost use Rattle.std.specs.Coded.{coded_ℕ};
     ghost use Rattle.std.specs.FinSet as set;
-    ghost use Rattle.host_set.specs.HostSet.{Hosts, hosts_below, is_marked};
+    ghost use Rattle.host_set.specs.HostSet.{HostNumbers, hosts_below};
+    ghost use Rattle.host_set.specs.HostBits.{is_marked};
 
-    ghost Value = { Hosts };
+    ghost Value = { HostNumbers };
 
     ghost coded = { set.code coded_ℕ };
 

@@ -1,10 +1,12 @@
 -- What a network's policy keeps, from its definition alone: it is the greatest where every invariant judges flows alone, and with its answers it complies with every invariant.
 use Rattle.std.proofs.Common.{◌≡◌, ℕ, Bool, true, false, List, sym, ◌∙◌, subst, All, get_or}
 use Rattle.std.specs.Prelude.{IsTrue}
-use Rattle.net_core.specs.Network.{Network, IsNetwork}
+use Rattle.net_core.specs.Network.{Network}
+use Rattle.net_core.specs.Fitting.{IsNetwork}
 use Rattle.first_core.specs.FirstLaws.{first_greatest}
-use Rattle.flow_set.specs.Conditions.{IsEdgeWise}
-use Rattle.flow_set.specs.FlowSet.{IsFlowSet, IsSubset, with_back}
+use Rattle.flow_set.specs.Downward.{IsEdgeWise}
+use Rattle.flow_set.specs.FlowSet.{IsSubset, with_back}
+use Rattle.flow_set.specs.FlowSetView.{IsFlowSet}
 use Rattle.flow_set.specs.SubsetLaws.{IsFlowSet-subset}
 use Rattle.flow_set.specs.declared.flow.Flow.{Flow}
 use Rattle.inv_any.specs.TemplateLaws.{lawful}

@@ -1,3 +1,4 @@
+pub mod Fitting
 pub mod HeadlineLaws
 pub mod Network
 pub mod Policies

@@ -1,6 +1,7 @@
 -- Laws of policies: a network has one at most, what lies within what, and that flows which meet every invariant are permitted as they are asked for.
 use Rattle.std.proofs.Common.{◌≡◌, Bool, true, false, List, sym, ◌∙◌, subst}
-use Rattle.net_core.specs.Network.{Network, IsNetwork}
+use Rattle.net_core.specs.Network.{Network}
+use Rattle.net_core.specs.Fitting.{IsNetwork}
 use Rattle.first_core.specs.FirstLaws.{first_unique, first_whole}
 use Rattle.flow_set.specs.FlowLaws.{set_ext}
 use Rattle.flow_set.specs.FlowSet.{IsSubset, with_back}

@@ -1,10 +1,10 @@
 //! A network: its hosts, the flows between them that are asked for, and its invariants.
 ghost use Rattle.std.specs.Prelude.{◌≡◌, ◌≤◌, All, length};
-ghost use Rattle.flow_set.specs.FlowSet.{IsFlowSet};
+ghost use Rattle.flow_set.specs.FlowSetView.{IsFlowSet};
 ghost use Rattle.host_net.specs.Hosts.{IsHosts};
 ghost use Rattle.host_net.specs.Limits.{invariant_limit};
 ghost use Rattle.inv_any.specs.Templates.{meaning_of};
-ghost use Rattle.net_core.specs.Network.{IsNetwork};
+ghost use Rattle.net_core.specs.Fitting.{IsNetwork};
 
 use flow_set::FlowSet;
 use host_net::Hosts;
@@ -23,7 +23,8 @@ pub struct Description {
 
 impl Model for Description {
     ghost use Rattle.std.specs.Coded.{codes};
-    ghost use Rattle.net_core.specs.Network.{Network, IsNetwork};
+    ghost use Rattle.net_core.specs.Network.{Network};
+    ghost use Rattle.net_core.specs.Fitting.{IsNetwork};
     ghost use Rattle.inv_any.specs.contracts.any_inv.AnyInv as any;
 
     ghost Value = { Network };

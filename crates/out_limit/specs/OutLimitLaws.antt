@@ -6,7 +6,7 @@ use Rattle.std.proofs.lemmas.Bool.Decides.{nat_tests}
 use Rattle.std.proofs.lemmas.List.{length-set}
 use Rattle.flow_set.specs.declared.flow.Flow.{Flow}
 use Rattle.flow_set.specs.FlowSet.{has, IsSubset}
-use Rattle.flow_set.specs.Conditions.{IsDownward}
+use Rattle.flow_set.specs.Downward.{IsDownward}
 use Rattle.flow_set.specs.FlowLaws.{has_nothing, has-filter, IsOrdered-filter}
 use Rattle.flow_set.specs.WalkLaws.{length-IsSubset}
 use Rattle.inv_law.specs.AttributeLaws.{get_or-set_default}

@@ -2,8 +2,10 @@
 use Rattle.std.proofs.Common.{ℕ, List, Result, Ok, Err}
 use Rattle.std.specs.Prelude.{IfOk}
 use Rattle.flow_set.specs.declared.flow.Flow.{Flow}
-use Rattle.flow_set.specs.FlowSet.{SetOfFlows, IsFlowSet}
-use Rattle.flow_set.specs.Conditions.{IsFirst, IsGreatest, IsEdgeWise}
+use Rattle.flow_set.specs.FlowSet.{SetOfFlows}
+use Rattle.flow_set.specs.FlowSetView.{IsFlowSet}
+use Rattle.flow_set.specs.Conditions.{IsFirst, IsGreatest}
+use Rattle.flow_set.specs.Downward.{IsEdgeWise}
 use Rattle.first_core.specs.FirstLaws.{first_greatest}
 
 pub greatest_found : {E : Type 0} (n : ℕ) (Holds : List Flow → Type 0) (all : List Flow) (found : Result SetOfFlows E) → IsFlowSet n all

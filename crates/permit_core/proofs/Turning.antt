@@ -5,7 +5,8 @@ use Rattle.std.specs.Prelude.{IsTrue, IsFalse}
 use Rattle.std.proofs.lemmas.Bool.{both_ways, cases_Bool, false_from_ne_true, false≢true, not_from_true, and_from, not_from_false}
 use Rattle.flow_set.specs.declared.flow.Flow.{Flow}
 use Rattle.flow_set.specs.Flow.{same_flow}
-use Rattle.flow_set.specs.FlowSet.{has, IsOrdered, IsSubset, with_flow, without_flow, without}
+use Rattle.flow_set.specs.FlowSet.{has, IsOrdered, IsSubset, with_flow, without}
+use Rattle.flow_set.specs.FlowSetView.{without_flow}
 use Rattle.flow_set.specs.Conditions.{IsFirst}
 use Rattle.flow_set.specs.FlowLaws.{before_self, has-append, has_first, has-with_flow, has-without_flow, has-without, flows_ext, filter_nothing, front_before, same_test, IsOrdered-without}
 use Rattle.flow_set.specs.SubsetLaws.{subset_both}

@@ -1,2 +1,3 @@
+pub mod Denied
 pub mod Policy
 pub mod PolicyLaws

@@ -1,9 +1,7 @@
 -- Lists of invariants on one set of flows, and what is said of a flow that they deny. Of an invariant only the predicate is needed, whatever type it is.
 -- The permitted policy itself is the first subset of the asked flows on which AllHold (flow_set: Conditions). That invariants make a policy is after C. Diekmann, Provably Secure Networks: Methodology and Toolset for Configuration Management; that of several the first one counts is topoS's own choice.
-use Rattle.std.specs.Prelude.{◌≡◌, ℕ, List, All, take, slice_get, IsTrue, IsFalse, Some}
+use Rattle.std.specs.Prelude.{◌≡◌, ℕ, List, All, take, slice_get, Some}
 use Rattle.flow_set.specs.declared.flow.Flow.{Flow}
-use Rattle.flow_set.specs.Conditions.{IsFirst}
-use Rattle.flow_set.specs.FlowSet.{has}
 
 -- every invariant of the list holds of the set
 abbrev pub AllHold : {X : Type 0} → (X → List Flow → Type 0) → List X → List Flow → Type 0
@@ -15,10 +13,3 @@ pub record IsFirstFailing {X : Type 0} (HoldsOn : X → List Flow → Type 0) (i
   pub place : slice_get invs number ≡ Some inv
   pub fails : HoldsOn inv e → ⊥
   pub earlier : AllHold HoldsOn (take number invs) e
-
--- f was among some asked flows of which p is the permitted policy, and p has it not
-pub record IsDenied (Holds : List Flow → Type 0) (p : List Flow) (f : Flow) : Type 0 where
-  pub asked : List Flow
-  pub permitted : IsFirst Holds asked p
-  pub wanted : IsTrue (has asked f)
-  pub left_out : IsFalse (has p f)

@@ -3,9 +3,10 @@ use Rattle.std.proofs.Common.{ℕ, List, []}
 use Rattle.std.specs.Prelude.{All}
 use Rattle.flow_set.specs.declared.flow.Flow.{Flow}
 use Rattle.flow_set.specs.FlowSet.{with_flow}
-use Rattle.flow_set.specs.Conditions.{IsDownward, IsEdgeWise}
+use Rattle.flow_set.specs.Downward.{IsDownward, IsEdgeWise}
 use Rattle.first_core.specs.FirstLaws.{first_with}
-use Rattle.permit_core.specs.Policy.{AllHold, IsDenied}
+use Rattle.permit_core.specs.Policy.{AllHold}
+use Rattle.permit_core.specs.Denied.{IsDenied}
 
 pub AllHold-downward : {X : Type 0} (n : ℕ) (HoldsOn : X → List Flow → Type 0) (invs : List X) → All (λ inv. IsDownward n (HoldsOn inv)) invs → IsDownward n (AllHold HoldsOn invs)
 AllHold-downward n HoldsOn invs downward e s set sub hold = λ k d within. downward k d within e s set sub (hold k d within)

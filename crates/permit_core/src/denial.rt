@@ -3,7 +3,8 @@
 ghost use Rattle.std.specs.Prelude.{◌≡◌, ◌≤◌, All, length, IfOk, IsSome, MatchOption};
 ghost use Rattle.flow_set.specs.Flow.{IsFlow};
 ghost use Rattle.flow_set.specs.FlowSet.{with_flow};
-ghost use Rattle.permit_core.specs.Policy.{AllHold, IsFirstFailing, IsDenied};
+ghost use Rattle.permit_core.specs.Policy.{AllHold, IsFirstFailing};
+ghost use Rattle.permit_core.specs.Denied.{IsDenied};
 
 use flow_set::{Flow, FlowSet};
 use inv_law::Invariant;

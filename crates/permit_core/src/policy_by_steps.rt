@@ -1,7 +1,7 @@
 //! The permitted policy by trials: no invariant is asked about the whole set again.
 
 ghost use Rattle.std.specs.Prelude.{◌≡◌, All, true, IsTrue, IfOk};
-ghost use Rattle.flow_set.specs.FlowSet.{IsFlowSet};
+ghost use Rattle.flow_set.specs.FlowSetView.{IsFlowSet};
 ghost use Rattle.flow_set.specs.Conditions.{IsFirst, IsGreatest};
 ghost use Rattle.permit_core.specs.Policy.{AllHold};
 ghost use Rattle.trial_core.specs.Trials.{AreTried};

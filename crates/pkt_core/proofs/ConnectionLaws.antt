@@ -8,10 +8,12 @@ use Rattle.pkt_core.specs.declared.event.Event.{Event}
 use Rattle.pkt_core.specs.declared.event.Event.TheVariants.{Seen, Forget}
 use Rattle.pkt_core.specs.Events.{SeenAt}
 use Rattle.pkt_core.specs.EventLaws.{get_back, get_before, get_last, seen_behind_forget}
-use Rattle.pkt_core.specs.Tracking.{Kept, Runs, after_forget, after_seen, kept_after, nothing_kept, same_packet, state_of, with_kept}
+use Rattle.pkt_core.specs.Tracking.{Kept, Runs, after_forget, after_seen, nothing_kept, same_packet, state_of, with_kept}
+use Rattle.pkt_core.specs.Kept.{kept_after}
 use Rattle.pkt_core.specs.TrackingLaws.{same_packet-is, same_packet-not, same_packet-self, same_packet-swap}
 use Rattle.pkt_core.specs.Connections.{IsFirstPacket, KeepsConnections, WasAnswered}
-use Rattle.pkt_core.specs.Firewall.{Filter, AllKnown, IsFirewallFor, StatefulArePermitted, may_pass}
+use Rattle.pkt_core.specs.Firewall.{Filter, may_pass}
+use Rattle.pkt_core.specs.FirewallFor.{AllKnown, IsFirewallFor, StatefulArePermitted}
 use Rattle.pkt_core.specs.PolicyRuns.{TracksAsExpected}
 use Rattle.pkt_core.specs.ExpectedLaws.{runs_as_expected, some_run}
 use Rattle.pkt_core.specs.KeptLaws.{Fits, Fits-forget, Fits-seen, Fits-start, kept_behind_forget}

@@ -1,4 +1,3 @@
 pub mod PacketOrder
-pub mod EventsTextLaws
 pub mod EventsRows
 pub mod ConnectionLaws

@@ -10,8 +10,6 @@ use Rattle.host_net.specs.Prefix.{address_of, address_text}
 use Rattle.pkt_core.specs.declared.event.Event.{Event}
 use Rattle.pkt_core.specs.declared.event.Event.TheVariants.{Seen, Forget}
 use Rattle.pkt_core.specs.declared.events.EventWhy.{EventWhy}
-use Rattle.pkt_core.specs.declared.events.EventFault.{EventFault}
-use Rattle.pkt_core.specs.declared.events.EventFault.TheVariants.{Refused, Memory}
 use Rattle.pkt_core.specs.declared.events.EventWhy.TheVariants.{TooLong, BadLine, BadValue, TooMany}
 
 -- A. The grammar: which events a text tells.
@@ -83,20 +81,3 @@ event_step n events line = with_event events (event_of (words line))
 pub data IsRefused (bytes : List ℕ) : ℕ → EventWhy → Type 0 where
   too_long : 16777216 < length bytes → IsRefused bytes 0 TooLong
   at_line : {line : ℕ} {why : EventWhy} → length bytes ≤ 16777216 → IsFirstFault event_step 1 [] (lines bytes) line why → IsRefused bytes line why
-
--- C. What the reader answers.
-
--- an answer that is no list has its cause; want of memory is always one
-abbrev pub HasCause : List ℕ → EventFault → Type 0
-HasCause bytes (Refused line why) = IsRefused bytes line why
-HasCause bytes Memory = Unit {0}
-
--- that fault is told, unless there is no memory
-abbrev pub IsFault : ℕ → EventWhy → EventFault → Type 0
-IsFault line why (Refused told cause) = (told ≡ line) × (cause ≡ why)
-IsFault line why Memory = Unit {0}
-
--- a fault against what a reading of lines says: the line and the reason are told
-abbrev pub Tells : {S : Type 0} → Result S (ℕ × EventWhy) → EventFault → Type 0
-Tells said (Refused line why) = said ≡ Err (line, why)
-Tells said Memory = Unit {0}

@@ -8,7 +8,8 @@ use Rattle.pkt_core.specs.declared.event.Event.{Event}
 use Rattle.pkt_core.specs.declared.event.Event.TheVariants.{Seen, Forget}
 use Rattle.pkt_core.specs.Events.{ForgottenAt, SeenAt}
 use Rattle.pkt_core.specs.Tracking.{Kept, Runs, after_forget, after_seen, nothing_kept, state_of}
-use Rattle.pkt_core.specs.Firewall.{Filter, AllKnown, IsFirewallFor, StatefulArePermitted, is_established, may_pass}
+use Rattle.pkt_core.specs.Firewall.{Filter, is_established, may_pass}
+use Rattle.pkt_core.specs.FirewallFor.{AllKnown, IsFirewallFor, StatefulArePermitted}
 use Rattle.pkt_core.specs.KeptLaws.{Fits, Fits-forget, Fits-seen, Fits-start, answer_is_established, established_by}
 use Rattle.pkt_core.specs.Expected.{AreExpected, Expected}
 

@@ -1,13 +1,14 @@
 -- What filters do for a policy: that one enforces it, and that it forwards what is expected over a list of events. It is said of any filter, be it chains of rules, a flow table or another.
-use Rattle.std.specs.Prelude.{◌≡◌, Bool, List, Option}
+use Rattle.std.specs.Prelude.{◌≡◌, ℕ, Bool, List, Option}
 use Rattle.host_net.specs.declared.packet.Packet.{Packet}
 use Rattle.host_net.specs.declared.packet.CtState.{CtState}
 use Rattle.host_net.specs.Packet.{IsPacket}
 use Rattle.host_net.specs.Host.{Host}
 use Rattle.flow_set.specs.declared.flow.Flow.{Flow}
 use Rattle.pkt_core.specs.declared.event.Event.{Event}
+use Rattle.pkt_core.specs.Events.{SeenAt}
 use Rattle.pkt_core.specs.Expected.{AreExpected}
-use Rattle.pkt_core.specs.Firewall.{AllKnown, Filter}
+use Rattle.pkt_core.specs.Firewall.{Filter}
 use Rattle.pkt_core.specs.FlowPolicy.{is_of, lets_pass}
 use Rattle.pkt_core.specs.Tracking.{Runs, nothing_kept}
 
@@ -23,7 +24,7 @@ RunsFromNothing filter = Runs filter nothing_kept
 
 -- what is seen in the events are packets
 abbrev pub ArePackets : List Event → Type 0
-ArePackets events = AllKnown IsPacket events
+ArePackets events = (k : ℕ) (p : Packet) → SeenAt events k p → IsPacket p
 
 -- over every list of events the filter has a run, and only one, which answers at each place what is expected of the policy and its answers
 pub record ForwardsExpected (filter : Filter) (hosts : List Host) (p s : List Flow) : Type 0 where

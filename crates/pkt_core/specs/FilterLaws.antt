@@ -10,7 +10,8 @@ use Rattle.pkt_core.specs.declared.event.Event.{Event}
 use Rattle.pkt_core.specs.Expected.{AreExpected}
 use Rattle.pkt_core.specs.ExpectedLaws.{expected_once, runs_as_expected, some_run}
 use Rattle.pkt_core.specs.Filter.{ArePackets, Enforces, ForwardsExpected, RunsFromNothing}
-use Rattle.pkt_core.specs.Firewall.{Filter, IsFirewallFor}
+use Rattle.pkt_core.specs.Firewall.{Filter}
+use Rattle.pkt_core.specs.FirewallFor.{IsFirewallFor}
 use Rattle.pkt_core.specs.FlowPolicy.{flow_of, is_of}
 use Rattle.pkt_core.specs.Tracking.{nothing_kept}
 

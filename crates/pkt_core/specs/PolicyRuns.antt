@@ -4,8 +4,10 @@ use Rattle.host_net.specs.declared.packet.Packet.{Packet}
 use Rattle.pkt_core.specs.declared.event.Event.{Event}
 use Rattle.pkt_core.specs.Connections.{KeepsConnections}
 use Rattle.pkt_core.specs.Expected.{AreExpected}
-use Rattle.pkt_core.specs.Firewall.{StatefulArePermitted, may_pass}
-use Rattle.pkt_core.specs.Tracking.{Kept, Runs, kept_after}
+use Rattle.pkt_core.specs.Firewall.{may_pass}
+use Rattle.pkt_core.specs.FirewallFor.{StatefulArePermitted}
+use Rattle.pkt_core.specs.Tracking.{Kept, Runs}
+use Rattle.pkt_core.specs.Kept.{kept_after}
 
 -- a run of a firewall with the verdicts of a policy
 abbrev pub RunsBy : (permitted stateful : Packet → Bool) → Kept → List Event → List (Option Bool) → Type 0

@@ -1,5 +1,5 @@
 -- Connection tracking: what is kept of the events, and the state that it gives a packet. The states NEW and ESTABLISHED are those of the match conntrack in iptables-extensions(8), without ageing and related connections.
-use Rattle.std.specs.Prelude.{◌≡◌, Bool, true, false, not, ◌==◌, ◌&&◌, ◌||◌, if◌then◌else◌, List, [], ◌∷◌, Option, Some, None, is_some, IsTrue, ⊤}
+use Rattle.std.specs.Prelude.{Bool, true, false, not, ◌==◌, ◌&&◌, ◌||◌, if◌then◌else◌, List, [], ◌∷◌, Option, Some, None, is_some, ⊤}
 use Rattle.std.specs.Option.{unwrap_or}
 use Rattle.host_net.specs.declared.packet.Packet.{Packet}
 use Rattle.host_net.specs.declared.packet.CtState.{CtState}
@@ -36,10 +36,6 @@ after_seen kept p passes =
     if is_some (kept (swap_of p)) then with_kept kept (swap_of p) (Some true)
     else (if passes && not (is_some (kept p)) then with_kept kept p (Some false) else kept)
 
--- p begins a connection: it passes and is of none
-abbrev pub Begins : Kept → Packet → Bool → Type 0
-Begins kept p passes = IsTrue passes × (kept p ≡ None) × (kept (swap_of p) ≡ None)
-
 -- a connection is forgotten in both directions
 abbrev pub after_forget : Kept → Packet → Kept
 after_forget kept p = with_kept (with_kept kept p None) (swap_of p) None
@@ -50,9 +46,3 @@ Runs filter kept [] [] = ⊤
 Runs filter kept (Seen p ∷ events) (Some passes ∷ answers) = filter (state_of kept p) p passes × Runs filter (after_seen kept p passes) events answers
 Runs filter kept (Forget p ∷ events) (None ∷ answers) = Runs filter (after_forget kept p) events answers
 Runs filter kept events answers = ⊥
-
--- what is kept after a run with these answers
-abbrev pub kept_after : Kept → List Event → List (Option Bool) → Kept
-kept_after kept (Seen p ∷ events) (Some passes ∷ answers) = kept_after (after_seen kept p passes) events answers
-kept_after kept (Forget p ∷ events) (None ∷ answers) = kept_after (after_forget kept p) events answers
-kept_after kept events answers = kept

@@ -6,7 +6,8 @@ ghost use Rattle.text_core.specs.Lines.{lines, words};
 ghost use Rattle.text_core.specs.Reading.{after_line, line_by_line, past_comment};
 ghost use Rattle.pkt_core.specs.declared.event.Event.{Event};
 ghost use Rattle.pkt_core.specs.declared.events.EventWhy.{EventWhy};
-ghost use Rattle.pkt_core.specs.EventsText.{IsReading, IsRefused, HasCause, IsFault, Tells, event_step, with_event, event_of, event_by, packet_of, protocol_of};
+ghost use Rattle.pkt_core.specs.EventsText.{IsReading, IsRefused, event_step, with_event, event_of, event_by, packet_of, protocol_of};
+ghost use Rattle.pkt_core.specs.EventsAnswers.{HasCause, IsFault, Tells};
 ghost use Rattle.pkt_core.specs.Filter.{ArePackets};
 
 use crate::event::Event;
@@ -15,7 +16,8 @@ use std::alloc::Global;
 use text_core::{Lines, Words, is_comment, read_number};
 use thiserror::Error;
 
-const BYTE_LIMIT: usize = 16_777_216;
+/// The most bytes that a text of events may have.
+pub const EVENTS_BYTE_LIMIT: usize = 16_777_216;
 
 const EVENT_LIMIT: usize = 1_000_000;
 
@@ -57,7 +59,7 @@ pub fn read_events(alloc: Global, bytes: &[u8]) -> Result<Vec<Event>, EventFault
         MatchResult result (λ events. ⊥) (IsFault line why) }
     ensures packets { IfOk result (λ events. ArePackets events.items) }
 {
-    if bytes.len() > BYTE_LIMIT {
+    if bytes.len() > EVENTS_BYTE_LIMIT {
         return Err(EventFault::Refused {
             line: 0,
             why: EventWhy::TooLong,

@@ -10,5 +10,5 @@ mod tests;
 mod track;
 
 pub use event::Event;
-pub use events::{EventFault, EventWhy, read_events};
+pub use events::{EVENTS_BYTE_LIMIT, EventFault, EventWhy, read_events};
 pub use track::Track;

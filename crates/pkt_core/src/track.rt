@@ -2,9 +2,9 @@
 //! that is set once a packet the other way was seen.
 
 ghost use Rattle.std.specs.Prelude.{◌≡◌, [], Some, None, OnOk, OnErr};
-ghost use Rattle.pkt_core.specs.Kept.{kept_in};
+ghost use Rattle.pkt_core.specs.Kept.{kept_in, Begins};
 ghost use Rattle.pkt_core.specs.PolicyRuns.{TracksAsExpected};
-ghost use Rattle.pkt_core.specs.Tracking.{Begins, after_forget, after_seen, state_of, with_kept};
+ghost use Rattle.pkt_core.specs.Tracking.{after_forget, after_seen, state_of, with_kept};
 
 use host_net::{CtState, Packet};
 use std::alloc::{AllocError, Global};

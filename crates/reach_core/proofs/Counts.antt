@@ -8,35 +8,36 @@ use Rattle.std.specs.Cmp.{nat_cmp_total, unsigned_tied}
 use Rattle.std.proofs.lemmas.Bool.{and_parts, and_from, or_left, eqb-false, eq-eqb, ne_eqb, not-true, not_from_false, cases_eq, cond-true, cond-false, false≢true}
 use Rattle.std.proofs.lemmas.List.Elements.{All-nil, All-cons, All-head, All-tail}
 use Rattle.flow_set.specs.declared.flow.Flow.{Flow}
-use Rattle.host_set.specs.HostSet.{Hosts}
-use Rattle.reach_core.specs.Walks.{Reaches, ReachesExactly}
+use Rattle.host_set.specs.HostSet.{HostNumbers}
+use Rattle.reach_core.specs.Walks.{Reaches}
+use Rattle.reach_core.specs.Counting.{ReachesExactly}
 use Rattle.host_set.specs.HostSetLaws.{hosts_ext, contains-remove}
 
 -- ---- members, one by one
 
-pub has_some : (s : Hosts) (q : ℕ) → IsTrue (set.contains s q) → 0 < set.len s
+pub has_some : (s : HostNumbers) (q : ℕ) → IsTrue (set.contains s q) → 0 < set.len s
 has_some s q shown =
     elim (cases_eq (set.len s) 0) [
       | inl none ↦ absurd (false≢true (sym (ap (λ t. set.contains t q) (set.empty_of_len s none) ∙ set.contains-empty nat_cmp q) ∙ shown))
       | inr some ↦ omega arith
     ]
 
-len-without : (s : Hosts) (q : ℕ) → IsTrue (set.contains s q) → set.len s ≡ suc (set.len (set.remove s q))
+len-without : (s : HostNumbers) (q : ℕ) → IsTrue (set.contains s q) → set.len s ≡ suc (set.len (set.remove s q))
 len-without s q shown =
     let fewer : set.len (set.remove s q) ≡ set.len s - 1 = set.len-remove nat_cmp_total s q ∙ cond-true _ _ _ shown in
     let some : 0 < set.len s = has_some s q shown in
     omega arith
 
-stays_without : (s : Hosts) (h q : ℕ) → q ≢ h → IsTrue (set.contains s q) → IsTrue (set.contains (set.remove s h) q)
+stays_without : (s : HostNumbers) (h q : ℕ) → q ≢ h → IsTrue (set.contains s q) → IsTrue (set.contains (set.remove s h) q)
 stays_without s h q other shown = contains-remove s h q ∙ and_from _ _ (not_from_false _ (ne_eqb q h other)) shown
 
-was_with : (s : Hosts) (h q : ℕ) → IsTrue (set.contains (set.remove s h) q) → (q ≢ h) × IsTrue (set.contains s q)
+was_with : (s : HostNumbers) (h q : ℕ) → IsTrue (set.contains (set.remove s h) q) → (q ≢ h) × IsTrue (set.contains s q)
 was_with s h q shown =
     let parts = and_parts _ _ (sym (contains-remove s h q) ∙ shown) in
     (eqb-false q h (not-true _ parts.0), parts.1)
 
 -- a set that is not empty has a host
-some_host : (s : Hosts) (n : ℕ) (hosts : List ℕ) → set.items s ≡ hosts → set.len s ≡ suc n → (h : ℕ) × IsTrue (set.contains s h)
+some_host : (s : HostNumbers) (n : ℕ) (hosts : List ℕ) → set.items s ≡ hosts → set.len s ≡ suc n → (h : ℕ) × IsTrue (set.contains s h)
 some_host s n [] items counted =
     let none : s ≡ set.empty = hosts_ext s set.empty (λ q. set.contains-items s q ∙ ap (list_any (eq_by_cmp nat_cmp q)) items ∙ sym (set.contains-empty nat_cmp q)) in
     let zero_len : set.len s ≡ 0 = ap (λ t. set.len t) none ∙ set.len-empty nat_cmp in
@@ -59,7 +60,7 @@ pairs_head : (h : ℕ) (hosts : List ℕ) → AllPairs (λ a b. a ≢ b) (h ∷ 
 pairs_head h hosts pairs k d below = λ same. pairs 0 (suc k) d (omega arith) (omega arith) (sym same)
 
 -- different hosts of a set are no more than it has
-pub length-different : (hosts : List ℕ) (s : Hosts) → AllPairs (λ a b. a ≢ b) hosts → All (λ j. IsTrue (set.contains s j)) hosts → length hosts ≤ set.len s
+pub length-different : (hosts : List ℕ) (s : HostNumbers) → AllPairs (λ a b. a ≢ b) hosts → All (λ j. IsTrue (set.contains s j)) hosts → length hosts ≤ set.len s
 length-different [] s different within = omega arith
 length-different (h ∷ hosts) s different within =
     let shown : IsTrue (set.contains s h) = All-head (λ j. IsTrue (set.contains s j)) h hosts within in
@@ -70,13 +71,13 @@ length-different (h ∷ hosts) s different within =
     omega arith
 
 -- a list of all the hosts of a set
-pub record Lists (s : Hosts) (n : ℕ) : Type 0 where
+pub record Lists (s : HostNumbers) (n : ℕ) : Type 0 where
   pub hosts : List ℕ
   pub different : AllPairs (λ a b. a ≢ b) hosts
   pub within : All (λ j. IsTrue (set.contains s j)) hosts
   pub counted : length hosts ≡ n
 
-pub lists_all : (n : ℕ) (s : Hosts) → set.len s ≡ n → Lists s n
+pub lists_all : (n : ℕ) (s : HostNumbers) → set.len s ≡ n → Lists s n
 lists_all zero s counted = record { hosts = []; different = λ i j d before below. absurd (omega arith); within = All-nil _; counted = refl }
 lists_all (suc n) s counted =
     let first = some_host s n (set.items s) refl counted in
@@ -91,7 +92,7 @@ lists_all (suc n) s counted =
 
 -- ---- the others that a host reaches
 
-pub reaches_exactly : (e : List Flow) (i : ℕ) (row : Hosts) → ((j : ℕ) → IsTrue (set.contains row j) ↔ Reaches e i j) → ReachesExactly e i (set.len (set.remove row i))
+pub reaches_exactly : (e : List Flow) (i : ℕ) (row : HostNumbers) → ((j : ℕ) → IsTrue (set.contains row j) ↔ Reaches e i j) → ReachesExactly e i (set.len (set.remove row i))
 reaches_exactly e i row shows =
     let all = lists_all (set.len (set.remove row i)) (set.remove row i) refl in
     record {
@@ -105,10 +106,10 @@ reaches_exactly e i row shows =
       most = λ hosts are. length-different hosts (set.remove row i) are.different (λ k d below. stays_without row i _ (are.others k d below) ((shows _).1 (are.reached k d below)));
     }
 
-pub exactly_without : (e : List Flow) (i : ℕ) (row : Hosts) → ((j : ℕ) → IsTrue (set.contains row j) ↔ Reaches e i j) → set.contains row i ≡ true → ReachesExactly e i (set.len row - 1)
+pub exactly_without : (e : List Flow) (i : ℕ) (row : HostNumbers) → ((j : ℕ) → IsTrue (set.contains row j) ↔ Reaches e i j) → set.contains row i ≡ true → ReachesExactly e i (set.len row - 1)
 exactly_without e i row shows itself =
     subst (ReachesExactly e i) (set.len-remove nat_cmp_total row i ∙ cond-true _ _ _ itself) (reaches_exactly e i row shows)
 
-pub exactly_all : (e : List Flow) (i : ℕ) (row : Hosts) → ((j : ℕ) → IsTrue (set.contains row j) ↔ Reaches e i j) → set.contains row i ≡ false → ReachesExactly e i (set.len row)
+pub exactly_all : (e : List Flow) (i : ℕ) (row : HostNumbers) → ((j : ℕ) → IsTrue (set.contains row j) ↔ Reaches e i j) → set.contains row i ≡ false → ReachesExactly e i (set.len row)
 exactly_all e i row shows not_itself =
     subst (ReachesExactly e i) (set.len-remove nat_cmp_total row i ∙ cond-false _ _ _ not_itself) (reaches_exactly e i row shows)

@@ -1,4 +1,5 @@
-pub mod Walks
-pub mod WalkLaws
+pub mod Counting
 pub mod ReachLaws
 pub mod Rows
+pub mod WalkLaws
+pub mod Walks

@@ -5,9 +5,11 @@ use Rattle.std.proofs.lemmas.Bool.{or_cases, or_left, or_right, false≢true}
 use Rattle.std.proofs.lemmas.List.Elements.{All-nil, All-cons}
 use Rattle.flow_set.specs.declared.flow.Flow.{Flow}
 use Rattle.flow_set.specs.Flow.{same_flow, back_of}
-use Rattle.flow_set.specs.FlowSet.{IsFlowSet, has, with_flow}
+use Rattle.flow_set.specs.FlowSet.{has, with_flow}
+use Rattle.flow_set.specs.FlowSetView.{IsFlowSet}
 use Rattle.flow_set.specs.FlowLaws.{same_flow-true, has-with_flow}
-use Rattle.reach_core.specs.Walks.{LeadsTo, Reaches, has_either, Joined, ReachesAtMost, ReachesExactly}
+use Rattle.reach_core.specs.Walks.{LeadsTo, Reaches, has_either, Joined, ReachesAtMost}
+use Rattle.reach_core.specs.Counting.{ReachesExactly}
 use Rattle.reach_core.specs.WalkLaws.{HasPath, HasWalk-weaker, LeadsTo-append, walk_over, path_touch, walk_ends}
 
 -- ---- over subsets

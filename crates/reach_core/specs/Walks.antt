@@ -35,10 +35,3 @@ pub record AreReached (e : List Flow) (i : ℕ) (hosts : List ℕ) : Type 0 wher
 -- i reaches at most so many other hosts: no longer list of them is reached
 abbrev pub ReachesAtMost : List Flow → ℕ → ℕ → Type 0
 ReachesAtMost e i limit = (hosts : List ℕ) → AreReached e i hosts → length hosts ≤ limit
-
--- i reaches exactly so many other hosts
-pub record ReachesExactly (e : List Flow) (i count : ℕ) : Type 0 where
-  pub hosts : List ℕ
-  pub reached : AreReached e i hosts
-  pub counted : length hosts ≡ count
-  pub most : ReachesAtMost e i count

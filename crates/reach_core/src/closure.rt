@@ -4,9 +4,10 @@
 ghost use Rattle.std.specs.Prelude.{◌≡◌, ℕ, ◌<◌, ◌↔◌, IsTrue, IfOk, IsSome};
 ghost use Rattle.std.specs.FinSet as set;
 ghost use Rattle.flow_set.specs.Flow.{IsFlow};
-ghost use Rattle.flow_set.specs.FlowSet.{IsFlowSet};
+ghost use Rattle.flow_set.specs.FlowSetView.{IsFlowSet};
 ghost use Rattle.flow_set.specs.Steps.{untried, stepped, taken_back};
-ghost use Rattle.reach_core.specs.Walks.{Reaches, Joined, ReachesExactly};
+ghost use Rattle.reach_core.specs.Walks.{Reaches, Joined};
+ghost use Rattle.reach_core.specs.Counting.{ReachesExactly};
 
 use crate::rows::Rows;
 use flow_set::{Flow, FlowSet, FlowSteps};

@@ -21,9 +21,9 @@ impl Model for Rows {
     ghost use Rattle.std.specs.Prelude.{List};
     ghost use Rattle.std.specs.Coded.{coded_list, coded_ℕ};
     ghost use Rattle.std.specs.FinSet as set;
-    ghost use Rattle.host_set.specs.HostSet.{Hosts};
+    ghost use Rattle.host_set.specs.HostSet.{HostNumbers};
 
-    ghost Value = { List Hosts };
+    ghost Value = { List HostNumbers };
 
     ghost coded = { coded_list (set.code coded_ℕ) };
 

@@ -5,8 +5,10 @@ use Rattle.std.proofs.lemmas.Bool.{or_from}
 use Rattle.flow_set.specs.declared.flow.Flow.{Flow}
 use Rattle.flow_set.specs.Flow.{same_flow, back_of}
 use Rattle.first_core.specs.Grown.{IsGrown}
-use Rattle.flow_set.specs.FlowSet.{SetOfFlows, has, IsOrdered, IsFlowSet, with_flow, with_back}
-use Rattle.flow_set.specs.Conditions.{IsDownward, IsEdgeWise, IsFirst}
+use Rattle.flow_set.specs.FlowSet.{SetOfFlows, has, IsOrdered, with_flow, with_back}
+use Rattle.flow_set.specs.FlowSetView.{IsFlowSet}
+use Rattle.flow_set.specs.Conditions.{IsFirst}
+use Rattle.flow_set.specs.Downward.{IsDownward, IsEdgeWise}
 use Rattle.flow_set.specs.FlowLaws.{same_fact, same_flow_back, has-with_flow, has-with_back, flows_ext, IsOrdered-with_flow, IsOrdered-with_back}
 use Rattle.flow_set.specs.SubsetLaws.{IsFlow-back_of, IsFlowSet-subset, IsFlowSet-with_back}
 use Rattle.flow_set.specs.ConditionLaws.{IsDownward-with_back}

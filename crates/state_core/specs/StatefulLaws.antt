@@ -4,8 +4,10 @@ use Rattle.std.specs.Prelude.{IsTrue, IsFalse}
 use Rattle.std.proofs.lemmas.Bool.{both_ways, or_cases, false_from_ne_true}
 use Rattle.flow_set.specs.declared.flow.Flow.{Flow}
 use Rattle.flow_set.specs.Flow.{back_of}
-use Rattle.flow_set.specs.FlowSet.{has, IsFlowSet, without, with_back}
-use Rattle.flow_set.specs.Conditions.{IsEdgeWise, IsMinimalOffending}
+use Rattle.flow_set.specs.FlowSet.{has, without, with_back}
+use Rattle.flow_set.specs.FlowSetView.{IsFlowSet}
+use Rattle.flow_set.specs.Conditions.{IsMinimalOffending}
+use Rattle.flow_set.specs.Downward.{IsEdgeWise}
 use Rattle.flow_set.specs.FlowLaws.{has-with_back}
 use Rattle.flow_set.specs.SubsetLaws.{IsFlowSet-without, IsFlowSet-with_back}
 use Rattle.flow_set.specs.ConditionLaws.{edge_wise-with_flow}

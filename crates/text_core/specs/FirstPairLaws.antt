@@ -4,7 +4,8 @@ use Rattle.std.proofs.lemmas.List.{map-append}
 use Rattle.std.specs.List.{find, list_all}
 use Rattle.std.specs.Prelude.{IfSome}
 use Rattle.std.specs.Option.{option_or}
-use Rattle.text_core.specs.Firsts.{first_pair, first_pair_behind, IsFirstPair, no_pair, Numbered, Pair, numbered, numbered_from}
+use Rattle.text_core.specs.Firsts.{first_pair, first_pair_behind, Numbered, Pair, numbered, numbered_from}
+use Rattle.text_core.specs.Pairs.{IsFirstPair, no_pair}
 use Rattle.text_core.specs.FirstsLaws.{no_pair_numbered, none_barred, none_found, some_same}
 use Rattle.text_core.specs.PairLaws.{no_pair-push}
 

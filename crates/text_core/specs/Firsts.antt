@@ -1,6 +1,5 @@
 -- The first of several answers, and the first element that an earlier one bars.
-use Rattle.std.specs.Prelude.{◌≡◌, ℕ, ◌+◌, Bool, true, not, ◌&&◌, IsTrue, if◌then◌else◌, List, [], ◌∷◌, ◌++◌, Option, Some, None, find}
-use Rattle.std.specs.List.{list_all}
+use Rattle.std.specs.Prelude.{ℕ, ◌+◌, Bool, if◌then◌else◌, List, [], ◌∷◌, ◌++◌, Option, Some, None, find}
 use Rattle.std.specs.Option.{option_map, option_or}
 
 -- an answer, where a condition holds
@@ -29,11 +28,6 @@ numbered_from k (x ∷ xs) = record { number = k; what = x } ∷ numbered_from (
 abbrev pub numbered : {A : Type 0} → List A → List (Numbered A)
 numbered xs = numbered_from 1 xs
 
--- no two stand in the relation, a later one to an earlier one
-abbrev pub no_pair : {A : Type 0} → (A → A → Bool) → List A → Bool
-no_pair r [] = true
-no_pair r (x ∷ xs) = list_all (λ y. not (r y x)) xs && no_pair r xs
-
 -- an element, and the earliest one that bars it
 pub record Pair (A : Type 0) : Type 0 where
   pub later : A
@@ -48,13 +42,3 @@ first_pair_behind bars before (x ∷ xs) =
 -- the first element that an earlier one bars, and the earliest one that does
 abbrev pub first_pair : {A : Type 0} → (A → A → Bool) → List A → Option (Pair A)
 first_pair bars xs = first_pair_behind bars [] xs
-
--- p is this pair: no element before p.later is barred by an earlier one, and p.earlier is the first element that bars p.later
-pub record IsFirstPair {A : Type 0} (bars : A → A → Bool) (xs : List A) (p : Pair A) : Type 0 where
-  pub before : List A
-  pub between : List A
-  pub behind : List A
-  pub whole : xs ≡ before ++ (p.earlier ∷ (between ++ (p.later ∷ behind)))
-  pub barred : IsTrue (bars p.later p.earlier)
-  pub earliest : IsTrue (list_all (λ y. not (bars p.later y)) before)
-  pub first : IsTrue (no_pair bars (before ++ (p.earlier ∷ between)))

@@ -3,7 +3,8 @@ use Rattle.std.proofs.Common.{◌≡◌, ℕ, ◌+◌, Bool, true, false, cond, 
 use Rattle.std.proofs.lemmas.Bool.{and_parts}
 use Rattle.std.proofs.lemmas.List.Folds.{list_all-append}
 use Rattle.std.specs.List.{list_all, find}
-use Rattle.text_core.specs.Firsts.{first_pair, first_pair_behind, no_pair, Numbered, Pair, numbered_from, where_holds}
+use Rattle.text_core.specs.Firsts.{first_pair, first_pair_behind, Numbered, Pair, numbered_from, where_holds}
+use Rattle.text_core.specs.Pairs.{no_pair}
 use Rattle.std.specs.Option.{option_or}
 
 pub neither : {A : Type 0} (o p : Option A) → option_or o p ≡ None → (o ≡ None) × (p ≡ None)

@@ -3,7 +3,7 @@ pub mod DecimalLaws
 pub mod FirstPairLaws
 pub mod Firsts
 pub mod FirstsLaws
-pub mod FirstsSeen
+pub mod FirstsView
 pub mod Line
 pub mod LineLaws
 pub mod Lines
@@ -11,6 +11,7 @@ pub mod LinesLaws
 pub mod Name
 pub mod Padded
 pub mod PairLaws
+pub mod Pairs
 pub mod Pieces
 pub mod PiecesLaws
 pub mod Reading

@@ -3,7 +3,7 @@ use Rattle.std.proofs.Common.{◌≡◌, Bool, true, not, ◌&&◌, List, [], �
 use Rattle.std.proofs.lemmas.Bool.{and_from, and_parts}
 use Rattle.std.proofs.lemmas.List.Folds.{list_all-append, list_all-map}
 use Rattle.std.specs.List.{list_all}
-use Rattle.text_core.specs.Firsts.{no_pair}
+use Rattle.text_core.specs.Pairs.{no_pair}
 
 -- a list with one more element at its end has no pair, where the element makes none
 pub no_pair-push : {A : Type 0} (r : A → A → Bool) (xs : List A) (y : A) → no_pair r xs ≡ true → list_all (λ x. not (r y x)) xs ≡ true → no_pair r (xs ++ y ∷ []) ≡ true

@@ -1,7 +1,8 @@
 //! Which addresses a prefix covers.
 
 ghost use Rattle.std.specs.Prelude.{◌≡◌, ◌-◌, ◌^◌, ◌≤◌, ◌↔◌, IsTrue, IsSome, IfSome};
-ghost use Rattle.host_net.specs.Prefix.{front, covers, first_address, last_address, is_exact, meets, ShareAddress};
+ghost use Rattle.host_net.specs.Prefix.{front, covers, is_exact, meets};
+ghost use Rattle.host_net.specs.PrefixView.{first_address, last_address, ShareAddress};
 
 use crate::prefix::Prefix;
 
@@ -50,7 +51,7 @@ impl Prefix {
     }
 
     /// The first address that the prefix covers.
-    #[tactic(auto, unfolding(crate::specs::Prefix::first_address))]
+    #[tactic(auto, unfolding(crate::specs::PrefixView::first_address))]
     pub fn first(&self) -> u32
         ensures { result ≡ first_address self.now }
     {
@@ -58,7 +59,7 @@ impl Prefix {
     }
 
     /// The last address that the prefix covers.
-    #[tactic(auto, using(crate::specs::PrefixLaws::last_address_fits), unfolding(crate::specs::Prefix::first_address, crate::specs::Prefix::last_address))]
+    #[tactic(auto, using(crate::specs::PrefixLaws::last_address_fits), unfolding(crate::specs::PrefixView::first_address, crate::specs::PrefixView::last_address))]
     pub fn last(&self) -> u32
         ensures { result ≡ last_address self.now }
     {

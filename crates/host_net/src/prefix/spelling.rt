@@ -1,7 +1,8 @@
 //! Reading the text of a prefix, `a.b.c.d/len`.
 
 ghost use Rattle.std.specs.Prelude.{◌≡◌, ℕ, ◌<◌, ◌≤◌, ◌+◌, ◌*◌, ◌^◌, Some, IfSome};
-ghost use Rattle.host_net.specs.Prefix.{address_of, address_text, prefix_of, prefix_with, IsSpelling};
+ghost use Rattle.host_net.specs.Prefix.{address_of, address_text, prefix_of, prefix_with};
+ghost use Rattle.host_net.specs.PrefixView.{IsSpelling};
 ghost use Rattle.host_net.specs.declared.prefix.Prefix.{Prefix};
 
 use crate::prefix::Prefix;

@@ -1,6 +1,6 @@
 use Rattle.std.proofs.Common.{List, ℕ, sym, subst}
-use Rattle.edge_io.specs.Put.{TookPrefix}
-use Rattle.edge_io.proofs.PutLemmas.{TookPrefix-after}
+use Rattle.edge_io.specs.Told.{TookPrefix}
+use Rattle.edge_io.specs.PutLaws.{TookPrefix-after}
 use Rattle.edge_io.proofs.Pieces.{joined_at}
 use Rattle.edge_io.proofs.put.put_pieces.Goals as goal
 

@@ -2,7 +2,8 @@ use Rattle.std.proofs.Common.{◌≡◌, List, [], ◌∷◌, ◌++◌, sym, ◌
 use Rattle.std.proofs.lemmas.Bool.{both_ways}
 use Rattle.flow_set.specs.declared.flow.Flow.{Flow}
 use Rattle.flow_set.specs.Flow.{IsFlow}
-use Rattle.flow_set.specs.FlowSet.{SetOfFlows, IsFlowSet, with_flow}
+use Rattle.flow_set.specs.FlowSet.{SetOfFlows, with_flow}
+use Rattle.flow_set.specs.FlowSetView.{IsFlowSet}
 use Rattle.flow_set.specs.Conditions.{IsFirst}
 use Rattle.flow_set.specs.WalkLaws.{walk_next}
 use Rattle.first_core.specs.FirstLaws.{first_of_nothing, first_kept, first_left}

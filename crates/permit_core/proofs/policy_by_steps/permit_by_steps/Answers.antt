@@ -1,5 +1,5 @@
 use Rattle.std.proofs.Common.{get_or, subst}
-use Rattle.flow_set.specs.Conditions.{IsEdgeWise}
+use Rattle.flow_set.specs.Downward.{IsEdgeWise}
 use Rattle.permit_core.specs.Policy.{AllHold}
 use Rattle.permit_core.specs.PolicyLaws.{AllHold-edge_wise}
 use Rattle.permit_core.proofs.Found.{greatest_found}

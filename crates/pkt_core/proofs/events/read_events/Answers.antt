@@ -8,10 +8,11 @@ use Rattle.pkt_core.specs.declared.events.EventWhy.{EventWhy}
 use Rattle.pkt_core.specs.declared.events.EventWhy.TheVariants.{TooLong}
 use Rattle.pkt_core.specs.declared.events.EventFault.{EventFault}
 use Rattle.pkt_core.specs.declared.events.EventFault.TheVariants.{Refused, Memory}
-use Rattle.pkt_core.specs.EventsText.{IsReading, IsRefused, IsFault, HasCause, Tells, event_step, too_long, at_line}
+use Rattle.pkt_core.specs.EventsText.{IsReading, IsRefused, event_step, too_long, at_line}
+use Rattle.pkt_core.specs.EventsAnswers.{IsFault, HasCause, Tells}
 use Rattle.pkt_core.specs.Filter.{ArePackets}
 use Rattle.pkt_core.specs.ReadEventLaws.{packets_read}
-use Rattle.pkt_core.proofs.EventsTextLaws.{is_reading, reading_is}
+use Rattle.pkt_core.specs.EventsTextLaws.{is_reading, reading_is}
 use Rattle.pkt_core.proofs.events.read_events.Goals as goal
 
 found : {V : Type 0} (items : V → List Event) (bytes : List ℕ) (r : Result V EventFault) → length bytes ≤ 16777216 → IfOk r (λ v. line_by_line event_step 1 [] (lines bytes) ≡ Ok (items v)) → IfOk r (λ v. IsReading bytes (items v))
@@ -48,15 +49,15 @@ faulty items bytes (Ok v) line why read tells fault = cc
 faulty items bytes (Err (Refused told cause)) line why read tells fault = same_pair told line cause why (sym tells ∙ fault)
 faulty items bytes (Err Memory) line why read tells fault = tt
 
-pub returns-then-bytes-gt-BYTE_LIMIT-clause-faulty : goal.returns-then-bytes-gt-BYTE_LIMIT-clause-faulty
-returns-then-bytes-gt-BYTE_LIMIT-clause-faulty c = λ line why fault. long_fault c.args.bytes.now line why (omega arith) fault
+pub returns-then-bytes-gt-EVENTS_BYTE_LIMIT-clause-faulty : goal.returns-then-bytes-gt-EVENTS_BYTE_LIMIT-clause-faulty
+returns-then-bytes-gt-EVENTS_BYTE_LIMIT-clause-faulty c = λ line why fault. long_fault c.args.bytes.now line why (omega arith) fault
 
 pub returns-clause-faulty : goal.returns-clause-faulty
 returns-clause-faulty c = λ line why fault.
     faulty (λ v. v.items) c.args.bytes.now c.read_lines.result line why c.read_lines.ensures.ok c.read_lines.ensures.err (line_fault c.args.bytes.now line why (omega arith) fault)
 
-pub returns-then-bytes-gt-BYTE_LIMIT-clause-refused : goal.returns-then-bytes-gt-BYTE_LIMIT-clause-refused
-returns-then-bytes-gt-BYTE_LIMIT-clause-refused c = too_long (omega arith)
+pub returns-then-bytes-gt-EVENTS_BYTE_LIMIT-clause-refused : goal.returns-then-bytes-gt-EVENTS_BYTE_LIMIT-clause-refused
+returns-then-bytes-gt-EVENTS_BYTE_LIMIT-clause-refused c = too_long (omega arith)
 
 pub returns-clause-found : goal.returns-clause-found
 returns-clause-found c = found (λ v. v.items) c.args.bytes.now c.read_lines.result (omega arith) c.read_lines.ensures.ok

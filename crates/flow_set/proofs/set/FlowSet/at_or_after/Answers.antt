@@ -1,9 +1,11 @@
 use Rattle.std.proofs.Common.{◌≡◌, ◌<◌, ◌+◌, List, length, sym, ◌∙◌, ap, subst, arith}
 use Rattle.std.specs.FinSet as set
 use Rattle.flow_set.specs.declared.flow.Flow.{Flow}
-use Rattle.flow_set.specs.FlowSet.{SetOfFlows, first_from}
+use Rattle.flow_set.specs.FlowSet.{SetOfFlows}
+use Rattle.flow_set.specs.FlowSetView.{first_from}
 use Rattle.flow_set.specs.BitRows.{row_of, flows_of, IsAsFar}
-use Rattle.host_set.specs.HostSet.{Hosts, HasNone, IsFirstAfter}
+use Rattle.host_set.specs.HostSet.{HostNumbers}
+use Rattle.host_set.specs.Calls.{HasNone, IsFirstAfter}
 use Rattle.flow_set.proofs.BitRows.{row_read}
 use Rattle.flow_set.proofs.Onward.{found_in_row, as_far_more, none_in_rows}
 use Rattle.flow_set.proofs.set.FlowSet.at_or_after.Goals as goal
@@ -19,7 +21,7 @@ returns-in-Some-clause-flow c =
     let far : IsAsFar (flows_of rows n) p (record { from = sender; to = start }) = subst (λ (fs : List Flow). IsAsFar fs p (record { from = sender; to = start })) (sym flows) c.loop-sender.invariant in
     let within : sender < length rows = omega (arith, c.loop-sender-test.true, c.size-size.ensures.size, c.self.invariant.counted, ap (λ (s : SetOfFlows). s.size) c.self.view_is) in
     let row : c.index.result.now ≡ row_of rows sender = row_read rows sender c.index.result.now within c.index.ensures in
-    let is : IsFirstAfter (set.contains (row_of rows sender)) start c.in-Some.receiver = subst (λ (s : Hosts). IsFirstAfter (set.contains s) start c.in-Some.receiver) row c.in-Some.ensures in
+    let is : IsFirstAfter (set.contains (row_of rows sender)) start c.in-Some.receiver = subst (λ (s : HostNumbers). IsFirstAfter (set.contains s) start c.in-Some.receiver) row c.in-Some.ensures in
     sym (found_in_row n rows p sender start c.in-Some.receiver c.self.invariant far is) ∙ ap (λ (fs : List Flow). first_from fs p) flows
 
 pub loop-sender-preserved : goal.loop-sender-preserved
@@ -33,7 +35,7 @@ loop-sender-preserved c =
     let far : IsAsFar (flows_of rows n) p (record { from = sender; to = start }) = subst (λ (fs : List Flow). IsAsFar fs p (record { from = sender; to = start })) (sym flows) c.loop-sender.invariant in
     let within : sender < length rows = omega (arith, c.loop-sender-test.true, c.size-size.ensures.size, c.self.invariant.counted, ap (λ (s : SetOfFlows). s.size) c.self.view_is) in
     let row : c.index.result.now ≡ row_of rows sender = row_read rows sender c.index.result.now within c.index.ensures in
-    let none : HasNone (set.contains (row_of rows sender)) start 256 = subst (λ (s : Hosts). HasNone (set.contains s) start 256) row c.in_default.ensures in
+    let none : HasNone (set.contains (row_of rows sender)) start 256 = subst (λ (s : HostNumbers). HasNone (set.contains s) start 256) row c.in_default.ensures in
     subst (λ (fs : List Flow). IsAsFar fs p (record { from = sender + 1; to = 0 })) flows (as_far_more n rows p sender start c.self.invariant far none)
 
 pub returns-clause-flow : goal.returns-clause-flow

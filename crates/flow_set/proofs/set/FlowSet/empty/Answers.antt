@@ -2,7 +2,7 @@ use Rattle.std.proofs.Common.{◌≡◌, List, replicate, [], refl, sym, ◌∙�
 use Rattle.std.specs.FinSet as set
 use Rattle.flow_set.specs.BitRows.{AreRows, flows_of}
 use Rattle.flow_set.specs.FlowLaws.{set_ext}
-use Rattle.host_set.specs.HostSet.{Hosts}
+use Rattle.host_set.specs.HostSet.{HostNumbers}
 use Rattle.flow_set.proofs.BitRows.{AreRows-nothing, flows_of-nothing}
 use Rattle.flow_set.proofs.set.FlowSet.empty.Goals as goal
 
@@ -17,4 +17,4 @@ returns c =
     let all : c.loop.counter ≡ c.args.size = omega arith in
     let rows : c.loop.rows.items ≡ replicate c.args.size set.empty = c.loop.invariant ∙ ap (λ n. replicate n set.empty) all in
     set_ext (record { size = c.args.size; flows = flows_of c.loop.rows.items c.args.size }) (record { size = c.args.size; flows = [] }) refl
-    (ap (λ (rs : List Hosts). flows_of rs c.args.size) rows ∙ flows_of-nothing c.args.size c.requires)
+    (ap (λ (rs : List HostNumbers). flows_of rs c.args.size) rows ∙ flows_of-nothing c.args.size c.requires)

@@ -2,10 +2,11 @@ use Rattle.std.proofs.Common.{◌≡◌, ◌<◌, length, refl, sym, ◌∙◌, 
 use Rattle.std.specs.Prelude.{slice_set}
 use Rattle.std.specs.FinSet as set
 use Rattle.flow_set.specs.Flow.{IsFlow}
-use Rattle.flow_set.specs.FlowSet.{SetOfFlows, without_flow}
+use Rattle.flow_set.specs.FlowSet.{SetOfFlows}
+use Rattle.flow_set.specs.FlowSetView.{without_flow}
 use Rattle.flow_set.specs.FlowLaws.{set_ext, without_flow_absent}
 use Rattle.flow_set.specs.BitRows.{row_of, flows_of, AreRows}
-use Rattle.host_set.specs.HostSet.{Hosts}
+use Rattle.host_set.specs.HostSet.{HostNumbers}
 use Rattle.flow_set.proofs.BitRows.{AreRows-remove, flows_of-remove, row_read}
 use Rattle.flow_set.proofs.set.FlowSet.remove.Goals as goal
 
@@ -16,8 +17,8 @@ invariant_of-self c =
     let is_flow : IsFlow n c.args.f = subst (λ (s : SetOfFlows). IsFlow s.size c.args.f) (sym c.self.view_is) c.requires in
     let within : c.args.f.from < length rows = omega (arith, is_flow.0, c.self.invariant.counted) in
     let row : c.remove.new.self ≡ set.remove (row_of rows c.args.f.from) c.args.f.to =
-    c.remove.ensures ∙ ap (λ (s : Hosts). set.remove s c.args.f.to) (row_read rows c.args.f.from c.index_mut-row.result.now within c.index_mut-row.ensures.value) in
-    subst (λ (r : Hosts). AreRows n (slice_set rows c.args.f.from r)) (sym row) (AreRows-remove n rows c.args.f c.self.invariant is_flow)
+    c.remove.ensures ∙ ap (λ (s : HostNumbers). set.remove s c.args.f.to) (row_read rows c.args.f.from c.index_mut-row.result.now within c.index_mut-row.ensures.value) in
+    subst (λ (r : HostNumbers). AreRows n (slice_set rows c.args.f.from r)) (sym row) (AreRows-remove n rows c.args.f c.self.invariant is_flow)
 
 pub returns-clause-set : goal.returns-clause-set
 returns-clause-set c =
@@ -26,10 +27,10 @@ returns-clause-set c =
     let is_flow : IsFlow n c.args.f = subst (λ (s : SetOfFlows). IsFlow s.size c.args.f) (sym c.self.view_is) c.requires in
     let within : c.args.f.from < length rows = omega (arith, is_flow.0, c.self.invariant.counted) in
     let row : c.remove.new.self ≡ set.remove (row_of rows c.args.f.from) c.args.f.to =
-    c.remove.ensures ∙ ap (λ (s : Hosts). set.remove s c.args.f.to) (row_read rows c.args.f.from c.index_mut-row.result.now within c.index_mut-row.ensures.value) in
+    c.remove.ensures ∙ ap (λ (s : HostNumbers). set.remove s c.args.f.to) (row_read rows c.args.f.from c.index_mut-row.result.now within c.index_mut-row.ensures.value) in
     set_ext (record { size = n; flows = flows_of (slice_set rows c.args.f.from c.remove.new.self) n }) (record { size = c.args.self.now.size; flows = without_flow c.args.self.now.flows c.args.f })
     (ap (λ (s : SetOfFlows). s.size) c.self.view_is)
-    (ap (λ (r : Hosts). flows_of (slice_set rows c.args.f.from r) n) row
+    (ap (λ (r : HostNumbers). flows_of (slice_set rows c.args.f.from r) n) row
     ∙ flows_of-remove n rows c.args.f c.self.invariant is_flow
     ∙ ap (λ (s : SetOfFlows). without_flow s.flows c.args.f) c.self.view_is)
 

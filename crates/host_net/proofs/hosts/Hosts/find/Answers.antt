@@ -11,4 +11,4 @@ returns-in-Some c =
 pub returns-in-None : goal.returns-in-None
 returns-in-None c =
     let bad = name_missing c.args.name.now c.new.result c.new.ensures c.in-None.is in
-    rw (← c.self.view_is) (sym (unnamed c.args.name.now (hosts_view c.self.inside.known.entries) 0 bad c.self.invariant.named))
+    rw (← c.self.view_is) (sym (unnamed c.args.name.now (hosts_view c.self.inside.known.entries) 0 bad c.self.invariant.0.named))

@@ -1,19 +1,17 @@
-use Rattle.std.proofs.Common.{◌≡◌, refl, ◌∙◌}
+use Rattle.std.proofs.Common.{◌≡◌, ◌∙◌}
 use Rattle.std.specs.Option.{option_or}
-use Rattle.host_net.specs.Host.{covers_any, holder_of, owner_of}
+use Rattle.host_net.specs.Host.{holder_of, owner_of}
 use Rattle.host_net.specs.Hosts.{IsHosts}
 use Rattle.host_net.specs.OwnerLaws.{owner_of_covered, owner_of_uncovered}
-use Rattle.host_net.proofs.HostsLemmas.{value_place}
 use Rattle.host_net.proofs.hosts.Hosts.owner.Goals as goal
 
 pub returns : goal.returns
 unfolding owner_of
 returns c =
-    let held : c.number.result ≡ holder_of c.args.self.now c.args.addr =
-    rw (← c.self.view_is, c.number.ensures, c.holder.ensures, c.as_slice.ensures, c.values.ensures.rest)
-    (value_place (λ h. covers_any h.prefixes c.args.addr) (λ d. covers_any d.prefixes.items c.args.addr) (λ e. refl) c.self.inside.known.entries) in
+    let held : c.holder.result ≡ holder_of c.args.self.now c.args.addr =
+    rw (← c.self.view_is, c.holder.ensures, c.deref.ensures.value) (c.self.invariant.1.held c.args.addr) in
     let exact : c.or.result ≡ owner_of c.args.self.now c.args.addr = c.or.ensures ∙ (λ i. option_or (held i) (c.rest.ensures i)) in
-    let known : IsHosts c.args.self.now = rw c.self.view_is at c.self.invariant in
+    let known : IsHosts c.args.self.now = rw c.self.view_is at c.self.invariant.0 in
     record {
       exact = exact;
       sole = λ host h there own. exact ∙ owner_of_covered c.args.self.now host h c.args.addr known there own;

@@ -2,9 +2,10 @@ use Rattle.std.proofs.Common.{◌≡◌, ℕ, List, [], ◌∷◌, ◌++◌, len
 use Rattle.std.specs.FinSet as set
 use Rattle.flow_set.specs.declared.flow.Flow.{Flow}
 use Rattle.flow_set.specs.Flow.{IsFlow, back_of}
-use Rattle.flow_set.specs.FlowSet.{IsFlowSet, IsOrdered}
+use Rattle.flow_set.specs.FlowSet.{IsOrdered}
+use Rattle.flow_set.specs.FlowSetView.{IsFlowSet}
 use Rattle.flow_set.specs.WalkLaws.{walk_next, walk_member}
-use Rattle.host_set.specs.HostSet.{Hosts}
+use Rattle.host_set.specs.HostSet.{HostNumbers}
 use Rattle.reach_core.specs.Rows.{HasRows, OpensFlow}
 use Rattle.reach_core.proofs.Closes.{HasRows-nothing, HasRows-with_flow, IsClosed-reached, IsClosed-joined, IsClosed-halfway}
 use Rattle.reach_core.proofs.Lasts.{with_flow-last}
@@ -15,7 +16,7 @@ is_flow : (n : ℕ) (yielded left rest whole : List Flow) (f : Flow) → IsFlowS
 is_flow n yielded left rest whole f is_set walk next = is_set.flows f (walk_member yielded left rest whole f walk next)
 
 -- and so between those that have rows
-has_rows : (n : ℕ) (rows : List Hosts) (f : Flow) → length rows ≡ n → IsFlow n f → IsFlow (length rows) f
+has_rows : (n : ℕ) (rows : List HostNumbers) (f : Flow) → length rows ≡ n → IsFlow n f → IsFlow (length rows) f
 has_rows n rows f all flow = subst (λ m. IsFlow m f) (sym all) flow
 
 back : (n : ℕ) (f : Flow) → IsFlow n f → IsFlow n (back_of f)

@@ -1,12 +1,7 @@
--- The set of some flows that are listed.
+-- Lists of flows that list none twice.
 use Rattle.std.specs.Prelude.{List, [], ◌∷◌, IsFalse}
-use Rattle.std.specs.List.{fold}
 use Rattle.flow_set.specs.declared.flow.Flow.{Flow}
-use Rattle.flow_set.specs.FlowSet.{has, with_flow}
-
--- the set of the listed flows
-unfoldable pub set_of : List Flow → List Flow
-set_of listed = fold with_flow [] listed
+use Rattle.flow_set.specs.FlowSet.{has}
 
 -- no flow is listed twice
 abbrev pub AreDifferent : List Flow → Type 0

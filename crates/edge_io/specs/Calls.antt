@@ -1,0 +1,24 @@
+-- What single calls of a shelf or a sink do: the fault that one counts, the file that one opens, the pieces that one puts.
+use Rattle.std.specs.Prelude.{◌≡◌, ℕ, Result, is_err, if◌then◌else◌, Option, List, IsSome, IfSome}
+use Rattle.edge_io.specs.Counts.{more}
+use Rattle.std.specs.Option.{option_and_then}
+use Rattle.std.specs.FinMap.{get}
+use Rattle.edge_io.specs.Told.{Files}
+use Rattle.std.specs.List.{flat_map}
+use Rattle.std.specs.Borrow.{Bor}
+
+-- a call that failed counts one fault, and any other none
+abbrev pub CountsFault : {T E : Type 0} → Result T E → ℕ → ℕ → Type 0
+CountsFault result before now = now ≡ (if is_err result then more before 1 else before)
+
+-- the bytes of the file of that name, where the shelf tells its files and has it
+abbrev pub file_told : Option Files → List ℕ → Option (List ℕ)
+file_told told name = option_and_then (λ files. get files name) told
+
+-- a shelf that tells its files has one of that name
+abbrev pub HasIfTold : Option Files → List ℕ → Type 0
+HasIfTold told name = IfSome told (λ files. IsSome (get files name))
+
+-- the bytes of the pieces, one piece after the other
+abbrev pub joined : List (Bor (List ℕ)) → List ℕ
+joined pieces = flat_map (λ piece. piece.now) pieces

@@ -1,0 +1,67 @@
+-- The ranges that are kept stay those of the hosts, with one more host that there was no cause to refuse.
+use Rattle.std.proofs.Common.{◌≡◌, ℕ, ◌+◌, Bool, true, false, cond, List, [], ◌∷◌, ◌++◌, length, Option, Some, None, refl, sym, ap, ◌∙◌, arith}
+use Rattle.std.specs.Option.{option_or}
+use Rattle.text_core.specs.Pairs.{no_pair}
+use Rattle.text_core.specs.PairLaws.{no_pair-behind}
+use Rattle.host_net.proofs.HostsKept.{still_apart, welcome}
+use Rattle.host_net.proofs.OverlapLemmas.{position_from-push}
+use Rattle.host_net.proofs.RangesLemmas.{IsHeldWith}
+use Rattle.host_net.specs.Host.{Host, covers_any, holder_of}
+use Rattle.host_net.specs.Hosts.{all_prefixes, IsHosts}
+use Rattle.host_net.specs.OwnerLaws.{not_held, parts_apart}
+use Rattle.host_net.specs.Prefix.{meets}
+use Rattle.host_net.specs.Ranges.{AreRanges, holder_among, is_ordered}
+use Rattle.host_net.specs.Refusal.{refusal_of}
+use Rattle.host_net.specs.declared.prefix.Prefix.{Prefix}
+use Rattle.host_net.specs.declared.ranges.Range.{Range}
+
+all_apart : (hs : List Host) (name : List ℕ) (at : List Prefix) (rest : Bool) → IsHosts hs → refusal_of hs name at rest ≡ None
+    → no_pair meets (all_prefixes hs ++ at) ≡ true
+all_apart hs name at rest known none = still_apart hs at (welcome hs name at rest none).apart known.apart
+
+-- the new prefixes are apart, and cover no address that has a host
+pub new_apart : (hs : List Host) (name : List ℕ) (at : List Prefix) (rest : Bool) → IsHosts hs → refusal_of hs name at rest ≡ None
+    → no_pair meets at ≡ true
+new_apart hs name at rest known none = no_pair-behind meets (all_prefixes hs) at (all_apart hs name at rest known none)
+
+never : (b : Bool) → (b ≡ true → ⊥) → b ≡ false
+never true wrong = absurd (wrong refl)
+never false wrong = refl
+
+pub new_free : (hs : List Host) (name : List ℕ) (at : List Prefix) (rest : Bool) → IsHosts hs → refusal_of hs name at rest ≡ None
+    → (a : ℕ) → covers_any at a ≡ true → holder_of hs a ≡ None
+new_free hs name at rest known none a covered =
+    not_held hs 0 a (never (covers_any (all_prefixes hs) a)
+    (λ held. parts_apart a (all_prefixes hs) at (all_apart hs name at rest known none) held covered))
+
+one_holder : (covered : Bool) (o : Option ℕ) (n : ℕ) → (covered ≡ true → o ≡ None)
+    → cond covered (Some n) o ≡ option_or o (cond covered (Some n) None)
+one_holder true o n free = sym (ap (λ q. option_or q (Some n)) (free refl))
+one_holder false None n free = refl
+one_holder false (Some m) n free = refl
+
+holder_pushed : (hs : List Host) (h : Host) (a : ℕ)
+    → holder_of (hs ++ h ∷ []) a ≡ option_or (holder_of hs a) (cond (covers_any h.prefixes a) (Some (length hs)) None)
+holder_pushed hs h a =
+    let place : 0 + length hs ≡ length hs = omega arith in
+    position_from-push (λ (g : Host). covers_any g.prefixes a) 0 hs h
+    ∙ ap (λ n. option_or (holder_of hs a) (cond (covers_any h.prefixes a) (Some n) None)) place
+
+pub ranges_kept : (hs : List Host) (rs new : List Range) (name : List ℕ) (at : List Prefix) (rest : Bool) (host : ℕ) → IsHosts hs
+    → AreRanges hs rs
+    → refusal_of hs name at rest ≡ None → host ≡ length hs → is_ordered new ≡ true → IsHeldWith rs at host new
+    → AreRanges (hs ++ record { name = name; prefixes = at; rest = rest } ∷ []) new
+ranges_kept hs rs new name at rest host known kept none number ordered held =
+    record {
+      ordered = ordered;
+      held = λ a.
+          held a
+          ∙ (λ i. cond (covers_any at a) (Some (number i)) (kept.held a i))
+          ∙ one_holder (covers_any at a) (holder_of hs a) (length hs) (new_free hs name at rest known none a)
+          ∙ sym (holder_pushed hs (record { name = name; prefixes = at; rest = rest }) a);
+    }
+
+pub ranges_free : (hs : List Host) (rs : List Range) (name : List ℕ) (at : List Prefix) (rest : Bool) → IsHosts hs → AreRanges hs rs
+    → refusal_of hs name at rest ≡ None
+    → (a : ℕ) → covers_any at a ≡ true → holder_among rs a ≡ None
+ranges_free hs rs name at rest known kept none a covered = kept.held a ∙ new_free hs name at rest known none a covered

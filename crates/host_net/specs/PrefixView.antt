@@ -1,0 +1,19 @@
+-- The ends of a prefix, the addresses that two have in common, and the texts that stand for one.
+use Rattle.std.specs.Prelude.{◌≡◌, ℕ, ◌+◌, ◌*◌, ◌^◌, ◌-◌, ◌<◌, IsTrue, List, ◌⊎◌}
+use Rattle.host_net.specs.declared.prefix.Prefix.{Prefix}
+use Rattle.host_net.specs.Prefix.{front, covers, address_text, prefix_text}
+
+-- the first and the last address that a prefix covers: its first `len` bits, and 0 or 1 in all places after them
+unfoldable pub first_address : Prefix → ℕ
+first_address p = front p.len p.addr * 2 ^ (32 - p.len)
+
+unfoldable pub last_address : Prefix → ℕ
+last_address p = front p.len p.addr * 2 ^ (32 - p.len) + (2 ^ (32 - p.len) - 1)
+
+-- some address is covered by both
+abbrev pub ShareAddress : Prefix → Prefix → Type 0
+ShareAddress p q = (a : ℕ) × (a < 2 ^ 32) × IsTrue (covers p a) × IsTrue (covers q a)
+
+-- the texts that stand for a prefix: the written one, and the bare address where all bits count
+abbrev pub IsSpelling : List ℕ → Prefix → Type 0
+IsSpelling text p = (text ≡ prefix_text p) ⊎ ((p.len ≡ 32) × (text ≡ address_text p.addr))

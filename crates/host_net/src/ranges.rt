@@ -1,0 +1,87 @@
+//! The addresses of the hosts as ranges in order, among which the owner of an address is found by
+//! halving.
+
+ghost use Rattle.std.specs.Prelude.{◌≡◌, ℕ, ◌≤◌, ◌<◌, IsTrue, IfOk, OnOk, Some, None, length, take, drop, nat_le, nat_lt, if◌then◌else◌};
+ghost use Rattle.std.specs.List.{list_all};
+ghost use Rattle.text_core.specs.Pairs.{no_pair};
+ghost use Rattle.host_net.specs.Host.{covers_any};
+ghost use Rattle.host_net.specs.Prefix.{covers, meets};
+ghost use Rattle.host_net.specs.Ranges.{holder_among, holds, is_ordered};
+
+use crate::prefix::Prefix;
+use std::alloc::{AllocError, Global};
+
+/// The addresses from the first to the last, and the number of their host.
+#[derive(Clone, Copy)]
+pub struct Range {
+    pub first: u32,
+    pub last: u32,
+    pub host: u16,
+}
+
+/// The host of the range in which the address lies.
+pub fn holder(ranges: &[Range], addr: u32) -> Option<u16>
+    requires { IsTrue (is_ordered ranges.now) }
+    ensures { result ≡ holder_among ranges.now addr }
+{
+    match ranges[..begun(ranges, addr)].last() {
+        Some(range) if addr <= range.last => Some(range.host),
+        _ => None,
+    }
+}
+
+/// The ranges with those of one more host, whose prefixes are `at`.
+pub fn with_host(
+    alloc: Global,
+    ranges: &[Range],
+    at: &[Prefix],
+    host: u16,
+) -> Result<Vec<Range>, AllocError>
+    requires ordered { IsTrue (is_ordered ranges.now) }
+    requires apart { IsTrue (no_pair meets at.now) }
+    requires free { (a : ℕ) → IsTrue (covers_any at.now a) → holder_among ranges.now a ≡ None }
+    ensures ordered { IfOk result (λ all. IsTrue (is_ordered all.items)) }
+    ensures held { IfOk result (λ all. (a : ℕ) → holder_among all.items a ≡ (if covers_any at.now a then Some host else holder_among ranges.now a)) }
+{
+    let mut all = Vec::from_slice(alloc, ranges)?;
+    for prefix in at {
+        put(&mut all, covered(prefix, host))?;
+    }
+    Ok(all)
+}
+
+/// The addresses that the prefix covers.
+fn covered(prefix: &Prefix, host: u16) -> Range
+    ensures some { result.first ≤ result.last }
+    ensures held { (a : ℕ) → holds result a ≡ covers prefix.now a }
+    ensures host { result.host ≡ host }
+{
+    Range {
+        first: prefix.first(),
+        last: prefix.last(),
+        host,
+    }
+}
+
+/// Puts a range in its place among the others.
+fn put(ranges: &mut Vec<Range>, range: Range) -> Result<(), AllocError>
+    requires ordered { IsTrue (is_ordered ranges.old.items) }
+    requires some { range.first ≤ range.last }
+    requires free { (a : ℕ) → IsTrue (holds range a) → holder_among ranges.old.items a ≡ None }
+    ensures ordered { OnOk result (IsTrue (is_ordered ranges.new.items)) }
+    ensures held { OnOk result ((a : ℕ) → holder_among ranges.new.items a ≡ (if holds range a then Some range.host else holder_among ranges.old.items a)) }
+{
+    let place = begun(ranges, range.first);
+    ranges.insert(place, range)?;
+    Ok(())
+}
+
+/// How many of the ranges begin at the address or before it.
+fn begun(ranges: &[Range], addr: u32) -> usize
+    requires { IsTrue (is_ordered ranges.now) }
+    ensures bound { result ≤ length ranges.now }
+    ensures before { IsTrue (list_all (λ r. nat_le r.first addr) (take result ranges.now)) }
+    ensures behind { IsTrue (list_all (λ r. nat_lt addr r.first) (drop result ranges.now)) }
+{
+    ranges.partition_point(|range| range.first <= addr)
+}
