@@ -1,2 +1,3 @@
 pub mod AtHost
 pub mod PeersWalk
+mod OneOfShapes

@@ -7,7 +7,7 @@ use Rattle.std.specs.List.{fold}
 use Rattle.std.specs.Ordering.{nat_cmp}
 use Rattle.toml.specs.Data.{Data}
 use Rattle.host_net.specs.Host.{Host}
-use Rattle.host_set.specs.HostSet.{Hosts}
+use Rattle.host_set.specs.HostSet.{HostNumbers as Hosts}
 use Rattle.table_core.specs.Listing.{each, grow}
 use Rattle.table_core.specs.ListingLaws.{grow_each}
 use Rattle.attr_core.specs.NoReach.{all_denied}

@@ -1,14 +1,26 @@
 -- Bell-LaPadula: `level`, a whole number to 65,535, is 0 where it is absent; `trusted` is false.
 -- The keys of an assign of this template: docs/FORMATS.md.
-use Rattle.std.specs.Prelude.{false, [], ◌∷◌, Option, Some, None, codes, if◌then◌else◌}
-use Rattle.toml.specs.Data.{Members}
-use Rattle.text_core.specs.Steps.{◌>>=◌}
-use Rattle.table_core.specs.Tables.{has_only, number_or, boolean_or}
+use Rattle.std.specs.Prelude.{false, List, [], ◌∷◌, codes, unwrap_or}
+use Rattle.inv_any.specs.declared.any_inv.AnyInv.TheVariants as any
+use Rattle.table_core.specs.Tables.{boolean_at, number_at}
+use Rattle.tmpl_levels.specs.Blp.{blp}
 use Rattle.tmpl_levels.specs.declared.blp.Clearance.{Clearance}
+use Rattle.toml.specs.Data.{Members}
+use Rattle.attr_core.specs.Alone.{plain}
+use Rattle.attr_core.specs.Forms.{Form}
+use Rattle.table_core.specs.Keys.{Key, Boolean, Number, optional}
+use Rattle.attr_core.specs.Shapes.{host_key}
 
--- the clearance that the table of an assign says
-unfoldable pub blp_attribute : Members → Option Clearance
-blp_attribute table = do
-  level ← number_or 0 65535 (codes "level") table
-  trusted ← boolean_or false (codes "trusted") table
-  if has_only (codes "host" ∷ codes "level" ∷ codes "trusted" ∷ []) table then Some (record { level = level; trusted = trusted }) else None
+abbrev pub blp_keys : List Key
+blp_keys = host_key ∷ optional (codes "level") (Number 65535) ∷ optional (codes "trusted") Boolean ∷ []
+
+-- the clearance that a table says
+unfoldable pub blp_attribute : Members → Clearance
+blp_attribute table = record {
+  level = unwrap_or (number_at 65535 (codes "level") table) 0;
+  trusted = unwrap_or (boolean_at (codes "trusted") table) false;
+}
+
+-- the template in descriptions
+abbrev pub blp_form : Form
+blp_form = plain blp (blp_keys ∷ []) blp_attribute any.Blp

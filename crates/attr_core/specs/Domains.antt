@@ -1,15 +1,26 @@
 -- Domains: `path` is a path of the hierarchy; `trust`, a whole number to 16, is 0 where it is absent.
 -- The keys of an assign of this template: docs/FORMATS.md.
-use Rattle.std.specs.Prelude.{◌&&◌, [], ◌∷◌, Option, Some, None, codes, if◌then◌else◌}
-use Rattle.toml.specs.Data.{Members}
+use Rattle.std.specs.Prelude.{List, [], ◌∷◌, Option, Some, None, option_map, codes, unwrap_or, if◌then◌else◌}
+use Rattle.inv_any.specs.declared.any_inv.AnyInv.TheVariants as any
+use Rattle.table_core.specs.Tables.{number_at, text_at}
 use Rattle.text_core.specs.Steps.{◌>>=◌}
-use Rattle.table_core.specs.Tables.{has_only, number_or, text_at}
-use Rattle.tmpl_domains.specs.Domains.{Place}
+use Rattle.tmpl_domains.specs.Domains.{Place, domains}
 use Rattle.tmpl_domains.specs.Path.{is_path, segments}
+use Rattle.toml.specs.Data.{Members}
+use Rattle.attr_core.specs.Alone.{alone}
+use Rattle.attr_core.specs.Forms.{Form}
+use Rattle.table_core.specs.Keys.{Key, Number, Text, needed, optional}
+use Rattle.attr_core.specs.Shapes.{host_key}
 
--- the place that the table of an assign says
+abbrev pub domains_keys : List Key
+domains_keys = host_key ∷ needed (codes "path") Text ∷ optional (codes "trust") (Number 16) ∷ []
+
+-- the place that a table says, where its path is one
 unfoldable pub domains_attribute : Members → Option Place
 domains_attribute table = do
   path ← text_at (codes "path") table
-  trust ← number_or 0 16 (codes "trust") table
-  if is_path path && has_only (codes "host" ∷ codes "path" ∷ codes "trust" ∷ []) table then Some (record { path = segments path; trust = trust }) else None
+  if is_path path then Some (record { path = segments path; trust = unwrap_or (number_at 16 (codes "trust") table) 0 }) else None
+
+-- the template in descriptions
+abbrev pub domains_form : Form
+domains_form = alone domains (domains_keys ∷ []) (λ hosts host table. option_map Some (domains_attribute table)) any.Domains

@@ -1,11 +1,12 @@
--- Tables that say a kind, by its name, and nothing else of a host.
-use Rattle.std.specs.Prelude.{ℕ, List, [], ◌∷◌, Option, Some, None, codes, if◌then◌else◌}
+-- Tables that say a kind, by one of some words at the key `kind`.
+use Rattle.std.specs.Prelude.{ℕ, List, [], codes, unwrap_or}
 use Rattle.toml.specs.Data.{Members}
-use Rattle.text_core.specs.Steps.{◌>>=◌}
-use Rattle.table_core.specs.Tables.{has_only, text_at}
+use Rattle.table_core.specs.Tables.{text_at}
+use Rattle.table_core.specs.Keys.{Key, OneOf, needed}
 
--- the name of the kind, where the table has no further key
-unfoldable pub kind_alone : Members → Option (List ℕ)
-kind_alone table = do
-  kind ← text_at (codes "kind") table
-  if has_only (codes "host" ∷ codes "kind" ∷ []) table then Some kind else None
+abbrev pub kind_key : List (List ℕ) → Key
+kind_key words = needed (codes "kind") (OneOf words)
+
+-- the word; none at all reads as the empty one
+unfoldable pub kind_of : Members → List ℕ
+kind_of table = unwrap_or (text_at (codes "kind") table) []

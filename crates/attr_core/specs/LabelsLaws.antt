@@ -1,158 +1,242 @@
--- Labels that are numbered as they come have the numbers of their places among all labels of the invariant.
-use Rattle.std.proofs.Common.{◌≡◌, ℕ, ◌+◌, nat_lt, Bool, true, false, List, [], ◌∷◌, ◌++◌, append_assoc, append-nil, length, Option, Some, None, option_map, option_and_then, Ok, refl, sym, ap, ◌∙◌, subst, arith}
+-- Which assigns of `tainting` are bad, in plain words: those of another shape, and those with which the different labels of the invariant so far are more than 64.
+use Rattle.std.proofs.Common.{◌≡◌, ◌≤◌, ◌<◌, ℕ, ◌^◌, bit_or, ◌⊎◌, inl, inr, Bool, true, false, nat_lt, List, [], ◌∷◌, ◌++◌, length, Option, Some, None, option_map, option_and_then, is_some, refl, sym, ap, ◌∙◌, subst, arith}
+use Rattle.std.proofs.lemmas.Bool.Decides.{nat_tests}
+use Rattle.std.proofs.lemmas.List.{length-append}
 use Rattle.std.proofs.lemmas.Option.{option_and_then_some}
-use Rattle.std.proofs.lemmas.Slice.Eq.{bytes_eq-Decides}
-use Rattle.std.specs.List.{position_from}
-use Rattle.std.specs.Prelude.{codes, if◌then◌else◌, slice_set}
+use Rattle.std.specs.List.{fold, position_from}
+use Rattle.std.specs.Prelude.{codes, if◌then◌else◌}
 use Rattle.std.specs.Str.{bytes_eq}
-use Rattle.table_core.specs.Listing.{grow}
-use Rattle.table_core.specs.ListingLaws.{grow_each}
+use Rattle.table_core.specs.Listing.{each, grow}
 use Rattle.table_core.specs.Tables.{list_or_empty}
 use Rattle.toml.specs.Data.{Data, Members}
-use Rattle.attr_core.specs.Assigns.{Given, after, in_turn, with_attribute}
-use Rattle.attr_core.specs.Labels.{and_bit, bits_of, number_in, place_of, tainting_attribute}
-use Rattle.attr_core.specs.Tainting.{Known, LabelSet, Tainted, all_labels, and_label, and_tainted, are_all_said, known_or_new, label_in, labels_at, new_label, numbered}
+use Rattle.attr_core.specs.Assigns.{Given}
+use Rattle.attr_core.specs.Tainting.{Known, LabelSet, Labelled, all_labels, and_label, are_among, known_or_new, label_in, labelled, labels_after, labels_at, labels_behind, new_label, numbered, tainting_reads}
 
--- some labels, and more after them
-abbrev pub Extends : List (List ℕ) → List (List ℕ) → Type 0
-Extends all labels = (more : List (List ℕ)) × (all ≡ labels ++ more)
+-- one label more: a new one stands behind the others
+abbrev pub with_label : List (List ℕ) → List ℕ → List (List ℕ)
+with_label labels label = if is_some (position_from (bytes_eq label) 0 labels) then labels else labels ++ label ∷ []
 
-pub extends_self : (labels : List (List ℕ)) → Extends labels labels
-extends_self labels = ([], sym (append-nil labels))
+-- the different ones among these labels and more
+abbrev pub different : List (List ℕ) → List (List ℕ) → List (List ℕ)
+different labels more = fold with_label labels more
 
-extends_both : (all some first : List (List ℕ)) → Extends all some → Extends some first → Extends all first
-extends_both all some first (behind, is) (between, was) = (between ++ behind, is ∙ ap (λ labels. labels ++ behind) was ∙ append_assoc first between behind)
+-- the labels that are listed at a key, where each element is a label
+abbrev pub labels_in : List ℕ → Members → Option (List (List ℕ))
+labels_in key table = option_and_then (each label_in) (list_or_empty key table)
 
--- a label keeps its place
-further_by : (b : Bool) (n k : ℕ) (later further : Option ℕ) → (later ≡ Some k → further ≡ Some k) → (if b then Some n else later) ≡ Some k → (if b then Some n else further) ≡ Some k
-further_by true n k later further behind is = is
-further_by false n k later further behind is = behind is
+-- too many
+pub record TooMany (labels : List (List ℕ)) (taints untaints : Option (List (List ℕ))) : Type 0 where
+  pub first : List (List ℕ)
+  pub second : List (List ℕ)
+  pub listed : taints ≡ Some first
+  pub behind : untaints ≡ Some second
+  pub many : 64 < length (different (different labels first) second)
 
-found_further : (p : List ℕ → Bool) (n k : ℕ) (xs ys : List (List ℕ)) → position_from p n xs ≡ Some k → position_from p n (xs ++ ys) ≡ Some k
-found_further p n k [] ys is = cc
-found_further p n k (x ∷ xs) ys is = further_by (p x) n k (position_from p (n + 1) xs) (position_from p (n + 1) (xs ++ ys)) (found_further p (n + 1) k xs ys) is
+-- a label is taken off that is not put on
+pub record TakesOffMore (labels : List (List ℕ)) (table : Members) : Type 0 where
+  pub taints : LabelSet
+  pub untaints : LabelSet
+  pub listed : labels_at (codes "taints") labels table ≡ Some taints
+  pub behind : labels_at (codes "untaints") taints.labels table ≡ Some untaints
+  pub more : are_among untaints.bits taints.bits ≡ false
 
-keeps_place : (all labels : List (List ℕ)) (label : List ℕ) (k : ℕ) → Extends all labels → place_of labels label ≡ Some k → place_of all label ≡ Some k
-keeps_place all labels label k (more, is) found = ap (position_from (bytes_eq label) 0) is ∙ found_further (bytes_eq label) 0 k labels more found
+-- one label
+abbrev known_as : List (List ℕ) → ℕ → Known
+known_as labels number = record { labels = labels; number = number }
 
--- a new one has the next place
-next_by : (b : Bool) (n k : ℕ) (later further : Option ℕ) → (later ≡ None → further ≡ Some k) → (if b then Some n else later) ≡ None → (if b then Some n else further) ≡ Some k
-next_by true n k later further behind is = cc
-next_by false n k later further behind is = behind is
-
-found_last : (p : List ℕ → Bool) (n k : ℕ) (x : List ℕ) (xs : List (List ℕ)) → p x ≡ true → k ≡ n + length xs → position_from p n xs ≡ None → position_from p n (xs ++ x ∷ []) ≡ Some k
-found_last p n k x [] here place is = let same : n ≡ k = omega (arith, place) in rw here (ap Some same)
-found_last p n k x (y ∷ ys) here place is =
-    next_by (p y) n k (position_from p (n + 1) ys) (position_from p (n + 1) (ys ++ x ∷ [])) (found_last p (n + 1) k x ys here (omega (arith, place))) is
-
-new_by : (b : Bool) (labels : List (List ℕ)) (label : List ℕ) (known : Known) → place_of labels label ≡ None
-    → (if b then Some (record { labels = labels ++ label ∷ []; number = length labels }) else None) ≡ Some known → Extends known.labels labels × (place_of known.labels label ≡ Some known.number)
-new_by false labels label known none is = cc
-new_by true labels label known none is =
-    let same_labels : labels ++ label ∷ [] ≡ known.labels = cc in
-    let same_number : length labels ≡ known.number = cc in
-    let place : known.number ≡ 0 + length labels = omega (arith, same_number) in (
-      (label ∷ [], sym same_labels),
-      ap (position_from (bytes_eq label) 0) (sym same_labels) ∙ found_last (bytes_eq label) 0 known.number label labels ((bytes_eq-Decides label label).1 refl) place none,
-    )
-
-numbered_by : (labels : List (List ℕ)) (label : List ℕ) (known : Known) (o : Option ℕ) → place_of labels label ≡ o → known_or_new labels label o ≡ Some known
-    → Extends known.labels labels × (place_of known.labels label ≡ Some known.number)
+numbered_by : (labels : List (List ℕ)) (label : List ℕ) (o : Option ℕ) (known : Known) → length labels ≤ 64 → known_or_new labels label o ≡ Some known
+    → (known.labels ≡ (if is_some o then labels else labels ++ label ∷ [])) × (length known.labels ≤ 64)
 unfolding new_label
-numbered_by labels label known None none is = new_by (nat_lt (length labels) 64) labels label known none is
-numbered_by labels label known (Some number) found is =
-    let same_labels : labels ≡ known.labels = cc in
-    let same_number : number ≡ known.number = cc in
-    (([], sym same_labels ∙ sym (append-nil labels)), ap (position_from (bytes_eq label) 0) (sym same_labels) ∙ found ∙ ap Some same_number)
+numbered_by labels label (Some n) known few is = let same : labels ≡ known.labels = cc in (sym same, rw (← same) few)
+numbered_by labels label None known few is = new_by (nat_lt (length labels) 64) refl is
+  where
+    new_by : (b : Bool) → nat_lt (length labels) 64 ≡ b → (if b then Some (known_as (labels ++ label ∷ []) (length labels)) else None) ≡ Some known
+        → (known.labels ≡ labels ++ label ∷ []) × (length known.labels ≤ 64)
+    new_by false room is = cc
+    new_by true room is =
+        let same : labels ++ label ∷ [] ≡ known.labels = cc in
+        let below : length labels < 64 = grind (arith, nat_tests) in
+        let longer = length-append labels (label ∷ []) in
+        (sym same, rw (← same) (omega (arith, below, longer)))
 
-is_numbered : (labels : List (List ℕ)) (label : List ℕ) (known : Known) → numbered labels label ≡ Some known → Extends known.labels labels × (place_of known.labels label ≡ Some known.number)
-unfolding numbered
-is_numbered labels label known is = numbered_by labels label known (place_of labels label) refl is
+full_by : (labels : List (List ℕ)) (label : List ℕ) (o : Option ℕ) → known_or_new labels label o ≡ None → 64 < length (if is_some o then labels else labels ++ label ∷ [])
+unfolding new_label
+full_by labels label (Some n) is = cc
+full_by labels label None is = none_by (nat_lt (length labels) 64) refl is
+  where
+    none_by : (b : Bool) → nat_lt (length labels) 64 ≡ b → (if b then Some (known_as (labels ++ label ∷ []) (length labels)) else None) ≡ None → 64 < length (labels ++ label ∷ [])
+    none_by true room is = cc
+    none_by false room is =
+        let above : 64 ≤ length labels = grind (arith, nat_tests) in
+        omega (arith, above, length-append labels (label ∷ []))
 
--- the set with one more label
-abbrev AreBits : (List (List ℕ) → Option ℕ) → List (List ℕ) → LabelSet → Type 0
-AreBits bits labels t = Extends t.labels labels × ((all : List (List ℕ)) → Extends all t.labels → bits all ≡ Some t.bits)
+-- labels are only added
+kept_by : (b : Bool) (labels : List (List ℕ)) (label : List ℕ) → length labels ≤ length (if b then labels else labels ++ label ∷ [])
+kept_by true labels label = omega arith
+kept_by false labels label = omega (arith, length-append labels (label ∷ []))
 
-one_more : (s : LabelSet) (d : Data) (t : LabelSet) → and_label s d ≡ Some t → AreBits (λ all. option_map (and_bit s.bits) (number_in all d)) s.labels t
-unfolding and_label number_in
-one_more s d t is =
-    option_and_then_some _ (label_in d) t is (λ label is_label rest.
-    option_and_then_some _ (numbered s.labels label) t rest (λ known is_known last.
-    let (grown, found) = is_numbered s.labels label known is_known in
-    let same_labels : known.labels ≡ t.labels = cc in
-    let same_bits : and_bit s.bits known.number ≡ t.bits = cc in (
-      subst (λ labels. Extends labels s.labels) same_labels grown,
-      λ all extends.
-          ap (λ o. option_map (and_bit s.bits) (option_and_then (place_of all) o)) is_label
-          ∙ ap (option_map (and_bit s.bits)) (keeps_place all known.labels label known.number (subst (Extends all) (sym same_labels) extends) found)
-          ∙ ap Some same_bits,
-    )))
+more_labels : (labels more : List (List ℕ)) → length labels ≤ length (different labels more)
+more_labels labels [] = omega arith
+more_labels labels (l ∷ ls) = omega (arith, kept_by (is_some (position_from (bytes_eq l) 0 labels)) labels l, more_labels (with_label labels l) ls)
 
--- all labels of a list
-abbrev and_number : List (List ℕ) → ℕ → Data → Option ℕ
-and_number all bits d = option_map (and_bit bits) (number_in all d)
+-- a list
+abbrev set_of : List (List ℕ) → ℕ → LabelSet
+set_of labels bits = record { labels = labels; bits = bits }
 
-all_more : (s : LabelSet) (ds : List Data) (t : LabelSet) → grow and_label s ds ≡ Some t → AreBits (λ all. grow (and_number all) s.bits ds) s.labels t
-all_more s [] t is =
-    let same : s ≡ t = cc in
-    (subst (λ (u : LabelSet). Extends u.labels s.labels) same (extends_self s.labels), λ all extends. ap (λ (u : LabelSet). Some u.bits) same)
-all_more s (d ∷ ds) t is =
+abbrev said_by : LabelSet → LabelSet → Labelled
+said_by t u = record { labels = u.labels; attribute = record { taints = t.bits; untaints = u.bits } }
+
+one_read : (s : LabelSet) (d : Data) (u : LabelSet) → length s.labels ≤ 64 → and_label s d ≡ Some u → (label : List ℕ) × (label_in d ≡ Some label) × (u.labels ≡ with_label s.labels label) × (length u.labels ≤ 64)
+unfolding and_label numbered
+one_read s d u few is =
+    option_and_then_some _ (label_in d) u is (λ label is_label rest.
+    option_and_then_some _ (numbered s.labels label) u rest (λ known is_known last.
+    let (labels, still) = numbered_by s.labels label (position_from (bytes_eq label) 0 s.labels) known few is_known in
+    let same : known.labels ≡ u.labels = cc in
+    (label, is_label, sym same ∙ labels, rw (← same) still)))
+
+read_by : (s u t : LabelSet) (d : Data) (ds : List Data) (label : List ℕ) → label_in d ≡ Some label → u.labels ≡ with_label s.labels label
+    → (ls : List (List ℕ)) × (each label_in ds ≡ Some ls) × (t.labels ≡ different u.labels ls) × (length t.labels ≤ 64)
+    → (ls : List (List ℕ)) × (each label_in (d ∷ ds) ≡ Some ls) × (t.labels ≡ different s.labels ls) × (length t.labels ≤ 64)
+read_by s u t d ds label here more (ls, listed, labels, few) = (label ∷ ls, rw (here, listed) refl, labels ∙ ap (λ first. different first ls) more, few)
+
+all_read : (s : LabelSet) (ds : List Data) (t : LabelSet) → length s.labels ≤ 64 → grow and_label s ds ≡ Some t
+    → (ls : List (List ℕ)) × (each label_in ds ≡ Some ls) × (t.labels ≡ different s.labels ls) × (length t.labels ≤ 64)
+all_read s [] t few is = let same : s ≡ t = cc in ([], refl, ap (λ (u : LabelSet). u.labels) (sym same), subst (λ (u : LabelSet). length u.labels ≤ 64) same few)
+all_read s (d ∷ ds) t few is =
     option_and_then_some _ (and_label s d) t is (λ u is_u rest.
-    let (grown, here) = one_more s d u is_u in
-    let (more, behind) = all_more u ds t rest in (
-      extends_both t.labels u.labels s.labels more grown,
-      λ all extends. ap (option_and_then (λ bits. grow (and_number all) bits ds)) (here all (extends_both all t.labels u.labels extends more)) ∙ behind all extends,
-    ))
+    let (label, here, more, still) = one_read s d u few is_u in
+    read_by s u t d ds label here more (all_read u ds t still rest))
 
-listed_at : (key : List ℕ) (labels : List (List ℕ)) (table : Members) (t : LabelSet) → labels_at key labels table ≡ Some t → AreBits (λ all. option_and_then (bits_of all) (list_or_empty key table)) labels t
-unfolding labels_at all_labels bits_of
-listed_at key labels table t is =
+-- where a list says nothing
+behind_by : (labels : List (List ℕ)) (d : Data) (ds : List Data) (label : List ℕ) (first : List (List ℕ)) (o : Option (List (List ℕ))) → label_in d ≡ Some label → each label_in ds ≡ o → first ≡ with_label labels label
+    → ((ls : List (List ℕ)) → o ≡ Some ls → 64 < length (different first ls))
+    → (each label_in (d ∷ ds) ≡ None) ⊎ ((ls : List (List ℕ)) × (each label_in (d ∷ ds) ≡ Some ls) × (64 < length (different labels ls)))
+behind_by labels d ds label first None here rest is many = inl (rw (here, rest) refl)
+behind_by labels d ds label first (Some ls) here rest is many = inr (label ∷ ls, rw (here, rest) refl, rw (← is) (many ls refl))
+
+silent : (d : Data) (ds : List Data) → label_in d ≡ None → each label_in (d ∷ ds) ≡ None
+silent d ds here = rw here refl
+
+left_by : (labels : List (List ℕ)) (d : Data) (ds : List Data) (label : List ℕ) (first : List (List ℕ)) → label_in d ≡ Some label → first ≡ with_label labels label
+    → (each label_in ds ≡ None) ⊎ ((ls : List (List ℕ)) × (each label_in ds ≡ Some ls) × (64 < length (different first ls)))
+    → (each label_in (d ∷ ds) ≡ None) ⊎ ((ls : List (List ℕ)) × (each label_in (d ∷ ds) ≡ Some ls) × (64 < length (different labels ls)))
+left_by labels d ds label first here is (inl none) = inl (rw (here, none) refl)
+left_by labels d ds label first here is (inr (ls, listed, many)) = inr (label ∷ ls, rw (here, listed) refl, rw (← is) many)
+
+abbrev Fails : List (List ℕ) → List Data → Type 0
+Fails labels ds = (each label_in ds ≡ None) ⊎ ((ls : List (List ℕ)) × (each label_in ds ≡ Some ls) × (64 < length (different labels ls)))
+
+known_fails : (s : LabelSet) (d : Data) (ds : List Data) (label : List ℕ) (p : Option Known) → length s.labels ≤ 64 → label_in d ≡ Some label → numbered s.labels label ≡ p
+    → ((u : LabelSet) → length u.labels ≤ 64 → grow and_label u ds ≡ None → Fails u.labels ds)
+    → option_and_then (λ t. grow and_label t ds) (option_and_then (λ (k : Known). Some (set_of k.labels (bit_or s.bits (2 ^ k.number)))) p) ≡ None → Fails s.labels (d ∷ ds)
+unfolding numbered
+known_fails s d ds label None few here none behind is =
+    let full : 64 < length (with_label s.labels label) = full_by s.labels label (position_from (bytes_eq label) 0 s.labels) none in
+    behind_by s.labels d ds label (with_label s.labels label) (each label_in ds) here refl refl (λ ls listed. omega (arith, full, more_labels (with_label s.labels label) ls))
+known_fails s d ds label (Some k) few here some behind is =
+    let (labels, still) = numbered_by s.labels label (position_from (bytes_eq label) 0 s.labels) k few some in
+    left_by s.labels d ds label k.labels here labels (behind (set_of k.labels (bit_or s.bits (2 ^ k.number))) still is)
+
+label_fails : (s : LabelSet) (d : Data) (ds : List Data) (o : Option (List ℕ)) → length s.labels ≤ 64 → label_in d ≡ o
+    → ((u : LabelSet) → length u.labels ≤ 64 → grow and_label u ds ≡ None → Fails u.labels ds)
+    → option_and_then (λ t. grow and_label t ds) (option_and_then (λ label. option_and_then (λ (k : Known). Some (set_of k.labels (bit_or s.bits (2 ^ k.number)))) (numbered s.labels label)) o) ≡ None → Fails s.labels (d ∷ ds)
+label_fails s d ds None few here behind is = inl (silent d ds here)
+label_fails s d ds (Some label) few here behind is = known_fails s d ds label (numbered s.labels label) few here refl behind is
+
+all_fail : (s : LabelSet) (ds : List Data) → length s.labels ≤ 64 → grow and_label s ds ≡ None → Fails s.labels ds
+unfolding and_label
+all_fail s [] few is = cc
+all_fail s (d ∷ ds) few is = label_fails s d ds (label_in d) few refl (λ u still none. all_fail u ds still none) is
+
+-- what a key says
+key_read : (key : List ℕ) (labels : List (List ℕ)) (table : Members) (t : LabelSet) → length labels ≤ 64 → labels_at key labels table ≡ Some t
+    → (ls : List (List ℕ)) × (labels_in key table ≡ Some ls) × (t.labels ≡ different labels ls) × (length t.labels ≤ 64)
+unfolding labels_at all_labels
+key_read key labels table t few is =
     option_and_then_some _ (list_or_empty key table) t is (λ ds is_ds rest.
-    let (grown, bits) = all_more (record { labels = labels; bits = 0 }) ds t rest in
-    (grown, λ all extends. ap (option_and_then (bits_of all)) is_ds ∙ sym (grow_each (number_in all) and_bit 0 ds) ∙ bits all extends))
+    let (ls, listed, more, still) = all_read (set_of labels 0) ds t few rest in
+    (ls, rw is_ds listed, more, still))
 
--- the labels of a host
-said_by : (b : Bool) (s t : Tainted) (labels : List (List ℕ)) (host taints untaints : ℕ)
-    → (if b then Some (record { labels = labels; hosts = slice_set s.hosts host (record { taints = taints; untaints = untaints }) }) else None) ≡ Some t
-    → (labels ≡ t.labels) × (option_map (slice_set s.hosts host) (if b then Some (record { taints = taints; untaints = untaints }) else None) ≡ Some t.hosts)
-said_by false s t labels host taints untaints is = cc
-said_by true s t labels host taints untaints is =
-    let same_labels : labels ≡ t.labels = cc in
-    let same_hosts : slice_set s.hosts host (record { taints = taints; untaints = untaints }) ≡ t.hosts = cc in
-    (same_labels, ap Some same_hosts)
+key_fails_by : (labels : List (List ℕ)) (o : Option (List Data)) → length labels ≤ 64 → option_and_then (λ ds. grow and_label (set_of labels 0) ds) o ≡ None
+    → (option_and_then (each label_in) o ≡ None) ⊎ ((ls : List (List ℕ)) × (option_and_then (each label_in) o ≡ Some ls) × (64 < length (different labels ls)))
+key_fails_by labels None few is = inl refl
+key_fails_by labels (Some ds) few is = all_fail (set_of labels 0) ds few is
 
-one_assign : (s : Tainted) (a : Given) (t : Tainted) → and_tainted s a ≡ Some t
-    → Extends t.labels s.labels × ((all : List (List ℕ)) → Extends all t.labels → option_map (slice_set s.hosts a.host) (tainting_attribute all a.table) ≡ Some t.hosts)
-unfolding and_tainted tainting_attribute
-one_assign s a t is =
-    option_and_then_some _ (labels_at (codes "taints") s.labels a.table) t is (λ taints is_taints rest.
-    option_and_then_some _ (labels_at (codes "untaints") taints.labels a.table) t rest (λ untaints is_untaints last.
-    let (first, taints_are) = listed_at (codes "taints") s.labels a.table taints is_taints in
-    let (second, untaints_are) = listed_at (codes "untaints") taints.labels a.table untaints is_untaints in
-    let (same_labels, same_hosts) = said_by (are_all_said untaints.bits taints.bits a.table) s t untaints.labels a.host taints.bits untaints.bits last in (
-      subst (λ labels. Extends labels s.labels) same_labels (extends_both untaints.labels taints.labels s.labels second first),
-      λ all extends.
-          let through = subst (Extends all) (sym same_labels) extends in
-          rw (taints_are all (extends_both all untaints.labels taints.labels through second), untaints_are all through) same_hosts,
-    )))
+key_fails : (key : List ℕ) (labels : List (List ℕ)) (table : Members) → length labels ≤ 64 → labels_at key labels table ≡ None
+    → (labels_in key table ≡ None) ⊎ ((ls : List (List ℕ)) × (labels_in key table ≡ Some ls) × (64 < length (different labels ls)))
+unfolding labels_at all_labels
+key_fails key labels table few is = key_fails_by labels (list_or_empty key table) few is
 
--- the labels of all hosts
-after_labels : (k : ℕ) (s : Tainted) (a : Given) (rest : List Given) (here : Option Tainted) (t : Tainted) → and_tainted s a ≡ here
-    → ((u : Tainted) → in_turn and_tainted (k + 1) u rest ≡ Ok t
-    → Extends t.labels u.labels × ((all : List (List ℕ)) → Extends all t.labels → in_turn (with_attribute (λ a. tainting_attribute all a.table)) (k + 1) u.hosts rest ≡ Ok t.hosts))
-    → after k (λ u. in_turn and_tainted (k + 1) u rest) here ≡ Ok t
-    → Extends t.labels s.labels × ((all : List (List ℕ)) → Extends all t.labels → in_turn (with_attribute (λ a. tainting_attribute all a.table)) k s.hosts (a ∷ rest) ≡ Ok t.hosts)
-after_labels k s a rest None t said behind is = cc
-after_labels k s a rest (Some u) t said behind is =
-    let (grown, here) = one_assign s a u said in
-    let (more, later) = behind u is in (
-      extends_both t.labels u.labels s.labels more grown,
-      λ all extends. ap (after k (λ hosts. in_turn (with_attribute (λ a. tainting_attribute all a.table)) (k + 1) hosts rest)) (here all (extends_both all t.labels u.labels extends more)) ∙ later all extends,
-    )
+-- a table says nothing behind these labels: one of its lists is none of labels, there are too many different ones, or it says more or takes off more than it may
+abbrev pub IsBad : List (List ℕ) → Members → Type 0
+IsBad labels table =
+    ((labels_in (codes "taints") table ≡ None) ⊎ (labels_in (codes "untaints") table ≡ None))
+    ⊎ (TooMany labels (labels_in (codes "taints") table) (labels_in (codes "untaints") table) ⊎ TakesOffMore labels table)
 
-pub labels_in_turn : (k : ℕ) (s : Tainted) (assigns : List Given) (t : Tainted) → in_turn and_tainted k s assigns ≡ Ok t
-    → Extends t.labels s.labels × ((all : List (List ℕ)) → Extends all t.labels → in_turn (with_attribute (λ a. tainting_attribute all a.table)) k s.hosts assigns ≡ Ok t.hosts)
-labels_in_turn k s [] t is =
-    let same : s ≡ t = cc in
-    (subst (λ (u : Tainted). Extends u.labels s.labels) same (extends_self s.labels), λ all extends. ap (λ (u : Tainted). Ok u.hosts) same)
-labels_in_turn k s (a ∷ rest) t is = after_labels k s a rest (and_tainted s a) t refl (λ u later. labels_in_turn (k + 1) u rest t later) is
+first_fails : (labels : List (List ℕ)) (taints untaints : Option (List (List ℕ))) (more : Type 0) → (taints ≡ None) ⊎ ((ls : List (List ℕ)) × (taints ≡ Some ls) × (64 < length (different labels ls)))
+    → ((taints ≡ None) ⊎ (untaints ≡ None)) ⊎ (TooMany labels taints untaints ⊎ more)
+first_fails labels taints untaints more (inl none) = inl (inl none)
+first_fails labels taints None more (inr (ls, listed, many)) = inl (inr refl)
+first_fails labels taints (Some us) more (inr (ls, listed, many)) =
+    inr (inl (record { first = ls; second = us; listed = listed; behind = refl; many = omega (arith, many, more_labels (different labels ls) us) }))
+
+second_fails : (labels first ts : List (List ℕ)) (taints untaints : Option (List (List ℕ))) (more : Type 0) → taints ≡ Some ts → first ≡ different labels ts
+    → (untaints ≡ None) ⊎ ((ls : List (List ℕ)) × (untaints ≡ Some ls) × (64 < length (different first ls)))
+    → ((taints ≡ None) ⊎ (untaints ≡ None)) ⊎ (TooMany labels taints untaints ⊎ more)
+second_fails labels first ts taints untaints more here is (inl none) = inl (inr none)
+second_fails labels first ts taints untaints more here is (inr (us, listed, many)) = inr (inl (record { first = ts; second = us; listed = here; behind = listed; many = rw (← is) many }))
+
+last_fails : {A : Type 0} (b : Bool) (x : A) → (if b then Some x else None) ≡ None → b ≡ false
+last_fails true x is = cc
+last_fails false x is = refl
+
+second_by : (labels : List (List ℕ)) (table : Members) (t : LabelSet) (p : Option LabelSet) → length labels ≤ 64 → labels_at (codes "taints") labels table ≡ Some t → labels_at (codes "untaints") t.labels table ≡ p
+    → option_and_then (λ (u : LabelSet). if are_among u.bits t.bits then Some (said_by t u) else None) p ≡ None → IsBad labels table
+second_by labels table t None few here none is =
+    let (ts, listed, more, still) = key_read (codes "taints") labels table t few here in
+    second_fails labels t.labels ts (labels_in (codes "taints") table) (labels_in (codes "untaints") table) (TakesOffMore labels table) listed more (key_fails (codes "untaints") t.labels table still none)
+second_by labels table t (Some u) few here some is =
+    inr (inr (record { taints = t; untaints = u; listed = here; behind = some; more = last_fails (are_among u.bits t.bits) (said_by t u) is }))
+
+first_by : (labels : List (List ℕ)) (table : Members) (o : Option LabelSet) → length labels ≤ 64 → labels_at (codes "taints") labels table ≡ o
+    → option_and_then (λ (t : LabelSet). option_and_then (λ (u : LabelSet). if are_among u.bits t.bits then Some (said_by t u) else None) (labels_at (codes "untaints") t.labels table)) o ≡ None → IsBad labels table
+first_by labels table None few none is = first_fails labels (labels_in (codes "taints") table) (labels_in (codes "untaints") table) (TakesOffMore labels table) (key_fails (codes "taints") labels table few none)
+first_by labels table (Some t) few some is = second_by labels table t (labels_at (codes "untaints") t.labels table) few some refl is
+
+pub bad_labels_are : (labels : List (List ℕ)) (table : Members) → length labels ≤ 64 → labelled labels table ≡ None → IsBad labels table
+unfolding labelled
+bad_labels_are labels table few is = first_by labels table (labels_at (codes "taints") labels table) few refl is
+
+-- a table that says labels adds those that are listed, taints first
+pub labelled_read : (labels : List (List ℕ)) (table : Members) (l : Labelled) → length labels ≤ 64 → labelled labels table ≡ Some l
+    → (ts : List (List ℕ)) × (us : List (List ℕ)) × (labels_in (codes "taints") table ≡ Some ts) × (labels_in (codes "untaints") table ≡ Some us) × (l.labels ≡ different (different labels ts) us) × (length l.labels ≤ 64)
+unfolding labelled
+labelled_read labels table l few is =
+    option_and_then_some _ (labels_at (codes "taints") labels table) l is (λ t is_t rest.
+    option_and_then_some _ (labels_at (codes "untaints") t.labels table) l rest (λ u is_u last.
+    let (ts, first, more, still) = key_read (codes "taints") labels table t few is_t in
+    let (us, second, most, small) = key_read (codes "untaints") t.labels table u still is_u in
+    let same : u.labels ≡ l.labels = ended_by (are_among u.bits t.bits) t u l last in
+    (ts, us, first, second, sym same ∙ most ∙ ap (λ before. different before us) more, rw (← same) small)))
+  where
+    ended_by : (b : Bool) (t u : LabelSet) (l : Labelled) → (if b then Some (said_by t u) else None) ≡ Some l → u.labels ≡ l.labels
+    ended_by true t u l is = let same : said_by t u ≡ l = cc in ap (λ (x : Labelled). x.labels) same
+    ended_by false t u l is = cc
+
+-- there are never more than 64
+few_after : (labels : List (List ℕ)) (table : Members) (o : Option Labelled) → length labels ≤ 64 → labelled labels table ≡ o → length (labels_after labels o) ≤ 64
+few_after labels table None few is = few
+few_after labels table (Some l) few is = (labelled_read labels table l few is).5
+
+pub few_behind : (labels : List (List ℕ)) (earlier : List Given) → length labels ≤ 64 → length (labels_behind labels earlier) ≤ 64
+few_behind labels [] few = few
+few_behind labels (a ∷ rest) few = few_behind (labels_after labels (labelled labels a.table)) rest (few_after labels a.table (labelled labels a.table) few refl)
+
+-- which assign of `tainting` is bad
+none_of : (o : Option Labelled) → option_map (λ (l : Labelled). l.attribute) o ≡ None → o ≡ None
+none_of None is = refl
+none_of (Some l) is = cc
+
+pub bad_tainting : (earlier : List Given) (a : Given) → tainting_reads earlier a ≡ None → IsBad (labels_behind [] earlier) a.table
+bad_tainting earlier a is = bad_labels_are (labels_behind [] earlier) a.table (few_behind [] earlier (omega arith)) (none_of (labelled (labels_behind [] earlier) a.table) is)

@@ -7,6 +7,6 @@ use toml::Table;
 pub struct Assign<'a> {
     /// The number of the host, from 0.
     pub host: u16,
-    /// The table with the attribute. What it has at the key `host` is not looked at.
+    /// The table with the attribute, and at the key `host` the name of the host.
     pub table: &'a Table,
 }

@@ -1,50 +1,74 @@
 //! Bell-LaPadula: the level of a host, and whether it is trusted.
-ghost use Rattle.std.specs.Prelude.{◌≡◌, option_map};
-ghost use Rattle.attr_core.specs.Blp.{blp_attribute};
-ghost use Rattle.toml.specs.View.{table_view};
+ghost use Rattle.std.specs.Prelude.{◌≡◌};
 
+use crate::alone::Alone;
 use crate::assign::Assign;
-use crate::reader::Reader;
+use crate::assigned::Assigned;
+use crate::shapes::{HOST, of_shape};
 use host_net::Hosts;
+use inv_any::AnyInv;
+use inv_law::EdgeWise;
 use std::alloc::{AllocError, Global};
-use table_core::{boolean_or, has_only, number_or};
+use table_core::{Key, Kind, boolean_at, number_at};
 use tmpl_levels::Blp;
 use toml::Table;
 
-impl Reader for Blp {
-    ghost use Rattle.std.specs.Prelude.{length, replicate};
-    ghost use Rattle.attr_core.specs.Assigns.{with_attribute};
-    ghost use Rattle.attr_core.specs.Blp.{blp_attribute};
-    ghost use Rattle.tmpl_levels.specs.Blp.{unclassified};
+const KEYS: [Key; 3] = [
+    HOST,
+    Key::Optional("level", Kind::Number(65535)),
+    Key::Optional("trusted", Kind::Boolean),
+];
+
+impl Assigned for Blp {
+    ghost use Rattle.std.specs.Prelude.{length, replicate, Some};
+    ghost use Rattle.std.proofs.Common.{refl};
+    ghost use Rattle.attr_core.specs.Holders.{plain_holder};
+    ghost use Rattle.attr_core.specs.Walks.{with_attribute};
+    ghost use Rattle.attr_core.specs.Blp.{blp_attribute, blp_form};
+    ghost use Rattle.tmpl_levels.specs.Blp.{blp, unclassified};
+    ghost use Rattle.inv_any.specs.declared.any_inv.AnyInv.TheVariants as any;
 
     ghost size_of = { λ attributes. length attributes };
 
     ghost start_of = { λ hosts. replicate (length hosts) unclassified };
 
-    ghost with_assign = { λ _. with_attribute (λ a. blp_attribute a.table) };
+    ghost with_assign = { λ hosts. with_attribute (λ a. Some (blp_attribute a.table)) };
+
+    ghost made_of = { λ xs. any.Blp xs };
+
+    ghost form = { blp_form };
+
+    ghost holding = { λ _ xs. xs };
+
+    ghost is_holder = { plain_holder blp blp_form.shapes blp_attribute any.Blp unclassified refl };
+
+    fn has_shape(table: &Table) -> bool {
+        of_shape(table, &KEYS)
+    }
 
     fn start(alloc: Global, hosts: &Hosts) -> Result<Self, AllocError> {
         Blp::new(alloc, hosts.count())
     }
 
+    #[tactic(auto, unfolding(crate::specs::Blp::blp_attribute))]
     fn take(&mut self, _: Global, _: &Hosts, assign: &Assign<'_>) -> Result<bool, AllocError> {
-        let Some((level, trusted)) = read_attribute(assign.table) else {
-            return Ok(false);
-        };
+        let level = number_at(assign.table, "level", 65535).unwrap_or(0);
+        let trusted = boolean_at(assign.table, "trusted").unwrap_or(false);
         self.set(assign.host, level, trusted);
         Ok(true)
     }
+
+    fn make(self) -> AnyInv {
+        AnyInv::Blp(EdgeWise::new(self))
+    }
 }
 
-#[tactic(auto, unfolding(crate::specs::Blp::blp_attribute))]
-fn read_attribute(table: &Table) -> Option<(u16, bool)>
-    ensures { option_map (λ said. record { level = said.0; trusted = said.1 }) result ≡ blp_attribute (table_view table.now) }
-{
-    let level = number_or(table, "level", 65535, 0)?;
-    let trusted = boolean_or(table, "trusted", false)?;
-    if has_only(table, &["host", "level", "trusted"]) {
-        Some((level, trusted))
-    } else {
-        None
+impl Alone for Blp {
+    ghost use Rattle.std.proofs.Common.{refl};
+
+    ghost alone = { λ _ _ _. refl };
+
+    fn reads(_: &Hosts, _: &Assign<'_>) -> bool {
+        true
     }
 }

@@ -1,48 +1,68 @@
 //! Dependability: how many others a host may reach.
 ghost use Rattle.std.specs.Prelude.{◌≡◌};
-ghost use Rattle.attr_core.specs.Dependability.{dependability_attribute};
-ghost use Rattle.toml.specs.View.{table_view};
 
+use crate::alone::Alone;
 use crate::assign::Assign;
-use crate::reader::Reader;
+use crate::assigned::Assigned;
+use crate::shapes::{HOST, of_shape};
 use host_net::Hosts;
+use inv_any::AnyInv;
 use std::alloc::{AllocError, Global};
-use table_core::{has_only, number_at};
+use table_core::{Key, Kind, number_at};
 use tmpl_reach::Dependability;
 use toml::Table;
 
-impl Reader for Dependability {
-    ghost use Rattle.std.specs.Prelude.{length, replicate};
-    ghost use Rattle.attr_core.specs.Assigns.{with_attribute};
-    ghost use Rattle.attr_core.specs.Dependability.{dependability_attribute};
+const KEYS: [Key; 2] = [HOST, Key::Needed("limit", Kind::Number(65535))];
+
+impl Assigned for Dependability {
+    ghost use Rattle.std.specs.Prelude.{length, replicate, Some};
+    ghost use Rattle.std.proofs.Common.{refl};
+    ghost use Rattle.attr_core.specs.Holders.{plain_holder};
+    ghost use Rattle.attr_core.specs.Walks.{with_attribute};
+    ghost use Rattle.attr_core.specs.Dependability.{dependability_attribute, dependability_form};
+    ghost use Rattle.tmpl_reach.specs.Dependability.{dependability};
+    ghost use Rattle.inv_any.specs.declared.any_inv.AnyInv.TheVariants as any;
 
     ghost size_of = { λ attributes. length attributes };
 
     ghost start_of = { λ hosts. replicate (length hosts) 0 };
 
-    ghost with_assign = { λ _. with_attribute (λ a. dependability_attribute a.table) };
+    ghost with_assign = { λ hosts. with_attribute (λ a. Some (dependability_attribute a.table)) };
+
+    ghost made_of = { λ xs. any.Dependability xs };
+
+    ghost form = { dependability_form };
+
+    ghost holding = { λ _ xs. xs };
+
+    ghost is_holder = { plain_holder dependability dependability_form.shapes dependability_attribute any.Dependability 0 refl };
+
+    fn has_shape(table: &Table) -> bool {
+        of_shape(table, &KEYS)
+    }
 
     fn start(alloc: Global, hosts: &Hosts) -> Result<Self, AllocError> {
         Dependability::new(alloc, hosts.count())
     }
 
+    #[tactic(auto, unfolding(crate::specs::Dependability::dependability_attribute))]
     fn take(&mut self, _: Global, _: &Hosts, assign: &Assign<'_>) -> Result<bool, AllocError> {
-        let Some(limit) = read_attribute(assign.table) else {
-            return Ok(false);
-        };
+        let limit = number_at(assign.table, "limit", 65535).unwrap_or(0);
         self.set(assign.host, limit);
         Ok(true)
     }
+
+    fn make(self) -> AnyInv {
+        AnyInv::Dependability(self)
+    }
 }
 
-#[tactic(auto, unfolding(crate::specs::Dependability::dependability_attribute))]
-fn read_attribute(table: &Table) -> Option<u16>
-    ensures { result ≡ dependability_attribute (table_view table.now) }
-{
-    let limit = number_at(table, "limit", 65535)?;
-    if has_only(table, &["host", "limit"]) {
-        Some(limit)
-    } else {
-        None
+impl Alone for Dependability {
+    ghost use Rattle.std.proofs.Common.{refl};
+
+    ghost alone = { λ _ _ _. refl };
+
+    fn reads(_: &Hosts, _: &Assign<'_>) -> bool {
+        true
     }
 }

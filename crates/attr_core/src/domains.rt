@@ -1,29 +1,57 @@
 //! Domains: the place of a host in the hierarchy, and its trust.
-ghost use Rattle.std.specs.Prelude.{◌≡◌, ◌≤◌, IsTrue, IfSome, option_map, length};
+ghost use Rattle.std.specs.Prelude.{◌≡◌, ◌≤◌, IsTrue, IfSome, option_map, length, codes, unwrap_or};
 ghost use Rattle.attr_core.specs.Domains.{domains_attribute};
 ghost use Rattle.std.specs.List.{list_all};
+ghost use Rattle.table_core.specs.Tables.{number_at};
 ghost use Rattle.text_core.specs.Name.{is_name};
 ghost use Rattle.tmpl_domains.specs.Path.{is_path, segments};
 ghost use Rattle.toml.specs.View.{table_view};
 
+use crate::alone::Alone;
 use crate::assign::Assign;
-use crate::reader::Reader;
+use crate::assigned::Assigned;
+use crate::shapes::{HOST, of_shape};
 use host_net::{Hosts, Name};
+use inv_any::AnyInv;
+use inv_law::EdgeWise;
 use std::alloc::{AllocError, Global};
-use table_core::{has_only, number_or, text_at};
+use table_core::{Key, Kind, number_at, text_at};
 use tmpl_domains::Domains;
 use toml::Table;
 
-impl Reader for Domains {
-    ghost use Rattle.std.specs.Prelude.{length, replicate, Some, None, option_map};
-    ghost use Rattle.attr_core.specs.Assigns.{with_attribute};
-    ghost use Rattle.attr_core.specs.Domains.{domains_attribute};
+const KEYS: [Key; 3] = [
+    HOST,
+    Key::Needed("path", Kind::Text),
+    Key::Optional("trust", Kind::Number(16)),
+];
+
+impl Assigned for Domains {
+    ghost use Rattle.std.specs.Prelude.{length, replicate};
+    ghost use Rattle.std.proofs.Common.{refl};
+    ghost use Rattle.attr_core.specs.Holders.{even_holder};
+    ghost use Rattle.attr_core.specs.Walks.{with_attribute};
+    ghost use Rattle.std.specs.Prelude.{Some, None, option_map};
+    ghost use Rattle.attr_core.specs.Domains.{domains_attribute, domains_form};
+    ghost use Rattle.tmpl_domains.specs.Domains.{domains};
+    ghost use Rattle.inv_any.specs.declared.any_inv.AnyInv.TheVariants as any;
 
     ghost size_of = { λ attributes. length attributes };
 
     ghost start_of = { λ hosts. replicate (length hosts) None };
 
-    ghost with_assign = { λ _. with_attribute (λ a. option_map Some (domains_attribute a.table)) };
+    ghost with_assign = { λ hosts. with_attribute (λ a. option_map Some (domains_attribute a.table)) };
+
+    ghost made_of = { λ xs. any.Domains xs };
+
+    ghost form = { domains_form };
+
+    ghost holding = { λ _ xs. xs };
+
+    ghost is_holder = { even_holder domains domains_form.shapes (λ _ _ table. option_map Some (domains_attribute table)) any.Domains None refl };
+
+    fn has_shape(table: &Table) -> bool {
+        of_shape(table, &KEYS)
+    }
 
     fn start(alloc: Global, hosts: &Hosts) -> Result<Self, AllocError> {
         Domains::new(alloc, hosts.count())
@@ -36,6 +64,20 @@ impl Reader for Domains {
         self.set(assign.host, path, trust)?;
         Ok(true)
     }
+
+    fn make(self) -> AnyInv {
+        AnyInv::Domains(EdgeWise::new(self))
+    }
+}
+
+impl Alone for Domains {
+    ghost use Rattle.std.proofs.Common.{refl};
+
+    ghost alone = { λ _ _ _. refl };
+
+    fn reads(_: &Hosts, assign: &Assign<'_>) -> bool {
+        read_attribute(assign.table).is_some()
+    }
 }
 
 #[tactic(auto, unfolding(crate::specs::Domains::domains_attribute))]
@@ -44,11 +86,20 @@ fn read_attribute(table: &Table) -> Option<(&[u8], u8)>
     ensures legal { IfSome result (λ said. IsTrue (is_path said.0.now) × (said.1 ≤ 16)) }
 {
     let path = text_at(table, "path")?.as_bytes();
-    let trust = number_or(table, "trust", 16, 0)?;
-    if is_path(path) && has_only(table, &["host", "path", "trust"]) {
-        Some((path, trust as u8))
+    if is_path(path) {
+        Some((path, trust_in(table)))
     } else {
         None
+    }
+}
+
+fn trust_in(table: &Table) -> u8
+    ensures value { result ≡ unwrap_or (number_at 16 (codes "trust") (table_view table.now)) 0 }
+    ensures small { result ≤ 16 }
+{
+    match number_at(table, "trust", 16) {
+        Some(trust) => trust as u8,
+        None => 0,
     }
 }
 

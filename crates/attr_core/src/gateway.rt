@@ -1,58 +1,96 @@
 //! Security gateways: the kind of a host.
 ghost use Rattle.std.specs.Prelude.{◌≡◌};
-ghost use Rattle.attr_core.specs.Gateway.{gateway_attribute, gate_kind};
-ghost use Rattle.toml.specs.View.{table_view};
+ghost use Rattle.attr_core.specs.Gateway.{gate_kind};
 
+use crate::alone::Alone;
 use crate::assign::Assign;
-use crate::kinds::kind_alone;
-use crate::reader::Reader;
+use crate::assigned::Assigned;
+use crate::kinds::kind_of;
+use crate::shapes::{HOST, of_shape};
 use host_net::Hosts;
+use inv_any::AnyInv;
+use inv_law::EdgeWise;
 use std::alloc::{AllocError, Global};
+use table_core::{Key, Kind};
 use tmpl_zones::{GateKind, Gateway};
 use toml::Table;
 
-impl Reader for Gateway {
-    ghost use Rattle.std.specs.Prelude.{length, replicate};
-    ghost use Rattle.attr_core.specs.Assigns.{with_attribute};
-    ghost use Rattle.attr_core.specs.Gateway.{gateway_attribute};
+const KEYS: [Key; 2] = [
+    HOST,
+    Key::Needed(
+        "kind",
+        Kind::OneOf(&[
+            "gateway",
+            "gateway-in",
+            "member",
+            "accessible",
+            "unassigned",
+        ]),
+    ),
+];
+
+impl Assigned for Gateway {
+    ghost use Rattle.std.specs.Prelude.{length, replicate, Some};
+    ghost use Rattle.std.proofs.Common.{refl};
+    ghost use Rattle.attr_core.specs.Holders.{plain_holder};
+    ghost use Rattle.attr_core.specs.Walks.{with_attribute};
+    ghost use Rattle.attr_core.specs.Gateway.{gateway_attribute, gateway_form};
+    ghost use Rattle.tmpl_zones.specs.Gateway.{gateways};
     ghost use Rattle.tmpl_zones.specs.declared.gateway.GateKind.TheVariants.{Unassigned};
+    ghost use Rattle.inv_any.specs.declared.any_inv.AnyInv.TheVariants as any;
 
     ghost size_of = { λ attributes. length attributes };
 
     ghost start_of = { λ hosts. replicate (length hosts) Unassigned };
 
-    ghost with_assign = { λ _. with_attribute (λ a. gateway_attribute a.table) };
+    ghost with_assign = { λ hosts. with_attribute (λ a. Some (gateway_attribute a.table)) };
+
+    ghost made_of = { λ xs. any.Gateway xs };
+
+    ghost form = { gateway_form };
+
+    ghost holding = { λ _ xs. xs };
+
+    ghost is_holder = { plain_holder gateways gateway_form.shapes gateway_attribute any.Gateway Unassigned refl };
+
+    fn has_shape(table: &Table) -> bool {
+        of_shape(table, &KEYS)
+    }
 
     fn start(alloc: Global, hosts: &Hosts) -> Result<Self, AllocError> {
         Gateway::new(alloc, hosts.count())
     }
 
+    #[tactic(auto, unfolding(crate::specs::Gateway::gateway_attribute))]
     fn take(&mut self, _: Global, _: &Hosts, assign: &Assign<'_>) -> Result<bool, AllocError> {
-        let Some(kind) = read_attribute(assign.table) else {
-            return Ok(false);
-        };
-        self.set(assign.host, kind);
+        self.set(assign.host, gate_kind(kind_of(assign.table)));
         Ok(true)
+    }
+
+    fn make(self) -> AnyInv {
+        AnyInv::Gateway(EdgeWise::new(self))
     }
 }
 
-#[tactic(auto, unfolding(crate::specs::Gateway::gateway_attribute))]
-fn read_attribute(table: &Table) -> Option<GateKind>
-    ensures { result ≡ gateway_attribute (table_view table.now) }
-{
-    gate_kind(kind_alone(table)?)
+impl Alone for Gateway {
+    ghost use Rattle.std.proofs.Common.{refl};
+
+    ghost alone = { λ _ _ _. refl };
+
+    fn reads(_: &Hosts, _: &Assign<'_>) -> bool {
+        true
+    }
 }
 
 #[tactic(auto, unfolding(crate::specs::Gateway::gate_kind))]
-fn gate_kind(name: &str) -> Option<GateKind>
+fn gate_kind(name: &str) -> GateKind
     ensures { result ≡ gate_kind name.now }
 {
     match name {
-        "gateway" => Some(GateKind::Gateway),
-        "gateway-in" => Some(GateKind::GatewayIn),
-        "member" => Some(GateKind::Member),
-        "accessible" => Some(GateKind::Accessible),
-        "unassigned" => Some(GateKind::Unassigned),
-        _ => None,
+        "gateway" => GateKind::Gateway,
+        "gateway-in" => GateKind::GatewayIn,
+        "member" => GateKind::Member,
+        "accessible" => GateKind::Accessible,
+        _ => GateKind::Unassigned,
     }
 }

@@ -1,45 +1,92 @@
 //! The invariant of a template, made of its assigns.
-ghost use Rattle.std.specs.Prelude.{◌≡◌, ◌<◌, ℕ, map, length, All, IfOk, Some, Err};
-ghost use Rattle.attr_core.specs.Assigned.{IsAsAssigned, IsRefusedAt};
-ghost use Rattle.attr_core.specs.Assigns.{Reads, given_of};
-ghost use Rattle.attr_core.specs.Invariants.{invariant_in};
-ghost use Rattle.attr_core.specs.Templates.{template_named};
+ghost use Rattle.std.specs.Prelude.{◌≡◌, ◌<◌, map, length, All, IfOk, IfSome, Some, None};
+ghost use Rattle.attr_core.specs.AssignView.{Reads, given_of};
+ghost use Rattle.attr_core.specs.ReadIn.{read_in};
+ghost use Rattle.attr_core.specs.Templates.{bad_in, invariant_in, template_named};
+ghost use Rattle.attr_core.specs.declared.fault.AttrFault.TheVariants.{Memory};
 ghost use Rattle.inv_any.specs.Templates.{meaning_of, template_name};
 
+use crate::alone::first_bad;
 use crate::assign::Assign;
+use crate::assigned::read;
 use crate::fault::AttrFault;
-use crate::reader::read;
-use crate::tainting;
+use crate::tainting::{self, TaintedHosts};
 use crate::template::Template;
 use host_net::Hosts;
 use inv_any::AnyInv;
-use inv_law::EdgeWise;
-use std::alloc::Global;
+use std::alloc::{AllocError, Global};
+use tmpl_domains::Domains;
+use tmpl_levels::Blp;
+use tmpl_reach::{Dependability, NoReach, NonInterference};
+use tmpl_zones::{Gateway, Partners, SinkRule, Subnets};
+
+/// The number, from 0, of the first assign whose table says no attribute of the template.
+pub fn bad_attribute(
+    alloc: Global,
+    hosts: &Hosts,
+    template: Template,
+    assigns: &[Assign<'_>],
+) -> Result<Option<usize>, AllocError>
+    ensures first { IfOk result (λ bad. bad ≡ bad_in hosts.now template (map given_of assigns.now)) }
+    ensures within { IfOk result (λ bad. IfSome bad (λ k. k < length assigns.now)) }
+{
+    first_bad_by(alloc, hosts, template, assigns)
+}
+
+#[tactic(auto, unfolding(crate::specs::Templates::bad_in))]
+fn first_bad_by(
+    alloc: Global,
+    hosts: &Hosts,
+    template: Template,
+    assigns: &[Assign<'_>],
+) -> Result<Option<usize>, AllocError>
+    ensures { IfOk result (λ bad. bad ≡ bad_in hosts.now template (map given_of assigns.now)) }
+{
+    Ok(match template {
+        Template::Blp => first_bad::<Blp>(hosts, assigns),
+        Template::Tainting => tainting::first_bad(alloc, hosts, assigns)?,
+        Template::Sink => first_bad::<SinkRule>(hosts, assigns),
+        Template::Gateway => first_bad::<Gateway>(hosts, assigns),
+        Template::Subnets => first_bad::<Subnets>(hosts, assigns),
+        Template::Partners => first_bad::<Partners>(hosts, assigns),
+        Template::Domains => first_bad::<Domains>(hosts, assigns),
+        Template::Dependability => first_bad::<Dependability>(hosts, assigns),
+        Template::NonInterference => first_bad::<NonInterference>(hosts, assigns),
+        Template::NoReach => first_bad::<NoReach>(hosts, assigns),
+    })
+}
 
 /// The invariant of the template in which each host has the attribute that its assign says, or the
 /// default of the template where no assign names it. Where two assigns name a host, the later counts.
-///
-/// It is refused at the first assign whose table says no attribute.
 pub fn read_invariant(
     alloc: Global,
     hosts: &Hosts,
     template: Template,
     assigns: &[Assign<'_>],
-) -> Result<AnyInv, AttrFault>
-    requires { All (λ a. a.host < length hosts.now) assigns.now }
-    ensures invariant { Reads result (invariant_in hosts.now template (map given_of assigns.now)) }
+) -> Result<AnyInv, AllocError>
+    requires hosts { All (λ a. a.host < length hosts.now) assigns.now }
+    requires good { bad_in hosts.now template (map given_of assigns.now) ≡ None }
+    ensures invariant { IfOk result (λ any. any ≡ invariant_in hosts.now template (map given_of assigns.now)) }
     ensures size { IfOk result (λ any. (meaning_of any).size ≡ length hosts.now) }
     ensures named { IfOk result (λ any. template_named (template_name any) ≡ Some template) }
-
-    // What this comes to, host by host, and where it stops.
-    ensures assigned { IfOk result (IsAsAssigned hosts.now template (map given_of assigns.now)) }
-    ensures refused { (assign : ℕ) → result ≡ Err (AttrFault.BadAttribute assign) → IsRefusedAt hosts.now template (map given_of assigns.now) assign }
-    ensures within { (assign : ℕ) → result ≡ Err (AttrFault.BadAttribute assign) → assign < length assigns.now }
 {
-    by_template(alloc, hosts, template, assigns)
+    match by_template(alloc, hosts, template, assigns) {
+        Ok(invariant) => Ok(invariant),
+        Err(fault) => Err(memory(fault)),
+    }
 }
 
-#[tactic(auto, unfolding(crate::specs::Invariants::invariant_in, crate::specs::Invariants::blp_in, crate::specs::Invariants::sink_in, crate::specs::Invariants::gateway_in, crate::specs::Invariants::subnets_in, crate::specs::Invariants::partners_in, crate::specs::Invariants::domains_in, crate::specs::Invariants::dependability_in, crate::specs::Invariants::interference_in, crate::specs::Invariants::noreach_in))]
+// What is left of a fault where no assign is bad.
+fn memory(fault: AttrFault) -> AllocError
+    requires { fault ≡ Memory }
+{
+    match fault {
+        AttrFault::BadAttribute { .. } => unreachable!(),
+        AttrFault::Memory => AllocError,
+    }
+}
+
+#[tactic(auto, unfolding(crate::specs::ReadIn::read_in))]
 fn by_template(
     alloc: Global,
     hosts: &Hosts,
@@ -47,21 +94,18 @@ fn by_template(
     assigns: &[Assign<'_>],
 ) -> Result<AnyInv, AttrFault>
     requires { All (λ a. a.host < length hosts.now) assigns.now }
-    ensures invariant { Reads result (invariant_in hosts.now template (map given_of assigns.now)) }
-    ensures size { IfOk result (λ any. (meaning_of any).size ≡ length hosts.now) }
+    ensures { Reads result (read_in hosts.now template (map given_of assigns.now)) }
 {
-    Ok(match template {
-        Template::Blp => AnyInv::Blp(EdgeWise::new(read(alloc, hosts, assigns)?)),
-        Template::Tainting => AnyInv::Tainting(EdgeWise::new(tainting::read(
-            alloc, hosts, assigns,
-        )?)),
-        Template::Sink => AnyInv::Sink(EdgeWise::new(read(alloc, hosts, assigns)?)),
-        Template::Gateway => AnyInv::Gateway(EdgeWise::new(read(alloc, hosts, assigns)?)),
-        Template::Subnets => AnyInv::Subnets(EdgeWise::new(read(alloc, hosts, assigns)?)),
-        Template::Partners => AnyInv::Partners(EdgeWise::new(read(alloc, hosts, assigns)?)),
-        Template::Domains => AnyInv::Domains(EdgeWise::new(read(alloc, hosts, assigns)?)),
-        Template::Dependability => AnyInv::Dependability(read(alloc, hosts, assigns)?),
-        Template::NonInterference => AnyInv::NonInterference(read(alloc, hosts, assigns)?),
-        Template::NoReach => AnyInv::NoReach(read(alloc, hosts, assigns)?),
-    })
+    match template {
+        Template::Blp => read::<Blp>(alloc, hosts, assigns),
+        Template::Tainting => read::<TaintedHosts>(alloc, hosts, assigns),
+        Template::Sink => read::<SinkRule>(alloc, hosts, assigns),
+        Template::Gateway => read::<Gateway>(alloc, hosts, assigns),
+        Template::Subnets => read::<Subnets>(alloc, hosts, assigns),
+        Template::Partners => read::<Partners>(alloc, hosts, assigns),
+        Template::Domains => read::<Domains>(alloc, hosts, assigns),
+        Template::Dependability => read::<Dependability>(alloc, hosts, assigns),
+        Template::NonInterference => read::<NonInterference>(alloc, hosts, assigns),
+        Template::NoReach => read::<NoReach>(alloc, hosts, assigns),
+    }
 }

@@ -1,20 +1,18 @@
-//! What the templates of kinds share: a table that says a kind and nothing else.
-ghost use Rattle.std.specs.Prelude.{◌≡◌, option_copied};
-ghost use Rattle.attr_core.specs.Kinds.{kind_alone};
+//! What the templates of kinds share: the word at the key `kind`.
+ghost use Rattle.std.specs.Prelude.{◌≡◌};
+ghost use Rattle.attr_core.specs.Kinds.{kind_of};
 ghost use Rattle.toml.specs.View.{table_view};
 
-use table_core::{has_only, text_at};
+use table_core::text_at;
 use toml::Table;
 
-/// The name of the kind, where the table has no further key.
-#[tactic(auto, unfolding(crate::specs::Kinds::kind_alone))]
-pub(crate) fn kind_alone(table: &Table) -> Option<&str>
-    ensures { option_copied result ≡ kind_alone (table_view table.now) }
+/// The word; none at all reads as the empty one.
+#[tactic(auto, unfolding(crate::specs::Kinds::kind_of))]
+pub(crate) fn kind_of(table: &Table) -> &str
+    ensures { result.now ≡ kind_of (table_view table.now) }
 {
-    let kind = text_at(table, "kind")?;
-    if has_only(table, &["host", "kind"]) {
-        Some(kind)
-    } else {
-        None
+    match text_at(table, "kind") {
+        Some(word) => word,
+        None => "",
     }
 }

@@ -3,7 +3,9 @@
 //! or the number of the first assign that says no attribute.
 #![tactic(auto)]
 
+mod alone;
 mod assign;
+mod assigned;
 mod blp;
 mod dependability;
 mod domains;
@@ -15,7 +17,7 @@ mod no_reach;
 mod non_interference;
 mod partners;
 mod peers;
-mod reader;
+mod shapes;
 mod sink;
 mod subnets;
 mod tainting;
@@ -24,6 +26,5 @@ mod template;
 mod tests;
 
 pub use assign::Assign;
-pub use fault::AttrFault;
-pub use invariant::read_invariant;
+pub use invariant::{bad_attribute, read_invariant};
 pub use template::Template;

@@ -1,28 +1,49 @@
 //! No-reach: the hosts that a host must not reach.
 ghost use Rattle.std.specs.Prelude.{◌≡◌, ◌<◌, Some, None, if◌then◌else◌, map, option_map, length, slice_set};
-ghost use Rattle.attr_core.specs.NoReach.{all_denied, listed_denied};
-ghost use Rattle.toml.specs.View.{view, table_view};
+ghost use Rattle.attr_core.specs.NoReach.{all_denied};
+ghost use Rattle.toml.specs.View.{view};
 
+use crate::alone::Alone;
 use crate::assign::Assign;
-use crate::peers::peer;
-use crate::reader::Reader;
+use crate::assigned::Assigned;
+use crate::peers::{are_peers, listed_at, peer};
+use crate::shapes::{HOST, of_shape};
 use host_net::Hosts;
+use inv_any::AnyInv;
 use std::alloc::{AllocError, Global};
-use table_core::{has_only, list_at};
+use table_core::{Key, Kind};
 use tmpl_reach::NoReach;
 use toml::{Table, Value};
 
-impl Reader for NoReach {
-    ghost use Rattle.std.specs.Prelude.{length};
-    ghost use Rattle.attr_core.specs.Assigns.{with_attribute};
-    ghost use Rattle.attr_core.specs.NoReach.{noreach_attribute};
-    ghost use Rattle.tmpl_reach.specs.NoReach.{all_others};
+const KEYS: [Key; 2] = [HOST, Key::Needed("deny", Kind::List)];
 
-    ghost size_of = { λ denied. length denied };
+impl Assigned for NoReach {
+    ghost use Rattle.std.specs.Prelude.{length, replicate};
+    ghost use Rattle.std.proofs.Common.{refl};
+    ghost use Rattle.attr_core.specs.Holders.{alone_holder};
+    ghost use Rattle.attr_core.specs.Walks.{with_attribute};
+    ghost use Rattle.attr_core.specs.NoReach.{noreach_attribute, noreach_form};
+    ghost use Rattle.tmpl_reach.specs.NoReach.{no_reach};
+    ghost use Rattle.tmpl_reach.specs.Resets.{all_others};
+    ghost use Rattle.inv_any.specs.declared.any_inv.AnyInv.TheVariants as any;
+
+    ghost size_of = { λ attributes. length attributes };
 
     ghost start_of = { λ hosts. all_others (length hosts) };
 
     ghost with_assign = { λ hosts. with_attribute (λ a. noreach_attribute hosts a.host a.table) };
+
+    ghost made_of = { λ xs. any.NoReach xs };
+
+    ghost form = { noreach_form };
+
+    ghost holding = { λ _ xs. xs };
+
+    ghost is_holder = { alone_holder no_reach noreach_form.shapes (λ hosts host table. noreach_attribute hosts host table) any.NoReach (λ hosts. all_others (length hosts)) (λ hosts. refl) };
+
+    fn has_shape(table: &Table) -> bool {
+        of_shape(table, &KEYS)
+    }
 
     fn start(alloc: Global, hosts: &Hosts) -> Result<Self, AllocError> {
         NoReach::new(alloc, hosts.count())
@@ -30,22 +51,22 @@ impl Reader for NoReach {
 
     #[tactic(auto, unfolding(crate::specs::NoReach::noreach_attribute))]
     fn take(&mut self, _: Global, hosts: &Hosts, assign: &Assign<'_>) -> Result<bool, AllocError> {
-        let Some(listed) = listed_denied(assign.table) else {
-            return Ok(false);
-        };
-        Ok(deny_all(self, hosts, assign.host, listed))
+        Ok(deny_all(self, hosts, assign.host, listed_at(assign.table, "deny")))
+    }
+
+    fn make(self) -> AnyInv {
+        AnyInv::NoReach(self)
     }
 }
 
-#[tactic(auto, unfolding(crate::specs::NoReach::listed_denied))]
-fn listed_denied(table: &Table) -> Option<&[Value]>
-    ensures { option_map (λ values. map view values.now) result ≡ listed_denied (table_view table.now) }
-{
-    let listed = list_at(table, "deny")?;
-    if has_only(table, &["host", "deny"]) {
-        Some(listed)
-    } else {
-        None
+impl Alone for NoReach {
+    ghost use Rattle.std.proofs.Common.{refl};
+
+    ghost alone = { λ _ _ _. refl };
+
+    #[tactic(auto, using(crate::specs::Bad::is_some_map), unfolding(crate::specs::NoReach::noreach_attribute, crate::specs::NoReach::all_denied))]
+    fn reads(hosts: &Hosts, assign: &Assign<'_>) -> bool {
+        are_peers(hosts, assign.host, listed_at(assign.table, "deny"))
     }
 }
 

@@ -1,79 +1,89 @@
 //! Subnets: the kind of a host, and the number of its subnet.
 ghost use Rattle.std.specs.Prelude.{◌≡◌};
-ghost use Rattle.attr_core.specs.Subnets.{subnets_attribute, net_kind, net_number, net_unassigned};
-ghost use Rattle.toml.specs.View.{table_view};
+ghost use Rattle.attr_core.specs.Subnets.{net_kind};
 
+use crate::alone::Alone;
 use crate::assign::Assign;
-use crate::reader::Reader;
+use crate::assigned::Assigned;
+use crate::kinds::kind_of;
+use crate::shapes::{HOST, of_shape};
 use host_net::Hosts;
+use inv_any::AnyInv;
+use inv_law::EdgeWise;
 use std::alloc::{AllocError, Global};
-use table_core::{has_only, number_at, text_at};
+use table_core::{Key, Kind, number_at};
 use tmpl_zones::{NetKind, Subnets};
 use toml::Table;
 
-impl Reader for Subnets {
-    ghost use Rattle.std.specs.Prelude.{length, replicate};
-    ghost use Rattle.attr_core.specs.Assigns.{with_attribute};
-    ghost use Rattle.attr_core.specs.Subnets.{subnets_attribute};
+const NUMBERED: [Key; 3] = [
+    HOST,
+    Key::Needed("kind", Kind::OneOf(&["subnet", "border"])),
+    Key::Needed("number", Kind::Number(65535)),
+];
+
+const UNASSIGNED: [Key; 2] = [HOST, Key::Needed("kind", Kind::OneOf(&["unassigned"]))];
+
+impl Assigned for Subnets {
+    ghost use Rattle.std.specs.Prelude.{length, replicate, Some};
+    ghost use Rattle.std.proofs.Common.{refl};
+    ghost use Rattle.attr_core.specs.Holders.{plain_holder};
+    ghost use Rattle.attr_core.specs.Walks.{with_attribute};
+    ghost use Rattle.attr_core.specs.Subnets.{subnets_attribute, subnets_form};
+    ghost use Rattle.tmpl_zones.specs.Subnets.{subnets};
     ghost use Rattle.tmpl_zones.specs.declared.subnets.NetKind.TheVariants.{Unassigned};
+    ghost use Rattle.inv_any.specs.declared.any_inv.AnyInv.TheVariants as any;
 
     ghost size_of = { λ attributes. length attributes };
 
     ghost start_of = { λ hosts. replicate (length hosts) Unassigned };
 
-    ghost with_assign = { λ _. with_attribute (λ a. subnets_attribute a.table) };
+    ghost with_assign = { λ hosts. with_attribute (λ a. Some (subnets_attribute a.table)) };
+
+    ghost made_of = { λ xs. any.Subnets xs };
+
+    ghost form = { subnets_form };
+
+    ghost holding = { λ _ xs. xs };
+
+    ghost is_holder = { plain_holder subnets subnets_form.shapes subnets_attribute any.Subnets Unassigned refl };
+
+    fn has_shape(table: &Table) -> bool {
+        of_shape(table, &NUMBERED) || of_shape(table, &UNASSIGNED)
+    }
 
     fn start(alloc: Global, hosts: &Hosts) -> Result<Self, AllocError> {
         Subnets::new(alloc, hosts.count())
     }
 
+    #[tactic(auto, unfolding(crate::specs::Subnets::subnets_attribute))]
     fn take(&mut self, _: Global, _: &Hosts, assign: &Assign<'_>) -> Result<bool, AllocError> {
-        let Some(kind) = read_attribute(assign.table) else {
-            return Ok(false);
-        };
-        self.set(assign.host, kind);
+        let number = number_at(assign.table, "number", 65535).unwrap_or(0);
+        self.set(assign.host, net_kind(number, kind_of(assign.table)));
         Ok(true)
+    }
+
+    fn make(self) -> AnyInv {
+        AnyInv::Subnets(EdgeWise::new(self))
     }
 }
 
-#[tactic(auto, unfolding(crate::specs::Subnets::subnets_attribute))]
-fn read_attribute(table: &Table) -> Option<NetKind>
-    ensures { result ≡ subnets_attribute (table_view table.now) }
-{
-    net_kind(table, text_at(table, "kind")?)
+impl Alone for Subnets {
+    ghost use Rattle.std.proofs.Common.{refl};
+
+    ghost alone = { λ _ _ _. refl };
+
+    fn reads(_: &Hosts, _: &Assign<'_>) -> bool {
+        true
+    }
 }
 
 #[tactic(auto, unfolding(crate::specs::Subnets::net_kind))]
-fn net_kind(table: &Table, name: &str) -> Option<NetKind>
-    ensures { result ≡ net_kind (table_view table.now) name.now }
+fn net_kind(number: u16, name: &str) -> NetKind
+    ensures { result ≡ net_kind number name.now }
 {
     match name {
-        "subnet" => Some(NetKind::Subnet(net_number(table)?)),
-        "border" => Some(NetKind::Border(net_number(table)?)),
-        "unassigned" => net_unassigned(table),
-        _ => None,
-    }
-}
-
-#[tactic(auto, unfolding(crate::specs::Subnets::net_number))]
-fn net_number(table: &Table) -> Option<u16>
-    ensures { result ≡ net_number (table_view table.now) }
-{
-    let number = number_at(table, "number", 65535)?;
-    if has_only(table, &["host", "kind", "number"]) {
-        Some(number)
-    } else {
-        None
-    }
-}
-
-#[tactic(auto, unfolding(crate::specs::Subnets::net_unassigned))]
-fn net_unassigned(table: &Table) -> Option<NetKind>
-    ensures { result ≡ net_unassigned (table_view table.now) }
-{
-    if has_only(table, &["host", "kind"]) {
-        Some(NetKind::Unassigned)
-    } else {
-        None
+        "subnet" => NetKind::Subnet(number),
+        "border" => NetKind::Border(number),
+        _ => NetKind::Unassigned,
     }
 }

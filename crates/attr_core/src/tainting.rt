@@ -1,59 +1,58 @@
 //! Tainting: the labels of a host, and those that it takes off what it sends. A label of an invariant
 //! has a number, by the place where it first stands.
-ghost use Rattle.std.specs.Prelude.{◌≡◌, ◌<◌, ◌≤◌, IsTrue, map, option_map, length, All, IfOk, IfSome};
-ghost use Rattle.attr_core.specs.Assigns.{Reads, given_of};
-ghost use Rattle.attr_core.specs.Invariants.{tainting_in};
-ghost use Rattle.attr_core.specs.Tainting.{all_labels, and_label, are_all_said, label_in, labels_at, numbered};
+ghost use Rattle.std.specs.Prelude.{◌≡◌, ◌<◌, ◌≤◌, IsTrue, [], Some, None, if◌then◌else◌, map, option_map, length, IfOk, IfSome};
+ghost use Rattle.attr_core.specs.AssignView.{given_of};
+ghost use Rattle.attr_core.specs.Bad.{first_unlabelled, labels_said};
+ghost use Rattle.attr_core.specs.Forms.{bad_assign};
+ghost use Rattle.attr_core.specs.Tainting.{all_labels, and_label, are_among, label_in, labelled, labels_at, numbered, tainting_form};
+ghost use Rattle.host_net.specs.Host.{Host};
 ghost use Rattle.std.specs.List.{position_from};
 ghost use Rattle.std.specs.Str.{bytes_eq};
-ghost use Rattle.tmpl_levels.specs.Tainting.{AreAmong};
+ghost use Rattle.tmpl_levels.specs.TaintingView.{AreAmong};
 ghost use Rattle.toml.specs.View.{view, table_view};
 
 use crate::assign::Assign;
-use crate::fault::AttrFault;
-use crate::reader::{self, Reader};
+use crate::assigned::Assigned;
+use crate::shapes::{HOST, of_shape};
 use host_net::{Hosts, Name};
+use inv_any::AnyInv;
+use inv_law::EdgeWise;
 use std::alloc::{AllocError, Global};
 use std::marker::Model;
-use table_core::{has_only, list_or_empty};
+use table_core::{Key, Kind, list_or_empty};
 use tmpl_levels::Tainting;
 use toml::{Table, Value};
 
-#[tactic(auto, unfolding(crate::specs::Invariants::tainting_in))]
-pub(crate) fn read(
-    alloc: Global,
-    hosts: &Hosts,
-    assigns: &[Assign<'_>],
-) -> Result<Tainting, AttrFault>
-    requires { All (λ a. a.host < length hosts.now) assigns.now }
-    ensures attributes { Reads result (tainting_in hosts.now (map given_of assigns.now)) }
-    ensures size { IfOk result (λ rule. length rule ≡ length hosts.now) }
-{
-    let reader: TaintReader = reader::read(alloc, hosts, assigns)?;
-    Ok(reader.hosts)
-}
+const KEYS: [Key; 3] = [
+    HOST,
+    Key::Optional("taints", Kind::Texts),
+    Key::Optional("untaints", Kind::Texts),
+];
 
 // The labels so far, each of which has the number of its place, and what they are to each host.
 #[derive(Drop)]
-struct TaintReader {
+pub(crate) struct TaintedHosts {
     labels: Vec<Name>,
     hosts: Tainting,
 }
 
-impl Model for TaintReader {
+impl Model for TaintedHosts {
     ghost use Rattle.std.specs.Prelude.{length, ◌≤◌};
-    ghost use Rattle.attr_core.specs.Tainting.{Tainted};
+    ghost use Rattle.attr_core.specs.TaintedView.{Tainted};
 
     ghost Value = { Tainted };
 
-    ghost view = { λ reader. record { labels = reader.labels.items; hosts = reader.hosts } };
+    ghost view = { λ tainted. record { labels = tainted.labels.items; hosts = tainted.hosts } };
 
-    ghost invariant = { λ reader. length reader.labels.items ≤ 64 };
+    ghost invariant = { λ tainted. length tainted.labels.items ≤ 64 };
 }
 
-impl Reader for TaintReader {
+impl Assigned for TaintedHosts {
     ghost use Rattle.std.specs.Prelude.{length, replicate, []};
-    ghost use Rattle.attr_core.specs.Tainting.{and_tainted};
+    ghost use Rattle.attr_core.specs.Tainting.{labels_behind, tainting_form};
+    ghost use Rattle.attr_core.specs.TaintedView.{and_tainted};
+    ghost use Rattle.attr_core.specs.TaintingLaws.{tainting_holder};
+    ghost use Rattle.inv_any.specs.declared.any_inv.AnyInv.TheVariants as any;
     ghost use Rattle.tmpl_levels.specs.Tainting.{untainted};
 
     ghost size_of = { λ tainted. length tainted.hosts };
@@ -62,36 +61,98 @@ impl Reader for TaintReader {
 
     ghost with_assign = { λ _. and_tainted };
 
+    ghost made_of = { λ tainted. any.Tainting tainted.hosts };
+
+    ghost form = { tainting_form };
+
+    ghost holding = { λ earlier xs. record { labels = labels_behind [] earlier; hosts = xs } };
+
+    ghost is_holder = { tainting_holder };
+
+    fn has_shape(table: &Table) -> bool {
+        of_shape(table, &KEYS)
+    }
+
     fn start(alloc: Global, hosts: &Hosts) -> Result<Self, AllocError> {
-        Ok(TaintReader {
+        Ok(TaintedHosts {
             labels: Vec::new(alloc),
             hosts: Tainting::new(alloc, hosts.count())?,
         })
     }
 
-    #[tactic(auto, unfolding(crate::specs::Tainting::and_tainted, crate::specs::Tainting::are_all_said))]
+    #[tactic(auto, unfolding(crate::specs::TaintedView::and_tainted))]
     fn take(&mut self, _: Global, _: &Hosts, assign: &Assign<'_>) -> Result<bool, AllocError> {
-        let Some(taints) = labels_at(&mut self.labels, assign.table, "taints")? else {
+        let Some((taints, untaints)) = labelled(&mut self.labels, assign.table)? else {
             return Ok(false);
         };
-        let Some(untaints) = labels_at(&mut self.labels, assign.table, "untaints")? else {
-            return Ok(false);
-        };
-        if !are_all_said(untaints, taints, assign.table) {
-            return Ok(false);
-        }
         self.hosts.set(assign.host, taints, untaints);
         Ok(true)
     }
+
+    fn make(self) -> AnyInv {
+        AnyInv::Tainting(EdgeWise::new(self.hosts))
+    }
 }
 
-// Whether the table has no other key, and the labels that the host takes off are among its own.
-#[tactic(auto, unfolding(crate::specs::Tainting::are_all_said))]
-fn are_all_said(untaints: u64, taints: u64, table: &Table) -> bool
-    ensures said { result ≡ are_all_said untaints taints (table_view table.now) }
+/// The number of the first assign that says no labels, or too many.
+pub(crate) fn first_bad(
+    alloc: Global,
+    hosts: &Hosts,
+    assigns: &[Assign<'_>],
+) -> Result<Option<usize>, AllocError>
+    ensures { IfOk result (λ bad. bad ≡ bad_assign tainting_form hosts.now (map given_of assigns.now)) }
+{
+    let _hosts = hosts;
+    first_unlabelled(alloc, assigns)
+}
+
+fn first_unlabelled(alloc: Global, assigns: &[Assign<'_>]) -> Result<Option<usize>, AllocError>
+    ensures { IfOk result (λ bad. bad ≡ first_unlabelled 0 [] (map given_of assigns.now)) }
+{
+    let mut labels = Vec::new(alloc);
+    for (place, assign) in assigns.iter().enumerate() {
+        if !says_labels(&mut labels, assign)? {
+            return Ok(Some(place));
+        }
+    }
+    Ok(None)
+}
+
+// Whether the assign says labels, which are then known.
+fn says_labels(labels: &mut Vec<Name>, assign: &Assign<'_>) -> Result<bool, AllocError>
+    requires { length labels.old.items ≤ 64 }
+    ensures few { length labels.new.items ≤ 64 }
+    ensures said { IfOk result (λ said. labels_said labels.old.items (given_of assign.now).table ≡ (if said then Some labels.new.items else None)) }
+{
+    Ok(of_shape(assign.table, &KEYS) && labelled(labels, assign.table)?.is_some())
+}
+
+// The labels that the table says.
+#[tactic(auto, unfolding(crate::specs::Tainting::labelled))]
+fn labelled(labels: &mut Vec<Name>, table: &Table) -> Result<Option<(u64, u64)>, AllocError>
+    requires { length labels.old.items ≤ 64 }
+    ensures few { length labels.new.items ≤ 64 }
+    ensures said { IfOk result (λ said. labelled labels.old.items (table_view table.now) ≡ option_map (λ set. record { labels = labels.new.items; attribute = record { taints = set.0; untaints = set.1 } }) said) }
+    ensures among { IfOk result (λ said. IfSome said (λ set. AreAmong set.1 set.0)) }
+{
+    let Some(taints) = labels_at(labels, table, "taints")? else {
+        return Ok(None);
+    };
+    let Some(untaints) = labels_at(labels, table, "untaints")? else {
+        return Ok(None);
+    };
+    if are_among(untaints, taints) {
+        Ok(Some((taints, untaints)))
+    } else {
+        Ok(None)
+    }
+}
+
+fn are_among(untaints: u64, taints: u64) -> bool
+    ensures said { result ≡ are_among untaints taints }
     ensures among { IsTrue result → AreAmong untaints taints }
 {
-    has_only(table, &["host", "taints", "untaints"]) && untaints & taints == untaints
+    untaints & taints == untaints
 }
 
 // The set of the labels at a key.

@@ -1,4 +1,4 @@
-pub mod Meanings
 pub mod Templates
 pub mod TemplateLaws
 pub mod AnyTrials
+pub mod Resets

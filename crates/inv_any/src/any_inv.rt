@@ -2,7 +2,8 @@
 //! that one.
 
 ghost use Rattle.std.specs.Prelude.{◌≡◌};
-ghost use Rattle.inv_any.specs.Templates.{meaning_of, with_default, template_name};
+ghost use Rattle.inv_any.specs.Templates.{meaning_of, template_name};
+ghost use Rattle.inv_any.specs.Resets.{with_default};
 ghost use Rattle.inv_any.specs.TemplateLaws.{lawful};
 
 use flow_set::{Flow, FlowSet};
@@ -28,20 +29,26 @@ pub enum AnyInv {
     NoReach(NoReach),
 }
 
-// What the invariant in `any`, here `inv`, answers.
+// The templates, for the two macros below: what the invariant in `any`, here `inv`, answers, and an
+// invariant of the same template.
+macro_rules! each {
+    ($say:ident, $($args:tt)*) => {
+        $say!($($args)*; Blp Tainting Sink Gateway Subnets Partners Domains Dependability NonInterference NoReach)
+    };
+}
+
 macro_rules! ask {
-    ($any:expr, $inv:ident => $answer:expr) => {
+    ($any:expr, $inv:ident => $answer:expr; $($template:ident)*) => {
         match $any {
-            AnyInv::Blp($inv) => $answer,
-            AnyInv::Tainting($inv) => $answer,
-            AnyInv::Sink($inv) => $answer,
-            AnyInv::Gateway($inv) => $answer,
-            AnyInv::Subnets($inv) => $answer,
-            AnyInv::Partners($inv) => $answer,
-            AnyInv::Domains($inv) => $answer,
-            AnyInv::Dependability($inv) => $answer,
-            AnyInv::NonInterference($inv) => $answer,
-            AnyInv::NoReach($inv) => $answer,
+            $(AnyInv::$template($inv) => $answer,)*
+        }
+    };
+}
+
+macro_rules! keep {
+    ($any:expr, $inv:ident => $new:expr; $($template:ident)*) => {
+        match $any {
+            $(AnyInv::$template($inv) => AnyInv::$template($new),)*
         }
     };
 }
@@ -80,40 +87,27 @@ impl Invariant for AnyInv {
     ghost reset_gives = { λ any host new. new ≡ with_default any host };
 
     fn strategy(&self) -> Strategy {
-        ask!(self, inv => inv.strategy())
+        each!(ask, self, inv => inv.strategy())
     }
 
     fn edge_wise(&self) -> bool {
-        ask!(self, inv => inv.edge_wise())
+        each!(ask, self, inv => inv.edge_wise())
     }
 
     fn hosts(&self) -> u16 {
-        ask!(self, inv => inv.hosts())
+        each!(ask, self, inv => inv.hosts())
     }
 
     fn admits(&self, f: Flow) -> bool {
-        ask!(self, inv => inv.admits(f))
+        each!(ask, self, inv => inv.admits(f))
     }
 
     fn holds(&self, alloc: Global, e: &FlowSet) -> Result<bool, AllocError> {
-        Ok(ask!(self, inv => inv.holds(alloc, e)?))
+        Ok(each!(ask, self, inv => inv.holds(alloc, e)?))
     }
 
     fn with_default(&self, alloc: Global, host: u16) -> Result<Self, AllocError> {
-        Ok(match self {
-            AnyInv::Blp(inv) => AnyInv::Blp(inv.with_default(alloc, host)?),
-            AnyInv::Tainting(inv) => AnyInv::Tainting(inv.with_default(alloc, host)?),
-            AnyInv::Sink(inv) => AnyInv::Sink(inv.with_default(alloc, host)?),
-            AnyInv::Gateway(inv) => AnyInv::Gateway(inv.with_default(alloc, host)?),
-            AnyInv::Subnets(inv) => AnyInv::Subnets(inv.with_default(alloc, host)?),
-            AnyInv::Partners(inv) => AnyInv::Partners(inv.with_default(alloc, host)?),
-            AnyInv::Domains(inv) => AnyInv::Domains(inv.with_default(alloc, host)?),
-            AnyInv::Dependability(inv) => AnyInv::Dependability(inv.with_default(alloc, host)?),
-            AnyInv::NonInterference(inv) => {
-                AnyInv::NonInterference(inv.with_default(alloc, host)?)
-            }
-            AnyInv::NoReach(inv) => AnyInv::NoReach(inv.with_default(alloc, host)?),
-        })
+        Ok(each!(keep, self, inv => inv.with_default(alloc, host)?))
     }
 
     ghost downward = { λ any. (lawful any).downward };

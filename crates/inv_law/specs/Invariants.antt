@@ -2,7 +2,8 @@
 -- After the entry Network_Security_Policy_Verification of the Archive of Formal Proofs.
 use Rattle.std.specs.Prelude.{◌≡◌, ℕ, List, IsTrue}
 use Rattle.flow_set.specs.Conditions.{IsMinimalOffending}
-use Rattle.flow_set.specs.FlowSet.{IsFlowSet, has}
+use Rattle.flow_set.specs.FlowSet.{has}
+use Rattle.flow_set.specs.FlowSetView.{IsFlowSet}
 use Rattle.flow_set.specs.declared.flow.Flow.{Flow}
 use Rattle.inv_law.specs.declared.strategy.Strategy.{Strategy}
 use Rattle.inv_law.specs.declared.strategy.Strategy.TheVariants.{Access, Information}

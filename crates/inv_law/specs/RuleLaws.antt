@@ -2,12 +2,13 @@
 use Rattle.std.proofs.Common.{ℕ, ⊎_elim, List, [], ◌∷◌, ◌++◌, ◌∙◌, subst, sym}
 use Rattle.std.specs.Prelude.{IsTrue, ◌↔◌}
 use Rattle.std.proofs.lemmas.Bool.{false≢true, or_cases, or_left}
-use Rattle.flow_set.specs.Conditions.{IsDownward, IsEdgeWise}
+use Rattle.flow_set.specs.Downward.{IsDownward, IsEdgeWise}
 use Rattle.flow_set.specs.FlowLaws.{has-append, has_first, has-with_flow, same_fact, same_flow_self}
 use Rattle.flow_set.specs.FlowSet.{has, with_flow, without}
 use Rattle.flow_set.specs.declared.flow.Flow.{Flow}
 use Rattle.inv_law.specs.Invariants.{ResetMendsNothing}
-use Rattle.inv_law.specs.Rules.{AllFlowsPass, ResetPassesNoMore}
+use Rattle.inv_law.specs.Rules.{AllFlowsPass}
+use Rattle.inv_law.specs.Resets.{ResetPassesNoMore}
 use Rattle.inv_law.specs.declared.strategy.Strategy.{Strategy}
 
 pub AllFlowsPass-downward : (n : ℕ) (Passes : ℕ → ℕ → Type 0) → IsDownward n (AllFlowsPass Passes)

@@ -3,7 +3,7 @@
 
 ghost use Rattle.std.specs.Prelude.{◌≡◌, ◌↔◌, IsTrue, IfOk, IsSome};
 ghost use Rattle.flow_set.specs.Flow.{IsFlow};
-ghost use Rattle.flow_set.specs.FlowSet.{IsFlowSet};
+ghost use Rattle.flow_set.specs.FlowSetView.{IsFlowSet};
 ghost use Rattle.flow_set.specs.Steps.{TriedFlows, untried, stepped, taken_back};
 
 use crate::invariant::Invariant;

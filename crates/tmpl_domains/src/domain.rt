@@ -16,7 +16,8 @@ pub(crate) struct Domain {
 }
 
 impl Model for Domain {
-    ghost use Rattle.tmpl_domains.specs.Domains.{Place, IsPlace};
+    ghost use Rattle.tmpl_domains.specs.Domains.{Place};
+    ghost use Rattle.tmpl_domains.specs.DomainView.{IsPlace};
     ghost use Rattle.tmpl_domains.specs.DomainView.{segment_bytes};
 
     ghost Value = { Place };

@@ -1,7 +1,8 @@
 //! The rule of the hierarchy, for hosts that each have a place or none.
 
 ghost use Rattle.std.specs.Prelude.{◌≡◌, ◌≤◌, ◌<◌, IsTrue, IfOk, OnOk, OnErr, length, replicate, slice_set};
-ghost use Rattle.inv_law.specs.Attributes.{PassesBetween, PassesAfterReset};
+ghost use Rattle.inv_law.specs.Attributes.{PassesBetween};
+ghost use Rattle.inv_law.specs.Resets.{PassesAfterReset};
 ghost use Rattle.inv_law.specs.AttributeLaws.{ResetPassesNoMore-attributes};
 ghost use Rattle.inv_law.specs.declared.strategy.Strategy.TheVariants.{Access};
 ghost use Rattle.tmpl_domains.specs.Domains.{DomainsPass};

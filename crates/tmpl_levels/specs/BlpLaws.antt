@@ -1,11 +1,15 @@
 -- The default of the Bell-LaPadula template hides no fault.
 use Rattle.std.proofs.Common.{inl, inr, arith}
 use Rattle.std.proofs.lemmas.Bool.{false≢true}
-use Rattle.inv_law.specs.Attributes.{IsSecureDefault}
+use Rattle.inv_law.specs.Resets.{IsSecureDefault}
+use Rattle.inv_law.specs.TemplateLaws.{IsLawfulTemplate, lawful_edge}
 use Rattle.inv_law.specs.declared.strategy.Strategy.TheVariants.{Information}
-use Rattle.tmpl_levels.specs.Blp.{unclassified, BlpPasses}
+use Rattle.tmpl_levels.specs.Blp.{blp, unclassified, BlpPasses}
 
 -- what passes to an unclassified receiver is of level 0, and passes to every receiver
 pub blp_secure : IsSecureDefault Information unclassified BlpPasses
 blp_secure sender receiver (inl trusted) = absurd (false≢true trusted)
 blp_secure sender receiver (inr low) = inr (omega arith)
+
+pub blp_lawful : IsLawfulTemplate blp
+blp_lawful = lawful_edge blp.name blp.strategy unclassified BlpPasses blp_secure

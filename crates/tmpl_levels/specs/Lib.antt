@@ -2,3 +2,4 @@ pub mod Blp
 pub mod BlpLaws
 pub mod Tainting
 pub mod TaintingLaws
+pub mod TaintingView

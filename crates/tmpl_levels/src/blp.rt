@@ -2,7 +2,8 @@
 //! hosts.
 
 ghost use Rattle.std.specs.Prelude.{◌≡◌, ◌<◌, IfOk, length, replicate, slice_set};
-ghost use Rattle.inv_law.specs.Attributes.{PassesBetween, PassesAfterReset};
+ghost use Rattle.inv_law.specs.Attributes.{PassesBetween};
+ghost use Rattle.inv_law.specs.Resets.{PassesAfterReset};
 ghost use Rattle.inv_law.specs.AttributeLaws.{ResetPassesNoMore-attributes};
 ghost use Rattle.inv_law.specs.declared.strategy.Strategy.TheVariants.{Information};
 ghost use Rattle.tmpl_levels.specs.Blp.{unclassified, BlpPasses};

@@ -1,10 +1,12 @@
 //! Tainting: what a host knows has labels, which it passes on unless it takes them off.
 
 ghost use Rattle.std.specs.Prelude.{◌≡◌, ◌<◌, ◌↔◌, IsTrue, IfOk, length, replicate, slice_set};
-ghost use Rattle.inv_law.specs.Attributes.{PassesBetween, PassesAfterReset};
+ghost use Rattle.inv_law.specs.Attributes.{PassesBetween};
+ghost use Rattle.inv_law.specs.Resets.{PassesAfterReset};
 ghost use Rattle.inv_law.specs.AttributeLaws.{ResetPassesNoMore-attributes};
 ghost use Rattle.inv_law.specs.declared.strategy.Strategy.TheVariants.{Information};
-ghost use Rattle.tmpl_levels.specs.Tainting.{untainted, AreAmong, TaintsPass};
+ghost use Rattle.tmpl_levels.specs.Tainting.{untainted, TaintsPass};
+ghost use Rattle.tmpl_levels.specs.TaintingView.{AreAmong};
 ghost use Rattle.tmpl_levels.specs.TaintingLaws.{tainting_secure};
 
 use inv_law::{EdgeRule, Strategy};
@@ -41,7 +43,7 @@ pub struct Tainting {
 
 impl Model for Tainting {
     ghost use Rattle.std.specs.Prelude.{List};
-    ghost use Rattle.tmpl_levels.specs.Tainting.{AreLabelled};
+    ghost use Rattle.tmpl_levels.specs.TaintingView.{AreLabelled};
     ghost use Rattle.tmpl_levels.specs.declared.tainting.Labels.{Labels};
 
     ghost Value = { List Labels };

@@ -6,13 +6,15 @@ use Rattle.flow_set.specs.declared.flow.Flow.{Flow}
 use Rattle.flow_set.specs.Flow.{IsFlow}
 use Rattle.flow_set.specs.FlowSet.{has}
 use Rattle.flow_set.specs.FlowLaws.{has_first}
-use Rattle.flow_set.specs.Conditions.{IsDownward}
+use Rattle.flow_set.specs.Downward.{IsDownward}
 use Rattle.inv_law.specs.Invariants.{ResetMendsNothing}
 use Rattle.inv_law.specs.AttributeLaws.{get_or-set_default}
+use Rattle.inv_law.specs.TemplateLaws.{IsLawfulTemplate, lawful_walk}
 use Rattle.inv_law.specs.declared.strategy.Strategy.TheVariants.{Access}
 use Rattle.reach_core.specs.Walks.{ReachesAtMost}
 use Rattle.reach_core.specs.ReachLaws.{ReachesAtMost-within, ReachesAtMost-none, ReachesAtMost-one, sender_reaches}
-use Rattle.tmpl_reach.specs.Dependability.{IsDependable, IsDependableAfterReset}
+use Rattle.tmpl_reach.specs.Dependability.{dependability, IsDependable}
+use Rattle.tmpl_reach.specs.Resets.{IsDependableAfterReset}
 
 pub IsDependable-downward : (n : ℕ) (limits : List ℕ) → IsDownward n (IsDependable limits)
 IsDependable-downward n limits e s is_set subset holds host below =
@@ -55,3 +57,6 @@ example_beyond : IsDependable (1 ∷ 0 ∷ []) (back ∷ []) → ⊥
 example_beyond holds =
     let allows : 0 < 0 = (IsDependable-one (1 ∷ 0 ∷ []) back (omega arith, omega arith, λ same. omega arith)).1 holds in
     omega arith
+
+pub dependability_lawful : IsLawfulTemplate dependability
+dependability_lawful = lawful_walk dependability.name dependability.strategy (λ n host. 0) IsDependable IsDependable-downward IsDependable-none IsDependable-reset

@@ -4,3 +4,4 @@ pub mod NonInterference
 pub mod NonInterferenceLaws
 pub mod NoReach
 pub mod NoReachLaws
+pub mod Resets

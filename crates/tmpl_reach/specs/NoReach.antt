@@ -1,19 +1,16 @@
 -- The no-reach template: hosts that a host must not reach, on whatever way.
 -- In the manner of the template of this name in the entry Network_Security_Policy_Verification of the Archive of Formal Proofs.
-use Rattle.std.specs.Prelude.{◌≢◌, ℕ, not, ◌==◌, List, length, map, slice_index_or, slice_set, IsTrue}
-use Rattle.std.specs.List.{range_with_len}
+use Rattle.std.specs.Prelude.{◌≢◌, ℕ, not, ◌==◌, List, slice_index_or, IsTrue, codes}
 use Rattle.std.specs.FinSet as set
 use Rattle.flow_set.specs.declared.flow.Flow.{Flow}
-use Rattle.host_set.specs.HostSet.{Hosts, hosts_below}
+use Rattle.host_set.specs.HostSet.{HostNumbers as Hosts, hosts_below}
+use Rattle.inv_law.specs.Template.{Template, walk_template}
+use Rattle.inv_law.specs.declared.strategy.Strategy.TheVariants.{Access}
 use Rattle.reach_core.specs.Walks.{Reaches}
 
 -- all hosts of n but this one: what a host without an entry denies
 abbrev pub others : ℕ → ℕ → Hosts
 others n host = hosts_below n (λ other. not (other == host))
-
--- each of n hosts denies all others
-abbrev pub all_others : ℕ → List Hosts
-all_others n = map (others n) (range_with_len 0 n)
 
 -- the hosts that a host denies
 abbrev pub denied_by : List Hosts → ℕ → Hosts
@@ -27,6 +24,5 @@ ReachesNone hosts e i = (j : ℕ) → i ≢ j → IsTrue (set.contains hosts j) 
 abbrev pub ReachesNoDenied : List Hosts → List Flow → Type 0
 ReachesNoDenied denied e = (i : ℕ) → ReachesNone (denied_by denied i) e i
 
--- the same where a host denies all others
-abbrev pub ReachesNoDeniedAfterReset : List Hosts → ℕ → List Flow → Type 0
-ReachesNoDeniedAfterReset denied host = ReachesNoDenied (slice_set denied host (others (length denied) host))
+abbrev pub no_reach : Template
+no_reach = walk_template (codes "noreach") Access others ReachesNoDenied

@@ -8,38 +8,40 @@ use Rattle.flow_set.specs.declared.flow.Flow.{Flow}
 use Rattle.flow_set.specs.Flow.{IsFlow}
 use Rattle.flow_set.specs.FlowSet.{has}
 use Rattle.flow_set.specs.FlowLaws.{has_first}
-use Rattle.flow_set.specs.Conditions.{IsDownward}
+use Rattle.flow_set.specs.Downward.{IsDownward}
 use Rattle.inv_law.specs.Invariants.{ResetMendsNothing}
+use Rattle.inv_law.specs.TemplateLaws.{IsLawfulTemplate, lawful_walk}
 use Rattle.inv_law.specs.declared.strategy.Strategy.TheVariants.{Access}
-use Rattle.host_set.specs.HostSet.{Hosts}
+use Rattle.host_set.specs.HostSet.{HostNumbers}
 use Rattle.host_set.specs.HostSetLaws.{contains-hosts_below, hosts_ext}
 use Rattle.reach_core.specs.ReachLaws.{Reaches-within, Reaches-none, Reaches-one, reaches_over}
-use Rattle.tmpl_reach.specs.NoReach.{others, denied_by, ReachesNoDenied, ReachesNoDeniedAfterReset}
+use Rattle.tmpl_reach.specs.NoReach.{no_reach, others, denied_by, ReachesNoDenied}
+use Rattle.tmpl_reach.specs.Resets.{ReachesNoDeniedAfterReset}
 
-pub ReachesNoDenied-downward : (n : ℕ) (denied : List Hosts) → IsDownward n (ReachesNoDenied denied)
+pub ReachesNoDenied-downward : (n : ℕ) (denied : List HostNumbers) → IsDownward n (ReachesNoDenied denied)
 ReachesNoDenied-downward n denied e s is_set subset holds i j apart denies reaches =
     holds i j apart denies (Reaches-within s e subset.within i j reaches)
 
-pub ReachesNoDenied-none : (denied : List Hosts) → ReachesNoDenied denied []
+pub ReachesNoDenied-none : (denied : List HostNumbers) → ReachesNoDenied denied []
 ReachesNoDenied-none denied i j apart denies reaches = Reaches-none i j reaches
 
 pub contains-others : (n host j : ℕ) → set.contains (others n host) j ≡ (nat_lt j n && not (nat_eq j host))
 contains-others n host j = contains-hosts_below n (λ other. not (nat_eq other host)) j
 
 -- an offending host sends, so it reaches another, and denies it after its reset
-pub ReachesNoDenied-reset : (denied : List Hosts) → ResetMendsNothing (length denied) Access (ReachesNoDenied denied) (ReachesNoDeniedAfterReset denied)
+pub ReachesNoDenied-reset : (denied : List HostNumbers) → ResetMendsNothing (length denied) Access (ReachesNoDenied denied) (ReachesNoDeniedAfterReset denied)
 ReachesNoDenied-reset denied e f host is_set minimal offending holds =
     let g : Flow = offending.flow in
     let in_e : IsTrue (has e g) = minimal.within.within g offending.offends in
     let is_flow : IsFlow (length denied) g = is_set.flows g in_e in
-    let all : Hosts = others (length denied) g.from in
+    let all : HostNumbers = others (length denied) g.from in
     let apart : g.to ≢ g.from = λ same. is_flow.2 (sym same) in
     let denies : IsTrue (set.contains all g.to) = contains-others (length denied) g.from g.to ∙ and_from _ _ (lt-ltb _ _ is_flow.1) (not_from_false _ (ne_eqb _ _ apart)) in
     let after : ReachesNoDenied (slice_set denied g.from all) e = subst (λ h. ReachesNoDenied (slice_set denied h (others (length denied) h)) e) (sym offending.blamed) holds in
     after g.from g.to is_flow.2 (ap (λ s. set.contains s g.to) (get_or-set_same denied g.from all set.empty is_flow.0) ∙ denies) (reaches_over e g in_e)
 
 -- one flow alone: its sender reaches its receiver
-pub ReachesNoDenied-one : (denied : List Hosts) (f : Flow) → IsFlow (length denied) f → (IsTrue (set.contains (denied_by denied f.from) f.to) → ⊥) ↔ ReachesNoDenied denied (f ∷ [])
+pub ReachesNoDenied-one : (denied : List HostNumbers) (f : Flow) → IsFlow (length denied) f → (IsTrue (set.contains (denied_by denied f.from) f.to) → ⊥) ↔ ReachesNoDenied denied (f ∷ [])
 ReachesNoDenied-one denied f is_flow = (
   λ allows i j apart denies reaches.
       let ends = Reaches-one f i j reaches in
@@ -60,3 +62,6 @@ example_chain : ReachesNoDenied (set.from_list (2 ∷ []) ∷ set.empty ∷ set.
 example_chain holds =
     holds 0 2 (λ same. omega arith) (set.contains-from_list_nat (2 ∷ []) 2)
     (record { from = 0; to = 1 }, record { from = 1; to = 2 } ∷ [], (refl, refl, (refl, refl, refl)))
+
+pub no_reach_lawful : IsLawfulTemplate no_reach
+no_reach_lawful = lawful_walk no_reach.name no_reach.strategy others ReachesNoDenied ReachesNoDenied-downward ReachesNoDenied-none ReachesNoDenied-reset

@@ -1,7 +1,9 @@
 -- The non-interference template: hosts that must not learn of each other. Whatever joins two of them counts, in either direction.
 -- After the entry Network_Security_Policy_Verification of the Archive of Formal Proofs.
-use Rattle.std.specs.Prelude.{◌≡◌, ◌≢◌, ℕ, List, slice_index_or, slice_set}
+use Rattle.std.specs.Prelude.{◌≡◌, ◌≢◌, ℕ, List, slice_index_or, codes}
 use Rattle.flow_set.specs.declared.flow.Flow.{Flow}
+use Rattle.inv_law.specs.Template.{Template, walk_template}
+use Rattle.inv_law.specs.declared.strategy.Strategy.TheVariants.{Information}
 use Rattle.reach_core.specs.Walks.{Joined}
 use Rattle.tmpl_reach.specs.declared.non_interference.Interference.{Interference}
 use Rattle.tmpl_reach.specs.declared.non_interference.Interference.TheVariants.{Interfering, Unrelated}
@@ -18,6 +20,5 @@ IsApart hosts e i = (j : ℕ) → i ≢ j → IsInterfering hosts j → Joined e
 abbrev pub IsNonInterfering : List Interference → List Flow → Type 0
 IsNonInterfering hosts e = (i : ℕ) → IsInterfering hosts i → IsApart hosts e i
 
--- the same where a host is interfering
-abbrev pub IsNonInterferingAfterReset : List Interference → ℕ → List Flow → Type 0
-IsNonInterferingAfterReset hosts host = IsNonInterfering (slice_set hosts host Interfering)
+abbrev pub non_interference : Template
+non_interference = walk_template (codes "noninterference") Information (λ n host. Interfering) IsNonInterfering

@@ -6,13 +6,15 @@ use Rattle.flow_set.specs.declared.flow.Flow.{Flow}
 use Rattle.flow_set.specs.Flow.{IsFlow, same_flow}
 use Rattle.flow_set.specs.FlowSet.{has, with_flow, without}
 use Rattle.flow_set.specs.FlowLaws.{has_first, has-with_flow, has-without, same_flow-true}
-use Rattle.flow_set.specs.Conditions.{IsDownward}
+use Rattle.flow_set.specs.Downward.{IsDownward}
 use Rattle.inv_law.specs.Invariants.{ResetMendsNothing}
+use Rattle.inv_law.specs.TemplateLaws.{IsLawfulTemplate, lawful_walk}
 use Rattle.inv_law.specs.declared.strategy.Strategy.TheVariants.{Information}
 use Rattle.reach_core.specs.Walks.{Joined, has_either}
 use Rattle.reach_core.specs.WalkLaws.{cases_path}
 use Rattle.reach_core.specs.ReachLaws.{Joined-within, Joined-none, Joined-one, joined_over, joined_through}
-use Rattle.tmpl_reach.specs.NonInterference.{IsInterfering, IsNonInterfering, IsNonInterferingAfterReset}
+use Rattle.tmpl_reach.specs.NonInterference.{non_interference, IsInterfering, IsNonInterfering}
+use Rattle.tmpl_reach.specs.Resets.{IsNonInterferingAfterReset}
 use Rattle.tmpl_reach.specs.declared.non_interference.Interference.{Interference}
 use Rattle.tmpl_reach.specs.declared.non_interference.Interference.TheVariants.{Interfering, Unrelated}
 
@@ -87,3 +89,6 @@ example_meeting : IsNonInterfering (Interfering ∷ Interfering ∷ Unrelated �
 example_meeting holds =
     holds 0 refl 1 (λ same. omega arith) refl
     (record { from = 0; to = 2 }, record { from = 2; to = 1 } ∷ [], (refl, refl, (refl, refl, refl)))
+
+pub non_interference_lawful : IsLawfulTemplate non_interference
+non_interference_lawful = lawful_walk non_interference.name non_interference.strategy (λ n host. Interfering) IsNonInterfering IsNonInterfering-downward IsNonInterfering-none IsNonInterfering-reset

@@ -4,7 +4,8 @@
 ghost use Rattle.std.specs.Prelude.{◌≡◌, ◌<◌, ◌↔◌, IfOk, IsTrue, false, length, replicate, slice_set};
 ghost use Rattle.std.proofs.lemmas.Bool.{false≢true};
 ghost use Rattle.inv_law.specs.declared.strategy.Strategy.TheVariants.{Access};
-ghost use Rattle.tmpl_reach.specs.Dependability.{IsDependable, IsDependableAfterReset};
+ghost use Rattle.tmpl_reach.specs.Dependability.{IsDependable};
+ghost use Rattle.tmpl_reach.specs.Resets.{IsDependableAfterReset};
 ghost use Rattle.tmpl_reach.specs.DependabilityLaws.{IsDependable-downward, IsDependable-none, IsDependable-reset};
 
 use crate::trial::ReachTrial;

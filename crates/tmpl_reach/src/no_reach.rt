@@ -4,7 +4,9 @@ ghost use Rattle.std.specs.Prelude.{◌≡◌, ◌≢◌, ◌<◌, ◌≤◌, �
 ghost use Rattle.std.specs.FinSet as set;
 ghost use Rattle.std.proofs.lemmas.Bool.{false≢true};
 ghost use Rattle.inv_law.specs.declared.strategy.Strategy.TheVariants.{Access};
-ghost use Rattle.tmpl_reach.specs.NoReach.{others, all_others, denied_by, ReachesNoDenied, ReachesNoDeniedAfterReset, ReachesNone};
+ghost use Rattle.tmpl_reach.specs.NoReach.{others, denied_by, ReachesNoDenied, ReachesNone};
+ghost use Rattle.tmpl_reach.specs.Resets.{all_others};
+ghost use Rattle.tmpl_reach.specs.Resets.{ReachesNoDeniedAfterReset};
 ghost use Rattle.tmpl_reach.specs.NoReachLaws.{ReachesNoDenied-downward, ReachesNoDenied-none, ReachesNoDenied-reset};
 
 use crate::trial::ReachTrial;
@@ -24,9 +26,9 @@ impl Model for NoReach {
     ghost use Rattle.std.specs.Prelude.{List, length, ◌≤◌};
     ghost use Rattle.std.specs.Coded.{coded_list, coded_ℕ};
     ghost use Rattle.std.specs.FinSet as set;
-    ghost use Rattle.host_set.specs.HostSet.{Hosts};
+    ghost use Rattle.host_set.specs.HostSet.{HostNumbers};
 
-    ghost Value = { List Hosts };
+    ghost Value = { List HostNumbers };
 
     ghost coded = { coded_list (set.code coded_ℕ) };
 

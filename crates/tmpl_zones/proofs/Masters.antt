@@ -3,7 +3,8 @@ use Rattle.std.proofs.Common.{◌≡◌, ℕ, ◌<◌, Bool, true, false, List, 
 use Rattle.std.specs.Prelude.{◌⊎◌, ◌↔◌, IsTrue}
 use Rattle.std.proofs.lemmas.Bool.{false≢true, cases_eq}
 use Rattle.std.proofs.lemmas.List.{get_or-set_same, get_or-replicate}
-use Rattle.tmpl_zones.specs.Partners.{Partner, DontCare, Care, Master, IsMaster, PartnersPass, partners_passes, with_sender}
+use Rattle.tmpl_zones.specs.Partners.{Partner, DontCare, Care, Master, PartnersPass, partners_passes, with_sender}
+use Rattle.tmpl_zones.specs.PartnersView.{IsMaster}
 
 -- a mark for each host
 abbrev pub marks_of : Partner → List Bool

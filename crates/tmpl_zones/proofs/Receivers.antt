@@ -2,7 +2,8 @@
 use Rattle.std.proofs.Common.{◌≡◌, ℕ, ◌+◌, ◌<◌, Bool, true, List, [], ◌∷◌, ◌++◌, length, map, take, get_or, set, refl, sym, ◌∙◌, ap, subst, arith}
 use Rattle.std.proofs.lemmas.List.{map-set, get_or-map, length-map, map_push, take_more}
 use Rattle.std.proofs.lemmas.List.Elements.{All-get_or}
-use Rattle.tmpl_zones.specs.Partners.{Partner, DontCare, IsMaster, with_sender}
+use Rattle.tmpl_zones.specs.Partners.{Partner, DontCare, with_sender}
+use Rattle.tmpl_zones.specs.PartnersView.{IsMaster}
 use Rattle.tmpl_zones.proofs.Masters.{marks_of}
 use Rattle.tmpl_zones.specs.PartnersView.{partner_of, attribute_by, HasRooms}
 use Rattle.tmpl_zones.specs.declared.partners.Receiver.{Receiver}

@@ -1,9 +1,10 @@
 -- The default of the security gateway template hides no fault.
 use Rattle.std.specs.Prelude.{refl}
-use Rattle.inv_law.specs.Attributes.{IsSecureDefault}
+use Rattle.inv_law.specs.Resets.{IsSecureDefault}
+use Rattle.inv_law.specs.TemplateLaws.{IsLawfulTemplate, lawful_edge}
 use Rattle.inv_law.specs.declared.strategy.Strategy.TheVariants.{Access}
 use Rattle.tmpl_zones.specs.Kinds.{TablePasses}
-use Rattle.tmpl_zones.specs.Gateway.{gateway_passes}
+use Rattle.tmpl_zones.specs.Gateway.{gateways, gateway_passes}
 use Rattle.tmpl_zones.specs.declared.gateway.GateKind.TheVariants.{Member, Accessible, Unassigned}
 
 -- whom an unassigned sender reaches, every sender reaches
@@ -12,3 +13,6 @@ gateway_secure Member Member passes = passes
 gateway_secure Accessible Member passes = passes
 gateway_secure Unassigned receiver passes = passes
 gateway_secure sender receiver passes = refl
+
+pub gateways_lawful : IsLawfulTemplate gateways
+gateways_lawful = lawful_edge gateways.name gateways.strategy Unassigned (TablePasses gateway_passes) gateway_secure

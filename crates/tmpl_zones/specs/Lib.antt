@@ -8,3 +8,4 @@ pub mod Sink
 pub mod SinkLaws
 pub mod Subnets
 pub mod SubnetsLaws
+pub mod Resets

@@ -1,7 +1,10 @@
 -- The communication partners template: whom a host takes packets from.
 -- In the manner of the template of this name of Network_Security_Policy_Verification in the Archive of Formal Proofs, with the table of docs/FORMATS.md.
-use Rattle.std.specs.Prelude.{ℕ, Bool, true, false, List, slice_index_or, slice_set}
-use Rattle.inv_law.specs.Attributes.{PassesBetween, PassesAfterReset}
+use Rattle.std.specs.Prelude.{ℕ, Bool, true, false, List, codes, slice_index_or, slice_set}
+use Rattle.inv_law.specs.Attributes.{PassesBetween}
+use Rattle.inv_law.specs.Rules.{AllFlowsPass}
+use Rattle.inv_law.specs.Template.{Template, edge_template}
+use Rattle.inv_law.specs.declared.strategy.Strategy.TheVariants.{Access}
 use Rattle.tmpl_zones.specs.Kinds.{TablePasses}
 
 -- a host takes from all hosts, from all but those that do not care, or from those whose numbers are marked
@@ -18,12 +21,9 @@ partners_passes from Care Care = true
 partners_passes from (Master takes_from) Care = true
 partners_passes from sender (Master takes_from) = slice_index_or takes_from from false
 
--- a flow passes between two hosts, and does so with the default attribute at one host
+-- a flow passes between two hosts
 abbrev pub PartnersPass : List Partner → ℕ → ℕ → Type 0
 PartnersPass partners from to = PassesBetween DontCare (TablePasses (partners_passes from)) partners from to
-
-abbrev pub PartnersPassAfterReset : List Partner → ℕ → ℕ → ℕ → Type 0
-PartnersPassAfterReset partners host from to = PassesAfterReset DontCare (TablePasses (partners_passes from)) partners host from to
 
 -- a master with one more sender marked
 abbrev pub with_sender : Partner → ℕ → Partner
@@ -31,8 +31,8 @@ with_sender DontCare sender = DontCare
 with_sender Care sender = Care
 with_sender (Master takes_from) sender = Master (slice_set takes_from sender true)
 
--- the host has a list of senders
-abbrev pub IsMaster : Partner → Type 0
-IsMaster DontCare = ⊥
-IsMaster Care = ⊥
-IsMaster (Master takes_from) = Unit {0}
+-- each flow is judged alone, by the attributes of its two hosts and the number of its sender
+abbrev pub partners : Template
+partners = record (edge_template (codes "partners") Access DontCare (λ sender receiver. Unit {0})) {
+  Holds = λ hosts. AllFlowsPass (PartnersPass hosts);
+}

@@ -18,3 +18,9 @@ partner_of receiver = attribute_by receiver.taking receiver.from.items
 pub record HasRooms (receivers : List Receiver) : Type 0 where
   pub few : length receivers < 2 ^ 16
   pub rows : All (λ receiver. length receiver.from.items ≡ length receivers) receivers
+
+-- the host has a list of senders
+abbrev pub IsMaster : Partner → Type 0
+IsMaster DontCare = ⊥
+IsMaster Care = ⊥
+IsMaster (Master takes_from) = Unit {0}

@@ -1,6 +1,9 @@
 -- The sink template: a sink sends to nobody; a pool sends to pools and sinks; an unassigned host sends to all.
 -- In the manner of the template of this name of Network_Security_Policy_Verification in the Archive of Formal Proofs, with the table of docs/FORMATS.md.
-use Rattle.std.specs.Prelude.{Bool, true, false}
+use Rattle.std.specs.Prelude.{Bool, true, false, codes}
+use Rattle.inv_law.specs.Template.{Template, edge_template}
+use Rattle.inv_law.specs.declared.strategy.Strategy.TheVariants.{Information}
+use Rattle.tmpl_zones.specs.Kinds.{TablePasses}
 use Rattle.tmpl_zones.specs.declared.sink.SinkKind.{SinkKind}
 use Rattle.tmpl_zones.specs.declared.sink.SinkKind.TheVariants.{Sink, Pool, Unassigned}
 
@@ -11,3 +14,6 @@ sink_passes Pool Sink = true
 sink_passes Pool Pool = true
 sink_passes Pool Unassigned = false
 sink_passes Unassigned receiver = true
+
+abbrev pub sinks : Template
+sinks = edge_template (codes "sink") Information Unassigned (TablePasses sink_passes)

@@ -1,6 +1,9 @@
 -- The subnets template: a subnet sends within its number, and borders send to each other.
 -- In the manner of the template of this name of Network_Security_Policy_Verification in the Archive of Formal Proofs, with the table of docs/FORMATS.md.
-use Rattle.std.specs.Prelude.{Bool, true, false, ◌==◌}
+use Rattle.std.specs.Prelude.{Bool, true, false, ◌==◌, codes}
+use Rattle.inv_law.specs.Template.{Template, edge_template}
+use Rattle.inv_law.specs.declared.strategy.Strategy.TheVariants.{Access}
+use Rattle.tmpl_zones.specs.Kinds.{TablePasses}
 use Rattle.tmpl_zones.specs.declared.subnets.NetKind.{NetKind}
 use Rattle.tmpl_zones.specs.declared.subnets.NetKind.TheVariants.{Subnet, Border, Unassigned}
 
@@ -13,3 +16,6 @@ subnets_passes (Border a) (Border b) = true
 subnets_passes Unassigned (Subnet b) = false
 subnets_passes Unassigned (Border b) = false
 subnets_passes sender Unassigned = true
+
+abbrev pub subnets : Template
+subnets = edge_template (codes "subnets") Access Unassigned (TablePasses subnets_passes)

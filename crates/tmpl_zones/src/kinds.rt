@@ -1,7 +1,8 @@
 //! The shape of the zone rules: each host has a kind, and a table of kinds says what passes.
 
 ghost use Rattle.std.specs.Prelude.{◌≡◌, ◌<◌, Bool, IfOk, length, replicate, slice_set};
-ghost use Rattle.inv_law.specs.Attributes.{PassesBetween, PassesAfterReset, IsSecureDefault};
+ghost use Rattle.inv_law.specs.Attributes.{PassesBetween};
+ghost use Rattle.inv_law.specs.Resets.{PassesAfterReset, IsSecureDefault};
 ghost use Rattle.inv_law.specs.AttributeLaws.{ResetPassesNoMore-attributes};
 ghost use Rattle.inv_law.specs.declared.strategy.Strategy.{Strategy};
 ghost use Rattle.tmpl_zones.specs.Kinds.{TablePasses};

@@ -3,7 +3,9 @@
 
 ghost use Rattle.std.specs.Prelude.{◌≡◌, ◌≢◌, ◌<◌, ◌↔◌, ◌⊎◌, ℕ, true, false, IsTrue, IfOk, length, replicate, slice_index_or, slice_set};
 ghost use Rattle.inv_law.specs.declared.strategy.Strategy.TheVariants.{Access};
-ghost use Rattle.tmpl_zones.specs.Partners.{Partner, DontCare, Care, Master, PartnersPass, PartnersPassAfterReset, IsMaster, with_sender};
+ghost use Rattle.tmpl_zones.specs.Partners.{Partner, DontCare, Care, Master, PartnersPass, with_sender};
+ghost use Rattle.tmpl_zones.specs.PartnersView.{IsMaster};
+ghost use Rattle.tmpl_zones.specs.Resets.{PartnersPassAfterReset};
 ghost use Rattle.tmpl_zones.specs.PartnersLaws.{partners_reset};
 
 use inv_law::{EdgeRule, Strategy};

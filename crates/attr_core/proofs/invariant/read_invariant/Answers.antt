@@ -1,32 +1,23 @@
-use Rattle.std.proofs.Common.{◌≡◌, ◌<◌, Some, map, length, subst}
-use Rattle.std.proofs.lemmas.List.{length-map}
-use Rattle.inv_any.specs.Templates.{template_name}
+use Rattle.std.proofs.Common.{◌≡◌, Some, map, length, sym, subst}
+use Rattle.inv_any.specs.Templates.{meaning_of, template_name}
 use Rattle.inv_any.specs.declared.any_inv.AnyInv.{AnyInv}
-use Rattle.attr_core.specs.Assigned.{IsAsAssigned}
-use Rattle.attr_core.specs.Assigns.{given_of}
-use Rattle.attr_core.specs.Invariants.{invariant_in}
-use Rattle.attr_core.specs.InvariantsLaws.{gave, gave_refused, invariant_assigned, invariant_named, refused_at, refused_within}
+use Rattle.attr_core.specs.AssignView.{given_of}
 use Rattle.attr_core.specs.Templates.{template_named}
+use Rattle.attr_core.specs.TemplatesLaws.{invariant_named, invariant_sized, made_is, made_of_all}
 use Rattle.attr_core.proofs.invariant.read_invariant.Goals as goal
 
-pub returns-clause-named : goal.returns-clause-named
-returns-clause-named c =
-    let assigns = map given_of c.args.assigns.now in
-    gave (λ (any : AnyInv). template_named (template_name any) ≡ Some c.args.template) (invariant_in c.args.hosts.now c.args.template assigns) c.by_template.result (invariant_named c.args.hosts.now c.args.template assigns) c.by_template.ensures.invariant
+pub memory-requires : goal.memory-requires
+memory-requires c = made_of_all c.args.hosts.now c.args.template (map given_of c.args.assigns.now) c.in-Err.fault c.requires.good c.in-Err.ensures
 
-pub returns-clause-assigned : goal.returns-clause-assigned
-returns-clause-assigned c =
-    let assigns = map given_of c.args.assigns.now in
-    gave (IsAsAssigned c.args.hosts.now c.args.template assigns) (invariant_in c.args.hosts.now c.args.template assigns) c.by_template.result (invariant_assigned c.args.hosts.now c.args.template assigns) c.by_template.ensures.invariant
+pub returns-in-Ok-clause-invariant : goal.returns-in-Ok-clause-invariant
+returns-in-Ok-clause-invariant c = made_is c.args.hosts.now c.args.template (map given_of c.args.assigns.now) c.in-Ok.invariant c.requires.good c.in-Ok.ensures
 
-pub returns-clause-refused : goal.returns-clause-refused
-returns-clause-refused c assign is =
-    let assigns = map given_of c.args.assigns.now in
-    refused_at c.args.hosts.now c.args.template assigns assign (gave_refused c.args.hosts.now c.args.template assigns c.by_template.result c.by_template.ensures.invariant assign is)
+pub returns-in-Ok-clause-size : goal.returns-in-Ok-clause-size
+returns-in-Ok-clause-size c =
+    let is = made_is c.args.hosts.now c.args.template (map given_of c.args.assigns.now) c.in-Ok.invariant c.requires.good c.in-Ok.ensures in
+    subst (λ (inv : AnyInv). (meaning_of inv).size ≡ length c.args.hosts.now) (sym is) (invariant_sized c.args.hosts.now c.args.template (map given_of c.args.assigns.now))
 
-pub returns-clause-within : goal.returns-clause-within
-returns-clause-within c assign is =
-    let assigns = map given_of c.args.assigns.now in
-    let within : assign < length assigns =
-    refused_within c.args.hosts.now c.args.template assigns assign (gave_refused c.args.hosts.now c.args.template assigns c.by_template.result c.by_template.ensures.invariant assign is) in
-    subst (λ n. assign < n) (length-map c.args.assigns.now given_of) within
+pub returns-in-Ok-clause-named : goal.returns-in-Ok-clause-named
+returns-in-Ok-clause-named c =
+    let is = made_is c.args.hosts.now c.args.template (map given_of c.args.assigns.now) c.in-Ok.invariant c.requires.good c.in-Ok.ensures in
+    subst (λ (inv : AnyInv). template_named (template_name inv) ≡ Some c.args.template) (sym is) (invariant_named c.args.hosts.now c.args.template (map given_of c.args.assigns.now))

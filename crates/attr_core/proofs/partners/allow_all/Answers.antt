@@ -4,7 +4,8 @@ use Rattle.toml.specs.Data.{Data}
 use Rattle.toml.specs.View.{view}
 use Rattle.table_core.specs.Listing.{grow}
 use Rattle.table_core.specs.ListingLaws.{grow_each}
-use Rattle.tmpl_zones.specs.Partners.{Partner, DontCare, Care, Master, IsMaster, with_sender}
+use Rattle.tmpl_zones.specs.Partners.{Partner, DontCare, Care, Master, with_sender}
+use Rattle.tmpl_zones.specs.PartnersView.{IsMaster}
 use Rattle.attr_core.specs.Partners.{master_of}
 use Rattle.attr_core.specs.Peers.{peer}
 use Rattle.attr_core.proofs.AtHost.{begun_at, grown_at, rest_from}

@@ -1,7 +1,7 @@
 use Rattle.std.proofs.Common.{◌≡◌, sym, ◌∙◌, ap, add-one, not, nat_eq, Bool, ℕ, suc, ◌+◌}
 use Rattle.std.specs.FinSet as set
 use Rattle.std.proofs.lemmas.Bool.{cond-true, cond-false, not_from_false, not_from_true, ne_eqb, eq-eqb}
-use Rattle.host_set.specs.HostSet.{Hosts, hosts_below}
+use Rattle.host_set.specs.HostSet.{HostNumbers, hosts_below}
 use Rattle.tmpl_reach.proofs.no_reach.others.Goals as goal
 use Rattle.tmpl_reach.proofs.no_reach.others.Goals.{then-other-host, else-other-host}
 
@@ -17,7 +17,7 @@ loop-other-preserved c =
     let one_more : hosts_below (other + 1) test ≡ hosts_below (suc other) test = ap (λ n. hosts_below n test) (add-one other) in
     elim c.if-other-host.branch [
       | then-other-host w ↦
-          w.all-is ∙ w.insert.ensures ∙ ap (λ (s : Hosts). set.insert s other) c.loop-other.invariant
+          w.all-is ∙ w.insert.ensures ∙ ap (λ (s : HostNumbers). set.insert s other) c.loop-other.invariant
           ∙ sym (one_more ∙ cond-true (test other) _ _ (not_from_false _ (ne_eqb _ _ w.if-other-host.true)))
       | else-other-host w ↦
           w.all-is ∙ c.loop-other.invariant ∙ sym (one_more ∙ cond-false (test other) _ _ (not_from_true _ (eq-eqb _ _ w.if-other-host.false)))

@@ -1,6 +1,6 @@
 use Rattle.std.proofs.Common.{List, ◌∷◌, [], ◌++◌, ap, sym, ◌∙◌, arith, zero-add, length}
 use Rattle.std.proofs.lemmas.List.FromFn.{map-range_with_len_more, length-map-range_with_len}
-use Rattle.host_set.specs.HostSet.{Hosts}
+use Rattle.host_set.specs.HostSet.{HostNumbers}
 use Rattle.tmpl_reach.specs.NoReach.{others}
 use Rattle.tmpl_reach.proofs.no_reach.NoReach.new.Goals as goal
 
@@ -11,5 +11,5 @@ loop-host-preserved c =
 
 pub invariant_of-result : goal.invariant_of-result
 invariant_of-result c =
-    let counted = ap (λ (xs : List Hosts). length xs) c.loop-host.invariant ∙ length-map-range_with_len (others c.args.n) 0 c.loop-host.host in
+    let counted = ap (λ (xs : List HostNumbers). length xs) c.loop-host.invariant ∙ length-map-range_with_len (others c.args.n) 0 c.loop-host.host in
     omega (arith, counted)

@@ -1,7 +1,8 @@
 use Rattle.std.proofs.Common.{◌≡◌, ◌<◌, List, length, ◌∙◌, sym, ap, arith, subst}
 use Rattle.std.proofs.lemmas.List.{get_or_read}
 use Rattle.std.specs.FinSet as set
-use Rattle.host_set.specs.HostSet.{Hosts, AreApart}
+use Rattle.host_set.specs.HostSet.{HostNumbers}
+use Rattle.host_set.specs.Calls.{AreApart}
 use Rattle.reach_core.specs.Walks.{Reaches}
 use Rattle.tmpl_reach.specs.NoReach.{denied_by}
 use Rattle.tmpl_reach.proofs.OtherHosts.{apart_but}
@@ -13,10 +14,10 @@ remove-requires c = omega (arith, c.requires.host, c.requires.size, c.size.ensur
 pub returns : goal.returns
 returns c =
     let host = c.args.host in
-    let within : host < length c.self.inside.denied.items = subst (λ (xs : List Hosts). host < length xs) (sym c.self.view_is) c.requires.host in
+    let within : host < length c.self.inside.denied.items = subst (λ (xs : List HostNumbers). host < length xs) (sym c.self.view_is) c.requires.host in
     let denied : c.index.result.now ≡ denied_by c.args.self.now host =
-    get_or_read c.self.inside.denied.items host c.index.result.now within c.index.ensures set.empty ∙ ap (λ (xs : List Hosts). denied_by xs host) c.self.view_is in
-    let law = apart_but c.reached_from.result.now c.remove.new.self (denied_by c.args.self.now host) host (Reaches c.args.closure.now.flows host) c.reached_from.ensures (c.remove.ensures ∙ ap (λ (s : Hosts). set.remove s host) c.copy-others.ensures) in (
+    get_or_read c.self.inside.denied.items host c.index.result.now within c.index.ensures set.empty ∙ ap (λ (xs : List HostNumbers). denied_by xs host) c.self.view_is in
+    let law = apart_but c.reached_from.result.now c.remove.new.self (denied_by c.args.self.now host) host (Reaches c.args.closure.now.flows host) c.reached_from.ensures (c.remove.ensures ∙ ap (λ (s : HostNumbers). set.remove s host) c.copy-others.ensures) in (
       λ yes. law.0 (subst (AreApart c.remove.new.self) denied (c.is_apart.ensures.0 yes)),
       λ none. c.is_apart.ensures.1 (subst (AreApart c.remove.new.self) (sym denied) (law.1 none)),
     )

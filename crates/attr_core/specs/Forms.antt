@@ -1,0 +1,45 @@
+-- A template as a description writes it, in one record; and what the assigns of an invariant come to, once for all templates: the first assign that says no attribute, and the attribute of each host.
+use Rattle.std.specs.Prelude.{ℕ, ◌==◌, List, [], ◌∷◌, ◌++◌, length, map, Option, Some, None, is_some, unwrap_or, if◌then◌else◌}
+use Rattle.std.specs.List.{range_with_len}
+use Rattle.std.specs.Option.{option_or}
+use Rattle.host_net.specs.Host.{Host}
+use Rattle.inv_any.specs.declared.any_inv.AnyInv.{AnyInv}
+use Rattle.inv_law.specs.Template.{Template}
+use Rattle.attr_core.specs.Assigns.{Given}
+use Rattle.table_core.specs.Keys.{Key}
+use Rattle.attr_core.specs.Shapes.{has_shape}
+
+-- the template, the shapes that the table of an assign may have, the attribute that an assign of such a shape says among these hosts and after these earlier assigns, if it says one, and the invariant of the attributes
+pub record Form : Type 1 where
+  pub template : Template
+  pub shapes : List (List Key)
+  pub reads : List Host → List Given → Given → Option template.Attribute
+  pub make : List template.Attribute → AnyInv
+
+-- the attribute that an assign says; one of another shape says none
+abbrev pub says : (form : Form) → List Host → List Given → Given → Option form.template.Attribute
+says form hosts earlier a = if has_shape form.shapes a.table then form.reads hosts earlier a else None
+
+-- what the last assign that names the host says
+abbrev pub last_said : {A : Type 0} → (List Given → Given → Option A) → List Given → ℕ → List Given → Option A
+last_said says earlier host [] = None
+last_said says earlier host (a ∷ rest) = option_or (last_said says (earlier ++ a ∷ []) host rest) (if a.host == host then says earlier a else None)
+
+-- the attributes of n hosts: each has what the last assign that names it says, or its default
+abbrev pub assigned : {A : Type 0} → (List Given → Given → Option A) → (ℕ → A) → ℕ → List Given → List A
+assigned says default n assigns = map (λ host. unwrap_or (last_said says [] host assigns) (default host)) (range_with_len 0 n)
+
+-- the number, from 0, of the first assign that says no attribute; the earlier ones do not count
+abbrev pub bad_from : {A : Type 0} → (List Given → Given → Option A) → List Given → List Given → Option ℕ
+bad_from says earlier [] = None
+bad_from says earlier (a ∷ rest) = if is_some (says earlier a) then bad_from says (earlier ++ a ∷ []) rest else Some (length earlier)
+
+abbrev pub bad_assign : Form → List Host → List Given → Option ℕ
+bad_assign form hosts assigns = bad_from (says form hosts) [] assigns
+
+abbrev pub attributes_in : (form : Form) → List Host → List Given → List form.template.Attribute
+attributes_in form hosts assigns = assigned (says form hosts) (form.template.default (length hosts)) (length hosts) assigns
+
+-- the invariant whose hosts have the attributes that are assigned
+abbrev pub invariant_by : Form → List Host → List Given → AnyInv
+invariant_by form hosts assigns = form.make (attributes_in form hosts assigns)

@@ -1,0 +1,20 @@
+//! The shapes of an assign's table: which keys it has, and what stands at them.
+ghost use Rattle.std.specs.Prelude.{◌≡◌, map};
+ghost use Rattle.attr_core.specs.Shapes.{of_shape};
+ghost use Rattle.table_core.specs.KeyView.{key_view};
+ghost use Rattle.toml.specs.View.{table_view};
+
+use table_core::{Key, Kind, all_suit, has_only_keys, lacks_key};
+use toml::Table;
+
+/// The name of the host, which each assign has.
+pub(crate) const HOST: Key = Key::Needed("host", Kind::Text);
+
+/// Whether the table has the keys of a shape: no others, those that it must have, and at each of them a
+/// value of its kind.
+#[tactic(auto, unfolding(crate::specs::Shapes::of_shape))]
+pub(crate) fn of_shape(table: &Table, keys: &[Key]) -> bool
+    ensures { result ≡ of_shape (table_view table.now) (map key_view keys.now) }
+{
+    has_only_keys(table, keys) && !lacks_key(table, keys) && all_suit(table, keys)
+}

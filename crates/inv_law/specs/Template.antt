@@ -1,0 +1,61 @@
+-- A template as one record: all that is said of it but how a description writes its attributes.
+-- What an invariant of the template means is derived from the record and the attributes of the hosts.
+use Rattle.std.specs.Prelude.{ℕ, Bool, true, false, List, length, slice_set}
+use Rattle.flow_set.specs.declared.flow.Flow.{Flow}
+use Rattle.inv_law.specs.Attributes.{PassesBetween}
+use Rattle.inv_law.specs.Rules.{AllFlowsPass}
+use Rattle.inv_law.specs.declared.strategy.Strategy.{Strategy}
+
+-- its name in descriptions and reports, whom it blames, whether it judges flows one by one, what a host's attribute is,
+-- the attribute of a host of n hosts to which none is given, and what the attributes of all hosts ask of a set of flows
+pub record Template : Type 1 where
+  pub name : List ℕ
+  pub strategy : Strategy
+  pub edge_mark : Bool
+  pub Attribute : Type 0
+  pub default : ℕ → ℕ → Attribute
+  pub Holds : List Attribute → List Flow → Type 0
+
+-- the number of hosts, whom a flow is blamed on, whether flows are judged one by one, what it holds on, and the same with the default at a host
+pub record Meaning : Type 1 where
+  pub size : ℕ
+  pub strategy : Strategy
+  pub edge_mark : Bool
+  pub holds_on : List Flow → Type 0
+  pub holds_after_reset : ℕ → List Flow → Type 0
+
+-- the attributes with the default at one host
+abbrev pub reset_at : (t : Template) → List t.Attribute → ℕ → List t.Attribute
+reset_at t hosts host = slice_set hosts host (t.default (length hosts) host)
+
+-- what the invariant of these attributes means
+abbrev pub meaning : (t : Template) → List t.Attribute → Meaning
+meaning t hosts = record {
+  size = length hosts;
+  strategy = t.strategy;
+  edge_mark = t.edge_mark;
+  holds_on = t.Holds hosts;
+  holds_after_reset = λ host. t.Holds (reset_at t hosts host);
+}
+
+-- a template that judges each flow alone, by the attributes of its two hosts, with one default for all hosts
+abbrev pub edge_template : {A : Type 0} → List ℕ → Strategy → A → (A → A → Type 0) → Template
+edge_template {A} name strategy default Passes = record {
+  name = name;
+  strategy = strategy;
+  edge_mark = true;
+  Attribute = A;
+  default = λ n host. default;
+  Holds = λ hosts. AllFlowsPass (PassesBetween default Passes hosts);
+}
+
+-- a template that judges the flows together, by where they lead
+abbrev pub walk_template : {A : Type 0} → List ℕ → Strategy → (ℕ → ℕ → A) → (List A → List Flow → Type 0) → Template
+walk_template {A} name strategy default Holds = record {
+  name = name;
+  strategy = strategy;
+  edge_mark = false;
+  Attribute = A;
+  default = default;
+  Holds = Holds;
+}
