@@ -1,12 +1,14 @@
-pub mod AskedLemmas
 pub mod DescribeLemmas
 pub mod Examples
-pub mod InvariantsLemmas
+pub mod KnownLaws
+pub mod KnownLemmas
+pub mod LimitLaws
 pub mod ListingLaws
 pub mod NamesLaws
 pub mod NetworkLemmas
 pub mod OrderLaws
 pub mod SetLaws
+pub mod RepeatLemmas
 pub mod Settled
 pub mod Tables
 pub mod UsesLaws

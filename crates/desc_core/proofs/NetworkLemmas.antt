@@ -1,75 +1,132 @@
 -- The network, condition by condition.
-use Rattle.std.proofs.Common.{◌≡◌, List, ◌∷◌, ◌++◌, length, Some, None, Ok, Err, refl, sym, ap, ◌∙◌, inl, inr}
-use Rattle.std.specs.List.{filter_map}
+use Rattle.std.proofs.Common.{◌≡◌, ℕ, List, [], ◌∷◌, ◌++◌, length, Option, Some, None, Ok, Err, map, refl, sym, ap, ◌∙◌}
 use Rattle.std.specs.Option.{option_or}
-use Rattle.desc_core.specs.DescriptionLaws.{first_of-append, passes, stops}
+use Rattle.std.specs.Prelude.{if◌then◌else◌}
+use Rattle.desc_core.proofs.KnownLaws.{asked_is, bad_is, invariants_are, names_known, self_is, twice_is}
+use Rattle.desc_core.specs.Description.{refused_or}
+use Rattle.desc_core.specs.DescriptionLaws.{first_of-append}
+use Rattle.desc_core.specs.Parts.{bad_known, ends_of, name_conditions, network_by_uses, network_or, self_found, twice_found}
 use Rattle.desc_core.specs.Reads.{Reads}
-use Rattle.net_core.specs.Network.{Network}
-use Rattle.desc_core.specs.WrittenNetwork.{asked_of, invariants_of, network_of}
-use Rattle.desc_core.specs.Parts.{flow_conditions, invariants_or, name_conditions, network_by_uses, network_or, read_if_known}
-use Rattle.desc_core.specs.UseConditions.{bad_attribute, bad_attribute_of, use_conditions}
 use Rattle.desc_core.specs.declared.fault.DescFault.{DescFault}
 use Rattle.desc_core.specs.declared.fault.DescFault.TheVariants.{Memory, Refused}
-use Rattle.text_core.specs.Firsts.{first_found, first_of, numbered}
+use Rattle.desc_core.specs.UseConditions.{bad_attribute, duplicate_assign, duplicate_flow, self_flow, undeclared_host, unknown_template, use_conditions}
+use Rattle.desc_core.specs.WrittenNetwork.{Known, asked_of, invariants_of, known_of, made_of, network_of}
 use Rattle.desc_form.specs.Written.{Written}
 use Rattle.desc_form.specs.declared.refusal.Refusal.{Refusal}
 use Rattle.desc_hosts.specs.HostConditions.{host_conditions}
 use Rattle.desc_hosts.specs.HostsLaws.{length-network_hosts}
 use Rattle.desc_hosts.specs.WrittenHosts.{network_hosts}
-use Rattle.flow_set.specs.FlowSet.{SetOfFlows}
+use Rattle.flow_set.specs.EveryFlow.{every_flow}
+use Rattle.flow_set.specs.FlowSet.{SetOfFlows, set_of}
+use Rattle.flow_set.specs.declared.flow.Flow.{Flow}
 use Rattle.host_net.specs.Host.{Host}
 use Rattle.inv_any.specs.declared.any_inv.AnyInv.{AnyInv}
+use Rattle.net_core.specs.Network.{Network}
+use Rattle.table_core.specs.Listing.{each}
+use Rattle.text_core.specs.Firsts.{first_of}
 
--- the conditions in groups
-uses_are : (w : Written) → first_of (use_conditions w) ≡ option_or (first_of (name_conditions w)) (option_or (bad_attribute w) (first_of (flow_conditions w)))
+-- all names are known: what was found of the invariants and of the flows
+pub record AreKnown (w : Written) (hosts : List Host) (ks : List Known) (es : List Flow) : Type 0 where
+  pub same : hosts ≡ network_hosts w
+  pub known : each (known_of hosts) w.invariants ≡ Some ks
+  pub found : each (ends_of hosts) w.flows ≡ Some es
+
+known_here : (w : Written) (hosts : List Host) (ks : List Known) (es : List Flow) → AreKnown w hosts ks es → each (known_of (network_hosts w)) w.invariants ≡ Some ks
+known_here w hosts ks es all = ap (λ hs. each (known_of hs) w.invariants) (sym all.same) ∙ all.known
+
+found_here : (w : Written) (hosts : List Host) (ks : List Known) (es : List Flow) → AreKnown w hosts ks es → each (ends_of (network_hosts w)) w.flows ≡ Some es
+found_here w hosts ks es all = ap (λ hs. each (ends_of hs) w.flows) (sym all.same) ∙ all.found
+
+-- 17, 18 and 19
+abbrev before_last : Written → List Host → List Known → List Flow → Option Refusal
+before_last w hosts ks es = option_or (duplicate_assign w) (option_or (bad_known hosts ks) (self_found es))
+
+in_groups : (a b c d e f : Option Refusal) → a ≡ None → b ≡ None → option_or a (option_or b (option_or c (option_or d (option_or e (option_or f None))))) ≡ option_or (option_or c (option_or d e)) f
+in_groups a b c d e f first second = rw (first, second) (grouped c d e f)
+  where
+    grouped : (c d e f : Option Refusal) → option_or c (option_or d (option_or e (option_or f None))) ≡ option_or (option_or c (option_or d e)) f
+    grouped None None None None = refl
+    grouped None None None (Some r) = refl
+    grouped None None (Some r) f = refl
+    grouped None (Some r) e f = refl
+    grouped (Some r) d e f = refl
+
+uses_are : (w : Written) (hosts : List Host) (ks : List Known) (es : List Flow) → AreKnown w hosts ks es → first_of (use_conditions w) ≡ option_or (before_last w hosts ks es) (twice_found es)
 unfolding use_conditions
-uses_are w = first_of-append (name_conditions w) (bad_attribute w ∷ flow_conditions w)
+uses_are w hosts ks es all =
+    let known = known_here w hosts ks es all in
+    let found = found_here w hosts ks es all in
+    let (templates, declared) = names_known w ks es known found in
+    in_groups (unknown_template w) (undeclared_host w) (duplicate_assign w) (bad_attribute w) (self_flow w) (duplicate_flow w) templates declared
+    ∙ (λ j. option_or (option_or (duplicate_assign w) (option_or ((bad_is w ks known ∙ ap (λ hs. bad_known hs ks) (sym all.same)) j) (self_is w es found j))) (twice_is w es found j))
 
+-- what refuses the description
 told : (w : Written) (r : Refusal) → first_of (use_conditions w) ≡ Some r → network_by_uses w ≡ Err r
 told w r is = rw is refl
 
+names_first : (w : Written) → first_of (use_conditions w) ≡ option_or (first_of (name_conditions w)) (first_of (duplicate_assign w ∷ bad_attribute w ∷ self_flow w ∷ duplicate_flow w ∷ []))
+unfolding use_conditions
+names_first w = first_of-append (name_conditions w) (duplicate_assign w ∷ bad_attribute w ∷ self_flow w ∷ duplicate_flow w ∷ [])
+
 pub refused_for_name : (w : Written) (r : Refusal) → first_of (name_conditions w) ≡ Some r → network_by_uses w ≡ Err r
-refused_for_name w r name = told w r (uses_are w ∙ rw name refl)
+refused_for_name w r name = told w r (names_first w ∙ rw name refl)
 
-refused_for_attribute : (w : Written) (r : Refusal) → first_of (name_conditions w) ≡ None → bad_attribute w ≡ Some r → network_by_uses w ≡ Err r
-refused_for_attribute w r no_name attribute = told w r (uses_are w ∙ rw (no_name, attribute) refl)
+pub refused_before : (w : Written) (hosts : List Host) (ks : List Known) (es : List Flow) (r : Refusal) → AreKnown w hosts ks es → before_last w hosts ks es ≡ Some r → network_by_uses w ≡ Err r
+refused_before w hosts ks es r all is = told w r (uses_are w hosts ks es all ∙ rw is refl)
 
-pub refused_for_flow : (w : Written) (r : Refusal) → first_of (name_conditions w) ≡ None → bad_attribute w ≡ None → first_of (flow_conditions w) ≡ Some r → network_by_uses w ≡ Err r
-refused_for_flow w r no_name no_attribute flow = told w r (uses_are w ∙ rw (no_name, no_attribute, flow) refl)
+refused_twice : (w : Written) (hosts : List Host) (ks : List Known) (es : List Flow) (r : Refusal) → AreKnown w hosts ks es → before_last w hosts ks es ≡ None → twice_found es ≡ Some r
+    → network_by_uses w ≡ Err r
+refused_twice w hosts ks es r all before is = told w r (uses_are w hosts ks es all ∙ rw (before, is) refl)
 
-pub unrefused : (w : Written) → first_of (name_conditions w) ≡ None → bad_attribute w ≡ None → first_of (flow_conditions w) ≡ None → network_by_uses w ≡ Ok (network_of w)
-unrefused w no_name no_attribute no_flow =
-    let none : first_of (use_conditions w) ≡ None = uses_are w ∙ rw (no_name, no_attribute, no_flow) refl in
+unrefused : (w : Written) (hosts : List Host) (ks : List Known) (es : List Flow) → AreKnown w hosts ks es → before_last w hosts ks es ≡ None → twice_found es ≡ None → network_by_uses w ≡ Ok (network_of w)
+unrefused w hosts ks es all before last =
+    let none : first_of (use_conditions w) ≡ None = uses_are w hosts ks es all ∙ rw (before, last) refl in
     rw none refl
 
--- what is read of the invariants is the network's, and they are refused where one of its attributes is
-attribute_told : (w : Written) (r : Refusal) → invariants_or (network_hosts w) w.invariants ≡ Err r → bad_attribute w ≡ Some r
-unfolding bad_attribute
-attribute_told w r is =
-    elim (stops (first_found (bad_attribute_of (network_hosts w)) (numbered w.invariants)) (λ js. Ok (filter_map (read_if_known (network_hosts w)) js)) w.invariants r is) [
-      | inl here ↦ here
-      | inr later ↦ let never = later.1 in cc
-    ]
+-- the parts of what was refused last
+pub none_before : (c d e : Option Refusal) → option_or c (option_or d e) ≡ None → (d ≡ None) × (e ≡ None)
+none_before None None None none = (refl, refl)
+none_before None None (Some r) none = cc
+none_before None (Some r) e none = cc
+none_before (Some r) d e none = cc
 
-pub invariants_refused : (w : Written) (fault : DescFault) → first_of (name_conditions w) ≡ None → Reads {A = List AnyInv} (Err fault) (invariants_or (network_hosts w) w.invariants) → Reads {A = Network} (Err fault) (network_by_uses w)
-invariants_refused w (Refused r) no_name read = refused_for_attribute w r no_name (attribute_told w r read)
-invariants_refused w Memory no_name read = tt
+-- the flows that are asked for, as they are made
+abbrev pub made_set : Written → ℕ → List Flow → SetOfFlows
+made_set w n es = record { size = n; flows = if w.given then set_of es else every_flow n }
 
-pub invariants_read : (w : Written) (invariants : List AnyInv) → invariants_or (network_hosts w) w.invariants ≡ Ok invariants → (bad_attribute w ≡ None) × (invariants_of w ≡ invariants)
-unfolding bad_attribute invariants_of
-invariants_read w invariants is =
-    let (none, read) = passes (first_found (bad_attribute_of (network_hosts w)) (numbered w.invariants)) (λ js. Ok (filter_map (read_if_known (network_hosts w)) js)) w.invariants invariants is in
-    (none, cc)
+told_twice : {A : Type 0} (o : Option Refusal) (x : A) (r : Refusal) → refused_or o x ≡ Err r → o ≡ Some r
+told_twice None x r said = cc
+told_twice (Some s) x r said = cc
+
+none_twice : {A : Type 0} (o : Option Refusal) (x y : A) → refused_or o x ≡ Ok y → (o ≡ None) × (x ≡ y)
+none_twice None x y said = (refl, cc)
+none_twice (Some s) x y said = cc
+
+asked_refused : (w : Written) (hosts : List Host) (ks : List Known) (es : List Flow) (n : ℕ) (r : Refusal) → AreKnown w hosts ks es → before_last w hosts ks es ≡ None
+    → refused_or (twice_found es) (made_set w n es) ≡ Err r → network_by_uses w ≡ Err r
+asked_refused w hosts ks es n r all before said = refused_twice w hosts ks es r all before (told_twice (twice_found es) (made_set w n es) r said)
+
+pub asked_fails : (w : Written) (hosts : List Host) (ks : List Known) (es : List Flow) (n : ℕ) (fault : DescFault) → AreKnown w hosts ks es → before_last w hosts ks es ≡ None
+    → Reads {A = SetOfFlows} (Err fault) (refused_or (twice_found es) (made_set w n es)) → Reads {A = Network} (Err fault) (network_by_uses w)
+asked_fails w hosts ks es n (Refused r) all before said = asked_refused w hosts ks es n r all before said
+asked_fails w hosts ks es n Memory all before said = tt
+
+pub asked_made : (w : Written) (hosts : List Host) (ks : List Known) (es : List Flow) (n : ℕ) (asked : SetOfFlows) → AreKnown w hosts ks es → before_last w hosts ks es ≡ None → n ≡ length hosts
+    → refused_or (twice_found es) (made_set w n es) ≡ Ok asked → (network_by_uses w ≡ Ok (network_of w)) × (asked ≡ record { size = length w.hosts; flows = asked_of w })
+asked_made w hosts ks es n asked all before count said =
+    let (none, made) = none_twice (twice_found es) (made_set w n es) asked said in
+    let size : n ≡ length w.hosts = count ∙ ap length all.same ∙ length-network_hosts w in
+    let flows : asked_of w ≡ (if w.given then set_of es else every_flow (length w.hosts)) = asked_is w es (found_here w hosts ks es all) (none_before (duplicate_assign w) _ _ before).1 in
+    (unrefused w hosts ks es all before none, sym made ∙ ap (λ k. made_set w k es) size ∙ (λ j. record { size = length w.hosts; flows = sym flows j }))
 
 -- the network, part by part
-pub network_is : (w : Written) (hosts : List Host) (asked : SetOfFlows) (invariants : List AnyInv)
-    → hosts ≡ network_hosts w → asked ≡ record { size = length hosts; flows = asked_of w } → invariants_of w ≡ invariants
+pub network_is : (w : Written) (hosts : List Host) (ks : List Known) (es : List Flow) (asked : SetOfFlows) (invariants : List AnyInv) → AreKnown w hosts ks es
+    → asked ≡ record { size = length w.hosts; flows = asked_of w } → invariants ≡ map (made_of hosts) ks
     → network_of w ≡ record { hosts = hosts; asked = asked; given = w.given; answers = w.answers; invariants = invariants }
 unfolding network_of
-network_is w hosts asked invariants are flows read =
-    let size : length w.hosts ≡ length hosts = sym (ap length are ∙ length-network_hosts w) in
-    let set : record { size = length w.hosts; flows = asked_of w } ≡ asked = (λ i. record { size = size i; flows = asked_of w }) ∙ sym flows in
-    λ i. record { hosts = sym are i; asked = set i; given = w.given; answers = w.answers; invariants = read i }
+network_is w hosts ks es asked invariants all set made =
+    let read : invariants_of w ≡ invariants = invariants_are w ks (known_here w hosts ks es all) ∙ ap (λ hs. map (made_of hs) ks) (sym all.same) ∙ sym made in
+    λ i. record { hosts = sym all.same i; asked = sym set i; given = w.given; answers = w.answers; invariants = read i }
 
 -- with the conditions on hosts before
 pub hosts_refused : (w : Written) (r : Refusal) → first_of (host_conditions w) ≡ Some r → network_or w ≡ Err r

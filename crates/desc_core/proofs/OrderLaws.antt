@@ -1,31 +1,33 @@
 -- The conditions stand in the order of their numbers, so what is told is the least number whose condition holds.
-use Rattle.std.proofs.Common.{◌≡◌, ◌<◌, arith, ℕ, length, slice_get, zero, suc, ◌+◌, Bool, true, false, List, [], ◌∷◌, ◌++◌, Option, Some, None, option_map, Result, Ok, Err, refl, ap, ◌∙◌, sym, subst}
-use Rattle.std.specs.Option.{option_or}
+use Rattle.std.proofs.Common.{◌≡◌, ◌<◌, arith, ℕ, length, slice_get, zero, suc, ◌+◌, Bool, true, false, List, [], ◌∷◌, ◌++◌, Option, Some, None, option_map, option_and_then, Ok, Err, refl, ap, ◌∙◌, sym, subst}
+use Rattle.std.specs.Option.{option_map_or, option_or}
 use Rattle.std.specs.List.{list_all}
 use Rattle.std.specs.Prelude.{is_none, nat_lt}
 use Rattle.toml.specs.Data.{Members}
 use Rattle.desc_form.specs.declared.refusal.Place.{Place}
-use Rattle.desc_form.specs.declared.refusal.Place.TheVariants.{Host, Invariant}
+use Rattle.desc_form.specs.declared.refusal.Place.TheVariants.{Assign, Invariant}
+use Rattle.desc_form.specs.declared.refusal.Place.TheVariants as place
 use Rattle.desc_form.specs.declared.refusal.Refusal.{Refusal}
-use Rattle.desc_form.specs.declared.refusal.Why.TheVariants.{TooMany}
+use Rattle.desc_form.specs.declared.refusal.Why.TheVariants.{BadAttribute, TooMany}
 use Rattle.text_core.specs.Firsts.{where_holds, first_of, first_found, Numbered, numbered}
 use Rattle.desc_hosts.specs.HostConditions.{Entry, host_conditions, bad_version, too_many, too_many_prefixes, bad_name, duplicate_host, bad_prefix, host_bits, no_address, two_rests, overlap, beyond, all_entries}
-use Rattle.host_net.specs.Limits.{invariant_limit}
-use Rattle.desc_core.specs.Description.{described}
-use Rattle.desc_core.specs.DescriptionLaws.{none_told, told}
+use Rattle.host_net.specs.Limits.{invariant_limit, host_limit, prefix_limit}
+use Rattle.desc_core.specs.Description.{described, described_by_table}
+use Rattle.desc_core.specs.DescriptionLaws.{none_of_table, none_told, told, told_of_table}
 use Rattle.desc_core.specs.Document.{document}
 use Rattle.net_core.specs.Network.{Network}
-use Rattle.desc_core.specs.WrittenNetwork.{invariant_of}
-use Rattle.desc_core.specs.Conditions.{conditions, not_toml, table_conditions, too_long}
+use Rattle.desc_core.specs.WrittenNetwork.{Known, known_of}
+use Rattle.desc_core.specs.AllConditions.{conditions, not_toml, too_long}
+use Rattle.desc_core.specs.Conditions.{table_conditions}
 use Rattle.desc_core.specs.Order.{IsLeast, NoneHolds}
 use Rattle.desc_hosts.specs.WrittenHosts.{network_hosts}
 use Rattle.desc_form.specs.Places.{unknown_key, missing_key, wrong_type}
 use Rattle.desc_form.specs.Refusals.{number, refused, refused_item}
-use Rattle.desc_core.specs.UseConditions.{use_conditions, unknown_template, undeclared_host, duplicate_assign, duplicate_assign_of, bad_attribute, bad_attribute_of, at_assign, self_flow, duplicate_flow}
+use Rattle.desc_core.specs.UseConditions.{use_conditions, unknown_template, undeclared_host, duplicate_assign, duplicate_assign_of, bad_attribute, bad_attribute_of, bad_at, self_flow, duplicate_flow}
 use Rattle.desc_form.specs.FormConditions.{form_conditions}
 use Rattle.desc_form.specs.Written.{Written, WrittenHost, WrittenInvariant, written}
-use Rattle.host_net.specs.Hosts.{host_limit, prefix_limit}
-use Rattle.inv_any.specs.declared.any_inv.AnyInv.{AnyInv}
+use Rattle.attr_core.specs.Templates.{bad_in}
+use Rattle.host_net.specs.Host.{Host}
 
 -- what the condition refuses has this number
 abbrev pub Tells : ℕ → Option Refusal → Type 0
@@ -64,27 +66,23 @@ tells_beyond : {A : Type 0} (limit : ℕ) (place : ℕ → Place) (xs : List A) 
 tells_beyond limit place xs = tells_where 7 (refused TooMany (place (limit + 1))) refl (nat_lt limit (length xs))
 
 tells_prefixes : (es : List Entry) → Tells 7 (too_many_prefixes es)
-tells_prefixes es = tells_map 7 (λ e. refused_item TooMany (Host e.host) e.item) (λ e. refl) (slice_get es prefix_limit)
+tells_prefixes es = tells_map 7 (λ e. refused_item TooMany (place.Host e.host) e.item) (λ e. refl) (slice_get es prefix_limit)
 
 tells_too_many : (hs : List WrittenHost) (es : List Entry) (is : List WrittenInvariant) → Tells 7 (too_many hs es is)
 unfolding too_many
 tells_too_many hs es is =
     let invariants = beyond invariant_limit Invariant is in
-    tells_or 7 (beyond host_limit Host hs) (option_or (too_many_prefixes es) (option_or invariants None)) (tells_beyond host_limit Host hs)
+    tells_or 7 (beyond host_limit place.Host hs) (option_or (too_many_prefixes es) (option_or invariants None)) (tells_beyond host_limit place.Host hs)
     (tells_or 7 (too_many_prefixes es) (option_or invariants None) (tells_prefixes es)
     (tells_or 7 invariants None (tells_beyond invariant_limit Invariant is) (tells_none 7)))
 
-tells_at_assign : (k : ℕ) (read : Result AnyInv ℕ) → Tells 18 (at_assign k read)
-tells_at_assign k (Ok inv) = tells_none 18
-tells_at_assign k (Err assign) = tells_some 18 _ refl
-
-tells_attribute : (i : Numbered WrittenInvariant) (read : Option (Result AnyInv ℕ)) → Tells 18 (elim read as (λ _. Option Refusal) [ None ↦ None | Some r ↦ at_assign i.number r ])
-tells_attribute i None = tells_none 18
-tells_attribute i (Some r) = tells_at_assign i.number r
+tells_attribute : (hosts : List Host) (i : Numbered WrittenInvariant) (o : Option Known) → Tells 18 (option_and_then (bad_at hosts i.number) o)
+tells_attribute hosts i None = tells_none 18
+tells_attribute hosts i (Some k) = tells_map 18 (λ assign. refused BadAttribute (Assign i.number (assign + 1))) (λ assign. refl) (bad_in hosts k.template k.assigns)
 
 tells_bad_attribute : (w : Written) → Tells 18 (bad_attribute w)
 unfolding bad_attribute
-tells_bad_attribute w = tells_found 18 (bad_attribute_of (network_hosts w)) (λ i. tells_attribute i (invariant_of (network_hosts w) i.what)) (numbered w.invariants)
+tells_bad_attribute w = tells_found 18 (bad_attribute_of (network_hosts w)) (λ i. tells_attribute (network_hosts w) i (known_of (network_hosts w) i.what)) (numbered w.invariants)
 
 tells_duplicate_assign : (w : Written) → Tells 17 (duplicate_assign w)
 unfolding duplicate_assign
@@ -152,50 +150,47 @@ content_in_order : (w : Written) → InOrder 6 (host_conditions w ++ use_conditi
 unfolding host_conditions
 content_in_order w = in_order-append 6 (host_conditions w) (use_conditions w) (hosts_in_order w) (uses_in_order w)
 
-table_in_order : (read : Option Members) → InOrder 3 (table_conditions read)
-unfolding form_conditions
-table_in_order None = tt
-table_in_order (Some table) = in_order-append 3 (form_conditions table) (host_conditions (written table) ++ use_conditions (written table)) (form_in_order table) (content_in_order (written table))
+table_in_order : (table : Members) → InOrder 3 (table_conditions table)
+unfolding table_conditions form_conditions
+table_in_order table = in_order-append 3 (form_conditions table) (host_conditions (written table) ++ use_conditions (written table)) (form_in_order table) (content_in_order (written table))
+
+document_in_order : (read : Option Members) → InOrder 3 (option_map_or table_conditions read [])
+document_in_order None = tt
+document_in_order (Some table) = table_in_order table
 
 pub in_order : (bytes : List ℕ) → InOrder 1 (conditions bytes)
 unfolding conditions too_long not_toml
-in_order bytes = (tells_where 1 _ refl _, (tells_where 2 _ refl _, table_in_order (document bytes)))
-
--- r is what the condition at a place refuses, no earlier condition refuses anything, and r tells the number of that place, from n on
-record IsFirstFrom (n : ℕ) (os : List (Option Refusal)) (r : Refusal) : Type 0 where
-  place : ℕ
-  told : number r.why ≡ n + place
-  refuses : slice_get os place ≡ Some (Some r)
-  first : (j : ℕ) → j < place → slice_get os j ≡ Some None
+in_order bytes = (tells_where 1 _ refl _, (tells_where 2 _ refl _, document_in_order (document bytes)))
 
 none_before : (os : List (Option Refusal)) (k : ℕ) → ((j : ℕ) → j < k → slice_get os j ≡ Some None) → (j : ℕ) → j < suc k → slice_get (None ∷ os) j ≡ Some None
 none_before os k rest zero below = refl
 none_before os k rest (suc j) below = rest j (omega (arith, below))
 
 -- what is told first has the least number
-least : (n : ℕ) (os : List (Option Refusal)) (r : Refusal) → InOrder n os → first_of os ≡ Some r → IsFirstFrom n os r
+least : (n : ℕ) (os : List (Option Refusal)) (r : Refusal) → InOrder n os → first_of os ≡ Some r → IsLeast n os r
 least n [] r order found = cc
 least n (Some s ∷ os) r order found = record {
-  place = zero;
-  told = order.0 r found ∙ omega arith;
+  before = zero;
+  numbered = order.0 r found ∙ omega arith;
   refuses = ap Some found;
   first = λ j below. absurd (omega (arith, below));
 }
 least n (None ∷ os) r order found =
     let rest = least (n + 1) os r order.1 found in
-    let next : n + 1 + rest.place ≡ n + suc rest.place = omega arith in
+    let next : n + 1 + rest.before ≡ n + suc rest.before = omega arith in
     record {
-      place = suc rest.place;
-      told = rest.told ∙ next;
+      before = suc rest.before;
+      numbered = rest.numbered ∙ next;
       refuses = rest.refuses;
-      first = none_before os rest.place rest.first;
+      first = none_before os rest.before rest.first;
     }
 
 -- what is told of bytes that are refused has the least number whose condition holds
-pub IsLeast-described : (bytes : List ℕ) (r : Refusal) → described bytes ≡ Err r → IsLeast (conditions bytes) r
-IsLeast-described bytes r said =
-    let found = least 1 (conditions bytes) r (in_order bytes) (told bytes r said) in
-    record { before = found.place; numbered = found.told ∙ omega arith; refuses = found.refuses; first = found.first }
+pub IsLeast-described : (bytes : List ℕ) (r : Refusal) → described bytes ≡ Err r → IsLeast 1 (conditions bytes) r
+IsLeast-described bytes r said = least 1 (conditions bytes) r (in_order bytes) (told bytes r said)
+
+pub IsLeast-table : (table : Members) (r : Refusal) → described_by_table table ≡ Err r → IsLeast 3 (table_conditions table) r
+IsLeast-table table r said = least 3 (table_conditions table) r (table_in_order table) (told_of_table table r said)
 
 -- what is not told does not hold
 none_first : (os : List (Option Refusal)) → first_of os ≡ None → list_all is_none os ≡ true
@@ -206,3 +201,6 @@ none_first (Some s ∷ os) none = cc
 -- no condition holds of bytes that describe a network
 pub NoneHolds-described : (bytes : List ℕ) (d : Network) → described bytes ≡ Ok d → NoneHolds (conditions bytes)
 NoneHolds-described bytes d said = none_first (conditions bytes) (none_told bytes d said)
+
+pub NoneHolds-table : (table : Members) (d : Network) → described_by_table table ≡ Ok d → NoneHolds (table_conditions table)
+NoneHolds-table table d said = none_first (table_conditions table) (none_of_table table d said)

@@ -2,17 +2,18 @@
 use Rattle.std.specs.Prelude.{◌≡◌, refl, pos, List, [], ◌∷◌, map, replicate, codes, Err}
 use Rattle.toml.specs.Data.{string, integer, table, no_members, member}
 use Rattle.attr_core.specs.Blp.{blp_attribute}
-use Rattle.attr_core.specs.Invariants.{invariant_in, blp_in}
-use Rattle.attr_core.specs.Templates.{template_named}
+use Rattle.attr_core.specs.Shapes.{of_shape}
+use Rattle.attr_core.specs.Templates.{bad_in, invariant_in, template_named}
 use Rattle.desc_core.proofs.Examples.{list, texts, host_with, host_at, rest_host, flow, level, invariant, host_a, host_b, a_to_b, described_as, of_hosts, of_flows, of_invariants}
-use Rattle.desc_form.specs.Pairs.{pair_of}
+use Rattle.desc_form.specs.WrittenFlow.{flow_written}
 use Rattle.desc_hosts.specs.HostConditions.{bad_version, too_many, bad_name, duplicate_host, bad_prefix, host_bits, no_address, two_rests, overlap, all_entries, host_conditions}
 use Rattle.desc_hosts.specs.Mentions.{assign_names, flow_names, used_names, all_names}
-use Rattle.desc_core.specs.WrittenNetwork.{network_of, asked_of, invariants_of, invariant_of}
+use Rattle.desc_core.specs.WrittenNetwork.{network_of, asked_of, invariants_of, known_of}
 use Rattle.flow_set.specs.EveryFlow.{every_flow}
 use Rattle.desc_form.specs.Places.{unknown_key, missing_key, wrong_type, has_other_key, lacks_needed, has_unsuited, has_wrong_type, first_place, spots, listed, assigns_of}
 use Rattle.desc_core.specs.UseConditions.{use_conditions, unknown_template, undeclared_host, duplicate_assign, bad_attribute, self_flow, duplicate_flow}
-use Rattle.desc_core.specs.Parts.{described_by_table, network_or}
+use Rattle.desc_core.specs.Conditions.{table_conditions}
+use Rattle.desc_core.specs.Description.{described_by_table}
 use Rattle.desc_form.specs.Refusals.{refused, refused_by, refused_item, refused_item_by, refused_name}
 use Rattle.desc_form.specs.declared.refusal.Place.TheVariants.{Assign, Document, FlowAt, Host, Invariant}
 use Rattle.desc_form.specs.declared.refusal.Why.TheVariants.{BadName, BadPrefix, DuplicateAssign, MissingKey, NoAddress, Overlap, TooMany, TwoRests, UndeclaredHost, UnknownTemplate, WrongType}
@@ -20,7 +21,8 @@ use Rattle.desc_form.specs.FormConditions.{form_conditions}
 use Rattle.desc_form.specs.Written.{written, host_written, invariant_written, assign_written}
 use Rattle.desc_hosts.specs.WrittenHosts.{network_hosts}
 use Rattle.host_net.specs.Prefix.{prefix_of, address_of, is_exact, meets}
-use Rattle.table_core.specs.Tables.{has_only, has_key, text_at, integer_at, boolean_at, number_at, number_or, boolean_or, elements_of, list_at}
+use Rattle.table_core.specs.Keys.{all_suit, has_only_keys, lacks_key}
+use Rattle.table_core.specs.Tables.{has_only, has_key, text_at, integer_at, boolean_at, number_at, elements_of, list_at}
 use Rattle.text_core.specs.Decimal.{number, bounded_value}
 use Rattle.desc_core.proofs.Worked.{Row, row}
 
@@ -35,7 +37,6 @@ settled_rows =
     ∷ row (of_invariants (invariant (codes "blp") (integer (pos 1) ∷ []) ∷ integer (pos 1) ∷ [])) (refused WrongType (Assign 1 1))
     ∷ row (of_invariants (table (member (codes "assign") (integer (pos 1)) (member (codes "template") (string (codes "blp")) no_members)) ∷ [])) (refused WrongType (Invariant 1))
     ∷ row (of_hosts (host_at (codes "a") (codes "10.0.0.1/24") ∷ host_at (codes "b") (codes "10.0.0.2/33") ∷ [])) (refused_item BadPrefix (Host 2) 1)
-    ∷ row (of_hosts (host_with (codes "a") (texts (replicate 129 (codes "10.0.0.1"))) ∷ [])) (refused_item TooMany (Host 1) 129)
     ∷ row (of_invariants (replicate 17 (invariant (codes "blp") ([])))) (refused TooMany (Invariant 17))
     ∷ row (of_flows (flow (codes "a") (codes "b") ∷ flow (codes "a") (codes "") ∷ [])) (refused_item BadName (FlowAt 2) 2)
     ∷ row (of_invariants (invariant (codes "blp") (level (codes "a b") (integer (pos 1)) ∷ []) ∷ [])) (refused BadName (Assign 1 1))
@@ -48,5 +49,5 @@ settled_rows =
     ∷ []
 
 pub settled : map (λ r. described_by_table r.document) settled_rows ≡ map (λ r. Err r.refusal) settled_rows
-unfolding unknown_key missing_key wrong_type has_other_key lacks_needed has_unsuited has_wrong_type first_place spots listed assigns_of has_only has_key text_at integer_at boolean_at number_or number_at boolean_or elements_of list_at pair_of written host_written invariant_written assign_written bad_version too_many bad_name duplicate_host bad_prefix host_bits no_address two_rests overlap all_entries assign_names flow_names used_names all_names unknown_template undeclared_host duplicate_assign bad_attribute self_flow duplicate_flow network_of network_hosts asked_of invariants_of invariant_of every_flow described_by_table network_or form_conditions host_conditions use_conditions prefix_of address_of number bounded_value is_exact meets template_named invariant_in blp_in blp_attribute
+unfolding unknown_key missing_key wrong_type has_other_key lacks_needed has_unsuited has_only_keys lacks_key all_suit of_shape has_wrong_type first_place spots listed assigns_of has_only has_key text_at integer_at boolean_at number_at elements_of list_at flow_written written host_written invariant_written assign_written bad_version too_many bad_name duplicate_host bad_prefix host_bits no_address two_rests overlap all_entries assign_names flow_names used_names all_names unknown_template undeclared_host duplicate_assign bad_attribute self_flow duplicate_flow network_of network_hosts asked_of invariants_of known_of every_flow described_by_table table_conditions form_conditions host_conditions use_conditions prefix_of address_of number bounded_value is_exact meets template_named bad_in invariant_in blp_attribute
 settled = refl

@@ -1,84 +1,118 @@
 -- Where no condition refuses a description, its network has all that is written.
-use Rattle.std.proofs.Common.{◌≡◌, ℕ, true, false, not, nat_lt, List, [], ◌∷◌, map, length, Option, Some, None, is_some, Result, Ok, Err, refl, sym, ap, ◌∙◌, subst}
+use Rattle.std.proofs.Common.{◌≡◌, ℕ, true, false, not, nat_lt, List, [], ◌∷◌, map, length, Option, Some, None, option_map, is_some, Ok, refl, sym, ap, ◌∙◌, subst}
 use Rattle.std.proofs.lemmas.Bool.{and_parts}
 use Rattle.std.proofs.lemmas.List.Folds.{list_all-append}
-use Rattle.std.specs.List.{AllZip, filter_map, list_all}
+use Rattle.std.specs.List.{AllByRecursion, AllZip, cons_option, filter_map, list_all}
 use Rattle.std.specs.Option.{option_map_or}
-use Rattle.desc_core.specs.Description.{described}
-use Rattle.desc_core.specs.DescriptionLaws.{accepted, first_of-append}
+use Rattle.toml.specs.Data.{Members}
+use Rattle.desc_core.specs.Description.{described, described_by_table}
+use Rattle.desc_core.specs.DescriptionLaws.{accepted, table_of_bytes}
 use Rattle.flow_set.specs.EveryFlowLaws.{IsFull-every_flow}
 use Rattle.desc_core.specs.Flows.{flow_of_names}
-use Rattle.flow_set.specs.SetOf.{set_of}
+use Rattle.flow_set.specs.FlowSet.{set_of}
 use Rattle.flow_set.specs.ListedLaws.{has-set_of, length-set_of}
-use Rattle.desc_core.proofs.ListingLaws.{all_weaker, zip_length, zip_some, zip_weaker}
+use Rattle.desc_core.proofs.ListingLaws.{all_weaker, zip_length, zip_some}
 use Rattle.net_core.specs.Network.{Network}
-use Rattle.desc_core.specs.WrittenNetwork.{asked_of, if_read, invariant_of, invariants_of, network_of}
+use Rattle.desc_core.specs.WrittenNetwork.{Known, asked_of, given_by, invariant_of, invariants_of, known_of, made_of, network_of}
 use Rattle.flow_set.specs.EveryFlow.{every_flow}
-use Rattle.desc_core.specs.Parts.{read_if_known}
 use Rattle.desc_core.proofs.SetLaws.{flows_once}
 use Rattle.desc_core.specs.UseConditions.{use_conditions}
-use Rattle.desc_core.proofs.UsesLaws.{AreGood, all_between, all_read, are_good, flows_differ}
-use Rattle.desc_core.specs.Whole.{IsDescribed, IsHostOf, IsSetOf, IsWhole}
+use Rattle.desc_core.proofs.UsesLaws.{all_between}
+use Rattle.desc_core.proofs.KnownLaws.{all_known}
+use Rattle.desc_core.specs.UseFacts.{SaysAttributes}
+use Rattle.desc_core.specs.UseFactsLaws.{PassesUses, PassesUses-uses}
+use Rattle.desc_core.specs.Whole.{IsDescribed, IsDescribedByTable, IsHostOf, IsInvariantOf, IsSetOf, IsWhole}
 use Rattle.text_core.specs.Firsts.{first_of}
-use Rattle.desc_form.specs.Written.{Written, WrittenHost, written}
+use Rattle.desc_form.specs.Written.{Written, WrittenHost, WrittenInvariant, written}
 use Rattle.desc_form.specs.WrittenLaws.{written_stands}
-use Rattle.desc_hosts.specs.EntriesLaws.{all_texts, texts}
-use Rattle.text_core.specs.FirstsLaws.{all_twice, neither, none_found, none_mapped}
+use Rattle.desc_hosts.specs.EntriesLaws.{all_texts}
+use Rattle.text_core.specs.FirstsLaws.{all_twice, none_found, none_mapped}
 use Rattle.desc_hosts.specs.HostConditions.{Entry, all_entries, bad_prefix, host_conditions, is_prefix}
 use Rattle.desc_hosts.specs.HostsLaws.{length-network_hosts, unrefused}
+use Rattle.desc_hosts.specs.HostFacts.{texts}
 use Rattle.desc_hosts.specs.WrittenHosts.{network_host, network_hosts}
 use Rattle.flow_set.specs.declared.flow.Flow.{Flow}
 use Rattle.host_net.specs.Prefix.{prefix_of}
 use Rattle.host_net.specs.declared.prefix.Prefix.{Prefix}
 use Rattle.inv_any.specs.declared.any_inv.AnyInv.{AnyInv}
-use Rattle.text_core.specs.Steps.{◌>>=◌}
+use Rattle.std.proofs.lemmas.Option.{option_and_then_some}
+use Rattle.attr_core.specs.Assigns.{Given}
+use Rattle.attr_core.specs.Templates.{bad_in, template_named}
+use Rattle.attr_core.specs.TemplatesLaws.{bad_is, invariant_is}
+use Rattle.attr_core.specs.declared.template.Template.{Template}
+use Rattle.host_net.specs.Host.{Host}
+use Rattle.table_core.specs.Listing.{each}
 
 -- each entry is a prefix
-none_bad : (es : List Entry) → bad_prefix es ≡ None → list_all (λ (e : Entry). is_prefix e.text) es ≡ true
+none_bad : (es : List Entry) → bad_prefix es ≡ None → list_all (λ (e : Entry). is_prefix e.prefix) es ≡ true
 unfolding bad_prefix
-none_bad es h = all_twice (λ (e : Entry). is_prefix e.text) es (none_found (λ (e : Entry). not (is_prefix e.text)) es (none_mapped _ _ h))
+none_bad es h = all_twice (λ (e : Entry). is_prefix e.prefix) es (none_found (λ (e : Entry). not (is_prefix e.prefix)) es (none_mapped _ _ h))
 
-all_prefixes : (w : Written) → first_of (host_conditions w) ≡ None → list_all is_prefix (texts w.hosts) ≡ true
+all_prefixes : (w : Written) → first_of (host_conditions w) ≡ None → list_all (λ t. is_prefix (prefix_of t)) (texts w.hosts) ≡ true
 all_prefixes w h = sym (all_texts is_prefix w) ∙ none_bad (all_entries w) (unrefused w h).prefixes
 
 prefix_by : (o : Option Prefix) → option_map_or (λ p. nat_lt 0 p.len) o false ≡ true → is_some o ≡ true
 prefix_by None h = cc
 prefix_by (Some p) h = refl
 
-hosts_whole : (hs : List WrittenHost) → list_all is_prefix (texts hs) ≡ true → AllZip IsHostOf hs (map network_host hs)
+hosts_whole : (hs : List WrittenHost) → list_all (λ t. is_prefix (prefix_of t)) (texts hs) ≡ true → AllZip IsHostOf hs (map network_host hs)
 hosts_whole [] all = tt
 hosts_whole (h ∷ hs) all =
-    let (here, behind) = and_parts (list_all is_prefix h.at) _ (sym (list_all-append is_prefix h.at (texts hs)) ∙ all) in (
+    let (here, behind) = and_parts (list_all (λ t. is_prefix (prefix_of t)) h.at) _ (sym (list_all-append (λ t. is_prefix (prefix_of t)) h.at (texts hs)) ∙ all) in (
       record {
         name = refl;
-        prefixes = zip_some prefix_of h.at (all_weaker is_prefix (λ text. is_some (prefix_of text)) (λ text. prefix_by (prefix_of text)) h.at here);
+        prefixes = zip_some prefix_of h.at (all_weaker (λ t. is_prefix (prefix_of t)) (λ text. is_some (prefix_of text)) (λ text. prefix_by (prefix_of text)) h.at here);
         rest = refl;
       },
       hosts_whole hs behind,
     )
 
--- each invariant is read
-read_by : (read : Option (Result AnyInv ℕ)) (inv : AnyInv) → (read >>= if_read) ≡ Some inv → read ≡ Some (Ok inv)
-read_by None inv is = cc
-read_by (Some (Ok got)) inv is = let same : got ≡ inv = cc in ap (λ x. Some (Ok x)) same
-read_by (Some (Err k)) inv is = cc
+-- each invariant is made of its assigns
+abbrev known : Template → List Given → Known
+known template assigns = record { template = template; assigns = assigns }
 
-invariants_whole : (w : Written) → AreGood w → AllZip (λ i invariant. invariant_of (network_hosts w) i ≡ Some (Ok invariant)) w.invariants (invariants_of w)
+is_invariant_of : (hosts : List Host) (i : WrittenInvariant) (k : Known) → known_of hosts i ≡ Some k → SaysAttributes hosts i → IsInvariantOf hosts i (made_of hosts k)
+unfolding known_of
+is_invariant_of hosts i k is says =
+    option_and_then_some _ (template_named i.template) k is (λ template named rest.
+    option_and_then_some _ (each (given_by hosts) i.assigns) k rest (λ assigns given last.
+    let same : known template assigns ≡ k = cc in
+    let good : bad_in hosts k.template k.assigns ≡ None = says k is in
+    record {
+      template = template;
+      named = named;
+      assigns = assigns;
+      given = given;
+      good = sym (bad_is hosts template assigns) ∙ ap (λ (j : Known). bad_in hosts j.template j.assigns) same ∙ good;
+      made = ap (λ (j : Known). made_of hosts j) (sym same) ∙ invariant_is hosts template assigns;
+    }))
+
+one_whole : (hosts : List Host) (i : WrittenInvariant) (o : Option Known) (is : List WrittenInvariant) (invs : List AnyInv) → known_of hosts i ≡ o → is_some o ≡ true
+    → SaysAttributes hosts i → AllZip (IsInvariantOf hosts) is invs → AllZip (IsInvariantOf hosts) (i ∷ is) (cons_option (option_map (made_of hosts) o) invs)
+one_whole hosts i None is invs here there says behind = cc
+one_whole hosts i (Some k) is invs here there says behind = (is_invariant_of hosts i k here says, behind)
+
+all_whole : (hosts : List Host) (is : List WrittenInvariant) → list_all (λ i. is_some (known_of hosts i)) is ≡ true → AllByRecursion (SaysAttributes hosts) is
+    → AllZip (IsInvariantOf hosts) is (filter_map (invariant_of hosts) is)
+all_whole hosts [] known says = tt
+all_whole hosts (i ∷ is) known says =
+    let (there, rest) = and_parts (is_some (known_of hosts i)) _ known in
+    one_whole hosts i (known_of hosts i) is (filter_map (invariant_of hosts) is) refl there says.0 (all_whole hosts is rest says.1)
+
+invariants_whole : (w : Written) → PassesUses w → AllZip (IsInvariantOf (network_hosts w)) w.invariants (invariants_of w)
 unfolding invariants_of
-invariants_whole w good =
-    zip_weaker (λ i inv. read_if_known (network_hosts w) i ≡ Some inv) (λ i inv. invariant_of (network_hosts w) i ≡ Some (Ok inv)) w.invariants (filter_map (read_if_known (network_hosts w)) w.invariants)
-    (λ i inv. read_by (invariant_of (network_hosts w) i) inv) (zip_some (read_if_known (network_hosts w)) w.invariants (all_read w good))
+invariants_whole w sound = all_whole (network_hosts w) w.invariants (all_known w sound) sound.attributes
 
 -- each flow lies between two hosts, and none is listed twice
-listed_by : (w : Written) (asked : List Flow) → AreGood w → asked ≡ set_of (filter_map (flow_of_names (network_hosts w)) w.flows) → IsSetOf (network_hosts w) w.flows asked
-listed_by w asked good is =
+listed_by : (w : Written) (asked : List Flow) → PassesUses w → asked ≡ set_of (filter_map (flow_of_names (network_hosts w)) w.flows) → IsSetOf (network_hosts w) w.flows asked
+listed_by w asked sound is =
     let flows = filter_map (flow_of_names (network_hosts w)) w.flows in
-    let zipped = zip_some (flow_of_names (network_hosts w)) w.flows (all_between w good) in
+    let zipped = zip_some (flow_of_names (network_hosts w)) w.flows (all_between w sound) in
     record {
       flows = flows;
       each = zipped;
       same = λ f. rw is (has-set_of flows f);
-      count = rw is (length-set_of flows (flows_once (network_hosts w) w.flows (flows_differ w good)) ∙ zip_length (λ names flow. flow_of_names (network_hosts w) names ≡ Some flow) w.flows flows zipped);
+      count = rw is (length-set_of flows (flows_once (network_hosts w) w.flows sound.different) ∙ zip_length (λ names flow. flow_of_names (network_hosts w) names ≡ Some flow) w.flows flows zipped);
     }
 
 asked_listed : (w : Written) → w.given ≡ true → asked_of w ≡ set_of (filter_map (flow_of_names (network_hosts w)) w.flows)
@@ -92,26 +126,27 @@ asked_every w given = rw given refl
 pub IsWhole-network_of : (w : Written) → first_of (host_conditions w) ≡ None → first_of (use_conditions w) ≡ None → IsWhole w (network_of w)
 unfolding network_of network_hosts
 IsWhole-network_of w no_host no_use =
-    let good = are_good w no_use in
+    let sound = PassesUses-uses w no_use in
     record {
       hosts = hosts_whole w.hosts (all_prefixes w no_host);
-      invariants = invariants_whole w good;
+      invariants = invariants_whole w sound;
       given = refl;
       answers = refl;
       sized = sym (length-network_hosts w);
-      listed = λ given. listed_by w (asked_of w) good (asked_listed w given);
+      listed = λ given. listed_by w (asked_of w) sound (asked_listed w given);
       every = λ given. rw (asked_every w given, length-network_hosts w) (IsFull-every_flow (length w.hosts));
+    }
+
+pub IsDescribedByTable-described : (table : Members) (d : Network) → described_by_table table ≡ Ok d → IsDescribedByTable table d
+IsDescribedByTable-described table d is =
+    let whole = accepted table d is in
+    record {
+      w = written table;
+      written = written_stands table whole.form;
+      whole = subst (IsWhole (written table)) whole.network (IsWhole-network_of (written table) whole.hosts whole.uses);
     }
 
 pub IsDescribed-described : (bytes : List ℕ) (d : Network) → described bytes ≡ Ok d → IsDescribed bytes d
 IsDescribed-described bytes d is =
-    let whole = accepted bytes d is in
-    let w = written whole.table in
-    let (no_host, no_use) = neither (first_of (host_conditions w)) (first_of (use_conditions w)) (sym (first_of-append (host_conditions w) (use_conditions w)) ∙ whole.content) in
-    record {
-      table = whole.table;
-      document = whole.document;
-      w = w;
-      written = written_stands whole.table whole.form;
-      whole = subst (IsWhole w) whole.network (IsWhole-network_of w no_host no_use);
-    }
+    let read = table_of_bytes bytes d is in
+    record { table = read.table; document = read.document; described = IsDescribedByTable-described read.table d read.says }

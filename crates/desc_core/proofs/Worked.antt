@@ -2,25 +2,24 @@
 -- that the definitions say what they are meant to.
 use Rattle.std.proofs.Common.{arith}
 use Rattle.std.proofs.lemmas.List.{length-replicate}
-use Rattle.desc_core.specs.Conditions.{most_bytes}
+use Rattle.desc_core.specs.Conditions.{byte_limit, table_conditions}
 use Rattle.std.specs.Prelude.{ℕ, ◌<◌, length, replicate, ◌≡◌, refl, pos, true, false, List, [], ◌∷◌, map, codes, Ok, Err}
 use Rattle.toml.specs.Data.{string, integer, table, Members, no_members, member}
 use Rattle.attr_core.specs.Blp.{blp_attribute}
-use Rattle.attr_core.specs.Invariants.{invariant_in, blp_in}
-use Rattle.attr_core.specs.Templates.{template_named}
+use Rattle.attr_core.specs.Shapes.{of_shape}
+use Rattle.attr_core.specs.Templates.{bad_in, invariant_in, template_named}
 use Rattle.desc_core.proofs.Examples.{list, host_at, rest_host, flow, level, invariant, host_a, host_b, a_to_b, described_as, of_hosts, of_flows, of_invariants, hosts_below}
 use Rattle.desc_form.specs.declared.refusal.Refusal.{Refusal}
-use Rattle.flow_set.specs.SetOf.{set_of}
-use Rattle.desc_form.specs.Pairs.{pair_of}
+use Rattle.flow_set.specs.FlowSet.{set_of}
+use Rattle.desc_form.specs.WrittenFlow.{flow_written}
 use Rattle.desc_hosts.specs.HostConditions.{bad_version, too_many, bad_name, duplicate_host, bad_prefix, host_bits, no_address, two_rests, overlap, all_entries, host_conditions}
 use Rattle.desc_hosts.specs.Mentions.{assign_names, flow_names, used_names, all_names}
-use Rattle.desc_core.specs.WrittenNetwork.{network_of, asked_of, invariants_of, invariant_of}
+use Rattle.desc_core.specs.WrittenNetwork.{network_of, asked_of, invariants_of, known_of}
 use Rattle.flow_set.specs.EveryFlow.{every_flow}
 use Rattle.desc_form.specs.Places.{unknown_key, missing_key, wrong_type, has_other_key, lacks_needed, has_unsuited, has_wrong_type, first_place, spots, listed, assigns_of}
 use Rattle.desc_core.specs.UseConditions.{use_conditions, unknown_template, undeclared_host, duplicate_assign, bad_attribute, self_flow, duplicate_flow}
-use Rattle.desc_core.specs.Description.{described}
 use Rattle.desc_core.specs.DescriptionLaws.{described-too_long}
-use Rattle.desc_core.specs.Parts.{described_by_table, network_or}
+use Rattle.desc_core.specs.Description.{described, described_by_table}
 use Rattle.desc_form.specs.Refusals.{refused, refused_by, refused_item, refused_item_by, refused_name}
 use Rattle.desc_form.specs.declared.refusal.Place.TheVariants.{Assign, Document, FlowAt, Host}
 use Rattle.desc_form.specs.declared.refusal.Why.TheVariants.{TooLong, BadAttribute, BadPrefix, BadVersion, DuplicateFlow, DuplicateHost, HostBits, Overlap, SelfFlow, TooMany, TwoRests, UndeclaredHost, UnknownKey}
@@ -28,7 +27,8 @@ use Rattle.desc_form.specs.FormConditions.{form_conditions}
 use Rattle.desc_form.specs.Written.{written, host_written, invariant_written, assign_written}
 use Rattle.desc_hosts.specs.WrittenHosts.{network_hosts}
 use Rattle.host_net.specs.Prefix.{prefix_of, prefix_with, address_of, is_exact, meets}
-use Rattle.table_core.specs.Tables.{has_only, has_key, text_at, integer_at, boolean_at, number_at, number_or, boolean_or, elements_of, list_at}
+use Rattle.table_core.specs.Keys.{all_suit, has_only_keys, lacks_key}
+use Rattle.table_core.specs.Tables.{has_only, has_key, text_at, integer_at, boolean_at, number_at, elements_of, list_at}
 use Rattle.text_core.specs.Decimal.{number, bounded_value}
 
 -- a description, and what it is refused for
@@ -51,13 +51,12 @@ worked_rows =
     ∷ row (of_hosts (host_at (codes "a") (codes "0.0.0.0/0") ∷ host_b ∷ [])) (refused_item BadPrefix (Host 1) 1)
     ∷ row (of_hosts (rest_host (codes "a") ∷ rest_host (codes "b") ∷ [])) (refused_by TwoRests (Host 2) 1)
     ∷ row (of_hosts (host_a ∷ host_at (codes "a") (codes "10.0.0.2/32") ∷ [])) (refused_by DuplicateHost (Host 2) 1)
-    ∷ row (of_hosts (hosts_below 33)) (refused TooMany (Host 33))
     ∷ row (described_as (integer (pos 3)) a_to_b (list (host_a ∷ host_b ∷ []))) (refused BadVersion Document)
     ∷ row (of_hosts (host_a ∷ table (member (codes "colour") (integer (pos 1)) (member (codes "name") (string (codes "b")) no_members)) ∷ [])) (refused UnknownKey (Host 2))
     ∷ []
 
 pub worked : map (λ r. described_by_table r.document) worked_rows ≡ map (λ r. Err r.refusal) worked_rows
-unfolding unknown_key missing_key wrong_type has_other_key lacks_needed has_unsuited has_wrong_type first_place spots listed assigns_of has_only has_key text_at integer_at boolean_at number_or number_at boolean_or elements_of list_at pair_of written host_written invariant_written assign_written bad_version too_many bad_name duplicate_host bad_prefix host_bits no_address two_rests overlap all_entries assign_names flow_names used_names all_names unknown_template undeclared_host duplicate_assign bad_attribute self_flow duplicate_flow network_of network_hosts asked_of invariants_of invariant_of every_flow described_by_table network_or form_conditions host_conditions use_conditions prefix_of address_of number bounded_value is_exact meets template_named invariant_in blp_in blp_attribute
+unfolding unknown_key missing_key wrong_type has_other_key lacks_needed has_unsuited has_only_keys lacks_key all_suit of_shape has_wrong_type first_place spots listed assigns_of has_only has_key text_at integer_at boolean_at number_at elements_of list_at flow_written written host_written invariant_written assign_written bad_version too_many bad_name duplicate_host bad_prefix host_bits no_address two_rests overlap all_entries assign_names flow_names used_names all_names unknown_template undeclared_host duplicate_assign bad_attribute self_flow duplicate_flow network_of network_hosts asked_of invariants_of known_of every_flow described_by_table table_conditions form_conditions host_conditions use_conditions prefix_of address_of number bounded_value is_exact meets template_named bad_in invariant_in blp_attribute
 worked = refl
 
 -- without a change it is accepted
@@ -71,12 +70,12 @@ pub accepted : described_by_table (of_flows a_to_b) ≡ Ok (record {
   answers = false;
   invariants = [];
 })
-unfolding unknown_key missing_key wrong_type has_other_key lacks_needed has_unsuited has_wrong_type first_place spots listed assigns_of has_only has_key text_at integer_at boolean_at number_or number_at boolean_or elements_of list_at pair_of written host_written invariant_written assign_written bad_version too_many bad_name duplicate_host bad_prefix host_bits no_address two_rests overlap all_entries assign_names flow_names used_names all_names unknown_template undeclared_host duplicate_assign bad_attribute self_flow duplicate_flow network_of network_hosts asked_of invariants_of invariant_of every_flow described_by_table network_or form_conditions host_conditions use_conditions prefix_of address_of number bounded_value is_exact meets template_named invariant_in blp_in blp_attribute set_of
+unfolding unknown_key missing_key wrong_type has_other_key lacks_needed has_unsuited has_only_keys lacks_key all_suit of_shape has_wrong_type first_place spots listed assigns_of has_only has_key text_at integer_at boolean_at number_at elements_of list_at flow_written written host_written invariant_written assign_written bad_version too_many bad_name duplicate_host bad_prefix host_bits no_address two_rests overlap all_entries assign_names flow_names used_names all_names unknown_template undeclared_host duplicate_assign bad_attribute self_flow duplicate_flow network_of network_hosts asked_of invariants_of known_of every_flow described_by_table table_conditions form_conditions host_conditions use_conditions prefix_of address_of number bounded_value is_exact meets template_named bad_in invariant_in blp_attribute set_of
 accepted = refl
 
 -- whatever stands in it, a file of one byte more than the limit is too long
 pub too_long : (byte : ℕ) → described (replicate 1048577 byte) ≡ Err (refused TooLong Document)
 too_long byte = described-too_long (replicate 1048577 byte) (longer 1048577 byte (omega arith))
   where
-    longer : (n byte : ℕ) → most_bytes < n → most_bytes < length (replicate n byte)
+    longer : (n byte : ℕ) → byte_limit < n → byte_limit < length (replicate n byte)
     longer n byte h = omega (arith, length-replicate n byte, h)

@@ -1,20 +1,31 @@
--- What the bytes of a description say, or the first condition that refuses them (the description's format, docs/FORMATS.md).
-use Rattle.std.specs.Prelude.{ℕ, List, Option, Some, None, unwrap_or, Result, Ok, Err}
-use Rattle.toml.specs.Data.{no_members}
-use Rattle.desc_core.specs.Conditions.{conditions}
+-- What a description says, or the first condition that refuses it (the description's format, docs/FORMATS.md).
+use Rattle.std.specs.Prelude.{ℕ, List, length, nat_lt, Option, Some, None, Result, Ok, Err, if◌then◌else◌}
+use Rattle.toml.specs.Data.{Members}
+use Rattle.desc_core.specs.Conditions.{byte_limit, table_conditions}
 use Rattle.desc_core.specs.Document.{document}
 use Rattle.net_core.specs.Network.{Network}
 use Rattle.desc_core.specs.WrittenNetwork.{network_of}
 use Rattle.text_core.specs.Firsts.{first_of}
+use Rattle.desc_form.specs.Refusals.{refused}
 use Rattle.desc_form.specs.Written.{written}
+use Rattle.desc_form.specs.declared.refusal.Place.TheVariants.{Document}
 use Rattle.desc_form.specs.declared.refusal.Refusal.{Refusal}
+use Rattle.desc_form.specs.declared.refusal.Why.TheVariants.{TooLong, NotToml}
 
--- the refusal, where there is one
+-- what is said, unless it is refused
 abbrev pub refused_or : {A : Type 0} → Option Refusal → A → Result A Refusal
 refused_or (Some refusal) x = Err refusal
 refused_or None x = Ok x
 
--- the first of the twenty conditions that holds, or the network that is written in the document; bytes that are none are refused,
--- so that an empty table in its place says nothing
+-- what a table describes: the network that is written in it, or the first of 3 to 20 that holds
+unfoldable pub described_by_table : Members → Result Network Refusal
+described_by_table table = refused_or (first_of (table_conditions table)) (network_of (written table))
+
+-- what a document describes; bytes that are none are refused
+abbrev pub described_by : Option Members → Result Network Refusal
+described_by None = Err (refused NotToml Document)
+described_by (Some table) = described_by_table table
+
+-- what the bytes describe
 unfoldable pub described : List ℕ → Result Network Refusal
-described bytes = refused_or (first_of (conditions bytes)) (network_of (written (unwrap_or (document bytes) no_members)))
+described bytes = if nat_lt byte_limit (length bytes) then Err (refused TooLong Document) else described_by (document bytes)

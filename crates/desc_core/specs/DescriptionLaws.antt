@@ -1,17 +1,18 @@
--- What follows for the bytes that are a description, and for those that are refused.
-use Rattle.std.proofs.Common.{◌≡◌, ℕ, ◌<◌, true, false, Bool, List, [], ◌∷◌, ◌++◌, length, Option, Some, None, Result, Ok, Err, refl, ap, sym, ◌∙◌, inl, inr}
+-- What follows for what is a description, and for what is refused.
+use Rattle.std.proofs.Common.{◌≡◌, ℕ, ◌<◌, true, false, Bool, List, [], ◌∷◌, ◌++◌, length, Option, Some, None, Ok, Err, refl, ap, sym, ◌∙◌}
 use Rattle.std.proofs.lemmas.Bool.{lt-ltb}
-use Rattle.std.specs.Option.{option_or}
-use Rattle.std.specs.Prelude.{◌⊎◌, nat_lt, is_none, unwrap_or, if◌then◌else◌}
-use Rattle.toml.specs.Data.{Members, no_members}
-use Rattle.desc_core.specs.Conditions.{conditions, most_bytes, not_toml, table_conditions, too_long}
-use Rattle.desc_core.specs.Description.{described, refused_or}
+use Rattle.std.specs.Option.{option_map_or, option_or}
+use Rattle.std.specs.Prelude.{nat_lt, is_none, if◌then◌else◌}
+use Rattle.toml.specs.Data.{Members}
+use Rattle.desc_core.specs.AllConditions.{conditions, not_toml, too_long}
+use Rattle.desc_core.specs.Conditions.{byte_limit, table_conditions}
+use Rattle.desc_core.specs.Description.{described, described_by, described_by_table, refused_or}
 use Rattle.desc_core.specs.Document.{document}
 use Rattle.net_core.specs.Network.{Network}
 use Rattle.desc_core.specs.WrittenNetwork.{network_of}
-use Rattle.desc_core.specs.Parts.{described_by_document, described_by_table, network_or, unless_refused}
 use Rattle.desc_core.specs.UseConditions.{use_conditions}
 use Rattle.text_core.specs.Firsts.{first_of, where_holds}
+use Rattle.text_core.specs.FirstsLaws.{neither}
 use Rattle.desc_form.specs.FormConditions.{form_conditions}
 use Rattle.desc_form.specs.Refusals.{refused}
 use Rattle.desc_form.specs.Written.{written}
@@ -20,13 +21,18 @@ use Rattle.desc_form.specs.declared.refusal.Refusal.{Refusal}
 use Rattle.desc_form.specs.declared.refusal.Why.TheVariants.{NotToml, TooLong}
 use Rattle.desc_hosts.specs.HostConditions.{host_conditions}
 
--- the bytes are a table on which no condition holds, and d is its network
-pub record IsAccepted (bytes : List ℕ) (d : Network) : Type 0 where
+-- no condition holds of the table, and d is its network
+pub record IsAccepted (table : Members) (d : Network) : Type 0 where
+  pub form : first_of (form_conditions table) ≡ None
+  pub hosts : first_of (host_conditions (written table)) ≡ None
+  pub uses : first_of (use_conditions (written table)) ≡ None
+  pub network : network_of (written table) ≡ d
+
+-- the bytes are a table that describes d
+pub record IsTableOf (bytes : List ℕ) (d : Network) : Type 0 where
   pub table : Members
   pub document : document bytes ≡ Some table
-  pub form : first_of (form_conditions table) ≡ None
-  pub content : first_of (host_conditions (written table) ++ use_conditions (written table)) ≡ None
-  pub network : network_of (written table) ≡ d
+  pub says : described_by_table table ≡ Ok d
 
 -- the first of two lists is that of the first, else that of the second
 pub first_of-append : {A : Type 0} (xs ys : List (Option A)) → first_of (xs ++ ys) ≡ option_or (first_of xs) (first_of ys)
@@ -34,85 +40,86 @@ first_of-append [] ys = refl
 first_of-append (None ∷ xs) ys = first_of-append xs ys
 first_of-append (Some x ∷ xs) ys = refl
 
--- what passes a condition, and what stops at one
-pub passes : {A B : Type 0} (o : Option Refusal) (next : A → Result B Refusal) (x : A) (y : B) → unless_refused o next x ≡ Ok y → (o ≡ None) × (next x ≡ Ok y)
-passes None next x y is = (refl, is)
-passes (Some refusal) next x y is = cc
+-- what is said where nothing is refused, and what is told where something is
+passed : {A : Type 0} (o : Option Refusal) (x y : A) → refused_or o x ≡ Ok y → (o ≡ None) × (x ≡ y)
+passed None x y said = (refl, cc)
+passed (Some r) x y said = cc
 
-pub stops : {A B : Type 0} (o : Option Refusal) (next : A → Result B Refusal) (x : A) (r : Refusal) → unless_refused o next x ≡ Err r
-    → (o ≡ Some r) ⊎ ((o ≡ None) × (next x ≡ Err r))
-stops None next x r is = inr (refl, is)
-stops (Some refusal) next x r is = inl cc
-
--- the description, condition by condition
-or_unless : {A B : Type 0} (o : Option Refusal) (f : A → B) (x : A) → refused_or o (f x) ≡ unless_refused o (λ v. Ok (f v)) x
-or_unless None f x = refl
-or_unless (Some r) f x = refl
-
-or_step : {A B : Type 0} (o p : Option Refusal) (next : A → Result B Refusal) (x : A) (y : B) → refused_or p y ≡ next x → refused_or (option_or o p) y ≡ unless_refused o next x
-or_step None p next x y rest = rest
-or_step (Some r) p next x y rest = refl
-
-by_table : (table : Members) → refused_or (first_of (table_conditions (Some table))) (network_of (written table)) ≡ described_by_table table
-unfolding described_by_table network_or
-by_table table =
-    let w = written table in
-    let behind = host_conditions w ++ use_conditions w in
-    ap (λ o. refused_or o (network_of w)) (first_of-append (form_conditions table) behind)
-    ∙ or_step (first_of (form_conditions table)) (first_of behind) (λ ms. network_or (written ms)) table (network_of w) (or_unless (first_of behind) network_of w)
-
-by_document : (read : Option Members) → refused_or (first_of (where_holds (is_none read) (refused NotToml Document) ∷ table_conditions read)) (network_of (written (unwrap_or read no_members))) ≡ described_by_document read
-by_document None = refl
-by_document (Some table) = by_table table
-
-by_length : (long : Bool) (rest : List (Option Refusal)) (d : Network)
-    → refused_or (first_of (where_holds long (refused TooLong Document) ∷ rest)) d ≡ (if long then Err (refused TooLong Document) else refused_or (first_of rest) d)
-by_length true rest d = refl
-by_length false rest d = refl
-
-pub in_steps : (bytes : List ℕ) → described bytes ≡ (if nat_lt most_bytes (length bytes) then Err (refused TooLong Document) else described_by_document (document bytes))
-unfolding described conditions too_long not_toml
-in_steps bytes =
-    by_length (nat_lt most_bytes (length bytes)) (not_toml bytes ∷ table_conditions (document bytes)) (network_of (written (unwrap_or (document bytes) no_members)))
-    ∙ ap (λ r. if nat_lt most_bytes (length bytes) then Err (refused TooLong Document) else r) (by_document (document bytes))
-
--- what has more bytes than the limit is refused, whatever they are
-pub described-too_long : (bytes : List ℕ) → most_bytes < length bytes → described bytes ≡ Err (refused TooLong Document)
-described-too_long bytes longer = let above = lt-ltb _ _ longer in in_steps bytes ∙ rw above refl
-
-accepted_table : (bytes : List ℕ) (table : Members) (d : Network) → document bytes ≡ Some table → described_by_table table ≡ Ok d → IsAccepted bytes d
-unfolding described_by_table network_or
-accepted_table bytes table d is said =
-    let (form, rest) = passes (first_of (form_conditions table)) (λ ms. network_or (written ms)) table d said in
-    let w = written table in
-    let (content, network) = passes (first_of (host_conditions w ++ use_conditions w)) (λ v. Ok (network_of v)) w d rest in
-    record { table = table; document = is; form = form; content = content; network = cc }
-
-accepted_document : (bytes : List ℕ) (read : Option Members) (d : Network) → document bytes ≡ read → described_by_document read ≡ Ok d → IsAccepted bytes d
-accepted_document bytes None d is said = cc
-accepted_document bytes (Some table) d is said = accepted_table bytes table d is said
-
-accepted_by : (bytes : List ℕ) (long : Bool) (d : Network) → (if long then Err (refused TooLong Document) else described_by_document (document bytes)) ≡ Ok d → IsAccepted bytes d
-accepted_by bytes true d said = cc
-accepted_by bytes false d said = accepted_document bytes (document bytes) d refl said
-
-pub accepted : (bytes : List ℕ) (d : Network) → described bytes ≡ Ok d → IsAccepted bytes d
-accepted bytes d said = accepted_by bytes (nat_lt most_bytes (length bytes)) d (sym (in_steps bytes) ∙ said)
-
--- what is told of bytes that are refused is the first of the conditions that hold
 told_by : {A : Type 0} (o : Option Refusal) (x : A) (r : Refusal) → refused_or o x ≡ Err r → o ≡ Some r
 told_by None x r said = cc
 told_by (Some s) x r said = cc
 
-pub told : (bytes : List ℕ) (r : Refusal) → described bytes ≡ Err r → first_of (conditions bytes) ≡ Some r
+-- ---- tables
+
+-- the conditions on a table in their groups: its form, its hosts, and what stands on the hosts
+pub by_groups : (table : Members)
+    → first_of (table_conditions table) ≡ option_or (first_of (form_conditions table)) (option_or (first_of (host_conditions (written table))) (first_of (use_conditions (written table))))
+unfolding table_conditions
+by_groups table =
+    first_of-append (form_conditions table) (host_conditions (written table) ++ use_conditions (written table))
+    ∙ ap (option_or (first_of (form_conditions table))) (first_of-append (host_conditions (written table)) (use_conditions (written table)))
+
+pub accepted : (table : Members) (d : Network) → described_by_table table ≡ Ok d → IsAccepted table d
+unfolding described_by_table
+accepted table d said =
+    let (none, network) = passed (first_of (table_conditions table)) (network_of (written table)) d said in
+    let (form, content) = neither (first_of (form_conditions table)) _ (sym (by_groups table) ∙ none) in
+    let (hosts, uses) = neither (first_of (host_conditions (written table))) _ content in
+    record { form = form; hosts = hosts; uses = uses; network = network }
+
+pub told_of_table : (table : Members) (r : Refusal) → described_by_table table ≡ Err r → first_of (table_conditions table) ≡ Some r
+unfolding described_by_table
+told_of_table table r said = told_by (first_of (table_conditions table)) (network_of (written table)) r said
+
+pub none_of_table : (table : Members) (d : Network) → described_by_table table ≡ Ok d → first_of (table_conditions table) ≡ None
+unfolding described_by_table
+none_of_table table d said = (passed (first_of (table_conditions table)) (network_of (written table)) d said).0
+
+-- ---- bytes
+
+by_document : (bytes : List ℕ) (read : Option Members) (d : Network) → document bytes ≡ read → described_by read ≡ Ok d → IsTableOf bytes d
+by_document bytes None d is said = cc
+by_document bytes (Some table) d is said = record { table = table; document = is; says = said }
+
+by_length : (bytes : List ℕ) (long : Bool) (d : Network) → (if long then Err (refused TooLong Document) else described_by (document bytes)) ≡ Ok d → IsTableOf bytes d
+by_length bytes true d said = cc
+by_length bytes false d said = by_document bytes (document bytes) d refl said
+
+pub table_of_bytes : (bytes : List ℕ) (d : Network) → described bytes ≡ Ok d → IsTableOf bytes d
 unfolding described
-told bytes r said = told_by (first_of (conditions bytes)) (network_of (written (unwrap_or (document bytes) no_members))) r said
+table_of_bytes bytes d said = by_length bytes (nat_lt byte_limit (length bytes)) d said
+
+-- what has more bytes than the limit is refused, whatever they are
+pub described-too_long : (bytes : List ℕ) → byte_limit < length bytes → described bytes ≡ Err (refused TooLong Document)
+unfolding described
+described-too_long bytes longer = let above = lt-ltb _ _ longer in rw above refl
+
+-- what is told of bytes that are refused is the first of the conditions that hold
+told_of_document : (read : Option Members) (r : Refusal) → described_by read ≡ Err r
+    → first_of (where_holds (is_none read) (refused NotToml Document) ∷ option_map_or table_conditions read []) ≡ Some r
+told_of_document None r said = cc
+told_of_document (Some table) r said = told_of_table table r said
+
+told_by_length : (long : Bool) (read : Option Members) (r : Refusal) → (if long then Err (refused TooLong Document) else described_by read) ≡ Err r
+    → first_of (where_holds long (refused TooLong Document) ∷ where_holds (is_none read) (refused NotToml Document) ∷ option_map_or table_conditions read []) ≡ Some r
+told_by_length true read r said = cc
+told_by_length false read r said = told_of_document read r said
+
+pub told : (bytes : List ℕ) (r : Refusal) → described bytes ≡ Err r → first_of (conditions bytes) ≡ Some r
+unfolding described conditions too_long not_toml
+told bytes r said = told_by_length (nat_lt byte_limit (length bytes)) (document bytes) r said
 
 -- where the bytes describe a network, none of the conditions holds
-none_by : {A : Type 0} (o : Option Refusal) (x y : A) → refused_or o x ≡ Ok y → o ≡ None
-none_by None x y said = refl
-none_by (Some s) x y said = cc
+none_of_document : (read : Option Members) (d : Network) → described_by read ≡ Ok d
+    → first_of (where_holds (is_none read) (refused NotToml Document) ∷ option_map_or table_conditions read []) ≡ None
+none_of_document None d said = cc
+none_of_document (Some table) d said = none_of_table table d said
+
+none_by_length : (long : Bool) (read : Option Members) (d : Network) → (if long then Err (refused TooLong Document) else described_by read) ≡ Ok d
+    → first_of (where_holds long (refused TooLong Document) ∷ where_holds (is_none read) (refused NotToml Document) ∷ option_map_or table_conditions read []) ≡ None
+none_by_length true read d said = cc
+none_by_length false read d said = none_of_document read d said
 
 pub none_told : (bytes : List ℕ) (d : Network) → described bytes ≡ Ok d → first_of (conditions bytes) ≡ None
-unfolding described
-none_told bytes d said = none_by (first_of (conditions bytes)) (network_of (written (unwrap_or (document bytes) no_members))) d said
+unfolding described conditions too_long not_toml
+none_told bytes d said = none_by_length (nat_lt byte_limit (length bytes)) (document bytes) d said

@@ -1,12 +1,13 @@
 -- The flows of a description, between the hosts that their names say.
-use Rattle.std.specs.Prelude.{ℕ, List, ◌==◌, if◌then◌else◌, Option, Some, None}
+use Rattle.std.specs.Prelude.{List, ◌==◌, if◌then◌else◌, Option, Some, None}
+use Rattle.desc_form.specs.WrittenFlow.{WrittenFlow}
 use Rattle.flow_set.specs.declared.flow.Flow.{Flow}
 use Rattle.host_net.specs.Host.{Host, host_named}
 use Rattle.text_core.specs.Steps.{◌>>=◌}
 
 -- the flow between the hosts of two names, if they are two hosts
-abbrev pub flow_of_names : List Host → List ℕ × List ℕ → Option Flow
+abbrev pub flow_of_names : List Host → WrittenFlow → Option Flow
 flow_of_names hosts names = do
-  from ← host_named hosts names.0
-  to ← host_named hosts names.1
+  from ← host_named hosts names.from
+  to ← host_named hosts names.to
   if from == to then None else Some (record { from = from; to = to })

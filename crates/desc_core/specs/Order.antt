@@ -4,10 +4,11 @@ use Rattle.std.specs.List.{list_all}
 use Rattle.desc_form.specs.Refusals.{number}
 use Rattle.desc_form.specs.declared.refusal.Refusal.{Refusal}
 
--- r is what one of the conditions refuses, its cause has the number of that condition, and no condition with a smaller number holds
-pub record IsLeast (conditions : List (Option Refusal)) (r : Refusal) : Type 0 where
+-- the conditions have the numbers from n on; r is what one of them refuses, its cause has the number of that condition, and no
+-- condition with a smaller number holds
+pub record IsLeast (n : ℕ) (conditions : List (Option Refusal)) (r : Refusal) : Type 0 where
   pub before : ℕ
-  pub numbered : number r.why ≡ before + 1
+  pub numbered : number r.why ≡ n + before
   pub refuses : slice_get conditions before ≡ Some (Some r)
   pub first : (j : ℕ) → j < before → slice_get conditions j ≡ Some None
 

@@ -1,20 +1,20 @@
 -- The refusals 15 to 20 of a description: its invariants, their assigns, and its flows (the description's format,
 -- docs/FORMATS.md).
-use Rattle.std.specs.Prelude.{ℕ, ◌+◌, Bool, not, ◌&&◌, List, [], ◌∷◌, find, Option, Some, None, option_map, is_none, Result, Ok, Err}
+use Rattle.std.specs.Prelude.{ℕ, ◌+◌, Bool, not, ◌&&◌, List, [], ◌∷◌, find, Option, option_map, is_none}
 use Rattle.std.specs.List.{list_any}
 use Rattle.std.specs.Str.{bytes_eq}
-use Rattle.attr_core.specs.Templates.{template_named}
+use Rattle.attr_core.specs.Templates.{bad_in, template_named}
 use Rattle.desc_form.specs.declared.refusal.Place.TheVariants.{Invariant, Assign, FlowAt}
 use Rattle.desc_form.specs.declared.refusal.Refusal.{Refusal}
 use Rattle.desc_form.specs.declared.refusal.Why.TheVariants.{UnknownTemplate, UndeclaredHost, DuplicateAssign, BadAttribute, SelfFlow, DuplicateFlow}
 use Rattle.text_core.specs.Firsts.{first_found, numbered, Numbered, first_pair}
 use Rattle.desc_hosts.specs.Mentions.{used_names}
-use Rattle.desc_core.specs.WrittenNetwork.{invariant_of}
+use Rattle.desc_core.specs.WrittenNetwork.{Known, known_of}
 use Rattle.desc_hosts.specs.WrittenHosts.{network_hosts}
 use Rattle.desc_form.specs.Refusals.{refused, refused_by, refused_name}
 use Rattle.desc_form.specs.Written.{Written, WrittenInvariant}
+use Rattle.desc_form.specs.WrittenFlow.{WrittenFlow}
 use Rattle.host_net.specs.Host.{Host}
-use Rattle.inv_any.specs.declared.any_inv.AnyInv.{AnyInv}
 use Rattle.text_core.specs.Steps.{◌>>=◌}
 
 -- 15: no template has the name
@@ -41,23 +41,25 @@ unfoldable pub duplicate_assign : Written → Option Refusal
 duplicate_assign w = first_found duplicate_assign_of (numbered w.invariants)
 
 -- an invariant is refused at its first assign that says no attribute
-abbrev pub at_assign : ℕ → Result AnyInv ℕ → Option Refusal
-at_assign k (Ok inv) = None
-at_assign k (Err assign) = Some (refused BadAttribute (Assign k (assign + 1)))
+abbrev pub bad_at : List Host → ℕ → Known → Option Refusal
+bad_at hosts number known = option_map (λ assign. refused BadAttribute (Assign number (assign + 1))) (bad_in hosts known.template known.assigns)
 
 abbrev pub bad_attribute_of : List Host → Numbered WrittenInvariant → Option Refusal
-bad_attribute_of hosts i = invariant_of hosts i.what >>= at_assign i.number
+bad_attribute_of hosts i = known_of hosts i.what >>= bad_at hosts i.number
 
 -- 18: the table of an assign says no attribute of the template
 unfoldable pub bad_attribute : Written → Option Refusal
 bad_attribute w = first_found (bad_attribute_of (network_hosts w)) (numbered w.invariants)
 
+abbrev pub leads_to_itself : WrittenFlow → Bool
+leads_to_itself f = bytes_eq f.from f.to
+
 -- 19: both names of a flow are the same
 unfoldable pub self_flow : Written → Option Refusal
-self_flow w = option_map (λ f. refused SelfFlow (FlowAt f.number)) (find (λ f. bytes_eq f.what.0 f.what.1) (numbered w.flows))
+self_flow w = option_map (λ f. refused SelfFlow (FlowAt f.number)) (find (λ f. leads_to_itself f.what) (numbered w.flows))
 
-abbrev pub same_names : List ℕ × List ℕ → List ℕ × List ℕ → Bool
-same_names f g = bytes_eq f.0 g.0 && bytes_eq f.1 g.1
+abbrev pub same_names : WrittenFlow → WrittenFlow → Bool
+same_names f g = bytes_eq f.from g.from && bytes_eq f.to g.to
 
 -- 20: a flow was listed before
 unfoldable pub duplicate_flow : Written → Option Refusal

@@ -1,12 +1,19 @@
 -- That nothing of a description is passed over: its hosts, its invariants and its flows stand in the network, one for one.
-use Rattle.std.specs.Prelude.{◌≡◌, ℕ, true, false, List, length, Some, Ok}
+use Rattle.std.specs.Prelude.{◌≡◌, ℕ, true, false, List, length, Some, None}
 use Rattle.std.specs.List.{AllZip}
 use Rattle.toml.specs.Data.{Members}
 use Rattle.desc_core.specs.Document.{document}
 use Rattle.desc_core.specs.Flows.{flow_of_names}
 use Rattle.net_core.specs.Network.{Network}
-use Rattle.desc_core.specs.WrittenNetwork.{invariant_of}
-use Rattle.desc_form.specs.Written.{Written, WrittenHost}
+use Rattle.attr_core.specs.Assigns.{Given}
+use Rattle.attr_core.specs.Forms.{attributes_in, bad_assign}
+use Rattle.attr_core.specs.Templates.{form, template_named}
+use Rattle.attr_core.specs.declared.template.Template.{Template}
+use Rattle.desc_core.specs.WrittenNetwork.{given_by}
+use Rattle.inv_any.specs.declared.any_inv.AnyInv.{AnyInv}
+use Rattle.table_core.specs.Listing.{each}
+use Rattle.desc_form.specs.Written.{Written, WrittenHost, WrittenInvariant}
+use Rattle.desc_form.specs.WrittenFlow.{WrittenFlow}
 use Rattle.desc_form.specs.WrittenForm.{IsWritten}
 use Rattle.flow_set.specs.FlowSet.{has, IsFull}
 use Rattle.flow_set.specs.declared.flow.Flow.{Flow}
@@ -20,26 +27,40 @@ pub record IsHostOf (h : WrittenHost) (host : Host) : Type 0 where
   pub rest : host.rest ≡ h.rest
 
 -- the set has one flow for each pair of names, from the host of the first to the host of the second, and no other
-pub record IsSetOf (hosts : List Host) (pairs : List (List ℕ × List ℕ)) (asked : List Flow) : Type 0 where
+pub record IsSetOf (hosts : List Host) (pairs : List WrittenFlow) (asked : List Flow) : Type 0 where
   pub flows : List Flow
   pub each : AllZip (λ names flow. flow_of_names hosts names ≡ Some flow) pairs flows
   pub same : (f : Flow) → has asked f ≡ has flows f
   pub count : length asked ≡ length pairs
 
+-- the invariant is of the written template, each of its assigns is of a declared host and says an attribute, and each host has the
+-- attribute that the last assign of it says, or the default
+pub record IsInvariantOf (hosts : List Host) (i : WrittenInvariant) (invariant : AnyInv) : Type 0 where
+  pub template : Template
+  pub named : template_named i.template ≡ Some template
+  pub assigns : List Given
+  pub given : each (given_by hosts) i.assigns ≡ Some assigns
+  pub good : bad_assign (form template) hosts assigns ≡ None
+  pub made : invariant ≡ (form template).make (attributes_in (form template) hosts assigns)
+
 -- the network has what is written, in the same order; where the key `flow` is absent, every flow is asked for
 pub record IsWhole (w : Written) (d : Network) : Type 0 where
   pub hosts : AllZip IsHostOf w.hosts d.hosts
-  pub invariants : AllZip (λ i invariant. invariant_of d.hosts i ≡ Some (Ok invariant)) w.invariants d.invariants
+  pub invariants : AllZip (IsInvariantOf d.hosts) w.invariants d.invariants
   pub given : d.given ≡ w.given
   pub answers : d.answers ≡ w.answers
   pub sized : d.asked.size ≡ length d.hosts
   pub listed : w.given ≡ true → IsSetOf d.hosts w.flows d.asked.flows
   pub every : w.given ≡ false → IsFull (length d.hosts) d.asked.flows
 
--- the bytes are a document, w is all that is written in it, and the network has all of w
-pub record IsDescribed (bytes : List ℕ) (d : Network) : Type 0 where
-  pub table : Members
-  pub document : document bytes ≡ Some table
+-- w is all that is written in the table, and the network has all of w
+pub record IsDescribedByTable (table : Members) (d : Network) : Type 0 where
   pub w : Written
   pub written : IsWritten table w
   pub whole : IsWhole w d
+
+-- the bytes are a document, and its table describes the network
+pub record IsDescribed (bytes : List ℕ) (d : Network) : Type 0 where
+  pub table : Members
+  pub document : document bytes ≡ Some table
+  pub described : IsDescribedByTable table d

@@ -1,12 +1,12 @@
 -- The network that a written description says: its hosts, the flows between them, and the invariant of each template
 -- (the description's format, docs/FORMATS.md).
 -- What is refused is passed over here: where a description is refused, what is said here does not count.
-use Rattle.std.specs.Prelude.{ℕ, List, length, filter_map, Option, Some, None, option_map, Result, Ok, Err, if◌then◌else◌}
+use Rattle.std.specs.Prelude.{List, length, filter_map, Option, Some, option_map, if◌then◌else◌}
 use Rattle.attr_core.specs.Assigns.{Given}
-use Rattle.attr_core.specs.Invariants.{invariant_in}
-use Rattle.attr_core.specs.Templates.{template_named}
+use Rattle.attr_core.specs.Templates.{invariant_in, template_named}
+use Rattle.attr_core.specs.declared.template.Template.{Template}
 use Rattle.desc_core.specs.Flows.{flow_of_names}
-use Rattle.flow_set.specs.SetOf.{set_of}
+use Rattle.flow_set.specs.FlowSet.{set_of}
 use Rattle.desc_form.specs.Written.{Written, WrittenAssign, WrittenInvariant}
 use Rattle.desc_hosts.specs.WrittenHosts.{network_hosts}
 use Rattle.flow_set.specs.EveryFlow.{every_flow}
@@ -25,19 +25,27 @@ asked_of w = if w.given then set_of (filter_map (flow_of_names (network_hosts w)
 abbrev pub given_by : List Host → WrittenAssign → Option Given
 given_by hosts a = option_map (λ host. record { host = host; table = a.table }) (host_named hosts a.host)
 
--- the invariant that is written, or the number from 0 of its first assign that says no attribute; none where the template or a host is unknown
-unfoldable pub invariant_of : List Host → WrittenInvariant → Option (Result AnyInv ℕ)
-invariant_of hosts i = do
+-- an invariant whose names are known: its template, and what its assigns give
+pub record Known : Type 0 where
+  pub template : Template
+  pub assigns : List Given
+
+-- none where the template or a host is unknown
+unfoldable pub known_of : List Host → WrittenInvariant → Option Known
+known_of hosts i = do
   template ← template_named i.template
   assigns ← each (given_by hosts) i.assigns
-  Some (invariant_in hosts template assigns)
+  Some (record { template = template; assigns = assigns })
 
-abbrev pub if_read : Result AnyInv ℕ → Option AnyInv
-if_read (Ok inv) = Some inv
-if_read (Err assign) = None
+-- the invariant whose hosts have the attributes that are assigned
+abbrev pub made_of : List Host → Known → AnyInv
+made_of hosts known = invariant_in hosts known.template known.assigns
+
+abbrev pub invariant_of : List Host → WrittenInvariant → Option AnyInv
+invariant_of hosts i = option_map (made_of hosts) (known_of hosts i)
 
 unfoldable pub invariants_of : Written → List AnyInv
-invariants_of w = filter_map (λ i. invariant_of (network_hosts w) i >>= if_read) w.invariants
+invariants_of w = filter_map (invariant_of (network_hosts w)) w.invariants
 
 unfoldable pub network_of : Written → Network
 network_of w = record {

@@ -1,12 +1,13 @@
 //! The description of a network: its hosts, the flows between them that are asked for, and its
 //! invariants.
-ghost use Rattle.std.specs.Prelude.{◌≡◌, IfOk};
-ghost use Rattle.desc_core.specs.Conditions.{conditions};
-ghost use Rattle.desc_core.specs.Description.{described};
+ghost use Rattle.std.specs.Prelude.{◌≡◌, ◌≢◌, IfOk};
+ghost use Rattle.desc_core.specs.AllConditions.{conditions};
+ghost use Rattle.desc_core.specs.Conditions.{table_conditions};
+ghost use Rattle.desc_core.specs.Description.{described, described_by_table};
 ghost use Rattle.desc_core.specs.Reads.{Reads};
 ghost use Rattle.desc_core.specs.Order.{IsLeast, NoneHolds};
-ghost use Rattle.desc_core.specs.Parts.{described_by_table};
-ghost use Rattle.desc_core.specs.Whole.{IsDescribed};
+ghost use Rattle.desc_core.specs.TableFacts.{IsRight};
+ghost use Rattle.desc_core.specs.Whole.{IsDescribed, IsDescribedByTable};
 ghost use Rattle.desc_core.specs.declared.fault.DescFault.TheVariants.{Refused};
 ghost use Rattle.desc_form.specs.declared.refusal.Refusal.{Refusal};
 ghost use Rattle.toml.specs.View.{table_view};
@@ -30,14 +31,34 @@ pub fn describe(alloc: Global, bytes: &[u8]) -> Result<Description, DescFault>
     ensures none { IfOk result (λ _. NoneHolds (conditions bytes.now)) }
 
     // What is told has the least number whose condition holds.
-    ensures least { (refusal : Refusal) → result ≡ Err (Refused refusal) → IsLeast (conditions bytes.now) refusal }
+    ensures least { (refusal : Refusal) → result ≡ Err (Refused refusal) → IsLeast 1 (conditions bytes.now) refusal }
 {
     let table = read_table(alloc, bytes)?;
     describe_table(alloc, &table)
 }
 
-/// Reads a description from its TOML table.
-fn describe_table(alloc: Global, table: &Table) -> Result<Description, DescFault>
+/// Reads a description from its TOML table, or tells the first condition on tables that refuses it.
+/// These are the conditions of `describe` from the third on.
+pub fn describe_table(alloc: Global, table: &Table) -> Result<Description, DescFault>
+    ensures given { Reads result (described_by_table (table_view table.now)) }
+
+    // What is read is all that is written in the table: nothing is passed over.
+    ensures whole { IfOk result (λ d. IsDescribedByTable (table_view table.now) d) }
+
+    // It is read only where none of the conditions on tables holds.
+    ensures none { IfOk result (λ _. NoneHolds (table_conditions (table_view table.now))) }
+
+    // What is told has the least number whose condition holds.
+    ensures least { (refusal : Refusal) → result ≡ Err (Refused refusal) → IsLeast 3 (table_conditions (table_view table.now)) refusal }
+
+    // It is read only where the table is right, and a right one is never refused: want of memory alone can stop it.
+    ensures right { IfOk result (λ _. IsRight (table_view table.now)) }
+    ensures accepted { IsRight (table_view table.now) → (refusal : Refusal) → result ≢ Err (Refused refusal) }
+{
+    read_described(alloc, table)
+}
+
+fn read_described(alloc: Global, table: &Table) -> Result<Description, DescFault>
     ensures { Reads result (described_by_table (table_view table.now)) }
 {
     if let Some(refusal) = form_refusal(table) {

@@ -8,7 +8,7 @@ ghost use Rattle.desc_form.specs.Refusals.{refused};
 ghost use Rattle.desc_form.specs.declared.refusal.Place.TheVariants.{Document};
 ghost use Rattle.toml.specs.View.{table_view};
 
-use crate::fault::{DescFault, MOST_BYTES};
+use crate::fault::{BYTE_LIMIT, DescFault};
 use desc_form::{Place, Refusal, Why};
 use std::alloc::Global;
 use toml::Table;
@@ -17,7 +17,7 @@ use toml::Table;
 pub(crate) fn read_table(alloc: Global, bytes: &[u8]) -> Result<Table, DescFault>
     ensures { Reads (result_map_both table_view (λ fault. fault) result) (table_of bytes.now) }
 {
-    if bytes.len() > MOST_BYTES {
+    if bytes.len() > BYTE_LIMIT {
         return Err(of_document(Why::TooLong));
     }
     match toml::table_from_slice(alloc, bytes) {

@@ -7,7 +7,7 @@ use desc_form::Refusal;
 use std::alloc::{AllocError, AllocFailed};
 
 /// The most bytes that a description may have.
-pub const MOST_BYTES: usize = 1_048_576;
+pub const BYTE_LIMIT: usize = 1_048_576;
 
 /// Why there is no description.
 #[derive(Clone, Copy, Debug)]

@@ -1,92 +1,77 @@
-//! The invariants of a description, each made of its assigns, or the first assign that says no
-//! attribute of its template.
-ghost use Rattle.std.specs.Prelude.{◌≡◌, ◌<◌, ◌+◌, ◌^◌, ℕ, length, map, option_map, All, IfOk, IfSome};
-ghost use Rattle.std.specs.Result.{result_map_both};
-ghost use Rattle.attr_core.specs.Assigns.{given_of};
-ghost use Rattle.desc_core.specs.Reads.{Reads};
-ghost use Rattle.desc_core.specs.WrittenNetwork.{given_by};
-ghost use Rattle.desc_core.specs.Parts.{fault_at, invariant_or, invariants_or};
-ghost use Rattle.desc_form.specs.WrittenView.{assign_view, invariant_view};
-ghost use Rattle.table_core.specs.Listing.{each};
+//! The invariants of a description: the first assign that says no attribute of its template, and the
+//! invariants themselves, each made of its assigns.
+ghost use Rattle.std.specs.Prelude.{◌≡◌, ◌<◌, None, length, map, All, IfOk};
+ghost use Rattle.attr_core.specs.Templates.{bad_in};
+ghost use Rattle.desc_core.specs.KnownView.{known_view};
+ghost use Rattle.desc_core.specs.Parts.{bad_known};
+ghost use Rattle.desc_core.specs.UseConditions.{bad_at};
+ghost use Rattle.desc_core.specs.WrittenNetwork.{made_of};
 
-use crate::fault::DescFault;
-use attr_core::{Assign, AttrFault, Template, read_invariant};
-use desc_form::{Place, Refusal, Why, WrittenAssign, WrittenInvariant};
+use crate::known::KnownInvariant;
+use attr_core::{bad_attribute, read_invariant};
+use desc_form::{Place, Refusal, Why};
 use host_net::Hosts;
 use inv_any::AnyInv;
 use std::alloc::{AllocError, Global};
 
-/// The invariants, in their order. One with a template or a host that is unknown is passed over: a
-/// description with such a name is refused before.
-pub(crate) fn read_invariants(
+/// The first assign that says no attribute of its template.
+pub(crate) fn attribute_refusal(
     alloc: Global,
     hosts: &Hosts,
-    written: &[WrittenInvariant<'_>],
-) -> Result<Vec<AnyInv>, DescFault>
-    ensures { Reads (result_map_both (λ invariants. invariants.items) (λ fault. fault) result) (invariants_or hosts.now (map invariant_view written.now)) }
+    invariants: &[KnownInvariant<'_>],
+) -> Result<Option<Refusal>, AllocError>
+    ensures { IfOk result (λ refusal. refusal ≡ bad_known hosts.now (map known_view invariants.now)) }
 {
-    let mut invariants = Vec::new(alloc);
-    for (index, invariant) in written.iter().enumerate() {
-        if let Some(read) = read_if_known(alloc, hosts, index as u64 + 1, invariant)? {
-            invariants.push(read)?;
+    for (index, invariant) in invariants.iter().enumerate() {
+        let refusal = bad_attribute_of(alloc, hosts, index as u64 + 1, invariant)?;
+        if refusal.is_some() {
+            return Ok(refusal);
         }
     }
-    Ok(invariants)
+    Ok(None)
 }
 
-/// The invariant with a number, or None where its template or one of its hosts is unknown.
-fn read_if_known(
+/// The same among the assigns of the invariant with a number.
+fn bad_attribute_of(
     alloc: Global,
     hosts: &Hosts,
     number: u64,
-    written: &WrittenInvariant<'_>,
-) -> Result<Option<AnyInv>, DescFault>
-    ensures { Reads result (invariant_or hosts.now number (invariant_view written.now)) }
+    invariant: &KnownInvariant<'_>,
+) -> Result<Option<Refusal>, AllocError>
+    ensures { IfOk result (λ refusal. refusal ≡ bad_at hosts.now number (known_view invariant.now)) }
 {
-    let Some(template) = Template::named(written.template) else {
+    let Some(assign) = bad_attribute(alloc, hosts, invariant.template, &invariant.assigns)? else {
         return Ok(None);
     };
-    let Some(assigns) = assigns_among(alloc, hosts, &written.assigns)? else {
-        return Ok(None);
-    };
-    match read_invariant(alloc, hosts, template, &assigns) {
-        Ok(invariant) => Ok(Some(invariant)),
-        Err(fault) => Err(at_assign(number, fault)),
-    }
+    let place = Place::Assign(number, assign as u64 + 1);
+    Ok(Some(Refusal::at(Why::BadAttribute, place)))
 }
 
-/// What each assign gives, or None where one of their hosts is unknown.
-fn assigns_among<'a>(
+/// The invariants, in their order, where no assign is bad.
+pub(crate) fn read_invariants(
     alloc: Global,
     hosts: &Hosts,
-    written: &[WrittenAssign<'a>],
-) -> Result<Option<Vec<Assign<'a>>>, AllocError>
-    ensures given { IfOk result (λ among. option_map (λ assigns. map given_of assigns.items) among ≡ each (given_by hosts.now) (map assign_view written.now)) }
-    ensures hosts { IfOk result (λ among. IfSome among (λ assigns. All (λ a. a.host < length hosts.now) assigns.items)) }
+    invariants: &[KnownInvariant<'_>],
+) -> Result<Vec<AnyInv>, AllocError>
+    requires hosts { All (λ k. All (λ a. a.host < length hosts.now) k.assigns.items) invariants.now }
+    requires good { bad_known hosts.now (map known_view invariants.now) ≡ None }
+    ensures { IfOk result (λ made. made.items ≡ map (made_of hosts.now) (map known_view invariants.now)) }
 {
-    let mut assigns = Vec::new(alloc);
-    for assign in written {
-        let Some(host) = hosts.find(assign.host.as_bytes()) else {
-            return Ok(None);
-        };
-        assigns.push(Assign {
-            host,
-            table: assign.table,
-        })?;
+    let mut made = Vec::new(alloc);
+    for invariant in invariants {
+        made.push(read_one(alloc, hosts, invariant)?)?;
     }
-    Ok(Some(assigns))
+    Ok(made)
 }
 
-/// Why there is no invariant with a number.
-fn at_assign(number: u64, fault: AttrFault) -> DescFault
-    requires { (assign : ℕ) → fault ≡ AttrFault.BadAttribute assign → assign + 1 < 2 ^ 64 }
-    ensures { result ≡ fault_at number fault }
+fn read_one(
+    alloc: Global,
+    hosts: &Hosts,
+    invariant: &KnownInvariant<'_>,
+) -> Result<AnyInv, AllocError>
+    requires hosts { All (λ a. a.host < length hosts.now) invariant.now.assigns.items }
+    requires good { bad_in hosts.now (known_view invariant.now).template (known_view invariant.now).assigns ≡ None }
+    ensures { IfOk result (λ made. made ≡ made_of hosts.now (known_view invariant.now)) }
 {
-    match fault {
-        AttrFault::BadAttribute { assign } => {
-            let place = Place::Assign(number, assign as u64 + 1);
-            DescFault::Refused(Refusal::at(Why::BadAttribute, place))
-        }
-        AttrFault::Memory => DescFault::Memory,
-    }
+    read_invariant(alloc, hosts, invariant.template, &invariant.assigns)
 }

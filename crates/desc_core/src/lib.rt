@@ -7,12 +7,13 @@ mod document;
 mod fault;
 mod flows;
 mod invariants;
+mod known;
 mod names;
 mod network;
 #[cfg(test)]
 mod tests;
 
 pub use desc_form::{Place, Refusal, Why};
-pub use description::describe;
-pub use fault::{DescFault, MOST_BYTES};
+pub use description::{describe, describe_table};
+pub use fault::{BYTE_LIMIT, DescFault};
 pub use net_core::Description;

@@ -1,13 +1,13 @@
 //! The refusals for names: of templates that are unknown, of hosts that are not declared, of hosts
 //! that an invariant has twice.
-ghost use Rattle.std.specs.Prelude.{◌≡◌, find, is_none, map, option_map, IfOk, IsTrue, None};
+ghost use Rattle.std.specs.Prelude.{◌≡◌, ◌≢◌, Some, find, is_none, map, option_map, IfOk, IsTrue, None};
 ghost use Rattle.std.specs.List.{list_all};
 ghost use Rattle.std.specs.Str.{bytes_eq};
 ghost use Rattle.attr_core.specs.Templates.{template_named};
 ghost use Rattle.desc_core.specs.Parts.{name_conditions};
 ghost use Rattle.desc_core.specs.UseConditions.{duplicate_assign_of, undeclared_host};
 ghost use Rattle.text_core.specs.Firsts.{first_found, first_of, first_pair, numbered};
-ghost use Rattle.text_core.specs.FirstsSeen.{pair_seen};
+ghost use Rattle.text_core.specs.FirstsView.{pair_seen};
 ghost use Rattle.desc_form.specs.Refusals.{refused, refused_by, refused_name};
 ghost use Rattle.desc_form.specs.WrittenView.{assign_view, invariant_view, written_view};
 ghost use Rattle.desc_form.specs.declared.refusal.Place.TheVariants.{Assign, Invariant};
@@ -25,9 +25,25 @@ use host_net::{Hosts, Name};
 use std::alloc::{AllocError, Global};
 use text_core::{Pair, first_pair};
 
-/// The first refusal for names, with the hosts of the description.
-#[tactic(auto, unfolding(crate::specs::UseConditions::unknown_template, crate::specs::UseConditions::duplicate_assign))]
-pub(crate) fn name_refusal(
+/// The refusal for a template that is unknown, or a host that is not declared, where there is one.
+pub(crate) fn unknown_name(
+    alloc: Global,
+    hosts: &Hosts,
+    written: &Written<'_>,
+) -> Result<Refusal, AllocError>
+    requires hosts { hosts.now ≡ network_hosts (written_view written.now) }
+    requires unrefused { first_of (host_conditions (written_view written.now)) ≡ None }
+    requires unknown { first_of (name_conditions (written_view written.now)) ≢ None }
+    ensures { IfOk result (λ refusal. first_of (name_conditions (written_view written.now)) ≡ Some refusal) }
+{
+    match name_refusal(alloc, hosts, written)? {
+        Some(refusal) => Ok(refusal),
+        None => unreachable!(),
+    }
+}
+
+#[tactic(auto, unfolding(crate::specs::UseConditions::unknown_template))]
+fn name_refusal(
     alloc: Global,
     hosts: &Hosts,
     written: &Written<'_>,
@@ -40,11 +56,7 @@ pub(crate) fn name_refusal(
     if template.is_some() {
         return Ok(template);
     }
-    let host = undeclared_host(alloc, hosts, written)?;
-    if host.is_some() {
-        return Ok(host);
-    }
-    Ok(duplicate_assign(&written.invariants))
+    undeclared_host(alloc, hosts, written)
 }
 
 /// No template has the name.
@@ -97,7 +109,7 @@ fn no_host(mention: &Mention<'_>) -> Refusal
 }
 
 /// An assign has the host of an earlier one of the same invariant.
-fn duplicate_assign(invariants: &[WrittenInvariant<'_>]) -> Option<Refusal>
+pub(crate) fn duplicate_assign(invariants: &[WrittenInvariant<'_>]) -> Option<Refusal>
     ensures { result ≡ first_found duplicate_assign_of (numbered (map invariant_view invariants.now)) }
 {
     for (index, invariant) in invariants.iter().enumerate() {

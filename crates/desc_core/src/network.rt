@@ -1,21 +1,28 @@
 //! From what is written to the network, once the form is right.
-ghost use Rattle.std.specs.Prelude.{◌≡◌, None};
+ghost use Rattle.std.specs.Prelude.{◌≡◌, ◌<◌, None, Some, length, map, All, IfOk};
+ghost use Rattle.std.specs.Option.{option_or};
+ghost use Rattle.desc_core.specs.KnownView.{known_view};
+ghost use Rattle.desc_core.specs.Parts.{bad_known, ends_of, network_by_uses, network_or, self_found};
 ghost use Rattle.desc_core.specs.Reads.{Reads};
-ghost use Rattle.desc_core.specs.Parts.{network_by_uses, network_or};
+ghost use Rattle.desc_core.specs.UseConditions.{duplicate_assign};
+ghost use Rattle.desc_core.specs.WrittenNetwork.{known_of};
+ghost use Rattle.table_core.specs.Listing.{each};
 ghost use Rattle.text_core.specs.Firsts.{first_of};
 ghost use Rattle.desc_form.specs.WrittenView.{written_view};
 ghost use Rattle.desc_hosts.specs.HostConditions.{host_conditions};
 ghost use Rattle.desc_hosts.specs.WrittenHosts.{network_hosts};
 
 use crate::fault::DescFault;
-use crate::flows::{flow_refusal, read_asked};
-use crate::invariants::read_invariants;
-use crate::names::name_refusal;
-use desc_form::Written;
+use crate::flows::{asked_flows, self_flow};
+use crate::invariants::{attribute_refusal, read_invariants};
+use crate::known::{KnownInvariant, found_flows, known_invariants};
+use crate::names::{duplicate_assign, unknown_name};
+use desc_form::{Refusal, Written};
 use desc_hosts::{host_refusal, read_hosts};
+use flow_set::Flow;
 use host_net::Hosts;
 use net_core::Description;
-use std::alloc::Global;
+use std::alloc::{AllocError, Global};
 
 /// The network that is written, or the first refusal of what is written.
 pub(crate) fn read_network(alloc: Global, written: &Written<'_>) -> Result<Description, DescFault>
@@ -38,13 +45,56 @@ fn network_of_hosts(
     requires unrefused { first_of (host_conditions (written_view written.now)) ≡ None }
     ensures { Reads result (network_by_uses (written_view written.now)) }
 {
-    if let Some(refusal) = name_refusal(alloc, &hosts, written)? {
+    let Some(invariants) = known_invariants(alloc, &hosts, &written.invariants)? else {
+        return Err(DescFault::Refused(unknown_name(alloc, &hosts, written)?));
+    };
+    let Some(flows) = found_flows(alloc, &hosts, &written.flows)? else {
+        return Err(DescFault::Refused(unknown_name(alloc, &hosts, written)?));
+    };
+    network_of_known(alloc, hosts, written, &invariants, &flows)
+}
+
+/// The same, with all names known.
+fn network_of_known(
+    alloc: Global,
+    hosts: Hosts,
+    written: &Written<'_>,
+    invariants: &[KnownInvariant<'_>],
+    flows: &[Flow],
+) -> Result<Description, DescFault>
+    requires hosts { hosts ≡ network_hosts (written_view written.now) }
+    requires unrefused { first_of (host_conditions (written_view written.now)) ≡ None }
+    requires known { each (known_of hosts) (written_view written.now).invariants ≡ Some (map known_view invariants.now) }
+    requires within { All (λ k. All (λ a. a.host < length hosts) k.assigns.items) invariants.now }
+    requires found { each (ends_of hosts) (written_view written.now).flows ≡ Some flows.now }
+    ensures { Reads result (network_by_uses (written_view written.now)) }
+{
+    if let Some(refusal) = use_refusal(alloc, &hosts, written, invariants, flows)? {
         return Err(DescFault::Refused(refusal));
     }
-    let invariants = read_invariants(alloc, &hosts, &written.invariants)?;
-    if let Some(refusal) = flow_refusal(written) {
-        return Err(DescFault::Refused(refusal));
-    }
-    let asked = read_asked(alloc, &hosts, written)?;
+    let asked = asked_flows(alloc, hosts.count(), written.given, flows)?;
+    let invariants = read_invariants(alloc, &hosts, invariants)?;
     Ok(Description::new(hosts, asked, written.given, written.answers, invariants))
+}
+
+/// The first refusal of an assign, or of a flow that leads from a host to itself.
+#[tactic(auto, unfolding(crate::specs::UseConditions::duplicate_assign))]
+fn use_refusal(
+    alloc: Global,
+    hosts: &Hosts,
+    written: &Written<'_>,
+    invariants: &[KnownInvariant<'_>],
+    flows: &[Flow],
+) -> Result<Option<Refusal>, AllocError>
+    ensures { IfOk result (λ refusal. refusal ≡ option_or (duplicate_assign (written_view written.now)) (option_or (bad_known hosts.now (map known_view invariants.now)) (self_found flows.now))) }
+{
+    let assign = duplicate_assign(&written.invariants);
+    if assign.is_some() {
+        return Ok(assign);
+    }
+    let attribute = attribute_refusal(alloc, hosts, invariants)?;
+    if attribute.is_some() {
+        return Ok(attribute);
+    }
+    Ok(self_flow(flows))
 }

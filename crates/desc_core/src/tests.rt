@@ -1,7 +1,8 @@
 //! Shows what no clause says: that the calls succeed with ample memory. The values are those that
 //! the clauses say.
 
-use crate::{DescFault, describe};
+use crate::document::read_table;
+use crate::{DescFault, describe, describe_table};
 use desc_form::Place;
 use flow_set::Flow;
 use net_core::policy_of;
@@ -23,7 +24,7 @@ invariant = [{ template = "blp", assign = [{ host = "a", level = 1 }] }]
 
 /// Flows and invariants beside the hosts `a` and `b`; the number, the place, the item and the other
 /// of what refuses them.
-const REFUSED: [(&str, (u8, Place, u64, u64)); 8] = [
+const REFUSED: [(&str, (u8, Place, u64, u64)); 10] = [
     (
         r#"invariant = [{ template = "sink" }, { template = "Sink" }]"#,
         (15, Place::Invariant(2), 0, 0),
@@ -51,6 +52,16 @@ const REFUSED: [(&str, (u8, Place, u64, u64)); 8] = [
     (
         r#"flow = [["a", "b"], ["b", "a"], ["a", "b"]]"#,
         (20, Place::FlowAt(3), 0, 1),
+    ),
+    // An attribute is refused before a flow that leads from a host to itself.
+    (
+        "flow = [[\"b\", \"b\"]]\ninvariant = [{ template = \"blp\", assign = [{ host = \"a\", level = 65536 }] }]",
+        (18, Place::Assign(1, 1), 0, 0),
+    ),
+    // The earliest of the same flows is told.
+    (
+        r#"flow = [["b", "a"], ["a", "b"], ["a", "b"], ["b", "a"], ["a", "b"]]"#,
+        (20, Place::FlowAt(3), 0, 2),
     ),
     ("flow = [[", (2, Place::Document, 0, 0)),
 ];
@@ -81,6 +92,23 @@ fn a_network_is_read(rt: HostRuntime) -> Result<(), Fail> {
     assert_eq!(rt; read.asked().len(), 2);
     assert_eq!(rt; read.invariants().len(), 1);
     assert_eq!(rt; (read.given(), read.answers()), (true, false));
+    Ok(())
+}
+
+#[test]
+fn a_table_is_read(rt: HostRuntime) -> Result<(), Fail> {
+    let table = read_table(rt.alloc(), WHOLE.as_bytes())?;
+    let read = describe_table(rt.alloc(), &table)?;
+    assert_eq!(rt; read.hosts().count(), 2);
+    assert_eq!(rt; read.asked().len(), 2);
+    let no_host = read_table(rt.alloc(), b"topos = 1\nhost = [{}]")?;
+    match describe_table(rt.alloc(), &no_host) {
+        Err(DescFault::Refused(refusal)) => assert_eq!(rt; refusal.place, Place::Host(1)),
+        read => {
+            read?;
+            assert!(rt; false);
+        }
+    }
     Ok(())
 }
 

@@ -6,8 +6,8 @@ use Rattle.std.specs.List.{AllZip, list_all}
 use Rattle.std.specs.Option.{option_map_or}
 use Rattle.std.specs.Str.{bytes_eq}
 use Rattle.toml.specs.Data.{Data, string, integer, boolean, array, as_bool, as_integer, as_str}
-use Rattle.desc_form.specs.Keys.{is_answers, is_text}
 use Rattle.desc_form.specs.WrittenForm.{IsAnswers, IsArray, IsBoolean, IsInteger, IsText}
+use Rattle.table_core.specs.Keys.{is_one_of, is_text}
 use Rattle.table_core.specs.Tables.{elements, elements_of}
 
 -- what the tests of a key say, by what stands there
@@ -29,14 +29,19 @@ boolean_stands None suits = refl
 boolean_stands (Some (boolean b)) suits = refl
 boolean_stands (Some _) suits = cc
 
-left_true : (a b : Bool) → b ≡ false → (a || b) ≡ true → a ≡ true
-left_true true b is_false either = refl
-left_true false b is_false either = cc
+-- the two words for answers
+abbrev pub is_answers : List ℕ → Bool
+is_answers word = is_one_of (codes "all" ∷ codes "none" ∷ []) word
+
+first_of_two : (a b : Bool) → b ≡ false → (a || (b || false)) ≡ true → a ≡ true
+first_of_two true b is_false either = refl
+first_of_two false b is_false either = cc
 
 -- the word that is not the second of the two is the first
 answers_word : (s : List ℕ) (b : Bool) → bytes_eq s (codes "none") ≡ b → is_answers s ≡ true → s ≡ (if not b then codes "all" else codes "none")
 answers_word s true is_none suits = (bytes_eq-Decides s (codes "none")).0 is_none
-answers_word s false is_none suits = (bytes_eq-Decides s (codes "all")).0 (left_true (bytes_eq s (codes "all")) (bytes_eq s (codes "none")) is_none suits)
+answers_word s false is_none suits =
+    (bytes_eq-Decides s (codes "all")).0 (first_of_two (bytes_eq s (codes "all")) (bytes_eq s (codes "none")) is_none suits)
 
 pub answers_stand : (o : Option Data) → (not (is_some o) || option_map_or is_answers (option_and_then as_str o) false) ≡ true
     → let answers = not (bytes_eq (unwrap_or (option_and_then as_str o) []) (codes "none")) in MatchOption o (answers ≡ true) (λ d. IsAnswers d answers)

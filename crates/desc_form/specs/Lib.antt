@@ -1,13 +1,12 @@
 pub mod FormConditions
 pub mod KeyLaws
-pub mod KeyView
 pub mod Keys
-pub mod Pairs
 pub mod Places
 pub mod PlacesLaws
 pub mod Refusals
 pub mod Walking
 pub mod Written
+pub mod WrittenFlow
 pub mod WrittenForm
 pub mod WrittenLaws
 pub mod WrittenView

@@ -1,7 +1,6 @@
 -- All places of a description in their order, and the refusals 3 to 5: keys that are unknown, that are missing, and values of a
 -- wrong type (the description's format, docs/FORMATS.md).
-use Rattle.std.specs.Prelude.{ℕ, Bool, true, false, not, ◌&&◌, List, [], ◌∷◌, ◌++◌, map, flat_map, find, Option, option_map, is_none, codes, unwrap_or, option_and_then}
-use Rattle.std.specs.List.{list_all, list_any}
+use Rattle.std.specs.Prelude.{ℕ, ℤ, Bool, true, false, not, List, [], ◌∷◌, ◌++◌, map, flat_map, find, Option, option_map, is_none, codes, unwrap_or, option_and_then}
 use Rattle.std.specs.Option.{option_map_or}
 use Rattle.toml.specs.Data.{Data, table, Members, as_table}
 use Rattle.desc_form.specs.declared.refusal.Place.{Place}
@@ -9,10 +8,11 @@ use Rattle.desc_form.specs.declared.refusal.Place.TheVariants.{Document, Host, I
 use Rattle.desc_form.specs.declared.refusal.Refusal.{Refusal}
 use Rattle.desc_form.specs.declared.refusal.Why.TheVariants.{UnknownKey, MissingKey, WrongType}
 use Rattle.text_core.specs.Firsts.{Numbered, numbered}
-use Rattle.desc_form.specs.Pairs.{pair_of}
-use Rattle.desc_form.specs.Keys.{keys_of, suits_in}
+use Rattle.desc_form.specs.WrittenFlow.{flow_written}
+use Rattle.desc_form.specs.Keys.{keys_of, version_said}
 use Rattle.desc_form.specs.Refusals.{refused}
-use Rattle.table_core.specs.Tables.{has_key, has_only, list_at}
+use Rattle.table_core.specs.Keys.{all_suit, has_only_keys, lacks_key}
+use Rattle.table_core.specs.Tables.{list_at}
 
 -- a place, and what stands there
 pub record Spot : Type 0 where
@@ -45,41 +45,41 @@ spots document =
 unfoldable pub first_place : (Place → Data → Bool) → Members → Option Place
 first_place holds document = option_map (λ s. s.place) (find (λ s. holds s.place s.value) (spots document))
 
--- the table has a key outside those of its place; assigns and flows are not looked at
-unfoldable pub has_other_key : Place → Members → Bool
-has_other_key (Assign k m) ms = false
-has_other_key (FlowAt k) ms = false
-has_other_key place ms = not (has_only (map (λ key. key.name) (keys_of place)) ms)
+-- the table has a key outside those of its place, in a document that says a version; assigns and flows are not looked at
+unfoldable pub has_other_key : Option ℤ → Place → Members → Bool
+has_other_key said (Assign k m) ms = false
+has_other_key said (FlowAt k) ms = false
+has_other_key said place ms = not (has_only_keys (keys_of said place) ms)
 
 -- the table lacks a key that must be there
-unfoldable pub lacks_needed : Place → Members → Bool
-lacks_needed place ms = list_any (λ key. key.needed && not (has_key key.name ms)) (keys_of place)
+unfoldable pub lacks_needed : Option ℤ → Place → Members → Bool
+lacks_needed said place ms = lacks_key (keys_of said place) ms
 
 -- in the table, what stands at a key is not of its kind
-unfoldable pub has_unsuited : Place → Members → Bool
-has_unsuited place ms = not (list_all (suits_in ms) (keys_of place))
+unfoldable pub has_unsuited : Option ℤ → Place → Members → Bool
+has_unsuited said place ms = not (all_suit (keys_of said place) ms)
 
 -- 3: what is no table is passed over
-abbrev pub has_unknown_key : Place → Data → Bool
-has_unknown_key place d = option_map_or (has_other_key place) (as_table d) false
+abbrev pub has_unknown_key : Option ℤ → Place → Data → Bool
+has_unknown_key said place d = option_map_or (has_other_key said place) (as_table d) false
 
 -- 4: what is no table is passed over
-abbrev pub lacks_key : Place → Data → Bool
-lacks_key place d = option_map_or (lacks_needed place) (as_table d) false
+abbrev pub has_missing_key : Option ℤ → Place → Data → Bool
+has_missing_key said place d = option_map_or (lacks_needed said place) (as_table d) false
 
 -- 5: a flow is an array of two texts; at any other place stands a table, in which all is of its kind
-unfoldable pub has_wrong_type : Place → Data → Bool
-has_wrong_type (FlowAt k) d = is_none (pair_of d)
-has_wrong_type place d = option_map_or (has_unsuited place) (as_table d) true
+unfoldable pub has_wrong_type : Option ℤ → Place → Data → Bool
+has_wrong_type said (FlowAt k) d = is_none (flow_written d)
+has_wrong_type said place d = option_map_or (has_unsuited said place) (as_table d) true
 
 -- 3
 unfoldable pub unknown_key : Members → Option Refusal
-unknown_key document = option_map (refused UnknownKey) (first_place has_unknown_key document)
+unknown_key document = option_map (refused UnknownKey) (first_place (has_unknown_key (version_said document)) document)
 
 -- 4
 unfoldable pub missing_key : Members → Option Refusal
-missing_key document = option_map (refused MissingKey) (first_place lacks_key document)
+missing_key document = option_map (refused MissingKey) (first_place (has_missing_key (version_said document)) document)
 
 -- 5
 unfoldable pub wrong_type : Members → Option Refusal
-wrong_type document = option_map (refused WrongType) (first_place has_wrong_type document)
+wrong_type document = option_map (refused WrongType) (first_place (has_wrong_type (version_said document)) document)

@@ -1,22 +1,26 @@
 -- The first place where a condition holds, part by part: what the private functions find that go through the places. Nothing
 -- here has to be believed: PlacesLaws proves that the parts give the first of all places.
-use Rattle.std.specs.Prelude.{ℕ, ◌+◌, Bool, List, [], ◌∷◌, Option, None, codes}
+use Rattle.std.specs.Prelude.{ℕ, ℤ, ◌+◌, Bool, List, [], ◌∷◌, Option, None, codes}
 use Rattle.std.specs.Option.{option_or}
 use Rattle.toml.specs.Data.{Data, table, Members}
 use Rattle.desc_form.specs.declared.places.FormCondition.{FormCondition}
 use Rattle.desc_form.specs.declared.places.FormCondition.TheVariants as condition
+use Rattle.desc_form.specs.declared.places.FormTest.{FormTest}
 use Rattle.desc_form.specs.declared.places.Row.{Row}
 use Rattle.desc_form.specs.declared.places.Row.TheVariants.{Hosts, Assigns, Flows}
 use Rattle.desc_form.specs.declared.refusal.Place.{Place}
 use Rattle.desc_form.specs.declared.refusal.Place.TheVariants.{Document, Host, Invariant, Assign, FlowAt}
 use Rattle.text_core.specs.Firsts.{where_holds}
-use Rattle.desc_form.specs.Places.{assigns_of, has_unknown_key, has_wrong_type, lacks_key, listed}
+use Rattle.desc_form.specs.Places.{assigns_of, has_unknown_key, has_missing_key, has_wrong_type, listed}
 
--- the condition of this name holds of what stands at a place
-abbrev pub holds_at : FormCondition → Place → Data → Bool
-holds_at condition.UnknownKey place d = has_unknown_key place d
-holds_at condition.MissingKey place d = lacks_key place d
-holds_at condition.WrongType place d = has_wrong_type place d
+-- the condition of this name holds of what stands at a place, in a document that says a version
+abbrev pub holds_of : FormCondition → Option ℤ → Place → Data → Bool
+holds_of condition.UnknownKey said place d = has_unknown_key said place d
+holds_of condition.MissingKey said place d = has_missing_key said place d
+holds_of condition.WrongType said place d = has_wrong_type said place d
+
+abbrev pub holds_at : FormTest → Place → Data → Bool
+holds_at test place d = holds_of test.condition test.version place d
 
 -- the place with a number in one of the lists
 abbrev pub place_in : Row → ℕ → Place

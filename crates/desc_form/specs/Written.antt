@@ -4,8 +4,8 @@
 use Rattle.std.specs.Prelude.{ℕ, ℤ, pos, Bool, false, not, List, [], map, filter_map, codes, unwrap_or}
 use Rattle.std.specs.Str.{bytes_eq}
 use Rattle.toml.specs.Data.{Members, as_str, as_table}
-use Rattle.desc_form.specs.Pairs.{pair_of}
 use Rattle.desc_form.specs.Places.{listed}
+use Rattle.desc_form.specs.WrittenFlow.{WrittenFlow, flow_written}
 use Rattle.table_core.specs.Tables.{boolean_at, has_key, integer_at, text_at}
 
 pub record WrittenHost : Type 0 where
@@ -29,7 +29,7 @@ pub record Written : Type 0 where
   pub hosts : List WrittenHost
   pub invariants : List WrittenInvariant
   pub given : Bool
-  pub flows : List (List ℕ × List ℕ)
+  pub flows : List WrittenFlow
 
 -- the text at a key
 abbrev pub text_in : List ℕ → Members → List ℕ
@@ -59,5 +59,5 @@ written ms = record {
   hosts = map host_written (filter_map as_table (listed (codes "host") ms));
   invariants = map invariant_written (filter_map as_table (listed (codes "invariant") ms));
   given = has_key (codes "flow") ms;
-  flows = filter_map pair_of (listed (codes "flow") ms);
+  flows = filter_map flow_written (listed (codes "flow") ms);
 }

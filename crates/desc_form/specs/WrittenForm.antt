@@ -4,6 +4,7 @@ use Rattle.std.specs.Prelude.{◌≡◌, ℕ, ℤ, Bool, true, false, if◌then�
 use Rattle.std.specs.List.{AllZip}
 use Rattle.toml.specs.Data.{Data, string, integer, boolean, array, table, Items, no_items, item, Members, get_member}
 use Rattle.desc_form.specs.Written.{Written, WrittenAssign, WrittenHost, WrittenInvariant}
+use Rattle.desc_form.specs.WrittenFlow.{WrittenFlow}
 use Rattle.table_core.specs.Tables.{elements, has_only}
 
 -- values by their type
@@ -21,8 +22,8 @@ abbrev pub IsAnswers : Data → Bool → Type 0
 IsAnswers d answers = d ≡ string (if answers then codes "all" else codes "none")
 
 -- an array of two texts
-abbrev pub IsPair : Data → List ℕ × List ℕ → Type 0
-IsPair d pair = d ≡ array (item (string pair.0) (item (string pair.1) no_items))
+abbrev pub IsFlow : Data → WrittenFlow → Type 0
+IsFlow d flow = d ≡ array (item (string flow.from) (item (string flow.to) no_items))
 
 -- an array: each of its elements is what the list has in its place
 abbrev pub IsArray : {A : Type 0} → (Data → A → Type 0) → Data → List A → Type 0
@@ -65,7 +66,7 @@ pub record IsWritten (ms : Members) (w : Written) : Type 0 where
   pub hosts : Stands (IsArray (IsTable IsHost)) (codes "host") ms w.hosts
   pub invariants : StandsOr [] (IsArray (IsTable IsInvariant)) (codes "invariant") ms w.invariants
   pub given : w.given ≡ is_some (get_member (codes "flow") ms)
-  pub flows : StandsOr [] (IsArray IsPair) (codes "flow") ms w.flows
+  pub flows : StandsOr [] (IsArray IsFlow) (codes "flow") ms w.flows
 
 -- the description is of the right form: some record says what is written in it
 abbrev pub IsFormed : Members → Type 0

@@ -2,8 +2,10 @@
 use Rattle.std.specs.Prelude.{map}
 use Rattle.toml.specs.View.{table_view}
 use Rattle.desc_form.specs.Written as meant
+use Rattle.desc_form.specs.WrittenFlow as flow
 use Rattle.desc_form.specs.declared.written.Written.{Written}
 use Rattle.desc_form.specs.declared.written.WrittenAssign.{WrittenAssign}
+use Rattle.desc_form.specs.declared.written.WrittenFlow.{WrittenFlow}
 use Rattle.desc_form.specs.declared.written.WrittenHost.{WrittenHost}
 use Rattle.desc_form.specs.declared.written.WrittenInvariant.{WrittenInvariant}
 
@@ -16,6 +18,9 @@ assign_view a = record { host = a.host.now; table = table_view a.table.now }
 abbrev pub invariant_view : WrittenInvariant → meant.WrittenInvariant
 invariant_view i = record { template = i.template.now; assigns = map assign_view i.assigns.items }
 
+abbrev pub flow_view : WrittenFlow → flow.WrittenFlow
+flow_view f = record { from = f.from.now; to = f.to.now }
+
 abbrev pub written_view : Written → meant.Written
 written_view w = record {
   version = w.version;
@@ -23,5 +28,5 @@ written_view w = record {
   hosts = map host_view w.hosts.items;
   invariants = map invariant_view w.invariants.items;
   given = w.given;
-  flows = map (λ pair. (pair.0.now, pair.1.now)) w.flows.items;
+  flows = map flow_view w.flows.items;
 }

@@ -3,9 +3,8 @@
 //! since their order begins with the form.
 #![tactic(auto)]
 
+mod flows;
 mod keys;
-mod kinds;
-mod pairs;
 mod places;
 mod refusal;
 #[cfg(test)]
@@ -15,4 +14,6 @@ mod written;
 
 pub use refusal::{Place, Refusal, Why};
 pub use well_formed::form_refusal;
-pub use written::{Written, WrittenAssign, WrittenHost, WrittenInvariant, read_written};
+pub use written::{
+    Written, WrittenAssign, WrittenFlow, WrittenHost, WrittenInvariant, read_written,
+};

@@ -6,11 +6,11 @@ ghost use Rattle.std.specs.Option.{option_or};
 ghost use Rattle.toml.specs.Data.{table};
 ghost use Rattle.toml.specs.View.{view, table_view};
 ghost use Rattle.desc_form.specs.declared.refusal.Place.TheVariants.{Document};
-ghost use Rattle.desc_form.specs.Places.{assigns_of, first_place, has_unknown_key, has_wrong_type, lacks_key, listed};
+ghost use Rattle.desc_form.specs.Places.{assigns_of, first_place, has_missing_key, has_unknown_key, has_wrong_type, listed};
 ghost use Rattle.desc_form.specs.Walking.{holds_at, first_at, first_by_parts, first_of_invariant, first_of_invariants, place_in};
 
+use crate::flows::read_flow;
 use crate::keys::{has_other_key, has_unsuited, lacks_needed};
-use crate::pairs::read_pair;
 use crate::refusal::Place;
 use table_core::list_at;
 use toml::{Table, Value};
@@ -21,6 +21,13 @@ pub(crate) enum FormCondition {
     UnknownKey,
     MissingKey,
     WrongType,
+}
+
+/// A condition on the form of a document that says a version.
+#[derive(Clone, Copy, PartialEq, Eq, Debug)]
+pub(crate) struct FormTest {
+    pub(crate) condition: FormCondition,
+    pub(crate) version: Option<i64>,
 }
 
 /// One of the lists of a description.
@@ -65,87 +72,87 @@ fn assigns_of(value: &Value) -> &[Value]
     }
 }
 
-fn has_unknown_key(place: Place, value: &Value) -> bool
-    ensures { result ≡ has_unknown_key place (view value.now) }
+fn has_unknown_key(version: Option<i64>, place: Place, value: &Value) -> bool
+    ensures { result ≡ has_unknown_key version place (view value.now) }
 {
     match value.as_table() {
-        Some(table) => has_other_key(place, table),
+        Some(table) => has_other_key(version, place, table),
         None => false,
     }
 }
 
-fn lacks_key(place: Place, value: &Value) -> bool
-    ensures { result ≡ lacks_key place (view value.now) }
+fn has_missing_key(version: Option<i64>, place: Place, value: &Value) -> bool
+    ensures { result ≡ has_missing_key version place (view value.now) }
 {
     match value.as_table() {
-        Some(table) => lacks_needed(place, table),
+        Some(table) => lacks_needed(version, place, table),
         None => false,
     }
 }
 
 #[tactic(auto, unfolding(crate::specs::Places::has_wrong_type))]
-fn has_wrong_type(place: Place, value: &Value) -> bool
-    ensures { result ≡ has_wrong_type place (view value.now) }
+fn has_wrong_type(version: Option<i64>, place: Place, value: &Value) -> bool
+    ensures { result ≡ has_wrong_type version place (view value.now) }
 {
     match place {
-        Place::FlowAt(_) => read_pair(value).is_none(),
+        Place::FlowAt(_) => read_flow(value).is_none(),
         Place::Document | Place::Host(_) | Place::Invariant(_) | Place::Assign(_, _) => {
             match value.as_table() {
-                Some(table) => has_unsuited(place, table),
+                Some(table) => has_unsuited(version, place, table),
                 None => true,
             }
         }
     }
 }
 
-fn holds_at(condition: FormCondition, place: Place, value: &Value) -> bool
-    ensures { result ≡ holds_at condition place (view value.now) }
+fn holds_at(test: FormTest, place: Place, value: &Value) -> bool
+    ensures { result ≡ holds_at test place (view value.now) }
 {
-    match condition {
-        FormCondition::UnknownKey => has_unknown_key(place, value),
-        FormCondition::MissingKey => lacks_key(place, value),
-        FormCondition::WrongType => has_wrong_type(place, value),
+    match test.condition {
+        FormCondition::UnknownKey => has_unknown_key(test.version, place, value),
+        FormCondition::MissingKey => has_missing_key(test.version, place, value),
+        FormCondition::WrongType => has_wrong_type(test.version, place, value),
     }
 }
 
 #[tactic(auto, unfolding(crate::specs::Places::has_wrong_type))]
-fn holds_of_document(condition: FormCondition, document: &Table) -> bool
-    ensures { result ≡ holds_at condition Document (table (table_view document.now)) }
+fn holds_of_document(test: FormTest, document: &Table) -> bool
+    ensures { result ≡ holds_at test Document (table (table_view document.now)) }
 {
-    match condition {
-        FormCondition::UnknownKey => has_other_key(Place::Document, document),
-        FormCondition::MissingKey => lacks_needed(Place::Document, document),
-        FormCondition::WrongType => has_unsuited(Place::Document, document),
+    match test.condition {
+        FormCondition::UnknownKey => has_other_key(test.version, Place::Document, document),
+        FormCondition::MissingKey => lacks_needed(test.version, Place::Document, document),
+        FormCondition::WrongType => has_unsuited(test.version, Place::Document, document),
     }
 }
 
-fn first_at(condition: FormCondition, row: Row, values: &[Value]) -> Option<Place>
-    ensures { result ≡ first_at (holds_at condition) (place_in row) 1 (map view values.now) }
+fn first_at(test: FormTest, row: Row, values: &[Value]) -> Option<Place>
+    ensures { result ≡ first_at (holds_at test) (place_in row) 1 (map view values.now) }
 {
     for (index, value) in values.iter().enumerate() {
         let place = row.place(index as u64 + 1);
-        if holds_at(condition, place, value) {
+        if holds_at(test, place, value) {
             return Some(place);
         }
     }
     None
 }
 
-fn first_of_invariant(condition: FormCondition, number: u64, value: &Value) -> Option<Place>
-    ensures { result ≡ first_of_invariant (holds_at condition) number (view value.now) }
+fn first_of_invariant(test: FormTest, number: u64, value: &Value) -> Option<Place>
+    ensures { result ≡ first_of_invariant (holds_at test) number (view value.now) }
 {
     let place = Place::Invariant(number);
-    if holds_at(condition, place, value) {
+    if holds_at(test, place, value) {
         return Some(place);
     }
-    first_at(condition, Row::Assigns(number), assigns_of(value))
+    first_at(test, Row::Assigns(number), assigns_of(value))
 }
 
-fn first_of_invariants(condition: FormCondition, values: &[Value]) -> Option<Place>
-    ensures { result ≡ first_of_invariants (holds_at condition) 1 (map view values.now) }
+fn first_of_invariants(test: FormTest, values: &[Value]) -> Option<Place>
+    ensures { result ≡ first_of_invariants (holds_at test) 1 (map view values.now) }
 {
     for (index, value) in values.iter().enumerate() {
-        let found = first_of_invariant(condition, index as u64 + 1, value);
+        let found = first_of_invariant(test, index as u64 + 1, value);
         if found.is_some() {
             return found;
         }
@@ -154,37 +161,37 @@ fn first_of_invariants(condition: FormCondition, values: &[Value]) -> Option<Pla
 }
 
 /// The first place where the condition holds.
-pub(crate) fn first_place(condition: FormCondition, document: &Table) -> Option<Place>
-    ensures { result ≡ first_place (holds_at condition) (table_view document.now) }
+pub(crate) fn first_place(test: FormTest, document: &Table) -> Option<Place>
+    ensures { result ≡ first_place (holds_at test) (table_view document.now) }
 {
-    first_by_parts(condition, document)
+    first_by_parts(test, document)
 }
 
-fn first_by_parts(condition: FormCondition, document: &Table) -> Option<Place>
-    ensures { result ≡ first_by_parts (holds_at condition) (table_view document.now) }
+fn first_by_parts(test: FormTest, document: &Table) -> Option<Place>
+    ensures { result ≡ first_by_parts (holds_at test) (table_view document.now) }
 {
-    if holds_of_document(condition, document) {
+    if holds_of_document(test, document) {
         return Some(Place::Document);
     }
-    let host = first_at_key(condition, Row::Hosts, document, "host");
+    let host = first_at_key(test, Row::Hosts, document, "host");
     if host.is_some() {
         return host;
     }
-    let invariant = first_invariant(condition, document);
+    let invariant = first_invariant(test, document);
     if invariant.is_some() {
         return invariant;
     }
-    first_at_key(condition, Row::Flows, document, "flow")
+    first_at_key(test, Row::Flows, document, "flow")
 }
 
-fn first_at_key(condition: FormCondition, row: Row, document: &Table, key: &str) -> Option<Place>
-    ensures { result ≡ first_at (holds_at condition) (place_in row) 1 (listed key.now (table_view document.now)) }
+fn first_at_key(test: FormTest, row: Row, document: &Table, key: &str) -> Option<Place>
+    ensures { result ≡ first_at (holds_at test) (place_in row) 1 (listed key.now (table_view document.now)) }
 {
-    first_at(condition, row, listed(document, key))
+    first_at(test, row, listed(document, key))
 }
 
-fn first_invariant(condition: FormCondition, document: &Table) -> Option<Place>
-    ensures { result ≡ first_of_invariants (holds_at condition) 1 (listed (codes "invariant") (table_view document.now)) }
+fn first_invariant(test: FormTest, document: &Table) -> Option<Place>
+    ensures { result ≡ first_of_invariants (holds_at test) 1 (listed (codes "invariant") (table_view document.now)) }
 {
-    first_of_invariants(condition, listed(document, "invariant"))
+    first_of_invariants(test, listed(document, "invariant"))
 }

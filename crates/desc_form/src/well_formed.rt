@@ -2,12 +2,14 @@
 ghost use Rattle.std.specs.Prelude.{◌≡◌, ◌↔◌, None};
 ghost use Rattle.text_core.specs.Firsts.{first_of};
 ghost use Rattle.desc_form.specs.Places.{missing_key, unknown_key, wrong_type};
+ghost use Rattle.desc_form.specs.Keys.{version_said};
 ghost use Rattle.desc_form.specs.FormConditions.{form_conditions};
 ghost use Rattle.desc_form.specs.WrittenForm.{IsFormed};
 ghost use Rattle.toml.specs.View.{table_view};
 
-use crate::places::{FormCondition, first_place};
+use crate::places::{FormCondition, FormTest, first_place};
 use crate::refusal::{Refusal, Why};
+use table_core::integer_at;
 use toml::Table;
 
 /// Why the description is not well formed: a key that is unknown anywhere comes before one that is
@@ -34,11 +36,22 @@ fn first_refusal(document: &Table) -> Option<Refusal>
     wrong_type(document)
 }
 
+/// The condition, of a document that says what this one does.
+fn test_of(condition: FormCondition, document: &Table) -> FormTest
+    ensures condition { result.condition ≡ condition }
+    ensures version { result.version ≡ version_said (table_view document.now) }
+{
+    FormTest {
+        condition,
+        version: integer_at(document, "topos"),
+    }
+}
+
 #[tactic(auto, unfolding(crate::specs::Places::unknown_key))]
 fn unknown_key(document: &Table) -> Option<Refusal>
     ensures { result ≡ unknown_key (table_view document.now) }
 {
-    let place = first_place(FormCondition::UnknownKey, document)?;
+    let place = first_place(test_of(FormCondition::UnknownKey, document), document)?;
     Some(Refusal::at(Why::UnknownKey, place))
 }
 
@@ -46,7 +59,7 @@ fn unknown_key(document: &Table) -> Option<Refusal>
 fn missing_key(document: &Table) -> Option<Refusal>
     ensures { result ≡ missing_key (table_view document.now) }
 {
-    let place = first_place(FormCondition::MissingKey, document)?;
+    let place = first_place(test_of(FormCondition::MissingKey, document), document)?;
     Some(Refusal::at(Why::MissingKey, place))
 }
 
@@ -54,6 +67,6 @@ fn missing_key(document: &Table) -> Option<Refusal>
 fn wrong_type(document: &Table) -> Option<Refusal>
     ensures { result ≡ wrong_type (table_view document.now) }
 {
-    let place = first_place(FormCondition::WrongType, document)?;
+    let place = first_place(test_of(FormCondition::WrongType, document), document)?;
     Some(Refusal::at(Why::WrongType, place))
 }

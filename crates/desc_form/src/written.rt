@@ -3,14 +3,14 @@ ghost use Rattle.std.specs.Prelude.{◌≡◌, None, filter_map, IfOk, map};
 ghost use Rattle.text_core.specs.Firsts.{first_of};
 ghost use Rattle.desc_form.specs.FormConditions.{form_conditions};
 ghost use Rattle.desc_form.specs.Places.{listed};
-ghost use Rattle.desc_form.specs.WrittenView.{assign_view, host_view, invariant_view, written_view};
+ghost use Rattle.desc_form.specs.WrittenFlow.{flow_written};
+ghost use Rattle.desc_form.specs.WrittenView.{assign_view, flow_view, host_view, invariant_view, written_view};
 ghost use Rattle.desc_form.specs.Written.{assign_written, host_written, invariant_written, text_in, written};
 ghost use Rattle.desc_form.specs.WrittenForm.{IsWritten};
-ghost use Rattle.desc_form.specs.Pairs.{pair_of};
 ghost use Rattle.toml.specs.Data.{as_str, as_table};
 ghost use Rattle.toml.specs.View.{view, table_view};
 
-use crate::pairs::read_pair;
+use crate::flows::read_flow;
 use crate::places::listed;
 use std::alloc::{AllocError, Global};
 use table_core::{boolean_at, has_key, integer_at, text_at};
@@ -38,6 +38,13 @@ pub struct WrittenInvariant<'a> {
     pub assigns: Vec<WrittenAssign<'a>>,
 }
 
+/// A flow: the names of its two hosts.
+#[derive(Clone, Copy)]
+pub struct WrittenFlow<'a> {
+    pub from: &'a str,
+    pub to: &'a str,
+}
+
 /// A description as it is written, before anything is looked up.
 #[derive(Drop)]
 pub struct Written<'a> {
@@ -48,7 +55,7 @@ pub struct Written<'a> {
     pub invariants: Vec<WrittenInvariant<'a>>,
     /// Whether the key `flow` is there, if only with an empty list.
     pub given: bool,
-    pub flows: Vec<(&'a str, &'a str)>,
+    pub flows: Vec<WrittenFlow<'a>>,
 }
 
 /// The text at a key, empty where none stands there.
@@ -149,17 +156,17 @@ fn invariants_among(
     Ok(invariants)
 }
 
-/// The pairs of texts among some values.
-fn pairs_among(alloc: Global, values: &[Value]) -> Result<Vec<(&str, &str)>, AllocError>
-    ensures { IfOk result (λ pairs. map (λ pair. (pair.0.now, pair.1.now)) pairs.items ≡ filter_map pair_of (map view values.now)) }
+/// The flows among some values.
+fn flows_among(alloc: Global, values: &[Value]) -> Result<Vec<WrittenFlow<'_>>, AllocError>
+    ensures { IfOk result (λ flows. map flow_view flows.items ≡ filter_map flow_written (map view values.now)) }
 {
-    let mut pairs = Vec::new(alloc);
+    let mut flows = Vec::new(alloc);
     for value in values {
-        if let Some(pair) = read_pair(value) {
-            pairs.push(pair)?;
+        if let Some(flow) = read_flow(value) {
+            flows.push(flow)?;
         }
     }
-    Ok(pairs)
+    Ok(flows)
 }
 
 /// What is written in a description. Where a key is missing or a value is of a wrong type, nothing
@@ -179,7 +186,7 @@ fn written_in(alloc: Global, document: &Table) -> Result<Written<'_>, AllocError
 {
     let hosts = hosts_among(alloc, listed(document, "host"))?;
     let invariants = invariants_among(alloc, listed(document, "invariant"))?;
-    let flows = pairs_among(alloc, listed(document, "flow"))?;
+    let flows = flows_among(alloc, listed(document, "flow"))?;
     Ok(Written {
         version: integer_at(document, "topos").unwrap_or(0),
         answers: text_in(document, "answers") != "none",

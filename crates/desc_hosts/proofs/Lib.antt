@@ -1,2 +1,1 @@
 pub mod AddingLemmas
-pub mod FirstRefusal

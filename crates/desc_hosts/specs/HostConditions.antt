@@ -13,18 +13,22 @@ use Rattle.desc_hosts.specs.Mentions.{Mention, all_names}
 use Rattle.desc_form.specs.Refusals.{refused, refused_item, refused_by, refused_item_by}
 use Rattle.desc_form.specs.Written.{Written, WrittenHost, WrittenInvariant}
 use Rattle.text_core.specs.Name.{is_name}
-use Rattle.host_net.specs.Hosts.{host_limit, lacks_address, prefix_limit}
-use Rattle.host_net.specs.Limits.{invariant_limit}
+use Rattle.host_net.specs.Host.{lacks_address}
+use Rattle.host_net.specs.Limits.{host_limit, prefix_limit, invariant_limit}
 use Rattle.host_net.specs.Prefix.{is_exact, meets, prefix_of}
+use Rattle.host_net.specs.declared.prefix.Prefix.{Prefix}
 
--- an entry of the list of prefixes of a host: its number there, and what it says
+-- an entry of the list of prefixes of a host: its number there, and the prefix that it says, if it says one
 pub record Entry : Type 0 where
   pub host : ℕ
   pub item : ℕ
-  pub text : List ℕ
+  pub prefix : Option Prefix
+
+abbrev pub entry_at : ℕ → Numbered (List ℕ) → Entry
+entry_at host e = record { host = host; item = e.number; prefix = prefix_of e.what }
 
 abbrev pub entries_at : ℕ → List (List ℕ) → List Entry
-entries_at host texts = map (λ e. record { host = host; item = e.number; text = e.what }) (numbered texts)
+entries_at host texts = map (entry_at host) (numbered texts)
 
 abbrev pub entries_of : Numbered WrittenHost → List Entry
 entries_of h = entries_at h.number h.what.at
@@ -60,20 +64,20 @@ duplicate_host hs =
     (first_pair (λ h g. bytes_eq h.what.name g.what.name) (numbered hs))
 
 -- the entry is a prefix of at least one bit
-abbrev pub is_prefix : List ℕ → Bool
-is_prefix text = option_map_or (λ p. nat_lt 0 p.len) (prefix_of text) false
+abbrev pub is_prefix : Option Prefix → Bool
+is_prefix said = option_map_or (λ p. nat_lt 0 p.len) said false
 
 -- 10: an entry is no prefix, or one of length 0
 unfoldable pub bad_prefix : List Entry → Option Refusal
-bad_prefix es = option_map (λ e. refused_item BadPrefix (Host e.host) e.item) (find (λ e. not (is_prefix e.text)) es)
+bad_prefix es = option_map (λ e. refused_item BadPrefix (Host e.host) e.item) (find (λ e. not (is_prefix e.prefix)) es)
 
 -- bits after the length of the entry's prefix are set
-abbrev pub has_host_bits : List ℕ → Bool
-has_host_bits text = option_map_or (λ p. not (is_exact p)) (prefix_of text) false
+abbrev pub has_host_bits : Option Prefix → Bool
+has_host_bits said = option_map_or (λ p. not (is_exact p)) said false
 
 -- 11: an entry has bits after the length
 unfoldable pub host_bits : List Entry → Option Refusal
-host_bits es = option_map (λ e. refused_item HostBits (Host e.host) e.item) (find (λ e. has_host_bits e.text) es)
+host_bits es = option_map (λ e. refused_item HostBits (Host e.host) e.item) (find (λ e. has_host_bits e.prefix) es)
 
 -- 12: a host has neither a prefix nor the rest mark, or it has both
 unfoldable pub no_address : List WrittenHost → Option Refusal
@@ -86,14 +90,18 @@ two_rests hs =
     (first_pair (λ h g. h.what.rest && g.what.rest) (numbered hs))
 
 -- the prefixes that two entries say have an address in common
-abbrev pub entries_meet : List ℕ → List ℕ → Bool
-entries_meet text other = option_map_or (λ p. option_map_or (meets p) (prefix_of other) false) (prefix_of text) false
+abbrev pub entries_meet : Option Prefix → Option Prefix → Bool
+entries_meet said other = option_map_or (λ p. option_map_or (meets p) other false) said false
 
 -- 14: a prefix has an address in common with an earlier one, by host and item
 unfoldable pub overlap : List Entry → Option Refusal
 overlap es =
     option_map (λ p. refused_item_by Overlap (Host p.later.host) p.later.item p.earlier.host)
-    (first_pair (λ e f. entries_meet e.text f.text) es)
+    (first_pair (λ e f. entries_meet e.prefix f.prefix) es)
+
+-- 10 to 14
+abbrev pub address_conditions : List WrittenHost → List Entry → List (Option Refusal)
+address_conditions hs es = bad_prefix es ∷ host_bits es ∷ no_address hs ∷ two_rests hs ∷ overlap es ∷ []
 
 -- the conditions in the order of their numbers, 6 to 14
 unfoldable pub host_conditions : Written → List (Option Refusal)
@@ -102,9 +110,4 @@ host_conditions w =
     ∷ too_many w.hosts (all_entries w) w.invariants
     ∷ bad_name (all_names w)
     ∷ duplicate_host w.hosts
-    ∷ bad_prefix (all_entries w)
-    ∷ host_bits (all_entries w)
-    ∷ no_address w.hosts
-    ∷ two_rests w.hosts
-    ∷ overlap (all_entries w)
-    ∷ []
+    ∷ address_conditions w.hosts (all_entries w)

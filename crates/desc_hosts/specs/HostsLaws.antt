@@ -7,7 +7,8 @@ use Rattle.std.proofs.lemmas.List.Folds.{list_all-append, list_all-map}
 use Rattle.std.specs.List.{cons_option, find, list_all, filter_map}
 use Rattle.std.specs.Option.{option_map_or}
 use Rattle.std.specs.Str.{bytes_eq}
-use Rattle.text_core.specs.Firsts.{first_of, first_pair, Numbered, Pair, numbered_from, numbered, no_pair}
+use Rattle.text_core.specs.Firsts.{first_of, first_pair, Numbered, Pair, numbered_from, numbered}
+use Rattle.text_core.specs.Pairs.{no_pair}
 use Rattle.desc_form.specs.Refusals.{refused, refused_item}
 use Rattle.desc_form.specs.Written.{Written, WrittenHost}
 use Rattle.desc_form.specs.declared.refusal.Place.{Place}
@@ -16,14 +17,15 @@ use Rattle.desc_form.specs.declared.refusal.Refusal.{Refusal}
 use Rattle.desc_form.specs.declared.refusal.Why.TheVariants.{TooMany, BadName}
 use Rattle.text_core.specs.FirstsLaws.{neither, none_mapped, holds_not, none_found, none_barred, all_numbered, no_pair_numbered, all_twice}
 use Rattle.text_core.specs.PairLaws.{no_pair-map}
-use Rattle.desc_hosts.specs.EntriesLaws.{texts, all_texts, no_pair_texts, prefixes_of_texts, prefix_count_entries, networks, prefixes_apart}
+use Rattle.desc_hosts.specs.EntriesLaws.{all_texts, no_pair_texts, prefixes_of_texts, prefix_count_entries, networks, prefixes_apart}
 use Rattle.desc_hosts.specs.HostConditions.{Entry, all_entries, entries_meet, bad_version, beyond, too_many, bad_name, duplicate_host, is_prefix, bad_prefix, has_host_bits, host_bits, no_address, two_rests, overlap, host_conditions}
-use Rattle.host_net.specs.Limits.{invariant_limit}
+use Rattle.host_net.specs.Limits.{invariant_limit, host_limit, prefix_limit}
 use Rattle.desc_hosts.specs.Mentions.{Mention, all_names, host_name, used_names}
+use Rattle.desc_hosts.specs.HostFacts.{texts}
 use Rattle.desc_hosts.specs.WrittenHosts.{network_host, network_hosts}
 use Rattle.text_core.specs.Name.{is_name}
-use Rattle.host_net.specs.Host.{Host}
-use Rattle.host_net.specs.Hosts.{IsHosts, host_limit, is_network, lacks_address, prefix_limit}
+use Rattle.host_net.specs.Host.{Host, lacks_address}
+use Rattle.host_net.specs.Hosts.{IsHosts, is_network}
 use Rattle.host_net.specs.Prefix.{meets, prefix_of}
 use Rattle.host_net.specs.declared.prefix.Prefix.{Prefix}
 
@@ -76,7 +78,7 @@ at_most limit n h = grind (arith, nat_tests)
 few_by : {A : Type 0} (limit : ℕ) (place : ℕ → Place) (xs : List A) → beyond limit place xs ≡ None → length xs ≤ limit
 few_by limit place xs h = at_most limit (length xs) (holds_not (nat_lt limit (length xs)) (refused TooMany (place (limit + 1))) h)
 
-none_beyond : {A : Type 0} (xs : List A) (limit : ℕ) → slice_get xs limit ≡ None → length xs ≤ limit
+pub none_beyond : {A : Type 0} (xs : List A) (limit : ℕ) → slice_get xs limit ≡ None → length xs ≤ limit
 none_beyond [] limit h = omega arith
 none_beyond (x ∷ xs) zero h = cc
 none_beyond (x ∷ xs) (suc limit) h =
@@ -133,14 +135,14 @@ distinct_by w h =
     ∙ unpaired (λ (h g : Numbered WrittenHost). bytes_eq h.what.name g.what.name) _ (numbered w.hosts) h
 
 -- 10: all entries are prefixes of at least one bit
-prefixes_by : (w : Written) → bad_prefix (all_entries w) ≡ None → list_all (λ t. not (not (is_prefix t))) (texts w.hosts) ≡ true
+prefixes_by : (w : Written) → bad_prefix (all_entries w) ≡ None → list_all (λ t. not (not (is_prefix (prefix_of t)))) (texts w.hosts) ≡ true
 unfolding bad_prefix
-prefixes_by w h = sym (all_texts (λ t. not (not (is_prefix t))) w) ∙ passed (λ (e : Entry). not (is_prefix e.text)) _ (all_entries w) h
+prefixes_by w h = sym (all_texts (λ o. not (not (is_prefix o))) w) ∙ passed (λ (e : Entry). not (is_prefix e.prefix)) _ (all_entries w) h
 
 -- 11: none has bits after its length
-exact_by : (w : Written) → host_bits (all_entries w) ≡ None → list_all (λ t. not (has_host_bits t)) (texts w.hosts) ≡ true
+exact_by : (w : Written) → host_bits (all_entries w) ≡ None → list_all (λ t. not (has_host_bits (prefix_of t))) (texts w.hosts) ≡ true
 unfolding host_bits
-exact_by w h = sym (all_texts (λ t. not (has_host_bits t)) w) ∙ passed (λ (e : Entry). has_host_bits e.text) _ (all_entries w) h
+exact_by w h = sym (all_texts (λ o. not (has_host_bits o)) w) ∙ passed (λ (e : Entry). has_host_bits e.prefix) _ (all_entries w) h
 
 -- 12: each host has prefixes or is the rest host
 addressed_by : (w : Written) → no_address w.hosts ≡ None → list_all (λ (h : WrittenHost). not (lacks_address h.at h.rest)) w.hosts ≡ true
@@ -157,9 +159,9 @@ one_rest_by w h =
     ∙ unpaired (λ (h g : Numbered WrittenHost). h.what.rest && g.what.rest) _ (numbered w.hosts) h
 
 -- 14: no two prefixes have an address in common
-apart_by : (w : Written) → overlap (all_entries w) ≡ None → no_pair entries_meet (texts w.hosts) ≡ true
+apart_by : (w : Written) → overlap (all_entries w) ≡ None → no_pair (λ t u. entries_meet (prefix_of t) (prefix_of u)) (texts w.hosts) ≡ true
 unfolding overlap
-apart_by w h = sym (no_pair_texts entries_meet w) ∙ unpaired (λ (e f : Entry). entries_meet e.text f.text) _ (all_entries w) h
+apart_by w h = sym (no_pair_texts entries_meet w) ∙ unpaired (λ (e f : Entry). entries_meet e.prefix f.prefix) _ (all_entries w) h
 
 -- a host has prefixes where it has entries
 addressed_said : (o : Option Prefix) (ps : List Prefix) (rest : Bool) → not (not (option_map_or (λ p. nat_lt 0 p.len) o false)) ≡ true
@@ -167,18 +169,18 @@ addressed_said : (o : Option Prefix) (ps : List Prefix) (rest : Bool) → not (n
 addressed_said None ps rest prefix address = cc
 addressed_said (Some p) ps rest prefix address = address
 
-addressed_host : (ts : List (List ℕ)) (rest : Bool) → list_all (λ t. not (not (is_prefix t))) ts ≡ true → not (lacks_address ts rest) ≡ true
+addressed_host : (ts : List (List ℕ)) (rest : Bool) → list_all (λ t. not (not (is_prefix (prefix_of t)))) ts ≡ true → not (lacks_address ts rest) ≡ true
     → not (lacks_address (filter_map prefix_of ts) rest) ≡ true
 addressed_host [] rest prefixes address = address
 addressed_host (t ∷ ts) rest prefixes address =
-    let (prefix, _) = and_parts (not (not (is_prefix t))) _ prefixes in
+    let (prefix, _) = and_parts (not (not (is_prefix (prefix_of t)))) _ prefixes in
     addressed_said (prefix_of t) (filter_map prefix_of ts) rest prefix address
 
-addressed_hosts : (hs : List WrittenHost) → list_all (λ t. not (not (is_prefix t))) (texts hs) ≡ true → list_all (λ (h : WrittenHost). not (lacks_address h.at h.rest)) hs ≡ true
+addressed_hosts : (hs : List WrittenHost) → list_all (λ t. not (not (is_prefix (prefix_of t)))) (texts hs) ≡ true → list_all (λ (h : WrittenHost). not (lacks_address h.at h.rest)) hs ≡ true
     → list_all (λ (h : Host). not (lacks_address h.prefixes h.rest)) (map network_host hs) ≡ true
 addressed_hosts [] prefixes addresses = refl
 addressed_hosts (h ∷ hs) prefixes addresses =
-    let (here, behind) = and_parts (list_all (λ t. not (not (is_prefix t))) h.at) _ (sym (list_all-append (λ t. not (not (is_prefix t))) h.at (texts hs)) ∙ prefixes) in
+    let (here, behind) = and_parts (list_all (λ t. not (not (is_prefix (prefix_of t)))) h.at) _ (sym (list_all-append (λ t. not (not (is_prefix (prefix_of t)))) h.at (texts hs)) ∙ prefixes) in
     let (address, addresses_behind) = and_parts (not (lacks_address h.at h.rest)) _ addresses in
     rw (addressed_host h.at h.rest here address, addressed_hosts hs behind addresses_behind)
 

@@ -4,6 +4,7 @@ use Rattle.desc_form.specs.declared.refusal.Place.{Place}
 use Rattle.desc_form.specs.declared.refusal.Place.TheVariants.{Host, Assign, FlowAt}
 use Rattle.text_core.specs.Firsts.{numbered, Numbered}
 use Rattle.desc_form.specs.Written.{Written, WrittenHost, WrittenAssign, WrittenInvariant}
+use Rattle.desc_form.specs.WrittenFlow.{WrittenFlow}
 
 -- a name that stands at a place; in a flow as item 1 or 2
 pub record Mention : Type 0 where
@@ -24,9 +25,9 @@ assign_names_of i = map (assign_name i.number) (numbered i.what.assigns)
 unfoldable pub assign_names : Written → List Mention
 assign_names w = flat_map assign_names_of (numbered w.invariants)
 
-abbrev pub flow_names_of : Numbered (List ℕ × List ℕ) → List Mention
+abbrev pub flow_names_of : Numbered WrittenFlow → List Mention
 flow_names_of f =
-    record { place = FlowAt f.number; item = 1; name = f.what.0 } ∷ record { place = FlowAt f.number; item = 2; name = f.what.1 } ∷ []
+    record { place = FlowAt f.number; item = 1; name = f.what.from } ∷ record { place = FlowAt f.number; item = 2; name = f.what.to } ∷ []
 
 unfoldable pub flow_names : Written → List Mention
 flow_names w = flat_map flow_names_of (numbered w.flows)

@@ -3,14 +3,14 @@ ghost use Rattle.std.specs.Prelude.{◌≡◌, map, option_map};
 ghost use Rattle.desc_form.specs.declared.refusal.Place.TheVariants.{Host};
 ghost use Rattle.desc_form.specs.declared.refusal.Why.TheVariants.{Overlap};
 ghost use Rattle.desc_form.specs.Refusals.{refused_by, refused_item_by};
-ghost use Rattle.text_core.specs.FirstsSeen.{pair_seen};
+ghost use Rattle.text_core.specs.FirstsView.{pair_seen};
 ghost use Rattle.desc_form.specs.WrittenView.{host_view};
 ghost use Rattle.desc_hosts.specs.EntryView.{entry_view};
 ghost use Rattle.desc_hosts.specs.HostConditions.{duplicate_host, entries_meet, overlap, two_rests};
 
 use crate::entries::Entry;
 use desc_form::{Place, Refusal, Why, WrittenHost};
-use host_net::read_prefix;
+use host_net::Prefix;
 use text_core::{Pair, first_pair};
 
 /// A host has the name of an earlier one.
@@ -39,18 +39,18 @@ fn barred_host(why: Why, pair: Option<Pair<'_, WrittenHost<'_>>>) -> Option<Refu
 }
 
 /// A prefix has an address in common with an earlier one.
-pub(crate) fn overlap(entries: &[Entry<'_>]) -> Option<Refusal>
+pub(crate) fn overlap(entries: &[Entry]) -> Option<Refusal>
     ensures { result ≡ overlap (map entry_view entries.now) }
 {
     let pair = first_pair(
         entries,
-        |later, earlier| entries_meet(later.text, earlier.text),
+        |later, earlier| entries_meet(later.prefix, earlier.prefix),
     );
     met_entry(pair)
 }
 
 /// The refusal for a prefix that an earlier one meets.
-fn met_entry(pair: Option<Pair<'_, Entry<'_>>>) -> Option<Refusal>
+fn met_entry(pair: Option<Pair<'_, Entry>>) -> Option<Refusal>
     ensures { result ≡ option_map (λ p. refused_item_by Overlap (Host p.later.what.host) p.later.what.item p.earlier.what.host) (option_map pair_seen pair.entry) }
 {
     let pair = pair?;
@@ -60,10 +60,10 @@ fn met_entry(pair: Option<Pair<'_, Entry<'_>>>) -> Option<Refusal>
 }
 
 /// Whether the prefixes that two entries say have an address in common.
-fn entries_meet(text: &str, other: &str) -> bool
-    ensures { result ≡ entries_meet text.now other.now }
+fn entries_meet(said: Option<Prefix>, other: Option<Prefix>) -> bool
+    ensures { result ≡ entries_meet said other }
 {
-    match (read_prefix(text.as_bytes()), read_prefix(other.as_bytes())) {
+    match (said, other) {
         (Some(prefix), Some(other)) => prefix.meets(&other),
         _ => false,
     }

@@ -1,70 +1,85 @@
 //! The refusals of a written description for its version, its size and its hosts.
-ghost use Rattle.std.specs.Prelude.{◌≡◌, map, IfOk};
+ghost use Rattle.std.specs.Prelude.{◌≡◌, ◌↔◌, None, map, IfOk};
 ghost use Rattle.text_core.specs.Firsts.{first_of};
 ghost use Rattle.desc_form.specs.WrittenView.{host_view, written_view};
 ghost use Rattle.desc_hosts.specs.EntryView.{entry_view};
-ghost use Rattle.desc_hosts.specs.HostConditions.{all_entries, bad_name, bad_version, host_conditions, no_address};
-ghost use Rattle.desc_hosts.specs.MentionView.{mention_view};
-ghost use Rattle.desc_hosts.specs.Mentions.{all_names};
-ghost use Rattle.host_net.specs.Hosts.{lacks_address};
-ghost use Rattle.text_core.specs.Name.{is_name};
+ghost use Rattle.desc_hosts.specs.HostConditions.{address_conditions, all_entries, bad_version, host_conditions, no_address};
+ghost use Rattle.desc_hosts.specs.HostFacts.{HasHosts};
+ghost use Rattle.host_net.specs.Host.{lacks_address};
 
 use crate::barred::{duplicate_host, overlap, two_rests};
 use crate::entries::{Entry, all_entries, bad_prefix, host_bits};
-use crate::mentions::{Mention, all_names};
+use crate::names::bad_name;
 use crate::sizes::too_many;
 use desc_form::{Place, Refusal, Why, Written, WrittenHost};
 use std::alloc::{AllocError, Global};
-use text_core::is_name;
 
 /// The first condition on the version, the sizes, the names and the hosts of a description that
 /// refuses it.
-#[tactic(auto, unfolding(crate::specs::HostConditions::all_entries))]
 pub fn host_refusal(alloc: Global, written: &Written<'_>) -> Result<Option<Refusal>, AllocError>
+    ensures first { IfOk result (λ refused. refused ≡ first_of (host_conditions (written_view written.now))) }
+
+    // None where all is as it should be, and only there.
+    ensures facts { IfOk result (λ refused. (refused ≡ None) ↔ HasHosts (written_view written.now)) }
+{
+    refusal_of(alloc, written)
+}
+
+#[tactic(auto, unfolding(crate::specs::HostConditions::all_entries))]
+fn refusal_of(alloc: Global, written: &Written<'_>) -> Result<Option<Refusal>, AllocError>
     ensures { IfOk result (λ refused. refused ≡ first_of (host_conditions (written_view written.now))) }
 {
     let entries = all_entries(alloc, &written.hosts)?;
-    let names = all_names(alloc, written)?;
-    Ok(first_refusal(written, &names, &entries))
+    Ok(first_refusal(written, &entries))
 }
 
-/// The same, with the names and the entries of the description at hand. Hosts and entries are
-/// compared with one another only where there are few of them.
+/// The same, with the entries of the description at hand. Hosts and entries are compared with one
+/// another only where there are few of them.
 #[tactic(auto, unfolding(crate::specs::HostConditions::host_conditions))]
-fn first_refusal(
-    written: &Written<'_>,
-    names: &[Mention<'_>],
-    entries: &[Entry<'_>],
-) -> Option<Refusal>
-    requires names { map mention_view names.now ≡ all_names (written_view written.now) }
-    requires entries { map entry_view entries.now ≡ all_entries (written_view written.now) }
+fn first_refusal(written: &Written<'_>, entries: &[Entry]) -> Option<Refusal>
+    requires { map entry_view entries.now ≡ all_entries (written_view written.now) }
     ensures { result ≡ first_of (host_conditions (written_view written.now)) }
 {
-    let early = bad_version(written).or(too_many(&written.hosts, entries, &written.invariants));
-    if early.is_some() {
-        return early;
+    let version = bad_version(written);
+    if version.is_some() {
+        return version;
     }
-    bad_name(names)
-        .or(duplicate_host(&written.hosts))
-        .or(bad_prefix(entries))
-        .or(host_bits(entries))
-        .or(no_address(&written.hosts))
-        .or(two_rests(&written.hosts))
-        .or(overlap(entries))
+    let size = too_many(&written.hosts, entries, &written.invariants);
+    if size.is_some() {
+        return size;
+    }
+    let name = bad_name(written);
+    if name.is_some() {
+        return name;
+    }
+    let host = duplicate_host(&written.hosts);
+    if host.is_some() {
+        return host;
+    }
+    address_refusal(&written.hosts, entries)
 }
 
-/// A text in the place of a name is no legal name.
-#[tactic(auto, unfolding(crate::specs::HostConditions::bad_name))]
-fn bad_name(names: &[Mention<'_>]) -> Option<Refusal>
-    ensures { result ≡ bad_name (map mention_view names.now) }
+/// The first condition on prefixes and rest marks.
+fn address_refusal(hosts: &[WrittenHost<'_>], entries: &[Entry]) -> Option<Refusal>
+    ensures { result ≡ first_of (address_conditions (map host_view hosts.now) (map entry_view entries.now)) }
 {
-    for mention in names {
-        if !is_name(mention.name.as_bytes()) {
-            let refusal = Refusal::at(Why::BadName, mention.place);
-            return Some(refusal.with_item(mention.item));
-        }
+    let prefix = bad_prefix(entries);
+    if prefix.is_some() {
+        return prefix;
     }
-    None
+    let bits = host_bits(entries);
+    if bits.is_some() {
+        return bits;
+    }
+    let address = no_address(hosts);
+    if address.is_some() {
+        return address;
+    }
+    let rest = two_rests(hosts);
+    if rest.is_some() {
+        return rest;
+    }
+    overlap(entries)
 }
 
 /// The version is another than 1.

@@ -7,6 +7,7 @@ mod entries;
 mod host_conditions;
 mod hosts;
 mod mentions;
+mod names;
 mod sizes;
 #[cfg(test)]
 mod tests;

@@ -1,11 +1,11 @@
-//! The names that stand in a description, place by place: of its hosts, in its assigns, in its flows.
+//! The names that stand for hosts in a description, place by place: in its assigns and in its flows.
 ghost use Rattle.std.specs.Prelude.{◌≡◌, ◌++◌, flat_map, map, IfOk, OnOk};
 ghost use Rattle.text_core.specs.Firsts.{numbered};
-ghost use Rattle.desc_form.specs.WrittenView.{assign_view, host_view, invariant_view, written_view};
+ghost use Rattle.desc_form.specs.WrittenView.{assign_view, flow_view, invariant_view, written_view};
 ghost use Rattle.desc_hosts.specs.MentionView.{mention_view};
-ghost use Rattle.desc_hosts.specs.Mentions.{all_names, assign_name, assign_names_of, flow_names_of, host_name, used_names};
+ghost use Rattle.desc_hosts.specs.Mentions.{assign_name, assign_names_of, flow_names_of, used_names};
 
-use desc_form::{Place, Written, WrittenAssign, WrittenHost, WrittenInvariant};
+use desc_form::{Place, Written, WrittenAssign, WrittenFlow, WrittenHost, WrittenInvariant};
 use std::alloc::{AllocError, Global};
 
 /// A name, and the place where it stands: in a flow as item 1 or 2, elsewhere as item 0.
@@ -23,36 +23,6 @@ pub fn used_names<'a>(alloc: Global, written: &Written<'a>) -> Result<Vec<Mentio
     let mut names = Vec::new(alloc);
     push_used_names(&mut names, written)?;
     Ok(names)
-}
-
-/// All names: of hosts, then those that stand for hosts.
-#[tactic(auto, unfolding(crate::specs::Mentions::all_names))]
-pub(crate) fn all_names<'a>(
-    alloc: Global,
-    written: &Written<'a>,
-) -> Result<Vec<Mention<'a>>, AllocError>
-    ensures { IfOk result (λ names. map mention_view names.items ≡ all_names (written_view written.now)) }
-{
-    let mut names = Vec::new(alloc);
-    push_host_names(&mut names, &written.hosts)?;
-    push_used_names(&mut names, written)?;
-    Ok(names)
-}
-
-fn push_host_names<'a>(
-    names: &mut Vec<Mention<'a>>,
-    hosts: &[WrittenHost<'a>],
-) -> Result<(), AllocError>
-    ensures { OnOk result (map mention_view names.new.items ≡ map mention_view names.old.items ++ map host_name (numbered (map host_view hosts.now))) }
-{
-    for (index, host) in hosts.iter().enumerate() {
-        names.push(Mention {
-            place: Place::Host(index as u64 + 1),
-            item: 0,
-            name: host.name,
-        })?;
-    }
-    Ok(())
 }
 
 #[tactic(auto, unfolding(crate::specs::Mentions::used_names, crate::specs::Mentions::assign_names, crate::specs::Mentions::flow_names))]
@@ -99,21 +69,21 @@ fn push_names_of<'a>(
 
 fn push_flow_names<'a>(
     names: &mut Vec<Mention<'a>>,
-    flows: &[(&'a str, &'a str)],
+    flows: &[WrittenFlow<'a>],
 ) -> Result<(), AllocError>
-    ensures { OnOk result (map mention_view names.new.items ≡ map mention_view names.old.items ++ flat_map flow_names_of (numbered (map (λ pair. (pair.0.now, pair.1.now)) flows.now))) }
+    ensures { OnOk result (map mention_view names.new.items ≡ map mention_view names.old.items ++ flat_map flow_names_of (numbered (map flow_view flows.now))) }
 {
-    for (index, (from, to)) in flows.iter().enumerate() {
+    for (index, flow) in flows.iter().enumerate() {
         let place = Place::FlowAt(index as u64 + 1);
         names.push(Mention {
             place,
             item: 1,
-            name: from,
+            name: flow.from,
         })?;
         names.push(Mention {
             place,
             item: 2,
-            name: to,
+            name: flow.to,
         })?;
     }
     Ok(())

@@ -4,8 +4,7 @@ ghost use Rattle.desc_form.specs.WrittenView.{host_view, invariant_view};
 ghost use Rattle.desc_form.specs.declared.refusal.Place.TheVariants.{Host, Invariant};
 ghost use Rattle.desc_hosts.specs.EntryView.{entry_view};
 ghost use Rattle.desc_hosts.specs.HostConditions.{beyond, too_many};
-ghost use Rattle.host_net.specs.Limits.{invariant_limit};
-ghost use Rattle.host_net.specs.Hosts.{host_limit};
+ghost use Rattle.host_net.specs.Limits.{invariant_limit, host_limit};
 
 use crate::entries::{Entry, too_many_prefixes};
 use desc_form::{Place, Refusal, Why, WrittenHost, WrittenInvariant};
@@ -18,7 +17,7 @@ const INVARIANT_LIMIT: usize = 16;
 #[tactic(auto, unfolding(crate::specs::HostConditions::too_many))]
 pub(crate) fn too_many(
     hosts: &[WrittenHost<'_>],
-    entries: &[Entry<'_>],
+    entries: &[Entry],
     invariants: &[WrittenInvariant<'_>],
 ) -> Option<Refusal>
     ensures { result ≡ too_many (map host_view hosts.now) (map entry_view entries.now) (map invariant_view invariants.now) }

@@ -1,3 +1,5 @@
+pub mod Keys
+pub mod KeyView
 pub mod Listing
 pub mod ListingLaws
 pub mod Tables

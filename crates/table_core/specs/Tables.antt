@@ -55,16 +55,6 @@ elements_of d = option_map elements (as_array d)
 unfoldable pub list_at : List ℕ → Members → Option (List Data)
 list_at key table = option_and_then elements_of (get_member key table)
 
--- The same at a key that may be absent: then a default counts. A key that is there still needs its type.
-
--- the whole number from 0 to `most` at a key, or the default
-unfoldable pub number_or : ℕ → ℕ → List ℕ → Members → Option ℕ
-number_or default most key table = if has_key key table then number_at most key table else Some default
-
--- true or false at a key, or the default
-unfoldable pub boolean_or : Bool → List ℕ → Members → Option Bool
-boolean_or default key table = if has_key key table then boolean_at key table else Some default
-
--- the elements of the array at a key, or none
+-- the elements of the array at a key, or none where the key is absent. A key that is there still needs its type
 unfoldable pub list_or_empty : List ℕ → Members → Option (List Data)
 list_or_empty key table = if has_key key table then list_at key table else Some []

@@ -1,24 +1,93 @@
-//! The keys of a table.
-ghost use Rattle.std.specs.Prelude.{◌≡◌, map};
-ghost use Rattle.std.specs.List.{list_any};
+//! The keys of a table: which it has, and tables of keys that say which it may have.
+ghost use Rattle.std.specs.Prelude.{◌≡◌, ◌&&◌, not, map};
+ghost use Rattle.std.specs.List.{list_all, list_any};
 ghost use Rattle.std.specs.Str.{bytes_eq};
-ghost use Rattle.table_core.specs.Tables.{has_key, has_only};
+ghost use Rattle.table_core.specs.Keys.{all_suit, has_only_keys, lacks_key, suits_in};
+ghost use Rattle.table_core.specs.KeyView.{key_view};
+ghost use Rattle.table_core.specs.Tables.{has_key};
 ghost use Rattle.toml.specs.View.{table_view};
 
+use crate::kinds::{Kind, stands_at};
 use crate::values::value_at;
 use toml::Table;
 
-/// Whether each key of the table is one of `keys`.
-pub fn has_only(table: &Table, keys: &[&str]) -> bool
-    ensures { result ≡ has_only (map (λ key. key.now) keys.now) (table_view table.now) }
-{
-    table.keys().all(|key| is_among(key.as_str(), keys))
+/// A key of a table, and what may stand at it.
+#[derive(Clone, Copy)]
+pub enum Key {
+    /// It has to be there.
+    Needed(&'static str, Kind),
+    /// It may be absent.
+    Optional(&'static str, Kind),
 }
 
-fn is_among(key: &str, keys: &[&str]) -> bool
-    ensures { result ≡ list_any (λ other. bytes_eq key.now other.now) keys.now }
+impl Key {
+    fn name(&self) -> &'static str
+        ensures { result.now ≡ (key_view self.now).name }
+    {
+        match self {
+            Key::Needed(name, _) | Key::Optional(name, _) => name,
+        }
+    }
+
+    /// Whether the table lacks the key though it has to be there.
+    fn is_missing(&self, table: &Table) -> bool
+        ensures { result ≡ ((key_view self.now).needed && not (has_key (key_view self.now).name (table_view table.now))) }
+    {
+        match self {
+            Key::Needed(name, _) => !has_key(table, name),
+            Key::Optional(_, _) => false,
+        }
+    }
+
+    /// Whether what stands at the key, if anything does, is of its kind.
+    fn suits(&self, table: &Table) -> bool
+        ensures { result ≡ suits_in (table_view table.now) (key_view self.now) }
+    {
+        match self {
+            Key::Needed(name, kind) | Key::Optional(name, kind) => {
+                !has_key(table, name) || stands_at(table, name, *kind)
+            }
+        }
+    }
+}
+
+/// Whether each key of the table is one of `keys`.
+pub fn has_only_keys(table: &Table, keys: &[Key]) -> bool
+    ensures { result ≡ has_only_keys (map key_view keys.now) (table_view table.now) }
 {
-    keys.iter().any(|other| key == *other)
+    table.keys().all(|key| is_key_among(key.as_str(), keys))
+}
+
+fn is_key_among(name: &str, keys: &[Key]) -> bool
+    ensures { result ≡ list_any (λ key. bytes_eq name.now (key_view key).name) keys.now }
+{
+    keys.iter().any(|key| name == key.name())
+}
+
+/// Whether the table lacks one of `keys` that has to be there.
+pub fn lacks_key(table: &Table, keys: &[Key]) -> bool
+    ensures { result ≡ lacks_key (map key_view keys.now) (table_view table.now) }
+{
+    is_one_missing(table, keys)
+}
+
+fn is_one_missing(table: &Table, keys: &[Key]) -> bool
+    ensures { result ≡ list_any (λ key. (key_view key).needed && not (has_key (key_view key).name (table_view table.now))) keys.now }
+{
+    keys.iter().any(|key| key.is_missing(table))
+}
+
+/// Whether at each of `keys` that the table has stands a value of its kind.
+pub fn all_suit(table: &Table, keys: &[Key]) -> bool
+    ensures { result ≡ all_suit (map key_view keys.now) (table_view table.now) }
+{
+    each_suits(table, keys)
+}
+
+fn each_suits(table: &Table, keys: &[Key]) -> bool
+    ensures { result ≡ list_all (λ key. suits_in (table_view table.now) (key_view key)) keys.now }
+{
+    keys.iter().all(|key| key.suits(table))
 }
 
 /// Whether the table has the key.

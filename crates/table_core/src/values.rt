@@ -1,7 +1,7 @@
 //! What stands at a key, by its type. Nothing is found where the key is absent or where a value of
 //! another type stands there.
 ghost use Rattle.std.specs.Prelude.{◌≡◌, ◌≤◌, map, option_map, option_copied, IfSome};
-ghost use Rattle.table_core.specs.Tables.{text_at, integer_at, boolean_at, number_of, number_at, elements_of, list_at, number_or, boolean_or, list_or_empty};
+ghost use Rattle.table_core.specs.Tables.{text_at, integer_at, boolean_at, number_of, number_at, elements_of, list_at, list_or_empty};
 ghost use Rattle.toml.specs.Data.{get_member};
 ghost use Rattle.toml.specs.View.{view, table_view};
 
@@ -66,32 +66,6 @@ pub fn elements(value: &Value) -> Option<&[Value]>
 {
     let values = value.as_array()?;
     Some(values.as_slice())
-}
-
-/// The whole number from 0 to `most` at a key, or the default where the key is absent.
-#[tactic(auto, unfolding(crate::specs::Tables::number_or))]
-pub fn number_or(table: &Table, key: &str, most: u16, default: u16) -> Option<u16>
-    requires { default ≤ most }
-    ensures value { result ≡ number_or default most key.now (table_view table.now) }
-    ensures small { IfSome result (λ number. number ≤ most) }
-{
-    if has_key(table, key) {
-        number_at(table, key, most)
-    } else {
-        Some(default)
-    }
-}
-
-/// True or false at a key, or the default where the key is absent.
-#[tactic(auto, unfolding(crate::specs::Tables::boolean_or))]
-pub fn boolean_or(table: &Table, key: &str, default: bool) -> Option<bool>
-    ensures { result ≡ boolean_or default key.now (table_view table.now) }
-{
-    if has_key(table, key) {
-        boolean_at(table, key)
-    } else {
-        Some(default)
-    }
 }
 
 /// The elements of the array at a key, or none where the key is absent.

@@ -14,16 +14,16 @@ returns-in_err-table-clause-least c =
     least_told c.args.bytes.now c.from_residual.result (rw (p.1, p.2) (table_refused c.args.bytes.now c.in_err-table.field-0.0 c.in_err-table.ensures))
 
 pub returns-clause-given : goal.returns-clause-given
-returns-clause-given c = rw (table_read c.args.bytes.now (table_view c.in_ok-table.table) c.in_ok-table.ensures) c.describe_table.ensures
+returns-clause-given c = rw (table_read c.args.bytes.now (table_view c.in_ok-table.table) c.in_ok-table.ensures) c.describe_table.ensures.given
 
 pub returns-clause-least : goal.returns-clause-least
 returns-clause-least c =
-    least_told c.args.bytes.now c.describe_table.result (rw (table_read c.args.bytes.now (table_view c.in_ok-table.table) c.in_ok-table.ensures) c.describe_table.ensures)
+    least_told c.args.bytes.now c.describe_table.result (rw (table_read c.args.bytes.now (table_view c.in_ok-table.table) c.in_ok-table.ensures) c.describe_table.ensures.given)
 
 pub returns-clause-whole : goal.returns-clause-whole
 returns-clause-whole c =
-    whole_read c.args.bytes.now c.describe_table.result (rw (table_read c.args.bytes.now (table_view c.in_ok-table.table) c.in_ok-table.ensures) c.describe_table.ensures)
+    whole_read c.args.bytes.now c.describe_table.result (rw (table_read c.args.bytes.now (table_view c.in_ok-table.table) c.in_ok-table.ensures) c.describe_table.ensures.given)
 
 pub returns-clause-none : goal.returns-clause-none
 returns-clause-none c =
-    none_holds c.args.bytes.now c.describe_table.result (rw (table_read c.args.bytes.now (table_view c.in_ok-table.table) c.in_ok-table.ensures) c.describe_table.ensures)
+    none_holds c.args.bytes.now c.describe_table.result (rw (table_read c.args.bytes.now (table_view c.in_ok-table.table) c.in_ok-table.ensures) c.describe_table.ensures.given)

@@ -1,13 +1,14 @@
-use Rattle.std.proofs.Common.{◌≡◌, map, drop, length, Bor, List, [], ℕ}
-use Rattle.std.specs.List.{fold, filter_map}
-use Rattle.desc_core.specs.Flows.{flow_of_names}
-use Rattle.flow_set.specs.FlowSet.{with_flow}
+use Rattle.std.proofs.Common.{◌≡◌, ◌+◌, [], drop, take}
+use Rattle.flow_set.specs.Flow.{same_flow}
+use Rattle.flow_set.specs.FlowSet.{set_of}
+use Rattle.flow_set.specs.declared.flow.Flow.{Flow}
+use Rattle.text_core.specs.Firsts.{Numbered, first_pair_behind, numbered, numbered_from}
 use Rattle.desc_core.proofs.flows.listed_flows.Given as goal
 
-abbrev pub invariant-loop-from : goal.invariant-loop-from
-invariant-loop-from l = record {
-  size : l.asked.size ≡ length l.hosts;
-  grown :
-      fold with_flow l.asked.flows (filter_map (flow_of_names l.hosts) (map (λ (pair : Bor (List ℕ) × Bor (List ℕ)). (pair.0.now, pair.1.now)) (drop l.from-index l.pairs)))
-      ≡ fold with_flow [] (filter_map (flow_of_names l.hosts) (map (λ (pair : Bor (List ℕ) × Bor (List ℕ)). (pair.0.now, pair.1.now)) l.pairs));
+abbrev pub invariant-loop-index : goal.invariant-loop-index
+invariant-loop-index l = record {
+  made : l.listed ≡ record { size = l.count; flows = set_of (take l.index l.flows) };
+  apart :
+      first_pair_behind (λ (f g : Numbered Flow). same_flow f.what g.what) (numbered (take l.index l.flows)) (numbered_from (l.index + 1) (drop l.index l.flows))
+      ≡ first_pair_behind (λ (f g : Numbered Flow). same_flow f.what g.what) [] (numbered l.flows);
 }

@@ -1,13 +1,12 @@
-use Rattle.std.proofs.Common.{◌≡◌, ◌+◌, ◌++◌, map, drop}
-use Rattle.std.specs.List.{filter_map}
-use Rattle.desc_core.specs.Parts.{read_if_known}
-use Rattle.desc_core.specs.UseConditions.{bad_attribute_of}
-use Rattle.text_core.specs.Firsts.{first_found, numbered_from}
-use Rattle.desc_form.specs.WrittenView.{invariant_view}
+use Rattle.std.proofs.Common.{◌≡◌, ◌+◌, ◌++◌, None, map, drop}
+use Rattle.desc_core.specs.KnownView.{known_view}
+use Rattle.desc_core.specs.UseConditions.{bad_at}
+use Rattle.desc_core.specs.WrittenNetwork.{Known, made_of}
+use Rattle.text_core.specs.Firsts.{Numbered, first_found, numbered_from}
 use Rattle.desc_core.proofs.invariants.read_invariants.Given as goal
 
-abbrev pub invariant-loop-index : goal.invariant-loop-index
-invariant-loop-index l = record {
-  refused : first_found (bad_attribute_of l.hosts) (numbered_from (l.index + 1) (map invariant_view (drop l.index l.written))) ≡ first_found (bad_attribute_of l.hosts) (numbered_from 1 (map invariant_view l.written));
-  grown : l.invariants.items ++ filter_map (read_if_known l.hosts) (map invariant_view (drop l.index l.written)) ≡ filter_map (read_if_known l.hosts) (map invariant_view l.written);
+abbrev pub invariant-loop-invariant : goal.invariant-loop-invariant
+invariant-loop-invariant l = record {
+  none : first_found (λ (k : Numbered Known). bad_at l.hosts k.number k.what) (numbered_from (l.invariant-index + 1) (map known_view (drop l.invariant-index l.invariants))) ≡ None;
+  grown : l.made.items ++ map (made_of l.hosts) (map known_view (drop l.invariant-index l.invariants)) ≡ map (made_of l.hosts) (map known_view l.invariants);
 }

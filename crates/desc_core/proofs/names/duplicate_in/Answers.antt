@@ -6,7 +6,7 @@ use Rattle.desc_form.specs.Written.{WrittenAssign}
 use Rattle.desc_form.specs.declared.refusal.Place.TheVariants.{Assign}
 use Rattle.desc_form.specs.declared.refusal.Why.TheVariants.{DuplicateAssign}
 use Rattle.text_core.specs.FirstPairLaws.{told_numbered}
-use Rattle.text_core.specs.FirstsSeen.{pair_seen}
+use Rattle.text_core.specs.FirstsView.{pair_seen}
 use Rattle.desc_core.proofs.names.duplicate_in.Goals as goal
 
 pub returns : goal.returns

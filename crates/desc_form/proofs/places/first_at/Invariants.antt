@@ -5,5 +5,5 @@ use Rattle.desc_form.proofs.places.first_at.Given as goal
 
 abbrev pub invariant-loop-index : goal.invariant-loop-index
 invariant-loop-index l = record {
-  same : first_at (holds_at l.condition) (place_in l.row) (l.index + 1) (map view (drop l.index l.values)) ≡ first_at (holds_at l.condition) (place_in l.row) 1 (map view l.values);
+  same : first_at (holds_at l.test) (place_in l.row) (l.index + 1) (map view (drop l.index l.values)) ≡ first_at (holds_at l.test) (place_in l.row) 1 (map view l.values);
 }

@@ -5,5 +5,5 @@ use Rattle.desc_form.proofs.places.first_of_invariants.Given as goal
 
 abbrev pub invariant-loop-index : goal.invariant-loop-index
 invariant-loop-index l = record {
-  same : first_of_invariants (holds_at l.condition) (l.index + 1) (map view (drop l.index l.values)) ≡ first_of_invariants (holds_at l.condition) 1 (map view l.values);
+  same : first_of_invariants (holds_at l.test) (l.index + 1) (map view (drop l.index l.values)) ≡ first_of_invariants (holds_at l.test) 1 (map view l.values);
 }

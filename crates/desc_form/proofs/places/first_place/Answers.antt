@@ -5,4 +5,4 @@ use Rattle.desc_form.specs.PlacesLaws.{by_parts}
 use Rattle.desc_form.proofs.places.first_place.Goals as goal
 
 pub returns : goal.returns
-returns c = c.first_by_parts.ensures ∙ by_parts (holds_at c.args.condition) (table_view c.args.document.now)
+returns c = c.first_by_parts.ensures ∙ by_parts (holds_at c.args.test) (table_view c.args.document.now)

@@ -6,12 +6,12 @@ use Rattle.desc_hosts.specs.EntryView.{entry_view}
 use Rattle.text_core.specs.FirstPairLaws.{told}
 use Rattle.desc_hosts.specs.HostConditions as meant
 use Rattle.desc_hosts.specs.HostConditions.{overlap, entries_meet}
-use Rattle.text_core.specs.FirstsSeen.{pair_seen}
+use Rattle.text_core.specs.FirstsView.{pair_seen}
 use Rattle.desc_hosts.proofs.barred.overlap.Goals as goal
 
 pub returns : goal.returns
 unfolding overlap
 returns c =
     c.met_entry.ensures
-    ∙ told (λ (e f : meant.Entry). entries_meet e.text f.text) entry_view (λ p. refused_item_by Overlap (Host p.later.host) p.later.item p.earlier.host) c.args.entries.now (option_map pair_seen c.first_pair-pair.result)
-    (c.first_pair-pair.ensures.exact (λ e f. entries_meet e.text.now f.text.now) (λ later earlier answer post. search rules))
+    ∙ told (λ (e f : meant.Entry). entries_meet e.prefix f.prefix) entry_view (λ p. refused_item_by Overlap (Host p.later.host) p.later.item p.earlier.host) c.args.entries.now (option_map pair_seen c.first_pair-pair.result)
+    (c.first_pair-pair.ensures.exact (λ e f. entries_meet e.prefix f.prefix) (λ later earlier answer post. search rules))

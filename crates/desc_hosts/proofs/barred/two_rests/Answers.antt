@@ -6,7 +6,7 @@ use Rattle.desc_form.specs.declared.refusal.Place.TheVariants.{Host}
 use Rattle.desc_form.specs.declared.refusal.Why.TheVariants.{TwoRests}
 use Rattle.text_core.specs.FirstPairLaws.{told_numbered}
 use Rattle.desc_hosts.specs.HostConditions.{two_rests}
-use Rattle.text_core.specs.FirstsSeen.{pair_seen}
+use Rattle.text_core.specs.FirstsView.{pair_seen}
 use Rattle.desc_hosts.proofs.barred.two_rests.Goals as goal
 
 pub returns : goal.returns

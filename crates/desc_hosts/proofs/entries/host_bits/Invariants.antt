@@ -9,6 +9,6 @@ use Rattle.desc_hosts.proofs.entries.host_bits.Given as goal
 abbrev pub invariant-loop-entry : goal.invariant-loop-entry
 invariant-loop-entry l = record {
   same :
-      option_map (λ (e : Entry). refused_item HostBits (Host e.host) e.item) (find (λ e. has_host_bits e.text) (map entry_view (drop l.entry-index l.entries)))
-      ≡ option_map (λ (e : Entry). refused_item HostBits (Host e.host) e.item) (find (λ e. has_host_bits e.text) (map entry_view l.entries));
+      option_map (λ (e : Entry). refused_item HostBits (Host e.host) e.item) (find (λ e. has_host_bits e.prefix) (map entry_view (drop l.entry-index l.entries)))
+      ≡ option_map (λ (e : Entry). refused_item HostBits (Host e.host) e.item) (find (λ e. has_host_bits e.prefix) (map entry_view l.entries));
 }

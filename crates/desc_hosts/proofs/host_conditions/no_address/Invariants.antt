@@ -3,7 +3,7 @@ use Rattle.std.specs.Prelude.{find}
 use Rattle.desc_form.specs.declared.refusal.Place.TheVariants.{Host}
 use Rattle.desc_form.specs.declared.refusal.Why.TheVariants.{NoAddress}
 use Rattle.text_core.specs.Firsts.{Numbered, numbered_from}
-use Rattle.host_net.specs.Hosts.{lacks_address}
+use Rattle.host_net.specs.Host.{lacks_address}
 use Rattle.desc_form.specs.Refusals.{refused}
 use Rattle.desc_form.specs.WrittenView.{host_view}
 use Rattle.desc_form.specs.Written.{WrittenHost}

@@ -1,11 +1,12 @@
-use Rattle.std.proofs.Common.{◌≡◌, ◌+◌, ◌++◌, map, drop, Bor, List, ℕ}
+use Rattle.std.proofs.Common.{◌≡◌, ◌+◌, ◌++◌, map, drop}
 use Rattle.std.specs.List.{flat_map}
 use Rattle.text_core.specs.Firsts.{numbered_from}
+use Rattle.desc_form.specs.WrittenView.{flow_view}
 use Rattle.desc_hosts.specs.MentionView.{mention_view}
 use Rattle.desc_hosts.specs.Mentions.{flow_names_of}
 use Rattle.desc_hosts.proofs.mentions.push_flow_names.Given as goal
 
 abbrev pub invariant-loop-index : goal.invariant-loop-index
 invariant-loop-index l = record {
-  grown : map mention_view l.names.items ++ flat_map flow_names_of (numbered_from (l.index + 1) (map (λ (pair : Bor (List ℕ) × Bor (List ℕ)). (pair.0.now, pair.1.now)) (drop l.index l.flows))) ≡ map mention_view l.fn.names.items ++ flat_map flow_names_of (numbered_from 1 (map (λ (pair : Bor (List ℕ) × Bor (List ℕ)). (pair.0.now, pair.1.now)) l.flows));
+  grown : map mention_view l.names.items ++ flat_map flow_names_of (numbered_from (l.index + 1) (map flow_view (drop l.index l.flows))) ≡ map mention_view l.fn.names.items ++ flat_map flow_names_of (numbered_from 1 (map flow_view l.flows));
 }

@@ -1,0 +1,52 @@
+-- One name after the other is looked up: what is found so far, and what is left to find.
+use Rattle.std.proofs.Common.{◌≡◌, ℕ, ◌+◌, ◌<◌, List, [], ◌∷◌, ◌++◌, map, drop, drop-cons, add-one, get_or, length, Option, Some, option_map, sym, ap, ◌∙◌}
+use Rattle.std.proofs.lemmas.List.{map-append}
+use Rattle.attr_core.specs.AssignView.{given_of}
+use Rattle.attr_core.specs.Assigns.{Given}
+use Rattle.attr_core.specs.declared.assign.Assign as read
+use Rattle.desc_core.specs.KnownView.{known_view}
+use Rattle.desc_core.specs.Parts.{ends_of}
+use Rattle.desc_core.specs.WrittenNetwork.{Known, given_by, known_of}
+use Rattle.desc_core.specs.declared.known.KnownInvariant.{KnownInvariant}
+use Rattle.desc_form.specs.WrittenView.{assign_view, flow_view, invariant_view}
+use Rattle.desc_form.specs.declared.written.WrittenAssign.{WrittenAssign}
+use Rattle.desc_form.specs.declared.written.WrittenFlow.{WrittenFlow}
+use Rattle.desc_form.specs.declared.written.WrittenInvariant.{WrittenInvariant}
+use Rattle.flow_set.specs.declared.flow.Flow.{Flow}
+use Rattle.host_net.specs.Host.{Host}
+use Rattle.table_core.specs.Listing.{each}
+use Rattle.table_core.specs.ListingLaws.{each_more}
+
+one_more : {W V K : Type 0} (view : W → V) (find : V → Option K) (given : List K) (k : K) (w : W) (ws : List W) (i : ℕ) (whole : Option (List K))
+    → i < length ws → w ≡ get_or ws i w → find (view w) ≡ Some k
+    → option_map (λ rest. given ++ rest) (each find (map view (drop i ws))) ≡ whole
+    → option_map (λ rest. (given ++ k ∷ []) ++ rest) (each find (map view (drop (i + 1) ws))) ≡ whole
+one_more view find given k w ws i whole within here says so_far =
+    let next : drop i ws ≡ w ∷ drop (i + 1) ws = drop-cons ws i w within ∙ (λ j. sym here j ∷ drop (sym (add-one i) j) ws) in
+    each_more find given k (view w) (map view (drop (i + 1) ws)) whole says (rw next at so_far)
+
+-- what an assign gives, after those that came before
+pub assigns_more : (hosts : List Host) (given items : List read.Assign) (a : read.Assign) (w : WrittenAssign) (ws : List WrittenAssign) (i : ℕ) (whole : Option (List Given))
+    → items ≡ given ++ a ∷ [] → i < length ws → w ≡ get_or ws i w → given_by hosts (assign_view w) ≡ Some (given_of a)
+    → option_map (λ rest. map given_of given ++ rest) (each (given_by hosts) (map assign_view (drop i ws))) ≡ whole
+    → option_map (λ rest. map given_of items ++ rest) (each (given_by hosts) (map assign_view (drop (i + 1) ws))) ≡ whole
+assigns_more hosts given items a w ws i whole more within here says so_far =
+    let more_given : map given_of items ≡ map given_of given ++ given_of a ∷ [] = ap (map given_of) more ∙ map-append given_of given (a ∷ []) in
+    rw more_given (one_more assign_view (given_by hosts) (map given_of given) (given_of a) w ws i whole within here says so_far)
+
+-- an invariant
+pub invariants_more : (hosts : List Host) (known items : List KnownInvariant) (k : KnownInvariant) (w : WrittenInvariant) (ws : List WrittenInvariant) (i : ℕ) (whole : Option (List Known))
+    → items ≡ known ++ k ∷ [] → i < length ws → w ≡ get_or ws i w → known_of hosts (invariant_view w) ≡ Some (known_view k)
+    → option_map (λ rest. map known_view known ++ rest) (each (known_of hosts) (map invariant_view (drop i ws))) ≡ whole
+    → option_map (λ rest. map known_view items ++ rest) (each (known_of hosts) (map invariant_view (drop (i + 1) ws))) ≡ whole
+invariants_more hosts known items k w ws i whole more within here says so_far =
+    let more_known : map known_view items ≡ map known_view known ++ known_view k ∷ [] = ap (map known_view) more ∙ map-append known_view known (k ∷ []) in
+    rw more_known (one_more invariant_view (known_of hosts) (map known_view known) (known_view k) w ws i whole within here says so_far)
+
+-- a flow
+pub flows_more : (hosts : List Host) (found items : List Flow) (e : Flow) (w : WrittenFlow) (ws : List WrittenFlow) (i : ℕ) (whole : Option (List Flow))
+    → items ≡ found ++ e ∷ [] → i < length ws → w ≡ get_or ws i w → ends_of hosts (flow_view w) ≡ Some e
+    → option_map (λ rest. found ++ rest) (each (ends_of hosts) (map flow_view (drop i ws))) ≡ whole
+    → option_map (λ rest. items ++ rest) (each (ends_of hosts) (map flow_view (drop (i + 1) ws))) ≡ whole
+flows_more hosts found items e w ws i whole more within here says so_far =
+    rw more (one_more flow_view (ends_of hosts) found e w ws i whole within here says so_far)

@@ -1,0 +1,13 @@
+use Rattle.std.proofs.Common.{◌≡◌, ◌+◌, map, drop}
+use Rattle.desc_core.specs.KnownView.{known_view}
+use Rattle.desc_core.specs.UseConditions.{bad_at}
+use Rattle.desc_core.specs.WrittenNetwork.{Known}
+use Rattle.text_core.specs.Firsts.{Numbered, first_found, numbered_from}
+use Rattle.desc_core.proofs.invariants.attribute_refusal.Given as goal
+
+abbrev pub invariant-loop-index : goal.invariant-loop-index
+invariant-loop-index l = record {
+  same :
+      first_found (λ (k : Numbered Known). bad_at l.hosts k.number k.what) (numbered_from (l.index + 1) (map known_view (drop l.index l.invariants)))
+      ≡ first_found (λ (k : Numbered Known). bad_at l.hosts k.number k.what) (numbered_from 1 (map known_view l.invariants));
+}

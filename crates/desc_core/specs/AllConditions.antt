@@ -1,0 +1,22 @@
+-- The twenty conditions on the bytes of a description, in the order of their numbers (the description's format, docs/FORMATS.md).
+use Rattle.std.specs.Prelude.{ℕ, nat_lt, List, [], ◌∷◌, length, Option, is_none}
+use Rattle.std.specs.Option.{option_map_or}
+use Rattle.desc_core.specs.Conditions.{byte_limit, table_conditions}
+use Rattle.desc_core.specs.Document.{document}
+use Rattle.text_core.specs.Firsts.{where_holds}
+use Rattle.desc_form.specs.Refusals.{refused}
+use Rattle.desc_form.specs.declared.refusal.Place.TheVariants.{Document}
+use Rattle.desc_form.specs.declared.refusal.Refusal.{Refusal}
+use Rattle.desc_form.specs.declared.refusal.Why.TheVariants.{TooLong, NotToml}
+
+-- 1: there are more
+unfoldable pub too_long : List ℕ → Option Refusal
+too_long bytes = where_holds (nat_lt byte_limit (length bytes)) (refused TooLong Document)
+
+-- 2: they are no TOML document
+unfoldable pub not_toml : List ℕ → Option Refusal
+not_toml bytes = where_holds (is_none (document bytes)) (refused NotToml Document)
+
+-- what each of the conditions refuses of the bytes, from 1 on; without a table there are two
+unfoldable pub conditions : List ℕ → List (Option Refusal)
+conditions bytes = too_long bytes ∷ not_toml bytes ∷ option_map_or table_conditions (document bytes) []
