@@ -3,11 +3,13 @@ use Rattle.std.proofs.Common.{◌≡◌, ℕ, ◌+◌, ◌^◌, ◌<◌, ◌≤�
 use Rattle.std.specs.Prelude.{IsNone}
 use Rattle.std.proofs.lemmas.List.{append-nil, at_drop_more}
 use Rattle.std.proofs.lemmas.List.FromFn.{map-range_with_len_more}
-use Rattle.host_net.specs.Host.{Host, prefix_count}
+use Rattle.host_net.specs.Host.{Host}
+use Rattle.host_net.specs.Hosts.{prefix_count}
 use Rattle.flow_set.specs.declared.flow.Flow.{Flow}
 use Rattle.ipt_rules.specs.declared.rule.Rule.{Rule}
 use Rattle.ipt_rules.specs.declared.rule.Policy.TheVariants.{Drop as Dropping}
-use Rattle.ipt_rules.specs.Chain.{Chain, built_in_chains, user_chain, with_policy, with_rule, rule_count, number_of}
+use Rattle.ipt_rules.specs.Chain.{Chain, built_in_chains, user_chain, with_policy, with_rule, number_of}
+use Rattle.ipt_rules.specs.ChainTable.{rule_count}
 use Rattle.ipt_rules.specs.ChainLaws.{length_with_rule, rule_count_with_rule, rule_count-append}
 use Rattle.emit_core.specs.declared.side.Side.TheVariants.{Sending}
 use Rattle.emit_core.specs.Layout.{host_chain, host_chain_name, host_rules, forward_rules}

@@ -1,5 +1,5 @@
 -- Which answers a flow table can let pass, since it keeps no connections.
-use Rattle.std.specs.Prelude.{◌==◌, Bool, not, ◌&&◌, IsTrue, IsFalse, List}
+use Rattle.std.specs.Prelude.{IsTrue, IsFalse, List}
 use Rattle.flow_set.specs.declared.flow.Flow.{Flow}
 use Rattle.flow_set.specs.Flow.{back_of, before}
 use Rattle.flow_set.specs.FlowSet.{has}
@@ -13,6 +13,3 @@ pub record IsFirstBarred (p s : List Flow) (f : Flow) : Type 0 where
   pub stateful : IsTrue (has s f)
   pub barred : IsFalse (has p (back_of f))
   pub first : (g : Flow) → IsTrue (before g f) → IsTrue (has s g) → IsTrue (has p (back_of g))
-
-abbrev pub lacks_answer : List Flow → List Flow → Flow → Bool
-lacks_answer p s f = not (f.from == f.to) && (has s f && not (has p (back_of f)))

@@ -23,9 +23,11 @@ use Rattle.ipt_rules.specs.declared.rule.Target.TheVariants.{Accept, Drop, Jump}
 use Rattle.host_net.specs.declared.packet.Verdict.{Verdict}
 use Rattle.host_net.specs.declared.packet.Verdict.TheVariants.{Forward as Forwarded, Drop as Dropped}
 use Rattle.ipt_rules.specs.declared.rule.Policy.TheVariants.{Drop as Dropping}
-use Rattle.ipt_rules.specs.Chain.{Chain, rules_of, rules_in}
+use Rattle.ipt_rules.specs.Chain.{Chain, rules_of}
+use Rattle.ipt_rules.specs.ChainTable.{rules_in}
 use Rattle.ipt_rules.specs.Matching.{matches}
-use Rattle.ipt_rules.specs.Meaning.{HasVerdict, Gives, Passes, verdict_by}
+use Rattle.ipt_rules.specs.Meaning.{Gives, Passes, verdict_by}
+use Rattle.ipt_rules.specs.OneOutcome.{HasVerdict}
 use Rattle.host_net.specs.Verdict.{verdict_if}
 use Rattle.host_net.specs.VerdictLaws.{verdict_if-injective}
 use Rattle.ipt_rules.specs.MeaningLaws.{verdict_once}
@@ -34,7 +36,8 @@ use Rattle.ipt_rules.specs.SayingLaws.{says_none, says_append, says_one, says_ju
 use Rattle.emit_core.specs.Layout.{for_each_prefix, at_other, answering, accepts, drops, is_open, to_prefix, to_rest, host_rules, forward_rules, rest_jump, jump_from, from_source, chain_of, layout, host_chain}
 use Rattle.emit_core.specs.declared.side.Side.{Side}
 use Rattle.emit_core.specs.declared.side.Side.TheVariants.{Sending, Receiving}
-use Rattle.emit_core.specs.Sides.{links, other_side, other_address}
+use Rattle.emit_core.specs.Sides.{links, other_side}
+use Rattle.emit_core.specs.OtherAddress.{other_address}
 use Rattle.emit_core.specs.OwnerLaws.{IsHeldOnce, hosts_hold_once, rest_below}
 
 either : (b c : Bool) (o : Option Verdict) → option_or (if b then o else None) (if c then o else None) ≡ (if b || c then o else None)

@@ -12,12 +12,14 @@ use Rattle.std.proofs.lemmas.List.Folds.{list_all-append}
 use Rattle.std.proofs.lemmas.List.Sums.{sum_by-cons}
 use Rattle.std.proofs.lemmas.List.FromFn.{length-map-range_with_len}
 use Rattle.host_net.specs.declared.prefix.Prefix.{Prefix}
-use Rattle.host_net.specs.Host.{Host, rest_of, prefix_count}
+use Rattle.host_net.specs.Host.{Host, rest_of}
+use Rattle.host_net.specs.Hosts.{prefix_count}
 use Rattle.flow_set.specs.declared.flow.Flow.{Flow}
 use Rattle.ipt_rules.specs.declared.rule.Rule.{Rule}
 use Rattle.ipt_rules.specs.declared.rule.Target.{Target}
 use Rattle.ipt_rules.specs.declared.rule.Target.TheVariants.{Accept, Drop, Reject, Return, Count, Jump}
-use Rattle.ipt_rules.specs.Chain.{rule_count, number_of}
+use Rattle.ipt_rules.specs.Chain.{number_of}
+use Rattle.ipt_rules.specs.ChainTable.{rule_count}
 use Rattle.ipt_rules.specs.Build.{jumps_nowhere, first_unknown, refusal_of}
 use Rattle.ipt_rules.specs.Loops.{HasNoLoop}
 use Rattle.ipt_rules.specs.LoopLaws.{goes_up, jumps_go_up, no_loop_upward}

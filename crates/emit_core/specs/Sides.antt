@@ -1,6 +1,5 @@
 -- The two sides of a packet: a host sends it, or it receives it.
 use Rattle.std.specs.Prelude.{ℕ, ◌==◌, Bool, not, ◌&&◌, List}
-use Rattle.host_net.specs.declared.packet.Packet.{Packet}
 use Rattle.flow_set.specs.declared.flow.Flow.{Flow}
 use Rattle.flow_set.specs.FlowSet.{has}
 use Rattle.emit_core.specs.declared.side.Side.{Side}
@@ -23,8 +22,3 @@ permits flows i j = not (i == j) && has flows (record { from = i; to = j })
 -- the flow that host i has with host j on a side is one of these
 abbrev pub links : Side → List Flow → ℕ → ℕ → Bool
 links side flows i j = permits flows (flow_on side i j).from (flow_on side i j).to
-
--- the address of the other host in a packet
-abbrev pub other_address : Side → Packet → ℕ
-other_address Sending packet = packet.dst
-other_address Receiving packet = packet.src

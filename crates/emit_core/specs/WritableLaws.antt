@@ -1,25 +1,29 @@
 -- The layout of a policy is a rule set that is read again, and its text is short enough for it.
-use Rattle.std.proofs.Common.{◌≡◌, ℕ, zero, suc, ◌+◌, ◌*◌, ◌^◌, ◌<◌, ◌≤◌, ◌∙◌, ap, sym, subst, refl, Bool, true, false, not, ◌&&◌, IsTrue, List, [], ◌∷◌, ◌++◌, Option, Some, None, length, map, arith}
-use Rattle.std.specs.Prelude.{if◌then◌else◌, IsSome, nat_le, nat_lt, slice_get, bytes_eq}
+use Rattle.std.proofs.Common.{◌≡◌, ℕ, zero, suc, ◌+◌, ◌*◌, ◌^◌, ◌<◌, ◌≤◌, ◌∙◌, ap, sym, subst, refl, inl, inr, Bool, true, false, not, ◌&&◌, IsTrue, List, [], ◌∷◌, ◌++◌, Option, Some, None, length, map, arith}
+use Rattle.std.specs.Prelude.{if◌then◌else◌, decimal, IsSome, nat_le, nat_lt, slice_get, bytes_eq}
 use Rattle.std.specs.List.{flat_map, list_all, range_with_len, position_from}
 use Rattle.std.proofs.Math.Nat.{mul-le-mul_left, mul-le-mul_right}
-use Rattle.std.proofs.lemmas.Bool.{and_from, and_parts}
+use Rattle.std.proofs.lemmas.Bool.{and_from, and_parts, cases_lt}
+use Rattle.std.proofs.lemmas.Fmt.{length-decimal-le}
 use Rattle.std.proofs.lemmas.List.Folds.{list_all-append}
 use Rattle.std.proofs.lemmas.Slice.Eq.{bytes_eq-Decides}
 use Rattle.host_net.specs.declared.prefix.Prefix.{Prefix}
 use Rattle.host_net.specs.Prefix.{is_exact}
-use Rattle.host_net.specs.Host.{Host, rest_of, all_prefixes, prefix_count}
-use Rattle.host_net.specs.Hosts.{IsHosts, is_network}
+use Rattle.host_net.specs.Host.{Host, rest_of}
+use Rattle.host_net.specs.Hosts.{all_prefixes, prefix_count, IsHosts, is_network}
 use Rattle.flow_set.specs.declared.flow.Flow.{Flow}
 use Rattle.ipt_rules.specs.declared.rule.StateMatch.{StateMatch}
 use Rattle.ipt_rules.specs.declared.rule.Rule.{Rule}
 use Rattle.ipt_rules.specs.declared.rule.Target.{Target}
 use Rattle.ipt_rules.specs.declared.rule.Target.TheVariants.{Accept, Drop, Jump}
-use Rattle.ipt_rules.specs.Chain.{name_in, name_of, policy_in, policy_of, number_of, IsTable, rule_count}
+use Rattle.ipt_rules.specs.ChainTable.{name_in, policy_in}
+use Rattle.ipt_rules.specs.Chain.{name_of, policy_of, number_of}
+use Rattle.ipt_rules.specs.ChainTable.{IsTable, rule_count}
 use Rattle.ipt_rules.specs.Name.{is_user_name}
 use Rattle.ipt_rules.specs.Text.{text}
-use Rattle.ipt_rules.specs.TextLaws.{text_short}
-use Rattle.ipt_rules.specs.Writable.{addresses_fit, AddressesFit, IsWritable}
+use Rattle.ipt_rules.specs.TextLaws.{HasNames, no_name, text_short_by}
+use Rattle.ipt_rules.specs.Addresses.{addresses_fit, AddressesFit}
+use Rattle.ipt_rules.specs.Writable.{IsWritable}
 use Rattle.emit_core.specs.declared.side.Side.{Side}
 use Rattle.emit_core.specs.declared.side.Side.TheVariants.{Sending, Receiving}
 use Rattle.emit_core.specs.Sides.{links, other_side}
@@ -184,12 +188,31 @@ layout_writable hosts p s is = record {
   addresses = layout_addresses hosts p s is.networks;
 }
 
--- the text has at most the bytes that a text may have which is read
+-- 4. Its text is short enough to be read: its chains have short names.
+
+layout_name_short : (hosts : List Host) (p s : List Flow) (c : ℕ) → length hosts ≤ 256 → length (name_of (layout hosts p s) c) ≤ 7
+layout_name_short hosts p s zero few = omega arith
+layout_name_short hosts p s (suc zero) few = omega arith
+layout_name_short hosts p s (suc (suc zero)) few = omega arith
+layout_name_short hosts p s (suc (suc (suc i))) few = elim (cases_lt (suc (suc (suc i))) (length (layout hosts p s))) [
+  | inl within ↦
+      let below = host_below hosts p s i within in
+      let there = chain_at hosts p s 0 (length hosts) i i (omega arith) below in
+      let short : length (decimal i) ≤ 5 = length-decimal-le 5 i (omega arith) (omega arith) (omega arith) in
+      omega (arith, ap length (ap name_in there), short)
+  | inr past ↦ omega (arith, ap length (no_name (layout hosts p s) (suc (suc (suc i))) past))
+]
+
+-- the text has at most the bytes that a text may have which is read, also with twice as many hosts and prefixes as there may be
+layout_short_by : (hosts : List Host) (p s : List Flow) → length hosts ≤ 256 → prefix_count hosts ≤ 1024
+    → length (text (layout hosts p s)) ≤ 67108864
+layout_short_by hosts p s few few_prefixes =
+    let each : 2 * prefix_count hosts + 2 ≤ 2050 = omega (arith, few_prefixes) in
+    let rules : rule_count (layout hosts p s) ≤ 1025 + 256 * 2050 =
+    omega (arith, few_rules hosts p s (length hosts), mul-le-mul_left (length hosts) each, mul-le-mul_right 2050 few, few_prefixes) in
+    let chains : length (layout hosts p s) ≤ 259 = omega (arith, length-chains_up_to hosts p s (length hosts), few) in
+    let names : HasNames 7 (layout hosts p s) = record { built_in = omega arith; names = λ c. layout_name_short hosts p s c few } in
+    omega (arith, text_short_by 7 (layout hosts p s) names, rules, chains)
+
 pub layout_short : (hosts : List Host) (p s : List Flow) → IsHosts hosts → length (text (layout hosts p s)) ≤ 67108864
-layout_short hosts p s is =
-    let few = is.few in
-    let few_prefixes = is.few_prefixes in
-    let each : 2 * prefix_count hosts + 2 ≤ 258 = omega (arith, few_prefixes) in
-    let rules : rule_count (layout hosts p s) ≤ 129 + 32 * 258 = omega (arith, few_rules hosts p s (length hosts), mul-le-mul_left (length hosts) each, mul-le-mul_right 258 few, few_prefixes) in
-    let chains : length (layout hosts p s) ≤ 35 = omega (arith, length-chains_up_to hosts p s (length hosts), few) in
-    omega (arith, text_short (layout hosts p s) (layout_table hosts p s (omega (arith, few))), rules, chains)
+layout_short hosts p s is = layout_short_by hosts p s (omega (arith, is.few)) (omega (arith, is.few_prefixes))

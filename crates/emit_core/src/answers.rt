@@ -1,14 +1,16 @@
 //! Which flows have answers that only a firewall with connections can let pass.
 
-ghost use Rattle.std.specs.Prelude.{◌≡◌, ◌<◌, MatchOption};
-ghost use Rattle.emit_core.specs.FlowTableEvents.{AnswersArePermitted, IsFirstBarred, lacks_answer};
+ghost use Rattle.std.specs.Prelude.{◌≡◌, ◌<◌, IfSome, MatchOption};
+ghost use Rattle.emit_core.specs.FlowTableEvents.{AnswersArePermitted, IsFirstBarred};
+ghost use Rattle.emit_core.specs.FlowTableRefusals.{lacks_answer};
 
 use flow_set::{Flow, FlowSet};
 
 /// The first flow of `s` whose answers are of no flow in `p`, or None where all are of one.
 pub fn needs_state(p: &FlowSet, s: &FlowSet) -> Option<Flow>
     requires { s.now.size ≡ p.now.size }
-    ensures { MatchOption result (AnswersArePermitted p.now.flows s.now.flows) (IsFirstBarred p.now.flows s.now.flows) }
+    ensures barred { MatchOption result (AnswersArePermitted p.now.flows s.now.flows) (IsFirstBarred p.now.flows s.now.flows) }
+    ensures within { IfSome result (λ flow. (flow.from < s.now.size) × (flow.to < s.now.size)) }
 {
     let count = s.size();
     for from in 0..count {

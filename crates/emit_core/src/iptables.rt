@@ -4,7 +4,7 @@ ghost use Rattle.std.specs.Prelude.{◌≡◌, ◌+◌, ◌<◌, ◌^◌, length
 ghost use Rattle.flow_set.specs.FlowSet.{IsSubset};
 ghost use Rattle.host_net.specs.Hosts.{IsHosts};
 ghost use Rattle.pkt_core.specs.Filter.{Enforces, ForwardsExpected};
-ghost use Rattle.ipt_rules.specs.Chain.{rule_count};
+ghost use Rattle.ipt_rules.specs.ChainTable.{rule_count};
 ghost use Rattle.ipt_rules.specs.Meaning.{Passes};
 ghost use Rattle.emit_core.specs.Filling.{with_rules, chains_up_to};
 ghost use Rattle.emit_core.specs.Layout.{layout, host_chain_name};

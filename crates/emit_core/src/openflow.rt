@@ -8,7 +8,8 @@ ghost use Rattle.ofp_rules.specs.Meaning.{Passes};
 ghost use Rattle.emit_core.specs.FlowTable.{arp_entry, other_entry, flow_entries, with_rest};
 ghost use Rattle.flow_set.specs.declared.flow.Flow.{Flow};
 ghost use Rattle.emit_core.specs.FlowTableEvents.{AnswersArePermitted};
-ghost use Rattle.emit_core.specs.FlowTableForwarding.{ForwardsArpAlone, IsBuildable, IsNotEmitted, refusal_for};
+ghost use Rattle.emit_core.specs.FlowTableForwarding.{ForwardsArpAlone};
+ghost use Rattle.emit_core.specs.FlowTableRefusals.{IsBuildable, IsNotEmitted, refusal_for};
 
 use crate::flows::{push_between, push_from_rest, push_to_rest};
 use flow_set::FlowSet;

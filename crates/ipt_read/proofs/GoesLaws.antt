@@ -12,7 +12,8 @@ use Rattle.ipt_rules.specs.declared.rule.Target.{Target}
 use Rattle.ipt_rules.specs.declared.rule.Target.TheVariants.{Accept, Drop, Reject, Return, Count, Jump}
 use Rattle.ipt_rules.specs.Build.{jumps_nowhere, first_unknown, refusal_of, RefusedFor, at_once}
 use Rattle.ipt_rules.specs.declared.ruleset.BuildRefusal.TheVariants.{TooMany, UnknownChain}
-use Rattle.ipt_rules.specs.Chain.{Chain, number_of, user_chain, changed_at, with_policy, with_rule, rule_count}
+use Rattle.ipt_rules.specs.Chain.{Chain, number_of, user_chain, changed_at, with_policy, with_rule}
+use Rattle.ipt_rules.specs.ChainTable.{rule_count}
 use Rattle.ipt_read.specs.declared.option.Given.{Given}
 use Rattle.ipt_read.specs.declared.option.Opt.{Opt}
 use Rattle.ipt_read.specs.declared.option.Opt.TheVariants.{Source, Destination, Interface, Module, CtState, State, Comment, Jump as JumpOption, RejectWith, LogPrefix, LogLevel}

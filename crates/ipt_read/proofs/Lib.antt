@@ -1,4 +1,3 @@
-pub mod FaultLaws
 pub mod FineLaws
 pub mod GoesLaws
 pub mod WithinLaws

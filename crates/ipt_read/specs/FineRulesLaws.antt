@@ -10,9 +10,11 @@ use Rattle.ipt_rules.specs.declared.rule.Target.{Target}
 use Rattle.ipt_rules.specs.declared.rule.Target.TheVariants.{Accept, Drop, Reject, Return, Count, Jump}
 use Rattle.ipt_rules.specs.declared.ruleset.BuildRefusal.{BuildRefusal}
 use Rattle.ipt_rules.specs.Build.{jumps_nowhere, unknown_at, place_of_unknown, first_unknown, refusal_of}
-use Rattle.ipt_rules.specs.Chain.{Chain, IsTable, rule_count}
+use Rattle.ipt_rules.specs.Chain.{Chain}
+use Rattle.ipt_rules.specs.ChainTable.{IsTable, rule_count}
 use Rattle.ipt_rules.specs.Loops.{HasNoLoop}
-use Rattle.ipt_rules.specs.Writable.{address_fits, addresses_fit, IsWritable}
+use Rattle.ipt_rules.specs.Addresses.{address_fits, addresses_fit}
+use Rattle.ipt_rules.specs.Writable.{IsWritable}
 use Rattle.ipt_read.specs.Goes.{Goes}
 
 -- an address that a rule asks for is one of 32 bits

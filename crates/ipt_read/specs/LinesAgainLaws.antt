@@ -11,7 +11,8 @@ use Rattle.ipt_rules.specs.declared.rule.Policy.{Policy}
 use Rattle.ipt_rules.specs.declared.rule.Rule.{Rule}
 use Rattle.ipt_rules.specs.declared.rule.Target.{Target}
 use Rattle.ipt_rules.specs.declared.rule.Target.TheVariants.{Jump}
-use Rattle.ipt_rules.specs.Chain.{Chain, name_of, number_of, user_chain, with_rule, changed_at, rule_count}
+use Rattle.ipt_rules.specs.Chain.{Chain, name_of, number_of, user_chain, with_rule, changed_at}
+use Rattle.ipt_rules.specs.ChainTable.{rule_count}
 use Rattle.ipt_rules.specs.Name.{is_user_name}
 use Rattle.ipt_rules.specs.Text.{newline, policy_text, chain_line, rule_line, rule_lines, commit_line}
 use Rattle.ipt_read.specs.declared.stage.Stage.TheVariants.{Table, After}

@@ -1,6 +1,6 @@
 -- What the reader holds between two lines, as contracts of its private steps say it.
 use Rattle.std.specs.Prelude.{◌≡◌, ℕ, ◌≤◌, Result, Ok, Err, MatchResult, length}
-use Rattle.ipt_rules.specs.Chain.{rule_count}
+use Rattle.ipt_rules.specs.ChainTable.{rule_count}
 use Rattle.ipt_rules.specs.Loops.{IsLeastLoop}
 use Rattle.ipt_read.specs.declared.fault.IptWhy.{IptWhy}
 use Rattle.ipt_read.specs.declared.fault.IptWhy.TheVariants.{Loop}

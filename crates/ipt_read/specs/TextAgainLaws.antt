@@ -11,7 +11,8 @@ use Rattle.ipt_rules.specs.declared.rule.Policy.TheVariants.{Accept, Drop}
 use Rattle.ipt_rules.specs.declared.rule.Rule.{Rule}
 use Rattle.ipt_rules.specs.declared.rule.Target.{Target}
 use Rattle.ipt_rules.specs.declared.rule.Target.TheVariants.{Jump}
-use Rattle.ipt_rules.specs.Chain.{Chain, IsTable, name_of, policy_of, number_of, with_policy, built_in_chains, rule_count}
+use Rattle.ipt_rules.specs.Chain.{Chain, name_of, policy_of, number_of, with_policy, built_in_chains}
+use Rattle.ipt_rules.specs.ChainTable.{IsTable, rule_count}
 use Rattle.ipt_rules.specs.Name.{is_user_name}
 use Rattle.ipt_rules.specs.Text.{newline, policy_text, chain_line, rule_lines, table_line, commit_line, text}
 use Rattle.ipt_read.specs.declared.stage.Stage.TheVariants.{Table, After}

@@ -9,7 +9,8 @@ use Rattle.text_core.specs.StepsLaws.{if_parts}
 use Rattle.ipt_rules.specs.declared.ruleset.BuildRefusal.{BuildRefusal}
 use Rattle.ipt_rules.specs.declared.ruleset.BuildRefusal.TheVariants.{Loop as LoopRefused}
 use Rattle.ipt_rules.specs.Build.{refusal_of, first_unknown, unknown_at, place_of_unknown, RefusedFor, at_once, loops}
-use Rattle.ipt_rules.specs.Chain.{Chain, rule_count}
+use Rattle.ipt_rules.specs.Chain.{Chain}
+use Rattle.ipt_rules.specs.ChainTable.{rule_count}
 use Rattle.ipt_rules.specs.Loops.{IsLeastLoop, HasNoLoop}
 use Rattle.ipt_read.specs.declared.fault.IptWhy.{IptWhy}
 use Rattle.ipt_read.specs.declared.fault.IptWhy.TheVariants.{TooLong, NoCommit}

@@ -11,8 +11,6 @@ use Rattle.ipt_rules.specs.Name.{is_user_name}
 use Rattle.ipt_rules.specs.Loops.{IsLeastLoop}
 use Rattle.ipt_read.specs.declared.fault.IptWhy.{IptWhy}
 use Rattle.ipt_read.specs.declared.fault.IptWhy.TheVariants.{TooLong, BadLine, OtherTable, BadChain, Loop, NoCommit, AfterCommit, TooMany}
-use Rattle.ipt_read.specs.declared.fault.IptFault.{IptFault}
-use Rattle.ipt_read.specs.declared.fault.IptFault.TheVariants.{Refused, Memory}
 use Rattle.ipt_read.specs.declared.stage.Stage.{Stage}
 use Rattle.ipt_read.specs.declared.stage.Stage.TheVariants.{Front, Table, After}
 use Rattle.ipt_read.specs.RuleLine.{rule_line_of, is_count}
@@ -117,12 +115,3 @@ pub data HasFault (bytes : List ℕ) : ℕ → IptWhy → Type 0 where
   at_line : {line : ℕ} {why : IptWhy} → length bytes ≤ 67108864 → IsFirstFault line_step 1 nothing_said (lines bytes) line why → HasFault bytes line why
   no_commit : {s : SaidSoFar} → length bytes ≤ 67108864 → line_by_line line_step 1 nothing_said (lines bytes) ≡ Ok s → s.stage ≢ After → HasFault bytes (length (lines bytes) + 1) NoCommit
   loops : {s : SaidSoFar} {c : ℕ} → text_said bytes ≡ Ok s → IsLeastLoop s.chains c → HasFault bytes (line_of s.declared c) Loop
-
-abbrev pub HasCause : List ℕ → IptFault → Type 0
-HasCause bytes (Refused line why) = HasFault bytes line why
-HasCause bytes Memory = Unit {0}
-
--- that fault is told, unless there is no memory
-abbrev pub IsFault : ℕ → IptWhy → IptFault → Type 0
-IsFault line why (Refused told cause) = (told ≡ line) × (cause ≡ why)
-IsFault line why Memory = Unit {0}

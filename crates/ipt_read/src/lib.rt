@@ -10,7 +10,7 @@ mod table;
 mod whole;
 
 pub use fault::{IptFault, IptWhy};
-pub use whole::read;
+pub use whole::{BYTE_LIMIT, read};
 
 #[cfg(test)]
 mod tests;

@@ -4,7 +4,8 @@ ghost use Rattle.std.specs.Prelude.{◌≡◌, ◌<◌, ◌≤◌, ◌^◌, ◌�
 ghost use Rattle.std.specs.Option.{option_map};
 ghost use Rattle.text_core.specs.Lines.{words};
 ghost use Rattle.text_core.specs.Reading.{past_comment};
-ghost use Rattle.ipt_rules.specs.Chain.{number_of, rule_count, user_chain};
+ghost use Rattle.ipt_rules.specs.Chain.{number_of, user_chain};
+ghost use Rattle.ipt_rules.specs.ChainTable.{rule_count};
 ghost use Rattle.ipt_read.specs.TextLines.{table_line_of, policy_word, built_in_policy, with_built_in, declare, declare_by, chain_line_of, with_read_rule, commit_line_of, body_line_of, line_at, line_of_words, line_step, nothing_said, line_of};
 ghost use Rattle.ipt_read.specs.RuleLine.{rule_line_of};
 ghost use Rattle.ipt_read.specs.State.{said_of, AnswersTo, IsFine};

@@ -10,7 +10,8 @@ ghost use Rattle.ipt_rules.specs.Writable.{IsWritable};
 ghost use Rattle.ipt_read.specs.declared.fault.IptWhy.{IptWhy};
 ghost use Rattle.ipt_read.specs.Grammar.{IsReading};
 ghost use Rattle.ipt_read.specs.State.{said_of, IsFine, Tells, Loops};
-ghost use Rattle.ipt_read.specs.TextLines.{HasCause, HasFault, IsFault, line_step, nothing_said, text_said, line_of, ended, at_text_end};
+ghost use Rattle.ipt_read.specs.TextLines.{HasFault, line_step, nothing_said, text_said, line_of, ended, at_text_end};
+ghost use Rattle.ipt_read.specs.ReadAnswers.{HasCause, IsFault};
 
 use crate::fault::{IptFault, IptWhy};
 use crate::reader::{Reader, nothing_said, read_line};
@@ -19,7 +20,8 @@ use ipt_rules::{BuildRefusal, Ruleset};
 use std::alloc::Global;
 use text_core::Lines;
 
-const BYTE_LIMIT: usize = 67_108_864;
+/// The most bytes that a text may have.
+pub const BYTE_LIMIT: usize = 67_108_864;
 
 /// The rule set that a text says.
 pub fn read(alloc: Global, bytes: &[u8]) -> Result<Ruleset, IptFault>

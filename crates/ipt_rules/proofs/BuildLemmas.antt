@@ -9,11 +9,13 @@ use Rattle.std.specs.List.{position_from, list_all}
 use Rattle.ipt_rules.specs.declared.rule.Rule.{Rule}
 use Rattle.ipt_rules.specs.declared.ruleset.BuildRefusal.{BuildRefusal}
 use Rattle.ipt_rules.specs.declared.ruleset.BuildRefusal.TheVariants.{UnknownChain}
-use Rattle.ipt_rules.specs.Chain.{Chain, rules_of, rule_count, IsChainList}
+use Rattle.ipt_rules.specs.Chain.{Chain, rules_of}
+use Rattle.ipt_rules.specs.ChainTable.{rule_count, IsChainList}
 use Rattle.ipt_rules.specs.Build.{jumps_nowhere, place_of_unknown, unknown_at, first_unknown, refusal_of}
 use Rattle.ipt_rules.specs.Jumps.{JumpsAreKnown, IsRuleset}
 use Rattle.ipt_rules.specs.Loops.{jumps_from}
 use Rattle.ipt_rules.specs.Ranks.{IsRanking}
+use Rattle.ipt_rules.specs.Starts.{starts_from}
 
 pub chains_at : (xs : List Chain) (i : ℕ) (x : Chain) → i < length xs → x ≡ get_or xs i x → drop i xs ≡ x ∷ drop (i + 1) xs
 chains_at xs i x h is = rw (add-one i) (drop-cons xs i x h ∙ ap (λ y. y ∷ drop (suc i) xs) (sym is))
@@ -73,9 +75,14 @@ unfolding fine_parts
 known_of xs fine =
     record { from = λ c. rules_known (length xs) 0 (rules_of xs c) (chain_known (length xs) 0 xs c (fine_parts xs fine).known) }
 
-pub built : (xs : List Chain) (n : ℕ) (order : List ℕ) (places : List (Option ℕ)) → IsChainList xs n → refusal_of xs ≡ None → IsRanking (jumps_from xs) (length xs) order places → IsRuleset xs n order places
+pub few_rules_of : (xs : List Chain) → refusal_of xs ≡ None → rule_count xs ≤ 1000000
 unfolding fine_parts
-built xs n order places chains fine ranking =
+few_rules_of xs fine = (fine_parts xs fine).few_rules
+
+pub built : (xs : List Chain) (n : ℕ) (starts order : List ℕ) (places : List (Option ℕ)) → IsChainList xs n → refusal_of xs ≡ None → starts ≡ starts_from 0 xs
+    → IsRanking (jumps_from xs) (length xs) order places → IsRuleset xs n starts order places
+unfolding fine_parts
+built xs n starts order places chains fine begin ranking =
     let parts = fine_parts xs fine in
     record {
       list = chains;
@@ -83,5 +90,6 @@ built xs n order places chains fine ranking =
       few_chains = parts.few_chains;
       few_rules = omega (arith, parts.few_rules, chains.counted);
       jumps = known_of xs fine;
+      starts_are = begin;
       ranking = ranking;
     }

@@ -1,6 +1,7 @@
 pub mod Gets
 pub mod RankLemmas
 pub mod SearchLemmas
+pub mod StartLemmas
 pub mod LoopLemmas
 pub mod BuildLemmas
 pub mod WalkLemmas

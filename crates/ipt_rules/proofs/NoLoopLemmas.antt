@@ -1,11 +1,12 @@
 -- Chains that have an order have no loop: jumps lead to ever lower places.
-use Rattle.std.proofs.Common.{◌≡◌, ℕ, ◌<◌, ◌≤◌, ◌∙◌, sym, ap, subst, List, [], ◌∷◌, Option, Some, length, arith, inl, inr}
+use Rattle.std.proofs.Common.{◌≡◌, ℕ, ◌∙◌, sym, ap, subst, List, [], ◌∷◌, Option, Some, length, arith, inl, inr}
 use Rattle.std.specs.Prelude.{Contains}
 use Rattle.std.proofs.lemmas.Bool.{cases_lt}
 use Rattle.std.proofs.lemmas.Option.{same_Some, slice_get_past}
 use Rattle.ipt_rules.specs.declared.rule.Rule.{Rule}
-use Rattle.ipt_rules.specs.Chain.{Chain, rules_in, rules_of}
-use Rattle.ipt_rules.specs.Loops.{jumps_of, jumps_from, LeadsAlong, LeadsBack, HasNoLoop}
+use Rattle.ipt_rules.specs.Chain.{Chain, rules_of}
+use Rattle.ipt_rules.specs.ChainTable.{rules_in}
+use Rattle.ipt_rules.specs.Loops.{jumps_of, jumps_from, LeadsAlong, HasNoLoop}
 use Rattle.ipt_rules.specs.Ranks.{place_of, IsBefore, IsOrder, IsRanking}
 
 leads_lower : (next : ℕ → List ℕ) (count : ℕ) (order : List ℕ) (places : List (Option ℕ)) → IsOrder next count order places

@@ -1,13 +1,16 @@
 -- Laws of tables: chains stay a table, and stay counted, while they are put together.
-use Rattle.std.proofs.Common.{◌≡◌, ℕ, zero, suc, ◌+◌, ◌<◌, ◌≤◌, inl, inr, ◌∙◌, sym, ap, refl, subst, Bool, true, false, cond, IsTrue, List, [], ◌∷◌, ◌++◌, Option, Some, None, length, arith}
+use Rattle.std.proofs.Common.{◌≡◌, ℕ, zero, suc, ◌+◌, ◌<◌, ◌≤◌, inl, inr, ◌∙◌, sym, ap, refl, subst, Bool, true, false, cond, ◌&&◌, IsTrue, List, [], ◌∷◌, ◌++◌, Option, Some, None, length, arith}
 use Rattle.std.specs.Prelude.{IsSome, IsNone, slice_get, bytes_eq}
-use Rattle.std.specs.List.{position_from}
-use Rattle.std.proofs.lemmas.Bool.{cases_lt}
+use Rattle.std.specs.List.{list_all, position_from}
+use Rattle.std.proofs.lemmas.Bool.{and_from, and_parts, cases_lt}
+use Rattle.std.proofs.lemmas.List.Folds.{list_all-append}
 use Rattle.std.proofs.lemmas.Slice.Eq.{bytes_eq-Decides}
 use Rattle.ipt_rules.specs.declared.rule.Rule.{Rule}
 use Rattle.ipt_rules.specs.declared.rule.Policy.{Policy}
 use Rattle.ipt_rules.specs.Name.{is_user_name}
-use Rattle.ipt_rules.specs.Chain.{Chain, changed_at, with_policy, with_rule, name_in, name_of, policy_in, policy_of, number_of, user_chain, IsTable, IsChainList}
+use Rattle.ipt_rules.specs.Chain.{Chain, changed_at, with_policy, with_rule, name_of, policy_of, number_of, user_chain}
+use Rattle.ipt_rules.specs.Addresses.{addresses_fit, AddressesFit}
+use Rattle.ipt_rules.specs.ChainTable.{name_in, policy_in, IsTable, IsChainList}
 use Rattle.ipt_rules.specs.ChainLaws.{length-changed_at, length_added, length_with_policy, length_with_rule, rule_count_added, rule_count_with_policy, rule_count_with_rule}
 
 -- a chain with a policy is there
@@ -153,11 +156,36 @@ IsTable-added xs name legal unused table = record {
     the_last : (d : ℕ) → d < length both → length xs ≤ d → slice_get both d ≡ Some (user_chain name)
     the_last d within new = ap (slice_get both) (place d within new) ∙ get_last xs (user_chain name)
 
-pub IsChainList-with_rule : (xs : List Chain) (n c : ℕ) (rule : Rule) → c < length xs → IsChainList xs n → IsChainList (with_rule xs c rule) (n + 1)
-IsChainList-with_rule xs n c rule there chains = record {
+-- a test of all chains still holds after a change that keeps it
+all_changed : (p : Chain → Bool) (xs : List Chain) (c : ℕ) (change : Chain → Chain) → ((x : Chain) → p x ≡ true → p (change x) ≡ true)
+    → list_all p xs ≡ true → list_all p (changed_at xs c change) ≡ true
+all_changed p [] c change keeps h = refl
+all_changed p (x ∷ xs) zero change keeps h =
+    let parts = and_parts (p x) (list_all p xs) h in
+    and_from (p (change x)) (list_all p xs) (keeps x parts.0) parts.1
+all_changed p (x ∷ xs) (suc c) change keeps h =
+    let parts = and_parts (p x) (list_all p xs) h in
+    and_from (p x) (list_all p (changed_at xs c change)) parts.0 (all_changed p xs c change keeps parts.1)
+
+AddressesFit-with_rule : (xs : List Chain) (c : ℕ) (rule : Rule) → addresses_fit rule ≡ true → AddressesFit xs → AddressesFit (with_rule xs c rule)
+unfolding with_rule
+AddressesFit-with_rule xs c rule fit h = all_changed (λ x. list_all addresses_fit x.rules) xs c (λ x. record x { rules = x.rules ++ rule ∷ [] })
+    (λ x old. list_all-append addresses_fit x.rules (rule ∷ []) ∙ and_from (list_all addresses_fit x.rules) (addresses_fit rule && true) old (and_from (addresses_fit rule) true fit refl)) h
+
+AddressesFit-with_policy : (xs : List Chain) (c : ℕ) (policy : Policy) → AddressesFit xs → AddressesFit (with_policy xs c policy)
+unfolding with_policy
+AddressesFit-with_policy xs c policy h = all_changed (λ x. list_all addresses_fit x.rules) xs c (λ x. record x { policy = Some policy }) (λ x old. old) h
+
+AddressesFit-added : (xs : List Chain) (name : List ℕ) → AddressesFit xs → AddressesFit (xs ++ user_chain name ∷ [])
+AddressesFit-added xs name h =
+    list_all-append (λ x. list_all addresses_fit x.rules) xs (user_chain name ∷ []) ∙ and_from (list_all (λ x. list_all addresses_fit x.rules) xs) true h refl
+
+pub IsChainList-with_rule : (xs : List Chain) (n c : ℕ) (rule : Rule) → c < length xs → addresses_fit rule ≡ true → IsChainList xs n → IsChainList (with_rule xs c rule) (n + 1)
+IsChainList-with_rule xs n c rule there fit chains = record {
   table = IsTable-with_rule xs c rule chains.table;
   numbered = omega (arith, length_with_rule xs c rule, chains.numbered);
   counted = ap (λ m. m + 1) chains.counted ∙ sym (rule_count_with_rule xs c rule there);
+  addresses = AddressesFit-with_rule xs c rule fit chains.addresses;
 }
 
 pub IsChainList-with_policy : (xs : List Chain) (n c : ℕ) (policy : Policy) → c < 3 → IsChainList xs n → IsChainList (with_policy xs c policy) n
@@ -165,6 +193,7 @@ IsChainList-with_policy xs n c policy low chains = record {
   table = IsTable-with_policy xs c policy low chains.table;
   numbered = omega (arith, length_with_policy xs c policy, chains.numbered);
   counted = chains.counted ∙ sym (rule_count_with_policy xs c policy);
+  addresses = AddressesFit-with_policy xs c policy chains.addresses;
 }
 
 pub IsChainList-added : (xs : List Chain) (n : ℕ) (name : List ℕ) → length xs < 65536 → IsTrue (is_user_name name) → IsNone (number_of xs name) → IsChainList xs n → IsChainList (xs ++ user_chain name ∷ []) n
@@ -172,4 +201,5 @@ IsChainList-added xs n name room legal unused chains = record {
   table = IsTable-added xs name legal unused chains.table;
   numbered = omega (arith, length_added xs name);
   counted = omega (arith, chains.counted, rule_count_added xs name);
+  addresses = AddressesFit-added xs name chains.addresses;
 }

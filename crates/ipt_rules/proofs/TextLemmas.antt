@@ -1,5 +1,5 @@
 -- Where a line stands in the text: after the table's line the chains, then their rules.
-use Rattle.std.proofs.Common.{not, ◌≡◌, ℕ, zero, suc, ◌+◌, ◌-◌, ◌<◌, ◌≤◌, ◌∙◌, sym, ap, refl, true, List, [], ◌∷◌, ◌++◌, Some, length, get_or, drop, arith, append_assoc, length-append}
+use Rattle.std.proofs.Common.{not, ◌≡◌, ℕ, zero, suc, ◌+◌, ◌-◌, ◌<◌, ◌≤◌, ◌∙◌, sym, ap, refl, true, List, [], ◌∷◌, ◌++◌, Some, length, get_or, drop, arith, append_assoc}
 use Rattle.std.specs.Prelude.{slice_get, map}
 use Rattle.std.specs.List.{flat_map, list_all}
 use Rattle.std.specs.Option.{option_map}
@@ -11,7 +11,8 @@ use Rattle.std.proofs.Math.ListN.{drop_of_length-le}
 use Rattle.ipt_rules.specs.declared.rule.Rule.{Rule}
 use Rattle.ipt_rules.specs.declared.rule.Target.{Target}
 use Rattle.ipt_rules.specs.declared.rule.Target.TheVariants.{Accept, Drop, Reject, Return, Count, Jump}
-use Rattle.ipt_rules.specs.Chain.{Chain, rules_of, rule_count}
+use Rattle.ipt_rules.specs.Chain.{Chain, rules_of}
+use Rattle.ipt_rules.specs.ChainTable.{rule_count}
 use Rattle.ipt_rules.specs.Jumps.{JumpsAreKnown, JumpsIn}
 use Rattle.ipt_rules.specs.Build.{jumps_nowhere}
 use Rattle.ipt_rules.specs.Text.{text_lines, commit_line, chain_line, rule_line, rule_lines}
@@ -24,7 +25,7 @@ slice_get_in [] ys i h = absurd (omega arith)
 slice_get_in (x ∷ xs) ys zero h = refl
 slice_get_in (x ∷ xs) ys (suc i) h = slice_get_in xs ys i (omega arith)
 
-slice_get_after : {A : Type 0} → (xs ys : List A) (i : ℕ) → length xs ≤ i → slice_get (xs ++ ys) i ≡ slice_get ys (i - length xs)
+pub slice_get_after : {A : Type 0} → (xs ys : List A) (i : ℕ) → length xs ≤ i → slice_get (xs ++ ys) i ≡ slice_get ys (i - length xs)
 slice_get_after [] ys i h = ap (slice_get ys) (omega arith)
 slice_get_after (x ∷ xs) ys zero h = absurd (omega arith)
 slice_get_after (x ∷ xs) ys (suc i) h =

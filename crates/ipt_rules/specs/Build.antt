@@ -6,7 +6,8 @@ use Rattle.ipt_rules.specs.declared.rule.Target.{Target}
 use Rattle.ipt_rules.specs.declared.rule.Target.TheVariants.{Jump}
 use Rattle.ipt_rules.specs.declared.ruleset.BuildRefusal.{BuildRefusal}
 use Rattle.ipt_rules.specs.declared.ruleset.BuildRefusal.TheVariants.{TooMany, UnknownChain, Loop, Memory}
-use Rattle.ipt_rules.specs.Chain.{Chain, rule_count}
+use Rattle.ipt_rules.specs.Chain.{Chain}
+use Rattle.ipt_rules.specs.ChainTable.{rule_count}
 use Rattle.ipt_rules.specs.Loops.{IsLeastLoop}
 
 -- among so many chains, a jump to a built-in chain or to no chain

@@ -5,7 +5,8 @@ use Rattle.std.specs.List.{list_any, position_from}
 use Rattle.std.proofs.lemmas.Bool.{or_parts, cond-false}
 use Rattle.ipt_rules.specs.declared.rule.Rule.{Rule}
 use Rattle.ipt_rules.specs.declared.rule.Policy.{Policy}
-use Rattle.ipt_rules.specs.Chain.{Chain, changed_at, with_policy, with_rule, rule_count, number_of, user_chain}
+use Rattle.ipt_rules.specs.Chain.{Chain, changed_at, with_policy, with_rule, number_of, user_chain}
+use Rattle.ipt_rules.specs.ChainTable.{rule_count}
 
 -- a write at a place is a change there
 pub set_changed : (xs : List Chain) (c : ℕ) (old new : Chain) (change : Chain → Chain) → c < length xs → old ≡ get_or xs c old → new ≡ change old → set xs c new ≡ changed_at xs c change

@@ -1,5 +1,5 @@
 -- What becomes of a packet: the walk through the chains (iptables(8), "TARGETS").
-use Rattle.std.specs.Prelude.{◌≡◌, ℕ, Bool, true, false, List, [], ◌∷◌, Option, Some, None, drop}
+use Rattle.std.specs.Prelude.{◌≡◌, ℕ, Bool, true, false, List, [], ◌∷◌, Option, Some, None}
 use Rattle.host_net.specs.declared.packet.Packet.{Packet}
 use Rattle.host_net.specs.declared.packet.CtState.{CtState}
 use Rattle.host_net.specs.Verdict.{verdict_if}
@@ -10,8 +10,6 @@ use Rattle.ipt_rules.specs.declared.rule.Policy.{Policy}
 use Rattle.ipt_rules.specs.declared.rule.Policy.TheVariants.{Accept as Accepting, Drop as Dropping}
 use Rattle.host_net.specs.declared.packet.Verdict.{Verdict}
 use Rattle.host_net.specs.declared.packet.Verdict.TheVariants.{Forward as Forwarded, Drop as Dropped}
-use Rattle.ipt_rules.specs.declared.rule.BuiltIn.{BuiltIn}
-use Rattle.ipt_rules.specs.declared.rule.BuiltIn.TheVariants.{Input, Forward, Output}
 use Rattle.ipt_rules.specs.Matching.{matches}
 use Rattle.ipt_rules.specs.Chain.{Chain, rules_of, policy_of}
 
@@ -40,16 +38,6 @@ pub data Gives (fits : Rule → Bool) (chains : List Chain) : List Rule → Opti
   decides : {r : Rule} {rs : List Rule} {v : Verdict} {c : ℕ} → step_of (fits r) r.target ≡ Walks c → Gives fits chains (rules_of chains c) (Some v) → Gives fits chains (r ∷ rs) (Some v)
   comes_back : {r : Rule} {rs : List Rule} {o : Option Verdict} {c : ℕ} → step_of (fits r) r.target ≡ Walks c → Gives fits chains (rules_of chains c) None → Gives fits chains rs o → Gives fits chains (r ∷ rs) o
 
--- the rules give one outcome, and no other
-pub record GivesOne (fits : Rule → Bool) (chains : List Chain) (rules : List Rule) : Type 0 where
-  pub outcome : Option Verdict
-  pub gives : Gives fits chains rules outcome
-  pub only : (o : Option Verdict) → Gives fits chains rules o → o ≡ outcome
-
--- whatever the rules fit, each chain gives one outcome from each place
-abbrev pub EachGivesOne : List Chain → Type 0
-EachGivesOne chains = (fits : Rule → Bool) (c k : ℕ) → GivesOne fits chains (drop k (rules_of chains c))
-
 -- what a policy does with a packet
 abbrev pub policy_verdict : Option Policy → Verdict
 policy_verdict None = Dropped
@@ -61,22 +49,12 @@ abbrev pub verdict_by : Option Policy → Option Verdict → Verdict
 verdict_by policy None = policy_verdict policy
 verdict_by policy (Some v) = v
 
--- the number of a built-in chain
-abbrev pub number_of_built_in : BuiltIn → ℕ
-number_of_built_in Input = 0
-number_of_built_in Forward = 1
-number_of_built_in Output = 2
-
 -- the verdict of the chains on a packet in a state that comes through built-in chain c is that of c from its first rule
 pub record HasVerdictIn (chains : List Chain) (c : ℕ) (packet : Packet) (state : CtState) (v : Verdict) : Type 0 where
   pub outcome : Option Verdict
   pub gives : Gives (matches packet state) chains (rules_of chains c) outcome
   pub verdict : v ≡ verdict_by (policy_of chains c) outcome
 
--- the verdict on a packet that is forwarded: that of FORWARD, chain 1
-abbrev pub HasVerdict : List Chain → Packet → CtState → Verdict → Type 0
-HasVerdict chains = HasVerdictIn chains 1
-
--- the chains as a filter: in that state they let the packet pass through FORWARD, or do not
+-- the chains as a filter: in that state they let a packet that is forwarded pass, or do not, by FORWARD, chain 1
 abbrev pub Passes : List Chain → CtState → Packet → Bool → Type 0
-Passes chains state packet passes = HasVerdict chains packet state (verdict_if passes)
+Passes chains state packet passes = HasVerdictIn chains 1 packet state (verdict_if passes)

@@ -1,22 +1,10 @@
 -- The chains that stand as a text: those of every rule set. What is written of them is read again.
-use Rattle.std.specs.Prelude.{◌≡◌, ◌^◌, Bool, true, ◌&&◌, nat_lt, IsTrue, List, Option, Some, None}
-use Rattle.std.specs.List.{list_all}
-use Rattle.ipt_rules.specs.declared.rule.AddrMatch.{AddrMatch}
-use Rattle.ipt_rules.specs.declared.rule.Rule.{Rule}
+use Rattle.std.specs.Prelude.{◌≡◌, List, None}
+use Rattle.ipt_rules.specs.Addresses.{AddressesFit}
 use Rattle.ipt_rules.specs.Build.{refusal_of}
-use Rattle.ipt_rules.specs.Chain.{Chain, IsTable}
+use Rattle.ipt_rules.specs.Chain.{Chain}
+use Rattle.ipt_rules.specs.ChainTable.{IsTable}
 use Rattle.ipt_rules.specs.Loops.{HasNoLoop}
-
--- an address that is asked for has 32 bits
-abbrev pub address_fits : Option AddrMatch → Bool
-address_fits None = true
-address_fits (Some part) = nat_lt part.prefix.addr (2 ^ 32)
-
-abbrev pub addresses_fit : Rule → Bool
-addresses_fit r = address_fits r.src && address_fits r.dst
-
-abbrev pub AddressesFit : List Chain → Type 0
-AddressesFit chains = IsTrue (list_all (λ x. list_all addresses_fit x.rules) chains)
 
 -- a table that `Ruleset::build` does not refuse, whose addresses have 32 bits
 pub record IsWritable (chains : List Chain) : Type 0 where

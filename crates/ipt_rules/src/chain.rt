@@ -1,7 +1,8 @@
 //! One chain: its head and its rules. A built-in chain has a policy, a user chain a name of its
 //! own.
 
-ghost use Rattle.std.specs.Prelude.{◌≡◌, ◌≤◌, ◌∷◌, [], ◌++◌, length, OnOk, OnErr, IsSome, Some};
+ghost use Rattle.std.specs.Prelude.{◌≡◌, ◌≤◌, ◌∷◌, [], ◌++◌, length, OnOk, OnErr, IsSome, IsTrue, Some};
+ghost use Rattle.ipt_rules.specs.Addresses.{addresses_fit};
 ghost use Rattle.ipt_rules.specs.Head.{head_name, head_policy};
 
 use crate::name::ChainName;
@@ -112,6 +113,8 @@ impl Chain {
     pub(crate) fn push(&mut self, rule: Rule) -> Result<(), AllocError>
         ensures ok { OnOk result (self.new ≡ record self.old { rules = self.old.rules ++ rule ∷ [] }) }
         ensures err { OnErr result (self.new ≡ self.old) }
+        // The addresses that it asks for are numbers of 32 bits.
+        ensures fits { IsTrue (addresses_fit rule) }
     {
         self.rules.push(rule)?;
         Ok(())

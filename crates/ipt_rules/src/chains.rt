@@ -2,7 +2,8 @@
 
 ghost use Rattle.std.specs.Prelude.{◌≡◌, ◌<◌, ◌≤◌, ◌+◌, ◌^◌, ◌∷◌, [], ◌++◌, length, IfOk, OnOk, OnErr, IsNone, IfSome, IsTrue, bytes_eq};
 ghost use Rattle.std.specs.List.Sorted.{IsSearchInRange};
-ghost use Rattle.ipt_rules.specs.Chain.{built_in_chains, user_chain, with_policy, with_rule, rule_count, name_of, number_of};
+ghost use Rattle.ipt_rules.specs.Chain.{built_in_chains, user_chain, with_policy, with_rule, name_of, number_of};
+ghost use Rattle.ipt_rules.specs.ChainTable.{rule_count};
 
 use crate::chain::{Chain, Head};
 use crate::name::ChainName;
@@ -23,7 +24,8 @@ pub struct Chains {
 
 impl Model for Chains {
     ghost use Rattle.std.specs.Prelude.{List};
-    ghost use Rattle.ipt_rules.specs.Chain.{Chain, IsChainList};
+    ghost use Rattle.ipt_rules.specs.Chain.{Chain};
+    ghost use Rattle.ipt_rules.specs.ChainTable.{IsChainList};
 
     ghost Value = { List Chain };
 

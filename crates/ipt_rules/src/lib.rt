@@ -12,6 +12,7 @@ mod pieces;
 mod ranking;
 mod rule;
 mod ruleset;
+mod starts;
 mod text;
 mod walk;
 

@@ -1,7 +1,7 @@
 //! One rule of a chain: which packets it fits, and what it does with them.
 
 ghost use Rattle.std.specs.Prelude.{◌≡◌};
-ghost use Rattle.ipt_rules.specs.Meaning.{number_of_built_in};
+ghost use Rattle.ipt_rules.specs.OneOutcome.{number_of_built_in};
 ghost use Rattle.ipt_rules.specs.Matching.{matches, address_matches, state_matches};
 
 use host_net::{CtState, Packet, Prefix};

@@ -2,16 +2,19 @@
 //! verdict.
 
 ghost use Rattle.std.specs.Prelude.{◌≡◌, ◌<◌, ◌≤◌, ◌⊎◌, length, IfOk, IfErr, OnOk, IsNone, IfSome, Some};
-ghost use Rattle.ipt_rules.specs.Chain.{Chain, IsTable, rule_count};
+ghost use Rattle.ipt_rules.specs.Chain.{Chain};
+ghost use Rattle.ipt_rules.specs.ChainTable.{IsTable, rule_count};
 ghost use Rattle.ipt_rules.specs.Build.{refusal_of, RefusedFor, first_unknown, jumps_nowhere, place_of_unknown};
 ghost use Rattle.ipt_rules.specs.Loops.{HasNoLoop};
-ghost use Rattle.ipt_rules.specs.Meaning.{EachGivesOne, HasVerdict, HasVerdictIn, number_of_built_in};
+ghost use Rattle.ipt_rules.specs.Meaning.{HasVerdictIn};
+ghost use Rattle.ipt_rules.specs.OneOutcome.{HasVerdict, EachGivesOne, number_of_built_in};
 
 use crate::chain::Chain;
 use crate::chains::Chains;
 use crate::loops::{Ranked, rank_chains};
 use crate::ranking::{CHAIN_LIMIT, Ranking};
 use crate::rule::{BuiltIn, Rule, Target};
+use crate::starts::starts_of;
 use crate::walk::{outcome, policy_of, policy_verdict};
 use host_net::{CtState, Packet, Verdict};
 use std::alloc::Global;
@@ -37,6 +40,8 @@ pub enum BuildRefusal {
 pub struct Ruleset {
     pub(crate) chains: Vec<Chain>,
     pub(crate) rules: u32,
+    /// The number of each chain's first rule among the rules of all chains.
+    pub(crate) starts: Vec<u32>,
     ranking: Ranking,
 }
 
@@ -50,7 +55,7 @@ impl Model for Ruleset {
 
     ghost view = { λ r. r.chains.items };
 
-    ghost invariant = { λ r. IsRuleset r.chains.items r.rules r.ranking.order.items r.ranking.places.items };
+    ghost invariant = { λ r. IsRuleset r.chains.items r.rules r.starts.items r.ranking.order.items r.ranking.places.items };
 }
 
 impl Ruleset {
@@ -69,11 +74,15 @@ impl Ruleset {
             return Err(why);
         }
         match rank_chains(alloc, &chains.chains) {
-            Ok(Ranked::Order(ranking)) => Ok(Ruleset {
-                chains: chains.chains,
-                rules: chains.rules,
-                ranking,
-            }),
+            Ok(Ranked::Order(ranking)) => match starts_of(alloc, &chains.chains) {
+                Ok(starts) => Ok(Ruleset {
+                    chains: chains.chains,
+                    rules: chains.rules,
+                    starts,
+                    ranking,
+                }),
+                Err(_) => Err(BuildRefusal::Memory),
+            },
             Ok(Ranked::Loop(chain)) => Err(BuildRefusal::Loop { chain }),
             Err(_) => Err(BuildRefusal::Memory),
         }

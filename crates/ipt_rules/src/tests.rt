@@ -1,7 +1,7 @@
 //! The text of a small rule set, and the verdicts of packets, with values worked out by hand.
 
 ghost use Rattle.std.specs.Prelude.{◌≡◌, ◌+◌, ◌<◌, length};
-ghost use Rattle.ipt_rules.specs.Chain.{rule_count};
+ghost use Rattle.ipt_rules.specs.ChainTable.{rule_count};
 
 use crate::{
     AddrMatch, BuildRefusal, ChainName, Chains, Policy, Rule, Ruleset, StateMatch, Target, Verdict,

@@ -4,15 +4,18 @@ ghost use Rattle.std.specs.Prelude.{◌≡◌, ◌<◌, ◌≤◌, ◌++◌, ◌
 ghost use Rattle.std.specs.List.{flat_map};
 ghost use Rattle.ipt_rules.specs.Build.{refusal_of};
 ghost use Rattle.ipt_rules.specs.Loops.{HasNoLoop};
-ghost use Rattle.ipt_rules.specs.Meaning.{EachGivesOne};
+ghost use Rattle.ipt_rules.specs.OneOutcome.{EachGivesOne};
 ghost use Rattle.ipt_rules.specs.Jumps.{JumpsIn, JumpsAreKnown};
-ghost use Rattle.ipt_rules.specs.Chain.{IsTable, rule_count};
+ghost use Rattle.ipt_rules.specs.ChainTable.{IsTable, rule_count};
+ghost use Rattle.ipt_rules.specs.Starts.{starts_from};
+ghost use Rattle.ipt_rules.specs.Writable.{IsWritable};
 ghost use Rattle.ipt_rules.specs.Text.{text_lines, table_line, commit_line, chain_line, rule_line, rule_lines};
 
 use crate::chain::Chain;
 use crate::pieces::{put_address_part, put_policy, put_state_part, put_target};
 use crate::rule::Rule;
 use crate::ruleset::Ruleset;
+use crate::starts::chain_at;
 use text_core::put;
 
 impl Ruleset {
@@ -27,6 +30,9 @@ impl Ruleset {
         // No jumps lead back, and each chain gives every packet one outcome.
         ensures no_loop { HasNoLoop self.now }
         ensures one_outcome { EachGivesOne self.now }
+
+        // What is written of it is read again.
+        ensures writable { IsWritable self.now }
     {
         self.chains.len() as u32 + self.rules + 2
     }
@@ -46,7 +52,7 @@ impl Ruleset {
         if place < chains.len() {
             return write_chain_line(&chains[place], buffer);
         }
-        write_rule_or_commit(chains, place - chains.len(), buffer)
+        write_rule_or_commit(chains, &self.starts, place - chains.len(), buffer)
     }
 }
 
@@ -68,21 +74,28 @@ fn write_chain_line(chain: &Chain, buffer: &mut [u8; 256]) -> usize
     put(buffer, policy, b" [0:0]\n")
 }
 
-/// Writes the line of the rule that stands there among the rules of all chains, or the last line
-/// where so many rules there are.
-fn write_rule_or_commit(chains: &[Chain], place: usize, buffer: &mut [u8; 256]) -> usize
+/// Writes the line of the rule of that number among the rules of all chains, or the last line where
+/// so many rules there are.
+fn write_rule_or_commit(
+    chains: &[Chain],
+    starts: &[u32],
+    number: usize,
+    buffer: &mut [u8; 256],
+) -> usize
+    requires starts { starts.now ≡ starts_from 0 chains.now }
+    requires some { 0 < length chains.now }
+    requires few { length chains.now ≤ 4096 }
     requires jumps { JumpsAreKnown chains.now }
-    requires there { place ≤ rule_count chains.now }
-    ensures line { slice_get (flat_map (rule_lines chains.now) chains.now ++ commit_line ∷ []) place ≡ Some (take result buffer.new) }
+    requires there { number ≤ rule_count chains.now }
+    ensures line { slice_get (flat_map (rule_lines chains.now) chains.now ++ commit_line ∷ []) number ≡ Some (take result buffer.new) }
     ensures short { result ≤ 225 }
 {
-    let mut left = place;
-    for chain in chains {
-        let rules = chain.rules();
-        if left < rules.len() {
-            return write_rule_line(chains, chain.name(), rules[left], buffer);
-        }
-        left -= rules.len();
+    let place = chain_at(starts, number);
+    let chain = &chains[place];
+    let rules = chain.rules();
+    let left = number - starts[place] as usize;
+    if left < rules.len() {
+        return write_rule_line(chains, chain.name(), rules[left], buffer);
     }
     write_commit_line(buffer)
 }

@@ -1,18 +1,19 @@
 -- Pairs of entries, by their places.
-use Rattle.std.proofs.Common.{◌≡◌, inl, inr, ℕ, zero, suc, ◌+◌, ◌<◌, ◌≤◌, List, [], ◌∷◌, Option, Some, length, take, get_or, slice_get, refl, sym, ap, ◌∙◌, subst, arith}
+use Rattle.std.proofs.Common.{◌≡◌, inl, inr, ℕ, zero, suc, ◌+◌, ◌<◌, ◌≤◌, List, [], ◌∷◌, Some, length, take, get_or, slice_get, refl, sym, ap, ◌∙◌, subst, arith, length-take}
 use Rattle.std.proofs.lemmas.Bool.{cases_lt}
 use Rattle.std.proofs.lemmas.Option.{slice_get_read, slice_get_within}
 use Rattle.ofp_rules.specs.declared.entry.Entry.{Entry}
-use Rattle.ofp_rules.specs.Ambiguity.{Contradict, AreAmbiguous, IsFirstAmbiguity}
+use Rattle.ofp_rules.specs.declared.table.TableRefusal.{TableRefusal}
+use Rattle.ofp_rules.specs.declared.table.TableRefusal.TheVariants.{TooMany, Ambiguous, Memory}
+use Rattle.ofp_rules.specs.AddingLaws.{some_is}
+use Rattle.ofp_rules.specs.Ambiguity.{Contradict, most_entries}
+use Rattle.ofp_rules.specs.Build.{AreAmbiguous, IsFirstAgainst, IsFirstAmbiguity, IsNotAdded, IsRefused, IsUnambiguous}
 
 pub get_front : (n : ℕ) (xs : List Entry) (i : ℕ) → i < n → slice_get (take n xs) i ≡ slice_get xs i
 get_front zero xs i h = absurd (omega arith)
 get_front (suc n) [] i h = refl
 get_front (suc n) (x ∷ xs) zero h = refl
 get_front (suc n) (x ∷ xs) (suc i) h = get_front n xs i (omega arith)
-
-some_is : {A : Type 0} (o : Option A) (x y : A) → o ≡ Some x → o ≡ Some y → x ≡ y
-some_is o x y first second = cc
 
 -- the entry at a place is not contradicted by the one at place i
 pub not_here : (xs : List Entry) (i : ℕ) (x e : Entry) → i < length xs → x ≡ get_or xs i x → (Contradict x e → ⊥)
@@ -36,17 +37,6 @@ module _ (xs : List Entry) (j : ℕ) (x : Entry) (within : j < length xs) (is : 
   in_front : (i : ℕ) (pair : AreAmbiguous xs i j) → slice_get (take j xs) i ≡ Some pair.first
   in_front i pair = let earlier = pair.earlier in get_front j xs i (omega arith) ∙ pair.at_first
 
-  pub none_here : ((i : ℕ) (f : Entry) → slice_get (take j xs) i ≡ Some f → Contradict f x → ⊥) → (i : ℕ) → AreAmbiguous xs i j → ⊥
-  none_here none i pair = none i pair.first (in_front i pair) (second_is i pair)
-
-  pub none_below : ((i : ℕ) (f : Entry) → slice_get (take j xs) i ≡ Some f → Contradict f x → ⊥) → ((i k : ℕ) → k < j → AreAmbiguous xs i k → ⊥) → (i k : ℕ) → k < j + 1 → AreAmbiguous xs i k → ⊥
-  none_below none before i k below pair = elim (cases_lt k j) [
-    | inl earlier ↦ before i k earlier pair
-    | inr late ↦
-        let here : k ≡ j = omega arith in
-        none_here none i (subst (λ (n : ℕ). AreAmbiguous xs i n) here pair)
-  ]
-
   -- the first that contradicts it makes the first ambiguous pair
   pub first_pair : (i : ℕ) (f : Entry) → i < j → slice_get (take j xs) i ≡ Some f → Contradict f x
       → ((k : ℕ) (g : Entry) → k < i → slice_get (take j xs) k ≡ Some g → Contradict g x → ⊥)
@@ -64,8 +54,42 @@ module _ (xs : List Entry) (j : ℕ) (x : Entry) (within : j < length xs) (is : 
     least_first = λ k pair. elim (cases_lt k i) [ inl lower ↦ absurd (first k pair.first lower (in_front k pair) (second_is k pair)) | inr ok ↦ ok ];
   }
 
--- places past the last
-pub none_at_all : (xs : List Entry) (n : ℕ) → length xs ≤ n → ((i j : ℕ) → j < n → AreAmbiguous xs i j → ⊥) → (i j : ℕ) → AreAmbiguous xs i j → ⊥
-none_at_all xs n past before i j pair =
-    let within = slice_get_within xs j pair.second pair.at_second in
-    before i j (omega arith) pair
+-- the first entry that contradicts another
+pub first_against_is : (entries : List Entry) (e : Entry) (i : ℕ) (f : Entry) → slice_get entries i ≡ Some f → Contradict f e
+    → ((j : ℕ) (g : Entry) → j < i → slice_get entries j ≡ Some g → Contradict g e → ⊥) → IsFirstAgainst entries e i
+first_against_is entries e i f there clash first = record {
+  first = f;
+  at_first = there;
+  contradict = clash;
+  least = λ k g at_k by_k. elim (cases_lt k i) [ inl lower ↦ absurd (first k g lower at_k by_k) | inr ok ↦ ok ];
+}
+
+-- a pair within the first entries
+in_first : (n : ℕ) (xs : List Entry) (i j : ℕ) → j < n → AreAmbiguous xs i j → AreAmbiguous (take n xs) i j
+in_first n xs i j below pair =
+    let earlier = pair.earlier in
+    record {
+      first = pair.first;
+      second = pair.second;
+      at_first = get_front n xs i (omega arith) ∙ pair.at_first;
+      at_second = get_front n xs j below ∙ pair.at_second;
+      earlier = pair.earlier;
+      contradict = pair.contradict;
+    }
+
+-- why an entry is not added to the first ones is why all make no table
+pub refused_by : (entries : List Entry) (i : ℕ) (x : Entry) (why : TableRefusal) → i < length entries
+    → length entries ≤ most_entries → x ≡ get_or entries i x
+    → IsUnambiguous (take i entries) → IsNotAdded (take i entries) x why → IsRefused entries why
+refused_by entries i x (TooMany count) within few is clear refused = absurd (omega (arith, refused.0, length-take i entries))
+refused_by entries i x (Ambiguous first second) within few is clear refused =
+    let against = refused.1 in
+    let place : second ≡ i = omega (arith, refused.2, length-take i entries) in
+    let below = slice_get_within (take i entries) first against.first against.at_first in (
+      few,
+      subst (IsFirstAmbiguity entries first) (sym place)
+          (first_pair entries i x within is first against.first (omega (arith, length-take i entries)) against.at_first against.contradict
+          (λ k g lower there clash. let least = against.least k g there clash in omega arith)
+          (λ k l lower pair. clear k l (in_first i entries k l lower pair))),
+    )
+refused_by entries i x Memory within few is clear refused = tt

@@ -1,4 +1,4 @@
 pub mod EntryLemmas
 pub mod LineLemmas
 pub mod MeetingLemmas
-pub mod TableLaws
+pub mod StretchLemmas

@@ -1,7 +1,11 @@
+pub mod AddingLaws
 pub mod Ambiguity
+pub mod Build
 pub mod Highest
 pub mod HighestLaws
 pub mod Matching
 pub mod Meeting
 pub mod Meaning
+pub mod Stretches
+pub mod TableLaws
 pub mod Text

@@ -1,6 +1,5 @@
 -- What becomes of a frame.
 use Rattle.std.specs.Prelude.{◌≡◌, ◌≤◌, ◌⊎◌, Bool, IsTrue, List, [], ◌∷◌}
-use Rattle.std.specs.List.{list_all}
 use Rattle.host_net.specs.declared.packet.Packet.{Packet}
 use Rattle.host_net.specs.declared.packet.CtState.{CtState}
 use Rattle.host_net.specs.declared.packet.Verdict.{Verdict}
@@ -11,8 +10,7 @@ use Rattle.ofp_rules.specs.declared.entry.Frame.TheVariants.{Ipv4}
 use Rattle.ofp_rules.specs.declared.entry.Action.{Action}
 use Rattle.ofp_rules.specs.declared.entry.Action.TheVariants.{Normal, Drop}
 use Rattle.ofp_rules.specs.declared.entry.Entry.{Entry}
-use Rattle.ofp_rules.specs.Matching.{matches, asks_of_ip}
-use Rattle.ofp_rules.specs.Ambiguity.{IsFrame, IsAccepted}
+use Rattle.ofp_rules.specs.Matching.{matches}
 
 abbrev pub IsOneOf : {A : Type 0} → A → List A → Type 0
 IsOneOf x [] = ⊥
@@ -39,15 +37,3 @@ HasVerdict entries frame v =
 -- the table as a filter of IPv4 frames: it lets the packet pass, or does not, in every state, since it keeps no connections
 abbrev pub Passes : List Entry → CtState → Packet → Bool → Type 0
 Passes entries state packet passes = HasVerdict entries (Ipv4 packet) (verdict_if passes)
-
--- the frame has a verdict, and no other
-pub record HasOneVerdict (entries : List Entry) (frame : Frame) : Type 0 where
-  pub verdict : Verdict
-  pub has : HasVerdict entries frame verdict
-  pub only : (v : Verdict) → HasVerdict entries frame v → v ≡ verdict
-
--- what is true of every table: it is accepted, its entries for IPv4 alone ask for addresses, and each frame has one verdict
-pub record IsTable (entries : List Entry) : Type 0 where
-  pub accepted : IsAccepted entries
-  pub asks : IsTrue (list_all asks_of_ip entries)
-  pub one_verdict : (frame : Frame) → IsFrame frame → HasOneVerdict entries frame

@@ -1,7 +1,8 @@
 //! One entry of a flow table, the frames, and which of them it matches.
 
-ghost use Rattle.std.specs.Prelude.{◌≡◌};
+ghost use Rattle.std.specs.Prelude.{◌≡◌, IsTrue};
 ghost use Rattle.ofp_rules.specs.Matching.{kind_matches, matches, part_matches};
+ghost use Rattle.ofp_rules.specs.Stretches.{ShareSource, same_part, source_matches};
 
 use host_net::{Packet, Prefix};
 
@@ -44,6 +45,21 @@ impl Entry {
     {
         kind_matches(self.kind, self.src, self.dst, *frame)
     }
+
+    /// Whether it matches the frame, but for its destination.
+    pub(crate) fn source_matches(&self, frame: &Frame) -> bool
+        ensures { result ≡ source_matches frame.now self.now }
+    {
+        kind_matches(self.kind, self.src, None, *frame)
+    }
+
+    /// Whether the two match the same frames, but for their destinations.
+    #[tactic(auto, using(crate::proofs::StretchLemmas::share_source))]
+    pub(crate) fn shares_source(&self, other: &Entry) -> bool
+        ensures { IsTrue result → ShareSource self.now other.now }
+    {
+        self.kind == other.kind && same_part(self.src, other.src)
+    }
 }
 
 fn kind_matches(kind: FrameKind, src: Option<Prefix>, dst: Option<Prefix>, frame: Frame) -> bool
@@ -65,5 +81,15 @@ fn part_matches(part: Option<Prefix>, address: u32) -> bool
     match part {
         None => true,
         Some(prefix) => prefix.covers(address),
+    }
+}
+
+fn same_part(part: Option<Prefix>, other: Option<Prefix>) -> bool
+    ensures { result ≡ same_part part other }
+{
+    match (part, other) {
+        (None, None) => true,
+        (Some(p), Some(q)) => p.addr() == q.addr() && p.len() == q.len(),
+        _ => false,
     }
 }

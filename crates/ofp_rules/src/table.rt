@@ -1,19 +1,25 @@
 //! A table: entries of which no two contradict each other, so that each frame has a verdict.
 
-ghost use Rattle.std.specs.Prelude.{◌≡◌, ◌<◌, ◌≤◌, ◌^◌, ℕ, length, take, slice_get, IsTrue, IfOk, IfErr, OnOk, IfNone, IfSome, MatchOption, Some};
+ghost use Rattle.std.specs.Prelude.{◌≡◌, ◌<◌, ◌^◌, ◌++◌, ◌∷◌, [], ℕ, length, slice_get, IsTrue, IsFalse, IfOk, IfErr, OnOk, OnErr, IfNone, IfSome, Some};
 ghost use Rattle.std.specs.List.{list_all};
+ghost use Rattle.std.specs.Option.{option_copied};
 ghost use Rattle.ofp_rules.specs.declared.entry.Entry.{Entry};
 ghost use Rattle.ofp_rules.specs.Matching.{asks_of_ip};
-ghost use Rattle.ofp_rules.specs.Ambiguity.{Contradict, IsFirstAmbiguity, IsRefused, IsUnambiguous};
-ghost use Rattle.ofp_rules.specs.Meaning.{HasVerdict, IsTable, verdict_of};
-ghost use Rattle.ofp_rules.specs.Highest.{IsFound, higher, is_above, verdict_by};
+ghost use Rattle.ofp_rules.specs.Ambiguity.{Contradict};
+ghost use Rattle.ofp_rules.specs.Build.{IsNotAdded, IsRefused, IsTable};
+ghost use Rattle.ofp_rules.specs.Meaning.{HasVerdict, verdict_of};
+ghost use Rattle.ofp_rules.specs.Highest.{FindsMore, IsFound, higher, is_above, verdict_by};
+ghost use Rattle.ofp_rules.specs.Stretches.{AreStretches, IsStretch, ShareLastSource};
 
 use crate::entry::{Action, Entry, Frame};
 use host_net::Verdict;
-use std::alloc::Global;
+use std::alloc::{AllocError, Global};
 use std::marker::Model;
 
 const ENTRY_LIMIT: usize = 8192;
+
+// For how many entries a new table has room.
+const FIRST_ROOM: usize = 16;
 
 /// Why entries make no table. Places count from 0.
 #[derive(Clone, Copy, Debug, PartialEq, Eq)]
@@ -26,10 +32,23 @@ pub enum TableRefusal {
     Memory,
 }
 
+impl From<AllocError> for TableRefusal {
+    ghost use Rattle.std.specs.Prelude.{◌≡◌};
+    ghost use Rattle.ofp_rules.specs.declared.table.TableRefusal.TheVariants.{Memory};
+
+    ghost from_gives = { λ _ why. why ≡ Memory };
+
+    fn from(_: AllocError) -> TableRefusal {
+        TableRefusal::Memory
+    }
+}
+
 /// Entries that give each frame one verdict.
 #[derive(Drop)]
 pub struct Table {
     pub(crate) entries: Vec<Entry>,
+    // Where stretches of entries of one kind and source begin, but for the first.
+    starts: Vec<usize>,
 }
 
 impl Model for Table {
@@ -38,19 +57,32 @@ impl Model for Table {
 
     ghost Value = { List Entry };
 
-    ghost use Rattle.ofp_rules.specs.Meaning.{IsTable};
+    ghost use Rattle.ofp_rules.specs.Build.{IsTable};
+    ghost use Rattle.ofp_rules.specs.Stretches.{AreStretches};
 
     ghost view = { λ t. t.entries.items };
 
-    ghost invariant = { λ t. IsTable t.entries.items };
+    ghost invariant = { λ t. IsTable t.entries.items × AreStretches 0 t.starts.items t.entries.items };
 }
 
 impl Table {
-    /// Makes a table of the entries, which it consumes in every case. No memory is taken so far.
+    /// A table of no entries, with room for a few.
+    pub fn new(alloc: Global) -> Result<Table, AllocError>
+        ensures empty { IfOk result (λ table. table ≡ []) }
+        ensures table { IfOk result IsTable }
+    {
+        let entries = Vec::with_capacity(alloc, FIRST_ROOM)?;
+        Ok(Table {
+            entries,
+            starts: Vec::new(alloc),
+        })
+    }
+
+    /// Makes a table of the entries, which it consumes in every case and copies one by one.
     ///
     /// The cost is that of a test for each pair of entries: of the priorities, where these are
     /// equal of the actions, and only where these differ of the prefixes.
-    pub fn build(_alloc: Global, entries: Vec<Entry>) -> Result<Table, TableRefusal>
+    pub fn build(alloc: Global, entries: Vec<Entry>) -> Result<Table, TableRefusal>
         requires asks { IsTrue (list_all asks_of_ip entries.items) }
         requires counted { length entries.items < 2 ^ 32 }
         ensures ok { IfOk result (λ table. table ≡ entries.items) }
@@ -63,34 +95,69 @@ impl Table {
                 count: count as u32,
             });
         }
-        match first_ambiguity(&entries) {
-            Some((first, second)) => Err(TableRefusal::Ambiguous {
-                first: first as u32,
-                second: second as u32,
-            }),
-            None => Ok(Table { entries }),
+        let mut table = Table::new(alloc)?;
+        for entry in &entries {
+            table.add(*entry)?;
         }
+        Ok(table)
     }
 
-    /// What becomes of a frame.
+    /// Puts one entry more behind the others. The cost is that of a test for each of them.
+    pub fn add(&mut self, entry: Entry) -> Result<(), TableRefusal>
+        requires asks { IsTrue (asks_of_ip entry) }
+        ensures added { OnOk result (self.new ≡ self.old ++ entry ∷ []) }
+        ensures refused { IfErr result (IsNotAdded self.old entry) }
+        ensures kept { OnErr result (self.new ≡ self.old) }
+        ensures table { IsTable self.new }
+    {
+        let count = self.entries.len();
+        if count >= ENTRY_LIMIT {
+            return Err(TableRefusal::TooMany {
+                count: count as u32 + 1,
+            });
+        }
+        if let Some(first) = first_against(&self.entries, &entry) {
+            return Err(TableRefusal::Ambiguous {
+                first: first as u32,
+                second: count as u32,
+            });
+        }
+        self.put(entry)?;
+        Ok(())
+    }
+
+    // The memory is taken first, so that nothing has changed where there is none.
+    fn put(&mut self, entry: Entry) -> Result<(), AllocError>
+        requires { IsTable (self.old ++ entry ∷ []) }
+        ensures added { OnOk result (self.new ≡ self.old ++ entry ∷ []) }
+        ensures kept { OnErr result (self.new ≡ self.old) }
+        ensures table { IsTable self.new }
+    {
+        self.entries.reserve(1)?;
+        if begins_stretch(&self.entries, &entry) {
+            self.starts.push(self.entries.len())?;
+        }
+        self.entries.push(entry)?;
+        Ok(())
+    }
+
+    /// What becomes of a frame. Entries that stand together and have one source are passed over
+    /// at once where it does not match.
     pub fn verdict(&self, frame: &Frame) -> Verdict
         ensures { HasVerdict self.now frame.now result }
     {
-        verdict_by(highest(&self.entries, frame))
+        verdict_by(highest(&self.entries, &self.starts, frame))
     }
 }
 
-/// The first pair of entries that contradict each other, by the later place.
-fn first_ambiguity(entries: &[Entry]) -> Option<(usize, usize)>
-    ensures { MatchOption result (IsUnambiguous entries.now)
-        (λ places. (places.0 < places.1) × (places.1 < length entries.now) × IsFirstAmbiguity entries.now places.0 places.1) }
+/// Whether the entry does not share the source of the last one.
+fn begins_stretch(entries: &[Entry], entry: &Entry) -> bool
+    ensures { IsFalse result → ShareLastSource entries.now entry.now }
 {
-    for (second, entry) in entries.iter().enumerate() {
-        if let Some(first) = first_against(&entries[..second], entry) {
-            return Some((first, second));
-        }
+    match entries.last() {
+        Some(last) => !last.shares_source(entry),
+        None => false,
     }
-    None
 }
 
 /// The first of the earlier entries that contradicts the entry.
@@ -107,19 +174,55 @@ fn first_against(earlier: &[Entry], entry: &Entry) -> Option<usize>
     None
 }
 
-/// The matching entry of the highest priority, the first of several.
-fn highest(entries: &[Entry], frame: &Frame) -> Option<Entry>
-    ensures { IsFound entries.now frame.now result }
+/// The matching entry of the highest priority, the first of several, of entries with the later
+/// stretches beginning at these places.
+fn highest<'a>(entries: &'a [Entry], starts: &[usize], frame: &Frame) -> Option<&'a Entry>
+    requires { AreStretches 0 starts.now entries.now }
+    ensures { IsFound entries.now frame.now (option_copied result) }
 {
     let mut found = None;
-    for entry in entries {
-        found = higher(frame, found, *entry);
+    let mut from = 0;
+    for to in starts {
+        found = highest_with(&entries[from..*to], frame, found);
+        from = *to;
     }
-    found
+    highest_with(&entries[from..], frame, found)
 }
 
-fn higher(frame: &Frame, found: Option<Entry>, entry: Entry) -> Option<Entry>
-    ensures { result ≡ higher frame.now found entry }
+/// The highest of what was found and the entries of a stretch.
+fn highest_with<'a>(
+    stretch: &'a [Entry],
+    frame: &Frame,
+    found: Option<&'a Entry>,
+) -> Option<&'a Entry>
+    requires { IsStretch stretch.now }
+    ensures { FindsMore frame.now (option_copied found.entry) stretch.now (option_copied result) }
+{
+    let Some(first) = stretch.first() else {
+        return found;
+    };
+    if !first.source_matches(frame) {
+        return found;
+    }
+    highest_of(stretch, frame, found)
+}
+
+fn highest_of<'a>(
+    entries: &'a [Entry],
+    frame: &Frame,
+    found: Option<&'a Entry>,
+) -> Option<&'a Entry>
+    ensures { FindsMore frame.now (option_copied found.entry) entries.now (option_copied result) }
+{
+    let mut highest = found;
+    for entry in entries {
+        highest = higher(frame, highest, entry);
+    }
+    highest
+}
+
+fn higher<'a>(frame: &Frame, found: Option<&'a Entry>, entry: &'a Entry) -> Option<&'a Entry>
+    ensures { option_copied result ≡ higher frame.now (option_copied found.entry) entry.now }
 {
     if entry.matches(frame) && is_above(entry.priority, found) {
         Some(entry)
@@ -128,8 +231,8 @@ fn higher(frame: &Frame, found: Option<Entry>, entry: Entry) -> Option<Entry>
     }
 }
 
-fn is_above(priority: u16, found: Option<Entry>) -> bool
-    ensures { result ≡ is_above priority found }
+fn is_above(priority: u16, found: Option<&Entry>) -> bool
+    ensures { result ≡ is_above priority (option_copied found.entry) }
 {
     match found {
         None => true,
@@ -137,8 +240,8 @@ fn is_above(priority: u16, found: Option<Entry>) -> bool
     }
 }
 
-fn verdict_by(found: Option<Entry>) -> Verdict
-    ensures { result ≡ verdict_by found }
+fn verdict_by(found: Option<&Entry>) -> Verdict
+    ensures { result ≡ verdict_by (option_copied found.entry) }
 {
     match found {
         Some(entry) => verdict_of(entry.action),

@@ -102,3 +102,43 @@ fn ambiguous_entries(rt: HostRuntime) {
     assert!(rt; three(&rt, rt.alloc(), apart, higher, from).is_ok());
     assert!(rt; three(&rt, rt.alloc(), arp, higher, from).is_ok());
 }
+
+// What is refused leaves the table as it was.
+#[test]
+fn a_table_that_grows(rt: HostRuntime) {
+    let from = ip(10, read_prefix(b"10.0.0.0/8"), None, Action::Normal);
+    let to = ip(10, None, read_prefix(b"10.0.0.0/8"), Action::Drop);
+    let back = ip(9, None, read_prefix(b"10.0.0.0/8"), Action::Drop);
+    let mut table = Table::new(rt.alloc()).expect(&rt, "memory");
+    table.add(from).expect(&rt, "an entry");
+    assert_eq!(rt;
+        table.add(to),
+        Err(TableRefusal::Ambiguous {
+            first: 0,
+            second: 1
+        })
+    );
+    table.add(back).expect(&rt, "an entry");
+    assert_eq!(rt; table.lines(), 2);
+}
+
+// Packets that match in the second and the last of three stretches of entries.
+#[test]
+fn entries_of_several_sources(rt: HostRuntime) {
+    let first = ip(40, read_prefix(b"10.0.0.1"), None, Action::Drop);
+    let second = ip(40, read_prefix(b"10.0.0.2"), None, Action::Normal);
+    let rest = of(0, FrameKind::Any, Action::Drop);
+    let Ok(table) = three(&rt, rt.alloc(), first, second, rest) else {
+        panic!(rt; "a table");
+    };
+    let packet = Packet {
+        src: 167772162,
+        dst: 167772161,
+        proto: 17,
+        sport: 53,
+        dport: 53,
+    };
+    assert_eq!(rt; table.verdict(&Frame::Ipv4(packet)), Verdict::Forward);
+    assert_eq!(rt; table.verdict(&Frame::Ipv4(packet.swap())), Verdict::Drop);
+    assert_eq!(rt; table.verdict(&Frame::Arp), Verdict::Drop);
+}

@@ -2,7 +2,7 @@
 
 ghost use Rattle.std.specs.Prelude.{◌≡◌, ◌<◌, ◌≤◌, ◌++◌, length, take, slice_get, Some};
 ghost use Rattle.text_core.specs.Line.{cut};
-ghost use Rattle.ofp_rules.specs.Meaning.{IsTable};
+ghost use Rattle.ofp_rules.specs.Build.{IsTable};
 ghost use Rattle.ofp_rules.specs.Text.{action_text, entry_line, kind_text, part_text, text_lines};
 
 use crate::entry::{Action, Entry, FrameKind};

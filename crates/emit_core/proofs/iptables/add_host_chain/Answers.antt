@@ -1,5 +1,6 @@
 use Rattle.std.proofs.Common.{◌∙◌, List, ◌++◌, ◌∷◌, [], arith, ap, length}
-use Rattle.ipt_rules.specs.Chain.{Chain, rule_count, user_chain}
+use Rattle.ipt_rules.specs.Chain.{Chain, user_chain}
+use Rattle.ipt_rules.specs.ChainTable.{rule_count}
 use Rattle.emit_core.specs.LayoutLaws.{length-chains_up_to}
 use Rattle.emit_core.specs.Filling.{with_rules}
 use Rattle.emit_core.proofs.FillingLemmas.{unused, room, host_filled}

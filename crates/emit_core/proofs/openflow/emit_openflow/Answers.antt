@@ -4,15 +4,15 @@ use Rattle.ofp_rules.specs.declared.entry.Entry.{Entry}
 use Rattle.ofp_rules.specs.declared.table.TableRefusal.{TableRefusal}
 use Rattle.ofp_rules.specs.declared.table.TableRefusal.TheVariants.{TooMany, Ambiguous, Memory}
 use Rattle.ofp_rules.specs.Matching.{asks_of_ip}
-use Rattle.ofp_rules.specs.Ambiguity.{IsRefused}
+use Rattle.ofp_rules.specs.Build.{IsRefused}
 use Rattle.host_net.specs.Host.{Host}
 use Rattle.host_net.specs.Hosts.{IsHosts}
 use Rattle.flow_set.specs.declared.flow.Flow.{Flow}
 use Rattle.emit_core.specs.FlowTable.{flow_entries}
-use Rattle.emit_core.specs.FlowTableForwarding.{IsBuildable}
-use Rattle.emit_core.proofs.FlowTableLaws.{ForwardsFlows, forwards_flows, unambiguous}
-use Rattle.emit_core.proofs.FlowTableSizes.{all_ask, entries_long}
-use Rattle.emit_core.proofs.FlowTableEventsLaws.{arp_alone, flows_enforced, flows_expected}
+use Rattle.emit_core.specs.FlowTableRefusals.{IsBuildable}
+use Rattle.emit_core.specs.FlowTableLaws.{ForwardsFlows, forwards_flows, unambiguous}
+use Rattle.emit_core.specs.FlowTableSizeLaws.{all_ask, entries_long}
+use Rattle.emit_core.specs.FlowTableEventsLaws.{arp_alone, flows_enforced, flows_expected}
 use Rattle.emit_core.proofs.openflow.emit_openflow.Goals as goal
 
 pub build-requires-clause-asks : goal.build-requires-clause-asks

@@ -6,13 +6,14 @@ use Rattle.ipt_read.specs.declared.fault.IptWhy.{IptWhy}
 use Rattle.ipt_read.specs.declared.fault.IptWhy.TheVariants.{Loop}
 use Rattle.ipt_read.specs.declared.fault.IptFault.{IptFault}
 use Rattle.ipt_read.specs.declared.fault.IptFault.TheVariants.{Refused, Memory}
-use Rattle.ipt_read.specs.TextLines.{SaidSoFar, text_said, HasFault, HasCause, IsFault, loops}
+use Rattle.ipt_read.specs.TextLines.{SaidSoFar, text_said, HasFault, loops}
+use Rattle.ipt_read.specs.ReadAnswers.{HasCause, IsFault}
 use Rattle.ipt_read.specs.Grammar.{IsReading}
 use Rattle.ipt_read.specs.State.{Tells, Loops, said_of}
 use Rattle.ipt_rules.specs.Text.{text}
 use Rattle.ipt_rules.specs.Writable.{IsWritable}
 use Rattle.ipt_read.specs.AgainLaws.{text_read_again}
-use Rattle.ipt_read.proofs.FaultLaws.{one_fault, no_reading_with_fault}
+use Rattle.ipt_read.specs.FaultLaws.{one_fault, no_reading_with_fault}
 use Rattle.ipt_read.specs.TextLaws.{reading_of_said, said_of_reading, fault_of_text}
 use Rattle.ipt_read.proofs.whole.read.Goals as goal
 

@@ -1,20 +1,34 @@
-use Rattle.std.proofs.Common.{◌≡◌, ◌+◌, ◌++◌, ◌∷◌, [], ◌∙◌, ap, sym, subst, List, take, arith}
-use Rattle.std.proofs.lemmas.List.{take_all, take_more}
+use Rattle.std.proofs.Common.{◌+◌, ◌∷◌, [], ◌∙◌, subst, List, ℕ, take, drop, length, get_or, arith}
+use Rattle.std.proofs.lemmas.List.{drop_all, drop_more, take_all}
+use Rattle.std.specs.Option.{option_copied}
 use Rattle.ofp_rules.specs.declared.entry.Entry.{Entry}
 use Rattle.ofp_rules.specs.Highest.{IsFound}
-use Rattle.ofp_rules.specs.HighestLaws.{found_more, with_last}
+use Rattle.ofp_rules.specs.Stretches.{AreStretches}
+use Rattle.ofp_rules.proofs.StretchLemmas.{take_range}
 use Rattle.ofp_rules.proofs.table.highest.Goals as goal
 
-pub loop-entry-preserved : goal.loop-entry-preserved
-loop-entry-preserved c =
+pub loop-to-preserved : goal.loop-to-preserved
+loop-to-preserved c =
     let entries = c.args.entries.now in
-    let i = c.loop-entry.entry-index in
-    let x = c.entry-item.result in
-    let front : take (i + 1) entries ≡ take i entries ++ x ∷ [] = take_more entries i x (omega arith) ∙ ap (λ (y : Entry). take i entries ++ y ∷ []) (sym c.entry-item.is) in
-    let more = found_more c.args.frame.now x (take i entries) (take i entries ++ x ∷ []) c.loop-entry.found (with_last x (take i entries)) c.loop-entry.invariant in
-    subst (λ (ys : List Entry). IsFound ys c.args.frame.now c.higher-found.result) (sym front)
-    (subst (IsFound (take i entries ++ x ∷ []) c.args.frame.now) (sym c.higher-found.ensures) more)
+    let from = c.loop-to.from in
+    let to = get_or c.args.starts.now c.loop-to.to-index 0 in
+    let left : AreStretches from (to ∷ drop (c.loop-to.to-index + 1) c.args.starts.now) entries =
+    subst (λ (ns : List ℕ). AreStretches from ns entries)
+    (drop_more c.args.starts.now c.loop-to.to-index 0 (omega arith)) c.loop-to.invariant.left in
+    record {
+      left = left.3;
+      found = subst (λ (es : List Entry). IsFound es c.args.frame.now (option_copied c.highest_with-found.result))
+          (take_range entries from to left.0)
+          (c.highest_with-found.ensures (take from entries) c.loop-to.invariant.found);
+    }
 
 pub returns : goal.returns
 returns c =
-    subst (λ (ys : List Entry). IsFound ys c.args.frame.now c.loop-entry.found) (take_all c.loop-entry.entry-index c.args.entries.now (omega arith)) c.loop-entry.invariant
+    let entries = c.args.entries.now in
+    let from = c.loop-to.from in
+    let left : AreStretches from [] entries =
+    subst (λ (ns : List ℕ). AreStretches from ns entries)
+    (drop_all c.loop-to.to-index c.args.starts.now (omega arith)) c.loop-to.invariant.left in
+    subst (λ (es : List Entry). IsFound es c.args.frame.now (option_copied c.highest_with.result))
+    (take_range entries from (length entries) left.0 ∙ take_all (length entries) entries (omega arith))
+    (c.highest_with.ensures (take from entries) c.loop-to.invariant.found)

@@ -1,4 +1,5 @@
-use Rattle.std.proofs.Common.{◌≡◌, ◌<◌, ◌∷◌, [], ◌++◌, length, slice_set}
+use Rattle.std.proofs.Common.{◌≡◌, true, ◌<◌, ◌∷◌, [], ◌++◌, length, slice_set}
+use Rattle.ipt_rules.specs.Addresses.{addresses_fit}
 use Rattle.ipt_rules.specs.Chain.{with_rule}
 use Rattle.ipt_rules.specs.ChainLaws.{set_changed}
 use Rattle.ipt_rules.proofs.TableLaws.{IsChainList-with_rule}
@@ -12,9 +13,12 @@ unfolding with_rule
 changed c =
     set_changed c.self.inside.chains.items c.args.chain c.index_mut-changed.result.now c.push.new.self (λ x. record x { rules = x.rules ++ c.args.rule ∷ [] }) (there c) c.index_mut-changed.ensures.value c.in_ok-push.ensures.ok
 
+fit : (c : goal.After-self-2-1) → addresses_fit c.args.rule ≡ true
+fit c = c.push.ensures.fits
+
 pub invariant_of-self-2 : goal.invariant_of-self-2
 invariant_of-self-2 c =
-    rw (changed c) (IsChainList-with_rule c.self.inside.chains.items c.self.inside.rules c.args.chain c.args.rule (there c) c.self.invariant)
+    rw (changed c) (IsChainList-with_rule c.self.inside.chains.items c.self.inside.rules c.args.chain c.args.rule (there c) (fit c) c.self.invariant)
 
 pub returns-clause-ok : goal.returns-clause-ok
 returns-clause-ok c = rw (← c.self.view_is) (changed c)

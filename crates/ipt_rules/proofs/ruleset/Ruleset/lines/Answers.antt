@@ -1,5 +1,8 @@
-use Rattle.std.proofs.Common.{arith, subst}
+use Rattle.std.proofs.Common.{◌≡◌, arith, subst, refl, Option, Some, None}
+use Rattle.std.specs.Prelude.{IsNone}
+use Rattle.ipt_rules.specs.declared.ruleset.BuildRefusal.{BuildRefusal}
 use Rattle.ipt_rules.specs.Loops.{HasNoLoop}
+use Rattle.ipt_rules.specs.Writable.{IsWritable}
 use Rattle.ipt_rules.proofs.NoLoopLemmas.{no_loop_in_order}
 use Rattle.ipt_rules.proofs.WalkLemmas.{each_gives_one}
 use Rattle.ipt_rules.specs.TextLaws.{length-text_lines}
@@ -23,3 +26,15 @@ returns-clause-no_loop c =
 pub returns-clause-one_outcome : goal.returns-clause-one_outcome
 returns-clause-one_outcome c =
     rw (← c.self.view_is) (each_gives_one c.self.inside.chains.items c.self.inside.ranking.order.items c.self.inside.ranking.places.items c.self.invariant.ranking)
+
+none_is : (o : Option BuildRefusal) → IsNone o → o ≡ None
+none_is None h = refl
+none_is (Some why) h = cc
+
+pub returns-clause-writable : goal.returns-clause-writable
+returns-clause-writable c = subst IsWritable c.self.view_is (record {
+  table = c.self.invariant.list.table;
+  accepted = none_is _ c.self.invariant.accepted;
+  no_loop = no_loop_in_order c.self.inside.chains.items c.self.inside.ranking.order.items c.self.inside.ranking.places.items c.self.invariant.ranking;
+  addresses = c.self.invariant.list.addresses;
+})

@@ -1,0 +1,36 @@
+//! Where the rules of each chain begin among the rules of all chains, so that a rule is found by
+//! its number without going through the chains before it.
+
+ghost use Rattle.std.specs.Prelude.{◌≡◌, ◌+◌, ◌<◌, ◌≤◌, length, slice_index_or, IfOk};
+ghost use Rattle.std.specs.List.Sorted.{IsNonDecreasingBy};
+ghost use Rattle.ipt_rules.specs.ChainTable.{rule_count};
+ghost use Rattle.ipt_rules.specs.Starts.{starts_from};
+
+use crate::chain::Chain;
+use std::alloc::{AllocError, Global};
+
+/// The number of each chain's first rule.
+pub(crate) fn starts_of(alloc: Global, chains: &[Chain]) -> Result<Vec<u32>, AllocError>
+    requires few { rule_count chains.now ≤ 1000000 }
+    ensures { IfOk result (λ starts. starts.items ≡ starts_from 0 chains.now) }
+{
+    let mut starts = Vec::new(alloc);
+    let mut rules: usize = 0;
+    for chain in chains {
+        starts.push(rules as u32)?;
+        rules += chain.rules().len();
+    }
+    Ok(starts)
+}
+
+/// The last chain whose rules begin at that number or before it, found by halving.
+pub(crate) fn chain_at(starts: &[u32], number: usize) -> usize
+    requires rising { IsNonDecreasingBy (λ n. n) starts.now }
+    requires some { 0 < length starts.now }
+    requires first { slice_index_or starts.now 0 0 ≤ number }
+    ensures there { result < length starts.now }
+    ensures begun { slice_index_or starts.now result 0 ≤ number }
+    ensures last { result + 1 < length starts.now → number < slice_index_or starts.now (result + 1) 0 }
+{
+    starts.partition_point(|start| *start as usize <= number) - 1
+}

@@ -1,0 +1,2 @@
+pub mod FieldsLoop
+pub mod LineRows

@@ -1,0 +1,67 @@
+-- A flow line, from left to right: the entry that it writes, or the first reason why it writes none.
+use Rattle.std.specs.Prelude.{ℕ, Bool, true, false, ◌&&◌, if◌then◌else◌, List, [], ◌∷◌, Option, Some, None, Result, Ok, Err, codes, bytes_eq, take}
+use Rattle.std.specs.Option.{option_map}
+use Rattle.text_core.specs.Lines.{words}
+use Rattle.ofp_rules.specs.declared.entry.FrameKind.{FrameKind}
+use Rattle.ofp_rules.specs.declared.entry.FrameKind.TheVariants.{Any}
+use Rattle.ofp_rules.specs.declared.entry.Action.{Action}
+use Rattle.ofp_rules.specs.declared.entry.Action.TheVariants.{Normal, Drop}
+use Rattle.ofp_rules.specs.declared.entry.Entry.{Entry}
+use Rattle.ofp_rules.specs.Matching.{asks_of_ip}
+use Rattle.ofp_read.specs.declared.fault.OfpWhy.{OfpWhy}
+use Rattle.ofp_read.specs.declared.fault.OfpWhy.TheVariants.{BadLine, NeedsIp, UnknownAction}
+use Rattle.ofp_read.specs.declared.given.Given.{Given}
+use Rattle.ofp_read.specs.FieldTable.{named, with_field}
+use Rattle.ofp_read.specs.Grammar.{is_separator, fields}
+
+abbrev pub goes_on : {A B : Type 0} → Result A OfpWhy → (A → Result B OfpWhy) → Result B OfpWhy
+goes_on (Ok x) f = f x
+goes_on (Err why) f = Err why
+
+abbrev pub nothing_given : Given
+nothing_given = record { priority = None; table = false; kind = None; src = None; dst = None }
+
+-- the fields from left to right
+abbrev pub with_fields : Given → List (List ℕ) → Result Given OfpWhy
+with_fields given [] = Ok given
+with_fields given (text ∷ texts) = goes_on (with_field given text) (λ now. with_fields now texts)
+
+abbrev pub begins_action : List ℕ → Bool
+begins_action text = bytes_eq (take 8 text) (codes "actions=")
+
+-- the text in front of the first `actions=` that begins a field, and the text from there on; whether a field may begin here
+abbrev pub cut_action : Bool → List ℕ → Option (List ℕ × List ℕ)
+cut_action begins [] = None
+cut_action begins (b ∷ bs) =
+    if begins && begins_action (b ∷ bs) then Some ([], b ∷ bs)
+    else option_map (λ parts. (b ∷ parts.0, parts.1)) (cut_action (is_separator b) bs)
+
+-- the action: one word, with nothing but blanks behind it
+abbrev pub action_of : List (List ℕ) → Option Action
+action_of (word ∷ []) = named word ((codes "actions=NORMAL", Normal) ∷ (codes "actions=normal", Normal) ∷ (codes "actions=drop", Drop) ∷ [])
+action_of _ = None
+
+abbrev pub priority_of : Option ℕ → ℕ
+priority_of None = 32768
+priority_of (Some n) = n
+
+abbrev pub kind_of : Option FrameKind → FrameKind
+kind_of None = Any
+kind_of (Some kind) = kind
+
+abbrev pub entry_of : Given → Action → Entry
+entry_of given action =
+    record { priority = priority_of given.priority; kind = kind_of given.kind; src = given.src; dst = given.dst; action = action }
+
+abbrev pub with_action : Given → Option Action → Result Entry OfpWhy
+with_action given None = Err UnknownAction
+with_action given (Some action) = if asks_of_ip (entry_of given action) then Ok (entry_of given action) else Err NeedsIp
+
+abbrev pub flow_by : List ℕ → Option (List ℕ × List ℕ) → Result Entry OfpWhy
+flow_by line None = goes_on (with_fields nothing_given (fields line)) (λ given. Err BadLine)
+flow_by line (Some parts) =
+    goes_on (with_fields nothing_given (fields parts.0)) (λ given. with_action given (action_of (words parts.1)))
+
+-- the fields, then the action, then whether an address is asked of frames that may have none
+unfoldable pub flow_of : List ℕ → Result Entry OfpWhy
+flow_of line = flow_by line (cut_action true line)

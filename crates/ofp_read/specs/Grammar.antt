@@ -1,0 +1,127 @@
+-- The grammar of the text of a flow table: which lines a text has, and which fields and which action a line (ovs-ofctl(8), "Flow Syntax").
+use Rattle.std.specs.Prelude.{◌≡◌, ◌≢◌, ◌<◌, ◌≤◌, ◌^◌, ◌⊎◌, ◌||◌, ◌==◌, ℕ, Bool, true, false, IsTrue, List, [], ◌∷◌, ◌++◌, Option, Some, None, length, codes, decimal}
+use Rattle.std.specs.List.{filter, list_all, slice_split}
+use Rattle.text_core.specs.Lines.{lines, is_blank}
+use Rattle.text_core.specs.Reading.{Follows}
+use Rattle.host_net.specs.declared.prefix.Prefix.{Prefix}
+use Rattle.host_net.specs.PrefixView.{IsSpelling}
+use Rattle.ofp_rules.specs.declared.entry.FrameKind.{FrameKind}
+use Rattle.ofp_rules.specs.declared.entry.FrameKind.TheVariants.{Any, Arp, Ip}
+use Rattle.ofp_rules.specs.declared.entry.Action.{Action}
+use Rattle.ofp_rules.specs.declared.entry.Action.TheVariants.{Normal, Drop}
+use Rattle.ofp_rules.specs.declared.entry.Entry.{Entry}
+use Rattle.ofp_rules.specs.Matching.{asks_of_ip}
+use Rattle.ofp_rules.specs.Ambiguity.{ContradictsNone, most_entries}
+
+-- 1. Fields.
+
+-- fields stand apart by commas (44) and blanks
+abbrev pub is_separator : ℕ → Bool
+is_separator b = b == 44 || is_blank b
+
+abbrev pub has_bytes : List ℕ → Bool
+has_bytes [] = false
+has_bytes (b ∷ bs) = true
+
+-- the fields of a text: what stands between its commas and blanks
+abbrev pub fields : List ℕ → List (List ℕ)
+fields text = filter has_bytes (slice_split is_separator text)
+
+-- what a field says something about
+pub data Part : Type 0 where
+  priority : Part
+  table : Part
+  kind : Part
+  source : Part
+  destination : Part
+
+-- a frame kind, by its name or by the number of its EtherType
+abbrev pub IsKindText : FrameKind → List ℕ → Type 0
+IsKindText Any text = ⊥
+IsKindText Arp text = (text ≡ codes "arp") ⊎ ((text ≡ codes "dl_type=0x0806") ⊎ (text ≡ codes "dl_type=0x806"))
+IsKindText Ip text = (text ≡ codes "ip") ⊎ ((text ≡ codes "dl_type=0x0800") ⊎ (text ≡ codes "dl_type=0x800"))
+
+-- an address field: its name, and a spelling of the prefix
+pub record IsAddressText (name : List ℕ) (given : Option Prefix) (text : List ℕ) : Type 0 where
+  pub prefix : Prefix
+  pub spelling : List ℕ
+  pub is_given : given ≡ Some prefix
+  pub address : prefix.addr < 2 ^ 32
+  pub spelled : IsSpelling spelling prefix
+  pub written : text ≡ name ++ spelling
+
+-- the field says of this part what the entry has there; there is only table 0
+abbrev pub Says : Part → Entry → List ℕ → Type 0
+Says priority e text = (e.priority < 2 ^ 16) × (text ≡ codes "priority=" ++ decimal e.priority)
+Says table e text = text ≡ codes "table=0"
+Says kind e text = IsKindText e.kind text
+Says source e text = IsAddressText (codes "nw_src=") e.src text
+Says destination e text = IsAddressText (codes "nw_dst=") e.dst text
+
+-- what an entry has where no field says anything about this part
+abbrev pub IsUnsaid : Part → Entry → Type 0
+IsUnsaid priority e = e.priority ≡ 32768
+IsUnsaid table e = Unit {0}
+IsUnsaid kind e = e.kind ≡ Any
+IsUnsaid source e = e.src ≡ None
+IsUnsaid destination e = e.dst ≡ None
+
+-- each field is about the part at its place
+abbrev pub EachSays : Entry → List Part → List (List ℕ) → Type 0
+EachSays e [] [] = Unit {0}
+EachSays e (part ∷ parts) (text ∷ texts) = Says part e text × EachSays e parts texts
+EachSays e _ _ = ⊥
+
+abbrev pub IsNoneOf : Part → List Part → Type 0
+IsNoneOf part [] = Unit {0}
+IsNoneOf part (other ∷ others) = (part ≢ other) × IsNoneOf part others
+
+abbrev pub AreDistinct : List Part → Type 0
+AreDistinct [] = Unit {0}
+AreDistinct (part ∷ parts) = IsNoneOf part parts × AreDistinct parts
+
+-- the fields of an entry, in any order: no two are about one part
+pub record AreFieldsOf (e : Entry) (texts : List (List ℕ)) : Type 0 where
+  pub parts : List Part
+  pub each : EachSays e parts texts
+  pub once : AreDistinct parts
+  pub others : (part : Part) → IsNoneOf part parts → IsUnsaid part e
+
+-- 2. Lines.
+
+abbrev pub IsActionText : Action → List ℕ → Type 0
+IsActionText Normal text = (text ≡ codes "actions=NORMAL") ⊎ (text ≡ codes "actions=normal")
+IsActionText Drop text = text ≡ codes "actions=drop"
+
+-- what follows is not the end of a field: nothing stands before it, or a comma or blank does
+abbrev pub ends_apart : List ℕ → Bool
+ends_apart [] = true
+ends_apart (b ∷ []) = is_separator b
+ends_apart (b ∷ c ∷ bs) = ends_apart (c ∷ bs)
+
+-- a line writes an entry: its fields, then its action, then blanks alone; and only IPv4 frames are asked for their addresses
+pub record Writes (line : List ℕ) (e : Entry) : Type 0 where
+  pub front : List ℕ
+  pub action : List ℕ
+  pub blanks : List ℕ
+  pub written : line ≡ front ++ (action ++ blanks)
+  pub apart : IsTrue (ends_apart front)
+  pub of_fields : AreFieldsOf e (fields front)
+  pub of_action : IsActionText e.action action
+  pub blank : IsTrue (list_all is_blank blanks)
+  pub asks : IsTrue (asks_of_ip e)
+
+-- 3. Texts.
+
+-- a line adds the entry that it writes: fewer than 8,192 stand before it, and none of them contradicts it
+pub record AddsEntry (n : ℕ) (before : List Entry) (line : List ℕ) (now : List Entry) : Type 0 where
+  pub entry : Entry
+  pub written : Writes line entry
+  pub few : length before < most_entries
+  pub clear : ContradictsNone before entry
+  pub added : now ≡ before ++ entry ∷ []
+
+-- the reading of a text: its entries, line by line
+pub record IsReading (bytes : List ℕ) (entries : List Entry) : Type 0 where
+  pub short : length bytes ≤ 67108864
+  pub told : Follows AddsEntry 1 [] (lines bytes) entries

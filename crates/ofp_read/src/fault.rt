@@ -1,0 +1,41 @@
+//! Why a text is no flow table.
+
+use thiserror::Error;
+
+/// Why a line adds no entry to those before it.
+#[derive(Clone, Copy, Debug, PartialEq, Eq, Error)]
+pub enum OfpWhy {
+    /// More than 67,108,864 bytes.
+    #[error("TooLong")]
+    TooLong,
+    /// A field that stood already, a second frame kind, or no action.
+    #[error("BadLine")]
+    BadLine,
+    /// A field that is none of the table.
+    #[error("UnknownField")]
+    UnknownField,
+    /// A value that is none of its field.
+    #[error("BadValue")]
+    BadValue,
+    /// An address in a line that does not ask for IPv4 frames.
+    #[error("NeedsIp")]
+    NeedsIp,
+    /// An action that is none.
+    #[error("UnknownAction")]
+    UnknownAction,
+    /// An entry of equal priority before it does something else with one frame.
+    #[error("Ambiguous")]
+    Ambiguous,
+    /// The 8,193rd entry.
+    #[error("TooMany")]
+    TooMany,
+}
+
+/// The first line that adds no entry, from 1, and why; line 0 stands for the whole text.
+#[derive(Clone, Copy, Debug, PartialEq, Eq, Error)]
+pub enum OfpFault {
+    #[error("line {line}: {why}")]
+    Refused { line: u32, why: OfpWhy },
+    #[error("out of memory")]
+    Memory,
+}

@@ -1,0 +1,26 @@
+//! The fields of a flow line, and what they gave.
+
+use host_net::Prefix;
+use ofp_rules::FrameKind;
+
+/// What a field is, by its name.
+#[derive(Clone, Copy, Debug, PartialEq, Eq)]
+pub(crate) enum Key {
+    Priority,
+    Table,
+    Ip,
+    Arp,
+    FrameType,
+    Source,
+    Destination,
+}
+
+/// What the fields in front gave: the parts of the entry, and whether the table was named.
+#[derive(Clone, Copy)]
+pub(crate) struct Given {
+    pub(crate) priority: Option<u16>,
+    pub(crate) table: bool,
+    pub(crate) kind: Option<FrameKind>,
+    pub(crate) src: Option<Prefix>,
+    pub(crate) dst: Option<Prefix>,
+}
