@@ -8,7 +8,8 @@ use Rattle.flow_set.specs.declared.flow.Flow.{Flow}
 use Rattle.inv_any.specs.AnyTrials.{FitsAny, tried_of}
 use Rattle.inv_any.specs.declared.any_inv.AnyInv.{AnyInv}
 use Rattle.inv_any.specs.declared.any_trial.AnyTrial.{AnyTrial}
-use Rattle.permit_core.specs.Policy.{AllHold, IsDenied}
+use Rattle.permit_core.specs.Policy.{AllHold}
+use Rattle.permit_core.specs.Denied.{IsDenied}
 use Rattle.report_core.specs.Trying.{AreTriedOn}
 use Rattle.trial_core.specs.Trials.{AreTried}
 use Rattle.net_core.specs.Policies.{Policy, IsPolicyOf, MeetsAll, holds_on}

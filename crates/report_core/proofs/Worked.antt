@@ -37,7 +37,7 @@ refusals =
     ∷ row (refused_item BadPrefix (Host 1) 1) (codes "10 BadPrefix at host 1 item 1\n")
     ∷ row (refused_by TwoRests (Host 2) 1) (codes "13 TwoRests at host 2, other 1\n")
     ∷ row (refused_by DuplicateHost (Host 2) 1) (codes "9 DuplicateHost at host 2, other 1\n")
-    ∷ row (refused TooMany (Host 33)) (codes "7 TooMany at host 33\n")
+    ∷ row (refused TooMany (Host 129)) (codes "7 TooMany at host 129\n")
     ∷ row (refused BadVersion Document) (codes "6 BadVersion at document\n")
     ∷ row (refused UnknownKey (Host 2)) (codes "3 UnknownKey at host 2\n")
     ∷ row (refused NotToml Document) (codes "2 NotToml at document\n")

@@ -1,5 +1,5 @@
 -- What an operator may rely on in a report. It follows from what the report is.
-use Rattle.std.specs.Prelude.{◌≡◌, ◌↔◌, ℕ, Bool, true, false, List, Option, Some, IsTrue, IsFalse, IsSome, IfSome, length, slice_get}
+use Rattle.std.specs.Prelude.{◌≡◌, ◌↔◌, ◌⊎◌, ℕ, List, Option, Some, IsTrue, IsFalse, IsSome, IfSome, length, slice_get}
 use Rattle.net_core.specs.Network.{Network}
 use Rattle.flow_set.specs.EveryFlow.{every_flow}
 use Rattle.flow_set.specs.Conditions.{IsMinimalOffending}
@@ -29,16 +29,10 @@ pub record TellsOffences (d : Network) (report : List ℕ) : Type 0 where
 
 -- ---- the report of `policy`
 
-abbrev pub is_allowed : Ruling → Bool
-is_allowed Answered = true
-is_allowed Allowed = true
-is_allowed NotAsked = false
-is_allowed (Denied number) = false
-
 -- A flow is told as allowed exactly where the policy permits it, with answers exactly where they may pass, and as not asked for exactly where nobody asked for it.
 -- The invariant that denies a flow is the first that fails on the permitted flows with this one.
 pub record TellsRuling (d : Network) (policy : Policy) (f : Flow) (ruling : Ruling) : Type 0 where
-  pub allowed : is_allowed ruling ≡ has policy.permitted.flows f
+  pub allowed : ((ruling ≡ Answered) ⊎ (ruling ≡ Allowed)) ↔ IsTrue (has policy.permitted.flows f)
   pub answered : (ruling ≡ Answered) ↔ IsTrue (has policy.stateful.flows f)
   pub not_asked : (ruling ≡ NotAsked) ↔ IsFalse (has d.asked.flows f)
   pub denied : (number : ℕ) → ruling ≡ Denied number → IsFirstFailing holds_on d.invariants (with_flow policy.permitted.flows f) number

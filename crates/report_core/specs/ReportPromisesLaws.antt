@@ -1,12 +1,13 @@
 -- Each report of a network keeps what is promised of it.
-use Rattle.std.proofs.Common.{◌≡◌, ℕ, zero, suc, Bool, true, false, List, [], ◌∷◌, Option, None, Some, length, refl, sym, ap, subst}
-use Rattle.std.specs.Prelude.{IsTrue, IsFalse, slice_get}
+use Rattle.std.proofs.Common.{◌≡◌, ℕ, zero, suc, List, [], ◌∷◌, Option, None, Some, length, refl, ap, subst, inl, inr}
+use Rattle.std.specs.Prelude.{slice_get}
 use Rattle.std.proofs.lemmas.Bool.{both_ways, false≢true}
 use Rattle.std.proofs.lemmas.List.Elements.{All-cons, All-nil}
 use Rattle.flow_set.specs.EveryFlowLaws.{IsFull-every_flow}
-use Rattle.net_core.specs.Network.{Network, IsNetwork}
+use Rattle.net_core.specs.Network.{Network}
+use Rattle.net_core.specs.Fitting.{IsNetwork}
 use Rattle.flow_set.specs.EveryFlow.{every_flow}
-use Rattle.flow_set.specs.FlowSet.{has, IsOrdered, with_flow}
+use Rattle.flow_set.specs.FlowSet.{IsOrdered, with_flow}
 use Rattle.flow_set.specs.declared.flow.Flow.{Flow}
 use Rattle.inv_any.specs.declared.any_inv.AnyInv.{AnyInv}
 use Rattle.permit_core.specs.Policy.{AllHold, IsFirstFailing}
@@ -67,29 +68,25 @@ tells_offences d report network is = record {
 
 tells_ruling : (d : Network) (policy : Policy) (f : Flow) (r : Ruling) → Nests d policy → IsRuling d policy f r → TellsRuling d policy f r
 tells_ruling d policy f Answered n is = record {
-  allowed = sym (n.permitted f is);
+  allowed = (λ _. n.permitted f is, λ _. inl refl);
   answered = (λ _. is, λ _. refl);
   not_asked = (λ e. cc e, λ unasked. absurd (both_ways _ unasked (n.asked f (n.permitted f is))));
   denied = λ number e. cc e;
 }
 tells_ruling d policy f Allowed n is = record {
-  allowed = sym is.0;
+  allowed = (λ _. is.0, λ _. inr refl);
   answered = (λ e. cc e, λ stateful. absurd (both_ways _ is.1 stateful));
   not_asked = (λ e. cc e, λ unasked. absurd (both_ways _ unasked (n.asked f is.0)));
   denied = λ number e. cc e;
 }
 tells_ruling d policy f NotAsked n is = record {
-  allowed = sym (unpermitted (has policy.permitted.flows f) (n.asked f) is);
+  allowed = (λ told. elim told [ inl e ↦ cc e | inr e ↦ cc e ], λ permitted. absurd (both_ways _ is (n.asked f permitted)));
   answered = (λ e. cc e, λ stateful. absurd (both_ways _ is (n.asked f (n.permitted f stateful))));
   not_asked = (λ _. is, λ _. refl);
   denied = λ number e. cc e;
 }
-  where
-    unpermitted : (permitted : Bool) → (IsTrue permitted → IsTrue (has d.asked.flows f)) → IsFalse (has d.asked.flows f) → permitted ≡ false
-    unpermitted true asked unasked = absurd (both_ways _ unasked (asked refl))
-    unpermitted false asked unasked = refl
 tells_ruling d policy f (Denied k) n is = record {
-  allowed = sym is.1;
+  allowed = (λ told. elim told [ inl e ↦ cc e | inr e ↦ cc e ], λ permitted. absurd (both_ways _ is.1 permitted));
   answered = (λ e. cc e, λ stateful. absurd (both_ways _ is.1 (n.permitted f stateful)));
   not_asked = (λ e. cc e, λ unasked. absurd (both_ways _ unasked is.0));
   denied = λ number e.

@@ -10,6 +10,7 @@ mod report;
 mod ruling;
 
 pub use check::check_report;
+pub use names::push_flow;
 pub use policy::policy_report;
 pub use refusal::refusal_line;
 pub use report::Report;

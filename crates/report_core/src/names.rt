@@ -7,7 +7,8 @@ use host_net::Hosts;
 use inv_any::AnyInv;
 use std::alloc::AllocError;
 
-pub(crate) fn push_flow(text: &mut Vec<u8>, hosts: &Hosts, flow: Flow) -> Result<(), AllocError>
+/// Puts a flow after a text, by the names of its hosts.
+pub fn push_flow(text: &mut Vec<u8>, hosts: &Hosts, flow: Flow) -> Result<(), AllocError>
     requires from { flow.from < length hosts.now }
     requires to { flow.to < length hosts.now }
     ensures { OnOk result (text.new.items ≡ text.old.items ++ flow_text hosts.now flow) }

@@ -1,47 +1,69 @@
 -- The headline, from what was written by the commands that write rules.
-use Rattle.std.proofs.Common.{◌≡◌, ℕ, List, [], ◌∷◌, ap, subst}
+use Rattle.std.proofs.Common.{◌≡◌, ℕ, List, [], ◌∷◌, refl, ap, subst}
 use Rattle.net_core.specs.Network.{Network}
-use Rattle.topos_top.specs.Command.{Command, Rules, Repair, files_of, description_at}
+use Rattle.topos_top.specs.Command.{Command, files_in, files_of}
+use Rattle.topos_top.specs.Dialects.{language_of}
+use Rattle.topos_top.specs.File.{File}
 use Rattle.topos_top.specs.Jobs.{job_of}
 use Rattle.topos_top.specs.Promises.{Describes, WroteText, WritesRules, WroteRules, KeepsPromise}
 use Rattle.topos_top.specs.Rules.{ListedHolds, KeepPolicy}
 use Rattle.topos_top.specs.Seen.{ShelfChange, HaveReadings, ReadAll}
 use Rattle.topos_top.specs.Taken.{SinkChange, Took}
+use Rattle.topos_top.specs.declared.file.Kind.TheVariants as kind
+use Rattle.topos_top.specs.declared.form.Dialect.{Dialect}
+use Rattle.topos_top.specs.declared.form.Slot.TheVariants as slot
+use Rattle.topos_top.specs.declared.form.Verb.{Verb}
+use Rattle.topos_top.specs.declared.form.Verb.TheVariants.{Check, Policy, Rules, Repair, Trace}
 use Rattle.topos_top.specs.declared.reading.Reading.{Reading}
 use Rattle.topos_top.specs.declared.reading.Reading.TheVariants as reading
 use Rattle.topos_top.proofs.FileLaws.{read_as-description}
 
--- one description that was read is a network
-pub one_network : (shelf : ShelfChange) (name : List ℕ) (readings : List Reading)
-    → HaveReadings shelf (description_at name ∷ []) [] readings
-    → (d : Network) × Describes shelf name d × (readings ≡ reading.Network d ∷ [])
-one_network shelf name [] have = absurd have
-one_network shelf name (r ∷ (s ∷ rest)) have = absurd have.1
-one_network shelf name (r ∷ []) have =
-    let n = read_as-description have.0.bytes r have.0.read in
-    (n.0, record { bytes = have.0.bytes; held = have.0.held; read = n.1 }, ap (λ (x : Reading). x ∷ []) n.2)
+-- one description was read, of this name, and it is a network
+record OneNetwork (shelf : ShelfChange) (files : List File) (readings : List Reading) : Type 0 where
+  file : List ℕ
+  named : files ≡ record { kind = kind.Description; name = file } ∷ []
+  network : Network
+  read : Describes shelf file network
+  is : readings ≡ reading.Network network ∷ []
 
-wrote_rules : (command : Command) (shelf : ShelfChange) (out : SinkChange) (readings : List Reading) (text : List ℕ)
-    → ReadAll shelf (files_of command) readings → (job_of command readings).holds → (job_of command readings).text.tells text
-    → Took out text
-    → (file : List ℕ) → WritesRules command file → WroteRules command file shelf out
-wrote_rules (Rules f) shelf out readings text read holds tells took file same =
-    let n = one_network shelf f readings read.accepted in
-    let listed : ListedHolds n.0 = subst (λ (rs : List Reading). (job_of (Rules f) rs).holds) n.2 holds in
-    let keep : KeepPolicy n.0 text = subst (λ (rs : List Reading). (job_of (Rules f) rs).text.tells text) n.2 tells in
-    subst (λ (name : List ℕ). WroteRules (Rules f) name shelf out) same
-    (record { network = n.0; read = n.1; rules = text; written = took; keep = keep; listed = λ given. keep.listed given (listed given) })
-wrote_rules (Repair f) shelf out readings text read holds tells took file same =
-    let n = one_network shelf f readings read.accepted in
-    let keep : KeepPolicy n.0 text = subst (λ (rs : List Reading). (job_of (Repair f) rs).text.tells text) n.2 tells in
-    subst (λ (name : List ℕ). WroteRules (Repair f) name shelf out) same
-    (record { network = n.0; read = n.1; rules = text; written = took; keep = keep; listed = tt })
-wrote_rules command shelf out readings text read holds tells took file writes = absurd writes
+one_network : (shelf : ShelfChange) (dialect : Dialect) (names : List (List ℕ)) (readings : List Reading)
+    → HaveReadings shelf (files_in dialect (slot.Description ∷ []) names) [] readings → (readings ≡ [] → ⊥)
+    → OneNetwork shelf (files_in dialect (slot.Description ∷ []) names) readings
+one_network shelf dialect [] [] have some = absurd (some refl)
+one_network shelf dialect [] (r ∷ readings) have some = absurd have
+one_network shelf dialect (name ∷ names) [] have some = absurd (some refl)
+one_network shelf dialect (name ∷ names) (r ∷ (s ∷ rest)) have some = absurd have.1
+one_network shelf dialect (name ∷ names) (r ∷ []) have some =
+    let n = read_as-description have.0.bytes r have.0.read in
+    record {
+      file = name;
+      named = refl;
+      network = n.0;
+      read = record { bytes = have.0.bytes; held = have.0.held; read = n.1 };
+      is = ap (λ (x : Reading). x ∷ []) n.2;
+    }
+
+wrote_rules : (verb : Verb) (dialect : Dialect) (names : List (List ℕ)) (shelf : ShelfChange) (out : SinkChange) (readings : List Reading) (text : List ℕ)
+    → ReadAll shelf (files_of (record { verb = verb; dialect = dialect; names = names })) readings
+    → (job_of verb dialect readings).text.when → (job_of verb dialect readings).text.tells text
+    → Took out text → WritesRules verb → WroteRules (record { verb = verb; dialect = dialect; names = names }) shelf out
+wrote_rules Rules dialect names shelf out readings text read holds tells took writes =
+    let n = one_network shelf dialect names readings read.accepted (λ none. subst (λ (rs : List Reading). (job_of Rules dialect rs).text.when) none holds) in
+    let listed : ListedHolds n.network = (subst (λ (rs : List Reading). (job_of Rules dialect rs).text.when) n.is holds).0 in
+    let keep : KeepPolicy (language_of dialect) n.network text = subst (λ (rs : List Reading). (job_of Rules dialect rs).text.tells text) n.is tells in
+    record { file = n.file; named = n.named; network = n.network; read = n.read; rules = text; written = took; keep = keep; listed = λ given. keep.listed given (listed given) }
+wrote_rules Repair dialect names shelf out readings text read holds tells took writes =
+    let n = one_network shelf dialect names readings read.accepted (λ none. subst (λ (rs : List Reading). (job_of Repair dialect rs).text.when) none holds) in
+    let keep : KeepPolicy (language_of dialect) n.network text = subst (λ (rs : List Reading). (job_of Repair dialect rs).text.tells text) n.is tells in
+    record { file = n.file; named = n.named; network = n.network; read = n.read; rules = text; written = took; keep = keep; listed = tt }
+wrote_rules Check dialect names shelf out readings text read holds tells took writes = absurd writes
+wrote_rules Policy dialect names shelf out readings text read holds tells took writes = absurd writes
+wrote_rules Trace dialect names shelf out readings text read holds tells took writes = absurd writes
 
 pub headline_law : (words : List (List ℕ)) (shelf : ShelfChange) (out : SinkChange) → WroteText words shelf out
     → KeepsPromise words shelf out
 headline_law words shelf out wrote command named =
     let a = wrote.accepted in
     let same : a.command ≡ command = cc (a.named, named) in
-    subst (λ (c : Command). (file : List ℕ) → WritesRules c file → WroteRules c file shelf out) same
-    (wrote_rules a.command shelf out a.readings wrote.text a.read wrote.holds wrote.tells wrote.took)
+    subst (λ (c : Command). WritesRules c.verb → WroteRules c shelf out) same
+    (wrote_rules a.command.verb a.command.dialect a.command.names shelf out a.readings wrote.text a.read wrote.holds wrote.tells wrote.took)

@@ -1,5 +1,7 @@
 pub mod FileLaws
 pub mod ReadingLaws
+pub mod FlowRangeLaws
+pub mod DialectLaws
 pub mod RulesLaws
 pub mod JobLaws
 pub mod ReplyLaws
@@ -8,5 +10,5 @@ pub mod Causes
 pub mod RunLaws
 pub mod HeadlineLaw
 pub mod ToldLaws
-pub mod Lines
+pub mod PutLines
 pub mod Worked

@@ -4,13 +4,13 @@ use Rattle.std.specs.FinMap.{get}
 use Rattle.edge_io.specs.Told.{Files}
 use Rattle.topos_top.specs.Command.{Command, files_of, reports_on_output, command_of}
 use Rattle.topos_top.specs.File.{File}
-use Rattle.topos_top.specs.Jobs.{job_of}
+use Rattle.topos_top.specs.Seen.{job_with}
 use Rattle.topos_top.specs.Reply.{Reply, ReadsIn}
 use Rattle.topos_top.specs.Told.{ReadsTold, RepliesFrom, RepliesBy, RepliesTo}
 use Rattle.topos_top.specs.declared.reading.Reading.{Reading}
 use Rattle.topos_top.proofs.FileLaws.{reads_in_once}
 use Rattle.topos_top.proofs.JobLaws.{job_is_one, ends_once}
-use Rattle.topos_top.proofs.ReadingLaws.{AreSound}
+use Rattle.topos_top.proofs.ReadingLaws.{AreSound, AreSound-told}
 
 -- a file that has a reading has no reply that ends the run
 ok_or_err : (told : Files) (file : File) (x : Reading) (why : Reply) → ReadsIn file (get told file.name) (Ok x) → ReadsIn file (get told file.name) (Err why) → ⊥
@@ -49,16 +49,18 @@ told_once told (f ∷ fs) (Err why) (Err other) p q = elim p [
   ]
 ]
 
-from_is_one : (command : Command) (read : Result (List Reading) Reply) (r s : Reply) → RepliesFrom command read r
+from_is_one : (command : Command) (told : Files) (read : Result (List Reading) Reply) (r s : Reply) → ReadsTold told (files_of command) read → RepliesFrom command read r
     → RepliesFrom command read s → r ≡ s
-from_is_one command (Err why) r s p q = p ∙ sym q
-from_is_one command (Ok readings) r s p q = ends_once (AreSound readings) (reports_on_output command) (job_of command readings) (job_is_one command readings) r s p q
+from_is_one command told (Err why) r s reads p q = p ∙ sym q
+from_is_one command told (Ok readings) r s reads p q =
+    ends_once (AreSound readings) (reports_on_output command) (job_with command readings) (job_is_one command.verb command.dialect readings)
+    (AreSound-told told (files_of command) readings reads) r s p q
 
 by_is_one : (asked : Option Command) (told : Files) (r s : Reply) → RepliesBy asked told r → RepliesBy asked told s → r ≡ s
 by_is_one None told r s p q = p ∙ sym q
 by_is_one (Some command) told r s p q =
     let same = told_once told (files_of command) p.0 q.0 p.1 q.1 in
-    from_is_one command q.0 r s (subst (λ (read : Result (List Reading) Reply). RepliesFrom command read r) same p.2) q.2
+    from_is_one command told q.0 r s q.1 (subst (λ (read : Result (List Reading) Reply). RepliesFrom command read r) same p.2) q.2
 
 pub reply_to_is_one : (words : List (List ℕ)) (told : Files) (r s : Reply) → RepliesTo words told r → RepliesTo words told s → r ≡ s
 reply_to_is_one words told r s p q = by_is_one (command_of words) told r s p q

@@ -1,46 +1,66 @@
--- The rules of a network are one text, and do what is promised of them.
+-- The rules of a network are one text, and do what is promised of them; so is the line that says why there are none.
 use Rattle.std.proofs.Common.{◌≡◌, ℕ, List, sym, subst, ◌∙◌, ap}
-use Rattle.emit_core.specs.ForwardingLaws.{layout_enforces, layout_expected}
-use Rattle.emit_core.specs.WritableLaws.{layout_short, layout_writable}
 use Rattle.flow_set.specs.FlowSet.{SetOfFlows}
 use Rattle.flow_set.specs.declared.flow.Flow.{Flow}
-use Rattle.ipt_read.specs.AgainLaws.{one_reading, text_read_again}
-use Rattle.ipt_read.specs.Grammar.{IsReading}
-use Rattle.ipt_rules.specs.Chain.{Chain}
-use Rattle.ipt_rules.specs.Meaning.{Passes}
-use Rattle.ipt_rules.specs.Text.{text}
-use Rattle.net_core.specs.Network.{Network, IsNetwork}
 use Rattle.net_core.specs.HeadlineLaws.{IsGreatestPolicy-from_policy, CompliesWithAll-from_policy}
+use Rattle.net_core.specs.Network.{Network}
+use Rattle.net_core.specs.Fitting.{IsNetwork}
 use Rattle.net_core.specs.Policies.{Policy}
 use Rattle.net_core.specs.PolicyLaws.{policy_is_one, IsSubset-stateful, asked_is_permitted}
-use Rattle.pkt_core.specs.Filter.{ForwardsExpected}
-use Rattle.topos_top.specs.Rules.{IsRules, KeepPolicy, chains_of}
+use Rattle.pkt_core.specs.Filter.{Enforces, ForwardsExpected}
+use Rattle.pkt_core.specs.FilterLaws.{enforced_expected}
+use Rattle.topos_top.specs.Dialects.{Language, Hindrance, hindrance_line}
+use Rattle.topos_top.specs.Rules.{IsRules, CanBeWritten, IsHindered, TellsHindrance, KeepPolicy, rules_for}
+use Rattle.topos_top.proofs.DialectLaws.{KeepsPolicies}
 
-pub rules_are_one : (d : Network) (a b : List ℕ) → IsRules d a → IsRules d b → a ≡ b
-rules_are_one d a b p q =
-    p.written ∙ ap (λ (policy : Policy). text (chains_of d policy)) (policy_is_one d p.policy q.policy p.is_policy q.is_policy) ∙ sym q.written
+module _ (language : Language) (keeps : KeepsPolicies language) (d : Network) where
+  pub rules_are_one : (a b : List ℕ) → IsRules language d a → IsRules language d b → a ≡ b
+  rules_are_one a b p q =
+      p.written ∙ ap (λ (policy : Policy). language.text (rules_for language d policy)) (policy_is_one d p.policy q.policy p.is_policy q.is_policy) ∙ sym q.written
 
-pub rules_keep : (d : Network) (rules : List ℕ) → IsNetwork d → IsRules d rules → KeepPolicy d rules
-rules_keep d rules network is =
-    let p : List Flow = is.policy.permitted.flows in
-    let s : List Flow = is.policy.stateful.flows in
-    let chains : List Chain = chains_of d is.policy in
-    let expected : ForwardsExpected (Passes chains) d.hosts p s = layout_expected d.hosts p s network.hosts (IsSubset-stateful d p s is.is_policy.stateful) in
-    let read : IsReading rules chains =
-    subst (λ (bytes : List ℕ). IsReading bytes chains) (sym is.written) (text_read_again chains (layout_writable d.hosts p s network.hosts) (layout_short d.hosts p s network.hosts)) in
-    record {
-      policy = is.policy;
-      written = is.written;
-      expected = expected;
-      read = read;
-      only_reading = λ others reading. one_reading rules others chains reading read;
-      as_read = λ others reading.
-          subst (λ (cs : List Chain). ForwardsExpected (Passes cs) d.hosts p s) (sym (one_reading rules others chains reading read)) expected;
-      enforces = layout_enforces d.hosts p s network.hosts;
-      permitted = is.is_policy.permitted;
-      meets = is.is_policy.permitted.holds;
-      greatest = IsGreatestPolicy-from_policy d is.policy network is.is_policy;
-      listed = λ given holds. ap (λ (set : SetOfFlows). set.flows) (asked_is_permitted d is.policy network holds is.is_policy);
-      stateful = is.is_policy.stateful;
-      complies = CompliesWithAll-from_policy d is.policy network is.is_policy;
-    }
+  -- what holds for the policy of one holds for that of the other
+  can_write : (written : CanBeWritten language d) (policy : Policy) → written.policy ≡ policy
+      → language.CanWrite d.hosts policy.permitted.flows policy.stateful.flows
+  can_write written policy same = subst (λ (x : Policy). language.CanWrite d.hosts x.permitted.flows x.stateful.flows) same written.can
+
+  pub never_both : (why : Hindrance) → CanBeWritten language d → IsHindered language d why → ⊥
+  never_both why written hindered =
+      let same = policy_is_one d written.policy hindered.policy written.is_policy hindered.is_policy in
+      keeps.apart d.hosts hindered.policy.permitted.flows hindered.policy.stateful.flows why (can_write written hindered.policy same) hindered.hinders
+
+  one_cause : (why other : Hindrance) → IsHindered language d why → IsHindered language d other → why ≡ other
+  one_cause why other p q =
+      let same = policy_is_one d p.policy q.policy p.is_policy q.is_policy in
+      keeps.one_hindrance d.hosts q.policy.permitted.flows q.policy.stateful.flows why other
+      (subst (λ (x : Policy). language.Hinders d.hosts x.permitted.flows x.stateful.flows why) same p.hinders) q.hinders
+
+  pub hindrance_is_one : (a b : List ℕ) → TellsHindrance language d a → TellsHindrance language d b → a ≡ b
+  hindrance_is_one a b p q = p.told ∙ ap (hindrance_line d.hosts) (one_cause p.why q.why p.hindered q.hindered) ∙ sym q.told
+
+  pub rules_keep : (rules : List ℕ) → IsNetwork d → CanBeWritten language d → IsRules language d rules → KeepPolicy language d rules
+  rules_keep rules network written is =
+      let p : List Flow = is.policy.permitted.flows in
+      let s : List Flow = is.policy.stateful.flows in
+      let own : language.Rules = rules_for language d is.policy in
+      let can : language.CanWrite d.hosts p s = can_write written is.policy (policy_is_one d written.policy is.policy written.is_policy is.is_policy) in
+      let enforces : Enforces (language.filter own) d.hosts p s = keeps.enforces d.hosts p s network.hosts can in
+      let expected : ForwardsExpected (language.filter own) d.hosts p s =
+      enforced_expected (language.filter own) d.hosts p s (IsSubset-stateful d p s is.is_policy.stateful) enforces in
+      let read : language.IsReading rules own = subst (λ (bytes : List ℕ). language.IsReading bytes own) (sym is.written) (keeps.read_again d.hosts p s network.hosts can) in
+      let one : (others : language.Rules) → language.IsReading rules others → others ≡ own = λ others reading. keeps.one_reading rules others own reading read in
+      record {
+        policy = is.policy;
+        written = is.written;
+        expected = expected;
+        read = read;
+        only_reading = one;
+        as_read = λ others reading. subst (λ (x : language.Rules). ForwardsExpected (language.filter x) d.hosts p s) (sym (one others reading)) expected;
+        other_frames = λ others reading. subst (λ (x : language.Rules). language.OtherFrames x) (sym (one others reading)) (keeps.other_frames d.hosts p s network.hosts can);
+        enforces = enforces;
+        permitted = is.is_policy.permitted;
+        meets = is.is_policy.permitted.holds;
+        greatest = IsGreatestPolicy-from_policy d is.policy network is.is_policy;
+        listed = λ given holds. ap (λ (set : SetOfFlows). set.flows) (asked_is_permitted d is.policy network holds is.is_policy);
+        stateful = is.is_policy.stateful;
+        complies = CompliesWithAll-from_policy d is.policy network is.is_policy;
+      }

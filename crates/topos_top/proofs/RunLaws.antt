@@ -6,16 +6,16 @@ use Rattle.std.specs.Prelude.{◌↔◌, Bool, true, false, IsTrue, IsFalse}
 use Rattle.edge_io.specs.Counts.{Rose}
 use Rattle.topos_top.specs.Command.{Command, reports_on_output, command_of, AsksToReport}
 use Rattle.topos_top.specs.Ending.{status_of, out_of, has_output, err_of, line_after, write_fault_line}
-use Rattle.topos_top.specs.Promises.{GaveReply, LacksFile, HasBadDescription, HasBadText, BadRules as RulesRefused, BadEvents as EventsRefused, ReportedOn, IsViolated, WroteText, WasCutOff, RanOut}
-use Rattle.topos_top.specs.Reply.{Reply, Usage, CannotRead, Refused, Violated, Reported, Done, Memory}
+use Rattle.topos_top.specs.Promises.{GaveReply, LacksFile, HasBadDescription, HasBadText, BadRules as RulesRefused, BadFlows as FlowsRefused, BadEvents as EventsRefused, ReportedOn, IsViolated, CannotWrite, WroteText, WasCutOff, RanOut}
+use Rattle.topos_top.specs.Reply.{Reply, Usage, CannotRead, Refused, Violated, Reported, NotEmittable, Done, Memory}
 use Rattle.topos_top.specs.Seen.{ShelfChange, MayGiveBy}
 use Rattle.topos_top.specs.Taken.{SinkChange, Took, TookSome, IsWritten, IsSaid}
-use Rattle.topos_top.specs.TextFault.{rules_fault_line, events_fault_line}
+use Rattle.topos_top.specs.TextFault.{rules_fault_line, flows_fault_line, events_fault_line}
 use Rattle.topos_top.specs.declared.fault.Fault.TheVariants as fault
 use Rattle.topos_top.specs.declared.status.Status.{Status}
 use Rattle.topos_top.specs.declared.status.Status.TheVariants as status
-use Rattle.topos_top.proofs.Causes.{Cause, NoForm, OutOfMemory, Unread, BadDescription, BadRules, BadEvents, Fails, FailsOnOutput, Holds, cause_of, ends_so, ends_as}
-use Rattle.topos_top.proofs.FileLaws.{refused-description, refused-rules, refused-events}
+use Rattle.topos_top.proofs.Causes.{Cause, NoForm, OutOfMemory, Unread, BadDescription, BadRules, BadFlows, BadEvents, Fails, FailsOnOutput, Hindered, Holds, cause_of, ends_so, ends_as}
+use Rattle.topos_top.proofs.FileLaws.{refused-description, refused-rules, refused-flows, refused-events}
 use Rattle.topos_top.proofs.JobLaws.{job_is_one}
 use Rattle.topos_top.proofs.ReadingLaws.{AreSound-read}
 
@@ -86,6 +86,9 @@ bad_text : (words : List (List ℕ)) (shelf : ShelfChange) (err : SinkChange) (g
 bad_text words shelf err given (BadRules command named file bytes came number why read) says line =
     let refused = refused-rules file.kind bytes number why read in
     record { command = command; named = named; file = file; bytes = bytes; came = came; line = rules_fault_line number why; refused = RulesRefused refused.0 number why refused.1 refl; said = line }
+bad_text words shelf err given (BadFlows command named file bytes came number why read) says line =
+    let refused = refused-flows file.kind bytes number why read in
+    record { command = command; named = named; file = file; bytes = bytes; came = came; line = flows_fault_line number why; refused = FlowsRefused refused.0 number why refused.1 refl; said = line }
 bad_text words shelf err given (BadEvents command named file bytes came number why read) says line =
     let refused = refused-events file.kind bytes number why read in
     record { command = command; named = named; file = file; bytes = bytes; came = came; line = events_fault_line number why; refused = EventsRefused refused.0 number why refused.1 refl; said = line }
@@ -98,32 +101,45 @@ ran_out words shelf err given cause says line = cc says
 
 is_violated : (words : List (List ℕ)) (shelf : ShelfChange) (out err : SinkChange) (given : Reply) → Cause words shelf given
     → status_of given ≡ status.Violated → Took out (out_of given) → IsSaid err (err_of given) → IsViolated words shelf out err
-is_violated words shelf out err given (Fails a off fails report is) says took line = record {
+is_violated words shelf out err given (Fails a off report ends) says took line = record {
   accepted = a;
-  fails = fails;
+  fails = ends.0;
   report = report;
-  is_report = is;
-  tells = (job_is_one a.command a.readings).report.tells (AreSound-read shelf _ _ a.readings a.read.accepted) report is;
+  is_report = ends.1;
+  tells = (job_is_one a.command.verb a.command.dialect a.readings).report.tells (AreSound-read shelf _ _ a.readings a.read.accepted) ends.0 report ends.1;
   reported = reported_err (reports_on_output a.command) out err report off took line;
 }
-is_violated words shelf out err given (FailsOnOutput a on fails report is) says took line = record {
+is_violated words shelf out err given (FailsOnOutput a on report ends) says took line = record {
   accepted = a;
-  fails = fails;
+  fails = ends.0;
   report = report;
-  is_report = is;
-  tells = (job_is_one a.command a.readings).report.tells (AreSound-read shelf _ _ a.readings a.read.accepted) report is;
+  is_report = ends.1;
+  tells = (job_is_one a.command.verb a.command.dialect a.readings).report.tells (AreSound-read shelf _ _ a.readings a.read.accepted) ends.0 report ends.1;
   reported = reported_out (reports_on_output a.command) out err report on took line;
 }
 is_violated words shelf out err given cause says took line = cc says
 
+cannot_write : (words : List (List ℕ)) (shelf : ShelfChange) (out err : SinkChange) (given : Reply) → Cause words shelf given
+    → status_of given ≡ status.NotEmittable → Took out (out_of given) → IsSaid err (err_of given) → CannotWrite words shelf out err
+cannot_write words shelf out err given (Hindered a line ends) says took told = record {
+  accepted = a;
+  hindered = ends.0;
+  line = line;
+  is_line = ends.1;
+  tells = (job_is_one a.command.verb a.command.dialect a.readings).hindrance.tells (AreSound-read shelf _ _ a.readings a.read.accepted) ends.0 line ends.1;
+  kept = took_nothing out took;
+  said = told;
+}
+cannot_write words shelf out err given cause says took told = cc says
+
 wrote_text : (words : List (List ℕ)) (shelf : ShelfChange) (out : SinkChange) (given : Reply) → Cause words shelf given
     → status_of given ≡ status.Done → Took out (out_of given) → WroteText words shelf out
-wrote_text words shelf out given (Holds a holds text is) says took = record {
+wrote_text words shelf out given (Holds a text ends) says took = record {
   accepted = a;
-  holds = holds;
+  holds = ends.0;
   text = text;
-  is_text = is;
-  tells = (job_is_one a.command a.readings).text.tells (AreSound-read shelf _ _ a.readings a.read.accepted) text is;
+  is_text = ends.1;
+  tells = (job_is_one a.command.verb a.command.dialect a.readings).text.tells (AreSound-read shelf _ _ a.readings a.read.accepted) ends.0 text ends.1;
   took = took;
 }
 wrote_text words shelf out given cause says took = cc says
@@ -131,22 +147,22 @@ wrote_text words shelf out given cause says took = cc says
 was_cut_off : (words : List (List ℕ)) (shelf : ShelfChange) (out err : SinkChange) (given : Reply) → Cause words shelf given
     → IsTrue (has_output given) → Rose out.faults_before out.faults_after → TookSome out (out_of given) → IsSaid err write_fault_line
     → WasCutOff words shelf out err
-was_cut_off words shelf out err given (Holds a holds text is) some fault prefix line = record { accepted = a; text = text; is_output = inl (holds, is); prefix = prefix; fault = fault; said = line }
-was_cut_off words shelf out err given (FailsOnOutput a on fails report is) some fault prefix line = record { accepted = a; text = report; is_output = inr (on, fails, is); prefix = prefix; fault = fault; said = line }
+was_cut_off words shelf out err given (Holds a text ends) some fault prefix line = record { accepted = a; text = text; is_output = inl ends; prefix = prefix; fault = fault; said = line }
+was_cut_off words shelf out err given (FailsOnOutput a on report ends) some fault prefix line = record { accepted = a; text = report; is_output = inr (on, ends); prefix = prefix; fault = fault; said = line }
 was_cut_off words shelf out err given cause some fault prefix line = cc some
 
 nothing_given : (words : List (List ℕ)) (shelf : ShelfChange) (given : Reply) → Cause words shelf given
     → (status_of given ≡ status.Done → ⊥) → (status_of given ≡ status.Violated → AsksToReport words → ⊥) → IsFalse (has_output given)
-nothing_given words shelf given (Holds a holds text is) not_done not_reported = absurd (not_done refl)
-nothing_given words shelf given (FailsOnOutput a on fails report is) not_done not_reported = absurd (not_reported refl (a.command, a.named, on))
+nothing_given words shelf given (Holds a text ends) not_done not_reported = absurd (not_done refl)
+nothing_given words shelf given (FailsOnOutput a on report ends) not_done not_reported = absurd (not_reported refl (a.command, a.named, on))
 nothing_given words shelf given cause not_done not_reported = refl
 
 some_given : (words : List (List ℕ)) (shelf : ShelfChange) (given : Reply) → Cause words shelf given
     → (status_of given ≡ status.Done) ⊎ ((status_of given ≡ status.Violated) × AsksToReport words) → IsTrue (has_output given)
-some_given words shelf given (Holds a holds text is) says = refl
-some_given words shelf given (FailsOnOutput a on fails report is) says = refl
-some_given words shelf given (Fails a off fails report is) (inl done) = cc done
-some_given words shelf given (Fails a off fails report is) (inr (violated, (command, named, on))) =
+some_given words shelf given (Holds a text ends) says = refl
+some_given words shelf given (FailsOnOutput a on report ends) says = refl
+some_given words shelf given (Fails a off report ends) (inl done) = cc done
+some_given words shelf given (Fails a off report ends) (inr (violated, (command, named, on))) =
     let same : command ≡ a.command = cc (named, a.named) in
     let on_it : IsTrue (reports_on_output a.command) = subst (λ (c : Command). IsTrue (reports_on_output c)) same on in
     cc (on_it, off)
@@ -156,11 +172,13 @@ some_given words shelf given cause (inr (violated, asked)) = cc violated
 no_write_fault : (given : Reply) → status.WriteFault ≡ status_of given → ⊥
 no_write_fault (Refused (fault.Description why)) is = cc is
 no_write_fault (Refused (fault.Rules line why)) is = cc is
+no_write_fault (Refused (fault.Flows line why)) is = cc is
 no_write_fault (Refused (fault.Events line why)) is = cc is
 no_write_fault Usage is = cc is
 no_write_fault (CannotRead file) is = cc is
 no_write_fault (Violated report) is = cc is
 no_write_fault (Reported report) is = cc is
+no_write_fault (NotEmittable line) is = cc is
 no_write_fault (Done text) is = cc is
 no_write_fault Memory is = cc is
 
@@ -197,6 +215,9 @@ module _ (words : List (List ℕ)) (shelf : ShelfChange) (out err : SinkChange) 
 
   pub violated_law : s ≡ status.Violated → IsViolated words shelf out err
   violated_law is = is_violated words shelf out err gave.given cause (says status.Violated is (λ e. cc e)) (took status.Violated is (λ e. cc e)) (line status.Violated is)
+
+  pub not_emittable_law : s ≡ status.NotEmittable → CannotWrite words shelf out err
+  not_emittable_law is = cannot_write words shelf out err gave.given cause (says status.NotEmittable is (λ e. cc e)) (took status.NotEmittable is (λ e. cc e)) (line status.NotEmittable is)
 
   pub done_law : s ≡ status.Done → WroteText words shelf out
   done_law is = wrote_text words shelf out gave.given cause (says status.Done is (λ e. cc e)) (took status.Done is (λ e. cc e))

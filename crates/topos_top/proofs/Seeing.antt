@@ -1,17 +1,24 @@
 -- How the files that were taken off the shelf, or were not, are what the call saw of them.
-use Rattle.std.proofs.Common.{◌≡◌, ℕ, zero, suc, ◌+◌, ◌<◌, ◌≤◌, ◌⊎◌, inl, inr, min, List, [], ◌∷◌, ◌++◌, length, take, drop, get_or, Option, None, Some, Result, Ok, Err, refl, ap, sym, subst, ◌∙◌, arith, replicate, append_assoc, add-one, length-take}
+use Rattle.std.proofs.Common.{◌≡◌, ℕ, zero, suc, ◌+◌, ◌<◌, ◌≤◌, inl, inr, min, List, [], ◌∷◌, ◌++◌, length, map, take, drop, get_or, Option, None, Some, Result, Ok, Err, refl, ap, sym, subst, ◌∙◌, arith, replicate, append_assoc, add-one, length-take}
+use Rattle.std.proofs.Math.ListN.{get_or-map}
 use Rattle.std.proofs.Math.Seq.{take-suc, drop-cons}
-use Rattle.std.proofs.lemmas.List.{length-replicate, take-append-drop}
+use Rattle.std.proofs.lemmas.List.{length-map, length-replicate, take-append-drop}
 use Rattle.std.specs.Prelude.{IfSome, IsSomeAnd}
 use Rattle.std.specs.FinMap.{get}
 use Rattle.edge_io.specs.Counts.{more}
 use Rattle.edge_io.specs.Told.{Files, Lacks}
-use Rattle.topos_top.specs.File.{File, most_of, too_long}
+use Rattle.topos_top.specs.File.{File, most_of, kind_in}
 use Rattle.topos_top.specs.Reads.{IsOutcome, MayReadOne}
-use Rattle.topos_top.specs.Reply.{Reply, Refused, Memory, ReadsIn}
+use Rattle.topos_top.specs.Reply.{Reply, Refused, Memory}
 use Rattle.topos_top.specs.Seen.{ShelfChange, SawFile, taken_of, begun, HasReading, HaveReadings, EndedEarly, NoMemory, Stopped}
 use Rattle.topos_top.specs.declared.reading.Reading.{Reading}
+use Rattle.topos_top.specs.Command.{files_in}
+use Rattle.topos_top.specs.Kinds.{too_long}
+use Rattle.topos_top.specs.declared.file.Kind.{Kind}
+use Rattle.topos_top.specs.declared.form.Dialect.{Dialect}
+use Rattle.topos_top.specs.declared.form.Slot.{Slot}
 use Rattle.topos_top.proofs.FileLaws.{Reads-too_long}
+use Rattle.topos_top.proofs.ReadingLaws.{file_at, length-files_in}
 
 -- ---- one file
 
@@ -117,9 +124,9 @@ accepted_one one whole file later reading is taken may = elim may [
 
 -- the file at a place, with those before it and after it
 pub record IsAt (files : List File) (i : ℕ) (file : File) : Type 0 where
-  within : i < length files
-  after : drop i files ≡ file ∷ drop (i + 1) files
-  before : take (i + 1) files ≡ take i files ++ (file ∷ [])
+  pub within : i < length files
+  pub after : drop i files ≡ file ∷ drop (i + 1) files
+  pub before : take (i + 1) files ≡ take i files ++ (file ∷ [])
 
 pub is_at : (files : List File) (i : ℕ) (d file : File) → i < length files → get_or files i d ≡ file → IsAt files i file
 is_at files i d file within is = record {
@@ -127,6 +134,20 @@ is_at files i d file within is = record {
   after = rw add-one (drop-cons files i d within ∙ ap (λ (f : File). f ∷ drop (suc i) files) is);
   before = rw add-one (take-suc files i d within ∙ ap (λ (f : File). take i files ++ (f ∷ [])) is);
 }
+
+-- the file of a slot and a name, where there are as many of both
+pub file_is_at : {A : Type 0} (f : A → List ℕ) (dialect : Dialect) (held slots : List Slot) (names : List A) (i : ℕ) (s : Slot) (name : A) (kind : Kind) (text : List ℕ)
+    → held ≡ slots → length names ≡ length slots → i < length names → kind ≡ kind_in dialect (get_or held i s) → name ≡ get_or names i name
+    → text ≡ f name → IsAt (files_in dialect slots (map f names)) i (record { kind = kind; name = text })
+file_is_at f dialect held slots names i s name kind text held_is same within kind_is name_is text_is =
+    let as_many : length (map f names) ≡ length slots = length-map names f ∙ same in
+    let inside : i < length (map f names) = omega (arith, within, length-map names f) in
+    let nothing : File = record { kind = kind; name = [] } in
+    let k : kind_in dialect (get_or slots i s) ≡ kind = sym (kind_is ∙ ap (λ (x : List Slot). kind_in dialect (get_or x i s)) held_is) in
+    let n : get_or (map f names) i (f name) ≡ text = get_or-map f names i name ∙ ap f (sym name_is) ∙ sym text_is in
+    is_at (files_in dialect slots (map f names)) i nothing (record { kind = kind; name = text })
+    (omega (arith, inside, length-files_in dialect slots (map f names) as_many))
+    (file_at dialect slots (map f names) i s (f name) nothing as_many inside ∙ (λ j. record { kind = k j; name = n j }))
 
 -- one begin more
 pub begun_next : (before n now after : ℕ) → now ≡ begun before n → after ≡ more now 1 → after ≡ begun before (n + 1)

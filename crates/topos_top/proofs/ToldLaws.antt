@@ -8,10 +8,9 @@ use Rattle.topos_top.specs.Command.{Command, files_of, reports_on_output, comman
 use Rattle.topos_top.specs.Ending.{status_of, out_of, has_output, line_after}
 use Rattle.topos_top.specs.File.{File}
 use Rattle.topos_top.specs.Job.{Job, Ends}
-use Rattle.topos_top.specs.Jobs.{job_of}
-use Rattle.topos_top.specs.Promises.{GaveReply, IsTheReply, EndedBy, IsComplete, EndsAs, Fails, Holds, EndsByReadings, AreTheReadings, EndsAsTold}
-use Rattle.topos_top.specs.Reply.{Reply, Violated, Reported, Done, Memory, ReadsIn}
-use Rattle.topos_top.specs.Seen.{ShelfChange, SawFile, HaveReadings, NoMemory, Stopped, Early, Ended, MayGiveBy}
+use Rattle.topos_top.specs.Promises.{GaveReply, IsTheReply, EndedBy, IsComplete, EndsAs, Fails, Hindered, Holds, EndsByReadings, AreTheReadings, EndsAsTold}
+use Rattle.topos_top.specs.Reply.{Reply, Violated, Reported, NotEmittable, Done, Memory, ReadsIn}
+use Rattle.topos_top.specs.Seen.{ShelfChange, SawFile, HaveReadings, NoMemory, Stopped, Early, Ended, MayGiveBy, job_with}
 use Rattle.topos_top.specs.Taken.{SinkChange, Took, IsWritten, IsSaid}
 use Rattle.topos_top.specs.Told.{ReadsTold, RepliesFrom, RepliesBy}
 use Rattle.topos_top.specs.declared.reading.Reading.{Reading}
@@ -93,15 +92,17 @@ complete_law words shelf out err s gave = by_told shelf.told refl
 
 ends_by_job : (Sound : Type 0) (on : Bool) (job : Job) → IsOne Sound job → (given : Reply) (s : Status) → Ends on job given
     → s ≡ status_of given → EndsAs job s
-ends_by_job Sound on job one (Done text) s ends is = Holds ends.0 (one.apart ends.0) is
-ends_by_job Sound on job one (Reported report) s ends is = Fails ends.1 is
-ends_by_job Sound on job one (Violated report) s ends is = Fails ends.1 is
+ends_by_job Sound on job one (Done text) s ends is =
+    Holds ends.0 (λ fails. one.report_or_text fails ends.0) (λ hindered. one.hindrance_or_text hindered ends.0) is
+ends_by_job Sound on job one (NotEmittable line) s ends is = Hindered ends.0 (λ fails. one.report_or_hindrance fails ends.0) is
+ends_by_job Sound on job one (Reported report) s ends is = Fails ends.1.0 is
+ends_by_job Sound on job one (Violated report) s ends is = Fails ends.1.0 is
 ends_by_job Sound on job one given s ends is = absurd ends
 
 ends_by_readings : (command : Command) (read : Result (List Reading) Reply) (given : Reply) (s : Status) → RepliesFrom command read given
     → s ≡ status_of given → EndsByReadings command read s
 ends_by_readings command (Err why) given s replies is = is ∙ ap status_of replies
-ends_by_readings command (Ok readings) given s replies is = ends_by_job (AreSound readings) (reports_on_output command) (job_of command readings) (job_is_one command readings) given s replies is
+ends_by_readings command (Ok readings) given s replies is = ends_by_job (AreSound readings) (reports_on_output command) (job_with command readings) (job_is_one command.verb command.dialect readings) given s replies is
 
 pub ends_as_told_law : (words : List (List ℕ)) (shelf : ShelfChange) (out err : SinkChange) (s : Status) → GaveReply words shelf out err s
     → EndsAsTold words shelf out s

@@ -1,37 +1,64 @@
--- The forms of the command line word by word, and some words that are none of them.
-use Rattle.std.proofs.Common.{◌≡◌, ℕ, List, [], ◌∷◌, None, Some, refl}
+-- The forms of the command line word by word, some words that are none of them, and the usage.
+use Rattle.std.proofs.Common.{◌≡◌, ℕ, List, [], ◌∷◌, ◌++◌, None, Some, refl}
 use Rattle.std.specs.Prelude.{codes}
-use Rattle.topos_top.specs.Command.{Check, Policy, Rules, Repair, Trace, command_of}
+use Rattle.topos_top.specs.Command.{Command, command_of}
+use Rattle.topos_top.specs.Form.{usage_text}
+use Rattle.topos_top.specs.declared.form.Dialect.{Dialect}
+use Rattle.topos_top.specs.declared.form.Dialect.TheVariants.{Iptables, OpenFlow}
+use Rattle.topos_top.specs.declared.form.Verb.{Verb}
+use Rattle.topos_top.specs.declared.form.Verb.TheVariants.{Check, Policy, Rules, Repair, Trace}
 
-check_words : (file : List ℕ) → command_of (codes "check" ∷ file ∷ []) ≡ Some (Check file)
+-- a command with these names of files
+abbrev asked : Verb → Dialect → List (List ℕ) → Command
+asked verb dialect names = record { verb = verb; dialect = dialect; names = names }
+
+check_words : (file : List ℕ) → command_of (codes "check" ∷ file ∷ []) ≡ Some (asked Check Iptables (file ∷ []))
 unfolding command_of
 check_words file = refl
 
-policy_words : (file : List ℕ) → command_of (codes "policy" ∷ file ∷ []) ≡ Some (Policy file)
+policy_words : (file : List ℕ) → command_of (codes "policy" ∷ file ∷ []) ≡ Some (asked Policy Iptables (file ∷ []))
 unfolding command_of
 policy_words file = refl
 
-rules_words : (file : List ℕ) → command_of (codes "rules" ∷ codes "iptables" ∷ file ∷ []) ≡ Some (Rules file)
+rules_words : (file : List ℕ) → command_of (codes "rules" ∷ codes "iptables" ∷ file ∷ []) ≡ Some (asked Rules Iptables (file ∷ []))
 unfolding command_of
 rules_words file = refl
 
-repair_words : (file : List ℕ) → command_of (codes "repair" ∷ codes "iptables" ∷ file ∷ []) ≡ Some (Repair file)
+flows_words : (file : List ℕ) → command_of (codes "rules" ∷ codes "openflow" ∷ file ∷ []) ≡ Some (asked Rules OpenFlow (file ∷ []))
+unfolding command_of
+flows_words file = refl
+
+repair_words : (file : List ℕ) → command_of (codes "repair" ∷ codes "openflow" ∷ file ∷ []) ≡ Some (asked Repair OpenFlow (file ∷ []))
 unfolding command_of
 repair_words file = refl
 
-trace_words : (rules events : List ℕ) → command_of (codes "trace" ∷ codes "iptables" ∷ rules ∷ events ∷ []) ≡ Some (Trace rules events)
+trace_words : (rules events : List ℕ)
+    → command_of (codes "trace" ∷ codes "openflow" ∷ rules ∷ events ∷ []) ≡ Some (asked Trace OpenFlow (rules ∷ events ∷ []))
 unfolding command_of
 trace_words rules events = refl
 
--- rules of another kind, a word too few, a word too many
-other_rules : (file : List ℕ) → command_of (codes "rules" ∷ codes "openflow" ∷ file ∷ []) ≡ None
+-- rules of another dialect, a word too few, a word too many
+other_dialect : (file : List ℕ) → command_of (codes "rules" ∷ codes "nftables" ∷ file ∷ []) ≡ None
 unfolding command_of
-other_rules file = refl
+other_dialect file = refl
 
-no_kind : (file : List ℕ) → command_of (codes "rules" ∷ file ∷ []) ≡ None
+no_file : command_of (codes "repair" ∷ codes "iptables" ∷ []) ≡ None
 unfolding command_of
-no_kind file = refl
+no_file = refl
 
-one_word : (verb : List ℕ) → command_of (verb ∷ []) ≡ None
+one_word : command_of (codes "check" ∷ []) ≡ None
 unfolding command_of
-one_word verb = refl
+one_word = refl
+
+too_many : (file other : List ℕ) → command_of (codes "policy" ∷ file ∷ other ∷ []) ≡ None
+unfolding command_of
+too_many file other = refl
+
+usage_lines : usage_text
+    ≡ codes "usage: topos check FILE\n"
+    ++ (codes "       topos policy FILE\n"
+    ++ (codes "       topos rules iptables|openflow FILE\n"
+    ++ (codes "       topos repair iptables|openflow FILE\n"
+    ++ codes "       topos trace iptables|openflow RULES EVENTS\n")))
+unfolding usage_text
+usage_lines = refl

@@ -1,66 +1,53 @@
--- The commands of the program, and the words that ask for them (docs/GUIDE.md).
-use Rattle.std.specs.Prelude.{◌≡◌, ℕ, List, [], ◌∷◌, Option, None, Some, codes, if◌then◌else◌}
-use Rattle.std.specs.Prelude.{Bool, true, false, IsTrue}
-use Rattle.std.specs.Str.{bytes_eq}
-use Rattle.topos_top.specs.File.{File}
-use Rattle.topos_top.specs.declared.file.Kind.TheVariants.{Description, Rules as RulesKind, Events}
+-- The commands of the program, and the words that ask for them.
+use Rattle.std.specs.Prelude.{◌≡◌, ℕ, ◌==◌, List, [], ◌∷◌, length, Option, None, Some, Bool, true, false, IsTrue, if◌then◌else◌}
+use Rattle.std.specs.Option.{option_and_then}
+use Rattle.topos_top.specs.File.{File, kind_in}
+use Rattle.topos_top.specs.Form.{form_of, verb_named, dialect_named}
+use Rattle.topos_top.specs.declared.form.Dialect.{Dialect}
+use Rattle.topos_top.specs.declared.form.Dialect.TheVariants.{Iptables}
+use Rattle.topos_top.specs.declared.form.Slot.{Slot}
+use Rattle.topos_top.specs.declared.form.Verb.{Verb}
+use Rattle.topos_top.specs.declared.form.Verb.TheVariants.{Check}
 
--- A constructor for each form of the command line, with the words of its files.
-pub data Command : Type 0 where
-  Check : (file : List ℕ) → Command  -- whether the asked flows meet the invariants
-  Policy : (file : List ℕ) → Command  -- what becomes of each flow
-  Rules : (file : List ℕ) → Command  -- the rules of the policy, if a listed one breaks no invariant
-  Repair : (file : List ℕ) → Command  -- the rules of the policy, whatever was listed
-  Trace : (rules events : List ℕ) → Command  -- what becomes of each event
+-- What is to be done, the dialect of its rules (Iptables where the form takes none), and the words of its files.
+pub record Command : Type 0 where
+  pub verb : Verb
+  pub dialect : Dialect
+  pub names : List (List ℕ)
 
--- a description of that name
-abbrev pub description_at : List ℕ → File
-description_at name = record { kind = Description; name = name }
-
--- rules of that name, and events
-abbrev pub rules_at : List ℕ → File
-rules_at name = record { kind = RulesKind; name = name }
-
-abbrev pub events_at : List ℕ → File
-events_at name = record { kind = Events; name = name }
+-- the files of those names
+abbrev pub files_in : Dialect → List Slot → (names : List (List ℕ)) → List File
+files_in dialect (slot ∷ slots) (name ∷ names) = record { kind = kind_in dialect slot; name = name } ∷ files_in dialect slots names
+files_in dialect _ _ = []
 
 -- the files that the command names, in their order
 abbrev pub files_of : Command → List File
-files_of (Check file) = description_at file ∷ []
-files_of (Policy file) = description_at file ∷ []
-files_of (Rules file) = description_at file ∷ []
-files_of (Repair file) = description_at file ∷ []
-files_of (Trace rules events) = rules_at rules ∷ (events_at events ∷ [])
+files_of command = files_in command.dialect (form_of command.verb).slots command.names
 
 -- the report of what fails goes to the output, and else to the error stream
+abbrev pub reports_by : Verb → Bool
+reports_by Check = true
+reports_by _ = false
+
 abbrev pub reports_on_output : Command → Bool
-reports_on_output (Check file) = true
-reports_on_output _ = false
+reports_on_output command = reports_by command.verb
 
--- the commands that print a report
-abbrev pub report_command : (verb file : List ℕ) → Option Command
-report_command verb file =
-    if bytes_eq verb (codes "check") then Some (Check file)
-    else if bytes_eq verb (codes "policy") then Some (Policy file)
-    else None
+-- the words after the verb and its dialect: as many names as the form has files
+abbrev pub after_dialect : Verb → Dialect → List (List ℕ) → Option Command
+after_dialect verb dialect names =
+    if length names == length (form_of verb).slots then Some (record { verb = verb; dialect = dialect; names = names }) else None
 
--- the commands that write rules
-abbrev pub rules_command : (verb file : List ℕ) → Option Command
-rules_command verb file =
-    if bytes_eq verb (codes "rules") then Some (Rules file)
-    else if bytes_eq verb (codes "repair") then Some (Repair file)
-    else None
+abbrev pub in_dialect : Verb → List (List ℕ) → Option Command
+in_dialect verb [] = None
+in_dialect verb (word ∷ names) = option_and_then (λ dialect. after_dialect verb dialect names) (dialect_named word)
 
--- the command that says what rules do with events
-abbrev pub trace_command : (verb rules events : List ℕ) → Option Command
-trace_command verb rules events = if bytes_eq verb (codes "trace") then Some (Trace rules events) else None
+abbrev pub after_verb : Verb → List (List ℕ) → Option Command
+after_verb verb rest = if (form_of verb).takes_dialect then in_dialect verb rest else after_dialect verb Iptables rest
 
--- The command that the words ask for: `check FILE`, `policy FILE`, `rules iptables FILE`, `repair iptables FILE` or `trace iptables RULES EVENTS`.
+-- The command that the words ask for: the word of a verb, that of a dialect where the form takes one, and the names of its files.
 unfoldable pub command_of : List (List ℕ) → Option Command
-command_of (verb ∷ file ∷ []) = report_command verb file
-command_of (verb ∷ kind ∷ file ∷ []) = if bytes_eq kind (codes "iptables") then rules_command verb file else None
-command_of (verb ∷ kind ∷ rules ∷ events ∷ []) = if bytes_eq kind (codes "iptables") then trace_command verb rules events else None
-command_of _ = None
+command_of [] = None
+command_of (word ∷ rest) = option_and_then (λ verb. after_verb verb rest) (verb_named word)
 
 -- the words ask for a command that reports on the output
 abbrev pub AsksToReport : List (List ℕ) → Type 0

@@ -1,8 +1,9 @@
 -- How a reply ends the run: its status, what goes to the output, and its line on the error stream (docs/GUIDE.md, docs/FORMATS.md).
 use Rattle.std.specs.Prelude.{ℕ, List, [], ◌++◌, codes, Bool, true, false}
 use Rattle.report_core.specs.RefusalLine.{refusal_text}
-use Rattle.topos_top.specs.Reply.{Reply, Usage, CannotRead, Refused, Violated, Reported, Done, Memory}
-use Rattle.topos_top.specs.TextFault.{rules_fault_line, events_fault_line}
+use Rattle.topos_top.specs.Reply.{Reply, Usage, CannotRead, Refused, Violated, Reported, NotEmittable, Done, Memory}
+use Rattle.topos_top.specs.Form.{usage_text}
+use Rattle.topos_top.specs.TextFault.{rules_fault_line, flows_fault_line, events_fault_line}
 use Rattle.topos_top.specs.declared.fault.Fault.{Fault}
 use Rattle.topos_top.specs.declared.fault.Fault.TheVariants as fault
 use Rattle.topos_top.specs.declared.status.Status.{Status}
@@ -13,9 +14,11 @@ status_of Usage = status.Usage
 status_of (CannotRead file) = status.ReadFault
 status_of (Refused (fault.Description why)) = status.BadDescription
 status_of (Refused (fault.Rules line why)) = status.BadText
+status_of (Refused (fault.Flows line why)) = status.BadText
 status_of (Refused (fault.Events line why)) = status.BadText
 status_of (Violated report) = status.Violated
 status_of (Reported report) = status.Violated
+status_of (NotEmittable line) = status.NotEmittable
 status_of (Done text) = status.Done
 status_of Memory = status.Memory
 
@@ -31,15 +34,6 @@ has_output (Reported report) = true
 has_output (Done text) = true
 has_output _ = false
 
--- the forms of the command line, one a line
-unfoldable pub usage_text : List ℕ
-usage_text =
-    codes "usage: topos check FILE\n"
-    ++ (codes "       topos policy FILE\n"
-    ++ (codes "       topos rules iptables FILE\n"
-    ++ (codes "       topos repair iptables FILE\n"
-    ++ codes "       topos trace iptables RULES EVENTS\n")))
-
 -- the line of a file that cannot be read
 abbrev pub cannot_read_line : (file : List ℕ) → List ℕ
 cannot_read_line file = codes "topos: cannot read " ++ (file ++ codes "\n")
@@ -52,6 +46,7 @@ memory_line = codes "topos: out of memory\n"
 abbrev pub refused_line : Fault → List ℕ
 refused_line (fault.Description why) = refusal_text why
 refused_line (fault.Rules line why) = rules_fault_line line why
+refused_line (fault.Flows line why) = flows_fault_line line why
 refused_line (fault.Events line why) = events_fault_line line why
 
 -- what goes to the error stream
@@ -61,6 +56,7 @@ err_of (CannotRead file) = cannot_read_line file
 err_of (Refused why) = refused_line why
 err_of (Violated report) = report
 err_of (Reported report) = []
+err_of (NotEmittable line) = line
 err_of (Done text) = []
 err_of Memory = memory_line
 

@@ -1,9 +1,12 @@
+pub mod Form
 pub mod File
 pub mod Command
 pub mod CommandView
 pub mod StatusNumber
+pub mod Kinds
 pub mod Reply
 pub mod Job
+pub mod Dialects
 pub mod Check
 pub mod Policy
 pub mod Rules

@@ -6,4 +6,4 @@ use Rattle.topos_top.specs.Job.{Job, writes}
 
 -- The report says of each flow whether the permitted policy lets it pass, and which invariant denies it.
 abbrev pub policy_job : Network → Job
-policy_job d = writes (record { is = IsPolicyReport d; tells = TellsPolicy d })
+policy_job d = writes (IsPolicyReport d) (TellsPolicy d)

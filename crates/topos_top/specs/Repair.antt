@@ -1,8 +1,14 @@
--- `repair iptables FILE`: the rules of the permitted policy, whatever was listed.
+-- `repair iptables|openflow FILE`: the rules of the permitted policy, whatever was listed.
 use Rattle.net_core.specs.Network.{Network}
-use Rattle.topos_top.specs.Job.{Job, writes}
-use Rattle.topos_top.specs.Rules.{rules_of}
+use Rattle.topos_top.specs.Dialects.{language_of}
+use Rattle.topos_top.specs.Job.{Job, never}
+use Rattle.topos_top.specs.Rules.{hindrance_when, rules_when}
+use Rattle.topos_top.specs.declared.form.Dialect.{Dialect}
 
--- The rules.
-abbrev pub repair_job : Network → Job
-repair_job d = writes (rules_of d)
+-- The rules, where they can be written.
+abbrev pub repair_job : Dialect → Network → Job
+repair_job dialect d = record {
+  report = never;
+  hindrance = hindrance_when (Unit {0}) (language_of dialect) d;
+  text = rules_when (Unit {0}) (language_of dialect) d;
+}

@@ -11,6 +11,7 @@ pub data Reply : Type 0 where
   Refused : (why : Fault) → Reply  -- a file is refused
   Violated : (report : List ℕ) → Reply  -- what has to hold fails, and the report goes to the error stream
   Reported : (report : List ℕ) → Reply  -- what has to hold fails, and the report goes to the output
+  NotEmittable : (line : List ℕ) → Reply  -- what is asked for cannot be written, and the line says why
   Done : (text : List ℕ) → Reply  -- this text goes to the output
   Memory : Reply  -- want of memory, which no definition gives
 

@@ -5,7 +5,7 @@ use Rattle.edge_io.specs.Counts.{more, Rose}
 use Rattle.edge_io.specs.Told.{Files, Lacks}
 use Rattle.topos_top.specs.Command.{Command, files_of, reports_on_output, command_of}
 use Rattle.topos_top.specs.File.{File, most_of, Reads}
-use Rattle.topos_top.specs.Job.{Ends}
+use Rattle.topos_top.specs.Job.{Job, Ends}
 use Rattle.topos_top.specs.Jobs.{job_of}
 use Rattle.topos_top.specs.Reply.{Reply, Usage, Memory, ReadsIn}
 use Rattle.topos_top.specs.declared.reading.Reading.{Reading}
@@ -85,9 +85,12 @@ pub data EndedEarly (shelf : ShelfChange) (files : List File) (given : Reply) : 
   NoMemory : BeganSome shelf files → given ≡ Memory → EndedEarly shelf files given
   Stopped : (file : File) (saw : Option (List ℕ)) → CameTo shelf files file saw → ReadsIn file saw (Err given) → EndedEarly shelf files given
 
--- The reply to readings.
+-- The job of a command with its readings, and the reply to them.
+abbrev pub job_with : Command → List Reading → Job
+job_with command readings = job_of command.verb command.dialect readings
+
 abbrev pub RepliesOn : Command → List Reading → Reply → Type 0
-RepliesOn command readings = Ends (reports_on_output command) (job_of command readings)
+RepliesOn command readings = Ends (reports_on_output command) (job_with command readings)
 
 -- Why a command may give a reply: it ended early, or the reply is that of its job.
 pub data MayReply (command : Command) (shelf : ShelfChange) (given : Reply) : Type 0 where

@@ -2,7 +2,7 @@
 use Rattle.std.specs.Prelude.{◌≡◌, ℕ, ◌⊎◌, List, Option, IsTrue}
 use Rattle.std.specs.Io.KnownBytes.{append_known}
 use Rattle.edge_io.specs.Counts.{Rose}
-use Rattle.edge_io.specs.Put.{TookPrefix}
+use Rattle.edge_io.specs.Told.{TookPrefix}
 use Rattle.topos_top.specs.Reply.{Reply}
 use Rattle.topos_top.specs.Ending.{status_of, out_of, has_output}
 use Rattle.topos_top.specs.declared.status.Status.{Status}

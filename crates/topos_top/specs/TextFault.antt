@@ -2,6 +2,8 @@
 use Rattle.std.specs.Prelude.{ℕ, List, ◌++◌, codes, decimal}
 use Rattle.ipt_read.specs.declared.fault.IptWhy.{IptWhy}
 use Rattle.ipt_read.specs.declared.fault.IptWhy.TheVariants as rules
+use Rattle.ofp_read.specs.declared.fault.OfpWhy.{OfpWhy}
+use Rattle.ofp_read.specs.declared.fault.OfpWhy.TheVariants as flows
 use Rattle.pkt_core.specs.declared.events.EventWhy.{EventWhy}
 use Rattle.pkt_core.specs.declared.events.EventWhy.TheVariants as events
 
@@ -20,6 +22,16 @@ rules_reason rules.NoCommit = codes "NoCommit"
 rules_reason rules.AfterCommit = codes "AfterCommit"
 rules_reason rules.TooMany = codes "TooMany"
 
+abbrev pub flows_reason : OfpWhy → List ℕ
+flows_reason flows.TooLong = codes "TooLong"
+flows_reason flows.BadLine = codes "BadLine"
+flows_reason flows.UnknownField = codes "UnknownField"
+flows_reason flows.BadValue = codes "BadValue"
+flows_reason flows.NeedsIp = codes "NeedsIp"
+flows_reason flows.UnknownAction = codes "UnknownAction"
+flows_reason flows.Ambiguous = codes "Ambiguous"
+flows_reason flows.TooMany = codes "TooMany"
+
 abbrev pub events_reason : EventWhy → List ℕ
 events_reason events.TooLong = codes "TooLong"
 events_reason events.BadLine = codes "BadLine"
@@ -32,6 +44,10 @@ fault_line text line reason = text ++ (decimal line ++ (codes ": " ++ (reason ++
 
 abbrev pub rules_fault_line : (line : ℕ) → IptWhy → List ℕ
 rules_fault_line line why = fault_line (codes "topos: rules: line ") line (rules_reason why)
+
+-- a text of rules is called so in every dialect
+abbrev pub flows_fault_line : (line : ℕ) → OfpWhy → List ℕ
+flows_fault_line line why = fault_line (codes "topos: rules: line ") line (flows_reason why)
 
 abbrev pub events_fault_line : (line : ℕ) → EventWhy → List ℕ
 events_fault_line line why = fault_line (codes "topos: events: line ") line (events_reason why)

@@ -2,18 +2,19 @@
 
 ghost use Rattle.std.specs.Prelude.{◌≡◌, ◌≢◌, ◌≤◌, [], is_some, IsTrue, IsFalse, IfSome, IfNone};
 ghost use Rattle.std.specs.List.{flat_map};
-ghost use Rattle.topos_top.specs.AnswerView.{reply_view};
-ghost use Rattle.topos_top.specs.Ending.{status_of, out_of, has_output, err_of, line_after, usage_text, refused_line};
+ghost use Rattle.topos_top.specs.AnswerView.{reply_view, text_view};
+ghost use Rattle.topos_top.specs.Ending.{status_of, out_of, has_output, err_of, line_after, refused_line};
+ghost use Rattle.topos_top.specs.Form.{usage_text};
 ghost use Rattle.report_core.specs.RefusalLine.{refusal_text};
 ghost use Rattle.topos_top.specs.Taken.{sink_change, IsWritten, IsSaid};
 ghost use Rattle.topos_top.specs.TextFault.{fault_line};
 
-use crate::answer::Answer;
+use crate::answer::{Answer, Text};
 use crate::fault::Fault;
 use crate::status::Status;
-use crate::text_fault::{events_reason, rules_reason};
+use crate::text_fault::{events_reason, flows_reason, rules_reason};
 use desc_core::Refusal;
-use edge_io::{Sink, put_all, put_pieces};
+use edge_io::{Sink, put_pieces};
 use report_core::refusal_line;
 
 /// Writes the answer, and says how the run ended. A failure of `err` changes nothing else.
@@ -26,7 +27,7 @@ pub fn give<O: Sink, E: Sink>(answer: &Answer<'_>, out: &mut O, err: &mut E) -> 
     ensures err_faults_stay { E.faults err.old ≤ E.faults err.new }
 {
     if let Some(text) = output_of(answer)
-        && put_all(out, text).is_err()
+        && text.put(out).is_err()
     {
         say(err, &[b"topos: cannot write\n"]);
         return Status::WriteFault;
@@ -35,14 +36,14 @@ pub fn give<O: Sink, E: Sink>(answer: &Answer<'_>, out: &mut O, err: &mut E) -> 
     status_of(answer)
 }
 
-/// The bytes for the output, where there are any.
-fn output_of<'a>(answer: &'a Answer<'_>) -> Option<&'a [u8]>
-    ensures some { IfSome result (λ text. text.now ≡ out_of (reply_view answer.now)) }
+/// The text for the output, where there is one.
+fn output_of<'a>(answer: &'a Answer<'_>) -> Option<&'a Text>
+    ensures some { IfSome result (λ text. text_view text.now ≡ out_of (reply_view answer.now)) }
     ensures none { is_some result ≡ has_output (reply_view answer.now) }
     ensures nothing { IfNone result (out_of (reply_view answer.now) ≡ []) }
 {
     match answer {
-        Answer::Reported(text) | Answer::Done(text) => Some(text.bytes()),
+        Answer::Reported(text) | Answer::Done(text) => Some(text),
         _ => None,
     }
 }
@@ -54,8 +55,9 @@ fn status_of(answer: &Answer<'_>) -> Status
         Answer::Usage => Status::Usage,
         Answer::CannotRead(_) => Status::ReadFault,
         Answer::Refused(Fault::Description(_)) => Status::BadDescription,
-        Answer::Refused(Fault::Rules(..) | Fault::Events(..)) => Status::BadText,
+        Answer::Refused(Fault::Rules(..) | Fault::Flows(..) | Fault::Events(..)) => Status::BadText,
         Answer::Violated(_) | Answer::Reported(_) => Status::Violated,
+        Answer::NotEmittable(_) => Status::NotEmittable,
         Answer::Done(_) => Status::Done,
         Answer::Memory => Status::Memory,
     }
@@ -71,14 +73,15 @@ fn explain<E: Sink>(answer: &Answer<'_>, err: &mut E)
         Answer::Usage => say_usage(err),
         Answer::CannotRead(file) => say(err, &[b"topos: cannot read ", file.as_bytes(), b"\n"]),
         Answer::Refused(why) => say_refused(err, why),
-        Answer::Violated(report) => say(err, &[report.bytes()]),
+        Answer::Violated(text) => say_text(err, text),
+        Answer::NotEmittable(line) => say(err, &[line.as_slice()]),
         Answer::Reported(_) | Answer::Done(_) => {}
         Answer::Memory => say(err, &[b"topos: out of memory\n"]),
     }
 }
 
 /// The forms of the command line.
-#[tactic(auto, unfolding(crate::specs::Ending::usage_text))]
+#[tactic(auto, unfolding(crate::specs::Form::usage_text))]
 fn say_usage<E: Sink>(err: &mut E)
     ensures said { IsSaid (sink_change E.held E.faults err.old err.new) usage_text }
     ensures faults_stay { E.faults err.old ≤ E.faults err.new }
@@ -88,9 +91,9 @@ fn say_usage<E: Sink>(err: &mut E)
         &[
             b"usage: topos check FILE\n",
             b"       topos policy FILE\n",
-            b"       topos rules iptables FILE\n",
-            b"       topos repair iptables FILE\n",
-            b"       topos trace iptables RULES EVENTS\n",
+            b"       topos rules iptables|openflow FILE\n",
+            b"       topos repair iptables|openflow FILE\n",
+            b"       topos trace iptables|openflow RULES EVENTS\n",
         ],
     );
 }
@@ -103,6 +106,7 @@ fn say_refused<E: Sink>(err: &mut E, why: &Fault)
     match why {
         Fault::Description(why) => say_refusal(err, why),
         Fault::Rules(line, why) => say_line(err, b"topos: rules: line ", *line, rules_reason(*why)),
+        Fault::Flows(line, why) => say_line(err, b"topos: rules: line ", *line, flows_reason(*why)),
         Fault::Events(line, why) => {
             say_line(err, b"topos: events: line ", *line, events_reason(*why));
         }
@@ -132,6 +136,14 @@ fn say_line<E: Sink>(err: &mut E, text: &[u8], line: u32, reason: &[u8])
 }
 
 /// Puts a text on `err`, whose failure changes no answer.
+fn say_text<E: Sink>(err: &mut E, text: &Text)
+    ensures said { IsSaid (sink_change E.held E.faults err.old err.new) (text_view text.now) }
+    ensures faults_stay { E.faults err.old ≤ E.faults err.new }
+{
+    let _ = text.put(err);
+}
+
+/// Puts pieces of a line on `err`, whose failure changes no answer.
 fn say<E: Sink>(err: &mut E, pieces: &[&[u8]])
     ensures said { IsSaid (sink_change E.held E.faults err.old err.new) (flat_map (λ piece. piece.now) pieces.now) }
     ensures faults_stay { E.faults err.old ≤ E.faults err.new }

@@ -1,24 +1,23 @@
 //! The files that a command names, each of its kind.
 
 ghost use Rattle.std.specs.Prelude.{◌≡◌, ◌≤◌, ◌^◌};
-ghost use Rattle.topos_top.specs.File.{most_of, too_long};
+ghost use Rattle.topos_top.specs.File.{kind_in, most_of};
+ghost use Rattle.topos_top.specs.Kinds.{too_long};
 
 use crate::fault::Fault;
+use crate::form::{Dialect, Slot};
 use desc_core::{Place, Refusal, Why};
 use ipt_read::IptWhy;
-use pkt_core::EventWhy;
-
-const RULES_BYTE_LIMIT: usize = 67_108_864;
-
-const EVENTS_BYTE_LIMIT: usize = 16_777_216;
+use ofp_read::OfpWhy;
+use pkt_core::{EVENTS_BYTE_LIMIT, EventWhy};
 
 /// What a file is to hold.
 #[derive(Clone, Copy)]
 pub enum Kind {
     /// A description.
     Description,
-    /// Rules of iptables.
-    Rules,
+    /// Rules of a dialect.
+    Rules(Dialect),
     /// A list of events.
     Events,
 }
@@ -31,14 +30,26 @@ pub struct File<'a> {
 }
 
 impl Kind {
+    /// The kind of a file in a form, in the dialect of the command.
+    pub fn of(slot: Slot, dialect: Dialect) -> Kind
+        ensures { result ≡ kind_in dialect slot }
+    {
+        match slot {
+            Slot::Description => Kind::Description,
+            Slot::Rules => Kind::Rules(dialect),
+            Slot::Events => Kind::Events,
+        }
+    }
+
     /// The most bytes that such a file may have.
     pub fn most(self) -> usize
         ensures most { result ≡ most_of self }
         ensures small { result ≤ 2 ^ 26 }
     {
         match self {
-            Kind::Description => desc_core::MOST_BYTES,
-            Kind::Rules => RULES_BYTE_LIMIT,
+            Kind::Description => desc_core::BYTE_LIMIT,
+            Kind::Rules(Dialect::Iptables) => ipt_read::BYTE_LIMIT,
+            Kind::Rules(Dialect::OpenFlow) => ofp_read::BYTE_LIMIT,
             Kind::Events => EVENTS_BYTE_LIMIT,
         }
     }
@@ -49,7 +60,8 @@ impl Kind {
     {
         match self {
             Kind::Description => Fault::Description(Refusal::at(Why::TooLong, Place::Document)),
-            Kind::Rules => Fault::Rules(0, IptWhy::TooLong),
+            Kind::Rules(Dialect::Iptables) => Fault::Rules(0, IptWhy::TooLong),
+            Kind::Rules(Dialect::OpenFlow) => Fault::Flows(0, OfpWhy::TooLong),
             Kind::Events => Fault::Events(0, EventWhy::TooLong),
         }
     }

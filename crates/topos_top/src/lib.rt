@@ -1,9 +1,11 @@
 //! Everything that the program does, over any shelf of files and any two sinks of bytes. The words
 //! give a command, the command an answer from its files, and the answer its ending. Each command has a
-//! file of its own here and in `specs/`; `commands` and `specs/Jobs.antt` list them.
+//! file of its own here and in `specs/`; `form` and `commands`, `specs/Form.antt` and `specs/Jobs.antt`
+//! list them.
 #![tactic(auto)]
 
 mod answer;
+mod chains;
 mod check;
 mod command;
 mod commands;
@@ -11,6 +13,9 @@ mod ending;
 mod events;
 mod fault;
 mod file;
+mod flows;
+mod form;
+mod lines;
 mod policy;
 mod program;
 mod reading;

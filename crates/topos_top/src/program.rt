@@ -2,7 +2,7 @@
 
 ghost use Rattle.std.specs.Prelude.{◌≡◌, ◌≢◌, ◌≤◌, ◌↔◌, ◌⊎◌, None, map, string_bytes};
 ghost use Rattle.topos_top.specs.Command.{command_of, AsksToReport, NamesNoFile};
-ghost use Rattle.topos_top.specs.Promises.{GaveReply, LacksFile, HasBadDescription, HasBadText, IsViolated, WroteText, WasCutOff, RanOut, KeepsPromise, IsComplete, EndsAsTold};
+ghost use Rattle.topos_top.specs.Promises.{GaveReply, LacksFile, HasBadDescription, HasBadText, IsViolated, CannotWrite, WroteText, WasCutOff, RanOut, KeepsPromise, IsComplete, EndsAsTold};
 ghost use Rattle.topos_top.specs.Seen.{shelf_change};
 ghost use Rattle.topos_top.specs.Taken.{sink_change};
 
@@ -48,6 +48,9 @@ pub fn run<H: Shelf, O: Sink, E: Sink>(
     ensures violated { result ≡ Status.Violated → IsViolated (map string_bytes words.now)
         (shelf_change H.files H.faults H.begins H.taken shelf.old shelf.new)
         (sink_change O.held O.faults out.old out.new) (sink_change E.held E.faults err.old err.new) }
+    ensures not_emittable { result ≡ Status.NotEmittable → CannotWrite (map string_bytes words.now)
+        (shelf_change H.files H.faults H.begins H.taken shelf.old shelf.new)
+        (sink_change O.held O.faults out.old out.new) (sink_change E.held E.faults err.old err.new) }
     ensures write_fault { result ≡ Status.WriteFault → WasCutOff (map string_bytes words.now)
         (shelf_change H.files H.faults H.begins H.taken shelf.old shelf.new)
         (sink_change O.held O.faults out.old out.new) (sink_change E.held E.faults err.old err.new) }
@@ -58,7 +61,8 @@ pub fn run<H: Shelf, O: Sink, E: Sink>(
 
     // The headline: rules that are written forward exactly what the policy expects, over every list
     // of packets and forgettings, also as they are read again, and the policy meets every invariant
-    // and is the first that does.
+    // and is the first that does. Flows of OpenFlow do so without connections: they are written only
+    // where no answer needs one.
     ensures headline { result ≡ Status.Done → KeepsPromise (map string_bytes words.now)
         (shelf_change H.files H.faults H.begins H.taken shelf.old shelf.new) (sink_change O.held O.faults out.old out.new) }
 

@@ -1,10 +1,11 @@
 //! Reading the files of a command in their order, and what is in each.
 
-ghost use Rattle.std.specs.Prelude.{◌≡◌, ◌≤◌, [], map};
+ghost use Rattle.std.specs.Prelude.{◌≡◌, ◌≤◌, [], length};
 ghost use Rattle.edge_io.specs.Counts.{more};
 ghost use Rattle.topos_top.specs.AnswerView.{outcome_view, readings_view};
 ghost use Rattle.topos_top.specs.Command.{files_of};
 ghost use Rattle.topos_top.specs.CommandView.{command_view, file_view};
+ghost use Rattle.topos_top.specs.Form.{form_of};
 ghost use Rattle.topos_top.specs.Reads.{IsOutcome, MayReadOne, MayRead};
 ghost use Rattle.topos_top.specs.Seen.{shelf_change};
 
@@ -13,10 +14,13 @@ use crate::command::Command;
 use crate::events::EventList;
 use crate::fault::Fault;
 use crate::file::{File, Kind};
+use crate::form::Dialect;
 use desc_core::{DescFault, Description, describe};
 use edge_io::{Shelf, TakeFault, take_all};
 use ipt_read::IptFault;
 use ipt_rules::Ruleset;
+use ofp_read::OfpFault;
+use ofp_rules::Table;
 use pkt_core::{EventFault, read_events};
 use std::alloc::Global;
 
@@ -27,57 +31,34 @@ pub enum Reading {
     Network(Description),
     /// Rules of iptables.
     Rules(Ruleset),
+    /// A flow table of OpenFlow.
+    Flows(Table),
     /// The events of a list.
     Events(EventList),
 }
 
-/// The readings of the files that a command names, or the answer that ends the run.
+/// The readings of the files that a command names, or the answer that ends the run. No file is begun
+/// before those that stand before it are accepted.
 pub fn read_files<'a, H: Shelf>(
     alloc: Global,
     command: Command<'a>,
     shelf: &mut H,
 ) -> Result<Vec<Reading>, Answer<'a>>
+    requires { length command.names.now ≡ length (form_of command.verb).slots }
     ensures same_files { H.files shelf.new ≡ H.files shelf.old }
     ensures faults_stay { H.faults shelf.old ≤ H.faults shelf.new }
     ensures no_files { files_of (command_view command.entry) ≡ [] → shelf.new ≡ shelf.old }
     ensures readings { MayRead (shelf_change H.files H.faults H.begins H.taken shelf.old shelf.new)
         (files_of (command_view command.entry)) (readings_view result) }
 {
-    match command {
-        Command::Check(name)
-        | Command::Policy(name)
-        | Command::Rules(name)
-        | Command::Repair(name) => read_all(alloc, &[file(Kind::Description, name)], shelf),
-        Command::Trace { rules, events } => read_all(
-            alloc,
-            &[file(Kind::Rules, rules), file(Kind::Events, events)],
-            shelf,
-        ),
-    }
-}
-
-fn file<'a>(kind: Kind, name: &'a str) -> File<'a>
-    ensures { file_view result ≡ record { kind = kind; name = name.now } }
-{
-    File { kind, name }
-}
-
-/// The readings of the files, or the answer that ends the run. No file is begun before those that
-/// stand before it are accepted.
-fn read_all<'a, H: Shelf>(
-    alloc: Global,
-    files: &[File<'a>],
-    shelf: &mut H,
-) -> Result<Vec<Reading>, Answer<'a>>
-    ensures same_files { H.files shelf.new ≡ H.files shelf.old }
-    ensures faults_stay { H.faults shelf.old ≤ H.faults shelf.new }
-    ensures no_files { files.now ≡ [] → shelf.new ≡ shelf.old }
-    ensures readings { MayRead (shelf_change H.files H.faults H.begins H.taken shelf.old shelf.new)
-        (map file_view files.now) (readings_view result) }
-{
+    let slots = command.verb.slots();
     let mut readings = Vec::new(alloc);
-    for file in files {
-        let reading = read_one(alloc, *file, shelf)?;
+    for (place, name) in command.names.iter().enumerate() {
+        let file = File {
+            kind: Kind::of(slots[place], command.dialect),
+            name: name.as_str(),
+        };
+        let reading = read_one(alloc, file, shelf)?;
         readings.push(reading)?;
     }
     Ok(readings)
@@ -113,10 +94,15 @@ fn read_as<'a>(alloc: Global, kind: Kind, bytes: &[u8]) -> Result<Reading, Answe
             Err(DescFault::Refused(why)) => Err(Answer::Refused(Fault::Description(why))),
             Err(DescFault::Memory) => Err(Answer::Memory),
         },
-        Kind::Rules => match ipt_read::read(alloc, bytes) {
+        Kind::Rules(Dialect::Iptables) => match ipt_read::read(alloc, bytes) {
             Ok(rules) => Ok(Reading::Rules(rules)),
             Err(IptFault::Refused { line, why }) => Err(Answer::Refused(Fault::Rules(line, why))),
             Err(IptFault::Memory) => Err(Answer::Memory),
+        },
+        Kind::Rules(Dialect::OpenFlow) => match ofp_read::read(alloc, bytes) {
+            Ok(table) => Ok(Reading::Flows(table)),
+            Err(OfpFault::Refused { line, why }) => Err(Answer::Refused(Fault::Flows(line, why))),
+            Err(OfpFault::Memory) => Err(Answer::Memory),
         },
         Kind::Events => match read_events(alloc, bytes) {
             Ok(events) => Ok(Reading::Events(EventList::new(events))),

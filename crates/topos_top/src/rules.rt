@@ -1,23 +1,27 @@
-//! `rules iptables FILE`: the rules of the permitted policy, unless it was listed and breaks an
-//! invariant.
+//! `rules iptables|openflow FILE`: the rules of the permitted policy, unless it was listed and breaks
+//! an invariant.
 
-ghost use Rattle.std.specs.Prelude.{◌≡◌, IfOk, false};
-ghost use Rattle.ipt_rules.specs.Text.{text};
+ghost use Rattle.std.specs.Prelude.{IfOk, false};
 ghost use Rattle.topos_top.specs.AnswerView.{reply_view};
 ghost use Rattle.topos_top.specs.Job.{Ends};
-ghost use Rattle.topos_top.specs.Rules.{IsRules, rules_job};
+ghost use Rattle.topos_top.specs.Repair.{repair_job};
+ghost use Rattle.topos_top.specs.Rules.{rules_job};
 
 use crate::answer::{Answer, Text};
+use crate::form::Dialect;
+use crate::{chains, flows};
 use desc_core::Description;
-use emit_core::emit_iptables;
-use ipt_rules::Ruleset;
 use net_core::policy_of;
 use report_core::check_report;
 use std::alloc::{AllocError, Global};
 
-/// The rules. Where no policy is listed, there is none to break an invariant.
-pub fn answer<'a>(alloc: Global, description: &Description) -> Result<Answer<'a>, AllocError>
-    ensures { IfOk result (λ answer. Ends false (rules_job description.now) (reply_view answer)) }
+/// The rules, or why there are none. Where no policy is listed, there is none to break an invariant.
+pub fn answer<'a>(
+    alloc: Global,
+    dialect: Dialect,
+    description: &Description,
+) -> Result<Answer<'a>, AllocError>
+    ensures { IfOk result (λ answer. Ends false (rules_job dialect description.now) (reply_view answer)) }
 {
     if description.given() {
         let (report, holds) = check_report(alloc, description)?;
@@ -25,33 +29,20 @@ pub fn answer<'a>(alloc: Global, description: &Description) -> Result<Answer<'a>
             return Ok(Answer::Violated(Text::Report(report)));
         }
     }
-    let rules = rules_text(alloc, description)?;
-    Ok(Answer::Done(Text::Bytes(rules)))
+    policy_rules(alloc, dialect, description)
 }
 
-/// The rules of the policy of a description, as one text.
-pub fn rules_text(alloc: Global, description: &Description) -> Result<Vec<u8>, AllocError>
-    ensures { IfOk result (λ bytes. IsRules description.now bytes.items) }
+/// The rules of the policy of a description, or why they cannot be written.
+pub fn policy_rules<'a>(
+    alloc: Global,
+    dialect: Dialect,
+    description: &Description,
+) -> Result<Answer<'a>, AllocError>
+    ensures { IfOk result (λ answer. Ends false (repair_job dialect description.now) (reply_view answer)) }
 {
     let policy = policy_of(alloc, description)?;
-    let rules = emit_iptables(
-        alloc,
-        description.hosts(),
-        policy.permitted(),
-        policy.stateful(),
-    )?;
-    text_of(alloc, &rules)
-}
-
-/// The lines of a rule set, one after the other.
-fn text_of(alloc: Global, rules: &Ruleset) -> Result<Vec<u8>, AllocError>
-    ensures { IfOk result (λ bytes. bytes.items ≡ text rules.now) }
-{
-    let mut bytes = Vec::new(alloc);
-    let mut line = [0; 256];
-    for i in 0..rules.lines() {
-        let length = rules.write_line(i, &mut line);
-        bytes.extend_from_slice(&line[..length])?;
+    match dialect {
+        Dialect::Iptables => chains::answer(alloc, description, &policy),
+        Dialect::OpenFlow => flows::answer(alloc, description, &policy),
     }
-    Ok(bytes)
 }

@@ -1,9 +1,10 @@
 //! The names of the reasons for which a text of rules or of events is refused.
 
 ghost use Rattle.std.specs.Prelude.{◌≡◌};
-ghost use Rattle.topos_top.specs.TextFault.{rules_reason, events_reason};
+ghost use Rattle.topos_top.specs.TextFault.{rules_reason, flows_reason, events_reason};
 
 use ipt_read::IptWhy;
+use ofp_read::OfpWhy;
 use pkt_core::EventWhy;
 
 /// Why rules are refused.
@@ -24,6 +25,22 @@ pub fn rules_reason(why: IptWhy) -> &'static [u8]
         IptWhy::NoCommit => b"NoCommit",
         IptWhy::AfterCommit => b"AfterCommit",
         IptWhy::TooMany => b"TooMany",
+    }
+}
+
+/// Why flows are refused.
+pub fn flows_reason(why: OfpWhy) -> &'static [u8]
+    ensures { result.now ≡ flows_reason why }
+{
+    match why {
+        OfpWhy::TooLong => b"TooLong",
+        OfpWhy::BadLine => b"BadLine",
+        OfpWhy::UnknownField => b"UnknownField",
+        OfpWhy::BadValue => b"BadValue",
+        OfpWhy::NeedsIp => b"NeedsIp",
+        OfpWhy::UnknownAction => b"UnknownAction",
+        OfpWhy::Ambiguous => b"Ambiguous",
+        OfpWhy::TooMany => b"TooMany",
     }
 }
 

@@ -4,7 +4,7 @@ use Rattle.topos_top.specs.Promises.{GaveReply}
 use Rattle.topos_top.specs.Seen.{shelf_change}
 use Rattle.topos_top.specs.Taken.{sink_change}
 use Rattle.topos_top.proofs.HeadlineLaw.{headline_law}
-use Rattle.topos_top.proofs.RunLaws.{usage_law, read_fault_law, bad_description_law, bad_text_law, violated_law, write_fault_law, memory_law, done_law, no_fault, nothing_to_write, something_to_write}
+use Rattle.topos_top.proofs.RunLaws.{usage_law, read_fault_law, bad_description_law, bad_text_law, violated_law, not_emittable_law, write_fault_law, memory_law, done_law, no_fault, nothing_to_write, something_to_write}
 use Rattle.topos_top.proofs.ToldLaws.{complete_law, ends_as_told_law}
 use Rattle.topos_top.proofs.program.run.Given as given
 use Rattle.topos_top.proofs.program.run.Goals as goal
@@ -40,6 +40,9 @@ returns-clause-bad_text g c = bad_text_law _ _ _ _ _ (gave g c)
 
 pub returns-clause-violated : goal.returns-clause-violated
 returns-clause-violated g c = violated_law _ _ _ _ _ (gave g c)
+
+pub returns-clause-not_emittable : goal.returns-clause-not_emittable
+returns-clause-not_emittable g c = not_emittable_law _ _ _ _ _ (gave g c)
 
 pub returns-clause-write_fault : goal.returns-clause-write_fault
 returns-clause-write_fault g c = write_fault_law _ _ _ _ _ (gave g c)
