@@ -13,7 +13,8 @@ use Rattle.flow_set.specs.WalkLaws.{walk_next}
 use Rattle.first_core.specs.Grown.{IsGrown, IsNew}
 
 -- the flows so far and f are a set
-pub walked : (n : ℕ) (xs left rest whole : List Flow) (f : Flow) → IsFlowSet n whole → xs ++ left ≡ whole → left ≡ f ∷ rest → IsFlowSet n (xs ++ f ∷ [])
+pub walked : (n : ℕ) (xs left rest whole : List Flow) (f : Flow) → IsFlowSet n whole → xs ++ left ≡ whole → left ≡ f ∷ rest
+    → IsFlowSet n (xs ++ f ∷ [])
 walked n xs left rest whole f set walk next =
     let e = walk_next xs left rest whole f walk next in
     IsFlowSet-subset n (xs ++ f ∷ []) whole set
@@ -25,10 +26,12 @@ flow_walked n xs f set = set.flows f (has-append xs (f ∷ []) f ∙ or_right _ 
 -- f is new to what was kept of the flows so far
 pub kept_lacks : (n : ℕ) (xs kept : List Flow) (f : Flow) → IsFlowSet n (xs ++ f ∷ []) → IsSubset kept xs → IsFalse (has kept f)
 kept_lacks n xs kept f set sub =
-    false_from_ne_true _ (λ there. both_ways _ (before_self f) (front_before xs (f ∷ []) f f set.ordered (sub.within f there) (has_first f [])))
+    false_from_ne_true _
+    (λ there. both_ways _ (before_self f) (front_before xs (f ∷ []) f f set.ordered (sub.within f there) (has_first f [])))
 
 pub kept_set : (n : ℕ) (xs kept : List Flow) (f : Flow) → IsFlowSet n (xs ++ f ∷ []) → IsSubset kept xs → IsFlowSet n kept
-kept_set n xs kept f set sub = IsFlowSet-subset n kept (xs ++ f ∷ []) set (subset_trans kept xs (xs ++ f ∷ []) sub (subset_front xs (f ∷ []) set.ordered))
+kept_set n xs kept f set sub =
+    IsFlowSet-subset n kept (xs ++ f ∷ []) set (subset_trans kept xs (xs ++ f ∷ []) sub (subset_front xs (f ∷ []) set.ordered))
 
 -- f is one more flow for what was kept
 pub kept_new : (n : ℕ) (xs kept : List Flow) (f : Flow) → IsFlowSet n (xs ++ f ∷ []) → IsSubset kept xs → IsNew n kept f
@@ -39,7 +42,8 @@ kept_new n xs kept f set sub = record {
 }
 
 -- what is kept, with f, is a set that met the condition with one more flow
-pub kept_grown : (n m : ℕ) (Holds : List Flow → Type 0) (xs kept fs : List Flow) (f : Flow) → n ≡ m → IsFlowSet n (xs ++ f ∷ []) → IsFirst Holds xs kept → fs ≡ with_flow kept f → IsGrown m Holds fs f
+pub kept_grown : (n m : ℕ) (Holds : List Flow → Type 0) (xs kept fs : List Flow) (f : Flow) → n ≡ m → IsFlowSet n (xs ++ f ∷ [])
+    → IsFirst Holds xs kept → fs ≡ with_flow kept f → IsGrown m Holds fs f
 kept_grown n m Holds xs kept fs f same set p grown = record {
   old = kept;
   set = subst (λ k. IsFlowSet k kept) same (kept_set n xs kept f set p.within);
@@ -50,6 +54,7 @@ kept_grown n m Holds xs kept fs f same set p grown = record {
 }
 
 -- f put in and taken out again
-pub kept_again : (n : ℕ) (xs kept fs gs : List Flow) (f : Flow) → IsFlowSet n (xs ++ f ∷ []) → IsSubset kept xs → fs ≡ with_flow kept f → gs ≡ without_flow fs f → gs ≡ kept
+pub kept_again : (n : ℕ) (xs kept fs gs : List Flow) (f : Flow) → IsFlowSet n (xs ++ f ∷ []) → IsSubset kept xs
+    → fs ≡ with_flow kept f → gs ≡ without_flow fs f → gs ≡ kept
 kept_again n xs kept fs gs f set sub put taken =
     taken ∙ ap (λ (zs : List Flow). without_flow zs f) put ∙ without_flow-with_flow kept f sub.ordered (kept_lacks n xs kept f set sub)

@@ -70,11 +70,14 @@ rest_within xs ys f sub = record {
       ];
 }
 
-rest_holds : (n : ℕ) (Holds : List Flow → Type 0) (xs ys : List Flow) (f : Flow) → IsFlowSet n (xs ++ f ∷ []) → IsDownward n Holds → IsSubset ys (xs ++ f ∷ []) → Holds ys → Holds (without_flow ys f)
-rest_holds n Holds xs ys f set downward sub holds = downward ys (without_flow ys f) (IsFlowSet-subset n ys (xs ++ f ∷ []) set sub) (subset_without_flow ys f sub.ordered) holds
+rest_holds : (n : ℕ) (Holds : List Flow → Type 0) (xs ys : List Flow) (f : Flow) → IsFlowSet n (xs ++ f ∷ []) → IsDownward n Holds
+    → IsSubset ys (xs ++ f ∷ []) → Holds ys → Holds (without_flow ys f)
+rest_holds n Holds xs ys f set downward sub holds =
+    downward ys (without_flow ys f) (IsFlowSet-subset n ys (xs ++ f ∷ []) set sub) (subset_without_flow ys f sub.ordered) holds
 
 -- what differs from kept in a flow before f differs there from kept with f too, whether or not it has f
-differs_earlier : (kept ys : List Flow) (f : Flow) (d : DiffersFirstIn kept (without_flow ys f)) → IsTrue (before d.flow f) → DiffersFirstIn kept ys
+differs_earlier : (kept ys : List Flow) (f : Flow) (d : DiffersFirstIn kept (without_flow ys f)) → IsTrue (before d.flow f)
+    → DiffersFirstIn kept ys
 differs_earlier kept ys f d early = record {
   flow = d.flow;
   here = d.here;
@@ -82,7 +85,8 @@ differs_earlier kept ys f d early = record {
   same_before = λ g earlier. d.same_before g earlier ∙ sym (same_but_last ys f g (before_trans g d.flow f earlier early));
 }
 
-differs_still : (kept ys : List Flow) (f : Flow) (d : DiffersFirstIn kept ys) → IsTrue (before d.flow f) → DiffersFirstIn (with_flow kept f) ys
+differs_still : (kept ys : List Flow) (f : Flow) (d : DiffersFirstIn kept ys) → IsTrue (before d.flow f)
+    → DiffersFirstIn (with_flow kept f) ys
 differs_still kept ys f d early = record {
   flow = d.flow;
   here = has-with_flow kept f d.flow ∙ or_right _ _ d.here;
@@ -100,7 +104,8 @@ differs_last kept ys f same absent = record {
 }
 
 -- the pass keeps f where the condition holds with it
-pub first_kept : (n : ℕ) (Holds : List Flow → Type 0) (xs kept : List Flow) (f : Flow) → IsFlowSet n (xs ++ f ∷ []) → IsDownward n Holds → IsFirst Holds xs kept → Holds (with_flow kept f) → IsFirst Holds (xs ++ f ∷ []) (with_flow kept f)
+pub first_kept : (n : ℕ) (Holds : List Flow → Type 0) (xs kept : List Flow) (f : Flow) → IsFlowSet n (xs ++ f ∷ [])
+    → IsDownward n Holds → IsFirst Holds xs kept → Holds (with_flow kept f) → IsFirst Holds (xs ++ f ∷ []) (with_flow kept f)
 unfolding differs_earlier
 first_kept n Holds xs kept f set downward p holds = record {
   within = with_flow_within kept (xs ++ f ∷ []) f (subset_trans kept xs (xs ++ f ∷ []) p.within (subset_front xs (f ∷ []) set.ordered)) (has-append xs (f ∷ []) f ∙ or_right _ _ (has_first f []));
@@ -111,13 +116,15 @@ first_kept n Holds xs kept f set downward p holds = record {
       | inr absent ↦ inr (differs_last kept ys f same absent)
     ]
     | inr d ↦
-        let early : IsTrue (before d.flow f) = front_before xs (f ∷ []) d.flow f set.ordered (p.within.within d.flow d.here) (has_first f []) in
+        let early : IsTrue (before d.flow f) =
+        front_before xs (f ∷ []) d.flow f set.ordered (p.within.within d.flow d.here) (has_first f []) in
         inr (differs_still kept ys f (differs_earlier kept ys f d early) early)
   ];
 }
 
 -- the pass leaves f out where the condition fails with it
-pub first_left : (n : ℕ) (Holds : List Flow → Type 0) (xs kept : List Flow) (f : Flow) → IsFlowSet n (xs ++ f ∷ []) → IsDownward n Holds → IsFirst Holds xs kept → (Holds (with_flow kept f) → ⊥) → IsFirst Holds (xs ++ f ∷ []) kept
+pub first_left : (n : ℕ) (Holds : List Flow → Type 0) (xs kept : List Flow) (f : Flow) → IsFlowSet n (xs ++ f ∷ [])
+    → IsDownward n Holds → IsFirst Holds xs kept → (Holds (with_flow kept f) → ⊥) → IsFirst Holds (xs ++ f ∷ []) kept
 first_left n Holds xs kept f set downward p fails = record {
   within = subset_trans kept xs (xs ++ f ∷ []) p.within (subset_front xs (f ∷ []) set.ordered);
   holds = p.holds;
@@ -132,25 +139,29 @@ first_left n Holds xs kept f set downward p fails = record {
 
 -- ---- there is one
 
-first_behind : (n : ℕ) (Holds : List Flow → Type 0) (xs rest kept : List Flow) → IsFlowSet n (xs ++ rest) → IsDownward n Holds → ((e : List Flow) → Holds e ⊎ (Holds e → ⊥)) → IsFirst Holds xs kept → (first : List Flow) × IsFirst Holds (xs ++ rest) first
+first_behind : (n : ℕ) (Holds : List Flow → Type 0) (xs rest kept : List Flow) → IsFlowSet n (xs ++ rest) → IsDownward n Holds
+    → ((e : List Flow) → Holds e ⊎ (Holds e → ⊥)) → IsFirst Holds xs kept → (first : List Flow) × IsFirst Holds (xs ++ rest) first
 first_behind n Holds xs [] kept set downward decides p = (kept, subst (λ (zs : List Flow). IsFirst Holds zs kept) (sym (append-nil xs)) p)
 first_behind n Holds xs (f ∷ rest) kept set downward decides p =
     let same : (xs ++ f ∷ []) ++ rest ≡ xs ++ f ∷ rest = append_assoc xs (f ∷ []) rest in
     let whole : IsFlowSet n ((xs ++ f ∷ []) ++ rest) = subst (IsFlowSet n) (sym same) set in
-    let so_far : IsFlowSet n (xs ++ f ∷ []) = IsFlowSet-subset n (xs ++ f ∷ []) ((xs ++ f ∷ []) ++ rest) whole (subset_front (xs ++ f ∷ []) rest whole.ordered) in
+    let so_far : IsFlowSet n (xs ++ f ∷ []) =
+    IsFlowSet-subset n (xs ++ f ∷ []) ((xs ++ f ∷ []) ++ rest) whole (subset_front (xs ++ f ∷ []) rest whole.ordered) in
     subst (λ (zs : List Flow). (first : List Flow) × IsFirst Holds zs first) same (elim (decides (with_flow kept f)) [
       | inl holds ↦ first_behind n Holds (xs ++ f ∷ []) rest (with_flow kept f) whole downward decides (first_kept n Holds xs kept f so_far downward p holds)
       | inr fails ↦ first_behind n Holds (xs ++ f ∷ []) rest kept whole downward decides (first_left n Holds xs kept f so_far downward p fails)
     ])
 
 -- a set has a first subset for every condition that can be decided, that subsets keep and that holds of nothing
-pub first_exists : (n : ℕ) (Holds : List Flow → Type 0) (all : List Flow) → IsFlowSet n all → IsDownward n Holds → Holds [] → ((e : List Flow) → Holds e ⊎ (Holds e → ⊥)) → (first : List Flow) × IsFirst Holds all first
+pub first_exists : (n : ℕ) (Holds : List Flow → Type 0) (all : List Flow) → IsFlowSet n all → IsDownward n Holds → Holds []
+    → ((e : List Flow) → Holds e ⊎ (Holds e → ⊥)) → (first : List Flow) × IsFirst Holds all first
 first_exists n Holds all set downward nothing decides = first_behind n Holds [] all [] set downward decides (first_of_nothing Holds nothing)
 
 -- ---- what is left out
 
 -- no first subset with one more flow of the set meets the condition
-pub first_with : (Holds : List Flow → Type 0) (all xs : List Flow) (f : Flow) → IsFirst Holds all xs → IsTrue (has all f) → IsFalse (has xs f) → Holds (with_flow xs f) → ⊥
+pub first_with : (Holds : List Flow → Type 0) (all xs : List Flow) (f : Flow) → IsFirst Holds all xs → IsTrue (has all f)
+    → IsFalse (has xs f) → Holds (with_flow xs f) → ⊥
 first_with Holds all xs f p there absent holds =
     elim (p.first (with_flow xs f) (with_flow_within xs all f p.within there) holds) [
       | inl same ↦ both_ways _ absent (subst (λ (zs : List Flow). IsTrue (has zs f)) same (has-with_flow xs f f ∙ or_left _ _ (same_flow_self f)))
@@ -170,7 +181,8 @@ without_first all xs o sub =
     twice false false h = refl
 
 -- what the first subset leaves out of a set that fails is a minimal offending set
-pub first_offending : (Holds : List Flow → Type 0) (all xs : List Flow) → IsOrdered all → IsFirst Holds all xs → (Holds all → ⊥) → IsMinimalOffending Holds all (without all xs)
+pub first_offending : (Holds : List Flow → Type 0) (all xs : List Flow) → IsOrdered all → IsFirst Holds all xs → (Holds all → ⊥)
+    → IsMinimalOffending Holds all (without all xs)
 first_offending Holds all xs o p fails =
     let back : without all (without all xs) ≡ xs = without_first all xs o p.within in
     record {
@@ -185,7 +197,8 @@ first_offending Holds all xs o p fails =
 -- ---- the greatest subset
 
 -- the first subset of a condition on single flows contains every other that meets it
-pub first_greatest : (n : ℕ) (Holds : List Flow → Type 0) (all xs : List Flow) → IsFlowSet n all → IsEdgeWise n Holds → IsFirst Holds all xs → IsGreatest Holds all xs
+pub first_greatest : (n : ℕ) (Holds : List Flow → Type 0) (all xs : List Flow) → IsFlowSet n all → IsEdgeWise n Holds
+    → IsFirst Holds all xs → IsGreatest Holds all xs
 first_greatest n Holds all xs set edge_wise p = record {
   within = p.within;
   holds = p.holds;

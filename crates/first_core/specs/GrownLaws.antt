@@ -6,18 +6,9 @@ use Rattle.flow_set.specs.Downward.{IsEdgeWise}
 use Rattle.flow_set.specs.ConditionLaws.{edge_wise-with_flow}
 use Rattle.first_core.specs.Grown.{IsGrown}
 
--- the old set also met what follows from the condition
-pub IsGrown-follows : (n : ℕ) (Holds Follows : List Flow → Type 0) (fs : List Flow) (added : Flow) → ((e : List Flow) → Holds e → Follows e) → IsGrown n Holds fs added → IsGrown n Follows fs added
-IsGrown-follows n Holds Follows fs added follows grown = record {
-  old = grown.old;
-  set = grown.set;
-  held = follows grown.old grown.held;
-  flow = grown.flow;
-  absent = grown.absent;
-  grown = grown.grown;
-}
-
 -- a condition on single flows holds of the set exactly where it holds of the new flow alone
-pub edge_wise-IsGrown : (n : ℕ) (Holds : List Flow → Type 0) (fs : List Flow) (added : Flow) → IsEdgeWise n Holds → IsGrown n Holds fs added → Holds (added ∷ []) ↔ Holds fs
+pub edge_wise-IsGrown : (n : ℕ) (Holds : List Flow → Type 0) (fs : List Flow) (added : Flow) → IsEdgeWise n Holds
+    → IsGrown n Holds fs added → Holds (added ∷ []) ↔ Holds fs
 edge_wise-IsGrown n Holds fs added edge_wise grown =
-    subst (λ (e : List Flow). Holds (added ∷ []) ↔ Holds e) (sym grown.grown) (edge_wise-with_flow n Holds grown.old added edge_wise grown.set grown.flow grown.held)
+    subst (λ (e : List Flow). Holds (added ∷ []) ↔ Holds e) (sym grown.grown)
+    (edge_wise-with_flow n Holds grown.old added edge_wise grown.set grown.flow grown.held)

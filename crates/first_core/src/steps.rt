@@ -35,8 +35,8 @@ pub trait SteppedCondition {
         ensures come { has_come_to self.now state.new (if result then with_flow kept.now.flows f else kept.now.flows) };
 }
 
-/// The first subset of `all` that meets the condition, as `first_subset` finds it. The state has come
-/// to no flow yet.
+/// The first subset of `all` that meets the condition, as `first_subset` finds it. The state, which has
+/// come to no flow yet, comes to this subset.
 pub fn first_subset_by_steps<C: SteppedCondition>(
     alloc: Global,
     condition: &C,
@@ -50,6 +50,7 @@ pub fn first_subset_by_steps<C: SteppedCondition>(
     ensures size { IfOk result (λ first. first.size ≡ all.now.size) }
     ensures set { IfOk result (λ first. IsFlowSet first.size first.flows) }
     ensures first { IfOk result (λ first. IsFirst (C.meets_on condition.now) all.now.flows first.flows) }
+    ensures come { IfOk result (λ first. C.has_come_to condition.now state.new first.flows) }
 {
     let mut kept = FlowSet::empty(alloc, all.size())?;
     for f in all.iter() {

@@ -11,8 +11,8 @@ use Rattle.flow_set.specs.Flow.{IsFlow, before, same_flow}
 use Rattle.flow_set.specs.FlowSet.{has, IsOrdered, with_flow}
 use Rattle.flow_set.specs.FlowSetView.{IsFlowSet, without_flow}
 use Rattle.flow_set.specs.FlowLaws.{has_nothing, has-append, has-with_flow, has-without_flow, flows_ext, IsOrdered-append, IsOrdered-with_flow, IsOrdered-without_flow}
-use Rattle.flow_set.specs.BitRows.{row_of, marks, where_so, row_flows, rows_flows, flows_of, AreRows}
-use Rattle.host_set.specs.HostSet.{HostNumbers, hosts_below}
+use Rattle.flow_set.specs.BitRows.{marks, where_so, row_flows, rows_flows, flows_of, AreRows}
+use Rattle.host_set.specs.HostSet.{HostNumbers, hosts_below, row_of}
 use Rattle.host_set.specs.HostSetLaws.{contains-insert, contains-remove, contains-hosts_below, hosts_ext, len_more}
 
 -- ---- which flows
@@ -28,10 +28,12 @@ has-where_so false f g = refl
 none_below : (a b : Bool) (m : ℕ) → false ≡ (a && (nat_lt m 0 && b))
 none_below a b m = grind (arith, nat_tests)
 
-row_step : (i n a b : ℕ) (c d : Bool) → (b ≡ n → c ≡ d) → ((nat_eq a i && (nat_lt b n && c)) || (d && ((i == a) && (n == b)))) ≡ (nat_eq a i && (nat_lt b (suc n) && c))
+row_step : (i n a b : ℕ) (c d : Bool) → (b ≡ n → c ≡ d)
+    → ((nat_eq a i && (nat_lt b n && c)) || (d && ((i == a) && (n == b)))) ≡ (nat_eq a i && (nat_lt b (suc n) && c))
 row_step i n a b c d same = grind (arith, nat_tests)
 
-has-row_flows : (i : ℕ) (row : HostNumbers) (n : ℕ) (f : Flow) → has (row_flows i row n) f ≡ (nat_eq f.from i && (nat_lt f.to n && set.contains row f.to))
+has-row_flows : (i : ℕ) (row : HostNumbers) (n : ℕ) (f : Flow)
+    → has (row_flows i row n) f ≡ (nat_eq f.from i && (nat_lt f.to n && set.contains row f.to))
 unfolding row_flows
 has-row_flows i row zero f = none_below (nat_eq f.from i) (set.contains row f.to) f.to
 has-row_flows i row (suc n) f =
@@ -45,13 +47,15 @@ none_first b m = grind (arith, nat_tests)
 rows_step : (m a : ℕ) (c d : Bool) → (a ≡ m → d ≡ c) → ((nat_lt a m && c) || (nat_eq a m && d)) ≡ (nat_lt a (suc m) && c)
 rows_step m a c d same = grind (arith, nat_tests)
 
-has-rows_flows : (rows : List HostNumbers) (n m : ℕ) (f : Flow) → has (rows_flows rows n m) f ≡ (nat_lt f.from m && (nat_lt f.to n && marks rows f))
+has-rows_flows : (rows : List HostNumbers) (n m : ℕ) (f : Flow)
+    → has (rows_flows rows n m) f ≡ (nat_lt f.from m && (nat_lt f.to n && marks rows f))
 unfolding rows_flows
 has-rows_flows rows n zero f = none_first (nat_lt f.to n && marks rows f) f.from
 has-rows_flows rows n (suc m) f =
     has-append (rows_flows rows n m) (row_flows m (row_of rows m) n) f
     ∙ (λ k. has-rows_flows rows n m f k || has-row_flows m (row_of rows m) n f k)
-    ∙ rows_step m f.from (nat_lt f.to n && marks rows f) (nat_lt f.to n && set.contains (row_of rows m) f.to) (λ same. ap (λ i. nat_lt f.to n && set.contains (row_of rows i) f.to) (sym same))
+    ∙ rows_step m f.from (nat_lt f.to n && marks rows f) (nat_lt f.to n && set.contains (row_of rows m) f.to)
+    (λ same. ap (λ i. nat_lt f.to n && set.contains (row_of rows i) f.to) (sym same))
 
 -- ---- in order
 
@@ -59,14 +63,16 @@ IsOrdered-where_so : (b : Bool) (f : Flow) → IsOrdered (where_so b f)
 IsOrdered-where_so true f = (λ g there. has_nothing g there, tt)
 IsOrdered-where_so false f = tt
 
-row_order : (i n : ℕ) (f g : Flow) (c d : Bool) → IsTrue (nat_eq f.from i && (nat_lt f.to n && c)) → IsTrue (d && ((i == g.from) && (n == g.to))) → IsTrue (before f g)
+row_order : (i n : ℕ) (f g : Flow) (c d : Bool) → IsTrue (nat_eq f.from i && (nat_lt f.to n && c))
+    → IsTrue (d && ((i == g.from) && (n == g.to))) → IsTrue (before f g)
 row_order i n f g c d p q = grind (arith, nat_tests)
 
 IsOrdered-row_flows : (i : ℕ) (row : HostNumbers) (n : ℕ) → IsOrdered (row_flows i row n)
 unfolding row_flows
 IsOrdered-row_flows i row zero = tt
 IsOrdered-row_flows i row (suc n) =
-    IsOrdered-append (row_flows i row n) (where_so (set.contains row n) (record { from = i; to = n })) (IsOrdered-row_flows i row n) (IsOrdered-where_so _ _)
+    IsOrdered-append (row_flows i row n) (where_so (set.contains row n) (record { from = i; to = n })) (IsOrdered-row_flows i row n)
+    (IsOrdered-where_so _ _)
     (λ f g p q. row_order i n f g (set.contains row f.to) (set.contains row n) (sym (has-row_flows i row n f) ∙ p) (sym (has-where_so (set.contains row n) (record { from = i; to = n }) g) ∙ q))
 
 rows_order : (m : ℕ) (f g : Flow) (c d : Bool) → IsTrue (nat_lt f.from m && c) → IsTrue (nat_eq g.from m && d) → IsTrue (before f g)
@@ -76,7 +82,8 @@ pub IsOrdered-rows_flows : (rows : List HostNumbers) (n m : ℕ) → IsOrdered (
 unfolding rows_flows
 IsOrdered-rows_flows rows n zero = tt
 IsOrdered-rows_flows rows n (suc m) =
-    IsOrdered-append (rows_flows rows n m) (row_flows m (row_of rows m) n) (IsOrdered-rows_flows rows n m) (IsOrdered-row_flows m (row_of rows m) n)
+    IsOrdered-append (rows_flows rows n m) (row_flows m (row_of rows m) n) (IsOrdered-rows_flows rows n m)
+    (IsOrdered-row_flows m (row_of rows m) n)
     (λ f g p q. rows_order m f g (nat_lt f.to n && marks rows f) (nat_lt g.to n && set.contains (row_of rows m) g.to) (sym (has-rows_flows rows n m f) ∙ p) (sym (has-row_flows m (row_of rows m) n g) ∙ q))
 
 -- ---- of rows of flows between n hosts
@@ -98,7 +105,9 @@ only_within a b n true p q = let h : a < n = p refl in let k : b < n = q refl in
 only_within a b n false p q = grind (arith, nat_tests)
 
 pub has-flows_of : (n : ℕ) (rows : List HostNumbers) (f : Flow) → AreRows n rows → has (flows_of rows n) f ≡ marks rows f
-has-flows_of n rows f are = has-rows_flows rows n n f ∙ only_within f.from f.to n (marks rows f) (λ h. (marked_flow n rows f are h).0) (λ h. (marked_flow n rows f are h).1)
+has-flows_of n rows f are =
+    has-rows_flows rows n n f
+    ∙ only_within f.from f.to n (marks rows f) (λ h. (marked_flow n rows f are h).0) (λ h. (marked_flow n rows f are h).1)
 
 pub IsFlowSet-flows_of : (n : ℕ) (rows : List HostNumbers) → AreRows n rows → IsFlowSet n (flows_of rows n)
 IsFlowSet-flows_of n rows are = record {
@@ -108,8 +117,10 @@ IsFlowSet-flows_of n rows are = record {
 }
 
 -- sets with the same flows are equal
-pub flows_of-is : (n : ℕ) (rows : List HostNumbers) (fs : List Flow) → AreRows n rows → IsOrdered fs → ((g : Flow) → marks rows g ≡ has fs g) → flows_of rows n ≡ fs
-flows_of-is n rows fs are ordered same = flows_ext (flows_of rows n) fs (IsOrdered-rows_flows rows n n) ordered (λ g. has-flows_of n rows g are ∙ same g)
+pub flows_of-is : (n : ℕ) (rows : List HostNumbers) (fs : List Flow) → AreRows n rows → IsOrdered fs
+    → ((g : Flow) → marks rows g ≡ has fs g) → flows_of rows n ≡ fs
+flows_of-is n rows fs are ordered same =
+    flows_ext (flows_of rows n) fs (IsOrdered-rows_flows rows n n) ordered (λ g. has-flows_of n rows g are ∙ same g)
 
 -- ---- changes
 
@@ -119,7 +130,8 @@ put_case a b x y c same = grind (arith, nat_tests)
 other_case : (a b x y : ℕ) (c : Bool) → x ≢ a → c ≡ (((a == x) && (b == y)) || c)
 other_case a b x y c other = grind (arith, nat_tests)
 
-pub marks-insert : (rows : List HostNumbers) (f g : Flow) → f.from < length rows → marks (slice_set rows f.from (set.insert (row_of rows f.from) f.to)) g ≡ (same_flow f g || marks rows g)
+pub marks-insert : (rows : List HostNumbers) (f g : Flow) → f.from < length rows
+    → marks (slice_set rows f.from (set.insert (row_of rows f.from) f.to)) g ≡ (same_flow f g || marks rows g)
 marks-insert rows f g within =
     elim (cases_eq g.from f.from) [
       | inl same ↦
@@ -139,7 +151,8 @@ take_case a b x y c same = grind (arith, nat_tests)
 stay_case : (a b x y : ℕ) (c : Bool) → x ≢ a → c ≡ (c && not ((a == x) && (b == y)))
 stay_case a b x y c other = grind (arith, nat_tests)
 
-pub marks-remove : (rows : List HostNumbers) (f g : Flow) → f.from < length rows → marks (slice_set rows f.from (set.remove (row_of rows f.from) f.to)) g ≡ (marks rows g && not (same_flow f g))
+pub marks-remove : (rows : List HostNumbers) (f g : Flow) → f.from < length rows
+    → marks (slice_set rows f.from (set.remove (row_of rows f.from) f.to)) g ≡ (marks rows g && not (same_flow f g))
 marks-remove rows f g within =
     elim (cases_eq g.from f.from) [
       | inl same ↦
@@ -153,32 +166,39 @@ marks-remove rows f g within =
           ∙ stay_case f.from f.to g.from g.to (marks rows g) other
     ]
 
-put_shown : (f g : Flow) (b : Bool) (n : ℕ) → IsFlow n f → (IsTrue b → IsFlow n g) → IsTrue (same_flow f g || b) → (g.to < n) × (g.from ≢ g.to)
+put_shown : (f g : Flow) (b : Bool) (n : ℕ) → IsFlow n f → (IsTrue b → IsFlow n g) → IsTrue (same_flow f g || b)
+    → (g.to < n) × (g.from ≢ g.to)
 put_shown f g true n is_flow old shown = ((old refl).1, (old refl).2)
 put_shown f g false n is_flow old shown = (grind (arith, nat_tests, is_flow.1), λ same. is_flow.2 (grind (arith, nat_tests, same)))
 
-pub AreRows-insert : (n : ℕ) (rows : List HostNumbers) (f : Flow) → AreRows n rows → IsFlow n f → AreRows n (slice_set rows f.from (set.insert (row_of rows f.from) f.to))
+pub AreRows-insert : (n : ℕ) (rows : List HostNumbers) (f : Flow) → AreRows n rows → IsFlow n f
+    → AreRows n (slice_set rows f.from (set.insert (row_of rows f.from) f.to))
 AreRows-insert n rows f are is_flow = record {
   small = are.small;
   counted = length-set rows f.from _ ∙ are.counted;
   flows = λ g within shown. put_shown f g (marks rows g) n is_flow (marked_flow n rows g are) (sym (marks-insert rows f g (omega (arith, is_flow.0, are.counted))) ∙ shown);
 }
 
-pub AreRows-remove : (n : ℕ) (rows : List HostNumbers) (f : Flow) → AreRows n rows → IsFlow n f → AreRows n (slice_set rows f.from (set.remove (row_of rows f.from) f.to))
+pub AreRows-remove : (n : ℕ) (rows : List HostNumbers) (f : Flow) → AreRows n rows → IsFlow n f
+    → AreRows n (slice_set rows f.from (set.remove (row_of rows f.from) f.to))
 AreRows-remove n rows f are is_flow = record {
   small = are.small;
   counted = length-set rows f.from _ ∙ are.counted;
   flows = λ g within shown. are.flows g within (and_parts _ _ (sym (marks-remove rows f g (omega (arith, is_flow.0, are.counted))) ∙ shown)).0;
 }
 
-pub flows_of-insert : (n : ℕ) (rows : List HostNumbers) (f : Flow) → AreRows n rows → IsFlow n f → flows_of (slice_set rows f.from (set.insert (row_of rows f.from) f.to)) n ≡ with_flow (flows_of rows n) f
+pub flows_of-insert : (n : ℕ) (rows : List HostNumbers) (f : Flow) → AreRows n rows → IsFlow n f
+    → flows_of (slice_set rows f.from (set.insert (row_of rows f.from) f.to)) n ≡ with_flow (flows_of rows n) f
 flows_of-insert n rows f are is_flow =
-    flows_of-is n _ (with_flow (flows_of rows n) f) (AreRows-insert n rows f are is_flow) (IsOrdered-with_flow (flows_of rows n) f (IsOrdered-rows_flows rows n n))
+    flows_of-is n _ (with_flow (flows_of rows n) f) (AreRows-insert n rows f are is_flow)
+    (IsOrdered-with_flow (flows_of rows n) f (IsOrdered-rows_flows rows n n))
     (λ g. marks-insert rows f g (omega (arith, is_flow.0, are.counted)) ∙ sym (has-with_flow (flows_of rows n) f g ∙ ap (λ b. same_flow f g || b) (has-flows_of n rows g are)))
 
-pub flows_of-remove : (n : ℕ) (rows : List HostNumbers) (f : Flow) → AreRows n rows → IsFlow n f → flows_of (slice_set rows f.from (set.remove (row_of rows f.from) f.to)) n ≡ without_flow (flows_of rows n) f
+pub flows_of-remove : (n : ℕ) (rows : List HostNumbers) (f : Flow) → AreRows n rows → IsFlow n f
+    → flows_of (slice_set rows f.from (set.remove (row_of rows f.from) f.to)) n ≡ without_flow (flows_of rows n) f
 flows_of-remove n rows f are is_flow =
-    flows_of-is n _ (without_flow (flows_of rows n) f) (AreRows-remove n rows f are is_flow) (IsOrdered-without_flow (flows_of rows n) f (IsOrdered-rows_flows rows n n))
+    flows_of-is n _ (without_flow (flows_of rows n) f) (AreRows-remove n rows f are is_flow)
+    (IsOrdered-without_flow (flows_of rows n) f (IsOrdered-rows_flows rows n n))
     (λ g. marks-remove rows f g (omega (arith, is_flow.0, are.counted)) ∙ sym (has-without_flow (flows_of rows n) f g ∙ ap (λ b. b && not (same_flow f g)) (has-flows_of n rows g are)))
 
 -- ---- no flows
@@ -221,11 +241,13 @@ all_below n row within = hosts_ext _ row (λ q. contains-hosts_below n (set.cont
     only true q p = let h : q < n = p refl in grind (arith, nat_tests)
     only false q p = grind (arith, nat_tests)
 
-pub length-rows_more : (n m : ℕ) (rows : List HostNumbers) → AreRows n rows → m < n → length (rows_flows rows n (suc m)) ≡ length (rows_flows rows n m) + set.len (row_of rows m)
+pub length-rows_more : (n m : ℕ) (rows : List HostNumbers) → AreRows n rows → m < n
+    → length (rows_flows rows n (suc m)) ≡ length (rows_flows rows n m) + set.len (row_of rows m)
 unfolding rows_flows
 length-rows_more n m rows are below =
     length-append (rows_flows rows n m) (row_flows m (row_of rows m) n)
-    ∙ ap (λ k. length (rows_flows rows n m) + k) (length-row m (row_of rows m) n ∙ ap (λ s. set.len s) (all_below n (row_of rows m) (λ q shown. (are.flows (record { from = m; to = q }) below shown).0)))
+    ∙ ap (λ k. length (rows_flows rows n m) + k)
+    (length-row m (row_of rows m) n ∙ ap (λ s. set.len s) (all_below n (row_of rows m) (λ q shown. (are.flows (record { from = m; to = q }) below shown).0)))
 
 pub length-rows_none : (n : ℕ) (rows : List HostNumbers) → length (rows_flows rows n 0) ≡ 0
 unfolding rows_flows

@@ -13,7 +13,8 @@ abbrev pub FilledBelow : ℕ → ℕ → ℕ → List Flow → List Flow → Typ
 FilledBelow n from to old fs = (f : Flow) → IsTrue (has fs f) ↔ (IsTrue (has old f) ⊎ (IsFlow n f × (f.from ≡ from) × (f.to < to)))
 
 -- the flow to the next host is put in
-pub filled_more : (n from to : ℕ) (old fs : List Flow) → IsFlow n (record { from = from; to = to }) → FilledBelow n from to old fs → FilledBelow n from (to + 1) old (with_flow fs (record { from = from; to = to }))
+pub filled_more : (n from to : ℕ) (old fs : List Flow) → IsFlow n (record { from = from; to = to }) → FilledBelow n from to old fs
+    → FilledBelow n from (to + 1) old (with_flow fs (record { from = from; to = to }))
 filled_more n from to old fs is_flow filled f =
     let new : Flow = record { from = from; to = to } in (
       λ h. elim (or_cases (same_flow new f) (has fs f) (sym (has-with_flow fs new f) ∙ h)) [

@@ -10,19 +10,22 @@ use Rattle.flow_set.specs.FlowSetView.{first_from}
 use Rattle.flow_set.specs.FlowLaws.{same_flow-true, same_flow_from_order, filter_nothing, filter_everything, not_before_from}
 use Rattle.flow_set.specs.WalkLaws.{first_from_member, first_from_late, first_from_least, first_from_none}
 use Rattle.std.specs.FinSet as set
-use Rattle.flow_set.specs.BitRows.{row_of, marks, flows_of, AreRows, flows_from, IsAsFar}
+use Rattle.flow_set.specs.BitRows.{marks, flows_of, AreRows, flows_from, IsAsFar}
 use Rattle.flow_set.proofs.BitRows.{marked_flow, has-flows_of, IsOrdered-rows_flows}
-use Rattle.host_set.specs.HostSet.{HostNumbers}
-use Rattle.host_set.specs.Calls.{HasNone, IsFirstAfter}
+use Rattle.host_set.specs.HostSet.{HostNumbers, row_of}
+use Rattle.host_set.specs.Calls.{HasNone, IsFirstFrom}
 
 -- ---- the first flow from a place on
 
-pub first_from_found : (fs : List Flow) (p f : Flow) → IsOrdered fs → IsTrue (has fs f) → IsFalse (before f p) → ((g : Flow) → IsTrue (has fs g) → IsFalse (before g p) → IsFalse (before g f)) → first_from fs p ≡ Some f
+pub first_from_found : (fs : List Flow) (p f : Flow) → IsOrdered fs → IsTrue (has fs f) → IsFalse (before f p)
+    → ((g : Flow) → IsTrue (has fs g) → IsFalse (before g p) → IsFalse (before g f)) → first_from fs p ≡ Some f
 first_from_found fs p f ordered there late least =
     elim (first_from fs p) as (λ o. first_from fs p ≡ o → first_from fs p ≡ Some f) [
       | None ↦ λ none. absurd (both_ways _ late (first_from_none fs p none f there))
       | Some h ↦ λ found.
-          let same = same_flow_from_order h f (least h (first_from_member fs p h found) (first_from_late fs p h found)) (first_from_least fs p h ordered found f there late) in
+          let same =
+          same_flow_from_order h f (least h (first_from_member fs p h found) (first_from_late fs p h found))
+          (first_from_least fs p h ordered found f there late) in
           found ∙ ap Some (same_flow-true h f same)
     ] refl
 
@@ -55,12 +58,16 @@ still_before f x p early late = grind (arith, nat_tests)
 
 -- all that comes after a flow of an ordered set is left at a place that this flow is not before
 all_left : (x : Flow) (xs : List Flow) (p : Flow) → IsOrdered (x ∷ xs) → IsFalse (before x p) → flows_from xs p ≡ xs
-all_left x xs p ordered late = filter_everything (λ f. not (before f p)) xs (λ f there. not_from_false _ (not_before_from x f p late (ordered.0 f there)))
+all_left x xs p ordered late =
+    filter_everything (λ f. not (before f p)) xs (λ f there. not_from_false _ (not_before_from x f p late (ordered.0 f there)))
 
 all_after : (x : Flow) (xs : List Flow) → IsOrdered (x ∷ xs) → flows_from xs (record { from = x.from; to = x.to + 1 }) ≡ xs
-all_after x xs ordered = filter_everything (λ f. not (before f (record { from = x.from; to = x.to + 1 }))) xs (λ f there. not_from_false _ (after_own x f (ordered.0 f there)))
+all_after x xs ordered =
+    filter_everything (λ f. not (before f (record { from = x.from; to = x.to + 1 }))) xs
+    (λ f there. not_from_false _ (after_own x f (ordered.0 f there)))
 
-pub flows_from-next : (fs : List Flow) (p f : Flow) → IsOrdered fs → first_from fs p ≡ Some f → flows_from fs p ≡ f ∷ flows_from fs (record { from = f.from; to = f.to + 1 })
+pub flows_from-next : (fs : List Flow) (p f : Flow) → IsOrdered fs → first_from fs p ≡ Some f
+    → flows_from fs p ≡ f ∷ flows_from fs (record { from = f.from; to = f.to + 1 })
 flows_from-next [] p f ordered found = cc
 flows_from-next (x ∷ xs) p f ordered found =
     elim (cases_Bool (before x p)) [
@@ -69,7 +76,8 @@ flows_from-next (x ∷ xs) p f ordered found =
           let late : IsFalse (before f p) = first_from_late xs p f later in
           cond-false (not (before x p)) _ _ (not_from_true _ early)
           ∙ flows_from-next xs p f ordered.1 later
-          ∙ ap (λ zs. f ∷ zs) (sym (cond-false (not (before x (record { from = f.from; to = f.to + 1 }))) _ _ (not_from_true _ (still_before f x p early late))))
+          ∙ ap (λ zs. f ∷ zs)
+          (sym (cond-false (not (before x (record { from = f.from; to = f.to + 1 }))) _ _ (not_from_true _ (still_before f x p early late))))
       | inr late ↦
           let here : Some x ≡ Some f = sym (cond-true (not (before x p)) _ _ (not_from_false _ late)) ∙ found in
           let same : x ≡ f = cc in
@@ -81,11 +89,14 @@ flows_from-next (x ∷ xs) p f ordered found =
 
 -- ---- a walk over the rows
 
-row_passed : (a b row start : ℕ) → (a ≡ row → b < start) → before (record { from = a; to = b }) (record { from = row; to = start }) ≡ before (record { from = a; to = b }) (record { from = row + 1; to = 0 })
+row_passed : (a b row start : ℕ) → (a ≡ row → b < start)
+    → before (record { from = a; to = b }) (record { from = row; to = start }) ≡ before (record { from = a; to = b }) (record { from = row + 1; to = 0 })
 row_passed a b row start small = grind (arith, nat_tests)
 
 -- no flow is left in this row
-pub as_far_more : (n : ℕ) (rows : List HostNumbers) (p : Flow) (row start : ℕ) → AreRows n rows → IsAsFar (flows_of rows n) p (record { from = row; to = start }) → HasNone (set.contains (row_of rows row)) start 256 → IsAsFar (flows_of rows n) p (record { from = row + 1; to = 0 })
+pub as_far_more : (n : ℕ) (rows : List HostNumbers) (p : Flow) (row start : ℕ) → AreRows n rows
+    → IsAsFar (flows_of rows n) p (record { from = row; to = start }) → HasNone (set.contains (row_of rows row)) start 256
+    → IsAsFar (flows_of rows n) p (record { from = row + 1; to = 0 })
 as_far_more n rows p row start are far none g there =
     let shown : IsTrue (marks rows g) = sym (has-flows_of n rows g are) ∙ there in
     let within = marked_flow n rows g are shown in
@@ -97,11 +108,14 @@ as_far_more n rows p row start are far none g there =
 late_own : (row start first : ℕ) → start ≤ first → IsFalse (before (record { from = row; to = first }) (record { from = row; to = start }))
 late_own row start first late = grind (arith, nat_tests)
 
-not_earlier : (a b row start first : ℕ) → IsFalse (before (record { from = a; to = b }) (record { from = row; to = start })) → (a ≡ row → start ≤ b → first ≤ b) → IsFalse (before (record { from = a; to = b }) (record { from = row; to = first }))
+not_earlier : (a b row start first : ℕ) → IsFalse (before (record { from = a; to = b }) (record { from = row; to = start }))
+    → (a ≡ row → start ≤ b → first ≤ b) → IsFalse (before (record { from = a; to = b }) (record { from = row; to = first }))
 not_earlier a b row start first late least = grind (arith, nat_tests)
 
 -- the first flow that is left is in this row
-pub found_in_row : (n : ℕ) (rows : List HostNumbers) (p : Flow) (row start first : ℕ) → AreRows n rows → IsAsFar (flows_of rows n) p (record { from = row; to = start }) → IsFirstAfter (set.contains (row_of rows row)) start first → first_from (flows_of rows n) p ≡ Some (record { from = row; to = first })
+pub found_in_row : (n : ℕ) (rows : List HostNumbers) (p : Flow) (row start first : ℕ) → AreRows n rows
+    → IsAsFar (flows_of rows n) p (record { from = row; to = start }) → IsFirstFrom (set.contains (row_of rows row)) start first
+    → first_from (flows_of rows n) p ≡ Some (record { from = row; to = first })
 found_in_row n rows p row start first are far is =
     let f : Flow = record { from = row; to = first } in
     let there : IsTrue (has (flows_of rows n) f) = has-flows_of n rows f are ∙ is.passes in
@@ -116,7 +130,8 @@ lower : (a b row start : ℕ) → a < row → IsTrue (before (record { from = a;
 lower a b row start below = grind (arith, nat_tests)
 
 -- no flow is left after the last row
-pub none_in_rows : (n : ℕ) (rows : List HostNumbers) (p : Flow) (row start : ℕ) → AreRows n rows → IsAsFar (flows_of rows n) p (record { from = row; to = start }) → n ≤ row → first_from (flows_of rows n) p ≡ None
+pub none_in_rows : (n : ℕ) (rows : List HostNumbers) (p : Flow) (row start : ℕ) → AreRows n rows
+    → IsAsFar (flows_of rows n) p (record { from = row; to = start }) → n ≤ row → first_from (flows_of rows n) p ≡ None
 none_in_rows n rows p row start are far over =
     first_from_lost (flows_of rows n) p (λ g there.
     far g there ∙ lower g.from g.to row start (omega (arith, over, (marked_flow n rows g are (sym (has-flows_of n rows g are) ∙ there)).0)))

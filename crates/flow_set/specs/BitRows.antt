@@ -1,14 +1,10 @@
 -- Rows of hosts, one for each sender: how a set keeps its flows. No clause of a public call speaks of rows.
-use Rattle.std.specs.Prelude.{filter, not, ◌≡◌, ◌≢◌, ℕ, zero, suc, ◌<◌, ◌≤◌, Bool, List, [], ◌∷◌, ◌++◌, length, slice_index_or, IsTrue, if◌then◌else◌}
+use Rattle.std.specs.Prelude.{filter, not, ◌≡◌, ◌≢◌, ℕ, zero, suc, ◌<◌, ◌≤◌, Bool, List, [], ◌∷◌, ◌++◌, length, IsTrue, if◌then◌else◌}
 use Rattle.std.specs.FinSet as set
 use Rattle.flow_set.specs.declared.flow.Flow.{Flow}
 use Rattle.flow_set.specs.Flow.{before}
 use Rattle.flow_set.specs.FlowSet.{has}
-use Rattle.host_set.specs.HostSet.{HostNumbers}
-
--- a host's row
-abbrev pub row_of : List HostNumbers → ℕ → HostNumbers
-row_of rows i = slice_index_or rows i set.empty
+use Rattle.host_set.specs.HostSet.{HostNumbers, row_of}
 
 -- whether the rows have the flow
 abbrev pub marks : List HostNumbers → Flow → Bool

@@ -7,16 +7,12 @@ use Rattle.flow_set.specs.Flow.{IsFlow, same_flow}
 use Rattle.flow_set.specs.FlowSet.{has, with_flow, with_back}
 use Rattle.flow_set.specs.FlowSetView.{IsFlowSet}
 use Rattle.flow_set.specs.Downward.{IsDownward, IsEdgeWise}
-use Rattle.flow_set.specs.FlowLaws.{has_nothing, has-with_flow, same_fact, same_flow_self}
-use Rattle.flow_set.specs.SubsetLaws.{IsFlowSet-nothing, IsFlowSet-subset, IsFlowSet-with_flow, IsFlowSet-with_back, with_back_grows}
-
--- a condition on single flows is kept by every subset
-pub IsDownward-edge_wise : (n : ℕ) (Holds : List Flow → Type 0) → IsEdgeWise n Holds → IsDownward n Holds
-IsDownward-edge_wise n Holds edge_wise e s set sub holds =
-    (edge_wise s (IsFlowSet-subset n s e set sub)).1 (λ f there. (edge_wise e set).0 holds f (sub.within f there))
+use Rattle.flow_set.specs.FlowLaws.{has-with_flow, same_fact, same_flow_self}
+use Rattle.flow_set.specs.SubsetLaws.{IsFlowSet-with_flow, IsFlowSet-with_back, with_back_grows}
 
 -- where a condition on single flows holds of a set, it holds of one more flow alone exactly where it holds of the set with this flow
-pub edge_wise-with_flow : (n : ℕ) (Holds : List Flow → Type 0) (e : List Flow) (f : Flow) → IsEdgeWise n Holds → IsFlowSet n e → IsFlow n f → Holds e → Holds (f ∷ []) ↔ Holds (with_flow e f)
+pub edge_wise-with_flow : (n : ℕ) (Holds : List Flow → Type 0) (e : List Flow) (f : Flow) → IsEdgeWise n Holds → IsFlowSet n e
+    → IsFlow n f → Holds e → Holds (f ∷ []) ↔ Holds (with_flow e f)
 edge_wise-with_flow n Holds e f edge_wise set is_flow holds =
     let more : IsFlowSet n (with_flow e f) = IsFlowSet-with_flow n e f set is_flow in (
       λ alone. (edge_wise (with_flow e f) more).1
@@ -27,11 +23,8 @@ edge_wise-with_flow n Holds e f edge_wise set is_flow holds =
       λ together. (edge_wise (with_flow e f) more).0 together f (has-with_flow e f f ∙ or_left _ _ (same_flow_self f)),
     )
 
--- a condition on single flows holds of nothing, wherever it can hold of a set at all
-pub nothing_edge_wise : (n : ℕ) (Holds : List Flow → Type 0) (e : List Flow) → IsEdgeWise n Holds → IsFlowSet n e → Holds []
-nothing_edge_wise n Holds e edge_wise set = (edge_wise [] (IsFlowSet-nothing n set.small)).1 (λ f there. has_nothing f there)
-
 -- a condition on a fixed set with the reverse of some flows is kept by fewer of these
-pub IsDownward-with_back : (n : ℕ) (Holds : List Flow → Type 0) (p : List Flow) → IsFlowSet n p → IsDownward n Holds → IsDownward n (λ s. Holds (with_back p s))
+pub IsDownward-with_back : (n : ℕ) (Holds : List Flow → Type 0) (p : List Flow) → IsFlowSet n p → IsDownward n Holds
+    → IsDownward n (λ s. Holds (with_back p s))
 IsDownward-with_back n Holds p set downward e s within sub holds =
     downward (with_back p e) (with_back p s) (IsFlowSet-with_back n p e set within) (with_back_grows p s e set.ordered sub) holds

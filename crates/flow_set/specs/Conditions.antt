@@ -1,10 +1,12 @@
--- Conditions on sets of flows: which are kept by every subset, which look at single flows alone, and what is singled out by one: minimal offending sets, the first subset, the greatest.
+-- Conditions on sets of flows: which are kept by every subset, which look at single flows alone, and what is singled
+-- out by one: minimal offending sets, the first subset, the greatest.
 use Rattle.std.specs.Prelude.{◌≡◌, ◌⊎◌, List, IsTrue, IsFalse}
 use Rattle.flow_set.specs.declared.flow.Flow.{Flow}
 use Rattle.flow_set.specs.Flow.{before}
 use Rattle.flow_set.specs.FlowSet.{has, IsSubset, with_flow, without}
 
--- f is a set of flows of e whose removal mends e, and none of them can stay (Network_Security_Policy_Verification in the Archive of Formal Proofs: a minimal set of offending flows)
+-- f is a set of flows of e whose removal mends e, and none of them can stay (Network_Security_Policy_Verification in
+-- the Archive of Formal Proofs: a minimal set of offending flows)
 pub record IsMinimalOffending (Holds : List Flow → Type 0) (e f : List Flow) : Type 0 where
   pub within : IsSubset f e
   pub fails : Holds e → ⊥

@@ -1,5 +1,5 @@
 -- Conditions that every subset keeps, and conditions that look at flows one by one.
-use Rattle.std.specs.Prelude.{ℕ, List, [], ◌∷◌, IsTrue}
+use Rattle.std.specs.Prelude.{ℕ, ◌↔◌, List, [], ◌∷◌, IsTrue}
 use Rattle.flow_set.specs.declared.flow.Flow.{Flow}
 use Rattle.flow_set.specs.FlowSet.{has, IsSubset}
 use Rattle.flow_set.specs.FlowSetView.{IsFlowSet}
@@ -12,6 +12,6 @@ IsDownward n Holds = (e s : List Flow) → IsFlowSet n e → IsSubset s e → Ho
 abbrev pub HoldsOfEach : (List Flow → Type 0) → List Flow → Type 0
 HoldsOfEach Holds e = (f : Flow) → IsTrue (has e f) → Holds (f ∷ [])
 
--- the condition looks at flows one by one: it holds of a set between n hosts if it holds of each flow alone, and only then
+-- the condition looks at flows one by one: it holds of a set between n hosts exactly where it holds of each flow alone
 abbrev pub IsEdgeWise : ℕ → (List Flow → Type 0) → Type 0
-IsEdgeWise n Holds = (e : List Flow) → IsFlowSet n e → (Holds e → HoldsOfEach Holds e) × (HoldsOfEach Holds e → Holds e)
+IsEdgeWise n Holds = (e : List Flow) → IsFlowSet n e → Holds e ↔ HoldsOfEach Holds e

@@ -65,7 +65,8 @@ before_row i k m g later = grind (arith, nat_tests)
 IsOrdered-row : (i k m : ℕ) → IsOrdered (row i k m)
 IsOrdered-row i k zero = tt
 IsOrdered-row i k (suc m) =
-    ordered_step (record { from = i; to = k }) (row i (k + 1) m) (i == k) (IsOrdered-row i (k + 1) m) (λ g h. before_row i k m g (sym (has-row i (k + 1) m g) ∙ h))
+    ordered_step (record { from = i; to = k }) (row i (k + 1) m) (i == k) (IsOrdered-row i (k + 1) m)
+    (λ g h. before_row i k m g (sym (has-row i (k + 1) m g) ∙ h))
 
 before_rows : (n k m : ℕ) (f g : Flow) → in_row k 0 n f ≡ true → in_rows n (k + 1) m g ≡ true → before f g ≡ true
 before_rows n k m f g here later = grind (arith, nat_tests)

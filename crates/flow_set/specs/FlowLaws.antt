@@ -1,4 +1,5 @@
--- Laws of flows and sets of flows, by subject: the order of flows, members, equal sets, sets that stay in order, filters, flows taken out one by one, a flow that is there or is not, the front of a set.
+-- Laws of flows and sets of flows, by subject: the order of flows, members, equal sets, sets that stay in order,
+-- filters, flows taken out one by one, a flow that is there or is not, the front of a set.
 use Rattle.std.proofs.Common.{◌≡◌, Bool, true, false, not, ◌&&◌, ◌||◌, cond, List, [], ◌∷◌, ◌++◌, inl, inr, refl, sym, ◌∙◌, ap, subst, arith}
 use Rattle.std.specs.Prelude.{IsTrue, IsFalse, filter}
 use Rattle.std.proofs.lemmas.Bool.{eqb-true, and_parts, or_cases, or_left, or_right, cond_both, false≢true, both_ways, false_from_ne_true, cond-true, cond-false, not_from_false}
@@ -36,9 +37,6 @@ before_trans f g h p q = grind (arith, nat_tests)
 
 pub before_not_back : (f g : Flow) → IsTrue (before f g) → IsFalse (before g f)
 before_not_back f g p = grind (arith, nat_tests)
-
-pub before_not_same : (f g : Flow) → IsTrue (before f g) → IsFalse (same_flow f g)
-before_not_same f g p = grind (arith, nat_tests)
 
 pub after_not_same : (f g : Flow) → IsTrue (before f g) → IsFalse (same_flow g f)
 after_not_same f g p = grind (arith, nat_tests)
@@ -89,7 +87,8 @@ has-append (x ∷ xs) ys f = ap (λ b. same_flow x f || b) (has-append xs ys f) 
 pub has-with_flow : (fs : List Flow) (f g : Flow) → has (with_flow fs f) g ≡ (same_flow f g || has fs g)
 has-with_flow [] f g = refl
 has-with_flow (x ∷ xs) f g =
-    cond_both (before f x) (f ∷ x ∷ xs) (x ∷ cond (before x f) (with_flow xs f) xs) (λ zs. has zs g ≡ (same_flow f g || (same_flow x g || has xs g)))
+    cond_both (before f x) (f ∷ x ∷ xs) (x ∷ cond (before x f) (with_flow xs f) xs)
+    (λ zs. has zs g ≡ (same_flow f g || (same_flow x g || has xs g)))
     (λ _. refl)
     (λ not_earlier.
     cond_both (before x f) (with_flow xs f) xs (λ zs. (same_flow x g || has zs g) ≡ (same_flow f g || (same_flow x g || has xs g)))
@@ -143,7 +142,8 @@ has-with_back fs (g ∷ gs) f =
 pub has_below : (f : Flow) (fs : List Flow) → ((g : Flow) → IsTrue (has fs g) → IsTrue (before f g)) → IsFalse (has fs f)
 has_below f fs below = false_from_ne_true _ (λ h. both_ways _ (before_self f) (below f h))
 
-same_heads : (x y : Flow) (xs ys : List Flow) → IsOrdered (x ∷ xs) → IsOrdered (y ∷ ys) → ((f : Flow) → has (x ∷ xs) f ≡ has (y ∷ ys) f) → IsFalse (before x y)
+same_heads : (x y : Flow) (xs ys : List Flow) → IsOrdered (x ∷ xs) → IsOrdered (y ∷ ys)
+    → ((f : Flow) → has (x ∷ xs) f ≡ has (y ∷ ys) f) → IsFalse (before x y)
 same_heads x y xs ys p q same =
     false_from_ne_true _ (λ earlier.
     elim (or_cases (same_flow y x) (has ys x) (sym (same x) ∙ has_first x xs)) [
@@ -151,7 +151,8 @@ same_heads x y xs ys p q same =
       | inr h ↦ both_ways _ (before_not_back x y earlier) (q.0 x h)
     ])
 
-same_rests : (x y : Flow) (xs ys : List Flow) → x ≡ y → IsOrdered (x ∷ xs) → IsOrdered (y ∷ ys) → ((f : Flow) → has (x ∷ xs) f ≡ has (y ∷ ys) f) → (f : Flow) → has xs f ≡ has ys f
+same_rests : (x y : Flow) (xs ys : List Flow) → x ≡ y → IsOrdered (x ∷ xs) → IsOrdered (y ∷ ys)
+    → ((f : Flow) → has (x ∷ xs) f ≡ has (y ∷ ys) f) → (f : Flow) → has xs f ≡ has ys f
 same_rests x y xs ys e p q same f =
     elim (same_flow x f) as (λ s. same_flow x f ≡ s → has xs f ≡ has ys f) [
       | true ↦ λ s. same_test (has xs) f x (sym (same_flow_sym x f) ∙ s) ∙ has_below x xs p.0 ∙ sym (has_below y ys q.0) ∙ ap (has ys) (sym e ∙ same_flow-true x f s)
@@ -164,7 +165,8 @@ flows_ext [] [] p q same = refl
 flows_ext [] (y ∷ ys) p q same = has_nothing y (same y ∙ has_first y ys)
 flows_ext (x ∷ xs) [] p q same = has_nothing x (sym (same x) ∙ has_first x xs)
 flows_ext (x ∷ xs) (y ∷ ys) p q same =
-    let e : x ≡ y = same_flow-true x y (same_flow_from_order x y (same_heads x y xs ys p q same) (same_heads y x ys xs q p (λ f. sym (same f)))) in
+    let e : x ≡ y =
+    same_flow-true x y (same_flow_from_order x y (same_heads x y xs ys p q same) (same_heads y x ys xs q p (λ f. sym (same f)))) in
     let rests : xs ≡ ys = flows_ext xs ys p.1 q.1 (same_rests x y xs ys e p q same) in
     λ i. e i ∷ rests i
 
@@ -213,7 +215,8 @@ IsOrdered-with_back fs [] o = o
 IsOrdered-with_back fs (g ∷ gs) o = IsOrdered-with_flow (with_back fs gs) (back_of g) (IsOrdered-with_back fs gs o)
 
 -- two sets, of which the one stands wholly before the other
-pub IsOrdered-append : (xs ys : List Flow) → IsOrdered xs → IsOrdered ys → ((f g : Flow) → IsTrue (has xs f) → IsTrue (has ys g) → IsTrue (before f g)) → IsOrdered (xs ++ ys)
+pub IsOrdered-append : (xs ys : List Flow) → IsOrdered xs → IsOrdered ys
+    → ((f g : Flow) → IsTrue (has xs f) → IsTrue (has ys g) → IsTrue (before f g)) → IsOrdered (xs ++ ys)
 IsOrdered-append [] ys o p apart = p
 IsOrdered-append (x ∷ xs) ys o p apart = (
   λ g h. elim (or_cases (has xs g) (has ys g) (sym (has-append xs ys g) ∙ h)) [
@@ -250,12 +253,14 @@ with_back-push fs gs g o =
 -- where none passes, a filter leaves nothing
 pub filter_nothing : (p : Flow → Bool) (fs : List Flow) → ((f : Flow) → IsTrue (has fs f) → IsFalse (p f)) → filter p fs ≡ []
 filter_nothing p [] fails = refl
-filter_nothing p (f ∷ fs) fails = cond-false (p f) _ _ (fails f (has_first f fs)) ∙ filter_nothing p fs (λ g h. fails g (has_later f fs g h))
+filter_nothing p (f ∷ fs) fails =
+    cond-false (p f) _ _ (fails f (has_first f fs)) ∙ filter_nothing p fs (λ g h. fails g (has_later f fs g h))
 
 -- where all pass, a filter leaves the list
 pub filter_everything : (p : Flow → Bool) (fs : List Flow) → ((f : Flow) → IsTrue (has fs f) → IsTrue (p f)) → filter p fs ≡ fs
 filter_everything p [] passed = refl
-filter_everything p (f ∷ fs) passed = cond-true (p f) _ _ (passed f (has_first f fs)) ∙ ap (λ zs. f ∷ zs) (filter_everything p fs (λ g h. passed g (has_later f fs g h)))
+filter_everything p (f ∷ fs) passed =
+    cond-true (p f) _ _ (passed f (has_first f fs)) ∙ ap (λ zs. f ∷ zs) (filter_everything p fs (λ g h. passed g (has_later f fs g h)))
 
 -- ---- flows taken out one by one
 

@@ -1,5 +1,6 @@
 -- Sets of flows: what a `FlowSet` is seen as, and what its calls make.
--- A set is written as the list of its flows in ascending order, so two sets with the same flows are one list. FlowLaws says which flows each set made here has.
+-- A set is written as the list of its flows in ascending order, so two sets with the same flows are one list. FlowLaws
+-- says which flows each set made here has.
 use Rattle.std.specs.Prelude.{ℕ, ◌↔◌, Bool, false, not, ◌||◌, if◌then◌else◌, List, [], ◌∷◌, IsTrue, filter}
 use Rattle.flow_set.specs.declared.flow.Flow.{Flow}
 use Rattle.flow_set.specs.Flow.{IsFlow, before, same_flow, back_of}

@@ -16,7 +16,7 @@ flows_before_last (Added f) fs = Some (without_flow fs f)
 
 -- what these flows and this last step are seen as
 abbrev pub seen_as : SetOfFlows → LastStep → TriedFlows
-seen_as e last = record { size = e.size; flows = e.flows; before = flows_before_last last e.flows }
+seen_as e last = record { size = e.size; flows = e.flows; before_step = flows_before_last last e.flows }
 
 -- the flow of the last step is one between the hosts
 abbrev pub CanTakeBack : LastStep → ℕ → Type 0

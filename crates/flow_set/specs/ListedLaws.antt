@@ -25,7 +25,8 @@ pub IsFlowSet-fold_with_flow : (n : ℕ) (fs listed : List Flow) → IsFlowSet n
     → IsFlowSet n (fold with_flow fs listed)
 IsFlowSet-fold_with_flow n fs [] set each = set
 IsFlowSet-fold_with_flow n fs (g ∷ gs) set each =
-    IsFlowSet-fold_with_flow n (with_flow fs g) gs (IsFlowSet-with_flow n fs g set (each g (has_first g gs))) (λ f there. each f (has_later g gs f there))
+    IsFlowSet-fold_with_flow n (with_flow fs g) gs (IsFlowSet-with_flow n fs g set (each g (has_first g gs)))
+    (λ f there. each f (has_later g gs f there))
 
 -- where no flow is listed twice or there already, the set grows by as many flows as are listed
 pub length-fold_with_flow : (fs listed : List Flow) → ((f : Flow) → IsTrue (has listed f) → IsFalse (has fs f)) → AreDifferent listed

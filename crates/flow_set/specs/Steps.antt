@@ -7,15 +7,15 @@ use Rattle.flow_set.specs.FlowSet.{SetOfFlows, with_flow}
 pub record TriedFlows : Type 0 where
   pub size : ℕ
   pub flows : List Flow
-  pub before : Option (List Flow)
+  pub before_step : Option (List Flow)
 
 -- a set before any step
 abbrev pub untried : SetOfFlows → TriedFlows
-untried e = record { size = e.size; flows = e.flows; before = None }
+untried e = record { size = e.size; flows = e.flows; before_step = None }
 
 -- one step further
 abbrev pub stepped : TriedFlows → Flow → TriedFlows
-stepped t f = record { size = t.size; flows = with_flow t.flows f; before = Some t.flows }
+stepped t f = record { size = t.size; flows = with_flow t.flows f; before_step = Some t.flows }
 
 -- the flows before the last step, which are those of now where there is none
 abbrev pub flows_before_step : Option (List Flow) → List Flow → List Flow
@@ -24,4 +24,4 @@ flows_before_step None now = now
 
 -- the last step taken back
 abbrev pub taken_back : TriedFlows → TriedFlows
-taken_back t = record { size = t.size; flows = flows_before_step t.before t.flows; before = None }
+taken_back t = record { size = t.size; flows = flows_before_step t.before_step t.flows; before_step = None }

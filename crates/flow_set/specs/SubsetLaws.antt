@@ -1,7 +1,7 @@
 -- Laws of sets of flows between n hosts and of their subsets.
-use Rattle.std.proofs.Common.{◌≡◌, ℕ, ◌≤◌, Bool, true, false, not, List, [], ◌∷◌, ◌++◌, inl, inr, refl, sym, ◌∙◌}
+use Rattle.std.proofs.Common.{◌≡◌, ℕ, ◌≤◌, Bool, true, false, not, List, [], ◌++◌, inl, inr, refl, sym, ◌∙◌}
 use Rattle.std.specs.Prelude.{IsTrue, filter, ◌↔◌, ◌⊎◌}
-use Rattle.std.proofs.lemmas.Bool.{and_parts, or_cases, or_left, or_right, false≢true}
+use Rattle.std.proofs.lemmas.Bool.{and_parts, or_cases, or_left, or_right}
 use Rattle.flow_set.specs.declared.flow.Flow.{Flow}
 use Rattle.flow_set.specs.Flow.{IsFlow, same_flow, back_of}
 use Rattle.flow_set.specs.FlowSet.{has, IsOrdered, IsSubset, IsFull, with_flow, without, with_back}
@@ -44,9 +44,6 @@ IsFlowSet-filter n p fs set = record {
   flows = λ f h. set.flows f (and_parts _ _ (sym (has-filter p fs f) ∙ h)).0;
 }
 
-pub IsFlowSet-without_flow : (n : ℕ) (fs : List Flow) (f : Flow) → IsFlowSet n fs → IsFlowSet n (without_flow fs f)
-IsFlowSet-without_flow n fs f set = IsFlowSet-filter n (λ g. not (same_flow f g)) fs set
-
 pub IsFlowSet-without : (n : ℕ) (fs gs : List Flow) → IsFlowSet n fs → IsFlowSet n (without fs gs)
 IsFlowSet-without n fs gs set = IsFlowSet-filter n (λ f. not (has gs f)) fs set
 
@@ -61,7 +58,8 @@ IsFlowSet-with_back n fs gs p q = record {
 }
 
 -- a flow of a set with answers is one of the set or an answer
-pub with_back_members : (fs gs : List Flow) (f : Flow) → IsTrue (has (with_back fs gs) f) ↔ (IsTrue (has fs f) ⊎ IsTrue (has gs (back_of f)))
+pub with_back_members : (fs gs : List Flow) (f : Flow)
+    → IsTrue (has (with_back fs gs) f) ↔ (IsTrue (has fs f) ⊎ IsTrue (has gs (back_of f)))
 with_back_members fs gs f = (
   λ there. or_cases _ _ (sym (has-with_back fs gs f) ∙ there),
   λ either. has-with_back fs gs f ∙ elim either [
@@ -119,13 +117,6 @@ subset_filter p fs o = record {
 pub subset_without : (fs gs : List Flow) → IsOrdered fs → IsSubset (without fs gs) fs
 subset_without fs gs o = subset_filter (λ f. not (has gs f)) fs o
 
--- a set lies within itself with one more flow
-pub subset_with_flow : (fs : List Flow) (f : Flow) → IsOrdered fs → IsSubset fs (with_flow fs f)
-subset_with_flow fs f o = record {
-  ordered = o;
-  within = λ g h. has-with_flow fs f g ∙ or_right _ _ h;
-}
-
 -- a subset with one more flow of the set is a subset
 pub with_flow_within : (xs ys : List Flow) (f : Flow) → IsSubset xs ys → IsTrue (has ys f) → IsSubset (with_flow xs f) ys
 with_flow_within xs ys f sub member = record {
@@ -134,32 +125,6 @@ with_flow_within xs ys f sub member = record {
     | inl s ↦ same_fact (λ y. IsTrue (has ys y)) f g s member
     | inr m ↦ sub.within g m
   ];
-}
-
-pub with_flow_grows : (xs ys : List Flow) (f : Flow) → IsSubset xs ys → IsSubset (with_flow xs f) (with_flow ys f)
-with_flow_grows xs ys f sub = record {
-  ordered = IsOrdered-with_flow xs f sub.ordered;
-  within = λ g h. has-with_flow ys f g ∙ (elim (or_cases (same_flow f g) (has xs g) (sym (has-with_flow xs f g) ∙ h)) [
-    | inl s ↦ or_left _ _ s
-    | inr m ↦ or_right _ _ (sub.within g m)
-  ]);
-}
-
--- a flow of the set is a subset by itself
-pub one_within : (fs : List Flow) (f : Flow) → IsTrue (has fs f) → IsSubset (f ∷ []) fs
-one_within fs f member = record {
-  ordered = (λ g h. has_nothing g h, tt);
-  within = λ g h. elim (or_cases (same_flow f g) false h) [
-    | inl s ↦ same_fact (λ y. IsTrue (has fs y)) f g s member
-    | inr impossible ↦ absurd (false≢true impossible)
-  ];
-}
-
--- adding reversed flows takes none away
-pub subset_with_back : (fs gs : List Flow) → IsOrdered fs → IsSubset fs (with_back fs gs)
-subset_with_back fs gs o = record {
-  ordered = o;
-  within = λ f h. has-with_back fs gs f ∙ or_left _ _ h;
 }
 
 -- fewer answers make a smaller set

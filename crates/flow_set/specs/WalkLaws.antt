@@ -9,20 +9,10 @@ use Rattle.flow_set.specs.declared.flow.Flow.{Flow}
 use Rattle.flow_set.specs.Flow.{IsFlow, before, same_flow}
 use Rattle.flow_set.specs.FlowSet.{has, IsOrdered, IsSubset, with_flow}
 use Rattle.flow_set.specs.FlowSetView.{IsFlowSet, first_from}
-use Rattle.flow_set.specs.FlowLaws.{not_before_from, before_self, before_not_back, has_nothing, has_first, has_later, has-append, has-filter, same_fact, same_flow_from_order, flows_ext, filter_nothing, IsOrdered-filter}
-use Rattle.flow_set.specs.SubsetLaws.{IsFlowSet-with_flow}
+use Rattle.flow_set.specs.FlowLaws.{before_self, before_not_back, has_nothing, has_first, has_later, has-append, has-filter, same_fact, same_flow_from_order, flows_ext, IsOrdered-filter}
 
--- ---- before a place, and from it on
-
--- the flows before the place p in the order
-abbrev pub flows_before : List Flow → Flow → List Flow
-flows_before fs p = filter (λ f. before f p) fs
-
--- the first flow is not before p, so none is
-pub flows_before_nothing : (f : Flow) (fs : List Flow) (p : Flow) → IsOrdered (f ∷ fs) → IsFalse (before f p) → flows_before fs p ≡ []
-flows_before_nothing f fs p o late = filter_nothing (λ g. before g p) fs (λ g h. not_before_from f g p late (o.0 g h))
-
--- ---- the first flow from a place on: it is in the set and not before the place, no other such flow is before it, and where there is none every flow is before the place
+-- ---- the first flow from a place on: it is in the set and not before the place, no other such flow is before it, and
+-- where there is none every flow is before the place
 
 pub first_from_member : (fs : List Flow) (p f : Flow) → first_from fs p ≡ Some f → IsTrue (has fs f)
 first_from_member [] p f found = cc
@@ -40,7 +30,8 @@ first_from_late (x ∷ xs) p f found =
       | false ↦ λ late here. let e : x ≡ f = cc in subst (λ (z : Flow). IsFalse (before z p)) e late
     ] refl found
 
-pub first_from_least : (fs : List Flow) (p f : Flow) → IsOrdered fs → first_from fs p ≡ Some f → (g : Flow) → IsTrue (has fs g) → IsFalse (before g p) → IsFalse (before g f)
+pub first_from_least : (fs : List Flow) (p f : Flow) → IsOrdered fs → first_from fs p ≡ Some f → (g : Flow) → IsTrue (has fs g)
+    → IsFalse (before g p) → IsFalse (before g f)
 first_from_least [] p f o found g there late = has_nothing g there
 first_from_least (x ∷ xs) p f o found g there late =
     elim (before x p) as (λ b. before x p ≡ b → cond (not b) (Some x) (first_from xs p) ≡ Some f → IsFalse (before g f)) [
@@ -71,8 +62,10 @@ first_from_none (x ∷ xs) p none g there =
 pub length-IsSubset : (xs ys : List Flow) → IsSubset xs ys → IsOrdered ys → length xs ≤ length ys
 length-IsSubset xs ys sub o =
     let picked : filter (has xs) ys ≡ xs =
-    flows_ext (filter (has xs) ys) xs (IsOrdered-filter (has xs) ys o) sub.ordered (λ f. has-filter (has xs) ys f ∙ and_within (has xs f) (has ys f) (sub.within f)) in
-    let others : length (filter (has xs) ys) + length (filter (λ f. not (has xs f)) ys) ≡ length ys = length-filter_both (has xs) (λ f. not (has xs f)) (λ f. refl) ys in
+    flows_ext (filter (has xs) ys) xs (IsOrdered-filter (has xs) ys o) sub.ordered
+    (λ f. has-filter (has xs) ys f ∙ and_within (has xs f) (has ys f) (sub.within f)) in
+    let others : length (filter (has xs) ys) + length (filter (λ f. not (has xs f)) ys) ≡ length ys =
+    length-filter_both (has xs) (λ f. not (has xs f)) (λ f. refl) ys in
     omega (arith, others, ap length picked)
   where
     and_within : (a b : Bool) → (IsTrue a → IsTrue b) → (b && a) ≡ a
@@ -98,7 +91,8 @@ code_rises n f g h earlier =
           omega (arith, same, ltb-true f.to g.to parts.1)
     ]
 
-codes_from : (n c : ℕ) (fs : List Flow) → IsOrdered fs → ((f : Flow) → IsTrue (has fs f) → IsFlow n f × (c ≤ code_of n f)) → c ≤ n * n → c + length fs ≤ n * n
+codes_from : (n c : ℕ) (fs : List Flow) → IsOrdered fs → ((f : Flow) → IsTrue (has fs f) → IsFlow n f × (c ≤ code_of n f))
+    → c ≤ n * n → c + length fs ≤ n * n
 codes_from n c [] o above within = omega arith
 codes_from n c (f ∷ fs) o above within =
     let here = above f (has_first f fs) in
@@ -122,12 +116,6 @@ length-with_flow (x ∷ xs) f absent =
     (λ not_earlier. cond_both (before x f) (with_flow xs f) xs (λ zs. suc (length zs) ≡ suc (suc (length xs)))
     (λ _. ap suc (length-with_flow xs f parts.1))
     (λ not_later. absurd (both_ways _ parts.0 (same_flow_from_order x f not_later not_earlier))))
-
--- a set that lacks a flow has room for it
-pub length_lacking : (n : ℕ) (fs : List Flow) (f : Flow) → IsFlowSet n fs → IsFlow n f → IsFalse (has fs f) → length fs < n * n
-length_lacking n fs f set is_flow absent =
-    let h : length (with_flow fs f) ≤ n * n = length-IsFlowSet n (with_flow fs f) (IsFlowSet-with_flow n fs f set is_flow) in
-    omega (arith, h, length-with_flow fs f absent)
 
 -- ---- a loop over a set, which has gone over xs and has `left` before it
 

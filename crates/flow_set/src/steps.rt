@@ -71,7 +71,7 @@ impl FlowSteps {
 
     /// Takes the last step back.
     pub fn back(&mut self)
-        requires { IsSome self.old.before }
+        requires { IsSome self.old.before_step }
         ensures { self.new ≡ taken_back self.old }
     {
         if let LastStep::Added(f) = self.last {

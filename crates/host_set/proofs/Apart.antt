@@ -39,7 +39,8 @@ in_low : (low high q : ℕ) → q < 128 → nat_eq (bit_at low q) 1 ≡ true →
 in_low low high q below shown = cond-true (nat_lt q 128) _ _ (lt-ltb _ _ below) ∙ shown
 
 in_high : (low high q : ℕ) → nat_eq (bit_at high q) 1 ≡ true → is_marked low high (q + 128) ≡ true
-in_high low high q shown = cond-false (nat_lt (q + 128) 128) _ _ (le-ltb _ _ (omega arith)) ∙ ap (λ k. nat_eq (bit_at high k) 1) (add-sub_cancel q 128) ∙ shown
+in_high low high q shown =
+    cond-false (nat_lt (q + 128) 128) _ _ (le-ltb _ _ (omega arith)) ∙ ap (λ k. nat_eq (bit_at high k) 1) (add-sub_cancel q 128) ∙ shown
 
 within_256 : (test : ℕ → Bool) (host : ℕ) → host < 256 → test host ≡ true → set.contains (hosts_below 256 test) host ≡ true
 within_256 test host below shown = contains-hosts_below 256 test host ∙ and_from _ _ (lt-ltb _ _ below) shown
@@ -53,17 +54,21 @@ pub record HasBits (low high : ℕ) (s : HostNumbers) : Type 0 where
 
 there_from : (low high : ℕ) (s : HostNumbers) (host : ℕ) → HasBits low high s → host < 256 → is_marked low high host ≡ true
     → set.contains s host ≡ true
-there_from low high s host bits below shown = ap (λ (x : HostNumbers). set.contains x host) (sym bits.made) ∙ within_256 (is_marked low high) host below shown
+there_from low high s host bits below shown =
+    ap (λ (x : HostNumbers). set.contains x host) (sym bits.made) ∙ within_256 (is_marked low high) host below shown
 
 marked_from : (low high : ℕ) (s : HostNumbers) (host : ℕ) → HasBits low high s → set.contains s host ≡ true → is_marked low high host ≡ true
-marked_from low high s host bits there = shown_of (is_marked low high) host (ap (λ (x : HostNumbers). set.contains x host) bits.made ∙ there)
+marked_from low high s host bits there =
+    shown_of (is_marked low high) host (ap (λ (x : HostNumbers). set.contains x host) bits.made ∙ there)
 
 pub apart_from_bits : (low high low_other high_other : ℕ) (s t : HostNumbers) → HasBits low high s → HasBits low_other high_other t
     → bit_and low low_other ≡ 0 → bit_and high high_other ≡ 0 → AreApart s t
 apart_from_bits low high low_other high_other s t first second none_low none_high host there other =
-    marked_apart low high low_other high_other host none_low none_high (marked_from low high s host first there) (marked_from low_other high_other t host second other)
+    marked_apart low high low_other high_other host none_low none_high (marked_from low high s host first there)
+    (marked_from low_other high_other t host second other)
 
-pub low_apart : (low high low_other high_other : ℕ) (s t : HostNumbers) → HasBits low high s → HasBits low_other high_other t → low < 2 ^ 128
+pub low_apart : (low high low_other high_other : ℕ) (s t : HostNumbers) → HasBits low high s → HasBits low_other high_other t
+    → low < 2 ^ 128
     → AreApart s t → bit_and low low_other ≡ 0
 low_apart low high low_other high_other s t first second small apart =
     common_none low low_other small (λ q below here there.

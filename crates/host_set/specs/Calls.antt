@@ -8,7 +8,7 @@ abbrev pub HasNone : (ℕ → Bool) → ℕ → ℕ → Type 0
 HasNone test from end = (k : ℕ) → from ≤ k → k < end → IsFalse (test k)
 
 -- the first number from `from` on that passes the test
-pub record IsFirstAfter (test : ℕ → Bool) (from first : ℕ) : Type 0 where
+pub record IsFirstFrom (test : ℕ → Bool) (from first : ℕ) : Type 0 where
   pub late : from ≤ first
   pub below : first < 256
   pub passes : IsTrue (test first)

@@ -40,6 +40,7 @@ len_more n test =
     elim (test n) as (λ b. set.len (cond b (set.insert (hosts_below n test) n) (hosts_below n test)) ≡ set.len (hosts_below n test) + cond b 1 0) [
       | true ↦
           set.len-insert nat_cmp_total (hosts_below n test) n
-          ∙ ap (λ b. cond b (set.len (hosts_below n test)) (set.len (hosts_below n test) + 1)) (contains-hosts_below n test n ∙ below_none n n (test n) (λ below. absurd (omega arith)))
+          ∙ ap (λ b. cond b (set.len (hosts_below n test)) (set.len (hosts_below n test) + 1))
+          (contains-hosts_below n test n ∙ below_none n n (test n) (λ below. absurd (omega arith)))
       | false ↦ sym (add-zero _)
     ]

@@ -3,7 +3,7 @@
 
 ghost use Rattle.std.specs.Prelude.{◌≡◌, ◌<◌, ◌↔◌, IsTrue, MatchOption};
 ghost use Rattle.std.specs.FinSet as set;
-ghost use Rattle.host_set.specs.Calls.{AreApart, HasNone, IsFirstAfter};
+ghost use Rattle.host_set.specs.Calls.{AreApart, HasNone, IsFirstFrom};
 
 use std::marker::Model;
 
@@ -72,7 +72,7 @@ impl HostSet {
 
     /// The first host of the set from this one on.
     pub fn first_from(&self, from: u16) -> Option<u16>
-        ensures { MatchOption result (HasNone (set.contains self.now) from 256) (IsFirstAfter (set.contains self.now) from) }
+        ensures { MatchOption result (HasNone (set.contains self.now) from 256) (IsFirstFrom (set.contains self.now) from) }
     {
         for host in from..256 {
             if self.has(host) {

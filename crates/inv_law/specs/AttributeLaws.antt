@@ -12,7 +12,9 @@ get_or-set_default [] i d = refl
 get_or-set_default (x ∷ xs) zero d = refl
 get_or-set_default (x ∷ xs) (suc i) d = get_or-set_default xs i d
 
-pub ResetPassesNoMore-attributes : {A : Type 0} (strategy : Strategy) (default : A) (Passes : A → A → Type 0) → IsSecureDefault strategy default Passes → (n : ℕ) (xs : List A) → ResetPassesNoMore n strategy (PassesBetween default Passes xs) (PassesAfterReset default Passes xs)
+pub ResetPassesNoMore-attributes : {A : Type 0} (strategy : Strategy) (default : A) (Passes : A → A → Type 0)
+    → IsSecureDefault strategy default Passes → (n : ℕ) (xs : List A)
+    → ResetPassesNoMore n strategy (PassesBetween default Passes xs) (PassesAfterReset default Passes xs)
 ResetPassesNoMore-attributes Access default Passes secure n xs f is_flow fails passes =
     let receiver_stays = get_or-set_other xs f.from f.to default default (λ e. is_flow.2 (sym e)) in
     fails (secure _ _ (rw (get_or-set_default xs f.from default, receiver_stays) at passes))

@@ -18,14 +18,16 @@ pub AllFlowsPass-none : (Passes : ℕ → ℕ → Type 0) → AllFlowsPass Passe
 AllFlowsPass-none Passes f in_none = absurd (false≢true in_none)
 
 -- one more flow passes where it does and the others do
-pub AllFlowsPass-with : (Passes : ℕ → ℕ → Type 0) (f : Flow) (e : List Flow) → Passes f.from f.to → AllFlowsPass Passes e → AllFlowsPass Passes (f ∷ e)
+pub AllFlowsPass-with : (Passes : ℕ → ℕ → Type 0) (f : Flow) (e : List Flow) → Passes f.from f.to → AllFlowsPass Passes e
+    → AllFlowsPass Passes (f ∷ e)
 AllFlowsPass-with Passes f e pass passes g in_both =
     ⊎_elim (λ same. same_fact (λ h. Passes h.from h.to) f g same pass) (passes g) (or_cases _ _ in_both)
 
 pub AllFlowsPass-one : (Passes : ℕ → ℕ → Type 0) (f : Flow) → Passes f.from f.to → AllFlowsPass Passes (f ∷ [])
 AllFlowsPass-one Passes f pass = AllFlowsPass-with Passes f [] pass (AllFlowsPass-none Passes)
 
-pub AllFlowsPass-push : (Passes : ℕ → ℕ → Type 0) (e : List Flow) (f : Flow) → AllFlowsPass Passes e → Passes f.from f.to → AllFlowsPass Passes (e ++ f ∷ [])
+pub AllFlowsPass-push : (Passes : ℕ → ℕ → Type 0) (e : List Flow) (f : Flow) → AllFlowsPass Passes e → Passes f.from f.to
+    → AllFlowsPass Passes (e ++ f ∷ [])
 AllFlowsPass-push Passes e f passes pass g in_both =
     ⊎_elim (passes g) (AllFlowsPass-one Passes f pass g) (or_cases _ _ (sym (has-append e (f ∷ []) g) ∙ in_both))
 
@@ -33,7 +35,8 @@ pub passes_alone : (Passes : ℕ → ℕ → Type 0) (f : Flow) → AllFlowsPass
 passes_alone Passes f passes = passes f (has_first f [])
 
 -- where all flows pass, one more flow passes alone exactly where they all pass with it
-pub AllFlowsPass-with_flow : (Passes : ℕ → ℕ → Type 0) (e : List Flow) (f : Flow) → AllFlowsPass Passes e → AllFlowsPass Passes (f ∷ []) ↔ AllFlowsPass Passes (with_flow e f)
+pub AllFlowsPass-with_flow : (Passes : ℕ → ℕ → Type 0) (e : List Flow) (f : Flow) → AllFlowsPass Passes e
+    → AllFlowsPass Passes (f ∷ []) ↔ AllFlowsPass Passes (with_flow e f)
 AllFlowsPass-with_flow Passes e f passes = (
   λ alone g there. AllFlowsPass-with Passes f e (passes_alone Passes f alone) passes g (sym (has-with_flow e f g) ∙ there),
   λ together. AllFlowsPass-one Passes f (together f (has-with_flow e f f ∙ or_left _ _ (same_flow_self f))),
@@ -43,7 +46,9 @@ pub AllFlowsPass-edge_wise : (n : ℕ) (Passes : ℕ → ℕ → Type 0) → IsE
 AllFlowsPass-edge_wise n Passes e is_set =
     (λ passes f in_e. AllFlowsPass-one Passes f (passes f in_e), λ each f in_e. passes_alone Passes f (each f in_e))
 
-pub AllFlowsPass-reset : (n : ℕ) (strategy : Strategy) (Passes : ℕ → ℕ → Type 0) (PassesAfterReset : ℕ → ℕ → ℕ → Type 0) → ResetPassesNoMore n strategy Passes PassesAfterReset → ResetMendsNothing n strategy (AllFlowsPass Passes) (λ host. AllFlowsPass (PassesAfterReset host))
+pub AllFlowsPass-reset : (n : ℕ) (strategy : Strategy) (Passes : ℕ → ℕ → Type 0) (PassesAfterReset : ℕ → ℕ → ℕ → Type 0)
+    → ResetPassesNoMore n strategy Passes PassesAfterReset
+    → ResetMendsNothing n strategy (AllFlowsPass Passes) (λ host. AllFlowsPass (PassesAfterReset host))
 AllFlowsPass-reset n strategy Passes PassesAfterReset law e f host is_set minimal offending passes =
     let g : Flow = offending.flow in
     let in_e : IsTrue (has e g) = minimal.within.within g offending.offends in

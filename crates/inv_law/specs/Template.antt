@@ -16,7 +16,8 @@ pub record Template : Type 1 where
   pub default : ℕ → ℕ → Attribute
   pub Holds : List Attribute → List Flow → Type 0
 
--- the number of hosts, whom a flow is blamed on, whether flows are judged one by one, what it holds on, and the same with the default at a host
+-- the number of hosts, whom a flow is blamed on, whether flows are judged one by one, what it holds on, and the same
+-- with the default at a host
 pub record Meaning : Type 1 where
   pub size : ℕ
   pub strategy : Strategy

@@ -1,5 +1,5 @@
 -- A template is lawful where an invariant of it is, whatever attributes the hosts have.
-use Rattle.std.proofs.Common.{ℕ, false, List, [], length}
+use Rattle.std.proofs.Common.{ℕ, List, [], length}
 use Rattle.std.specs.Prelude.{IsTrue}
 use Rattle.std.proofs.lemmas.Bool.{false≢true}
 use Rattle.flow_set.specs.Downward.{IsDownward, IsEdgeWise}
@@ -23,12 +23,14 @@ abbrev pub IsLawfulTemplate : Template → Type 0
 IsLawfulTemplate t = (hosts : List t.Attribute) → IsLawful (meaning t hosts)
 
 -- a template on single flows is lawful where its default is secure
-pub lawful_edge : {A : Type 0} (name : List ℕ) (strategy : Strategy) (default : A) (Passes : A → A → Type 0) → IsSecureDefault strategy default Passes
+pub lawful_edge : {A : Type 0} (name : List ℕ) (strategy : Strategy) (default : A) (Passes : A → A → Type 0)
+    → IsSecureDefault strategy default Passes
     → IsLawfulTemplate (edge_template name strategy default Passes)
 lawful_edge name strategy default Passes secure hosts = record {
   downward = AllFlowsPass-downward (length hosts) (PassesBetween default Passes hosts);
   holds_on_none = AllFlowsPass-none (PassesBetween default Passes hosts);
-  reset_mends_nothing = AllFlowsPass-reset (length hosts) strategy (PassesBetween default Passes hosts) (PassesAfterReset default Passes hosts)
+  reset_mends_nothing =
+      AllFlowsPass-reset (length hosts) strategy (PassesBetween default Passes hosts) (PassesAfterReset default Passes hosts)
       (ResetPassesNoMore-attributes strategy default Passes secure (length hosts) hosts);
   mark_is_right = λ marked. AllFlowsPass-edge_wise (length hosts) (PassesBetween default Passes hosts);
 }

@@ -47,7 +47,7 @@ pub trait Stepwise: Invariant {
     /// Takes the last step back.
     fn back(&self, tried: &mut Self::Tried)
         requires fits { fits self.now tried.old }
-        requires step { IsSome (Self.Tried.tried tried.old).before }
+        requires step { IsSome (Self.Tried.tried tried.old).before_step }
         ensures fits { fits self.now tried.new }
         ensures back { Self.Tried.tried tried.new ≡ taken_back (Self.Tried.tried tried.old) };
 

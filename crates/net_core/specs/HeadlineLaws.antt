@@ -1,4 +1,5 @@
--- What a network's policy keeps, from its definition alone: it is the greatest where every invariant judges flows alone, and with its answers it complies with every invariant.
+-- What a network's policy keeps, from its definition alone: it is the greatest where every invariant judges flows
+-- alone, and with its answers it complies with every invariant.
 use Rattle.std.proofs.Common.{◌≡◌, ℕ, Bool, true, false, List, sym, ◌∙◌, subst, All, get_or}
 use Rattle.std.specs.Prelude.{IsTrue}
 use Rattle.net_core.specs.Network.{Network}
@@ -22,17 +23,20 @@ edge_wise_at : (n : ℕ) (inv : AnyInv) → (meaning_of inv).size ≡ n → IsTr
 edge_wise_at n inv sized marked = subst (λ m. IsEdgeWise m (holds_on inv)) sized ((lawful inv).mark_is_right marked)
 
 -- where every invariant judges flows alone, the permitted flows contain every other policy
-pub IsGreatestPolicy-from_policy : (d : Network) (policy : Policy) → IsNetwork d → IsPolicyOf d policy → JudgesFlowsAlone d → IsGreatestPolicy d policy
+pub IsGreatestPolicy-from_policy : (d : Network) (policy : Policy) → IsNetwork d → IsPolicyOf d policy → JudgesFlowsAlone d
+    → IsGreatestPolicy d policy
 IsGreatestPolicy-from_policy d policy network is_policy alone =
     let n : ℕ = d.asked.size in
     let edge_wise : All (λ inv. IsEdgeWise n (holds_on inv)) d.invariants =
     λ k e within. edge_wise_at n _ (network.invariants k e within ∙ sym network.sized) (alone k e within) in
-    first_greatest n (MeetsAll d) d.asked.flows policy.permitted.flows network.asked (AllHold-edge_wise n holds_on d.invariants edge_wise) is_policy.permitted
+    first_greatest n (MeetsAll d) d.asked.flows policy.permitted.flows network.asked
+    (AllHold-edge_wise n holds_on d.invariants edge_wise) is_policy.permitted
 
 -- the strict invariants hold with the answers, also where there are none
 strict_holds : (answers : Bool) (d : Network) (p s : List Flow) → MeetsAll d p → IsStatefulBy answers d p s → MeetsStrict d (with_back p s)
 strict_holds true d p s meets first = first.holds
-strict_holds false d p s meets nothing = λ k e within strict. subst (λ (xs : List Flow). holds_on (get_or d.invariants k e) (with_back p xs)) (sym nothing) (meets k e within)
+strict_holds false d p s meets nothing =
+    λ k e within strict. subst (λ (xs : List Flow). holds_on (get_or d.invariants k e) (with_back p xs)) (sym nothing) (meets k e within)
 
 -- no answer breaks what the policy keeps
 pub CompliesWithAll-from_policy : (d : Network) (policy : Policy) → IsNetwork d → IsPolicyOf d policy → CompliesWithAll d policy

@@ -1,4 +1,5 @@
--- Laws of policies: a network has one at most, what lies within what, and that flows which meet every invariant are permitted as they are asked for.
+-- Laws of policies: a network has one at most, what lies within what, and that flows which meet every invariant are
+-- permitted as they are asked for.
 use Rattle.std.proofs.Common.{◌≡◌, Bool, true, false, List, sym, ◌∙◌, subst}
 use Rattle.net_core.specs.Network.{Network}
 use Rattle.net_core.specs.Fitting.{IsNetwork}
@@ -33,7 +34,8 @@ stateful_is_one d p s t a b = stateful_by_is_one d.answers d p s t a b
 
 pub policy_is_one : (d : Network) (p q : Policy) → IsPolicyOf d p → IsPolicyOf d q → p ≡ q
 policy_is_one d p q a b =
-    let same : p.permitted.flows ≡ q.permitted.flows = first_unique (MeetsAll d) d.asked.flows p.permitted.flows q.permitted.flows a.permitted b.permitted in
+    let same : p.permitted.flows ≡ q.permitted.flows =
+    first_unique (MeetsAll d) d.asked.flows p.permitted.flows q.permitted.flows a.permitted b.permitted in
     policy_ext p q
     (set_ext p.permitted q.permitted (a.permitted_size ∙ sym b.permitted_size) same)
     (set_ext p.stateful q.stateful (a.stateful_size ∙ sym b.stateful_size)

@@ -23,7 +23,8 @@ KeepsLimits-downward n limits e s is_set sub keeps host below =
           let parts = and_parts _ _ (sym (has-filter sends s f) ∙ there) in
           has-filter sends e f ∙ and_from _ _ (sub.within f parts.0) parts.1;
     } in
-    let fewer : length (sent_by host s) ≤ length (sent_by host e) = length-IsSubset (sent_by host s) (sent_by host e) within (IsOrdered-filter sends e is_set.ordered) in
+    let fewer : length (sent_by host s) ≤ length (sent_by host e) =
+    length-IsSubset (sent_by host s) (sent_by host e) within (IsOrdered-filter sends e is_set.ordered) in
     omega (arith, fewer, keeps host below)
 
 pub KeepsLimits-nothing : (limits : List ℕ) → KeepsLimits limits []
@@ -37,7 +38,8 @@ some_element [] f there = has_nothing f there
 some_element (x ∷ xs) f there = omega arith
 
 -- with the default number an offending host, which sends a flow, still sends too many
-pub KeepsLimits-reset : (limits : List ℕ) → ResetMendsNothing (length limits) Access (KeepsLimits limits) (λ host. KeepsLimits (set limits host 0))
+pub KeepsLimits-reset : (limits : List ℕ)
+    → ResetMendsNothing (length limits) Access (KeepsLimits limits) (λ host. KeepsLimits (set limits host 0))
 KeepsLimits-reset limits e f host is_set minimal offending keeps =
     let g : Flow = offending.flow in
     let there : IsTrue (has e g) = minimal.within.within g offending.offends in

@@ -1,5 +1,8 @@
--- Lists of invariants on one set of flows, and what is said of a flow that they deny. Of an invariant only the predicate is needed, whatever type it is.
--- The permitted policy itself is the first subset of the asked flows on which AllHold (flow_set: Conditions). That invariants make a policy is after C. Diekmann, Provably Secure Networks: Methodology and Toolset for Configuration Management; that of several the first one counts is topoS's own choice.
+-- Lists of invariants on one set of flows, and what is said of a flow that they deny. Of an invariant only the
+-- predicate is needed, whatever type it is.
+-- The permitted policy itself is the first subset of the asked flows on which AllHold (flow_set: Conditions). That
+-- invariants make a policy is after C. Diekmann, Provably Secure Networks: Methodology and Toolset for Configuration
+-- Management; that of several the first one counts is topoS's own choice.
 use Rattle.std.specs.Prelude.{◌≡◌, ℕ, List, All, take, slice_get, Some}
 use Rattle.flow_set.specs.declared.flow.Flow.{Flow}
 

@@ -11,20 +11,22 @@ use Rattle.flow_set.specs.FlowSet.{SetOfFlows, has, with_flow}
 use Rattle.flow_set.specs.FlowSetView.{IsFlowSet}
 use Rattle.flow_set.specs.FlowLaws.{same_flow_self, same_flow_back, has-with_flow}
 use Rattle.flow_set.specs.SubsetLaws.{IsFlowSet-nothing, IsFlowSet-with_flow}
-use Rattle.host_set.specs.HostSet.{HostNumbers}
+use Rattle.host_set.specs.HostSet.{HostNumbers, row_of}
 use Rattle.reach_core.specs.Walks.{has_either}
 use Rattle.reach_core.specs.WalkLaws.{HasPath, HasWalk-weaker, HasWalk-append, HasPath-weaker, path_of_walk, cases_path, walk_over, walk_cut}
-use Rattle.reach_core.specs.Rows.{row_of, Closes, IsClosed, opened, OpensFlow, HasRows}
+use Rattle.reach_core.specs.Rows.{Closes, IsClosed, opened, OpensFlow, HasRows}
 use Rattle.host_set.specs.HostSetLaws.{contains-insert, hosts_ext}
 
 -- ---- a row after one more flow
 
-contains-either_of : (b : Bool) (s t : HostNumbers) (j : ℕ) (x y : Bool) → set.contains s j ≡ x → set.contains t j ≡ (x || y) → set.contains (cond b t s) j ≡ (x || (b && y))
+contains-either_of : (b : Bool) (s t : HostNumbers) (j : ℕ) (x y : Bool) → set.contains s j ≡ x → set.contains t j ≡ (x || y)
+    → set.contains (cond b t s) j ≡ (x || (b && y))
 contains-either_of true s t j x y from_s from_t = from_t
 contains-either_of false s t j true y from_s from_t = from_s
 contains-either_of false s t j false y from_s from_t = from_s
 
-contains-opened : (rows : List HostNumbers) (g : Flow) (i j : ℕ) → set.contains (opened rows g i) j ≡ (set.contains (row_of rows i) j || ((nat_eq i g.from || set.contains (row_of rows i) g.from) && (nat_eq j g.to || set.contains (row_of rows g.to) j)))
+contains-opened : (rows : List HostNumbers) (g : Flow) (i j : ℕ)
+    → set.contains (opened rows g i) j ≡ (set.contains (row_of rows i) j || ((nat_eq i g.from || set.contains (row_of rows i) g.from) && (nat_eq j g.to || set.contains (row_of rows g.to) j)))
 contains-opened rows g i j =
     contains-either_of (nat_eq i g.from || set.contains (row_of rows i) g.from) (row_of rows i) _ j _ _ refl
     (set.contains-union nat_cmp_total (row_of rows i) (set.insert (row_of rows g.to) g.to) j
@@ -42,7 +44,8 @@ absorbed false true true within = sym (within refl refl)
 absorbed false true false within = refl
 absorbed false false c within = refl
 
-pub opens_nothing : (rows : List HostNumbers) (g : Flow) → IsFlow (length rows) g → IsClosed rows → IsTrue (set.contains (row_of rows g.from) g.to) → OpensFlow rows rows g
+pub opens_nothing : (rows : List HostNumbers) (g : Flow) → IsFlow (length rows) g → IsClosed rows
+    → IsTrue (set.contains (row_of rows g.from) g.to) → OpensFlow rows rows g
 opens_nothing rows g is_flow closed there = record {
   same_length = refl;
   rows = λ i below. hosts_ext _ _ (λ j.
@@ -59,7 +62,8 @@ opens_nothing rows g is_flow closed there = record {
 
 -- ---- the rows of one more flow
 
-pub closes_step : (test : Flow → Bool) (old new : List HostNumbers) (g : Flow) → g.from < length old → g.to < length old → Closes test old → OpensFlow old new g → Closes (λ f. same_flow g f || test f) new
+pub closes_step : (test : Flow → Bool) (old new : List HostNumbers) (g : Flow) → g.from < length old → g.to < length old
+    → Closes test old → OpensFlow old new g → Closes (λ f. same_flow g f || test f) new
 closes_step test old new g from_in to_in closes opens i j below =
     let within : i < length old = omega arith in
     let wider : Flow → Bool = λ f. same_flow g f || test f in
@@ -67,7 +71,8 @@ closes_step test old new g from_in to_in closes opens i j below =
     let was : Bool = set.contains (row_of old i) j in
     let comes : Bool = nat_eq i g.from || set.contains (row_of old i) g.from in
     let goes : Bool = nat_eq j g.to || set.contains (row_of old g.to) j in
-    let is_now : set.contains (row_of new i) j ≡ (was || (comes && goes)) = ap (λ s. set.contains s j) (opens.rows i within) ∙ contains-opened old g i j in
+    let is_now : set.contains (row_of new i) j ≡ (was || (comes && goes)) =
+    ap (λ s. set.contains s j) (opens.rows i within) ∙ contains-opened old g i j in
     let before : IsTrue comes → HasPath test i g.from =
     λ h. elim (or_cases (nat_eq i g.from) (set.contains (row_of old i) g.from) h) [
       | inl same ↦ ([], eqb-true _ _ same)
@@ -92,7 +97,8 @@ closes_step test old new g from_in to_in closes opens i j below =
         | inl already ↦ HasWalk-weaker test wider more i j ((closes i j within).0 already)
         | inr both ↦
             let parts = and_parts comes goes both in
-            walk_over wider g (or_left _ _ (same_flow_self g)) i j (HasPath-weaker test wider more i g.from (before parts.0)) (HasPath-weaker test wider more g.to j (after parts.1))
+            walk_over wider g (or_left _ _ (same_flow_self g)) i j (HasPath-weaker test wider more i g.from (before parts.0))
+            (HasPath-weaker test wider more g.to j (after parts.1))
       ],
       λ walk. elim (walk_cut test g i j walk) [
         | inl stays ↦ is_now ∙ or_left was _ ((closes i j within).1 stays)
@@ -113,16 +119,19 @@ regroup false true true d = refl
 regroup false true false d = refl
 regroup false false c d = refl
 
-has_either-with_flow : (fs : List Flow) (g f : Flow) → (same_flow (back_of g) f || (same_flow g f || has_either fs f)) ≡ has_either (with_flow fs g) f
+has_either-with_flow : (fs : List Flow) (g f : Flow)
+    → (same_flow (back_of g) f || (same_flow g f || has_either fs f)) ≡ has_either (with_flow fs g) f
 has_either-with_flow fs g f =
     ap (λ b. b || (same_flow g f || has_either fs f)) (same_flow_back g f)
     ∙ regroup (same_flow g f) (has fs f) (same_flow g (back_of f)) (has fs (back_of f))
     ∙ sym (λ i. has-with_flow fs g f i || has-with_flow fs g (back_of f) i)
 
 -- with the flow alone, and its reverse still to come
-closes_halfway : (e : SetOfFlows) (f : Flow) (along either halfway : List HostNumbers) → IsFlow e.size f → HasRows e along either → OpensFlow either halfway f → Closes (λ g. same_flow f g || has_either e.flows g) halfway
+closes_halfway : (e : SetOfFlows) (f : Flow) (along either halfway : List HostNumbers) → IsFlow e.size f → HasRows e along either
+    → OpensFlow either halfway f → Closes (λ g. same_flow f g || has_either e.flows g) halfway
 closes_halfway e f along either halfway is_flow rows one_way =
-    closes_step (has_either e.flows) either halfway f (omega (arith, is_flow.0, rows.joined_length)) (omega (arith, is_flow.1, rows.joined_length)) rows.joined one_way
+    closes_step (has_either e.flows) either halfway f (omega (arith, is_flow.0, rows.joined_length))
+    (omega (arith, is_flow.1, rows.joined_length)) rows.joined one_way
 
 pub IsClosed-reached : (e : SetOfFlows) (along either : List HostNumbers) → HasRows e along either → IsClosed along
 IsClosed-reached e along either rows = IsClosed-closes (has e.flows) along rows.reached
@@ -130,11 +139,14 @@ IsClosed-reached e along either rows = IsClosed-closes (has e.flows) along rows.
 pub IsClosed-joined : (e : SetOfFlows) (along either : List HostNumbers) → HasRows e along either → IsClosed either
 IsClosed-joined e along either rows = IsClosed-closes (has_either e.flows) either rows.joined
 
-pub IsClosed-halfway : (e : SetOfFlows) (f : Flow) (along either halfway : List HostNumbers) → IsFlow e.size f → HasRows e along either → OpensFlow either halfway f → IsClosed halfway
+pub IsClosed-halfway : (e : SetOfFlows) (f : Flow) (along either halfway : List HostNumbers) → IsFlow e.size f
+    → HasRows e along either → OpensFlow either halfway f → IsClosed halfway
 IsClosed-halfway e f along either halfway is_flow rows one_way =
     IsClosed-closes (λ g. same_flow f g || has_either e.flows g) halfway (closes_halfway e f along either halfway is_flow rows one_way)
 
-pub HasRows-with_flow : (e : SetOfFlows) (f : Flow) (along along' either halfway either' : List HostNumbers) → IsFlow e.size f → HasRows e along either → OpensFlow along along' f → OpensFlow either halfway f → OpensFlow halfway either' (back_of f) → HasRows (record e { flows = with_flow e.flows f }) along' either'
+pub HasRows-with_flow : (e : SetOfFlows) (f : Flow) (along along' either halfway either' : List HostNumbers) → IsFlow e.size f
+    → HasRows e along either → OpensFlow along along' f → OpensFlow either halfway f → OpensFlow halfway either' (back_of f)
+    → HasRows (record e { flows = with_flow e.flows f }) along' either'
 HasRows-with_flow e f along along' either halfway either' is_flow rows opens one_way other_way =
     record {
       is_set = IsFlowSet-with_flow e.size e.flows f rows.is_set is_flow;
@@ -157,7 +169,8 @@ closes_nothing n test none i j below = (
   λ walk. absurd (false≢true (sym (none walk.0) ∙ walk.2.0)),
 )
 
-pub HasRows-nothing : (n : ℕ) (e : SetOfFlows) (along either : List HostNumbers) → n ≤ 256 → e ≡ record { size = n; flows = [] } → along ≡ replicate n set.empty → either ≡ replicate n set.empty → HasRows e along either
+pub HasRows-nothing : (n : ℕ) (e : SetOfFlows) (along either : List HostNumbers) → n ≤ 256 → e ≡ record { size = n; flows = [] }
+    → along ≡ replicate n set.empty → either ≡ replicate n set.empty → HasRows e along either
 HasRows-nothing n e along either small e_is along_is either_is =
     let size : e.size ≡ n = ap (λ (s : SetOfFlows). s.size) e_is in
     let flows : e.flows ≡ [] = ap (λ (s : SetOfFlows). s.flows) e_is in

@@ -39,7 +39,8 @@ was_with s h q shown =
 -- a set that is not empty has a host
 some_host : (s : HostNumbers) (n : ℕ) (hosts : List ℕ) → set.items s ≡ hosts → set.len s ≡ suc n → (h : ℕ) × IsTrue (set.contains s h)
 some_host s n [] items counted =
-    let none : s ≡ set.empty = hosts_ext s set.empty (λ q. set.contains-items s q ∙ ap (list_any (eq_by_cmp nat_cmp q)) items ∙ sym (set.contains-empty nat_cmp q)) in
+    let none : s ≡ set.empty =
+    hosts_ext s set.empty (λ q. set.contains-items s q ∙ ap (list_any (eq_by_cmp nat_cmp q)) items ∙ sym (set.contains-empty nat_cmp q)) in
     let zero_len : set.len s ≡ 0 = ap (λ t. set.len t) none ∙ set.len-empty nat_cmp in
     absurd (omega arith)
 some_host s n (h ∷ hosts) items counted =
@@ -60,13 +61,16 @@ pairs_head : (h : ℕ) (hosts : List ℕ) → AllPairs (λ a b. a ≢ b) (h ∷ 
 pairs_head h hosts pairs k d below = λ same. pairs 0 (suc k) d (omega arith) (omega arith) (sym same)
 
 -- different hosts of a set are no more than it has
-pub length-different : (hosts : List ℕ) (s : HostNumbers) → AllPairs (λ a b. a ≢ b) hosts → All (λ j. IsTrue (set.contains s j)) hosts → length hosts ≤ set.len s
+pub length-different : (hosts : List ℕ) (s : HostNumbers) → AllPairs (λ a b. a ≢ b) hosts
+    → All (λ j. IsTrue (set.contains s j)) hosts → length hosts ≤ set.len s
 length-different [] s different within = omega arith
 length-different (h ∷ hosts) s different within =
     let shown : IsTrue (set.contains s h) = All-head (λ j. IsTrue (set.contains s j)) h hosts within in
     let others = pairs_head h hosts different in
     let rest = All-tail (λ j. IsTrue (set.contains s j)) h hosts within in
-    let fewer = length-different hosts (set.remove s h) (pairs_tail h hosts different) (λ k d below. stays_without s h _ (others k d below) (rest k d below)) in
+    let fewer =
+    length-different hosts (set.remove s h) (pairs_tail h hosts different)
+    (λ k d below. stays_without s h _ (others k d below) (rest k d below)) in
     let one_more = len-without s h shown in
     omega arith
 
@@ -92,7 +96,8 @@ lists_all (suc n) s counted =
 
 -- ---- the others that a host reaches
 
-pub reaches_exactly : (e : List Flow) (i : ℕ) (row : HostNumbers) → ((j : ℕ) → IsTrue (set.contains row j) ↔ Reaches e i j) → ReachesExactly e i (set.len (set.remove row i))
+pub reaches_exactly : (e : List Flow) (i : ℕ) (row : HostNumbers) → ((j : ℕ) → IsTrue (set.contains row j) ↔ Reaches e i j)
+    → ReachesExactly e i (set.len (set.remove row i))
 reaches_exactly e i row shows =
     let all = lists_all (set.len (set.remove row i)) (set.remove row i) refl in
     record {
@@ -106,10 +111,12 @@ reaches_exactly e i row shows =
       most = λ hosts are. length-different hosts (set.remove row i) are.different (λ k d below. stays_without row i _ (are.others k d below) ((shows _).1 (are.reached k d below)));
     }
 
-pub exactly_without : (e : List Flow) (i : ℕ) (row : HostNumbers) → ((j : ℕ) → IsTrue (set.contains row j) ↔ Reaches e i j) → set.contains row i ≡ true → ReachesExactly e i (set.len row - 1)
+pub exactly_without : (e : List Flow) (i : ℕ) (row : HostNumbers) → ((j : ℕ) → IsTrue (set.contains row j) ↔ Reaches e i j)
+    → set.contains row i ≡ true → ReachesExactly e i (set.len row - 1)
 exactly_without e i row shows itself =
     subst (ReachesExactly e i) (set.len-remove nat_cmp_total row i ∙ cond-true _ _ _ itself) (reaches_exactly e i row shows)
 
-pub exactly_all : (e : List Flow) (i : ℕ) (row : HostNumbers) → ((j : ℕ) → IsTrue (set.contains row j) ↔ Reaches e i j) → set.contains row i ≡ false → ReachesExactly e i (set.len row)
+pub exactly_all : (e : List Flow) (i : ℕ) (row : HostNumbers) → ((j : ℕ) → IsTrue (set.contains row j) ↔ Reaches e i j)
+    → set.contains row i ≡ false → ReachesExactly e i (set.len row)
 exactly_all e i row shows not_itself =
     subst (ReachesExactly e i) (set.len-remove nat_cmp_total row i ∙ cond-false _ _ _ not_itself) (reaches_exactly e i row shows)

@@ -11,6 +11,7 @@ use Rattle.std.proofs.lemmas.Bool.{or_left, or_right}
 pub with_flow-last : (fs : List Flow) (f : Flow) (rest : List Flow) → IsOrdered ((fs ++ f ∷ []) ++ rest) → with_flow fs f ≡ fs ++ f ∷ []
 with_flow-last [] f rest ordered = refl
 with_flow-last (g ∷ gs) f rest ordered =
-    let earlier : IsTrue (before g f) = ordered.0 f (has-append (gs ++ f ∷ []) rest f ∙ or_left _ _ (has-append gs (f ∷ []) f ∙ or_right _ _ (has_first f []))) in
+    let earlier : IsTrue (before g f) =
+    ordered.0 f (has-append (gs ++ f ∷ []) rest f ∙ or_left _ _ (has-append gs (f ∷ []) f ∙ or_right _ _ (has_first f []))) in
     cond-false (before f g) _ _ (before_not_back g f earlier)
     ∙ ap (λ hs. g ∷ hs) (cond-true (before g f) _ _ earlier ∙ with_flow-last gs f rest ordered.1)

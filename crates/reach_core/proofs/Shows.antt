@@ -3,8 +3,8 @@ use Rattle.std.proofs.Common.{◌≡◌, ℕ, ◌<◌, ◌↔◌, List, length, 
 use Rattle.std.specs.Prelude.{IsTrue}
 use Rattle.std.specs.FinSet as set
 use Rattle.flow_set.specs.Steps.{TriedFlows}
-use Rattle.host_set.specs.HostSet.{HostNumbers}
-use Rattle.reach_core.specs.Rows.{row_of, HasRows}
+use Rattle.host_set.specs.HostSet.{HostNumbers, row_of}
+use Rattle.reach_core.specs.Rows.{HasRows}
 use Rattle.reach_core.specs.Walks.{Reaches, Joined}
 
 -- a row has the hosts that are reached

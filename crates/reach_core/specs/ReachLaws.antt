@@ -17,7 +17,8 @@ use Rattle.reach_core.specs.WalkLaws.{HasPath, HasWalk-weaker, LeadsTo-append, w
 pub Reaches-within : (s e : List Flow) → ((f : Flow) → IsTrue (has s f) → IsTrue (has e f)) → (i j : ℕ) → Reaches s i j → Reaches e i j
 Reaches-within s e within = HasWalk-weaker (has s) (has e) within
 
-pub has_either-within : (s e : List Flow) → ((f : Flow) → IsTrue (has s f) → IsTrue (has e f)) → (f : Flow) → IsTrue (has_either s f) → IsTrue (has_either e f)
+pub has_either-within : (s e : List Flow) → ((f : Flow) → IsTrue (has s f) → IsTrue (has e f)) → (f : Flow)
+    → IsTrue (has_either s f) → IsTrue (has_either e f)
 has_either-within s e within f shown =
     elim (or_cases (has s f) (has s (back_of f)) shown) [
       | inl forth ↦ or_left _ _ (within f forth)
@@ -27,9 +28,11 @@ has_either-within s e within f shown =
 pub Joined-within : (s e : List Flow) → ((f : Flow) → IsTrue (has s f) → IsTrue (has e f)) → (i j : ℕ) → Joined s i j → Joined e i j
 Joined-within s e within = HasWalk-weaker (has_either s) (has_either e) (has_either-within s e within)
 
-pub ReachesAtMost-within : (s e : List Flow) → ((f : Flow) → IsTrue (has s f) → IsTrue (has e f)) → (i limit : ℕ) → ReachesAtMost e i limit → ReachesAtMost s i limit
+pub ReachesAtMost-within : (s e : List Flow) → ((f : Flow) → IsTrue (has s f) → IsTrue (has e f)) → (i limit : ℕ)
+    → ReachesAtMost e i limit → ReachesAtMost s i limit
 ReachesAtMost-within s e within i limit most hosts are =
-    most hosts (record { different = are.different; others = are.others; reached = λ k d below. Reaches-within s e within i _ (are.reached k d below) })
+    most hosts
+    (record { different = are.different; others = are.others; reached = λ k d below. Reaches-within s e within i _ (are.reached k d below) })
 
 -- walks stay between the hosts of a set
 pub Reaches-below : (n : ℕ) (e : List Flow) → IsFlowSet n e → (i j : ℕ) → Reaches e i j → (i < n) × (j < n)
@@ -58,8 +61,10 @@ joined_over e f here = (f, [], (or_left _ _ here, refl, refl))
 
 pub Reaches-one : (f : Flow) (i j : ℕ) → Reaches (f ∷ []) i j → (i ≡ f.from) × (j ≡ f.to)
 Reaches-one f i j walk =
-    let one : (g : Flow) → IsTrue (has (f ∷ []) g) → f ≡ g = λ g h. elim (or_cases (same_flow f g) false h) [ inl same ↦ same_flow-true f g same | inr none ↦ absurd (false≢true none) ] in
-    walk_ends (has (f ∷ [])) (λ h. h ≡ f.from) (λ h. h ≡ f.to) (λ g h. (sym (ap (λ (x : Flow). x.from) (one g h)), sym (ap (λ (x : Flow). x.to) (one g h)))) i j walk.0 walk.1 walk.2
+    let one : (g : Flow) → IsTrue (has (f ∷ []) g) → f ≡ g =
+    λ g h. elim (or_cases (same_flow f g) false h) [ inl same ↦ same_flow-true f g same | inr none ↦ absurd (false≢true none) ] in
+    walk_ends (has (f ∷ [])) (λ h. h ≡ f.from) (λ h. h ≡ f.to)
+    (λ g h. (sym (ap (λ (x : Flow). x.from) (one g h)), sym (ap (λ (x : Flow). x.to) (one g h)))) i j walk.0 walk.1 walk.2
 
 -- one of the two hosts of the flow
 abbrev pub IsEnd : Flow → ℕ → Type 0
@@ -67,7 +72,8 @@ IsEnd f h = (h ≡ f.from) ⊎ (h ≡ f.to)
 
 pub Joined-one : (f : Flow) (i j : ℕ) → Joined (f ∷ []) i j → IsEnd f i × IsEnd f j
 Joined-one f i j walk =
-    let one : (g : Flow) → IsTrue (has (f ∷ []) g) → f ≡ g = λ g h. elim (or_cases (same_flow f g) false h) [ inl same ↦ same_flow-true f g same | inr none ↦ absurd (false≢true none) ] in
+    let one : (g : Flow) → IsTrue (has (f ∷ []) g) → f ≡ g =
+    λ g h. elim (or_cases (same_flow f g) false h) [ inl same ↦ same_flow-true f g same | inr none ↦ absurd (false≢true none) ] in
     let ends : (g : Flow) → IsTrue (has_either (f ∷ []) g) → IsEnd f g.from × IsEnd f g.to =
     λ g h. elim (or_cases (has (f ∷ []) g) (has (f ∷ []) (back_of g)) h) [
       | inl forth ↦ (inl (sym (ap (λ (x : Flow). x.from) (one g forth))), inr (sym (ap (λ (x : Flow). x.to) (one g forth))))
@@ -131,7 +137,8 @@ ReachesAtMost-one f i limit allows (h ∷ k ∷ hosts) are =
 -- ---- one more flow
 
 -- hosts that are joined with one more flow were joined before, or its receiver stands between them
-pub joined_through : (e : List Flow) (g : Flow) (i j : ℕ) → Joined (with_flow e g) i j → Joined e i j ⊎ (HasPath (has_either (with_flow e g)) i g.to × HasPath (has_either (with_flow e g)) g.to j)
+pub joined_through : (e : List Flow) (g : Flow) (i j : ℕ) → Joined (with_flow e g) i j
+    → Joined e i j ⊎ (HasPath (has_either (with_flow e g)) i g.to × HasPath (has_either (with_flow e g)) g.to j)
 joined_through e g i j (f, fs, walk) =
     let further : (h : Flow) → IsTrue (has_either (with_flow e g) h) → IsTrue (has_either e h) ⊎ ((h.from ≡ g.to) ⊎ (h.to ≡ g.to)) =
     λ h shown. elim (or_cases (has (with_flow e g) h) (has (with_flow e g) (back_of h)) shown) [

@@ -1,16 +1,13 @@
--- Rows of hosts, one for each host: what the rows of a closure say, and what one more flow opens. No clause of a public call speaks of rows.
-use Rattle.std.specs.Prelude.{◌≡◌, ℕ, ◌<◌, ◌↔◌, Bool, ◌||◌, ◌==◌, if◌then◌else◌, List, length, slice_index_or, IsTrue, IfSome}
+-- Rows of hosts, one for each host: what the rows of a closure say, and what one more flow opens. No clause of a public
+-- call speaks of rows.
+use Rattle.std.specs.Prelude.{◌≡◌, ℕ, ◌<◌, ◌↔◌, Bool, ◌||◌, ◌==◌, if◌then◌else◌, List, length, IsTrue, IfSome}
 use Rattle.std.specs.FinSet as set
 use Rattle.flow_set.specs.declared.flow.Flow.{Flow}
 use Rattle.flow_set.specs.FlowSet.{SetOfFlows, has}
 use Rattle.flow_set.specs.FlowSetView.{IsFlowSet}
 use Rattle.flow_set.specs.Steps.{TriedFlows}
-use Rattle.host_set.specs.HostSet.{HostNumbers}
+use Rattle.host_set.specs.HostSet.{HostNumbers, row_of}
 use Rattle.reach_core.specs.Walks.{HasWalk, has_either}
-
--- a host's row
-abbrev pub row_of : List HostNumbers → ℕ → HostNumbers
-row_of rows i = slice_index_or rows i set.empty
 
 -- each row has the hosts that walks lead to from its host
 abbrev pub Closes : (Flow → Bool) → List HostNumbers → Type 0
@@ -46,4 +43,4 @@ pub record HasSteppedRows (t : TriedFlows) (along either along_before either_bef
   pub now : HasRows (record { size = t.size; flows = t.flows }) along either
   pub along_room : length along_before ≡ t.size
   pub either_room : length either_before ≡ t.size
-  pub before : IfSome t.before (λ fs. HasRows (record { size = t.size; flows = fs }) along_before either_before)
+  pub before : IfSome t.before_step (λ fs. HasRows (record { size = t.size; flows = fs }) along_before either_before)

@@ -13,14 +13,17 @@ HasPath test i j = (fs : List Flow) × LeadsTo test i j fs
 
 -- ---- over more flows
 
-pub LeadsTo-weaker : (test wider : Flow → Bool) → ((f : Flow) → IsTrue (test f) → IsTrue (wider f)) → (i j : ℕ) (fs : List Flow) → LeadsTo test i j fs → LeadsTo wider i j fs
+pub LeadsTo-weaker : (test wider : Flow → Bool) → ((f : Flow) → IsTrue (test f) → IsTrue (wider f)) → (i j : ℕ) (fs : List Flow)
+    → LeadsTo test i j fs → LeadsTo wider i j fs
 LeadsTo-weaker test wider more i j [] here = here
 LeadsTo-weaker test wider more i j (f ∷ fs) walk = (more f walk.0, walk.1, LeadsTo-weaker test wider more f.to j fs walk.2)
 
-pub HasPath-weaker : (test wider : Flow → Bool) → ((f : Flow) → IsTrue (test f) → IsTrue (wider f)) → (i j : ℕ) → HasPath test i j → HasPath wider i j
+pub HasPath-weaker : (test wider : Flow → Bool) → ((f : Flow) → IsTrue (test f) → IsTrue (wider f)) → (i j : ℕ) → HasPath test i j
+    → HasPath wider i j
 HasPath-weaker test wider more i j path = (path.0, LeadsTo-weaker test wider more i j path.0 path.1)
 
-pub HasWalk-weaker : (test wider : Flow → Bool) → ((f : Flow) → IsTrue (test f) → IsTrue (wider f)) → (i j : ℕ) → HasWalk test i j → HasWalk wider i j
+pub HasWalk-weaker : (test wider : Flow → Bool) → ((f : Flow) → IsTrue (test f) → IsTrue (wider f)) → (i j : ℕ) → HasWalk test i j
+    → HasWalk wider i j
 HasWalk-weaker test wider more i j walk = (walk.0, walk.1, LeadsTo-weaker test wider more i j (walk.0 ∷ walk.1) walk.2)
 
 -- ---- put together
@@ -32,7 +35,8 @@ pub cases_path : (test : Flow → Bool) (i j : ℕ) → HasPath test i j → (i 
 cases_path test i j ([], here) = inl here
 cases_path test i j (f ∷ fs, walk) = inr (f, fs, walk)
 
-pub LeadsTo-append : (test : Flow → Bool) (i k j : ℕ) (fs gs : List Flow) → LeadsTo test i k fs → LeadsTo test k j gs → LeadsTo test i j (fs ++ gs)
+pub LeadsTo-append : (test : Flow → Bool) (i k j : ℕ) (fs gs : List Flow) → LeadsTo test i k fs → LeadsTo test k j gs
+    → LeadsTo test i j (fs ++ gs)
 LeadsTo-append test i k j [] gs here walk = let P : ℕ → Type 0 = λ h. LeadsTo test h j gs in subst P (sym here) walk
 LeadsTo-append test i k j (f ∷ fs) gs first second = (first.0, first.1, LeadsTo-append test f.to k j fs gs first.2 second)
 
@@ -42,7 +46,8 @@ HasWalk-append test i k j (f, fs, before) (g, gs, after) =
     (f, fs ++ g ∷ gs, LeadsTo-append test i k j (f ∷ fs) (g ∷ gs) before after)
 
 -- a path, a flow and a path are a walk
-pub walk_over : (test : Flow → Bool) (g : Flow) → IsTrue (test g) → (i j : ℕ) → HasPath test i g.from → HasPath test g.to j → HasWalk test i j
+pub walk_over : (test : Flow → Bool) (g : Flow) → IsTrue (test g) → (i j : ℕ) → HasPath test i g.from → HasPath test g.to j
+    → HasWalk test i j
 walk_over test g passes i j ([], here) (gs, after) = (g, gs, (passes, sym here, after))
 walk_over test g passes i j (f ∷ fs, before) (gs, after) =
     (f, fs ++ g ∷ gs, LeadsTo-append test i g.from j (f ∷ fs) (g ∷ gs) before (passes, refl, after))
@@ -50,10 +55,12 @@ walk_over test g passes i j (f ∷ fs, before) (gs, after) =
 -- ---- cut in two
 
 -- a walk over one more flow does without it, or leads to its sender and on from its receiver
-pub path_cut : (test : Flow → Bool) (g : Flow) (i j : ℕ) (fs : List Flow) → LeadsTo (λ f. same_flow g f || test f) i j fs → LeadsTo test i j fs ⊎ (HasPath test i g.from × HasPath test g.to j)
+pub path_cut : (test : Flow → Bool) (g : Flow) (i j : ℕ) (fs : List Flow) → LeadsTo (λ f. same_flow g f || test f) i j fs
+    → LeadsTo test i j fs ⊎ (HasPath test i g.from × HasPath test g.to j)
 path_cut test g i j [] here = inl here
 path_cut test g i j (f ∷ fs) walk =
-    let begins : IsTrue (same_flow g f) → HasPath test i g.from = λ same. ([], sym walk.1 ∙ sym (ap (λ (h : Flow). h.from) (same_flow-true g f same))) in
+    let begins : IsTrue (same_flow g f) → HasPath test i g.from =
+    λ same. ([], sym walk.1 ∙ sym (ap (λ (h : Flow). h.from) (same_flow-true g f same))) in
     let ends : IsTrue (same_flow g f) → LeadsTo test f.to j fs → HasPath test g.to j =
     λ same rest. (fs, let P : Flow → Type 0 = λ h. LeadsTo test h.to j fs in subst P (sym (same_flow-true g f same)) rest) in
     elim (path_cut test g f.to j fs walk.2) [
@@ -67,12 +74,15 @@ path_cut test g i j (f ∷ fs) walk =
       ]
     ]
 
-pub walk_cut : (test : Flow → Bool) (g : Flow) (i j : ℕ) → HasWalk (λ f. same_flow g f || test f) i j → HasWalk test i j ⊎ (HasPath test i g.from × HasPath test g.to j)
+pub walk_cut : (test : Flow → Bool) (g : Flow) (i j : ℕ) → HasWalk (λ f. same_flow g f || test f) i j
+    → HasWalk test i j ⊎ (HasPath test i g.from × HasPath test g.to j)
 walk_cut test g i j (f, fs, walk) =
     elim (path_cut test g i j (f ∷ fs) walk) [ inl stays ↦ inl (f, fs, stays) | inr parts ↦ inr parts ]
 
 -- where each further flow has an end at the host, a walk does without these flows, or leads to the host and on from it
-pub path_touch : (test wider : Flow → Bool) (host : ℕ) → ((f : Flow) → IsTrue (wider f) → IsTrue (test f) ⊎ ((f.from ≡ host) ⊎ (f.to ≡ host))) → (i j : ℕ) (fs : List Flow) → LeadsTo wider i j fs → LeadsTo test i j fs ⊎ (HasPath wider i host × HasPath wider host j)
+pub path_touch : (test wider : Flow → Bool) (host : ℕ)
+    → ((f : Flow) → IsTrue (wider f) → IsTrue (test f) ⊎ ((f.from ≡ host) ⊎ (f.to ≡ host))) → (i j : ℕ) (fs : List Flow)
+    → LeadsTo wider i j fs → LeadsTo test i j fs ⊎ (HasPath wider i host × HasPath wider host j)
 path_touch test wider host further i j [] here = inl here
 path_touch test wider host further i j (f ∷ fs) walk =
     elim (path_touch test wider host further f.to j fs walk.2) [
@@ -91,7 +101,8 @@ path_touch test wider host further i j (f ∷ fs) walk =
 
 -- ---- where walks end
 
-pub walk_ends : (test : Flow → Bool) (Begins Ends : ℕ → Type 0) → ((f : Flow) → IsTrue (test f) → Begins f.from × Ends f.to) → (i j : ℕ) (f : Flow) (fs : List Flow) → LeadsTo test i j (f ∷ fs) → Begins i × Ends j
+pub walk_ends : (test : Flow → Bool) (Begins Ends : ℕ → Type 0) → ((f : Flow) → IsTrue (test f) → Begins f.from × Ends f.to)
+    → (i j : ℕ) (f : Flow) (fs : List Flow) → LeadsTo test i j (f ∷ fs) → Begins i × Ends j
 walk_ends test Begins Ends each i j f [] walk =
     (subst Begins walk.1 (each f walk.0).0, subst Ends walk.2 (each f walk.0).1)
 walk_ends test Begins Ends each i j f (g ∷ gs) walk =

@@ -77,7 +77,7 @@ impl Closure {
 
     /// Takes the last `try_add` back.
     pub fn undo(&mut self)
-        requires { IsSome self.old.before }
+        requires { IsSome self.old.before_step }
         ensures { self.new ≡ taken_back self.old }
     {
         mem::swap(&mut self.reached, &mut self.reached_before);

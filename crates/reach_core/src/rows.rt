@@ -4,7 +4,8 @@
 ghost use Rattle.std.specs.Prelude.{◌≡◌, ◌<◌, ◌≤◌, length, replicate, IfOk};
 ghost use Rattle.std.specs.FinSet as set;
 ghost use Rattle.flow_set.specs.Flow.{IsFlow};
-ghost use Rattle.reach_core.specs.Rows.{row_of, IsClosed, OpensFlow};
+ghost use Rattle.host_set.specs.HostSet.{row_of};
+ghost use Rattle.reach_core.specs.Rows.{IsClosed, OpensFlow};
 
 use flow_set::Flow;
 use host_set::HostSet;

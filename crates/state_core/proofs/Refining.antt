@@ -1,4 +1,5 @@
--- What refining rests on: which answers add nothing, what one answer more is, that the condition of stateful flows is kept by fewer of them, and that what is found complies.
+-- What refining rests on: which answers add nothing, what one answer more is, that the condition of stateful flows is
+-- kept by fewer of them, and that what is found complies.
 use Rattle.std.proofs.Common.{◌≡◌, ℕ, Bool, true, false, ◌||◌, cond, List, Result, Ok, Err, get_or, refl, sym, ◌∙◌, ap}
 use Rattle.std.specs.Prelude.{IsTrue, IsFalse, All, IfOk}
 use Rattle.std.proofs.lemmas.Bool.{or_from}
@@ -19,11 +20,13 @@ use Rattle.state_core.specs.StatefulLaws.{Complies-from_strict}
 -- an answer that is a flow of the policy itself adds nothing
 pub permitted_answer : (p s : List Flow) (f : Flow) → IsOrdered p → IsTrue (has p (back_of f)) → with_back p (with_flow s f) ≡ with_back p s
 permitted_answer p s f ordered there =
-    flows_ext (with_back p (with_flow s f)) (with_back p s) (IsOrdered-with_back p (with_flow s f) ordered) (IsOrdered-with_back p s ordered)
+    flows_ext (with_back p (with_flow s f)) (with_back p s) (IsOrdered-with_back p (with_flow s f) ordered)
+    (IsOrdered-with_back p s ordered)
     (λ g.
     has-with_back p (with_flow s f) g
     ∙ ap (λ b. has p g || b) (has-with_flow s f (back_of g))
-    ∙ nothing_more (has p g) (same_flow f (back_of g)) (has s (back_of g)) (λ same. same_fact (λ h. IsTrue (has p h)) (back_of f) g (same_flow_back f g ∙ same) there)
+    ∙ nothing_more (has p g) (same_flow f (back_of g)) (has s (back_of g))
+    (λ same. same_fact (λ h. IsTrue (has p h)) (back_of f) g (same_flow_back f g ∙ same) there)
     ∙ sym (has-with_back p s g))
   where
     nothing_more : (a b c : Bool) → (IsTrue b → IsTrue a) → (a || (b || c)) ≡ (a || c)
@@ -38,7 +41,9 @@ swap false b c = refl
 -- the answer of one more flow is one more flow
 pub answer_of_more : (p s : List Flow) (f : Flow) → IsOrdered p → with_flow (with_back p s) (back_of f) ≡ with_back p (with_flow s f)
 answer_of_more p s f ordered =
-    flows_ext (with_flow (with_back p s) (back_of f)) (with_back p (with_flow s f)) (IsOrdered-with_flow (with_back p s) (back_of f) (IsOrdered-with_back p s ordered)) (IsOrdered-with_back p (with_flow s f) ordered)
+    flows_ext (with_flow (with_back p s) (back_of f)) (with_back p (with_flow s f))
+    (IsOrdered-with_flow (with_back p s) (back_of f) (IsOrdered-with_back p s ordered))
+    (IsOrdered-with_back p (with_flow s f) ordered)
     (λ g.
     has-with_flow (with_back p s) (back_of f) g
     ∙ (λ i. same_flow_back f g i || has-with_back p s g i)

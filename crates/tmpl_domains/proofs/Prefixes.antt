@@ -34,7 +34,8 @@ same_segments (x ∷ xs) (y ∷ ys) =
 cut_front : (xs rest : List (List ℕ)) {n : ℕ} → length xs ≡ n → take n (xs ++ rest) ≡ xs
 cut_front xs rest e = ap (λ k. take k (xs ++ rest)) (sym e) ∙ take-append_seam xs rest
 
-pub IsPrefix-starts_with : (path front : List (Vec ℕ Global)) → IsTrue (starts_with same_segment path front) ↔ IsPrefix (segment_bytes front) (segment_bytes path)
+pub IsPrefix-starts_with : (path front : List (Vec ℕ Global))
+    → IsTrue (starts_with same_segment path front) ↔ IsPrefix (segment_bytes front) (segment_bytes path)
 IsPrefix-starts_with path front =
     let same = same_segments front (take (length front) path) in
     let cut : take (length front) (segment_bytes path) ≡ segment_bytes (take (length front) path) = take-map (λ (segment : Vec ℕ Global). segment.items) (length front) path in (
@@ -46,11 +47,13 @@ IsPrefix-starts_with path front =
     )
 
 -- the kept segments of a path are its trusted path
-pub segment_bytes-take : (xs path : List (Vec ℕ Global)) (kept trust : ℕ) → xs ≡ path → kept ≡ length path - trust → segment_bytes (take kept xs) ≡ trusted_path (record { path = segment_bytes path; trust = trust })
+pub segment_bytes-take : (xs path : List (Vec ℕ Global)) (kept trust : ℕ) → xs ≡ path → kept ≡ length path - trust
+    → segment_bytes (take kept xs) ≡ trusted_path (record { path = segment_bytes path; trust = trust })
 segment_bytes-take xs path kept trust same count =
     let few : kept ≡ length (segment_bytes path) - trust = count ∙ ap (λ n. n - trust) (sym (length-map path _)) in
     sym (take-map (λ (segment : Vec ℕ Global). segment.items) kept xs)
     ∙ (λ i. take (few i) (segment_bytes (same i)))
 
-pub IsPrefix-same : {front front' path path' : List (List ℕ)} (r : Bool) → front ≡ front' → path ≡ path' → IsTrue r ↔ IsPrefix front path → IsTrue r ↔ IsPrefix front' path'
+pub IsPrefix-same : {front front' path path' : List (List ℕ)} (r : Bool) → front ≡ front' → path ≡ path'
+    → IsTrue r ↔ IsPrefix front path → IsTrue r ↔ IsPrefix front' path'
 IsPrefix-same r e f means = subst (λ (paths : List (List ℕ) × List (List ℕ)). IsTrue r ↔ IsPrefix paths.0 paths.1) (λ i. (e i, f i)) means

@@ -1,5 +1,6 @@
 -- The domain hierarchy template: a host sends to its own place and to all places below it, and its trust lets it act as if it stood higher.
--- In the manner of the template of this name of Network_Security_Policy_Verification in the Archive of Formal Proofs, with the rule of docs/FORMATS.md.
+-- In the manner of the template of this name of Network_Security_Policy_Verification in the Archive of Formal Proofs,
+-- with the rule of docs/FORMATS.md.
 use Rattle.std.specs.Prelude.{ℕ, ◌-◌, List, length, take, Option, Some, None, codes}
 use Rattle.inv_law.specs.Template.{Template, edge_template}
 use Rattle.inv_law.specs.declared.strategy.Strategy.TheVariants.{Access}

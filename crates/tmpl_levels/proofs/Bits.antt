@@ -27,7 +27,8 @@ none_lost a b c small_a small_b small_c passes = elim (cases_eq a 1) [
 bit_at-kept_of : (a b i : ℕ) → b < 2 ^ 64 → i < 64 → bit_at (kept_of a b) i ≡ min (bit_at a i) (1 - bit_at b i)
 bit_at-kept_of a b i fits within = bit_at_and a (bit_not w64 b) i ∙ ap (min (bit_at a i)) (bit_at_not w64 b i fits within)
 
-pub passes_from_mask : (a b c : ℕ) → a < 2 ^ 64 → b < 2 ^ 64 → bit_and (kept_of a b) c ≡ kept_of a b → (label : ℕ) → HasLabel a label → (HasLabel b label → ⊥) → HasLabel c label
+pub passes_from_mask : (a b c : ℕ) → a < 2 ^ 64 → b < 2 ^ 64 → bit_and (kept_of a b) c ≡ kept_of a b → (label : ℕ)
+    → HasLabel a label → (HasLabel b label → ⊥) → HasLabel c label
 passes_from_mask a b c fits_a fits_b same label has keeps = elim (cases_lt label 64) [
   | inl within ↦
       let kept = bit_at-kept_of a b label fits_b within in
@@ -36,12 +37,14 @@ passes_from_mask a b c fits_a fits_b same label has keeps = elim (cases_lt label
   | inr above ↦ let none = bit_at_above a 64 label fits_a above in absurd (cc)
 ]
 
-pub mask_from_passes : (a b c : ℕ) → a < 2 ^ 64 → b < 2 ^ 64 → ((label : ℕ) → HasLabel a label → (HasLabel b label → ⊥) → HasLabel c label) → bit_and (kept_of a b) c ≡ kept_of a b
+pub mask_from_passes : (a b c : ℕ) → a < 2 ^ 64 → b < 2 ^ 64
+    → ((label : ℕ) → HasLabel a label → (HasLabel b label → ⊥) → HasLabel c label) → bit_and (kept_of a b) c ≡ kept_of a b
 mask_from_passes a b c fits_a fits_b passes = same_from_bits _ _ (λ i. bit_at_and (kept_of a b) c i ∙ elim (cases_lt i 64) [
   | inl within ↦
       let kept = bit_at-kept_of a b i fits_b within in
       ap (λ n. min n (bit_at c i)) kept ∙ none_lost _ _ _ (bit_at-lt a i) (bit_at-lt b i) (bit_at-lt c i) (passes i) ∙ sym kept
   | inr above ↦
-      let none : bit_at (kept_of a b) i ≡ 0 = bit_at_and a (bit_not w64 b) i ∙ ap (λ n. min n (bit_at (bit_not w64 b) i)) (bit_at_above a 64 i fits_a above) ∙ omega arith in
+      let none : bit_at (kept_of a b) i ≡ 0 =
+      bit_at_and a (bit_not w64 b) i ∙ ap (λ n. min n (bit_at (bit_not w64 b) i)) (bit_at_above a 64 i fits_a above) ∙ omega arith in
       ap (λ n. min n (bit_at c i)) none ∙ omega arith ∙ sym none
 ])

@@ -15,6 +15,8 @@ apart_but row rest hosts host Stands tells is = (
   λ apart j other listed stands.
       apart j (ap (λ (s : HostNumbers). set.contains s j) is ∙ contains-remove row host j ∙ and_from _ _ (not_from_false _ (ne_eqb j host (λ same. other (sym same)))) ((tells j).1 stands)) listed,
   λ none j in_rest listed.
-      let parts = and_parts (not (nat_eq j host)) (set.contains row j) (sym (contains-remove row host j) ∙ sym (ap (λ (s : HostNumbers). set.contains s j) is) ∙ in_rest) in
+      let parts =
+      and_parts (not (nat_eq j host)) (set.contains row j)
+      (sym (contains-remove row host j) ∙ sym (ap (λ (s : HostNumbers). set.contains s j) is) ∙ in_rest) in
       none j (λ same. both_ways _ (not-true _ parts.0) (eq-eqb j host (sym same))) listed ((tells j).0 parts.1),
 )

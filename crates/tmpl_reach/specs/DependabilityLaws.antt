@@ -29,11 +29,14 @@ IsDependable-reset limits e f host is_set minimal offending holds =
     let in_e : IsTrue (has e offending.flow) = minimal.within.within offending.flow offending.offends in
     let is_flow : IsFlow (length limits) offending.flow = is_set.flows offending.flow in_e in
     let limit : get_or (set limits offending.flow.from 0) offending.flow.from 0 ≡ 0 = get_or-set_default limits offending.flow.from 0 in
-    let after : IsDependable (slice_set limits offending.flow.from 0) e = subst (λ h. IsDependable (slice_set limits h 0) e) (sym offending.blamed) holds in
-    sender_reaches e offending.flow in_e is_flow.2 (subst (ReachesAtMost e offending.flow.from) limit (after offending.flow.from (omega (arith, is_flow.0, length-set {A = ℕ}))))
+    let after : IsDependable (slice_set limits offending.flow.from 0) e =
+    subst (λ h. IsDependable (slice_set limits h 0) e) (sym offending.blamed) holds in
+    sender_reaches e offending.flow in_e is_flow.2
+    (subst (ReachesAtMost e offending.flow.from) limit (after offending.flow.from (omega (arith, is_flow.0, length-set {A = ℕ}))))
 
 -- one flow alone: its sender reaches one other host
-pub IsDependable-one : (limits : List ℕ) (f : Flow) → IsFlow (length limits) f → (0 < slice_index limits f.from) ↔ IsDependable limits (f ∷ [])
+pub IsDependable-one : (limits : List ℕ) (f : Flow) → IsFlow (length limits) f
+    → (0 < slice_index limits f.from) ↔ IsDependable limits (f ∷ [])
 IsDependable-one limits f is_flow = (
   λ allows host below. ReachesAtMost-one f host _ (λ same. subst (λ h. 0 < slice_index limits h) (sym same) allows),
   λ holds. elim (cases_eq (slice_index limits f.from) 0) [
@@ -59,4 +62,6 @@ example_beyond holds =
     omega arith
 
 pub dependability_lawful : IsLawfulTemplate dependability
-dependability_lawful = lawful_walk dependability.name dependability.strategy (λ n host. 0) IsDependable IsDependable-downward IsDependable-none IsDependable-reset
+dependability_lawful =
+    lawful_walk dependability.name dependability.strategy
+    (λ n host. 0) IsDependable IsDependable-downward IsDependable-none IsDependable-reset

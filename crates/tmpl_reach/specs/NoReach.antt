@@ -3,25 +3,25 @@
 use Rattle.std.specs.Prelude.{◌≢◌, ℕ, not, ◌==◌, List, slice_index_or, IsTrue, codes}
 use Rattle.std.specs.FinSet as set
 use Rattle.flow_set.specs.declared.flow.Flow.{Flow}
-use Rattle.host_set.specs.HostSet.{HostNumbers as Hosts, hosts_below}
+use Rattle.host_set.specs.HostSet.{HostNumbers, hosts_below}
 use Rattle.inv_law.specs.Template.{Template, walk_template}
 use Rattle.inv_law.specs.declared.strategy.Strategy.TheVariants.{Access}
 use Rattle.reach_core.specs.Walks.{Reaches}
 
 -- all hosts of n but this one: what a host without an entry denies
-abbrev pub others : ℕ → ℕ → Hosts
+abbrev pub others : ℕ → ℕ → HostNumbers
 others n host = hosts_below n (λ other. not (other == host))
 
 -- the hosts that a host denies
-abbrev pub denied_by : List Hosts → ℕ → Hosts
+abbrev pub denied_by : List HostNumbers → ℕ → HostNumbers
 denied_by denied i = slice_index_or denied i set.empty
 
 -- i comes to none of these hosts, itself apart
-abbrev pub ReachesNone : Hosts → List Flow → ℕ → Type 0
+abbrev pub ReachesNone : HostNumbers → List Flow → ℕ → Type 0
 ReachesNone hosts e i = (j : ℕ) → i ≢ j → IsTrue (set.contains hosts j) → Reaches e i j → ⊥
 
 -- each host keeps clear of those that it denies
-abbrev pub ReachesNoDenied : List Hosts → List Flow → Type 0
+abbrev pub ReachesNoDenied : List HostNumbers → List Flow → Type 0
 ReachesNoDenied denied e = (i : ℕ) → ReachesNone (denied_by denied i) e i
 
 abbrev pub no_reach : Template

@@ -29,19 +29,24 @@ pub contains-others : (n host j : ℕ) → set.contains (others n host) j ≡ (n
 contains-others n host j = contains-hosts_below n (λ other. not (nat_eq other host)) j
 
 -- an offending host sends, so it reaches another, and denies it after its reset
-pub ReachesNoDenied-reset : (denied : List HostNumbers) → ResetMendsNothing (length denied) Access (ReachesNoDenied denied) (ReachesNoDeniedAfterReset denied)
+pub ReachesNoDenied-reset : (denied : List HostNumbers)
+    → ResetMendsNothing (length denied) Access (ReachesNoDenied denied) (ReachesNoDeniedAfterReset denied)
 ReachesNoDenied-reset denied e f host is_set minimal offending holds =
     let g : Flow = offending.flow in
     let in_e : IsTrue (has e g) = minimal.within.within g offending.offends in
     let is_flow : IsFlow (length denied) g = is_set.flows g in_e in
     let all : HostNumbers = others (length denied) g.from in
     let apart : g.to ≢ g.from = λ same. is_flow.2 (sym same) in
-    let denies : IsTrue (set.contains all g.to) = contains-others (length denied) g.from g.to ∙ and_from _ _ (lt-ltb _ _ is_flow.1) (not_from_false _ (ne_eqb _ _ apart)) in
-    let after : ReachesNoDenied (slice_set denied g.from all) e = subst (λ h. ReachesNoDenied (slice_set denied h (others (length denied) h)) e) (sym offending.blamed) holds in
-    after g.from g.to is_flow.2 (ap (λ s. set.contains s g.to) (get_or-set_same denied g.from all set.empty is_flow.0) ∙ denies) (reaches_over e g in_e)
+    let denies : IsTrue (set.contains all g.to) =
+    contains-others (length denied) g.from g.to ∙ and_from _ _ (lt-ltb _ _ is_flow.1) (not_from_false _ (ne_eqb _ _ apart)) in
+    let after : ReachesNoDenied (slice_set denied g.from all) e =
+    subst (λ h. ReachesNoDenied (slice_set denied h (others (length denied) h)) e) (sym offending.blamed) holds in
+    after g.from g.to is_flow.2 (ap (λ s. set.contains s g.to) (get_or-set_same denied g.from all set.empty is_flow.0) ∙ denies)
+    (reaches_over e g in_e)
 
 -- one flow alone: its sender reaches its receiver
-pub ReachesNoDenied-one : (denied : List HostNumbers) (f : Flow) → IsFlow (length denied) f → (IsTrue (set.contains (denied_by denied f.from) f.to) → ⊥) ↔ ReachesNoDenied denied (f ∷ [])
+pub ReachesNoDenied-one : (denied : List HostNumbers) (f : Flow) → IsFlow (length denied) f
+    → (IsTrue (set.contains (denied_by denied f.from) f.to) → ⊥) ↔ ReachesNoDenied denied (f ∷ [])
 ReachesNoDenied-one denied f is_flow = (
   λ allows i j apart denies reaches.
       let ends = Reaches-one f i j reaches in
@@ -50,7 +55,9 @@ ReachesNoDenied-one denied f is_flow = (
 )
 
 -- to name every other host is to deny all others
-pub from_list-others : (n host : ℕ) (named : List ℕ) → ((j : ℕ) → list_any (λ other. nat_eq other j) named ≡ (nat_lt j n && not (nat_eq j host))) → set.from_list named ≡ others n host
+pub from_list-others : (n host : ℕ) (named : List ℕ)
+    → ((j : ℕ) → list_any (λ other. nat_eq other j) named ≡ (nat_lt j n && not (nat_eq j host)))
+    → set.from_list named ≡ others n host
 from_list-others n host named all = hosts_ext _ _ (λ j. set.contains-from_list_nat named j ∙ all j ∙ sym (contains-others n host j))
 
 -- An example: the first of three hosts denies the third, and comes to it by the second.
@@ -64,4 +71,5 @@ example_chain holds =
     (record { from = 0; to = 1 }, record { from = 1; to = 2 } ∷ [], (refl, refl, (refl, refl, refl)))
 
 pub no_reach_lawful : IsLawfulTemplate no_reach
-no_reach_lawful = lawful_walk no_reach.name no_reach.strategy others ReachesNoDenied ReachesNoDenied-downward ReachesNoDenied-none ReachesNoDenied-reset
+no_reach_lawful =
+    lawful_walk no_reach.name no_reach.strategy others ReachesNoDenied ReachesNoDenied-downward ReachesNoDenied-none ReachesNoDenied-reset

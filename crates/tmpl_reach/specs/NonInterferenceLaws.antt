@@ -26,24 +26,29 @@ pub IsNonInterfering-none : (hosts : List Interference) → IsNonInterfering hos
 IsNonInterfering-none hosts i first j apart second joined = Joined-none i j joined
 
 -- put back, a flow of e makes walks of e alone
-put_back-within : (e f : List Flow) (g : Flow) → IsTrue (has e g) → (x : Flow) → IsTrue (has (with_flow (without e f) g) x) → IsTrue (has e x)
+put_back-within : (e f : List Flow) (g : Flow) → IsTrue (has e g) → (x : Flow) → IsTrue (has (with_flow (without e f) g) x)
+    → IsTrue (has e x)
 put_back-within e f g in_e x shown =
     elim (or_cases (same_flow g x) (has (without e f) x) (sym (has-with_flow (without e f) g x) ∙ shown)) [
       | inl same ↦ subst (λ (h : Flow). IsTrue (has e h)) (same_flow-true g x same) in_e
       | inr stays ↦ (and_parts _ _ (sym (has-without e f x) ∙ stays)).0
     ]
 
-still_interfering : (hosts : List Interference) (host i : ℕ) → i ≢ host → IsInterfering hosts i → IsInterfering (slice_set hosts host Interfering) i
+still_interfering : (hosts : List Interference) (host i : ℕ) → i ≢ host → IsInterfering hosts i
+    → IsInterfering (slice_set hosts host Interfering) i
 still_interfering hosts host i other interferes = get_or-set_other hosts host i Interfering Unrelated other ∙ interferes
 
 -- the receiver of an offending flow stands between two interfering hosts, and is another than one of them
-pub IsNonInterfering-reset : (hosts : List Interference) → ResetMendsNothing (length hosts) Information (IsNonInterfering hosts) (IsNonInterferingAfterReset hosts)
+pub IsNonInterfering-reset : (hosts : List Interference)
+    → ResetMendsNothing (length hosts) Information (IsNonInterfering hosts) (IsNonInterferingAfterReset hosts)
 IsNonInterfering-reset hosts e f host is_set minimal offending holds =
     let g : Flow = offending.flow in
     let in_e : IsTrue (has e g) = minimal.within.within g offending.offends in
     let back : List Flow = with_flow (without e f) g in
-    let after : IsNonInterfering (slice_set hosts g.to Interfering) e = subst (λ h. IsNonInterfering (slice_set hosts h Interfering) e) (sym offending.blamed) holds in
-    let between : IsInterfering (slice_set hosts g.to Interfering) g.to = get_or-set_same hosts g.to Interfering Unrelated (is_set.flows g in_e).1 in
+    let after : IsNonInterfering (slice_set hosts g.to Interfering) e =
+    subst (λ h. IsNonInterfering (slice_set hosts h Interfering) e) (sym offending.blamed) holds in
+    let between : IsInterfering (slice_set hosts g.to Interfering) g.to =
+    get_or-set_same hosts g.to Interfering Unrelated (is_set.flows g in_e).1 in
     let wider : (i j : ℕ) → Joined back i j → Joined e i j = Joined-within back e (put_back-within e f g in_e) in
     minimal.minimal g offending.offends (λ i first j apart second joined.
     elim (joined_through (without e f) g i j joined) [
@@ -63,7 +68,8 @@ IsNonInterfering-reset hosts e f host is_set minimal offending holds =
     ])
 
 -- one flow alone joins its two hosts
-pub IsNonInterfering-one : (hosts : List Interference) (f : Flow) → IsFlow (length hosts) f → (IsInterfering hosts f.from → IsInterfering hosts f.to → ⊥) ↔ IsNonInterfering hosts (f ∷ [])
+pub IsNonInterfering-one : (hosts : List Interference) (f : Flow) → IsFlow (length hosts) f
+    → (IsInterfering hosts f.from → IsInterfering hosts f.to → ⊥) ↔ IsNonInterfering hosts (f ∷ [])
 IsNonInterfering-one hosts f is_flow = (
   λ not_both i first j apart second joined.
       let ends = Joined-one f i j joined in
@@ -91,4 +97,6 @@ example_meeting holds =
     (record { from = 0; to = 2 }, record { from = 2; to = 1 } ∷ [], (refl, refl, (refl, refl, refl)))
 
 pub non_interference_lawful : IsLawfulTemplate non_interference
-non_interference_lawful = lawful_walk non_interference.name non_interference.strategy (λ n host. Interfering) IsNonInterfering IsNonInterfering-downward IsNonInterfering-none IsNonInterfering-reset
+non_interference_lawful =
+    lawful_walk non_interference.name non_interference.strategy
+    (λ n host. Interfering) IsNonInterfering IsNonInterfering-downward IsNonInterfering-none IsNonInterfering-reset

@@ -2,7 +2,7 @@
 use Rattle.std.specs.List.{range_with_len}
 use Rattle.std.specs.Prelude.{ℕ, List, slice_set, length, map}
 use Rattle.flow_set.specs.declared.flow.Flow.{Flow}
-use Rattle.host_set.specs.HostSet.{HostNumbers as Hosts}
+use Rattle.host_set.specs.HostSet.{HostNumbers}
 use Rattle.tmpl_reach.specs.Dependability.{IsDependable}
 use Rattle.tmpl_reach.specs.NoReach.{others, ReachesNoDenied}
 use Rattle.tmpl_reach.specs.NonInterference.{IsNonInterfering}
@@ -18,9 +18,9 @@ abbrev pub IsNonInterferingAfterReset : List Interference → ℕ → List Flow 
 IsNonInterferingAfterReset hosts host = IsNonInterfering (slice_set hosts host Interfering)
 
 -- where a host denies all others
-abbrev pub ReachesNoDeniedAfterReset : List Hosts → ℕ → List Flow → Type 0
+abbrev pub ReachesNoDeniedAfterReset : List HostNumbers → ℕ → List Flow → Type 0
 ReachesNoDeniedAfterReset denied host = ReachesNoDenied (slice_set denied host (others (length denied) host))
 
 -- each of n hosts denies all others
-abbrev pub all_others : ℕ → List Hosts
+abbrev pub all_others : ℕ → List HostNumbers
 all_others n = map (others n) (range_with_len 0 n)

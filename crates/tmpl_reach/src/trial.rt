@@ -47,7 +47,7 @@ impl ReachTrial {
     }
 
     pub(crate) fn back(&mut self)
-        requires { IsSome self.old.before }
+        requires { IsSome self.old.before_step }
         ensures { self.new ≡ taken_back self.old }
     {
         self.closure.undo();

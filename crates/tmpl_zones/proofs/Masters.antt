@@ -38,7 +38,8 @@ takes-with_sender number sender (Master marks) a b is_master within = marked mar
 -- a master takes from one more sender, and from those before
 pub PartnersPass-with_sender : (partners : List Partner) (sender master : ℕ) → master < length partners
     → IsMaster (get_or partners master DontCare) → sender < length (marks_of (get_or partners master DontCare)) → (number : ℕ)
-    → PartnersPass (set partners master (with_sender (get_or partners master DontCare) sender)) number master ↔ ((number ≡ sender) ⊎ PartnersPass partners number master)
+    → PartnersPass (set partners master (with_sender (get_or partners master DontCare) sender)) number master ↔
+    ((number ≡ sender) ⊎ PartnersPass partners number master)
 PartnersPass-with_sender partners sender master within is_master room number =
     let p = get_or partners master DontCare in
     let new = set partners master (with_sender p sender) in
@@ -52,5 +53,7 @@ pub PartnersPass-nobody : (partners : List Partner) (n host : ℕ) → host < le
 PartnersPass-nobody partners n host within sender is_host passes =
     let none = Master (replicate n false) in
     let new = set partners host none in
-    let taken = subst (λ (q : Partner). IsTrue (partners_passes sender (get_or new sender DontCare) q)) (get_or-set_same partners host none DontCare within) passes in
+    let taken =
+    subst (λ (q : Partner). IsTrue (partners_passes sender (get_or new sender DontCare) q))
+    (get_or-set_same partners host none DontCare within) passes in
     false≢true (sym (get_or-replicate n sender false false is_host) ∙ taken)

@@ -14,12 +14,14 @@ pub length_seen : (rows : List Receiver) (partners : List Partner) → map partn
 length_seen rows partners seen = sym (length-map rows partner_of) ∙ ap length seen
 
 -- a write to a row is a write to the list of attributes
-pub map-partner_of-set : (rows : List Receiver) (partners : List Partner) (i : ℕ) (row : Receiver) (partner : Partner) → map partner_of rows ≡ partners → partner_of row ≡ partner → map partner_of (set rows i row) ≡ set partners i partner
+pub map-partner_of-set : (rows : List Receiver) (partners : List Partner) (i : ℕ) (row : Receiver) (partner : Partner)
+    → map partner_of rows ≡ partners → partner_of row ≡ partner → map partner_of (set rows i row) ≡ set partners i partner
 map-partner_of-set rows partners i row partner seen same =
     map-set partner_of rows i row ∙ (λ k. set (seen k) i (same k))
 
 -- the row at a place stands for the attribute there
-pub partner_of_row : (rows : List Receiver) (partners : List Partner) (i : ℕ) (row : Receiver) → map partner_of rows ≡ partners → i < length partners → row ≡ get_or rows i row → partner_of row ≡ get_or partners i DontCare
+pub partner_of_row : (rows : List Receiver) (partners : List Partner) (i : ℕ) (row : Receiver) → map partner_of rows ≡ partners
+    → i < length partners → row ≡ get_or rows i row → partner_of row ≡ get_or partners i DontCare
 partner_of_row rows partners i row seen within here =
     let in_rows : i < length rows = omega (arith, length_seen rows partners seen) in
     ap partner_of here
@@ -27,7 +29,9 @@ partner_of_row rows partners i row seen within here =
     ∙ ap (λ xs. get_or xs i DontCare) seen
 
 -- one more row copied
-pub map-partner_of-copied : (rows copies : List Receiver) (i : ℕ) (row copy : Receiver) → i < length rows → row ≡ get_or rows i row → partner_of copy ≡ partner_of row → map partner_of copies ≡ take i (map partner_of rows) → map partner_of (copies ++ copy ∷ []) ≡ take (i + 1) (map partner_of rows)
+pub map-partner_of-copied : (rows copies : List Receiver) (i : ℕ) (row copy : Receiver) → i < length rows → row ≡ get_or rows i row
+    → partner_of copy ≡ partner_of row → map partner_of copies ≡ take i (map partner_of rows)
+    → map partner_of (copies ++ copy ∷ []) ≡ take (i + 1) (map partner_of rows)
 map-partner_of-copied rows copies i row copy within here same seen =
     let at_row : partner_of row ≡ get_or (map partner_of rows) i DontCare =
     ap partner_of here ∙ sym (get_or-map partner_of rows i row DontCare within) in
@@ -37,24 +41,28 @@ map-partner_of-copied rows copies i row copy within here same seen =
     ∙ sym (take_more (map partner_of rows) i DontCare fits)
 
 -- a mark in the row is a mark in the attribute
-pub attribute_by-set : (kind : Taking) (marks : List Bool) (sender : ℕ) → attribute_by kind (set marks sender true) ≡ with_sender (attribute_by kind marks) sender
+pub attribute_by-set : (kind : Taking) (marks : List Bool) (sender : ℕ)
+    → attribute_by kind (set marks sender true) ≡ with_sender (attribute_by kind marks) sender
 attribute_by-set taking.DontCare marks sender = refl
 attribute_by-set taking.Care marks sender = refl
 attribute_by-set taking.Master marks sender = refl
 
 -- a row has a mark for every host
-pub length_row : (rows : List Receiver) (i : ℕ) (row : Receiver) → HasRooms rows → i < length rows → row ≡ get_or rows i row → length row.from.items ≡ length rows
+pub length_row : (rows : List Receiver) (i : ℕ) (row : Receiver) → HasRooms rows → i < length rows → row ≡ get_or rows i row
+    → length row.from.items ≡ length rows
 length_row rows i row rooms within here =
     ap (λ (r : Receiver). length r.from.items) here
     ∙ All-get_or (λ receiver. length receiver.from.items ≡ length rows) rows i row within rooms.rows
 
 -- a mark of a master's row is a mark of its list
-has_mark_by : (kind : Taking) (marks : List Bool) (sender : ℕ) → IsMaster (attribute_by kind marks) → sender < length marks → sender < length (marks_of (attribute_by kind marks))
+has_mark_by : (kind : Taking) (marks : List Bool) (sender : ℕ) → IsMaster (attribute_by kind marks) → sender < length marks
+    → sender < length (marks_of (attribute_by kind marks))
 has_mark_by taking.DontCare marks sender is_master within = absurd is_master
 has_mark_by taking.Care marks sender is_master within = absurd is_master
 has_mark_by taking.Master marks sender is_master within = within
 
-pub has_mark : (row : Receiver) (partner : Partner) (sender : ℕ) → partner_of row ≡ partner → IsMaster partner → sender < length row.from.items → sender < length (marks_of partner)
+pub has_mark : (row : Receiver) (partner : Partner) (sender : ℕ) → partner_of row ≡ partner → IsMaster partner
+    → sender < length row.from.items → sender < length (marks_of partner)
 has_mark row partner sender seen is_master within =
     subst (λ (p : Partner). sender < length (marks_of p)) seen
     (has_mark_by row.taking row.from.items sender (subst IsMaster (sym seen) is_master) within)

@@ -1,5 +1,6 @@
 -- The security gateway template: four pairs of kinds fail, and all others pass.
--- In the manner of the template of this name of Network_Security_Policy_Verification in the Archive of Formal Proofs, with the table of docs/FORMATS.md.
+-- In the manner of the template of this name of Network_Security_Policy_Verification in the Archive of Formal Proofs,
+-- with the table of docs/FORMATS.md.
 use Rattle.std.specs.Prelude.{Bool, true, false, codes}
 use Rattle.inv_law.specs.Template.{Template, edge_template}
 use Rattle.inv_law.specs.declared.strategy.Strategy.TheVariants.{Access}

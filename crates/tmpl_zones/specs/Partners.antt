@@ -1,9 +1,10 @@
 -- The communication partners template: whom a host takes packets from.
--- In the manner of the template of this name of Network_Security_Policy_Verification in the Archive of Formal Proofs, with the table of docs/FORMATS.md.
+-- In the manner of the template of this name of Network_Security_Policy_Verification in the Archive of Formal Proofs,
+-- with the table of docs/FORMATS.md.
 use Rattle.std.specs.Prelude.{ℕ, Bool, true, false, List, codes, slice_index_or, slice_set}
 use Rattle.inv_law.specs.Attributes.{PassesBetween}
 use Rattle.inv_law.specs.Rules.{AllFlowsPass}
-use Rattle.inv_law.specs.Template.{Template, edge_template}
+use Rattle.inv_law.specs.Template.{Template}
 use Rattle.inv_law.specs.declared.strategy.Strategy.TheVariants.{Access}
 use Rattle.tmpl_zones.specs.Kinds.{TablePasses}
 
@@ -33,6 +34,11 @@ with_sender (Master takes_from) sender = Master (slice_set takes_from sender tru
 
 -- each flow is judged alone, by the attributes of its two hosts and the number of its sender
 abbrev pub partners : Template
-partners = record (edge_template (codes "partners") Access DontCare (λ sender receiver. Unit {0})) {
+partners = record {
+  name = codes "partners";
+  strategy = Access;
+  edge_mark = true;
+  Attribute = Partner;
+  default = λ n host. DontCare;
   Holds = λ hosts. AllFlowsPass (PartnersPass hosts);
 }

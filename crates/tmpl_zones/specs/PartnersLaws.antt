@@ -17,7 +17,8 @@ partners_secure from sender DontCare passes = refl
 partners_secure from sender Care passes = absurd (false≢true passes)
 partners_secure from sender (Master takes_from) passes = passes
 
-pub partners_reset : (n : ℕ) (partners : List Partner) → ResetPassesNoMore n Access (PartnersPass partners) (PartnersPassAfterReset partners)
+pub partners_reset : (n : ℕ) (partners : List Partner)
+    → ResetPassesNoMore n Access (PartnersPass partners) (PartnersPassAfterReset partners)
 partners_reset n partners f =
     ResetPassesNoMore-attributes Access DontCare (TablePasses (partners_passes f.from)) (partners_secure f.from) n partners f
 

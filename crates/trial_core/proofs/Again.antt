@@ -1,4 +1,4 @@
--- The flows of a trial that took a step and gave it back.
+-- The flows of a trial that took a step and gave it back, and a trial that took none.
 use Rattle.std.proofs.Common.{◌≡◌, ℕ, ◌<◌, List, length, sym, ◌∙◌, ap, arith}
 use Rattle.flow_set.specs.declared.flow.Flow.{Flow}
 use Rattle.flow_set.specs.Steps.{TriedFlows, stepped, taken_back}
@@ -32,3 +32,13 @@ flows_again tried old mid new i s r f k t within read step earlier later back re
             ap (λ u. (tried u).flows) (rest last ∙ get_or-set_other mid i k s t other ∙ later from)
       ]
     ]
+
+-- the trial of another invariant stays as it was: neither the steps before reached it, nor what took them back
+pub others_stay : {T : Type 0} (old mid new : List T) (i : ℕ) (s : T) (k : ℕ) (t : T) → k ≢ i
+    → (k < i → get_or mid k t ≡ get_or old k t) → (i ≤ k → get_or mid k t ≡ get_or old k t)
+    → (k < i + 1 → get_or new k t ≡ get_or (set mid i s) k t) → (i + 1 ≤ k → get_or new k t ≡ get_or (set mid i s) k t)
+    → get_or new k t ≡ get_or old k t
+others_stay old mid new i s k t other earlier later first last =
+    (elim (cases_lt k (i + 1)) [ inl below ↦ first below | inr from ↦ last from ])
+    ∙ get_or-set_other mid i k s t other
+    ∙ (elim (cases_lt k i) [ inl below ↦ earlier below | inr from ↦ later from ])

@@ -17,7 +17,9 @@ some_element (t ∷ ts) k below = t
 -- the chosen invariants hold of one more flow where each holds of the flows of its trial with this one
 pub ChosenHold-tried : {X T : Type 0} (Fits : X → T → Type 0) (tried : T → TriedFlows) (chosen : X → Bool) (HoldsOn : X → List Flow → Type 0) (invs : List X) (trials : List T) (e : List Flow) (f : Flow)
     → AreTried Fits tried chosen invs trials e
-    → EachPair (λ inv t. IsTrue (chosen inv) → HoldsOn inv (with_flow (tried t).flows f)) invs trials ↔ ChosenHold chosen HoldsOn invs (with_flow e f)
+    → EachPair
+    (λ inv t. IsTrue (chosen inv) → HoldsOn inv (with_flow (tried t).flows f)) invs trials ↔ ChosenHold chosen HoldsOn invs
+    (with_flow e f)
 ChosenHold-tried Fits tried chosen HoldsOn invs trials e f are = (
   λ each k x below is.
       let t = some_element trials k (omega (arith, below, are.counted)) in
@@ -29,7 +31,8 @@ ChosenHold-tried Fits tried chosen HoldsOn invs trials e f are = (
 pub ChosenHold-now : {X T : Type 0} (Fits : X → T → Type 0) (tried : T → TriedFlows) (chosen : X → Bool) (HoldsOn : X → List Flow → Type 0) (invs : List X) (trials : List T) (e : List Flow)
     → AreTried Fits tried chosen invs trials e → ChosenHold chosen HoldsOn invs e
     → EachPair (λ inv t. IsTrue (chosen inv) → HoldsOn inv (tried t).flows) invs trials
-ChosenHold-now Fits tried chosen HoldsOn invs trials e are all k x t below is = subst (HoldsOn (slice_index_or invs k x)) (sym (are.flows k x t below is)) (all k x below is)
+ChosenHold-now Fits tried chosen HoldsOn invs trials e are all k x t below is =
+    subst (HoldsOn (slice_index_or invs k x)) (sym (are.flows k x t below is)) (all k x below is)
 
 -- the trials after a step that the chosen ones take, or that they all do not
 pub AreTried-step : {X T : Type 0} (Fits : X → T → Type 0) (tried : T → TriedFlows) (chosen : X → Bool) (invs : List X) (old new : List T) (e : List Flow) (f : Flow) (b : Bool)

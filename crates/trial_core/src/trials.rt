@@ -1,9 +1,9 @@
 //! One trial of each invariant, in the order of the invariants.
 
-ghost use Rattle.std.specs.Prelude.{◌≡◌, ◌↔◌, ℕ, ◌<◌, ◌≤◌, All, length, slice_index_or, IsTrue, IfOk, IsSome, true, if◌then◌else◌};
+ghost use Rattle.std.specs.Prelude.{◌≡◌, ◌↔◌, ℕ, ◌<◌, ◌≤◌, All, length, slice_index_or, IsTrue, IsFalse, IfOk, IsSome, true, if◌then◌else◌};
 ghost use Rattle.flow_set.specs.Flow.{IsFlow};
 ghost use Rattle.flow_set.specs.FlowSet.{with_flow};
-ghost use Rattle.flow_set.specs.Steps.{taken_back};
+ghost use Rattle.flow_set.specs.Steps.{untried, taken_back};
 ghost use Rattle.trial_core.specs.Trials.{EachPair, AreTried};
 
 use crate::choice::Choice;
@@ -18,7 +18,8 @@ pub fn trials_of<I: Stepwise>(
     e: &FlowSet,
 ) -> Result<Vec<I::Tried>, AllocError>
     requires { All (λ inv. I.size_of inv ≡ e.now.size) invs.now }
-    ensures { IfOk result (λ trials. AreTried I.fits I.Tried.tried (λ _. true) invs.now trials.items e.now.flows) }
+    ensures tried { IfOk result (λ trials. AreTried I.fits I.Tried.tried (λ _. true) invs.now trials.items e.now.flows) }
+    ensures begun { IfOk result (λ trials. EachPair (λ inv t. I.Tried.tried t ≡ untried e.now) invs.now trials.items) }
 {
     let mut trials = Vec::with_capacity(alloc, invs.len())?;
     for inv in invs {
@@ -28,7 +29,8 @@ pub fn trials_of<I: Stepwise>(
 }
 
 /// Puts the flow into the trials of the chosen invariants where all of these hold with it, and answers
-/// whether they do. Where one does not, the trials have the flows that they had.
+/// whether they do. Where one does not, the trials have the flows that they had. The trials of the other
+/// invariants stay as they are.
 pub fn step_chosen<I: Stepwise, C: Choice<I>>(
     choice: &C,
     invs: &[I],
@@ -48,6 +50,9 @@ pub fn step_chosen<I: Stepwise, C: Choice<I>>(
         → IsTrue (C.chosen choice.now (slice_index_or invs.now k x))
         → let before = (I.Tried.tried (slice_index_or trials.old.items k t)).flows in
         (I.Tried.tried (slice_index_or trials.new.items k t)).flows ≡ (if result then with_flow before f else before) }
+    ensures others { (k : ℕ) (x : I) (t : I.Tried) → k < length invs.now
+        → IsFalse (C.chosen choice.now (slice_index_or invs.now k x))
+        → slice_index_or trials.new.items k t ≡ slice_index_or trials.old.items k t }
 {
     for i in 0..invs.len() {
         if choice.chooses(&invs[i]) {
@@ -72,12 +77,16 @@ fn take_back<I: Stepwise, C: Choice<I>>(
     requires fits { EachPair I.fits invs.now trials.old.items }
     requires stepped { (k : ℕ) (x : I) (t : I.Tried) → k < count
         → IsTrue (C.chosen choice.now (slice_index_or invs.now k x))
-        → IsSome (I.Tried.tried (slice_index_or trials.old.items k t)).before }
+        → IsSome (I.Tried.tried (slice_index_or trials.old.items k t)).before_step }
     ensures counted { length trials.new.items ≡ length trials.old.items }
     ensures fits { EachPair I.fits invs.now trials.new.items }
     ensures back { (k : ℕ) (x : I) (t : I.Tried) → k < count
         → IsTrue (C.chosen choice.now (slice_index_or invs.now k x))
-        → I.Tried.tried (slice_index_or trials.new.items k t) ≡ taken_back (I.Tried.tried (slice_index_or trials.old.items k t)) }
+        → I.Tried.tried (slice_index_or trials.new.items k t)
+        ≡ taken_back (I.Tried.tried (slice_index_or trials.old.items k t)) }
+    ensures others { (k : ℕ) (x : I) (t : I.Tried) → k < count
+        → IsFalse (C.chosen choice.now (slice_index_or invs.now k x))
+        → slice_index_or trials.new.items k t ≡ slice_index_or trials.old.items k t }
     ensures rest { (k : ℕ) (t : I.Tried) → count ≤ k
         → slice_index_or trials.new.items k t ≡ slice_index_or trials.old.items k t }
 {

@@ -29,7 +29,8 @@ meets-requires-clause-grown g c =
     let kept = c.loop-f.invariant in
     let so_far : IsFlowSet c.args.all.now.size (c.loop-f.yielded ++ c.in-Some.f ∷ []) =
     walked c.args.all.now.size c.loop-f.yielded c.loop-f.f-iterator c.next.new.self c.args.all.now.flows c.in-Some.f c.size.ensures.set kept.walk c.in-Some.ensures.steps in
-    kept_grown c.args.all.now.size (g.C.Condition.size_of c.args.condition.now) (g.C.Condition.meets_on c.args.condition.now) c.loop-f.yielded c.loop-f.kept.flows c.insert.new.self.flows c.in-Some.f
+    kept_grown c.args.all.now.size (g.C.Condition.size_of c.args.condition.now)
+    (g.C.Condition.meets_on c.args.condition.now) c.loop-f.yielded c.loop-f.kept.flows c.insert.new.self.flows c.in-Some.f
     c.requires.size so_far kept.first (ap (λ (s : SetOfFlows). s.flows) c.insert.ensures.set)
 
 pub remove-requires : goal.remove-requires
@@ -37,7 +38,8 @@ remove-requires g c =
     let kept = c.loop-f.invariant in
     let so_far : IsFlowSet c.args.all.now.size (c.loop-f.yielded ++ c.in-Some.f ∷ []) =
     walked c.args.all.now.size c.loop-f.yielded c.loop-f.f-iterator c.next.new.self c.args.all.now.flows c.in-Some.f c.size.ensures.set kept.walk c.in-Some.ensures.steps in
-    subst (λ n. IsFlow n c.in-Some.f) (sym (ap (λ (s : SetOfFlows). s.size) c.insert.ensures.set ∙ kept.size)) (flow_walked c.args.all.now.size c.loop-f.yielded c.in-Some.f so_far)
+    subst (λ n. IsFlow n c.in-Some.f) (sym (ap (λ (s : SetOfFlows). s.size) c.insert.ensures.set ∙ kept.size))
+    (flow_walked c.args.all.now.size c.loop-f.yielded c.in-Some.f so_far)
 
 pub loop-f-preserved-then-not-branch : goal.loop-f-preserved-then-not-branch
 loop-f-preserved-then-not-branch g c =
@@ -47,11 +49,14 @@ loop-f-preserved-then-not-branch g c =
     walked c.args.all.now.size c.loop-f.yielded c.loop-f.f-iterator c.next.new.self c.args.all.now.flows c.in-Some.f c.size.ensures.set kept.walk c.in-Some.ensures.steps in
     let put : c.insert.new.self.flows ≡ with_flow c.loop-f.kept.flows c.in-Some.f = ap (λ (s : SetOfFlows). s.flows) c.insert.ensures.set in
     let again : c.remove.new.self.flows ≡ c.loop-f.kept.flows =
-    kept_again c.args.all.now.size c.loop-f.yielded c.loop-f.kept.flows c.insert.new.self.flows c.remove.new.self.flows c.in-Some.f so_far kept.first.within put (ap (λ (s : SetOfFlows). s.flows) c.remove.ensures.set) in
+    kept_again c.args.all.now.size c.loop-f.yielded c.loop-f.kept.flows c.insert.new.self.flows c.remove.new.self.flows c.in-Some.f so_far kept.first.within put
+    (ap (λ (s : SetOfFlows). s.flows) c.remove.ensures.set) in
     record {
       size = ap (λ (s : SetOfFlows). s.size) c.remove.ensures.set ∙ ap (λ (s : SetOfFlows). s.size) c.insert.ensures.set ∙ kept.size;
       walk = walk_next c.loop-f.yielded c.loop-f.f-iterator c.next.new.self c.args.all.now.flows c.in-Some.f kept.walk c.in-Some.ensures.steps;
-      first = subst (λ (fs : List Flow). IsFirst (g.C.Condition.meets_on c.args.condition.now) (c.loop-f.yielded ++ c.in-Some.f ∷ []) fs) (sym again)
+      first =
+          subst (λ (fs : List Flow). IsFirst (g.C.Condition.meets_on c.args.condition.now) (c.loop-f.yielded ++ c.in-Some.f ∷ []) fs)
+          (sym again)
           (first_left c.args.all.now.size Holds c.loop-f.yielded c.loop-f.kept.flows c.in-Some.f so_far c.requires.downward kept.first
           (λ holds. both_ways c.in_ok-meets.field-0 c.if-not-branch.true (c.in_ok-meets.ensures.1 (subst Holds (sym put) holds))));
     }
@@ -66,6 +71,8 @@ loop-f-preserved g c =
     record {
       size = ap (λ (s : SetOfFlows). s.size) c.insert.ensures.set ∙ kept.size;
       walk = walk_next c.loop-f.yielded c.loop-f.f-iterator c.next.new.self c.args.all.now.flows c.in-Some.f kept.walk c.in-Some.ensures.steps;
-      first = subst (λ (fs : List Flow). IsFirst (g.C.Condition.meets_on c.args.condition.now) (c.loop-f.yielded ++ c.in-Some.f ∷ []) fs) (sym put)
+      first =
+          subst (λ (fs : List Flow). IsFirst (g.C.Condition.meets_on c.args.condition.now) (c.loop-f.yielded ++ c.in-Some.f ∷ []) fs)
+          (sym put)
           (first_kept c.args.all.now.size Holds c.loop-f.yielded c.loop-f.kept.flows c.in-Some.f so_far c.requires.downward kept.first (subst Holds put (c.in_ok-meets.ensures.0 c.if-not-branch.false)));
     }

@@ -26,7 +26,8 @@ goes_on-requires-clause-new g c =
     let kept = c.loop-f.invariant in
     let so_far : IsFlowSet c.args.all.now.size (c.loop-f.yielded ++ c.in-Some.f ∷ []) =
     walked c.args.all.now.size c.loop-f.yielded c.loop-f.f-iterator c.next.new.self c.args.all.now.flows c.in-Some.f c.size.ensures.set kept.walk c.in-Some.ensures.steps in
-    subst (λ n. IsNew n c.loop-f.kept.flows c.in-Some.f) c.requires.size (kept_new c.args.all.now.size c.loop-f.yielded c.loop-f.kept.flows c.in-Some.f so_far kept.first.within)
+    subst (λ n. IsNew n c.loop-f.kept.flows c.in-Some.f) c.requires.size
+    (kept_new c.args.all.now.size c.loop-f.yielded c.loop-f.kept.flows c.in-Some.f so_far kept.first.within)
 
 pub insert-requires : goal.insert-requires
 insert-requires g c =

@@ -9,7 +9,8 @@ use Rattle.net_core.specs.Policies.{holds_on, edge_mark}
 use Rattle.net_core.proofs.policy.policy_of.Goals as goal
 
 -- what is found of the invariants and the flows that were read is found of those of the description
-of_the_same : (Singles : (List Flow → Type 0) → List Flow → List Flow → Type 0) (invs read : List AnyInv) (asked had : SetOfFlows) (p : List Flow) → read ≡ invs → had ≡ asked → Singles (AllHold holds_on read) had.flows p → Singles (AllHold holds_on invs) asked.flows p
+of_the_same : (Singles : (List Flow → Type 0) → List Flow → List Flow → Type 0) (invs read : List AnyInv) (asked had : SetOfFlows) (p : List Flow)
+    → read ≡ invs → had ≡ asked → Singles (AllHold holds_on read) had.flows p → Singles (AllHold holds_on invs) asked.flows p
 of_the_same Singles invs read asked had p same_invs same_asked found =
     subst (λ (s : SetOfFlows). Singles (AllHold holds_on invs) s.flows p) same_asked
     (subst (λ (xs : List AnyInv). Singles (AllHold holds_on xs) had.flows p) same_invs found)
@@ -20,7 +21,8 @@ returns-clause-policy c =
     record {
       permitted_size = size;
       stateful_size = c.in_ok-stateful.ensures.size ∙ size;
-      permitted = of_the_same IsFirst c.args.description.now.invariants c.invariants.result.now c.args.description.now.asked c.asked.result.now _
+      permitted =
+          of_the_same IsFirst c.args.description.now.invariants c.invariants.result.now c.args.description.now.asked c.asked.result.now _
           c.invariants.ensures.value c.asked.ensures.value c.in_ok-permitted.ensures.first;
       stateful = c.in_ok-stateful.ensures.stateful;
     }

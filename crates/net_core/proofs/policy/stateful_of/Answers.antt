@@ -8,5 +8,6 @@ pub refine_by_steps-requires-clause-sizes : goal.refine_by_steps-requires-clause
 refine_by_steps-requires-clause-sizes c k d within =
     let hosts = length c.args.description.now.hosts in
     let sizes : All (λ inv. (meaning_of inv).size ≡ hosts) c.invariants.result.now =
-    subst (λ (invs : List AnyInv). All (λ inv. (meaning_of inv).size ≡ hosts) invs) (sym c.invariants.ensures.value) c.invariants.ensures.sizes in
+    subst (λ (invs : List AnyInv). All (λ inv. (meaning_of inv).size ≡ hosts) invs)
+    (sym c.invariants.ensures.value) c.invariants.ensures.sizes in
     sizes k d within ∙ sym c.requires.size

@@ -4,6 +4,7 @@ use Rattle.std.proofs.lemmas.List.{take_all}
 use Rattle.std.proofs.lemmas.Option.{slice_get_read}
 use Rattle.std.proofs.lemmas.List.Elements.{All-more}
 use Rattle.flow_set.specs.FlowSet.{with_flow}
+use Rattle.flow_set.specs.Steps.{TriedFlows}
 use Rattle.permit_core.specs.Policy.{AllHold}
 use Rattle.permit_core.specs.PolicyLaws.{denied_fails}
 use Rattle.trial_core.specs.TrialLaws.{AreTried-asked}
@@ -15,7 +16,8 @@ returns-then-not-holds_with-clause-least g c =
     let inv = c.index-invs-number.result in
     let t = c.index_mut.result.now in
     let flows : (g.I.Tried.Trial.tried t).flows ≡ c.args._permitted.now.flows =
-    ap (λ u. (g.I.Tried.Trial.tried u).flows) c.index_mut.ensures.value ∙ c.loop-number.invariant.tried.flows number inv t c.loop-number-test.true refl in
+    ap (λ u. (g.I.Tried.Trial.tried u).flows) c.index_mut.ensures.value
+    ∙ c.loop-number.invariant.tried.flows number inv t c.loop-number-test.true refl in
     record {
       inv = inv;
       place = slice_get_read c.args.invs.now (length c.args.invs.now) number inv refl c.loop-number-test.true c.index-invs-number.is;
@@ -29,18 +31,23 @@ loop-number-preserved g c =
     let inv = c.index-invs-number.result in
     let t = c.index_mut.result.now in
     let flows : (g.I.Tried.Trial.tried t).flows ≡ c.args._permitted.now.flows =
-    ap (λ u. (g.I.Tried.Trial.tried u).flows) c.index_mut.ensures.value ∙ c.loop-number.invariant.tried.flows number inv t c.loop-number-test.true refl in
+    ap (λ u. (g.I.Tried.Trial.tried u).flows) c.index_mut.ensures.value
+    ∙ c.loop-number.invariant.tried.flows number inv t c.loop-number-test.true refl in
     record {
-      tried = AreTried-asked g.I.Stepwise.fits g.I.Tried.Trial.tried (λ _. true) c.args.invs.now c.loop-number.trials.items c.args._permitted.now.flows number inv c.holds_with.new.trial
-          c.loop-number.invariant.tried c.loop-number-test.true c.index-invs-number.is c.holds_with.ensures.fits (c.holds_with.ensures.flows ∙ flows);
-      hold = All-more (λ x. g.I.Invariant.holds_on x (with_flow c.args._permitted.now.flows c.args.f)) c.args.invs.now number inv c.loop-number-test.true c.loop-number.invariant.hold
+      tried =
+          AreTried-asked g.I.Stepwise.fits g.I.Tried.Trial.tried
+          (λ _. true) c.args.invs.now c.loop-number.trials.items c.args._permitted.now.flows number inv c.holds_with.new.trial
+          c.loop-number.invariant.tried c.loop-number-test.true c.index-invs-number.is c.holds_with.ensures.fits (ap (λ (w : TriedFlows). w.flows) c.holds_with.ensures.again ∙ flows);
+      hold =
+          All-more (λ x. g.I.Invariant.holds_on x (with_flow c.args._permitted.now.flows c.args.f)) c.args.invs.now number inv c.loop-number-test.true c.loop-number.invariant.hold
           (subst (λ x. g.I.Invariant.holds_on x (with_flow c.args._permitted.now.flows c.args.f)) c.index-invs-number.is
           (subst (λ fs. g.I.Invariant.holds_on inv (with_flow fs c.args.f)) flows (c.holds_with.ensures.answer.0 c.if-not-holds_with.false)));
     }
 
 pub returns-clause-least : goal.returns-clause-least
 returns-clause-least g c =
-    subst (λ invs. AllHold g.I.Invariant.holds_on invs (with_flow c.args._permitted.now.flows c.args.f)) (take_all c.loop-number.number c.args.invs.now c.loop-number-test.false) c.loop-number.invariant.hold
+    subst (λ invs. AllHold g.I.Invariant.holds_on invs (with_flow c.args._permitted.now.flows c.args.f))
+    (take_all c.loop-number.number c.args.invs.now c.loop-number-test.false) c.loop-number.invariant.hold
 
 pub returns-clause-denied : goal.returns-clause-denied
 returns-clause-denied g c denied =

@@ -16,7 +16,8 @@ loop-f-init c = record {
 pub remove-requires : goal.remove-requires
 remove-requires c =
     let f = c.in-Some.f in
-    let there = walk_member c.loop-f.yielded c.loop-f.f-iterator c.next.new.self c.args.others.now.flows f c.loop-f.invariant.walk c.in-Some.ensures.steps in
+    let there =
+    walk_member c.loop-f.yielded c.loop-f.f-iterator c.next.new.self c.args.others.now.flows f c.loop-f.invariant.walk c.in-Some.ensures.steps in
     subst (λ n. IsFlow n f) (c.requires ∙ sym c.loop-f.invariant.size) (c.iter-f-items.ensures.set.flows f there)
 
 pub loop-f-preserved : goal.loop-f-preserved

@@ -12,21 +12,27 @@ use Rattle.permit_core.proofs.offence_by_steps.turn_out.Goals as goal
 pub remove-requires : goal.remove-requires
 remove-requires c =
     let f = c.in-Some.f in
-    let there = walk_member c.loop-f.yielded c.loop-f.f-iterator c.next.new.self c.args.all.now.flows f c.loop-f.invariant.walk c.in-Some.ensures.steps in
+    let there =
+    walk_member c.loop-f.yielded c.loop-f.f-iterator c.next.new.self c.args.all.now.flows f c.loop-f.invariant.walk c.in-Some.ensures.steps in
     subst (λ n. IsFlow n f) (c.requires.size ∙ sym c.loop-f.invariant.size) (c.iter-f-items.ensures.set.flows f there)
 
 pub insert-requires : goal.insert-requires
 insert-requires c =
     let f = c.in-Some.f in
-    let there = walk_member c.loop-f.yielded c.loop-f.f-iterator c.next.new.self c.args.all.now.flows f c.loop-f.invariant.walk c.in-Some.ensures.steps in
-    subst (λ n. IsFlow n f) (c.requires.size ∙ sym (ap (λ (s : SetOfFlows). s.size) c.remove.ensures.set ∙ c.loop-f.invariant.size)) (c.iter-f-items.ensures.set.flows f there)
+    let there =
+    walk_member c.loop-f.yielded c.loop-f.f-iterator c.next.new.self c.args.all.now.flows f c.loop-f.invariant.walk c.in-Some.ensures.steps in
+    subst (λ n. IsFlow n f) (c.requires.size ∙ sym (ap (λ (s : SetOfFlows). s.size) c.remove.ensures.set ∙ c.loop-f.invariant.size))
+    (c.iter-f-items.ensures.set.flows f there)
 
 pub loop-f-preserved-then-not-remove : goal.loop-f-preserved-then-not-remove
 loop-f-preserved-then-not-remove c =
     let f = c.in-Some.f in
     let set : List Flow = c.loop-f.set.flows in
-    let new : IsFalse (has c.loop-f.yielded f) = is_next c.loop-f.yielded c.next.new.self c.args.all.now.flows f c.iter-f-items.ensures.set.ordered (ap (λ ys. c.loop-f.yielded ++ ys) (sym c.in-Some.ensures.steps) ∙ c.loop-f.invariant.walk) in
-    let now : c.insert.new.self.flows ≡ with_flow (without_flow set f) f = ap (λ (s : SetOfFlows). s.flows) c.insert.ensures.set ∙ ap (λ (s : SetOfFlows). with_flow s.flows f) c.remove.ensures.set in
+    let new : IsFalse (has c.loop-f.yielded f) =
+    is_next c.loop-f.yielded c.next.new.self c.args.all.now.flows f c.iter-f-items.ensures.set.ordered
+    (ap (λ ys. c.loop-f.yielded ++ ys) (sym c.in-Some.ensures.steps) ∙ c.loop-f.invariant.walk) in
+    let now : c.insert.new.self.flows ≡ with_flow (without_flow set f) f =
+    ap (λ (s : SetOfFlows). s.flows) c.insert.ensures.set ∙ ap (λ (s : SetOfFlows). with_flow s.flows f) c.remove.ensures.set in
     record {
       walk = walk_next c.loop-f.yielded c.loop-f.f-iterator c.next.new.self c.args.all.now.flows f c.loop-f.invariant.walk c.in-Some.ensures.steps;
       size = ap (λ (s : SetOfFlows). s.size) c.insert.ensures.set ∙ ap (λ (s : SetOfFlows). s.size) c.remove.ensures.set ∙ c.loop-f.invariant.size;
@@ -38,7 +44,9 @@ pub loop-f-preserved : goal.loop-f-preserved
 loop-f-preserved c =
     let f = c.in-Some.f in
     let set : List Flow = c.loop-f.set.flows in
-    let new : IsFalse (has c.loop-f.yielded f) = is_next c.loop-f.yielded c.next.new.self c.args.all.now.flows f c.iter-f-items.ensures.set.ordered (ap (λ ys. c.loop-f.yielded ++ ys) (sym c.in-Some.ensures.steps) ∙ c.loop-f.invariant.walk) in
+    let new : IsFalse (has c.loop-f.yielded f) =
+    is_next c.loop-f.yielded c.next.new.self c.args.all.now.flows f c.iter-f-items.ensures.set.ordered
+    (ap (λ ys. c.loop-f.yielded ++ ys) (sym c.in-Some.ensures.steps) ∙ c.loop-f.invariant.walk) in
     let now : c.remove.new.self.flows ≡ without_flow set f = ap (λ (s : SetOfFlows). s.flows) c.remove.ensures.set in
     record {
       walk = walk_next c.loop-f.yielded c.loop-f.f-iterator c.next.new.self c.args.all.now.flows f c.loop-f.invariant.walk c.in-Some.ensures.steps;

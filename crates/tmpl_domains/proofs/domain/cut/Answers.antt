@@ -8,5 +8,8 @@ pub returns : goal.returns
 returns c =
     let split = c.split-segment-items.ensures in
     let same = c.into_iter-segment-iterator.ensures.into_iter_gives in
-    let made = YieldsList-from_slice_split _ _ c.args.path.now (ap split_rest same ∙ split.rest) (ap split_done same ∙ split.done) (ap split_callee same ∙ split.closure) (λ x r q k. search (rules, tests)) in
-    c.loop-segment.invariant ∙ (YieldsList-end made c.loop-segment.yielded _ c.loop-segment.yielded_by _ _ c.in-None.is c.next.ensures.steps).0
+    let made =
+    YieldsList-from_slice_split _ _ c.args.path.now (ap split_rest same ∙ split.rest) (ap split_done same ∙ split.done)
+    (ap split_callee same ∙ split.closure) (λ x r q k. search (rules, tests)) in
+    c.loop-segment.invariant
+    ∙ (YieldsList-end made c.loop-segment.yielded _ c.loop-segment.yielded_by _ _ c.in-None.is c.next.ensures.steps).0

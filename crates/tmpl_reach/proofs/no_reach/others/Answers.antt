@@ -20,5 +20,6 @@ loop-other-preserved c =
           w.all-is ∙ w.insert.ensures ∙ ap (λ (s : HostNumbers). set.insert s other) c.loop-other.invariant
           ∙ sym (one_more ∙ cond-true (test other) _ _ (not_from_false _ (ne_eqb _ _ w.if-other-host.true)))
       | else-other-host w ↦
-          w.all-is ∙ c.loop-other.invariant ∙ sym (one_more ∙ cond-false (test other) _ _ (not_from_true _ (eq-eqb _ _ w.if-other-host.false)))
+          w.all-is ∙ c.loop-other.invariant
+          ∙ sym (one_more ∙ cond-false (test other) _ _ (not_from_true _ (eq-eqb _ _ w.if-other-host.false)))
     ]

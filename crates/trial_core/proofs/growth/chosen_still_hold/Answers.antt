@@ -16,7 +16,8 @@ loop-inv-preserved g c =
       | then-chooses+in_ok-still_holds+else-not-branch w ↦ λ _. w.in_ok-still_holds.ensures.0 w.if-not-branch.false
       | else-chooses w ↦ λ is. absurd (both_ways _ w.if-chooses.false (c.chooses.ensures ∙ is))
     ] in
-    All-more Holds c.args.invs.now c.loop-inv.inv-index c.inv-item.result c.loop-inv-test.true c.loop-inv.invariant (subst Holds c.inv-item.is here)
+    All-more Holds c.args.invs.now c.loop-inv.inv-index c.inv-item.result c.loop-inv-test.true c.loop-inv.invariant
+    (subst Holds c.inv-item.is here)
 
 pub returns : goal.returns
 returns g c = (

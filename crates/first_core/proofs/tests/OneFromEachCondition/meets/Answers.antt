@@ -12,10 +12,12 @@ use Rattle.first_core.proofs.tests.OneFromEachCondition.meets.Goals.{else-f-adde
 -- another flow of the same host is there beside the added one
 pub returns-then-f-added-2 : goal.returns-then-f-added-2
 returns-then-f-added-2 c =
-    let other = walk_member c.loop-f.yielded c.loop-f.f-iterator c.next.new.self c.args.set.now.flows c.in-Some.f c.loop-f.invariant.walk c.in-Some.ensures.steps in
+    let other =
+    walk_member c.loop-f.yielded c.loop-f.f-iterator c.next.new.self c.args.set.now.flows c.in-Some.f c.loop-f.invariant.walk c.in-Some.ensures.steps in
     let grown = c.requires.grown in
     let added : IsTrue (has c.args.set.now.flows c.args.added) =
-    subst (λ (fs : List Flow). IsTrue (has fs c.args.added)) (sym grown.grown) (has-with_flow grown.old c.args.added c.args.added ∙ or_left _ _ (same_flow_self c.args.added)) in
+    subst (λ (fs : List Flow). IsTrue (has fs c.args.added)) (sym grown.grown)
+    (has-with_flow grown.old c.args.added c.args.added ∙ or_left _ _ (same_flow_self c.args.added)) in
     (λ impossible. absurd (false≢true impossible), λ holds. absurd (c.if-f-added-2.true (holds c.in-Some.f c.args.added other added c.if-f-added.true)))
 
 pub loop-f-preserved : goal.loop-f-preserved
@@ -39,7 +41,8 @@ loop-f-preserved c =
 pub returns : goal.returns
 returns c =
     let grown = c.requires.grown in
-    let whole : c.loop-f.yielded ≡ c.args.set.now.flows = walk_end c.loop-f.yielded c.loop-f.f-iterator c.args.set.now.flows c.loop-f.invariant.walk c.in-None.ensures.steps.0 in
+    let whole : c.loop-f.yielded ≡ c.args.set.now.flows =
+    walk_end c.loop-f.yielded c.loop-f.f-iterator c.args.set.now.flows c.loop-f.invariant.walk c.in-None.ensures.steps.0 in
     let alone : (f : Flow) → IsTrue (has c.args.set.now.flows f) → f.from ≡ c.args.added.from → f.to ≡ c.args.added.to =
     λ f there. c.loop-f.invariant.alone f (subst (λ (fs : List Flow). IsTrue (has fs f)) (sym whole) there) in
     let old : (f : Flow) → IsTrue (has c.args.set.now.flows f) → f.from ≢ c.args.added.from → IsTrue (has grown.old f) =

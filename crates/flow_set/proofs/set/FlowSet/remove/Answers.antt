@@ -5,8 +5,8 @@ use Rattle.flow_set.specs.Flow.{IsFlow}
 use Rattle.flow_set.specs.FlowSet.{SetOfFlows}
 use Rattle.flow_set.specs.FlowSetView.{without_flow}
 use Rattle.flow_set.specs.FlowLaws.{set_ext, without_flow_absent}
-use Rattle.flow_set.specs.BitRows.{row_of, flows_of, AreRows}
-use Rattle.host_set.specs.HostSet.{HostNumbers}
+use Rattle.flow_set.specs.BitRows.{flows_of, AreRows}
+use Rattle.host_set.specs.HostSet.{HostNumbers, row_of}
 use Rattle.flow_set.proofs.BitRows.{AreRows-remove, flows_of-remove, row_read}
 use Rattle.flow_set.proofs.set.FlowSet.remove.Goals as goal
 
@@ -17,8 +17,11 @@ invariant_of-self c =
     let is_flow : IsFlow n c.args.f = subst (λ (s : SetOfFlows). IsFlow s.size c.args.f) (sym c.self.view_is) c.requires in
     let within : c.args.f.from < length rows = omega (arith, is_flow.0, c.self.invariant.counted) in
     let row : c.remove.new.self ≡ set.remove (row_of rows c.args.f.from) c.args.f.to =
-    c.remove.ensures ∙ ap (λ (s : HostNumbers). set.remove s c.args.f.to) (row_read rows c.args.f.from c.index_mut-row.result.now within c.index_mut-row.ensures.value) in
-    subst (λ (r : HostNumbers). AreRows n (slice_set rows c.args.f.from r)) (sym row) (AreRows-remove n rows c.args.f c.self.invariant is_flow)
+    c.remove.ensures
+    ∙ ap (λ (s : HostNumbers). set.remove s c.args.f.to)
+    (row_read rows c.args.f.from c.index_mut-row.result.now within c.index_mut-row.ensures.value) in
+    subst (λ (r : HostNumbers). AreRows n (slice_set rows c.args.f.from r)) (sym row)
+    (AreRows-remove n rows c.args.f c.self.invariant is_flow)
 
 pub returns-clause-set : goal.returns-clause-set
 returns-clause-set c =
@@ -27,8 +30,11 @@ returns-clause-set c =
     let is_flow : IsFlow n c.args.f = subst (λ (s : SetOfFlows). IsFlow s.size c.args.f) (sym c.self.view_is) c.requires in
     let within : c.args.f.from < length rows = omega (arith, is_flow.0, c.self.invariant.counted) in
     let row : c.remove.new.self ≡ set.remove (row_of rows c.args.f.from) c.args.f.to =
-    c.remove.ensures ∙ ap (λ (s : HostNumbers). set.remove s c.args.f.to) (row_read rows c.args.f.from c.index_mut-row.result.now within c.index_mut-row.ensures.value) in
-    set_ext (record { size = n; flows = flows_of (slice_set rows c.args.f.from c.remove.new.self) n }) (record { size = c.args.self.now.size; flows = without_flow c.args.self.now.flows c.args.f })
+    c.remove.ensures
+    ∙ ap (λ (s : HostNumbers). set.remove s c.args.f.to)
+    (row_read rows c.args.f.from c.index_mut-row.result.now within c.index_mut-row.ensures.value) in
+    set_ext (record { size = n; flows = flows_of (slice_set rows c.args.f.from c.remove.new.self) n })
+    (record { size = c.args.self.now.size; flows = without_flow c.args.self.now.flows c.args.f })
     (ap (λ (s : SetOfFlows). s.size) c.self.view_is)
     (ap (λ (r : HostNumbers). flows_of (slice_set rows c.args.f.from r) n) row
     ∙ flows_of-remove n rows c.args.f c.self.invariant is_flow
@@ -37,4 +43,5 @@ returns-clause-set c =
 pub returns-then-not-has-clause-set : goal.returns-then-not-has-clause-set
 returns-then-not-has-clause-set c =
     let absent = sym c.has.ensures ∙ c.if-not-has.true in
-    set_ext c.args.self.now (record { size = c.args.self.now.size; flows = without_flow c.args.self.now.flows c.args.f }) refl (sym (without_flow_absent c.args.self.now.flows c.args.f absent))
+    set_ext c.args.self.now (record { size = c.args.self.now.size; flows = without_flow c.args.self.now.flows c.args.f }) refl
+    (sym (without_flow_absent c.args.self.now.flows c.args.f absent))

@@ -11,7 +11,8 @@ use Rattle.flow_set.proofs.set.FlowSet.with_back.Goals as goal
 pub insert-requires : goal.insert-requires
 insert-requires c =
     let kept = c.loop-f.invariant in
-    let member : IsTrue (has c.args.s.now.flows c.in-Some.f) = walk_member c.loop-f.yielded c.loop-f.f-iterator c.next.new.self c.args.s.now.flows c.in-Some.f kept.walk c.in-Some.ensures.steps in
+    let member : IsTrue (has c.args.s.now.flows c.in-Some.f) =
+    walk_member c.loop-f.yielded c.loop-f.f-iterator c.next.new.self c.args.s.now.flows c.in-Some.f kept.walk c.in-Some.ensures.steps in
     subst (λ n. IsFlow n c.back.result) (c.requires ∙ sym kept.size)
     (subst (λ (f : Flow). IsFlow c.args.s.now.size f) (sym c.back.ensures) (IsFlow-back_of c.args.s.now.size c.in-Some.f (c.iter-f-items.ensures.set.flows c.in-Some.f member)))
 
@@ -28,8 +29,10 @@ loop-f-preserved c =
       walk = walk_next c.loop-f.yielded c.loop-f.f-iterator c.next.new.self c.args.s.now.flows c.in-Some.f kept.walk c.in-Some.ensures.steps;
     }
 
-members_of : (fs gs all : List Flow) → all ≡ with_back fs gs → (f : Flow) → IsTrue (has all f) ↔ (IsTrue (has fs f) ⊎ IsTrue (has gs (back_of f)))
-members_of fs gs all is f = subst (λ (xs : List Flow). IsTrue (has xs f) ↔ (IsTrue (has fs f) ⊎ IsTrue (has gs (back_of f)))) (sym is) (with_back_members fs gs f)
+members_of : (fs gs all : List Flow) → all ≡ with_back fs gs → (f : Flow)
+    → IsTrue (has all f) ↔ (IsTrue (has fs f) ⊎ IsTrue (has gs (back_of f)))
+members_of fs gs all is f =
+    subst (λ (xs : List Flow). IsTrue (has xs f) ↔ (IsTrue (has fs f) ⊎ IsTrue (has gs (back_of f)))) (sym is) (with_back_members fs gs f)
 
 pub returns-clause-members : goal.returns-clause-members
 returns-clause-members c =

@@ -12,12 +12,17 @@ use Rattle.flow_set.proofs.steps.FlowSteps.step.Goals as goal
 use Rattle.flow_set.proofs.steps.FlowSteps.step.Goals.{then-insert, else-insert}
 
 -- a new flow is taken out again
-added : (e : SetOfFlows) (last : LastStep) (f : Flow) → IsOrdered e.flows → IsFalse (has e.flows f) → seen_as (record e { flows = with_flow e.flows f }) (Added f) ≡ stepped (seen_as e last) f
-added e last f ordered absent = ap (λ fs. record { size = e.size; flows = with_flow e.flows f; before = Some fs }) (without_flow-with_flow e.flows f ordered absent)
+added : (e : SetOfFlows) (last : LastStep) (f : Flow) → IsOrdered e.flows → IsFalse (has e.flows f)
+    → seen_as (record e { flows = with_flow e.flows f }) (Added f) ≡ stepped (seen_as e last) f
+added e last f ordered absent =
+    ap (λ fs. record { size = e.size; flows = with_flow e.flows f; before_step = Some fs })
+    (without_flow-with_flow e.flows f ordered absent)
 
 -- a flow that was there stays
-was_there : (e : SetOfFlows) (last : LastStep) (f : Flow) → IsOrdered e.flows → IsTrue (has e.flows f) → seen_as (record e { flows = with_flow e.flows f }) Nothing ≡ stepped (seen_as e last) f
-was_there e last f ordered there = ap (λ fs. record { size = e.size; flows = with_flow e.flows f; before = Some fs }) (with_flow_there e.flows f ordered there)
+was_there : (e : SetOfFlows) (last : LastStep) (f : Flow) → IsOrdered e.flows → IsTrue (has e.flows f)
+    → seen_as (record e { flows = with_flow e.flows f }) Nothing ≡ stepped (seen_as e last) f
+was_there e last f ordered there =
+    ap (λ fs. record { size = e.size; flows = with_flow e.flows f; before_step = Some fs }) (with_flow_there e.flows f ordered there)
 
 pub returns : goal.returns
 returns c =

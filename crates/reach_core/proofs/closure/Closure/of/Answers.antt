@@ -12,7 +12,8 @@ use Rattle.reach_core.proofs.Lasts.{with_flow-last}
 use Rattle.reach_core.proofs.closure.Closure.of.Goals as goal
 
 -- the next flow is one between the hosts of the set
-is_flow : (n : ℕ) (yielded left rest whole : List Flow) (f : Flow) → IsFlowSet n whole → yielded ++ left ≡ whole → left ≡ f ∷ rest → IsFlow n f
+is_flow : (n : ℕ) (yielded left rest whole : List Flow) (f : Flow) → IsFlowSet n whole → yielded ++ left ≡ whole → left ≡ f ∷ rest
+    → IsFlow n f
 is_flow n yielded left rest whole f is_set walk next = is_set.flows f (walk_member yielded left rest whole f walk next)
 
 -- and so between those that have rows
@@ -64,7 +65,8 @@ open-requires-in-loop-f-2-clause-flow c =
 pub loop-f-preserved : goal.loop-f-preserved
 loop-f-preserved c =
     let kept = c.loop-f.invariant in
-    let walk = walk_next c.loop-f.yielded c.loop-f.f-iterator c.next.new.self c.args.e.now.flows c.in-Some.f kept.walk c.in-Some.ensures.steps in
+    let walk =
+    walk_next c.loop-f.yielded c.loop-f.f-iterator c.next.new.self c.args.e.now.flows c.in-Some.f kept.walk c.in-Some.ensures.steps in
     record {
       rows =
           subst (λ (fs : List Flow). HasRows (record { size = c.args.e.now.size; flows = fs }) c.open.new.self c.open-in-loop-f-2.new.self)

@@ -21,7 +21,8 @@ open-requires-3-clause-closed c =
 pub invariant_of-self : goal.invariant_of-self
 invariant_of-self c =
     let is_flow = subst (λ (t : TriedFlows). IsFlow t.size c.args.f) (sym c.self.view_is) c.requires in
-    subst (λ (t : TriedFlows). HasSteppedRows t c.open.new.self c.open-3.new.self c.copy_from.new.self c.copy_from-2.new.self) (sym c.step.ensures)
+    subst (λ (t : TriedFlows). HasSteppedRows t c.open.new.self c.open-3.new.self c.copy_from.new.self c.copy_from-2.new.self)
+    (sym c.step.ensures)
     (HasSteppedRows-stepped c.self.inside.steps c.args.f c.self.inside.reached c.open.new.self c.copy_from.new.self c.self.inside.joined c.open-2.new.self c.open-3.new.self c.copy_from-2.new.self
     is_flow c.self.invariant.now c.copy_from.ensures c.copy_from-2.ensures c.open.ensures c.open-2.ensures
     (subst (λ (g : Flow). OpensFlow c.open-2.new.self c.open-3.new.self g) c.back.ensures c.open-3.ensures))

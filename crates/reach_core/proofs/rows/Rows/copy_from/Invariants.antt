@@ -1,6 +1,6 @@
 use Rattle.std.proofs.Common.{◌≡◌, ℕ, ◌<◌, length}
-use Rattle.reach_core.specs.Rows.{row_of}
 use Rattle.reach_core.proofs.rows.Rows.copy_from.Given as goal
+use Rattle.host_set.specs.HostSet.{row_of}
 
 abbrev pub invariant-loop-host : goal.invariant-loop-host
 invariant-loop-host l = record {

@@ -1,7 +1,8 @@
 use Rattle.std.proofs.Common.{◌≡◌, ◌<◌, ◌≤◌, ℕ, length}
 use Rattle.std.specs.FinSet as set
-use Rattle.reach_core.specs.Rows.{row_of, opened}
+use Rattle.reach_core.specs.Rows.{opened}
 use Rattle.reach_core.proofs.rows.Rows.open.Given as goal
+use Rattle.host_set.specs.HostSet.{row_of}
 
 abbrev pub invariant-loop-host : goal.invariant-loop-host
 invariant-loop-host l =

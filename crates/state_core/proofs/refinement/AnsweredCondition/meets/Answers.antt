@@ -32,6 +32,8 @@ grown_by n m Holds p fs all f answer size flows is set absent grown =
 
 pub chosen_still_hold-requires-clause-grown : goal.chosen_still_hold-requires-clause-grown
 chosen_still_hold-requires-clause-grown g c =
-    grown_by c.args.self.now.size c.in_ok-all.all.size (StrictHold g.I.Invariant.strategy_of g.I.Invariant.edge_mark g.I.Invariant.holds_on c.args.self.now.invs.now)
+    grown_by c.args.self.now.size c.in_ok-all.all.size
+    (StrictHold g.I.Invariant.strategy_of g.I.Invariant.edge_mark g.I.Invariant.holds_on c.args.self.now.invs.now)
     c.args.self.now.permitted.now.flows c.args.set.now.flows c.in_ok-all.all.flows c.args.added c.back-answer.result
-    (c.in_ok-all.ensures.size ∙ c.requires.can.0) c.in_ok-all.ensures.flows c.back-answer.ensures c.requires.can.1 (sym c.has.ensures ∙ c.if-has.false) c.requires.grown
+    (c.in_ok-all.ensures.size ∙ c.requires.can.0) c.in_ok-all.ensures.flows c.back-answer.ensures c.requires.can.1
+    (sym c.has.ensures ∙ c.if-has.false) c.requires.grown

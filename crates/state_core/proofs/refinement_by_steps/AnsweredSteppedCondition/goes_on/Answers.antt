@@ -14,7 +14,9 @@ returns-clause-answer g c =
     let invs = c.args.self.now.invs.now in
     let p : List Flow = c.args.self.now.permitted.now.flows in
     let kept : List Flow = c.args._kept.now.flows in
-    let law = ChosenHold-tried g.I.Stepwise.fits g.I.Tried.Trial.tried strict inv.holds_on invs c.args.trials.now.items (with_back p kept) c.back.result c.requires.come.2 in
+    let law =
+    ChosenHold-tried g.I.Stepwise.fits g.I.Tried.Trial.tried strict inv.holds_on invs c.args.trials.now.items
+    (with_back p kept) c.back.result c.requires.come.2 in
     let more : with_flow (with_back p kept) c.back.result ≡ with_back p (with_flow kept c.args.f) = ap (λ (h : Flow). with_flow (with_back p kept) h) c.back.ensures ∙ answer_of_more p kept c.args.f c.requires.come.0.ordered in (
       λ yes. subst (ChosenHold strict inv.holds_on invs) more (law.0 (c.step_chosen.ensures.answer.0 yes)),
       λ all. c.step_chosen.ensures.answer.1 (law.1 (subst (ChosenHold strict inv.holds_on invs) (sym more) all)),

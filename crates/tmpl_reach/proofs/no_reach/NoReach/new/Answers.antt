@@ -11,5 +11,6 @@ loop-host-preserved c =
 
 pub invariant_of-result : goal.invariant_of-result
 invariant_of-result c =
-    let counted = ap (λ (xs : List HostNumbers). length xs) c.loop-host.invariant ∙ length-map-range_with_len (others c.args.n) 0 c.loop-host.host in
+    let counted =
+    ap (λ (xs : List HostNumbers). length xs) c.loop-host.invariant ∙ length-map-range_with_len (others c.args.n) 0 c.loop-host.host in
     omega (arith, counted)

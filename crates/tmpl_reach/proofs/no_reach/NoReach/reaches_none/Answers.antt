@@ -14,9 +14,11 @@ remove-requires c = omega (arith, c.requires.host, c.requires.size, c.size.ensur
 pub returns : goal.returns
 returns c =
     let host = c.args.host in
-    let within : host < length c.self.inside.denied.items = subst (λ (xs : List HostNumbers). host < length xs) (sym c.self.view_is) c.requires.host in
+    let within : host < length c.self.inside.denied.items =
+    subst (λ (xs : List HostNumbers). host < length xs) (sym c.self.view_is) c.requires.host in
     let denied : c.index.result.now ≡ denied_by c.args.self.now host =
-    get_or_read c.self.inside.denied.items host c.index.result.now within c.index.ensures set.empty ∙ ap (λ (xs : List HostNumbers). denied_by xs host) c.self.view_is in
+    get_or_read c.self.inside.denied.items host c.index.result.now within c.index.ensures set.empty
+    ∙ ap (λ (xs : List HostNumbers). denied_by xs host) c.self.view_is in
     let law = apart_but c.reached_from.result.now c.remove.new.self (denied_by c.args.self.now host) host (Reaches c.args.closure.now.flows host) c.reached_from.ensures (c.remove.ensures ∙ ap (λ (s : HostNumbers). set.remove s host) c.copy-others.ensures) in (
       λ yes. law.0 (subst (AreApart c.remove.new.self) denied (c.is_apart.ensures.0 yes)),
       λ none. c.is_apart.ensures.1 (subst (AreApart c.remove.new.self) (sym denied) (law.1 none)),

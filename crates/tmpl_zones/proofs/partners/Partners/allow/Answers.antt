@@ -17,9 +17,12 @@ returns c =
     let within : master < length rows = omega (arith, hosts, c.requires.hosts.1) in
     let marks = length_row rows master row c.self.invariant within c.index_mut-receiver.ensures.value in
     let in_row : sender < length row.from.items = omega (arith, marks, hosts, c.requires.hosts.0) in
-    let list = map-partner_of-set rows partners master _ _ c.self.view_is (attribute_by-set row.taking row.from.items sender ∙ ap (λ partner. with_sender partner sender) before) in
+    let list =
+    map-partner_of-set rows partners master _ _ c.self.view_is
+    (attribute_by-set row.taking row.from.items sender ∙ ap (λ partner. with_sender partner sender) before) in
     record {
       list = list;
-      takes = λ number. subst (λ (xs : List Partner). PartnersPass xs number master ↔ ((number ≡ sender) ⊎ PartnersPass partners number master)) (sym list)
+      takes =
+          λ number. subst (λ (xs : List Partner). PartnersPass xs number master ↔ ((number ≡ sender) ⊎ PartnersPass partners number master)) (sym list)
           (PartnersPass-with_sender partners sender master c.requires.hosts.1 c.requires.master (has_mark row _ sender before c.requires.master in_row) number);
     }

@@ -14,7 +14,9 @@ returns c =
     let within : host < length rows = omega arith in
     let marks = length_row rows _ _ c.self.invariant within c.index_mut-receiver.ensures.value in
     let all : vec_len row.from ≡ length partners = omega (arith, row.from.ok.0) in
-    let list = map-partner_of-set rows partners host _ _ c.self.view_is (ap Master (c.fill.ensures.items (λ y same. same) ∙ ap (λ n. replicate n false) all)) in
+    let list =
+    map-partner_of-set rows partners host _ _ c.self.view_is
+    (ap Master (c.fill.ensures.items (λ y same. same) ∙ ap (λ n. replicate n false) all)) in
     record {
       list = list;
       nobody = λ sender is_host passes. PartnersPass-nobody partners (length partners) host c.requires sender is_host
