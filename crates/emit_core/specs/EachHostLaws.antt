@@ -53,7 +53,8 @@ pub record WrittenAt (written : ℕ → List Prefix → List Entry) (k : ℕ) (h
   pub there : slice_get hs place ≡ Some host
   pub listed : IsOneOf e (written (k + place) host.prefixes)
 
-each_written : (w : ℕ → List Prefix → List Entry) (k : ℕ) (hs : List Host) (e : Entry) → IsOneOf e (for_each_host w k hs) → WrittenAt w k hs e
+each_written : (w : ℕ → List Prefix → List Entry) (k : ℕ) (hs : List Host) (e : Entry) → IsOneOf e (for_each_host w k hs)
+    → WrittenAt w k hs e
 each_written w k [] e h = absurd h
 each_written w k (x ∷ hs) e h = elim (one_of_parts e (w k x.prefixes) (for_each_host w (k + 1) hs) h) [
   | inl here ↦
@@ -78,7 +79,8 @@ each_from w hs e h =
     let place : 0 + r.place ≡ r.place = omega arith in
     record { place = r.place; host = r.host; there = r.there; listed = subst (λ (n : ℕ). IsOneOf e (w n r.host.prefixes)) place r.listed }
 
-each_in_from : (w : ℕ → List Prefix → List Entry) (k : ℕ) (hs : List Host) (e : Entry) (i : ℕ) (h : Host) → slice_get hs i ≡ Some h → IsOneOf e (w (k + i) h.prefixes) → IsOneOf e (for_each_host w k hs)
+each_in_from : (w : ℕ → List Prefix → List Entry) (k : ℕ) (hs : List Host) (e : Entry) (i : ℕ) (h : Host) → slice_get hs i ≡ Some h
+    → IsOneOf e (w (k + i) h.prefixes) → IsOneOf e (for_each_host w k hs)
 each_in_from w k [] e i h there listed = cc
 each_in_from w k (x ∷ hs) e zero h there listed =
     let first : k + zero ≡ k = omega arith in
@@ -90,7 +92,8 @@ each_in_from w k (x ∷ hs) e (suc i) h there listed =
     one_of_back e (w k x.prefixes) (for_each_host w (k + 1) hs)
     (each_in_from w (k + 1) hs e i h there (subst (λ (n : ℕ). IsOneOf e (w n h.prefixes)) next listed))
 
-pub each_in : (w : ℕ → List Prefix → List Entry) (hs : List Host) (e : Entry) (i : ℕ) (h : Host) → slice_get hs i ≡ Some h → IsOneOf e (w i h.prefixes) → IsOneOf e (for_each_host w 0 hs)
+pub each_in : (w : ℕ → List Prefix → List Entry) (hs : List Host) (e : Entry) (i : ℕ) (h : Host) → slice_get hs i ≡ Some h
+    → IsOneOf e (w i h.prefixes) → IsOneOf e (for_each_host w 0 hs)
 each_in w hs e i h there listed =
     let place : i ≡ 0 + i = omega arith in
     each_in_from w 0 hs e i h there (subst (λ (n : ℕ). IsOneOf e (w n h.prefixes)) place listed)
@@ -101,13 +104,15 @@ all_pass f [] each = refl
 all_pass f (x ∷ xs) each = and_from (f x) (list_all f xs) (each x (inl refl)) (all_pass f xs (λ y h. each y (inr h)))
 
 -- how many
-pub flat_long : {X Y : Type 0} (f : X → List Y) (xs : List X) (n : ℕ) → ((x : X) → length (f x) ≤ n) → length (flat_map f xs) ≤ length xs * n
+pub flat_long : {X Y : Type 0} (f : X → List Y) (xs : List X) (n : ℕ) → ((x : X) → length (f x) ≤ n)
+    → length (flat_map f xs) ≤ length xs * n
 flat_long f [] n each = omega arith
 flat_long f (x ∷ xs) n each =
     let later = flat_long f xs n each in
     omega (arith, length-append (f x) (flat_map f xs), each x)
 
-pub each_long : (w : ℕ → List Prefix → List Entry) (k : ℕ) (hs : List Host) (n : ℕ) → ((i : ℕ) (qs : List Prefix) → length (w i qs) ≤ length qs * n) → length (for_each_host w k hs) ≤ prefix_count hs * n
+pub each_long : (w : ℕ → List Prefix → List Entry) (k : ℕ) (hs : List Host) (n : ℕ)
+    → ((i : ℕ) (qs : List Prefix) → length (w i qs) ≤ length qs * n) → length (for_each_host w k hs) ≤ prefix_count hs * n
 each_long w k [] n each = omega arith
 each_long w k (h ∷ hs) n each =
     let later = each_long w (k + 1) hs n each in

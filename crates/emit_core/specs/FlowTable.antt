@@ -1,4 +1,5 @@
--- The layout of a policy as a flow table of OpenFlow (docs/FORMATS.md). The policy is the flows p that are permitted; hosts are known by their numbers.
+-- The layout of a policy as a flow table of OpenFlow (docs/FORMATS.md). The policy is the flows p that are permitted; hosts are known by
+-- their numbers.
 use Rattle.std.specs.Prelude.{ℕ, ◌+◌, Bool, true, false, if◌then◌else◌, List, [], ◌∷◌, ◌++◌, Option, Some, None, map}
 use Rattle.std.specs.List.{flat_map}
 use Rattle.host_net.specs.declared.prefix.Prefix.{Prefix}
@@ -19,7 +20,8 @@ for_each_host written k (h ∷ hs) = written k h.prefixes ++ for_each_host writt
 abbrev pub ip_entry : ℕ → Option Prefix → Option Prefix → Action → Entry
 ip_entry priority q t action = record { priority = priority; kind = Ip; src = q; dst = t; action = action }
 
--- what is done between two hosts: a permitted flow is forwarded; where there is a rest host all else is dropped, lest it pass as if from or to that host
+-- what is done between two hosts: a permitted flow is forwarded; where there is a rest host all else is dropped, lest it pass as if from
+-- or to that host
 abbrev pub pair_action : Bool → Option ℕ → Option Action
 pair_action true rest = Some Normal
 pair_action false None = None

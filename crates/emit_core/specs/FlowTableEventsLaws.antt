@@ -35,7 +35,8 @@ answer_by false p s i j answers h = answers (record { from = j; to = i }) h
 
 -- what answers a packet of a stateful flow is of a permitted flow
 pub answer_is : (p s : List Flow) (from to : Option ℕ) → AnswersArePermitted p s
-    → option_map_or (λ f. has s f) (flow_of_owners to from) false ≡ true → option_map_or (λ f. has p f) (flow_of_owners from to) false ≡ true
+    → option_map_or (λ f. has s f) (flow_of_owners to from) false ≡ true
+    → option_map_or (λ f. has p f) (flow_of_owners from to) false ≡ true
 answer_is p s None None answers h = h
 answer_is p s None (Some j) answers h = h
 answer_is p s (Some i) None answers h = h
@@ -79,11 +80,13 @@ alone false true established none = cc
 alone false false established none = refl
 
 -- without stateful flows a policy lets the packets of its permitted flows pass
-lets_pass_alone : (hosts : List Host) (p : List Flow) (packet : Packet) (state : CtState) → is_of hosts p packet ≡ lets_pass hosts p [] packet state
+lets_pass_alone : (hosts : List Host) (p : List Flow) (packet : Packet) (state : CtState)
+    → is_of hosts p packet ≡ lets_pass hosts p [] packet state
 lets_pass_alone hosts p packet state = alone (is_of hosts p packet) (is_of hosts [] (swap_of packet)) (is_established state) (none_of hosts (swap_of packet))
 
 -- as a filter of IPv4 frames a table that forwards some flows enforces them, with no stateful ones
-pub flows_enforced : (entries : List Entry) (hosts : List Host) (p : List Flow) → ForwardsFlows entries hosts p → Enforces (Passes entries) hosts p []
+pub flows_enforced : (entries : List Entry) (hosts : List Host) (p : List Flow) → ForwardsFlows entries hosts p
+    → Enforces (Passes entries) hosts p []
 flows_enforced entries hosts p forwards = record {
   given = λ packet state _. subst (λ (b : Bool). Passes entries state packet b) (lets_pass_alone hosts p packet state) (forwards.given (Ipv4 packet));
   only = λ packet state passes _ has. verdict_if-injective passes _ (forwards.only (Ipv4 packet) (verdict_if passes) has) ∙ lets_pass_alone hosts p packet state;
@@ -93,7 +96,8 @@ no_flows : (p : List Flow) → IsSubset [] p
 no_flows p = record { ordered = tt; within = λ f none. absurd (true≢false (sym none)) }
 
 -- and forwards what is expected with stateful flows too, where their answers are permitted
-pub flows_expected : (entries : List Entry) (hosts : List Host) (p s : List Flow) → ForwardsFlows entries hosts p → AnswersArePermitted p s → ForwardsExpected (Passes entries) hosts p s
+pub flows_expected : (entries : List Entry) (hosts : List Host) (p s : List Flow) → ForwardsFlows entries hosts p
+    → AnswersArePermitted p s → ForwardsExpected (Passes entries) hosts p s
 flows_expected entries hosts p s forwards permitted =
     let alone : ForwardsExpected (Passes entries) hosts p [] = enforced_expected (Passes entries) hosts p [] (no_flows p) (flows_enforced entries hosts p forwards) in
     record {

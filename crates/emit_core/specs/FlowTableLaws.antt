@@ -60,7 +60,8 @@ record Covering (ps : List Prefix) (a : ℕ) : Type 0 where
   listed : IsOneOf prefix ps
   covered : covers prefix a ≡ true
 
-covering_by : (x : Prefix) (ps : List Prefix) (a : ℕ) (b : Bool) → covers x a ≡ b → (covers_any ps a ≡ true → Covering ps a) → (b || covers_any ps a) ≡ true → Covering (x ∷ ps) a
+covering_by : (x : Prefix) (ps : List Prefix) (a : ℕ) (b : Bool) → covers x a ≡ b → (covers_any ps a ≡ true → Covering ps a)
+    → (b || covers_any ps a) ≡ true → Covering (x ∷ ps) a
 covering_by x ps a true on later h = record { prefix = x; listed = inl refl; covered = on }
 covering_by x ps a false off later h = let r = later h in record { prefix = r.prefix; listed = inr r.listed; covered = r.covered }
 
@@ -68,12 +69,14 @@ covering : (ps : List Prefix) (a : ℕ) → covers_any ps a ≡ true → Coverin
 covering [] a h = cc
 covering (x ∷ ps) a h = covering_by x ps a (covers x a) refl (covering ps a) h
 
-searched_later : (x : Host) (hs : List Host) (k a : ℕ) → (position_from (λ h. covers_any h.prefixes a) (k + 1) hs ≡ None) ⊎ IsHeld hs a → (position_from (λ h. covers_any h.prefixes a) (k + 1) hs ≡ None) ⊎ IsHeld (x ∷ hs) a
+searched_later : (x : Host) (hs : List Host) (k a : ℕ) → (position_from (λ h. covers_any h.prefixes a) (k + 1) hs ≡ None) ⊎ IsHeld hs a
+    → (position_from (λ h. covers_any h.prefixes a) (k + 1) hs ≡ None) ⊎ IsHeld (x ∷ hs) a
 searched_later x hs k a (inl none) = inl none
 searched_later x hs k a (inr held) =
     inr (record { place = held.place + 1; host = held.host; prefix = held.prefix; there = rw (add-one held.place) held.there; listed = held.listed; covered = held.covered })
 
-searched_by : (x : Host) (hs : List Host) (k a : ℕ) (b : Bool) → covers_any x.prefixes a ≡ b → (position_from (λ h. covers_any h.prefixes a) (k + 1) hs ≡ None) ⊎ IsHeld hs a
+searched_by : (x : Host) (hs : List Host) (k a : ℕ) (b : Bool) → covers_any x.prefixes a ≡ b
+    → (position_from (λ h. covers_any h.prefixes a) (k + 1) hs ≡ None) ⊎ IsHeld hs a
     → (cond b (Some k) (position_from (λ h. covers_any h.prefixes a) (k + 1) hs) ≡ None) ⊎ IsHeld (x ∷ hs) a
 searched_by x hs k a true on later =
     let c = covering x.prefixes a on in
@@ -91,7 +94,8 @@ ownership hosts a = elim (searched hosts 0 a) [
   | inr held ↦ inr held
 ]
 
-owner_is : (hosts : List Host) → IsHosts hosts → (i : ℕ) (h : Host) (q : Prefix) (a : ℕ) → slice_get hosts i ≡ Some h → IsOneOf q h.prefixes → covers q a ≡ true → owner_of hosts a ≡ Some i
+owner_is : (hosts : List Host) → IsHosts hosts → (i : ℕ) (h : Host) (q : Prefix) (a : ℕ) → slice_get hosts i ≡ Some h
+    → IsOneOf q h.prefixes → covers q a ≡ true → owner_of hosts a ≡ Some i
 owner_is hosts known i h q a there listed on = owner_of_covered hosts i h a known there (covers_by h.prefixes q a listed on)
 
 -- the flow of a packet, by its owners
@@ -99,7 +103,8 @@ flow_by : (b : Bool) (p : List Flow) (f : Flow) → option_map_or (λ g. has p g
 flow_by true p f = refl
 flow_by false p f = refl
 
-of_owners : (hosts : List Host) (p : List Flow) (packet : Packet) (i j : ℕ) → owner_of hosts packet.src ≡ Some i → owner_of hosts packet.dst ≡ Some j → is_of hosts p packet ≡ permits p i j
+of_owners : (hosts : List Host) (p : List Flow) (packet : Packet) (i j : ℕ) → owner_of hosts packet.src ≡ Some i
+    → owner_of hosts packet.dst ≡ Some j → is_of hosts p packet ≡ permits p i j
 of_owners hosts p packet i j from to =
     ap (λ (o : Option ℕ). option_map_or (λ g. has p g) (flow_of_owners o (owner_of hosts packet.dst)) false) from
     ∙ ap (λ (o : Option ℕ). option_map_or (λ g. has p g) (flow_of_owners (Some i) o) false) to
@@ -134,7 +139,8 @@ chosen_action false (Some r) a h = cc
 
 module _ (hosts : List Host) (p : List Flow) (known : IsHosts hosts) where
   -- every entry that matches a frame does what its priority says
-  pair_does : (frame : Frame) (e : Entry) (o : IsBetween hosts p e) → matches frame (ip_entry 40 (Some o.q) (Some o.t) o.action) ≡ true → o.action ≡ action_at (passes hosts p frame) 40
+  pair_does : (frame : Frame) (e : Entry) (o : IsBetween hosts p e) → matches frame (ip_entry 40 (Some o.q) (Some o.t) o.action) ≡ true
+      → o.action ≡ action_at (passes hosts p frame) 40
   pair_does Arp e o on = cc
   pair_does Other e o on = cc
   pair_does (Ipv4 packet) e o on =
@@ -163,7 +169,8 @@ module _ (hosts : List Host) (p : List Flow) (known : IsHosts hosts) where
     matched : matches (Ipv4 packet) entry ≡ true
     above : n < entry.priority
 
-  held_both : (packet : Packet) (a : Action) (s : IsHeld hosts packet.src) (d : IsHeld hosts packet.dst) → pair_action (permits p s.place d.place) (rest_of hosts) ≡ Some a → IsMatchedAbove packet 30
+  held_both : (packet : Packet) (a : Action) (s : IsHeld hosts packet.src) (d : IsHeld hosts packet.dst)
+      → pair_action (permits p s.place d.place) (rest_of hosts) ≡ Some a → IsMatchedAbove packet 30
   held_both packet a s d chosen = record {
     entry = ip_entry 40 (Some s.prefix) (Some d.prefix) a;
     listed = pair_in hosts p s.place d.place s.host d.host s.prefix d.prefix a s.there d.there s.listed d.listed chosen;
@@ -175,7 +182,8 @@ module _ (hosts : List Host) (p : List Flow) (known : IsHosts hosts) where
   owner_of_held a s = owner_is hosts known s.place s.host s.prefix a s.there s.listed s.covered
 
   matched_by : (packet : Packet) (rest : Option ℕ) → rest_of hosts ≡ rest → is_of hosts p packet ≡ true
-      → (owner_of hosts packet.src ≡ rest_of hosts) ⊎ IsHeld hosts packet.src → (owner_of hosts packet.dst ≡ rest_of hosts) ⊎ IsHeld hosts packet.dst → IsMatchedAbove packet 0
+      → (owner_of hosts packet.src ≡ rest_of hosts) ⊎ IsHeld hosts packet.src
+      → (owner_of hosts packet.dst ≡ rest_of hosts) ⊎ IsHeld hosts packet.dst → IsMatchedAbove packet 0
   matched_by packet rest is of_flow (inr s) (inr d) =
       let permitted : permits p s.place d.place ≡ true = sym (of_owners hosts p packet s.place d.place (owner_of_held packet.src s) (owner_of_held packet.dst d)) ∙ of_flow in
       let at = held_both packet Normal s d (ap (λ (b : Bool). pair_action b (rest_of hosts)) permitted) in
@@ -201,13 +209,15 @@ module _ (hosts : List Host) (p : List Flow) (known : IsHosts hosts) where
   some_action true r = (Normal, refl)
   some_action false r = (Drop, refl)
 
-  never_held_both : (packet : Packet) (r : ℕ) (s : IsHeld hosts packet.src) (d : IsHeld hosts packet.dst) → rest_of hosts ≡ Some r → IsMatchedAbove packet 30
+  never_held_both : (packet : Packet) (r : ℕ) (s : IsHeld hosts packet.src) (d : IsHeld hosts packet.dst) → rest_of hosts ≡ Some r
+      → IsMatchedAbove packet 30
   never_held_both packet r s d is =
       let some = some_action (permits p s.place d.place) r in
       held_both packet some.0 s d (ap (pair_action (permits p s.place d.place)) is ∙ some.1)
 
   -- the highest entry decides as the policy does
-  to_rest_says : (frame : Frame) (e : Entry) (o : IsToRest hosts p e) → IsHighest (flow_entries hosts p) frame e → matches frame (ip_entry 30 (Some o.q) None Normal) ≡ true → passes hosts p frame ≡ true
+  to_rest_says : (frame : Frame) (e : Entry) (o : IsToRest hosts p e) → IsHighest (flow_entries hosts p) frame e
+      → matches frame (ip_entry 30 (Some o.q) None Normal) ≡ true → passes hosts p frame ≡ true
   to_rest_says Arp e o high on = cc
   to_rest_says Other e o high on = cc
   to_rest_says (Ipv4 packet) e o high on =
@@ -223,7 +233,8 @@ module _ (hosts : List Host) (p : List Flow) (known : IsHosts hosts) where
             absurd (omega arith)
       ]
 
-  from_rest_says : (frame : Frame) (e : Entry) (o : IsFromRest hosts p e) → IsHighest (flow_entries hosts p) frame e → matches frame (ip_entry 30 None (Some o.q) Normal) ≡ true → passes hosts p frame ≡ true
+  from_rest_says : (frame : Frame) (e : Entry) (o : IsFromRest hosts p e) → IsHighest (flow_entries hosts p) frame e
+      → matches frame (ip_entry 30 None (Some o.q) Normal) ≡ true → passes hosts p frame ≡ true
   from_rest_says Arp e o high on = cc
   from_rest_says Other e o high on = cc
   from_rest_says (Ipv4 packet) e o high on =
@@ -262,7 +273,8 @@ module _ (hosts : List Host) (p : List Flow) (known : IsHosts hosts) where
   arp_says Other on = cc
   arp_says (Ipv4 packet) on = cc
 
-  highest_says : (frame : Frame) (e : Entry) → Origin hosts p e → IsHighest (flow_entries hosts p) frame e → verdict_by_action e.action ≡ verdict_if (passes hosts p frame)
+  highest_says : (frame : Frame) (e : Entry) → Origin hosts p e → IsHighest (flow_entries hosts p) frame e
+      → verdict_by_action e.action ≡ verdict_if (passes hosts p frame)
   highest_says frame e (of_pair o) high =
       ap (λ (x : Entry). verdict_by_action x.action) o.is
       ∙ ap verdict_by_action (pair_does frame e o (ap (matches frame) (sym o.is) ∙ high.matched))

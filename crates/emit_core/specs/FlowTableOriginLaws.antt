@@ -77,19 +77,22 @@ between_origin hosts p e h =
     let pair = pair_is act c.from d.from e d.written in
     record { i = a.place; j = b.place; g = a.host; h = b.host; q = c.from; t = d.from; action = pair.action; at_i = a.there; at_j = b.there; from = c.listed; to = d.listed; chosen = pair.chosen; is = pair.is }
 
-to_rest_by : (hosts : List Host) (p : List Flow) (r i : ℕ) (h : Host) (e : Entry) (b : Bool) → rest_of hosts ≡ Some r → slice_get hosts i ≡ Some h → permits p i r ≡ b → IsOneOf e (to_rest_host b h.prefixes) → IsToRest hosts p e
+to_rest_by : (hosts : List Host) (p : List Flow) (r i : ℕ) (h : Host) (e : Entry) (b : Bool) → rest_of hosts ≡ Some r
+    → slice_get hosts i ≡ Some h → permits p i r ≡ b → IsOneOf e (to_rest_host b h.prefixes) → IsToRest hosts p e
 to_rest_by hosts p r i h e false rest there is listed = absurd listed
 to_rest_by hosts p r i h e true rest there is listed =
     let made = map_from (λ (q : Prefix). ip_entry 30 (Some q) None Normal) h.prefixes e listed in
     record { r = r; i = i; h = h; q = made.from; rest = rest; there = there; from = made.listed; permitted = is; is = made.is }
 
-from_rest_by : (hosts : List Host) (p : List Flow) (r i : ℕ) (h : Host) (e : Entry) (b : Bool) → rest_of hosts ≡ Some r → slice_get hosts i ≡ Some h → permits p r i ≡ b → IsOneOf e (from_rest_host b h.prefixes) → IsFromRest hosts p e
+from_rest_by : (hosts : List Host) (p : List Flow) (r i : ℕ) (h : Host) (e : Entry) (b : Bool) → rest_of hosts ≡ Some r
+    → slice_get hosts i ≡ Some h → permits p r i ≡ b → IsOneOf e (from_rest_host b h.prefixes) → IsFromRest hosts p e
 from_rest_by hosts p r i h e false rest there is listed = absurd listed
 from_rest_by hosts p r i h e true rest there is listed =
     let made = map_from (λ (q : Prefix). ip_entry 30 None (Some q) Normal) h.prefixes e listed in
     record { r = r; i = i; h = h; q = made.from; rest = rest; there = there; to = made.listed; permitted = is; is = made.is }
 
-rest_origin : (hosts : List Host) (p : List Flow) (e : Entry) (o : Option ℕ) → rest_of hosts ≡ o → IsOneOf e (with_rest hosts p o) → Origin hosts p e
+rest_origin : (hosts : List Host) (p : List Flow) (e : Entry) (o : Option ℕ) → rest_of hosts ≡ o → IsOneOf e (with_rest hosts p o)
+    → Origin hosts p e
 rest_origin hosts p e None is listed = absurd listed
 rest_origin hosts p e (Some r) is listed = elim (one_of_parts e (to_rest hosts p r) (from_rest hosts p r) listed) [
   | inl front ↦
@@ -116,7 +119,8 @@ origin hosts p e h = elim (one_of_parts e (between hosts p (rest_of hosts)) (wit
 ]
 
 -- and that those entries stand there
-pub pair_in : (hosts : List Host) (p : List Flow) (i j : ℕ) (g h : Host) (q t : Prefix) (action : Action) → slice_get hosts i ≡ Some g → slice_get hosts j ≡ Some h → IsOneOf q g.prefixes → IsOneOf t h.prefixes
+pub pair_in : (hosts : List Host) (p : List Flow) (i j : ℕ) (g h : Host) (q t : Prefix) (action : Action) → slice_get hosts i ≡ Some g
+    → slice_get hosts j ≡ Some h → IsOneOf q g.prefixes → IsOneOf t h.prefixes
     → pair_action (permits p i j) (rest_of hosts) ≡ Some action → IsOneOf (ip_entry 40 (Some q) (Some t) action) (flow_entries hosts p)
 unfolding flow_entries
 pair_in hosts p i j g h q t action at_i at_j from to chosen =
@@ -128,14 +132,17 @@ pair_in hosts p i j g h q t action at_i at_j from to chosen =
     (each_in (from_host hosts p (rest_of hosts)) hosts e i g at_i
     (each_in (λ k ts. host_pair (pair_action (permits p i k) (rest_of hosts)) g.prefixes ts) hosts e j h at_j in_pair))
 
-rest_in : (hosts : List Host) (p : List Flow) (r : ℕ) (e : Entry) → rest_of hosts ≡ Some r → IsOneOf e (to_rest hosts p r ++ from_rest hosts p r) → IsOneOf e (flow_entries hosts p)
+rest_in : (hosts : List Host) (p : List Flow) (r : ℕ) (e : Entry) → rest_of hosts ≡ Some r
+    → IsOneOf e (to_rest hosts p r ++ from_rest hosts p r) → IsOneOf e (flow_entries hosts p)
 unfolding flow_entries
 rest_in hosts p r e rest listed =
     one_of_back e (between hosts p (rest_of hosts)) (with_rest hosts p (rest_of hosts) ++ arp_entry ∷ other_entry ∷ [])
     (one_of_front e (with_rest hosts p (rest_of hosts)) (arp_entry ∷ other_entry ∷ [])
     (subst (λ (o : Option ℕ). IsOneOf e (with_rest hosts p o)) (sym rest) listed))
 
-pub to_rest_in : (hosts : List Host) (p : List Flow) (r i : ℕ) (h : Host) (q : Prefix) → rest_of hosts ≡ Some r → slice_get hosts i ≡ Some h → IsOneOf q h.prefixes → permits p i r ≡ true → IsOneOf (ip_entry 30 (Some q) None Normal) (flow_entries hosts p)
+pub to_rest_in : (hosts : List Host) (p : List Flow) (r i : ℕ) (h : Host) (q : Prefix) → rest_of hosts ≡ Some r
+    → slice_get hosts i ≡ Some h → IsOneOf q h.prefixes → permits p i r ≡ true
+    → IsOneOf (ip_entry 30 (Some q) None Normal) (flow_entries hosts p)
 to_rest_in hosts p r i h q rest there from permitted =
     let e : Entry = ip_entry 30 (Some q) None Normal in
     rest_in hosts p r e rest
@@ -143,7 +150,9 @@ to_rest_in hosts p r i h q rest there from permitted =
     (each_in (λ k qs. to_rest_host (permits p k r) qs) hosts e i h there
     (subst (λ (b : Bool). IsOneOf e (to_rest_host b h.prefixes)) (sym permitted) (map_in (λ (x : Prefix). ip_entry 30 (Some x) None Normal) h.prefixes q from))))
 
-pub from_rest_in : (hosts : List Host) (p : List Flow) (r i : ℕ) (h : Host) (q : Prefix) → rest_of hosts ≡ Some r → slice_get hosts i ≡ Some h → IsOneOf q h.prefixes → permits p r i ≡ true → IsOneOf (ip_entry 30 None (Some q) Normal) (flow_entries hosts p)
+pub from_rest_in : (hosts : List Host) (p : List Flow) (r i : ℕ) (h : Host) (q : Prefix) → rest_of hosts ≡ Some r
+    → slice_get hosts i ≡ Some h → IsOneOf q h.prefixes → permits p r i ≡ true
+    → IsOneOf (ip_entry 30 None (Some q) Normal) (flow_entries hosts p)
 from_rest_in hosts p r i h q rest there to permitted =
     let e : Entry = ip_entry 30 None (Some q) Normal in
     rest_in hosts p r e rest

@@ -38,7 +38,8 @@ host_pair_long o qs ts =
     let all = flat_long (from_prefix o ts) qs (length ts * 1) each in
     omega (arith, all)
 
-between_long : (hosts : List Host) (p : List Flow) (rest : Option ℕ) → length (between hosts p rest) ≤ prefix_count hosts * prefix_count hosts
+between_long : (hosts : List Host) (p : List Flow) (rest : Option ℕ)
+    → length (between hosts p rest) ≤ prefix_count hosts * prefix_count hosts
 between_long hosts p rest =
     each_long (from_host hosts p rest) 0 hosts (prefix_count hosts)
     (λ i qs.

@@ -126,7 +126,8 @@ said_nowhere : (f : Bool) → nothing ≡ (if f then nothing else nothing)
 said_nowhere true = refl
 said_nowhere false = refl
 
-said_both : (f : Bool) (x y : Option Verdict) → option_or (if f then x else None) (if f then y else None) ≡ (if f then option_or x y else None)
+said_both : (f : Bool) (x y : Option Verdict)
+    → option_or (if f then x else None) (if f then y else None) ≡ (if f then option_or x y else None)
 said_both true x y = refl
 said_both false x y = refl
 
@@ -165,7 +166,8 @@ abbrev pair_said : Side → List Flow → List Flow → Bool → ℕ → Option 
 pair_said side p s established i rest j =
     option_or (pass (may_link side p s established i j)) (fail (is_open side p s i rest && not (links side p i j)))
 
-pair_says : (side : Side) (chains : List Chain) (p s : List Flow) (packet : Packet) (state : CtState) (i : ℕ) (rest : Option ℕ) (j : ℕ) (q : Prefix)
+pair_says : (side : Side) (chains : List Chain) (p s : List Flow) (packet : Packet) (state : CtState) (i : ℕ) (rest : Option ℕ) (j : ℕ)
+    (q : Prefix)
     → Says (matches packet state) chains (to_prefix side p s i rest j q)
     (if covers q (other_address side packet) then pair_said side p s (is_established state) i rest j else None)
 pair_says side chains p s packet state i rest j q =
@@ -257,7 +259,8 @@ chain_rules hosts p s i below =
     let start : 0 + i ≡ i = omega arith in
     rw three (ap rules_in (host_chain_at hosts p s 0 (length hosts) i below) ∙ ap (host_rules Sending hosts p s) start)
 
-jump_says : (hosts : List Host) (p s : List Flow) (packet : Packet) (state : CtState) (i : ℕ) → i < length hosts → IsHeldOnce packet.dst hosts
+jump_says : (hosts : List Host) (p s : List Flow) (packet : Packet) (state : CtState) (i : ℕ) → i < length hosts
+    → IsHeldOnce packet.dst hosts
     → (q : Option Prefix)
     → Says (matches packet state) (layout hosts p s) (from_source q (Jump (chain_of i)) ∷ [])
     (if lies_in q packet.src then Some (said_by Sending hosts p s packet state i) else None)
@@ -299,7 +302,8 @@ forward_says hosts p s packet state source destination =
     (rest_jump_says hosts p s packet state (rest_of hosts)
     (rest_below hosts) destination))
 
-in_set : (flows : List Flow) (f : Flow) (same : Bool) → (not same && has flows f) ≡ option_map_or (λ g. has flows g) (if same then None else Some f) false
+in_set : (flows : List Flow) (f : Flow) (same : Bool)
+    → (not same && has flows f) ≡ option_map_or (λ g. has flows g) (if same then None else Some f) false
 in_set flows f true = refl
 in_set flows f false = refl
 
@@ -352,5 +356,6 @@ layout_enforces hosts p s is =
     }
 
 -- and so forwards what is expected of it
-pub layout_expected : (hosts : List Host) (p s : List Flow) → IsHosts hosts → IsSubset s p → ForwardsExpected (Passes (layout hosts p s)) hosts p s
+pub layout_expected : (hosts : List Host) (p s : List Flow) → IsHosts hosts → IsSubset s p
+    → ForwardsExpected (Passes (layout hosts p s)) hosts p s
 layout_expected hosts p s known subset = enforced_expected (Passes (layout hosts p s)) hosts p s subset (layout_enforces hosts p s known)

@@ -1,4 +1,5 @@
--- The layout of a policy as chains of iptables (the text of the rules, docs/FORMATS.md). The policy is the flows p that are permitted, and those of them, s, whose answers pass as well; hosts are known by their numbers.
+-- The layout of a policy as chains of iptables (the text of the rules, docs/FORMATS.md). The policy is the flows p that are permitted, and
+-- those of them, s, whose answers pass as well; hosts are known by their numbers.
 use Rattle.std.specs.Prelude.{ℕ, ◌+◌, Bool, true, false, not, ◌&&◌, ◌||◌, if◌then◌else◌, List, [], ◌∷◌, ◌++◌, Option, Some, None, length, map, codes, decimal, option_map}
 use Rattle.std.specs.List.{flat_map, range_with_len}
 use Rattle.std.specs.Option.{option_map_or}
@@ -35,7 +36,12 @@ destination_part Receiving part = None
 
 -- a rule on the address of the other host, and maybe the state
 abbrev pub at_other : Side → Option Prefix → Option StateMatch → Target → Rule
-at_other side q state target = record { src = source_part side (in_prefix q); dst = destination_part side (in_prefix q); state = state; target = target }
+at_other side q state target = record {
+  src = source_part side (in_prefix q);
+  dst = destination_part side (in_prefix q);
+  state = state;
+  target = target;
+}
 
 -- a rule on the source of a packet
 abbrev pub from_source : Option Prefix → Target → Rule

@@ -32,7 +32,8 @@ use Rattle.emit_core.specs.Layout.{for_each_prefix, at_other, answering, accepts
 use Rattle.emit_core.specs.Filling.{chains_up_to}
 
 -- rules for each prefix, at most m for one
-few_for_each : (m : ℕ) (written : Prefix → List Rule) → ((q : Prefix) → length (written q) ≤ m) → (qs : List Prefix) → length (flat_map written qs) ≤ m * length qs
+few_for_each : (m : ℕ) (written : Prefix → List Rule) → ((q : Prefix) → length (written q) ≤ m) → (qs : List Prefix)
+    → length (flat_map written qs) ≤ m * length qs
 few_for_each m written few [] = omega arith
 few_for_each m written few (q ∷ qs) =
     omega (arith, few q, few_for_each m written few qs, length-append (written q) (flat_map written qs))
@@ -67,7 +68,8 @@ few_to_rest side p s i None = omega arith
 few_to_rest side p s i (Some r) = one_at_most (links side p i r) (links (other_side side) s i r) (at_other side None None Accept) (at_other side None answering Accept)
 
 -- a host's chain has two rules for each prefix, and two more, at most
-pub few_host_rules : (side : Side) (hosts : List Host) (p s : List Flow) (i : ℕ) → length (host_rules side hosts p s i) ≤ 2 * prefix_count hosts + 2
+pub few_host_rules : (side : Side) (hosts : List Host) (p s : List Flow) (i : ℕ)
+    → length (host_rules side hosts p s i) ≤ 2 * prefix_count hosts + 2
 few_host_rules side hosts p s i =
     omega (
       arith,
@@ -114,7 +116,8 @@ all_flat_map test written each [] = refl
 all_flat_map test written each (q ∷ qs) =
     list_all-append test (written q) (flat_map written qs) ∙ and_from _ _ (each q) (all_flat_map test written each qs)
 
-all_for_each : (test : Rule → Bool) (written : ℕ → Prefix → List Rule) (n : ℕ) → ((j : ℕ) → j < n → (q : Prefix) → list_all test (written j q) ≡ true)
+all_for_each : (test : Rule → Bool) (written : ℕ → Prefix → List Rule) (n : ℕ)
+    → ((j : ℕ) → j < n → (q : Prefix) → list_all test (written j q) ≡ true)
     → (k : ℕ) (hs : List Host) → k + length hs ≤ n → list_all test (for_each_prefix written k hs) ≡ true
 all_for_each test written n each k [] within = refl
 all_for_each test written n each k (h ∷ hs) within =
@@ -133,16 +136,19 @@ decide_accepts side q true c = refl
 decide_accepts side q false true = refl
 decide_accepts side q false false = refl
 
-decide_drops : (side : Side) (q : Option Prefix) (b : Bool) → list_all (λ r. decides r.target) (if b then at_other side q None Drop ∷ [] else []) ≡ true
+decide_drops : (side : Side) (q : Option Prefix) (b : Bool)
+    → list_all (λ r. decides r.target) (if b then at_other side q None Drop ∷ [] else []) ≡ true
 decide_drops side q true = refl
 decide_drops side q false = refl
 
-decide_to_rest : (side : Side) (p s : List Flow) (i : ℕ) (rest : Option ℕ) → list_all (λ r. decides r.target) (to_rest side p s i rest) ≡ true
+decide_to_rest : (side : Side) (p s : List Flow) (i : ℕ) (rest : Option ℕ)
+    → list_all (λ r. decides r.target) (to_rest side p s i rest) ≡ true
 decide_to_rest side p s i None = refl
 decide_to_rest side p s i (Some r) = decide_accepts side None (links side p i r) (links (other_side side) s i r)
 
 -- no rule of a host's chain jumps or returns
-pub host_rules_decide : (side : Side) (hosts : List Host) (p s : List Flow) (i : ℕ) → list_all (λ r. decides r.target) (host_rules side hosts p s i) ≡ true
+pub host_rules_decide : (side : Side) (hosts : List Host) (p s : List Flow) (i : ℕ)
+    → list_all (λ r. decides r.target) (host_rules side hosts p s i) ≡ true
 host_rules_decide side hosts p s i =
     let test : Rule → Bool = λ r. decides r.target in
     let rest = rest_of hosts in
@@ -162,10 +168,12 @@ jumps_to_host n _ = false
 jump_there : (n i : ℕ) → i < n → jumps_to_host n (Jump (chain_of i)) ≡ true
 jump_there n i below = grind (arith, nat_tests)
 
-jump_from_there : (n i : ℕ) (q : Option Prefix) → i < n → list_all (λ r. jumps_to_host n r.target) (from_source q (Jump (chain_of i)) ∷ []) ≡ true
+jump_from_there : (n i : ℕ) (q : Option Prefix) → i < n
+    → list_all (λ r. jumps_to_host n r.target) (from_source q (Jump (chain_of i)) ∷ []) ≡ true
 jump_from_there n i q below = and_from _ _ (jump_there n i below) refl
 
-rest_jump_there : (n : ℕ) (rest : Option ℕ) → ((r : ℕ) → rest ≡ Some r → r < n) → list_all (λ r. jumps_to_host n r.target) (rest_jump rest) ≡ true
+rest_jump_there : (n : ℕ) (rest : Option ℕ) → ((r : ℕ) → rest ≡ Some r → r < n)
+    → list_all (λ r. jumps_to_host n r.target) (rest_jump rest) ≡ true
 rest_jump_there n None below = refl
 rest_jump_there n (Some r) below = jump_from_there n r None (below r refl)
 
@@ -180,7 +188,8 @@ forward_rules_jump hosts =
 
 -- rules that pass a test do not jump to nowhere, where the test rules it out
 pub none_nowhere : (count : ℕ) (test : Target → Bool) → ((t : Target) → test t ≡ true → jumps_nowhere count t ≡ false)
-    → (i : ℕ) (rules : List Rule) → list_all (λ r. test r.target) rules ≡ true → position_from (λ r. jumps_nowhere count r.target) i rules ≡ None
+    → (i : ℕ) (rules : List Rule) → list_all (λ r. test r.target) rules ≡ true
+    → position_from (λ r. jumps_nowhere count r.target) i rules ≡ None
 none_nowhere count test ruled_out i [] all = refl
 none_nowhere count test ruled_out i (r ∷ rs) all =
     let parts = and_parts (test r.target) (list_all (λ x. test x.target) rs) all in
@@ -218,7 +227,8 @@ layout_known hosts p s =
     (host_chains_known hosts p s count 3 0 (length hosts))
 
 -- the layout of a policy for no more than 256 hosts with 1,024 prefixes is a rule set
-pub layout_accepted : (hosts : List Host) (p s : List Flow) → length hosts ≤ 256 → prefix_count hosts ≤ 1024 → refusal_of (layout hosts p s) ≡ None
+pub layout_accepted : (hosts : List Host) (p s : List Flow) → length hosts ≤ 256 → prefix_count hosts ≤ 1024
+    → refusal_of (layout hosts p s) ≡ None
 unfolding refusal_of
 layout_accepted hosts p s few prefixes =
     let chains : nat_lt 4096 (length (layout hosts p s)) ≡ false = grind (arith, nat_tests, length-chains_up_to hosts p s (length hosts)) in
@@ -284,7 +294,8 @@ host_name_unused hosts p s at k (suc n) i before fits =
     rw (other_name k i (omega arith) fits) (host_name_unused hosts p s (at + 1) (k + 1) n i (omega arith) fits)
 
 -- the name of a host's chain is none of the names before it
-pub name_unused : (hosts : List Host) (p s : List Flow) (i : ℕ) → i < 2 ^ 16 → number_of (chains_up_to hosts p s i) (host_chain_name i) ≡ None
+pub name_unused : (hosts : List Host) (p s : List Flow) (i : ℕ) → i < 2 ^ 16
+    → number_of (chains_up_to hosts p s i) (host_chain_name i) ≡ None
 name_unused hosts p s i fits = host_name_unused hosts p s 3 0 i i (omega arith) fits
 
 digit_in_name : (d : ℕ) → d < 10 → list_all is_printing ((48 + d) ∷ []) ≡ true

@@ -13,6 +13,7 @@ pub mod WritableLaws
 pub mod EachHostLaws
 pub mod FlowTableOriginLaws
 pub mod FlowTableLaws
+pub mod FlowTableRangeLaws
 pub mod FlowTableSizeLaws
 pub mod FlowTableEventsLaws
 pub mod TableLaws

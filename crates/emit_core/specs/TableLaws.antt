@@ -23,6 +23,7 @@ use Rattle.emit_core.specs.FlowTableEvents.{AnswersArePermitted, IsFirstBarred}
 use Rattle.emit_core.specs.FlowTableEventsLaws.{answer_is, arp_alone}
 use Rattle.emit_core.specs.FlowTableForwarding.{ForwardsArpAlone}
 use Rattle.emit_core.specs.FlowTableLaws.{ForwardsFlows, passes, forwards_flows, unambiguous}
+use Rattle.emit_core.specs.FlowTableRangeLaws.{flow_entries_in_range}
 use Rattle.emit_core.specs.FlowTableSizeLaws.{all_ask}
 
 -- the entries of a policy are a table
@@ -31,6 +32,7 @@ flow_entries_table hosts p known few =
     let forwards : ForwardsFlows (flow_entries hosts p) hosts p = forwards_flows hosts p known in
     record {
       accepted = (few, unambiguous hosts p known);
+      in_range = flow_entries_in_range hosts p known;
       asks = all_ask hosts p;
       one_verdict = λ frame is. record { verdict = verdict_if (passes hosts p frame); has = forwards.given frame; only = forwards.only frame };
     }

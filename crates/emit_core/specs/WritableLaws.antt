@@ -32,7 +32,8 @@ use Rattle.emit_core.specs.LayoutLaws.{layout_accepted, layout_no_loop, length-c
 
 -- 1. The chains are a table.
 
-chain_at : (hosts : List Host) (p s : List Flow) (k n i j : ℕ) → k + i ≡ j → i < n → slice_get (map (host_chain hosts p s) (range_with_len k n)) i ≡ Some (host_chain hosts p s j)
+chain_at : (hosts : List Host) (p s : List Flow) (k n i j : ℕ) → k + i ≡ j → i < n
+    → slice_get (map (host_chain hosts p s) (range_with_len k n)) i ≡ Some (host_chain hosts p s j)
 chain_at hosts p s k zero i j place below = absurd (omega arith)
 chain_at hosts p s k (suc n) zero j place below =
     let same : k ≡ j = omega (arith, place) in
@@ -111,7 +112,8 @@ each_fits written each (q ∷ qs) all =
     list_all-append addresses_fit (written q) (flat_map written qs) ∙ and_from _ _ (each q parts.0) (each_fits written each qs parts.1)
 
 all_fit : (written : ℕ → Prefix → List Rule) → ((j : ℕ) (q : Prefix) → prefix_fits q ≡ true → list_all addresses_fit (written j q) ≡ true)
-    → (k : ℕ) (hs : List Host) → list_all prefix_fits (all_prefixes hs) ≡ true → list_all addresses_fit (for_each_prefix written k hs) ≡ true
+    → (k : ℕ) (hs : List Host) → list_all prefix_fits (all_prefixes hs) ≡ true
+    → list_all addresses_fit (for_each_prefix written k hs) ≡ true
 all_fit written each k [] all = refl
 all_fit written each k (h ∷ hs) all =
     let parts = and_parts (list_all prefix_fits h.prefixes) (list_all prefix_fits (all_prefixes hs)) (sym (list_all-append prefix_fits h.prefixes (all_prefixes hs)) ∙ all) in
@@ -123,7 +125,8 @@ abbrev asked_fits : Option Prefix → Type 0
 asked_fits None = Unit {0}
 asked_fits (Some q) = prefix_fits q ≡ true
 
-rule_fits : (side : Side) (q : Option Prefix) (state : Option StateMatch) (target : Target) → asked_fits q → addresses_fit (at_other side q state target) ≡ true
+rule_fits : (side : Side) (q : Option Prefix) (state : Option StateMatch) (target : Target) → asked_fits q
+    → addresses_fit (at_other side q state target) ≡ true
 rule_fits Sending None state target fits = refl
 rule_fits Sending (Some q) state target fits = rw fits refl
 rule_fits Receiving None state target fits = refl
@@ -135,7 +138,8 @@ accepts_fit side q true c fits = and_from _ _ (rule_fits side q None Accept fits
 accepts_fit side q false true fits = and_from _ _ (rule_fits side q answering Accept fits) refl
 accepts_fit side q false false fits = refl
 
-drops_fit : (side : Side) (q : Prefix) (b : Bool) → prefix_fits q ≡ true → list_all addresses_fit (if b then at_other side (Some q) None Drop ∷ [] else []) ≡ true
+drops_fit : (side : Side) (q : Prefix) (b : Bool) → prefix_fits q ≡ true
+    → list_all addresses_fit (if b then at_other side (Some q) None Drop ∷ [] else []) ≡ true
 drops_fit side q true fits = and_from _ _ (rule_fits side (Some q) None Drop fits) refl
 drops_fit side q false fits = refl
 
@@ -160,7 +164,8 @@ rest_jump_fits : (rest : Option ℕ) → list_all addresses_fit (rest_jump rest)
 rest_jump_fits None = refl
 rest_jump_fits (Some r) = refl
 
-forward_rules_fit : (hosts : List Host) → list_all prefix_fits (all_prefixes hosts) ≡ true → list_all addresses_fit (forward_rules hosts) ≡ true
+forward_rules_fit : (hosts : List Host) → list_all prefix_fits (all_prefixes hosts) ≡ true
+    → list_all addresses_fit (forward_rules hosts) ≡ true
 forward_rules_fit hosts fits =
     list_all-append addresses_fit (for_each_prefix jump_from 0 hosts) (rest_jump (rest_of hosts))
     ∙ and_from _ _

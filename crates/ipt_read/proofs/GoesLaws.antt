@@ -18,8 +18,7 @@ use Rattle.ipt_read.specs.declared.option.Given.{Given}
 use Rattle.ipt_read.specs.declared.option.Opt.{Opt}
 use Rattle.ipt_read.specs.declared.option.Opt.TheVariants.{Source, Destination, Interface, Module, CtState, State, Comment, Jump as JumpOption, RejectWith, LogPrefix, LogLevel}
 use Rattle.ipt_read.specs.declared.option.Place.{Place}
-use Rattle.ipt_read.specs.Options.{with_value, with_module, states_of, text_of, target_of, jump_to}
-use Rattle.ipt_read.specs.RuleLine.{nothing_given, target_by}
+use Rattle.ipt_read.specs.Options.{with_value, with_module, states_of, text_of, target_of, jump_to, nothing_given, target_by}
 use Rattle.ipt_read.specs.Grammar.{IsValue, one_word, text, IsPiece, plain, turned, ArePieces, none_left, one_more, IsRuleLine}
 use Rattle.ipt_read.specs.Goes.{Goes, AllGo, EachGoes}
 use Rattle.ipt_read.proofs.WithinLaws.{number_of_within}

@@ -15,8 +15,10 @@ use Rattle.ipt_rules.specs.Name.{is_user_name, is_reserved}
 use Rattle.ipt_read.specs.declared.stage.Stage.TheVariants.{After}
 use Rattle.ipt_read.specs.declared.fault.IptWhy.TheVariants.{BadLine, OtherTable, BadChain, UnknownChain, Interface, UnknownTarget, NoCommit, AfterCommit}
 use Rattle.ipt_read.specs.Options.{option_of, text_of, is_state, states_of, target_of, with_module, with_value}
-use Rattle.ipt_read.specs.RuleLine.{is_bang, word_step, is_count, rule_line_of}
-use Rattle.ipt_read.specs.TextLines.{chain_line_of, body_line_of, line_of_words, text_said}
+use Rattle.ipt_read.specs.Counts.{is_count}
+use Rattle.ipt_read.specs.RuleLine.{is_bang, word_step, rule_line_of}
+use Rattle.ipt_read.specs.LineStep.{chain_line_of, body_line_of, line_of_words}
+use Rattle.ipt_read.specs.TextSteps.{text_said}
 
 -- a rule that jumps whatever comes
 abbrev jumps : ℕ → Rule

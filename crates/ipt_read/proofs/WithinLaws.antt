@@ -10,7 +10,9 @@ use Rattle.ipt_read.specs.declared.fault.IptWhy.{IptWhy}
 use Rattle.ipt_read.specs.declared.fault.IptWhy.TheVariants.{BadLine}
 use Rattle.ipt_read.specs.declared.option.Given.{Given}
 use Rattle.ipt_read.specs.declared.option.Place.TheVariants.{AtOption}
-use Rattle.ipt_read.specs.RuleLine.{goes_on, word_by_word, nothing_given, rule_of, rule_in, append_of, rule_line_of, is_count}
+use Rattle.ipt_read.specs.Counts.{is_count}
+use Rattle.ipt_read.specs.Options.{nothing_given, rule_of}
+use Rattle.ipt_read.specs.RuleLine.{goes_on, word_by_word, rule_in, append_of, rule_line_of}
 
 within_first : (t : Bool) (i c n : ℕ) (r : Option ℕ) → (r ≡ Some c → c < i + 1 + n) → cond t (Some i) r ≡ Some c → c < i + (n + 1)
 within_first true i c n r others h = let e : i ≡ c = cc in omega arith
@@ -23,11 +25,13 @@ within_from p i c (x ∷ xs) h = let e : c < i + (length xs + 1) = within_first 
 pub number_of_within : (xs : List Chain) (name : List ℕ) (c : ℕ) → number_of xs name ≡ Some c → c < length xs
 number_of_within xs name c h = let e : c < 0 + length xs = within_from (λ x. bytes_eq x.name name) 0 c xs h in omega arith
 
-rule_within : (chains : List Chain) (c k : ℕ) (rule : Rule) (o : Result Given IptWhy) → goes_on {B = ℕ × Rule} o (λ given. Ok (c, rule_of given)) ≡ Ok (k, rule) → c ≡ k
+rule_within : (chains : List Chain) (c k : ℕ) (rule : Rule) (o : Result Given IptWhy)
+    → goes_on {B = ℕ × Rule} o (λ given. Ok (c, rule_of given)) ≡ Ok (k, rule) → c ≡ k
 rule_within chains c k rule (Err why) h = cc
 rule_within chains c k rule (Ok given) h = let e : ◌≡◌ {A = ℕ × Rule} (c, rule_of given) (k, rule) = cc in λ i. (e i).0
 
-in_within : (chains : List Chain) (name : List ℕ) (ws : List (List ℕ)) (k : ℕ) (rule : Rule) (o : Option ℕ) → number_of chains name ≡ o → rule_in chains o ws ≡ Ok (k, rule) → k < length chains
+in_within : (chains : List Chain) (name : List ℕ) (ws : List (List ℕ)) (k : ℕ) (rule : Rule) (o : Option ℕ) → number_of chains name ≡ o
+    → rule_in chains o ws ≡ Ok (k, rule) → k < length chains
 in_within chains name ws k rule None found h = cc
 in_within chains name ws k rule (Some c) found h =
     subst (λ (n : ℕ). n < length chains) (rule_within chains c k rule (word_by_word chains nothing_given AtOption ws) h) (number_of_within chains name c found)
@@ -40,7 +44,8 @@ append_within chains (a ∷ name ∷ ws) k rule h = elim (if_parts (bytes_eq a (
   | inr no' ↦ cc
 ]
 
-pub rule_line_within : (chains : List Chain) (ws : List (List ℕ)) (k : ℕ) (rule : Rule) → rule_line_of chains ws ≡ Ok (k, rule) → k < length chains
+pub rule_line_within : (chains : List Chain) (ws : List (List ℕ)) (k : ℕ) (rule : Rule) → rule_line_of chains ws ≡ Ok (k, rule)
+    → k < length chains
 unfolding rule_line_of
 rule_line_within chains [] k rule h = cc
 rule_line_within chains (w ∷ ws) k rule h = elim (if_parts (begins_with 91 w) _ _ (Ok (k, rule)) h) [

@@ -4,7 +4,7 @@ use Rattle.ipt_rules.specs.Chain.{Chain}
 use Rattle.ipt_rules.specs.Text.{text}
 use Rattle.ipt_rules.specs.Writable.{IsWritable}
 use Rattle.ipt_read.specs.Grammar.{IsReading}
-use Rattle.ipt_read.specs.TextLines.{SaidSoFar}
+use Rattle.ipt_read.specs.Said.{SaidSoFar}
 use Rattle.ipt_read.specs.TextAgainLaws.{again}
 use Rattle.ipt_read.specs.FineRulesLaws.{has_fine_rules}
 use Rattle.ipt_read.specs.TextLaws.{said_of_reading}

@@ -1,4 +1,5 @@
--- The grammar of the text of a rule set: which lines a text has, and which pieces a rule line.
+-- The grammar of the text of a rule set: which lines a text has, and which pieces a rule line (iptables-save(8),
+-- iptables-restore(8)).
 use Rattle.std.specs.Prelude.{◌≡◌, ℕ, ◌+◌, ◌<◌, ◌≤◌, Bool, true, false, IsTrue, IsFalse, List, [], ◌∷◌, ◌++◌, Some, None, length, codes, slice_set, ◌⊎◌}
 use Rattle.text_core.specs.Lines.{lines, words}
 use Rattle.text_core.specs.Reading.{Follows}
@@ -12,11 +13,12 @@ use Rattle.ipt_read.specs.declared.option.Opt.{Opt}
 use Rattle.ipt_read.specs.declared.option.Given.{Given}
 use Rattle.ipt_read.specs.declared.option.Place.TheVariants.{AtOption, InText}
 use Rattle.ipt_read.specs.declared.stage.Stage.TheVariants.{Front, Table, After}
-use Rattle.ipt_read.specs.Options.{option_of, may_stand, is_interface, takes_bang, is_given, quoted, with_value}
-use Rattle.ipt_read.specs.RuleLine.{nothing_given, rule_of, is_count}
-use Rattle.ipt_read.specs.TextLines.{SaidSoFar, nothing_said, line_of}
+use Rattle.ipt_read.specs.Options.{option_of, may_stand, is_interface, takes_bang, is_given, quoted, with_value, nothing_given, rule_of}
+use Rattle.ipt_read.specs.Counts.{is_count}
+use Rattle.ipt_read.specs.Said.{SaidSoFar, nothing_said, line_of}
 
--- an option may stand after what is given, with `!` before it or not: it is no interface, takes the `!`, and was not given where it may stand once
+-- an option may stand after what is given, with `!` before it or not: it is no interface, takes the `!`, and was not given where
+-- it may stand once
 pub record Stands (given : Given) (negated : Bool) (o : Opt) : Type 0 where
   pub here : IsTrue (may_stand given o)
   pub address : IsFalse (is_interface o)
@@ -30,18 +32,23 @@ pub data IsRestOfText : List (List ℕ) → Type 0 where
 
 -- the value of an option: one word, or a quoted text over several
 pub data IsValue (chains : List Chain) (given : Given) (o : Opt) (negated : Bool) : List (List ℕ) → Given → Type 0 where
-  one_word : {w : List ℕ} {now : Given} → with_value chains given o negated w ≡ Some (now, AtOption) → IsValue chains given o negated (w ∷ []) now
-  text : {w : List ℕ} {ws : List (List ℕ)} {now : Given} → with_value chains given o negated w ≡ Some (now, InText) → IsRestOfText ws → IsValue chains given o negated (w ∷ ws) now
+  one_word : {w : List ℕ} {now : Given} → with_value chains given o negated w ≡ Some (now, AtOption)
+      → IsValue chains given o negated (w ∷ []) now
+  text : {w : List ℕ} {ws : List (List ℕ)} {now : Given} → with_value chains given o negated w ≡ Some (now, InText)
+      → IsRestOfText ws → IsValue chains given o negated (w ∷ ws) now
 
 -- a piece: an option and its value, maybe after `!`
 pub data IsPiece (chains : List Chain) (given : Given) : List (List ℕ) → Given → Type 0 where
-  plain : {name : List ℕ} {o : Opt} {value : List (List ℕ)} {now : Given} → option_of name ≡ Some o → Stands given false o → IsValue chains given o false value now → IsPiece chains given (name ∷ value) now
-  turned : {name : List ℕ} {o : Opt} {value : List (List ℕ)} {now : Given} → given.target ≡ None → option_of name ≡ Some o → Stands given true o → IsValue chains given o true value now → IsPiece chains given (codes "!" ∷ name ∷ value) now
+  plain : {name : List ℕ} {o : Opt} {value : List (List ℕ)} {now : Given} → option_of name ≡ Some o
+      → Stands given false o → IsValue chains given o false value now → IsPiece chains given (name ∷ value) now
+  turned : {name : List ℕ} {o : Opt} {value : List (List ℕ)} {now : Given} → given.target ≡ None
+      → option_of name ≡ Some o → Stands given true o → IsValue chains given o true value now → IsPiece chains given (codes "!" ∷ name ∷ value) now
 
 -- pieces, each of which fits after those before it
 pub data ArePieces (chains : List Chain) : Given → List (List ℕ) → Given → Type 0 where
   none_left : {given : Given} → ArePieces chains given [] given
-  one_more : {given now then_given : Given} {ws vs : List (List ℕ)} → IsPiece chains given ws now → ArePieces chains now vs then_given → ArePieces chains given (ws ++ vs) then_given
+  one_more : {given now then_given : Given} {ws vs : List (List ℕ)} → IsPiece chains given ws now
+      → ArePieces chains now vs then_given → ArePieces chains given (ws ++ vs) then_given
 
 -- a count of packets and bytes in front, or nothing
 abbrev pub IsFront : List (List ℕ) → Type 0
@@ -68,9 +75,14 @@ pub record IsChainLine (ws : List (List ℕ)) (name policy : List ℕ) : Type 0 
 -- line n, by its words: from what the lines before it said to what they say with it
 pub data IsLine (n : ℕ) (s : SaidSoFar) : List (List ℕ) → SaidSoFar → Type 0 where
   table : s.stage ≡ Front → IsLine n s (codes "*filter" ∷ []) (record s { stage = Table })
-  built_in : {ws : List (List ℕ)} {name : List ℕ} {c : ℕ} (policy : Policy) → s.stage ≡ Table → IsChainLine ws name (policy_text (Some policy)) → number_of s.chains name ≡ Some c → c < 3 → line_of s.declared c ≡ 0 → IsLine n s ws (record s { chains = with_policy s.chains c policy; declared = slice_set s.declared c n })
-  user : {ws : List (List ℕ)} {name : List ℕ} → s.stage ≡ Table → IsChainLine ws name (policy_text None) → number_of s.chains name ≡ None → IsTrue (is_user_name name) → length s.chains < 4096 → IsLine n s ws (record s { chains = s.chains ++ user_chain name ∷ []; declared = s.declared ++ n ∷ [] })
-  rule : {ws : List (List ℕ)} {c : ℕ} {r : Rule} → s.stage ≡ Table → IsRuleLine s.chains ws c r → s.rules < 1000000 → IsLine n s ws (record s { chains = with_rule s.chains c r; rules = s.rules + 1 })
+  built_in : {ws : List (List ℕ)} {name : List ℕ} {c : ℕ} (policy : Policy) → s.stage ≡ Table
+      → IsChainLine ws name (policy_text (Some policy)) → number_of s.chains name ≡ Some c → c < 3 → line_of s.declared c ≡ 0
+      → IsLine n s ws (record s { chains = with_policy s.chains c policy; declared = slice_set s.declared c n })
+  user : {ws : List (List ℕ)} {name : List ℕ} → s.stage ≡ Table → IsChainLine ws name (policy_text None)
+      → number_of s.chains name ≡ None → IsTrue (is_user_name name) → length s.chains < 4096
+      → IsLine n s ws (record s { chains = s.chains ++ user_chain name ∷ []; declared = s.declared ++ n ∷ [] })
+  rule : {ws : List (List ℕ)} {c : ℕ} {r : Rule} → s.stage ≡ Table → IsRuleLine s.chains ws c r → s.rules < 1000000
+      → IsLine n s ws (record s { chains = with_rule s.chains c r; rules = s.rules + 1 })
   commit : s.stage ≡ Table → IsLine n s (codes "COMMIT" ∷ []) (record s { stage = After })
 
 abbrev pub IsTextLine : ℕ → SaidSoFar → List ℕ → SaidSoFar → Type 0

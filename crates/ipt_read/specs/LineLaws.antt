@@ -17,8 +17,11 @@ use Rattle.ipt_read.specs.declared.option.Given.{Given}
 use Rattle.ipt_read.specs.declared.option.Place.TheVariants.{AtOption}
 use Rattle.ipt_read.specs.declared.stage.Stage.{Stage}
 use Rattle.ipt_read.specs.declared.stage.Stage.TheVariants.{Front, Table, After}
-use Rattle.ipt_read.specs.RuleLine.{word_by_word, nothing_given, rule_of, rule_in, append_of, rule_line_of, is_count, is_packets_part}
-use Rattle.ipt_read.specs.TextLines.{SaidSoFar, line_of, no_words, table_line_of, policy_word, built_in_policy, with_built_in, declare, declare_by, chain_line_of, with_read_rule, commit_line_of, body_line_of, line_at, line_of_words, line_step}
+use Rattle.ipt_read.specs.Counts.{is_count, is_packets_part}
+use Rattle.ipt_read.specs.Options.{nothing_given, rule_of}
+use Rattle.ipt_read.specs.RuleLine.{word_by_word, rule_in, append_of, rule_line_of}
+use Rattle.ipt_read.specs.Said.{SaidSoFar, line_of}
+use Rattle.ipt_read.specs.LineStep.{no_words, table_line_of, policy_word, built_in_policy, with_built_in, declare, declare_by, chain_line_of, with_read_rule, commit_line_of, body_line_of, line_at, line_of_words, line_step}
 use Rattle.ipt_read.specs.Grammar.{ArePieces, IsFront, IsRuleLine, IsChainLine, IsLine, table, built_in, user, rule, commit, IsTextLine}
 use Rattle.ipt_read.specs.PieceLaws.{goes_parts, pieces_of_read, read_of_pieces}
 

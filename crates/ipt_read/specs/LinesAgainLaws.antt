@@ -16,8 +16,8 @@ use Rattle.ipt_rules.specs.ChainTable.{rule_count}
 use Rattle.ipt_rules.specs.Name.{is_user_name}
 use Rattle.ipt_rules.specs.Text.{newline, policy_text, chain_line, rule_line, rule_lines, commit_line}
 use Rattle.ipt_read.specs.declared.stage.Stage.TheVariants.{Table, After}
-use Rattle.ipt_read.specs.RuleLine.{is_count}
-use Rattle.ipt_read.specs.TextLines.{SaidSoFar}
+use Rattle.ipt_read.specs.Counts.{is_count}
+use Rattle.ipt_read.specs.Said.{SaidSoFar}
 use Rattle.ipt_read.specs.Grammar.{IsLine, user, rule, commit, IsTextLine}
 use Rattle.ipt_read.specs.WrittenWords.{rule_words}
 use Rattle.ipt_read.specs.FineRulesLaws.{AddressFits}

@@ -1,4 +1,5 @@
--- The options of a rule line, as a table: how each is written, where it may stand, and what its value says.
+-- The options of a rule line, as a table: how each is written, where it may stand, and what its value says (iptables(8),
+-- iptables-extensions(8)).
 use Rattle.std.specs.Prelude.{ℕ, Bool, true, false, ◌&&◌, ◌==◌, nat_lt, if◌then◌else◌, List, [], ◌∷◌, Option, Some, None, is_some, is_none, codes, bytes_eq}
 use Rattle.std.specs.Option.{option_map}
 use Rattle.std.specs.List.{list_all, list_any, slice_split}
@@ -6,6 +7,7 @@ use Rattle.host_net.specs.Prefix.{prefix_of}
 use Rattle.host_net.specs.declared.prefix.Prefix.{Prefix}
 use Rattle.ipt_rules.specs.declared.rule.AddrMatch.{AddrMatch}
 use Rattle.ipt_rules.specs.declared.rule.StateMatch.{StateMatch}
+use Rattle.ipt_rules.specs.declared.rule.Rule.{Rule}
 use Rattle.ipt_rules.specs.declared.rule.Target.{Target}
 use Rattle.ipt_rules.specs.declared.rule.Target.TheVariants.{Accept, Drop, Reject, Return, Count, Jump as JumpsTo}
 use Rattle.ipt_rules.specs.Chain.{Chain, number_of}
@@ -25,7 +27,9 @@ first_named word (entry ∷ others) = if bytes_eq word entry.0 then Some entry.1
 
 unfoldable pub option_of : List ℕ → Option Opt
 option_of word =
-    first_named word ((codes "-s", Source) ∷ (codes "-d", Destination) ∷ (codes "-i", Interface) ∷ (codes "-o", Interface) ∷ (codes "-m", Module) ∷ (codes "--ctstate", CtState) ∷ (codes "--state", State) ∷ (codes "--comment", Comment) ∷ (codes "-j", Jump) ∷ (codes "--reject-with", RejectWith) ∷ (codes "--log-prefix", LogPrefix) ∷ (codes "--log-level", LogLevel) ∷ [])
+    first_named word ((codes "-s", Source) ∷ (codes "-d", Destination) ∷ (codes "-i", Interface) ∷ (codes "-o", Interface) ∷
+    (codes "-m", Module) ∷ (codes "--ctstate", CtState) ∷ (codes "--state", State) ∷ (codes "--comment", Comment) ∷ (codes "-j", Jump) ∷
+    (codes "--reject-with", RejectWith) ∷ (codes "--log-prefix", LogPrefix) ∷ (codes "--log-level", LogLevel) ∷ [])
 
 -- 2. Where it may stand: a match in front of the target and after its module, an option of a target after that target.
 
@@ -69,7 +73,8 @@ abbrev pub closes : List ℕ → Option Place
 closes [] = Some AtOption
 closes (b ∷ bs) = None
 
--- a text that a `"` (34) opened: a backslash (92) takes the next byte as it is, and the first `"` that no backslash takes closes it; where none does in this word the text goes on in the next
+-- a text that a `"` (34) opened: a backslash (92) takes the next byte as it is, and the first `"` that no
+-- backslash takes closes it; where none does in this word the text goes on in the next
 abbrev pub quoted : Bool → List ℕ → Option Place
 quoted taken [] = Some InText
 quoted taken (b ∷ bs) =
@@ -83,7 +88,8 @@ text_of (b ∷ bs) = if b == 34 then quoted false bs else Some AtOption
 -- the states of connections that a list may name
 unfoldable pub is_state : List ℕ → Bool
 is_state word =
-    list_any (bytes_eq word) (codes "NEW" ∷ codes "ESTABLISHED" ∷ codes "RELATED" ∷ codes "INVALID" ∷ codes "UNTRACKED" ∷ codes "SNAT" ∷ codes "DNAT" ∷ [])
+    list_any (bytes_eq word) (codes "NEW" ∷ codes "ESTABLISHED" ∷ codes "RELATED" ∷ codes "INVALID" ∷ codes "UNTRACKED" ∷
+    codes "SNAT" ∷ codes "DNAT" ∷ [])
 
 -- the texts between commas (44)
 abbrev pub listed : List ℕ → List (List ℕ)
@@ -92,7 +98,9 @@ listed word = slice_split (λ b. b == 44) word
 -- whether NEW and whether ESTABLISHED is in a list of states
 unfoldable pub states_of : List ℕ → Option (Bool × Bool)
 states_of word =
-    if list_all is_state (listed word) then Some (list_any (λ w. bytes_eq w (codes "NEW")) (listed word), list_any (λ w. bytes_eq w (codes "ESTABLISHED")) (listed word)) else None
+    if list_all is_state (listed word)
+    then Some (list_any (λ w. bytes_eq w (codes "NEW")) (listed word), list_any (λ w. bytes_eq w (codes "ESTABLISHED")) (listed word))
+    else None
 
 -- a jump to a user chain that was declared
 abbrev pub jump_to : Option ℕ → Option Target
@@ -102,12 +110,20 @@ jump_to (Some c) = if nat_lt c 3 then None else Some (JumpsTo c)
 -- a target, and whether it is LOG, which only counts
 unfoldable pub target_of : List Chain → List ℕ → Option (Target × Bool)
 target_of chains word =
-    if bytes_eq word (codes "ACCEPT") then Some (Accept, false) else if bytes_eq word (codes "DROP") then Some (Drop, false) else if bytes_eq word (codes "REJECT") then Some (Reject, false) else if bytes_eq word (codes "RETURN") then Some (Return, false) else if bytes_eq word (codes "LOG") then Some (Count, true) else option_map (λ t. (t, false)) (jump_to (number_of chains word))
+    if bytes_eq word (codes "ACCEPT") then Some (Accept, false)
+    else if bytes_eq word (codes "DROP") then Some (Drop, false)
+    else if bytes_eq word (codes "REJECT") then Some (Reject, false)
+    else if bytes_eq word (codes "RETURN") then Some (Return, false)
+    else if bytes_eq word (codes "LOG") then Some (Count, true)
+    else option_map (λ t. (t, false)) (jump_to (number_of chains word))
 
 -- the modules: `conntrack`, `state`, `comment`
 unfoldable pub with_module : Given → List ℕ → Option Given
 with_module given word =
-    if bytes_eq word (codes "conntrack") then Some (record given { conntrack = true }) else if bytes_eq word (codes "state") then Some (record given { states = true }) else if bytes_eq word (codes "comment") then Some (record given { comments = true }) else None
+    if bytes_eq word (codes "conntrack") then Some (record given { conntrack = true })
+    else if bytes_eq word (codes "state") then Some (record given { states = true })
+    else if bytes_eq word (codes "comment") then Some (record given { comments = true })
+    else None
 
 abbrev pub address_match : Bool → Prefix → AddrMatch
 address_match negated p = record { prefix = p; negated = negated }
@@ -142,3 +158,17 @@ abbrev pub value_refusal : Opt → IptWhy
 value_refusal Module = UnknownOption
 value_refusal Jump = UnknownTarget
 value_refusal _ = BadValue
+
+-- 4. What rule all of them make.
+
+abbrev pub nothing_given : Given
+nothing_given =
+    record { src = None; dst = None; state = None; target = None; logs = false; conntrack = false; states = false; comments = false }
+
+-- a rule without a target only counts
+abbrev pub target_by : Option Target → Target
+target_by None = Count
+target_by (Some t) = t
+
+abbrev pub rule_of : Given → Rule
+rule_of given = record { src = given.src; dst = given.dst; state = given.state; target = target_by given.target }

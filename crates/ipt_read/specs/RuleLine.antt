@@ -1,12 +1,8 @@
 -- A rule line, word by word: what each word gives, or why it cannot stand there. The first such word refuses the line.
-use Rattle.std.specs.Prelude.{ℕ, Bool, true, false, ◌&&◌, ◌||◌, not, ◌==◌, nat_le, if◌then◌else◌, List, [], ◌∷◌, Option, Some, None, Result, Ok, Err, is_some, length, codes, bytes_eq}
+-- `Grammar` says without steps which rule a line writes; here only the order of reasons is told.
+use Rattle.std.specs.Prelude.{ℕ, Bool, true, false, ◌&&◌, ◌||◌, not, if◌then◌else◌, List, [], ◌∷◌, Option, Some, None, Result, Ok, Err, is_some, codes, bytes_eq}
 use Rattle.std.specs.Option.{option_map, ok_or}
-use Rattle.std.specs.Char.{is_ascii_digit}
-use Rattle.std.specs.List.{list_all}
 use Rattle.text_core.specs.Lines.{begins_with}
-use Rattle.text_core.specs.Pieces.{split_once}
-use Rattle.ipt_rules.specs.declared.rule.Target.{Target}
-use Rattle.ipt_rules.specs.declared.rule.Target.TheVariants.{Count}
 use Rattle.ipt_rules.specs.declared.rule.Rule.{Rule}
 use Rattle.ipt_rules.specs.Chain.{Chain, number_of}
 use Rattle.ipt_read.specs.declared.fault.IptWhy.{IptWhy}
@@ -15,13 +11,17 @@ use Rattle.ipt_read.specs.declared.option.Opt.{Opt}
 use Rattle.ipt_read.specs.declared.option.Given.{Given}
 use Rattle.ipt_read.specs.declared.option.Place.{Place}
 use Rattle.ipt_read.specs.declared.option.Place.TheVariants.{AtOption, AfterBang, AtValue, InText}
-use Rattle.ipt_read.specs.Options.{option_of, may_stand, is_interface, takes_bang, is_given, quoted, with_value, value_refusal}
+use Rattle.ipt_read.specs.Counts.{is_count}
+use Rattle.ipt_read.specs.Options.{option_of, may_stand, is_interface, takes_bang, is_given, quoted, with_value, value_refusal, nothing_given, rule_of}
 
 -- a word in the place of an option, with `!` before it or not
 abbrev pub at_option : Given → Bool → Option Opt → Result (Given × Place) IptWhy
 at_option given negated None = Err UnknownOption
 at_option given negated (Some o) =
-    if not (may_stand given o) then Err UnknownOption else if is_interface o then Err AnInterface else if (negated && not (takes_bang o)) || is_given given o then Err BadLine else Ok (given, AtValue o negated)
+    if not (may_stand given o) then Err UnknownOption
+    else if is_interface o then Err AnInterface
+    else if (negated && not (takes_bang o)) || is_given given o then Err BadLine
+    else Ok (given, AtValue o negated)
 
 -- `!` may stand in front of the target
 unfoldable pub is_bang : Given → List ℕ → Bool
@@ -42,6 +42,7 @@ at_end given AfterBang = Err BadLine
 at_end given (AtValue o negated) = Err BadValue
 at_end given InText = Err BadValue
 
+-- a step, and what follows where it gave something
 abbrev pub goes_on : {A B : Type 0} → Result A IptWhy → (A → Result B IptWhy) → Result B IptWhy
 goes_on (Ok x) f = f x
 goes_on (Err why) f = Err why
@@ -50,38 +51,6 @@ goes_on (Err why) f = Err why
 abbrev pub word_by_word : List Chain → Given → Place → List (List ℕ) → Result Given IptWhy
 word_by_word chains given place [] = at_end given place
 word_by_word chains given place (w ∷ ws) = goes_on (word_step chains given place w) (λ t. word_by_word chains t.0 t.1 ws)
-
-abbrev pub nothing_given : Given
-nothing_given =
-    record { src = None; dst = None; state = None; target = None; logs = false; conntrack = false; states = false; comments = false }
-
--- a rule without a target only counts
-abbrev pub target_by : Option Target → Target
-target_by None = Count
-target_by (Some t) = t
-
-abbrev pub rule_of : Given → Rule
-rule_of given = record { src = given.src; dst = given.dst; state = given.state; target = target_by given.target }
-
--- a count of packets and bytes, `[packets:bytes]`, each 1 to 20 digits
-abbrev pub is_figure : List ℕ → Bool
-is_figure bs = list_all is_ascii_digit bs && (nat_le 1 (length bs) && nat_le (length bs) 20)
-
-abbrev pub is_nothing : List ℕ → Bool
-is_nothing [] = true
-is_nothing (b ∷ bs) = false
-
-abbrev pub is_bytes_part : Option (List ℕ × List ℕ) → Bool
-is_bytes_part None = false
-is_bytes_part (Some parts) = is_figure parts.0 && is_nothing parts.1
-
-abbrev pub is_packets_part : Option (List ℕ × List ℕ) → Bool
-is_packets_part None = false
-is_packets_part (Some parts) = is_figure parts.0 && is_bytes_part (split_once 93 parts.1)
-
-unfoldable pub is_count : List ℕ → Bool
-is_count [] = false
-is_count (b ∷ bs) = (b == 91) && is_packets_part (split_once 58 bs)
 
 -- the chain of that number, and the rule of the options that are left
 abbrev pub rule_in : List Chain → Option ℕ → List (List ℕ) → Result (ℕ × Rule) IptWhy

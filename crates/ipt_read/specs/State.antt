@@ -7,7 +7,7 @@ use Rattle.ipt_read.specs.declared.fault.IptWhy.TheVariants.{Loop}
 use Rattle.ipt_read.specs.declared.fault.IptFault.{IptFault}
 use Rattle.ipt_read.specs.declared.fault.IptFault.TheVariants.{Refused, Memory}
 use Rattle.ipt_read.specs.declared.reader.Reader.{Reader}
-use Rattle.ipt_read.specs.TextLines.{SaidSoFar, line_of}
+use Rattle.ipt_read.specs.Said.{SaidSoFar, line_of}
 use Rattle.ipt_read.specs.Goes.{EachGoes}
 
 abbrev pub said_of : Reader → SaidSoFar

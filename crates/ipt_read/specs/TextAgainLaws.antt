@@ -16,7 +16,7 @@ use Rattle.ipt_rules.specs.ChainTable.{IsTable, rule_count}
 use Rattle.ipt_rules.specs.Name.{is_user_name}
 use Rattle.ipt_rules.specs.Text.{newline, policy_text, chain_line, rule_lines, table_line, commit_line, text}
 use Rattle.ipt_read.specs.declared.stage.Stage.TheVariants.{Table, After}
-use Rattle.ipt_read.specs.TextLines.{SaidSoFar, nothing_said}
+use Rattle.ipt_read.specs.Said.{SaidSoFar, nothing_said}
 use Rattle.ipt_read.specs.Grammar.{IsLine, table, built_in, IsChainLine, IsTextLine}
 use Rattle.ipt_read.specs.Goes.{Goes}
 use Rattle.ipt_read.specs.FineRulesLaws.{RulesAreFine, ChainsAreFine, HasFineRules}

@@ -10,7 +10,7 @@ use Rattle.text_core.specs.PiecesLaws.{lacks, split_once-append, split_once_join
 use Rattle.text_core.specs.StepsLaws.{if_parts}
 use Rattle.ipt_read.specs.declared.option.Place.TheVariants.{AtOption}
 use Rattle.ipt_read.specs.Options.{closes, quoted}
-use Rattle.ipt_read.specs.RuleLine.{is_figure, is_nothing, is_bytes_part, is_packets_part, is_count}
+use Rattle.ipt_read.specs.Counts.{is_figure, is_nothing, is_bytes_part, is_packets_part, is_count}
 use Rattle.ipt_read.specs.Values.{IsCount, IsInside, nothing, taken, plain, EndsText}
 
 -- 1. Counts.
@@ -31,13 +31,15 @@ nothing_left : (bs : List ℕ) → is_nothing bs ≡ true → bs ≡ []
 nothing_left [] h = refl
 nothing_left (b ∷ bs) h = cc
 
-bytes_said : (rest : List ℕ) (o : Option (List ℕ × List ℕ)) → split_once 93 rest ≡ o → is_bytes_part o ≡ true → (bytes : List ℕ) × IsTrue (is_figure bytes) × (rest ≡ bytes ++ (93 ∷ []))
+bytes_said : (rest : List ℕ) (o : Option (List ℕ × List ℕ)) → split_once 93 rest ≡ o → is_bytes_part o ≡ true
+    → (bytes : List ℕ) × IsTrue (is_figure bytes) × (rest ≡ bytes ++ (93 ∷ []))
 bytes_said rest None cut h = cc
 bytes_said rest (Some (bytes, left)) cut h =
     let parts = and_parts (is_figure bytes) (is_nothing left) h in
     (bytes, parts.0, split_once_joined 93 rest bytes left cut ∙ ap (λ (v : List ℕ). bytes ++ (93 ∷ v)) (nothing_left left parts.1))
 
-packets_said : (b : ℕ) (bs : List ℕ) (o : Option (List ℕ × List ℕ)) → b ≡ 91 → split_once 58 bs ≡ o → is_packets_part o ≡ true → IsCount (b ∷ bs)
+packets_said : (b : ℕ) (bs : List ℕ) (o : Option (List ℕ × List ℕ)) → b ≡ 91 → split_once 58 bs ≡ o → is_packets_part o ≡ true
+    → IsCount (b ∷ bs)
 packets_said b bs None first cut h = cc
 packets_said b bs (Some (packets, rest)) first cut h =
     let parts = and_parts (is_figure packets) (is_bytes_part (split_once 93 rest)) h in
@@ -77,7 +79,8 @@ mark_is b mark h = grind (arith, nat_tests)
 mark_is_not : (b mark : ℕ) → (b == mark) ≡ false → b ≢ mark
 mark_is_not b mark h = λ same. let other : (b == mark) ≡ true = grind (arith, nat_tests) in cc
 
-ends_more : (front word : List ℕ) → ((inside : List ℕ) → IsInside inside → IsInside (front ++ inside)) → ((inside : List ℕ) → front ++ (inside ++ (34 ∷ [])) ≡ (front ++ inside) ++ (34 ∷ [])) → EndsText word → EndsText (front ++ word)
+ends_more : (front word : List ℕ) → ((inside : List ℕ) → IsInside inside → IsInside (front ++ inside))
+    → ((inside : List ℕ) → front ++ (inside ++ (34 ∷ [])) ≡ (front ++ inside) ++ (34 ∷ [])) → EndsText word → EndsText (front ++ word)
 ends_more front word more joined ends =
     record { inside = front ++ ends.inside; is_inside = more ends.inside ends.is_inside; written = ap (λ (v : List ℕ). front ++ v) ends.written ∙ joined ends.inside }
 

@@ -2,7 +2,7 @@
 use Rattle.std.specs.Prelude.{◌≡◌, ◌≢◌, ℕ, Bool, IsTrue, List, [], ◌∷◌, ◌++◌, codes, bytes_eq}
 use Rattle.std.specs.List.{list_all, list_any}
 use Rattle.ipt_read.specs.Options.{is_state}
-use Rattle.ipt_read.specs.RuleLine.{is_figure}
+use Rattle.ipt_read.specs.Counts.{is_figure}
 
 -- a count: `[` (91), packets, `:` (58), bytes, `]` (93); each number has 1 to 20 digits
 pub record IsCount (word : List ℕ) : Type 0 where

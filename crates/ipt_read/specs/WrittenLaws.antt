@@ -18,8 +18,7 @@ use Rattle.ipt_read.specs.FineRulesLaws.{AddressFits}
 use Rattle.ipt_read.specs.declared.option.Given.{Given}
 use Rattle.ipt_read.specs.declared.option.Opt.TheVariants.{Source, Destination, Module, CtState, Jump as JumpOption}
 use Rattle.ipt_read.specs.declared.option.Place.TheVariants.{AtOption}
-use Rattle.ipt_read.specs.Options.{option_of, with_value, with_module, states_of, is_state, target_of}
-use Rattle.ipt_read.specs.RuleLine.{nothing_given, target_by}
+use Rattle.ipt_read.specs.Options.{option_of, with_value, with_module, states_of, is_state, target_of, nothing_given, target_by}
 use Rattle.ipt_read.specs.Grammar.{plain, turned, ArePieces, none_left, one_more, one_word, IsRuleLine}
 use Rattle.ipt_read.specs.WrittenWords.{bang_words, address_words, state_words, target_words, rule_pieces, rule_words}
 

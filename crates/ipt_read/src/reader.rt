@@ -6,7 +6,8 @@ ghost use Rattle.text_core.specs.Lines.{words};
 ghost use Rattle.text_core.specs.Reading.{past_comment};
 ghost use Rattle.ipt_rules.specs.Chain.{number_of, user_chain};
 ghost use Rattle.ipt_rules.specs.ChainTable.{rule_count};
-ghost use Rattle.ipt_read.specs.TextLines.{table_line_of, policy_word, built_in_policy, with_built_in, declare, declare_by, chain_line_of, with_read_rule, commit_line_of, body_line_of, line_at, line_of_words, line_step, nothing_said, line_of};
+ghost use Rattle.ipt_read.specs.Said.{nothing_said, line_of};
+ghost use Rattle.ipt_read.specs.LineStep.{table_line_of, policy_word, built_in_policy, with_built_in, declare, declare_by, chain_line_of, with_read_rule, commit_line_of, body_line_of, line_at, line_of_words, line_step};
 ghost use Rattle.ipt_read.specs.RuleLine.{rule_line_of};
 ghost use Rattle.ipt_read.specs.State.{said_of, AnswersTo, IsFine};
 
@@ -123,7 +124,8 @@ fn with_user_chain(
 fn add_chain(mut state: Reader, n: u32, name: ChainName) -> Result<Reader, AllocError>
     requires unused { number_of state.chains name ≡ None }
     requires few { length state.chains < 4096 }
-    ensures { IfOk result (λ t. said_of t ≡ record (said_of state) { chains = state.chains ++ user_chain name ∷ []; declared = state.declared.items ++ n ∷ [] }) }
+    ensures { IfOk result (λ t. said_of t ≡
+        record (said_of state) { chains = state.chains ++ user_chain name ∷ []; declared = state.declared.items ++ n ∷ [] }) }
 {
     state.declared.push(n)?;
     state.chains.add(name)?;
@@ -157,7 +159,7 @@ fn declare(state: Reader, n: u32, name: &[u8], policy: &[u8]) -> Result<Reader, 
     }
 }
 
-#[tactic(auto, unfolding(crate::specs::TextLines::chain_line_of))]
+#[tactic(auto, unfolding(crate::specs::LineStep::chain_line_of))]
 fn chain_line(state: Reader, n: u32, word: &[u8], rest: Words) -> Result<Reader, IptFault>
     requires fine { IsFine (said_of state) }
     requires word { 0 < length word.now }
@@ -196,7 +198,7 @@ fn commit_line(mut state: Reader, n: u32, word: &[u8], mut rest: Words) -> Resul
     Ok(state)
 }
 
-#[tactic(auto, unfolding(crate::specs::TextLines::body_line_of))]
+#[tactic(auto, unfolding(crate::specs::LineStep::body_line_of))]
 fn body_line(
     state: Reader,
     n: u32,
@@ -217,7 +219,7 @@ fn body_line(
     commit_line(state, n, word, rest)
 }
 
-#[tactic(auto, unfolding(crate::specs::TextLines::line_of_words))]
+#[tactic(auto, unfolding(crate::specs::LineStep::line_of_words))]
 fn words_line(state: Reader, n: u32, line: &[u8]) -> Result<Reader, IptFault>
     requires { IsFine (said_of state) }
     ensures { AnswersTo n (line_step n (said_of state) line.now) result }

@@ -1,16 +1,17 @@
 //! Reading a text of iptables-save as a rule set.
 
 ghost use Rattle.std.specs.Prelude.{◌≡◌, ◌≤◌, ◌^◌, ◌+◌, ℕ, List, Ok, Err, IfOk, IfErr, MatchResult, length};
-ghost use Rattle.text_core.specs.Lines.{lines};
-ghost use Rattle.text_core.specs.Reading.{line_by_line};
 ghost use Rattle.ipt_rules.specs.Chain.{Chain};
 ghost use Rattle.ipt_rules.specs.Loops.{HasNoLoop};
+ghost use Rattle.ipt_rules.specs.OneOutcome.{EachGivesOne};
 ghost use Rattle.ipt_rules.specs.Text.{text};
 ghost use Rattle.ipt_rules.specs.Writable.{IsWritable};
 ghost use Rattle.ipt_read.specs.declared.fault.IptWhy.{IptWhy};
 ghost use Rattle.ipt_read.specs.Grammar.{IsReading};
 ghost use Rattle.ipt_read.specs.State.{said_of, IsFine, Tells, Loops};
-ghost use Rattle.ipt_read.specs.TextLines.{HasFault, line_step, nothing_said, text_said, line_of, ended, at_text_end};
+ghost use Rattle.ipt_read.specs.Said.{line_of};
+ghost use Rattle.ipt_read.specs.TextLines.{HasFault};
+ghost use Rattle.ipt_read.specs.TextSteps.{text_said, lines_said, at_text_end};
 ghost use Rattle.ipt_read.specs.ReadAnswers.{HasCause, IsFault};
 
 use crate::fault::{IptFault, IptWhy};
@@ -36,6 +37,8 @@ pub fn read(alloc: Global, bytes: &[u8]) -> Result<Ruleset, IptFault>
     // What is written of a rule set is read again.
     ensures again { (chains : List Chain) → IsWritable chains → bytes.now ≡ text chains → length bytes.now ≤ 67108864 →
         MatchResult result (λ rules. rules ≡ chains) (λ fault. fault ≡ IptFault.Memory) }
+    // The rule set that is read is one in which each chain gives every packet one outcome.
+    ensures one_outcome { IfOk result EachGivesOne }
 {
     match read_text(alloc, bytes) {
         Ok(state) => build(alloc, state),
@@ -47,6 +50,7 @@ fn build(alloc: Global, state: Reader) -> Result<Ruleset, IptFault>
     requires { IsFine (said_of state) }
     ensures ok { IfOk result (λ rules. (rules ≡ state.chains) × HasNoLoop rules) }
     ensures err { IfErr result (Loops (said_of state)) }
+    ensures one_outcome { IfOk result EachGivesOne }
 {
     let declared = state.declared;
     match Ruleset::build(alloc, state.chains) {
@@ -87,8 +91,8 @@ fn read_text(alloc: Global, bytes: &[u8]) -> Result<Reader, IptFault>
 
 fn read_lines(alloc: Global, bytes: &[u8]) -> Result<Reader, IptFault>
     requires { length bytes.now ≤ 67108864 }
-    ensures ok { IfOk result (λ t. ended (length (lines bytes.now) + 1) (line_by_line line_step 1 nothing_said (lines bytes.now)) ≡ Ok (said_of t)) }
-    ensures err { IfErr result (Tells (ended (length (lines bytes.now) + 1) (line_by_line line_step 1 nothing_said (lines bytes.now)))) }
+    ensures ok { IfOk result (λ t. lines_said bytes.now ≡ Ok (said_of t)) }
+    ensures err { IfErr result (Tells (lines_said bytes.now)) }
     ensures fine { IfOk result (λ t. IsFine (said_of t)) }
 {
     let mut lines = Lines::new(bytes);

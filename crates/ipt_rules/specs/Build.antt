@@ -32,7 +32,9 @@ first_unknown count c (x ∷ xs) =
 -- why the chains are no rule set: too many chains, else too many rules, else a jump to nowhere
 unfoldable pub refusal_of : List Chain → Option BuildRefusal
 refusal_of chains =
-    if nat_lt 4096 (length chains) then Some (TooMany (length chains)) else if nat_lt 1000000 (rule_count chains) then Some (TooMany (rule_count chains)) else first_unknown (length chains) 0 chains
+    if nat_lt 4096 (length chains) then Some (TooMany (length chains))
+    else if nat_lt 1000000 (rule_count chains) then Some (TooMany (rule_count chains))
+    else first_unknown (length chains) 0 chains
 
 -- what chains are refused for: as above; else that jumps lead back to a chain, the least such; or that there is no memory
 pub data RefusedFor (chains : List Chain) : BuildRefusal → Type 0 where

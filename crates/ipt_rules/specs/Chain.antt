@@ -15,7 +15,9 @@ pub record Chain : Type 0 where
 -- the three built-in chains of a table without rules
 abbrev pub built_in_chains : List Chain
 built_in_chains =
-    record { name = codes "INPUT"; policy = Some Accept; rules = [] } ∷ record { name = codes "FORWARD"; policy = Some Accept; rules = [] } ∷ record { name = codes "OUTPUT"; policy = Some Accept; rules = [] } ∷ []
+    record { name = codes "INPUT"; policy = Some Accept; rules = [] } ∷
+    record { name = codes "FORWARD"; policy = Some Accept; rules = [] } ∷
+    record { name = codes "OUTPUT"; policy = Some Accept; rules = [] } ∷ []
 
 -- a user chain without rules
 abbrev pub user_chain : List ℕ → Chain

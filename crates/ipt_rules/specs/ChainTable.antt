@@ -22,7 +22,8 @@ abbrev pub rule_count : List Chain → ℕ
 rule_count [] = 0
 rule_count (x ∷ xs) = length x.rules + rule_count xs
 
--- the chains of a table: the built-in ones first, each with a policy, then user chains, each with a legal name and no policy; and each chain is the one that is found by its name, so that no two have the same
+-- the chains of a table: the built-in ones first, each with a policy, then user chains, each with a legal name
+-- and no policy; and each chain is the one that is found by its name, so that no two have the same
 pub record IsTable (chains : List Chain) : Type 0 where
   pub input : name_of chains 0 ≡ codes "INPUT"
   pub forward : name_of chains 1 ≡ codes "FORWARD"

@@ -1,4 +1,5 @@
--- What holds of a rule set at all times: its jumps go to chains that are there, it keeps where the rules of each chain begin, and it has an order of its chains. Callers see none of it; they have what `build` ensures.
+-- What holds of a rule set at all times: its jumps go to chains that are there, it keeps where the rules of
+-- each chain begin, and it has an order of its chains. Callers see none of it; they have what `build` ensures.
 use Rattle.std.specs.Prelude.{◌≡◌, ℕ, ◌<◌, ◌≤◌, not, IsNone, IsTrue, List, Option, length}
 use Rattle.std.specs.List.{list_all}
 use Rattle.ipt_rules.specs.declared.rule.Target.{Target}

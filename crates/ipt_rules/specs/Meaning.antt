@@ -13,7 +13,8 @@ use Rattle.host_net.specs.declared.packet.Verdict.TheVariants.{Forward as Forwar
 use Rattle.ipt_rules.specs.Matching.{matches}
 use Rattle.ipt_rules.specs.Chain.{Chain, rules_of, policy_of}
 
--- what one rule does with a packet: it goes on to the next rule, ends its chain with an outcome, or walks another chain. The outcome of a chain is a verdict, or None where it returns
+-- what one rule does with a packet: it goes on to the next rule, ends its chain with an outcome, or walks another chain.
+-- The outcome of a chain is a verdict, or None where it returns
 pub data RuleStep : Type 0 where
   GoesOn : RuleStep
   Ends : Option Verdict → RuleStep
@@ -33,10 +34,13 @@ step_of true (Jump c) = Walks c
 -- decides by its verdict, and where it returns the walk goes on after the jump
 pub data Gives (fits : Rule → Bool) (chains : List Chain) : List Rule → Option Verdict → Type 0 where
   at_end : Gives fits chains [] None
-  goes_on : {r : Rule} {rs : List Rule} {o : Option Verdict} → step_of (fits r) r.target ≡ GoesOn → Gives fits chains rs o → Gives fits chains (r ∷ rs) o
+  goes_on : {r : Rule} {rs : List Rule} {o : Option Verdict} → step_of (fits r) r.target ≡ GoesOn
+      → Gives fits chains rs o → Gives fits chains (r ∷ rs) o
   ends : {r : Rule} {rs : List Rule} {o : Option Verdict} → step_of (fits r) r.target ≡ Ends o → Gives fits chains (r ∷ rs) o
-  decides : {r : Rule} {rs : List Rule} {v : Verdict} {c : ℕ} → step_of (fits r) r.target ≡ Walks c → Gives fits chains (rules_of chains c) (Some v) → Gives fits chains (r ∷ rs) (Some v)
-  comes_back : {r : Rule} {rs : List Rule} {o : Option Verdict} {c : ℕ} → step_of (fits r) r.target ≡ Walks c → Gives fits chains (rules_of chains c) None → Gives fits chains rs o → Gives fits chains (r ∷ rs) o
+  decides : {r : Rule} {rs : List Rule} {v : Verdict} {c : ℕ} → step_of (fits r) r.target ≡ Walks c
+      → Gives fits chains (rules_of chains c) (Some v) → Gives fits chains (r ∷ rs) (Some v)
+  comes_back : {r : Rule} {rs : List Rule} {o : Option Verdict} {c : ℕ} → step_of (fits r) r.target ≡ Walks c
+      → Gives fits chains (rules_of chains c) None → Gives fits chains rs o → Gives fits chains (r ∷ rs) o
 
 -- what a policy does with a packet
 abbrev pub policy_verdict : Option Policy → Verdict

@@ -5,7 +5,8 @@ use Rattle.std.specs.List.{list_all, list_any}
 -- the built-in chains, and the words that stand for a target
 unfoldable pub is_reserved : List ℕ → Bool
 is_reserved name =
-    list_any (bytes_eq name) (codes "INPUT" ∷ codes "FORWARD" ∷ codes "OUTPUT" ∷ codes "ACCEPT" ∷ codes "DROP" ∷ codes "REJECT" ∷ codes "RETURN" ∷ codes "LOG" ∷ codes "QUEUE" ∷ [])
+    list_any (bytes_eq name) (codes "INPUT" ∷ codes "FORWARD" ∷ codes "OUTPUT" ∷ codes "ACCEPT" ∷ codes "DROP" ∷
+    codes "REJECT" ∷ codes "RETURN" ∷ codes "LOG" ∷ codes "QUEUE" ∷ [])
 
 -- a printing byte that is no blank
 abbrev pub is_printing : ℕ → Bool

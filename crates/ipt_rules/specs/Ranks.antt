@@ -1,4 +1,5 @@
--- The order in which the chains of a rule set are gone through: each jump goes back in it. Callers see none of it; they have what `build` ensures.
+-- The order in which the chains of a rule set are gone through: each jump goes back in it. Callers see none of
+-- it; they have what `build` ensures.
 use Rattle.std.specs.Prelude.{◌≡◌, ℕ, ◌+◌, ◌<◌, ◌≤◌, List, [], Bool, true, Option, Some, None, length, slice_get, Contains, is_none, count_by, map, not, ◌⊎◌}
 use Rattle.host_net.specs.declared.packet.Verdict.{Verdict}
 use Rattle.ipt_rules.specs.Chain.{Chain}
@@ -30,7 +31,8 @@ pub record IsBefore (places : List (Option ℕ)) (c i : ℕ) : Type 0 where
   pub placed : place_of places c ≡ Some place
   pub before : place < i
 
--- each chain of the order is there, each place is a place of the order that has its chain, and each jump of a chain of the order goes to a chain before it
+-- each chain of the order is there, each place is a place of the order that has its chain, and each jump of a chain
+-- of the order goes to a chain before it
 pub record IsOrder (next : ℕ → List ℕ) (count : ℕ) (order : List ℕ) (places : List (Option ℕ)) : Type 0 where
   pub inside : (i c : ℕ) → slice_get order i ≡ Some c → c < count
   pub there : (c i : ℕ) → place_of places c ≡ Some i → slice_get order i ≡ Some c
@@ -58,7 +60,8 @@ outcome_by outcomes (Some place) = outcome_in (slice_get outcomes place)
 abbrev pub outcome_at : List (Option ℕ) → List (Option Verdict) → ℕ → Option Verdict
 outcome_at places outcomes c = outcome_by outcomes (place_of places c)
 
--- what holds while an order is put together: it is one, of the first jumps of each row, as many as were looked at, all go to chains that have places, and each chain is in the order once
+-- what holds while an order is put together: it is one, of the first jumps of each row, as many as were looked at, all go
+-- to chains that have places, and each chain is in the order once
 pub record IsPartOrder (table : List (List ℕ)) (order : List ℕ) (places : List (Option ℕ)) (looked : List ℕ) : Type 0 where
   pub ordered : IsOrder (row_of table) (length table) order places
   pub few : length table ≤ 4096
@@ -66,7 +69,8 @@ pub record IsPartOrder (table : List (List ℕ)) (order : List ℕ) (places : Li
   pub all_looked : length looked ≡ length table
   pub counted : length order + count_by is_none places ≡ length table
   pub within : (c k : ℕ) → slice_get looked c ≡ Some k → k ≤ length (row_of table c)
-  pub passed : (c k i d : ℕ) → slice_get looked c ≡ Some k → i < k → slice_get (row_of table c) i ≡ Some d → IsBefore places d (length order)
+  pub passed : (c k i d : ℕ) → slice_get looked c ≡ Some k → i < k → slice_get (row_of table c) i ≡ Some d
+      → IsBefore places d (length order)
 
 -- chain c has no place, and jumps to a chain that has none
 pub record IsStuck (table : List (List ℕ)) (places : List (Option ℕ)) (c : ℕ) : Type 0 where

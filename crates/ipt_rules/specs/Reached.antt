@@ -22,9 +22,11 @@ pub record Marks (fits : Rule → Bool) (rules : List Rule) (places : List (Opti
 -- from the place n on, where a chain is marked so are those that its fitting rules jump to
 abbrev pub IsClosed : (Rule → Bool) → List Chain → List ℕ → List (Option ℕ) → List Bool → ℕ → Type 0
 IsClosed fits chains order places marked n =
-    (k c d j : ℕ) → n ≤ k → slice_get order k ≡ Some c → IsSet marked k → WalksTo fits (rules_of chains c) d → place_of places d ≡ Some j → IsSet marked j
+    (k c d j : ℕ) → n ≤ k → slice_get order k ≡ Some c → IsSet marked k → WalksTo fits (rules_of chains c) d
+    → place_of places d ≡ Some j → IsSet marked j
 
 -- before the place n each marked chain gives the outcome that stands at its place
 abbrev pub IsSettled : (Rule → Bool) → List Chain → List ℕ → List Bool → List (Option Verdict) → ℕ → Type 0
 IsSettled fits chains order marked outcomes n =
-    (k c : ℕ) → k < n → slice_get order k ≡ Some c → IsSet marked k → Gives fits chains (rules_of chains c) (outcome_in (slice_get outcomes k))
+    (k c : ℕ) → k < n → slice_get order k ≡ Some c → IsSet marked k
+    → Gives fits chains (rules_of chains c) (outcome_in (slice_get outcomes k))

@@ -58,7 +58,8 @@ chain_line chain =
 -- the line of a rule of the chain of that name
 unfoldable pub rule_line : List Chain → List ℕ → Rule → List ℕ
 rule_line chains name rule =
-    codes "-A " ++ (name ++ (address_text (codes " -s ") rule.src ++ (address_text (codes " -d ") rule.dst ++ (state_text rule.state ++ (target_text chains rule.target ++ newline)))))
+    codes "-A " ++ (name ++ (address_text (codes " -s ") rule.src ++ (address_text (codes " -d ") rule.dst ++
+    (state_text rule.state ++ (target_text chains rule.target ++ newline)))))
 
 -- the lines of a chain's rules
 abbrev pub rule_lines : List Chain → Chain → List (List ℕ)

@@ -1,68 +1,37 @@
 -- What is written is read: the text of a table has its entries as its reading.
-use Rattle.std.proofs.Common.{◌≡◌, inr, ℕ, ◌+◌, ◌*◌, ◌<◌, ◌≤◌, ◌^◌, true, ◌&&◌, List, [], ◌∷◌, ◌++◌, Option, Some, None, length, map, refl, sym, ap, subst, ◌∙◌, arith, append-nil, append_assoc, length-append}
+use Rattle.std.proofs.Common.{◌≡◌, inr, ℕ, ◌+◌, ◌*◌, ◌<◌, ◌≤◌, ◌^◌, true, ◌&&◌, List, [], ◌∷◌, ◌++◌, length, map, refl, sym, ap, subst, ◌∙◌, arith, append-nil, append_assoc, length-append}
 use Rattle.std.specs.Prelude.{nat_lt, IsTrue}
 use Rattle.std.specs.List.{list_all}
 use Rattle.std.proofs.lemmas.Bool.{and_parts}
 use Rattle.std.proofs.lemmas.Bool.Decides.{nat_tests}
-use Rattle.std.proofs.lemmas.Fmt.{length-decimal-le}
 use Rattle.std.proofs.lemmas.Option.{slice_get_within}
 use Rattle.text_core.specs.Lines.{lines}
 use Rattle.text_core.specs.LinesLaws.{lines_ended}
 use Rattle.text_core.specs.Reading.{Follows}
-use Rattle.host_net.specs.declared.prefix.Prefix.{Prefix}
-use Rattle.host_net.specs.PrefixTextLaws.{prefix_short}
-use Rattle.ofp_rules.specs.declared.entry.FrameKind.{FrameKind}
-use Rattle.ofp_rules.specs.declared.entry.FrameKind.TheVariants.{Any, Arp, Ip}
-use Rattle.ofp_rules.specs.declared.entry.Action.{Action}
-use Rattle.ofp_rules.specs.declared.entry.Action.TheVariants.{Normal, Drop}
 use Rattle.ofp_rules.specs.declared.entry.Entry.{Entry}
 use Rattle.ofp_rules.specs.AddingLaws.{contradicts_none, get_before}
 use Rattle.ofp_rules.specs.Build.{IsAccepted, IsUnambiguous, IsTable}
 use Rattle.ofp_rules.specs.Ambiguity.{most_entries}
+use Rattle.ofp_rules.specs.LineLaws.{entry_line_short}
 use Rattle.ofp_rules.specs.Matching.{asks_of_ip}
-use Rattle.ofp_rules.specs.Text.{action_text, entry_line, kind_text, part_text, text}
+use Rattle.ofp_rules.specs.Ranges.{address_fits, in_range, AreInRange}
+use Rattle.ofp_rules.specs.Text.{text}
 use Rattle.ofp_read.specs.Grammar.{AddsEntry, IsReading}
-use Rattle.ofp_read.specs.Written.{address_fits, in_range, AreInRange}
 use Rattle.ofp_read.specs.WrittenLaws.{bare_line, line_is, bare_writes, bare_lacks, bare_flow}
 
 -- 1. How long it is.
 
-kind_short : (kind : FrameKind) → length (kind_text kind) ≤ 4
-kind_short Any = omega arith
-kind_short Arp = omega arith
-kind_short Ip = omega arith
-
-part_short : (a b c d e f g : ℕ) (part : Option Prefix) → length (part_text (a ∷ b ∷ c ∷ d ∷ e ∷ f ∷ g ∷ []) part) ≤ 26
-part_short a b c d e f g None = omega arith
-part_short a b c d e f g (Some p) = simp length-append (omega (arith, prefix_short p))
-
-action_short : (action : Action) → length (action_text action) ≤ 14
-action_short Normal = omega arith
-action_short Drop = omega arith
-
 below : (n : ℕ) → nat_lt n (2 ^ 16) ≡ true → n < 2 ^ 16
 below n h = grind (arith, nat_tests)
 
-line_short : (e : Entry) → in_range e ≡ true → length (entry_line e) ≤ 86
-unfolding entry_line
-line_short e range =
-    let fits = below e.priority (and_parts (nat_lt e.priority (2 ^ 16)) (address_fits e.src && address_fits e.dst) range).0 in
-    simp length-append
-    (omega (
-      arith,
-      length-decimal-le 5 e.priority (omega arith) (omega arith)
-          (omega arith),
-      kind_short e.kind,
-      part_short 110 119 95 115 114 99 61 e.src,
-      part_short 110 119 95 100 115 116 61 e.dst,
-      action_short e.action,
-    ))
+priority_fits : (e : Entry) → in_range e ≡ true → e.priority < 2 ^ 16
+priority_fits e range = below e.priority (and_parts (nat_lt e.priority (2 ^ 16)) (address_fits e.src && address_fits e.dst) range).0
 
 text_short : (entries : List Entry) → AreInRange entries → length (text entries) ≤ 86 * length entries
 text_short [] range = omega arith
 text_short (e ∷ es) range =
     let parts = and_parts (in_range e) (list_all in_range es) range in
-    simp length-append (omega (arith, line_short e parts.0, text_short es parts.1))
+    simp length-append (omega (arith, entry_line_short e (priority_fits e parts.0), text_short es parts.1))
 
 -- 2. Its lines.
 
@@ -113,11 +82,11 @@ entries_follow n before (e ∷ rest) accepted asks range =
           (entries_follow (n + 1) (before ++ e ∷ []) rest moved ask.1 fit.1),
     )
 
-pub text_read_again : (entries : List Entry) → IsTable entries → AreInRange entries → IsReading (text entries) entries
-text_read_again entries table range =
+pub text_read_again : (entries : List Entry) → IsTable entries → IsReading (text entries) entries
+text_read_again entries table =
     let few = table.accepted.0 in
     record {
-      short = omega (arith, text_short entries range);
-      told = subst (λ (ls : List (List ℕ)). Follows AddsEntry 1 [] ls entries) (sym (lines_of entries range))
-          (entries_follow 1 [] entries table.accepted table.asks range);
+      short = omega (arith, text_short entries table.in_range);
+      told = subst (λ (ls : List (List ℕ)). Follows AddsEntry 1 [] ls entries) (sym (lines_of entries table.in_range))
+          (entries_follow 1 [] entries table.accepted table.asks table.in_range);
     }

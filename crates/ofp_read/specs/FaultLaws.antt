@@ -11,6 +11,7 @@ use Rattle.ofp_read.specs.declared.fault.OfpWhy.{OfpWhy}
 use Rattle.ofp_read.specs.FlowLine.{flow_of}
 use Rattle.ofp_read.specs.Grammar.{Writes, AddsEntry, IsReading}
 use Rattle.ofp_read.specs.LineLaws.{flow_of_written}
+use Rattle.ofp_read.specs.RangeLaws.{written_in_range}
 use Rattle.ofp_read.specs.TextLines.{IsBad, unwritten, too_many, ambiguous, IsFirstBad, HasFault, too_long, at_line}
 
 -- 1. One line.
@@ -168,7 +169,7 @@ table_told [] n s all table told = subst IsTable told table
 table_told (x ∷ xs) n s all table (inl comment) = table_told xs (n + 1) s all table comment.1
 table_told (x ∷ xs) n s all table (inr adds) =
     table_told xs (n + 1) adds.0 all (subst IsTable (sym adds.2.added)
-    (table_more s adds.2.entry table adds.2.few adds.2.clear adds.2.written.asks)) adds.3
+    (table_more s adds.2.entry table adds.2.few adds.2.clear (written_in_range x adds.2.entry adds.2.written) adds.2.written.asks)) adds.3
 
 -- 3. Texts.
 

@@ -1,4 +1,5 @@
--- A flow line, from left to right: the entry that it writes, or the first reason why it writes none.
+-- A flow line, from left to right: the entry that it writes, or the first reason why it writes none (ovs-ofctl(8), "Flow Syntax").
+-- `Grammar` says without steps which entry that is; here only the order of reasons is told.
 use Rattle.std.specs.Prelude.{ℕ, Bool, true, false, ◌&&◌, if◌then◌else◌, List, [], ◌∷◌, Option, Some, None, Result, Ok, Err, codes, bytes_eq, take}
 use Rattle.std.specs.Option.{option_map}
 use Rattle.text_core.specs.Lines.{words}
@@ -14,6 +15,7 @@ use Rattle.ofp_read.specs.declared.given.Given.{Given}
 use Rattle.ofp_read.specs.FieldTable.{named, with_field}
 use Rattle.ofp_read.specs.Grammar.{is_separator, fields}
 
+-- a step, and what follows where it gave something
 abbrev pub goes_on : {A B : Type 0} → Result A OfpWhy → (A → Result B OfpWhy) → Result B OfpWhy
 goes_on (Ok x) f = f x
 goes_on (Err why) f = Err why
@@ -41,10 +43,12 @@ abbrev pub action_of : List (List ℕ) → Option Action
 action_of (word ∷ []) = named word ((codes "actions=NORMAL", Normal) ∷ (codes "actions=normal", Normal) ∷ (codes "actions=drop", Drop) ∷ [])
 action_of _ = None
 
+-- the priority of an entry, 32768 where no field gives one
 abbrev pub priority_of : Option ℕ → ℕ
 priority_of None = 32768
 priority_of (Some n) = n
 
+-- the kind of an entry, any frame where no field gives one
 abbrev pub kind_of : Option FrameKind → FrameKind
 kind_of None = Any
 kind_of (Some kind) = kind

@@ -5,12 +5,12 @@ pub mod FaultLaws
 pub mod FlowLine
 pub mod CutLaws
 pub mod PartLaws
+pub mod RangeLaws
 pub mod ReadAnswers
 pub mod FieldLaws
 pub mod FieldsLaws
 pub mod LineLaws
 pub mod State
 pub mod TextLaws
-pub mod Written
 pub mod WrittenLaws
 pub mod TextLines

@@ -1,4 +1,4 @@
--- What one line does to the entries that were read, and what the lines that are left say of the whole text.
+-- What one line does to the entries that were read, and what the lines that are left say of the whole text. Callers see none of it.
 use Rattle.std.specs.Prelude.{◌≡◌, ◌<◌, ◌≤◌, ◌⊎◌, ℕ, IsTrue, IsFalse, List, [], length, slice_get, Some}
 use Rattle.text_core.specs.Lines.{is_comment}
 use Rattle.text_core.specs.Reading.{Follows}

@@ -20,9 +20,9 @@ use Rattle.ofp_rules.specs.declared.entry.Action.TheVariants.{Normal, Drop}
 use Rattle.ofp_rules.specs.declared.entry.Entry.{Entry}
 use Rattle.ofp_rules.specs.Matching.{asks_of_ip}
 use Rattle.ofp_rules.specs.Text.{kind_text, part_text, action_text, entry_line}
+use Rattle.ofp_rules.specs.Ranges.{address_fits, in_range}
 use Rattle.ofp_read.specs.Grammar.{Part, priority, table, kind, source, destination, is_separator, has_bytes, fields, EachSays, IsNoneOf, AreDistinct, IsUnsaid, AreFieldsOf, IsKindText, IsAddressText, IsActionText, ends_apart, Writes}
 use Rattle.ofp_read.specs.LineLaws.{apart_from, apart_whole}
-use Rattle.ofp_read.specs.Written.{address_fits, in_range}
 
 -- 1. Texts of figures, dots (46) and slashes (47).
 

@@ -13,7 +13,6 @@ ghost use Rattle.ofp_read.specs.Grammar.{AddsEntry, IsReading};
 ghost use Rattle.ofp_read.specs.State.{Reads, TellsOfEntry, TellsOfLine, TellsOfLines};
 ghost use Rattle.ofp_read.specs.ReadAnswers.{HasCause, IsFault};
 ghost use Rattle.ofp_read.specs.TextLines.{HasFault};
-ghost use Rattle.ofp_read.specs.Written.{AreInRange};
 
 use crate::fault::{OfpFault, OfpWhy};
 use crate::line::read_flow;
@@ -35,7 +34,7 @@ pub fn read(alloc: Global, bytes: &[u8]) -> Result<Table, OfpFault>
     ensures faulty { (line : ℕ) (why : OfpWhy) → HasFault bytes.now line why →
         MatchResult result (λ table. ⊥) (IsFault line why) }
     // What is written of a table is read again.
-    ensures again { (entries : List Entry) → IsTable entries → AreInRange entries → bytes.now ≡ text entries →
+    ensures again { (entries : List Entry) → IsTable entries → bytes.now ≡ text entries →
         MatchResult result (λ table. table ≡ entries) (λ fault. fault ≡ OfpFault.Memory) }
     // The table that is read is one in which each frame has one verdict.
     ensures table { IfOk result IsTable }

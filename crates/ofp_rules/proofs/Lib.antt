@@ -1,4 +1,3 @@
 pub mod EntryLemmas
-pub mod LineLemmas
 pub mod MeetingLemmas
 pub mod StretchLemmas

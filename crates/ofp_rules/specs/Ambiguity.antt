@@ -1,4 +1,5 @@
--- Entries that leave open what becomes of a frame.
+-- Entries that leave open what becomes of a frame: of several matching ones with the highest priority a switch may take any
+-- (OpenFlow Switch Specification 1.3, section 5.3).
 use Rattle.std.specs.Prelude.{◌≡◌, ◌≢◌, ℕ, IsTrue, List, Some, slice_get}
 use Rattle.host_net.specs.Packet.{IsPacket}
 use Rattle.ofp_rules.specs.declared.entry.Frame.{Frame}
@@ -25,6 +26,7 @@ pub record Contradict (e f : Entry) : Type 0 where
   pub different : e.action ≢ f.action
   pub meet : MatchOneFrame e f
 
+-- how many entries a table may have
 abbrev pub most_entries : ℕ
 most_entries = 8192
 

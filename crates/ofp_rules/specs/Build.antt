@@ -9,6 +9,7 @@ use Rattle.ofp_rules.specs.declared.table.TableRefusal.TheVariants.{TooMany, Amb
 use Rattle.ofp_rules.specs.Ambiguity.{IsFrame, Contradict, most_entries}
 use Rattle.ofp_rules.specs.Matching.{asks_of_ip}
 use Rattle.ofp_rules.specs.Meaning.{HasVerdict}
+use Rattle.ofp_rules.specs.Ranges.{AreInRange}
 
 -- the entry at place i and the later one at place j are such a pair
 pub record AreAmbiguous (entries : List Entry) (i j : ℕ) : Type 0 where
@@ -58,8 +59,10 @@ pub record HasOneVerdict (entries : List Entry) (frame : Frame) : Type 0 where
   pub has : HasVerdict entries frame verdict
   pub only : (v : Verdict) → HasVerdict entries frame v → v ≡ verdict
 
--- what is true of every table: it is accepted, its entries for IPv4 alone ask for addresses, and each frame has one verdict
+-- what is true of every table: it is accepted, its numbers have room in a frame, its entries for IPv4 alone ask for addresses,
+-- and each frame has one verdict
 pub record IsTable (entries : List Entry) : Type 0 where
   pub accepted : IsAccepted entries
+  pub in_range : AreInRange entries
   pub asks : IsTrue (list_all asks_of_ip entries)
   pub one_verdict : (frame : Frame) → IsFrame frame → HasOneVerdict entries frame

@@ -1,4 +1,4 @@
--- The matching entry of the highest priority, found in one pass.
+-- The matching entry of the highest priority, found in one pass. Callers see none of it; they have `Meaning`.
 use Rattle.std.specs.Prelude.{ℕ, Bool, true, ◌&&◌, nat_lt, if◌then◌else◌, List, ◌++◌, Option, Some, None}
 use Rattle.host_net.specs.declared.packet.Verdict.{Verdict}
 use Rattle.host_net.specs.declared.packet.Verdict.TheVariants.{Drop as Dropped}

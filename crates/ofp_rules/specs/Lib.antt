@@ -3,9 +3,11 @@ pub mod Ambiguity
 pub mod Build
 pub mod Highest
 pub mod HighestLaws
+pub mod LineLaws
 pub mod Matching
 pub mod Meeting
 pub mod Meaning
+pub mod Ranges
 pub mod Stretches
 pub mod TableLaws
 pub mod Text

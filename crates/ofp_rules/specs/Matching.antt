@@ -13,7 +13,8 @@ abbrev pub part_matches : Option Prefix → ℕ → Bool
 part_matches None address = true
 part_matches (Some prefix) address = covers prefix address
 
--- an entry for any frame matches every frame, one for ARP the ARP frames, and one for IPv4 the IPv4 frames whose addresses its prefixes cover
+-- an entry for any frame matches every frame, one for ARP the ARP frames, and one for IPv4 the IPv4 frames whose addresses its
+-- prefixes cover
 abbrev pub kind_matches : FrameKind → Option Prefix → Option Prefix → Frame → Bool
 kind_matches OfAny src dst frame = true
 kind_matches OfArp src dst Arp = true

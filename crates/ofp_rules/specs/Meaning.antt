@@ -1,4 +1,4 @@
--- What becomes of a frame.
+-- What becomes of a frame (OpenFlow Switch Specification 1.3, sections 5.3 and 5.4).
 use Rattle.std.specs.Prelude.{◌≡◌, ◌≤◌, ◌⊎◌, Bool, IsTrue, List, [], ◌∷◌}
 use Rattle.host_net.specs.declared.packet.Packet.{Packet}
 use Rattle.host_net.specs.declared.packet.CtState.{CtState}
@@ -12,6 +12,7 @@ use Rattle.ofp_rules.specs.declared.entry.Action.TheVariants.{Normal, Drop}
 use Rattle.ofp_rules.specs.declared.entry.Entry.{Entry}
 use Rattle.ofp_rules.specs.Matching.{matches}
 
+-- x is an element of the list
 abbrev pub IsOneOf : {A : Type 0} → A → List A → Type 0
 IsOneOf x [] = ⊥
 IsOneOf x (y ∷ ys) = (x ≡ y) ⊎ IsOneOf x ys
@@ -22,9 +23,11 @@ pub record IsHighest (entries : List Entry) (frame : Frame) (e : Entry) : Type 0
   pub matched : IsTrue (matches frame e)
   pub above : (f : Entry) → IsOneOf f entries → IsTrue (matches frame f) → f.priority ≤ e.priority
 
+-- no entry matches the frame
 abbrev pub MatchesNone : List Entry → Frame → Type 0
 MatchesNone entries frame = (f : Entry) → IsOneOf f entries → IsTrue (matches frame f) → ⊥
 
+-- what an action does with a frame: NORMAL forwards it
 abbrev pub verdict_of : Action → Verdict
 verdict_of Normal = Forwarded
 verdict_of Drop = Dropped

@@ -1,4 +1,4 @@
--- Whether two entries match some one frame, told by their kinds and prefixes.
+-- Whether two entries match some one frame, told by their kinds and prefixes. Callers see none of it; they have `Ambiguity`.
 use Rattle.std.specs.Prelude.{ℕ, Bool, true, false, ◌&&◌, Option, Some, None}
 use Rattle.host_net.specs.declared.prefix.Prefix.{Prefix}
 use Rattle.host_net.specs.Prefix.{meets}

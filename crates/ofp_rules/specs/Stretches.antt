@@ -1,4 +1,5 @@
 -- Stretches of entries that match the same frames but for their destinations, so that a search passes over a stretch at once.
+-- Callers see none of it.
 use Rattle.std.specs.Prelude.{◌≡◌, ◌≤◌, ◌==◌, ◌&&◌, ℕ, Bool, true, false, List, [], ◌∷◌, Option, Some, None, drop, length, slice_range}
 use Rattle.host_net.specs.declared.prefix.Prefix.{Prefix}
 use Rattle.ofp_rules.specs.declared.entry.Frame.{Frame}

@@ -13,6 +13,7 @@ use Rattle.ofp_rules.specs.Ambiguity.{IsFrame, Contradict, ContradictsNone, most
 use Rattle.ofp_rules.specs.Build.{IsUnambiguous, IsTable}
 use Rattle.ofp_rules.specs.AddingLaws.{accepted_more}
 use Rattle.ofp_rules.specs.Meaning.{IsOneOf, HasVerdict, verdict_of}
+use Rattle.ofp_rules.specs.Ranges.{AreInRange, in_range}
 use Rattle.ofp_rules.specs.HighestLaws.{has_verdict}
 
 -- where an entry stands
@@ -68,10 +69,11 @@ one_verdict entries frame v w clear is (inl (e, by_e, v_is)) (inr none) = absurd
 one_verdict entries frame v w clear is (inr none) (inl (f, by_f, w_is)) = absurd (none.0 f by_f.listed by_f.matched)
 one_verdict entries frame v w clear is (inr none) (inr nothing) = none.1 ∙ sym nothing.1
 
-pub table_of : (entries : List Entry) → length entries ≤ most_entries → IsUnambiguous entries
+pub table_of : (entries : List Entry) → length entries ≤ most_entries → IsUnambiguous entries → AreInRange entries
     → IsTrue (list_all asks_of_ip entries) → IsTable entries
-table_of entries few clear asks = record {
+table_of entries few clear range asks = record {
   accepted = (few, clear);
+  in_range = range;
   asks = asks;
   one_verdict = λ frame is.
       let some = has_verdict entries frame in
@@ -80,12 +82,13 @@ table_of entries few clear asks = record {
 
 -- a table with one entry more
 pub table_more : (entries : List Entry) (e : Entry) → IsTable entries → length entries < most_entries → ContradictsNone entries e
-    → IsTrue (asks_of_ip e)
+    → IsTrue (in_range e) → IsTrue (asks_of_ip e)
     → IsTable (entries ++ e ∷ [])
-table_more entries e table few none asks =
+table_more entries e table few none range asks =
     let more = accepted_more entries e table.accepted few none in
     table_of (entries ++ e ∷ []) more.0 more.1
+    (list_all-append in_range entries (e ∷ []) ∙ and_from _ _ table.in_range (and_from _ _ range refl))
     (list_all-append asks_of_ip entries (e ∷ []) ∙ and_from _ _ table.asks (and_from _ _ asks refl))
 
 pub empty_table : IsTable []
-empty_table = table_of [] (omega arith) (λ i j pair. let there = pair.at_first in cc) refl
+empty_table = table_of [] (omega arith) (λ i j pair. let there = pair.at_first in cc) refl refl

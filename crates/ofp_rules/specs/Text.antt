@@ -25,7 +25,8 @@ action_text Drop = codes "actions=drop"
 
 unfoldable pub entry_line : Entry → List ℕ
 entry_line e =
-    codes "priority=" ++ (decimal e.priority ++ (codes "," ++ (kind_text e.kind ++ (part_text (codes "nw_src=") e.src ++ (part_text (codes "nw_dst=") e.dst ++ (action_text e.action ++ 10 ∷ []))))))
+    codes "priority=" ++ (decimal e.priority ++ (codes "," ++ (kind_text e.kind ++ (part_text (codes "nw_src=") e.src ++
+    (part_text (codes "nw_dst=") e.dst ++ (action_text e.action ++ 10 ∷ []))))))
 
 -- one line for each entry, in order
 abbrev pub text_lines : List Entry → List (List ℕ)

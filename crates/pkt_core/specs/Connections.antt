@@ -6,7 +6,8 @@ use Rattle.pkt_core.specs.declared.event.Event.{Event}
 use Rattle.pkt_core.specs.Events.{SeenAt, UnforgottenSince, WasSeen}
 use Rattle.pkt_core.specs.Tracking.{Kept}
 
--- q at this place is the first packet of a connection that was not forgotten since: it is permitted, and neither it nor a permitted answer to it was seen before
+-- q at this place is the first packet of a connection that was not forgotten since: it is permitted, and neither it nor a permitted answer
+-- to it was seen before
 pub record IsFirstPacket (permitted : Packet → Bool) (past : List Event) (place : ℕ) (q : Packet) : Type 0 where
   pub seen : SeenAt past place q
   pub unforgotten : UnforgottenSince past place q
@@ -16,7 +17,8 @@ pub record IsFirstPacket (permitted : Packet → Bool) (past : List Event) (plac
 
 -- q began a connection, and its swap was seen after it
 abbrev pub WasAnswered : (Packet → Bool) → List Event → Packet → Type 0
-WasAnswered permitted past q = (place : ℕ) × IsFirstPacket permitted past place q × ((later : ℕ) × (place < later) × SeenAt past later (swap_of q))
+WasAnswered permitted past q =
+    (place : ℕ) × IsFirstPacket permitted past place q × ((later : ℕ) × (place < later) × SeenAt past later (swap_of q))
 
 -- exactly the first packets are kept
 abbrev pub KeepsFirst : (Packet → Bool) → List Event → Kept → Type 0

@@ -17,24 +17,28 @@ pub get_last : {A : Type 0} (xs : List A) (x : A) → slice_get (xs ++ x ∷ [])
 get_last [] x = refl
 get_last (z ∷ xs) x = get_last xs x
 
-pub get_back : {A : Type 0} (xs : List A) (x y : A) (k : ℕ) → slice_get (xs ++ x ∷ []) k ≡ Some y → (slice_get xs k ≡ Some y) ⊎ ((k ≡ length xs) × (x ≡ y))
+pub get_back : {A : Type 0} (xs : List A) (x y : A) (k : ℕ) → slice_get (xs ++ x ∷ []) k ≡ Some y
+    → (slice_get xs k ≡ Some y) ⊎ ((k ≡ length xs) × (x ≡ y))
 get_back [] x y zero there = inr (refl, cc)
 get_back [] x y (suc k) there = cc
 get_back (z ∷ xs) x y zero there = inl there
 get_back (z ∷ xs) x y (suc k) there = elim (get_back xs x y k there) [ inl h ↦ inl h | inr h ↦ inr (ap suc h.0, h.1) ]
 
-pub unforgotten_back : (past : List Event) (e : Event) (k : ℕ) (q : Packet) → UnforgottenSince (past ++ e ∷ []) k q → UnforgottenSince past k q
+pub unforgotten_back : (past : List Event) (e : Event) (k : ℕ) (q : Packet) → UnforgottenSince (past ++ e ∷ []) k q
+    → UnforgottenSince past k q
 unforgotten_back past e k q none j r later there = none j r later (get_before past (e ∷ []) j (Forget r) there)
 
 -- a packet that is seen forgets nothing
-pub unforgotten-seen : (past : List Event) (p : Packet) (k : ℕ) (q : Packet) → UnforgottenSince past k q → UnforgottenSince (past ++ Seen p ∷ []) k q
+pub unforgotten-seen : (past : List Event) (p : Packet) (k : ℕ) (q : Packet) → UnforgottenSince past k q
+    → UnforgottenSince (past ++ Seen p ∷ []) k q
 unforgotten-seen past p k q none j r later there =
     elim (get_back past (Seen p) (Forget r) j there) [ inl h ↦ none j r later h | inr h ↦ absurd (seen_is_none p r h.1) ]
   where
     seen_is_none : (p r : Packet) → Seen p ≡ Forget r → ⊥
     seen_is_none p r h = cc
 
-pub unforgotten-forget : (past : List Event) (p : Packet) (k : ℕ) (q : Packet) → UnforgottenSince past k q → p ≢ q → p ≢ swap_of q → UnforgottenSince (past ++ Forget p ∷ []) k q
+pub unforgotten-forget : (past : List Event) (p : Packet) (k : ℕ) (q : Packet) → UnforgottenSince past k q → p ≢ q → p ≢ swap_of q
+    → UnforgottenSince (past ++ Forget p ∷ []) k q
 unforgotten-forget past p k q none apart turned j r later there =
     elim (get_back past (Forget p) (Forget r) j there) [ inl h ↦ none j r later h | inr h ↦ other r (same p r h.1) ]
   where
@@ -88,7 +92,8 @@ WasSeen-kept past p q was apart turned = record {
   unforgotten = unforgotten-forget past p was.place q was.unforgotten apart turned;
 }
 
-pub unforgotten-behind_forget : (past : List Event) (p : Packet) (k : ℕ) (q : Packet) → k < length past → UnforgottenSince (past ++ Forget p ∷ []) k q → (p ≢ q) × (p ≢ swap_of q)
+pub unforgotten-behind_forget : (past : List Event) (p : Packet) (k : ℕ) (q : Packet) → k < length past
+    → UnforgottenSince (past ++ Forget p ∷ []) k q → (p ≢ q) × (p ≢ swap_of q)
 unforgotten-behind_forget past p k q within none = none (length past) p within (get_last past (Forget p))
 
 pub seen_behind_forget : (past : List Event) (p q : Packet) (k : ℕ) → SeenAt (past ++ Forget p ∷ []) k q → SeenAt past k q
@@ -97,7 +102,8 @@ seen_behind_forget past p q k there = elim (get_back past (Forget p) (Seen q) k 
     apart : (p q : Packet) → Forget p ≡ Seen q → ⊥
     apart p q h = cc
 
-pub WasSeen-behind_forget : (past : List Event) (p q : Packet) → WasSeen (past ++ Forget p ∷ []) q → WasSeen past q × (p ≢ q) × (p ≢ swap_of q)
+pub WasSeen-behind_forget : (past : List Event) (p q : Packet) → WasSeen (past ++ Forget p ∷ []) q
+    → WasSeen past q × (p ≢ q) × (p ≢ swap_of q)
 WasSeen-behind_forget past p q was =
     let there = seen_behind_forget past p q was.place was.seen in
     let apart = unforgotten-behind_forget past p was.place q (slice_get_within past was.place (Seen q) there) was.unforgotten in

@@ -47,7 +47,10 @@ pub record IsReading (bytes : List ℕ) (events : List Event) : Type 0 where
 
 abbrev pub protocol_of : List ℕ → Option ℕ
 protocol_of word =
-    if bytes_eq word (codes "icmp") then Some 1 else if bytes_eq word (codes "tcp") then Some 6 else if bytes_eq word (codes "udp") then Some 17 else number 255 word
+    if bytes_eq word (codes "icmp") then Some 1
+    else if bytes_eq word (codes "tcp") then Some 6
+    else if bytes_eq word (codes "udp") then Some 17
+    else number 255 word
 
 -- the packet of five words
 unfoldable pub packet_of : List ℕ → List ℕ → List ℕ → List ℕ → List ℕ → Option Packet
@@ -62,7 +65,9 @@ packet_of src dst protocol sport dport = do
 -- by the verb: a packet that is seen, or the forgetting of its connection
 unfoldable pub event_by : List ℕ → Option Packet → Result Event EventWhy
 event_by verb p =
-    if bytes_eq verb (codes "packet") then ok_or (option_map Seen p) BadValue else if bytes_eq verb (codes "forget") then ok_or (option_map Forget p) BadValue else Err BadLine
+    if bytes_eq verb (codes "packet") then ok_or (option_map Seen p) BadValue
+    else if bytes_eq verb (codes "forget") then ok_or (option_map Forget p) BadValue
+    else Err BadLine
 
 -- the event of a line's words; another number of words is a bad line
 unfoldable pub event_of : List (List ℕ) → Result Event EventWhy
@@ -80,4 +85,5 @@ event_step n events line = with_event events (event_of (words line))
 -- a text is refused: it is too long, else at the first line that is refused
 pub data IsRefused (bytes : List ℕ) : ℕ → EventWhy → Type 0 where
   too_long : 16777216 < length bytes → IsRefused bytes 0 TooLong
-  at_line : {line : ℕ} {why : EventWhy} → length bytes ≤ 16777216 → IsFirstFault event_step 1 [] (lines bytes) line why → IsRefused bytes line why
+  at_line : {line : ℕ} {why : EventWhy} → length bytes ≤ 16777216 → IsFirstFault event_step 1 [] (lines bytes) line why
+      → IsRefused bytes line why

@@ -32,7 +32,8 @@ protocol_told word n read = elim (if_parts (bytes_eq word (codes "icmp")) (Some 
   ]
 ]
 
-packet_told : (verb src dst protocol sport dport : List ℕ) (p : Packet) → packet_of src dst protocol sport dport ≡ Some p → TellsPacket verb (verb ∷ src ∷ dst ∷ protocol ∷ sport ∷ dport ∷ []) p
+packet_told : (verb src dst protocol sport dport : List ℕ) (p : Packet) → packet_of src dst protocol sport dport ≡ Some p
+    → TellsPacket verb (verb ∷ src ∷ dst ∷ protocol ∷ sport ∷ dport ∷ []) p
 unfolding packet_of
 packet_told verb src dst protocol sport dport p read =
     let a = bind_some (address_of src) _ p read in
@@ -55,7 +56,8 @@ packet_told verb src dst protocol sport dport p read =
       numbers = (named.1, omega (arith, source.1), omega (arith, target.1));
     })
 
-told_by : (verb src dst protocol sport dport : List ℕ) (e : Event) → event_by verb (packet_of src dst protocol sport dport) ≡ Ok e → TellsEvent (verb ∷ src ∷ dst ∷ protocol ∷ sport ∷ dport ∷ []) e
+told_by : (verb src dst protocol sport dport : List ℕ) (e : Event) → event_by verb (packet_of src dst protocol sport dport) ≡ Ok e
+    → TellsEvent (verb ∷ src ∷ dst ∷ protocol ∷ sport ∷ dport ∷ []) e
 unfolding event_by
 told_by verb src dst protocol sport dport e read = elim (if_parts (bytes_eq verb (codes "packet")) _ _ (Ok e) read) [
   | inl seen ↦
@@ -93,7 +95,9 @@ protocol_read word n (inr (inl icmp)) fits = ap protocol_of icmp.0 ∙ ap (λ k.
 protocol_read word n (inr (inr (inl tcp))) fits = ap protocol_of tcp.0 ∙ ap (λ k. Some k) (sym tcp.1)
 protocol_read word n (inr (inr (inr udp))) fits = ap protocol_of udp.0 ∙ ap (λ k. Some k) (sym udp.1)
 
-packet_read : (verb : List ℕ) (ws : List (List ℕ)) (p : Packet) → TellsPacket verb ws p → (src : List ℕ) × (dst : List ℕ) × (protocol : List ℕ) × (sport : List ℕ) × (dport : List ℕ) × (ws ≡ verb ∷ src ∷ dst ∷ protocol ∷ sport ∷ dport ∷ []) × (packet_of src dst protocol sport dport ≡ Some p)
+packet_read : (verb : List ℕ) (ws : List (List ℕ)) (p : Packet) → TellsPacket verb ws p
+    → (src : List ℕ) × (dst : List ℕ) × (protocol : List ℕ) × (sport : List ℕ) ×
+    (dport : List ℕ) × (ws ≡ verb ∷ src ∷ dst ∷ protocol ∷ sport ∷ dport ∷ []) × (packet_of src dst protocol sport dport ≡ Some p)
 unfolding packet_of
 packet_read verb ws p told = (
   address_text p.src,
@@ -118,7 +122,8 @@ small : (n : ℕ) → n < 1000000 → nat_lt 999999 n ≡ false
 small n h = grind (arith, nat_tests)
 
 -- a line adds an event exactly where it tells one
-adds_told : (n : ℕ) (es : List Event) (line : List ℕ) (now : List Event) (r : Result Event EventWhy) → event_of (words line) ≡ r → with_event es r ≡ Ok now → AddsEvent n es line now
+adds_told : (n : ℕ) (es : List Event) (line : List ℕ) (now : List Event) (r : Result Event EventWhy) → event_of (words line) ≡ r
+    → with_event es r ≡ Ok now → AddsEvent n es line now
 adds_told n es line now (Err why) read h = cc
 adds_told n es line now (Ok e) read h = elim (if_parts (nat_lt 999999 (length es)) (Err TooMany) _ (Ok now) h) [
   | inl many ↦ cc
@@ -137,7 +142,8 @@ adds_step n es now line adds =
     rw (told_event (words line) adds.event adds.told, room) (ap (λ xs. Ok xs) (sym adds.added))
 
 -- a text is read as these events exactly where they are its reading
-pub is_reading : (bytes : List ℕ) (es : List Event) → length bytes ≤ 16777216 → line_by_line event_step 1 [] (lines bytes) ≡ Ok es → IsReading bytes es
+pub is_reading : (bytes : List ℕ) (es : List Event) → length bytes ≤ 16777216 → line_by_line event_step 1 [] (lines bytes) ≡ Ok es
+    → IsReading bytes es
 is_reading bytes es short read = record { short = short; told = follows_what_is_read event_step AddsEvent step_adds 1 [] es (lines bytes) read }
 
 pub reading_is : (bytes : List ℕ) (es : List Event) → IsReading bytes es → line_by_line event_step 1 [] (lines bytes) ≡ Ok es

@@ -1,4 +1,5 @@
--- The law of expected answers: a firewall with the verdicts of a policy that tracks connections lets pass exactly the packets that are expected to pass.
+-- The law of expected answers: a firewall with the verdicts of a policy that tracks connections lets pass exactly the packets that are
+-- expected to pass.
 use Rattle.std.proofs.Common.{◌≡◌, inl, inr, ◌↔◌, ℕ, zero, suc, Bool, true, false, ◌&&◌, IsTrue, List, [], ◌∷◌, ◌++◌, length, take, slice_get, Some, None, refl, sym, ap, subst, ◌∙◌, ◌<◌, append_assoc, append-nil, arith}
 use Rattle.std.specs.Prelude.{is_some, Option}
 use Rattle.std.proofs.lemmas.Bool.{and_from, and_parts, or_cases, or_left, or_right}
@@ -15,7 +16,8 @@ use Rattle.pkt_core.specs.Expected.{AreExpected, Expected}
 
 -- so what passes is what is expected
 pub passes_as_expected : {Known : Packet → Type 0} (permitted stateful : Packet → Bool) → StatefulArePermitted Known permitted stateful →
-    (past : List Event) (kept : Kept) → Fits Known permitted past kept → (p : Packet) → IsTrue (may_pass permitted stateful (state_of kept p) p) ↔ Expected permitted stateful past p
+    (past : List Event) (kept : Kept) → Fits Known permitted past kept → (p : Packet)
+    → IsTrue (may_pass permitted stateful (state_of kept p) p) ↔ Expected permitted stateful past p
 passes_as_expected permitted stateful policy past kept fits p = (λ h. sound h, λ h. complete h)
   where
     sound : may_pass permitted stateful (state_of kept p) p ≡ true → Expected permitted stateful past p
@@ -41,11 +43,13 @@ passes_as_expected permitted stateful policy past kept fits p = (λ h. sound h, 
 -- the answers are as expected after the events that went before
 pub record AreExpectedBehind (permitted stateful : Packet → Bool) (past events : List Event) (answers : List (Option Bool)) : Type 0 where
   pub as_many : length answers ≡ length events
-  pub seen : (k : ℕ) (p : Packet) → SeenAt events k p → (passes : Bool) × (slice_get answers k ≡ Some (Some passes)) × (IsTrue passes ↔ Expected permitted stateful (past ++ take k events) p)
+  pub seen : (k : ℕ) (p : Packet) → SeenAt events k p
+      → (passes : Bool) × (slice_get answers k ≡ Some (Some passes)) × (IsTrue passes ↔ Expected permitted stateful (past ++ take k events) p)
   pub forgotten : (k : ℕ) (p : Packet) → ForgottenAt events k p → slice_get answers k ≡ Some None
 
 -- one more event at the front
-one_more : (permitted stateful : Packet → Bool) (past : List Event) (event : Event) (events : List Event) (answer : Option Bool) (answers : List (Option Bool)) →
+one_more : (permitted stateful : Packet → Bool) (past : List Event) (event : Event) (events : List Event) (answer : Option Bool)
+    (answers : List (Option Bool)) →
     ((p : Packet) → event ≡ Seen p → (passes : Bool) × (answer ≡ Some passes) × (IsTrue passes ↔ Expected permitted stateful past p)) →
     ((p : Packet) → event ≡ Forget p → answer ≡ None) →
     AreExpectedBehind permitted stateful (past ++ event ∷ []) events answers → AreExpectedBehind permitted stateful past (event ∷ events) (answer ∷ answers)
@@ -54,7 +58,8 @@ one_more permitted stateful past event events answer answers if_seen if_forgotte
     only : (e : Event) → Some event ≡ Some e → event ≡ e
     only e h = cc
 
-    seen_at : (k : ℕ) (p : Packet) → SeenAt (event ∷ events) k p → (passes : Bool) × (slice_get (answer ∷ answers) k ≡ Some (Some passes)) × (IsTrue passes ↔ Expected permitted stateful (past ++ take k (event ∷ events)) p)
+    seen_at : (k : ℕ) (p : Packet) → SeenAt (event ∷ events) k p
+        → (passes : Bool) × (slice_get (answer ∷ answers) k ≡ Some (Some passes)) × (IsTrue passes ↔ Expected permitted stateful (past ++ take k (event ∷ events)) p)
     seen_at zero p there =
         let now = if_seen p (only (Seen p) there) in
         (now.0, ap (λ (a : Option Bool). Some a) now.1, subst (λ (es : List Event). IsTrue now.0 ↔ Expected permitted stateful es p) (sym (append-nil past)) now.2)
@@ -81,7 +86,8 @@ none_expected permitted stateful past = record {
     none_forgotten k p h = cc
 
 -- a packet seen, whose answer is as expected, in front of answers as expected
-pub seen_expected : (permitted stateful : Packet → Bool) (past : List Event) (p : Packet) (events : List Event) (passes : Bool) (answers : List (Option Bool)) →
+pub seen_expected : (permitted stateful : Packet → Bool) (past : List Event) (p : Packet) (events : List Event) (passes : Bool)
+    (answers : List (Option Bool)) →
     (IsTrue passes ↔ Expected permitted stateful past p) →
     AreExpectedBehind permitted stateful (past ++ Seen p ∷ []) events answers → AreExpectedBehind permitted stateful past (Seen p ∷ events) (Some passes ∷ answers)
 seen_expected permitted stateful past p events passes answers is rest =
@@ -96,7 +102,8 @@ seen_expected permitted stateful past p events passes answers is rest =
     seen_is_not p q h = cc
 
 -- a forgetting in front of answers as expected
-pub forgotten_expected : (permitted stateful : Packet → Bool) (past : List Event) (p : Packet) (events : List Event) (answers : List (Option Bool)) →
+pub forgotten_expected : (permitted stateful : Packet → Bool) (past : List Event) (p : Packet) (events : List Event)
+    (answers : List (Option Bool)) →
     AreExpectedBehind permitted stateful (past ++ Forget p ∷ []) events answers → AreExpectedBehind permitted stateful past (Forget p ∷ events) (None ∷ answers)
 forgotten_expected permitted stateful past p events answers rest =
     one_more permitted stateful past (Forget p) events None answers (λ q h. absurd (forget_is_not p q h)) (λ q h. refl) rest
@@ -105,10 +112,12 @@ forgotten_expected permitted stateful past p events answers rest =
     forget_is_not p q h = cc
 
 -- what is as expected from the start on
-pub all_expected : (permitted stateful : Packet → Bool) (events : List Event) (answers : List (Option Bool)) → AreExpectedBehind permitted stateful [] events answers → AreExpected permitted stateful events answers
+pub all_expected : (permitted stateful : Packet → Bool) (events : List Event) (answers : List (Option Bool))
+    → AreExpectedBehind permitted stateful [] events answers → AreExpected permitted stateful events answers
 all_expected permitted stateful events answers all = record { as_many = all.as_many; seen = all.seen; forgotten = all.forgotten }
 
-same_by_places : {A : Type 0} (xs ys : List A) → length xs ≡ length ys → ((k : ℕ) → k < length xs → slice_get xs k ≡ slice_get ys k) → xs ≡ ys
+same_by_places : {A : Type 0} (xs ys : List A) → length xs ≡ length ys → ((k : ℕ) → k < length xs → slice_get xs k ≡ slice_get ys k)
+    → xs ≡ ys
 same_by_places [] [] long same = refl
 same_by_places [] (y ∷ ys) long same = absurd (omega arith)
 same_by_places (x ∷ xs) [] long same = absurd (omega arith)
@@ -144,8 +153,10 @@ expected_once permitted stateful events answers others first second =
         a.1 ∙ ap (λ (passes : Bool). Some (Some passes)) (same_test a.0 b.0 a.2 b.2) ∙ sym b.1
     at k (Forget p) there = first.forgotten k p there ∙ sym (second.forgotten k p there)
 
-run_behind : (filter : Filter) (Known : Packet → Type 0) (permitted stateful : Packet → Bool) → IsFirewallFor filter Known permitted stateful →
-    (past : List Event) (kept : Kept) → Fits Known permitted past kept → (events : List Event) → AllKnown Known events → (answers : List (Option Bool)) → Runs filter kept events answers →
+run_behind : (filter : Filter) (Known : Packet → Type 0) (permitted stateful : Packet → Bool)
+    → IsFirewallFor filter Known permitted stateful →
+    (past : List Event) (kept : Kept) → Fits Known permitted past kept → (events : List Event) → AllKnown Known events
+    → (answers : List (Option Bool)) → Runs filter kept events answers →
     AreExpectedBehind permitted stateful past events answers
 run_behind filter Known permitted stateful firewall past kept fits [] known [] run = none_expected permitted stateful past
 run_behind filter Known permitted stateful firewall past kept fits [] known (answer ∷ answers) run = absurd run
@@ -166,13 +177,16 @@ run_behind filter Known permitted stateful firewall past kept fits (Forget p ∷
     events (λ k q there. known (suc k) q there) answers run)
 
 -- every run from nothing kept answers as expected
-pub runs_as_expected : (filter : Filter) (Known : Packet → Type 0) (permitted stateful : Packet → Bool) → IsFirewallFor filter Known permitted stateful →
-    (events : List Event) → AllKnown Known events → (answers : List (Option Bool)) → Runs filter nothing_kept events answers → AreExpected permitted stateful events answers
+pub runs_as_expected : (filter : Filter) (Known : Packet → Type 0) (permitted stateful : Packet → Bool)
+    → IsFirewallFor filter Known permitted stateful →
+    (events : List Event) → AllKnown Known events → (answers : List (Option Bool)) → Runs filter nothing_kept events answers
+    → AreExpected permitted stateful events answers
 runs_as_expected filter Known permitted stateful firewall events known answers run =
     all_expected permitted stateful events answers (run_behind filter Known permitted stateful firewall [] nothing_kept (Fits-start permitted) events known answers run)
 
 -- and there is one, whatever is kept
-pub some_run : (filter : Filter) (Known : Packet → Type 0) (permitted stateful : Packet → Bool) → IsFirewallFor filter Known permitted stateful →
+pub some_run : (filter : Filter) (Known : Packet → Type 0) (permitted stateful : Packet → Bool)
+    → IsFirewallFor filter Known permitted stateful →
     (kept : Kept) (events : List Event) → AllKnown Known events → (answers : List (Option Bool)) × Runs filter kept events answers
 some_run filter Known permitted stateful firewall kept [] known = ([], tt)
 some_run filter Known permitted stateful firewall kept (Seen p ∷ events) known =

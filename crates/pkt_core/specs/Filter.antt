@@ -1,4 +1,5 @@
--- What filters do for a policy: that one enforces it, and that it forwards what is expected over a list of events. It is said of any filter, be it chains of rules, a flow table or another.
+-- What filters do for a policy: that one enforces it, and that it forwards what is expected over a list of events. It is said of any
+-- filter, be it chains of rules, a flow table or another.
 use Rattle.std.specs.Prelude.{◌≡◌, ℕ, Bool, List, Option}
 use Rattle.host_net.specs.declared.packet.Packet.{Packet}
 use Rattle.host_net.specs.declared.packet.CtState.{CtState}

@@ -34,7 +34,8 @@ firewall_for filter hosts p s subset enforces = record {
   policy = λ packet is stateful. is_of-within hosts s p packet subset stateful;
 }
 
-pub enforced_expected : (filter : Filter) (hosts : List Host) (p s : List Flow) → IsSubset s p → Enforces filter hosts p s → ForwardsExpected filter hosts p s
+pub enforced_expected : (filter : Filter) (hosts : List Host) (p s : List Flow) → IsSubset s p → Enforces filter hosts p s
+    → ForwardsExpected filter hosts p s
 enforced_expected filter hosts p s subset enforces = record {
   expected = expected;
   some = λ events packets. some_run filter IsPacket (is_of hosts p) (is_of hosts s) firewall nothing_kept events packets;
@@ -45,5 +46,6 @@ enforced_expected filter hosts p s subset enforces = record {
     firewall : IsFirewallFor filter IsPacket (is_of hosts p) (is_of hosts s)
     firewall = firewall_for filter hosts p s subset enforces
 
-    expected : (events : List Event) (answers : List (Option Bool)) → ArePackets events → RunsFromNothing filter events answers → AreExpected (is_of hosts p) (is_of hosts s) events answers
+    expected : (events : List Event) (answers : List (Option Bool)) → ArePackets events → RunsFromNothing filter events answers
+        → AreExpected (is_of hosts p) (is_of hosts s) events answers
     expected events answers packets run = runs_as_expected filter IsPacket (is_of hosts p) (is_of hosts s) firewall events packets answers run

@@ -1,4 +1,5 @@
--- Filters of packets, and firewalls that test the states of packets. A policy is given by two tests of packets: those that it permits, and the stateful ones, whose answers may pass (a stateful policy, as in the AFP entry Network_Security_Policy_Verification).
+-- Filters of packets, and firewalls that test the states of packets. A policy is given by two tests of packets: those that it permits, and
+-- the stateful ones, whose answers may pass (a stateful policy, as in the AFP entry Network_Security_Policy_Verification).
 use Rattle.std.specs.Prelude.{Bool, true, false, ◌&&◌, ◌||◌}
 use Rattle.host_net.specs.declared.packet.Packet.{Packet}
 use Rattle.host_net.specs.declared.packet.CtState.{CtState}

@@ -24,7 +24,8 @@ past_before past e k q there = take-append-le k past (e ∷ []) (small k (slice_
     small k h = omega arith
 
 -- a first packet, with its events before the place named
-first_by : (permitted : Packet → Bool) (past before : List Event) (k : ℕ) (q : Packet) → SeenAt past k q → UnforgottenSince past k q → IsTrue (permitted q) → take k past ≡ before →
+first_by : (permitted : Packet → Bool) (past before : List Event) (k : ℕ) (q : Packet) → SeenAt past k q → UnforgottenSince past k q
+    → IsTrue (permitted q) → take k past ≡ before →
     (WasSeen before q → ⊥) → (IsTrue (permitted (swap_of q)) → WasSeen before (swap_of q) → ⊥) → IsFirstPacket permitted past k q
 first_by permitted past before k q there none allowed is begins answers = record {
   seen = there;
@@ -34,19 +35,22 @@ first_by permitted past before k q there none allowed is begins answers = record
   answers_none = subst (λ (es : List Event). IsTrue (permitted (swap_of q)) → WasSeen es (swap_of q) → ⊥) (sym is) answers;
 }
 
-pub IsFirstPacket-stays : (permitted : Packet → Bool) (past : List Event) (p : Packet) (k : ℕ) (q : Packet) → IsFirstPacket permitted past k q → IsFirstPacket permitted (past ++ Seen p ∷ []) k q
+pub IsFirstPacket-stays : (permitted : Packet → Bool) (past : List Event) (p : Packet) (k : ℕ) (q : Packet)
+    → IsFirstPacket permitted past k q → IsFirstPacket permitted (past ++ Seen p ∷ []) k q
 IsFirstPacket-stays permitted past p k q first =
     first_by permitted (past ++ Seen p ∷ []) (take k past) k q (get_before past (Seen p ∷ []) k (Seen q) first.seen) (unforgotten-seen past p k q first.unforgotten) first.allowed
     (past_before past (Seen p) k q first.seen) first.begins first.answers_none
 
-IsFirstPacket-now : (permitted : Packet → Bool) (past : List Event) (p q : Packet) → p ≡ q → IsTrue (permitted q) → (WasSeen past q → ⊥) → (IsTrue (permitted (swap_of q)) → WasSeen past (swap_of q) → ⊥) →
+IsFirstPacket-now : (permitted : Packet → Bool) (past : List Event) (p q : Packet) → p ≡ q → IsTrue (permitted q) → (WasSeen past q → ⊥)
+    → (IsTrue (permitted (swap_of q)) → WasSeen past (swap_of q) → ⊥) →
     IsFirstPacket permitted (past ++ Seen p ∷ []) (length past) q
 IsFirstPacket-now permitted past p q is allowed begins answers =
     first_by permitted (past ++ Seen p ∷ []) past (length past) q (get_last past (Seen p) ∙ ap (λ (r : Packet). Some (Seen r)) is) (unforgotten_last past p q) allowed
     (take-append_seam past (Seen p ∷ [])) begins answers
 
 -- a first packet after one more event at k, which stands among the earlier events
-IsFirstPacket-earlier : (permitted : Packet → Bool) (past : List Event) (e : Event) (k : ℕ) (q : Packet) → SeenAt past k q → IsFirstPacket permitted (past ++ e ∷ []) k q → IsFirstPacket permitted past k q
+IsFirstPacket-earlier : (permitted : Packet → Bool) (past : List Event) (e : Event) (k : ℕ) (q : Packet) → SeenAt past k q
+    → IsFirstPacket permitted (past ++ e ∷ []) k q → IsFirstPacket permitted past k q
 IsFirstPacket-earlier permitted past e k q there first =
     first_by permitted past (take k (past ++ e ∷ [])) k q there (unforgotten_back past e k q first.unforgotten) first.allowed (sym (past_before past e k q there)) first.begins first.answers_none
 
@@ -54,7 +58,8 @@ IsFirstPacket-earlier permitted past e k q there first =
 unfoldable pub IsNew : (Packet → Bool) → List Event → Packet → ℕ → Packet → Type 0
 IsNew permitted past p k q = (k ≡ length past) × (p ≡ q) × IsTrue (permitted q) × (WasSeen past q → ⊥) × (IsTrue (permitted (swap_of q)) → WasSeen past (swap_of q) → ⊥)
 
-pub IsFirstPacket-behind_seen : (permitted : Packet → Bool) (past : List Event) (p : Packet) (k : ℕ) (q : Packet) → IsFirstPacket permitted (past ++ Seen p ∷ []) k q → IsFirstPacket permitted past k q ⊎ IsNew permitted past p k q
+pub IsFirstPacket-behind_seen : (permitted : Packet → Bool) (past : List Event) (p : Packet) (k : ℕ) (q : Packet)
+    → IsFirstPacket permitted (past ++ Seen p ∷ []) k q → IsFirstPacket permitted past k q ⊎ IsNew permitted past p k q
 unfolding IsNew
 IsFirstPacket-behind_seen permitted past p k q first =
     elim (get_back past (Seen p) (Seen q) k first.seen) [
@@ -73,18 +78,21 @@ IsFirstPacket-behind_seen permitted past p k q first =
     same : (p q : Packet) → Seen p ≡ Seen q → p ≡ q
     same p q h = cc
 
-pub IsFirstPacket-kept : (permitted : Packet → Bool) (past : List Event) (p : Packet) (k : ℕ) (q : Packet) → p ≢ q → p ≢ swap_of q → IsFirstPacket permitted past k q → IsFirstPacket permitted (past ++ Forget p ∷ []) k q
+pub IsFirstPacket-kept : (permitted : Packet → Bool) (past : List Event) (p : Packet) (k : ℕ) (q : Packet) → p ≢ q → p ≢ swap_of q
+    → IsFirstPacket permitted past k q → IsFirstPacket permitted (past ++ Forget p ∷ []) k q
 IsFirstPacket-kept permitted past p k q apart turned first =
     first_by permitted (past ++ Forget p ∷ []) (take k past) k q (get_before past (Forget p ∷ []) k (Seen q) first.seen) (unforgotten-forget past p k q first.unforgotten apart turned) first.allowed
     (past_before past (Forget p) k q first.seen) first.begins first.answers_none
 
-pub IsFirstPacket-behind_forget : (permitted : Packet → Bool) (past : List Event) (p : Packet) (k : ℕ) (q : Packet) → IsFirstPacket permitted (past ++ Forget p ∷ []) k q → IsFirstPacket permitted past k q × (p ≢ q) × (p ≢ swap_of q)
+pub IsFirstPacket-behind_forget : (permitted : Packet → Bool) (past : List Event) (p : Packet) (k : ℕ) (q : Packet)
+    → IsFirstPacket permitted (past ++ Forget p ∷ []) k q → IsFirstPacket permitted past k q × (p ≢ q) × (p ≢ swap_of q)
 IsFirstPacket-behind_forget permitted past p k q first =
     let there = seen_behind_forget past p q k first.seen in
     let apart = unforgotten-behind_forget past p k q (slice_get_within past k (Seen q) there) first.unforgotten in
     (IsFirstPacket-earlier permitted past (Forget p) k q there first, apart.0, apart.1)
 
-pub KeepsFirst-seen : {Known : Packet → Type 0} (permitted stateful : Packet → Bool) (past : List Event) (kept : Kept) (p : Packet) → Fits Known permitted past kept → KeepsFirst permitted past kept →
+pub KeepsFirst-seen : {Known : Packet → Type 0} (permitted stateful : Packet → Bool) (past : List Event) (kept : Kept) (p : Packet)
+    → Fits Known permitted past kept → KeepsFirst permitted past kept →
     KeepsFirst permitted (past ++ Seen p ∷ []) (after_seen kept p (may_pass permitted stateful (state_of kept p) p))
 unfolding IsNew
 KeepsFirst-seen {Known} permitted stateful past kept p fits first q = ((λ h. begun q h), (λ h. is_begun q h.0 h.1))
@@ -132,7 +140,8 @@ KeepsFirst-seen {Known} permitted stateful past kept p fits first q = ((λ h. be
     ]
 
 -- exactly the first packets stay kept where a packet was seen that is not permitted, and is not tracked
-pub KeepsFirst-untaken : (permitted : Packet → Bool) (past : List Event) (kept : Kept) (p : Packet) → permitted p ≡ false → KeepsFirst permitted past kept → KeepsFirst permitted (past ++ Seen p ∷ []) kept
+pub KeepsFirst-untaken : (permitted : Packet → Bool) (past : List Event) (kept : Kept) (p : Packet) → permitted p ≡ false
+    → KeepsFirst permitted past kept → KeepsFirst permitted (past ++ Seen p ∷ []) kept
 unfolding IsNew
 KeepsFirst-untaken permitted past kept p barred first q = ((λ h. begun h), (λ h. is_begun h.0 h.1))
   where
@@ -145,7 +154,8 @@ KeepsFirst-untaken permitted past kept p barred first q = ((λ h. begun h), (λ 
       | inr new ↦ absurd (true≢false (sym new.2 ∙ ap permitted (sym new.1) ∙ barred))
     ]
 
-pub KeepsFirst-forget : (permitted : Packet → Bool) (past : List Event) (kept : Kept) (p : Packet) → KeepsFirst permitted past kept → KeepsFirst permitted (past ++ Forget p ∷ []) (after_forget kept p)
+pub KeepsFirst-forget : (permitted : Packet → Bool) (past : List Event) (kept : Kept) (p : Packet) → KeepsFirst permitted past kept
+    → KeepsFirst permitted (past ++ Forget p ∷ []) (after_forget kept p)
 KeepsFirst-forget permitted past kept p first q = ((λ h. begun q h), (λ h. is_begun q h.0 h.1))
   where
     both : List Event

@@ -1,4 +1,5 @@
--- A policy between hosts: the flows that it permits, and those of them, the stateful ones, whose answers pass as well. What it says of one packet.
+-- A policy between hosts: the flows that it permits, and those of them, the stateful ones, whose answers pass as well. What it says of one
+-- packet.
 use Rattle.std.specs.Prelude.{ℕ, ◌==◌, Bool, false, if◌then◌else◌, List, Option, Some, None}
 use Rattle.std.specs.Option.{option_map_or}
 use Rattle.host_net.specs.declared.packet.Packet.{Packet}
@@ -14,7 +15,8 @@ flow_of_owners None to = None
 flow_of_owners (Some i) None = None
 flow_of_owners (Some i) (Some j) = if i == j then None else Some (record { from = i; to = j })
 
--- the flow of a packet: from the owner of its source to the owner of its destination; none within a host, and none where an address has no owner
+-- the flow of a packet: from the owner of its source to the owner of its destination; none within a host, and none where an address has no
+-- owner
 abbrev pub flow_of : List Host → Packet → Option Flow
 flow_of hosts packet = flow_of_owners (owner_of hosts packet.src) (owner_of hosts packet.dst)
 

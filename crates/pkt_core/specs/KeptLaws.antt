@@ -14,7 +14,8 @@ use Rattle.pkt_core.specs.Tracking.{Kept, after_forget, after_seen, nothing_kept
 use Rattle.pkt_core.specs.TrackingLaws.{keys-after_forget, keys-after_seen, not_same_packet, same_packet-is, same_packet-not, same_packet-self}
 use Rattle.pkt_core.specs.Firewall.{is_established, may_pass}
 
--- what is kept belongs to what was seen: kept packets are permitted and were seen, and of a permitted packet that was seen the connection is kept
+-- what is kept belongs to what was seen: kept packets are permitted and were seen, and of a permitted packet that was seen the connection
+-- is kept
 pub record Fits (Known : Packet → Type 0) (permitted : Packet → Bool) (past : List Event) (kept : Kept) : Type 0 where
   pub allowed : (q : Packet) → is_some (kept q) ≡ true → permitted q ≡ true
   pub was_seen : (q : Packet) → is_some (kept q) ≡ true → WasSeen past q
@@ -22,10 +23,12 @@ pub record Fits (Known : Packet → Type 0) (permitted : Packet → Bool) (past 
   pub known : (q : Packet) → WasSeen past q → Known q
 
 -- a packet in an established state is of a kept connection
-pub established_by : (kept : Kept) (p : Packet) → is_established (state_of kept p) ≡ true → is_some (kept (swap_of p)) ≡ true ⊎ is_some (kept p) ≡ true
+pub established_by : (kept : Kept) (p : Packet) → is_established (state_of kept p) ≡ true
+    → is_some (kept (swap_of p)) ≡ true ⊎ is_some (kept p) ≡ true
 established_by kept p h = by_marks (kept (swap_of p)) (kept p) h
   where
-    by_marks : (other own : Option Bool) → is_established (if (is_some other || unwrap_or own false) then Established else New) ≡ true → (is_some other ≡ true) ⊎ (is_some own ≡ true)
+    by_marks : (other own : Option Bool) → is_established (if (is_some other || unwrap_or own false) then Established else New) ≡ true
+        → (is_some other ≡ true) ⊎ (is_some own ≡ true)
     by_marks (Some m) own h = inl refl
     by_marks None (Some m) h = inr refl
     by_marks None None h = absurd (true≢false (sym h))
@@ -38,7 +41,8 @@ answer_is_established kept p h = by_test (is_some (kept (swap_of p))) h
     by_test false h = absurd (true≢false (sym h))
 
 -- a packet that begins a connection is permitted: an answer to a kept packet begins none
-pub new_permitted : {Known : Packet → Type 0} (permitted stateful : Packet → Bool) (past : List Event) (kept : Kept) → Fits Known permitted past kept → (p : Packet) →
+pub new_permitted : {Known : Packet → Type 0} (permitted stateful : Packet → Bool) (past : List Event) (kept : Kept)
+    → Fits Known permitted past kept → (p : Packet) →
     may_pass permitted stateful (state_of kept p) p ≡ true → is_some (kept (swap_of p)) ≡ false → permitted p ≡ true
 new_permitted permitted stateful past kept fits p passes none =
     elim (or_cases (permitted p) (stateful (swap_of p) && is_established (state_of kept p)) passes) [
@@ -62,10 +66,12 @@ kept_behind_seen kept p passes q h =
           inr (same_packet-is p q same.0, let_pass.0, not-true (is_some (kept p)) free.0, not-true (is_some (kept (swap_of p))) free.1)
     ]
 
-pub stays_behind_seen : (kept : Kept) (p : Packet) (passes : Bool) (q : Packet) → is_some (kept q) ≡ true → is_some (after_seen kept p passes q) ≡ true
+pub stays_behind_seen : (kept : Kept) (p : Packet) (passes : Bool) (q : Packet) → is_some (kept q) ≡ true
+    → is_some (after_seen kept p passes q) ≡ true
 stays_behind_seen kept p passes q h = keys-after_seen kept p passes q ∙ or_left (is_some (kept q)) _ h
 
-pub begins_behind_seen : (kept : Kept) (p : Packet) → is_some (kept p) ≡ false → is_some (kept (swap_of p)) ≡ false → is_some (after_seen kept p true p) ≡ true
+pub begins_behind_seen : (kept : Kept) (p : Packet) → is_some (kept p) ≡ false → is_some (kept (swap_of p)) ≡ false
+    → is_some (after_seen kept p true p) ≡ true
 begins_behind_seen kept p own other = keys-after_seen kept p true p ∙ or_right (is_some (kept p)) _ (and_from (same_packet p p) _ (same_packet-self p) (and_from (not (is_some (kept p))) _ (ap not own) (ap not other)))
 
 -- of a permitted packet that passes the connection is kept
@@ -79,7 +85,8 @@ kept_once_seen kept p =
       ]
     ]
 
-pub Fits-seen : {Known : Packet → Type 0} (permitted stateful : Packet → Bool) (past : List Event) (kept : Kept) (p : Packet) → Known p → Fits Known permitted past kept →
+pub Fits-seen : {Known : Packet → Type 0} (permitted stateful : Packet → Bool) (past : List Event) (kept : Kept) (p : Packet) → Known p
+    → Fits Known permitted past kept →
     Fits Known permitted (past ++ Seen p ∷ []) (after_seen kept p (may_pass permitted stateful (state_of kept p) p))
 Fits-seen {Known} permitted stateful past kept p is_known fits = record {
   allowed = λ q h. elim (kept_behind_seen kept p passes q h) [
@@ -100,7 +107,8 @@ Fits-seen {Known} permitted stateful past kept p is_known fits = record {
     passes : Bool
     passes = may_pass permitted stateful (state_of kept p) p
 
-    stays : (q : Packet) → (is_some (kept q) || is_some (kept (swap_of q))) ≡ true → (is_some (after_seen kept p passes q) || is_some (after_seen kept p passes (swap_of q))) ≡ true
+    stays : (q : Packet) → (is_some (kept q) || is_some (kept (swap_of q))) ≡ true
+        → (is_some (after_seen kept p passes q) || is_some (after_seen kept p passes (swap_of q))) ≡ true
     stays q h = elim (or_cases (is_some (kept q)) (is_some (kept (swap_of q))) h) [
       | inl own ↦ or_left _ _ (stays_behind_seen kept p passes q own)
       | inr other ↦ or_right _ _ (stays_behind_seen kept p passes (swap_of q) other)
@@ -111,7 +119,8 @@ Fits-seen {Known} permitted stateful past kept p is_known fits = record {
     kept_now false h = absurd (true≢false (sym h))
 
 -- what was kept still fits where a packet was seen that is not permitted, and is not tracked
-pub Fits-untaken : {Known : Packet → Type 0} (permitted : Packet → Bool) (past : List Event) (kept : Kept) (p : Packet) → permitted p ≡ false → Known p → Fits Known permitted past kept → Fits Known permitted (past ++ Seen p ∷ []) kept
+pub Fits-untaken : {Known : Packet → Type 0} (permitted : Packet → Bool) (past : List Event) (kept : Kept) (p : Packet)
+    → permitted p ≡ false → Known p → Fits Known permitted past kept → Fits Known permitted (past ++ Seen p ∷ []) kept
 Fits-untaken {Known} permitted past kept p barred is_known fits = record {
   allowed = fits.allowed;
   was_seen = λ q h. WasSeen-stays past p q (fits.was_seen q h);
@@ -122,17 +131,20 @@ Fits-untaken {Known} permitted past kept p barred is_known fits = record {
   known = λ q was. elim (WasSeen-behind_seen past p q was) [ inl old ↦ fits.known q old | inr now ↦ subst Known now is_known ];
 }
 
-pub kept_behind_forget : (kept : Kept) (p q : Packet) → is_some (after_forget kept p q) ≡ true → (is_some (kept q) ≡ true) × (p ≢ q) × (p ≢ swap_of q)
+pub kept_behind_forget : (kept : Kept) (p q : Packet) → is_some (after_forget kept p q) ≡ true
+    → (is_some (kept q) ≡ true) × (p ≢ q) × (p ≢ swap_of q)
 kept_behind_forget kept p q h =
     let parts = and_parts (not (same_packet p q || same_packet p (swap_of q))) (is_some (kept q)) (sym (keys-after_forget kept p q) ∙ h) in
     let none = or_parts (same_packet p q) (same_packet p (swap_of q)) (not-true _ parts.0) in
     (parts.1, not_same_packet p q none.0, not_same_packet p (swap_of q) none.1)
 
-pub stays_behind_forget : (kept : Kept) (p q : Packet) → is_some (kept q) ≡ true → p ≢ q → p ≢ swap_of q → is_some (after_forget kept p q) ≡ true
+pub stays_behind_forget : (kept : Kept) (p q : Packet) → is_some (kept q) ≡ true → p ≢ q → p ≢ swap_of q
+    → is_some (after_forget kept p q) ≡ true
 stays_behind_forget kept p q h apart turned =
     keys-after_forget kept p q ∙ and_from _ _ (not_from_false _ (or_from _ _ (same_packet-not p q apart) (same_packet-not p (swap_of q) turned))) h
 
-pub Fits-forget : {Known : Packet → Type 0} (permitted : Packet → Bool) (past : List Event) (kept : Kept) (p : Packet) → Fits Known permitted past kept →
+pub Fits-forget : {Known : Packet → Type 0} (permitted : Packet → Bool) (past : List Event) (kept : Kept) (p : Packet)
+    → Fits Known permitted past kept →
     Fits Known permitted (past ++ Forget p ∷ []) (after_forget kept p)
 Fits-forget permitted past kept p fits = record {
   allowed = λ q h. fits.allowed q (kept_behind_forget kept p q h).0;

@@ -15,8 +15,11 @@ RunsBy permitted stateful = Runs (λ state p passes. passes ≡ may_pass permitt
 
 -- whatever the policy and the events: a run from here answers what is expected and keeps the connections, and there is one
 pub record TracksAsExpected (kept : Kept) : Type 0 where
-  pub answers : (permitted stateful : Packet → Bool) → StatefulArePermitted (λ p. ⊤) permitted stateful → (events : List Event) (answers : List (Option Bool)) →
+  pub answers : (permitted stateful : Packet → Bool) → StatefulArePermitted (λ p. ⊤) permitted stateful
+      → (events : List Event) (answers : List (Option Bool)) →
       RunsBy permitted stateful kept events answers → AreExpected permitted stateful events answers
-  pub connections : (permitted stateful : Packet → Bool) → StatefulArePermitted (λ p. ⊤) permitted stateful → (events : List Event) (answers : List (Option Bool)) →
+  pub connections : (permitted stateful : Packet → Bool) → StatefulArePermitted (λ p. ⊤) permitted stateful
+      → (events : List Event) (answers : List (Option Bool)) →
       RunsBy permitted stateful kept events answers → KeepsConnections permitted events (kept_after kept events answers)
-  pub some : (permitted stateful : Packet → Bool) → StatefulArePermitted (λ p. ⊤) permitted stateful → (events : List Event) → (answers : List (Option Bool)) × RunsBy permitted stateful kept events answers
+  pub some : (permitted stateful : Packet → Bool) → StatefulArePermitted (λ p. ⊤) permitted stateful → (events : List Event)
+      → (answers : List (Option Bool)) × RunsBy permitted stateful kept events answers

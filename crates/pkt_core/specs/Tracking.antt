@@ -1,4 +1,5 @@
--- Connection tracking: what is kept of the events, and the state that it gives a packet. The states NEW and ESTABLISHED are those of the match conntrack in iptables-extensions(8), without ageing and related connections.
+-- Connection tracking: what is kept of the events, and the state that it gives a packet. The states NEW and ESTABLISHED are those of the
+-- match conntrack in iptables-extensions(8), without ageing and related connections.
 use Rattle.std.specs.Prelude.{Bool, true, false, not, ◌==◌, ◌&&◌, ◌||◌, if◌then◌else◌, List, [], ◌∷◌, Option, Some, None, is_some, ⊤}
 use Rattle.std.specs.Option.{unwrap_or}
 use Rattle.host_net.specs.declared.packet.Packet.{Packet}
@@ -43,6 +44,7 @@ after_forget kept p = with_kept (with_kept kept p None) (swap_of p) None
 -- a run of a filter: each packet seen passes or not in its state, and is tracked so; a forgetting has no answer
 abbrev pub Runs : Filter → Kept → List Event → List (Option Bool) → Type 0
 Runs filter kept [] [] = ⊤
-Runs filter kept (Seen p ∷ events) (Some passes ∷ answers) = filter (state_of kept p) p passes × Runs filter (after_seen kept p passes) events answers
+Runs filter kept (Seen p ∷ events) (Some passes ∷ answers) =
+    filter (state_of kept p) p passes × Runs filter (after_seen kept p passes) events answers
 Runs filter kept (Forget p ∷ events) (None ∷ answers) = Runs filter (after_forget kept p) events answers
 Runs filter kept events answers = ⊥

@@ -86,10 +86,12 @@ keys-after_seen kept p accepted q = by_tests (kept (swap_of p)) (kept p) accepte
     by_tests None own false is = no_more (is_some (kept q)) (same_packet p q)
 
 -- what is kept after a forgetting: what was, but for the connection
-pub keys-after_forget : (kept : Kept) (p q : Packet) → is_some (after_forget kept p q) ≡ (not (same_packet p q || same_packet p (swap_of q)) && is_some (kept q))
+pub keys-after_forget : (kept : Kept) (p q : Packet)
+    → is_some (after_forget kept p q) ≡ (not (same_packet p q || same_packet p (swap_of q)) && is_some (kept q))
 keys-after_forget kept p q = ap (λ b. is_some (if b then None else (if same_packet p q then None else kept q))) (same_packet-swap p q) ∙ by_tests (same_packet p (swap_of q)) (same_packet p q) (kept q)
   where
-    by_tests : (turned same : Bool) (own : Option Bool) → is_some (if turned then None else (if same then None else own)) ≡ (not (same || turned) && is_some own)
+    by_tests : (turned same : Bool) (own : Option Bool)
+        → is_some (if turned then None else (if same then None else own)) ≡ (not (same || turned) && is_some own)
     by_tests true true own = refl
     by_tests true false own = refl
     by_tests false true own = refl

@@ -1,6 +1,6 @@
 use Rattle.std.proofs.Common.{◌≡◌, ℕ, List, ◌∙◌, ap, subst, refl}
 use Rattle.ipt_rules.specs.Build.{RefusedFor}
-use Rattle.ipt_read.specs.TextLines.{line_of}
+use Rattle.ipt_read.specs.Said.{line_of}
 use Rattle.ipt_read.proofs.FineLaws.{fine_not_refused}
 use Rattle.ipt_read.proofs.GoesLaws.{not_many, not_unknown}
 use Rattle.ipt_read.specs.State.{said_of}
@@ -11,7 +11,10 @@ line_same : (line : ℕ) (ls items : List ℕ) (c : ℕ) → line ≡ line_of ls
 line_same line ls items c e same = e ∙ ap (λ xs. line_of xs c) same
 
 pub returns-in-Err-Loop-clause-err : goal.returns-in-Err-Loop-clause-err
-returns-in-Err-Loop-clause-err c = (refl, (c.in-Err-Loop.chain, refused_loop c.args.state.chains c.in-Err-Loop.chain (subst (RefusedFor c.args.state.chains) c.in-Err-Loop.field-0-is c.in-Err-Loop.ensures.refused), line_same _ c.deref.result.now c.args.state.declared.items c.in-Err-Loop.chain c.line_of.ensures c.deref.ensures.value))
+returns-in-Err-Loop-clause-err c =
+    let refused = subst (RefusedFor c.args.state.chains) c.in-Err-Loop.field-0-is c.in-Err-Loop.ensures.refused in
+    let line = line_same _ c.deref.result.now c.args.state.declared.items c.in-Err-Loop.chain c.line_of.ensures c.deref.ensures.value in
+    (refl, (c.in-Err-Loop.chain, refused_loop c.args.state.chains c.in-Err-Loop.chain refused, line))
 
 pub unreachable-requires : goal.unreachable-requires
 unreachable-requires c =
@@ -20,5 +23,6 @@ unreachable-requires c =
 
 pub unreachable-requires-in-Err-UnknownChain : goal.unreachable-requires-in-Err-UnknownChain
 unreachable-requires-in-Err-UnknownChain c =
-    not_unknown c.args.state.chains c.in-Err-UnknownChain.field-0-0 c.in-Err-UnknownChain.field-0-1 (fine_not_refused (said_of c.args.state) c.requires)
+    not_unknown c.args.state.chains c.in-Err-UnknownChain.field-0-0 c.in-Err-UnknownChain.field-0-1
+    (fine_not_refused (said_of c.args.state) c.requires)
     (subst (RefusedFor c.args.state.chains) c.in-Err-UnknownChain.field-0-is c.in-Err-UnknownChain.ensures.refused)

@@ -4,12 +4,14 @@ use Rattle.text_core.specs.LinesLaws.{length-lines}
 use Rattle.text_core.specs.Reading.{past_comment, line_by_line}
 use Rattle.text_core.specs.ReadingLaws.{read_more}
 use Rattle.ipt_read.specs.declared.fault.IptWhy.{IptWhy}
-use Rattle.ipt_read.specs.TextLines.{SaidSoFar, line_step}
+use Rattle.ipt_read.specs.Said.{SaidSoFar}
+use Rattle.ipt_read.specs.LineStep.{line_step}
 use Rattle.ipt_read.specs.State.{said_of}
 use Rattle.ipt_read.proofs.FineLaws.{fine_past_comment}
 use Rattle.ipt_read.proofs.whole.read_lines.Goals as goal
 
-one_more_line : (n : ℕ) (s t : SaidSoFar) (l : List ℕ) (ls rest : List (List ℕ)) (whole : Result SaidSoFar (ℕ × IptWhy)) → ls ≡ l ∷ rest → past_comment line_step n s l ≡ Ok t → line_by_line line_step n s ls ≡ whole → line_by_line line_step (n + 1) t rest ≡ whole
+one_more_line : (n : ℕ) (s t : SaidSoFar) (l : List ℕ) (ls rest : List (List ℕ)) (whole : Result SaidSoFar (ℕ × IptWhy)) → ls ≡ l ∷ rest
+    → past_comment line_step n s l ≡ Ok t → line_by_line line_step n s ls ≡ whole → line_by_line line_step (n + 1) t rest ≡ whole
 one_more_line n s t l ls rest whole next step left =
     sym (read_more line_step n s t l rest step) ∙ ap (line_by_line line_step n s) (sym next) ∙ left
 

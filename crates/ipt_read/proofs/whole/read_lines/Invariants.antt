@@ -1,7 +1,8 @@
 use Rattle.std.proofs.Common.{◌≡◌, ◌+◌, length}
 use Rattle.text_core.specs.Lines.{lines}
 use Rattle.text_core.specs.Reading.{line_by_line}
-use Rattle.ipt_read.specs.TextLines.{line_step, nothing_said}
+use Rattle.ipt_read.specs.Said.{nothing_said}
+use Rattle.ipt_read.specs.LineStep.{line_step}
 use Rattle.ipt_read.specs.State.{said_of, IsFine}
 use Rattle.ipt_read.proofs.whole.read_lines.Given as goal
 

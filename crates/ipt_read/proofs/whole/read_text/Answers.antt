@@ -3,12 +3,13 @@ use Rattle.std.specs.Prelude.{Result, Ok, Err, IfOk, IfErr}
 use Rattle.ipt_read.specs.declared.fault.IptWhy.{IptWhy}
 use Rattle.ipt_read.specs.declared.fault.IptFault.{IptFault}
 use Rattle.ipt_read.specs.declared.fault.IptFault.TheVariants.{Refused, Memory}
-use Rattle.ipt_read.specs.TextLines.{SaidSoFar}
+use Rattle.ipt_read.specs.Said.{SaidSoFar}
 use Rattle.ipt_read.specs.State.{Tells, said_of}
 use Rattle.ipt_read.specs.TextLaws.{long_said, short_said}
 use Rattle.ipt_read.proofs.whole.read_text.Goals as goal
 
-said_ok : {V : Type 0} (view : V → SaidSoFar) (p q : Result SaidSoFar (ℕ × IptWhy)) (r : Result V IptFault) → p ≡ q → IfOk r (λ t. q ≡ Ok (view t)) → IfOk r (λ t. p ≡ Ok (view t))
+said_ok : {V : Type 0} (view : V → SaidSoFar) (p q : Result SaidSoFar (ℕ × IptWhy)) (r : Result V IptFault) → p ≡ q
+    → IfOk r (λ t. q ≡ Ok (view t)) → IfOk r (λ t. p ≡ Ok (view t))
 said_ok view p q (Ok t) e h = e ∙ h
 said_ok view p q (Err why) e h = tt
 

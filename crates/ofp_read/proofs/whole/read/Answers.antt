@@ -11,7 +11,6 @@ use Rattle.ofp_read.specs.FaultLaws.{one_reading, one_fault, no_reading_with_fau
 use Rattle.ofp_rules.specs.Build.{IsTable}
 use Rattle.ofp_rules.specs.Text.{text}
 use Rattle.ofp_read.specs.AgainLaws.{text_read_again}
-use Rattle.ofp_read.specs.Written.{AreInRange}
 use Rattle.ofp_read.specs.Grammar.{AddsEntry, IsReading}
 use Rattle.ofp_read.specs.State.{TellsOfLines}
 use Rattle.ofp_read.specs.TextLines.{HasFault, too_long, at_line}
@@ -70,21 +69,21 @@ returns-clause-faulty c = λ line why fault.
     faulty c.args.bytes.now c.read_lines.result line why (found c.args.bytes.now c.read_lines.result (omega arith) c.read_lines.ensures.ok)
     (refused c.args.bytes.now c.read_lines.result (omega arith) c.read_lines.ensures.err) fault
 
-written : (bytes : List ℕ) (entries : List Entry) → IsTable entries → AreInRange entries → bytes ≡ text entries → IsReading bytes entries
-written bytes entries table range is = subst (λ (bs : List ℕ). IsReading bs entries) (sym is) (text_read_again entries table range)
+written : (bytes : List ℕ) (entries : List Entry) → IsTable entries → bytes ≡ text entries → IsReading bytes entries
+written bytes entries table is = subst (λ (bs : List ℕ). IsReading bs entries) (sym is) (text_read_again entries table)
 
 table_read : (bytes : List ℕ) (r : Result (List Entry) OfpFault) → IfOk r (IsReading bytes) → IfOk r IsTable
 table_read bytes (Ok entries) read = reading_is_table bytes entries read
 table_read bytes (Err fault) read = tt
 
 pub returns-then-bytes-gt-BYTE_LIMIT-clause-again : goal.returns-then-bytes-gt-BYTE_LIMIT-clause-again
-returns-then-bytes-gt-BYTE_LIMIT-clause-again c = λ entries table range is.
-    only c.args.bytes.now (Err (Refused 0 TooLong)) entries tt (too_long (omega arith)) (written c.args.bytes.now entries table range is)
+returns-then-bytes-gt-BYTE_LIMIT-clause-again c = λ entries table is.
+    only c.args.bytes.now (Err (Refused 0 TooLong)) entries tt (too_long (omega arith)) (written c.args.bytes.now entries table is)
 
 pub returns-clause-again : goal.returns-clause-again
-returns-clause-again c = λ entries table range is.
+returns-clause-again c = λ entries table is.
     only c.args.bytes.now c.read_lines.result entries (found c.args.bytes.now c.read_lines.result (omega arith) c.read_lines.ensures.ok)
-    (refused c.args.bytes.now c.read_lines.result (omega arith) c.read_lines.ensures.err) (written c.args.bytes.now entries table range is)
+    (refused c.args.bytes.now c.read_lines.result (omega arith) c.read_lines.ensures.err) (written c.args.bytes.now entries table is)
 
 pub returns-clause-table : goal.returns-clause-table
 returns-clause-table c =

@@ -1,4 +1,5 @@
 use Rattle.std.proofs.Common.{◌≡◌, ◌∙◌, ap, subst, arith, List, length}
+use Rattle.std.proofs.lemmas.Bool.Decides.{nat_tests}
 use Rattle.ofp_rules.specs.declared.entry.Entry.{Entry}
 use Rattle.ofp_rules.specs.Ambiguity.{ContradictsNone}
 use Rattle.ofp_rules.specs.Build.{IsFirstAgainst, IsTable}
@@ -21,4 +22,5 @@ put-requires c =
     let none : ContradictsNone c.deref.result.now c.args.entry = c.in_default.ensures.nowhere in
     let counted : c.len-count.result ≡ length c.args.self.now = omega (arith, ap length c.self.view_is) in
     table_more c.args.self.now c.args.entry (subst IsTable c.self.view_is c.self.invariant.0) (omega (arith, counted))
-    (subst (λ (es : List Entry). ContradictsNone es c.args.entry) (c.deref.ensures.value ∙ c.self.view_is) none) c.requires.asks
+    (subst (λ (es : List Entry). ContradictsNone es c.args.entry) (c.deref.ensures.value ∙ c.self.view_is) none)
+    (grind (arith, nat_tests)) c.requires.asks

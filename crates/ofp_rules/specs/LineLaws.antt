@@ -1,4 +1,4 @@
--- How long a line is, and that it stands whole in the buffer.
+-- How long the line of an entry is.
 use Rattle.std.proofs.Common.{ℕ, ◌≤◌, ◌<◌, ◌^◌, [], ◌∷◌, Option, Some, None, length, arith, length-append}
 use Rattle.std.proofs.lemmas.Fmt.{length-decimal-le}
 use Rattle.host_net.specs.declared.prefix.Prefix.{Prefix}
@@ -27,4 +27,11 @@ pub entry_line_short : (e : Entry) → e.priority < 2 ^ 16 → length (entry_lin
 unfolding entry_line
 entry_line_short e fits =
     simp length-append
-    (omega (arith, length-decimal-le 5 e.priority (omega arith) (omega arith) (omega arith), kind_short e.kind, part_short 110 119 95 115 114 99 61 e.src, part_short 110 119 95 100 115 116 61 e.dst, action_short e.action))
+    (omega (
+      arith,
+      length-decimal-le 5 e.priority (omega arith) (omega arith) (omega arith),
+      kind_short e.kind,
+      part_short 110 119 95 115 114 99 61 e.src,
+      part_short 110 119 95 100 115 116 61 e.dst,
+      action_short e.action,
+    ))

@@ -1,4 +1,4 @@
--- The entries that stand as a text: numbers as wide as a frame has room for.
+-- That the numbers of an entry have room in a frame: 16 bits for a priority, 32 for an address.
 use Rattle.std.specs.Prelude.{◌^◌, Bool, true, ◌&&◌, nat_lt, IsTrue, List, Option, Some, None}
 use Rattle.std.specs.List.{list_all}
 use Rattle.host_net.specs.declared.prefix.Prefix.{Prefix}

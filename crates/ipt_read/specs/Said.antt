@@ -1,0 +1,20 @@
+-- What the lines of a text have said so far.
+use Rattle.std.specs.Prelude.{ℕ, List, [], ◌∷◌}
+use Rattle.std.specs.List.{slice_index_or}
+use Rattle.ipt_rules.specs.Chain.{Chain, built_in_chains}
+use Rattle.ipt_read.specs.declared.stage.Stage.{Stage}
+use Rattle.ipt_read.specs.declared.stage.Stage.TheVariants.{Front}
+
+-- how far the text has come, the chains, for each chain the line of its chain line (0 where it has none yet), and how many rules
+pub record SaidSoFar : Type 0 where
+  pub stage : Stage
+  pub chains : List Chain
+  pub declared : List ℕ
+  pub rules : ℕ
+
+abbrev pub nothing_said : SaidSoFar
+nothing_said = record { stage = Front; chains = built_in_chains; declared = 0 ∷ 0 ∷ 0 ∷ []; rules = 0 }
+
+-- the line of a chain's chain line
+abbrev pub line_of : List ℕ → ℕ → ℕ
+line_of declared c = slice_index_or declared c 0
