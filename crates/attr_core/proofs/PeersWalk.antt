@@ -7,7 +7,7 @@ use Rattle.std.specs.List.{fold}
 use Rattle.std.specs.Ordering.{nat_cmp}
 use Rattle.toml.specs.Data.{Data}
 use Rattle.host_net.specs.Host.{Host}
-use Rattle.host_set.specs.HostSet.{HostNumbers as Hosts}
+use Rattle.host_set.specs.HostSet.{HostNumbers}
 use Rattle.table_core.specs.Listing.{each, grow}
 use Rattle.table_core.specs.ListingLaws.{grow_each}
 use Rattle.attr_core.specs.NoReach.{all_denied}
@@ -20,10 +20,11 @@ with_peer with hosts host s d = option_map (with s) (peer hosts host d)
 fold_insert : (ks js : List ℕ) → fold set.insert (set.from_list {R = nat_cmp} ks) js ≡ set.from_list (ks ++ js)
 fold_insert ks [] = ap set.from_list (sym (append-nil ks))
 fold_insert ks (j ∷ js) =
-    ap (λ (s : Hosts). fold set.insert s js) (sym (set.from_list_push nat_cmp_total nat_cmp-IsAntisymmetric ks j))
+    ap (λ (s : HostNumbers). fold set.insert s js) (sym (set.from_list_push nat_cmp_total nat_cmp-IsAntisymmetric ks j))
     ∙ fold_insert (ks ++ j ∷ []) js ∙ ap set.from_list (append_assoc ks (j ∷ []) js)
 
-pub grow_denied : (hosts : List Host) (host : ℕ) (ds : List Data) → grow (with_peer set.insert hosts host) set.empty ds ≡ all_denied hosts host ds
+pub grow_denied : (hosts : List Host) (host : ℕ)
+    (ds : List Data) → grow (with_peer set.insert hosts host) set.empty ds ≡ all_denied hosts host ds
 unfolding all_denied
 grow_denied hosts host ds =
-    grow_each (peer hosts host) set.insert set.empty ds ∙ ap (λ (make : List ℕ → Hosts). option_map make (each (peer hosts host) ds)) (λ i js. fold_insert [] js i)
+    grow_each (peer hosts host) set.insert set.empty ds ∙ ap (λ (make : List ℕ → HostNumbers). option_map make (each (peer hosts host) ds)) (λ i js. fold_insert [] js i)

@@ -9,7 +9,12 @@ use Rattle.table_core.specs.Keys.{Key}
 
 -- the attribute that a table of one of the shapes says of a host among these hosts, if it says one
 abbrev pub alone : (t : Template) → List (List Key) → (List Host → ℕ → Members → Option t.Attribute) → (List t.Attribute → AnyInv) → Form
-alone t shapes attribute make = record { template = t; shapes = shapes; reads = λ hosts earlier a. attribute hosts a.host a.table; make = make }
+alone t shapes attribute make = record {
+  template = t;
+  shapes = shapes;
+  reads = λ hosts earlier a. attribute hosts a.host a.table;
+  make = make;
+}
 
 -- the same where every table of one of the shapes says an attribute, whatever the hosts are
 abbrev pub plain : (t : Template) → List (List Key) → (Members → t.Attribute) → (List t.Attribute → AnyInv) → Form

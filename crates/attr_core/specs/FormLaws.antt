@@ -1,21 +1,17 @@
--- A walk through the assigns that keeps what the earlier ones said and the attributes so far ends with the attributes that are assigned, or at the first assign that says none.
-use Rattle.std.proofs.Common.{◌≡◌, ◌≢◌, IsSomeAnd, IsTrue, subst, take, ℕ, zero, suc, ◌+◌, ◌<◌, ◌==◌, Bool, true, false, not, List, [], ◌∷◌, ◌++◌, append_assoc, append-nil, length, length-set, get_or, map, Option, Some, None, option_map, is_some, Ok, Err, refl, sym, ap, ◌∙◌, arith}
+-- A walk through the assigns that keeps what the earlier ones said and the attributes so far ends with the attributes that are assigned,
+-- or at the first assign that says none.
+use Rattle.std.proofs.Common.{◌≡◌, ◌≢◌, ℕ, suc, ◌+◌, ◌<◌, ◌==◌, Bool, true, false, not, List, [], ◌∷◌, ◌++◌, append_assoc, append-nil, length, length-set, get_or, map, Option, Some, None, option_map, is_some, Ok, Err, refl, sym, ap, ◌∙◌, arith}
 use Rattle.std.proofs.lemmas.Bool.{and_parts}
 use Rattle.std.proofs.lemmas.Bool.Decides.{nat_tests}
 use Rattle.std.proofs.lemmas.List.{ext_get_or, get_or-set_same, length-append}
 use Rattle.std.proofs.Common.{get_or-set_other}
 use Rattle.std.proofs.lemmas.List.FromFn.{get_or-map-range_with_len, length-map-range_with_len}
-use Rattle.std.specs.List.{list_all, range_with_len, slice_get}
+use Rattle.std.specs.List.{list_all, range_with_len}
 use Rattle.std.specs.Option.{option_or}
 use Rattle.std.specs.Prelude.{if◌then◌else◌, slice_set, unwrap_or}
 use Rattle.attr_core.specs.Assigns.{Given}
 use Rattle.attr_core.specs.Forms.{assigned, bad_from, last_said}
 use Rattle.attr_core.specs.Walks.{after, ended, in_turn}
-
--- the assign with number k says no attribute, and each one before it does
-pub record IsFirstBad {A : Type 0} (says : List Given → Given → Option A) (assigns : List Given) (k : ℕ) : Type 0 where
-  pub here : IsSomeAnd (slice_get assigns k) (λ a. says (take k assigns) a ≡ None)
-  pub before : (i : ℕ) → i < k → IsSomeAnd (slice_get assigns i) (λ a. IsTrue (is_some (says (take i assigns) a)))
 
 abbrev pub set_said : {A : Type 0} → List A → ℕ → Option A → List A
 set_said xs host None = xs
@@ -51,7 +47,8 @@ length-set_said : {A : Type 0} (xs : List A) (host : ℕ) (o : Option A) → len
 length-set_said xs host None = refl
 length-set_said xs host (Some x) = length-set xs host x
 
-pub length-set_all : {A : Type 0} (says : List Given → Given → Option A) (earlier : List Given) (xs : List A) (rest : List Given) → length (set_all says earlier xs rest) ≡ length xs
+pub length-set_all : {A : Type 0} (says : List Given → Given → Option A) (earlier : List Given) (xs : List A) (rest : List Given)
+    → length (set_all says earlier xs rest) ≡ length xs
 length-set_all says earlier xs [] = refl
 length-set_all says earlier xs (a ∷ rest) = length-set_all says (earlier ++ a ∷ []) (set_said xs a.host (says earlier a)) rest ∙ length-set_said xs a.host (says earlier a)
 
@@ -71,7 +68,8 @@ last_by xs i host d None (Some x) true is within =
     ap (λ j. get_or (slice_set xs j x) host d) same ∙ get_or-set_same xs host x d within
 last_by xs i host d None (Some x) false is within = get_or-set_other xs i host x d (λ same. other_host i host is (sym same))
 
-pub get_or-set_all : {A : Type 0} (says : List Given → Given → Option A) (earlier : List Given) (xs : List A) (rest : List Given) (host : ℕ) (d : A) → host < length xs
+pub get_or-set_all : {A : Type 0} (says : List Given → Given → Option A) (earlier : List Given) (xs : List A) (rest : List Given)
+    (host : ℕ) (d : A) → host < length xs
     → get_or (set_all says earlier xs rest) host d ≡ unwrap_or (last_said says earlier host rest) (get_or xs host d)
 get_or-set_all says earlier xs [] host d within = refl
 get_or-set_all says earlier xs (a ∷ rest) host d within =
@@ -102,71 +100,27 @@ walked says holding step steps default n assigns =
     ∙ ap (λ xs. ended (bad_from says [] assigns) (holding assigns xs)) (set_all_assigned says default n assigns)
 
 -- the assign that is bad is one of those that are given
-within_by : {A : Type 0} (o : Option A) (n m k : ℕ) (later : Option ℕ) → (later ≡ Some k → k < n + 1 + m) → (if is_some o then later else Some n) ≡ Some k → k < n + suc m
+within_by : {A : Type 0} (o : Option A) (n m k : ℕ) (later : Option ℕ) → (later ≡ Some k → k < n + 1 + m)
+    → (if is_some o then later else Some n) ≡ Some k → k < n + suc m
 within_by None n m k later behind is = let same : n ≡ k = cc in omega (arith, same)
 within_by (Some x) n m k later behind is = omega (arith, behind is)
 
-pub bad_within : {A : Type 0} (says : List Given → Given → Option A) (earlier rest : List Given) (k : ℕ) → bad_from says earlier rest ≡ Some k → k < length earlier + length rest
+pub bad_within : {A : Type 0} (says : List Given → Given → Option A) (earlier rest : List Given) (k : ℕ)
+    → bad_from says earlier rest ≡ Some k → k < length earlier + length rest
 bad_within says earlier [] k is = cc
 bad_within says earlier (a ∷ rest) k is =
     within_by (says earlier a) (length earlier) (length rest) k (bad_from says (earlier ++ a ∷ []) rest)
     (λ later. rw (length-append earlier (a ∷ [])) at (bad_within says (earlier ++ a ∷ []) rest k later)) is
 
 -- host by host
-pub attribute_at : {A : Type 0} (says : List Given → Given → Option A) (default : ℕ → A) (n : ℕ) (assigns : List Given) (host : ℕ) (d : A) → host < n
+pub attribute_at : {A : Type 0} (says : List Given → Given → Option A) (default : ℕ → A) (n : ℕ) (assigns : List Given) (host : ℕ)
+    (d : A) → host < n
     → get_or (assigned says default n assigns) host d ≡ unwrap_or (last_said says [] host assigns) (default host)
 attribute_at says default n assigns host d within = get_or-map-range_with_len (λ i. unwrap_or (last_said says [] i assigns) (default i)) 0 n host host d within (omega arith)
 
--- the first that is bad, assign by assign
-BadBehind : {A : Type 0} → (List Given → Given → Option A) → List Given → List Given → ℕ → Type 0
-BadBehind says earlier rest i = IsSomeAnd (slice_get rest i) (λ a. says (earlier ++ take i rest) a ≡ None) × ((j : ℕ) → j < i → IsSomeAnd (slice_get rest j) (λ a. IsTrue (is_some (says (earlier ++ take j rest) a))))
-
-at_end : {A : Type 0} (says : List Given → Given → Option A) (earlier : List Given) (a : Given) (o : Option A) → says earlier a ≡ o → says (earlier ++ []) a ≡ o
-at_end says earlier a o is = ap (λ all. says all a) (append-nil earlier) ∙ is
-
-moved : (o : Option Given) (P Q : Given → Type 0) → ((a : Given) → P a → Q a) → IsSomeAnd o P → IsSomeAnd o Q
-moved None P Q each h = h
-moved (Some a) P Q each h = each a h
-
-before_by : {A : Type 0} (says : List Given → Given → Option A) (earlier : List Given) (a : Given) (rest : List Given) (i j : ℕ) → IsTrue (is_some (says earlier a)) → BadBehind says (earlier ++ a ∷ []) rest i → j < suc i
-    → IsSomeAnd (slice_get (a ∷ rest) j) (λ b. IsTrue (is_some (says (earlier ++ take j (a ∷ rest)) b)))
-unfolding BadBehind
-before_by says earlier a rest i zero good bad within = subst (λ all. IsTrue (is_some (says all a))) (sym (append-nil earlier)) good
-before_by says earlier a rest i (suc j) good bad within =
-    moved (slice_get rest j) _ _ (λ b h. subst (λ all. IsTrue (is_some (says all b))) (append_assoc earlier (a ∷ []) (take j rest)) h) (bad.1 j (omega (arith, within)))
-
-bad_later : {A : Type 0} (says : List Given → Given → Option A) (earlier : List Given) (a : Given) (rest : List Given) (i : ℕ) → IsTrue (is_some (says earlier a)) → BadBehind says (earlier ++ a ∷ []) rest i → BadBehind says earlier (a ∷ rest) (suc i)
-unfolding BadBehind
-bad_later says earlier a rest i good bad = (
-  moved (slice_get rest i) _ _ (λ b h. subst (λ all. says all b ≡ None) (append_assoc earlier (a ∷ []) (take i rest)) h) bad.0,
-  λ j within. before_by says earlier a rest i j good bad within,
-)
-
-bad_here : {A : Type 0} (says : List Given → Given → Option A) (earlier : List Given) (a : Given) (rest : List Given) → says earlier a ≡ None → BadBehind says earlier (a ∷ rest) 0
-unfolding BadBehind
-bad_here says earlier a rest is = (at_end says earlier a None is, λ j within. absurd (omega (arith, within)))
-
-bad_by : {A : Type 0} (says : List Given → Given → Option A) (earlier : List Given) (a : Given) (rest : List Given) (o : Option A) (k : ℕ) → says earlier a ≡ o
-    → (bad_from says (earlier ++ a ∷ []) rest ≡ Some k → (i : ℕ) × (k ≡ length (earlier ++ a ∷ []) + i) × BadBehind says (earlier ++ a ∷ []) rest i)
-    → (if is_some o then bad_from says (earlier ++ a ∷ []) rest else Some (length earlier)) ≡ Some k → (i : ℕ) × (k ≡ length earlier + i) × BadBehind says earlier (a ∷ rest) i
-bad_by says earlier a rest None k here behind is = let same : length earlier ≡ k = cc in (0, omega (arith, same), bad_here says earlier a rest here)
-bad_by says earlier a rest (Some x) k here behind is =
-    let (i, place, bad) = behind is in
-    (suc i, omega (arith, place, length-append earlier (a ∷ [])), bad_later says earlier a rest i (ap is_some here) bad)
-
-bad_behind : {A : Type 0} (says : List Given → Given → Option A) (earlier rest : List Given) (k : ℕ) → bad_from says earlier rest ≡ Some k → (i : ℕ) × (k ≡ length earlier + i) × BadBehind says earlier rest i
-bad_behind says earlier [] k is = cc
-bad_behind says earlier (a ∷ rest) k is = bad_by says earlier a rest (says earlier a) k refl (λ later. bad_behind says (earlier ++ a ∷ []) rest k later) is
-
-pub is_first_bad : {A : Type 0} (says : List Given → Given → Option A) (assigns : List Given) (k : ℕ) → bad_from says [] assigns ≡ Some k → IsFirstBad says assigns k
-unfolding BadBehind
-is_first_bad says assigns k is =
-    let (i, place, bad) = bad_behind says [] assigns k is in
-    let same : i ≡ k = omega (arith, place) in
-    subst (IsFirstBad says assigns) same (record { here = bad.0; before = bad.1 })
-
 -- a host that no assign names has its default; one that one assign names last has what that says
-pub said_none : {A : Type 0} (says : List Given → Given → Option A) (earlier : List Given) (host : ℕ) (rest : List Given) → list_all (λ a. not (a.host == host)) rest ≡ true → last_said says earlier host rest ≡ None
+pub said_none : {A : Type 0} (says : List Given → Given → Option A) (earlier : List Given) (host : ℕ) (rest : List Given)
+    → list_all (λ a. not (a.host == host)) rest ≡ true → last_said says earlier host rest ≡ None
 said_none says earlier host [] none = refl
 said_none says earlier host (a ∷ rest) none =
     let (here, behind) = and_parts (not (a.host == host)) _ none in
@@ -176,8 +130,10 @@ said_none says earlier host (a ∷ rest) none =
     not_here true o h = cc
     not_here false o h = refl
 
-pub said_last : {A : Type 0} (says : List Given → Given → Option A) (earlier : List Given) (host : ℕ) (before : List Given) (a : Given) (rest : List Given) (x : A)
-    → (a.host == host) ≡ true → list_all (λ b. not (b.host == host)) rest ≡ true → says (earlier ++ before) a ≡ Some x → last_said says earlier host (before ++ a ∷ rest) ≡ Some x
+pub said_last : {A : Type 0} (says : List Given → Given → Option A) (earlier : List Given) (host : ℕ) (before : List Given) (a : Given)
+    (rest : List Given) (x : A)
+    → (a.host == host) ≡ true → list_all (λ b. not (b.host == host)) rest ≡ true → says (earlier ++ before) a ≡ Some x
+    → last_said says earlier host (before ++ a ∷ rest) ≡ Some x
 said_last says earlier host [] a rest x here none is =
     let said : says earlier a ≡ Some x = ap (λ all. says all a) (sym (append-nil earlier)) ∙ is in
     rw (said_none says (earlier ++ a ∷ []) host rest none, here, said) refl

@@ -1,4 +1,5 @@
--- A template as a description writes it, in one record; and what the assigns of an invariant come to, once for all templates: the first assign that says no attribute, and the attribute of each host.
+-- A template as a description writes it, in one record; and what the assigns of an invariant come to, once for all templates: the first
+-- assign that says no attribute, and the attribute of each host.
 use Rattle.std.specs.Prelude.{ℕ, ◌==◌, List, [], ◌∷◌, ◌++◌, length, map, Option, Some, None, is_some, unwrap_or, if◌then◌else◌}
 use Rattle.std.specs.List.{range_with_len}
 use Rattle.std.specs.Option.{option_or}
@@ -9,7 +10,8 @@ use Rattle.attr_core.specs.Assigns.{Given}
 use Rattle.table_core.specs.Keys.{Key}
 use Rattle.attr_core.specs.Shapes.{has_shape}
 
--- the template, the shapes that the table of an assign may have, the attribute that an assign of such a shape says among these hosts and after these earlier assigns, if it says one, and the invariant of the attributes
+-- the template, the shapes that the table of an assign may have, the attribute that an assign of such a shape says among these hosts and
+-- after these earlier assigns, if it says one, and the invariant of the attributes
 pub record Form : Type 1 where
   pub template : Template
   pub shapes : List (List Key)
@@ -23,7 +25,8 @@ says form hosts earlier a = if has_shape form.shapes a.table then form.reads hos
 -- what the last assign that names the host says
 abbrev pub last_said : {A : Type 0} → (List Given → Given → Option A) → List Given → ℕ → List Given → Option A
 last_said says earlier host [] = None
-last_said says earlier host (a ∷ rest) = option_or (last_said says (earlier ++ a ∷ []) host rest) (if a.host == host then says earlier a else None)
+last_said says earlier host (a ∷ rest) =
+    option_or (last_said says (earlier ++ a ∷ []) host rest) (if a.host == host then says earlier a else None)
 
 -- the attributes of n hosts: each has what the last assign that names it says, or its default
 abbrev pub assigned : {A : Type 0} → (List Given → Given → Option A) → (ℕ → A) → ℕ → List Given → List A

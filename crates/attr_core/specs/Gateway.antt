@@ -14,7 +14,10 @@ use Rattle.attr_core.specs.Kinds.{kind_key, kind_of}
 use Rattle.attr_core.specs.Shapes.{host_key}
 
 abbrev pub gateway_keys : List Key
-gateway_keys = host_key ∷ kind_key (codes "gateway" ∷ codes "gateway-in" ∷ codes "member" ∷ codes "accessible" ∷ codes "unassigned" ∷ []) ∷ []
+gateway_keys =
+    host_key
+    ∷ kind_key (codes "gateway" ∷ codes "gateway-in" ∷ codes "member" ∷ codes "accessible" ∷ codes "unassigned" ∷ [])
+    ∷ []
 
 -- the kind of a word
 unfoldable pub gate_kind : List ℕ → GateKind

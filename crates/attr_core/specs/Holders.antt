@@ -24,16 +24,19 @@ pub record IsHolder {S : Type 0} (form : Form) (holding : List Given → List fo
       → with_assign hosts (holding earlier xs) a ≡ option_map (λ x. holding (earlier ++ a ∷ []) (slice_set xs a.host x)) (form.reads hosts earlier a)
   pub makes : (assigns : List Given) (xs : List form.template.Attribute) → made_of (holding assigns xs) ≡ form.make xs
 
-shaped_by : {A S : Type 0} (b : Bool) (o : Option S) (p : Option A) (f : A → S) → o ≡ option_map f p → (if b then o else None) ≡ option_map f (if b then p else None)
+shaped_by : {A S : Type 0} (b : Bool) (o : Option S) (p : Option A) (f : A → S) → o ≡ option_map f p
+    → (if b then o else None) ≡ option_map f (if b then p else None)
 shaped_by true o p f same = same
 shaped_by false o p f same = refl
 
-shaped_says : {S : Type 0} (form : Form) (hosts : List Host) (earlier : List Given) (a : Given) (step : S → Given → Option S) (s : S) (f : form.template.Attribute → S)
+shaped_says : {S : Type 0} (form : Form) (hosts : List Host) (earlier : List Given) (a : Given) (step : S → Given → Option S) (s : S)
+    (f : form.template.Attribute → S)
     → step s a ≡ option_map f (form.reads hosts earlier a) → shaped form.shapes step s a ≡ option_map f (says form hosts earlier a)
 unfolding shaped
 shaped_says form hosts earlier a step s f same = shaped_by (has_shape form.shapes a.table) (step s a) (form.reads hosts earlier a) f same
 
-pub read_ended : {S : Type 0} (form : Form) (holding : List Given → List form.template.Attribute → S) (start_of : List Host → S) (with_assign : List Host → S → Given → Option S) (made_of : S → AnyInv)
+pub read_ended : {S : Type 0} (form : Form) (holding : List Given → List form.template.Attribute → S) (start_of : List Host → S)
+    (with_assign : List Host → S → Given → Option S) (made_of : S → AnyInv)
     → IsHolder form holding start_of with_assign made_of → (hosts : List Host) (assigns : List Given)
     → in_turn (shaped form.shapes (with_assign hosts)) 0 (start_of hosts) assigns ≡ ended (bad_assign form hosts assigns) (holding assigns (attributes_in form hosts assigns))
 read_ended form holding start_of with_assign made_of law hosts assigns =
@@ -44,7 +47,8 @@ read_ended form holding start_of with_assign made_of law hosts assigns =
     (form.template.default (length hosts)) (length hosts) assigns
 
 -- one that holds the attributes alone
-pub alone_holder : (t : Template) (shapes : List (List Key)) (attribute : List Host → ℕ → Members → Option t.Attribute) (make : List t.Attribute → AnyInv) (start_of : List Host → List t.Attribute)
+pub alone_holder : (t : Template) (shapes : List (List Key)) (attribute : List Host → ℕ → Members → Option t.Attribute)
+    (make : List t.Attribute → AnyInv) (start_of : List Host → List t.Attribute)
     → ((hosts : List Host) → start_of hosts ≡ map (t.default (length hosts)) (range_with_len 0 (length hosts)))
     → IsHolder (alone t shapes attribute make) (λ earlier xs. xs) start_of (λ hosts. with_attribute (λ a. attribute hosts a.host a.table)) make
 alone_holder t shapes attribute make start_of starts = record {
@@ -58,13 +62,15 @@ pub same_everywhere : {A : Type 0} (x : A) (start n : ℕ) → replicate n x ≡
 same_everywhere x start zero = refl
 same_everywhere x start (suc n) = ap (λ xs. x ∷ xs) (same_everywhere x (start + 1) n)
 
-pub even_holder : (t : Template) (shapes : List (List Key)) (attribute : List Host → ℕ → Members → Option t.Attribute) (make : List t.Attribute → AnyInv) (x : t.Attribute) → t.default ≡ (λ n host. x)
+pub even_holder : (t : Template) (shapes : List (List Key)) (attribute : List Host → ℕ → Members → Option t.Attribute)
+    (make : List t.Attribute → AnyInv) (x : t.Attribute) → t.default ≡ (λ n host. x)
     → IsHolder (alone t shapes attribute make) (λ earlier xs. xs) (λ hosts. replicate (length hosts) x) (λ hosts. with_attribute (λ a. attribute hosts a.host a.table)) make
 even_holder t shapes attribute make x even =
     alone_holder t shapes attribute make (λ hosts. replicate (length hosts) x)
     (λ hosts. same_everywhere x 0 (length hosts) ∙ ap (λ (f : ℕ → ℕ → t.Attribute). map (f (length hosts)) (range_with_len 0 (length hosts))) (sym even))
 
-pub plain_holder : (t : Template) (shapes : List (List Key)) (attribute : Members → t.Attribute) (make : List t.Attribute → AnyInv) (x : t.Attribute) → t.default ≡ (λ n host. x)
+pub plain_holder : (t : Template) (shapes : List (List Key)) (attribute : Members → t.Attribute) (make : List t.Attribute → AnyInv)
+    (x : t.Attribute) → t.default ≡ (λ n host. x)
     → IsHolder (plain t shapes attribute make) (λ earlier xs. xs) (λ hosts. replicate (length hosts) x) (λ hosts. with_attribute (λ a. Some (attribute a.table))) make
 plain_holder t shapes attribute make x even = even_holder t shapes (λ hosts host table. Some (attribute table)) make x even
 
@@ -73,9 +79,11 @@ made_by : {S B : Type 0} (o : Option ℕ) (s t : S) (make : S → B) (x : B) →
 made_by None s t make x made is = let same : s ≡ t = cc in ap Ok (sym made ∙ ap make same)
 made_by (Some k) s t make x made is = cc
 
-pub gave_made : {S : Type 0} (form : Form) (holding : List Given → List form.template.Attribute → S) (start_of : List Host → S) (with_assign : List Host → S → Given → Option S) (made_of : S → AnyInv)
+pub gave_made : {S : Type 0} (form : Form) (holding : List Given → List form.template.Attribute → S) (start_of : List Host → S)
+    (with_assign : List Host → S → Given → Option S) (made_of : S → AnyInv)
     → IsHolder form holding start_of with_assign made_of → (hosts : List Host) (assigns : List Given) (t : S)
-    → in_turn (shaped form.shapes (with_assign hosts)) 0 (start_of hosts) assigns ≡ Ok t → ended (bad_assign form hosts assigns) (form.make (attributes_in form hosts assigns)) ≡ Ok (made_of t)
+    → in_turn (shaped form.shapes (with_assign hosts)) 0 (start_of hosts) assigns ≡ Ok t
+    → ended (bad_assign form hosts assigns) (form.make (attributes_in form hosts assigns)) ≡ Ok (made_of t)
 gave_made form holding start_of with_assign made_of law hosts assigns t is =
     made_by (bad_assign form hosts assigns) (holding assigns (attributes_in form hosts assigns)) t made_of _ (law.makes assigns (attributes_in form hosts assigns))
     (sym (read_ended form holding start_of with_assign made_of law hosts assigns) ∙ is)
@@ -84,9 +92,11 @@ failed_by : {S B : Type 0} (o : Option ℕ) (s : S) (x : B) (k : ℕ) → ended 
 failed_by None s x k is = cc
 failed_by (Some j) s x k is = let same : j ≡ k = cc in ap Err same
 
-pub gave_fault : {S : Type 0} (form : Form) (holding : List Given → List form.template.Attribute → S) (start_of : List Host → S) (with_assign : List Host → S → Given → Option S) (made_of : S → AnyInv)
+pub gave_fault : {S : Type 0} (form : Form) (holding : List Given → List form.template.Attribute → S) (start_of : List Host → S)
+    (with_assign : List Host → S → Given → Option S) (made_of : S → AnyInv)
     → IsHolder form holding start_of with_assign made_of → (hosts : List Host) (assigns : List Given) (fault : AttrFault)
-    → Reads {A = S} (Err fault) (in_turn (shaped form.shapes (with_assign hosts)) 0 (start_of hosts) assigns) → Reads {A = AnyInv} (Err fault) (ended (bad_assign form hosts assigns) (form.make (attributes_in form hosts assigns)))
+    → Reads {A = S} (Err fault) (in_turn (shaped form.shapes (with_assign hosts)) 0 (start_of hosts) assigns)
+    → Reads {A = AnyInv} (Err fault) (ended (bad_assign form hosts assigns) (form.make (attributes_in form hosts assigns)))
 gave_fault form holding start_of with_assign made_of law hosts assigns (BadAttribute k) is =
     failed_by (bad_assign form hosts assigns) (holding assigns (attributes_in form hosts assigns)) _ k (sym (read_ended form holding start_of with_assign made_of law hosts assigns) ∙ is)
 gave_fault form holding start_of with_assign made_of law hosts assigns Memory is = tt

@@ -1,28 +1,16 @@
--- Which assigns of `tainting` are bad, in plain words: those of another shape, and those with which the different labels of the invariant so far are more than 64.
-use Rattle.std.proofs.Common.{◌≡◌, ◌≤◌, ◌<◌, ℕ, ◌^◌, bit_or, ◌⊎◌, inl, inr, Bool, true, false, nat_lt, List, [], ◌∷◌, ◌++◌, length, Option, Some, None, option_map, option_and_then, is_some, refl, sym, ap, ◌∙◌, subst, arith}
+-- What the code's walk through the labels of a table comes to: the labels that are listed, or why it says none.
+use Rattle.std.proofs.Common.{◌≡◌, ◌≤◌, ◌<◌, ℕ, ◌+◌, ◌^◌, bit_or, ◌⊎◌, inl, inr, Bool, true, false, ◌||◌, nat_lt, List, [], ◌∷◌, ◌++◌, length, Option, Some, None, option_and_then, is_some, refl, sym, ap, ◌∙◌, subst, arith}
 use Rattle.std.proofs.lemmas.Bool.Decides.{nat_tests}
 use Rattle.std.proofs.lemmas.List.{length-append}
 use Rattle.std.proofs.lemmas.Option.{option_and_then_some}
-use Rattle.std.specs.List.{fold, position_from}
+use Rattle.std.specs.List.{list_any, position_from}
 use Rattle.std.specs.Prelude.{codes, if◌then◌else◌}
 use Rattle.std.specs.Str.{bytes_eq}
 use Rattle.table_core.specs.Listing.{each, grow}
 use Rattle.table_core.specs.Tables.{list_or_empty}
 use Rattle.toml.specs.Data.{Data, Members}
-use Rattle.attr_core.specs.Assigns.{Given}
-use Rattle.attr_core.specs.Tainting.{Known, LabelSet, Labelled, all_labels, and_label, are_among, known_or_new, label_in, labelled, labels_after, labels_at, labels_behind, new_label, numbered, tainting_reads}
-
--- one label more: a new one stands behind the others
-abbrev pub with_label : List (List ℕ) → List ℕ → List (List ℕ)
-with_label labels label = if is_some (position_from (bytes_eq label) 0 labels) then labels else labels ++ label ∷ []
-
--- the different ones among these labels and more
-abbrev pub different : List (List ℕ) → List (List ℕ) → List (List ℕ)
-different labels more = fold with_label labels more
-
--- the labels that are listed at a key, where each element is a label
-abbrev pub labels_in : List ℕ → Members → Option (List (List ℕ))
-labels_in key table = option_and_then (each label_in) (list_or_empty key table)
+use Rattle.attr_core.specs.LabelWalk.{Known, LabelSet, Labelled, all_labels, and_label, are_among, known_or_new, labelled, labels_at, new_label, numbered}
+use Rattle.attr_core.specs.Tainting.{different, is_listed, label_in, labels_in, with_label}
 
 -- too many
 pub record TooMany (labels : List (List ℕ)) (taints untaints : Option (List (List ℕ))) : Type 0 where
@@ -40,17 +28,34 @@ pub record TakesOffMore (labels : List (List ℕ)) (table : Members) : Type 0 wh
   pub behind : labels_at (codes "untaints") taints.labels table ≡ Some untaints
   pub more : are_among untaints.bits taints.bits ≡ false
 
+-- a label has a place exactly where it is listed
+placed_by : (b : Bool) (n : ℕ) (later : Option ℕ) (rest : Bool) → is_some later ≡ rest → is_some (if b then Some n else later) ≡ (b || rest)
+placed_by true n later rest is = refl
+placed_by false n later rest is = is
+
+is_placed : (label : List ℕ) (n : ℕ) (labels : List (List ℕ))
+    → is_some (position_from (bytes_eq label) n labels) ≡ list_any (bytes_eq label) labels
+is_placed label n [] = refl
+is_placed label n (l ∷ ls) =
+    placed_by (bytes_eq label l) n (position_from (bytes_eq label) (n + 1) ls) (list_any (bytes_eq label) ls) (is_placed label (n + 1) ls)
+
+with_is : (labels : List (List ℕ)) (label : List ℕ)
+    → (if is_some (position_from (bytes_eq label) 0 labels) then labels else labels ++ label ∷ []) ≡ with_label labels label
+with_is labels label = ap (λ b. if b then labels else labels ++ label ∷ []) (is_placed label 0 labels)
+
 -- one label
 abbrev known_as : List (List ℕ) → ℕ → Known
 known_as labels number = record { labels = labels; number = number }
 
-numbered_by : (labels : List (List ℕ)) (label : List ℕ) (o : Option ℕ) (known : Known) → length labels ≤ 64 → known_or_new labels label o ≡ Some known
+numbered_by : (labels : List (List ℕ)) (label : List ℕ) (o : Option ℕ) (known : Known) → length labels ≤ 64
+    → known_or_new labels label o ≡ Some known
     → (known.labels ≡ (if is_some o then labels else labels ++ label ∷ [])) × (length known.labels ≤ 64)
 unfolding new_label
 numbered_by labels label (Some n) known few is = let same : labels ≡ known.labels = cc in (sym same, rw (← same) few)
 numbered_by labels label None known few is = new_by (nat_lt (length labels) 64) refl is
   where
-    new_by : (b : Bool) → nat_lt (length labels) 64 ≡ b → (if b then Some (known_as (labels ++ label ∷ []) (length labels)) else None) ≡ Some known
+    new_by : (b : Bool) → nat_lt (length labels) 64 ≡ b
+        → (if b then Some (known_as (labels ++ label ∷ []) (length labels)) else None) ≡ Some known
         → (known.labels ≡ labels ++ label ∷ []) × (length known.labels ≤ 64)
     new_by false room is = cc
     new_by true room is =
@@ -59,12 +64,14 @@ numbered_by labels label None known few is = new_by (nat_lt (length labels) 64) 
         let longer = length-append labels (label ∷ []) in
         (sym same, rw (← same) (omega (arith, below, longer)))
 
-full_by : (labels : List (List ℕ)) (label : List ℕ) (o : Option ℕ) → known_or_new labels label o ≡ None → 64 < length (if is_some o then labels else labels ++ label ∷ [])
+full_by : (labels : List (List ℕ)) (label : List ℕ) (o : Option ℕ) → known_or_new labels label o ≡ None
+    → 64 < length (if is_some o then labels else labels ++ label ∷ [])
 unfolding new_label
 full_by labels label (Some n) is = cc
 full_by labels label None is = none_by (nat_lt (length labels) 64) refl is
   where
-    none_by : (b : Bool) → nat_lt (length labels) 64 ≡ b → (if b then Some (known_as (labels ++ label ∷ []) (length labels)) else None) ≡ None → 64 < length (labels ++ label ∷ [])
+    none_by : (b : Bool) → nat_lt (length labels) 64 ≡ b
+        → (if b then Some (known_as (labels ++ label ∷ []) (length labels)) else None) ≡ None → 64 < length (labels ++ label ∷ [])
     none_by true room is = cc
     none_by false room is =
         let above : 64 ≤ length labels = grind (arith, nat_tests) in
@@ -75,9 +82,9 @@ kept_by : (b : Bool) (labels : List (List ℕ)) (label : List ℕ) → length la
 kept_by true labels label = omega arith
 kept_by false labels label = omega (arith, length-append labels (label ∷ []))
 
-more_labels : (labels more : List (List ℕ)) → length labels ≤ length (different labels more)
+pub more_labels : (labels more : List (List ℕ)) → length labels ≤ length (different labels more)
 more_labels labels [] = omega arith
-more_labels labels (l ∷ ls) = omega (arith, kept_by (is_some (position_from (bytes_eq l) 0 labels)) labels l, more_labels (with_label labels l) ls)
+more_labels labels (l ∷ ls) = omega (arith, kept_by (is_listed labels l) labels l, more_labels (with_label labels l) ls)
 
 -- a list
 abbrev set_of : List (List ℕ) → ℕ → LabelSet
@@ -86,14 +93,15 @@ set_of labels bits = record { labels = labels; bits = bits }
 abbrev said_by : LabelSet → LabelSet → Labelled
 said_by t u = record { labels = u.labels; attribute = record { taints = t.bits; untaints = u.bits } }
 
-one_read : (s : LabelSet) (d : Data) (u : LabelSet) → length s.labels ≤ 64 → and_label s d ≡ Some u → (label : List ℕ) × (label_in d ≡ Some label) × (u.labels ≡ with_label s.labels label) × (length u.labels ≤ 64)
+one_read : (s : LabelSet) (d : Data) (u : LabelSet) → length s.labels ≤ 64 → and_label s d ≡ Some u
+    → (label : List ℕ) × (label_in d ≡ Some label) × (u.labels ≡ with_label s.labels label) × (length u.labels ≤ 64)
 unfolding and_label numbered
 one_read s d u few is =
     option_and_then_some _ (label_in d) u is (λ label is_label rest.
     option_and_then_some _ (numbered s.labels label) u rest (λ known is_known last.
     let (labels, still) = numbered_by s.labels label (position_from (bytes_eq label) 0 s.labels) known few is_known in
     let same : known.labels ≡ u.labels = cc in
-    (label, is_label, sym same ∙ labels, rw (← same) still)))
+    (label, is_label, sym same ∙ labels ∙ with_is s.labels label, rw (← same) still)))
 
 read_by : (s u t : LabelSet) (d : Data) (ds : List Data) (label : List ℕ) → label_in d ≡ Some label → u.labels ≡ with_label s.labels label
     → (ls : List (List ℕ)) × (each label_in ds ≡ Some ls) × (t.labels ≡ different u.labels ls) × (length t.labels ≤ 64)
@@ -109,7 +117,8 @@ all_read s (d ∷ ds) t few is =
     read_by s u t d ds label here more (all_read u ds t still rest))
 
 -- where a list says nothing
-behind_by : (labels : List (List ℕ)) (d : Data) (ds : List Data) (label : List ℕ) (first : List (List ℕ)) (o : Option (List (List ℕ))) → label_in d ≡ Some label → each label_in ds ≡ o → first ≡ with_label labels label
+behind_by : (labels : List (List ℕ)) (d : Data) (ds : List Data) (label : List ℕ) (first : List (List ℕ)) (o : Option (List (List ℕ)))
+    → label_in d ≡ Some label → each label_in ds ≡ o → first ≡ with_label labels label
     → ((ls : List (List ℕ)) → o ≡ Some ls → 64 < length (different first ls))
     → (each label_in (d ∷ ds) ≡ None) ⊎ ((ls : List (List ℕ)) × (each label_in (d ∷ ds) ≡ Some ls) × (64 < length (different labels ls)))
 behind_by labels d ds label first None here rest is many = inl (rw (here, rest) refl)
@@ -118,7 +127,8 @@ behind_by labels d ds label first (Some ls) here rest is many = inr (label ∷ l
 silent : (d : Data) (ds : List Data) → label_in d ≡ None → each label_in (d ∷ ds) ≡ None
 silent d ds here = rw here refl
 
-left_by : (labels : List (List ℕ)) (d : Data) (ds : List Data) (label : List ℕ) (first : List (List ℕ)) → label_in d ≡ Some label → first ≡ with_label labels label
+left_by : (labels : List (List ℕ)) (d : Data) (ds : List Data) (label : List ℕ) (first : List (List ℕ)) → label_in d ≡ Some label
+    → first ≡ with_label labels label
     → (each label_in ds ≡ None) ⊎ ((ls : List (List ℕ)) × (each label_in ds ≡ Some ls) × (64 < length (different first ls)))
     → (each label_in (d ∷ ds) ≡ None) ⊎ ((ls : List (List ℕ)) × (each label_in (d ∷ ds) ≡ Some ls) × (64 < length (different labels ls)))
 left_by labels d ds label first here is (inl none) = inl (rw (here, none) refl)
@@ -127,16 +137,18 @@ left_by labels d ds label first here is (inr (ls, listed, many)) = inr (label �
 abbrev Fails : List (List ℕ) → List Data → Type 0
 Fails labels ds = (each label_in ds ≡ None) ⊎ ((ls : List (List ℕ)) × (each label_in ds ≡ Some ls) × (64 < length (different labels ls)))
 
-known_fails : (s : LabelSet) (d : Data) (ds : List Data) (label : List ℕ) (p : Option Known) → length s.labels ≤ 64 → label_in d ≡ Some label → numbered s.labels label ≡ p
+known_fails : (s : LabelSet) (d : Data) (ds : List Data) (label : List ℕ) (p : Option Known) → length s.labels ≤ 64
+    → label_in d ≡ Some label → numbered s.labels label ≡ p
     → ((u : LabelSet) → length u.labels ≤ 64 → grow and_label u ds ≡ None → Fails u.labels ds)
     → option_and_then (λ t. grow and_label t ds) (option_and_then (λ (k : Known). Some (set_of k.labels (bit_or s.bits (2 ^ k.number)))) p) ≡ None → Fails s.labels (d ∷ ds)
 unfolding numbered
 known_fails s d ds label None few here none behind is =
-    let full : 64 < length (with_label s.labels label) = full_by s.labels label (position_from (bytes_eq label) 0 s.labels) none in
+    let full : 64 < length (with_label s.labels label) =
+    subst (λ (ls : List (List ℕ)). 64 < length ls) (with_is s.labels label) (full_by s.labels label (position_from (bytes_eq label) 0 s.labels) none) in
     behind_by s.labels d ds label (with_label s.labels label) (each label_in ds) here refl refl (λ ls listed. omega (arith, full, more_labels (with_label s.labels label) ls))
 known_fails s d ds label (Some k) few here some behind is =
     let (labels, still) = numbered_by s.labels label (position_from (bytes_eq label) 0 s.labels) k few some in
-    left_by s.labels d ds label k.labels here labels (behind (set_of k.labels (bit_or s.bits (2 ^ k.number))) still is)
+    left_by s.labels d ds label k.labels here (labels ∙ with_is s.labels label) (behind (set_of k.labels (bit_or s.bits (2 ^ k.number))) still is)
 
 label_fails : (s : LabelSet) (d : Data) (ds : List Data) (o : Option (List ℕ)) → length s.labels ≤ 64 → label_in d ≡ o
     → ((u : LabelSet) → length u.labels ≤ 64 → grow and_label u ds ≡ None → Fails u.labels ds)
@@ -150,7 +162,8 @@ all_fail s [] few is = cc
 all_fail s (d ∷ ds) few is = label_fails s d ds (label_in d) few refl (λ u still none. all_fail u ds still none) is
 
 -- what a key says
-key_read : (key : List ℕ) (labels : List (List ℕ)) (table : Members) (t : LabelSet) → length labels ≤ 64 → labels_at key labels table ≡ Some t
+key_read : (key : List ℕ) (labels : List (List ℕ)) (table : Members) (t : LabelSet) → length labels ≤ 64
+    → labels_at key labels table ≡ Some t
     → (ls : List (List ℕ)) × (labels_in key table ≡ Some ls) × (t.labels ≡ different labels ls) × (length t.labels ≤ 64)
 unfolding labels_at all_labels
 key_read key labels table t few is =
@@ -158,7 +171,8 @@ key_read key labels table t few is =
     let (ls, listed, more, still) = all_read (set_of labels 0) ds t few rest in
     (ls, rw is_ds listed, more, still))
 
-key_fails_by : (labels : List (List ℕ)) (o : Option (List Data)) → length labels ≤ 64 → option_and_then (λ ds. grow and_label (set_of labels 0) ds) o ≡ None
+key_fails_by : (labels : List (List ℕ)) (o : Option (List Data)) → length labels ≤ 64
+    → option_and_then (λ ds. grow and_label (set_of labels 0) ds) o ≡ None
     → (option_and_then (each label_in) o ≡ None) ⊎ ((ls : List (List ℕ)) × (option_and_then (each label_in) o ≡ Some ls) × (64 < length (different labels ls)))
 key_fails_by labels None few is = inl refl
 key_fails_by labels (Some ds) few is = all_fail (set_of labels 0) ds few is
@@ -168,20 +182,23 @@ key_fails : (key : List ℕ) (labels : List (List ℕ)) (table : Members) → le
 unfolding labels_at all_labels
 key_fails key labels table few is = key_fails_by labels (list_or_empty key table) few is
 
--- a table says nothing behind these labels: one of its lists is none of labels, there are too many different ones, or it says more or takes off more than it may
+-- a table says nothing behind these labels: one of its lists is none of labels, there are too many different ones, or it says more or
+-- takes off more than it may
 abbrev pub IsBad : List (List ℕ) → Members → Type 0
 IsBad labels table =
     ((labels_in (codes "taints") table ≡ None) ⊎ (labels_in (codes "untaints") table ≡ None))
     ⊎ (TooMany labels (labels_in (codes "taints") table) (labels_in (codes "untaints") table) ⊎ TakesOffMore labels table)
 
-first_fails : (labels : List (List ℕ)) (taints untaints : Option (List (List ℕ))) (more : Type 0) → (taints ≡ None) ⊎ ((ls : List (List ℕ)) × (taints ≡ Some ls) × (64 < length (different labels ls)))
+first_fails : (labels : List (List ℕ)) (taints untaints : Option (List (List ℕ))) (more : Type 0)
+    → (taints ≡ None) ⊎ ((ls : List (List ℕ)) × (taints ≡ Some ls) × (64 < length (different labels ls)))
     → ((taints ≡ None) ⊎ (untaints ≡ None)) ⊎ (TooMany labels taints untaints ⊎ more)
 first_fails labels taints untaints more (inl none) = inl (inl none)
 first_fails labels taints None more (inr (ls, listed, many)) = inl (inr refl)
 first_fails labels taints (Some us) more (inr (ls, listed, many)) =
     inr (inl (record { first = ls; second = us; listed = listed; behind = refl; many = omega (arith, many, more_labels (different labels ls) us) }))
 
-second_fails : (labels first ts : List (List ℕ)) (taints untaints : Option (List (List ℕ))) (more : Type 0) → taints ≡ Some ts → first ≡ different labels ts
+second_fails : (labels first ts : List (List ℕ)) (taints untaints : Option (List (List ℕ))) (more : Type 0) → taints ≡ Some ts
+    → first ≡ different labels ts
     → (untaints ≡ None) ⊎ ((ls : List (List ℕ)) × (untaints ≡ Some ls) × (64 < length (different first ls)))
     → ((taints ≡ None) ⊎ (untaints ≡ None)) ⊎ (TooMany labels taints untaints ⊎ more)
 second_fails labels first ts taints untaints more here is (inl none) = inl (inr none)
@@ -191,7 +208,8 @@ last_fails : {A : Type 0} (b : Bool) (x : A) → (if b then Some x else None) �
 last_fails true x is = cc
 last_fails false x is = refl
 
-second_by : (labels : List (List ℕ)) (table : Members) (t : LabelSet) (p : Option LabelSet) → length labels ≤ 64 → labels_at (codes "taints") labels table ≡ Some t → labels_at (codes "untaints") t.labels table ≡ p
+second_by : (labels : List (List ℕ)) (table : Members) (t : LabelSet) (p : Option LabelSet) → length labels ≤ 64
+    → labels_at (codes "taints") labels table ≡ Some t → labels_at (codes "untaints") t.labels table ≡ p
     → option_and_then (λ (u : LabelSet). if are_among u.bits t.bits then Some (said_by t u) else None) p ≡ None → IsBad labels table
 second_by labels table t None few here none is =
     let (ts, listed, more, still) = key_read (codes "taints") labels table t few here in
@@ -199,7 +217,8 @@ second_by labels table t None few here none is =
 second_by labels table t (Some u) few here some is =
     inr (inr (record { taints = t; untaints = u; listed = here; behind = some; more = last_fails (are_among u.bits t.bits) (said_by t u) is }))
 
-first_by : (labels : List (List ℕ)) (table : Members) (o : Option LabelSet) → length labels ≤ 64 → labels_at (codes "taints") labels table ≡ o
+first_by : (labels : List (List ℕ)) (table : Members) (o : Option LabelSet) → length labels ≤ 64
+    → labels_at (codes "taints") labels table ≡ o
     → option_and_then (λ (t : LabelSet). option_and_then (λ (u : LabelSet). if are_among u.bits t.bits then Some (said_by t u) else None) (labels_at (codes "untaints") t.labels table)) o ≡ None → IsBad labels table
 first_by labels table None few none is = first_fails labels (labels_in (codes "taints") table) (labels_in (codes "untaints") table) (TakesOffMore labels table) (key_fails (codes "taints") labels table few none)
 first_by labels table (Some t) few some is = second_by labels table t (labels_at (codes "untaints") t.labels table) few some refl is
@@ -210,7 +229,8 @@ bad_labels_are labels table few is = first_by labels table (labels_at (codes "ta
 
 -- a table that says labels adds those that are listed, taints first
 pub labelled_read : (labels : List (List ℕ)) (table : Members) (l : Labelled) → length labels ≤ 64 → labelled labels table ≡ Some l
-    → (ts : List (List ℕ)) × (us : List (List ℕ)) × (labels_in (codes "taints") table ≡ Some ts) × (labels_in (codes "untaints") table ≡ Some us) × (l.labels ≡ different (different labels ts) us) × (length l.labels ≤ 64)
+    → (ts : List (List ℕ)) ×
+    (us : List (List ℕ)) × (labels_in (codes "taints") table ≡ Some ts) × (labels_in (codes "untaints") table ≡ Some us) × (l.labels ≡ different (different labels ts) us) × (length l.labels ≤ 64)
 unfolding labelled
 labelled_read labels table l few is =
     option_and_then_some _ (labels_at (codes "taints") labels table) l is (λ t is_t rest.
@@ -223,20 +243,3 @@ labelled_read labels table l few is =
     ended_by : (b : Bool) (t u : LabelSet) (l : Labelled) → (if b then Some (said_by t u) else None) ≡ Some l → u.labels ≡ l.labels
     ended_by true t u l is = let same : said_by t u ≡ l = cc in ap (λ (x : Labelled). x.labels) same
     ended_by false t u l is = cc
-
--- there are never more than 64
-few_after : (labels : List (List ℕ)) (table : Members) (o : Option Labelled) → length labels ≤ 64 → labelled labels table ≡ o → length (labels_after labels o) ≤ 64
-few_after labels table None few is = few
-few_after labels table (Some l) few is = (labelled_read labels table l few is).5
-
-pub few_behind : (labels : List (List ℕ)) (earlier : List Given) → length labels ≤ 64 → length (labels_behind labels earlier) ≤ 64
-few_behind labels [] few = few
-few_behind labels (a ∷ rest) few = few_behind (labels_after labels (labelled labels a.table)) rest (few_after labels a.table (labelled labels a.table) few refl)
-
--- which assign of `tainting` is bad
-none_of : (o : Option Labelled) → option_map (λ (l : Labelled). l.attribute) o ≡ None → o ≡ None
-none_of None is = refl
-none_of (Some l) is = cc
-
-pub bad_tainting : (earlier : List Given) (a : Given) → tainting_reads earlier a ≡ None → IsBad (labels_behind [] earlier) a.table
-bad_tainting earlier a is = bad_labels_are (labels_behind [] earlier) a.table (few_behind [] earlier (omega arith)) (none_of (labelled (labels_behind [] earlier) a.table) is)

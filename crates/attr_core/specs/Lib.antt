@@ -2,10 +2,11 @@ pub mod Alone
 pub mod AssignView
 pub mod Assigns
 pub mod Bad
-pub mod BadTaintingLaws
 pub mod Blp
 pub mod Dependability
 pub mod Domains
+pub mod FirstBad
+pub mod FirstBadLaws
 pub mod FormLaws
 pub mod Forms
 pub mod Gateway
@@ -13,6 +14,8 @@ pub mod Holders
 pub mod InterferenceView
 pub mod Kinds
 pub mod LabelBitsLaws
+pub mod LabelWalk
+pub mod LabelWalkLaws
 pub mod LabelsLaws
 pub mod NoReach
 pub mod NonInterference
@@ -22,9 +25,9 @@ pub mod ReadIn
 pub mod Shapes
 pub mod Sink
 pub mod Subnets
+pub mod TaintedView
 pub mod Tainting
 pub mod TaintingLaws
 pub mod Templates
 pub mod TemplatesLaws
 pub mod Walks
-pub mod TaintedView

@@ -3,7 +3,7 @@
 use Rattle.std.specs.Prelude.{ℕ, List, [], ◌∷◌, Option, option_map, codes, unwrap_or}
 use Rattle.std.specs.FinSet as set
 use Rattle.host_net.specs.Host.{Host}
-use Rattle.host_set.specs.HostSet.{HostNumbers as Hosts}
+use Rattle.host_set.specs.HostSet.{HostNumbers}
 use Rattle.inv_any.specs.declared.any_inv.AnyInv.TheVariants as any
 use Rattle.table_core.specs.Listing.{each}
 use Rattle.table_core.specs.Tables.{list_at}
@@ -19,11 +19,11 @@ abbrev pub noreach_keys : List Key
 noreach_keys = host_key ∷ needed (codes "deny") Array ∷ []
 
 -- the set of the hosts that are listed, each of them another declared host
-unfoldable pub all_denied : List Host → ℕ → List Data → Option Hosts
+unfoldable pub all_denied : List Host → ℕ → List Data → Option HostNumbers
 all_denied hosts host ds = option_map set.from_list (each (peer hosts host) ds)
 
 -- the hosts that a table denies to its host
-unfoldable pub noreach_attribute : List Host → ℕ → Members → Option Hosts
+unfoldable pub noreach_attribute : List Host → ℕ → Members → Option HostNumbers
 noreach_attribute hosts host table = all_denied hosts host (unwrap_or (list_at (codes "deny") table) [])
 
 -- the template in descriptions

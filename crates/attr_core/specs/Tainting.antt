@@ -1,12 +1,13 @@
 -- Tainting: `taints` and `untaints` list labels, none where they are absent; a host takes off only labels that it has.
--- The labels of one invariant are numbered in the order in which they first appear, through its assigns in order and in each of them `taints` before `untaints`. There are at most 64.
+-- The labels of one invariant are numbered in the order in which they first appear, through its assigns in order and in each of them
+-- `taints` before `untaints`. There are at most 64.
 -- The keys of an assign of this template: docs/FORMATS.md.
-use Rattle.std.specs.Prelude.{ℕ, Bool, ◌^◌, ◌==◌, nat_lt, bit_and, bit_or, List, [], ◌∷◌, ◌++◌, length, Option, Some, None, option_map, codes, if◌then◌else◌}
-use Rattle.std.specs.List.{position_from}
+use Rattle.std.specs.Prelude.{ℕ, Bool, ◌^◌, ◌&&◌, nat_lt, bit_or, List, [], ◌∷◌, ◌++◌, length, flat_map, Option, Some, None, codes, unwrap_or, if◌then◌else◌}
+use Rattle.std.specs.List.{fold, list_all, list_any, position_from}
 use Rattle.std.specs.Str.{bytes_eq}
 use Rattle.toml.specs.Data.{Data, Members, as_str}
 use Rattle.text_core.specs.Name.{is_name}
-use Rattle.table_core.specs.Listing.{grow}
+use Rattle.table_core.specs.Listing.{each}
 use Rattle.text_core.specs.Steps.{◌>>=◌}
 use Rattle.table_core.specs.Tables.{list_or_empty}
 use Rattle.tmpl_levels.specs.declared.tainting.Labels.{Labels}
@@ -26,72 +27,47 @@ label_in d = do
   text ← as_str d
   if is_name text then Some text else None
 
--- the labels so far, each of which has the number of its place, and one of these numbers
-pub record Known : Type 0 where
-  pub labels : List (List ℕ)
-  pub number : ℕ
+-- the labels that are listed at a key, where each element is a label
+abbrev pub labels_in : List ℕ → Members → Option (List (List ℕ))
+labels_in key table = list_or_empty key table >>= each label_in
 
--- a label that is new has the next number, if that is below 64
-unfoldable pub new_label : List (List ℕ) → List ℕ → Option Known
-new_label labels label = if nat_lt (length labels) 64 then Some (record { labels = labels ++ label ∷ []; number = length labels }) else None
+-- the labels that a table lists, in their order
+abbrev pub told : Members → List (List ℕ)
+told table = unwrap_or (labels_in (codes "taints") table) [] ++ unwrap_or (labels_in (codes "untaints") table) []
 
-abbrev pub known_or_new : List (List ℕ) → List ℕ → Option ℕ → Option Known
-known_or_new labels label None = new_label labels label
-known_or_new labels label (Some number) = Some (record { labels = labels; number = number })
+-- the label is one of these
+abbrev pub is_listed : List (List ℕ) → List ℕ → Bool
+is_listed labels label = list_any (bytes_eq label) labels
 
--- the number of a label
-unfoldable pub numbered : List (List ℕ) → List ℕ → Option Known
-numbered labels label = known_or_new labels label (position_from (bytes_eq label) 0 labels)
+-- one label more, unless it is there
+abbrev pub with_label : List (List ℕ) → List ℕ → List (List ℕ)
+with_label labels label = if is_listed labels label then labels else labels ++ label ∷ []
 
--- the labels so far, and a set of them, with one bit for each
-pub record LabelSet : Type 0 where
-  pub labels : List (List ℕ)
-  pub bits : ℕ
+-- these labels, and after them the different ones among more
+abbrev pub different : List (List ℕ) → List (List ℕ) → List (List ℕ)
+different labels more = fold with_label labels more
 
--- the set with one label more
-unfoldable pub and_label : LabelSet → Data → Option LabelSet
-and_label s d = do
-  label ← label_in d
-  known ← numbered s.labels label
-  Some (record { labels = known.labels; bits = bit_or s.bits (2 ^ known.number) })
+-- the different labels of these assigns, in the order in which they first appear
+abbrev pub labels_of : List Given → List (List ℕ)
+labels_of assigns = different [] (flat_map (λ a. told a.table) assigns)
 
--- the set of the labels that are listed
-unfoldable pub all_labels : List (List ℕ) → List Data → Option LabelSet
-all_labels labels ds = grow and_label (record { labels = labels; bits = 0 }) ds
+-- a set of some of the labels, with one bit for each: its number is its place
+abbrev pub bits_of : List (List ℕ) → List (List ℕ) → ℕ
+bits_of labels [] = 0
+bits_of labels (l ∷ ls) = bit_or (bits_of labels ls) (2 ^ unwrap_or (position_from (bytes_eq l) 0 labels) 0)
 
--- the labels that the table of an assign says, after those that there were
-unfoldable pub labels_at : List ℕ → List (List ℕ) → Members → Option LabelSet
-labels_at key labels table = list_or_empty key table >>= all_labels labels
-
--- the host takes off only labels that it has
-abbrev pub are_among : ℕ → ℕ → Bool
-are_among untaints taints = bit_and untaints taints == untaints
-
--- the labels so far, and those of one host
-pub record Labelled : Type 0 where
-  pub labels : List (List ℕ)
-  pub attribute : Labels
-
--- what a table says, after the labels that there were
-unfoldable pub labelled : List (List ℕ) → Members → Option Labelled
-labelled labels table = do
-  taints ← labels_at (codes "taints") labels table
-  untaints ← labels_at (codes "untaints") taints.labels table
-  if are_among untaints.bits taints.bits then Some (record { labels = untaints.labels; attribute = record { taints = taints.bits; untaints = untaints.bits } }) else None
-
--- the labels after an assign; one that says nothing adds none
-abbrev pub labels_after : List (List ℕ) → Option Labelled → List (List ℕ)
-labels_after labels None = labels
-labels_after labels (Some l) = l.labels
-
--- the labels of these assigns, in the order in which they first stand there
-abbrev pub labels_behind : List (List ℕ) → List Given → List (List ℕ)
-labels_behind labels [] = labels
-labels_behind labels (a ∷ rest) = labels_behind (labels_after labels (labelled labels a.table)) rest
+-- what a table says, where these are the labels of all assigns up to its own: 64 at most, and what it takes off it puts on
+unfoldable pub said_of : List (List ℕ) → Members → Option Labels
+said_of labels table = do
+  taints ← labels_in (codes "taints") table
+  untaints ← labels_in (codes "untaints") table
+  if nat_lt (length labels) 65 && list_all (is_listed taints) untaints
+      then Some (record { taints = bits_of labels taints; untaints = bits_of labels untaints })
+      else None
 
 -- the labels that an assign says of its host, after the earlier ones
 abbrev pub tainting_reads : List Given → Given → Option Labels
-tainting_reads earlier a = option_map (λ l. l.attribute) (labelled (labels_behind [] earlier) a.table)
+tainting_reads earlier a = said_of (labels_of (earlier ++ a ∷ [])) a.table
 
 -- the template in descriptions
 abbrev pub tainting_form : Form

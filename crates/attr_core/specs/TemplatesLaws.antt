@@ -33,7 +33,8 @@ pub made_means : (t : Template) (xs : List (form t).template.Attribute) → mean
 made_means Blp xs = refl
 made_means t xs = refl
 
-pub read_is : (hosts : List Host) (t : Template) (assigns : List Given) → read_in hosts t assigns ≡ ended (bad_in hosts t assigns) (invariant_in hosts t assigns)
+pub read_is : (hosts : List Host) (t : Template) (assigns : List Given)
+    → read_in hosts t assigns ≡ ended (bad_in hosts t assigns) (invariant_in hosts t assigns)
 unfolding read_in bad_in invariant_in
 read_is hosts Blp assigns = refl
 read_is hosts t assigns = refl
@@ -44,19 +45,23 @@ unfolding bad_in
 bad_is hosts Blp assigns = refl
 bad_is hosts t assigns = refl
 
-pub invariant_is : (hosts : List Host) (t : Template) (assigns : List Given) → invariant_in hosts t assigns ≡ (form t).make (attributes_in (form t) hosts assigns)
+pub invariant_is : (hosts : List Host) (t : Template) (assigns : List Given)
+    → invariant_in hosts t assigns ≡ (form t).make (attributes_in (form t) hosts assigns)
 unfolding invariant_in
 invariant_is hosts Blp assigns = refl
 invariant_is hosts t assigns = refl
 
 -- what the invariant means: the meaning of the template, of the attributes that are assigned
-pub invariant_means : (hosts : List Host) (t : Template) (assigns : List Given) → meaning_of (invariant_in hosts t assigns) ≡ meaning (form t).template (attributes_in (form t) hosts assigns)
+pub invariant_means : (hosts : List Host) (t : Template) (assigns : List Given)
+    → meaning_of (invariant_in hosts t assigns) ≡ meaning (form t).template (attributes_in (form t) hosts assigns)
 invariant_means hosts t assigns = ap meaning_of (invariant_is hosts t assigns) ∙ made_means t (attributes_in (form t) hosts assigns)
 
-pub invariant_named : (hosts : List Host) (t : Template) (assigns : List Given) → template_named (template_name (invariant_in hosts t assigns)) ≡ Some t
+pub invariant_named : (hosts : List Host) (t : Template) (assigns : List Given)
+    → template_named (template_name (invariant_in hosts t assigns)) ≡ Some t
 invariant_named hosts t assigns = ap (λ inv. template_named (template_name inv)) (invariant_is hosts t assigns) ∙ ap template_named (made_named t (attributes_in (form t) hosts assigns)) ∙ is_named t
 
-pub invariant_sized : (hosts : List Host) (t : Template) (assigns : List Given) → (meaning_of (invariant_in hosts t assigns)).size ≡ length hosts
+pub invariant_sized : (hosts : List Host) (t : Template) (assigns : List Given)
+    → (meaning_of (invariant_in hosts t assigns)).size ≡ length hosts
 invariant_sized hosts t assigns =
     ap (λ m. m.size) (invariant_means hosts t assigns)
     ∙ length-map-range_with_len (λ host. unwrap_or (last_said (says (form t) hosts) [] host assigns) ((form t).template.default (length hosts) host)) 0 (length hosts)
@@ -66,9 +71,11 @@ pub bad_given : (hosts : List Host) (t : Template) (assigns : List Given) (k : �
 bad_given hosts t assigns k is = omega (arith, bad_within (says (form t) hosts) [] assigns k (sym (bad_is hosts t assigns) ∙ is))
 
 -- where no assign is bad, the invariant is made
-pub made_of_all : (hosts : List Host) (t : Template) (assigns : List Given) (fault : AttrFault) → bad_in hosts t assigns ≡ None → Reads {A = AnyInv} (Err fault) (read_in hosts t assigns) → fault ≡ Memory
+pub made_of_all : (hosts : List Host) (t : Template) (assigns : List Given) (fault : AttrFault) → bad_in hosts t assigns ≡ None
+    → Reads {A = AnyInv} (Err fault) (read_in hosts t assigns) → fault ≡ Memory
 made_of_all hosts t assigns (BadAttribute k) none gives = let never : Ok (invariant_in hosts t assigns) ≡ Err k = ap (λ bad. ended bad (invariant_in hosts t assigns)) (sym none) ∙ sym (read_is hosts t assigns) ∙ gives in cc
 made_of_all hosts t assigns Memory none gives = refl
 
-pub made_is : (hosts : List Host) (t : Template) (assigns : List Given) (inv : AnyInv) → bad_in hosts t assigns ≡ None → read_in hosts t assigns ≡ Ok inv → inv ≡ invariant_in hosts t assigns
+pub made_is : (hosts : List Host) (t : Template) (assigns : List Given) (inv : AnyInv) → bad_in hosts t assigns ≡ None
+    → read_in hosts t assigns ≡ Ok inv → inv ≡ invariant_in hosts t assigns
 made_is hosts t assigns inv none is = let same : Ok (invariant_in hosts t assigns) ≡ Ok inv = ap (λ bad. ended bad (invariant_in hosts t assigns)) (sym none) ∙ sym (read_is hosts t assigns) ∙ is in cc

@@ -57,7 +57,8 @@ pub(crate) trait Assigned: Sized + Drop {
         requires size { size_of self.old ≡ length hosts.now }
         requires host { assign.now.host < length hosts.now }
         ensures size { size_of self.new ≡ size_of self.old }
-        ensures taken { IfOk result (λ good. with_assign hosts.now self.old (given_of assign.now) ≡ (if good then Some self.new else None)) };
+        ensures taken { IfOk result (λ good. with_assign hosts.now self.old (given_of assign.now)
+            ≡ (if good then Some self.new else None)) };
 
     /// The invariant of the attributes that were taken in.
     fn make(self) -> AnyInv
@@ -71,7 +72,8 @@ pub(crate) fn read<T: Assigned>(
     assigns: &[Assign<'_>],
 ) -> Result<AnyInv, AttrFault>
     requires { All (λ a. a.host < length hosts.now) assigns.now }
-    ensures { Reads result (ended (bad_assign T.form hosts.now (map given_of assigns.now)) (invariant_by T.form hosts.now (map given_of assigns.now))) }
+    ensures { Reads result (ended (bad_assign T.form hosts.now (map given_of assigns.now))
+        (invariant_by T.form hosts.now (map given_of assigns.now))) }
 {
     match take_all::<T>(alloc, hosts, assigns) {
         Ok(taken) => Ok(taken.make()),
@@ -85,7 +87,8 @@ fn take_all<T: Assigned>(
     assigns: &[Assign<'_>],
 ) -> Result<T, AttrFault>
     requires { All (λ a. a.host < length hosts.now) assigns.now }
-    ensures given { Reads result (in_turn (shaped T.form.shapes (T.with_assign hosts.now)) 0 (T.start_of hosts.now) (map given_of assigns.now)) }
+    ensures given { Reads result (in_turn (shaped T.form.shapes (T.with_assign hosts.now)) 0 (T.start_of hosts.now)
+        (map given_of assigns.now)) }
     ensures size { IfOk result (λ taken. T.size_of taken ≡ length hosts.now) }
 {
     let mut taken = T::start(alloc, hosts)?;
@@ -107,7 +110,8 @@ fn take_one<T: Assigned>(
     requires size { T.size_of taken.old ≡ length hosts.now }
     requires host { assign.now.host < length hosts.now }
     ensures size { T.size_of taken.new ≡ T.size_of taken.old }
-    ensures taken { IfOk result (λ good. shaped T.form.shapes (T.with_assign hosts.now) taken.old (given_of assign.now) ≡ (if good then Some taken.new else None)) }
+    ensures taken { IfOk result (λ good. shaped T.form.shapes (T.with_assign hosts.now) taken.old (given_of assign.now)
+        ≡ (if good then Some taken.new else None)) }
 {
     if !T::has_shape(assign.table) {
         return Ok(false);

@@ -82,7 +82,8 @@ impl Alone for Domains {
 
 #[tactic(auto, unfolding(crate::specs::Domains::domains_attribute))]
 fn read_attribute(table: &Table) -> Option<(&[u8], u8)>
-    ensures place { option_map (λ said. record { path = segments said.0.now; trust = said.1 }) result ≡ domains_attribute (table_view table.now) }
+    ensures place { option_map (λ said. record { path = segments said.0.now; trust = said.1 }) result
+        ≡ domains_attribute (table_view table.now) }
     ensures legal { IfSome result (λ said. IsTrue (is_path said.0.now) × (said.1 ≤ 16)) }
 {
     let path = text_at(table, "path")?.as_bytes();

@@ -1,8 +1,9 @@
 //! The invariant of a template, made of its assigns.
 ghost use Rattle.std.specs.Prelude.{◌≡◌, ◌<◌, map, length, All, IfOk, IfSome, Some, None};
 ghost use Rattle.attr_core.specs.AssignView.{Reads, given_of};
+ghost use Rattle.attr_core.specs.FirstBad.{SaysNothing, TellsFirstBad};
 ghost use Rattle.attr_core.specs.ReadIn.{read_in};
-ghost use Rattle.attr_core.specs.Templates.{bad_in, invariant_in, template_named};
+ghost use Rattle.attr_core.specs.Templates.{bad_in, form, invariant_in, template_named};
 ghost use Rattle.attr_core.specs.declared.fault.AttrFault.TheVariants.{Memory};
 ghost use Rattle.inv_any.specs.Templates.{meaning_of, template_name};
 
@@ -28,6 +29,10 @@ pub fn bad_attribute(
     assigns: &[Assign<'_>],
 ) -> Result<Option<usize>, AllocError>
     ensures first { IfOk result (λ bad. bad ≡ bad_in hosts.now template (map given_of assigns.now)) }
+
+    // Each assign before it says an attribute, and it says none after these.
+    ensures silent { IfOk result (TellsFirstBad (SaysNothing (form template) hosts.now) (map given_of assigns.now)) }
+
     ensures within { IfOk result (λ bad. IfSome bad (λ k. k < length assigns.now)) }
 {
     first_bad_by(alloc, hosts, template, assigns)

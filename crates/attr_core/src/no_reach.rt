@@ -75,7 +75,8 @@ fn deny_all(rule: &mut NoReach, hosts: &Hosts, host: u16, listed: &[Value]) -> b
     requires size { length rule.old ≡ length hosts.now }
     requires host { host < length hosts.now }
     ensures size { length rule.new ≡ length rule.old }
-    ensures denied { option_map (slice_set rule.old host) (all_denied hosts.now host (map view listed.now)) ≡ (if result then Some rule.new else None) }
+    ensures denied { option_map (slice_set rule.old host) (all_denied hosts.now host (map view listed.now))
+        ≡ (if result then Some rule.new else None) }
 {
     rule.clear(host);
     for value in listed {

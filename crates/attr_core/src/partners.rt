@@ -107,7 +107,8 @@ fn put_master(rule: &mut Partners, hosts: &Hosts, assign: &Assign<'_>) -> bool
     requires size { length rule.old ≡ length hosts.now }
     requires host { assign.now.host < length hosts.now }
     ensures size { length rule.new ≡ length rule.old }
-    ensures put { option_map (slice_set rule.old assign.now.host) (master_in hosts.now assign.now.host (table_view assign.now.table.now)) ≡ (if result then Some rule.new else None) }
+    ensures put { option_map (slice_set rule.old assign.now.host)
+        (master_in hosts.now assign.now.host (table_view assign.now.table.now)) ≡ (if result then Some rule.new else None) }
 {
     allow_all(rule, hosts, assign.host, listed_at(assign.table, "from"))
 }
@@ -118,7 +119,8 @@ fn allow_all(rule: &mut Partners, hosts: &Hosts, host: u16, listed: &[Value]) ->
     requires size { length rule.old ≡ length hosts.now }
     requires host { host < length hosts.now }
     ensures size { length rule.new ≡ length rule.old }
-    ensures allowed { option_map (slice_set rule.old host) (master_of hosts.now host (map view listed.now)) ≡ (if result then Some rule.new else None) }
+    ensures allowed { option_map (slice_set rule.old host) (master_of hosts.now host (map view listed.now))
+        ≡ (if result then Some rule.new else None) }
 {
     rule.set_master(host);
     for value in listed {

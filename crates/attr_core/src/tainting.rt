@@ -4,7 +4,8 @@ ghost use Rattle.std.specs.Prelude.{◌≡◌, ◌<◌, ◌≤◌, IsTrue, [], S
 ghost use Rattle.attr_core.specs.AssignView.{given_of};
 ghost use Rattle.attr_core.specs.Bad.{first_unlabelled, labels_said};
 ghost use Rattle.attr_core.specs.Forms.{bad_assign};
-ghost use Rattle.attr_core.specs.Tainting.{all_labels, and_label, are_among, label_in, labelled, labels_at, numbered, tainting_form};
+ghost use Rattle.attr_core.specs.LabelWalk.{all_labels, and_label, are_among, labelled, labels_at, numbered};
+ghost use Rattle.attr_core.specs.Tainting.{label_in, tainting_form};
 ghost use Rattle.host_net.specs.Host.{Host};
 ghost use Rattle.std.specs.List.{position_from};
 ghost use Rattle.std.specs.Str.{bytes_eq};
@@ -49,7 +50,7 @@ impl Model for TaintedHosts {
 
 impl Assigned for TaintedHosts {
     ghost use Rattle.std.specs.Prelude.{length, replicate, []};
-    ghost use Rattle.attr_core.specs.Tainting.{labels_behind, tainting_form};
+    ghost use Rattle.attr_core.specs.Tainting.{labels_of, tainting_form};
     ghost use Rattle.attr_core.specs.TaintedView.{and_tainted};
     ghost use Rattle.attr_core.specs.TaintingLaws.{tainting_holder};
     ghost use Rattle.inv_any.specs.declared.any_inv.AnyInv.TheVariants as any;
@@ -65,7 +66,7 @@ impl Assigned for TaintedHosts {
 
     ghost form = { tainting_form };
 
-    ghost holding = { λ earlier xs. record { labels = labels_behind [] earlier; hosts = xs } };
+    ghost holding = { λ earlier xs. record { labels = labels_of earlier; hosts = xs } };
 
     ghost is_holder = { tainting_holder };
 
@@ -122,17 +123,19 @@ fn first_unlabelled(alloc: Global, assigns: &[Assign<'_>]) -> Result<Option<usiz
 fn says_labels(labels: &mut Vec<Name>, assign: &Assign<'_>) -> Result<bool, AllocError>
     requires { length labels.old.items ≤ 64 }
     ensures few { length labels.new.items ≤ 64 }
-    ensures said { IfOk result (λ said. labels_said labels.old.items (given_of assign.now).table ≡ (if said then Some labels.new.items else None)) }
+    ensures said { IfOk result (λ said. labels_said labels.old.items (given_of assign.now).table
+        ≡ (if said then Some labels.new.items else None)) }
 {
     Ok(of_shape(assign.table, &KEYS) && labelled(labels, assign.table)?.is_some())
 }
 
 // The labels that the table says.
-#[tactic(auto, unfolding(crate::specs::Tainting::labelled))]
+#[tactic(auto, unfolding(crate::specs::LabelWalk::labelled))]
 fn labelled(labels: &mut Vec<Name>, table: &Table) -> Result<Option<(u64, u64)>, AllocError>
     requires { length labels.old.items ≤ 64 }
     ensures few { length labels.new.items ≤ 64 }
-    ensures said { IfOk result (λ said. labelled labels.old.items (table_view table.now) ≡ option_map (λ set. record { labels = labels.new.items; attribute = record { taints = set.0; untaints = set.1 } }) said) }
+    ensures said { IfOk result (λ said. labelled labels.old.items (table_view table.now)
+        ≡ option_map (λ set. record { labels = labels.new.items; attribute = record { taints = set.0; untaints = set.1 } }) said) }
     ensures among { IfOk result (λ said. IfSome said (λ set. AreAmong set.1 set.0)) }
 {
     let Some(taints) = labels_at(labels, table, "taints")? else {
@@ -156,11 +159,12 @@ fn are_among(untaints: u64, taints: u64) -> bool
 }
 
 // The set of the labels at a key.
-#[tactic(auto, unfolding(crate::specs::Tainting::labels_at))]
+#[tactic(auto, unfolding(crate::specs::LabelWalk::labels_at))]
 fn labels_at(labels: &mut Vec<Name>, table: &Table, key: &str) -> Result<Option<u64>, AllocError>
     requires { length labels.old.items ≤ 64 }
     ensures few { length labels.new.items ≤ 64 }
-    ensures set { IfOk result (λ set. labels_at key.now labels.old.items (table_view table.now) ≡ option_map (λ bits. record { labels = labels.new.items; bits = bits }) set) }
+    ensures set { IfOk result (λ set. labels_at key.now labels.old.items (table_view table.now)
+        ≡ option_map (λ bits. record { labels = labels.new.items; bits = bits }) set) }
 {
     match list_or_empty(table, key) {
         Some(values) => all_labels(labels, values),
@@ -168,11 +172,12 @@ fn labels_at(labels: &mut Vec<Name>, table: &Table, key: &str) -> Result<Option<
     }
 }
 
-#[tactic(auto, unfolding(crate::specs::Tainting::all_labels))]
+#[tactic(auto, unfolding(crate::specs::LabelWalk::all_labels))]
 fn all_labels(labels: &mut Vec<Name>, values: &[Value]) -> Result<Option<u64>, AllocError>
     requires { length labels.old.items ≤ 64 }
     ensures few { length labels.new.items ≤ 64 }
-    ensures set { IfOk result (λ set. all_labels labels.old.items (map view values.now) ≡ option_map (λ bits. record { labels = labels.new.items; bits = bits }) set) }
+    ensures set { IfOk result (λ set. all_labels labels.old.items (map view values.now)
+        ≡ option_map (λ bits. record { labels = labels.new.items; bits = bits }) set) }
 {
     let mut bits = 0;
     for value in values {
@@ -185,11 +190,12 @@ fn all_labels(labels: &mut Vec<Name>, values: &[Value]) -> Result<Option<u64>, A
 }
 
 // The set with the label of an element.
-#[tactic(auto, unfolding(crate::specs::Tainting::and_label))]
+#[tactic(auto, unfolding(crate::specs::LabelWalk::and_label))]
 fn and_label(labels: &mut Vec<Name>, bits: u64, value: &Value) -> Result<Option<u64>, AllocError>
     requires { length labels.old.items ≤ 64 }
     ensures few { length labels.new.items ≤ 64 }
-    ensures set { IfOk result (λ set. and_label (record { labels = labels.old.items; bits = bits }) (view value.now) ≡ option_map (λ more. record { labels = labels.new.items; bits = more }) set) }
+    ensures set { IfOk result (λ set. and_label (record { labels = labels.old.items; bits = bits }) (view value.now)
+        ≡ option_map (λ more. record { labels = labels.new.items; bits = more }) set) }
 {
     let Some(label) = label_in(value) else {
         return Ok(None);
@@ -208,12 +214,13 @@ fn label_in(value: &Value) -> Option<Name>
 }
 
 // The number of the label: that which it has, or the next.
-#[tactic(auto, unfolding(crate::specs::Tainting::numbered, crate::specs::Tainting::new_label))]
+#[tactic(auto, unfolding(crate::specs::LabelWalk::numbered, crate::specs::LabelWalk::new_label))]
 fn numbered(labels: &mut Vec<Name>, label: Name) -> Result<Option<u32>, AllocError>
     requires { length labels.old.items ≤ 64 }
     ensures few { length labels.new.items ≤ 64 }
     ensures below { IfOk result (λ found. IfSome found (λ number. number < 64)) }
-    ensures number { IfOk result (λ found. numbered labels.old.items label ≡ option_map (λ number. record { labels = labels.new.items; number = number }) found) }
+    ensures number { IfOk result (λ found. numbered labels.old.items label
+        ≡ option_map (λ number. record { labels = labels.new.items; number = number }) found) }
 {
     if let Some(number) = position(labels, label) {
         return Ok(Some(number as u32));

@@ -8,7 +8,7 @@ use Rattle.toml.specs.Data.{string, integer, table, Members, no_members, member}
 use Rattle.attr_core.specs.Blp.{blp_attribute}
 use Rattle.attr_core.specs.Shapes.{of_shape}
 use Rattle.attr_core.specs.Templates.{bad_in, invariant_in, template_named}
-use Rattle.desc_core.proofs.Examples.{list, host_at, rest_host, flow, level, invariant, host_a, host_b, a_to_b, described_as, of_hosts, of_flows, of_invariants, hosts_below}
+use Rattle.desc_core.proofs.Examples.{list, host_at, rest_host, flow, level, invariant, host_a, host_b, a_to_b, described_as, of_hosts, of_flows, of_invariants}
 use Rattle.desc_form.specs.declared.refusal.Refusal.{Refusal}
 use Rattle.flow_set.specs.FlowSet.{set_of}
 use Rattle.desc_form.specs.WrittenFlow.{flow_written}
@@ -22,7 +22,7 @@ use Rattle.desc_core.specs.DescriptionLaws.{described-too_long}
 use Rattle.desc_core.specs.Description.{described, described_by_table}
 use Rattle.desc_form.specs.Refusals.{refused, refused_by, refused_item, refused_item_by, refused_name}
 use Rattle.desc_form.specs.declared.refusal.Place.TheVariants.{Assign, Document, FlowAt, Host}
-use Rattle.desc_form.specs.declared.refusal.Why.TheVariants.{TooLong, BadAttribute, BadPrefix, BadVersion, DuplicateFlow, DuplicateHost, HostBits, Overlap, SelfFlow, TooMany, TwoRests, UndeclaredHost, UnknownKey}
+use Rattle.desc_form.specs.declared.refusal.Why.TheVariants.{TooLong, BadAttribute, BadPrefix, BadVersion, DuplicateFlow, DuplicateHost, HostBits, Overlap, SelfFlow, TwoRests, UndeclaredHost, UnknownKey}
 use Rattle.desc_form.specs.FormConditions.{form_conditions}
 use Rattle.desc_form.specs.Written.{written, host_written, invariant_written, assign_written}
 use Rattle.desc_hosts.specs.WrittenHosts.{network_hosts}

@@ -81,7 +81,8 @@ by_document : (bytes : List ℕ) (read : Option Members) (d : Network) → docum
 by_document bytes None d is said = cc
 by_document bytes (Some table) d is said = record { table = table; document = is; says = said }
 
-by_length : (bytes : List ℕ) (long : Bool) (d : Network) → (if long then Err (refused TooLong Document) else described_by (document bytes)) ≡ Ok d → IsTableOf bytes d
+by_length : (bytes : List ℕ) (long : Bool) (d : Network)
+    → (if long then Err (refused TooLong Document) else described_by (document bytes)) ≡ Ok d → IsTableOf bytes d
 by_length bytes true d said = cc
 by_length bytes false d said = by_document bytes (document bytes) d refl said
 
@@ -100,7 +101,8 @@ told_of_document : (read : Option Members) (r : Refusal) → described_by read �
 told_of_document None r said = cc
 told_of_document (Some table) r said = told_of_table table r said
 
-told_by_length : (long : Bool) (read : Option Members) (r : Refusal) → (if long then Err (refused TooLong Document) else described_by read) ≡ Err r
+told_by_length : (long : Bool) (read : Option Members) (r : Refusal)
+    → (if long then Err (refused TooLong Document) else described_by read) ≡ Err r
     → first_of (where_holds long (refused TooLong Document) ∷ where_holds (is_none read) (refused NotToml Document) ∷ option_map_or table_conditions read []) ≡ Some r
 told_by_length true read r said = cc
 told_by_length false read r said = told_of_document read r said
@@ -115,7 +117,8 @@ none_of_document : (read : Option Members) (d : Network) → described_by read �
 none_of_document None d said = cc
 none_of_document (Some table) d said = none_of_table table d said
 
-none_by_length : (long : Bool) (read : Option Members) (d : Network) → (if long then Err (refused TooLong Document) else described_by read) ≡ Ok d
+none_by_length : (long : Bool) (read : Option Members) (d : Network)
+    → (if long then Err (refused TooLong Document) else described_by read) ≡ Ok d
     → first_of (where_holds long (refused TooLong Document) ∷ where_holds (is_none read) (refused NotToml Document) ∷ option_map_or table_conditions read []) ≡ None
 none_by_length true read d said = cc
 none_by_length false read d said = none_of_document read d said

@@ -24,7 +24,8 @@ ends_differ false n from to f same is_from is_to is =
     subst (IsFlow n) ends (is_from, is_to, λ e. false≢true (sym same ∙ eq-eqb from to e))
 
 -- a flow between two names is one between two of the hosts
-pub IsFlow-flow_of_names : (hosts : List Host) (names : WrittenFlow) (f : Flow) → flow_of_names hosts names ≡ Some f → IsFlow (length hosts) f
+pub IsFlow-flow_of_names : (hosts : List Host) (names : WrittenFlow) (f : Flow) → flow_of_names hosts names ≡ Some f
+    → IsFlow (length hosts) f
 IsFlow-flow_of_names hosts names f is =
     option_and_then_some _ (host_named hosts names.from) f is (λ from is_from with_to.
     option_and_then_some (λ to. flow_unless (from == to) from to) (host_named hosts names.to) f with_to (λ to is_to last.
@@ -41,6 +42,7 @@ between_by hosts names pairs (Some g) is later f listed =
     ]
 
 -- what a description lists are flows between two of its hosts
-pub are_between : (hosts : List Host) (pairs : List WrittenFlow) (f : Flow) → IsTrue (has (filter_map (flow_of_names hosts) pairs) f) → IsFlow (length hosts) f
+pub are_between : (hosts : List Host) (pairs : List WrittenFlow) (f : Flow) → IsTrue (has (filter_map (flow_of_names hosts) pairs) f)
+    → IsFlow (length hosts) f
 are_between hosts [] f listed = has_nothing f listed
 are_between hosts (names ∷ pairs) f listed = between_by hosts names pairs (flow_of_names hosts names) refl (are_between hosts pairs) f listed

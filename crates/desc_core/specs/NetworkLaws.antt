@@ -27,18 +27,21 @@ use Rattle.flow_set.specs.FlowSetView.{IsFlowSet}
 use Rattle.inv_any.specs.Templates.{meaning_of}
 use Rattle.inv_any.specs.declared.any_inv.AnyInv.{AnyInv}
 
-asked_by : (w : Written) (given : Bool) → length w.hosts ≤ 256 → IsFlowSet (length w.hosts) (if given then set_of (filter_map (flow_of_names (network_hosts w)) w.flows) else every_flow (length w.hosts))
+asked_by : (w : Written) (given : Bool) → length w.hosts ≤ 256
+    → IsFlowSet (length w.hosts) (if given then set_of (filter_map (flow_of_names (network_hosts w)) w.flows) else every_flow (length w.hosts))
 asked_by w true few =
     IsFlowSet-set_of (length w.hosts) (filter_map (flow_of_names (network_hosts w)) w.flows) few (λ f listed. rw (← length-network_hosts w) (are_between (network_hosts w) w.flows f listed))
 asked_by w false few = IsFlowSet-every_flow (length w.hosts) few
 
 -- each invariant has an attribute for each host
-sized_by : (hosts : List Host) (o : Option Known) (invs : List AnyInv) → AllByRecursion (λ (inv : AnyInv). (meaning_of inv).size ≡ length hosts) invs
+sized_by : (hosts : List Host) (o : Option Known) (invs : List AnyInv)
+    → AllByRecursion (λ (inv : AnyInv). (meaning_of inv).size ≡ length hosts) invs
     → AllByRecursion (λ (inv : AnyInv). (meaning_of inv).size ≡ length hosts) (cons_option (option_map (made_of hosts) o) invs)
 sized_by hosts None invs behind = behind
 sized_by hosts (Some k) invs behind = (invariant_sized hosts k.template k.assigns, behind)
 
-sized_all : (hosts : List Host) (is : List WrittenInvariant) → AllByRecursion (λ (inv : AnyInv). (meaning_of inv).size ≡ length hosts) (filter_map (invariant_of hosts) is)
+sized_all : (hosts : List Host) (is : List WrittenInvariant)
+    → AllByRecursion (λ (inv : AnyInv). (meaning_of inv).size ≡ length hosts) (filter_map (invariant_of hosts) is)
 sized_all hosts [] = tt
 sized_all hosts (i ∷ is) = sized_by hosts (known_of hosts i) (filter_map (invariant_of hosts) is) (sized_all hosts is)
 

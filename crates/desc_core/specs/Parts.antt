@@ -25,7 +25,8 @@ use Rattle.text_core.specs.Firsts.{first_of}
 
 -- the table of the bytes, or 1 or 2
 unfoldable pub table_of : List ℕ → Result Members Refusal
-table_of bytes = if nat_lt byte_limit (length bytes) then Err (refused TooLong Document) else ok_or (document bytes) (refused NotToml Document)
+table_of bytes =
+    if nat_lt byte_limit (length bytes) then Err (refused TooLong Document) else ok_or (document bytes) (refused NotToml Document)
 
 -- the network, or the first of 6 to 20
 unfoldable pub network_or : Written → Result Network Refusal

@@ -20,7 +20,8 @@ use Rattle.text_core.specs.Steps.{◌>>=◌}
 -- 15: no template has the name
 unfoldable pub unknown_template : Written → Option Refusal
 unknown_template w =
-    option_map (λ i. refused UnknownTemplate (Invariant i.number)) (find (λ i. is_none (template_named i.what.template)) (numbered w.invariants))
+    option_map (λ i. refused UnknownTemplate (Invariant i.number))
+    (find (λ i. is_none (template_named i.what.template)) (numbered w.invariants))
 
 -- a host of the description has the name
 abbrev pub is_declared : Written → List ℕ → Bool
@@ -42,7 +43,8 @@ duplicate_assign w = first_found duplicate_assign_of (numbered w.invariants)
 
 -- an invariant is refused at its first assign that says no attribute
 abbrev pub bad_at : List Host → ℕ → Known → Option Refusal
-bad_at hosts number known = option_map (λ assign. refused BadAttribute (Assign number (assign + 1))) (bad_in hosts known.template known.assigns)
+bad_at hosts number known =
+    option_map (λ assign. refused BadAttribute (Assign number (assign + 1))) (bad_in hosts known.template known.assigns)
 
 abbrev pub bad_attribute_of : List Host → Numbered WrittenInvariant → Option Refusal
 bad_attribute_of hosts i = known_of hosts i.what >>= bad_at hosts i.number

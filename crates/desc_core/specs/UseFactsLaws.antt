@@ -38,7 +38,8 @@ nothing_found p (x ∷ xs) all =
     let (here, behind) = and_parts (not (p x)) _ all in
     nothing_by (p x) x (find p xs) here (nothing_found p xs behind)
 
-nothing_barred_behind : {A : Type 0} (bars : A → A → Bool) (before xs : List A) → no_pair bars (before ++ xs) ≡ true → first_pair_behind bars before xs ≡ None
+nothing_barred_behind : {A : Type 0} (bars : A → A → Bool) (before xs : List A) → no_pair bars (before ++ xs) ≡ true
+    → first_pair_behind bars before xs ≡ None
 nothing_barred_behind bars before [] apart = refl
 nothing_barred_behind {A} bars before (x ∷ xs) apart =
     let rest : no_pair bars ((before ++ x ∷ []) ++ xs) ≡ true = ap (no_pair bars) (append_assoc before (x ∷ []) xs) ∙ apart in
@@ -70,10 +71,12 @@ not_none : {A : Type 0} (o : Option A) → not (is_none o) ≡ is_some o
 not_none None = refl
 not_none (Some x) = refl
 
-templates_same : (is : List WrittenInvariant) → list_all (λ (i : WrittenInvariant). not (is_none (template_named i.template))) is ≡ list_all (λ (i : WrittenInvariant). is_some (template_named i.template)) is
+templates_same : (is : List WrittenInvariant)
+    → list_all (λ (i : WrittenInvariant). not (is_none (template_named i.template))) is ≡ list_all (λ (i : WrittenInvariant). is_some (template_named i.template)) is
 templates_same is = λ k. list_all (λ (i : WrittenInvariant). not_none (template_named i.template) k) is
 
-pub templates_known : (w : Written) → (unknown_template w ≡ None) ↔ (list_all (λ (i : WrittenInvariant). is_some (template_named i.template)) w.invariants ≡ true)
+pub templates_known : (w : Written)
+    → (unknown_template w ≡ None) ↔ (list_all (λ (i : WrittenInvariant). is_some (template_named i.template)) w.invariants ≡ true)
 unfolding unknown_template
 templates_known w =
     let (known, unknown) = found_numbered _ (λ (i : WrittenInvariant). is_none (template_named i.template)) w.invariants in
@@ -94,7 +97,8 @@ ends_test w f = is_declared w f.from && is_declared w f.to
 abbrev name_test : Written → Mention → Bool
 name_test w m = is_declared w m.name
 
-in_assigns : (w : Written) (k : ℕ) (is : List WrittenInvariant) → list_all (name_test w) (flat_map assign_names_of (numbered_from k is)) ≡ list_all (assigns_test w) is
+in_assigns : (w : Written) (k : ℕ) (is : List WrittenInvariant)
+    → list_all (name_test w) (flat_map assign_names_of (numbered_from k is)) ≡ list_all (assigns_test w) is
 in_assigns w k [] = refl
 in_assigns w k (i ∷ is) =
     list_all-append (name_test w) (map (assign_name k) (numbered i.assigns)) (flat_map assign_names_of (numbered_from (k + 1) is))
@@ -104,19 +108,23 @@ and_twice : (a b c : Bool) → (a && (b && c)) ≡ ((a && b) && c)
 and_twice true b c = refl
 and_twice false b c = refl
 
-in_flows : (w : Written) (k : ℕ) (fs : List WrittenFlow) → list_all (name_test w) (flat_map flow_names_of (numbered_from k fs)) ≡ list_all (ends_test w) fs
+in_flows : (w : Written) (k : ℕ) (fs : List WrittenFlow)
+    → list_all (name_test w) (flat_map flow_names_of (numbered_from k fs)) ≡ list_all (ends_test w) fs
 in_flows w k [] = refl
 in_flows w k (f ∷ fs) =
     and_twice (is_declared w f.from) (is_declared w f.to) _ ∙ ap (λ b. (is_declared w f.from && is_declared w f.to) && b) (in_flows w (k + 1) fs)
 
-all_names_same : (w : Written) → list_all (name_test w) (used_names w) ≡ (list_all (assigns_test w) w.invariants && list_all (ends_test w) w.flows)
+all_names_same : (w : Written)
+    → list_all (name_test w) (used_names w) ≡ (list_all (assigns_test w) w.invariants && list_all (ends_test w) w.flows)
 unfolding used_names assign_names flow_names
 all_names_same w = list_all-append (name_test w) (assign_names w) (flow_names w) ∙ (λ j. in_assigns w 1 w.invariants j && in_flows w 1 w.flows j)
 
-declared_twice : (w : Written) → list_all (λ (m : Mention). not (not (is_declared w m.name))) (used_names w) ≡ list_all (name_test w) (used_names w)
+declared_twice : (w : Written)
+    → list_all (λ (m : Mention). not (not (is_declared w m.name))) (used_names w) ≡ list_all (name_test w) (used_names w)
 declared_twice w = λ j. list_all (λ (m : Mention). not_twice (is_declared w m.name) j) (used_names w)
 
-pub hosts_declared : (w : Written) → (undeclared_host w ≡ None) ↔ ((list_all (assigns_test w) w.invariants ≡ true) × (list_all (ends_test w) w.flows ≡ true))
+pub hosts_declared : (w : Written)
+    → (undeclared_host w ≡ None) ↔ ((list_all (assigns_test w) w.invariants ≡ true) × (list_all (ends_test w) w.flows ≡ true))
 unfolding undeclared_host
 hosts_declared w = (
   λ none.
@@ -149,21 +157,25 @@ once_from k (i ∷ is) =
           nothing_or (duplicate_assign_of (record { number = k; what = i })) _ (unbarred here) (none_later behind),
     )
 
-pub assigns_once : (w : Written) → (duplicate_assign w ≡ None) ↔ (list_all (λ (i : WrittenInvariant). no_pair same_host i.assigns) w.invariants ≡ true)
+pub assigns_once : (w : Written)
+    → (duplicate_assign w ≡ None) ↔ (list_all (λ (i : WrittenInvariant). no_pair same_host i.assigns) w.invariants ≡ true)
 unfolding duplicate_assign
 assigns_once w = once_from 1 w.invariants
 
 -- ---- 18
 
-good_one : (hosts : List Host) (k : ℕ) (i : WrittenInvariant) → bad_attribute_of hosts (record { number = k; what = i }) ≡ None → SaysAttributes hosts i
+good_one : (hosts : List Host) (k : ℕ) (i : WrittenInvariant) → bad_attribute_of hosts (record { number = k; what = i }) ≡ None
+    → SaysAttributes hosts i
 good_one hosts k i none known is =
     none_mapped (λ assign. refused BadAttribute (Assign k (assign + 1))) (bad_in hosts known.template known.assigns) (ap (option_and_then (bad_at hosts k)) (sym is) ∙ none)
 
-none_by : (hosts : List Host) (k : ℕ) (o : Option Known) → ((known : Known) → o ≡ Some known → bad_in hosts known.template known.assigns ≡ None) → option_and_then (bad_at hosts k) o ≡ None
+none_by : (hosts : List Host) (k : ℕ) (o : Option Known)
+    → ((known : Known) → o ≡ Some known → bad_in hosts known.template known.assigns ≡ None) → option_and_then (bad_at hosts k) o ≡ None
 none_by hosts k None good = refl
 none_by hosts k (Some known) good = ap (option_map (λ assign. refused BadAttribute (Assign k (assign + 1)))) (good known refl)
 
-good_from : (hosts : List Host) (k : ℕ) (is : List WrittenInvariant) → (first_found (bad_attribute_of hosts) (numbered_from k is) ≡ None) ↔ AllByRecursion (SaysAttributes hosts) is
+good_from : (hosts : List Host) (k : ℕ) (is : List WrittenInvariant)
+    → (first_found (bad_attribute_of hosts) (numbered_from k is) ≡ None) ↔ AllByRecursion (SaysAttributes hosts) is
 good_from hosts k [] = (λ none. tt, λ all. refl)
 good_from hosts k (i ∷ is) =
     let (later, none_later) = good_from hosts (k + 1) is in (

@@ -40,7 +40,8 @@ pub(crate) fn asked_flows(
 ) -> Result<FlowSet, DescFault>
     requires small { count ≤ 256 }
     requires flows { All (IsFlow count) flows.now }
-    ensures { Reads result (refused_or (twice_found flows.now) (record { size = count; flows = if given then set_of flows.now else every_flow count })) }
+    ensures { Reads result (refused_or (twice_found flows.now)
+        (record { size = count; flows = if given then set_of flows.now else every_flow count })) }
 {
     let listed = listed_flows(alloc, count, flows)?;
     if given {

@@ -27,7 +27,8 @@ pub(crate) fn known_invariants<'a>(
     hosts: &Hosts,
     written: &[WrittenInvariant<'a>],
 ) -> Result<Option<Vec<KnownInvariant<'a>>>, AllocError>
-    ensures known { IfOk result (λ known. option_map (λ ks. map known_view ks.items) known ≡ each (known_of hosts.now) (map invariant_view written.now)) }
+    ensures known { IfOk result (λ known. option_map (λ ks. map known_view ks.items) known
+        ≡ each (known_of hosts.now) (map invariant_view written.now)) }
     ensures hosts { IfOk result (λ known. IfSome known (λ ks. All (λ k. All (λ a. a.host < length hosts.now) k.assigns.items) ks.items)) }
 {
     let mut known = Vec::new(alloc);
@@ -64,7 +65,8 @@ fn assigns_among<'a>(
     hosts: &Hosts,
     written: &[WrittenAssign<'a>],
 ) -> Result<Option<Vec<Assign<'a>>>, AllocError>
-    ensures given { IfOk result (λ among. option_map (λ assigns. map given_of assigns.items) among ≡ each (given_by hosts.now) (map assign_view written.now)) }
+    ensures given { IfOk result (λ among. option_map (λ assigns. map given_of assigns.items) among
+        ≡ each (given_by hosts.now) (map assign_view written.now)) }
     ensures hosts { IfOk result (λ among. IfSome among (λ assigns. All (λ a. a.host < length hosts.now) assigns.items)) }
 {
     let mut assigns = Vec::new(alloc);

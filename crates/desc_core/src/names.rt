@@ -61,7 +61,8 @@ fn name_refusal(
 
 /// No template has the name.
 fn unknown_template(invariants: &[WrittenInvariant<'_>]) -> Option<Refusal>
-    ensures { result ≡ option_map (λ i. refused UnknownTemplate (Invariant i.number)) (find (λ i. is_none (template_named i.what.template)) (numbered (map invariant_view invariants.now))) }
+    ensures { result ≡ option_map (λ i. refused UnknownTemplate (Invariant i.number))
+        (find (λ i. is_none (template_named i.what.template)) (numbered (map invariant_view invariants.now))) }
 {
     for (index, invariant) in invariants.iter().enumerate() {
         if Template::named(invariant.template).is_none() {
@@ -88,7 +89,8 @@ fn undeclared_host(
 
 fn first_undeclared(hosts: &Hosts, names: &[Mention<'_>]) -> Option<Refusal>
     requires { IsTrue (list_all (λ m. is_name m.name) (map mention_view names.now)) }
-    ensures { result ≡ option_map (λ m. refused_name UndeclaredHost m.place m.item m.name) (find (λ m. is_none (host_named hosts.now m.name)) (map mention_view names.now)) }
+    ensures { result ≡ option_map (λ m. refused_name UndeclaredHost m.place m.item m.name)
+        (find (λ m. is_none (host_named hosts.now m.name)) (map mention_view names.now)) }
 {
     for mention in names {
         if hosts.find(mention.name.as_bytes()).is_none() {
@@ -123,7 +125,8 @@ pub(crate) fn duplicate_assign(invariants: &[WrittenInvariant<'_>]) -> Option<Re
 
 /// The same among the assigns of the invariant with a number.
 fn duplicate_in(invariant: u64, assigns: &[WrittenAssign<'_>]) -> Option<Refusal>
-    ensures { result ≡ option_map (λ p. refused_by DuplicateAssign (Assign invariant p.later.number) p.earlier.number) (first_pair (λ a b. bytes_eq a.what.host b.what.host) (numbered (map assign_view assigns.now))) }
+    ensures { result ≡ option_map (λ p. refused_by DuplicateAssign (Assign invariant p.later.number) p.earlier.number)
+        (first_pair (λ a b. bytes_eq a.what.host b.what.host) (numbered (map assign_view assigns.now))) }
 {
     let pair = first_pair(assigns, |later, earlier| later.host == earlier.host);
     barred_assign(invariant, pair)
@@ -131,7 +134,8 @@ fn duplicate_in(invariant: u64, assigns: &[WrittenAssign<'_>]) -> Option<Refusal
 
 /// The refusal for an assign that an earlier one bars.
 fn barred_assign(invariant: u64, pair: Option<Pair<'_, WrittenAssign<'_>>>) -> Option<Refusal>
-    ensures { result ≡ option_map (λ p. refused_by DuplicateAssign (Assign invariant p.later.number) p.earlier.number) (option_map pair_seen pair.entry) }
+    ensures { result ≡ option_map (λ p. refused_by DuplicateAssign (Assign invariant p.later.number) p.earlier.number)
+        (option_map pair_seen pair.entry) }
 {
     let pair = pair?;
     let place = Place::Assign(invariant, pair.later.number);

@@ -86,7 +86,8 @@ fn use_refusal(
     invariants: &[KnownInvariant<'_>],
     flows: &[Flow],
 ) -> Result<Option<Refusal>, AllocError>
-    ensures { IfOk result (λ refusal. refusal ≡ option_or (duplicate_assign (written_view written.now)) (option_or (bad_known hosts.now (map known_view invariants.now)) (self_found flows.now))) }
+    ensures { IfOk result (λ refusal. refusal ≡ option_or (duplicate_assign (written_view written.now))
+        (option_or (bad_known hosts.now (map known_view invariants.now)) (self_found flows.now))) }
 {
     let assign = duplicate_assign(&written.invariants);
     if assign.is_some() {

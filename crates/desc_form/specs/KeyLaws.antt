@@ -38,7 +38,8 @@ first_of_two true b is_false either = refl
 first_of_two false b is_false either = cc
 
 -- the word that is not the second of the two is the first
-answers_word : (s : List ℕ) (b : Bool) → bytes_eq s (codes "none") ≡ b → is_answers s ≡ true → s ≡ (if not b then codes "all" else codes "none")
+answers_word : (s : List ℕ) (b : Bool) → bytes_eq s (codes "none") ≡ b → is_answers s ≡ true
+    → s ≡ (if not b then codes "all" else codes "none")
 answers_word s true is_none suits = (bytes_eq-Decides s (codes "none")).0 is_none
 answers_word s false is_none suits =
     (bytes_eq-Decides s (codes "all")).0 (first_of_two (bytes_eq s (codes "all")) (bytes_eq s (codes "none")) is_none suits)
@@ -53,14 +54,16 @@ nothing_zipped : {A : Type 0} (Is : Data → A → Type 0) (xs : List A) → All
 nothing_zipped Is [] zipped = refl
 nothing_zipped Is (x ∷ xs) zipped = absurd zipped
 
-pub array_stands : {A : Type 0} (Is : Data → A → Type 0) (o : Option Data) (xs : List A) → is_some o ≡ true → (not (is_some o) || is_some (option_and_then elements_of o)) ≡ true
+pub array_stands : {A : Type 0} (Is : Data → A → Type 0) (o : Option Data) (xs : List A) → is_some o ≡ true
+    → (not (is_some o) || is_some (option_and_then elements_of o)) ≡ true
     → AllZip Is (unwrap_or (option_and_then elements_of o) []) xs → IsSomeAnd o (λ d. IsArray Is d xs)
 unfolding elements_of
 array_stands Is None xs there suits zipped = cc
 array_stands Is (Some (array ds)) xs there suits zipped = (ds, refl, zipped)
 array_stands Is (Some _) xs there suits zipped = cc
 
-pub array_stands_or : {A : Type 0} (Is : Data → A → Type 0) (o : Option Data) (xs : List A) → (not (is_some o) || is_some (option_and_then elements_of o)) ≡ true
+pub array_stands_or : {A : Type 0} (Is : Data → A → Type 0) (o : Option Data) (xs : List A)
+    → (not (is_some o) || is_some (option_and_then elements_of o)) ≡ true
     → AllZip Is (unwrap_or (option_and_then elements_of o) []) xs → MatchOption o (xs ≡ []) (λ d. IsArray Is d xs)
 array_stands_or Is None xs suits zipped = nothing_zipped Is xs zipped
 array_stands_or Is (Some d) xs suits zipped = array_stands Is (Some d) xs refl suits zipped
@@ -78,15 +81,18 @@ texts_stand_or (Some (array ds)) suits = (ds, refl, all_texts (elements ds) suit
 texts_stand_or (Some _) suits = cc
 
 -- the other way: what stands at a key passes its tests
-pub text_suits : (o : Option Data) (x : List ℕ) → IsSomeAnd o (λ d. IsText d x) → (is_some o ≡ true) × ((not (is_some o) || is_some (option_and_then as_str o)) ≡ true)
+pub text_suits : (o : Option Data) (x : List ℕ) → IsSomeAnd o (λ d. IsText d x)
+    → (is_some o ≡ true) × ((not (is_some o) || is_some (option_and_then as_str o)) ≡ true)
 text_suits None x stands = absurd stands
 text_suits (Some d) x stands = rw stands (refl, refl)
 
-pub integer_suits : (o : Option Data) (x : ℤ) → IsSomeAnd o (λ d. IsInteger d x) → (is_some o ≡ true) × ((not (is_some o) || is_some (option_and_then as_integer o)) ≡ true)
+pub integer_suits : (o : Option Data) (x : ℤ) → IsSomeAnd o (λ d. IsInteger d x)
+    → (is_some o ≡ true) × ((not (is_some o) || is_some (option_and_then as_integer o)) ≡ true)
 integer_suits None x stands = absurd stands
 integer_suits (Some d) x stands = rw stands (refl, refl)
 
-pub boolean_suits : (o : Option Data) (x : Bool) → MatchOption o (x ≡ false) (λ d. IsBoolean d x) → (not (is_some o) || is_some (option_and_then as_bool o)) ≡ true
+pub boolean_suits : (o : Option Data) (x : Bool) → MatchOption o (x ≡ false) (λ d. IsBoolean d x)
+    → (not (is_some o) || is_some (option_and_then as_bool o)) ≡ true
 boolean_suits None x stands = refl
 boolean_suits (Some d) x stands = rw stands refl
 
@@ -94,22 +100,26 @@ word_suits : (b : Bool) → is_answers (if b then codes "all" else codes "none")
 word_suits true = refl
 word_suits false = refl
 
-pub answers_suit : (o : Option Data) (x : Bool) → MatchOption o (x ≡ true) (λ d. IsAnswers d x) → (not (is_some o) || option_map_or is_answers (option_and_then as_str o) false) ≡ true
+pub answers_suit : (o : Option Data) (x : Bool) → MatchOption o (x ≡ true) (λ d. IsAnswers d x)
+    → (not (is_some o) || option_map_or is_answers (option_and_then as_str o) false) ≡ true
 answers_suit None x stands = refl
 answers_suit (Some d) x stands = rw stands (word_suits x)
 
-pub array_suits : {A : Type 0} (Is : Data → A → Type 0) (o : Option Data) (xs : List A) → MatchOption o (xs ≡ []) (λ d. IsArray Is d xs) → (not (is_some o) || is_some (option_and_then elements_of o)) ≡ true
+pub array_suits : {A : Type 0} (Is : Data → A → Type 0) (o : Option Data) (xs : List A) → MatchOption o (xs ≡ []) (λ d. IsArray Is d xs)
+    → (not (is_some o) || is_some (option_and_then elements_of o)) ≡ true
 unfolding elements_of
 array_suits Is None xs stands = refl
 array_suits Is (Some d) xs (ds, is_array, zipped) = rw is_array refl
 
 -- and its elements are the list
-pub array_zips : {A : Type 0} (Is : Data → A → Type 0) (o : Option Data) (xs : List A) → MatchOption o (xs ≡ []) (λ d. IsArray Is d xs) → AllZip Is (unwrap_or (option_and_then elements_of o) []) xs
+pub array_zips : {A : Type 0} (Is : Data → A → Type 0) (o : Option Data) (xs : List A) → MatchOption o (xs ≡ []) (λ d. IsArray Is d xs)
+    → AllZip Is (unwrap_or (option_and_then elements_of o) []) xs
 unfolding elements_of
 array_zips Is None xs none = subst (AllZip Is []) (sym none) tt
 array_zips Is (Some d) xs (ds, is_array, zipped) = subst (λ (e : Data). AllZip Is (unwrap_or (elements_of e) []) xs) (sym is_array) zipped
 
-pub array_needed : {A : Type 0} (Is : Data → A → Type 0) (o : Option Data) (xs : List A) → IsSomeAnd o (λ d. IsArray Is d xs) → (is_some o ≡ true) × MatchOption o (xs ≡ []) (λ d. IsArray Is d xs)
+pub array_needed : {A : Type 0} (Is : Data → A → Type 0) (o : Option Data) (xs : List A) → IsSomeAnd o (λ d. IsArray Is d xs)
+    → (is_some o ≡ true) × MatchOption o (xs ≡ []) (λ d. IsArray Is d xs)
 array_needed Is None xs stands = absurd stands
 array_needed Is (Some d) xs stands = (refl, stands)
 
@@ -119,7 +129,8 @@ all_are_texts [] (x ∷ xs) zipped = refl
 all_are_texts (d ∷ ds) [] zipped = absurd zipped
 all_are_texts (d ∷ ds) (x ∷ xs) (is_string, zipped) = rw is_string (all_are_texts ds xs zipped)
 
-pub texts_suit : (o : Option Data) (xs : List (List ℕ)) → MatchOption o (xs ≡ []) (λ d. IsArray IsText d xs) → (not (is_some o) || option_map_or (list_all is_text) (option_and_then elements_of o) false) ≡ true
+pub texts_suit : (o : Option Data) (xs : List (List ℕ)) → MatchOption o (xs ≡ []) (λ d. IsArray IsText d xs)
+    → (not (is_some o) || option_map_or (list_all is_text) (option_and_then elements_of o) false) ≡ true
 unfolding elements_of
 texts_suit None xs stands = refl
 texts_suit (Some d) xs (ds, is_array, zipped) = rw is_array (all_are_texts (elements ds) xs zipped)

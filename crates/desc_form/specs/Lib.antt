@@ -9,4 +9,5 @@ pub mod Written
 pub mod WrittenFlow
 pub mod WrittenForm
 pub mod WrittenLaws
+pub mod WrittenOnceLaws
 pub mod WrittenView

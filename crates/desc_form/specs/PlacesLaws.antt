@@ -1,4 +1,5 @@
--- The first place where a condition holds is the first one of the parts; one of two conditions holds nowhere exactly where each holds nowhere.
+-- The first place where a condition holds is the first one of the parts; one of two conditions holds nowhere exactly where each holds
+-- nowhere.
 use Rattle.std.proofs.Common.{◌≡◌, ℕ, ◌+◌, Bool, true, false, cond, ◌||◌, List, [], ◌∷◌, ◌++◌, map, Option, Some, None, option_map, refl, ap, ◌∙◌, sym}
 use Rattle.std.proofs.lemmas.Bool.{or_parts}
 use Rattle.std.specs.Prelude.{find, flat_map, codes}
@@ -23,14 +24,16 @@ first_spot_by : (holds : Place → Data → Bool) (s : Spot) (ss : List Spot) (b
 first_spot_by holds s ss true = refl
 first_spot_by holds s ss false = refl
 
-first_spot : (holds : Place → Data → Bool) (s : Spot) (ss : List Spot) → place_of holds (s ∷ ss) ≡ option_or (where_holds (holds s.place s.value) s.place) (place_of holds ss)
+first_spot : (holds : Place → Data → Bool) (s : Spot) (ss : List Spot)
+    → place_of holds (s ∷ ss) ≡ option_or (where_holds (holds s.place s.value) s.place) (place_of holds ss)
 first_spot holds s ss = first_spot_by holds s ss (holds s.place s.value)
 
 or_or : {A : Type 0} (a b c : Option A) → option_or a (option_or b c) ≡ option_or (option_or a b) c
 or_or None b c = refl
 or_or (Some x) b c = refl
 
-spots_append : (holds : Place → Data → Bool) (ss ts : List Spot) → place_of holds (ss ++ ts) ≡ option_or (place_of holds ss) (place_of holds ts)
+spots_append : (holds : Place → Data → Bool) (ss ts : List Spot)
+    → place_of holds (ss ++ ts) ≡ option_or (place_of holds ss) (place_of holds ts)
 spots_append holds [] ts = refl
 spots_append holds (s ∷ ss) ts =
     first_spot holds s (ss ++ ts)
@@ -45,12 +48,14 @@ in_list holds place k (d ∷ ds) =
     first_spot holds (spot (place k) d) (map (λ (n : Numbered Data). spot (place n.number) n.what) (numbered_from (k + 1) ds))
     ∙ ap (option_or (where_holds (holds (place k) d) (place k))) (in_list holds place (k + 1) ds)
 
-in_invariant : (holds : Place → Data → Bool) (k : ℕ) (d : Data) → place_of holds (invariant_spots (record { number = k; what = d })) ≡ first_of_invariant holds k d
+in_invariant : (holds : Place → Data → Bool) (k : ℕ) (d : Data)
+    → place_of holds (invariant_spots (record { number = k; what = d })) ≡ first_of_invariant holds k d
 in_invariant holds k d =
     first_spot holds (spot (Invariant k) d) (map (λ (n : Numbered Data). spot (Assign k n.number) n.what) (numbered (assigns_of d)))
     ∙ ap (option_or (where_holds (holds (Invariant k) d) (Invariant k))) (in_list holds (Assign k) 1 (assigns_of d))
 
-in_invariants : (holds : Place → Data → Bool) (k : ℕ) (ds : List Data) → place_of holds (flat_map invariant_spots (numbered_from k ds)) ≡ first_of_invariants holds k ds
+in_invariants : (holds : Place → Data → Bool) (k : ℕ) (ds : List Data)
+    → place_of holds (flat_map invariant_spots (numbered_from k ds)) ≡ first_of_invariants holds k ds
 in_invariants holds k [] = refl
 in_invariants holds k (d ∷ ds) =
     spots_append holds (invariant_spots (record { number = k; what = d })) (flat_map invariant_spots (numbered_from (k + 1) ds))
@@ -85,7 +90,8 @@ find_either p q (s ∷ ss) p_found q_found =
     let q_parts = cond_none (q s) s (find q ss) q_found in
     rw (p_parts.0, q_parts.0) (find_either p q ss p_parts.1 q_parts.1)
 
-pub nowhere_either : (p q : Place → Data → Bool) (ms : Members) → first_place p ms ≡ None → first_place q ms ≡ None → first_place (λ place d. p place d || q place d) ms ≡ None
+pub nowhere_either : (p q : Place → Data → Bool) (ms : Members) → first_place p ms ≡ None → first_place q ms ≡ None
+    → first_place (λ place d. p place d || q place d) ms ≡ None
 unfolding first_place
 nowhere_either p q ms p_found q_found =
     ap (option_map (λ (s : Spot). s.place)) (find_either (λ s. p s.place s.value) (λ s. q s.place s.value) (spots ms) (none_mapped _ _ p_found) (none_mapped _ _ q_found))
@@ -99,7 +105,8 @@ find_both p q (s ∷ ss) found =
     let rest = find_both p q ss parts.1 in
     (rw here.0 rest.0, rw here.1 rest.1)
 
-pub nowhere_both : (p q : Place → Data → Bool) (ms : Members) → first_place (λ place d. p place d || q place d) ms ≡ None → (first_place p ms ≡ None) × (first_place q ms ≡ None)
+pub nowhere_both : (p q : Place → Data → Bool) (ms : Members) → first_place (λ place d. p place d || q place d) ms ≡ None
+    → (first_place p ms ≡ None) × (first_place q ms ≡ None)
 unfolding first_place
 nowhere_both p q ms found =
     let both = find_both (λ s. p s.place s.value) (λ s. q s.place s.value) (spots ms) (none_mapped _ _ found) in

@@ -1,4 +1,5 @@
--- A description is of the right form exactly where a record says what is written in it, and then the record that is read says it: nothing is passed over.
+-- A description is of the right form exactly where a record says what is written in it, and then the record that is read says it: nothing
+-- is passed over.
 use Rattle.std.proofs.Common.{◌≡◌, ◌↔◌, ℕ, ℤ, ◌+◌, Bool, true, false, not, ◌||◌, List, [], ◌∷◌, map, Option, Some, None, refl, ap, ◌∙◌, sym, subst}
 use Rattle.std.proofs.lemmas.Bool.{or_parts, not-false}
 use Rattle.std.specs.Cmp.{first_so, second_so}
@@ -31,7 +32,8 @@ bad v place d = has_unknown_key v place d || (has_missing_key v place d || has_w
 abbrev IsReadIn : {A : Type 0} → (Members → A → Type 0) → (Members → A) → Data → Type 0
 IsReadIn Is read d = (ms : Members) × (d ≡ table ms) × Is ms (read ms)
 
-host_stands : (v : Option ℤ) (k : ℕ) (ms : Members) → has_other_key v (Host k) ms ≡ false → lacks_needed v (Host k) ms ≡ false → has_unsuited v (Host k) ms ≡ false → IsHost ms (host_written ms)
+host_stands : (v : Option ℤ) (k : ℕ) (ms : Members) → has_other_key v (Host k) ms ≡ false → lacks_needed v (Host k) ms ≡ false
+    → has_unsuited v (Host k) ms ≡ false → IsHost ms (host_written ms)
 unfolding has_other_key lacks_needed has_unsuited has_only_keys lacks_key all_suit host_written listed has_key text_at boolean_at list_at
 host_stands v k ms other lacks unsuited =
     let suits = not-false (list_all (suits_in ms) (keys_of v (Host k))) unsuited in
@@ -50,7 +52,8 @@ host_reads v k (table ms) good =
     (ms, refl, host_stands v k ms parts.0 rest.0 rest.1)
 host_reads v k _ good = cc
 
-assign_stands : (v : Option ℤ) (k m : ℕ) (ms : Members) → lacks_needed v (Assign k m) ms ≡ false → has_unsuited v (Assign k m) ms ≡ false → IsAssign ms (assign_written ms)
+assign_stands : (v : Option ℤ) (k m : ℕ) (ms : Members) → lacks_needed v (Assign k m) ms ≡ false → has_unsuited v (Assign k m) ms ≡ false
+    → IsAssign ms (assign_written ms)
 unfolding lacks_needed has_unsuited lacks_key all_suit assign_written has_key text_at
 assign_stands v k m ms lacks unsuited =
     let suits = not-false (list_all (suits_in ms) (keys_of v (Assign k m))) unsuited in
@@ -72,14 +75,16 @@ zip_first Is read d ds (ms, is_table, fits) rest =
     subst (λ (e : Data). AllZip (IsTable Is) (e ∷ ds) (map read (filter_map as_table (e ∷ ds)))) (sym is_table) ((ms, refl, fits), rest)
 
 -- where no element of a list is bad, each is read
-tables_read : (v : Option ℤ) {A : Type 0} (Is : Members → A → Type 0) (read : Members → A) (place : ℕ → Place) → ((k : ℕ) (d : Data) → bad v (place k) d ≡ false → IsReadIn Is read d)
+tables_read : (v : Option ℤ) {A : Type 0} (Is : Members → A → Type 0) (read : Members → A) (place : ℕ → Place)
+    → ((k : ℕ) (d : Data) → bad v (place k) d ≡ false → IsReadIn Is read d)
     → (k : ℕ) (ds : List Data) → first_at (bad v) place k ds ≡ None → AllZip (IsTable Is) ds (map read (filter_map as_table ds))
 tables_read v Is read place reads k [] found = tt
 tables_read v Is read place reads k (d ∷ ds) found =
     let parts = neither (where_holds (bad v (place k) d) (place k)) _ found in
     zip_first Is read d ds (reads k d (holds_not _ _ parts.0)) (tables_read v Is read place reads (k + 1) ds parts.1)
 
-invariant_stands : (v : Option ℤ) (k : ℕ) (ms : Members) → has_other_key v (Invariant k) ms ≡ false → lacks_needed v (Invariant k) ms ≡ false → has_unsuited v (Invariant k) ms ≡ false
+invariant_stands : (v : Option ℤ) (k : ℕ) (ms : Members) → has_other_key v (Invariant k) ms ≡ false
+    → lacks_needed v (Invariant k) ms ≡ false → has_unsuited v (Invariant k) ms ≡ false
     → first_at (bad v) (Assign k) 1 (listed (codes "assign") ms) ≡ None → IsInvariant ms (invariant_written ms)
 unfolding has_other_key lacks_needed has_unsuited has_only_keys lacks_key all_suit invariant_written listed has_key text_at list_at
 invariant_stands v k ms other lacks unsuited found =
@@ -101,7 +106,8 @@ invariant_reads v k (table ms) found =
     (ms, refl, invariant_stands v k ms here.0 rest.0 rest.1 parts.1)
 invariant_reads v k _ found = cc
 
-invariants_read : (v : Option ℤ) (k : ℕ) (ds : List Data) → first_of_invariants (bad v) k ds ≡ None → AllZip (IsTable IsInvariant) ds (map invariant_written (filter_map as_table ds))
+invariants_read : (v : Option ℤ) (k : ℕ) (ds : List Data) → first_of_invariants (bad v) k ds ≡ None
+    → AllZip (IsTable IsInvariant) ds (map invariant_written (filter_map as_table ds))
 invariants_read v k [] found = tt
 invariants_read v k (d ∷ ds) found =
     let parts = neither (first_of_invariant (bad v) k d) _ found in
@@ -200,7 +206,8 @@ assign_good v k m ms a stands =
     none_bad {only = true} refl (present host.0 refl) (both_true host.1 refl)
 
 -- where each element of a list is a good table, none is bad
-tables_good : (v : Option ℤ) {A : Type 0} (Is : Members → A → Type 0) (place : ℕ → Place) → ((k : ℕ) (ms : Members) (x : A) → Is ms x → bad v (place k) (table ms) ≡ false)
+tables_good : (v : Option ℤ) {A : Type 0} (Is : Members → A → Type 0) (place : ℕ → Place)
+    → ((k : ℕ) (ms : Members) (x : A) → Is ms x → bad v (place k) (table ms) ≡ false)
     → (k : ℕ) (ds : List Data) (xs : List A) → AllZip (IsTable Is) ds xs → first_at (bad v) place k ds ≡ None
 tables_good v Is place good k [] xs zipped = refl
 tables_good v Is place good k (d ∷ ds) [] zipped = absurd zipped
@@ -208,7 +215,8 @@ tables_good v Is place good k (d ∷ ds) (x ∷ xs) ((ms, is_table, fits), zippe
     subst (λ (e : Data). option_or (where_holds (bad v (place k) e) (place k)) (first_at (bad v) place (k + 1) ds) ≡ None) (sym is_table)
     (rw (good k ms x fits) (tables_good v Is place good (k + 1) ds xs zipped))
 
-invariant_good : (v : Option ℤ) (k : ℕ) (ms : Members) (i : WrittenInvariant) → IsInvariant ms i → first_of_invariant (bad v) k (table ms) ≡ None
+invariant_good : (v : Option ℤ) (k : ℕ) (ms : Members) (i : WrittenInvariant) → IsInvariant ms i
+    → first_of_invariant (bad v) k (table ms) ≡ None
 unfolding has_wrong_type has_other_key lacks_needed has_unsuited has_only_keys lacks_key all_suit assigns_of listed has_key text_at list_at
 invariant_good v k ms i stands =
     let template = text_suits (get_member (codes "template") ms) i.template stands.template in

@@ -6,6 +6,7 @@ ghost use Rattle.desc_form.specs.Places.{listed};
 ghost use Rattle.desc_form.specs.WrittenFlow.{flow_written};
 ghost use Rattle.desc_form.specs.WrittenView.{assign_view, flow_view, host_view, invariant_view, written_view};
 ghost use Rattle.desc_form.specs.Written.{assign_written, host_written, invariant_written, text_in, written};
+ghost use Rattle.desc_form.specs.Written as meant;
 ghost use Rattle.desc_form.specs.WrittenForm.{IsWritten};
 ghost use Rattle.toml.specs.Data.{as_str, as_table};
 ghost use Rattle.toml.specs.View.{view, table_view};
@@ -145,7 +146,8 @@ fn invariants_among(
     alloc: Global,
     values: &[Value],
 ) -> Result<Vec<WrittenInvariant<'_>>, AllocError>
-    ensures { IfOk result (λ invariants. map invariant_view invariants.items ≡ map invariant_written (filter_map as_table (map view values.now))) }
+    ensures { IfOk result (λ invariants. map invariant_view invariants.items
+        ≡ map invariant_written (filter_map as_table (map view values.now))) }
 {
     let mut invariants = Vec::new(alloc);
     for value in values {
@@ -175,7 +177,11 @@ pub fn read_written(alloc: Global, document: &Table) -> Result<Written<'_>, Allo
     ensures read { IfOk result (λ read. written_view read ≡ written (table_view document.now)) }
 
     // Where the form is right, nothing is passed over.
-    ensures whole { first_of (form_conditions (table_view document.now)) ≡ None → IfOk result (λ read. IsWritten (table_view document.now) (written_view read)) }
+    ensures whole { first_of (form_conditions (table_view document.now)) ≡ None
+        → IfOk result (λ read. IsWritten (table_view document.now) (written_view read)) }
+
+    // A document says one thing: whatever is written in it is what is read.
+    ensures one { (said : meant.Written) → IsWritten (table_view document.now) said → IfOk result (λ read. written_view read ≡ said) }
 {
     written_in(alloc, document)
 }

@@ -27,7 +27,8 @@ said_of_host : (host k : ℕ) (ts : List (List ℕ))
 said_of_host host k [] = refl
 said_of_host host k (t ∷ ts) = ap (λ us. prefix_of t ∷ us) (said_of_host host (k + 1) ts)
 
-said_from : (k : ℕ) (hs : List WrittenHost) → map (λ (e : Entry). e.prefix) (flat_map entries_of (numbered_from k hs)) ≡ map prefix_of (texts hs)
+said_from : (k : ℕ) (hs : List WrittenHost)
+    → map (λ (e : Entry). e.prefix) (flat_map entries_of (numbered_from k hs)) ≡ map prefix_of (texts hs)
 said_from k [] = refl
 said_from k (h ∷ hs) =
     map-append (λ (e : Entry). e.prefix) (entries_at k h.at) (flat_map entries_of (numbered_from (k + 1) hs))
@@ -40,7 +41,8 @@ unfolding all_entries
 said_by_entries w = said_from 1 w.hosts
 
 -- a test of all entries that looks at what they say alone
-pub all_texts : (p : Option Prefix → Bool) (w : Written) → list_all (λ (e : Entry). p e.prefix) (all_entries w) ≡ list_all (λ t. p (prefix_of t)) (texts w.hosts)
+pub all_texts : (p : Option Prefix → Bool) (w : Written)
+    → list_all (λ (e : Entry). p e.prefix) (all_entries w) ≡ list_all (λ t. p (prefix_of t)) (texts w.hosts)
 all_texts p w =
     sym (list_all-map p (λ (e : Entry). e.prefix) (all_entries w))
     ∙ ap (list_all p) (said_by_entries w)
@@ -92,7 +94,8 @@ network_said : (t : List ℕ) (o : Option Prefix) (ps : List Prefix) → prefix_
 network_said t None ps said prefix exact all = cc
 network_said t (Some p) ps said prefix exact all = grind (arith, nat_tests, prefix_of-fits t p said)
 
-pub networks : (ts : List (List ℕ)) → list_all (λ t. not (not (is_prefix (prefix_of t)))) ts ≡ true → list_all (λ t. not (has_host_bits (prefix_of t))) ts ≡ true
+pub networks : (ts : List (List ℕ)) → list_all (λ t. not (not (is_prefix (prefix_of t)))) ts ≡ true
+    → list_all (λ t. not (has_host_bits (prefix_of t))) ts ≡ true
     → list_all is_network (filter_map prefix_of ts) ≡ true
 networks [] prefixes exact = refl
 networks (t ∷ ts) prefixes exact =
@@ -118,7 +121,8 @@ apart_said : (o : Option Prefix) (ts : List (List ℕ)) → list_all (λ t. not 
 apart_said None ts here behind = behind
 apart_said (Some p) ts here behind = rw (later_apart p ts here, behind)
 
-pub prefixes_apart : (ts : List (List ℕ)) → no_pair (λ t u. entries_meet (prefix_of t) (prefix_of u)) ts ≡ true → no_pair meets (filter_map prefix_of ts) ≡ true
+pub prefixes_apart : (ts : List (List ℕ)) → no_pair (λ t u. entries_meet (prefix_of t) (prefix_of u)) ts ≡ true
+    → no_pair meets (filter_map prefix_of ts) ≡ true
 prefixes_apart [] h = refl
 prefixes_apart (t ∷ ts) h =
     let (here, behind) = and_parts (list_all (λ s. not (entries_meet (prefix_of s) (prefix_of t))) ts) _ h in

@@ -3,8 +3,7 @@
 use Rattle.std.specs.Prelude.{◌≡◌, ◌≢◌, ◌↔◌, ◌≤◌, ◌<◌, ℕ, pos, true, IsTrue, List, [], length, flat_map, Some}
 use Rattle.std.specs.List.{All, AllPairs}
 use Rattle.desc_form.specs.Written.{Written, WrittenHost}
-use Rattle.host_net.specs.Limits.{host_limit, prefix_limit}
-use Rattle.host_net.specs.Limits.{invariant_limit}
+use Rattle.host_net.specs.Limits.{host_limit, invariant_limit, prefix_limit}
 use Rattle.host_net.specs.PrefixView.{ShareAddress}
 use Rattle.host_net.specs.Prefix.{is_exact, prefix_of}
 use Rattle.host_net.specs.declared.prefix.Prefix.{Prefix}

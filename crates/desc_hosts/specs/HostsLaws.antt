@@ -66,10 +66,12 @@ unrefused w h =
     }
 
 -- where a condition on numbered or listed elements refuses nothing, no element meets it, and no two bar one another
-passed : {A : Type 0} (p : A → Bool) (tell : A → Refusal) (xs : List A) → option_map tell (find p xs) ≡ None → list_all (λ x. not (p x)) xs ≡ true
+passed : {A : Type 0} (p : A → Bool) (tell : A → Refusal) (xs : List A) → option_map tell (find p xs) ≡ None
+    → list_all (λ x. not (p x)) xs ≡ true
 passed p tell xs h = none_found p xs (none_mapped tell (find p xs) h)
 
-unpaired : {A : Type 0} (bars : A → A → Bool) (tell : Pair A → Refusal) (xs : List A) → option_map tell (first_pair bars xs) ≡ None → no_pair bars xs ≡ true
+unpaired : {A : Type 0} (bars : A → A → Bool) (tell : Pair A → Refusal) (xs : List A) → option_map tell (first_pair bars xs) ≡ None
+    → no_pair bars xs ≡ true
 unpaired bars tell xs h = none_barred bars xs (none_mapped tell (first_pair bars xs) h)
 
 at_most : (limit n : ℕ) → nat_lt limit n ≡ false → n ≤ limit
@@ -169,14 +171,16 @@ addressed_said : (o : Option Prefix) (ps : List Prefix) (rest : Bool) → not (n
 addressed_said None ps rest prefix address = cc
 addressed_said (Some p) ps rest prefix address = address
 
-addressed_host : (ts : List (List ℕ)) (rest : Bool) → list_all (λ t. not (not (is_prefix (prefix_of t)))) ts ≡ true → not (lacks_address ts rest) ≡ true
+addressed_host : (ts : List (List ℕ)) (rest : Bool) → list_all (λ t. not (not (is_prefix (prefix_of t)))) ts ≡ true
+    → not (lacks_address ts rest) ≡ true
     → not (lacks_address (filter_map prefix_of ts) rest) ≡ true
 addressed_host [] rest prefixes address = address
 addressed_host (t ∷ ts) rest prefixes address =
     let (prefix, _) = and_parts (not (not (is_prefix (prefix_of t)))) _ prefixes in
     addressed_said (prefix_of t) (filter_map prefix_of ts) rest prefix address
 
-addressed_hosts : (hs : List WrittenHost) → list_all (λ t. not (not (is_prefix (prefix_of t)))) (texts hs) ≡ true → list_all (λ (h : WrittenHost). not (lacks_address h.at h.rest)) hs ≡ true
+addressed_hosts : (hs : List WrittenHost) → list_all (λ t. not (not (is_prefix (prefix_of t)))) (texts hs) ≡ true
+    → list_all (λ (h : WrittenHost). not (lacks_address h.at h.rest)) hs ≡ true
     → list_all (λ (h : Host). not (lacks_address h.prefixes h.rest)) (map network_host hs) ≡ true
 addressed_hosts [] prefixes addresses = refl
 addressed_hosts (h ∷ hs) prefixes addresses =
@@ -192,7 +196,8 @@ all_hosts : (p : Host → Bool) (w : Written) → list_all (λ h. p (network_hos
 unfolding network_hosts
 all_hosts p w h = list_all-map p network_host w.hosts ∙ h
 
-no_pair_hosts : (r : Host → Host → Bool) (w : Written) → no_pair (λ h g. r (network_host h) (network_host g)) w.hosts ≡ true → no_pair r (network_hosts w) ≡ true
+no_pair_hosts : (r : Host → Host → Bool) (w : Written) → no_pair (λ h g. r (network_host h) (network_host g)) w.hosts ≡ true
+    → no_pair r (network_hosts w) ≡ true
 unfolding network_hosts
 no_pair_hosts r w h = no_pair-map r network_host w.hosts ∙ h
 

@@ -51,7 +51,8 @@ pub(crate) fn overlap(entries: &[Entry]) -> Option<Refusal>
 
 /// The refusal for a prefix that an earlier one meets.
 fn met_entry(pair: Option<Pair<'_, Entry>>) -> Option<Refusal>
-    ensures { result ≡ option_map (λ p. refused_item_by Overlap (Host p.later.what.host) p.later.what.item p.earlier.what.host) (option_map pair_seen pair.entry) }
+    ensures { result ≡ option_map (λ p. refused_item_by Overlap (Host p.later.what.host) p.later.what.item p.earlier.what.host)
+        (option_map pair_seen pair.entry) }
 {
     let pair = pair?;
     let (later, earlier) = (pair.later.what, pair.earlier.what);

@@ -44,7 +44,8 @@ pub(crate) fn all_entries(
 }
 
 fn push_entries(entries: &mut Vec<Entry>, host: u64, texts: &[&str]) -> Result<(), AllocError>
-    ensures { OnOk result (map entry_view entries.new.items ≡ map entry_view entries.old.items ++ entries_at host (map (λ text. text.now) texts.now)) }
+    ensures { OnOk result (map entry_view entries.new.items ≡ map entry_view entries.old.items
+        ++ entries_at host (map (λ text. text.now) texts.now)) }
 {
     for (index, text) in texts.iter().enumerate() {
         entries.push(read_entry(host, index as u64 + 1, text))?;

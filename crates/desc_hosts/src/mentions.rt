@@ -41,7 +41,8 @@ fn push_assign_names<'a>(
     names: &mut Vec<Mention<'a>>,
     invariants: &[WrittenInvariant<'a>],
 ) -> Result<(), AllocError>
-    ensures { OnOk result (map mention_view names.new.items ≡ map mention_view names.old.items ++ flat_map assign_names_of (numbered (map invariant_view invariants.now))) }
+    ensures { OnOk result (map mention_view names.new.items ≡ map mention_view names.old.items
+        ++ flat_map assign_names_of (numbered (map invariant_view invariants.now))) }
 {
     for (index, invariant) in invariants.iter().enumerate() {
         push_names_of(names, index as u64 + 1, &invariant.assigns)?;
@@ -55,7 +56,8 @@ fn push_names_of<'a>(
     number: u64,
     assigns: &[WrittenAssign<'a>],
 ) -> Result<(), AllocError>
-    ensures { OnOk result (map mention_view names.new.items ≡ map mention_view names.old.items ++ map (assign_name number) (numbered (map assign_view assigns.now))) }
+    ensures { OnOk result (map mention_view names.new.items ≡ map mention_view names.old.items
+        ++ map (assign_name number) (numbered (map assign_view assigns.now))) }
 {
     for (index, assign) in assigns.iter().enumerate() {
         names.push(Mention {
@@ -71,7 +73,8 @@ fn push_flow_names<'a>(
     names: &mut Vec<Mention<'a>>,
     flows: &[WrittenFlow<'a>],
 ) -> Result<(), AllocError>
-    ensures { OnOk result (map mention_view names.new.items ≡ map mention_view names.old.items ++ flat_map flow_names_of (numbered (map flow_view flows.now))) }
+    ensures { OnOk result (map mention_view names.new.items ≡ map mention_view names.old.items
+        ++ flat_map flow_names_of (numbered (map flow_view flows.now))) }
 {
     for (index, flow) in flows.iter().enumerate() {
         let place = Place::FlowAt(index as u64 + 1);

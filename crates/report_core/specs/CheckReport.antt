@@ -12,7 +12,8 @@ use Rattle.report_core.specs.Names.{flow_text, invariant_text}
 -- what is told of an invariant: nothing where it holds on the flows, else the flows outside the first subset of them on which it holds
 abbrev pub IsOffence : (List Flow → Type 0) → List Flow → Option (List Flow) → Type 0
 IsOffence Holds asked None = Holds asked
-IsOffence Holds asked (Some offending) = (Holds asked → ⊥) × ((first : List Flow) × IsFirst Holds asked first × (offending ≡ without asked first))
+IsOffence Holds asked (Some offending) =
+    (Holds asked → ⊥) × ((first : List Flow) × IsFirst Holds asked first × (offending ≡ without asked first))
 
 -- for each invariant in turn
 abbrev pub AreOffences : List AnyInv → List Flow → List (Option (List Flow)) → Type 0

@@ -1,4 +1,5 @@
--- Laws of reports: a network has one of each kind, so that the text is decided by the description; and what is told of an invariant mends it.
+-- Laws of reports: a network has one of each kind, so that the text is decided by the description; and what is told of an invariant mends
+-- it.
 use Rattle.std.proofs.Common.{◌≡◌, ℕ, zero, suc, ◌<◌, List, [], ◌∷◌, Option, None, Some, inl, inr, take, length, refl, sym, ◌∙◌, ap, subst, arith}
 use Rattle.std.specs.Prelude.{IsTrue, slice_get}
 use Rattle.std.proofs.lemmas.Bool.{both_ways, cases_lt}
@@ -18,7 +19,8 @@ use Rattle.report_core.specs.PolicyReport.{IsRuling, AreRulings, policy_text, Te
 
 -- ---- the report of the invariants
 
-offence_is_one : (Holds : List Flow → Type 0) (asked : List Flow) (o p : Option (List Flow)) → IsOffence Holds asked o → IsOffence Holds asked p → o ≡ p
+offence_is_one : (Holds : List Flow → Type 0) (asked : List Flow) (o p : Option (List Flow)) → IsOffence Holds asked o
+    → IsOffence Holds asked p → o ≡ p
 offence_is_one Holds asked None None a b = refl
 offence_is_one Holds asked None (Some ys) a b = absurd (b.0 a)
 offence_is_one Holds asked (Some xs) None a b = absurd (a.0 b)
@@ -26,11 +28,13 @@ offence_is_one Holds asked (Some xs) (Some ys) (fails, (first, is_first, rest)) 
     ap Some (rest ∙ ap (without asked) (first_unique Holds asked first first' is_first is_first') ∙ sym rest')
 
 -- what is told of an invariant that fails is a minimal offending set: the invariant holds without these flows, and none of them can stay
-pub offence_is_minimal : (Holds : List Flow → Type 0) (asked offending : List Flow) → IsOrdered asked → IsOffence Holds asked (Some offending) → IsMinimalOffending Holds asked offending
+pub offence_is_minimal : (Holds : List Flow → Type 0) (asked offending : List Flow) → IsOrdered asked
+    → IsOffence Holds asked (Some offending) → IsMinimalOffending Holds asked offending
 offence_is_minimal Holds asked offending ordered (fails, (first, is_first, rest)) =
     subst (IsMinimalOffending Holds asked) (sym rest) (first_offending Holds asked first ordered is_first fails)
 
-offences_are_one : (invs : List AnyInv) (asked : List Flow) (os ps : List (Option (List Flow))) → AreOffences invs asked os → AreOffences invs asked ps → os ≡ ps
+pub offences_are_one : (invs : List AnyInv) (asked : List Flow) (os ps : List (Option (List Flow))) → AreOffences invs asked os
+    → AreOffences invs asked ps → os ≡ ps
 offences_are_one [] asked [] [] a b = refl
 offences_are_one [] asked [] (p ∷ ps) a b = absurd b
 offences_are_one [] asked (o ∷ os) ps a b = absurd a
@@ -58,13 +62,15 @@ in_front (y ∷ ys) (suc n) zero x early there = absurd (omega arith)
 in_front (y ∷ ys) (suc n) (suc m) x early there = in_front ys n m x (omega arith) there
 
 -- no invariant fails before the first that does
-none_earlier : {X : Type 0} (HoldsOn : X → List Flow → Type 0) (invs : List X) (e : List Flow) (n m : ℕ) → IsFirstFailing HoldsOn invs e n → IsFirstFailing HoldsOn invs e m → n < m → ⊥
+none_earlier : {X : Type 0} (HoldsOn : X → List Flow → Type 0) (invs : List X) (e : List Flow) (n m : ℕ)
+    → IsFirstFailing HoldsOn invs e n → IsFirstFailing HoldsOn invs e m → n < m → ⊥
 none_earlier HoldsOn invs e n m a b early =
     let there : slice_get (take m invs) n ≡ Some a.inv = in_front invs n m a.inv early a.place in
     a.fails (subst (λ inv. HoldsOn inv e) (get_or_from_slice_get (take m invs) n a.inv a.inv there) (b.earlier n a.inv (slice_get_within (take m invs) n a.inv there)))
 
 -- the first invariant that fails has one number
-first_failing_is_one : {X : Type 0} (HoldsOn : X → List Flow → Type 0) (invs : List X) (e : List Flow) (n m : ℕ) → IsFirstFailing HoldsOn invs e n → IsFirstFailing HoldsOn invs e m → n ≡ m
+first_failing_is_one : {X : Type 0} (HoldsOn : X → List Flow → Type 0) (invs : List X) (e : List Flow) (n m : ℕ)
+    → IsFirstFailing HoldsOn invs e n → IsFirstFailing HoldsOn invs e m → n ≡ m
 first_failing_is_one HoldsOn invs e n m a b = elim (cases_lt n m) [
   | inl early ↦ absurd (none_earlier HoldsOn invs e n m a b early)
   | inr not_early ↦ elim (cases_lt m n) [
@@ -84,7 +90,8 @@ nests d policy is_policy = record {
   asked = is_policy.permitted.within.within;
 }
 
-ruling_is_one : (d : Network) (policy : Policy) (f : Flow) (r s : Ruling) → Nests d policy → IsRuling d policy f r → IsRuling d policy f s → r ≡ s
+ruling_is_one : (d : Network) (policy : Policy) (f : Flow) (r s : Ruling) → Nests d policy → IsRuling d policy f r
+    → IsRuling d policy f s → r ≡ s
 ruling_is_one d policy f Answered Answered n a b = refl
 ruling_is_one d policy f Answered Allowed n a b = absurd (both_ways _ b.1 a)
 ruling_is_one d policy f Answered NotAsked n a b = absurd (both_ways _ b (n.asked f (n.permitted f a)))
@@ -103,7 +110,8 @@ ruling_is_one d policy f (Denied j) NotAsked n a b = absurd (both_ways _ b a.0)
 ruling_is_one d policy f (Denied j) (Denied k) n a b =
     ap Denied (first_failing_is_one holds_on d.invariants (with_flow policy.permitted.flows f) j k a.2 b.2)
 
-rulings_are_one : (d : Network) (policy : Policy) (fs : List Flow) (rs ss : List Ruling) → Nests d policy → AreRulings d policy fs rs → AreRulings d policy fs ss → rs ≡ ss
+rulings_are_one : (d : Network) (policy : Policy) (fs : List Flow) (rs ss : List Ruling) → Nests d policy → AreRulings d policy fs rs
+    → AreRulings d policy fs ss → rs ≡ ss
 rulings_are_one d policy [] [] [] n a b = refl
 rulings_are_one d policy [] [] (s ∷ ss) n a b = absurd b
 rulings_are_one d policy [] (r ∷ rs) ss n a b = absurd a
@@ -114,7 +122,8 @@ rulings_are_one d policy (f ∷ fs) (r ∷ rs) (s ∷ ss) n a b =
     let rest : rs ≡ ss = rulings_are_one d policy fs rs ss n a.1 b.1 in
     λ i. first i ∷ rest i
 
-told_is_one : (d : Network) (policy : Policy) (fs : List Flow) (a b : List ℕ) → Nests d policy → TellsRulings d policy fs a → TellsRulings d policy fs b → a ≡ b
+told_is_one : (d : Network) (policy : Policy) (fs : List Flow) (a b : List ℕ) → Nests d policy → TellsRulings d policy fs a
+    → TellsRulings d policy fs b → a ≡ b
 told_is_one d policy fs a b n p q =
     p.written ∙ ap (policy_text d fs) (rulings_are_one d policy fs p.rulings q.rulings n p.found q.found) ∙ sym q.written
 

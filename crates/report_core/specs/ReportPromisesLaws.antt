@@ -20,7 +20,8 @@ use Rattle.report_core.specs.ReportPromises.{TellsOffence, TellsOffences, TellsR
 
 -- ---- the report of `check`
 
-tells_offence : (d : Network) (inv : AnyInv) (o : Option (List Flow)) → IsOrdered d.asked.flows → IsOffence (holds_on inv) d.asked.flows o → TellsOffence d inv o
+tells_offence : (d : Network) (inv : AnyInv) (o : Option (List Flow)) → IsOrdered d.asked.flows
+    → IsOffence (holds_on inv) d.asked.flows o → TellsOffence d inv o
 tells_offence d inv None ordered holds = record {
   named_is_broken = λ named. absurd (false≢true named);
   broken_is_named = λ broken. absurd (broken holds);
@@ -32,13 +33,15 @@ tells_offence d inv (Some flows) ordered offence = record {
   minimal = offence_is_minimal (holds_on inv) d.asked.flows flows ordered offence;
 }
 
-as_many_offences : (invs : List AnyInv) (asked : List Flow) (os : List (Option (List Flow))) → AreOffences invs asked os → length os ≡ length invs
+as_many_offences : (invs : List AnyInv) (asked : List Flow) (os : List (Option (List Flow))) → AreOffences invs asked os
+    → length os ≡ length invs
 as_many_offences [] asked [] found = refl
 as_many_offences [] asked (o ∷ os) found = absurd found
 as_many_offences (inv ∷ invs) asked [] found = absurd found
 as_many_offences (inv ∷ invs) asked (o ∷ os) found = ap suc (as_many_offences invs asked os found.1)
 
-offence_at : (invs : List AnyInv) (asked : List Flow) (os : List (Option (List Flow))) (k : ℕ) (inv : AnyInv) (o : Option (List Flow)) → AreOffences invs asked os → slice_get invs k ≡ Some inv → slice_get os k ≡ Some o → IsOffence (holds_on inv) asked o
+offence_at : (invs : List AnyInv) (asked : List Flow) (os : List (Option (List Flow))) (k : ℕ) (inv : AnyInv) (o : Option (List Flow))
+    → AreOffences invs asked os → slice_get invs k ≡ Some inv → slice_get os k ≡ Some o → IsOffence (holds_on inv) asked o
 offence_at [] asked os k inv o found here told = cc
 offence_at (x ∷ xs) asked [] k inv o found here told = absurd found
 offence_at (x ∷ xs) asked (p ∷ ps) zero inv o found here told =
@@ -47,7 +50,8 @@ offence_at (x ∷ xs) asked (p ∷ ps) zero inv o found here told =
     subst (λ (i : AnyInv). IsOffence (holds_on i) asked o) same_inv (subst (λ (q : Option (List Flow)). IsOffence (holds_on x) asked q) same found.0)
 offence_at (x ∷ xs) asked (p ∷ ps) (suc k) inv o found here told = offence_at xs asked ps k inv o found.1 here told
 
-names_one : (invs : List AnyInv) (asked : List Flow) (os : List (Option (List Flow))) → AreOffences invs asked os → (AllHold holds_on invs asked → ⊥) → (k : ℕ) × (flows : List Flow) × (slice_get os k ≡ Some (Some flows))
+names_one : (invs : List AnyInv) (asked : List Flow) (os : List (Option (List Flow))) → AreOffences invs asked os
+    → (AllHold holds_on invs asked → ⊥) → (k : ℕ) × (flows : List Flow) × (slice_get os k ≡ Some (Some flows))
 names_one [] asked os found not_all = absurd (not_all (All-nil (λ inv. holds_on inv asked)))
 names_one (inv ∷ invs) asked [] found not_all = absurd found
 names_one (inv ∷ invs) asked (Some flows ∷ os) found not_all = (zero, flows, refl)
@@ -100,7 +104,8 @@ as_many_rulings d policy [] (r ∷ rs) found = absurd found
 as_many_rulings d policy (f ∷ fs) [] found = absurd found
 as_many_rulings d policy (f ∷ fs) (r ∷ rs) found = ap suc (as_many_rulings d policy fs rs found.1)
 
-ruling_at : (d : Network) (policy : Policy) (fs : List Flow) (rs : List Ruling) (k : ℕ) (f : Flow) (r : Ruling) → AreRulings d policy fs rs → slice_get fs k ≡ Some f → slice_get rs k ≡ Some r → IsRuling d policy f r
+ruling_at : (d : Network) (policy : Policy) (fs : List Flow) (rs : List Ruling) (k : ℕ) (f : Flow) (r : Ruling)
+    → AreRulings d policy fs rs → slice_get fs k ≡ Some f → slice_get rs k ≡ Some r → IsRuling d policy f r
 ruling_at d policy [] rs k f r found here told = cc
 ruling_at d policy (g ∷ gs) [] k f r found here told = absurd found
 ruling_at d policy (g ∷ gs) (s ∷ ss) zero f r found here told =

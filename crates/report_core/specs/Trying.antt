@@ -8,4 +8,5 @@ use Rattle.trial_core.specs.Trials.{AreTried}
 
 -- each invariant of the network has a trial, with these flows
 abbrev pub AreTriedOn : Network → List Flow → List AnyTrial → Type 0
-AreTriedOn d flows trials = AreTried (λ inv trial. FitsAny inv trial.case) (λ trial. tried_of trial.case) (λ _. true) d.invariants trials flows
+AreTriedOn d flows trials =
+    AreTried (λ inv trial. FitsAny inv trial.case) (λ trial. tried_of trial.case) (λ _. true) d.invariants trials flows

@@ -54,7 +54,8 @@ fn push_offence(
     offence: &Option<FlowSet>,
 ) -> Result<(), AllocError>
     requires { ForSome offence.now (λ flows. flows.size ≡ length hosts.now) }
-    ensures { OnOk result (text.new.items ≡ text.old.items ++ offence_text hosts.now number invariant.now (option_map (λ set. set.flows) offence.now)) }
+    ensures { OnOk result (text.new.items ≡ text.old.items
+        ++ offence_text hosts.now number invariant.now (option_map (λ set. set.flows) offence.now)) }
 {
     text.extend_from_slice(b"invariant ")?;
     push_invariant(text, number, invariant)?;

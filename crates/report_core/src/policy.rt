@@ -41,7 +41,8 @@ fn push_rulings(
 ) -> Result<(), AllocError>
     requires policy { IsPolicyOf description.now policy.now }
     requires tried { AreTriedOn description.now policy.now.permitted.flows trials.old.items }
-    ensures { OnOk result (Grows (TellsRulings description.now policy.now (every_flow (length description.now.hosts))) text.old.items text.new.items) }
+    ensures { OnOk result (Grows (TellsRulings description.now policy.now
+        (every_flow (length description.now.hosts))) text.old.items text.new.items) }
 {
     for from in 0..description.hosts().count() {
         push_rulings_from(text, description, policy, trials, from)?;
@@ -60,7 +61,8 @@ fn push_rulings_from(
     requires policy { IsPolicyOf description.now policy.now }
     requires tried { AreTriedOn description.now policy.now.permitted.flows trials.old.items }
     requires from { from < length description.now.hosts }
-    ensures told { OnOk result (Grows (TellsRulings description.now policy.now (flat_map (flow_or_none from) (range_with_len 0 (length description.now.hosts)))) text.old.items text.new.items) }
+    ensures told { OnOk result (Grows (TellsRulings description.now policy.now
+        (flat_map (flow_or_none from) (range_with_len 0 (length description.now.hosts)))) text.old.items text.new.items) }
     ensures tried { AreTriedOn description.now policy.now.permitted.flows trials.new.items }
 {
     for to in 0..description.hosts().count() {
@@ -81,7 +83,8 @@ fn push_ruling_between(
     requires tried { AreTriedOn description.now policy.now.permitted.flows trials.old.items }
     requires from { flow.from < length description.now.hosts }
     requires to { flow.to < length description.now.hosts }
-    ensures told { OnOk result (Grows (TellsRulings description.now policy.now (flow_or_none flow.from flow.to)) text.old.items text.new.items) }
+    ensures told { OnOk result (Grows (TellsRulings description.now policy.now
+        (flow_or_none flow.from flow.to)) text.old.items text.new.items) }
     ensures tried { AreTriedOn description.now policy.now.permitted.flows trials.new.items }
 {
     if flow.from == flow.to {

@@ -4,13 +4,15 @@ use Rattle.std.proofs.lemmas.Bool.{and_parts}
 use Rattle.std.specs.List.{fold, list_all}
 use Rattle.table_core.specs.Listing.{each, grow}
 
-each_by : {B : Type 0} (here : Option B) (rest : Option (List B)) → is_some here ≡ true → is_some rest ≡ true → is_some (option_and_then (λ y. option_map (λ ys. y ∷ ys) rest) here) ≡ true
+each_by : {B : Type 0} (here : Option B) (rest : Option (List B)) → is_some here ≡ true → is_some rest ≡ true
+    → is_some (option_and_then (λ y. option_map (λ ys. y ∷ ys) rest) here) ≡ true
 each_by None rest there behind = cc
 each_by (Some y) None there behind = cc
 each_by (Some y) (Some ys) there behind = refl
 
 -- a list can be read where each of its elements can
-pub each_some : {D A : Type 0} (read : D → Option A) (ds : List D) → list_all (λ d. is_some (read d)) ds ≡ true → is_some (each read ds) ≡ true
+pub each_some : {D A : Type 0} (read : D → Option A) (ds : List D) → list_all (λ d. is_some (read d)) ds ≡ true
+    → is_some (each read ds) ≡ true
 each_some read [] all = refl
 each_some read (d ∷ ds) all =
     let (here, behind) = and_parts (is_some (read d)) _ all in

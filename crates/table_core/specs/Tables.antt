@@ -1,4 +1,5 @@
--- What a TOML table says: its keys, and what stands at a key, by its type. Tables, arrays and values are those that the crate `toml` reads (its module Data).
+-- What a TOML table says: its keys, and what stands at a key, by its type. Tables, arrays and values are those that the crate `toml` reads
+-- (its module Data).
 use Rattle.std.specs.Prelude.{ℕ, ℤ, pos, negsuc, Bool, List, [], ◌∷◌, Option, Some, None, option_and_then, option_map, is_some, nat_le, if◌then◌else◌}
 use Rattle.std.specs.List.{list_all, list_any}
 use Rattle.std.specs.Str.{bytes_eq}

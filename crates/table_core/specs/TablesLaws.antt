@@ -11,6 +11,7 @@ elements_view [] = refl
 elements_view (v ∷ vs) = ap (λ ds. view v ∷ ds) (elements_view vs)
 
 -- a look at each key of the map
-pub all_keys_view : (test : List ℕ → Bool) (es : List (String Global × Value)) → list_all (λ key. test (string_bytes key)) (keys_of es) ≡ all_keys test (members_view es)
+pub all_keys_view : (test : List ℕ → Bool) (es : List (String Global × Value))
+    → list_all (λ key. test (string_bytes key)) (keys_of es) ≡ all_keys test (members_view es)
 all_keys_view test [] = refl
 all_keys_view test (e ∷ es) = ap (λ b. test (string_bytes e.0) && b) (all_keys_view test es)

@@ -7,6 +7,8 @@
 #[cfg(test)]
 mod engines;
 #[cfg(test)]
+mod networks;
+#[cfg(test)]
 mod reports;
 #[cfg(test)]
 mod tests;

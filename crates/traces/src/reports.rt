@@ -1,26 +1,10 @@
 //! Reports of a small network that breaks both of its invariants.
+use crate::networks::DENIED;
 use desc_core::describe;
 use net_core::Description;
 use report_core::{check_report, policy_report};
 use std::alloc::Global;
 use std::test::Fail;
-
-const NETWORK: &str = r#"topos = 1
-flow = [["a", "b"], ["b", "c"]]
-host = [
-  { name = "a", at = ["10.0.0.1/32"] },
-  { name = "b", at = ["10.0.0.2/32"] },
-  { name = "c", at = ["10.0.0.3/32"] },
-]
-
-[[invariant]]
-template = "dependability"
-assign = [{ host = "a", limit = 1 }, { host = "b", limit = 1 }]
-
-[[invariant]]
-template = "noreach"
-assign = [{ host = "a", deny = ["b"] }, { host = "b", deny = [] }, { host = "c", deny = [] }]
-"#;
 
 const CHECKED: &str = r#"invariant 1 dependability fails
   b -> c
@@ -37,7 +21,7 @@ c -> b not asked for
 "#;
 
 fn network(alloc: Global) -> Result<Description, Fail> {
-    Ok(describe(alloc, NETWORK.as_bytes())?)
+    Ok(describe(alloc, DENIED.as_bytes())?)
 }
 
 #[test]

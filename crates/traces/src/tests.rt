@@ -1,5 +1,6 @@
 //! The worked lists of events, taken through the description, its policy, the layout, the verdict and
 //! the tracking.
+use crate::networks::PAIR;
 use desc_core::{DescFault, describe};
 use emit_core::emit_iptables;
 use host_net::Packet;
@@ -8,12 +9,6 @@ use net_core::policy_of;
 use pkt_core::{Event, Track};
 use std::alloc::{AllocError, Global};
 use std::test::Fail;
-
-/// Two hosts, and a flow from a to b whose answers may pass.
-const PAIR: &str = r#"topos = 1
-flow = [["a", "b"]]
-host = [{ name = "a", at = ["10.0.0.1/32"] }, { name = "b", at = ["10.0.0.2/32"] }]
-"#;
 
 /// A request from a to port 80 of b.
 const REQUEST: Packet = Packet {

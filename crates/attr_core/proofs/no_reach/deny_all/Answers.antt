@@ -2,7 +2,7 @@ use Rattle.std.proofs.Common.{◌<◌, List, length, map, drop, ◌+◌, option_
 use Rattle.std.specs.FinSet as set
 use Rattle.toml.specs.Data.{Data}
 use Rattle.toml.specs.View.{view}
-use Rattle.host_set.specs.HostSet.{HostNumbers as Hosts}
+use Rattle.host_set.specs.HostSet.{HostNumbers}
 use Rattle.table_core.specs.Listing.{grow}
 use Rattle.tmpl_reach.specs.NoReach.{denied_by}
 use Rattle.attr_core.proofs.AtHost.{begun_at, grown_at, rest_from}
@@ -18,7 +18,7 @@ loop-value-init c =
     let within : host < length rule = rw c.requires.size c.requires.host in
     record {
       sized = ap length c.clear.ensures ∙ length-set rule host set.empty ∙ c.requires.size;
-      grown = ap (λ (xs : List Hosts). option_map (slice_set xs host) (grow step (denied_by xs host) ds)) c.clear.ensures
+      grown = ap (λ (xs : List HostNumbers). option_map (slice_set xs host) (grow step (denied_by xs host) ds)) c.clear.ensures
           ∙ begun_at step rule host set.empty set.empty ds within
           ∙ ap (option_map (slice_set rule host)) (grow_denied c.args.hosts.now host ds);
     }
@@ -35,7 +35,7 @@ loop-value-preserved c =
     let within : host < length rule = rw c.loop-value.invariant.sized c.requires.host in
     record {
       sized = ap length c.deny.ensures ∙ length-set rule host denied ∙ c.loop-value.invariant.sized;
-      grown = ap (λ (xs : List Hosts). option_map (slice_set xs host) (grow step (denied_by xs host) rest)) c.deny.ensures
+      grown = ap (λ (xs : List HostNumbers). option_map (slice_set xs host) (grow step (denied_by xs host) rest)) c.deny.ensures
           ∙ grown_at step rule host denied set.empty (view value) rest within (ap (option_map (set.insert (denied_by rule host))) (sym c.in-Some.ensures.value))
           ∙ ap (λ (ds : List Data). option_map (slice_set rule host) (grow step (denied_by rule host) ds)) (rest_from view listed c.loop-value.value-index value c.loop-value-test.true c.value-item.is)
           ∙ c.loop-value.invariant.grown;

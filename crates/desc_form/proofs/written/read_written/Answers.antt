@@ -1,4 +1,4 @@
-use Rattle.std.proofs.Common.{◌≡◌, None, IfOk, Ok, Err, Result}
+use Rattle.std.proofs.Common.{◌≡◌, None, IfOk, Ok, Err, Result, sym, ◌∙◌}
 use Rattle.std.specs.declared.alloc.AllocError.{AllocError}
 use Rattle.toml.specs.Data.{Members}
 use Rattle.toml.specs.View.{table_view}
@@ -6,15 +6,27 @@ use Rattle.desc_form.specs.declared.written.Written.{Written}
 use Rattle.text_core.specs.Firsts.{first_of}
 use Rattle.desc_form.specs.FormConditions.{form_conditions}
 use Rattle.desc_form.specs.WrittenView.{written_view}
+use Rattle.desc_form.specs.Written as meant
 use Rattle.desc_form.specs.Written.{written}
 use Rattle.desc_form.specs.WrittenForm.{IsWritten}
 use Rattle.desc_form.specs.WrittenLaws.{written_stands}
+use Rattle.desc_form.specs.WrittenOnceLaws.{written_is}
 use Rattle.desc_form.proofs.written.read_written.Goals as goal
 
-whole : (ms : Members) (r : Result Written AllocError) → IfOk r (λ read. written_view read ≡ written ms) → first_of (form_conditions ms) ≡ None
+whole : (ms : Members)
+    (r : Result Written AllocError) → IfOk r (λ read. written_view read ≡ written ms) → first_of (form_conditions ms) ≡ None
     → IfOk r (λ read. IsWritten ms (written_view read))
 whole ms (Ok read) same formed = rw same (written_stands ms formed)
 whole ms (Err e) same formed = same
 
 pub returns-clause-whole : goal.returns-clause-whole
 returns-clause-whole c = whole (table_view c.args.document.now) _ c.written_in.ensures
+
+one : (ms : Members) (r : Result Written AllocError) → IfOk r (λ read. written_view read ≡ written ms) →
+    (said : meant.Written) → IsWritten ms said
+    → IfOk r (λ read. written_view read ≡ said)
+one ms (Ok read) same said is = same ∙ sym (written_is ms said is)
+one ms (Err e) same said is = same
+
+pub returns-clause-one : goal.returns-clause-one
+returns-clause-one c = one (table_view c.args.document.now) _ c.written_in.ensures
