@@ -14,7 +14,6 @@ use Rattle.pkt_core.specs.Filter.{Enforces}
 use Rattle.topos_top.specs.Dialects.{Language, Hindrance, NeedsState, TooManyFlows, iptables, openflow, language_of, BarsTable, FitsTable}
 use Rattle.topos_top.specs.declared.form.Dialect.{Dialect}
 use Rattle.topos_top.specs.declared.form.Dialect.TheVariants.{Iptables, OpenFlow}
-use Rattle.topos_top.proofs.FlowRangeLaws.{flow_entries_in_range}
 
 -- what rules keep a policy by
 pub record KeepsPolicies (language : Language) : Type 0 where
@@ -54,7 +53,7 @@ openflow_keep : KeepsPolicies openflow
 openflow_keep = record {
   enforces = λ hosts p s known can. flow_entries_enforce hosts p s known can.0;
   other_frames = λ hosts p s known can. flow_entries_arp hosts p known;
-  read_again = λ hosts p s known can. flows_read_again (flow_entries hosts p) (flow_entries_table hosts p known can.1) (flow_entries_in_range hosts p known);
+  read_again = λ hosts p s known can. flows_read_again (flow_entries hosts p) (flow_entries_table hosts p known can.1);
   one_reading = one_reading_of_flows;
   one_hindrance = one_bar;
   apart = not_both;

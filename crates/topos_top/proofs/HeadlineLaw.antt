@@ -13,7 +13,7 @@ use Rattle.topos_top.specs.declared.file.Kind.TheVariants as kind
 use Rattle.topos_top.specs.declared.form.Dialect.{Dialect}
 use Rattle.topos_top.specs.declared.form.Slot.TheVariants as slot
 use Rattle.topos_top.specs.declared.form.Verb.{Verb}
-use Rattle.topos_top.specs.declared.form.Verb.TheVariants.{Check, Policy, Rules, Repair, Trace}
+use Rattle.topos_top.specs.declared.form.Verb.TheVariants.{Check, Policy, Rules, Repair, Trace, Sample}
 use Rattle.topos_top.specs.declared.reading.Reading.{Reading}
 use Rattle.topos_top.specs.declared.reading.Reading.TheVariants as reading
 use Rattle.topos_top.proofs.FileLaws.{read_as-description}
@@ -43,22 +43,23 @@ one_network shelf dialect (name ∷ names) (r ∷ []) have some =
       is = ap (λ (x : Reading). x ∷ []) n.2;
     }
 
-wrote_rules : (verb : Verb) (dialect : Dialect) (names : List (List ℕ)) (shelf : ShelfChange) (out : SinkChange) (readings : List Reading) (text : List ℕ)
-    → ReadAll shelf (files_of (record { verb = verb; dialect = dialect; names = names })) readings
-    → (job_of verb dialect readings).text.when → (job_of verb dialect readings).text.tells text
-    → Took out text → WritesRules verb → WroteRules (record { verb = verb; dialect = dialect; names = names }) shelf out
-wrote_rules Rules dialect names shelf out readings text read holds tells took writes =
-    let n = one_network shelf dialect names readings read.accepted (λ none. subst (λ (rs : List Reading). (job_of Rules dialect rs).text.when) none holds) in
-    let listed : ListedHolds n.network = (subst (λ (rs : List Reading). (job_of Rules dialect rs).text.when) n.is holds).0 in
-    let keep : KeepPolicy (language_of dialect) n.network text = subst (λ (rs : List Reading). (job_of Rules dialect rs).text.tells text) n.is tells in
+wrote_rules : (verb : Verb) (dialect : Dialect) (hosts : ℕ) (names : List (List ℕ)) (shelf : ShelfChange) (out : SinkChange) (readings : List Reading) (text : List ℕ)
+    → ReadAll shelf (files_of (record { verb = verb; dialect = dialect; hosts = hosts; names = names })) readings
+    → (job_of verb dialect hosts readings).text.when → (job_of verb dialect hosts readings).text.tells text
+    → Took out text → WritesRules verb → WroteRules (record { verb = verb; dialect = dialect; hosts = hosts; names = names }) shelf out
+wrote_rules Rules dialect hosts names shelf out readings text read holds tells took writes =
+    let n = one_network shelf dialect names readings read.accepted (λ none. subst (λ (rs : List Reading). (job_of Rules dialect hosts rs).text.when) none holds) in
+    let listed : ListedHolds n.network = (subst (λ (rs : List Reading). (job_of Rules dialect hosts rs).text.when) n.is holds).0 in
+    let keep : KeepPolicy (language_of dialect) n.network text = subst (λ (rs : List Reading). (job_of Rules dialect hosts rs).text.tells text) n.is tells in
     record { file = n.file; named = n.named; network = n.network; read = n.read; rules = text; written = took; keep = keep; listed = λ given. keep.listed given (listed given) }
-wrote_rules Repair dialect names shelf out readings text read holds tells took writes =
-    let n = one_network shelf dialect names readings read.accepted (λ none. subst (λ (rs : List Reading). (job_of Repair dialect rs).text.when) none holds) in
-    let keep : KeepPolicy (language_of dialect) n.network text = subst (λ (rs : List Reading). (job_of Repair dialect rs).text.tells text) n.is tells in
+wrote_rules Repair dialect hosts names shelf out readings text read holds tells took writes =
+    let n = one_network shelf dialect names readings read.accepted (λ none. subst (λ (rs : List Reading). (job_of Repair dialect hosts rs).text.when) none holds) in
+    let keep : KeepPolicy (language_of dialect) n.network text = subst (λ (rs : List Reading). (job_of Repair dialect hosts rs).text.tells text) n.is tells in
     record { file = n.file; named = n.named; network = n.network; read = n.read; rules = text; written = took; keep = keep; listed = tt }
-wrote_rules Check dialect names shelf out readings text read holds tells took writes = absurd writes
-wrote_rules Policy dialect names shelf out readings text read holds tells took writes = absurd writes
-wrote_rules Trace dialect names shelf out readings text read holds tells took writes = absurd writes
+wrote_rules Check dialect hosts names shelf out readings text read holds tells took writes = absurd writes
+wrote_rules Policy dialect hosts names shelf out readings text read holds tells took writes = absurd writes
+wrote_rules Trace dialect hosts names shelf out readings text read holds tells took writes = absurd writes
+wrote_rules Sample dialect hosts names shelf out readings text read holds tells took writes = absurd writes
 
 pub headline_law : (words : List (List ℕ)) (shelf : ShelfChange) (out : SinkChange) → WroteText words shelf out
     → KeepsPromise words shelf out
@@ -66,4 +67,4 @@ headline_law words shelf out wrote command named =
     let a = wrote.accepted in
     let same : a.command ≡ command = cc (a.named, named) in
     subst (λ (c : Command). WritesRules c.verb → WroteRules c shelf out) same
-    (wrote_rules a.command.verb a.command.dialect a.command.names shelf out a.readings wrote.text a.read wrote.holds wrote.tells wrote.took)
+    (wrote_rules a.command.verb a.command.dialect a.command.hosts a.command.names shelf out a.readings wrote.text a.read wrote.holds wrote.tells wrote.took)

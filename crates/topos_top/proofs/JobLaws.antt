@@ -6,6 +6,8 @@ use Rattle.net_core.specs.Fitting.{IsNetwork}
 use Rattle.ofp_rules.specs.Meaning.{Passes as PassesTable}
 use Rattle.report_core.specs.ReportLaws.{check_report_is_one, policy_report_is_one}
 use Rattle.report_core.specs.ReportPromisesLaws.{tells_offences, tells_policy}
+use Rattle.sample_core.specs.SamplePromisesLaws.{tells_sample}
+use Rattle.sample_core.specs.SampleLaws.{sample_is_one}
 use Rattle.topos_top.specs.Check.{offences_when}
 use Rattle.topos_top.specs.Dialects.{language_of}
 use Rattle.topos_top.specs.Job.{End, Job, never, writes, no_job, Ends}
@@ -16,7 +18,7 @@ use Rattle.topos_top.specs.Trace.{trace_job}
 use Rattle.topos_top.specs.declared.form.Dialect.{Dialect}
 use Rattle.topos_top.specs.declared.form.Dialect.TheVariants.{Iptables, OpenFlow}
 use Rattle.topos_top.specs.declared.form.Verb.{Verb}
-use Rattle.topos_top.specs.declared.form.Verb.TheVariants.{Check, Policy, Rules, Repair, Trace}
+use Rattle.topos_top.specs.declared.form.Verb.TheVariants.{Check, Policy, Rules, Repair, Trace, Sample}
 use Rattle.topos_top.specs.declared.reading.Reading.{Reading}
 use Rattle.topos_top.specs.declared.reading.Reading.TheVariants as reading
 use Rattle.topos_top.proofs.DialectLaws.{keeps_policies}
@@ -97,8 +99,8 @@ trace_is_owed OpenFlow (reading.Flows entries ∷ (reading.Events events ∷ [])
     (λ sound. tells_run _ (PassesTable entries) (table_answers_once entries sound.0) events sound.1.0)
 trace_is_owed _ readings = no_job_is_one (AreSound readings)
 
-pub job_is_one : (verb : Verb) (dialect : Dialect) (readings : List Reading) → IsOne (AreSound readings) (job_of verb dialect readings)
-job_is_one Check dialect (reading.Network d ∷ []) = record {
+pub job_is_one : (verb : Verb) (dialect : Dialect) (hosts : ℕ) (readings : List Reading) → IsOne (AreSound readings) (job_of verb dialect hosts readings)
+job_is_one Check dialect hosts (reading.Network d ∷ []) = record {
   report_or_text = λ fails holds. fails holds;
   report_or_hindrance = λ fails hindered. hindered;
   hindrance_or_text = λ hindered holds. hindered;
@@ -106,8 +108,8 @@ job_is_one Check dialect (reading.Network d ∷ []) = record {
   hindrance = owed_never _;
   text = owed_offences _ d;
 }
-job_is_one Policy dialect (reading.Network d ∷ []) = one_writes _ _ _ (λ sound. policy_report_is_one d) (λ sound text is. tells_policy d text sound.0 is)
-job_is_one Rules dialect (reading.Network d ∷ []) = record {
+job_is_one Policy dialect hosts (reading.Network d ∷ []) = one_writes _ _ _ (λ sound. policy_report_is_one d) (λ sound text is. tells_policy d text sound.0 is)
+job_is_one Rules dialect hosts (reading.Network d ∷ []) = record {
   report_or_text = λ fails holds. fails.1 (holds.0 fails.0);
   report_or_hindrance = λ fails hindered. fails.1 (hindered.0 fails.0);
   hindrance_or_text = written_or_hindered _ _ dialect d;
@@ -115,7 +117,7 @@ job_is_one Rules dialect (reading.Network d ∷ []) = record {
   hindrance = owed_hindrance _ dialect d;
   text = owed_rules _ dialect d;
 }
-job_is_one Repair dialect (reading.Network d ∷ []) = record {
+job_is_one Repair dialect hosts (reading.Network d ∷ []) = record {
   report_or_text = λ fails holds. fails;
   report_or_hindrance = λ fails hindered. fails;
   hindrance_or_text = written_or_hindered _ _ dialect d;
@@ -123,8 +125,9 @@ job_is_one Repair dialect (reading.Network d ∷ []) = record {
   hindrance = owed_hindrance _ dialect d;
   text = owed_rules _ dialect d;
 }
-job_is_one Trace dialect readings = trace_is_owed dialect readings
-job_is_one _ dialect readings = no_job_is_one (AreSound readings)
+job_is_one Trace dialect hosts readings = trace_is_owed dialect readings
+job_is_one Sample dialect hosts [] = one_writes _ _ _ (λ sound. sample_is_one hosts) (λ sound. tells_sample hosts)
+job_is_one _ dialect hosts readings = no_job_is_one (AreSound readings)
 
 -- ---- what follows of any job
 

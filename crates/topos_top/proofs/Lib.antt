@@ -1,6 +1,5 @@
 pub mod FileLaws
 pub mod ReadingLaws
-pub mod FlowRangeLaws
 pub mod DialectLaws
 pub mod RulesLaws
 pub mod JobLaws
@@ -9,6 +8,7 @@ pub mod Seeing
 pub mod Causes
 pub mod RunLaws
 pub mod HeadlineLaw
+pub mod SampleLaw
 pub mod ToldLaws
 pub mod PutLines
 pub mod Worked

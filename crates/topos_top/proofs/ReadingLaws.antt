@@ -37,6 +37,11 @@ kinds_in-read shelf (f ∷ files) later (r ∷ readings) have =
     let rest : kinds_in readings ≡ kinds_of files = kinds_in-read shelf files later readings have.1 in
     cc (first, rest)
 
+-- no kinds, no readings
+pub kinds_in-none : (readings : List Reading) → kinds_in readings ≡ [] → readings ≡ []
+kinds_in-none [] is = refl
+kinds_in-none (r ∷ readings) is = cc is
+
 -- the files of names have the kinds of their slots, where there are as many of both
 pub kinds_of-files_in : (dialect : Dialect) (slots : List Slot) (names : List (List ℕ)) → length names ≡ length slots
     → kinds_of (files_in dialect slots names) ≡ map (kind_in dialect) slots

@@ -53,7 +53,7 @@ from_is_one : (command : Command) (told : Files) (read : Result (List Reading) R
     → RepliesFrom command read s → r ≡ s
 from_is_one command told (Err why) r s reads p q = p ∙ sym q
 from_is_one command told (Ok readings) r s reads p q =
-    ends_once (AreSound readings) (reports_on_output command) (job_with command readings) (job_is_one command.verb command.dialect readings)
+    ends_once (AreSound readings) (reports_on_output command) (job_with command readings) (job_is_one command.verb command.dialect command.hosts readings)
     (AreSound-told told (files_of command) readings reads) r s p q
 
 by_is_one : (asked : Option Command) (told : Files) (r s : Reply) → RepliesBy asked told r → RepliesBy asked told s → r ≡ s

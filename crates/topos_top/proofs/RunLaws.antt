@@ -50,7 +50,7 @@ said_nothing err line = nothing line.0.count line.0.taken
     nothing zero is = is ∙ known err.held_before
     nothing (suc n) is = is ∙ known err.held_before
 
-took_nothing : (out : SinkChange) → Took out [] → out.held_after ≡ out.held_before
+pub took_nothing : (out : SinkChange) → Took out [] → out.held_after ≡ out.held_before
 took_nothing out took = took ∙ known out.held_before
   where
     known : (held : Option (List ℕ)) → append_known held [] ≡ held
@@ -106,7 +106,7 @@ is_violated words shelf out err given (Fails a off report ends) says took line =
   fails = ends.0;
   report = report;
   is_report = ends.1;
-  tells = (job_is_one a.command.verb a.command.dialect a.readings).report.tells (AreSound-read shelf _ _ a.readings a.read.accepted) ends.0 report ends.1;
+  tells = (job_is_one a.command.verb a.command.dialect a.command.hosts a.readings).report.tells (AreSound-read shelf _ _ a.readings a.read.accepted) ends.0 report ends.1;
   reported = reported_err (reports_on_output a.command) out err report off took line;
 }
 is_violated words shelf out err given (FailsOnOutput a on report ends) says took line = record {
@@ -114,7 +114,7 @@ is_violated words shelf out err given (FailsOnOutput a on report ends) says took
   fails = ends.0;
   report = report;
   is_report = ends.1;
-  tells = (job_is_one a.command.verb a.command.dialect a.readings).report.tells (AreSound-read shelf _ _ a.readings a.read.accepted) ends.0 report ends.1;
+  tells = (job_is_one a.command.verb a.command.dialect a.command.hosts a.readings).report.tells (AreSound-read shelf _ _ a.readings a.read.accepted) ends.0 report ends.1;
   reported = reported_out (reports_on_output a.command) out err report on took line;
 }
 is_violated words shelf out err given cause says took line = cc says
@@ -126,7 +126,7 @@ cannot_write words shelf out err given (Hindered a line ends) says took told = r
   hindered = ends.0;
   line = line;
   is_line = ends.1;
-  tells = (job_is_one a.command.verb a.command.dialect a.readings).hindrance.tells (AreSound-read shelf _ _ a.readings a.read.accepted) ends.0 line ends.1;
+  tells = (job_is_one a.command.verb a.command.dialect a.command.hosts a.readings).hindrance.tells (AreSound-read shelf _ _ a.readings a.read.accepted) ends.0 line ends.1;
   kept = took_nothing out took;
   said = told;
 }
@@ -139,7 +139,7 @@ wrote_text words shelf out given (Holds a text ends) says took = record {
   holds = ends.0;
   text = text;
   is_text = ends.1;
-  tells = (job_is_one a.command.verb a.command.dialect a.readings).text.tells (AreSound-read shelf _ _ a.readings a.read.accepted) ends.0 text ends.1;
+  tells = (job_is_one a.command.verb a.command.dialect a.command.hosts a.readings).text.tells (AreSound-read shelf _ _ a.readings a.read.accepted) ends.0 text ends.1;
   took = took;
 }
 wrote_text words shelf out given cause says took = cc says

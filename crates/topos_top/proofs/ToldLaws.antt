@@ -102,7 +102,7 @@ ends_by_job Sound on job one given s ends is = absurd ends
 ends_by_readings : (command : Command) (read : Result (List Reading) Reply) (given : Reply) (s : Status) → RepliesFrom command read given
     → s ≡ status_of given → EndsByReadings command read s
 ends_by_readings command (Err why) given s replies is = is ∙ ap status_of replies
-ends_by_readings command (Ok readings) given s replies is = ends_by_job (AreSound readings) (reports_on_output command) (job_with command readings) (job_is_one command.verb command.dialect readings) given s replies is
+ends_by_readings command (Ok readings) given s replies is = ends_by_job (AreSound readings) (reports_on_output command) (job_with command readings) (job_is_one command.verb command.dialect command.hosts readings) given s replies is
 
 pub ends_as_told_law : (words : List (List ℕ)) (shelf : ShelfChange) (out err : SinkChange) (s : Status) → GaveReply words shelf out err s
     → EndsAsTold words shelf out s

@@ -6,7 +6,7 @@ use Rattle.topos_top.specs.declared.command.Command.{Command as CodeCommand}
 use Rattle.topos_top.specs.declared.file.File.{File as CodeFile}
 
 abbrev pub command_view : CodeCommand → Command
-command_view command = record { verb = command.verb; dialect = command.dialect; names = map string_bytes command.names.now }
+command_view command = record { verb = command.verb; dialect = command.dialect; hosts = command.hosts; names = map string_bytes command.names.now }
 
 abbrev pub file_view : CodeFile → File
 file_view file = record { kind = file.kind; name = file.name.now }

@@ -11,6 +11,7 @@ use Rattle.ipt_rules.specs.Chain.{Chain}
 use Rattle.ipt_rules.specs.Meaning.{Passes as PassesChains}
 use Rattle.ipt_rules.specs.Text.{text as chains_text}
 use Rattle.ofp_read.specs.Grammar.{IsReading as IsReadingOfFlows}
+use Rattle.ofp_rules.specs.Ambiguity.{most_entries}
 use Rattle.ofp_rules.specs.Meaning.{Passes as PassesTable}
 use Rattle.ofp_rules.specs.Text.{text as table_text}
 use Rattle.ofp_rules.specs.declared.entry.Entry.{Entry}
@@ -56,12 +57,12 @@ iptables = record {
 
 -- the entries of p make a table, and the reverse of each flow of s is in p, since a table keeps no connections
 abbrev pub FitsTable : List Host → (p s : List Flow) → Type 0
-FitsTable hosts p s = AnswersArePermitted p s × (length (flow_entries hosts p) ≤ 8192)
+FitsTable hosts p s = AnswersArePermitted p s × (length (flow_entries hosts p) ≤ most_entries)
 
 -- the first flow of s whose reverse is not in p; where there is none, the number of entries where that is too great
 abbrev pub BarsTable : List Host → (p s : List Flow) → Hindrance → Type 0
 BarsTable hosts p s (NeedsState flow) = IsFirstBarred p s flow
-BarsTable hosts p s (TooManyFlows count) = AnswersArePermitted p s × (8192 < length (flow_entries hosts p)) × (count ≡ length (flow_entries hosts p))
+BarsTable hosts p s (TooManyFlows count) = AnswersArePermitted p s × (most_entries < length (flow_entries hosts p)) × (count ≡ length (flow_entries hosts p))
 
 -- a flow table of OpenFlow
 abbrev pub openflow : Language

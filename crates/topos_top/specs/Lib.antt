@@ -12,6 +12,7 @@ pub mod Policy
 pub mod Rules
 pub mod Repair
 pub mod Trace
+pub mod Sample
 pub mod Jobs
 pub mod Seen
 pub mod Reads

@@ -1,10 +1,11 @@
 -- What an operator may rely on, each by itself. All of it follows from the one reply of a run.
-use Rattle.std.specs.Prelude.{◌≡◌, ℕ, ◌⊎◌, List, [], ◌∷◌, Bool, true, false, None, Some, Result, Ok, Err, IsTrue, IfSome}
+use Rattle.std.specs.Prelude.{◌≡◌, ℕ, ◌≤◌, ◌<◌, ◌⊎◌, List, [], ◌∷◌, codes, decimal, Bool, true, false, None, Some, Result, Ok, Err, IsTrue, IfSome}
 use Rattle.edge_io.specs.Counts.{Rose}
 use Rattle.edge_io.specs.Told.{Files}
 use Rattle.desc_core.specs.Description.{described}
 use Rattle.ipt_read.specs.TextLines.{HasFault as HasFaultInRules}
 use Rattle.ipt_read.specs.declared.fault.IptWhy.{IptWhy}
+use Rattle.host_net.specs.Limits.{host_limit}
 use Rattle.net_core.specs.Network.{Network}
 use Rattle.ofp_read.specs.TextLines.{HasFault as HasFaultInFlows}
 use Rattle.ofp_read.specs.declared.fault.OfpWhy.{OfpWhy}
@@ -13,6 +14,8 @@ use Rattle.net_core.specs.Policies.{Policy}
 use Rattle.pkt_core.specs.EventsText.{IsRefused}
 use Rattle.pkt_core.specs.declared.events.EventWhy.{EventWhy}
 use Rattle.report_core.specs.RefusalLine.{refusal_text}
+use Rattle.sample_core.specs.Sample.{IsSample}
+use Rattle.sample_core.specs.SamplePromises.{TellsSample}
 use Rattle.topos_top.specs.Command.{Command, files_of, reports_on_output, command_of}
 use Rattle.topos_top.specs.Ending.{status_of, out_of, cannot_read_line, line_after, memory_line, write_fault_line}
 use Rattle.topos_top.specs.File.{File}
@@ -176,6 +179,20 @@ pub record WroteRules (command : Command) (shelf : ShelfChange) (out : SinkChang
 abbrev pub KeepsPromise : List (List ℕ) → ShelfChange → SinkChange → Type 0
 KeepsPromise words shelf out =
     (command : Command) → command_of words ≡ Some command → WritesRules command.verb → WroteRules command shelf out
+
+-- ---- the sample
+
+-- the words ask for the sample of n hosts
+pub record AskForSample (words : List (List ℕ)) (n : ℕ) : Type 0 where
+  pub some : 0 < n
+  pub few : n ≤ host_limit
+  pub spelled : words ≡ codes "sample" ∷ decimal n ∷ []
+
+-- how the sample ends: its report is on the output, or the output had a fault after a prefix of it, or there was no memory and the output holds what it held
+pub data EndsAsSample (n : ℕ) (out : SinkChange) (ended : Status) : Type 0 where
+  Written : ended ≡ status.Done → (report : List ℕ) → IsSample n report → TellsSample n report → Took out report → EndsAsSample n out ended
+  CutOff : ended ≡ status.WriteFault → (report : List ℕ) → IsSample n report → TookSome out report → Rose out.faults_before out.faults_after → EndsAsSample n out ended
+  NoMemory : ended ≡ status.Memory → out.held_after ≡ out.held_before → EndsAsSample n out ended
 
 -- ---- where the shelf tells its files and had no fault
 

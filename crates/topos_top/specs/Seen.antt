@@ -87,7 +87,7 @@ pub data EndedEarly (shelf : ShelfChange) (files : List File) (given : Reply) : 
 
 -- The job of a command with its readings, and the reply to them.
 abbrev pub job_with : Command → List Reading → Job
-job_with command readings = job_of command.verb command.dialect readings
+job_with command readings = job_of command.verb command.dialect command.hosts readings
 
 abbrev pub RepliesOn : Command → List Reading → Reply → Type 0
 RepliesOn command readings = Ends (reports_on_output command) (job_with command readings)

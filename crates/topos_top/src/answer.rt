@@ -5,6 +5,7 @@ ghost use Rattle.std.specs.Prelude.{◌≡◌, ◌≤◌, [], length, map, strin
 ghost use Rattle.std.specs.Io.KnownBytes.{append_known};
 ghost use Rattle.edge_io.specs.Counts.{Rose};
 ghost use Rattle.edge_io.specs.Told.{TookPrefix};
+ghost use Rattle.host_net.specs.Limits.{host_limit};
 ghost use Rattle.topos_top.specs.AnswerView.{reply_view, reply_in, text_view};
 ghost use Rattle.topos_top.specs.Command.{files_of, NamesNoFile};
 ghost use Rattle.topos_top.specs.Form.{form_of};
@@ -96,7 +97,8 @@ fn reply<'a, H: Shelf>(
     command: Command<'a>,
     shelf: &mut H,
 ) -> Result<Answer<'a>, Answer<'a>>
-    requires { length command.names.now ≡ length (form_of command.verb).slots }
+    requires named { length command.names.now ≡ length (form_of command.verb).slots }
+    requires few { command.hosts ≤ host_limit }
     ensures same_files { H.files shelf.new ≡ H.files shelf.old }
     ensures faults_stay { H.faults shelf.old ≤ H.faults shelf.new }
     ensures no_files { files_of (command_view command.entry) ≡ [] → shelf.new ≡ shelf.old }

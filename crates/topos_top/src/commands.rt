@@ -1,6 +1,7 @@
 //! The table of the commands: each answers its readings.
 
-ghost use Rattle.std.specs.Prelude.{◌≡◌, IfOk, [], ◌∷◌};
+ghost use Rattle.std.specs.Prelude.{◌≡◌, ◌≤◌, IfOk, [], ◌∷◌};
+ghost use Rattle.host_net.specs.Limits.{host_limit};
 ghost use Rattle.topos_top.specs.AnswerView.{reply_view};
 ghost use Rattle.topos_top.specs.CommandView.{command_view};
 ghost use Rattle.topos_top.specs.Kinds.{kinds_for, kinds_in};
@@ -10,7 +11,7 @@ use crate::answer::Answer;
 use crate::command::Command;
 use crate::form::Verb;
 use crate::reading::Reading;
-use crate::{check, policy, repair, rules, trace};
+use crate::{check, policy, repair, rules, sample, trace};
 use desc_core::Description;
 use std::alloc::{AllocError, Global};
 
@@ -20,7 +21,8 @@ pub fn answer_on<'a>(
     command: Command<'a>,
     readings: &[Reading],
 ) -> Result<Answer<'a>, AllocError>
-    requires { kinds_in readings.now ≡ kinds_for (command_view command) }
+    requires kinds { kinds_in readings.now ≡ kinds_for (command_view command) }
+    requires few { command.hosts ≤ host_limit }
     ensures { IfOk result (λ answer. RepliesOn (command_view command.entry) readings.now (reply_view answer)) }
 {
     match command.verb {
@@ -29,6 +31,7 @@ pub fn answer_on<'a>(
         Verb::Rules => rules::answer(alloc, command.dialect, network(readings)),
         Verb::Repair => repair::answer(alloc, command.dialect, network(readings)),
         Verb::Trace => trace::answer(alloc, command.dialect, readings),
+        Verb::Sample => sample::answer(alloc, command.hosts),
     }
 }
 

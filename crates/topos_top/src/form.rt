@@ -1,7 +1,11 @@
 //! The forms of the command line: a row for each command.
 
-ghost use Rattle.std.specs.Prelude.{◌≡◌};
-ghost use Rattle.topos_top.specs.Form.{form_of, verb_named, dialect_named};
+ghost use Rattle.std.specs.Prelude.{◌≡◌, ◌≤◌, IfSome};
+ghost use Rattle.host_net.specs.Limits.{host_limit};
+ghost use Rattle.topos_top.specs.Form.{form_of, verb_named, dialect_named, hosts_said};
+
+use host_net::HOST_LIMIT;
+use text_core::read_number;
 
 /// What a command does, by the first word of its form.
 #[derive(Clone, Copy)]
@@ -17,6 +21,19 @@ pub enum Verb {
     Repair,
     /// `trace iptables|openflow RULES EVENTS`: what becomes of each event.
     Trace,
+    /// `sample N`: what every job makes of a network of N hosts, in numbers.
+    Sample,
+}
+
+/// What the second word of a form says.
+#[derive(Clone, Copy)]
+pub enum Second {
+    /// The name of the first file.
+    File,
+    /// A dialect of rules.
+    Dialect,
+    /// A number of hosts.
+    Hosts,
 }
 
 /// A dialect of rules.
@@ -43,6 +60,8 @@ const ONE_DESCRIPTION: &[Slot] = &[Slot::Description];
 
 const RULES_AND_EVENTS: &[Slot] = &[Slot::Rules, Slot::Events];
 
+const NO_FILES: &[Slot] = &[];
+
 impl Verb {
     /// The verb of a word.
     pub fn named(word: &str) -> Option<Verb>
@@ -54,17 +73,19 @@ impl Verb {
             "rules" => Some(Verb::Rules),
             "repair" => Some(Verb::Repair),
             "trace" => Some(Verb::Trace),
+            "sample" => Some(Verb::Sample),
             _ => None,
         }
     }
 
-    /// Whether the word of a dialect follows.
-    pub fn takes_dialect(self) -> bool
-        ensures { result ≡ (form_of self).takes_dialect }
+    /// What follows the word of the verb.
+    pub fn second(self) -> Second
+        ensures { result ≡ (form_of self).second }
     {
         match self {
-            Verb::Check | Verb::Policy => false,
-            Verb::Rules | Verb::Repair | Verb::Trace => true,
+            Verb::Check | Verb::Policy => Second::File,
+            Verb::Rules | Verb::Repair | Verb::Trace => Second::Dialect,
+            Verb::Sample => Second::Hosts,
         }
     }
 
@@ -75,6 +96,7 @@ impl Verb {
         match self {
             Verb::Check | Verb::Policy | Verb::Rules | Verb::Repair => ONE_DESCRIPTION,
             Verb::Trace => RULES_AND_EVENTS,
+            Verb::Sample => NO_FILES,
         }
     }
 }
@@ -89,5 +111,16 @@ impl Dialect {
             "openflow" => Some(Dialect::OpenFlow),
             _ => None,
         }
+    }
+}
+
+/// The number of hosts that a word says, from 1 to as many as there may be.
+pub fn hosts_said(word: &str) -> Option<u16>
+    ensures said { result ≡ hosts_said word.now }
+    ensures few { IfSome result (λ hosts. hosts ≤ host_limit) }
+{
+    match read_number(HOST_LIMIT as u32, word.as_bytes()) {
+        Some(hosts) if hosts != 0 => Some(hosts as u16),
+        _ => None,
     }
 }

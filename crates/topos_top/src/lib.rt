@@ -21,6 +21,7 @@ mod program;
 mod reading;
 mod repair;
 mod rules;
+mod sample;
 mod status;
 mod text_fault;
 mod trace;

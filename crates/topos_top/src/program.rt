@@ -1,8 +1,8 @@
 //! The whole program, over any shelf of files and any two sinks.
 
-ghost use Rattle.std.specs.Prelude.{◌≡◌, ◌≢◌, ◌≤◌, ◌↔◌, ◌⊎◌, None, map, string_bytes};
+ghost use Rattle.std.specs.Prelude.{◌≡◌, ◌≢◌, ℕ, ◌≤◌, ◌↔◌, ◌⊎◌, None, map, string_bytes};
 ghost use Rattle.topos_top.specs.Command.{command_of, AsksToReport, NamesNoFile};
-ghost use Rattle.topos_top.specs.Promises.{GaveReply, LacksFile, HasBadDescription, HasBadText, IsViolated, CannotWrite, WroteText, WasCutOff, RanOut, KeepsPromise, IsComplete, EndsAsTold};
+ghost use Rattle.topos_top.specs.Promises.{GaveReply, LacksFile, HasBadDescription, HasBadText, IsViolated, CannotWrite, WroteText, WasCutOff, RanOut, KeepsPromise, AskForSample, EndsAsSample, IsComplete, EndsAsTold};
 ghost use Rattle.topos_top.specs.Seen.{shelf_change};
 ghost use Rattle.topos_top.specs.Taken.{sink_change};
 
@@ -65,6 +65,10 @@ pub fn run<H: Shelf, O: Sink, E: Sink>(
     // where no answer needs one.
     ensures headline { result ≡ Status.Done → KeepsPromise (map string_bytes words.now)
         (shelf_change H.files H.faults H.begins H.taken shelf.old shelf.new) (sink_change O.held O.faults out.old out.new) }
+
+    // A sample takes nothing off the shelf, and is always written unless the output fails or there is no memory.
+    ensures sample { (n : ℕ) → AskForSample (map string_bytes words.now) n
+        → (shelf.new ≡ shelf.old) × EndsAsSample n (sink_change O.held O.faults out.old out.new) result }
 
     // Where nothing is written or said, the stream is as it was. A command reports what fails on one stream,
     // and leaves the other as it was.

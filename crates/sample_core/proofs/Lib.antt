@@ -1,0 +1,4 @@
+mod TableLemmas
+mod RunLemmas
+mod OffenceLemmas
+mod LineLemmas

@@ -1,0 +1,13 @@
+use Rattle.std.proofs.Common.{◌≤◌, drop}
+use Rattle.ipt_rules.specs.Meaning.{Passes}
+use Rattle.pkt_core.specs.Kept.{kept_in}
+use Rattle.sample_core.proofs.RunLemmas.{Leaves}
+use Rattle.sample_core.proofs.run.forwarded.Given as goal
+
+abbrev pub invariant-loop-place : goal.invariant-loop-place
+invariant-loop-place l = record {
+  -- at most each packet was forwarded
+  few : l.count ≤ l.place;
+  -- what is forwarded of those that are left is added
+  left : Leaves (Passes l.rules) l.packets (kept_in l.track) (drop l.place l.packets) l.count;
+}

@@ -1,0 +1,65 @@
+//! What the jobs make of a description, in numbers.
+
+ghost use Rattle.std.specs.Prelude.{◌≡◌, IfOk, length, option_map};
+ghost use Rattle.sample_core.specs.Sample.{IsTableLines, AreOffending, offence_size};
+
+use desc_core::Description;
+use emit_core::{EmitRefusal, emit_openflow, needs_state};
+use flow_set::FlowSet;
+use host_net::Hosts;
+use net_core::Policy;
+use permit_core::offending_by_steps;
+use std::alloc::{AllocError, Global};
+
+/// The text of the flow table of a policy.
+#[derive(Clone, Copy, Debug, PartialEq, Eq)]
+pub enum TableLines {
+    /// It has so many lines.
+    Lines(u32),
+    /// There is none, since an answer needs a connection that is kept.
+    NeedsState,
+    /// There is none, since a table has room for fewer entries.
+    TooMany,
+}
+
+/// How many lines the flow table of a policy has.
+pub(crate) fn table_lines(
+    alloc: Global,
+    hosts: &Hosts,
+    policy: &Policy,
+) -> Result<TableLines, AllocError>
+    requires permitted { policy.now.permitted.size ≡ length hosts.now }
+    requires stateful { policy.now.stateful.size ≡ length hosts.now }
+    ensures { IfOk result (IsTableLines hosts.now policy.now.permitted.flows policy.now.stateful.flows) }
+{
+    if needs_state(policy.permitted(), policy.stateful()).is_some() {
+        return Ok(TableLines::NeedsState);
+    }
+    match emit_openflow(alloc, hosts, policy.permitted()) {
+        Ok(table) => Ok(TableLines::Lines(table.lines())),
+        Err(EmitRefusal::TooManyRules { .. }) => Ok(TableLines::TooMany),
+        Err(EmitRefusal::Memory) => Err(AllocError),
+    }
+}
+
+/// For each invariant, of how many flows the set is that `check` reports.
+pub(crate) fn offending(alloc: Global, description: &Description) -> Result<Vec<u32>, AllocError>
+    ensures { IfOk result (λ counts. AreOffending description.now counts.items) }
+{
+    let asked = description.asked();
+    let mut counts = Vec::new(alloc);
+    for invariant in description.invariants() {
+        let offence = offending_by_steps(alloc, invariant, asked)?;
+        counts.push(size_of(&offence))?;
+    }
+    Ok(counts)
+}
+
+fn size_of(offence: &Option<FlowSet>) -> u32
+    ensures { result ≡ offence_size (option_map (λ set. set.flows) offence.now) }
+{
+    match offence {
+        None => 0,
+        Some(flows) => flows.len(),
+    }
+}

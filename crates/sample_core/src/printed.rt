@@ -1,0 +1,148 @@
+//! The sample as it is printed.
+
+ghost use Rattle.std.specs.Prelude.{◌≡◌, ◌≤◌, ◌++◌, IfOk, Ok, OnOk, codes, decimal, length};
+ghost use Rattle.desc_core.specs.Description.{described_by_table};
+ghost use Rattle.net_core.specs.Policies.{IsPolicyOf};
+ghost use Rattle.sample_core.specs.SampleTable.{sample_table};
+ghost use Rattle.host_net.specs.Limits.{host_limit};
+ghost use Rattle.sample_core.specs.CountsView.{counts_view};
+ghost use Rattle.sample_core.specs.Sample.{AreCounts, IsSample, asked_text, count_line, counts_text, offending_lines, policy_text, run_text, table_line};
+
+use crate::counts::{TableLines, offending, table_lines};
+use crate::description::sample_description;
+use crate::run::{RunCounts, run_counts};
+use desc_core::Description;
+use net_core::{Policy, policy_of};
+use std::alloc::{AllocError, Global};
+
+/// What the jobs make of the sample.
+#[derive(Drop)]
+struct Counts {
+    hosts: u16,
+    asked: u32,
+    offending: Vec<u32>,
+    permitted: u32,
+    stateful: u32,
+    table: TableLines,
+    run: RunCounts,
+}
+
+/// The numbers of the sample of so many hosts, a line each.
+pub fn sample_text(alloc: Global, count: u16) -> Result<Vec<u8>, AllocError>
+    requires { count ≤ host_limit }
+    ensures { IfOk result (λ text. IsSample count text.items) }
+{
+    let description = sample_description(alloc, count)?;
+    let counts = counts_of(alloc, count, &description)?;
+    counts_text(alloc, count, &counts)
+}
+
+fn counts_of(alloc: Global, count: u16, description: &Description) -> Result<Counts, AllocError>
+    requires few { count ≤ host_limit }
+    requires described { described_by_table (sample_table count) ≡ Ok description.now }
+    ensures { IfOk result (λ counts. AreCounts count (counts_view counts)) }
+{
+    let policy = policy_of(alloc, description)?;
+    counts_by(alloc, count, description, &policy)
+}
+
+fn counts_by(
+    alloc: Global,
+    count: u16,
+    description: &Description,
+    policy: &Policy,
+) -> Result<Counts, AllocError>
+    requires few { count ≤ host_limit }
+    requires described { described_by_table (sample_table count) ≡ Ok description.now }
+    requires policy { IsPolicyOf description.now policy.now }
+    requires permitted { policy.now.permitted.size ≡ length description.now.hosts }
+    requires stateful { policy.now.stateful.size ≡ length description.now.hosts }
+    ensures { IfOk result (λ counts. AreCounts count (counts_view counts)) }
+{
+    let hosts = description.hosts();
+    let table = table_lines(alloc, hosts, policy)?;
+    let run = run_counts(alloc, count, hosts, policy)?;
+    let offending = offending(alloc, description)?;
+    Ok(Counts {
+        hosts: hosts.count(),
+        asked: description.asked().len(),
+        offending,
+        permitted: policy.permitted().len(),
+        stateful: policy.stateful().len(),
+        table,
+        run,
+    })
+}
+
+fn counts_text(alloc: Global, count: u16, counts: &Counts) -> Result<Vec<u8>, AllocError>
+    ensures { IfOk result (λ text. text.items ≡ counts_text count (counts_view counts.now)) }
+{
+    let mut text = Vec::new(alloc);
+    push_asked(&mut text, count, counts)?;
+    push_offending(&mut text, &counts.offending)?;
+    push_policy(&mut text, counts)?;
+    push_run(&mut text, counts)?;
+    Ok(text)
+}
+
+fn push_asked(text: &mut Vec<u8>, count: u16, counts: &Counts) -> Result<(), AllocError>
+    ensures { OnOk result (text.new.items ≡ text.old.items ++ asked_text count (counts_view counts.now)) }
+{
+    push_count(text, b"sample", count as usize)?;
+    push_count(text, b"hosts", counts.hosts as usize)?;
+    push_count(text, b"asked", counts.asked as usize)
+}
+
+fn push_offending(text: &mut Vec<u8>, offending: &[u32]) -> Result<(), AllocError>
+    ensures { OnOk result (text.new.items ≡ text.old.items ++ offending_lines 1 offending.now) }
+{
+    for (place, count) in offending.iter().enumerate() {
+        push_offence(text, place + 1, *count)?;
+    }
+    Ok(())
+}
+
+fn push_offence(text: &mut Vec<u8>, number: usize, count: u32) -> Result<(), AllocError>
+    ensures { OnOk result (text.new.items ≡ text.old.items ++ count_line (codes "offending " ++ decimal number) count) }
+{
+    let mut digits = itoa::Buffer::new();
+    text.extend_from_slice(b"offending ")?;
+    push_count(text, digits.format(number).as_bytes(), count as usize)
+}
+
+fn push_policy(text: &mut Vec<u8>, counts: &Counts) -> Result<(), AllocError>
+    ensures { OnOk result (text.new.items ≡ text.old.items ++ policy_text (counts_view counts.now)) }
+{
+    push_count(text, b"permitted", counts.permitted as usize)?;
+    push_count(text, b"stateful", counts.stateful as usize)?;
+    push_count(text, b"iptables", counts.run.rules as usize)?;
+    push_table(text, counts.table)
+}
+
+fn push_table(text: &mut Vec<u8>, table: TableLines) -> Result<(), AllocError>
+    ensures { OnOk result (text.new.items ≡ text.old.items ++ table_line table) }
+{
+    match table {
+        TableLines::Lines(count) => push_count(text, b"openflow", count as usize),
+        TableLines::NeedsState => text.extend_from_slice(b"openflow needs state\n"),
+        TableLines::TooMany => text.extend_from_slice(b"openflow too many\n"),
+    }
+}
+
+fn push_run(text: &mut Vec<u8>, counts: &Counts) -> Result<(), AllocError>
+    ensures { OnOk result (text.new.items ≡ text.old.items ++ run_text (counts_view counts.now)) }
+{
+    push_count(text, b"events", counts.run.events)?;
+    push_count(text, b"forwarded", counts.run.forwarded)
+}
+
+/// Puts a line with a word and a number.
+fn push_count(text: &mut Vec<u8>, word: &[u8], count: usize) -> Result<(), AllocError>
+    ensures { OnOk result (text.new.items ≡ text.old.items ++ count_line word.now count) }
+{
+    let mut digits = itoa::Buffer::new();
+    text.extend_from_slice(word)?;
+    text.extend_from_slice(b" ")?;
+    text.extend_from_slice(digits.format(count).as_bytes())?;
+    text.extend_from_slice(b"\n")
+}

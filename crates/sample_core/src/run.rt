@@ -1,0 +1,90 @@
+//! The run of a rule set over packets, beginning with no connections.
+
+ghost use Rattle.std.specs.Prelude.{◌≡◌, ◌≤◌, ◌∷◌, Bool, List, Option, Some, IfOk, if◌then◌else◌, length, map};
+ghost use Rattle.host_net.specs.Limits.{host_limit};
+ghost use Rattle.host_net.specs.Verdict.{verdict_if};
+ghost use Rattle.ipt_rules.specs.Meaning.{Passes};
+ghost use Rattle.pkt_core.specs.Kept.{kept_in};
+ghost use Rattle.pkt_core.specs.Tracking.{Runs};
+ghost use Rattle.pkt_core.specs.declared.event.Event.{Event};
+ghost use Rattle.pkt_core.specs.declared.event.Event.TheVariants.{Seen};
+ghost use Rattle.sample_core.specs.Sample.{AreForwarded, AreRunCounts};
+ghost use Rattle.emit_core.specs.Layout.{layout};
+
+use crate::packets::sample_packets;
+use emit_core::emit_iptables;
+use host_net::{Hosts, Packet, Verdict};
+use ipt_rules::Ruleset;
+use net_core::Policy;
+use pkt_core::Track;
+use std::alloc::{AllocError, Global};
+
+/// The rules of a policy, and their run over the packets of the sample.
+#[derive(Clone, Copy)]
+pub(crate) struct RunCounts {
+    pub(crate) rules: u32,
+    pub(crate) events: usize,
+    pub(crate) forwarded: usize,
+}
+
+/// What the rules of a policy make of the packets of so many hosts.
+pub(crate) fn run_counts(
+    alloc: Global,
+    count: u16,
+    hosts: &Hosts,
+    policy: &Policy,
+) -> Result<RunCounts, AllocError>
+    requires few { count ≤ host_limit }
+    requires permitted { policy.now.permitted.size ≡ length hosts.now }
+    requires stateful { policy.now.stateful.size ≡ length hosts.now }
+    ensures { IfOk result (λ run. AreRunCounts count (layout hosts.now policy.now.permitted.flows policy.now.stateful.flows) run.rules run.events run.forwarded) }
+{
+    let rules = emit_iptables(alloc, hosts, policy.permitted(), policy.stateful())?;
+    let packets = sample_packets(alloc, count)?;
+    let forwarded = forwarded(alloc, &rules, &packets)?;
+    Ok(RunCounts {
+        rules: rules.lines(),
+        events: packets.len(),
+        forwarded,
+    })
+}
+
+/// How many of the packets are forwarded.
+fn forwarded(alloc: Global, rules: &Ruleset, packets: &[Packet]) -> Result<usize, AllocError>
+    ensures { IfOk result (AreForwarded (Passes rules.now) (map Seen packets.now)) }
+{
+    let mut track = Track::new(alloc);
+    let mut count = 0;
+    for (place, packet) in packets.iter().enumerate() {
+        let passes = is_forwarded(rules, &mut track, packet)?;
+        count += one_if(passes);
+    }
+    Ok(count)
+}
+
+/// Whether the rules forward a packet, which is tracked: a run over what follows is one over this packet
+/// and what follows.
+fn is_forwarded(rules: &Ruleset, track: &mut Track, packet: &Packet) -> Result<bool, AllocError>
+    ensures { IfOk result (λ passes. (events : List Event) (answers : List (Option Bool))
+        → Runs (Passes rules.now) (kept_in track.new) events answers
+        → Runs (Passes rules.now) (kept_in track.old) (Seen packet.now ∷ events) (Some passes ∷ answers)) }
+{
+    let passes = passes(rules.verdict(packet, track.state_of(packet)));
+    track.step(packet, passes)?;
+    Ok(passes)
+}
+
+fn one_if(counts: bool) -> usize
+    ensures { result ≡ (if counts then 1 else 0) }
+{
+    if counts { 1 } else { 0 }
+}
+
+fn passes(verdict: Verdict) -> bool
+    ensures { verdict ≡ verdict_if result }
+{
+    match verdict {
+        Verdict::Forward => true,
+        Verdict::Drop => false,
+    }
+}

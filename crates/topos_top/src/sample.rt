@@ -1,0 +1,19 @@
+//! `sample N`: what every job makes of the sample of N hosts, in numbers.
+
+ghost use Rattle.std.specs.Prelude.{◌≤◌, IfOk, false};
+ghost use Rattle.host_net.specs.Limits.{host_limit};
+ghost use Rattle.topos_top.specs.AnswerView.{reply_view};
+ghost use Rattle.topos_top.specs.Job.{Ends};
+ghost use Rattle.topos_top.specs.Sample.{sample_job};
+
+use crate::answer::{Answer, Text};
+use sample_core::sample_text;
+use std::alloc::{AllocError, Global};
+
+/// The numbers of the sample.
+pub fn answer<'a>(alloc: Global, hosts: u16) -> Result<Answer<'a>, AllocError>
+    requires { hosts ≤ host_limit }
+    ensures { IfOk result (λ answer. Ends false (sample_job hosts) (reply_view answer)) }
+{
+    Ok(Answer::Done(Text::Bytes(sample_text(alloc, hosts)?)))
+}
