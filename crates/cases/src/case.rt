@@ -64,6 +64,7 @@ impl Case {
             "file" => self.begin(alloc, value),
             "fill" => self.fill(value, b""),
             "lines" => self.fill(value, b"\n"),
+            "each" => self.add_each(alloc, value),
             "byte" => self.add(&[value.parse().context("a byte")?]),
             "shelf" => Ok(self.shelf_fails.push(value.parse().context("a call")?)?),
             "out" => Ok(self.out_fails.push(value.parse().context("a call")?)?),
@@ -101,6 +102,33 @@ impl Case {
         Ok(())
     }
 
+    // Adds a line for each number between the two, both included.
+    fn add_each(&mut self, alloc: Global, value: &str) -> Result<()> {
+        let (first, rest) = value.split_once(" ").context("two numbers and a text")?;
+        let (last, text) = rest.split_once(" ").context("two numbers and a text")?;
+        let first = first.parse::<u32>().context("the first number")?;
+        let last = last.parse::<u32>().context("the last number")?;
+        for number in first..=last {
+            self.add_numbered(alloc, text, number)?;
+        }
+        Ok(())
+    }
+
+    // Adds the text as a line, with the number for each `{}`, and the one after it for each `{+}`.
+    fn add_numbered(&mut self, alloc: Global, text: &str, number: u32) -> Result<()> {
+        for part in text.split_inclusive("}") {
+            if let Some(before) = part.strip_suffix("{}") {
+                self.add(format!(in alloc; "{before}{number}")?.as_bytes())?;
+            } else if let Some(before) = part.strip_suffix("{+}") {
+                let next = u64::from(number) + 1;
+                self.add(format!(in alloc; "{before}{next}")?.as_bytes())?;
+            } else {
+                self.add(part.as_bytes())?;
+            }
+        }
+        self.add(b"\n")
+    }
+
     fn add(&mut self, bytes: &[u8]) -> Result<()> {
         let file = self.files.last_mut().context("bytes without a file")?;
         file.bytes.extend_from_slice(bytes)?;
@@ -118,14 +146,23 @@ impl Case {
             && self.grain == AMPLE
     }
 
+    /// The same words and files, of which nothing fails.
+    pub fn again(self, alloc: Global) -> Case {
+        Case {
+            words: self.words,
+            files: self.files,
+            ..Case::new(alloc)
+        }
+    }
+
     /// Runs the program on the case.
-    pub fn run(self, alloc: Global) -> Result<Ending> {
-        let mut shelf = MemShelf::new(alloc, self.shelf_fails);
+    pub fn run(&self, alloc: Global) -> Result<Ending> {
+        let mut shelf = MemShelf::new(alloc, self.shelf_fails.clone()?);
         for file in &self.files {
             shelf.put(file.name.as_str(), &file.bytes)?;
         }
-        let mut out = MemSink::new(alloc, self.room, self.grain.max(1), self.out_fails)?;
-        let mut err = MemSink::new(alloc, AMPLE, AMPLE, self.err_fails)?;
+        let mut out = MemSink::new(alloc, self.room, self.grain.max(1), self.out_fails.clone()?)?;
+        let mut err = MemSink::new(alloc, AMPLE, AMPLE, self.err_fails.clone()?)?;
         let status = topos_top::run(alloc, &self.words, &mut shelf, &mut out, &mut err);
         Ok(Ending { status, out, err })
     }
