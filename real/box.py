@@ -1,0 +1,107 @@
+"""A box of its own: a network namespace that forwards from one interface to another one, with tracked connections.
+
+Both interfaces are of the kind TUN, so packets of any sender can be put into the first, and what comes out of the
+second was forwarded. After each packet a marker of IPv6 follows, which no rule sees: once it has arrived, what
+has not arrived before was dropped, and nothing has to be waited for.
+"""
+import ctypes
+import fcntl
+import os
+import select
+import struct
+import subprocess
+
+NEW_NETWORK, SET_NAME, TUN, WITHOUT_HEAD = 0x40000000, 0x400454ca, 0x0001, 0x1000
+MARKER = bytes.fromhex('600000000000' '3b40' + '20010db8' + '00' * 11 + '01' + '20010db8' + '00' * 11 + '02')
+PATIENCE = 5.0
+CLOSED = '*filter\n:FORWARD DROP [0:0]\n-A FORWARD -m conntrack --ctstate ESTABLISHED -j DROP\nCOMMIT\n'
+HOUR = '3600'
+SETTINGS = {
+    'ipv4/ip_forward': '1',
+    'ipv4/conf/all/rp_filter': '0',
+    'ipv4/conf/in/rp_filter': '0',
+    'ipv6/conf/all/forwarding': '1',
+    'netfilter/nf_conntrack_udp_timeout': HOUR,
+    'netfilter/nf_conntrack_udp_timeout_stream': HOUR,
+    'netfilter/nf_conntrack_icmp_timeout': HOUR,
+    'netfilter/nf_conntrack_generic_timeout': HOUR,
+    'netfilter/nf_conntrack_tcp_timeout_syn_sent': HOUR,
+    'netfilter/nf_conntrack_tcp_timeout_syn_recv': HOUR,
+}
+
+
+class Failed(Exception):
+    """A tool that does not do what it is to do, or is not there."""
+
+
+def run(words, given=None, also=()):
+    ended = subprocess.run(words, input=given, capture_output=True, text=True, timeout=60)
+    if ended.returncode not in (0, *also):
+        raise Failed(f"{' '.join(words)}: {ended.stderr.strip()}")
+    return ended.stdout
+
+
+class Box:
+    """The process moves into the namespace of the box that it made last."""
+
+    def __init__(self, back_end):
+        self.restore, self.save = f'iptables-{back_end}-restore', f'iptables-{back_end}-save'
+        if ctypes.CDLL(None, use_errno=True).unshare(NEW_NETWORK):
+            raise Failed(f'no network namespace: {os.strerror(ctypes.get_errno())}')
+        try:
+            self.way_in, self.way_out = interface('in'), interface('out')
+            for words in ('link set in up', 'link set out up', 'route add default dev out',
+                          '-6 route add default dev out'):
+                run(['ip', *words.split()])
+            run([self.restore], CLOSED)
+            for name, value in SETTINGS.items():
+                with open(f'/proc/sys/net/{name}', 'w', encoding='ascii') as file:
+                    file.write(value)
+            run(['conntrack', '-F'])
+        except OSError as fault:
+            raise Failed(str(fault)) from fault
+        if self.send(b''):
+            raise Failed('something comes out of the box by itself')
+
+    def version(self):
+        return run([self.restore, '--version']).strip()
+
+    def load(self, text):
+        run([self.restore], text)
+        run(['conntrack', '-F'])
+
+    def saved(self):
+        return run([self.save, '-t', 'filter'])
+
+    def send(self, packet):
+        """The packets of IPv4 that come out once this one went in."""
+        if packet:
+            os.write(self.way_in, packet)
+        os.write(self.way_in, MARKER)
+        arrived = []
+        while True:
+            ready, _, _ = select.select([self.way_out], [], [], PATIENCE)
+            if not ready:
+                raise Failed('no packet of IPv6, which marks the end, comes out of the box')
+            came = os.read(self.way_out, 65536)
+            if came[8:40] == MARKER[8:40]:
+                return arrived
+            if came[0] >> 4 == 4:
+                arrived.append(came)
+
+    def forget(self, event):
+        """Makes the kernel forget the connection of a packet, whoever began it."""
+        for one in (event, event.answer()):
+            words = ['conntrack', '-D', '-p', str(one.protocol), '-s', one.source, '-d', one.destination]
+            if one.protocol == 1:
+                words += ['--icmp-type', '8', '--icmp-code', '0', '--icmp-id', str(one.ports[0])]
+            elif one.protocol in (6, 17):
+                words += ['--sport', str(one.ports[0]), '--dport', str(one.ports[1])]
+            run(words, also=[1])  # 1: there was none
+
+
+def interface(name):
+    """A TUN interface of this name, as the file that its packets are read from and written to."""
+    opened = os.open('/dev/net/tun', os.O_RDWR)
+    fcntl.ioctl(opened, SET_NAME, struct.pack('16sH22x', name.encode(), TUN | WITHOUT_HEAD))
+    return opened

@@ -1,0 +1,145 @@
+"""Packets of IPv4, as real machines send them for the events of a trace.
+
+An event tells addresses, protocol and ports. What else stands in the packet depends on what its connection has
+seen: who opens it with TCP sends a SYN and is answered with SYN and ACK, who opens it with ICMP sends an echo
+request and is answered with an echo reply. `Conversations` keeps that in mind from what really arrived.
+"""
+import ipaddress
+import struct
+import zlib
+
+NUMBERS = {'icmp': 1, 'tcp': 6, 'udp': 17}
+ICMP, TCP, UDP = 1, 6, 17
+BARE = (50, 89, 253)  # protocols without ports, which the kernel tells apart by addresses alone
+SYN, ACK = 0x02, 0x10
+REPLY, REQUEST = 0, 8
+
+
+class Event:
+    """A packet that is sent, or a connection that is forgotten."""
+
+    def __init__(self, forgets, source, destination, protocol, ports):
+        self.forgets, self.source, self.destination = forgets, source, destination
+        self.protocol, self.ports = protocol, ports
+
+    @staticmethod
+    def read(line):
+        what, source, destination, protocol, *ports = line.split()
+        number = NUMBERS.get(protocol) or int(protocol)
+        return Event(what == 'forget', source, destination, number, (int(ports[0]), int(ports[1])))
+
+    def text(self):
+        what = 'forget' if self.forgets else 'packet'
+        return f'{what} {self.source} {self.destination} {self.protocol} {self.ports[0]} {self.ports[1]}'
+
+    def answer(self):
+        return Event(False, self.destination, self.source, self.protocol, self.ports[::-1])
+
+    def forgotten(self):
+        return Event(True, self.source, self.destination, self.protocol, self.ports)
+
+    def opener(self):
+        return self.source, self.ports[0]
+
+    def connection(self):
+        ends = sorted([(self.source, self.ports[0]), (self.destination, self.ports[1])])
+        return self.protocol, *ends
+
+    def why_not_sent(self):
+        """Why such a packet cannot be sent here; nothing where it can."""
+        if not all(is_routed(address) for address in (self.source, self.destination)):
+            return 'a kernel forwards no packets from or to such an address'
+        if self.protocol == ICMP and self.ports[0] != self.ports[1]:
+            return 'an ICMP query has one number, so both ports have to be this number'
+        if self.protocol in BARE and self.ports != (0, 0):
+            return 'a protocol without ports with ports'
+        if self.protocol not in (ICMP, TCP, UDP) + BARE:
+            return f'protocol {self.protocol}'
+        return None
+
+
+def is_routed(address):
+    first = int(address.split('.')[0])
+    return 1 <= first <= 223 and first != 127
+
+
+def bytes_of(address):
+    return ipaddress.IPv4Address(address).packed
+
+
+def checksum(content):
+    total = sum(struct.unpack(f'!{(len(content) + 1) // 2}H', content + b'\0' * (len(content) % 2)))
+    while total > 0xffff:
+        total = (total & 0xffff) + (total >> 16)
+    return total ^ 0xffff
+
+
+def header(event, length, number, hops=64):
+    """The header of IPv4; `number` tells the packets of one run apart."""
+    parts = [0x45, 0, 20 + length, number, 0x4000, hops, event.protocol]
+    ends = bytes_of(event.source) + bytes_of(event.destination)
+    sum_ = checksum(struct.pack('!BBHHHBBH', *parts, 0) + ends)
+    return struct.pack('!BBHHHBBH', *parts, sum_) + ends
+
+
+def with_sum(event, head, place, rest):
+    """The content of TCP or UDP with its checksum, which counts the addresses."""
+    content = head + rest
+    pseudo = bytes_of(event.source) + bytes_of(event.destination) + struct.pack('!BBH', 0, event.protocol, len(content))
+    return content[:place] + struct.pack('!H', checksum(pseudo + content) or 0xffff) + content[place + 2:]
+
+
+class Conversations:
+    """Who opened each connection, and whether it was answered."""
+
+    def __init__(self):
+        self.opened = {}
+
+    def packet(self, event, number):
+        content = self.content(event)
+        return header(event, len(content), number) + content
+
+    def content(self, event):
+        opener, answered = self.opened.get(event.connection(), (event.opener(), False))
+        opens = opener == event.opener()
+        if event.protocol == TCP:
+            return segment(event, opens, answered)
+        if event.protocol == UDP:
+            return with_sum(event, struct.pack('!HHHH', *event.ports, 8 + 4, 0), 6, b'text')
+        if event.protocol == ICMP:
+            parts = REQUEST if opens else REPLY, 0
+            sum_ = checksum(struct.pack('!BBHHH', *parts, 0, event.ports[0], 1))
+            return struct.pack('!BBHHH', *parts, sum_, event.ports[0], 1)
+        return b'text'
+
+    def saw(self, event, forwarded):
+        """What the box learns of a packet, forwarded or not."""
+        opener, _ = self.opened.get(event.connection(), (None, False))
+        if opener is None and forwarded:
+            self.opened[event.connection()] = event.opener(), False
+        elif opener is not None and opener != event.opener():
+            self.opened[event.connection()] = opener, True
+
+    def forget(self, event):
+        self.opened.pop(event.connection(), None)
+
+
+def segment(event, opens, answered):
+    """A segment of TCP. Half of the connections are seen from their beginning on, half from their middle."""
+    whole = zlib.crc32(repr(event.connection()).encode()) % 2
+    if not whole or answered:
+        flags = ACK
+    elif opens:
+        flags = SYN
+    else:
+        flags = SYN | ACK
+    first, second = (1000, 5000) if opens else (5000, 1000)
+    sent = first + (0 if flags & SYN else 1)
+    got = second + 1 if flags & ACK else 0
+    return with_sum(event, struct.pack('!HHIIBBHHH', *event.ports, sent, got, 0x50, flags, 8192, 0, 0), 16, b'')
+
+
+def is_same(sent, arrived):
+    """Whether it is the same packet, perhaps one hop further."""
+    rest = [packet[:8] + packet[9:10] + packet[12:] for packet in (sent, arrived)]
+    return rest[0] == rest[1] and arrived[8] in (sent[8], sent[8] - 1)  # a switch is no hop
