@@ -1,0 +1,57 @@
+"""The smallest files that are refused: each prints a line that docs/FORMATS.md or docs/GUIDE.md shows."""
+
+TWO = 'host = [{ name = "a", at = ["10.0.1.1"] }, { name = "b", at = ["10.0.2.1"] }]\n'
+HEAD = 'topos = 1\n' + TWO
+RULES = '*filter\n:INPUT ACCEPT\n:FORWARD DROP\n:OUTPUT ACCEPT\n'
+
+
+def hosts(counts):
+    """A host for each number, with so many addresses."""
+    tables = []
+    for k, count in enumerate(counts):
+        at = ', '.join(f'"10.{k}.{i}.1"' for i in range(count))
+        tables.append(f'{{ name = "h{k}", at = [{at}] }}')
+    return f"topos = 1\nhost = [{', '.join(tables)}]\n"
+
+
+def assigns(template, *entries):
+    return f'[[invariant]]\ntemplate = "{template}"\nassign = [{", ".join(entries)}]\n'
+
+
+DESCRIPTIONS = [
+    '#' * 1048577,                                                                          # 1 TooLong
+    'topos = 1\nhost = [\n',                                                                # 2 NotToml
+    'topos = 1\nhost = [{ name = "a", at = ["10.0.1.1"] }, { name = "b", adress = [] }]\n',   # 3 UnknownKey
+    HEAD + '[[invariant]]\ntemplate = "blp"\nassign = [{ host = "a" }, { level = 1 }]\n',   # 4 MissingKey
+    'topos = 1\nflow = [["a", "b"], ["b", "a"], ["a"]]\n' + TWO,                            # 5 WrongType
+    'topos = 2\n' + TWO,                                                                    # 6 BadVersion
+    hosts([1] * 129),                                                                       # 7 TooMany
+    hosts([26] * 18 + [40, 5]),
+    HEAD + assigns('blp') * 17,
+    'topos = 1\nflow = [["a", "b"], ["b c", "a"]]\n' + TWO,                                 # 8 BadName
+    'topos = 1\nhost = [{ name = "a", at = ["10.0.1.1"] }, { name = "a", at = ["10.0.2.1"] }]\n',
+    'topos = 1\nhost = [{ name = "a", at = ["10.0.0.01"] }]\n',                             # 10 BadPrefix
+    'topos = 1\nhost = [{ name = "a", at = ["10.0.0.1/24"] }]\n',                           # 11 HostBits
+    'topos = 1\nhost = [{ name = "a", at = ["10.0.1.1"] }, { name = "b" }]\n',              # 12 NoAddress
+    'topos = 1\nhost = [{ name = "a", rest = true }, { name = "b", rest = true }]\n',       # 13 TwoRests
+    'topos = 1\nhost = [{ name = "a", at = ["10.0.0.0/24"] }, { name = "b", at = ["10.0.0.1"] }]\n',
+    HEAD + assigns('levels'),                                                               # 15 UnknownTemplate
+    'topos = 1\nflow = [["a", "c"]]\n' + TWO,                                               # 16 UndeclaredHost
+    HEAD + assigns('blp', '{ host = "a" }', '{ host = "b" }', '{ host = "a" }'),            # 17 DuplicateAssign
+    HEAD + assigns('sink', '{ host = "a" }'),                                               # 18 BadAttribute
+    'topos = 1\nflow = [["a", "a"]]\n' + TWO,                                               # 19 SelfFlow
+    'topos = 1\nflow = [["a", "b"], ["a", "b"]]\n' + TWO,                                   # 20 DuplicateFlow
+]
+
+# 91 addresses beside the rest of the world
+MANY_FLOWS = 'topos = 1\nflow = []\nhost = [{ name = "a", at = [%s] }, { name = "r", rest = true }]\n' \
+    % ', '.join(f'"10.0.{i}.1"' for i in range(91))
+
+
+def runs():
+    """The words of each run, and the files that it wants."""
+    for text in DESCRIPTIONS:
+        yield ['check', 'net.toml'], {'net.toml': text}
+    yield ['rules', 'openflow', 'net.toml'], {'net.toml': MANY_FLOWS}
+    interface = RULES + '-A FORWARD -s 10.0.0.0/8 -j DROP\n' * 2 + '-A FORWARD -i eth0 -j ACCEPT\nCOMMIT\n'
+    yield ['trace', 'iptables', 'box.rules', 'net.events'], {'box.rules': interface, 'net.events': ''}
