@@ -5,3 +5,4 @@ pub mod PaddedLemmas
 pub mod RangesKept
 pub mod RangesLemmas
 pub mod OverlapWords
+pub mod ServicesLemmas

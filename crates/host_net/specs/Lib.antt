@@ -13,5 +13,12 @@ pub mod PrefixTextLaws
 pub mod PrefixView
 pub mod Ranges
 pub mod Refusal
+pub mod Service
+pub mod ServiceText
+pub mod ServiceTextLaws
+pub mod Services
+pub mod ServicesLaws
+pub mod ServicesView
+pub mod Site
 pub mod Verdict
 pub mod VerdictLaws

@@ -3,10 +3,10 @@ use Rattle.std.specs.Prelude.{ℕ}
 
 -- how many hosts there may be, and how many prefixes all of them may have together
 abbrev pub host_limit : ℕ
-host_limit = 128
+host_limit = 256
 
 abbrev pub prefix_limit : ℕ
-prefix_limit = 512
+prefix_limit = 1024
 
 -- how many invariants there may be
 abbrev pub invariant_limit : ℕ

@@ -11,6 +11,8 @@ mod packet;
 mod prefix;
 mod ranges;
 mod refusal;
+mod service;
+mod services;
 #[cfg(test)]
 mod tests;
 
@@ -19,3 +21,5 @@ pub use name::Name;
 pub use packet::{CtState, Packet, Verdict};
 pub use prefix::{Prefix, put_prefix, read_address, read_prefix};
 pub use refusal::{HOST_LIMIT, HostRefusal, PREFIX_LIMIT};
+pub use service::{Service, read_service};
+pub use services::{SERVICE_LIMIT, Services};

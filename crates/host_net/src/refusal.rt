@@ -3,10 +3,10 @@
 use std::alloc::AllocError;
 
 /// How many hosts there may be.
-pub const HOST_LIMIT: usize = 128;
+pub const HOST_LIMIT: usize = 256;
 
 /// How many prefixes all hosts may have together.
-pub const PREFIX_LIMIT: usize = 512;
+pub const PREFIX_LIMIT: usize = 1024;
 
 /// Why a host was not added, the first cause in this order. Hosts and prefixes are named by their
 /// places, from 0.

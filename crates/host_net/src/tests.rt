@@ -1,7 +1,7 @@
 //! Shows what no clause says: that the calls succeed with ample memory. The values are those that
 //! the clauses say.
 
-ghost use Rattle.std.specs.Prelude.{◌≤◌, IsTrue};
+ghost use Rattle.std.specs.Prelude.{◌≤◌, ◌<◌, IsTrue};
 ghost use Rattle.std.specs.List.{list_all};
 ghost use Rattle.host_net.specs.Hosts.{is_network};
 
@@ -129,21 +129,18 @@ fn falling_address(place: u16) -> u32
 fn falling_hosts(rt: &impl Abort, alloc: Global) -> Hosts {
     assert!(rt; EACH == 4);
     let mut hosts = Hosts::new(alloc);
-    for host in 0..HOST_LIMIT as u8 {
+    for host in 0..HOST_LIMIT as u16 {
         let at = falling_networks(rt, host);
-        assert!(rt;
-            hosts
-                .add(&[b'h', b'0' + host % 10, b'A' + host / 10], &at, false)
-                .is_ok()
-        );
+        assert!(rt; hosts.add(&numbered_name(host), &at, false).is_ok());
     }
     hosts
 }
 
-fn falling_networks(rt: &impl Abort, host: u8) -> [Prefix; 4]
+fn falling_networks(rt: &impl Abort, host: u16) -> [Prefix; 4]
+    requires { host < 256 }
     ensures { IsTrue (list_all is_network result) }
 {
-    let first = host as u16 * 4;
+    let first = host * 4;
     [
         network(rt, falling_address(first), 24),
         network(rt, falling_address(first + 1), 24),
@@ -152,15 +149,18 @@ fn falling_networks(rt: &impl Abort, host: u8) -> [Prefix; 4]
     ]
 }
 
-// Adds 126 hosts, h0A to h5M.
+// A name for each of the most hosts: h0A, h1A and so on.
+fn numbered_name(host: u16) -> [u8; 3]
+    requires { host < 256 }
+{
+    [b'h', b'0' + (host % 10) as u8, b'A' + (host / 10) as u8]
+}
+
+// Adds as many hosts as there may be beside two.
 fn fill(rt: &impl Abort, hosts: &mut Hosts) {
-    for k in 0..126u8 {
+    for k in 0..HOST_LIMIT as u16 - 2 {
         let at = network(rt, 0x0a020000 + k as u32, 32);
-        assert!(rt;
-            hosts
-                .add(&[b'h', b'0' + k % 10, b'A' + k / 10], &[at], false)
-                .is_ok()
-        );
+        assert!(rt; hosts.add(&numbered_name(k), &[at], false).is_ok());
     }
 }
 

@@ -1,0 +1,70 @@
+-- How services are written, and the service that a text says.
+use Rattle.std.specs.Prelude.{◌≡◌, ◌⊎◌, ◌<◌, ℕ, ◌==◌, nat_lt, if◌then◌else◌, IsTrue, List, ◌++◌, decimal, codes, Option, Some, None}
+use Rattle.std.specs.Str.{bytes_eq}
+use Rattle.text_core.specs.Decimal.{number}
+use Rattle.text_core.specs.Pieces.{split_once}
+use Rattle.text_core.specs.Steps.{◌>>=◌}
+use Rattle.host_net.specs.declared.service.Service.{Service}
+use Rattle.host_net.specs.Service.{icmp, tcp, udp, last_port, has_ports, has_all_ports, is_service}
+
+-- A. The spellings of a service.
+
+-- a protocol by its name, or by its number
+abbrev pub protocol_text : ℕ → List ℕ
+protocol_text proto = if proto == icmp then codes "icmp" else if proto == tcp then codes "tcp" else if proto == udp then codes "udp" else decimal proto
+
+-- `tcp`: every packet of the protocol
+abbrev pub SpellsProtocol : List ℕ → Service → Type 0
+SpellsProtocol text s = IsTrue (has_all_ports s) × (text ≡ protocol_text s.proto)
+
+-- `tcp/80`: one port
+abbrev pub SpellsPort : List ℕ → Service → Type 0
+SpellsPort text s = IsTrue (has_ports s.proto) × (s.low ≡ s.high) × (text ≡ protocol_text s.proto ++ (codes "/" ++ decimal s.low))
+
+-- `tcp/80-90`: the first and the last of several ports
+abbrev pub SpellsPorts : List ℕ → Service → Type 0
+SpellsPorts text s =
+    IsTrue (has_ports s.proto) × (s.low < s.high) × (text ≡ protocol_text s.proto ++ (codes "/" ++ (decimal s.low ++ (codes "-" ++ decimal s.high))))
+
+-- the texts that stand for a service
+pub record IsServiceSpelling (text : List ℕ) (s : Service) : Type 0 where
+  pub service : IsTrue (is_service s)
+  pub written : SpellsProtocol text s ⊎ (SpellsPort text s ⊎ SpellsPorts text s)
+
+-- B. The service that a text says.
+
+abbrev pub protocol_of : List ℕ → Option ℕ
+protocol_of name =
+    if bytes_eq name (codes "icmp") then Some icmp else if bytes_eq name (codes "tcp") then Some tcp else if bytes_eq name (codes "udp") then Some udp else None
+
+-- the ports of a text, given the two that a dash separates, or else one alone
+abbrev pub ports_of_parts : List ℕ → Option (List ℕ × List ℕ) → Option (ℕ × ℕ)
+ports_of_parts text None = do
+  port ← number last_port text
+  Some (port, port)
+ports_of_parts text (Some parts) = do
+  low ← number last_port parts.0
+  high ← number last_port parts.1
+  if nat_lt low high then Some (low, high) else None
+
+-- a port, or two with a dash (45) between them of which the first is the lesser
+unfoldable pub ports_of : List ℕ → Option (ℕ × ℕ)
+ports_of text = ports_of_parts text (split_once 45 text)
+
+-- the service of a protocol with these ports
+abbrev pub with_ports : ℕ → ℕ × ℕ → Option Service
+with_ports proto ports = if has_ports proto then Some (record { proto = proto; low = ports.0; high = ports.1 }) else None
+
+-- the service of a text, given the protocol and the ports that a slash separates, or else a protocol alone
+abbrev pub service_of_parts : List ℕ → Option (List ℕ × List ℕ) → Option Service
+service_of_parts text None = do
+  proto ← protocol_of text
+  Some (record { proto = proto; low = 0; high = last_port })
+service_of_parts text (Some parts) = do
+  proto ← protocol_of parts.0
+  ports ← ports_of parts.1
+  with_ports proto ports
+
+-- the service that a text says: a protocol, or a protocol, a slash (47) and its ports
+unfoldable pub service_of : List ℕ → Option Service
+service_of text = service_of_parts text (split_once 47 text)

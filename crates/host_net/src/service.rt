@@ -1,0 +1,29 @@
+//! A service: what a flow between two hosts may be narrowed to. Its text is read in `spelling`.
+
+ghost use Rattle.std.specs.Prelude.{◌≡◌, ◌≤◌, ◌↔◌, IsTrue};
+ghost use Rattle.host_net.specs.Service.{serves};
+
+mod spelling;
+#[cfg(test)]
+mod tests;
+
+use crate::packet::Packet;
+pub use spelling::read_service;
+
+/// A protocol by its number, and the destination ports from `low` to `high`, both included.
+#[derive(Clone, Copy, Debug, PartialEq, Eq)]
+pub struct Service {
+    pub proto: u8,
+    pub low: u16,
+    pub high: u16,
+}
+
+impl Service {
+    /// Whether the packet is one of the protocol, to one of the ports.
+    pub fn serves(&self, p: &Packet) -> bool
+        ensures exact { result ≡ serves self.now p.now }
+        ensures meaning { IsTrue result ↔ ((self.now.proto ≡ p.now.proto) × (self.now.low ≤ p.now.dport) × (p.now.dport ≤ self.now.high)) }
+    {
+        self.proto == p.proto && self.low <= p.dport && p.dport <= self.high
+    }
+}

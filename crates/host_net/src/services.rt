@@ -1,0 +1,89 @@
+//! The services of flows between hosts.
+
+ghost use Rattle.std.specs.Prelude.{◌≡◌, ◌<◌, ◌++◌, ◌∷◌, [], ℕ, ◌⊎◌, ◌≢◌, ◌↔◌, IsTrue, IfOk, OnOk, OnErr, length};
+ghost use Rattle.host_net.specs.Service.{is_service};
+ghost use Rattle.host_net.specs.Services.{AreServices, service_limit, services_of, with_service};
+
+use crate::service::Service;
+use indexmap::IndexMap;
+use std::alloc::{AllocError, Global};
+use std::marker::Model;
+
+/// How many services a flow may have.
+pub const SERVICE_LIMIT: usize = 16;
+
+/// Which flows are narrowed to services, and to which. A flow goes from the host of one number to
+/// that of another.
+#[derive(Drop)]
+pub struct Services {
+    narrowed: IndexMap<(u16, u16), Vec<Service>>,
+}
+
+impl Model for Services {
+    ghost use Rattle.std.specs.Prelude.{List};
+    ghost use Rattle.host_net.specs.Services.{NarrowedFlow, AreServices};
+    ghost use Rattle.host_net.specs.ServicesView.{services_view};
+
+    ghost Value = { List NarrowedFlow };
+
+    ghost view = { λ s. services_view s.narrowed.entries };
+
+    ghost invariant = { λ s. AreServices (services_view s.narrowed.entries) };
+}
+
+impl Services {
+    /// No flow is narrowed.
+    pub fn new(alloc: Global) -> Services
+        ensures { result ≡ [] }
+    {
+        Services {
+            narrowed: IndexMap::new(alloc),
+        }
+    }
+
+    /// Whether no flow is narrowed.
+    pub fn is_empty(&self) -> bool
+        ensures empty { IsTrue result ↔ (self.now ≡ []) }
+        ensures services { AreServices self.now }
+    {
+        self.narrowed.is_empty()
+    }
+
+    /// Adds a service to those of a flow.
+    pub fn add(&mut self, from: u16, to: u16, service: Service) -> Result<(), AllocError>
+        requires room { length (services_of self.old from to) < service_limit }
+        requires service { IsTrue (is_service service) }
+        ensures added { OnOk result (self.new ≡ with_service self.old from to service) }
+        ensures unchanged { OnErr result (self.new ≡ self.old) }
+
+        // The service is the last of its flow, and every other flow has what it had.
+        ensures last { OnOk result (services_of self.new from to ≡ services_of self.old from to ++ service ∷ []) }
+        ensures others { OnOk result ((i j : ℕ) → (i ≢ from) ⊎ (j ≢ to) → services_of self.new i j ≡ services_of self.old i j) }
+    {
+        let services = self.grown(from, to, service)?;
+        self.narrowed.insert((from, to), services)?;
+        Ok(())
+    }
+
+    /// The services of a flow, and one more behind them. They are a new list, so that a refusal of
+    /// memory leaves the old one as it was.
+    fn grown(&self, from: u16, to: u16, service: Service) -> Result<Vec<Service>, AllocError>
+        ensures { IfOk result (λ services. services.items ≡ services_of self.now from to ++ service ∷ []) }
+    {
+        let mut services = Vec::from_slice(*self.narrowed.allocator(), self.of(from, to))?;
+        services.push(service)?;
+        Ok(services)
+    }
+
+    /// The services of a flow in the order in which they were added. A flow that has none is not
+    /// narrowed: every packet is of it.
+    pub fn of(&self, from: u16, to: u16) -> &[Service]
+        ensures list { result.now ≡ services_of self.now from to }
+        ensures services { AreServices self.now }
+    {
+        match self.narrowed.get(&(from, to)) {
+            Some(services) => services,
+            None => &[],
+        }
+    }
+}
