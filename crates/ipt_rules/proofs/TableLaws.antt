@@ -9,7 +9,8 @@ use Rattle.ipt_rules.specs.declared.rule.Rule.{Rule}
 use Rattle.ipt_rules.specs.declared.rule.Policy.{Policy}
 use Rattle.ipt_rules.specs.Name.{is_user_name}
 use Rattle.ipt_rules.specs.Chain.{Chain, changed_at, with_policy, with_rule, name_of, policy_of, number_of, user_chain}
-use Rattle.ipt_rules.specs.Addresses.{addresses_fit, AddressesFit}
+use Rattle.ipt_rules.specs.Addresses.{addresses_fit}
+use Rattle.ipt_rules.specs.RuleParts.{is_rule}
 use Rattle.ipt_rules.specs.ChainTable.{name_in, policy_in, IsTable, IsChainList}
 use Rattle.ipt_rules.specs.ChainLaws.{length-changed_at, length_added, length_with_policy, length_with_rule, rule_count_added, rule_count_with_policy, rule_count_with_rule}
 
@@ -167,25 +168,30 @@ all_changed p (x ∷ xs) (suc c) change keeps h =
     let parts = and_parts (p x) (list_all p xs) h in
     and_from (p x) (list_all p (changed_at xs c change)) parts.0 (all_changed p xs c change keeps parts.1)
 
-AddressesFit-with_rule : (xs : List Chain) (c : ℕ) (rule : Rule) → addresses_fit rule ≡ true → AddressesFit xs → AddressesFit (with_rule xs c rule)
+-- what a test says of all rules
+abbrev AllRules : (Rule → Bool) → List Chain → Type 0
+AllRules test xs = IsTrue (list_all (λ x. list_all test x.rules) xs)
+
+AllRules-with_rule : (test : Rule → Bool) (xs : List Chain) (c : ℕ) (rule : Rule) → test rule ≡ true → AllRules test xs → AllRules test (with_rule xs c rule)
 unfolding with_rule
-AddressesFit-with_rule xs c rule fit h = all_changed (λ x. list_all addresses_fit x.rules) xs c (λ x. record x { rules = x.rules ++ rule ∷ [] })
-    (λ x old. list_all-append addresses_fit x.rules (rule ∷ []) ∙ and_from (list_all addresses_fit x.rules) (addresses_fit rule && true) old (and_from (addresses_fit rule) true fit refl)) h
+AllRules-with_rule test xs c rule fit h = all_changed (λ x. list_all test x.rules) xs c (λ x. record x { rules = x.rules ++ rule ∷ [] })
+    (λ x old. list_all-append test x.rules (rule ∷ []) ∙ and_from (list_all test x.rules) (test rule && true) old (and_from (test rule) true fit refl)) h
 
-AddressesFit-with_policy : (xs : List Chain) (c : ℕ) (policy : Policy) → AddressesFit xs → AddressesFit (with_policy xs c policy)
+AllRules-with_policy : (test : Rule → Bool) (xs : List Chain) (c : ℕ) (policy : Policy) → AllRules test xs → AllRules test (with_policy xs c policy)
 unfolding with_policy
-AddressesFit-with_policy xs c policy h = all_changed (λ x. list_all addresses_fit x.rules) xs c (λ x. record x { policy = Some policy }) (λ x old. old) h
+AllRules-with_policy test xs c policy h = all_changed (λ x. list_all test x.rules) xs c (λ x. record x { policy = Some policy }) (λ x old. old) h
 
-AddressesFit-added : (xs : List Chain) (name : List ℕ) → AddressesFit xs → AddressesFit (xs ++ user_chain name ∷ [])
-AddressesFit-added xs name h =
-    list_all-append (λ x. list_all addresses_fit x.rules) xs (user_chain name ∷ []) ∙ and_from (list_all (λ x. list_all addresses_fit x.rules) xs) true h refl
+AllRules-added : (test : Rule → Bool) (xs : List Chain) (name : List ℕ) → AllRules test xs → AllRules test (xs ++ user_chain name ∷ [])
+AllRules-added test xs name h =
+    list_all-append (λ x. list_all test x.rules) xs (user_chain name ∷ []) ∙ and_from (list_all (λ x. list_all test x.rules) xs) true h refl
 
-pub IsChainList-with_rule : (xs : List Chain) (n c : ℕ) (rule : Rule) → c < length xs → addresses_fit rule ≡ true → IsChainList xs n → IsChainList (with_rule xs c rule) (n + 1)
-IsChainList-with_rule xs n c rule there fit chains = record {
+pub IsChainList-with_rule : (xs : List Chain) (n c : ℕ) (rule : Rule) → c < length xs → addresses_fit rule ≡ true → is_rule rule ≡ true → IsChainList xs n → IsChainList (with_rule xs c rule) (n + 1)
+IsChainList-with_rule xs n c rule there fit part chains = record {
   table = IsTable-with_rule xs c rule chains.table;
   numbered = omega (arith, length_with_rule xs c rule, chains.numbered);
   counted = ap (λ m. m + 1) chains.counted ∙ sym (rule_count_with_rule xs c rule there);
-  addresses = AddressesFit-with_rule xs c rule fit chains.addresses;
+  addresses = AllRules-with_rule addresses_fit xs c rule fit chains.addresses;
+  parts = AllRules-with_rule is_rule xs c rule part chains.parts;
 }
 
 pub IsChainList-with_policy : (xs : List Chain) (n c : ℕ) (policy : Policy) → c < 3 → IsChainList xs n → IsChainList (with_policy xs c policy) n
@@ -193,7 +199,8 @@ IsChainList-with_policy xs n c policy low chains = record {
   table = IsTable-with_policy xs c policy low chains.table;
   numbered = omega (arith, length_with_policy xs c policy, chains.numbered);
   counted = chains.counted ∙ sym (rule_count_with_policy xs c policy);
-  addresses = AddressesFit-with_policy xs c policy chains.addresses;
+  addresses = AllRules-with_policy addresses_fit xs c policy chains.addresses;
+  parts = AllRules-with_policy is_rule xs c policy chains.parts;
 }
 
 pub IsChainList-added : (xs : List Chain) (n : ℕ) (name : List ℕ) → length xs < 65536 → IsTrue (is_user_name name) → IsNone (number_of xs name) → IsChainList xs n → IsChainList (xs ++ user_chain name ∷ []) n
@@ -201,5 +208,6 @@ IsChainList-added xs n name room legal unused chains = record {
   table = IsTable-added xs name legal unused chains.table;
   numbered = omega (arith, length_added xs name);
   counted = omega (arith, chains.counted, rule_count_added xs name);
-  addresses = AddressesFit-added xs name chains.addresses;
+  addresses = AllRules-added addresses_fit xs name chains.addresses;
+  parts = AllRules-added is_rule xs name chains.parts;
 }

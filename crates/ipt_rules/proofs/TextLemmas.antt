@@ -1,9 +1,10 @@
 -- Where a line stands in the text: after the table's line the chains, then their rules.
-use Rattle.std.proofs.Common.{not, ◌≡◌, ℕ, zero, suc, ◌+◌, ◌-◌, ◌<◌, ◌≤◌, ◌∙◌, sym, ap, refl, true, List, [], ◌∷◌, ◌++◌, Some, length, get_or, drop, arith, append_assoc}
+use Rattle.std.proofs.Common.{Bool, not, ◌≡◌, ℕ, zero, suc, ◌+◌, ◌-◌, ◌<◌, ◌≤◌, ◌∙◌, sym, ap, refl, true, List, [], ◌∷◌, ◌++◌, Some, length, get_or, drop, arith, append_assoc}
 use Rattle.std.specs.Prelude.{slice_get, map}
 use Rattle.std.specs.List.{flat_map, list_all}
 use Rattle.std.specs.Option.{option_map}
 use Rattle.std.proofs.lemmas.List.{length-map}
+use Rattle.std.proofs.lemmas.Bool.{and_parts}
 use Rattle.std.proofs.lemmas.Bool.Decides.{nat_tests}
 use Rattle.std.proofs.lemmas.Option.{slice_get-map, slice_get-get_or}
 use Rattle.std.proofs.Math.Numerals.{add-one}
@@ -76,6 +77,21 @@ jump_in chains i x rules left r jumps h is same here at =
     let read : rules ≡ rules_of chains i = same ∙ sym (rules_of_read chains i x h is) in
     let all : list_all (λ s. not (jumps_nowhere (length chains) s.target)) rules ≡ true = rw read (jumps.from i) in
     target_in (length chains) r.target (all_at (λ s. not (jumps_nowhere (length chains) s.target)) rules left r all here at)
+
+-- a rule passes a test that all rules pass
+chain_passes : (test : Rule → Bool) (xs : List Chain) (i : ℕ) (x : Chain) → list_all (λ y. list_all test y.rules) xs ≡ true → i < length xs → x ≡ get_or xs i x
+    → list_all test x.rules ≡ true
+chain_passes test [] i x all h is = absurd (omega arith)
+chain_passes test (y ∷ ys) zero x all h is =
+    ap (λ (z : Chain). list_all test z.rules) is ∙ (and_parts (list_all test y.rules) (list_all (λ z. list_all test z.rules) ys) all).0
+chain_passes test (y ∷ ys) (suc i) x all h is =
+    chain_passes test ys i x (and_parts (list_all test y.rules) (list_all (λ z. list_all test z.rules) ys) all).1 (omega arith) is
+
+pub rule_in : (test : Rule → Bool) (chains : List Chain) (i : ℕ) (x : Chain) (rules : List Rule) (left : ℕ) (r : Rule)
+    → list_all (λ y. list_all test y.rules) chains ≡ true → i < length chains → x ≡ get_or chains i x → rules ≡ x.rules → left < length rules → r ≡ get_or rules left r
+    → test r ≡ true
+rule_in test chains i x rules left r all h is same here at =
+    all_at test rules left r (ap (list_all test) same ∙ chain_passes test chains i x all h is) here at
 
 -- the line of a chain stands after the table's
 pub chain_there : (chains : List Chain) (i : ℕ) (x : Chain) → i < length chains → x ≡ get_or chains i x → slice_get (text_lines chains) (i + 1) ≡ Some (chain_line x)

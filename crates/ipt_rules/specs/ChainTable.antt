@@ -6,6 +6,7 @@ use Rattle.ipt_rules.specs.declared.rule.Rule.{Rule}
 use Rattle.ipt_rules.specs.declared.rule.Policy.{Policy}
 use Rattle.ipt_rules.specs.Addresses.{AddressesFit}
 use Rattle.ipt_rules.specs.Chain.{Chain, name_of, number_of, policy_of}
+use Rattle.ipt_rules.specs.RuleParts.{AreRules}
 
 -- the parts of a chain that may not be there
 abbrev pub rules_in : Option Chain → List Rule
@@ -32,9 +33,11 @@ pub record IsTable (chains : List Chain) : Type 0 where
   pub user : (c : ℕ) → 3 ≤ c → c < length chains → IsTrue (is_user_name (name_of chains c)) × (policy_of chains c ≡ None)
   pub found : (c : ℕ) → c < length chains → number_of chains (name_of chains c) ≡ Some c
 
--- what holds of chains at all times: they are a table, the numbers fit, the rules are counted, and their addresses have 32 bits
+-- what holds of chains at all times: they are a table, the numbers fit, the rules are counted, their addresses have 32 bits, and
+-- they ask for protocols and ports as rules may
 pub record IsChainList (chains : List Chain) (rules : ℕ) : Type 0 where
   pub table : IsTable chains
   pub numbered : length chains ≤ 65536
   pub counted : rules ≡ rule_count chains
   pub addresses : AddressesFit chains
+  pub parts : AreRules chains

@@ -15,6 +15,7 @@ pub mod OneOutcome
 pub mod Ranked
 pub mod Ranks
 pub mod Reached
+pub mod RuleParts
 pub mod Saying
 pub mod SayingLaws
 pub mod Starts

@@ -1,10 +1,12 @@
 -- Which packets a rule fits (iptables(8), iptables-extensions(8) on conntrack).
-use Rattle.std.specs.Prelude.{ℕ, Bool, true, ◌&&◌, not, if◌then◌else◌, Option, Some, None}
+use Rattle.std.specs.Prelude.{ℕ, Bool, true, ◌&&◌, ◌==◌, nat_le, not, if◌then◌else◌, Option, Some, None}
 use Rattle.host_net.specs.declared.packet.Packet.{Packet}
 use Rattle.host_net.specs.declared.packet.CtState.{CtState}
 use Rattle.host_net.specs.declared.packet.CtState.TheVariants.{New, Established}
 use Rattle.host_net.specs.Prefix.{covers}
 use Rattle.ipt_rules.specs.declared.rule.AddrMatch.{AddrMatch}
+use Rattle.ipt_rules.specs.declared.rule.PortMatch.{PortMatch}
+use Rattle.ipt_rules.specs.declared.rule.ProtoMatch.{ProtoMatch}
 use Rattle.ipt_rules.specs.declared.rule.StateMatch.{StateMatch}
 use Rattle.ipt_rules.specs.declared.rule.Rule.{Rule}
 
@@ -16,6 +18,16 @@ turned negated answer = if negated then not answer else answer
 abbrev pub address_matches : Option AddrMatch → ℕ → Bool
 address_matches None address = true
 address_matches (Some part) address = turned part.negated (covers part.prefix address)
+
+-- a protocol part fits where the protocol is the packet's
+abbrev pub protocol_matches : Option ProtoMatch → ℕ → Bool
+protocol_matches None proto = true
+protocol_matches (Some part) proto = turned part.negated (part.proto == proto)
+
+-- a port part fits where the packet's port lies from its low to its high one
+abbrev pub port_matches : Option PortMatch → ℕ → Bool
+port_matches None port = true
+port_matches (Some part) port = turned part.negated (nat_le part.low port && nat_le port part.high)
 
 -- the flag of a state
 abbrev pub has_state : StateMatch → CtState → Bool
@@ -30,4 +42,7 @@ state_matches (Some part) state = turned part.negated (has_state part state)
 -- a rule fits a packet in a state where each of its parts does
 abbrev pub matches : Packet → CtState → Rule → Bool
 matches packet state rule =
-    address_matches rule.src packet.src && (address_matches rule.dst packet.dst && state_matches rule.state state)
+    protocol_matches rule.proto packet.proto
+    && (port_matches rule.sport packet.sport
+    && (port_matches rule.dport packet.dport
+    && (address_matches rule.src packet.src && (address_matches rule.dst packet.dst && state_matches rule.state state))))

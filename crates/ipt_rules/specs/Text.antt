@@ -1,8 +1,11 @@
 -- The text of a rule set, line by line (iptables-save(8), iptables-restore(8)).
-use Rattle.std.specs.Prelude.{ℕ, Bool, true, false, if◌then◌else◌, List, [], ◌∷◌, ◌++◌, Option, Some, None, map, codes}
+use Rattle.std.specs.Prelude.{ℕ, Bool, true, false, ◌||◌, nat_lt, if◌then◌else◌, List, [], ◌∷◌, ◌++◌, Option, Some, None, is_some, map, codes, decimal}
 use Rattle.std.specs.List.{flat_map, concat}
 use Rattle.host_net.specs.Prefix.{prefix_text}
+use Rattle.host_net.specs.ServiceText.{protocol_text}
 use Rattle.ipt_rules.specs.declared.rule.AddrMatch.{AddrMatch}
+use Rattle.ipt_rules.specs.declared.rule.PortMatch.{PortMatch}
+use Rattle.ipt_rules.specs.declared.rule.ProtoMatch.{ProtoMatch}
 use Rattle.ipt_rules.specs.declared.rule.StateMatch.{StateMatch}
 use Rattle.ipt_rules.specs.declared.rule.Rule.{Rule}
 use Rattle.ipt_rules.specs.declared.rule.Target.{Target}
@@ -22,6 +25,31 @@ negation_text negated = if negated then codes " !" else []
 abbrev pub address_text : List ℕ → Option AddrMatch → List ℕ
 address_text option None = []
 address_text option (Some part) = negation_text part.negated ++ (option ++ prefix_text part.prefix)
+
+-- a protocol after its option
+abbrev pub protocol_part_text : Option ProtoMatch → List ℕ
+protocol_part_text None = []
+protocol_part_text (Some part) = negation_text part.negated ++ (codes " -p " ++ protocol_text part.proto)
+
+-- the module that has the options of ports is named after the protocol
+abbrev pub module_text : Option ProtoMatch → Bool → List ℕ
+module_text None ports = []
+module_text (Some part) ports = if ports then codes " -m " ++ protocol_text part.proto else []
+
+-- a port, or the first and the last of several
+abbrev pub ports_text : ℕ → ℕ → List ℕ
+ports_text low high = decimal low ++ (if nat_lt low high then codes ":" ++ decimal high else [])
+
+-- a port part after its option, nothing where it is not given
+abbrev pub port_text : List ℕ → Option PortMatch → List ℕ
+port_text option None = []
+port_text option (Some part) = negation_text part.negated ++ (option ++ ports_text part.low part.high)
+
+-- the protocol and the ports that are asked for
+abbrev pub service_text : Option ProtoMatch → Option PortMatch → Option PortMatch → List ℕ
+service_text proto sport dport =
+    protocol_part_text proto
+    ++ (module_text proto (is_some sport || is_some dport) ++ (port_text (codes " --sport ") sport ++ port_text (codes " --dport ") dport))
 
 -- the states that are asked for, by the two flags
 abbrev pub states_text : Bool → Bool → List ℕ
@@ -59,7 +87,7 @@ chain_line chain =
 unfoldable pub rule_line : List Chain → List ℕ → Rule → List ℕ
 rule_line chains name rule =
     codes "-A " ++ (name ++ (address_text (codes " -s ") rule.src ++ (address_text (codes " -d ") rule.dst ++
-    (state_text rule.state ++ (target_text chains rule.target ++ newline)))))
+    (service_text rule.proto rule.sport rule.dport ++ (state_text rule.state ++ (target_text chains rule.target ++ newline))))))
 
 -- the lines of a chain's rules
 abbrev pub rule_lines : List Chain → Chain → List (List ℕ)

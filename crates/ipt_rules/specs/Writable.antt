@@ -5,6 +5,7 @@ use Rattle.ipt_rules.specs.Build.{refusal_of}
 use Rattle.ipt_rules.specs.Chain.{Chain}
 use Rattle.ipt_rules.specs.ChainTable.{IsTable}
 use Rattle.ipt_rules.specs.Loops.{HasNoLoop}
+use Rattle.ipt_rules.specs.RuleParts.{AreRules}
 
 -- a table that `Ruleset::build` does not refuse, whose addresses have 32 bits
 pub record IsWritable (chains : List Chain) : Type 0 where
@@ -12,3 +13,4 @@ pub record IsWritable (chains : List Chain) : Type 0 where
   pub accepted : refusal_of chains ≡ None
   pub no_loop : HasNoLoop chains
   pub addresses : AddressesFit chains
+  pub parts : AreRules chains

@@ -4,6 +4,7 @@ ghost use Rattle.std.specs.Prelude.{◌≡◌, ◌<◌, ◌≤◌, ◌+◌, ◌^
 ghost use Rattle.std.specs.List.Sorted.{IsSearchInRange};
 ghost use Rattle.ipt_rules.specs.Chain.{built_in_chains, user_chain, with_policy, with_rule, name_of, number_of};
 ghost use Rattle.ipt_rules.specs.ChainTable.{rule_count};
+ghost use Rattle.ipt_rules.specs.RuleParts.{is_rule};
 
 use crate::chain::{Chain, Head};
 use crate::name::ChainName;
@@ -92,6 +93,7 @@ impl Chains {
     pub fn rule(&mut self, chain: u16, rule: Rule) -> Result<(), AllocError>
         requires there { chain < length self.old }
         requires room { rule_count self.old + 1 < 2 ^ 32 }
+        requires parts { IsTrue (is_rule rule) }
         ensures ok { OnOk result (self.new ≡ with_rule self.old chain rule) }
         ensures err { OnErr result (self.new ≡ self.old) }
     {

@@ -12,6 +12,7 @@ mod pieces;
 mod ranking;
 mod rule;
 mod ruleset;
+mod services;
 mod starts;
 mod text;
 mod walk;
@@ -19,7 +20,7 @@ mod walk;
 pub use chains::Chains;
 pub use host_net::Verdict;
 pub use name::ChainName;
-pub use rule::{AddrMatch, BuiltIn, Policy, Rule, StateMatch, Target};
+pub use rule::{AddrMatch, BuiltIn, Policy, PortMatch, ProtoMatch, Rule, StateMatch, Target};
 pub use ruleset::{BuildRefusal, Ruleset};
 
 #[cfg(test)]

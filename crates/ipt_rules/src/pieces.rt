@@ -12,24 +12,24 @@ use crate::rule::{AddrMatch, Policy, StateMatch, Target};
 use host_net::put_prefix;
 use text_core::put;
 
-fn put_negation(buffer: &mut [u8; 256], at: usize, negated: bool) -> usize
-    requires { at ≤ 256 }
-    ensures text { take result buffer.new ≡ cut 256 (take at buffer.old ++ negation_text negated) }
-    ensures within { result ≤ 256 }
+pub(crate) fn put_negation(buffer: &mut [u8; 320], at: usize, negated: bool) -> usize
+    requires { at ≤ 320 }
+    ensures text { take result buffer.new ≡ cut 320 (take at buffer.old ++ negation_text negated) }
+    ensures within { result ≤ 320 }
 {
     put(buffer, at, if negated { b" !" } else { b"" })
 }
 
 #[tactic(auto, using(text_core::specs::LineLaws::nothing_put))]
 pub(crate) fn put_address_part(
-    buffer: &mut [u8; 256],
+    buffer: &mut [u8; 320],
     at: usize,
     option: &[u8],
     part: Option<AddrMatch>,
 ) -> usize
-    requires { at ≤ 256 }
-    ensures text { take result buffer.new ≡ cut 256 (take at buffer.old ++ address_text option.now part) }
-    ensures within { result ≤ 256 }
+    requires { at ≤ 320 }
+    ensures text { take result buffer.new ≡ cut 320 (take at buffer.old ++ address_text option.now part) }
+    ensures within { result ≤ 320 }
 {
     match part {
         None => at,
@@ -42,10 +42,10 @@ pub(crate) fn put_address_part(
 }
 
 #[tactic(auto, using(text_core::specs::LineLaws::nothing_put))]
-pub(crate) fn put_state_part(buffer: &mut [u8; 256], at: usize, part: Option<StateMatch>) -> usize
-    requires { at ≤ 256 }
-    ensures text { take result buffer.new ≡ cut 256 (take at buffer.old ++ state_text part) }
-    ensures within { result ≤ 256 }
+pub(crate) fn put_state_part(buffer: &mut [u8; 320], at: usize, part: Option<StateMatch>) -> usize
+    requires { at ≤ 320 }
+    ensures text { take result buffer.new ≡ cut 320 (take at buffer.old ++ state_text part) }
+    ensures within { result ≤ 320 }
 {
     match part {
         None => at,
@@ -58,10 +58,10 @@ pub(crate) fn put_state_part(buffer: &mut [u8; 256], at: usize, part: Option<Sta
     }
 }
 
-fn put_states(buffer: &mut [u8; 256], at: usize, new: bool, established: bool) -> usize
-    requires { at ≤ 256 }
-    ensures text { take result buffer.new ≡ cut 256 (take at buffer.old ++ states_text new established) }
-    ensures within { result ≤ 256 }
+fn put_states(buffer: &mut [u8; 320], at: usize, new: bool, established: bool) -> usize
+    requires { at ≤ 320 }
+    ensures text { take result buffer.new ≡ cut 320 (take at buffer.old ++ states_text new established) }
+    ensures within { result ≤ 320 }
 {
     match (new, established) {
         (true, true) => put(buffer, at, b"NEW,ESTABLISHED"),
@@ -73,15 +73,15 @@ fn put_states(buffer: &mut [u8; 256], at: usize, new: bool, established: bool) -
 
 #[tactic(auto, using(text_core::specs::LineLaws::nothing_put))]
 pub(crate) fn put_target(
-    buffer: &mut [u8; 256],
+    buffer: &mut [u8; 320],
     at: usize,
     chains: &[Chain],
     target: Target,
 ) -> usize
-    requires fits { at ≤ 256 }
+    requires fits { at ≤ 320 }
     requires there { JumpsIn (length chains.now) target }
-    ensures text { take result buffer.new ≡ cut 256 (take at buffer.old ++ target_text chains.now target) }
-    ensures within { result ≤ 256 }
+    ensures text { take result buffer.new ≡ cut 320 (take at buffer.old ++ target_text chains.now target) }
+    ensures within { result ≤ 320 }
     ensures short { length (target_text chains.now target) ≤ 68 }
 {
     match target {
@@ -106,10 +106,10 @@ fn name_of(chains: &[Chain], number: u16) -> &[u8]
     chains[number as usize].name()
 }
 
-pub(crate) fn put_policy(buffer: &mut [u8; 256], at: usize, policy: Option<Policy>) -> usize
-    requires { at ≤ 256 }
-    ensures text { take result buffer.new ≡ cut 256 (take at buffer.old ++ policy_text policy) }
-    ensures within { result ≤ 256 }
+pub(crate) fn put_policy(buffer: &mut [u8; 320], at: usize, policy: Option<Policy>) -> usize
+    requires { at ≤ 320 }
+    ensures text { take result buffer.new ≡ cut 320 (take at buffer.old ++ policy_text policy) }
+    ensures within { result ≤ 320 }
 {
     match policy {
         None => put(buffer, at, b"-"),

@@ -1,8 +1,8 @@
 //! One rule of a chain: which packets it fits, and what it does with them.
 
-ghost use Rattle.std.specs.Prelude.{◌≡◌};
+ghost use Rattle.std.specs.Prelude.{◌≡◌, ◌&&◌, nat_le};
 ghost use Rattle.ipt_rules.specs.OneOutcome.{number_of_built_in};
-ghost use Rattle.ipt_rules.specs.Matching.{matches, address_matches, state_matches};
+ghost use Rattle.ipt_rules.specs.Matching.{matches, address_matches, port_matches, protocol_matches, state_matches};
 
 use host_net::{CtState, Packet, Prefix};
 
@@ -10,6 +10,22 @@ use host_net::{CtState, Packet, Prefix};
 #[derive(Clone, Copy, Debug, PartialEq, Eq)]
 pub struct AddrMatch {
     pub prefix: Prefix,
+    pub negated: bool,
+}
+
+/// What a rule asks of the protocol of a packet: that it is this one, or that it is another.
+#[derive(Clone, Copy, Debug, PartialEq, Eq)]
+pub struct ProtoMatch {
+    pub proto: u8,
+    pub negated: bool,
+}
+
+/// What a rule asks of a port of a packet: that it lies from `low` to `high`, both included, or that
+/// it does not.
+#[derive(Clone, Copy, Debug, PartialEq, Eq)]
+pub struct PortMatch {
+    pub low: u16,
+    pub high: u16,
     pub negated: bool,
 }
 
@@ -39,6 +55,9 @@ pub enum Target {
 pub struct Rule {
     pub src: Option<AddrMatch>,
     pub dst: Option<AddrMatch>,
+    pub proto: Option<ProtoMatch>,
+    pub sport: Option<PortMatch>,
+    pub dport: Option<PortMatch>,
     pub state: Option<StateMatch>,
     pub target: Target,
 }
@@ -75,10 +94,37 @@ impl Rule {
     pub(crate) fn matches(&self, packet: &Packet, state: CtState) -> bool
         ensures { result ≡ matches packet.now state self.now }
     {
-        address_matches(self.src, packet.src)
+        protocol_matches(self.proto, packet.proto)
+            && port_matches(self.sport, packet.sport)
+            && port_matches(self.dport, packet.dport)
+            && address_matches(self.src, packet.src)
             && address_matches(self.dst, packet.dst)
             && state_matches(self.state, state)
     }
+}
+
+fn protocol_matches(part: Option<ProtoMatch>, proto: u8) -> bool
+    ensures { result ≡ protocol_matches part proto }
+{
+    match part {
+        None => true,
+        Some(asked) => (asked.proto == proto) != asked.negated,
+    }
+}
+
+fn port_matches(part: Option<PortMatch>, port: u16) -> bool
+    ensures { result ≡ port_matches part port }
+{
+    match part {
+        None => true,
+        Some(asked) => lies_in(asked, port) != asked.negated,
+    }
+}
+
+fn lies_in(part: PortMatch, port: u16) -> bool
+    ensures { result ≡ (nat_le part.low port && nat_le port part.high) }
+{
+    part.low <= port && port <= part.high
 }
 
 fn address_matches(part: Option<AddrMatch>, address: u32) -> bool

@@ -1,10 +1,13 @@
 //! The text of a small rule set, and the verdicts of packets, with values worked out by hand.
 
-ghost use Rattle.std.specs.Prelude.{◌≡◌, ◌+◌, ◌<◌, length};
+ghost use Rattle.std.specs.Prelude.{◌≡◌, ◌+◌, ◌<◌, ◌≤◌, None, length, IsTrue};
+ghost use Rattle.host_net.specs.Service.{has_ports};
 ghost use Rattle.ipt_rules.specs.ChainTable.{rule_count};
+ghost use Rattle.ipt_rules.specs.RuleParts.{is_rule};
 
 use crate::{
-    AddrMatch, BuildRefusal, ChainName, Chains, Policy, Rule, Ruleset, StateMatch, Target, Verdict,
+    AddrMatch, BuildRefusal, ChainName, Chains, Policy, PortMatch, ProtoMatch, Rule, Ruleset,
+    StateMatch, Target, Verdict,
 };
 use host_net::{CtState, Packet, Prefix};
 use std::alloc::Global;
@@ -37,6 +40,7 @@ fn add(rt: &impl Abort, chains: &mut Chains, text: &[u8])
 fn push(rt: &impl Abort, chains: &mut Chains, chain: u16, rule: Rule)
     requires there { chain < length chains.old }
     requires room { rule_count chains.old < 100 }
+    requires parts { IsTrue (is_rule rule) }
     ensures length { length chains.new ≡ length chains.old }
     ensures rules { rule_count chains.new ≡ rule_count chains.old + 1 }
 {
@@ -49,13 +53,34 @@ fn rule(
     state: Option<StateMatch>,
     target: Target,
 ) -> Rule
-    ensures { result.target ≡ target }
+    ensures target { result.target ≡ target }
+    ensures ports { (result.sport ≡ None) × (result.dport ≡ None) }
+    ensures parts { IsTrue (is_rule result) }
 {
     Rule {
         src,
         dst,
+        proto: None,
+        sport: None,
+        dport: None,
         state,
         target,
+    }
+}
+
+/// A rule that drops what goes to these ports of a protocol, or what does not.
+fn to_ports(proto: u8, low: u16, high: u16, negated: bool) -> Rule
+    requires protocol { IsTrue (has_ports proto) }
+    requires order { low ≤ high }
+    ensures { IsTrue (is_rule result) }
+{
+    Rule {
+        proto: Some(ProtoMatch {
+            proto,
+            negated: false,
+        }),
+        dport: Some(PortMatch { low, high, negated }),
+        ..rule(None, None, None, Target::Drop)
     }
 }
 
@@ -103,7 +128,7 @@ fn writes_a_pair(rt: HostRuntime) {
     push(&rt, &mut chains, 4, rule(None, None, None, Target::Drop));
     let rules = Ruleset::build(rt.alloc(), chains).expect(&rt, "a rule set");
     assert_eq!(rt; rules.lines(), 12);
-    let mut buffer = [0; 256];
+    let mut buffer = [0; 320];
     for i in 0..rules.lines() {
         let end = rules.write_line(i, &mut buffer);
         assert!(rt;
@@ -232,5 +257,66 @@ fn goes_through_the_chains_by_their_order(rt: HostRuntime) {
     assert_eq!(rt;
         rules.verdict(&packet(1, 2), CtState::New),
         Verdict::Forward
+    );
+}
+
+const SERVICES: [&[u8]; 9] = [
+    b"*filter\n",
+    b":INPUT ACCEPT [0:0]\n",
+    b":FORWARD DROP [0:0]\n",
+    b":OUTPUT ACCEPT [0:0]\n",
+    b"-A FORWARD -p tcp -m tcp --dport 80 -j DROP\n",
+    b"-A FORWARD -p udp -m udp ! --dport 53:60 -j DROP\n",
+    b"-A FORWARD ! -p icmp -j ACCEPT\n",
+    b"-A FORWARD -p 47 -j ACCEPT\n",
+    b"COMMIT\n",
+];
+
+/// Protocols and ports, in their text and on packets.
+#[test]
+fn writes_services(rt: HostRuntime) {
+    let other = Rule {
+        proto: Some(ProtoMatch {
+            proto: 1,
+            negated: true,
+        }),
+        ..rule(None, None, None, Target::Accept)
+    };
+    let tunnel = Rule {
+        proto: Some(ProtoMatch {
+            proto: 47,
+            negated: false,
+        }),
+        ..rule(None, None, None, Target::Accept)
+    };
+    let mut chains = dropping(rt.alloc(), &rt);
+    push(&rt, &mut chains, 1, to_ports(6, 80, 80, false));
+    push(&rt, &mut chains, 1, to_ports(17, 53, 60, true));
+    push(&rt, &mut chains, 1, other);
+    push(&rt, &mut chains, 1, tunnel);
+    let rules = Ruleset::build(rt.alloc(), chains).expect(&rt, "a rule set");
+    assert_eq!(rt; rules.lines(), 9);
+    let mut buffer = [0; 320];
+    for i in 0..rules.lines() {
+        let end = rules.write_line(i, &mut buffer);
+        assert!(rt;
+            SERVICES
+                .get(i as usize)
+                .is_some_and(|line| &buffer[..end] == *line)
+        );
+    }
+    let web = packet(1, 2);
+    assert_eq!(rt; rules.verdict(&web, CtState::New), Verdict::Forward);
+    assert_eq!(rt;
+        rules.verdict(&Packet { dport: 80, ..web }, CtState::New),
+        Verdict::Drop
+    );
+    assert_eq!(rt;
+        rules.verdict(&Packet { proto: 17, ..web }, CtState::New),
+        Verdict::Drop
+    );
+    assert_eq!(rt;
+        rules.verdict(&Packet { proto: 1, ..web }, CtState::New),
+        Verdict::Drop
     );
 }

@@ -1,12 +1,13 @@
 //! The text of a rule set, written line by line into a buffer and without memory.
 
-ghost use Rattle.std.specs.Prelude.{◌≡◌, ◌<◌, ◌≤◌, ◌++◌, ◌∷◌, [], length, take, slice_get, IsNone, Some};
+ghost use Rattle.std.specs.Prelude.{◌≡◌, ◌<◌, ◌≤◌, ◌++◌, ◌∷◌, [], length, take, slice_get, IsNone, IsTrue, Some};
 ghost use Rattle.std.specs.List.{flat_map};
 ghost use Rattle.ipt_rules.specs.Build.{refusal_of};
 ghost use Rattle.ipt_rules.specs.Loops.{HasNoLoop};
 ghost use Rattle.ipt_rules.specs.OneOutcome.{EachGivesOne};
 ghost use Rattle.ipt_rules.specs.Jumps.{JumpsIn, JumpsAreKnown};
 ghost use Rattle.ipt_rules.specs.ChainTable.{IsTable, rule_count};
+ghost use Rattle.ipt_rules.specs.RuleParts.{AreRules, is_rule};
 ghost use Rattle.ipt_rules.specs.Starts.{starts_from};
 ghost use Rattle.ipt_rules.specs.Writable.{IsWritable};
 ghost use Rattle.ipt_rules.specs.Text.{text_lines, table_line, commit_line, chain_line, rule_line, rule_lines};
@@ -15,6 +16,7 @@ use crate::chain::Chain;
 use crate::pieces::{put_address_part, put_policy, put_state_part, put_target};
 use crate::rule::Rule;
 use crate::ruleset::Ruleset;
+use crate::services::put_service;
 use crate::starts::chain_at;
 use text_core::put;
 
@@ -39,10 +41,10 @@ impl Ruleset {
 
     /// Writes line `i` of the text, from 0, with its newline to the front of the buffer, and
     /// answers its length. What the buffer holds after it is left open.
-    pub fn write_line(&self, i: u32, buffer: &mut [u8; 256]) -> usize
+    pub fn write_line(&self, i: u32, buffer: &mut [u8; 320]) -> usize
         requires { i < length (text_lines self.now) }
         ensures line { slice_get (text_lines self.now) i ≡ Some (take result buffer.new) }
-        ensures short { result ≤ 225 }
+        ensures short { result ≤ 283 }
     {
         if i == 0 {
             return write_table_line(buffer);
@@ -56,16 +58,16 @@ impl Ruleset {
     }
 }
 
-fn write_table_line(buffer: &mut [u8; 256]) -> usize
+fn write_table_line(buffer: &mut [u8; 320]) -> usize
     ensures line { take result buffer.new ≡ table_line }
-    ensures short { result ≤ 225 }
+    ensures short { result ≤ 283 }
 {
     put(buffer, 0, b"*filter\n")
 }
 
-fn write_chain_line(chain: &Chain, buffer: &mut [u8; 256]) -> usize
+fn write_chain_line(chain: &Chain, buffer: &mut [u8; 320]) -> usize
     ensures line { take result buffer.new ≡ chain_line chain.now }
-    ensures short { result ≤ 225 }
+    ensures short { result ≤ 283 }
 {
     let colon = put(buffer, 0, b":");
     let name = put(buffer, colon, chain.name());
@@ -80,15 +82,16 @@ fn write_rule_or_commit(
     chains: &[Chain],
     starts: &[u32],
     number: usize,
-    buffer: &mut [u8; 256],
+    buffer: &mut [u8; 320],
 ) -> usize
     requires starts { starts.now ≡ starts_from 0 chains.now }
     requires some { 0 < length chains.now }
     requires few { length chains.now ≤ 4096 }
     requires jumps { JumpsAreKnown chains.now }
+    requires parts { AreRules chains.now }
     requires there { number ≤ rule_count chains.now }
     ensures line { slice_get (flat_map (rule_lines chains.now) chains.now ++ commit_line ∷ []) number ≡ Some (take result buffer.new) }
-    ensures short { result ≤ 225 }
+    ensures short { result ≤ 283 }
 {
     let place = chain_at(starts, number);
     let chain = &chains[place];
@@ -100,24 +103,26 @@ fn write_rule_or_commit(
     write_commit_line(buffer)
 }
 
-fn write_commit_line(buffer: &mut [u8; 256]) -> usize
+fn write_commit_line(buffer: &mut [u8; 320]) -> usize
     ensures line { take result buffer.new ≡ commit_line }
-    ensures short { result ≤ 225 }
+    ensures short { result ≤ 283 }
 {
     put(buffer, 0, b"COMMIT\n")
 }
 
-fn write_rule_line(chains: &[Chain], name: &[u8], rule: Rule, buffer: &mut [u8; 256]) -> usize
+fn write_rule_line(chains: &[Chain], name: &[u8], rule: Rule, buffer: &mut [u8; 320]) -> usize
     requires jump { JumpsIn (length chains.now) rule.target }
     requires name { length name.now ≤ 64 }
+    requires parts { IsTrue (is_rule rule) }
     ensures line { take result buffer.new ≡ rule_line chains.now name.now rule }
-    ensures short { result ≤ 225 }
+    ensures short { result ≤ 283 }
 {
     let command = put(buffer, 0, b"-A ");
     let chain = put(buffer, command, name);
     let src = put_address_part(buffer, chain, b" -s ", rule.src);
     let dst = put_address_part(buffer, src, b" -d ", rule.dst);
-    let state = put_state_part(buffer, dst, rule.state);
+    let service = put_service(buffer, dst, rule);
+    let state = put_state_part(buffer, service, rule.state);
     let target = put_target(buffer, state, chains, rule.target);
     put(buffer, target, b"\n")
 }

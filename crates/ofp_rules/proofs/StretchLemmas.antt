@@ -1,9 +1,10 @@
 -- A search passes over a stretch of which the source does not match, and a table grows by one entry.
 use Rattle.std.proofs.Common.{◌≡◌, inl, inr, ℕ, zero, suc, ◌+◌, ◌-◌, ◌≤◌, Bool, true, false, ◌&&◌, ◌==◌, IsTrue, List, [], ◌∷◌, ◌++◌, Option, Some, None, length, take, drop, slice_get, slice_range, refl, sym, ap, ◌∙◌, subst, arith, length-append, length-drop, get_or, append_assoc, ◌<◌}
 use Rattle.std.proofs.Math.Seq.{take-add}  -- the first n + m: the first n, then the first m of the rest
-use Rattle.std.proofs.lemmas.Bool.{and_parts, and_from}
+use Rattle.std.proofs.lemmas.Bool.{and_parts}
 use Rattle.std.proofs.lemmas.Bool.Decides.{nat_tests}
 use Rattle.std.proofs.lemmas.List.{append-nil, drop-append-le, drop_all, take-append-le, take_more, take_rest}
+use Rattle.host_net.specs.declared.packet.Packet.{Packet}
 use Rattle.host_net.specs.declared.prefix.Prefix.{Prefix}
 use Rattle.host_net.specs.Prefix.{covers}
 use Rattle.ofp_rules.specs.declared.entry.Frame.{Frame}
@@ -11,7 +12,7 @@ use Rattle.ofp_rules.specs.declared.entry.Frame.TheVariants.{Arp, Ipv4, Other}
 use Rattle.ofp_rules.specs.declared.entry.FrameKind.{FrameKind}
 use Rattle.ofp_rules.specs.declared.entry.FrameKind.TheVariants.{Any as OfAny, Arp as OfArp, Ip as OfIp}
 use Rattle.ofp_rules.specs.declared.entry.Entry.{Entry}
-use Rattle.ofp_rules.specs.Matching.{kind_matches, matches, part_matches}
+use Rattle.ofp_rules.specs.Matching.{kind_matches, matches, number_matches, packet_matches, part_matches}
 use Rattle.ofp_rules.specs.Meaning.{IsOneOf}
 use Rattle.ofp_rules.specs.Highest.{FindsMore, IsFound, higher}
 use Rattle.ofp_rules.specs.HighestLaws.{found_more, one_of_front, one_of_parts, with_last}
@@ -31,19 +32,23 @@ same_parts (Some p) (Some q) a same =
 same_parts None (Some q) a same = cc
 same_parts (Some p) None a same = cc
 
+-- the source alone, as what an entry asks of a packet
+abbrev of_source : Option Prefix → Packet → Bool
+of_source s packet = part_matches s packet.src
+
 same_source_by : (k : FrameKind) (s t : Option Prefix) (frame : Frame) → same_part s t ≡ true
-    → kind_matches k s None frame ≡ kind_matches k t None frame
+    → kind_matches k (of_source s) frame ≡ kind_matches k (of_source t) frame
 same_source_by OfAny s t frame same = refl
 same_source_by OfArp s t Arp same = refl
 same_source_by OfArp s t (Ipv4 packet) same = refl
 same_source_by OfArp s t Other same = refl
 same_source_by OfIp s t Arp same = refl
-same_source_by OfIp s t (Ipv4 packet) same = ap (λ (b : Bool). b && true) (same_parts s t packet.src same)
+same_source_by OfIp s t (Ipv4 packet) same = same_parts s t packet.src same
 same_source_by OfIp s t Other same = refl
 
 pub share_source : (e f : Entry) → e.kind ≡ f.kind → same_part e.src f.src ≡ true → ShareSource e f
 share_source e f kind same frame =
-    same_source_by e.kind e.src f.src frame same ∙ ap (λ (k : FrameKind). kind_matches k f.src None frame) kind
+    same_source_by e.kind e.src f.src frame same ∙ ap (λ (k : FrameKind). kind_matches k (of_source f.src) frame) kind
 
 -- the last entry, where it is known by its place
 pub share_last : (entries : List Entry) (last e : Entry) → slice_get entries (length entries - 1) ≡ Some last
@@ -63,20 +68,26 @@ share_none (x ∷ (y ∷ entries)) e none =
 
 -- ---- a stretch is passed over
 
-kind_needs : (k : FrameKind) (s d : Option Prefix) (frame : Frame) → kind_matches k s d frame ≡ true → kind_matches k s None frame ≡ true
-kind_needs OfAny s d frame on = refl
-kind_needs OfArp s d Arp on = refl
-kind_needs OfArp s d (Ipv4 packet) on = on
-kind_needs OfArp s d Other on = on
-kind_needs OfIp s d Arp on = on
-kind_needs OfIp s d (Ipv4 packet) on = and_from _ _ (and_parts (part_matches s packet.src) (part_matches d packet.dst) on).0 refl
-kind_needs OfIp s d Other on = on
+kind_needs : (k : FrameKind) (e : Entry) (frame : Frame) → kind_matches k (packet_matches e) frame ≡ true
+    → kind_matches k (of_source e.src) frame ≡ true
+kind_needs OfAny e frame on = refl
+kind_needs OfArp e Arp on = refl
+kind_needs OfArp e (Ipv4 packet) on = on
+kind_needs OfArp e Other on = on
+kind_needs OfIp e Arp on = on
+kind_needs OfIp e (Ipv4 packet) on =
+    let addresses = part_matches e.src packet.src && part_matches e.dst packet.dst in
+    let one = and_parts (number_matches e.proto packet.proto) (number_matches e.tp_src packet.sport && (number_matches e.tp_dst packet.dport && addresses)) on in
+    let two = and_parts (number_matches e.tp_src packet.sport) (number_matches e.tp_dst packet.dport && addresses) one.1 in
+    let three = and_parts (number_matches e.tp_dst packet.dport) addresses two.1 in
+    (and_parts (part_matches e.src packet.src) (part_matches e.dst packet.dst) three.1).0
+kind_needs OfIp e Other on = on
 
 none_matches : (frame : Frame) (entries : List Entry) (first : Entry) → IsStretch entries → IsOneOf first entries
     → source_matches frame first ≡ false
     → (e : Entry) → IsOneOf e entries → IsTrue (matches frame e) → ⊥
 none_matches frame entries first stretch is off e listed on =
-    let needs : source_matches frame e ≡ true = kind_needs e.kind e.src e.dst frame on in
+    let needs : source_matches frame e ≡ true = kind_needs e.kind e frame on in
     let same : source_matches frame e ≡ source_matches frame first = stretch e first listed is frame in
     cc
 

@@ -8,6 +8,7 @@ pub mod Matching
 pub mod Meeting
 pub mod Meaning
 pub mod Ranges
+pub mod RangesLaws
 pub mod Stretches
 pub mod TableLaws
 pub mod Text

@@ -1,7 +1,9 @@
 -- Which frames an entry of a flow table matches (ovs-fields(7)).
-use Rattle.std.specs.Prelude.{ℕ, Bool, true, false, ◌&&◌, ◌||◌, Option, Some, None, is_some, not}
+use Rattle.std.specs.Prelude.{ℕ, Bool, true, false, ◌&&◌, ◌||◌, ◌==◌, Option, Some, None, is_some, not}
 use Rattle.host_net.specs.declared.prefix.Prefix.{Prefix}
+use Rattle.host_net.specs.declared.packet.Packet.{Packet}
 use Rattle.host_net.specs.Prefix.{covers}
+use Rattle.host_net.specs.Service.{has_ports}
 use Rattle.ofp_rules.specs.declared.entry.Frame.{Frame}
 use Rattle.ofp_rules.specs.declared.entry.Frame.TheVariants.{Arp, Ipv4}
 use Rattle.ofp_rules.specs.declared.entry.FrameKind.{FrameKind}
@@ -13,21 +15,38 @@ abbrev pub part_matches : Option Prefix → ℕ → Bool
 part_matches None address = true
 part_matches (Some prefix) address = covers prefix address
 
--- an entry for any frame matches every frame, one for ARP the ARP frames, and one for IPv4 the IPv4 frames whose addresses its
--- prefixes cover
-abbrev pub kind_matches : FrameKind → Option Prefix → Option Prefix → Frame → Bool
-kind_matches OfAny src dst frame = true
-kind_matches OfArp src dst Arp = true
-kind_matches OfIp src dst (Ipv4 packet) = part_matches src packet.src && part_matches dst packet.dst
-kind_matches _ src dst frame = false
+-- the number is the one that is given; where none is given every number will do
+abbrev pub number_matches : Option ℕ → ℕ → Bool
+number_matches None n = true
+number_matches (Some own) n = own == n
+
+-- the protocol and the ports of the packet are those that the entry gives, and its prefixes cover the addresses
+abbrev pub packet_matches : Entry → Packet → Bool
+packet_matches e packet =
+    number_matches e.proto packet.proto
+    && (number_matches e.tp_src packet.sport
+    && (number_matches e.tp_dst packet.dport && (part_matches e.src packet.src && part_matches e.dst packet.dst)))
+
+-- an entry for any frame matches every frame, one for ARP the ARP frames, and one for IPv4 the IPv4 frames whose packets are as it
+-- asks
+abbrev pub kind_matches : FrameKind → (Packet → Bool) → Frame → Bool
+kind_matches OfAny asked frame = true
+kind_matches OfArp asked Arp = true
+kind_matches OfIp asked (Ipv4 packet) = asked packet
+kind_matches _ asked frame = false
 
 abbrev pub matches : Frame → Entry → Bool
-matches frame e = kind_matches e.kind e.src e.dst frame
+matches frame e = kind_matches e.kind (packet_matches e) frame
 
--- only an entry for IPv4 frames asks for addresses
-abbrev pub kind_asks : FrameKind → Option Prefix → Option Prefix → Bool
-kind_asks OfIp src dst = true
-kind_asks _ src dst = not (is_some src || is_some dst)
+-- only an entry for IPv4 frames asks for addresses or a protocol
+abbrev pub kind_asks : FrameKind → Bool → Bool
+kind_asks OfIp asks = true
+kind_asks _ asks = not asks
+
+-- only beside a protocol that has ports an entry asks for them
+abbrev pub ports_asked : Option ℕ → Bool → Bool
+ports_asked None asks = not asks
+ports_asked (Some proto) asks = has_ports proto || not asks
 
 abbrev pub asks_of_ip : Entry → Bool
-asks_of_ip e = kind_asks e.kind e.src e.dst
+asks_of_ip e = kind_asks e.kind (is_some e.src || (is_some e.dst || is_some e.proto)) && ports_asked e.proto (is_some e.tp_src || is_some e.tp_dst)

@@ -1,5 +1,5 @@
 -- Whether two entries match some one frame, told by their kinds and prefixes. Callers see none of it; they have `Ambiguity`.
-use Rattle.std.specs.Prelude.{ℕ, Bool, true, false, ◌&&◌, Option, Some, None}
+use Rattle.std.specs.Prelude.{ℕ, Bool, true, false, ◌&&◌, ◌==◌, Option, Some, None}
 use Rattle.host_net.specs.declared.prefix.Prefix.{Prefix}
 use Rattle.host_net.specs.Prefix.{meets}
 use Rattle.ofp_rules.specs.declared.entry.FrameKind.{FrameKind}
@@ -25,5 +25,16 @@ kinds_meet Ip Any parts = true
 kinds_meet Ip Arp parts = false
 kinds_meet Ip Ip parts = parts
 
+abbrev pub numbers_meet : Option ℕ → Option ℕ → Bool
+numbers_meet None other = true
+numbers_meet (Some n) None = true
+numbers_meet (Some n) (Some m) = n == m
+
+-- one packet may be as both ask
+abbrev pub packets_meet : Entry → Entry → Bool
+packets_meet e f =
+    numbers_meet e.proto f.proto
+    && (numbers_meet e.tp_src f.tp_src && (numbers_meet e.tp_dst f.tp_dst && (parts_meet e.src f.src && parts_meet e.dst f.dst)))
+
 abbrev pub entries_meet : Entry → Entry → Bool
-entries_meet e f = kinds_meet e.kind f.kind (parts_meet e.src f.src && parts_meet e.dst f.dst)
+entries_meet e f = kinds_meet e.kind f.kind (packets_meet e f)

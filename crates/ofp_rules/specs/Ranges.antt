@@ -1,5 +1,5 @@
--- That the numbers of an entry have room in a frame: 16 bits for a priority, 32 for an address.
-use Rattle.std.specs.Prelude.{◌^◌, Bool, true, ◌&&◌, nat_lt, IsTrue, List, Option, Some, None}
+-- That the numbers of an entry have room: 16 bits for a priority or a port, 32 for an address, 8 for a protocol.
+use Rattle.std.specs.Prelude.{ℕ, ◌^◌, Bool, true, ◌&&◌, nat_lt, IsTrue, List, Option, Some, None}
 use Rattle.std.specs.List.{list_all}
 use Rattle.host_net.specs.declared.prefix.Prefix.{Prefix}
 use Rattle.ofp_rules.specs.declared.entry.Entry.{Entry}
@@ -9,9 +9,16 @@ abbrev pub address_fits : Option Prefix → Bool
 address_fits None = true
 address_fits (Some prefix) = nat_lt prefix.addr (2 ^ 32)
 
--- a priority has 16 bits
+-- a number that is asked for is below a limit
+abbrev pub number_fits : ℕ → Option ℕ → Bool
+number_fits limit None = true
+number_fits limit (Some n) = nat_lt n limit
+
 abbrev pub in_range : Entry → Bool
-in_range e = nat_lt e.priority (2 ^ 16) && (address_fits e.src && address_fits e.dst)
+in_range e =
+    nat_lt e.priority (2 ^ 16)
+    && (number_fits (2 ^ 8) e.proto
+    && (number_fits (2 ^ 16) e.tp_src && (number_fits (2 ^ 16) e.tp_dst && (address_fits e.src && address_fits e.dst))))
 
 abbrev pub AreInRange : List Entry → Type 0
 AreInRange entries = IsTrue (list_all in_range entries)

@@ -4,12 +4,12 @@ use Rattle.std.specs.Prelude.{◌≡◌, ◌≤◌, ◌==◌, ◌&&◌, ℕ, Boo
 use Rattle.host_net.specs.declared.prefix.Prefix.{Prefix}
 use Rattle.ofp_rules.specs.declared.entry.Frame.{Frame}
 use Rattle.ofp_rules.specs.declared.entry.Entry.{Entry}
-use Rattle.ofp_rules.specs.Matching.{kind_matches}
+use Rattle.ofp_rules.specs.Matching.{kind_matches, part_matches}
 use Rattle.ofp_rules.specs.Meaning.{IsOneOf}
 
--- the entry matches the frame, but for its destination
+-- the entry matches the frame, but for what it asks of IPv4 beside the source
 abbrev pub source_matches : Frame → Entry → Bool
-source_matches frame e = kind_matches e.kind e.src None frame
+source_matches frame e = kind_matches e.kind (λ packet. part_matches e.src packet.src) frame
 
 abbrev pub same_part : Option Prefix → Option Prefix → Bool
 same_part None None = true

@@ -1,7 +1,7 @@
 //! One entry of a flow table, the frames, and which of them it matches.
 
 ghost use Rattle.std.specs.Prelude.{◌≡◌, IsTrue};
-ghost use Rattle.ofp_rules.specs.Matching.{kind_matches, matches, part_matches};
+ghost use Rattle.ofp_rules.specs.Matching.{matches, number_matches, packet_matches, part_matches};
 ghost use Rattle.ofp_rules.specs.Stretches.{ShareSource, same_part, source_matches};
 
 use host_net::{Packet, Prefix};
@@ -29,13 +29,17 @@ pub enum Action {
     Drop,
 }
 
-/// An entry matches a frame of its kind whose addresses its prefixes cover, where they are given.
+/// An entry matches a frame of its kind whose addresses its prefixes cover, and whose protocol and
+/// ports are its own, each where it is given.
 #[derive(Clone, Copy, Debug, PartialEq, Eq)]
 pub struct Entry {
     pub priority: u16,
     pub kind: FrameKind,
     pub src: Option<Prefix>,
     pub dst: Option<Prefix>,
+    pub proto: Option<u8>,
+    pub tp_src: Option<u16>,
+    pub tp_dst: Option<u16>,
     pub action: Action,
 }
 
@@ -43,17 +47,27 @@ impl Entry {
     pub(crate) fn matches(&self, frame: &Frame) -> bool
         ensures { result ≡ matches frame.now self.now }
     {
-        kind_matches(self.kind, self.src, self.dst, *frame)
+        match (self.kind, *frame) {
+            (FrameKind::Any, _) => true,
+            (FrameKind::Arp, Frame::Arp) => true,
+            (FrameKind::Ip, Frame::Ipv4(packet)) => packet_matches(*self, packet),
+            _ => false,
+        }
     }
 
-    /// Whether it matches the frame, but for its destination.
+    /// Whether it matches the frame, but for what it asks of IPv4 beside the source.
     pub(crate) fn source_matches(&self, frame: &Frame) -> bool
         ensures { result ≡ source_matches frame.now self.now }
     {
-        kind_matches(self.kind, self.src, None, *frame)
+        match (self.kind, *frame) {
+            (FrameKind::Any, _) => true,
+            (FrameKind::Arp, Frame::Arp) => true,
+            (FrameKind::Ip, Frame::Ipv4(packet)) => part_matches(self.src, packet.src),
+            _ => false,
+        }
     }
 
-    /// Whether the two match the same frames, but for their destinations.
+    /// Whether the two match the same frames, but for what they ask of IPv4 beside the source.
     #[tactic(auto, using(crate::proofs::StretchLemmas::share_source))]
     pub(crate) fn shares_source(&self, other: &Entry) -> bool
         ensures { IsTrue result → ShareSource self.now other.now }
@@ -62,16 +76,31 @@ impl Entry {
     }
 }
 
-fn kind_matches(kind: FrameKind, src: Option<Prefix>, dst: Option<Prefix>, frame: Frame) -> bool
-    ensures { result ≡ kind_matches kind src dst frame }
+fn packet_matches(entry: Entry, packet: Packet) -> bool
+    ensures { result ≡ packet_matches entry packet }
 {
-    match (kind, frame) {
-        (FrameKind::Any, _) => true,
-        (FrameKind::Arp, Frame::Arp) => true,
-        (FrameKind::Ip, Frame::Ipv4(packet)) => {
-            part_matches(src, packet.src) && part_matches(dst, packet.dst)
-        }
-        _ => false,
+    protocol_matches(entry.proto, packet.proto)
+        && port_matches(entry.tp_src, packet.sport)
+        && port_matches(entry.tp_dst, packet.dport)
+        && part_matches(entry.src, packet.src)
+        && part_matches(entry.dst, packet.dst)
+}
+
+fn protocol_matches(part: Option<u8>, proto: u8) -> bool
+    ensures { result ≡ number_matches part proto }
+{
+    match part {
+        None => true,
+        Some(own) => own == proto,
+    }
+}
+
+fn port_matches(part: Option<u16>, port: u16) -> bool
+    ensures { result ≡ number_matches part port }
+{
+    match part {
+        None => true,
+        Some(own) => own == port,
     }
 }
 

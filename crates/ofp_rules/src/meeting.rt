@@ -1,8 +1,9 @@
 //! Which two entries contradict each other.
 
-ghost use Rattle.std.specs.Prelude.{◌≡◌, ◌↔◌, ◌<◌, ◌^◌, IsTrue};
+ghost use Rattle.std.specs.Prelude.{◌≡◌, ◌↔◌, IsTrue};
 ghost use Rattle.ofp_rules.specs.Ambiguity.{Contradict, MatchOneFrame};
-ghost use Rattle.ofp_rules.specs.Meeting.{address_in, entries_meet, kinds_meet, parts_meet};
+ghost use Rattle.ofp_rules.specs.Meeting.{entries_meet, kinds_meet, numbers_meet, packets_meet, parts_meet};
+ghost use Rattle.ofp_rules.specs.Ranges.{in_range};
 
 use crate::entry::{Entry, FrameKind};
 use host_net::Prefix;
@@ -25,12 +26,20 @@ impl Entry {
 
 fn entries_meet(entry: Entry, other: Entry) -> bool
     ensures exact { result ≡ entries_meet entry other }
-    ensures src { (address_in entry.src < 2 ^ 32) × (address_in other.src < 2 ^ 32) }
-    ensures dst { (address_in entry.dst < 2 ^ 32) × (address_in other.dst < 2 ^ 32) }
+    ensures entry { IsTrue (in_range entry) }
+    ensures other { IsTrue (in_range other) }
 {
-    let src = parts_meet(entry.src, other.src);
-    let dst = parts_meet(entry.dst, other.dst);
-    kinds_meet(entry.kind, other.kind, src && dst)
+    kinds_meet(entry.kind, other.kind, packets_meet(entry, other))
+}
+
+fn packets_meet(entry: Entry, other: Entry) -> bool
+    ensures { result ≡ packets_meet entry other }
+{
+    protocols_meet(entry.proto, other.proto)
+        && ports_meet(entry.tp_src, other.tp_src)
+        && ports_meet(entry.tp_dst, other.tp_dst)
+        && parts_meet(entry.src, other.src)
+        && parts_meet(entry.dst, other.dst)
 }
 
 fn kinds_meet(kind: FrameKind, other: FrameKind, parts: bool) -> bool
@@ -45,11 +54,28 @@ fn kinds_meet(kind: FrameKind, other: FrameKind, parts: bool) -> bool
 }
 
 fn parts_meet(part: Option<Prefix>, other: Option<Prefix>) -> bool
-    ensures exact { result ≡ parts_meet part other }
-    ensures fits { (address_in part < 2 ^ 32) × (address_in other < 2 ^ 32) }
+    ensures { result ≡ parts_meet part other }
 {
     match (part, other) {
         (Some(p), Some(q)) => p.meets(&q),
+        _ => true,
+    }
+}
+
+fn protocols_meet(proto: Option<u8>, other: Option<u8>) -> bool
+    ensures { result ≡ numbers_meet proto other }
+{
+    match (proto, other) {
+        (Some(p), Some(q)) => p == q,
+        _ => true,
+    }
+}
+
+fn ports_meet(port: Option<u16>, other: Option<u16>) -> bool
+    ensures { result ≡ numbers_meet port other }
+{
+    match (port, other) {
+        (Some(p), Some(q)) => p == q,
         _ => true,
     }
 }

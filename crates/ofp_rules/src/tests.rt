@@ -1,7 +1,8 @@
 //! The text of a small table, verdicts, and refusals, with values worked out by hand.
 
-ghost use Rattle.std.specs.Prelude.{◌≡◌, ◌<◌, ◌^◌, length, IsTrue};
+ghost use Rattle.std.specs.Prelude.{◌≡◌, ◌<◌, ◌^◌, length, IsTrue, None};
 ghost use Rattle.std.specs.List.{list_all};
+ghost use Rattle.host_net.specs.Service.{has_ports};
 ghost use Rattle.ofp_rules.specs.Matching.{asks_of_ip};
 
 use crate::{Action, Entry, Frame, FrameKind, Table, TableRefusal};
@@ -10,13 +11,18 @@ use std::alloc::Global;
 use std::process::Abort;
 
 fn ip(priority: u16, src: Option<Prefix>, dst: Option<Prefix>, action: Action) -> Entry
-    ensures { IsTrue (asks_of_ip result) }
+    ensures asks { IsTrue (asks_of_ip result) }
+    ensures kind { result.kind ≡ FrameKind.Ip }
+    ensures ports { (result.tp_src ≡ None) × (result.tp_dst ≡ None) }
 {
     Entry {
         priority,
         kind: FrameKind::Ip,
         src,
         dst,
+        proto: None,
+        tp_src: None,
+        tp_dst: None,
         action,
     }
 }
@@ -29,7 +35,23 @@ fn of(priority: u16, kind: FrameKind, action: Action) -> Entry
         kind,
         src: None,
         dst: None,
+        proto: None,
+        tp_src: None,
+        tp_dst: None,
         action,
+    }
+}
+
+// The entry, to a port of a protocol.
+fn to_port(entry: Entry, proto: u8, port: u16) -> Entry
+    requires kind { entry.kind ≡ FrameKind.Ip }
+    requires ports { IsTrue (has_ports proto) }
+    ensures { IsTrue (asks_of_ip result) }
+{
+    Entry {
+        proto: Some(proto),
+        tp_dst: Some(port),
+        ..entry
     }
 }
 
@@ -141,4 +163,69 @@ fn entries_of_several_sources(rt: HostRuntime) {
     assert_eq!(rt; table.verdict(&Frame::Ipv4(packet)), Verdict::Forward);
     assert_eq!(rt; table.verdict(&Frame::Ipv4(packet.swap())), Verdict::Drop);
     assert_eq!(rt; table.verdict(&Frame::Arp), Verdict::Drop);
+}
+
+// Entries for one port, for a protocol without a field of its own, and for all else.
+#[test]
+fn entries_of_services(rt: HostRuntime) {
+    let web = to_port(
+        ip(40, None, read_prefix(b"10.0.0.2"), Action::Normal),
+        6,
+        80,
+    );
+    let tunnel = Entry {
+        proto: Some(47),
+        ..ip(40, None, None, Action::Drop)
+    };
+    let rest = of(0, FrameKind::Any, Action::Drop);
+    let Ok(table) = three(&rt, rt.alloc(), web, tunnel, rest) else {
+        panic!(rt; "a table");
+    };
+    assert!(rt; table.lines() == 3);
+    let mut buffer = [0; 256];
+    let end = table.write_line(0, &mut buffer);
+    assert!(rt;
+        &buffer[..end]
+            == b"priority=40,tcp,nw_dst=10.0.0.2/32,tp_dst=80,actions=NORMAL\n".as_slice()
+    );
+    let end = table.write_line(1, &mut buffer);
+    assert!(rt; &buffer[..end] == b"priority=40,ip,nw_proto=47,actions=drop\n".as_slice());
+    let packet = Packet {
+        src: 167772161,
+        dst: 167772162,
+        proto: 6,
+        sport: 40000,
+        dport: 80,
+    };
+    assert_eq!(rt; table.verdict(&Frame::Ipv4(packet)), Verdict::Forward);
+    assert_eq!(rt;
+        table.verdict(&Frame::Ipv4(Packet {
+            dport: 81,
+            ..packet
+        })),
+        Verdict::Drop
+    );
+    assert_eq!(rt;
+        table.verdict(&Frame::Ipv4(Packet {
+            proto: 17,
+            ..packet
+        })),
+        Verdict::Drop
+    );
+}
+
+#[test]
+fn ambiguous_services(rt: HostRuntime) {
+    let all = ip(10, None, None, Action::Normal);
+    let web = to_port(ip(10, None, None, Action::Drop), 6, 80);
+    let names = to_port(ip(10, None, None, Action::Normal), 17, 80);
+    let other = to_port(ip(10, None, None, Action::Normal), 6, 81);
+    assert_eq!(rt;
+        three(&rt, rt.alloc(), names, web, all).err(),
+        Some(TableRefusal::Ambiguous {
+            first: 1,
+            second: 2
+        })
+    );
+    assert!(rt; three(&rt, rt.alloc(), names, web, other).is_ok());
 }

@@ -2,8 +2,9 @@ use Rattle.std.proofs.Common.{◌≡◌, ◌+◌, ◌-◌, ◌<◌, ◌≤◌, s
 use Rattle.std.specs.List.Sorted.{IsNonDecreasingBy}
 use Rattle.std.proofs.lemmas.Bool.{cases_lt}
 use Rattle.ipt_rules.specs.ChainTable.{rule_count}
+use Rattle.ipt_rules.specs.RuleParts.{is_rule}
 use Rattle.ipt_rules.specs.Text.{rule_line}
-use Rattle.ipt_rules.proofs.TextLemmas.{rule_there, rule_later, commit_there, jump_in, rest_lines}
+use Rattle.ipt_rules.proofs.TextLemmas.{rule_there, rule_later, commit_there, jump_in, rest_lines, rule_in}
 use Rattle.ipt_rules.proofs.BuildLemmas.{rules_left}
 use Rattle.ipt_rules.proofs.StartLemmas.{length-starts, start_at, starts_rise, count_next, count_split, begins, line_from}
 use Rattle.ipt_rules.proofs.text.write_rule_or_commit.Goals as goal
@@ -33,6 +34,11 @@ offset_bounds-chains-place c =
 pub write_rule_line-requires-clause-jump : goal.write_rule_line-requires-clause-jump
 write_rule_line-requires-clause-jump c =
     jump_in c.args.chains.now c.chain_at-place.result c.index-chains-place.result c.rules-rules.result.now (c.args.number - get_or c.args.starts.now c.chain_at-place.result 0) c.index-rules-left.result c.requires.jumps
+    (omega (arith, c.chain_at-place.ensures.there, ap length c.requires.starts, length-starts 0 c.args.chains.now)) c.index-chains-place.is c.rules-rules.ensures c.if-left-rules.true c.index-rules-left.is
+
+pub write_rule_line-requires-clause-parts : goal.write_rule_line-requires-clause-parts
+write_rule_line-requires-clause-parts c =
+    rule_in is_rule c.args.chains.now c.chain_at-place.result c.index-chains-place.result c.rules-rules.result.now (c.args.number - get_or c.args.starts.now c.chain_at-place.result 0) c.index-rules-left.result c.requires.parts
     (omega (arith, c.chain_at-place.ensures.there, ap length c.requires.starts, length-starts 0 c.args.chains.now)) c.index-chains-place.is c.rules-rules.ensures c.if-left-rules.true c.index-rules-left.is
 
 pub returns-then-left-rules-clause-line : goal.returns-then-left-rules-clause-line

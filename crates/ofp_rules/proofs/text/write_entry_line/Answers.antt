@@ -1,4 +1,5 @@
 use Rattle.std.proofs.Common.{◌≡◌, take, append_assoc, arith}
+use Rattle.std.proofs.lemmas.Bool.Decides.{nat_tests}
 use Rattle.text_core.specs.Line.{cut}
 use Rattle.ofp_rules.specs.Text.{entry_line}
 use Rattle.text_core.specs.LineLaws.{IsWhole, cut_cut, put_whole}
@@ -11,6 +12,8 @@ put_all c =
     rw (
       c.put.ensures.text,
       c.put_action-action.ensures.text,
+      c.put_port-target.ensures.text,
+      c.put_port-source.ensures.text,
       c.put_part-dst.ensures.text,
       c.put_part-src.ensures.text,
       c.put_kind-kind.ensures.text,
@@ -19,10 +22,10 @@ put_all c =
       c.put-name.ensures.text,
     ) (simp (cut_cut, append_assoc))
 
-done : (c : goal.After-put) → IsWhole 86 c.put.new.buffer (entry_line c.args.entry) c.put.result
+done : (c : goal.After-put) → IsWhole 124 c.put.new.buffer (entry_line c.args.entry) c.put.result
 done c =
-    put_whole 256 86 c.put.new.buffer (entry_line c.args.entry) c.put.result c.put.array_long c.put.ensures.within (omega arith)
-    (entry_line_short c.args.entry (omega arith)) (put_all c)
+    put_whole 256 124 c.put.new.buffer (entry_line c.args.entry) c.put.result c.put.array_long c.put.ensures.within (omega arith)
+    (entry_line_short c.args.entry (grind (arith, nat_tests))) (put_all c)
 
 pub returns-clause-line : goal.returns-clause-line
 returns-clause-line c = (done c).same

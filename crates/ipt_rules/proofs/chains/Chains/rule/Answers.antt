@@ -18,7 +18,7 @@ fit c = c.push.ensures.fits
 
 pub invariant_of-self-2 : goal.invariant_of-self-2
 invariant_of-self-2 c =
-    rw (changed c) (IsChainList-with_rule c.self.inside.chains.items c.self.inside.rules c.args.chain c.args.rule (there c) (fit c) c.self.invariant)
+    rw (changed c) (IsChainList-with_rule c.self.inside.chains.items c.self.inside.rules c.args.chain c.args.rule (there c) (fit c) c.requires.parts c.self.invariant)
 
 pub returns-clause-ok : goal.returns-clause-ok
 returns-clause-ok c = rw (← c.self.view_is) (changed c)

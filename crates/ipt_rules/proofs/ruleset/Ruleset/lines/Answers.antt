@@ -37,4 +37,5 @@ returns-clause-writable c = subst IsWritable c.self.view_is (record {
   accepted = none_is _ c.self.invariant.accepted;
   no_loop = no_loop_in_order c.self.inside.chains.items c.self.inside.ranking.order.items c.self.inside.ranking.places.items c.self.invariant.ranking;
   addresses = c.self.invariant.list.addresses;
+  parts = c.self.invariant.list.parts;
 })

@@ -1,0 +1,7 @@
+use Rattle.std.proofs.Common.{append_assoc}
+use Rattle.text_core.specs.LineLaws.{cut_cut}
+use Rattle.ipt_rules.proofs.services.put_module.Goals as goal
+
+pub returns-in-Some-clause-text : goal.returns-in-Some-clause-text
+returns-in-Some-clause-text c =
+    rw (c.in-Some.is, c.if-ports.true, c.put_protocol.ensures.text, c.put-option.ensures.text) (simp (cut_cut, append_assoc))

@@ -1,0 +1,7 @@
+use Rattle.std.proofs.Common.{append_assoc}
+use Rattle.text_core.specs.LineLaws.{cut_cut}
+use Rattle.ipt_rules.proofs.services.put_port_part.Goals as goal
+
+pub returns-in-Some-clause-text : goal.returns-in-Some-clause-text
+returns-in-Some-clause-text c =
+    rw (c.in-Some.is, c.put_ports.ensures.text, c.put-option.ensures.text, c.put_negation-mark.ensures.text) (simp (cut_cut, append_assoc))
