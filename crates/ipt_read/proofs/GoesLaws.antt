@@ -16,9 +16,10 @@ use Rattle.ipt_rules.specs.Chain.{Chain, number_of, user_chain, changed_at, with
 use Rattle.ipt_rules.specs.ChainTable.{rule_count}
 use Rattle.ipt_read.specs.declared.option.Given.{Given}
 use Rattle.ipt_read.specs.declared.option.Opt.{Opt}
-use Rattle.ipt_read.specs.declared.option.Opt.TheVariants.{Source, Destination, Interface, Module, CtState, State, Comment, Jump as JumpOption, RejectWith, LogPrefix, LogLevel}
+use Rattle.ipt_read.specs.declared.option.Opt.TheVariants.{Source, Destination, Protocol, SourcePort, DestinationPort, Interface, Module, CtState, State, Comment, Jump as JumpOption, RejectWith, LogPrefix, LogLevel}
 use Rattle.ipt_read.specs.declared.option.Place.{Place}
-use Rattle.ipt_read.specs.Options.{with_value, with_module, states_of, text_of, target_of, jump_to, nothing_given, target_by}
+use Rattle.ipt_read.specs.Options.{with_value, is_own_module, with_module, states_of, text_of, target_of, jump_to, nothing_given, target_by}
+use Rattle.ipt_read.specs.ServiceValues.{asked_protocol, asked_ports}
 use Rattle.ipt_read.specs.Grammar.{IsValue, one_word, text, IsPiece, plain, turned, ArePieces, none_left, one_more, IsRuleLine}
 use Rattle.ipt_read.specs.Goes.{Goes, AllGo, EachGoes}
 use Rattle.ipt_read.proofs.WithinLaws.{number_of_within}
@@ -115,9 +116,12 @@ module_goes n given now word h goes = elim (if_parts (bytes_eq word (codes "conn
   | inl yes' ↦ let e : record given { conntrack = true } ≡ now = cc in subst (λ (g : Given). TargetGoes n g.target) e goes
   | inr a ↦ elim (if_parts (bytes_eq word (codes "state")) (Some (record given { states = true })) _ (Some now) a.1) [
     | inl yes' ↦ let e : record given { states = true } ≡ now = cc in subst (λ (g : Given). TargetGoes n g.target) e goes
-    | inr b ↦ elim (if_parts (bytes_eq word (codes "comment")) (Some (record given { comments = true })) None (Some now) b.1) [
+    | inr b ↦ elim (if_parts (bytes_eq word (codes "comment")) (Some (record given { comments = true })) _ (Some now) b.1) [
       | inl yes' ↦ let e : record given { comments = true } ≡ now = cc in subst (λ (g : Given). TargetGoes n g.target) e goes
-      | inr bad ↦ cc
+      | inr d ↦ elim (if_parts (is_own_module given.proto word) (Some (record given { ports = true })) None (Some now) d.1) [
+        | inl yes' ↦ let e : record given { ports = true } ≡ now = cc in subst (λ (g : Given). TargetGoes n g.target) e goes
+        | inr bad ↦ cc
+      ]
     ]
   ]
 ]
@@ -129,6 +133,9 @@ value_goes : (chains : List Chain) (given : Given) (o : Opt) (negated : Bool) (w
 unfolding with_value
 value_goes chains given Source negated word now h goes = pair_goes (length chains) _ (prefix_of word) now (λ x e. goes) h
 value_goes chains given Destination negated word now h goes = pair_goes (length chains) _ (prefix_of word) now (λ x e. goes) h
+value_goes chains given Protocol negated word now h goes = pair_goes (length chains) _ (asked_protocol word) now (λ x e. goes) h
+value_goes chains given SourcePort negated word now h goes = pair_goes (length chains) _ (asked_ports word) now (λ x e. goes) h
+value_goes chains given DestinationPort negated word now h goes = pair_goes (length chains) _ (asked_ports word) now (λ x e. goes) h
 value_goes chains given Interface negated word now h goes = cc
 value_goes chains given Module negated word now h goes = pair_goes (length chains) _ (with_module given word) now (λ x e. module_goes (length chains) given x word e goes) h
 value_goes chains given CtState negated word now h goes = pair_goes (length chains) _ (states_of word) now (λ x e. goes) h

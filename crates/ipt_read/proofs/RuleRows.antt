@@ -14,10 +14,10 @@ use Rattle.ipt_read.specs.Counts.{is_count}
 use Rattle.ipt_read.specs.RuleLine.{is_bang, word_step, rule_line_of}
 
 -- the built-in chains and a chain `x`
-abbrev chains : List Chain
+abbrev pub chains : List Chain
 chains = built_in_chains ++ (user_chain (codes "x") ∷ [])
 
-abbrev row : List ℕ → Result (ℕ × Rule) IptWhy
+abbrev pub row : List ℕ → Result (ℕ × Rule) IptWhy
 row line = rule_line_of chains (words line)
 
 row_chain_missing : row (codes "-A") ≡ Err BadLine
@@ -136,10 +136,6 @@ row_module_none : row (codes "-A FORWARD -m") ≡ Err BadValue
 unfolding rule_line_of is_count word_step is_bang option_of with_value text_of is_state states_of target_of with_module prefix_of address_of number bounded_value
 row_module_none = refl
 
-row_protocol : row (codes "-A FORWARD -p tcp") ≡ Err UnknownOption
-unfolding rule_line_of is_count word_step is_bang option_of with_value text_of is_state states_of target_of with_module prefix_of address_of number bounded_value
-row_protocol = refl
-
 row_target_built_in : row (codes "-A FORWARD -j INPUT") ≡ Err UnknownTarget
 unfolding rule_line_of is_count word_step is_bang option_of with_value text_of is_state states_of target_of with_module prefix_of address_of number bounded_value
 row_target_built_in = refl
@@ -188,26 +184,26 @@ row_log_else : row (codes "-A FORWARD -j LOG --log-prefix a --log-level 4 -s") �
 unfolding rule_line_of is_count word_step is_bang option_of with_value text_of is_state states_of target_of with_module prefix_of address_of number bounded_value
 row_log_else = refl
 
-row_accepts : row (codes "-A FORWARD") ≡ Ok (1, record { src = None; dst = None; state = None; target = Count })
+row_accepts : row (codes "-A FORWARD") ≡ Ok (1, record { src = None; dst = None; proto = None; sport = None; dport = None; state = None; target = Count })
 unfolding rule_line_of is_count word_step is_bang option_of with_value text_of is_state states_of target_of with_module prefix_of address_of number bounded_value
 row_accepts = refl
 
-row_jumps : row (codes "[4:240] -A FORWARD -s 192.168.1.0/24 -m comment --comment \"from the office\" -j x") ≡ Ok (1, record { src = Some (record { prefix = prefix_with 3232235776 24; negated = false }); dst = None; state = None; target = Jump 3 })
+row_jumps : row (codes "[4:240] -A FORWARD -s 192.168.1.0/24 -m comment --comment \"from the office\" -j x") ≡ Ok (1, record { src = Some (record { prefix = prefix_with 3232235776 24; negated = false }); dst = None; proto = None; sport = None; dport = None; state = None; target = Jump 3 })
 unfolding rule_line_of is_count word_step is_bang option_of with_value text_of is_state states_of target_of with_module prefix_of address_of number bounded_value
 row_jumps = refl
 
-row_states : row (codes "-A FORWARD ! -d 10.0.0.1 -m conntrack ! --ctstate RELATED,ESTABLISHED -j REJECT --reject-with icmp-port-unreachable") ≡ Ok (1, record { src = None; dst = Some (record { prefix = prefix_with 167772161 32; negated = true }); state = Some (record { new = false; established = true; negated = true }); target = Reject })
+row_states : row (codes "-A FORWARD ! -d 10.0.0.1 -m conntrack ! --ctstate RELATED,ESTABLISHED -j REJECT --reject-with icmp-port-unreachable") ≡ Ok (1, record { src = None; dst = Some (record { prefix = prefix_with 167772161 32; negated = true }); proto = None; sport = None; dport = None; state = Some (record { new = false; established = true; negated = true }); target = Reject })
 unfolding rule_line_of is_count word_step is_bang option_of with_value text_of is_state states_of target_of with_module prefix_of address_of number bounded_value
 row_states = refl
 
-row_comment_twice : row (codes "-A x -m comment --comment a --comment a\"b -j LOG --log-prefix \"a b\" --log-level 4") ≡ Ok (3, record { src = None; dst = None; state = None; target = Count })
+row_comment_twice : row (codes "-A x -m comment --comment a --comment a\"b -j LOG --log-prefix \"a b\" --log-level 4") ≡ Ok (3, record { src = None; dst = None; proto = None; sport = None; dport = None; state = None; target = Count })
 unfolding rule_line_of is_count word_step is_bang option_of with_value text_of is_state states_of target_of with_module prefix_of address_of number bounded_value
 row_comment_twice = refl
 
-row_own_chain : row (codes "-A x -j x") ≡ Ok (3, record { src = None; dst = None; state = None; target = Jump 3 })
+row_own_chain : row (codes "-A x -j x") ≡ Ok (3, record { src = None; dst = None; proto = None; sport = None; dport = None; state = None; target = Jump 3 })
 unfolding rule_line_of is_count word_step is_bang option_of with_value text_of is_state states_of target_of with_module prefix_of address_of number bounded_value
 row_own_chain = refl
 
-row_zeros : row (codes "[00:007] -A INPUT -m state --state INVALID -j RETURN") ≡ Ok (0, record { src = None; dst = None; state = Some (record { new = false; established = false; negated = false }); target = Return })
+row_zeros : row (codes "[00:007] -A INPUT -m state --state INVALID -j RETURN") ≡ Ok (0, record { src = None; dst = None; proto = None; sport = None; dport = None; state = Some (record { new = false; established = false; negated = false }); target = Return })
 unfolding rule_line_of is_count word_step is_bang option_of with_value text_of is_state states_of target_of with_module prefix_of address_of number bounded_value
 row_zeros = refl

@@ -10,8 +10,11 @@ use Rattle.ipt_read.specs.declared.fault.IptWhy.{IptWhy}
 use Rattle.ipt_read.specs.declared.fault.IptWhy.TheVariants.{BadLine}
 use Rattle.ipt_read.specs.declared.option.Given.{Given}
 use Rattle.ipt_read.specs.declared.option.Place.TheVariants.{AtOption}
+use Rattle.ipt_rules.specs.RuleParts.{is_rule}
 use Rattle.ipt_read.specs.Counts.{is_count}
+use Rattle.ipt_read.specs.LineLaws.{rule_line_of_read}
 use Rattle.ipt_read.specs.Options.{nothing_given, rule_of}
+use Rattle.ipt_read.specs.PartLaws.{line_is_rule}
 use Rattle.ipt_read.specs.RuleLine.{goes_on, word_by_word, rule_in, append_of, rule_line_of}
 
 within_first : (t : Bool) (i c n : ℕ) (r : Option ℕ) → (r ≡ Some c → c < i + 1 + n) → cond t (Some i) r ≡ Some c → c < i + (n + 1)
@@ -55,3 +58,7 @@ rule_line_within chains (w ∷ ws) k rule h = elim (if_parts (begins_with 91 w) 
     | inr bad ↦ cc
   ]
 ]
+
+-- a rule that is read asks for protocols and ports as rules may
+pub rule_line_is : (chains : List Chain) (ws : List (List ℕ)) (k : ℕ) (rule : Rule) → rule_line_of chains ws ≡ Ok (k, rule) → is_rule rule ≡ true
+rule_line_is chains ws k rule h = line_is_rule chains ws k rule (rule_line_of_read chains ws k rule h)

@@ -1,6 +1,6 @@
 -- What the lines of a text need to be read again, from what holds of every rule set.
 use Rattle.std.proofs.Common.{◌≡◌, ◌<◌, ◌≤◌, ◌^◌, ◌+◌, ℕ, refl, Bool, true, false, cond, List, [], ◌∷◌, Option, Some, None, length, arith}
-use Rattle.std.specs.Prelude.{IfSome}
+use Rattle.std.specs.Prelude.{IfSome, IsTrue}
 use Rattle.std.specs.List.{list_all, position_from}
 use Rattle.std.proofs.lemmas.Bool.{and_parts}
 use Rattle.std.proofs.lemmas.Bool.Decides.{nat_tests}
@@ -14,6 +14,7 @@ use Rattle.ipt_rules.specs.Chain.{Chain}
 use Rattle.ipt_rules.specs.ChainTable.{IsTable, rule_count}
 use Rattle.ipt_rules.specs.Loops.{HasNoLoop}
 use Rattle.ipt_rules.specs.Addresses.{address_fits, addresses_fit}
+use Rattle.ipt_rules.specs.RuleParts.{is_rule, AreRules}
 use Rattle.ipt_rules.specs.Writable.{IsWritable}
 use Rattle.ipt_read.specs.Goes.{Goes}
 
@@ -23,13 +24,14 @@ AddressFits o = IfSome o (λ part. part.prefix.addr < 2 ^ 32)
 
 abbrev pub RulesAreFine : ℕ → List Rule → Type 0
 RulesAreFine count [] = Unit {0}
-RulesAreFine count (r ∷ rs) = AddressFits r.src × AddressFits r.dst × Goes count r.target × RulesAreFine count rs
+RulesAreFine count (r ∷ rs) = AddressFits r.src × AddressFits r.dst × Goes count r.target × IsTrue (is_rule r) × RulesAreFine count rs
 
 abbrev pub ChainsAreFine : ℕ → List Chain → Type 0
 ChainsAreFine count [] = Unit {0}
 ChainsAreFine count (x ∷ xs) = RulesAreFine count x.rules × ChainsAreFine count xs
 
--- a table within the limits, whose addresses have 32 bits and whose jumps go to user chains and never back
+-- a table within the limits, whose rules ask for what rules may, whose addresses have 32 bits and whose jumps go to user chains
+-- and never back
 pub record HasFineRules (all : List Chain) : Type 0 where
   pub named : IsTable all
   pub few_chains : length all ≤ 4096
@@ -59,24 +61,26 @@ known_first : (b : Bool) (i : ℕ) (o : Option ℕ) → cond b (Some i) o ≡ No
 known_first true i o h = cc
 known_first false i o h = (refl, h)
 
-rules_fine : (count i : ℕ) (rs : List Rule) → position_from (λ r. jumps_nowhere count r.target) i rs ≡ None → list_all addresses_fit rs ≡ true → RulesAreFine count rs
-rules_fine count i [] known fit = tt
-rules_fine count i (r ∷ rs) known fit =
+rules_fine : (count i : ℕ) (rs : List Rule) → position_from (λ r. jumps_nowhere count r.target) i rs ≡ None → list_all addresses_fit rs ≡ true → list_all is_rule rs ≡ true → RulesAreFine count rs
+rules_fine count i [] known fit parts = tt
+rules_fine count i (r ∷ rs) known fit parts =
+    let are = and_parts (is_rule r) (list_all is_rule rs) parts in
     let here = known_first (jumps_nowhere count r.target) i (position_from (λ s. jumps_nowhere count s.target) (i + 1) rs) known in
     let fits = and_parts (addresses_fit r) (list_all addresses_fit rs) fit in
     let both = and_parts (address_fits r.src) (address_fits r.dst) fits.0 in
-    (fits_by r.src both.0, fits_by r.dst both.1, goes_by count r.target here.0, rules_fine count (i + 1) rs here.1 fits.1)
+    (fits_by r.src both.0, fits_by r.dst both.1, goes_by count r.target here.0, are.0, rules_fine count (i + 1) rs here.1 fits.1 are.1)
 
 none_at : (n : ℕ) (o : Option ℕ) (others : Option BuildRefusal) → unknown_at n o others ≡ None → (o ≡ None) × (others ≡ None)
 none_at n None others h = (refl, h)
 none_at n (Some k) others h = cc
 
-chains_fine : (count n : ℕ) (xs : List Chain) → first_unknown count n xs ≡ None → list_all (λ x. list_all addresses_fit x.rules) xs ≡ true → ChainsAreFine count xs
-chains_fine count n [] known fit = tt
-chains_fine count n (x ∷ xs) known fit =
+chains_fine : (count n : ℕ) (xs : List Chain) → first_unknown count n xs ≡ None → list_all (λ x. list_all addresses_fit x.rules) xs ≡ true → AreRules xs → ChainsAreFine count xs
+chains_fine count n [] known fit parts = tt
+chains_fine count n (x ∷ xs) known fit parts =
+    let are = and_parts (list_all is_rule x.rules) (list_all (λ y. list_all is_rule y.rules) xs) parts in
     let here = none_at n (place_of_unknown count x.rules) (first_unknown count (n + 1) xs) known in
     let fits = and_parts (list_all addresses_fit x.rules) (list_all (λ y. list_all addresses_fit y.rules) xs) fit in
-    (rules_fine count 0 x.rules here.0 fits.0, chains_fine count (n + 1) xs here.1 fits.1)
+    (rules_fine count 0 x.rules here.0 fits.0 are.0, chains_fine count (n + 1) xs here.1 fits.1 are.1)
 
 record IsAccepted (xs : List Chain) : Type 0 where
   few_chains : length xs ≤ 4096
@@ -95,6 +99,6 @@ has_fine_rules all writable =
       named = writable.table;
       few_chains = parts.few_chains;
       few_rules = parts.few_rules;
-      fine = chains_fine (length all) 0 all parts.known writable.addresses;
+      fine = chains_fine (length all) 0 all parts.known writable.addresses writable.parts;
       no_loop = writable.no_loop;
     }

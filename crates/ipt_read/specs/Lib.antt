@@ -8,11 +8,14 @@ pub mod LineLaws
 pub mod LineStep
 pub mod LinesAgainLaws
 pub mod Options
+pub mod PartLaws
 pub mod PieceLaws
 pub mod PrintedLaws
 pub mod ReadAnswers
 pub mod RuleLine
 pub mod Said
+pub mod ServiceValueLaws
+pub mod ServiceValues
 pub mod State
 pub mod StateLaws
 pub mod TextAgainLaws
@@ -22,4 +25,5 @@ pub mod TextSteps
 pub mod ValueLaws
 pub mod Values
 pub mod WrittenLaws
+pub mod WrittenTextLaws
 pub mod WrittenWords

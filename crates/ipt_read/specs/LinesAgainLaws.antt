@@ -21,7 +21,9 @@ use Rattle.ipt_read.specs.Said.{SaidSoFar}
 use Rattle.ipt_read.specs.Grammar.{IsLine, user, rule, commit, IsTextLine}
 use Rattle.ipt_read.specs.WrittenWords.{rule_words}
 use Rattle.ipt_read.specs.FineRulesLaws.{AddressFits}
-use Rattle.ipt_read.specs.WrittenLaws.{IsFound, rule_line_spaced, rule_words_read}
+use Rattle.ipt_rules.specs.RuleParts.{is_rule}
+use Rattle.ipt_read.specs.WrittenLaws.{IsFound, rule_words_read}
+use Rattle.ipt_read.specs.WrittenTextLaws.{rule_line_spaced}
 
 -- 1. Lines from a state within the table up to COMMIT.
 
@@ -131,7 +133,7 @@ filled x rules = record x { rules = rules }
 
 -- what a rule needs to be read again
 abbrev pub RuleFits : List Chain → Rule → Type 0
-RuleFits all r = AddressFits r.src × AddressFits r.dst × IsFound all all r.target
+RuleFits all r = AddressFits r.src × AddressFits r.dst × IsFound all all r.target × IsTrue (is_rule r)
 
 abbrev pub AllFit : List Chain → List ℕ → List Rule → Type 0
 AllFit all name [] = Unit {0}
@@ -146,7 +148,7 @@ unfolding with_rule
 rule_step all done x tail pre k r names number few fits = λ n d.
     let same = names_middle done (filled x pre) x tail refl ∙ names in
     let there = same_numbers (done ++ filled x pre ∷ tail) all x.name same ∙ number in
-    let line = rule_words_read (done ++ filled x pre ∷ tail) all x.name (length done) r there fits.0 fits.1 (found_alike (done ++ filled x pre ∷ tail) all r.target same fits.2) in
+    let line = rule_words_read (done ++ filled x pre ∷ tail) all x.name (length done) r there fits.0 fits.1 (found_alike (done ++ filled x pre ∷ tail) all r.target same fits.2) fits.3 in
     (d, subst (λ (cs : List Chain). IsLine n (within (done ++ filled x pre ∷ tail) d k) (rule_words all x.name r) (within cs d (k + 1))) (changed_middle done (filled x pre) tail (λ y. record y { rules = y.rules ++ r ∷ [] })) (rule refl line few))
 
 abbrev bodies_of : List Chain → List ℕ → List Rule → List (List ℕ)

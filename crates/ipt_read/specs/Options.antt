@@ -4,20 +4,25 @@ use Rattle.std.specs.Prelude.{ℕ, Bool, true, false, ◌&&◌, ◌==◌, nat_lt
 use Rattle.std.specs.Option.{option_map}
 use Rattle.std.specs.List.{list_all, list_any, slice_split}
 use Rattle.host_net.specs.Prefix.{prefix_of}
+use Rattle.host_net.specs.ServiceText.{protocol_text}
 use Rattle.host_net.specs.declared.prefix.Prefix.{Prefix}
 use Rattle.ipt_rules.specs.declared.rule.AddrMatch.{AddrMatch}
+use Rattle.ipt_rules.specs.declared.rule.PortMatch.{PortMatch}
+use Rattle.ipt_rules.specs.declared.rule.ProtoMatch.{ProtoMatch}
 use Rattle.ipt_rules.specs.declared.rule.StateMatch.{StateMatch}
 use Rattle.ipt_rules.specs.declared.rule.Rule.{Rule}
 use Rattle.ipt_rules.specs.declared.rule.Target.{Target}
 use Rattle.ipt_rules.specs.declared.rule.Target.TheVariants.{Accept, Drop, Reject, Return, Count, Jump as JumpsTo}
 use Rattle.ipt_rules.specs.Chain.{Chain, number_of}
+use Rattle.ipt_rules.specs.RuleParts.{names_ports}
 use Rattle.ipt_read.specs.declared.fault.IptWhy.{IptWhy}
 use Rattle.ipt_read.specs.declared.fault.IptWhy.TheVariants.{UnknownOption, BadValue, UnknownTarget}
 use Rattle.ipt_read.specs.declared.option.Opt.{Opt}
-use Rattle.ipt_read.specs.declared.option.Opt.TheVariants.{Source, Destination, Interface, Module, CtState, State, Comment, Jump, RejectWith, LogPrefix, LogLevel}
+use Rattle.ipt_read.specs.declared.option.Opt.TheVariants.{Source, Destination, Protocol, SourcePort, DestinationPort, Interface, Module, CtState, State, Comment, Jump, RejectWith, LogPrefix, LogLevel}
 use Rattle.ipt_read.specs.declared.option.Given.{Given}
 use Rattle.ipt_read.specs.declared.option.Place.{Place}
 use Rattle.ipt_read.specs.declared.option.Place.TheVariants.{AtOption, InText}
+use Rattle.ipt_read.specs.ServiceValues.{asked_protocol, asked_ports}
 
 -- 1. How it is written.
 
@@ -27,8 +32,8 @@ first_named word (entry ∷ others) = if bytes_eq word entry.0 then Some entry.1
 
 unfoldable pub option_of : List ℕ → Option Opt
 option_of word =
-    first_named word ((codes "-s", Source) ∷ (codes "-d", Destination) ∷ (codes "-i", Interface) ∷ (codes "-o", Interface) ∷
-    (codes "-m", Module) ∷ (codes "--ctstate", CtState) ∷ (codes "--state", State) ∷ (codes "--comment", Comment) ∷ (codes "-j", Jump) ∷
+    first_named word ((codes "-s", Source) ∷ (codes "-d", Destination) ∷ (codes "-p", Protocol) ∷ (codes "--sport", SourcePort) ∷
+    (codes "--dport", DestinationPort) ∷ (codes "-i", Interface) ∷ (codes "-o", Interface) ∷ (codes "-m", Module) ∷ (codes "--ctstate", CtState) ∷ (codes "--state", State) ∷ (codes "--comment", Comment) ∷ (codes "-j", Jump) ∷
     (codes "--reject-with", RejectWith) ∷ (codes "--log-prefix", LogPrefix) ∷ (codes "--log-level", LogLevel) ∷ [])
 
 -- 2. Where it may stand: a match in front of the target and after its module, an option of a target after that target.
@@ -38,6 +43,8 @@ rejects (Some Reject) = true
 rejects _ = false
 
 abbrev pub may_stand : Given → Opt → Bool
+may_stand given SourcePort = is_none given.target && given.ports
+may_stand given DestinationPort = is_none given.target && given.ports
 may_stand given CtState = is_none given.target && given.conntrack
 may_stand given State = is_none given.target && given.states
 may_stand given Comment = is_none given.target && given.comments
@@ -54,6 +61,9 @@ is_interface _ = false
 abbrev pub takes_bang : Opt → Bool
 takes_bang Source = true
 takes_bang Destination = true
+takes_bang Protocol = true
+takes_bang SourcePort = true
+takes_bang DestinationPort = true
 takes_bang CtState = true
 takes_bang State = true
 takes_bang _ = false
@@ -62,6 +72,9 @@ takes_bang _ = false
 abbrev pub is_given : Given → Opt → Bool
 is_given given Source = is_some given.src
 is_given given Destination = is_some given.dst
+is_given given Protocol = is_some given.proto
+is_given given SourcePort = is_some given.sport
+is_given given DestinationPort = is_some given.dport
 is_given given CtState = is_some given.state
 is_given given State = is_some given.state
 is_given given _ = false
@@ -117,16 +130,28 @@ target_of chains word =
     else if bytes_eq word (codes "LOG") then Some (Count, true)
     else option_map (λ t. (t, false)) (jump_to (number_of chains word))
 
--- the modules: `conntrack`, `state`, `comment`
+-- the module that has the options of ports is named after the protocol, `tcp` or `udp`, that all packets are of
+abbrev pub is_own_module : Option ProtoMatch → List ℕ → Bool
+is_own_module None word = false
+is_own_module (Some part) word = names_ports (Some part) && bytes_eq word (protocol_text part.proto)
+
+-- the modules: `conntrack`, `state`, `comment`, and that of the protocol
 unfoldable pub with_module : Given → List ℕ → Option Given
 with_module given word =
     if bytes_eq word (codes "conntrack") then Some (record given { conntrack = true })
     else if bytes_eq word (codes "state") then Some (record given { states = true })
     else if bytes_eq word (codes "comment") then Some (record given { comments = true })
+    else if is_own_module given.proto word then Some (record given { ports = true })
     else None
 
 abbrev pub address_match : Bool → Prefix → AddrMatch
 address_match negated p = record { prefix = p; negated = negated }
+
+abbrev pub protocol_match : Bool → ℕ → ProtoMatch
+protocol_match negated proto = record { proto = proto; negated = negated }
+
+abbrev pub port_match : Bool → ℕ × ℕ → PortMatch
+port_match negated ports = record { low = ports.0; high = ports.1; negated = negated }
 
 abbrev pub state_match : Bool → Bool × Bool → StateMatch
 state_match negated flags = record { new = flags.0; established = flags.1; negated = negated }
@@ -140,6 +165,12 @@ with_value chains given Source negated word =
     option_map (λ p. (record given { src = Some (address_match negated p) }, AtOption)) (prefix_of word)
 with_value chains given Destination negated word =
     option_map (λ p. (record given { dst = Some (address_match negated p) }, AtOption)) (prefix_of word)
+with_value chains given Protocol negated word =
+    option_map (λ proto. (record given { proto = Some (protocol_match negated proto) }, AtOption)) (asked_protocol word)
+with_value chains given SourcePort negated word =
+    option_map (λ ports. (record given { sport = Some (port_match negated ports) }, AtOption)) (asked_ports word)
+with_value chains given DestinationPort negated word =
+    option_map (λ ports. (record given { dport = Some (port_match negated ports) }, AtOption)) (asked_ports word)
 with_value chains given Interface negated word = None
 with_value chains given Module negated word = option_map then_option (with_module given word)
 with_value chains given CtState negated word =
@@ -162,8 +193,20 @@ value_refusal _ = BadValue
 -- 4. What rule all of them make.
 
 abbrev pub nothing_given : Given
-nothing_given =
-    record { src = None; dst = None; state = None; target = None; logs = false; conntrack = false; states = false; comments = false }
+nothing_given = record {
+  src = None;
+  dst = None;
+  proto = None;
+  sport = None;
+  dport = None;
+  state = None;
+  target = None;
+  logs = false;
+  ports = false;
+  conntrack = false;
+  states = false;
+  comments = false;
+}
 
 -- a rule without a target only counts
 abbrev pub target_by : Option Target → Target
@@ -171,4 +214,12 @@ target_by None = Count
 target_by (Some t) = t
 
 abbrev pub rule_of : Given → Rule
-rule_of given = record { src = given.src; dst = given.dst; state = given.state; target = target_by given.target }
+rule_of given = record {
+  src = given.src;
+  dst = given.dst;
+  proto = given.proto;
+  sport = given.sport;
+  dport = given.dport;
+  state = given.state;
+  target = target_by given.target;
+}

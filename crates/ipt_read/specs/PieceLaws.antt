@@ -9,11 +9,12 @@ use Rattle.ipt_rules.specs.Chain.{Chain}
 use Rattle.ipt_read.specs.declared.fault.IptWhy.{IptWhy}
 use Rattle.ipt_read.specs.declared.fault.IptWhy.TheVariants.{BadLine, Interface as AnInterface, UnknownOption, BadValue}
 use Rattle.ipt_read.specs.declared.option.Opt.{Opt}
-use Rattle.ipt_read.specs.declared.option.Opt.TheVariants.{Source, Destination, Interface, Module, CtState, State, Comment, Jump, RejectWith, LogPrefix, LogLevel}
+use Rattle.ipt_read.specs.declared.option.Opt.TheVariants.{Source, Destination, Protocol, SourcePort, DestinationPort, Interface, Module, CtState, State, Comment, Jump, RejectWith, LogPrefix, LogLevel}
 use Rattle.ipt_read.specs.declared.option.Given.{Given}
 use Rattle.ipt_read.specs.declared.option.Place.{Place}
 use Rattle.ipt_read.specs.declared.option.Place.TheVariants.{AtOption, AfterBang, AtValue, InText}
 use Rattle.ipt_read.specs.Options.{option_of, may_stand, is_interface, takes_bang, is_given, closes, quoted, text_of, states_of, target_of, with_module, with_value, value_refusal}
+use Rattle.ipt_read.specs.ServiceValues.{asked_protocol, asked_ports}
 use Rattle.ipt_read.specs.RuleLine.{at_option, is_bang, word_step, goes_on, word_by_word}
 use Rattle.ipt_read.specs.Grammar.{Stands, IsRestOfText, closing, open_still, IsValue, one_word, text, IsPiece, plain, turned, ArePieces, none_left, one_more}
 
@@ -68,6 +69,9 @@ value_place : (chains : List Chain) (given now : Given) (o : Opt) (negated : Boo
 unfolding with_value
 value_place chains given now Source negated word place h = at_place _ (prefix_of word) now place (λ x. refl) h
 value_place chains given now Destination negated word place h = at_place _ (prefix_of word) now place (λ x. refl) h
+value_place chains given now Protocol negated word place h = at_place _ (asked_protocol word) now place (λ x. refl) h
+value_place chains given now SourcePort negated word place h = at_place _ (asked_ports word) now place (λ x. refl) h
+value_place chains given now DestinationPort negated word place h = at_place _ (asked_ports word) now place (λ x. refl) h
 value_place chains given now Interface negated word place h = cc
 value_place chains given now Module negated word place h = at_place _ (with_module given word) now place (λ x. refl) h
 value_place chains given now CtState negated word place h = at_place _ (states_of word) now place (λ x. refl) h

@@ -1,25 +1,32 @@
 -- Written words are words of a line: they print, and are not empty.
-use Rattle.std.proofs.Common.{◌≡◌, ℕ, Bool, true, false, ◌&&◌, not, List, [], ◌∷◌, ◌++◌, Option, Some, None, refl, ap, ◌∙◌, arith}
-use Rattle.std.specs.Prelude.{codes, decimal}
+use Rattle.std.proofs.Common.{◌≡◌, ℕ, ◌<◌, ◌≤◌, ◌^◌, Bool, true, false, ◌&&◌, ◌||◌, not, length, List, [], ◌∷◌, ◌++◌, Option, Some, None, refl, ap, ◌∙◌, arith}
+use Rattle.std.specs.Prelude.{◌==◌, nat_lt, if◌then◌else◌, is_some, codes, decimal}
 use Rattle.std.specs.Char.{is_ascii_digit}
 use Rattle.std.specs.Str.{all_ascii_digits}
 use Rattle.std.specs.List.{list_all}
 use Rattle.std.proofs.lemmas.Bool.Decides.{nat_tests}
+use Rattle.std.proofs.lemmas.Fmt.{decimal_nonempty}
 use Rattle.text_core.specs.DecimalLaws.{decimal_digits}
 use Rattle.text_core.specs.Lines.{is_comment, are_comment, begins_with}
 use Rattle.text_core.specs.PiecesLaws.{lacks}
 use Rattle.text_core.specs.SpacedLaws.{spaced, is_word, words_spaced, lacks_spaced, prints, prints_no_blank, prints_lacks}
 use Rattle.host_net.specs.declared.prefix.Prefix.{Prefix}
 use Rattle.host_net.specs.Prefix.{prefix_text, address_text, octet}
+use Rattle.host_net.specs.Service.{icmp, tcp, udp, last_port}
+use Rattle.host_net.specs.ServiceText.{protocol_text}
 use Rattle.ipt_rules.specs.declared.rule.AddrMatch.{AddrMatch}
+use Rattle.ipt_rules.specs.declared.rule.PortMatch.{PortMatch}
+use Rattle.ipt_rules.specs.declared.rule.ProtoMatch.{ProtoMatch}
 use Rattle.ipt_rules.specs.declared.rule.StateMatch.{StateMatch}
 use Rattle.ipt_rules.specs.declared.rule.Rule.{Rule}
 use Rattle.ipt_rules.specs.declared.rule.Target.{Target}
 use Rattle.ipt_rules.specs.declared.rule.Target.TheVariants.{Accept, Drop, Reject, Return, Count, Jump}
 use Rattle.ipt_rules.specs.Chain.{Chain, name_of}
 use Rattle.ipt_rules.specs.Name.{is_user_name, is_printing, has_name_length, begins_as_option, is_reserved}
-use Rattle.ipt_rules.specs.Text.{states_text}
-use Rattle.ipt_read.specs.WrittenWords.{bang_words, address_words, state_words, target_words, rule_pieces, rule_words}
+use Rattle.ipt_rules.specs.RuleParts.{is_protocol, are_ports, names_ports, is_rule}
+use Rattle.ipt_rules.specs.Text.{ports_text, states_text}
+use Rattle.ipt_read.specs.PartLaws.{rule_has}
+use Rattle.ipt_read.specs.WrittenWords.{bang_words, address_words, protocol_words, module_words, port_words, service_words, state_words, target_words, rule_pieces, rule_words}
 use Rattle.ipt_read.specs.LinesAgainLaws.{IsWritten}
 
 -- a text of printing bytes that is not empty
@@ -137,11 +144,84 @@ bang_printed false = refl
 two_printed : (option w : List ℕ) → is_printed option ≡ true → is_printed w ≡ true → list_all is_printed (option ∷ w ∷ []) ≡ true
 two_printed option w f g = rw (f, g) refl
 
+sign_printed : (negated : Bool) (option w : List ℕ) → is_printed option ≡ true → is_printed w ≡ true → list_all is_printed (bang_words negated ++ (option ∷ w ∷ [])) ≡ true
+sign_printed negated option w f g = all_append (bang_words negated) (option ∷ w ∷ []) (bang_printed negated) (two_printed option w f g)
+
 address_printed : (option : List ℕ) (o : Option AddrMatch) → is_printed option ≡ true → list_all is_printed (address_words option o) ≡ true
 address_printed option None h = refl
-address_printed option (Some part) h =
-    all_append (bang_words part.negated) (option ∷ prefix_text part.prefix ∷ []) (bang_printed part.negated) (two_printed option (prefix_text part.prefix) h (prefix_printed part.prefix))
+address_printed option (Some part) h = sign_printed part.negated option (prefix_text part.prefix) h (prefix_printed part.prefix)
 
+-- protocols and ports
+not_empty : (bs : List ℕ) → 0 < length bs → list_all prints bs ≡ true → is_printed bs ≡ true
+not_empty [] some h = absurd (omega arith)
+not_empty (b ∷ bs) some h = h
+
+printed_append : (xs ys : List ℕ) → is_printed xs ≡ true → list_all prints ys ≡ true → is_printed (xs ++ ys) ≡ true
+printed_append [] ys f g = cc
+printed_append (x ∷ xs) ys f g = prints_append (x ∷ xs) ys f g
+
+decimal_prints : (n : ℕ) → n < 2 ^ 64 → list_all prints (decimal n) ≡ true
+decimal_prints n fits = digits_print (decimal n) (decimal_digits n fits)
+
+decimal_printed : (n : ℕ) → n < 2 ^ 64 → is_printed (decimal n) ≡ true
+decimal_printed n fits = not_empty (decimal n) (decimal_nonempty n fits) (decimal_prints n fits)
+
+protocol_by : (n : ℕ) (a b c : Bool) → n < 2 ^ 64 → is_printed (if a then codes "icmp" else if b then codes "tcp" else if c then codes "udp" else decimal n) ≡ true
+protocol_by n true b c fits = refl
+protocol_by n false true c fits = refl
+protocol_by n false false true fits = refl
+protocol_by n false false false fits = decimal_printed n fits
+
+protocol_printed : (n : ℕ) → n < 2 ^ 64 → is_printed (protocol_text n) ≡ true
+protocol_printed n fits = protocol_by n (n == icmp) (n == tcp) (n == udp) fits
+
+last_prints : (n : ℕ) (several : Bool) → n < 2 ^ 64 → list_all prints (if several then codes ":" ++ decimal n else []) ≡ true
+last_prints n true fits = decimal_prints n fits
+last_prints n false fits = refl
+
+ports_printed : (low high : ℕ) → low < 2 ^ 64 → high < 2 ^ 64 → is_printed (ports_text low high) ≡ true
+ports_printed low high first last =
+    printed_append (decimal low) (if nat_lt low high then codes ":" ++ decimal high else []) (decimal_printed low first) (last_prints high (nat_lt low high) last)
+
+protocol_small : (part : ProtoMatch) → is_protocol (Some part) ≡ true → part.proto < 2 ^ 64
+protocol_small part is = omega (arith, small)
+  where
+    small : part.proto < 2 ^ 8
+    small = grind (arith, nat_tests)
+
+ports_small : (named : Bool) (part : PortMatch) → are_ports named (Some part) ≡ true → (part.low < 2 ^ 64) × (part.high < 2 ^ 64)
+ports_small named part are = (omega (arith, order, small), omega (arith, small))
+  where
+    order : part.low ≤ part.high
+    order = grind (arith, nat_tests)
+
+    small : part.high ≤ last_port
+    small = grind (arith, nat_tests)
+
+protocol_words_printed : (o : Option ProtoMatch) → is_protocol o ≡ true → list_all is_printed (protocol_words o) ≡ true
+protocol_words_printed None is = refl
+protocol_words_printed (Some part) is =
+    sign_printed part.negated (codes "-p") (protocol_text part.proto) refl (protocol_printed part.proto (protocol_small part is))
+
+module_words_printed : (o : Option ProtoMatch) (ports : Bool) → is_protocol o ≡ true → list_all is_printed (module_words o ports) ≡ true
+module_words_printed None ports is = refl
+module_words_printed (Some part) true is = two_printed (codes "-m") (protocol_text part.proto) refl (protocol_printed part.proto (protocol_small part is))
+module_words_printed (Some part) false is = refl
+
+port_words_printed : (option : List ℕ) (named : Bool) (o : Option PortMatch) → is_printed option ≡ true → are_ports named o ≡ true → list_all is_printed (port_words option o) ≡ true
+port_words_printed option named None f are = refl
+port_words_printed option named (Some part) f are =
+    let small = ports_small named part are in
+    sign_printed part.negated option (ports_text part.low part.high) f (ports_printed part.low part.high small.0 small.1)
+
+service_printed : (r : Rule) → is_rule r ≡ true → list_all is_printed (service_words r.proto r.sport r.dport) ≡ true
+service_printed r is =
+    let has = rule_has r is in
+    all_append (protocol_words r.proto) _ (protocol_words_printed r.proto has.proto)
+    (all_append (module_words r.proto (is_some r.sport || is_some r.dport)) _ (module_words_printed r.proto (is_some r.sport || is_some r.dport) has.proto)
+    (all_append (port_words (codes "--sport") r.sport) _ (port_words_printed (codes "--sport") (names_ports r.proto) r.sport refl has.sport) (port_words_printed (codes "--dport") (names_ports r.proto) r.dport refl has.dport)))
+
+-- states and targets
 states_printed : (new established : Bool) → is_printed (states_text new established) ≡ true
 states_printed true true = refl
 states_printed true false = refl
@@ -151,7 +231,7 @@ states_printed false false = refl
 state_printed : (o : Option StateMatch) → list_all is_printed (state_words o) ≡ true
 state_printed None = refl
 state_printed (Some part) =
-    all_append (bang_words part.negated) (codes "--ctstate" ∷ states_text part.new part.established ∷ []) (bang_printed part.negated) (two_printed (codes "--ctstate") (states_text part.new part.established) refl (states_printed part.new part.established))
+    sign_printed part.negated (codes "--ctstate") (states_text part.new part.established) refl (states_printed part.new part.established)
 
 -- the chain of a jump has a printed name
 abbrev pub JumpPrints : List Chain → Target → Type 0
@@ -166,8 +246,9 @@ target_printed chains Return h = refl
 target_printed chains Count h = refl
 target_printed chains (Jump c) h = two_printed (codes "-j") (name_of chains c) refl h
 
-pub rule_written : (chains : List Chain) (name : List ℕ) (r : Rule) → is_printed name ≡ true → JumpPrints chains r.target → IsWritten (spaced (rule_words chains name r)) (rule_words chains name r)
-rule_written chains name r named jump =
+pub rule_written : (chains : List Chain) (name : List ℕ) (r : Rule) → is_printed name ≡ true → is_rule r ≡ true → JumpPrints chains r.target → IsWritten (spaced (rule_words chains name r)) (rule_words chains name r)
+rule_written chains name r named is jump =
     spaced_written (codes "-A") (name ∷ rule_pieces chains r)
-    (rw named (all_append (address_words (codes "-s") r.src) _ (address_printed (codes "-s") r.src refl) (all_append (address_words (codes "-d") r.dst) _ (address_printed (codes "-d") r.dst refl) (all_append (state_words r.state) _ (state_printed r.state) (target_printed chains r.target jump)))))
+    (rw named (all_append (address_words (codes "-s") r.src) _ (address_printed (codes "-s") r.src refl) (all_append (address_words (codes "-d") r.dst) _ (address_printed (codes "-d") r.dst refl)
+    (all_append (service_words r.proto r.sport r.dport) _ (service_printed r is) (all_append (state_words r.state) _ (state_printed r.state) (target_printed chains r.target jump))))))
     refl

@@ -96,7 +96,7 @@ all_fit : (all : List Chain) (name : List ℕ) (rs : List Rule) → IsTable all 
 all_fit all name [] named printed fine = tt
 all_fit all name (r ∷ rs) named printed fine =
     let found = jump_found all r.target named fine.2 in
-    ((fine.0, fine.1, found.0), rule_written all name r printed found.1, all_fit all name rs named printed fine.3)
+    ((fine.0, fine.1, found.0, fine.3), rule_written all name r printed fine.3 found.1, all_fit all name rs named printed fine.4)
 
 -- the names print
 abbrev ArePrinted : List Chain → Type 0

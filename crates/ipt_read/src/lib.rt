@@ -5,6 +5,7 @@ mod fault;
 mod option;
 mod reader;
 mod rule_line;
+mod service;
 mod stage;
 mod table;
 mod whole;

@@ -1,11 +1,12 @@
 //! Reading a text line by line.
 
-ghost use Rattle.std.specs.Prelude.{◌≡◌, ◌<◌, ◌≤◌, ◌^◌, ◌∷◌, [], ◌++◌, Some, None, Ok, IfOk, length};
+ghost use Rattle.std.specs.Prelude.{◌≡◌, ◌<◌, ◌≤◌, ◌^◌, ◌∷◌, [], ◌++◌, Some, None, Ok, IfOk, IsTrue, length};
 ghost use Rattle.std.specs.Option.{option_map};
 ghost use Rattle.text_core.specs.Lines.{words};
 ghost use Rattle.text_core.specs.Reading.{past_comment};
 ghost use Rattle.ipt_rules.specs.Chain.{number_of, user_chain};
 ghost use Rattle.ipt_rules.specs.ChainTable.{rule_count};
+ghost use Rattle.ipt_rules.specs.RuleParts.{is_rule};
 ghost use Rattle.ipt_read.specs.Said.{nothing_said, line_of};
 ghost use Rattle.ipt_read.specs.LineStep.{table_line_of, policy_word, built_in_policy, with_built_in, declare, declare_by, chain_line_of, with_read_rule, commit_line_of, body_line_of, line_at, line_of_words, line_step};
 ghost use Rattle.ipt_read.specs.RuleLine.{rule_line_of};
@@ -135,6 +136,7 @@ fn add_chain(mut state: Reader, n: u32, name: ChainName) -> Result<Reader, Alloc
 fn add_rule(mut state: Reader, n: u32, chain: u16, rule: Rule) -> Result<Reader, IptFault>
     requires there { chain < length state.chains }
     requires counted { state.rules ≡ rule_count state.chains }
+    requires parts { IsTrue (is_rule rule) }
     ensures { AnswersTo n (with_read_rule (said_of state) (Ok (chain, rule))) result }
 {
     if state.rules >= RULE_LIMIT {

@@ -87,9 +87,13 @@ fn nothing_given() -> Given
     Given {
         src: None,
         dst: None,
+        proto: None,
+        sport: None,
+        dport: None,
         state: None,
         target: None,
         logs: false,
+        ports: false,
         conntrack: false,
         states: false,
         comments: false,
@@ -115,6 +119,9 @@ fn rule_of(given: Given) -> Rule
     Rule {
         src: given.src,
         dst: given.dst,
+        proto: given.proto,
+        sport: given.sport,
+        dport: given.dport,
         state: given.state,
         target: given.target.unwrap_or(Target::Count),
     }

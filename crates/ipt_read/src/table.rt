@@ -3,12 +3,13 @@
 ghost use Rattle.std.specs.Prelude.{◌≡◌, ◌<◌, ◌==◌, IfSome, Option, List, ℕ, length, false, bytes_eq, slice_index_or};
 ghost use Rattle.std.specs.List.{list_all, list_any};
 ghost use Rattle.ipt_rules.specs.Chain.{number_of};
-ghost use Rattle.ipt_read.specs.Options.{option_of, may_stand, is_interface, takes_bang, is_given, closes, quoted, text_of, is_state, listed, states_of, jump_to, target_of, with_module, with_value, value_refusal, rejects};
+ghost use Rattle.ipt_read.specs.Options.{option_of, may_stand, is_interface, takes_bang, is_given, closes, quoted, text_of, is_state, listed, states_of, jump_to, target_of, is_own_module, with_module, port_match, with_value, value_refusal, rejects};
 
 use crate::fault::IptWhy;
 use crate::option::{Given, Opt, Place};
+use crate::service::{asked_ports, asked_protocol};
 use host_net::read_prefix;
-use ipt_rules::{AddrMatch, Chains, StateMatch, Target};
+use ipt_rules::{AddrMatch, Chains, PortMatch, ProtoMatch, StateMatch, Target};
 
 #[tactic(auto, unfolding(crate::specs::Options::option_of))]
 pub(crate) fn option_of(word: &[u8]) -> Option<Opt>
@@ -19,6 +20,15 @@ pub(crate) fn option_of(word: &[u8]) -> Option<Opt>
     }
     if word == b"-d".as_slice() {
         return Some(Opt::Destination);
+    }
+    if word == b"-p".as_slice() {
+        return Some(Opt::Protocol);
+    }
+    if word == b"--sport".as_slice() {
+        return Some(Opt::SourcePort);
+    }
+    if word == b"--dport".as_slice() {
+        return Some(Opt::DestinationPort);
     }
     if word == b"-i".as_slice() {
         return Some(Opt::Interface);
@@ -63,14 +73,14 @@ pub(crate) fn may_stand(given: Given, option: Opt) -> bool
     ensures { result ≡ may_stand given option }
 {
     match option {
+        Opt::SourcePort | Opt::DestinationPort => given.target.is_none() && given.ports,
         Opt::CtState => given.target.is_none() && given.conntrack,
         Opt::State => given.target.is_none() && given.states,
         Opt::Comment => given.target.is_none() && given.comments,
         Opt::RejectWith => rejects(given.target),
         Opt::LogPrefix | Opt::LogLevel => given.logs,
-        Opt::Source | Opt::Destination | Opt::Interface | Opt::Module | Opt::Jump => {
-            given.target.is_none()
-        }
+        Opt::Source | Opt::Destination | Opt::Protocol | Opt::Interface | Opt::Module | Opt::Jump =>
+            given.target.is_none(),
     }
 }
 
@@ -85,7 +95,13 @@ pub(crate) fn takes_bang(option: Opt) -> bool
 {
     matches!(
         option,
-        Opt::Source | Opt::Destination | Opt::CtState | Opt::State
+        Opt::Source
+            | Opt::Destination
+            | Opt::Protocol
+            | Opt::SourcePort
+            | Opt::DestinationPort
+            | Opt::CtState
+            | Opt::State
     )
 }
 
@@ -95,6 +111,9 @@ pub(crate) fn is_given(given: Given, option: Opt) -> bool
     match option {
         Opt::Source => given.src.is_some(),
         Opt::Destination => given.dst.is_some(),
+        Opt::Protocol => given.proto.is_some(),
+        Opt::SourcePort => given.sport.is_some(),
+        Opt::DestinationPort => given.dport.is_some(),
         Opt::CtState | Opt::State => given.state.is_some(),
         _ => false,
     }
@@ -200,6 +219,26 @@ fn target_of(chains: &Chains, word: &[u8]) -> Option<(Target, bool)>
     Some((target, false))
 }
 
+fn is_own_module(part: Option<ProtoMatch>, word: &[u8]) -> bool
+    ensures { result ≡ is_own_module part word.now }
+{
+    match part {
+        Some(
+            ProtoMatch {
+                proto: 6,
+                negated: false,
+            },
+        ) => word == b"tcp".as_slice(),
+        Some(
+            ProtoMatch {
+                proto: 17,
+                negated: false,
+            },
+        ) => word == b"udp".as_slice(),
+        _ => false,
+    }
+}
+
 #[tactic(auto, unfolding(crate::specs::Options::with_module))]
 fn with_module(given: Given, word: &[u8]) -> Option<Given>
     ensures { result ≡ with_module given word.now }
@@ -222,7 +261,20 @@ fn with_module(given: Given, word: &[u8]) -> Option<Given>
             ..given
         });
     }
+    if is_own_module(given.proto, word) {
+        return Some(Given {
+            ports: true,
+            ..given
+        });
+    }
     None
+}
+
+fn port_match(ports: (u16, u16), negated: bool) -> PortMatch
+    ensures { result ≡ port_match negated ports }
+{
+    let (low, high) = ports;
+    PortMatch { low, high, negated }
 }
 
 /// What is given after an option's value, and where the next word stands.
@@ -246,6 +298,19 @@ pub(crate) fn with_value(
             let prefix = read_prefix(word)?;
             let dst = Some(AddrMatch { prefix, negated });
             Some((Given { dst, ..given }, Place::AtOption))
+        }
+        Opt::Protocol => {
+            let proto = asked_protocol(word)?;
+            let proto = Some(ProtoMatch { proto, negated });
+            Some((Given { proto, ..given }, Place::AtOption))
+        }
+        Opt::SourcePort => {
+            let sport = Some(port_match(asked_ports(word)?, negated));
+            Some((Given { sport, ..given }, Place::AtOption))
+        }
+        Opt::DestinationPort => {
+            let dport = Some(port_match(asked_ports(word)?, negated));
+            Some((Given { dport, ..given }, Place::AtOption))
         }
         Opt::Interface => None,
         Opt::Module => Some((with_module(given, word)?, Place::AtOption)),

@@ -1,9 +1,8 @@
 -- What is written is read: the text of a table has its entries as its reading.
-use Rattle.std.proofs.Common.{◌≡◌, inr, ℕ, ◌+◌, ◌*◌, ◌<◌, ◌≤◌, ◌^◌, true, ◌&&◌, List, [], ◌∷◌, ◌++◌, length, map, refl, sym, ap, subst, ◌∙◌, arith, append-nil, append_assoc, length-append}
-use Rattle.std.specs.Prelude.{nat_lt, IsTrue}
+use Rattle.std.proofs.Common.{◌≡◌, inr, ℕ, ◌+◌, ◌*◌, ◌<◌, ◌≤◌, List, [], ◌∷◌, ◌++◌, length, map, refl, sym, ap, subst, ◌∙◌, arith, append-nil, append_assoc, length-append}
+use Rattle.std.specs.Prelude.{IsTrue}
 use Rattle.std.specs.List.{list_all}
 use Rattle.std.proofs.lemmas.Bool.{and_parts}
-use Rattle.std.proofs.lemmas.Bool.Decides.{nat_tests}
 use Rattle.std.proofs.lemmas.Option.{slice_get_within}
 use Rattle.text_core.specs.Lines.{lines}
 use Rattle.text_core.specs.LinesLaws.{lines_ended}
@@ -14,24 +13,18 @@ use Rattle.ofp_rules.specs.Build.{IsAccepted, IsUnambiguous, IsTable}
 use Rattle.ofp_rules.specs.Ambiguity.{most_entries}
 use Rattle.ofp_rules.specs.LineLaws.{entry_line_short}
 use Rattle.ofp_rules.specs.Matching.{asks_of_ip}
-use Rattle.ofp_rules.specs.Ranges.{address_fits, in_range, AreInRange}
+use Rattle.ofp_rules.specs.Ranges.{in_range, AreInRange}
 use Rattle.ofp_rules.specs.Text.{text}
 use Rattle.ofp_read.specs.Grammar.{AddsEntry, IsReading}
 use Rattle.ofp_read.specs.WrittenLaws.{bare_line, line_is, bare_writes, bare_lacks, bare_flow}
 
 -- 1. How long it is.
 
-below : (n : ℕ) → nat_lt n (2 ^ 16) ≡ true → n < 2 ^ 16
-below n h = grind (arith, nat_tests)
-
-priority_fits : (e : Entry) → in_range e ≡ true → e.priority < 2 ^ 16
-priority_fits e range = below e.priority (and_parts (nat_lt e.priority (2 ^ 16)) (address_fits e.src && address_fits e.dst) range).0
-
-text_short : (entries : List Entry) → AreInRange entries → length (text entries) ≤ 86 * length entries
+text_short : (entries : List Entry) → AreInRange entries → length (text entries) ≤ 124 * length entries
 text_short [] range = omega arith
 text_short (e ∷ es) range =
     let parts = and_parts (in_range e) (list_all in_range es) range in
-    simp length-append (omega (arith, entry_line_short e (priority_fits e parts.0), text_short es parts.1))
+    simp length-append (omega (arith, entry_line_short e parts.0, text_short es parts.1))
 
 -- 2. Its lines.
 

@@ -21,7 +21,7 @@ goes_on (Ok x) f = f x
 goes_on (Err why) f = Err why
 
 abbrev pub nothing_given : Given
-nothing_given = record { priority = None; table = false; kind = None; src = None; dst = None }
+nothing_given = record { priority = None; table = false; kind = None; src = None; dst = None; proto = None; tp_src = None; tp_dst = None }
 
 -- the fields from left to right
 abbrev pub with_fields : Given → List (List ℕ) → Result Given OfpWhy
@@ -38,9 +38,12 @@ cut_action begins (b ∷ bs) =
     if begins && begins_action (b ∷ bs) then Some ([], b ∷ bs)
     else option_map (λ parts. (b ∷ parts.0, parts.1)) (cut_action (is_separator b) bs)
 
+abbrev pub actions : List (List ℕ × Action)
+actions = (codes "actions=NORMAL", Normal) ∷ (codes "actions=normal", Normal) ∷ (codes "actions=drop", Drop) ∷ []
+
 -- the action: one word, with nothing but blanks behind it
 abbrev pub action_of : List (List ℕ) → Option Action
-action_of (word ∷ []) = named word ((codes "actions=NORMAL", Normal) ∷ (codes "actions=normal", Normal) ∷ (codes "actions=drop", Drop) ∷ [])
+action_of (word ∷ []) = named word actions
 action_of _ = None
 
 -- the priority of an entry, 32768 where no field gives one
@@ -55,7 +58,16 @@ kind_of (Some kind) = kind
 
 abbrev pub entry_of : Given → Action → Entry
 entry_of given action =
-    record { priority = priority_of given.priority; kind = kind_of given.kind; src = given.src; dst = given.dst; action = action }
+    record {
+      priority = priority_of given.priority;
+      kind = kind_of given.kind;
+      src = given.src;
+      dst = given.dst;
+      proto = given.proto;
+      tp_src = given.tp_src;
+      tp_dst = given.tp_dst;
+      action = action;
+    }
 
 abbrev pub with_action : Given → Option Action → Result Entry OfpWhy
 with_action given None = Err UnknownAction
@@ -66,6 +78,6 @@ flow_by line None = goes_on (with_fields nothing_given (fields line)) (λ given.
 flow_by line (Some parts) =
     goes_on (with_fields nothing_given (fields parts.0)) (λ given. with_action given (action_of (words parts.1)))
 
--- the fields, then the action, then whether an address is asked of frames that may have none
+-- the fields, then the action, then whether what is asked of frames is what they all have
 unfoldable pub flow_of : List ℕ → Result Entry OfpWhy
 flow_of line = flow_by line (cut_action true line)

@@ -1,10 +1,12 @@
--- The grammar of the text of a flow table: which lines a text has, and which fields and which action a line (ovs-ofctl(8), "Flow Syntax").
+-- The grammar of the text of a flow table: which lines a text has, and which fields and which action a line (ovs-ofctl(8), "Flow Syntax";
+-- ovs-fields(7)).
 use Rattle.std.specs.Prelude.{◌≡◌, ◌≢◌, ◌<◌, ◌≤◌, ◌^◌, ◌⊎◌, ◌||◌, ◌==◌, ℕ, Bool, true, false, IsTrue, List, [], ◌∷◌, ◌++◌, Option, Some, None, length, codes, decimal}
 use Rattle.std.specs.List.{filter, list_all, slice_split}
 use Rattle.text_core.specs.Lines.{lines, is_blank}
 use Rattle.text_core.specs.Reading.{Follows}
 use Rattle.host_net.specs.declared.prefix.Prefix.{Prefix}
 use Rattle.host_net.specs.PrefixView.{IsSpelling}
+use Rattle.host_net.specs.Service.{icmp, tcp, udp}
 use Rattle.ofp_rules.specs.declared.entry.FrameKind.{FrameKind}
 use Rattle.ofp_rules.specs.declared.entry.FrameKind.TheVariants.{Any, Arp, Ip}
 use Rattle.ofp_rules.specs.declared.entry.Action.{Action}
@@ -32,8 +34,11 @@ pub data Part : Type 0 where
   priority : Part
   table : Part
   kind : Part
+  protocol : Part
   source : Part
   destination : Part
+  source_port : Part
+  destination_port : Part
 
 -- a frame kind, by its name or by the number of its EtherType
 abbrev pub IsKindText : FrameKind → List ℕ → Type 0
@@ -50,13 +55,29 @@ pub record IsAddressText (name : List ℕ) (given : Option Prefix) (text : List 
   pub spelled : IsSpelling spelling prefix
   pub written : text ≡ name ++ spelling
 
+-- a number field: its name, and the number, which is below a limit
+pub record IsNumberText (name : List ℕ) (limit : ℕ) (given : Option ℕ) (text : List ℕ) : Type 0 where
+  pub number : ℕ
+  pub is_given : given ≡ Some number
+  pub below : number < limit
+  pub written : text ≡ name ++ decimal number
+
 -- the field says of this part what the entry has there; there is only table 0
 abbrev pub Says : Part → Entry → List ℕ → Type 0
-Says priority e text = (e.priority < 2 ^ 16) × (text ≡ codes "priority=" ++ decimal e.priority)
+Says priority e text = IsNumberText (codes "priority=") (2 ^ 16) (Some e.priority) text
 Says table e text = text ≡ codes "table=0"
 Says kind e text = IsKindText e.kind text
 Says source e text = IsAddressText (codes "nw_src=") e.src text
 Says destination e text = IsAddressText (codes "nw_dst=") e.dst text
+Says protocol e text = IsNumberText (codes "nw_proto=") (2 ^ 8) e.proto text
+Says source_port e text = IsNumberText (codes "tp_src=") (2 ^ 16) e.tp_src text
+Says destination_port e text = IsNumberText (codes "tp_dst=") (2 ^ 16) e.tp_dst text
+
+-- IPv4 frames of a protocol, by its name
+abbrev pub IsProtocolText : FrameKind → Option ℕ → List ℕ → Type 0
+IsProtocolText Ip (Some proto) text =
+    ((proto ≡ icmp) × (text ≡ codes "icmp")) ⊎ (((proto ≡ tcp) × (text ≡ codes "tcp")) ⊎ ((proto ≡ udp) × (text ≡ codes "udp")))
+IsProtocolText _ _ text = ⊥
 
 -- what an entry has where no field says anything about this part
 abbrev pub IsUnsaid : Part → Entry → Type 0
@@ -65,12 +86,17 @@ IsUnsaid table e = Unit {0}
 IsUnsaid kind e = e.kind ≡ Any
 IsUnsaid source e = e.src ≡ None
 IsUnsaid destination e = e.dst ≡ None
+IsUnsaid protocol e = e.proto ≡ None
+IsUnsaid source_port e = e.tp_src ≡ None
+IsUnsaid destination_port e = e.tp_dst ≡ None
 
--- each field is about the part at its place
-abbrev pub EachSays : Entry → List Part → List (List ℕ) → Type 0
-EachSays e [] [] = Unit {0}
-EachSays e (part ∷ parts) (text ∷ texts) = Says part e text × EachSays e parts texts
-EachSays e _ _ = ⊥
+-- each field is about the part at its place, or, as the name of a protocol, about the kind and the protocol both
+pub data EachSays (e : Entry) : List Part → List (List ℕ) → Type 0 where
+  no_field : EachSays e [] []
+  one_part : {part : Part} {parts : List Part} {text : List ℕ} {texts : List (List ℕ)} → Says part e text → EachSays e parts texts
+      → EachSays e (part ∷ parts) (text ∷ texts)
+  two_parts : {parts : List Part} {text : List ℕ} {texts : List (List ℕ)} → IsProtocolText e.kind e.proto text
+      → EachSays e parts texts → EachSays e (kind ∷ protocol ∷ parts) (text ∷ texts)
 
 abbrev pub IsNoneOf : Part → List Part → Type 0
 IsNoneOf part [] = Unit {0}
@@ -99,7 +125,7 @@ ends_apart [] = true
 ends_apart (b ∷ []) = is_separator b
 ends_apart (b ∷ c ∷ bs) = ends_apart (c ∷ bs)
 
--- a line writes an entry: its fields, then its action, then blanks alone; and only IPv4 frames are asked for their addresses
+-- a line writes an entry: its fields, then its action, then blanks alone; and it asks of frames only what they all have
 pub record Writes (line : List ℕ) (e : Entry) : Type 0 where
   pub front : List ℕ
   pub action : List ℕ

@@ -7,10 +7,13 @@ pub mod CutLaws
 pub mod PartLaws
 pub mod RangeLaws
 pub mod ReadAnswers
+pub mod NamedLaws
+pub mod KeyLaws
 pub mod FieldLaws
 pub mod FieldsLaws
 pub mod LineLaws
 pub mod State
 pub mod TextLaws
+pub mod PieceLaws
 pub mod WrittenLaws
 pub mod TextLines

@@ -16,8 +16,9 @@ use Rattle.ofp_read.specs.declared.fault.OfpWhy.TheVariants.{BadLine, NeedsIp}
 use Rattle.ofp_read.specs.declared.given.Given.{Given}
 use Rattle.ofp_read.specs.CutLaws.{shifted, cut_past, cut_here}
 use Rattle.ofp_read.specs.FieldsLaws.{goes_on_parts, fields_of_read, read_of_fields}
-use Rattle.ofp_read.specs.FlowLine.{goes_on, nothing_given, with_fields, begins_action, cut_action, action_of, entry_of, with_action, flow_by, flow_of}
-use Rattle.ofp_read.specs.Grammar.{Part, priority, table, kind, source, destination, Says, EachSays, is_separator, has_bytes, fields, IsKindText, IsActionText, ends_apart, Writes}
+use Rattle.ofp_read.specs.NamedLaws.{named_is}
+use Rattle.ofp_read.specs.FlowLine.{goes_on, nothing_given, with_fields, begins_action, cut_action, actions, action_of, entry_of, with_action, flow_by, flow_of}
+use Rattle.ofp_read.specs.Grammar.{Part, priority, table, kind, source, destination, protocol, source_port, destination_port, Says, EachSays, no_field, one_part, two_parts, IsProtocolText, is_separator, has_bytes, fields, IsKindText, IsActionText, ends_apart, Writes}
 
 -- 1. The cut in front of the action.
 
@@ -142,28 +143,9 @@ word_of_text : (text w : List ℕ) → begins_action text ≡ true → words tex
 word_of_text [] w starts h = cc
 word_of_text (b ∷ bs) w starts h = one_word b bs w (first_no_blank b bs starts) h
 
-some_action : (a b : Action) (w : List ℕ) → Some a ≡ Some b → IsActionText a w → IsActionText b w
-some_action a b w h is = subst (λ (x : Action). IsActionText x w) (same a b h) is
-  where
-    same : (a b : Action) → Some a ≡ Some b → a ≡ b
-    same a b h = cc
-
 action_said : (ws : List (List ℕ)) (a : Action) → action_of ws ≡ Some a → (w : List ℕ) × (ws ≡ w ∷ []) × IsActionText a w
 action_said [] a h = cc
-action_said (w ∷ []) a h = (
-  w,
-  refl,
-  elim (if_parts (bytes_eq w (codes "actions=NORMAL")) (Some Normal) _ (Some a) h) [
-    | inl is ↦ some_action Normal a w is.1 (inl (bytes_same w (codes "actions=NORMAL") is.0))
-    | inr other ↦ elim (if_parts (bytes_eq w (codes "actions=normal")) (Some Normal) _ (Some a) other.1) [
-      | inl is ↦ some_action Normal a w is.1 (inr (bytes_same w (codes "actions=normal") is.0))
-      | inr more ↦ elim (if_parts (bytes_eq w (codes "actions=drop")) (Some Drop) None (Some a) more.1) [
-        | inl is ↦ some_action Drop a w is.1 (bytes_same w (codes "actions=drop") is.0)
-        | inr none ↦ cc
-      ]
-    ]
-  ],
-)
+action_said (w ∷ []) a h = (w, refl, named_is (λ text b. IsActionText b text) w actions a h (inl refl, (inr refl, (refl, tt))))
 action_said (w ∷ v ∷ ws) a h = cc
 
 -- 3. What is read is written.
@@ -215,23 +197,36 @@ kind_begins frames.Ip text (inl e) = ap begins_action e
 kind_begins frames.Ip text (inr (inl e)) = ap begins_action e
 kind_begins frames.Ip text (inr (inr e)) = ap begins_action e
 
+protocol_begins : (k : FrameKind) (o : Option ℕ) (text : List ℕ) → IsProtocolText k o text → begins_action text ≡ false
+protocol_begins frames.Any o text is = absurd is
+protocol_begins frames.Arp o text is = absurd is
+protocol_begins frames.Ip None text is = absurd is
+protocol_begins frames.Ip (Some n) text (inl (number, e)) = ap begins_action e
+protocol_begins frames.Ip (Some n) text (inr (inl (number, e))) = ap begins_action e
+protocol_begins frames.Ip (Some n) text (inr (inr (number, e))) = ap begins_action e
+
 -- no field begins as the action does
 says_begins : (p : Part) (e : Entry) (text : List ℕ) → Says p e text → begins_action text ≡ false
-says_begins priority e text says = ap begins_action says.1
+says_begins priority e text says = ap begins_action says.written
 says_begins table e text says = ap begins_action says
 says_begins kind e text says = kind_begins e.kind text says
 says_begins source e text says = ap begins_action says.written
 says_begins destination e text says = ap begins_action says.written
+says_begins protocol e text says = ap begins_action says.written
+says_begins source_port e text says = ap begins_action says.written
+says_begins destination_port e text says = ap begins_action says.written
 
 abbrev is_field : List ℕ → Bool
 is_field text = not (begins_action text)
 
 fields_begin : (e : Entry) (parts : List Part) (texts : List (List ℕ)) → EachSays e parts texts → list_all is_field texts ≡ true
-fields_begin e [] [] says = refl
-fields_begin e [] (text ∷ texts) says = absurd says
-fields_begin e (p ∷ ps) [] says = absurd says
-fields_begin e (p ∷ ps) (text ∷ texts) says =
-    and_from (is_field text) (list_all is_field texts) (ap not (says_begins p e text says.0)) (fields_begin e ps texts says.1)
+fields_begin e [] [] no_field = refl
+fields_begin e [] (text ∷ texts) says = elim says [ ]
+fields_begin e (p ∷ ps) [] says = elim says [ ]
+fields_begin e (p ∷ ps) (text ∷ texts) (one_part says rest) =
+    and_from (is_field text) (list_all is_field texts) (ap not (says_begins p e text says)) (fields_begin e ps texts rest)
+fields_begin e (kind ∷ protocol ∷ ps) (text ∷ texts) (two_parts says rest) =
+    and_from (is_field text) (list_all is_field texts) (ap not (protocol_begins e.kind e.proto text says)) (fields_begin e ps texts rest)
 
 -- nor does what has no bytes
 pieces_begin : (pieces : List (List ℕ)) → list_all is_field (filter has_bytes pieces) ≡ true → list_all is_field pieces ≡ true

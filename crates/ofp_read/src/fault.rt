@@ -8,7 +8,7 @@ pub enum OfpWhy {
     /// More than 67,108,864 bytes.
     #[error("TooLong")]
     TooLong,
-    /// A field that stood already, a second frame kind, or no action.
+    /// A field that stood already, a second frame kind or protocol, or no action.
     #[error("BadLine")]
     BadLine,
     /// A field that is none of the table.
@@ -17,7 +17,8 @@ pub enum OfpWhy {
     /// A value that is none of its field.
     #[error("BadValue")]
     BadValue,
-    /// An address in a line that does not ask for IPv4 frames.
+    /// An address or a protocol in a line that does not ask for IPv4 frames, or a port in one that
+    /// does not ask for a protocol with ports.
     #[error("NeedsIp")]
     NeedsIp,
     /// An action that is none.

@@ -2,7 +2,7 @@
 
 ghost use Rattle.std.specs.Prelude.{◌≡◌};
 ghost use Rattle.std.specs.Option.{option_map};
-ghost use Rattle.ofp_read.specs.FieldTable.{frame_type, is_given, key_alone, key_of, key_with_value, with_field, with_key, with_value};
+ghost use Rattle.ofp_read.specs.FieldTable.{frame_type, is_given, key_alone, key_of, key_with_value, of_protocol, with_field, with_table, with_key, with_value};
 
 use crate::fault::OfpWhy;
 use crate::given::{Given, Key};
@@ -29,6 +29,15 @@ fn key_with_value(name: &[u8]) -> Option<Key>
     if name == b"nw_dst".as_slice() {
         return Some(Key::Destination);
     }
+    if name == b"nw_proto".as_slice() {
+        return Some(Key::Protocol);
+    }
+    if name == b"tp_src".as_slice() {
+        return Some(Key::SourcePort);
+    }
+    if name == b"tp_dst".as_slice() {
+        return Some(Key::DestinationPort);
+    }
     None
 }
 
@@ -41,6 +50,15 @@ fn key_alone(name: &[u8]) -> Option<Key>
     }
     if name == b"arp".as_slice() {
         return Some(Key::Arp);
+    }
+    if name == b"icmp".as_slice() {
+        return Some(Key::Icmp);
+    }
+    if name == b"tcp".as_slice() {
+        return Some(Key::Tcp);
+    }
+    if name == b"udp".as_slice() {
+        return Some(Key::Udp);
     }
     None
 }
@@ -63,8 +81,12 @@ fn is_given(given: Given, key: Key) -> bool
         Key::Priority => given.priority.is_some(),
         Key::Table => given.table,
         Key::Ip | Key::Arp | Key::FrameType => given.kind.is_some(),
+        Key::Icmp | Key::Tcp | Key::Udp => given.kind.is_some() || given.proto.is_some(),
         Key::Source => given.src.is_some(),
         Key::Destination => given.dst.is_some(),
+        Key::Protocol => given.proto.is_some(),
+        Key::SourcePort => given.tp_src.is_some(),
+        Key::DestinationPort => given.tp_dst.is_some(),
     }
 }
 
@@ -90,6 +112,30 @@ fn with_kind(given: Given, kind: FrameKind) -> Given
     }
 }
 
+fn with_table(given: Given, value: &[u8]) -> Option<Given>
+    ensures { result ≡ with_table given value.now }
+{
+    if value == b"0".as_slice() {
+        Some(Given {
+            table: true,
+            ..given
+        })
+    } else {
+        None
+    }
+}
+
+/// What is given with IPv4 frames of a protocol.
+fn of_protocol(given: Given, proto: u8) -> Given
+    ensures { result ≡ of_protocol given proto }
+{
+    Given {
+        kind: Some(FrameKind::Ip),
+        proto: Some(proto),
+        ..given
+    }
+}
+
 /// What is given with the value of a field, or None where it is none of its values.
 #[tactic(auto, unfolding(crate::specs::FieldTable::with_value))]
 fn with_value(given: Given, key: Key, value: &[u8]) -> Option<Given>
@@ -100,13 +146,12 @@ fn with_value(given: Given, key: Key, value: &[u8]) -> Option<Given>
             let priority = Some(read_number(65535, value)? as u16);
             Some(Given { priority, ..given })
         }
-        Key::Table if value == b"0".as_slice() => Some(Given {
-            table: true,
-            ..given
-        }),
-        Key::Table => None,
+        Key::Table => with_table(given, value),
         Key::Ip => Some(with_kind(given, FrameKind::Ip)),
         Key::Arp => Some(with_kind(given, FrameKind::Arp)),
+        Key::Icmp => Some(of_protocol(given, 1)),
+        Key::Tcp => Some(of_protocol(given, 6)),
+        Key::Udp => Some(of_protocol(given, 17)),
         Key::FrameType => Some(with_kind(given, frame_type(value)?)),
         Key::Source => {
             let src = Some(read_prefix(value)?);
@@ -115,6 +160,18 @@ fn with_value(given: Given, key: Key, value: &[u8]) -> Option<Given>
         Key::Destination => {
             let dst = Some(read_prefix(value)?);
             Some(Given { dst, ..given })
+        }
+        Key::Protocol => {
+            let proto = Some(read_number(255, value)? as u8);
+            Some(Given { proto, ..given })
+        }
+        Key::SourcePort => {
+            let tp_src = Some(read_number(65535, value)? as u16);
+            Some(Given { tp_src, ..given })
+        }
+        Key::DestinationPort => {
+            let tp_dst = Some(read_number(65535, value)? as u16);
+            Some(Given { tp_dst, ..given })
         }
     }
 }

@@ -10,9 +10,15 @@ pub(crate) enum Key {
     Table,
     Ip,
     Arp,
+    Icmp,
+    Tcp,
+    Udp,
     FrameType,
     Source,
     Destination,
+    Protocol,
+    SourcePort,
+    DestinationPort,
 }
 
 /// What the fields in front gave: the parts of the entry, and whether the table was named.
@@ -23,4 +29,7 @@ pub(crate) struct Given {
     pub(crate) kind: Option<FrameKind>,
     pub(crate) src: Option<Prefix>,
     pub(crate) dst: Option<Prefix>,
+    pub(crate) proto: Option<u8>,
+    pub(crate) tp_src: Option<u16>,
+    pub(crate) tp_dst: Option<u16>,
 }

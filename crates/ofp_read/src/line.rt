@@ -1,8 +1,9 @@
 //! One flow line: its fields, its action, and the entry that they write.
 
-ghost use Rattle.std.specs.Prelude.{◌≡◌, true, Option, List, ℕ};
+ghost use Rattle.std.specs.Prelude.{◌≡◌, ◌||◌, not, Bool, true, Option, List, ℕ};
 ghost use Rattle.std.specs.Option.{option_map};
 ghost use Rattle.text_core.specs.Lines.{words, is_blank};
+ghost use Rattle.ofp_rules.specs.Matching.{asks_of_ip, ports_asked};
 ghost use Rattle.ofp_read.specs.Grammar.{fields, has_bytes, is_separator};
 ghost use Rattle.ofp_read.specs.FlowLine.{action_of, begins_action, cut_action, entry_of, flow_by, flow_of, nothing_given, with_action, with_fields};
 
@@ -18,6 +19,9 @@ const NOTHING_GIVEN: Given = Given {
     kind: None,
     src: None,
     dst: None,
+    proto: None,
+    tp_src: None,
+    tp_dst: None,
 };
 
 fn is_separator(byte: u8) -> bool
@@ -96,6 +100,9 @@ fn entry_of(given: Given, action: Action) -> Entry
         kind: given.kind.unwrap_or(FrameKind::Any),
         src: given.src,
         dst: given.dst,
+        proto: given.proto,
+        tp_src: given.tp_src,
+        tp_dst: given.tp_dst,
         action,
     }
 }
@@ -107,10 +114,27 @@ fn with_action(given: Given, action: Option<Action>) -> Result<Entry, OfpWhy>
         return Err(OfpWhy::UnknownAction);
     };
     let entry = entry_of(given, action);
-    if entry.kind != FrameKind::Ip && (entry.src.is_some() || entry.dst.is_some()) {
-        return Err(OfpWhy::NeedsIp);
+    if asks_of_ip(entry) {
+        Ok(entry)
+    } else {
+        Err(OfpWhy::NeedsIp)
     }
-    Ok(entry)
+}
+
+/// Whether it asks of frames only what they all have: addresses and a protocol of IPv4 frames,
+/// and ports of a protocol that has them.
+fn asks_of_ip(entry: Entry) -> bool
+    ensures { result ≡ asks_of_ip entry }
+{
+    let of_ip = entry.src.is_some() || entry.dst.is_some() || entry.proto.is_some();
+    let ports = entry.tp_src.is_some() || entry.tp_dst.is_some();
+    (entry.kind == FrameKind::Ip || !of_ip) && (has_ports(entry.proto) || !ports)
+}
+
+fn has_ports(proto: Option<u8>) -> bool
+    ensures { (asks : Bool) → ports_asked proto asks ≡ (result || not asks) }
+{
+    matches!(proto, Some(6 | 17))
 }
 
 /// The entry that a line writes. Its fields are checked from left to right, then its action.

@@ -6,7 +6,7 @@ use std::alloc::{AllocError, Global};
 use std::test::Fail;
 
 /// A text, and what is written of the table that it says.
-const READ: [(&[u8], &[u8]); 17] = [
+const READ: [(&[u8], &[u8]); 22] = [
     (b"", b""),
     (b"# none\n\n \t\n  #x actions=drop", b""),
     (b"actions=drop", b"priority=32768,actions=drop\n"),
@@ -57,9 +57,29 @@ const READ: [(&[u8], &[u8]); 17] = [
         b"priority=40,ip,nw_src=10.0.0.1/32,nw_dst=10.0.0.2/32,actions=NORMAL\npriority=20,arp,actions=NORMAL\npriority=0,actions=drop\n",
         b"priority=40,ip,nw_src=10.0.0.1/32,nw_dst=10.0.0.2/32,actions=NORMAL\npriority=20,arp,actions=NORMAL\npriority=0,actions=drop\n",
     ),
+    (
+        b"priority=40,tcp,nw_src=10.0.0.1/32,nw_dst=10.0.0.2/32,tp_dst=80,actions=NORMAL",
+        b"priority=40,tcp,nw_src=10.0.0.1/32,nw_dst=10.0.0.2/32,tp_dst=80,actions=NORMAL\n",
+    ),
+    (
+        b"tp_dst=65535 tp_src=0 nw_proto=17 dl_type=0x800 actions=drop",
+        b"priority=32768,udp,tp_src=0,tp_dst=65535,actions=drop\n",
+    ),
+    (
+        b"ip,nw_proto=1,actions=drop",
+        b"priority=32768,icmp,actions=drop\n",
+    ),
+    (
+        b"nw_proto=0,ip,actions=drop",
+        b"priority=32768,ip,nw_proto=0,actions=drop\n",
+    ),
+    (
+        b"icmp,actions=drop\nudp,tp_dst=53,actions=NORMAL\nudp,tp_dst=54,actions=drop",
+        b"priority=32768,icmp,actions=drop\npriority=32768,udp,tp_dst=53,actions=NORMAL\npriority=32768,udp,tp_dst=54,actions=drop\n",
+    ),
 ];
 
-const REFUSED: [(&[u8], u32, OfpWhy); 50] = [
+const REFUSED: [(&[u8], u32, OfpWhy); 59] = [
     (b"in_port=1,actions=drop", 1, OfpWhy::UnknownField),
     (b"in_port=1,in_port=1", 1, OfpWhy::UnknownField),
     (b"ip=,actions=drop", 1, OfpWhy::UnknownField),
@@ -134,6 +154,19 @@ const REFUSED: [(&[u8], u32, OfpWhy); 50] = [
         OfpWhy::NeedsIp,
     ),
     (b"x\nip", 1, OfpWhy::UnknownField),
+    (b"tcp=,actions=drop", 1, OfpWhy::UnknownField),
+    (b"tcp,udp,actions=drop", 1, OfpWhy::BadLine),
+    (b"tcp,nw_proto=999,actions=drop", 1, OfpWhy::BadLine),
+    (b"nw_proto=6,tcp,actions=drop", 1, OfpWhy::BadLine),
+    (b"ip,nw_proto=256,actions=drop", 1, OfpWhy::BadValue),
+    (b"tcp,tp_dst=080,actions=drop", 1, OfpWhy::BadValue),
+    (b"priority=5,ip,tp_dst=80,actions=drop", 1, OfpWhy::NeedsIp),
+    (b"arp,nw_proto=1,actions=drop", 1, OfpWhy::NeedsIp),
+    (
+        b"tcp,tp_src=1,actions=drop\ntcp,tp_dst=1,actions=NORMAL",
+        2,
+        OfpWhy::Ambiguous,
+    ),
 ];
 
 fn text_of(alloc: Global, table: &Table) -> Result<Vec<u8>, AllocError> {

@@ -57,8 +57,8 @@ not_said : (bytes : List ℕ) (fault : IptFault) → Tells (text_said bytes) fau
 not_said bytes (Refused line why) tells = fault_of_text bytes line why tells
 not_said bytes Memory tells = tt
 
-written : (bytes : List ℕ) (chains : List Chain) → IsWritable chains → bytes ≡ text chains → length bytes ≤ 67108864
-    → IsReading bytes chains
+written : (bytes : List ℕ) (chains : List Chain) → IsWritable chains → bytes ≡ text chains
+    → length bytes ≤ 67108864 → IsReading bytes chains
 written bytes chains fine e short =
     subst (λ (bs : List ℕ). IsReading bs chains) (sym e)
     (text_read_again chains fine (subst (λ (bs : List ℕ). length bs ≤ 67108864) e short))

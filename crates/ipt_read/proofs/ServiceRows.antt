@@ -1,0 +1,214 @@
+-- Worked rows: rule lines with protocols and ports as they are read, and why they are not.
+use Rattle.std.proofs.Common.{◌≡◌, true, false, ℕ, List, ◌++◌, Option, Some, None, refl}
+use Rattle.std.specs.Prelude.{codes, Result, Ok, Err}
+use Rattle.text_core.specs.Decimal.{number, bounded_value}
+use Rattle.host_net.specs.Prefix.{prefix_of, prefix_with, address_of}
+use Rattle.ipt_rules.specs.declared.rule.PortMatch.{PortMatch}
+use Rattle.ipt_rules.specs.declared.rule.ProtoMatch.{ProtoMatch}
+use Rattle.ipt_rules.specs.declared.rule.Rule.{Rule}
+use Rattle.ipt_rules.specs.declared.rule.Target.TheVariants.{Accept, Count}
+use Rattle.ipt_read.specs.declared.fault.IptWhy.{IptWhy}
+use Rattle.ipt_read.specs.declared.fault.IptWhy.TheVariants.{BadLine, UnknownOption, BadValue}
+use Rattle.ipt_read.specs.Options.{option_of, is_state, states_of, target_of, with_module, with_value}
+use Rattle.ipt_read.specs.ServiceValues.{asked_protocol, asked_ports}
+use Rattle.ipt_read.specs.Counts.{is_count}
+use Rattle.ipt_read.specs.RuleLine.{is_bang, word_step, rule_line_of}
+use Rattle.ipt_read.proofs.RuleRows.{row}
+
+-- the line of FORWARD with these options
+abbrev forward : List ℕ → Result (ℕ × Rule) IptWhy
+forward options = row (codes "-A FORWARD " ++ options)
+
+abbrev protocol : ℕ → Option ProtoMatch
+protocol proto = Some (record { proto = proto; negated = false })
+
+abbrev ports : ℕ → ℕ → Option PortMatch
+ports low high = Some (record { low = low; high = high; negated = false })
+
+-- a rule that asks for a protocol and ports alone
+abbrev asks : Option ProtoMatch → Option PortMatch → Option PortMatch → Result (ℕ × Rule) IptWhy
+asks proto sport dport =
+    Ok (1, record { src = None; dst = None; proto = proto; sport = sport; dport = dport; state = None; target = Count })
+
+row_web : forward (codes "-d 192.168.1.10/32 -p tcp -m tcp --dport 443 -m conntrack --ctstate NEW -j ACCEPT") ≡ Ok (
+  1,
+  record {
+    src = None;
+    dst = Some (record { prefix = prefix_with 3232235786 32; negated = false });
+    proto = protocol 6;
+    sport = None;
+    dport = ports 443 443;
+    state = Some (record { new = true; established = false; negated = false });
+    target = Accept;
+  },
+)
+unfolding rule_line_of is_count word_step is_bang option_of with_value states_of is_state target_of with_module asked_protocol asked_ports prefix_of address_of number bounded_value
+row_web = refl
+
+row_multiport : forward (codes "-p tcp -m multiport --dports 80,443 -j ACCEPT") ≡ Err UnknownOption
+unfolding rule_line_of is_count word_step is_bang option_of with_value states_of is_state target_of with_module asked_protocol asked_ports prefix_of address_of number bounded_value
+row_multiport = refl
+
+row_port_alone : forward (codes "--dport 80 -j ACCEPT") ≡ Err UnknownOption
+unfolding rule_line_of is_count word_step is_bang option_of with_value states_of is_state target_of with_module asked_protocol asked_ports prefix_of address_of number bounded_value
+row_port_alone = refl
+
+row_port_no_module : forward (codes "-p tcp --dport 80") ≡ Err UnknownOption
+unfolding rule_line_of is_count word_step is_bang option_of with_value states_of is_state target_of with_module asked_protocol asked_ports prefix_of address_of number bounded_value
+row_port_no_module = refl
+
+row_port_bang_alone : forward (codes "! --sport 80") ≡ Err UnknownOption
+unfolding rule_line_of is_count word_step is_bang option_of with_value states_of is_state target_of with_module asked_protocol asked_ports prefix_of address_of number bounded_value
+row_port_bang_alone = refl
+
+row_icmp_type : forward (codes "-p icmp --icmp-type 8") ≡ Err UnknownOption
+unfolding rule_line_of is_count word_step is_bang option_of with_value states_of is_state target_of with_module asked_protocol asked_ports prefix_of address_of number bounded_value
+row_icmp_type = refl
+
+row_icmp_module : forward (codes "-p icmp -m icmp") ≡ Err UnknownOption
+unfolding rule_line_of is_count word_step is_bang option_of with_value states_of is_state target_of with_module asked_protocol asked_ports prefix_of address_of number bounded_value
+row_icmp_module = refl
+
+row_module_alone : forward (codes "-m tcp") ≡ Err UnknownOption
+unfolding rule_line_of is_count word_step is_bang option_of with_value states_of is_state target_of with_module asked_protocol asked_ports prefix_of address_of number bounded_value
+row_module_alone = refl
+
+row_module_in_front : forward (codes "-m tcp -p tcp") ≡ Err UnknownOption
+unfolding rule_line_of is_count word_step is_bang option_of with_value states_of is_state target_of with_module asked_protocol asked_ports prefix_of address_of number bounded_value
+row_module_in_front = refl
+
+row_module_turned : forward (codes "! -p tcp -m tcp") ≡ Err UnknownOption
+unfolding rule_line_of is_count word_step is_bang option_of with_value states_of is_state target_of with_module asked_protocol asked_ports prefix_of address_of number bounded_value
+row_module_turned = refl
+
+row_module_of_other : forward (codes "-p tcp -m udp") ≡ Err UnknownOption
+unfolding rule_line_of is_count word_step is_bang option_of with_value states_of is_state target_of with_module asked_protocol asked_ports prefix_of address_of number bounded_value
+row_module_of_other = refl
+
+row_module_of_none : forward (codes "-p icmp -m tcp") ≡ Err UnknownOption
+unfolding rule_line_of is_count word_step is_bang option_of with_value states_of is_state target_of with_module asked_protocol asked_ports prefix_of address_of number bounded_value
+row_module_of_none = refl
+
+row_module_bang : forward (codes "-p tcp ! -m tcp") ≡ Err BadLine
+unfolding rule_line_of is_count word_step is_bang option_of with_value states_of is_state target_of with_module asked_protocol asked_ports prefix_of address_of number bounded_value
+row_module_bang = refl
+
+row_protocol_twice : forward (codes "-p tcp -p udp") ≡ Err BadLine
+unfolding rule_line_of is_count word_step is_bang option_of with_value states_of is_state target_of with_module asked_protocol asked_ports prefix_of address_of number bounded_value
+row_protocol_twice = refl
+
+row_protocol_twice_bad : forward (codes "-p tcp ! -p x") ≡ Err BadLine
+unfolding rule_line_of is_count word_step is_bang option_of with_value states_of is_state target_of with_module asked_protocol asked_ports prefix_of address_of number bounded_value
+row_protocol_twice_bad = refl
+
+row_protocol_behind : forward (codes "-j ACCEPT -p tcp") ≡ Err UnknownOption
+unfolding rule_line_of is_count word_step is_bang option_of with_value states_of is_state target_of with_module asked_protocol asked_ports prefix_of address_of number bounded_value
+row_protocol_behind = refl
+
+row_port_behind : forward (codes "-p tcp -m tcp -j ACCEPT --dport 80") ≡ Err UnknownOption
+unfolding rule_line_of is_count word_step is_bang option_of with_value states_of is_state target_of with_module asked_protocol asked_ports prefix_of address_of number bounded_value
+row_port_behind = refl
+
+row_port_twice : forward (codes "-p tcp -m tcp --dport 80 --dport x") ≡ Err BadLine
+unfolding rule_line_of is_count word_step is_bang option_of with_value states_of is_state target_of with_module asked_protocol asked_ports prefix_of address_of number bounded_value
+row_port_twice = refl
+
+row_protocol_none : forward (codes "-p") ≡ Err BadValue
+unfolding rule_line_of is_count word_step is_bang option_of with_value states_of is_state target_of with_module asked_protocol asked_ports prefix_of address_of number bounded_value
+row_protocol_none = refl
+
+row_protocol_zero : forward (codes "-p 0") ≡ Err BadValue
+unfolding rule_line_of is_count word_step is_bang option_of with_value states_of is_state target_of with_module asked_protocol asked_ports prefix_of address_of number bounded_value
+row_protocol_zero = refl
+
+row_protocol_large : forward (codes "-p 256") ≡ Err BadValue
+unfolding rule_line_of is_count word_step is_bang option_of with_value states_of is_state target_of with_module asked_protocol asked_ports prefix_of address_of number bounded_value
+row_protocol_large = refl
+
+row_protocol_padded : forward (codes "-p 06") ≡ Err BadValue
+unfolding rule_line_of is_count word_step is_bang option_of with_value states_of is_state target_of with_module asked_protocol asked_ports prefix_of address_of number bounded_value
+row_protocol_padded = refl
+
+row_protocol_all : forward (codes "-p all") ≡ Err BadValue
+unfolding rule_line_of is_count word_step is_bang option_of with_value states_of is_state target_of with_module asked_protocol asked_ports prefix_of address_of number bounded_value
+row_protocol_all = refl
+
+row_protocol_upper : forward (codes "-p TCP") ≡ Err BadValue
+unfolding rule_line_of is_count word_step is_bang option_of with_value states_of is_state target_of with_module asked_protocol asked_ports prefix_of address_of number bounded_value
+row_protocol_upper = refl
+
+row_ports_turned_round : forward (codes "-p tcp -m tcp --dport 90:80") ≡ Err BadValue
+unfolding rule_line_of is_count word_step is_bang option_of with_value states_of is_state target_of with_module asked_protocol asked_ports prefix_of address_of number bounded_value
+row_ports_turned_round = refl
+
+row_ports_colon : forward (codes "-p tcp -m tcp --dport :") ≡ Err BadValue
+unfolding rule_line_of is_count word_step is_bang option_of with_value states_of is_state target_of with_module asked_protocol asked_ports prefix_of address_of number bounded_value
+row_ports_colon = refl
+
+row_ports_two_colons : forward (codes "-p tcp -m tcp --dport 1:2:3") ≡ Err BadValue
+unfolding rule_line_of is_count word_step is_bang option_of with_value states_of is_state target_of with_module asked_protocol asked_ports prefix_of address_of number bounded_value
+row_ports_two_colons = refl
+
+row_port_large : forward (codes "-p tcp -m tcp --dport 65536") ≡ Err BadValue
+unfolding rule_line_of is_count word_step is_bang option_of with_value states_of is_state target_of with_module asked_protocol asked_ports prefix_of address_of number bounded_value
+row_port_large = refl
+
+row_port_padded : forward (codes "-p udp -m udp --sport 080") ≡ Err BadValue
+unfolding rule_line_of is_count word_step is_bang option_of with_value states_of is_state target_of with_module asked_protocol asked_ports prefix_of address_of number bounded_value
+row_port_padded = refl
+
+row_port_name : forward (codes "-p tcp -m tcp --dport http") ≡ Err BadValue
+unfolding rule_line_of is_count word_step is_bang option_of with_value states_of is_state target_of with_module asked_protocol asked_ports prefix_of address_of number bounded_value
+row_port_name = refl
+
+row_port_bang_none : forward (codes "-p tcp -m tcp ! --dport") ≡ Err BadValue
+unfolding rule_line_of is_count word_step is_bang option_of with_value states_of is_state target_of with_module asked_protocol asked_ports prefix_of address_of number bounded_value
+row_port_bang_none = refl
+
+row_protocol_number : forward (codes "-p 6 -m tcp --dport 80") ≡ asks (protocol 6) None (ports 80 80)
+unfolding rule_line_of is_count word_step is_bang option_of with_value states_of is_state target_of with_module asked_protocol asked_ports prefix_of address_of number bounded_value
+row_protocol_number = refl
+
+row_protocol_other : forward (codes "-p 47") ≡ asks (protocol 47) None None
+unfolding rule_line_of is_count word_step is_bang option_of with_value states_of is_state target_of with_module asked_protocol asked_ports prefix_of address_of number bounded_value
+row_protocol_other = refl
+
+row_protocol_last : forward (codes "-p 255") ≡ asks (protocol 255) None None
+unfolding rule_line_of is_count word_step is_bang option_of with_value states_of is_state target_of with_module asked_protocol asked_ports prefix_of address_of number bounded_value
+row_protocol_last = refl
+
+row_icmp : forward (codes "-p icmp") ≡ asks (protocol 1) None None
+unfolding rule_line_of is_count word_step is_bang option_of with_value states_of is_state target_of with_module asked_protocol asked_ports prefix_of address_of number bounded_value
+row_icmp = refl
+
+row_esp : forward (codes "-p esp") ≡ asks (protocol 50) None None
+unfolding rule_line_of is_count word_step is_bang option_of with_value states_of is_state target_of with_module asked_protocol asked_ports prefix_of address_of number bounded_value
+row_esp = refl
+
+row_ah : forward (codes "-p ah") ≡ asks (protocol 51) None None
+unfolding rule_line_of is_count word_step is_bang option_of with_value states_of is_state target_of with_module asked_protocol asked_ports prefix_of address_of number bounded_value
+row_ah = refl
+
+row_sctp : forward (codes "! -p sctp") ≡ asks (Some (record { proto = 132; negated = true })) None None
+unfolding rule_line_of is_count word_step is_bang option_of with_value states_of is_state target_of with_module asked_protocol asked_ports prefix_of address_of number bounded_value
+row_sctp = refl
+
+row_module_twice : forward (codes "-p udp -m udp -m udp") ≡ asks (protocol 17) None None
+unfolding rule_line_of is_count word_step is_bang option_of with_value states_of is_state target_of with_module asked_protocol asked_ports prefix_of address_of number bounded_value
+row_module_twice = refl
+
+row_ports : forward (codes "-p udp -m udp --sport 53:60 --dport 5:5") ≡ asks (protocol 17) (ports 53 60) (ports 5 5)
+unfolding rule_line_of is_count word_step is_bang option_of with_value states_of is_state target_of with_module asked_protocol asked_ports prefix_of address_of number bounded_value
+row_ports = refl
+
+row_ports_up_to : forward (codes "-p udp -m udp --dport :1023") ≡ asks (protocol 17) None (ports 0 1023)
+unfolding rule_line_of is_count word_step is_bang option_of with_value states_of is_state target_of with_module asked_protocol asked_ports prefix_of address_of number bounded_value
+row_ports_up_to = refl
+
+row_ports_from : forward (codes "-p udp -m udp --sport 1024:") ≡ asks (protocol 17) (ports 1024 65535) None
+unfolding rule_line_of is_count word_step is_bang option_of with_value states_of is_state target_of with_module asked_protocol asked_ports prefix_of address_of number bounded_value
+row_ports_from = refl
+
+row_ports_all : forward (codes "-p tcp -m tcp ! --dport 0:65535") ≡ asks (protocol 6) None (Some (record { low = 0; high = 65535; negated = true }))
+unfolding rule_line_of is_count word_step is_bang option_of with_value states_of is_state target_of with_module asked_protocol asked_ports prefix_of address_of number bounded_value
+row_ports_all = refl

@@ -1,0 +1,97 @@
+//! Reading the values of the options of protocols and ports.
+
+ghost use Rattle.std.specs.Prelude.{◌≡◌, Some, None, if◌then◌else◌, nat_le};
+ghost use Rattle.text_core.specs.Decimal.{number};
+ghost use Rattle.host_net.specs.Service.{last_port};
+ghost use Rattle.ipt_read.specs.ServiceValues.{asked_ports, asked_protocol, if_positive, named_protocol, port_or, ports_between};
+
+use text_core::{read_number, split_once};
+
+/// The greatest port.
+const LAST_PORT: u16 = 65535;
+
+/// A protocol by a name, or by its number from 1 to 255.
+#[tactic(auto, unfolding(crate::specs::ServiceValues::asked_protocol))]
+pub(crate) fn asked_protocol(word: &[u8]) -> Option<u8>
+    ensures { result ≡ asked_protocol word.now }
+{
+    match named_protocol(word) {
+        Some(proto) => Some(proto),
+        None => numbered_protocol(word),
+    }
+}
+
+fn named_protocol(word: &[u8]) -> Option<u8>
+    ensures { result ≡ named_protocol word.now }
+{
+    if word == b"esp".as_slice() {
+        return Some(50);
+    }
+    if word == b"ah".as_slice() {
+        return Some(51);
+    }
+    if word == b"sctp".as_slice() {
+        return Some(132);
+    }
+    if word == b"icmp".as_slice() {
+        return Some(1);
+    }
+    if word == b"tcp".as_slice() {
+        return Some(6);
+    }
+    if word == b"udp".as_slice() {
+        return Some(17);
+    }
+    None
+}
+
+fn numbered_protocol(word: &[u8]) -> Option<u8>
+    ensures { result ≡ if_positive (number 255 word.now) }
+{
+    match read_number(255, word)? {
+        0 => None,
+        proto => Some(proto as u8),
+    }
+}
+
+/// The first port and the last, which are the same where there is no colon.
+#[tactic(auto, unfolding(crate::specs::ServiceValues::asked_ports))]
+pub(crate) fn asked_ports(word: &[u8]) -> Option<(u16, u16)>
+    ensures { result ≡ asked_ports word.now }
+{
+    match split_once(word, b':') {
+        None => {
+            let port = read_port(word)?;
+            Some((port, port))
+        }
+        Some((first, last)) => {
+            if first.is_empty() && last.is_empty() {
+                return None;
+            }
+            ports_between(first, last)
+        }
+    }
+}
+
+fn ports_between(first: &[u8], last: &[u8]) -> Option<(u16, u16)>
+    ensures { result ≡ ports_between first.now last.now }
+{
+    let low = port_or(0, first)?;
+    let high = port_or(LAST_PORT, last)?;
+    if low <= high { Some((low, high)) } else { None }
+}
+
+fn port_or(other: u16, word: &[u8]) -> Option<u16>
+    ensures { result ≡ port_or other word.now }
+{
+    if word.is_empty() {
+        return Some(other);
+    }
+    read_port(word)
+}
+
+fn read_port(word: &[u8]) -> Option<u16>
+    ensures { result ≡ number last_port word.now }
+{
+    Some(read_number(LAST_PORT as u32, word)? as u16)
+}
