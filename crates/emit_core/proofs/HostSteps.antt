@@ -4,6 +4,7 @@ use Rattle.std.specs.Prelude.{slice_get, option_map}
 use Rattle.std.proofs.lemmas.List.{drop_all}
 use Rattle.host_net.specs.declared.prefix.Prefix.{Prefix}
 use Rattle.host_net.specs.Host.{Host, rest_of}
+use Rattle.host_net.specs.Site.{Site}
 use Rattle.ofp_rules.specs.declared.entry.Entry.{Entry}
 use Rattle.emit_core.proofs.Steps.{drop_here}
 use Rattle.flow_set.specs.declared.flow.Flow.{Flow}
@@ -14,6 +15,14 @@ pub for_each_all : (written : ℕ → List Prefix → List Entry) (hosts : List 
     → for_each_host written i (drop i hosts) ≡ []
 for_each_all written hosts i is = ap (for_each_host written i) (drop_all i hosts (omega arith))
 
+-- what is left for host i and those after it: its entries first
+pub host_left : (written : ℕ → List Prefix → List Entry) (hosts : List Host) (i : ℕ) (qs : List Prefix)
+    → option_map (λ h. h.prefixes) (slice_get hosts i) ≡ Some qs
+    → for_each_host written i (drop i hosts) ≡ written i qs ++ for_each_host written (i + 1) (drop (i + 1) hosts)
+host_left written hosts i qs here =
+    let found = drop_here hosts i qs here in
+    ap (for_each_host written i) found.1 ∙ ap (λ (x : List Prefix). written i x ++ for_each_host written (i + 1) (drop (i + 1) hosts)) (sym found.2)
+
 -- the entries for host i are written: what was left before is written and left now
 pub grow_host : (written : ℕ → List Prefix → List Entry) (hosts : List Host) (i : ℕ) (qs : List Prefix) (old new whole : List Entry)
     → option_map (λ h. h.prefixes) (slice_get hosts i) ≡ Some qs
@@ -21,18 +30,15 @@ pub grow_host : (written : ℕ → List Prefix → List Entry) (hosts : List Hos
     → new ≡ old ++ written i qs
     → new ++ for_each_host written (i + 1) (drop (i + 1) hosts) ≡ whole
 grow_host written hosts i qs old new whole here before step =
-    let found = drop_here hosts i qs here in
-    let left : for_each_host written i (drop i hosts) ≡ written i qs ++ for_each_host written (i + 1) (drop (i + 1) hosts) =
-    ap (for_each_host written i) found.1 ∙ ap (λ (x : List Prefix). written i x ++ for_each_host written (i + 1) (drop (i + 1) hosts)) (sym found.2) in
     ap (λ (x : List Entry). x ++ for_each_host written (i + 1) (drop (i + 1) hosts)) step
     ∙ append_assoc old (written i qs) (for_each_host written (i + 1) (drop (i + 1) hosts))
-    ∙ ap (λ (x : List Entry). old ++ x) (sym left)
+    ∙ ap (λ (x : List Entry). old ++ x) (sym (host_left written hosts i qs here))
     ∙ before
 
 -- the parts, one after the other
-pub put_together : (hosts : List Host) (p : List Flow) (rest : Option ℕ) (none first second third all : List Entry) (arp other : Entry)
-    → rest ≡ rest_of hosts → none ≡ [] → first ≡ none ++ between hosts p rest → second ≡ first ++ with_rest hosts p rest → third ≡ second ++ arp ∷ [] → all ≡ third ++ other ∷ [] → arp ≡ arp_entry → other ≡ other_entry
-    → all ≡ flow_entries hosts p
+pub put_together : (site : Site) (p : List Flow) (rest : Option ℕ) (none first second third all : List Entry) (arp other : Entry)
+    → rest ≡ rest_of site.hosts → none ≡ [] → first ≡ none ++ between site p rest → second ≡ first ++ with_rest site p rest → third ≡ second ++ arp ∷ [] → all ≡ third ++ other ∷ [] → arp ≡ arp_entry → other ≡ other_entry
+    → all ≡ flow_entries site p
 unfolding flow_entries
-put_together hosts p rest none first second third all arp other by_rest empty one two three four is_arp is_other =
+put_together site p rest none first second third all arp other by_rest empty one two three four is_arp is_other =
     rw (four, three, two, one, empty, by_rest, is_arp, is_other) (simp append_assoc)

@@ -1,3 +1,7 @@
-pub mod Steps
+pub mod CountLemmas
+pub mod CountSteps
 pub mod FillingLemmas
 pub mod HostSteps
+pub mod NarrowedSteps
+pub mod RangeSteps
+pub mod Steps

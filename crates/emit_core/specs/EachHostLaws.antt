@@ -1,8 +1,8 @@
 -- What stands among entries that are written one after another, and how many they are.
-use Rattle.std.proofs.Common.{◌≡◌, inl, inr, ℕ, zero, suc, ◌+◌, ◌*◌, ◌≤◌, Bool, true, List, [], ◌∷◌, Some, length, refl, ap, subst, arith, length-append}
+use Rattle.std.proofs.Common.{◌≡◌, inl, inr, ℕ, zero, suc, ◌+◌, ◌*◌, ◌≤◌, Bool, true, List, [], ◌∷◌, Some, length, refl, ap, subst, ◌∙◌, arith, length-append}
 use Rattle.std.specs.Prelude.{slice_get, map}
 use Rattle.std.specs.List.{flat_map, list_all}
-use Rattle.std.proofs.lemmas.Bool.{and_from}
+use Rattle.std.proofs.lemmas.Bool.{and_from, and_parts}
 use Rattle.std.proofs.lemmas.List.Sums.{sum_by-cons}
 use Rattle.host_net.specs.declared.prefix.Prefix.{Prefix}
 use Rattle.host_net.specs.Host.{Host}
@@ -102,6 +102,11 @@ each_in w hs e i h there listed =
 pub all_pass : {X : Type 0} (f : X → Bool) (xs : List X) → ((x : X) → IsOneOf x xs → f x ≡ true) → list_all f xs ≡ true
 all_pass f [] each = refl
 all_pass f (x ∷ xs) each = and_from (f x) (list_all f xs) (each x (inl refl)) (all_pass f xs (λ y h. each y (inr h)))
+
+pub one_passes : {X : Type 0} (f : X → Bool) (xs : List X) (x : X) → list_all f xs ≡ true → IsOneOf x xs → f x ≡ true
+one_passes f [] x all here = absurd here
+one_passes f (y ∷ xs) x all (inl is) = ap f is ∙ (and_parts (f y) (list_all f xs) all).0
+one_passes f (y ∷ xs) x all (inr later) = one_passes f xs x (and_parts (f y) (list_all f xs) all).1 later
 
 -- how many
 pub flat_long : {X Y : Type 0} (f : X → List Y) (xs : List X) (n : ℕ) → ((x : X) → length (f x) ≤ n)

@@ -1,7 +1,7 @@
 -- Chains and rules that are added one after another. Callers see none of it; they have the layout.
 use Rattle.std.specs.Prelude.{ℕ, List, [], ◌∷◌, ◌++◌, map}
 use Rattle.std.specs.List.{range_with_len}
-use Rattle.host_net.specs.Host.{Host}
+use Rattle.host_net.specs.Site.{Site}
 use Rattle.flow_set.specs.declared.flow.Flow.{Flow}
 use Rattle.ipt_rules.specs.declared.rule.Rule.{Rule}
 use Rattle.ipt_rules.specs.Chain.{Chain, with_rule}
@@ -13,5 +13,5 @@ with_rules chains c [] = chains
 with_rules chains c (r ∷ rs) = with_rules (with_rule chains c r) c rs
 
 -- the layout up to the chain of the n-th host
-abbrev pub chains_up_to : List Host → List Flow → List Flow → ℕ → List Chain
-chains_up_to hosts p s n = entry_chains hosts ++ map (host_chain hosts p s) (range_with_len 0 n)
+abbrev pub chains_up_to : Site → List Flow → List Flow → ℕ → List Chain
+chains_up_to site p s n = entry_chains site.hosts ++ map (host_chain site p s) (range_with_len 0 n)

@@ -1,9 +1,14 @@
--- The layout of a policy as a flow table of OpenFlow (docs/FORMATS.md). The policy is the flows p that are permitted; hosts are known by
--- their numbers.
-use Rattle.std.specs.Prelude.{ℕ, ◌+◌, Bool, true, false, if◌then◌else◌, List, [], ◌∷◌, ◌++◌, Option, Some, None, map}
+-- The layout of a policy as a flow table of OpenFlow (docs/FORMATS.md). The policy is the flows p that are permitted, each narrowed to its
+-- services where it has some; hosts are known by their numbers.
+use Rattle.std.specs.Prelude.{ℕ, ◌+◌, Bool, true, false, if◌then◌else◌, List, [], ◌∷◌, ◌++◌, Option, Some, None, map, option_map}
 use Rattle.std.specs.List.{flat_map}
+use Rattle.std.specs.Option.{option_and_then}
 use Rattle.host_net.specs.declared.prefix.Prefix.{Prefix}
+use Rattle.host_net.specs.declared.service.Service.{Service}
 use Rattle.host_net.specs.Host.{Host, rest_of}
+use Rattle.host_net.specs.Service.{has_all_ports, is_whole, narrowings}
+use Rattle.host_net.specs.Services.{services_of}
+use Rattle.host_net.specs.Site.{Site}
 use Rattle.flow_set.specs.declared.flow.Flow.{Flow}
 use Rattle.ofp_rules.specs.declared.entry.Entry.{Entry}
 use Rattle.ofp_rules.specs.declared.entry.FrameKind.TheVariants.{Any, Arp, Ip}
@@ -18,60 +23,77 @@ for_each_host written k (h ∷ hs) = written k h.prefixes ++ for_each_host writt
 
 -- an entry for IPv4 frames; without a prefix it asks for no source, or no destination
 abbrev pub ip_entry : ℕ → Option Prefix → Option Prefix → Action → Entry
-ip_entry priority q t action = record { priority = priority; kind = Ip; src = q; dst = t; action = action }
+ip_entry priority q t action = record { priority = priority; kind = Ip; src = q; dst = t; proto = None; tp_src = None; tp_dst = None; action = action }
 
--- what is done between two hosts: a permitted flow is forwarded; where there is a rest host all else is dropped, lest it pass as if from
--- or to that host
-abbrev pub pair_action : Bool → Option ℕ → Option Action
-pair_action true rest = Some Normal
-pair_action false None = None
-pair_action false (Some r) = Some Drop
+-- the port of a service; one with all ports asks for none
+abbrev pub port_of_service : Service → Option ℕ
+port_of_service s = if has_all_ports s then None else Some s.low
 
--- the entry from the prefix q to the prefix t
-abbrev pub pair_entry : Option Action → Prefix → Prefix → List Entry
-pair_entry None q t = []
-pair_entry (Some action) q t = ip_entry 40 (Some q) (Some t) action ∷ []
+-- an entry that forwards packets of a service
+abbrev pub service_entry : ℕ → Option Prefix → Option Prefix → Option Service → Entry
+service_entry priority q t n = record {
+  priority = priority;
+  kind = Ip;
+  src = q;
+  dst = t;
+  proto = option_map (λ s. s.proto) n;
+  tp_src = None;
+  tp_dst = option_and_then port_of_service n;
+  action = Normal;
+}
 
-abbrev pub from_prefix : Option Action → List Prefix → Prefix → List Entry
-from_prefix action ts q = flat_map (pair_entry action q) ts
+-- what is dropped between two hosts where there is a rest host, lest it pass as if from or to that host
+abbrev pub rest_drop : Option ℕ → ℕ → Prefix → Prefix → List Entry
+rest_drop None priority q t = []
+rest_drop (Some r) priority q t = ip_entry priority (Some q) (Some t) Drop ∷ []
+
+-- the entries from the prefix q to the prefix t: of a permitted flow each service, and below them a drop where it is narrowed; of another
+-- flow the drop alone
+abbrev pub pair_entries : Bool → List Service → Option ℕ → Prefix → Prefix → List Entry
+pair_entries true ss rest q t =
+    map (service_entry 40 (Some q) (Some t)) (narrowings ss) ++ (if is_whole ss then [] else rest_drop rest 35 q t)
+pair_entries false ss rest q t = rest_drop rest 40 q t
+
+abbrev pub from_prefix : Bool → List Service → Option ℕ → List Prefix → Prefix → List Entry
+from_prefix permitted ss rest ts q = flat_map (pair_entries permitted ss rest q) ts
 
 -- from each prefix of one host to each of another
-abbrev pub host_pair : Option Action → List Prefix → List Prefix → List Entry
-host_pair action qs ts = flat_map (from_prefix action ts) qs
+abbrev pub host_pair : Bool → List Service → Option ℕ → List Prefix → List Prefix → List Entry
+host_pair permitted ss rest qs ts = flat_map (from_prefix permitted ss rest ts) qs
 
 -- from host i with its prefixes to each host
-abbrev pub from_host : List Host → List Flow → Option ℕ → ℕ → List Prefix → List Entry
-from_host hosts p rest i qs = for_each_host (λ j ts. host_pair (pair_action (permits p i j) rest) qs ts) 0 hosts
+abbrev pub from_host : Site → List Flow → Option ℕ → ℕ → List Prefix → List Entry
+from_host site p rest i qs = for_each_host (λ j ts. host_pair (permits p i j) (services_of site.services i j) rest qs ts) 0 site.hosts
 
 -- from each host to each host
-abbrev pub between : List Host → List Flow → Option ℕ → List Entry
-between hosts p rest = for_each_host (from_host hosts p rest) 0 hosts
+abbrev pub between : Site → List Flow → Option ℕ → List Entry
+between site p rest = for_each_host (from_host site p rest) 0 site.hosts
 
--- from the prefixes of a host to the rest host, and from there to them
-abbrev pub to_rest_host : Bool → List Prefix → List Entry
-to_rest_host permitted qs = if permitted then map (λ q. ip_entry 30 (Some q) None Normal) qs else []
+-- from the prefixes of a host to the rest host, for each service, and from there to them
+abbrev pub to_rest_host : Bool → List Service → List Prefix → List Entry
+to_rest_host permitted ss qs = if permitted then flat_map (λ q. map (service_entry 30 (Some q) None) (narrowings ss)) qs else []
 
-abbrev pub from_rest_host : Bool → List Prefix → List Entry
-from_rest_host permitted qs = if permitted then map (λ q. ip_entry 30 None (Some q) Normal) qs else []
+abbrev pub from_rest_host : Bool → List Service → List Prefix → List Entry
+from_rest_host permitted ss qs = if permitted then flat_map (λ q. map (service_entry 30 None (Some q)) (narrowings ss)) qs else []
 
-abbrev pub to_rest : List Host → List Flow → ℕ → List Entry
-to_rest hosts p r = for_each_host (λ i qs. to_rest_host (permits p i r) qs) 0 hosts
+abbrev pub to_rest : Site → List Flow → ℕ → List Entry
+to_rest site p r = for_each_host (λ i qs. to_rest_host (permits p i r) (services_of site.services i r) qs) 0 site.hosts
 
-abbrev pub from_rest : List Host → List Flow → ℕ → List Entry
-from_rest hosts p r = for_each_host (λ i qs. from_rest_host (permits p r i) qs) 0 hosts
+abbrev pub from_rest : Site → List Flow → ℕ → List Entry
+from_rest site p r = for_each_host (λ i qs. from_rest_host (permits p r i) (services_of site.services r i) qs) 0 site.hosts
 
-abbrev pub with_rest : List Host → List Flow → Option ℕ → List Entry
-with_rest hosts p None = []
-with_rest hosts p (Some r) = to_rest hosts p r ++ from_rest hosts p r
+abbrev pub with_rest : Site → List Flow → Option ℕ → List Entry
+with_rest site p None = []
+with_rest site p (Some r) = to_rest site p r ++ from_rest site p r
 
 -- ARP frames are forwarded, and what no entry above matches is dropped
 abbrev pub arp_entry : Entry
-arp_entry = record { priority = 20; kind = Arp; src = None; dst = None; action = Normal }
+arp_entry = record { priority = 20; kind = Arp; src = None; dst = None; proto = None; tp_src = None; tp_dst = None; action = Normal }
 
 abbrev pub other_entry : Entry
-other_entry = record { priority = 0; kind = Any; src = None; dst = None; action = Drop }
+other_entry = record { priority = 0; kind = Any; src = None; dst = None; proto = None; tp_src = None; tp_dst = None; action = Drop }
 
 -- all entries of a policy
-unfoldable pub flow_entries : List Host → List Flow → List Entry
-flow_entries hosts p =
-    between hosts p (rest_of hosts) ++ (with_rest hosts p (rest_of hosts) ++ arp_entry ∷ other_entry ∷ [])
+unfoldable pub flow_entries : Site → List Flow → List Entry
+flow_entries site p =
+    between site p (rest_of site.hosts) ++ (with_rest site p (rest_of site.hosts) ++ arp_entry ∷ other_entry ∷ [])

@@ -1,15 +1,30 @@
--- Which answers a flow table can let pass, since it keeps no connections.
-use Rattle.std.specs.Prelude.{IsTrue, IsFalse, List}
+-- Which answers a flow table can let pass, since it keeps no connections: those that the reverse flow lets pass in any case.
+use Rattle.std.specs.Prelude.{Bool, not, ◌&&◌, ◌||◌, ◌==◌, IsTrue, IsFalse, List}
+use Rattle.std.specs.List.{list_all, list_any}
+use Rattle.host_net.specs.declared.service.Service.{Service}
+use Rattle.host_net.specs.Service.{has_all_ports, is_whole}
+use Rattle.host_net.specs.Services.{NarrowedFlow, services_of}
 use Rattle.flow_set.specs.declared.flow.Flow.{Flow}
 use Rattle.flow_set.specs.Flow.{back_of, before}
 use Rattle.flow_set.specs.FlowSet.{has}
 
--- the reverse of each stateful flow is permitted itself
-abbrev pub AnswersArePermitted : List Flow → List Flow → Type 0
-AnswersArePermitted p s = (f : Flow) → IsTrue (has s f) → IsTrue (has p (back_of f))
+-- one of these services is all of the protocol of that one
+abbrev pub has_all_of : List Service → Service → Bool
+has_all_of ss t = list_any (λ u. (t.proto == u.proto) && has_all_ports u) ss
 
--- the first stateful flow whose reverse is not permitted
-pub record IsFirstBarred (p s : List Flow) (f : Flow) : Type 0 where
+-- whatever answers the flow is of its reverse: that is permitted, and it is whole, or it has all ports of each protocol of the flow's services
+abbrev pub is_covered : List NarrowedFlow → List Flow → Flow → Bool
+is_covered services p f =
+    has p (back_of f)
+    && (is_whole (services_of services f.to f.from)
+    || (not (is_whole (services_of services f.from f.to)) && list_all (has_all_of (services_of services f.to f.from)) (services_of services f.from f.to)))
+
+-- so it is with each stateful flow
+abbrev pub AnswersAreCovered : List NarrowedFlow → List Flow → List Flow → Type 0
+AnswersAreCovered services p s = (f : Flow) → IsTrue (has s f) → IsTrue (is_covered services p f)
+
+-- the first stateful flow whose answers are not covered
+pub record IsFirstBarred (services : List NarrowedFlow) (p s : List Flow) (f : Flow) : Type 0 where
   pub stateful : IsTrue (has s f)
-  pub barred : IsFalse (has p (back_of f))
-  pub first : (g : Flow) → IsTrue (before g f) → IsTrue (has s g) → IsTrue (has p (back_of g))
+  pub barred : IsFalse (is_covered services p f)
+  pub first : (g : Flow) → IsTrue (before g f) → IsTrue (has s g) → IsTrue (is_covered services p g)

@@ -1,8 +1,7 @@
--- Laws of the layout: how many rules it has, where they jump, and that its chains have names of their own.
+-- Laws of the layout: how many chains it has and how long FORWARD is, where its rules jump, and that its chains have names of their own.
 use Rattle.std.proofs.Common.{◌≡◌, ℕ, ◌+◌, ◌*◌, ◌^◌, ◌%◌, ◌<◌, ◌≤◌, zero, suc, Bool, true, false, not, ◌&&◌, List, [], ◌∷◌, ◌++◌, Option, Some, None, length, map, refl, sym, subst, ◌∙◌, arith, length-append}
 use Rattle.std.specs.Prelude.{if◌then◌else◌, nat_le, nat_lt, IsTrue, codes, decimal, bytes_eq}
 use Rattle.std.specs.List.{flat_map, list_all, range_with_len, position_from}
-use Rattle.std.proofs.Math.Nat.{mul-le-mul_left, mul-le-mul_right}
 use Rattle.std.proofs.lemmas.Bool.{and_from, and_parts}
 use Rattle.std.proofs.lemmas.Bool.Decides.{nat_tests}
 use Rattle.std.proofs.lemmas.Fmt.{decimal_injective, decimal_by_steps, length-decimal-le}
@@ -12,8 +11,11 @@ use Rattle.std.proofs.lemmas.List.Folds.{list_all-append}
 use Rattle.std.proofs.lemmas.List.Sums.{sum_by-cons}
 use Rattle.std.proofs.lemmas.List.FromFn.{length-map-range_with_len}
 use Rattle.host_net.specs.declared.prefix.Prefix.{Prefix}
+use Rattle.host_net.specs.declared.service.Service.{Service}
 use Rattle.host_net.specs.Host.{Host, rest_of}
 use Rattle.host_net.specs.Hosts.{prefix_count}
+use Rattle.host_net.specs.Service.{narrowings}
+use Rattle.host_net.specs.Site.{Site}
 use Rattle.flow_set.specs.declared.flow.Flow.{Flow}
 use Rattle.ipt_rules.specs.declared.rule.Rule.{Rule}
 use Rattle.ipt_rules.specs.declared.rule.Target.{Target}
@@ -26,9 +28,9 @@ use Rattle.ipt_rules.specs.LoopLaws.{goes_up, jumps_go_up, no_loop_upward}
 use Rattle.ipt_rules.specs.Name.{is_user_name, is_reserved, is_printing, has_name_length}
 use Rattle.emit_core.specs.declared.side.Side.{Side}
 use Rattle.emit_core.specs.declared.side.Side.TheVariants.{Sending}
-use Rattle.emit_core.specs.Sides.{links, other_side}
+use Rattle.emit_core.specs.Sides.{links, other_side, services_on}
 use Rattle.emit_core.specs.OwnerLaws.{rest_below}
-use Rattle.emit_core.specs.Layout.{for_each_prefix, at_other, answering, accepts, drops, is_open, to_prefix, to_rest, host_rules, forward_rules, rest_jump, jump_from, from_source, chain_of, layout, host_chain, host_chain_name}
+use Rattle.emit_core.specs.Layout.{for_each_prefix, at_other, to_service, from_service, links_whole, accepts_flow, accepts_answers, accepts, drops, is_open, to_prefix, to_rest, host_rules, forward_rules, rest_jump, jump_from, from_source, chain_of, layout, host_chain, host_chain_name}
 use Rattle.emit_core.specs.Filling.{chains_up_to}
 
 -- rules for each prefix, at most m for one
@@ -38,46 +40,13 @@ few_for_each m written few [] = omega arith
 few_for_each m written few (q ∷ qs) =
     omega (arith, few q, few_for_each m written few qs, length-append (written q) (flat_map written qs))
 
-few_for_all : (m : ℕ) (written : ℕ → Prefix → List Rule) → ((j : ℕ) (q : Prefix) → length (written j q) ≤ m) → (k : ℕ) (hs : List Host)
+-- and for each prefix of each host
+pub few_for_all : (m : ℕ) (written : ℕ → Prefix → List Rule) → ((j : ℕ) (q : Prefix) → length (written j q) ≤ m) → (k : ℕ) (hs : List Host)
     → length (for_each_prefix written k hs) ≤ m * prefix_count hs
 few_for_all m written few k [] = omega arith
 few_for_all m written few k (h ∷ hs) =
     subst (λ (n : ℕ). length (for_each_prefix written k (h ∷ hs)) ≤ m * n) (sym (sum_by-cons (λ (x : Host). length x.prefixes) h hs))
     (omega (arith, few_for_each m (written k) (few k) h.prefixes, few_for_all m written few (k + 1) hs, length-append (flat_map (written k) h.prefixes) (for_each_prefix written (k + 1) hs)))
-
-one_at_most : (b c : Bool) (x y : Rule) → length (if b then x ∷ [] else (if c then y ∷ [] else [])) ≤ 1
-one_at_most true c x y = omega arith
-one_at_most false true x y = omega arith
-one_at_most false false x y = omega arith
-
-one_if : (b : Bool) (x : Rule) → length (if b then x ∷ [] else []) ≤ 1
-one_if true x = omega arith
-one_if false x = omega arith
-
-few_to_prefix : (side : Side) (p s : List Flow) (i : ℕ) (rest : Option ℕ) (j : ℕ) (q : Prefix) → length (to_prefix side p s i rest j q) ≤ 2
-few_to_prefix side p s i rest j q =
-    omega (
-      arith,
-      one_at_most (links side p i j) (links (other_side side) s i j) (at_other side (Some q) None Accept) (at_other side (Some q) answering Accept),
-      one_if (is_open side p s i rest && not (links side p i j)) (at_other side (Some q) None Drop),
-      length-append (accepts side p s i j (Some q)) (drops side p s i rest j q),
-    )
-
-few_to_rest : (side : Side) (p s : List Flow) (i : ℕ) (rest : Option ℕ) → length (to_rest side p s i rest) ≤ 1
-few_to_rest side p s i None = omega arith
-few_to_rest side p s i (Some r) = one_at_most (links side p i r) (links (other_side side) s i r) (at_other side None None Accept) (at_other side None answering Accept)
-
--- a host's chain has two rules for each prefix, and two more, at most
-pub few_host_rules : (side : Side) (hosts : List Host) (p s : List Flow) (i : ℕ)
-    → length (host_rules side hosts p s i) ≤ 2 * prefix_count hosts + 2
-few_host_rules side hosts p s i =
-    omega (
-      arith,
-      few_for_all 2 (to_prefix side p s i (rest_of hosts)) (few_to_prefix side p s i (rest_of hosts)) 0 hosts,
-      few_to_rest side p s i (rest_of hosts),
-      length-append (for_each_prefix (to_prefix side p s i (rest_of hosts)) 0 hosts) (to_rest side p s i (rest_of hosts) ++ at_other side None None Drop ∷ []),
-      length-append (to_rest side p s i (rest_of hosts)) (at_other side None None Drop ∷ []),
-    )
 
 few_rest_jump : (rest : Option ℕ) → length (rest_jump rest) ≤ 1
 few_rest_jump None = omega arith
@@ -88,26 +57,9 @@ pub few_forward_rules : (hosts : List Host) → length (forward_rules hosts) ≤
 few_forward_rules hosts =
     omega (arith, few_for_all 1 jump_from (λ j q. omega arith) 0 hosts, few_rest_jump (rest_of hosts), length-append (for_each_prefix jump_from 0 hosts) (rest_jump (rest_of hosts)))
 
-few_host_chains : (hosts : List Host) (p s : List Flow) (k n : ℕ)
-    → rule_count (map (host_chain hosts p s) (range_with_len k n)) ≤ n * (2 * prefix_count hosts + 2)
-few_host_chains hosts p s k zero = omega arith
-few_host_chains hosts p s k (suc n) = omega (arith, few_host_rules Sending hosts p s k, few_host_chains hosts p s (k + 1) n)
-
--- how many rules the chains up to the n-th host have, at most
-pub few_rules : (hosts : List Host) (p s : List Flow) (n : ℕ)
-    → rule_count (chains_up_to hosts p s n) ≤ prefix_count hosts + 1 + n * (2 * prefix_count hosts + 2)
-few_rules hosts p s n = omega (arith, few_forward_rules hosts, few_host_chains hosts p s 0 n)
-
--- no more than 256 hosts with 1,024 prefixes give fewer than 600,000 rules
-pub fewer_than_600000 : (hosts : List Host) (p s : List Flow) (n : ℕ) → n ≤ 256 → prefix_count hosts ≤ 1024
-    → rule_count (chains_up_to hosts p s n) < 600000
-fewer_than_600000 hosts p s n few prefixes =
-    let each : 2 * prefix_count hosts + 2 ≤ 2050 = omega arith in
-    omega (arith, few_rules hosts p s n, mul-le-mul_left n each, mul-le-mul_right 2050 few)
-
 -- how many chains there are up to the n-th host
-pub length-chains_up_to : (hosts : List Host) (p s : List Flow) (n : ℕ) → length (chains_up_to hosts p s n) ≡ n + 3
-length-chains_up_to hosts p s n = omega (arith, length-map-range_with_len (host_chain hosts p s) 0 n)
+pub length-chains_up_to : (site : Site) (p s : List Flow) (n : ℕ) → length (chains_up_to site p s n) ≡ n + 3
+length-chains_up_to site p s n = omega (arith, length-map-range_with_len (host_chain site p s) 0 n)
 
 -- what a test says of all rules, by parts
 all_flat_map : (test : Rule → Bool) (written : Prefix → List Rule) → ((q : Prefix) → list_all test (written q) ≡ true)
@@ -130,35 +82,48 @@ decides Accept = true
 decides Drop = true
 decides _ = false
 
-decide_accepts : (side : Side) (q : Option Prefix) (b c : Bool)
-    → list_all (λ r. decides r.target) (if b then at_other side q None Accept ∷ [] else (if c then at_other side q answering Accept ∷ [] else [])) ≡ true
-decide_accepts side q true c = refl
-decide_accepts side q false true = refl
-decide_accepts side q false false = refl
+-- a test that each rule for a service passes
+pub all_map : (test : Rule → Bool) (rule : Option Service → Rule) → ((n : Option Service) → test (rule n) ≡ true) → (ns : List (Option Service))
+    → list_all test (map rule ns) ≡ true
+all_map test rule each [] = refl
+all_map test rule each (n ∷ ns) = and_from _ _ (each n) (all_map test rule each ns)
 
-decide_drops : (side : Side) (q : Option Prefix) (b : Bool)
-    → list_all (λ r. decides r.target) (if b then at_other side q None Drop ∷ [] else []) ≡ true
-decide_drops side q true = refl
-decide_drops side q false = refl
+pub all_if : (test : Rule → Bool) (b : Bool) (rules : List Rule) → list_all test rules ≡ true → list_all test (if b then rules else []) ≡ true
+all_if test true rules all = all
+all_if test false rules all = refl
 
-decide_to_rest : (side : Side) (p s : List Flow) (i : ℕ) (rest : Option ℕ)
-    → list_all (λ r. decides r.target) (to_rest side p s i rest) ≡ true
-decide_to_rest side p s i None = refl
-decide_to_rest side p s i (Some r) = decide_accepts side None (links side p i r) (links (other_side side) s i r)
+abbrev decisive : Rule → Bool
+decisive r = decides r.target
+
+decide_accepts : (side : Side) (site : Site) (p s : List Flow) (i j : ℕ) (q : Option Prefix) → list_all decisive (accepts side site p s i j q) ≡ true
+decide_accepts side site p s i j q =
+    let there = narrowings (services_on side site.services i j) in
+    let back = narrowings (services_on (other_side side) site.services i j) in
+    list_all-append decisive (accepts_flow side site p i j q) (accepts_answers side site p s i j q)
+    ∙ and_from _ _
+    (all_if decisive (links side p i j) (map (to_service side q) there) (all_map decisive (to_service side q) (λ n. refl) there))
+    (all_if decisive (links (other_side side) s i j && not (links_whole side site p i j)) (map (from_service side q) back)
+    (all_map decisive (from_service side q) (λ n. refl) back))
+
+decide_to_prefix : (side : Side) (site : Site) (p s : List Flow) (i : ℕ) (rest : Option ℕ) (j : ℕ) (q : Prefix)
+    → list_all decisive (to_prefix side site p s i rest j q) ≡ true
+decide_to_prefix side site p s i rest j q =
+    list_all-append decisive (accepts side site p s i j (Some q)) (drops side site p s i rest j q)
+    ∙ and_from _ _ (decide_accepts side site p s i j (Some q))
+    (all_if decisive (is_open side p s i rest && not (links_whole side site p i j)) (at_other side (Some q) None Drop ∷ []) refl)
+
+decide_to_rest : (side : Side) (site : Site) (p s : List Flow) (i : ℕ) (rest : Option ℕ) → list_all decisive (to_rest side site p s i rest) ≡ true
+decide_to_rest side site p s i None = refl
+decide_to_rest side site p s i (Some r) = decide_accepts side site p s i r None
 
 -- no rule of a host's chain jumps or returns
-pub host_rules_decide : (side : Side) (hosts : List Host) (p s : List Flow) (i : ℕ)
-    → list_all (λ r. decides r.target) (host_rules side hosts p s i) ≡ true
-host_rules_decide side hosts p s i =
-    let test : Rule → Bool = λ r. decides r.target in
-    let rest = rest_of hosts in
-    list_all-append test (for_each_prefix (to_prefix side p s i rest) 0 hosts) (to_rest side p s i rest ++ at_other side None None Drop ∷ [])
+pub host_rules_decide : (side : Side) (site : Site) (p s : List Flow) (i : ℕ) → list_all (λ r. decides r.target) (host_rules side site p s i) ≡ true
+host_rules_decide side site p s i =
+    let rest = rest_of site.hosts in
+    list_all-append decisive (for_each_prefix (to_prefix side site p s i rest) 0 site.hosts) (to_rest side site p s i rest ++ at_other side None None Drop ∷ [])
     ∙ and_from _ _
-    (all_for_each test (to_prefix side p s i rest) (length hosts)
-    (λ j below q. list_all-append test (accepts side p s i j (Some q)) (drops side p s i rest j q)
-    ∙ and_from _ _ (decide_accepts side (Some q) (links side p i j) (links (other_side side) s i j)) (decide_drops side (Some q) (is_open side p s i rest && not (links side p i j))))
-    0 hosts (omega arith))
-    (list_all-append test (to_rest side p s i rest) (at_other side None None Drop ∷ []) ∙ and_from _ _ (decide_to_rest side p s i rest) refl)
+    (all_for_each decisive (to_prefix side site p s i rest) (length site.hosts) (λ j below q. decide_to_prefix side site p s i rest j q) 0 site.hosts (omega arith))
+    (list_all-append decisive (to_rest side site p s i rest) (at_other side None None Drop ∷ []) ∙ and_from _ _ (decide_to_rest side site p s i rest) refl)
 
 -- the rule jumps to the chain of one of n hosts
 abbrev jumps_to_host : ℕ → Target → Bool
@@ -211,29 +176,29 @@ jumps_somewhere n count room Return is = refl
 jumps_somewhere n count room Count is = refl
 jumps_somewhere n count room (Jump c) is = grind (arith, nat_tests)
 
-host_chains_known : (hosts : List Host) (p s : List Flow) (count c k n : ℕ)
-    → first_unknown count c (map (host_chain hosts p s) (range_with_len k n)) ≡ None
-host_chains_known hosts p s count c k zero = refl
-host_chains_known hosts p s count c k (suc n) =
-    rw (none_nowhere count decides (decides_somewhere count) 0 (host_rules Sending hosts p s k) (host_rules_decide Sending hosts p s k))
-    (host_chains_known hosts p s count (c + 1) (k + 1) n)
+host_chains_known : (site : Site) (p s : List Flow) (count c k n : ℕ)
+    → first_unknown count c (map (host_chain site p s) (range_with_len k n)) ≡ None
+host_chains_known site p s count c k zero = refl
+host_chains_known site p s count c k (suc n) =
+    rw (none_nowhere count decides (decides_somewhere count) 0 (host_rules Sending site p s k) (host_rules_decide Sending site p s k))
+    (host_chains_known site p s count (c + 1) (k + 1) n)
 
 -- every jump leads to a chain that is there
-layout_known : (hosts : List Host) (p s : List Flow) → first_unknown (length (layout hosts p s)) 0 (layout hosts p s) ≡ None
-layout_known hosts p s =
-    let count = length (layout hosts p s) in
-    let room : length hosts + 3 ≤ count = omega (arith, length-chains_up_to hosts p s (length hosts)) in
-    rw (none_nowhere count (jumps_to_host (length hosts)) (jumps_somewhere (length hosts) count room) 0 (forward_rules hosts) (forward_rules_jump hosts))
-    (host_chains_known hosts p s count 3 0 (length hosts))
+layout_known : (site : Site) (p s : List Flow) → first_unknown (length (layout site p s)) 0 (layout site p s) ≡ None
+layout_known site p s =
+    let count = length (layout site p s) in
+    let room : length site.hosts + 3 ≤ count = omega (arith, length-chains_up_to site p s (length site.hosts)) in
+    rw (none_nowhere count (jumps_to_host (length site.hosts)) (jumps_somewhere (length site.hosts) count room) 0 (forward_rules site.hosts) (forward_rules_jump site.hosts))
+    (host_chains_known site p s count 3 0 (length site.hosts))
 
--- the layout of a policy for no more than 256 hosts with 1,024 prefixes is a rule set
-pub layout_accepted : (hosts : List Host) (p s : List Flow) → length hosts ≤ 256 → prefix_count hosts ≤ 1024
-    → refusal_of (layout hosts p s) ≡ None
+-- the layout of a policy for no more than 256 hosts, with no more than a million rules, is a rule set
+pub layout_accepted : (site : Site) (p s : List Flow) → length site.hosts ≤ 256 → rule_count (layout site p s) ≤ 1000000
+    → refusal_of (layout site p s) ≡ None
 unfolding refusal_of
-layout_accepted hosts p s few prefixes =
-    let chains : nat_lt 4096 (length (layout hosts p s)) ≡ false = grind (arith, nat_tests, length-chains_up_to hosts p s (length hosts)) in
-    let rules : nat_lt 1000000 (rule_count (layout hosts p s)) ≡ false = grind (arith, nat_tests, fewer_than_600000 hosts p s (length hosts) few prefixes) in
-    rw (chains, rules) (layout_known hosts p s)
+layout_accepted site p s few few_rules =
+    let chains : nat_lt 4096 (length (layout site p s)) ≡ false = grind (arith, nat_tests, length-chains_up_to site p s (length site.hosts)) in
+    let rules : nat_lt 1000000 (rule_count (layout site p s)) ≡ false = grind (arith, nat_tests) in
+    rw (chains, rules) (layout_known site p s)
 
 pub all_from : (test other : Target → Bool) → ((t : Target) → test t ≡ true → other t ≡ true) → (rules : List Rule)
     → list_all (λ r. test r.target) rules ≡ true → list_all (λ r. other r.target) rules ≡ true
@@ -258,20 +223,20 @@ host_up n Return is = refl
 host_up n Count is = refl
 host_up n (Jump d) is = grind (arith, nat_tests)
 
-host_chains_up : (hosts : List Host) (p s : List Flow) (c k n : ℕ)
-    → jumps_go_up c (map (host_chain hosts p s) (range_with_len k n)) ≡ true
-host_chains_up hosts p s c k zero = refl
-host_chains_up hosts p s c k (suc n) =
-    and_from _ _ (all_from decides (goes_up c) (decides_up c) (host_rules Sending hosts p s k) (host_rules_decide Sending hosts p s k))
-    (host_chains_up hosts p s (c + 1) (k + 1) n)
+host_chains_up : (site : Site) (p s : List Flow) (c k n : ℕ)
+    → jumps_go_up c (map (host_chain site p s) (range_with_len k n)) ≡ true
+host_chains_up site p s c k zero = refl
+host_chains_up site p s c k (suc n) =
+    and_from _ _ (all_from decides (goes_up c) (decides_up c) (host_rules Sending site p s k) (host_rules_decide Sending site p s k))
+    (host_chains_up site p s (c + 1) (k + 1) n)
 
 -- jumps lead from FORWARD to the chains of hosts, and from there nowhere
-pub layout_no_loop : (hosts : List Host) (p s : List Flow) → HasNoLoop (layout hosts p s)
-layout_no_loop hosts p s =
-    no_loop_upward (layout hosts p s)
+pub layout_no_loop : (site : Site) (p s : List Flow) → HasNoLoop (layout site p s)
+layout_no_loop site p s =
+    no_loop_upward (layout site p s)
     (and_from _ _
-    (all_from (jumps_to_host (length hosts)) (goes_up 1) (host_up (length hosts)) (forward_rules hosts) (forward_rules_jump hosts))
-    (host_chains_up hosts p s 3 0 (length hosts)))
+    (all_from (jumps_to_host (length site.hosts)) (goes_up 1) (host_up (length site.hosts)) (forward_rules site.hosts) (forward_rules_jump site.hosts))
+    (host_chains_up site p s 3 0 (length site.hosts)))
 
 -- hosts with different numbers have chains with different names
 host_chain_name_injective : (i j : ℕ) → i < 2 ^ 16 → j < 2 ^ 16 → host_chain_name i ≡ host_chain_name j → i ≡ j
@@ -287,16 +252,16 @@ other_name i j before fits = by_test (bytes_eq (host_chain_name i) (host_chain_n
         absurd (omega arith)
     by_test false is = refl
 
-host_name_unused : (hosts : List Host) (p s : List Flow) (at k n i : ℕ) → k + n ≤ i → i < 2 ^ 16
-    → position_from (λ x. bytes_eq x.name (host_chain_name i)) at (map (host_chain hosts p s) (range_with_len k n)) ≡ None
-host_name_unused hosts p s at k zero i before fits = refl
-host_name_unused hosts p s at k (suc n) i before fits =
-    rw (other_name k i (omega arith) fits) (host_name_unused hosts p s (at + 1) (k + 1) n i (omega arith) fits)
+host_name_unused : (site : Site) (p s : List Flow) (at k n i : ℕ) → k + n ≤ i → i < 2 ^ 16
+    → position_from (λ x. bytes_eq x.name (host_chain_name i)) at (map (host_chain site p s) (range_with_len k n)) ≡ None
+host_name_unused site p s at k zero i before fits = refl
+host_name_unused site p s at k (suc n) i before fits =
+    rw (other_name k i (omega arith) fits) (host_name_unused site p s (at + 1) (k + 1) n i (omega arith) fits)
 
 -- the name of a host's chain is none of the names before it
-pub name_unused : (hosts : List Host) (p s : List Flow) (i : ℕ) → i < 2 ^ 16
-    → number_of (chains_up_to hosts p s i) (host_chain_name i) ≡ None
-name_unused hosts p s i fits = host_name_unused hosts p s 3 0 i i (omega arith) fits
+pub name_unused : (site : Site) (p s : List Flow) (i : ℕ) → i < 2 ^ 16
+    → number_of (chains_up_to site p s i) (host_chain_name i) ≡ None
+name_unused site p s i fits = host_name_unused site p s 3 0 i i (omega arith) fits
 
 digit_in_name : (d : ℕ) → d < 10 → list_all is_printing ((48 + d) ∷ []) ≡ true
 digit_in_name d small = grind (arith, nat_tests)

@@ -1,5 +1,7 @@
 -- The two sides of a packet: a host sends it, or it receives it.
 use Rattle.std.specs.Prelude.{ℕ, ◌==◌, Bool, not, ◌&&◌, List}
+use Rattle.host_net.specs.declared.service.Service.{Service}
+use Rattle.host_net.specs.Services.{NarrowedFlow, services_of}
 use Rattle.flow_set.specs.declared.flow.Flow.{Flow}
 use Rattle.flow_set.specs.FlowSet.{has}
 use Rattle.emit_core.specs.declared.side.Side.{Side}
@@ -22,3 +24,7 @@ permits flows i j = not (i == j) && has flows (record { from = i; to = j })
 -- the flow that host i has with host j on a side is one of these
 abbrev pub links : Side → List Flow → ℕ → ℕ → Bool
 links side flows i j = permits flows (flow_on side i j).from (flow_on side i j).to
+
+-- the services of the flow that host i has with host j on a side
+abbrev pub services_on : Side → List NarrowedFlow → ℕ → ℕ → List Service
+services_on side services i j = services_of services (flow_on side i j).from (flow_on side i j).to

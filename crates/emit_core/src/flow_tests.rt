@@ -6,9 +6,21 @@ ghost use Rattle.host_net.specs.Hosts.{is_network};
 
 use crate::{EmitRefusal, emit_openflow};
 use flow_set::{Flow, FlowSet};
-use host_net::{Hosts, Packet, Prefix, Verdict};
+use host_net::{Hosts, Packet, Prefix, Services, Verdict, read_service};
 use ofp_rules::{Frame, Table};
 use std::alloc::Global;
+
+// The network at an address of 10.0.0.0/8.
+fn network_at(place: u32, len: u8) -> Option<Prefix>
+    ensures { IfSome result (λ prefix. IsTrue (is_network prefix)) }
+{
+    let prefix = Prefix::new(167772160u32.wrapping_add(place), len)?;
+    if prefix.exact() && prefix.len() >= 1 {
+        Some(prefix)
+    } else {
+        None
+    }
+}
 
 // The networks 10.0.0.0/24, 10.0.1.0/24 and so on.
 fn networks(alloc: Global, count: u32) -> Option<Vec<Prefix>>
@@ -16,10 +28,7 @@ fn networks(alloc: Global, count: u32) -> Option<Vec<Prefix>>
 {
     let mut all = Vec::new(alloc);
     for place in 0..count {
-        let prefix = Prefix::new(167772160u32.wrapping_add(place.wrapping_mul(256)), 24)?;
-        if prefix.exact() && prefix.len() >= 1 {
-            all.push(prefix).ok()?;
-        }
+        all.push(network_at(place.wrapping_mul(256), 24)?).ok()?;
     }
     Some(all)
 }
@@ -49,7 +58,27 @@ fn flows(alloc: Global, hosts: &Hosts, flow: Option<Flow>) -> Option<FlowSet>
 fn table(alloc: Global, count: u32, flow: Option<Flow>) -> Option<Result<Table, EmitRefusal>> {
     let hosts = network(alloc, count)?;
     let p = flows(alloc, &hosts, flow)?;
-    Some(emit_openflow(alloc, &hosts, &p))
+    Some(emit_openflow(alloc, &hosts, &Services::new(alloc), &p))
+}
+
+// The hosts 10.0.0.1 and 10.0.0.2, and maybe the rest host.
+fn two_hosts(alloc: Global, with_rest: bool) -> Option<Hosts> {
+    let mut hosts = Hosts::new(alloc);
+    hosts.add(b"a", &[network_at(1, 32)?], false).ok()?;
+    hosts.add(b"b", &[network_at(2, 32)?], false).ok()?;
+    if with_rest {
+        hosts.add(b"inet", &[], true).ok()?;
+    }
+    Some(hosts)
+}
+
+// The table of the flow from the first of them to the second, narrowed to a service.
+fn narrowed(alloc: Global, service: &[u8], with_rest: bool) -> Option<Result<Table, EmitRefusal>> {
+    let hosts = two_hosts(alloc, with_rest)?;
+    let p = flows(alloc, &hosts, Some(Flow { from: 0, to: 1 }))?;
+    let mut services = Services::new(alloc);
+    services.add(0, 1, read_service(service)?).ok()?;
+    Some(emit_openflow(alloc, &hosts, &services, &p))
 }
 
 fn text_of(alloc: Global, table: &Table) -> Option<Vec<u8>> {
@@ -85,6 +114,44 @@ fn a_flow_to_the_rest(rt: HostRuntime) {
     };
     assert_eq!(rt; table.verdict(&Frame::Ipv4(packet)), Verdict::Forward);
     assert_eq!(rt; table.verdict(&Frame::Ipv4(packet.swap())), Verdict::Drop);
+}
+
+const ONE_PORT: &[u8] =
+    b"priority=40,tcp,nw_src=10.0.0.1/32,nw_dst=10.0.0.2/32,tp_dst=80,actions=NORMAL
+priority=20,arp,actions=NORMAL
+priority=0,actions=drop
+";
+
+const ONE_PORT_BEFORE_REST: &[u8] =
+    b"priority=40,ip,nw_src=10.0.0.1/32,nw_dst=10.0.0.1/32,actions=drop
+priority=40,tcp,nw_src=10.0.0.1/32,nw_dst=10.0.0.2/32,tp_dst=80,actions=NORMAL
+priority=35,ip,nw_src=10.0.0.1/32,nw_dst=10.0.0.2/32,actions=drop
+priority=40,ip,nw_src=10.0.0.2/32,nw_dst=10.0.0.1/32,actions=drop
+priority=40,ip,nw_src=10.0.0.2/32,nw_dst=10.0.0.2/32,actions=drop
+priority=20,arp,actions=NORMAL
+priority=0,actions=drop
+";
+
+#[test]
+fn a_flow_narrowed_to_a_port(rt: HostRuntime) {
+    let Some(Ok(table)) = narrowed(rt.alloc(), b"tcp/80", false) else {
+        panic!(rt; "a table");
+    };
+    assert_eq!(rt; *text_of(rt.alloc(), &table).expect(&rt, "text"), *ONE_PORT);
+    let Some(Ok(table)) = narrowed(rt.alloc(), b"tcp/80", true) else {
+        panic!(rt; "a table before the rest host");
+    };
+    assert_eq!(rt;
+        *text_of(rt.alloc(), &table).expect(&rt, "text"),
+        *ONE_PORT_BEFORE_REST
+    );
+}
+
+#[test]
+fn a_flow_narrowed_to_a_range(rt: HostRuntime) {
+    let range = narrowed(rt.alloc(), b"udp/53-60", false).expect(&rt, "hosts");
+    let flow = Flow { from: 0, to: 1 };
+    assert_eq!(rt; range.err(), Some(EmitRefusal::RangeOfPorts { flow }));
 }
 
 // Entries are the pairs of networks, an ARP entry and the last one.

@@ -1,16 +1,24 @@
 //! The chain of one host: what it may send, by the destination, or what it may receive, by the source.
 
-ghost use Rattle.std.specs.Prelude.{◌≡◌, ◌+◌, ◌<◌, ◌++◌, length, IfOk, OnOk};
+ghost use Rattle.std.specs.Prelude.{◌≡◌, ◌≤◌, ◌<◌, ◌++◌, length, IfOk, OnOk};
 ghost use Rattle.std.specs.List.{flat_map};
 ghost use Rattle.std.specs.Option.{ForSome};
-ghost use Rattle.emit_core.specs.Sides.{permits, links, other_side};
-ghost use Rattle.emit_core.specs.Layout.{accepts, is_open, drops, to_prefix, to_rest, for_each_prefix, host_rules};
 ghost use Rattle.host_net.specs.Host.{rest_of};
+ghost use Rattle.host_net.specs.Hosts.{IsHosts};
+ghost use Rattle.host_net.specs.Services.{AreServices, service_limit};
+ghost use Rattle.host_net.specs.Site.{site_with};
+ghost use Rattle.emit_core.specs.Sides.{links, other_side, services_on};
+ghost use Rattle.emit_core.specs.Layout.{links_whole, is_open, drops, to_prefix, to_rest, for_each_prefix, host_rules};
 
-use crate::parts::{answering, at_other};
+mod accepts;
+mod counts;
+
+use crate::narrowing::is_whole;
+use crate::parts::at_other;
+use crate::permitted::permits;
 use crate::side::Side;
-use flow_set::{Flow, FlowSet};
-use host_net::{Hosts, Prefix};
+use flow_set::FlowSet;
+use host_net::{Hosts, Prefix, Service, Services};
 use ipt_rules::{Rule, Target};
 use std::alloc::{AllocError, Global};
 
@@ -18,6 +26,7 @@ use std::alloc::{AllocError, Global};
 pub fn host_rules(
     alloc: Global,
     hosts: &Hosts,
+    services: &Services,
     p: &FlowSet,
     s: &FlowSet,
     side: Side,
@@ -26,36 +35,88 @@ pub fn host_rules(
     requires permitted { p.now.size ≡ length hosts.now }
     requires stateful { s.now.size ≡ length hosts.now }
     requires there { host < length hosts.now }
-    ensures { IfOk result (λ rules. rules.items ≡ host_rules side hosts.now p.now.flows
+    ensures rules { IfOk result (λ rules. rules.items ≡ host_rules side (site_with hosts.now services.now) p.now.flows
         s.now.flows host) }
+    ensures services { AreServices services.now }
 {
-    let chain = HostChain {
-        side,
-        permitted: p,
-        stateful: s,
-        host,
-        rest: hosts.rest(),
-    };
-    chain.rules(alloc, hosts)
+    let chain = HostChain::new(hosts, services, p, s, side, host);
+    chain.rules(alloc)
+}
+
+/// How many rules there are in that chain.
+pub(crate) fn count_host_rules(
+    hosts: &Hosts,
+    services: &Services,
+    p: &FlowSet,
+    s: &FlowSet,
+    side: Side,
+    host: u16,
+) -> u32
+    requires permitted { p.now.size ≡ length hosts.now }
+    requires stateful { s.now.size ≡ length hosts.now }
+    requires there { host < length hosts.now }
+    ensures rules { result ≡ length (host_rules side (site_with hosts.now services.now) p.now.flows s.now.flows host) }
+    ensures services { AreServices services.now }
+{
+    let chain = HostChain::new(hosts, services, p, s, side, host);
+    chain.count()
 }
 
 /// The host whose chain is written, with the policy that it is written for.
 #[derive(Drop)]
 struct HostChain<'a> {
+    hosts: &'a Hosts,
+    services: &'a Services,
     side: Side,
     permitted: &'a FlowSet,
     stateful: &'a FlowSet,
     host: u16,
     rest: Option<u16>,
-    ghost same_size: { stateful.now.size ≡ permitted.now.size },
-    ghost host_within: { host < permitted.now.size },
-    ghost rest_within: { ForSome rest (λ r. r < permitted.now.size) },
+    ghost permitted_size: { permitted.now.size ≡ length hosts.now },
+    ghost stateful_size: { stateful.now.size ≡ length hosts.now },
+    ghost host_within: { host < length hosts.now },
+    ghost is_rest: { rest ≡ rest_of hosts.now },
+    ghost rest_within: { ForSome rest (λ r. r < length hosts.now) },
+    ghost are_hosts: { IsHosts hosts.now },
+    ghost are_services: { AreServices services.now },
 }
 
 impl<'a> HostChain<'a> {
+    /// The host of that number, with a policy.
+    fn new(
+        hosts: &'a Hosts,
+        services: &'a Services,
+        p: &'a FlowSet,
+        s: &'a FlowSet,
+        side: Side,
+        host: u16,
+    ) -> HostChain<'a>
+        requires permitted { p.now.size ≡ length hosts.now }
+        requires stateful { s.now.size ≡ length hosts.now }
+        requires there { host < length hosts.now }
+        ensures hosts { result.hosts.now ≡ hosts.now }
+        ensures services { result.services.now ≡ services.now }
+        ensures permitted { result.permitted.now ≡ p.now }
+        ensures stateful { result.stateful.now ≡ s.now }
+        ensures side { result.side ≡ side }
+        ensures host { result.host ≡ host }
+    {
+        // What holds of hosts and services at all times is known by looking at them.
+        let (_count, _services) = (hosts.count(), services.of(host, host));
+        HostChain {
+            hosts,
+            services,
+            side,
+            permitted: p,
+            stateful: s,
+            host,
+            rest: hosts.rest(),
+        }
+    }
+
     /// Whether the host may send to another, or receive from it.
     fn permits(&self, other: u16) -> bool
-        requires { other < self.now.permitted.now.size }
+        requires { other < length self.now.hosts.now }
         ensures { result ≡ links self.now.side self.now.permitted.now.flows self.now.host other }
     {
         links(self.permitted, self.side, self.host, other)
@@ -63,11 +124,29 @@ impl<'a> HostChain<'a> {
 
     /// Whether the host may answer another, or be answered by it.
     fn answers(&self, other: u16) -> bool
-        requires { other < self.now.permitted.now.size }
+        requires { other < length self.now.hosts.now }
         ensures { result ≡ links (other_side self.now.side) self.now.stateful.now.flows
             self.now.host other }
     {
         links(self.stateful, self.side.other(), self.host, other)
+    }
+
+    /// Whether every packet may pass that the host sends to another, or receives from it.
+    fn permits_all(&self, other: u16) -> bool
+        requires { other < length self.now.hosts.now }
+        ensures { result ≡ links_whole self.now.side (site_with self.now.hosts.now self.now.services.now)
+            self.now.permitted.now.flows self.now.host other }
+    {
+        self.permits(other) && is_whole(self.services_on(self.side, other))
+    }
+
+    /// The services of the flow that the host has with another on a side.
+    fn services_on(&self, side: Side, other: u16) -> &[Service]
+        ensures list { result.now ≡ services_on side self.now.services.now self.now.host other }
+        ensures few { length result.now ≤ service_limit }
+    {
+        let flow = side.flow(self.host, other);
+        self.services.of(flow.from, flow.to)
     }
 
     /// Whether some packet to the rest host passes, or some packet from it.
@@ -82,28 +161,25 @@ impl<'a> HostChain<'a> {
     }
 
     /// The rules of the host's chain.
-    fn rules(&self, alloc: Global, hosts: &Hosts) -> Result<Vec<Rule>, AllocError>
-        requires size { self.now.permitted.now.size ≡ length hosts.now }
-        requires rest { self.now.rest ≡ rest_of hosts.now }
-        ensures { IfOk result (λ rules. rules.items ≡ host_rules self.now.side hosts.now
-            self.now.permitted.now.flows self.now.stateful.now.flows self.now.host) }
+    fn rules(&self, alloc: Global) -> Result<Vec<Rule>, AllocError>
+        ensures { IfOk result (λ rules. rules.items ≡ host_rules self.now.side (site_with self.now.hosts.now
+            self.now.services.now) self.now.permitted.now.flows self.now.stateful.now.flows self.now.host) }
     {
         let mut rules = Vec::new(alloc);
-        self.push_to_hosts(&mut rules, hosts)?;
+        self.push_to_hosts(&mut rules)?;
         self.push_to_rest(&mut rules)?;
-        rules.push(at_other(self.side, None, None, Target::Drop))?;
+        rules.push(at_other(self.side, None, Target::Drop))?;
         Ok(rules)
     }
 
     #[tactic(auto, using(crate::proofs::Steps::for_each_all))]
-    fn push_to_hosts(&self, rules: &mut Vec<Rule>, hosts: &Hosts) -> Result<(), AllocError>
-        requires { self.now.permitted.now.size ≡ length hosts.now }
+    fn push_to_hosts(&self, rules: &mut Vec<Rule>) -> Result<(), AllocError>
         ensures { OnOk result (rules.new.items ≡ rules.old.items
-            ++ for_each_prefix (to_prefix self.now.side self.now.permitted.now.flows self.now.stateful.now.flows
-            self.now.host self.now.rest) 0 hosts.now) }
+            ++ for_each_prefix (to_prefix self.now.side (site_with self.now.hosts.now self.now.services.now)
+            self.now.permitted.now.flows self.now.stateful.now.flows self.now.host self.now.rest) 0 self.now.hosts.now) }
     {
-        for to in 0..hosts.count() {
-            self.push_to_host(rules, to, hosts.prefixes(to))?;
+        for to in 0..self.hosts.count() {
+            self.push_to_host(rules, to, self.hosts.prefixes(to))?;
         }
         Ok(())
     }
@@ -114,10 +190,10 @@ impl<'a> HostChain<'a> {
         to: u16,
         prefixes: &[Prefix],
     ) -> Result<(), AllocError>
-        requires { to < self.now.permitted.now.size }
+        requires { to < length self.now.hosts.now }
         ensures { OnOk result (rules.new.items ≡ rules.old.items
-            ++ flat_map (to_prefix self.now.side self.now.permitted.now.flows self.now.stateful.now.flows
-            self.now.host self.now.rest to) prefixes.now) }
+            ++ flat_map (to_prefix self.now.side (site_with self.now.hosts.now self.now.services.now)
+            self.now.permitted.now.flows self.now.stateful.now.flows self.now.host self.now.rest to) prefixes.now) }
     {
         for prefix in prefixes {
             self.push_to_prefix(rules, to, *prefix)?;
@@ -126,10 +202,10 @@ impl<'a> HostChain<'a> {
     }
 
     fn push_to_prefix(&self, rules: &mut Vec<Rule>, to: u16, at: Prefix) -> Result<(), AllocError>
-        requires { to < self.now.permitted.now.size }
+        requires { to < length self.now.hosts.now }
         ensures { OnOk result (rules.new.items ≡ rules.old.items
-            ++ to_prefix self.now.side self.now.permitted.now.flows self.now.stateful.now.flows
-            self.now.host self.now.rest to at) }
+            ++ to_prefix self.now.side (site_with self.now.hosts.now self.now.services.now)
+            self.now.permitted.now.flows self.now.stateful.now.flows self.now.host self.now.rest to at) }
     {
         self.push_accepts(rules, to, Some(at))?;
         self.push_drops(rules, to, at)?;
@@ -138,8 +214,8 @@ impl<'a> HostChain<'a> {
 
     fn push_to_rest(&self, rules: &mut Vec<Rule>) -> Result<(), AllocError>
         ensures { OnOk result (rules.new.items ≡ rules.old.items
-            ++ to_rest self.now.side self.now.permitted.now.flows self.now.stateful.now.flows
-            self.now.host self.now.rest) }
+            ++ to_rest self.now.side (site_with self.now.hosts.now self.now.services.now)
+            self.now.permitted.now.flows self.now.stateful.now.flows self.now.host self.now.rest) }
     {
         if let Some(rest) = self.rest {
             self.push_accepts(rules, rest, None)?;
@@ -147,35 +223,15 @@ impl<'a> HostChain<'a> {
         Ok(())
     }
 
-    // What lets the host send to another at a destination: everything, answers alone, or nothing.
-    fn push_accepts(
-        &self,
-        rules: &mut Vec<Rule>,
-        to: u16,
-        at: Option<Prefix>,
-    ) -> Result<(), AllocError>
-        requires { to < self.now.permitted.now.size }
-        ensures { OnOk result (rules.new.items ≡ rules.old.items
-            ++ accepts self.now.side self.now.permitted.now.flows self.now.stateful.now.flows
-            self.now.host to at) }
-    {
-        if self.permits(to) {
-            rules.push(at_other(self.side, at, None, Target::Accept))?;
-        } else if self.answers(to) {
-            rules.push(at_other(self.side, at, answering(), Target::Accept))?;
-        }
-        Ok(())
-    }
-
     // In front of the rest host, what else would pass as if to it.
     fn push_drops(&self, rules: &mut Vec<Rule>, to: u16, at: Prefix) -> Result<(), AllocError>
-        requires { to < self.now.permitted.now.size }
+        requires { to < length self.now.hosts.now }
         ensures { OnOk result (rules.new.items ≡ rules.old.items
-            ++ drops self.now.side self.now.permitted.now.flows self.now.stateful.now.flows
-            self.now.host self.now.rest to at) }
+            ++ drops self.now.side (site_with self.now.hosts.now self.now.services.now)
+            self.now.permitted.now.flows self.now.stateful.now.flows self.now.host self.now.rest to at) }
     {
-        if self.is_open() && !self.permits(to) {
-            rules.push(at_other(self.side, Some(at), None, Target::Drop))?;
+        if self.is_open() && !self.permits_all(to) {
+            rules.push(at_other(self.side, Some(at), Target::Drop))?;
         }
         Ok(())
     }
@@ -189,13 +245,4 @@ fn links(flows: &FlowSet, side: Side, host: u16, other: u16) -> bool
 {
     let flow = side.flow(host, other);
     permits(flows, flow.from, flow.to)
-}
-
-/// Whether the flow from one host to another is in the set.
-pub(crate) fn permits(flows: &FlowSet, from: u16, to: u16) -> bool
-    requires from_within { from < flows.now.size }
-    requires to_within { to < flows.now.size }
-    ensures { result ≡ permits flows.now.flows from to }
-{
-    from != to && flows.has(Flow { from, to })
 }

@@ -1,52 +1,88 @@
 //! The chains of a policy, put together.
 
-ghost use Rattle.std.specs.Prelude.{◌≡◌, ◌+◌, ◌<◌, ◌^◌, length, IfOk, OnOk};
+ghost use Rattle.std.specs.Prelude.{◌≡◌, ◌+◌, ◌<◌, ◌≤◌, ◌^◌, length, IfOk, IfErr, OnOk, IsTrue};
+ghost use Rattle.std.specs.List.{list_all};
 ghost use Rattle.flow_set.specs.FlowSet.{IsSubset};
 ghost use Rattle.host_net.specs.Hosts.{IsHosts};
+ghost use Rattle.host_net.specs.Site.{site_with};
 ghost use Rattle.pkt_core.specs.Filter.{Enforces, ForwardsExpected};
 ghost use Rattle.ipt_rules.specs.ChainTable.{rule_count};
 ghost use Rattle.ipt_rules.specs.Meaning.{Passes};
+ghost use Rattle.ipt_rules.specs.RuleParts.{is_rule};
+ghost use Rattle.emit_core.specs.EmitRefusals.{HasNoChains, rule_limit};
 ghost use Rattle.emit_core.specs.Filling.{with_rules, chains_up_to};
 ghost use Rattle.emit_core.specs.Layout.{layout, host_chain_name};
 
 use crate::forward::forward_rules;
 use crate::host_chain::host_rules;
+use crate::refusal::EmitRefusal;
+use crate::rule_count::count_rules;
 use crate::side::Side;
 use flow_set::FlowSet;
-use host_net::Hosts;
+use host_net::{Hosts, Services};
 use ipt_rules::{BuildRefusal, ChainName, Chains, Policy, Rule, Ruleset};
 use std::alloc::{AllocError, Global};
 
 const FORWARD: u16 = 1;
 
-/// The rules of a policy: the flows of `p` are permitted, and the answers of the flows of `s`,
-/// which are some of them, pass where their connection is established.
+/// How many rules the chains of a layout may have.
+const RULE_LIMIT: u32 = 600_000;
+
+/// The rules of a policy: the flows of `p` are permitted, each narrowed to its services where it
+/// has some, and the answers of the flows of `s`, which are some of them, pass where their
+/// connection is established.
 pub fn emit_iptables(
     alloc: Global,
     hosts: &Hosts,
+    services: &Services,
+    p: &FlowSet,
+    s: &FlowSet,
+) -> Result<Ruleset, EmitRefusal>
+    requires permitted { p.now.size ≡ length hosts.now }
+    requires stateful { s.now.size ≡ length hosts.now }
+    requires subset { IsSubset s.now.flows p.now.flows }
+    ensures layout { IfOk result (λ rules. rules ≡ layout (site_with hosts.now services.now) p.now.flows s.now.flows) }
+    ensures few { OnOk result (rule_count (layout (site_with hosts.now services.now) p.now.flows s.now.flows) ≤ rule_limit) }
+    ensures refused { IfErr result (HasNoChains (site_with hosts.now services.now) p.now.flows s.now.flows) }
+
+    // Each packet has a verdict, and it is forwarded exactly where the policy lets it pass.
+    ensures enforces { IfOk result (λ rules. Enforces (Passes rules) (site_with hosts.now services.now) p.now.flows s.now.flows) }
+
+    // Over every list of packets and forgettings, a packet is forwarded exactly where the policy
+    // and its answers expect it.
+    ensures expected { IfOk result (λ rules. ForwardsExpected (Passes rules) (site_with hosts.now services.now) p.now.flows s.now.flows) }
+{
+    let count = count_rules(hosts, services, p, s);
+    if count > RULE_LIMIT {
+        return Err(EmitRefusal::TooManyRules { count });
+    }
+    match ruleset_of(alloc, hosts, services, p, s) {
+        Ok(rules) => Ok(rules),
+        Err(AllocError) => Err(EmitRefusal::Memory),
+    }
+}
+
+fn ruleset_of(
+    alloc: Global,
+    hosts: &Hosts,
+    services: &Services,
     p: &FlowSet,
     s: &FlowSet,
 ) -> Result<Ruleset, AllocError>
     requires permitted { p.now.size ≡ length hosts.now }
     requires stateful { s.now.size ≡ length hosts.now }
-    requires subset { IsSubset s.now.flows p.now.flows }
-    ensures layout { IfOk result (λ rules. rules ≡ layout hosts.now p.now.flows s.now.flows) }
-
-    // Each packet has a verdict, and it is forwarded exactly where the policy lets it pass.
-    ensures enforces { IfOk result (λ rules. Enforces (Passes rules) hosts.now p.now.flows s.now.flows) }
-
-    // Over every list of packets and forgettings, a packet is forwarded exactly where the policy
-    // and its answers expect it.
-    ensures expected { IfOk result (λ rules. ForwardsExpected (Passes rules) hosts.now p.now.flows s.now.flows) }
+    requires few { rule_count (layout (site_with hosts.now services.now) p.now.flows s.now.flows) ≤ rule_limit }
+    ensures layout { IfOk result (λ rules. rules ≡ layout (site_with hosts.now services.now) p.now.flows s.now.flows) }
+    ensures hosts { OnOk result (IsHosts hosts.now) }
 {
-    let chains = chains_of(alloc, hosts, p, s)?;
+    let chains = chains_of(alloc, hosts, services, p, s)?;
     match Ruleset::build(alloc, chains) {
         Ok(rules) => Ok(rules),
         Err(why) => Err(out_of_memory(why)),
     }
 }
 
-// No layout is refused: where none came, memory ran out.
+// No layout with so few rules is refused: where none came, memory ran out.
 fn out_of_memory(why: BuildRefusal) -> AllocError
     requires { why ≡ BuildRefusal.Memory }
 {
@@ -56,10 +92,16 @@ fn out_of_memory(why: BuildRefusal) -> AllocError
     }
 }
 
-fn chains_of(alloc: Global, hosts: &Hosts, p: &FlowSet, s: &FlowSet) -> Result<Chains, AllocError>
+fn chains_of(
+    alloc: Global,
+    hosts: &Hosts,
+    services: &Services,
+    p: &FlowSet,
+    s: &FlowSet,
+) -> Result<Chains, AllocError>
     requires permitted { p.now.size ≡ length hosts.now }
     requires stateful { s.now.size ≡ length hosts.now }
-    ensures layout { IfOk result (λ chains. chains ≡ layout hosts.now p.now.flows s.now.flows) }
+    ensures layout { IfOk result (λ chains. chains ≡ layout (site_with hosts.now services.now) p.now.flows s.now.flows) }
     ensures hosts { IsHosts hosts.now }
 {
     let count = hosts.count();
@@ -67,7 +109,7 @@ fn chains_of(alloc: Global, hosts: &Hosts, p: &FlowSet, s: &FlowSet) -> Result<C
     chains.set_policy(FORWARD, Policy::Drop);
     fill(&mut chains, FORWARD, &forward_rules(alloc, hosts)?)?;
     for host in 0..count {
-        add_host_chain(alloc, &mut chains, hosts, p, s, host)?;
+        add_host_chain(alloc, &mut chains, hosts, services, p, s, host)?;
     }
     Ok(chains)
 }
@@ -76,6 +118,7 @@ fn add_host_chain(
     alloc: Global,
     chains: &mut Chains,
     hosts: &Hosts,
+    services: &Services,
     p: &FlowSet,
     s: &FlowSet,
     host: u16,
@@ -83,11 +126,11 @@ fn add_host_chain(
     requires permitted { p.now.size ≡ length hosts.now }
     requires stateful { s.now.size ≡ length hosts.now }
     requires there { host < length hosts.now }
-    requires few { IsHosts hosts.now }
-    requires before { chains.old ≡ chains_up_to hosts.now p.now.flows s.now.flows host }
-    ensures { OnOk result (chains.new ≡ chains_up_to hosts.now p.now.flows s.now.flows (host + 1)) }
+    requires hosts { IsHosts hosts.now }
+    requires before { chains.old ≡ chains_up_to (site_with hosts.now services.now) p.now.flows s.now.flows host }
+    ensures { OnOk result (chains.new ≡ chains_up_to (site_with hosts.now services.now) p.now.flows s.now.flows (host + 1)) }
 {
-    let rules = host_rules(alloc, hosts, p, s, Side::Sending, host)?;
+    let rules = host_rules(alloc, hosts, services, p, s, Side::Sending, host)?;
     let chain = chains.add(host_chain_name(alloc, host)?)?;
     fill(chains, chain, &rules)?;
     Ok(())
@@ -104,6 +147,7 @@ fn host_chain_name(alloc: Global, host: u16) -> Result<ChainName, AllocError>
 fn fill(chains: &mut Chains, chain: u16, rules: &[Rule]) -> Result<(), AllocError>
     requires there { chain < length chains.old }
     requires room { rule_count chains.old + length rules.now < 2 ^ 32 }
+    requires parts { IsTrue (list_all is_rule rules.now) }
     ensures { OnOk result (chains.new ≡ with_rules chains.old chain rules.now) }
 {
     for rule in rules {

@@ -3,18 +3,28 @@
 #![tactic(auto)]
 
 mod answers;
+mod entry_count;
+mod flow_entry;
+mod flow_policy;
 mod flows;
 mod forward;
 mod host_chain;
 mod iptables;
+mod narrowing;
 mod openflow;
 mod parts;
+mod permitted;
+mod ranges;
+mod refusal;
+mod rest_flows;
+mod rule_count;
 mod side;
 
 pub use answers::needs_state;
 pub use host_chain::host_rules;
 pub use iptables::emit_iptables;
-pub use openflow::{EmitRefusal, emit_openflow};
+pub use openflow::emit_openflow;
+pub use refusal::EmitRefusal;
 pub use side::Side;
 
 #[cfg(test)]

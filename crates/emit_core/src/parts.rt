@@ -1,11 +1,12 @@
 //! The few forms of rules that a layout has.
 
 ghost use Rattle.std.specs.Prelude.{◌≡◌, ◌+◌, ◌<◌, ◌^◌};
-ghost use Rattle.emit_core.specs.Layout.{chain_of, in_prefix, answering, from_source, at_other};
+ghost use Rattle.emit_core.specs.Layout.{chain_of, in_prefix, answering, from_source, at_other, to_service, from_service, protocol_part, port_part, ports_of_service};
 
+use crate::narrowing::has_all_ports;
 use crate::side::Side;
-use host_net::Prefix;
-use ipt_rules::{AddrMatch, Rule, StateMatch, Target};
+use host_net::{Prefix, Service};
+use ipt_rules::{AddrMatch, PortMatch, ProtoMatch, Rule, StateMatch, Target};
 
 /// The number of a host's chain, after the three built-in ones.
 pub(crate) fn chain_of(host: u16) -> u16
@@ -19,17 +20,12 @@ pub(crate) fn chain_of(host: u16) -> u16
 pub(crate) fn from_source(prefix: Option<Prefix>, target: Target) -> Rule
     ensures { result ≡ from_source prefix target }
 {
-    at_other(Side::Receiving, prefix, None, target)
+    at_other(Side::Receiving, prefix, target)
 }
 
 /// A rule on the address of the other host; without a prefix it asks for none.
-pub(crate) fn at_other(
-    side: Side,
-    prefix: Option<Prefix>,
-    state: Option<StateMatch>,
-    target: Target,
-) -> Rule
-    ensures { result ≡ at_other side prefix state target }
+pub(crate) fn at_other(side: Side, prefix: Option<Prefix>, target: Target) -> Rule
+    ensures { result ≡ at_other side prefix None target }
 {
     let part = in_prefix(prefix);
     let (src, dst) = match side {
@@ -39,13 +35,39 @@ pub(crate) fn at_other(
     Rule {
         src,
         dst,
-        state,
+        proto: None,
+        sport: None,
+        dport: None,
+        state: None,
         target,
     }
 }
 
+/// A rule that accepts packets to the ports of a service; without a service it asks for none.
+pub(crate) fn to_service(side: Side, prefix: Option<Prefix>, service: Option<Service>) -> Rule
+    ensures { result ≡ to_service side prefix service }
+{
+    Rule {
+        proto: protocol_part(service),
+        dport: port_part(service),
+        ..at_other(side, prefix, Target::Accept)
+    }
+}
+
+/// A rule that accepts answers from the ports of a service; without a service it asks for none.
+pub(crate) fn from_service(side: Side, prefix: Option<Prefix>, service: Option<Service>) -> Rule
+    ensures { result ≡ from_service side prefix service }
+{
+    Rule {
+        proto: protocol_part(service),
+        sport: port_part(service),
+        state: answering(),
+        ..at_other(side, prefix, Target::Accept)
+    }
+}
+
 /// What a rule asks of the state of an answer.
-pub(crate) fn answering() -> Option<StateMatch>
+fn answering() -> Option<StateMatch>
     ensures { result ≡ answering }
 {
     Some(StateMatch {
@@ -66,4 +88,41 @@ fn in_prefix(prefix: Option<Prefix>) -> Option<AddrMatch>
             negated: false,
         }),
     }
+}
+
+/// What a rule asks of the protocol: that of the service; without a service nothing.
+fn protocol_part(service: Option<Service>) -> Option<ProtoMatch>
+    ensures { result ≡ protocol_part service }
+{
+    match service {
+        None => None,
+        Some(service) => Some(ProtoMatch {
+            proto: service.proto,
+            negated: false,
+        }),
+    }
+}
+
+/// What a rule asks of a port: that it is one of the service; without a service nothing.
+fn port_part(service: Option<Service>) -> Option<PortMatch>
+    ensures { result ≡ port_part service }
+{
+    match service {
+        None => None,
+        Some(service) => ports_of_service(service),
+    }
+}
+
+/// The ports of a service, where these are not all.
+fn ports_of_service(service: Service) -> Option<PortMatch>
+    ensures { result ≡ ports_of_service service }
+{
+    if has_all_ports(service) {
+        return None;
+    }
+    Some(PortMatch {
+        low: service.low,
+        high: service.high,
+        negated: false,
+    })
 }

@@ -1,11 +1,12 @@
 //! The rules of small networks, byte by byte, with texts worked out by hand.
 
-ghost use Rattle.std.specs.Prelude.{◌≡◌, length, IfSome};
+ghost use Rattle.std.specs.Prelude.{◌≡◌, length, IfSome, IsTrue};
+ghost use Rattle.host_net.specs.Service.{is_service};
 ghost use Rattle.flow_set.specs.FlowSet.{IsSubset};
 
 use crate::emit_iptables;
 use flow_set::{Flow, FlowSet};
-use host_net::{Hosts, read_prefix};
+use host_net::{Hosts, SERVICE_LIMIT, Service, Services, read_prefix, read_service};
 use ipt_rules::Ruleset;
 use std::alloc::Global;
 
@@ -54,7 +55,7 @@ fn stateful(alloc: Global, p: &FlowSet, answers: bool) -> Option<FlowSet>
 
 fn text_of(alloc: Global, rules: &Ruleset) -> Option<Vec<u8>> {
     let mut text = Vec::new(alloc);
-    let mut buffer = [0; 256];
+    let mut buffer = [0; 320];
     for i in 0..rules.lines() {
         let end = rules.write_line(i, &mut buffer);
         text.extend_from_slice(&buffer[..end]).ok()?;
@@ -62,12 +63,37 @@ fn text_of(alloc: Global, rules: &Ruleset) -> Option<Vec<u8>> {
     Some(text)
 }
 
-// The text of the rules of a network with one flow.
-fn text(alloc: Global, named: &[(&[u8], &[u8])], flow: Flow, answers: bool) -> Option<Vec<u8>> {
+// The flow is narrowed to the services of these texts.
+fn narrowed(alloc: Global, flow: Flow, texts: &[&[u8]]) -> Option<Services> {
+    let mut services = Services::new(alloc);
+    for text in texts {
+        add_service(&mut services, flow, read_service(text)?)?;
+    }
+    Some(services)
+}
+
+fn add_service(services: &mut Services, flow: Flow, service: Service) -> Option<()>
+    requires { IsTrue (is_service service) }
+{
+    if services.of(flow.from, flow.to).len() >= SERVICE_LIMIT {
+        return None;
+    }
+    services.add(flow.from, flow.to, service).ok()
+}
+
+// The text of the rules of a network with one flow, which is narrowed to the services of these texts.
+fn text(
+    alloc: Global,
+    named: &[(&[u8], &[u8])],
+    flow: Flow,
+    texts: &[&[u8]],
+    answers: bool,
+) -> Option<Vec<u8>> {
     let hosts = network(alloc, named)?;
+    let services = narrowed(alloc, flow, texts)?;
     let p = one_flow(alloc, &hosts, flow)?;
     let s = stateful(alloc, &p, answers)?;
-    let rules = emit_iptables(alloc, &hosts, &p, &s).ok()?;
+    let rules = emit_iptables(alloc, &hosts, &services, &p, &s).ok()?;
     text_of(alloc, &rules)
 }
 
@@ -96,6 +122,25 @@ const ANSWERED_PAIR: &[u8] = b"*filter
 -A H0 -d 10.0.0.2/32 -j ACCEPT
 -A H0 -j DROP
 -A H1 -d 10.0.0.1/32 -m conntrack --ctstate ESTABLISHED -j ACCEPT
+-A H1 -j DROP
+COMMIT
+";
+
+const NARROWED_PAIR: &[u8] = b"*filter
+:INPUT ACCEPT [0:0]
+:FORWARD DROP [0:0]
+:OUTPUT ACCEPT [0:0]
+:H0 - [0:0]
+:H1 - [0:0]
+-A FORWARD -s 10.0.0.1/32 -j H0
+-A FORWARD -s 10.0.0.2/32 -j H1
+-A H0 -d 10.0.0.2/32 -p tcp -m tcp --dport 80 -j ACCEPT
+-A H0 -d 10.0.0.2/32 -p udp -m udp --dport 53:60 -j ACCEPT
+-A H0 -d 10.0.0.2/32 -p icmp -j ACCEPT
+-A H0 -j DROP
+-A H1 -d 10.0.0.1/32 -p tcp -m tcp --sport 80 -m conntrack --ctstate ESTABLISHED -j ACCEPT
+-A H1 -d 10.0.0.1/32 -p udp -m udp --sport 53:60 -m conntrack --ctstate ESTABLISHED -j ACCEPT
+-A H1 -d 10.0.0.1/32 -p icmp -m conntrack --ctstate ESTABLISHED -j ACCEPT
 -A H1 -j DROP
 COMMIT
 ";
@@ -141,11 +186,11 @@ fn rules_of_small_networks(rt: HostRuntime) {
     let pair: [(&[u8], &[u8]); 2] = [(b"a", b"10.0.0.1/32"), (b"b", b"10.0.0.2/32")];
     let there = Flow { from: 0, to: 1 };
     assert_eq!(rt;
-        *text(rt.alloc(), &pair, there, false).expect(&rt, "rules"),
+        *text(rt.alloc(), &pair, there, &[], false).expect(&rt, "rules"),
         *PAIR
     );
     assert_eq!(rt;
-        *text(rt.alloc(), &pair, there, true).expect(&rt, "rules"),
+        *text(rt.alloc(), &pair, there, &[], true).expect(&rt, "rules"),
         *ANSWERED_PAIR
     );
 
@@ -156,13 +201,24 @@ fn rules_of_small_networks(rt: HostRuntime) {
     ];
     let from_rest = Flow { from: 2, to: 0 };
     assert_eq!(rt;
-        *text(rt.alloc(), &three, from_rest, true).expect(&rt, "rules"),
+        *text(rt.alloc(), &three, from_rest, &[], true).expect(&rt, "rules"),
         *FROM_REST
     );
 
     let half: [(&[u8], &[u8]); 2] = [(b"a", b"0.0.0.0/1"), (b"inet", b"")];
     assert_eq!(rt;
-        *text(rt.alloc(), &half, there, true).expect(&rt, "rules"),
+        *text(rt.alloc(), &half, there, &[], true).expect(&rt, "rules"),
         *TO_REST
+    );
+}
+
+#[test]
+fn rules_of_services(rt: HostRuntime) {
+    let pair: [(&[u8], &[u8]); 2] = [(b"a", b"10.0.0.1/32"), (b"b", b"10.0.0.2/32")];
+    let there = Flow { from: 0, to: 1 };
+    let texts: [&[u8]; 3] = [b"tcp/80", b"udp/53-60", b"icmp"];
+    assert_eq!(rt;
+        *text(rt.alloc(), &pair, there, &texts, true).expect(&rt, "rules"),
+        *NARROWED_PAIR
     );
 }

@@ -4,8 +4,8 @@ use Rattle.emit_core.specs.FlowTableRefusals.{lacks_answer}
 use Rattle.emit_core.proofs.answers.needs_state.Given as goal
 
 abbrev pub invariant-loop-from : goal.invariant-loop-from
-invariant-loop-from l = (g : Flow) → g.to < l.count → g.from < l.from → lacks_answer l.p.flows l.s.flows g ≡ false
+invariant-loop-from l = (g : Flow) → g.to < l.count → g.from < l.from → lacks_answer l.services l.p.flows l.s.flows g ≡ false
 
 abbrev pub invariant-loop-to : goal.invariant-loop-to
 invariant-loop-to l =
-    (g : Flow) → g.to < l.count → (g.from < l.from) ⊎ ((g.from ≡ l.from) × (g.to < l.to)) → lacks_answer l.p.flows l.s.flows g ≡ false
+    (g : Flow) → g.to < l.count → (g.from < l.from) ⊎ ((g.from ≡ l.from) × (g.to < l.to)) → lacks_answer l.services l.p.flows l.s.flows g ≡ false

@@ -1,7 +1,10 @@
+use Rattle.host_net.specs.Site.{site_with}
 use Rattle.emit_core.specs.FlowTable.{from_host}
 use Rattle.emit_core.proofs.HostSteps.{grow_host}
 use Rattle.emit_core.proofs.flows.push_between.Goals as goal
 
 pub loop-from-preserved : goal.loop-from-preserved
 loop-from-preserved c =
-    grow_host (from_host c.args.hosts.now c.args.p.now.flows c.args.rest) _ _ _ _ _ _ c.prefixes.ensures c.loop-from.invariant (c.in_ok-push_from_host.ensures)
+    let policy = c.args.policy.now in
+    grow_host (from_host (site_with policy.hosts.now policy.services.now) policy.permitted.now.flows policy.rest) _ _ _ _ _ _
+    c.prefixes.ensures c.loop-from.invariant c.in_ok-push_from_host.ensures

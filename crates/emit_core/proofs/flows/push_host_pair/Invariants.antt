@@ -5,5 +5,5 @@ use Rattle.emit_core.proofs.flows.push_host_pair.Given as goal
 
 abbrev pub invariant-loop-source : goal.invariant-loop-source
 invariant-loop-source l =
-    let written = from_prefix l.action l.destinations in
+    let written = from_prefix l.flow.permitted l.flow.services.now l.rest l.destinations in
     l.entries.items ++ flat_map written (drop l.source-index l.sources) ≡ l.fn.entries.items ++ flat_map written l.sources

@@ -1,6 +1,10 @@
 use Rattle.std.proofs.Common.{◌∙◌, List, arith, ap, length}
 use Rattle.ipt_rules.specs.declared.rule.Policy.TheVariants.{Drop as Dropping}
+use Rattle.std.specs.List.{list_all}
+use Rattle.host_net.specs.Site.{site_with}
 use Rattle.ipt_rules.specs.Chain.{Chain, with_policy}
+use Rattle.ipt_rules.specs.RuleParts.{is_rule}
+use Rattle.emit_core.specs.LayoutRulesLaws.{forward_rules_are}
 use Rattle.emit_core.specs.LayoutLaws.{few_forward_rules}
 use Rattle.emit_core.proofs.FillingLemmas.{no_rules_yet, forward_filled}
 use Rattle.emit_core.proofs.iptables.chains_of.Goals as goal
@@ -19,9 +23,13 @@ fill-requires-clause-room c =
       few_forward_rules c.args.hosts.now,
     )
 
+pub fill-requires-clause-parts : goal.fill-requires-clause-parts
+fill-requires-clause-parts c =
+    ap (list_all is_rule) (c.deref.ensures.value ∙ c.in_ok-forward_rules.ensures) ∙ forward_rules_are c.args.hosts.now
+
 pub loop-host-init : goal.loop-host-init
 loop-host-init c =
     c.in_ok-fill.ensures
-    ∙ forward_filled c.args.hosts.now c.args.p.now.flows c.args.s.now.flows c.set_policy.new.self c.deref.result.now
+    ∙ forward_filled (site_with c.args.hosts.now c.args.services.now) c.args.p.now.flows c.args.s.now.flows c.set_policy.new.self c.deref.result.now
     (c.set_policy.ensures ∙ ap (λ (x : List Chain). with_policy x 1 Dropping) c.in_ok-chains.ensures)
     (c.deref.ensures.value ∙ c.in_ok-forward_rules.ensures)

@@ -1,5 +1,11 @@
+use Rattle.ipt_rules.specs.RuleParts.{is_rule}
+use Rattle.emit_core.specs.LayoutRulesLaws.{passes_at}
 use Rattle.emit_core.proofs.FillingLemmas.{filling_more}
 use Rattle.emit_core.proofs.iptables.fill.Goals as goal
+
+pub rule-requires-clause-parts : goal.rule-requires-clause-parts
+rule-requires-clause-parts c =
+    passes_at is_rule c.args.rules.now c.loop-rule.rule-index c.rule-item.result c.requires.parts c.loop-rule-test.true c.rule-item.is
 
 pub loop-rule-preserved : goal.loop-rule-preserved
 loop-rule-preserved c =

@@ -1,49 +1,50 @@
-use Rattle.std.proofs.Common.{◌∙◌, sym, ap, subst, List, length, arith}
+use Rattle.std.proofs.Common.{◌≡◌, ℕ, ◌≤◌, ◌∙◌, refl, sym, ap, subst, List, length, arith}
 use Rattle.std.specs.List.{list_all}
+use Rattle.host_net.specs.Site.{Site, IsSite, site_with}
+use Rattle.flow_set.specs.declared.flow.Flow.{Flow}
 use Rattle.ofp_rules.specs.declared.entry.Entry.{Entry}
 use Rattle.ofp_rules.specs.declared.table.TableRefusal.{TableRefusal}
 use Rattle.ofp_rules.specs.declared.table.TableRefusal.TheVariants.{TooMany, Ambiguous, Memory}
-use Rattle.ofp_rules.specs.Matching.{asks_of_ip}
 use Rattle.ofp_rules.specs.Build.{IsRefused}
-use Rattle.host_net.specs.Host.{Host}
-use Rattle.host_net.specs.Hosts.{IsHosts}
-use Rattle.flow_set.specs.declared.flow.Flow.{Flow}
+use Rattle.ofp_rules.specs.Matching.{asks_of_ip}
 use Rattle.emit_core.specs.FlowTable.{flow_entries}
-use Rattle.emit_core.specs.FlowTableRefusals.{IsBuildable}
-use Rattle.emit_core.specs.FlowTableLaws.{ForwardsFlows, forwards_flows, unambiguous}
-use Rattle.emit_core.specs.FlowTableSizeLaws.{all_ask, entries_long}
 use Rattle.emit_core.specs.FlowTableEventsLaws.{arp_alone, flows_enforced, flows_expected}
+use Rattle.emit_core.specs.FlowTableLaws.{ForwardsFlows, unambiguous}
+use Rattle.emit_core.specs.FlowTableRangeLaws.{all_ask}
+use Rattle.emit_core.specs.FlowTableVerdictLaws.{forwards_flows}
+use Rattle.emit_core.specs.PortRanges.{HasNoRange}
 use Rattle.emit_core.proofs.openflow.emit_openflow.Goals as goal
 
 pub build-requires-clause-asks : goal.build-requires-clause-asks
 build-requires-clause-asks c =
-    ap (list_all asks_of_ip) c.in-Ok.ensures.layout ∙ all_ask c.args.hosts.now c.args.p.now.flows
+    ap (list_all asks_of_ip) c.in-Ok.ensures ∙ all_ask (site_with c.args.hosts.now c.args.services.now) c.args.p.now.flows c.first_range.ensures.services
 
-pub build-requires-clause-counted : goal.build-requires-clause-counted
-build-requires-clause-counted c =
-    let few = c.in-Ok.ensures.hosts.few_prefixes in
-    omega (arith, ap length c.in-Ok.ensures.layout, entries_long c.args.hosts.now c.args.p.now.flows (omega arith))
+-- few entries without a range of ports are refused for want of memory alone
+memory_alone : (site : Site) (p : List Flow) (entries : List Entry) (count : ℕ) (why : TableRefusal) → IsSite site → HasNoRange site.services p
+    → entries ≡ flow_entries site p → count ≡ length (flow_entries site p) → count ≤ 8192 → IsRefused entries why → why ≡ Memory
+memory_alone site p entries count (TooMany n) known plain is all few refused = absurd (omega (arith, refused.0, ap length is))
+memory_alone site p entries count (Ambiguous i j) known plain is all few refused =
+    absurd (subst (λ (es : List Entry). IsRefused es (Ambiguous i j) → ⊥) (sym is) (λ bad. unambiguous site p known plain i j bad.1.ambiguous) refused)
+memory_alone site p entries count Memory known plain is all few refused = refl
 
-buildable : (hosts : List Host) (p : List Flow) (why : TableRefusal) → IsHosts hosts → IsRefused (flow_entries hosts p) why → IsBuildable why
-buildable hosts p (TooMany count) known refused = tt
-buildable hosts p (Ambiguous i j) known refused = unambiguous hosts p known i j refused.1.ambiguous
-buildable hosts p Memory known refused = tt
+pub out_of_memory-requires : goal.out_of_memory-requires
+out_of_memory-requires c =
+    memory_alone (site_with c.args.hosts.now c.args.services.now) c.args.p.now.flows c.in-Ok.entries.items c.entry_count-count.result c.in-Err.why
+    (record { hosts = c.entry_count-count.ensures.hosts; services = c.first_range.ensures.services }) c.in_default.ensures.first
+    c.in-Ok.ensures c.entry_count-count.ensures.count c.if-count-gt-ENTRY_LIMIT.false c.in-Err.ensures.refused
 
-pub refusal_for-requires : goal.refusal_for-requires
-refusal_for-requires c =
-    buildable c.args.hosts.now c.args.p.now.flows c.in-Err.why c.in-Ok.ensures.hosts
-    (subst (λ (es : List Entry). IsRefused es c.in-Err.why) c.in-Ok.ensures.layout c.in-Err.ensures.refused)
-
-forwards : (c : goal.In-Ok-build) → ForwardsFlows c.in-Ok-build.table c.args.hosts.now c.args.p.now.flows
+forwards : (c : goal.In-Ok-build) → ForwardsFlows c.in-Ok-build.table (site_with c.args.hosts.now c.args.services.now) c.args.p.now.flows
 forwards c =
-    subst (λ (es : List Entry). ForwardsFlows es c.args.hosts.now c.args.p.now.flows) (sym (c.in-Ok-build.ensures.ok ∙ c.in-Ok.ensures.layout))
-    (forwards_flows c.args.hosts.now c.args.p.now.flows c.in-Ok.ensures.hosts)
+    let site = site_with c.args.hosts.now c.args.services.now in
+    subst (λ (es : List Entry). ForwardsFlows es site c.args.p.now.flows) (sym (c.in-Ok-build.ensures.ok ∙ c.in-Ok.ensures))
+    (forwards_flows site c.args.p.now.flows (record { hosts = c.entry_count-count.ensures.hosts; services = c.first_range.ensures.services }) c.in_default.ensures.first)
 
 pub returns-in-Ok-build-clause-enforces : goal.returns-in-Ok-build-clause-enforces
-returns-in-Ok-build-clause-enforces c = flows_enforced c.in-Ok-build.table c.args.hosts.now c.args.p.now.flows (forwards c)
+returns-in-Ok-build-clause-enforces c = flows_enforced c.in-Ok-build.table (site_with c.args.hosts.now c.args.services.now) c.args.p.now.flows (forwards c)
 
 pub returns-in-Ok-build-clause-others : goal.returns-in-Ok-build-clause-others
-returns-in-Ok-build-clause-others c = arp_alone c.in-Ok-build.table c.args.hosts.now c.args.p.now.flows (forwards c)
+returns-in-Ok-build-clause-others c = arp_alone c.in-Ok-build.table (site_with c.args.hosts.now c.args.services.now) c.args.p.now.flows (forwards c)
 
 pub returns-in-Ok-build-clause-expected : goal.returns-in-Ok-build-clause-expected
-returns-in-Ok-build-clause-expected c = λ s answers. flows_expected c.in-Ok-build.table c.args.hosts.now c.args.p.now.flows s (forwards c) answers
+returns-in-Ok-build-clause-expected c =
+    λ s answers. flows_expected c.in-Ok-build.table (site_with c.args.hosts.now c.args.services.now) c.args.p.now.flows s (forwards c) answers

@@ -1,0 +1,45 @@
+//! The first permitted flow with a service that a flow table cannot ask for.
+
+ghost use Rattle.std.specs.Prelude.{◌≡◌, MatchOption};
+ghost use Rattle.std.specs.List.{list_any};
+ghost use Rattle.host_net.specs.Services.{AreServices};
+ghost use Rattle.emit_core.specs.PortRanges.{HasNoRange, IsFirstRange, has_range, is_range};
+
+use crate::narrowing::has_all_ports;
+use flow_set::{Flow, FlowSet};
+use host_net::{Service, Services};
+
+/// The first flow of `p` that is narrowed to a range of ports, or None where none is.
+pub(crate) fn first_range(services: &Services, p: &FlowSet) -> Option<Flow>
+    ensures first { MatchOption result (HasNoRange services.now p.now.flows) (IsFirstRange services.now p.now.flows) }
+    ensures services { AreServices services.now }
+{
+    if services.is_empty() {
+        return None;
+    }
+    for flow in p.iter() {
+        if has_range(services, flow) {
+            return Some(flow);
+        }
+    }
+    None
+}
+
+fn has_range(services: &Services, flow: Flow) -> bool
+    ensures { result ≡ has_range services.now flow }
+{
+    is_one_range(services.of(flow.from, flow.to))
+}
+
+fn is_one_range(services: &[Service]) -> bool
+    ensures { result ≡ list_any is_range services.now }
+{
+    services.iter().any(|service| is_range(*service))
+}
+
+/// Whether the service has several ports, and not all.
+fn is_range(service: Service) -> bool
+    ensures { result ≡ is_range service }
+{
+    service.low < service.high && !has_all_ports(service)
+}
