@@ -22,6 +22,7 @@ pub mod NonInterference
 pub mod Partners
 pub mod Peers
 pub mod ReadIn
+pub mod ShallowLaws
 pub mod Shapes
 pub mod Sink
 pub mod Subnets

@@ -54,6 +54,14 @@ described_as version flows hosts =
 abbrev pub of_hosts : List Data → Members
 of_hosts hosts = described_as (integer (pos 1)) a_to_b (list hosts)
 
+-- a flow from a to b with services
+abbrev pub a_to_b_by : List (List ℕ) → Data
+a_to_b_by services = texts (codes "a" ∷ codes "b" ∷ services)
+
+-- of version 2 between a and b, with its flows alone
+abbrev pub of_narrowed_flows : List Data → Members
+of_narrowed_flows flows = described_as (integer (pos 2)) flows (list (host_a ∷ host_b ∷ []))
+
 -- of version 1 between a and b, with its flows alone
 abbrev pub of_flows : List Data → Members
 of_flows flows = described_as (integer (pos 1)) flows (list (host_a ∷ host_b ∷ []))

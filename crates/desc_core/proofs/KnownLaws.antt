@@ -318,7 +318,7 @@ flow_by : (b : Bool) (w : WrittenFlow) (i j : ℕ) → not b ≡ true → (if b 
 flow_by true w i j apart = cc
 flow_by false w i j apart = refl
 
-flow_is : (hosts : List Host) (w : WrittenFlow) (e : Flow) → ends_of hosts w ≡ Some e → not (e.from == e.to) ≡ true → flow_of_names hosts w ≡ Some e
+pub flow_is : (hosts : List Host) (w : WrittenFlow) (e : Flow) → ends_of hosts w ≡ Some e → not (e.from == e.to) ≡ true → flow_of_names hosts w ≡ Some e
 flow_is hosts w e is apart =
     let (from, to) = named_ends hosts w e is in
     (λ j. option_and_then (λ i. option_and_then (λ k. if i == k then None else Some (flow_from_to i k)) (to j)) (from j))

@@ -1,6 +1,6 @@
 -- What a table with too many hosts or prefixes is told, whatever the limits are: the first host, or the first entry of a prefix,
 -- beyond them. No contract names these laws either.
-use Rattle.std.proofs.Common.{◌≡◌, ◌<◌, ◌≤◌, ◌+◌, pos, length, Option, Some, None, Err, refl}
+use Rattle.std.proofs.Common.{◌≡◌, ◌<◌, ◌≤◌, ◌+◌, ◌⊎◌, ℤ, pos, length, Option, Some, None, Err, refl}
 use Rattle.std.specs.Option.{option_or}
 use Rattle.std.specs.Prelude.{slice_get}
 use Rattle.toml.specs.Data.{Members}
@@ -20,7 +20,11 @@ use Rattle.desc_hosts.specs.SizesLaws.{many_hosts, many_prefixes}
 use Rattle.host_net.specs.Limits.{host_limit, prefix_limit}
 use Rattle.text_core.specs.Firsts.{first_of}
 
-told_by_sizes : (w : Written) (r : Refusal) → w.version ≡ pos 1 → too_many w.hosts (all_entries w) w.invariants ≡ Some r
+-- a version that there is
+abbrev pub IsVersion : ℤ → Type 0
+IsVersion version = (version ≡ pos 1) ⊎ (version ≡ pos 2)
+
+told_by_sizes : (w : Written) (r : Refusal) → IsVersion w.version → too_many w.hosts (all_entries w) w.invariants ≡ Some r
     → first_of (host_conditions w) ≡ Some r
 unfolding host_conditions
 told_by_sizes w r version sizes = let first = (version_is w.version).1 version in rw (first, sizes) refl
@@ -30,19 +34,19 @@ refused_by_second : {A : Type 0} (o a b c : Option Refusal) (x : A) (r : Refusal
 refused_by_second o a b c x r groups first second = rw (groups, first, second) refl
 
 -- a table of the right form and version is told what its sizes are refused for
-told_of_sizes : (table : Members) (r : Refusal) → IsFormed table → (written table).version ≡ pos 1
+told_of_sizes : (table : Members) (r : Refusal) → IsFormed table → IsVersion (written table).version
     → too_many (written table).hosts (all_entries (written table)) (written table).invariants ≡ Some r → described_by_table table ≡ Err r
 unfolding described_by_table
 told_of_sizes table r form version sizes =
     refused_by_second _ _ _ _ (network_of (written table)) r (by_groups table) ((formed table).1 form) (told_by_sizes (written table) r version sizes)
 
-pub too_many_hosts : (table : Members) → IsFormed table → (written table).version ≡ pos 1 → host_limit < length (written table).hosts
+pub too_many_hosts : (table : Members) → IsFormed table → IsVersion (written table).version → host_limit < length (written table).hosts
     → described_by_table table ≡ Err (refused TooMany (Host (host_limit + 1)))
 too_many_hosts table form version more =
     let w = written table in
     told_of_sizes table (refused TooMany (Host (host_limit + 1))) form version (many_hosts w.hosts (all_entries w) w.invariants more)
 
-pub too_many_prefixes : (table : Members) (e : Entry) → IsFormed table → (written table).version ≡ pos 1
+pub too_many_prefixes : (table : Members) (e : Entry) → IsFormed table → IsVersion (written table).version
     → length (written table).hosts ≤ host_limit → slice_get (all_entries (written table)) prefix_limit ≡ Some e
     → described_by_table table ≡ Err (refused_item TooMany (Host e.host) e.item)
 too_many_prefixes table e form version few there =

@@ -1,16 +1,18 @@
 -- The network, condition by condition.
-use Rattle.std.proofs.Common.{◌≡◌, ℕ, List, [], ◌∷◌, ◌++◌, length, Option, Some, None, Ok, Err, map, refl, sym, ap, ◌∙◌}
+use Rattle.std.proofs.Common.{◌≡◌, ℕ, List, [], ◌∷◌, ◌++◌, length, Option, Some, None, Ok, Err, map, refl, sym, ap, ◌∙◌, subst}
 use Rattle.std.specs.Option.{option_or}
 use Rattle.std.specs.Prelude.{if◌then◌else◌}
 use Rattle.desc_core.proofs.KnownLaws.{asked_is, bad_is, invariants_are, names_known, self_is, twice_is}
+use Rattle.desc_core.proofs.ServicesLemmas.{services_are}
 use Rattle.desc_core.specs.Description.{refused_or}
 use Rattle.desc_core.specs.DescriptionLaws.{first_of-append}
-use Rattle.desc_core.specs.Parts.{bad_known, ends_of, name_conditions, network_by_uses, network_or, self_found, twice_found}
+use Rattle.desc_core.specs.NetworkLaws.{IsNetwork-network_of}
+use Rattle.desc_core.specs.Parts.{bad_known, ends_of, name_conditions, narrowed_among, network_by_uses, network_or, self_found, services_found, twice_found}
 use Rattle.desc_core.specs.Reads.{Reads}
 use Rattle.desc_core.specs.declared.fault.DescFault.{DescFault}
 use Rattle.desc_core.specs.declared.fault.DescFault.TheVariants.{Memory, Refused}
-use Rattle.desc_core.specs.UseConditions.{bad_attribute, duplicate_assign, duplicate_flow, self_flow, undeclared_host, unknown_template, use_conditions}
-use Rattle.desc_core.specs.WrittenNetwork.{Known, asked_of, invariants_of, known_of, made_of, network_of}
+use Rattle.desc_core.specs.UseConditions.{bad_attribute, bad_service, duplicate_assign, duplicate_flow, many_services, self_flow, undeclared_host, unknown_template, use_conditions}
+use Rattle.desc_core.specs.WrittenNetwork.{Known, asked_of, invariants_of, known_of, made_of, network_of, services_in}
 use Rattle.desc_form.specs.Written.{Written}
 use Rattle.desc_form.specs.declared.refusal.Refusal.{Refusal}
 use Rattle.desc_hosts.specs.HostConditions.{host_conditions}
@@ -20,7 +22,9 @@ use Rattle.flow_set.specs.EveryFlow.{every_flow}
 use Rattle.flow_set.specs.FlowSet.{SetOfFlows, set_of}
 use Rattle.flow_set.specs.declared.flow.Flow.{Flow}
 use Rattle.host_net.specs.Host.{Host}
+use Rattle.host_net.specs.Services.{NarrowedFlow}
 use Rattle.inv_any.specs.declared.any_inv.AnyInv.{AnyInv}
+use Rattle.net_core.specs.Fitting.{IsNetwork}
 use Rattle.net_core.specs.Network.{Network}
 use Rattle.table_core.specs.Listing.{each}
 use Rattle.text_core.specs.Firsts.{first_of}
@@ -41,32 +45,40 @@ found_here w hosts ks es all = ap (λ hs. each (ends_of hs) w.flows) (sym all.sa
 abbrev before_last : Written → List Host → List Known → List Flow → Option Refusal
 before_last w hosts ks es = option_or (duplicate_assign w) (option_or (bad_known hosts ks) (self_found es))
 
-in_groups : (a b c d e f : Option Refusal) → a ≡ None → b ≡ None → option_or a (option_or b (option_or c (option_or d (option_or e (option_or f None))))) ≡ option_or (option_or c (option_or d e)) f
-in_groups a b c d e f first second = rw (first, second) (grouped c d e f)
-  where
-    grouped : (c d e f : Option Refusal) → option_or c (option_or d (option_or e (option_or f None))) ≡ option_or (option_or c (option_or d e)) f
-    grouped None None None None = refl
-    grouped None None None (Some r) = refl
-    grouped None None (Some r) f = refl
-    grouped None (Some r) e f = refl
-    grouped (Some r) d e f = refl
+grouped : (c d e rest : Option Refusal) → option_or c (option_or d (option_or e rest)) ≡ option_or (option_or c (option_or d e)) rest
+grouped None None None rest = refl
+grouped None None (Some r) rest = refl
+grouped None (Some r) e rest = refl
+grouped (Some r) d e rest = refl
 
-uses_are : (w : Written) (hosts : List Host) (ks : List Known) (es : List Flow) → AreKnown w hosts ks es → first_of (use_conditions w) ≡ option_or (before_last w hosts ks es) (twice_found es)
-unfolding use_conditions
+last_two : (f g h : Option Refusal) → option_or f (option_or g (option_or h None)) ≡ option_or f (option_or g h)
+last_two None None None = refl
+last_two None None (Some r) = refl
+last_two None (Some r) h = refl
+last_two (Some r) g h = refl
+
+in_groups : (a b c d e f g h : Option Refusal) → a ≡ None → b ≡ None
+    → option_or a (option_or b (option_or c (option_or d (option_or e (option_or f (option_or g (option_or h None))))))) ≡ option_or (option_or c (option_or d e)) (option_or f (option_or g h))
+in_groups a b c d e f g h first second =
+    rw (first, second) (grouped c d e (option_or f (option_or g (option_or h None))) ∙ ap (option_or (option_or c (option_or d e))) (last_two f g h))
+
+uses_are : (w : Written) (hosts : List Host) (ks : List Known) (es : List Flow) → AreKnown w hosts ks es
+    → first_of (use_conditions w) ≡ option_or (before_last w hosts ks es) (option_or (twice_found es) (services_found w.flows))
+unfolding use_conditions bad_service many_services
 uses_are w hosts ks es all =
     let known = known_here w hosts ks es all in
     let found = found_here w hosts ks es all in
     let (templates, declared) = names_known w ks es known found in
-    in_groups (unknown_template w) (undeclared_host w) (duplicate_assign w) (bad_attribute w) (self_flow w) (duplicate_flow w) templates declared
-    ∙ (λ j. option_or (option_or (duplicate_assign w) (option_or ((bad_is w ks known ∙ ap (λ hs. bad_known hs ks) (sym all.same)) j) (self_is w es found j))) (twice_is w es found j))
+    in_groups (unknown_template w) (undeclared_host w) (duplicate_assign w) (bad_attribute w) (self_flow w) (duplicate_flow w) (bad_service w) (many_services w) templates declared
+    ∙ (λ j. option_or (option_or (duplicate_assign w) (option_or ((bad_is w ks known ∙ ap (λ hs. bad_known hs ks) (sym all.same)) j) (self_is w es found j))) (option_or (twice_is w es found j) (services_found w.flows)))
 
 -- what refuses the description
 told : (w : Written) (r : Refusal) → first_of (use_conditions w) ≡ Some r → network_by_uses w ≡ Err r
 told w r is = rw is refl
 
-names_first : (w : Written) → first_of (use_conditions w) ≡ option_or (first_of (name_conditions w)) (first_of (duplicate_assign w ∷ bad_attribute w ∷ self_flow w ∷ duplicate_flow w ∷ []))
+names_first : (w : Written) → first_of (use_conditions w) ≡ option_or (first_of (name_conditions w)) (first_of (duplicate_assign w ∷ bad_attribute w ∷ self_flow w ∷ duplicate_flow w ∷ bad_service w ∷ many_services w ∷ []))
 unfolding use_conditions
-names_first w = first_of-append (name_conditions w) (duplicate_assign w ∷ bad_attribute w ∷ self_flow w ∷ duplicate_flow w ∷ [])
+names_first w = first_of-append (name_conditions w) (duplicate_assign w ∷ bad_attribute w ∷ self_flow w ∷ duplicate_flow w ∷ bad_service w ∷ many_services w ∷ [])
 
 pub refused_for_name : (w : Written) (r : Refusal) → first_of (name_conditions w) ≡ Some r → network_by_uses w ≡ Err r
 refused_for_name w r name = told w r (names_first w ∙ rw name refl)
@@ -78,10 +90,9 @@ refused_twice : (w : Written) (hosts : List Host) (ks : List Known) (es : List F
     → network_by_uses w ≡ Err r
 refused_twice w hosts ks es r all before is = told w r (uses_are w hosts ks es all ∙ rw (before, is) refl)
 
-unrefused : (w : Written) (hosts : List Host) (ks : List Known) (es : List Flow) → AreKnown w hosts ks es → before_last w hosts ks es ≡ None → twice_found es ≡ None → network_by_uses w ≡ Ok (network_of w)
-unrefused w hosts ks es all before last =
-    let none : first_of (use_conditions w) ≡ None = uses_are w hosts ks es all ∙ rw (before, last) refl in
-    rw none refl
+pub refused_services : (w : Written) (hosts : List Host) (ks : List Known) (es : List Flow) (r : Refusal) → AreKnown w hosts ks es → before_last w hosts ks es ≡ None → twice_found es ≡ None
+    → services_found w.flows ≡ Some r → network_by_uses w ≡ Err r
+refused_services w hosts ks es r all before once is = told w r (uses_are w hosts ks es all ∙ rw (before, once, is) refl)
 
 -- the parts of what was refused last
 pub none_before : (c d e : Option Refusal) → option_or c (option_or d e) ≡ None → (d ≡ None) × (e ≡ None)
@@ -112,21 +123,33 @@ asked_fails w hosts ks es n (Refused r) all before said = asked_refused w hosts 
 asked_fails w hosts ks es n Memory all before said = tt
 
 pub asked_made : (w : Written) (hosts : List Host) (ks : List Known) (es : List Flow) (n : ℕ) (asked : SetOfFlows) → AreKnown w hosts ks es → before_last w hosts ks es ≡ None → n ≡ length hosts
-    → refused_or (twice_found es) (made_set w n es) ≡ Ok asked → (network_by_uses w ≡ Ok (network_of w)) × (asked ≡ record { size = length w.hosts; flows = asked_of w })
+    → refused_or (twice_found es) (made_set w n es) ≡ Ok asked → (twice_found es ≡ None) × (asked ≡ record { size = length w.hosts; flows = asked_of w })
 asked_made w hosts ks es n asked all before count said =
     let (none, made) = none_twice (twice_found es) (made_set w n es) asked said in
     let size : n ≡ length w.hosts = count ∙ ap length all.same ∙ length-network_hosts w in
     let flows : asked_of w ≡ (if w.given then set_of es else every_flow (length w.hosts)) = asked_is w es (found_here w hosts ks es all) (none_before (duplicate_assign w) _ _ before).1 in
-    (unrefused w hosts ks es all before none, sym made ∙ ap (λ k. made_set w k es) size ∙ (λ j. record { size = length w.hosts; flows = sym flows j }))
+    (none, sym made ∙ ap (λ k. made_set w k es) size ∙ (λ j. record { size = length w.hosts; flows = sym flows j }))
 
 -- the network, part by part
-pub network_is : (w : Written) (hosts : List Host) (ks : List Known) (es : List Flow) (asked : SetOfFlows) (invariants : List AnyInv) → AreKnown w hosts ks es
-    → asked ≡ record { size = length w.hosts; flows = asked_of w } → invariants ≡ map (made_of hosts) ks
-    → network_of w ≡ record { hosts = hosts; asked = asked; given = w.given; answers = w.answers; invariants = invariants }
+network_is : (w : Written) (hosts : List Host) (ks : List Known) (es : List Flow) (asked : SetOfFlows) (services : List NarrowedFlow) (invariants : List AnyInv) → AreKnown w hosts ks es
+    → before_last w hosts ks es ≡ None → asked ≡ record { size = length w.hosts; flows = asked_of w } → services ≡ narrowed_among es w.flows → invariants ≡ map (made_of hosts) ks
+    → network_of w ≡ record { hosts = hosts; asked = asked; services = services; given = w.given; answers = w.answers; invariants = invariants }
 unfolding network_of
-network_is w hosts ks es asked invariants all set made =
+network_is w hosts ks es asked services invariants all before set narrowed made =
+    let said : services_in w ≡ services = services_are w es (found_here w hosts ks es all) (none_before (duplicate_assign w) _ _ before).1 ∙ sym narrowed in
     let read : invariants_of w ≡ invariants = invariants_are w ks (known_here w hosts ks es all) ∙ ap (λ hs. map (made_of hs) ks) (sym all.same) ∙ sym made in
-    λ i. record { hosts = sym all.same i; asked = sym set i; given = w.given; answers = w.answers; invariants = read i }
+    λ i. record { hosts = sym all.same i; asked = sym set i; services = said i; given = w.given; answers = w.answers; invariants = read i }
+
+-- that is a network, and what the description says
+pub network_read : (w : Written) (hosts : List Host) (ks : List Known) (es : List Flow) (asked : SetOfFlows) (services : List NarrowedFlow) (invariants : List AnyInv) → AreKnown w hosts ks es
+    → first_of (host_conditions w) ≡ None → before_last w hosts ks es ≡ None → twice_found es ≡ None → services_found w.flows ≡ None
+    → asked ≡ record { size = length w.hosts; flows = asked_of w } → services ≡ narrowed_among es w.flows → invariants ≡ map (made_of hosts) ks
+    → let d : Network = record { hosts = hosts; asked = asked; services = services; given = w.given; answers = w.answers; invariants = invariants } in
+    IsNetwork d × (network_by_uses w ≡ Ok d)
+network_read w hosts ks es asked services invariants all free before once last set narrowed made =
+    let none : first_of (use_conditions w) ≡ None = uses_are w hosts ks es all ∙ rw (before, once, last) refl in
+    let network = network_is w hosts ks es asked services invariants all before set narrowed made in
+    (subst IsNetwork network (IsNetwork-network_of w free none), rw none (ap Ok network))
 
 -- with the conditions on hosts before
 pub hosts_refused : (w : Written) (r : Refusal) → first_of (host_conditions w) ≡ Some r → network_or w ≡ Err r

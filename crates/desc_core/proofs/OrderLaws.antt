@@ -23,7 +23,7 @@ use Rattle.desc_core.specs.Order.{IsLeast, NoneHolds}
 use Rattle.desc_hosts.specs.WrittenHosts.{network_hosts}
 use Rattle.desc_form.specs.Places.{unknown_key, missing_key, wrong_type}
 use Rattle.desc_form.specs.Refusals.{number, refused, refused_item}
-use Rattle.desc_core.specs.UseConditions.{use_conditions, unknown_template, undeclared_host, duplicate_assign, duplicate_assign_of, bad_attribute, bad_attribute_of, bad_at, self_flow, duplicate_flow}
+use Rattle.desc_core.specs.UseConditions.{use_conditions, unknown_template, undeclared_host, duplicate_assign, duplicate_assign_of, bad_attribute, bad_attribute_of, bad_at, self_flow, duplicate_flow, bad_service, bad_service_of, many_services}
 use Rattle.desc_form.specs.FormConditions.{form_conditions}
 use Rattle.desc_form.specs.Written.{Written, WrittenHost, WrittenInvariant, written}
 use Rattle.attr_core.specs.Templates.{bad_in}
@@ -88,6 +88,10 @@ tells_duplicate_assign : (w : Written) → Tells 17 (duplicate_assign w)
 unfolding duplicate_assign
 tells_duplicate_assign w = tells_found 17 duplicate_assign_of (λ i. tells_map 17 _ (λ p. refl) _) (numbered w.invariants)
 
+tells_bad_service : (w : Written) → Tells 21 (bad_service w)
+unfolding bad_service
+tells_bad_service w = tells_found 21 bad_service_of (λ f. tells_map 21 _ (λ s. refl) _) (numbered w.flows)
+
 -- the conditions have the numbers from 1 on
 form_in_order : (table : Members) → InOrder 3 (form_conditions table)
 unfolding form_conditions unknown_key missing_key wrong_type
@@ -122,7 +126,7 @@ hosts_in_order w = (
 )
 
 uses_in_order : (w : Written) → InOrder 15 (use_conditions w)
-unfolding use_conditions unknown_template undeclared_host self_flow duplicate_flow
+unfolding use_conditions unknown_template undeclared_host self_flow duplicate_flow many_services
 uses_in_order w = (
   tells_map 15 _ (λ i. refl) _,
   (
@@ -133,7 +137,13 @@ uses_in_order w = (
         tells_bad_attribute w,
         (
           tells_map 19 _ (λ f. refl) _,
-          (tells_map 20 _ (λ p. refl) _, tt),
+          (
+            tells_map 20 _ (λ p. refl) _,
+            (
+              tells_bad_service w,
+              (tells_map 22 _ (λ f. refl) _, tt),
+            ),
+          ),
         ),
       ),
     ),

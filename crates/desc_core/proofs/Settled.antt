@@ -8,10 +8,10 @@ use Rattle.desc_core.proofs.Examples.{list, texts, host_with, host_at, rest_host
 use Rattle.desc_form.specs.WrittenFlow.{flow_written}
 use Rattle.desc_hosts.specs.HostConditions.{bad_version, too_many, bad_name, duplicate_host, bad_prefix, host_bits, no_address, two_rests, overlap, all_entries, host_conditions}
 use Rattle.desc_hosts.specs.Mentions.{assign_names, flow_names, used_names, all_names}
-use Rattle.desc_core.specs.WrittenNetwork.{network_of, asked_of, invariants_of, known_of}
+use Rattle.desc_core.specs.WrittenNetwork.{network_of, asked_of, services_in, invariants_of, known_of}
 use Rattle.flow_set.specs.EveryFlow.{every_flow}
 use Rattle.desc_form.specs.Places.{unknown_key, missing_key, wrong_type, has_other_key, lacks_needed, has_unsuited, has_wrong_type, first_place, spots, listed, assigns_of}
-use Rattle.desc_core.specs.UseConditions.{use_conditions, unknown_template, undeclared_host, duplicate_assign, bad_attribute, self_flow, duplicate_flow}
+use Rattle.desc_core.specs.UseConditions.{use_conditions, unknown_template, undeclared_host, duplicate_assign, bad_attribute, self_flow, duplicate_flow, bad_service, many_services}
 use Rattle.desc_core.specs.Conditions.{table_conditions}
 use Rattle.desc_core.specs.Description.{described_by_table}
 use Rattle.desc_form.specs.Refusals.{refused, refused_by, refused_item, refused_item_by, refused_name}
@@ -49,5 +49,5 @@ settled_rows =
     ∷ []
 
 pub settled : map (λ r. described_by_table r.document) settled_rows ≡ map (λ r. Err r.refusal) settled_rows
-unfolding unknown_key missing_key wrong_type has_other_key lacks_needed has_unsuited has_only_keys lacks_key all_suit of_shape has_wrong_type first_place spots listed assigns_of has_only has_key text_at integer_at boolean_at number_at elements_of list_at flow_written written host_written invariant_written assign_written bad_version too_many bad_name duplicate_host bad_prefix host_bits no_address two_rests overlap all_entries assign_names flow_names used_names all_names unknown_template undeclared_host duplicate_assign bad_attribute self_flow duplicate_flow network_of network_hosts asked_of invariants_of known_of every_flow described_by_table table_conditions form_conditions host_conditions use_conditions prefix_of address_of number bounded_value is_exact meets template_named bad_in invariant_in blp_attribute
+unfolding unknown_key missing_key wrong_type has_other_key lacks_needed has_unsuited has_only_keys lacks_key all_suit of_shape has_wrong_type first_place spots listed assigns_of has_only has_key text_at integer_at boolean_at number_at elements_of list_at flow_written written host_written invariant_written assign_written bad_version too_many bad_name duplicate_host bad_prefix host_bits no_address two_rests overlap all_entries assign_names flow_names used_names all_names unknown_template undeclared_host duplicate_assign bad_attribute self_flow duplicate_flow bad_service many_services network_of network_hosts asked_of services_in invariants_of known_of every_flow described_by_table table_conditions form_conditions host_conditions use_conditions prefix_of address_of number bounded_value is_exact meets template_named bad_in invariant_in blp_attribute
 settled = refl

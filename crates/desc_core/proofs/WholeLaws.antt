@@ -1,8 +1,9 @@
 -- Where no condition refuses a description, its network has all that is written.
-use Rattle.std.proofs.Common.{◌≡◌, ℕ, true, false, not, nat_lt, List, [], ◌∷◌, map, length, Option, Some, None, option_map, is_some, Ok, refl, sym, ap, ◌∙◌, subst}
+use Rattle.std.proofs.Common.{◌≡◌, ℕ, suc, ◌==◌, true, false, not, nat_lt, List, [], ◌∷◌, map, length, Option, Some, None, option_map, option_and_then, is_some, Ok, refl, sym, ap, ◌∙◌, subst, arith}
 use Rattle.std.proofs.lemmas.Bool.{and_parts}
+use Rattle.std.proofs.lemmas.Bool.Decides.{nat_tests}
 use Rattle.std.proofs.lemmas.List.Folds.{list_all-append}
-use Rattle.std.specs.List.{AllByRecursion, AllZip, cons_option, filter_map, list_all}
+use Rattle.std.specs.List.{AllByRecursion, AllZip, cons_option, filter, filter_map, list_all}
 use Rattle.std.specs.Option.{option_map_or}
 use Rattle.toml.specs.Data.{Members}
 use Rattle.desc_core.specs.Description.{described, described_by_table}
@@ -11,19 +12,20 @@ use Rattle.flow_set.specs.EveryFlowLaws.{IsFull-every_flow}
 use Rattle.desc_core.specs.Flows.{flow_of_names}
 use Rattle.flow_set.specs.FlowSet.{set_of}
 use Rattle.flow_set.specs.ListedLaws.{has-set_of, length-set_of}
-use Rattle.desc_core.proofs.ListingLaws.{all_weaker, zip_length, zip_some}
+use Rattle.desc_core.proofs.ListingLaws.{all_weaker, zip_length, zip_some, zip_weaker}
 use Rattle.net_core.specs.Network.{Network}
-use Rattle.desc_core.specs.WrittenNetwork.{Known, asked_of, given_by, invariant_of, invariants_of, known_of, made_of, network_of}
+use Rattle.desc_core.specs.WrittenNetwork.{Known, asked_of, given_by, invariant_of, invariants_of, known_of, made_of, narrowed_of, narrowed_to, network_of, services_in, services_said}
 use Rattle.flow_set.specs.EveryFlow.{every_flow}
 use Rattle.desc_core.proofs.SetLaws.{flows_once}
 use Rattle.desc_core.specs.UseConditions.{use_conditions}
 use Rattle.desc_core.proofs.UsesLaws.{all_between}
 use Rattle.desc_core.proofs.KnownLaws.{all_known}
 use Rattle.desc_core.specs.UseFacts.{SaysAttributes}
-use Rattle.desc_core.specs.UseFactsLaws.{PassesUses, PassesUses-uses}
-use Rattle.desc_core.specs.Whole.{IsDescribed, IsDescribedByTable, IsHostOf, IsInvariantOf, IsSetOf, IsWhole}
+use Rattle.desc_core.specs.UseFactsLaws.{PassesUses, PassesUses-uses, services_test}
+use Rattle.desc_core.specs.Whole.{IsDescribed, IsDescribedByTable, IsHostOf, IsInvariantOf, IsNarrowedOf, IsSetOf, IsWhole, is_narrowed}
 use Rattle.text_core.specs.Firsts.{first_of}
 use Rattle.desc_form.specs.Written.{Written, WrittenHost, WrittenInvariant, written}
+use Rattle.desc_form.specs.WrittenFlow.{WrittenFlow}
 use Rattle.desc_form.specs.WrittenLaws.{written_stands}
 use Rattle.desc_hosts.specs.EntriesLaws.{all_texts}
 use Rattle.text_core.specs.FirstsLaws.{all_twice, none_found, none_mapped}
@@ -33,6 +35,10 @@ use Rattle.desc_hosts.specs.HostFacts.{texts}
 use Rattle.desc_hosts.specs.WrittenHosts.{network_host, network_hosts}
 use Rattle.flow_set.specs.declared.flow.Flow.{Flow}
 use Rattle.host_net.specs.Prefix.{prefix_of}
+use Rattle.host_net.specs.Services.{NarrowedFlow}
+use Rattle.host_net.specs.ServiceText.{IsServiceSpelling, service_of}
+use Rattle.host_net.specs.ServiceTextLaws.{service_of-spelled}
+use Rattle.host_net.specs.declared.service.Service.{Service}
 use Rattle.host_net.specs.declared.prefix.Prefix.{Prefix}
 use Rattle.inv_any.specs.declared.any_inv.AnyInv.{AnyInv}
 use Rattle.std.proofs.lemmas.Option.{option_and_then_some}
@@ -103,6 +109,35 @@ invariants_whole : (w : Written) → PassesUses w → AllZip (IsInvariantOf (net
 unfolding invariants_of
 invariants_whole w sound = all_whole (network_hosts w) w.invariants (all_known w sound) sound.attributes
 
+-- each flow with services is narrowed to them
+spelled : (said_by : List (List ℕ)) → list_all (λ text. is_some (service_of text)) said_by ≡ true → AllZip IsServiceSpelling said_by (filter_map service_of said_by)
+spelled said_by all =
+    zip_weaker (λ text s. service_of text ≡ Some s) IsServiceSpelling said_by (filter_map service_of said_by) service_of-spelled (zip_some service_of said_by all)
+
+abbrev flow_with : List ℕ → List ℕ → List (List ℕ) → WrittenFlow
+flow_with from to services = record { from = from; to = to; services = services }
+
+some_there : (n : ℕ) → (suc n == 0) ≡ false
+some_there n = grind (arith, nat_tests)
+
+one_narrowed : (hosts : List Host) (from to : List ℕ) (said_by : List (List ℕ)) (ss : List Service) (o : Option Flow) (ws : List WrittenFlow) (ns : List NarrowedFlow)
+    → flow_of_names hosts (flow_with from to said_by) ≡ o → is_some o ≡ true → AllZip IsServiceSpelling said_by ss → AllZip (IsNarrowedOf hosts) (filter is_narrowed ws) ns
+    → AllZip (IsNarrowedOf hosts) (filter is_narrowed (flow_with from to said_by ∷ ws)) (cons_option (option_and_then (λ flow. narrowed_to flow ss) o) ns)
+one_narrowed hosts from to said_by ss None ws ns is there said behind = cc
+one_narrowed hosts from to [] [] (Some flow) ws ns is there said behind = behind
+one_narrowed hosts from to [] (s ∷ ss) (Some flow) ws ns is there said behind = absurd said
+one_narrowed hosts from to (text ∷ more) [] (Some flow) ws ns is there said behind = absurd said
+one_narrowed hosts from to (text ∷ more) (s ∷ ss) (Some flow) ws ns is there said behind = rw (some_there (length more)) (record { flow = is; services = said }, behind)
+
+narrowed_whole : (hosts : List Host) (ws : List WrittenFlow) → list_all (λ f. is_some (flow_of_names hosts f)) ws ≡ true → list_all services_test ws ≡ true
+    → AllZip (IsNarrowedOf hosts) (filter is_narrowed ws) (filter_map (narrowed_of hosts) ws)
+narrowed_whole hosts [] between said = tt
+narrowed_whole hosts (w ∷ ws) between said =
+    let (here, behind) = and_parts (is_some (flow_of_names hosts w)) _ between in
+    let (now, later) = and_parts (services_test w) _ said in
+    one_narrowed hosts w.from w.to w.services (services_said w) (flow_of_names hosts w) ws (filter_map (narrowed_of hosts) ws) refl here (spelled w.services now)
+    (narrowed_whole hosts ws behind later)
+
 -- each flow lies between two hosts, and none is listed twice
 listed_by : (w : Written) (asked : List Flow) → PassesUses w → asked ≡ set_of (filter_map (flow_of_names (network_hosts w)) w.flows) → IsSetOf (network_hosts w) w.flows asked
 listed_by w asked sound is =
@@ -124,7 +159,7 @@ unfolding asked_of
 asked_every w given = rw given refl
 
 pub IsWhole-network_of : (w : Written) → first_of (host_conditions w) ≡ None → first_of (use_conditions w) ≡ None → IsWhole w (network_of w)
-unfolding network_of network_hosts
+unfolding network_of network_hosts services_in
 IsWhole-network_of w no_host no_use =
     let sound = PassesUses-uses w no_use in
     record {
@@ -135,6 +170,7 @@ IsWhole-network_of w no_host no_use =
       sized = sym (length-network_hosts w);
       listed = λ given. listed_by w (asked_of w) sound (asked_listed w given);
       every = λ given. rw (asked_every w given, length-network_hosts w) (IsFull-every_flow (length w.hosts));
+      services = narrowed_whole (network_hosts w) w.flows (all_between w sound) sound.services;
     }
 
 pub IsDescribedByTable-described : (table : Members) (d : Network) → described_by_table table ≡ Ok d → IsDescribedByTable table d

@@ -14,10 +14,10 @@ use Rattle.flow_set.specs.FlowSet.{set_of}
 use Rattle.desc_form.specs.WrittenFlow.{flow_written}
 use Rattle.desc_hosts.specs.HostConditions.{bad_version, too_many, bad_name, duplicate_host, bad_prefix, host_bits, no_address, two_rests, overlap, all_entries, host_conditions}
 use Rattle.desc_hosts.specs.Mentions.{assign_names, flow_names, used_names, all_names}
-use Rattle.desc_core.specs.WrittenNetwork.{network_of, asked_of, invariants_of, known_of}
+use Rattle.desc_core.specs.WrittenNetwork.{network_of, asked_of, services_in, invariants_of, known_of}
 use Rattle.flow_set.specs.EveryFlow.{every_flow}
 use Rattle.desc_form.specs.Places.{unknown_key, missing_key, wrong_type, has_other_key, lacks_needed, has_unsuited, has_wrong_type, first_place, spots, listed, assigns_of}
-use Rattle.desc_core.specs.UseConditions.{use_conditions, unknown_template, undeclared_host, duplicate_assign, bad_attribute, self_flow, duplicate_flow}
+use Rattle.desc_core.specs.UseConditions.{use_conditions, unknown_template, undeclared_host, duplicate_assign, bad_attribute, self_flow, duplicate_flow, bad_service, many_services}
 use Rattle.desc_core.specs.DescriptionLaws.{described-too_long}
 use Rattle.desc_core.specs.Description.{described, described_by_table}
 use Rattle.desc_form.specs.Refusals.{refused, refused_by, refused_item, refused_item_by, refused_name}
@@ -56,7 +56,7 @@ worked_rows =
     ∷ []
 
 pub worked : map (λ r. described_by_table r.document) worked_rows ≡ map (λ r. Err r.refusal) worked_rows
-unfolding unknown_key missing_key wrong_type has_other_key lacks_needed has_unsuited has_only_keys lacks_key all_suit of_shape has_wrong_type first_place spots listed assigns_of has_only has_key text_at integer_at boolean_at number_at elements_of list_at flow_written written host_written invariant_written assign_written bad_version too_many bad_name duplicate_host bad_prefix host_bits no_address two_rests overlap all_entries assign_names flow_names used_names all_names unknown_template undeclared_host duplicate_assign bad_attribute self_flow duplicate_flow network_of network_hosts asked_of invariants_of known_of every_flow described_by_table table_conditions form_conditions host_conditions use_conditions prefix_of address_of number bounded_value is_exact meets template_named bad_in invariant_in blp_attribute
+unfolding unknown_key missing_key wrong_type has_other_key lacks_needed has_unsuited has_only_keys lacks_key all_suit of_shape has_wrong_type first_place spots listed assigns_of has_only has_key text_at integer_at boolean_at number_at elements_of list_at flow_written written host_written invariant_written assign_written bad_version too_many bad_name duplicate_host bad_prefix host_bits no_address two_rests overlap all_entries assign_names flow_names used_names all_names unknown_template undeclared_host duplicate_assign bad_attribute self_flow duplicate_flow bad_service many_services network_of network_hosts asked_of services_in invariants_of known_of every_flow described_by_table table_conditions form_conditions host_conditions use_conditions prefix_of address_of number bounded_value is_exact meets template_named bad_in invariant_in blp_attribute
 worked = refl
 
 -- without a change it is accepted
@@ -66,11 +66,12 @@ pub accepted : described_by_table (of_flows a_to_b) ≡ Ok (record {
       ∷ record { name = codes "b"; prefixes = prefix_with 167772162 32 ∷ []; rest = false }
       ∷ [];
   asked = record { size = 2; flows = record { from = 0; to = 1 } ∷ [] };
+  services = [];
   given = true;
   answers = false;
   invariants = [];
 })
-unfolding unknown_key missing_key wrong_type has_other_key lacks_needed has_unsuited has_only_keys lacks_key all_suit of_shape has_wrong_type first_place spots listed assigns_of has_only has_key text_at integer_at boolean_at number_at elements_of list_at flow_written written host_written invariant_written assign_written bad_version too_many bad_name duplicate_host bad_prefix host_bits no_address two_rests overlap all_entries assign_names flow_names used_names all_names unknown_template undeclared_host duplicate_assign bad_attribute self_flow duplicate_flow network_of network_hosts asked_of invariants_of known_of every_flow described_by_table table_conditions form_conditions host_conditions use_conditions prefix_of address_of number bounded_value is_exact meets template_named bad_in invariant_in blp_attribute set_of
+unfolding unknown_key missing_key wrong_type has_other_key lacks_needed has_unsuited has_only_keys lacks_key all_suit of_shape has_wrong_type first_place spots listed assigns_of has_only has_key text_at integer_at boolean_at number_at elements_of list_at flow_written written host_written invariant_written assign_written bad_version too_many bad_name duplicate_host bad_prefix host_bits no_address two_rests overlap all_entries assign_names flow_names used_names all_names unknown_template undeclared_host duplicate_assign bad_attribute self_flow duplicate_flow bad_service many_services network_of network_hosts asked_of services_in invariants_of known_of every_flow described_by_table table_conditions form_conditions host_conditions use_conditions prefix_of address_of number bounded_value is_exact meets template_named bad_in invariant_in blp_attribute set_of
 accepted = refl
 
 -- whatever stands in it, a file of one byte more than the limit is too long

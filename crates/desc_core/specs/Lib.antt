@@ -6,6 +6,9 @@ pub mod Document
 pub mod Flows
 pub mod FlowsLaws
 pub mod KnownView
+pub mod Migrated
+pub mod MigratedLaws
+pub mod NarrowedLaws
 pub mod NetworkLaws
 pub mod Order
 pub mod Parts
@@ -17,3 +20,4 @@ pub mod UseFacts
 pub mod UseFactsLaws
 pub mod Whole
 pub mod WrittenNetwork
+pub mod MigratedOnceLaws

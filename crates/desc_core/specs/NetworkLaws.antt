@@ -10,6 +10,9 @@ use Rattle.flow_set.specs.EveryFlowLaws.{IsFlowSet-every_flow}
 use Rattle.desc_core.specs.Flows.{flow_of_names}
 use Rattle.flow_set.specs.FlowSet.{set_of}
 use Rattle.desc_core.specs.FlowsLaws.{are_between}
+use Rattle.desc_core.specs.NarrowedLaws.{AreServices-services_in}
+use Rattle.desc_core.specs.UseConditions.{use_conditions}
+use Rattle.desc_core.specs.UseFactsLaws.{PassesUses-uses}
 use Rattle.flow_set.specs.ListedLaws.{IsFlowSet-set_of}
 use Rattle.net_core.specs.Network.{Network}
 use Rattle.net_core.specs.Fitting.{IsNetwork}
@@ -45,14 +48,15 @@ sized_all : (hosts : List Host) (is : List WrittenInvariant)
 sized_all hosts [] = tt
 sized_all hosts (i ∷ is) = sized_by hosts (known_of hosts i) (filter_map (invariant_of hosts) is) (sized_all hosts is)
 
-pub IsNetwork-network_of : (w : Written) → first_of (host_conditions w) ≡ None → IsNetwork (network_of w)
+pub IsNetwork-network_of : (w : Written) → first_of (host_conditions w) ≡ None → first_of (use_conditions w) ≡ None → IsNetwork (network_of w)
 unfolding network_of asked_of invariants_of
-IsNetwork-network_of w free =
+IsNetwork-network_of w free no_use =
     let small = is_small w free in
     record {
       hosts = IsHosts-network_hosts w free;
       sized = sym (length-network_hosts w);
       asked = asked_by w w.given (omega (arith, small.hosts));
+      services = AreServices-services_in w (PassesUses-uses w no_use);
       invariants = All-from_recursion (λ (inv : AnyInv). (meaning_of inv).size ≡ length (network_hosts w)) (invariants_of w) (sized_all (network_hosts w) w.invariants);
       few = omega (arith, small.invariants, no_longer {A = WrittenInvariant} {B = AnyInv});
     }
@@ -60,7 +64,7 @@ IsNetwork-network_of w free =
 pub IsNetwork-table : (table : Members) (d : Network) → described_by_table table ≡ Ok d → IsNetwork d
 IsNetwork-table table d is =
     let whole = accepted table d is in
-    subst IsNetwork whole.network (IsNetwork-network_of (written table) whole.hosts)
+    subst IsNetwork whole.network (IsNetwork-network_of (written table) whole.hosts whole.uses)
 
 pub IsNetwork-described : (bytes : List ℕ) (d : Network) → described bytes ≡ Ok d → IsNetwork d
 IsNetwork-described bytes d is = let read = table_of_bytes bytes d is in IsNetwork-table read.table d read.says

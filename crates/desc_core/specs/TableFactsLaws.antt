@@ -27,7 +27,7 @@ IsRight-described table d said =
       uses = (has_uses (written table)).0 none.uses;
     }
 
-unrefused : {A : Type 0} (o a b c : Option Refusal) (x : A) → o ≡ option_or a (option_or b c) → a ≡ None → b ≡ None → c ≡ None
+pub unrefused : {A : Type 0} (o a b c : Option Refusal) (x : A) → o ≡ option_or a (option_or b c) → a ≡ None → b ≡ None → c ≡ None
     → refused_or o x ≡ Ok x
 unrefused o a b c x groups first second third = rw (groups, first, second, third) refl
 

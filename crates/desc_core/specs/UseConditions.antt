@@ -1,20 +1,22 @@
--- The refusals 15 to 20 of a description: its invariants, their assigns, and its flows (the description's format,
+-- The refusals 15 to 22 of a description: its invariants, their assigns, its flows and their services (the description's format,
 -- docs/FORMATS.md).
-use Rattle.std.specs.Prelude.{ℕ, ◌+◌, Bool, not, ◌&&◌, List, [], ◌∷◌, find, Option, option_map, is_none}
+use Rattle.std.specs.Prelude.{ℕ, ◌+◌, Bool, not, ◌&&◌, nat_lt, List, [], ◌∷◌, length, find, Option, option_map, is_none}
 use Rattle.std.specs.List.{list_any}
 use Rattle.std.specs.Str.{bytes_eq}
 use Rattle.attr_core.specs.Templates.{bad_in, template_named}
 use Rattle.desc_form.specs.declared.refusal.Place.TheVariants.{Invariant, Assign, FlowAt}
 use Rattle.desc_form.specs.declared.refusal.Refusal.{Refusal}
-use Rattle.desc_form.specs.declared.refusal.Why.TheVariants.{UnknownTemplate, UndeclaredHost, DuplicateAssign, BadAttribute, SelfFlow, DuplicateFlow}
+use Rattle.desc_form.specs.declared.refusal.Why.TheVariants.{UnknownTemplate, UndeclaredHost, DuplicateAssign, BadAttribute, SelfFlow, DuplicateFlow, BadService, ManyServices}
 use Rattle.text_core.specs.Firsts.{first_found, numbered, Numbered, first_pair}
 use Rattle.desc_hosts.specs.Mentions.{used_names}
 use Rattle.desc_core.specs.WrittenNetwork.{Known, known_of}
 use Rattle.desc_hosts.specs.WrittenHosts.{network_hosts}
-use Rattle.desc_form.specs.Refusals.{refused, refused_by, refused_name}
+use Rattle.desc_form.specs.Refusals.{refused, refused_by, refused_item, refused_name}
 use Rattle.desc_form.specs.Written.{Written, WrittenInvariant}
 use Rattle.desc_form.specs.WrittenFlow.{WrittenFlow}
 use Rattle.host_net.specs.Host.{Host}
+use Rattle.host_net.specs.Services.{service_limit}
+use Rattle.host_net.specs.ServiceText.{service_of}
 use Rattle.text_core.specs.Steps.{◌>>=◌}
 
 -- 15: no template has the name
@@ -63,13 +65,29 @@ self_flow w = option_map (λ f. refused SelfFlow (FlowAt f.number)) (find (λ f.
 abbrev pub same_names : WrittenFlow → WrittenFlow → Bool
 same_names f g = bytes_eq f.from g.from && bytes_eq f.to g.to
 
--- 20: a flow was listed before
+-- 20: a flow was listed before, whatever its services are
 unfoldable pub duplicate_flow : Written → Option Refusal
 duplicate_flow w =
     option_map (λ p. refused_by DuplicateFlow (FlowAt p.later.number) p.earlier.number)
     (first_pair (λ f g. same_names f.what g.what) (numbered w.flows))
 
--- the conditions in the order of their numbers, 15 to 20
+-- a flow is refused at its first text that says no service; behind its two names stands item 3
+abbrev pub bad_service_of : Numbered WrittenFlow → Option Refusal
+bad_service_of f =
+    option_map (λ s. refused_item BadService (FlowAt f.number) (s.number + 2)) (find (λ s. is_none (service_of s.what)) (numbered f.what.services))
+
+-- 21: a text behind the names of a flow says no service
+unfoldable pub bad_service : Written → Option Refusal
+bad_service w = first_found bad_service_of (numbered w.flows)
+
+abbrev pub has_many_services : WrittenFlow → Bool
+has_many_services f = nat_lt service_limit (length f.services)
+
+-- 22: a flow has more services than there may be
+unfoldable pub many_services : Written → Option Refusal
+many_services w = option_map (λ f. refused ManyServices (FlowAt f.number)) (find (λ f. has_many_services f.what) (numbered w.flows))
+
+-- the conditions in the order of their numbers, 15 to 22
 unfoldable pub use_conditions : Written → List (Option Refusal)
 use_conditions w =
     unknown_template w
@@ -78,4 +96,6 @@ use_conditions w =
     ∷ bad_attribute w
     ∷ self_flow w
     ∷ duplicate_flow w
+    ∷ bad_service w
+    ∷ many_services w
     ∷ []

@@ -1,6 +1,7 @@
--- None of the conditions 15 to 20 refuses a description exactly where the facts of UseFacts hold of it.
-use Rattle.std.proofs.Common.{◌≡◌, ℕ, ◌+◌, Bool, true, false, cond, not, ◌&&◌, List, [], ◌∷◌, ◌++◌, map, append_assoc, Option, Some, None, option_map, option_and_then, is_none, is_some, refl, sym, ap, ◌∙◌}
+-- None of the conditions 15 to 22 refuses a description exactly where the facts of UseFacts hold of it.
+use Rattle.std.proofs.Common.{◌≡◌, ℕ, ◌≤◌, ◌+◌, Bool, true, false, cond, not, ◌&&◌, List, [], ◌∷◌, ◌++◌, map, length, append_assoc, Option, Some, None, option_map, option_and_then, is_none, is_some, refl, sym, ap, ◌∙◌, arith}
 use Rattle.std.proofs.lemmas.Bool.{and_from, and_parts, false≢true}
+use Rattle.std.proofs.lemmas.Bool.Decides.{nat_tests}
 use Rattle.std.proofs.lemmas.List.Folds.{list_all-append, list_all-map}
 use Rattle.std.proofs.lemmas.List.Elements.{All-from_recursion, recursion_from_All}
 use Rattle.std.proofs.lemmas.Slice.Eq.{bytes_eq-Decides}
@@ -11,7 +12,7 @@ use Rattle.std.specs.Prelude.{◌↔◌, ◌≢◌, IsTrue}
 use Rattle.std.specs.Str.{bytes_eq}
 use Rattle.attr_core.specs.Templates.{bad_in, template_named}
 use Rattle.desc_core.specs.UseFacts.{HasUses, SaysAttributes}
-use Rattle.desc_core.specs.UseConditions.{bad_at, bad_attribute, bad_attribute_of, duplicate_assign, duplicate_assign_of, duplicate_flow, is_declared, same_names, self_flow, undeclared_host, unknown_template, use_conditions}
+use Rattle.desc_core.specs.UseConditions.{bad_at, bad_attribute, bad_attribute_of, bad_service, bad_service_of, duplicate_assign, duplicate_assign_of, duplicate_flow, has_many_services, is_declared, many_services, same_names, self_flow, undeclared_host, unknown_template, use_conditions}
 use Rattle.desc_core.specs.WrittenNetwork.{Known, known_of}
 use Rattle.desc_form.specs.Refusals.{refused}
 use Rattle.desc_form.specs.Written.{Written, WrittenAssign, WrittenInvariant}
@@ -21,6 +22,8 @@ use Rattle.desc_form.specs.declared.refusal.Why.TheVariants.{BadAttribute}
 use Rattle.desc_hosts.specs.Mentions.{Mention, assign_name, assign_names, assign_names_of, flow_names, flow_names_of, used_names}
 use Rattle.desc_hosts.specs.WrittenHosts.{network_hosts}
 use Rattle.host_net.specs.Host.{Host}
+use Rattle.host_net.specs.Services.{service_limit}
+use Rattle.host_net.specs.ServiceText.{service_of}
 use Rattle.text_core.specs.Firsts.{Numbered, Pair, first_found, first_of, first_pair, first_pair_behind, numbered, numbered_from}
 use Rattle.text_core.specs.Pairs.{no_pair}
 use Rattle.text_core.specs.FirstsLaws.{all_numbered, neither, no_pair_numbered, none_barred, none_found, none_mapped}
@@ -143,24 +146,28 @@ nothing_or : {A : Type 0} (o p : Option A) → o ≡ None → p ≡ None → opt
 nothing_or None p here behind = behind
 nothing_or (Some x) p here behind = here
 
-once_from : (k : ℕ) (is : List WrittenInvariant)
-    → (first_found duplicate_assign_of (numbered_from k is) ≡ None) ↔ (list_all (λ (i : WrittenInvariant). no_pair same_host i.assigns) is ≡ true)
-once_from k [] = (λ none. refl, λ all. refl)
-once_from k (i ∷ is) =
-    let (apart, unbarred) = barred_numbered _ same_host i.assigns in
-    let (later, none_later) = once_from (k + 1) is in (
+abbrev nth : {A : Type 0} → ℕ → A → Numbered A
+nth k x = record { number = k; what = x }
+
+-- nothing is found of any element exactly where each passes the test that says so of it
+each_from : {A B : Type 0} (f : Numbered A → Option B) (test : A → Bool) → ((k : ℕ) (x : A) → (f (nth k x) ≡ None) ↔ (test x ≡ true))
+    → (k : ℕ) (xs : List A) → (first_found f (numbered_from k xs) ≡ None) ↔ (list_all test xs ≡ true)
+each_from f test one k [] = (λ none. refl, λ all. refl)
+each_from f test one k (x ∷ xs) =
+    let (passes, nothing) = one k x in
+    let (later, none_later) = each_from f test one (k + 1) xs in (
       λ none.
-          let (here, behind) = neither (duplicate_assign_of (record { number = k; what = i })) (first_found duplicate_assign_of (numbered_from (k + 1) is)) none in
-          and_from (no_pair same_host i.assigns) (list_all (λ (j : WrittenInvariant). no_pair same_host j.assigns) is) (apart here) (later behind),
+          let (here, behind) = neither (f (nth k x)) (first_found f (numbered_from (k + 1) xs)) none in
+          and_from (test x) (list_all test xs) (passes here) (later behind),
       λ all.
-          let (here, behind) = and_parts (no_pair same_host i.assigns) _ all in
-          nothing_or (duplicate_assign_of (record { number = k; what = i })) _ (unbarred here) (none_later behind),
+          let (here, behind) = and_parts (test x) _ all in
+          nothing_or (f (nth k x)) _ (nothing here) (none_later behind),
     )
 
 pub assigns_once : (w : Written)
     → (duplicate_assign w ≡ None) ↔ (list_all (λ (i : WrittenInvariant). no_pair same_host i.assigns) w.invariants ≡ true)
 unfolding duplicate_assign
-assigns_once w = once_from 1 w.invariants
+assigns_once w = each_from duplicate_assign_of (λ (i : WrittenInvariant). no_pair same_host i.assigns) (λ k i. barred_numbered _ same_host i.assigns) 1 w.invariants
 
 -- ---- 18
 
@@ -199,6 +206,27 @@ pub flows_differ : (w : Written) → (duplicate_flow w ≡ None) ↔ (no_pair sa
 unfolding duplicate_flow
 flows_differ w = barred_numbered _ same_names w.flows
 
+-- ---- 21 and 22
+
+abbrev pub services_test : WrittenFlow → Bool
+services_test f = list_all (λ text. is_some (service_of text)) f.services
+
+said_same : (texts : List (List ℕ)) → list_all (λ text. not (is_none (service_of text))) texts ≡ list_all (λ text. is_some (service_of text)) texts
+said_same texts = λ k. list_all (λ text. not_none (service_of text) k) texts
+
+service_one : (k : ℕ) (f : WrittenFlow) → (bad_service_of (nth k f) ≡ None) ↔ (services_test f ≡ true)
+service_one k f =
+    let (said, unsaid) = found_numbered _ (λ text. is_none (service_of text)) f.services in
+    (λ none. sym (said_same f.services) ∙ said none, λ all. unsaid (said_same f.services ∙ all))
+
+pub services_are_said : (w : Written) → (bad_service w ≡ None) ↔ (list_all services_test w.flows ≡ true)
+unfolding bad_service
+services_are_said w = each_from bad_service_of services_test service_one 1 w.flows
+
+pub services_are_few : (w : Written) → (many_services w ≡ None) ↔ (list_all (λ f. not (has_many_services f)) w.flows ≡ true)
+unfolding many_services
+services_are_few w = found_numbered _ has_many_services w.flows
+
 -- ---- all of them
 
 -- the facts as tests
@@ -210,6 +238,8 @@ pub record PassesUses (w : Written) : Type 0 where
   pub attributes : AllByRecursion (SaysAttributes (network_hosts w)) w.invariants
   pub apart : list_all (λ (f : WrittenFlow). not (bytes_eq f.from f.to)) w.flows ≡ true
   pub different : no_pair same_names w.flows ≡ true
+  pub services : list_all services_test w.flows ≡ true
+  pub few : list_all (λ f. not (has_many_services f)) w.flows ≡ true
 
 pub PassesUses-uses : (w : Written) → first_of (use_conditions w) ≡ None → PassesUses w
 unfolding use_conditions
@@ -219,7 +249,9 @@ PassesUses-uses w none =
     let (assigns, from_18) = neither (duplicate_assign w) _ from_17 in
     let (attributes, from_19) = neither (bad_attribute w) _ from_18 in
     let (ends, from_20) = neither (self_flow w) _ from_19 in
-    let (flows, _) = neither (duplicate_flow w) _ from_20 in
+    let (flows, from_21) = neither (duplicate_flow w) _ from_20 in
+    let (services, from_22) = neither (bad_service w) _ from_21 in
+    let (few, _) = neither (many_services w) _ from_22 in
     let (assigned, joined) = (hosts_declared w).0 hosts in
     record {
       templates = (templates_known w).0 templates;
@@ -229,6 +261,8 @@ PassesUses-uses w none =
       attributes = (attributes_said w).0 attributes;
       apart = (ends_differ w).0 ends;
       different = (flows_differ w).0 flows;
+      services = (services_are_said w).0 services;
+      few = (services_are_few w).0 few;
     }
 
 uses-PassesUses : (w : Written) → PassesUses w → first_of (use_conditions w) ≡ None
@@ -239,7 +273,9 @@ uses-PassesUses w sound =
     (nothing_or (duplicate_assign w) _ ((assigns_once w).1 sound.once)
     (nothing_or (bad_attribute w) _ ((attributes_said w).1 sound.attributes)
     (nothing_or (self_flow w) _ ((ends_differ w).1 sound.apart)
-    (nothing_or (duplicate_flow w) None ((flows_differ w).1 sound.different) refl)))))
+    (nothing_or (duplicate_flow w) _ ((flows_differ w).1 sound.different)
+    (nothing_or (bad_service w) _ ((services_are_said w).1 sound.services)
+    (nothing_or (many_services w) None ((services_are_few w).1 sound.few) refl)))))))
 
 -- ---- in plain words
 
@@ -278,6 +314,15 @@ hosts_apart as' test = weaker_pairs (λ a b. same_host b a ≡ false) (λ (a b :
 hosts_test : (as' : List WrittenAssign) → AllPairs (λ (a b : WrittenAssign). a.host ≢ b.host) as' → no_pair same_host as' ≡ true
 hosts_test as' apart = (no_pair_tested same_host as').1 (weaker_pairs (λ (a b : WrittenAssign). a.host ≢ b.host) (λ a b. same_host b a ≡ false) as' (λ a b. differ_test a.host b.host) apart)
 
+abbrev SaysServices : WrittenFlow → Type 0
+SaysServices f = All (λ text. IsTrue (is_some (service_of text))) f.services
+
+few_services : (f : WrittenFlow) → has_many_services f ≡ false → length f.services ≤ service_limit
+few_services f test = grind (arith, nat_tests)
+
+few_test : (f : WrittenFlow) → length f.services ≤ service_limit → has_many_services f ≡ false
+few_test f few = grind (arith, nat_tests)
+
 pub HasUses-tests : (w : Written) → PassesUses w → HasUses w
 HasUses-tests w tests = record {
   templates = (all_tested (λ (i : WrittenInvariant). is_some (template_named i.template)) w.invariants).0 tests.templates;
@@ -295,6 +340,11 @@ HasUses-tests w tests = record {
       weaker (λ (f : WrittenFlow). bytes_eq f.from f.to ≡ false) (λ (f : WrittenFlow). f.from ≢ f.to) w.flows (λ f test same. differ f.to f.from test (sym same))
       ((none_tested (λ (f : WrittenFlow). bytes_eq f.from f.to) w.flows).0 tests.apart);
   different = weaker_pairs (λ f g. same_names g f ≡ false) AreTwice w.flows flows_apart ((no_pair_tested same_names w.flows).0 tests.different);
+  services =
+      weaker (λ f. services_test f ≡ true) SaysServices w.flows (λ f. (all_tested (λ text. is_some (service_of text)) f.services).0)
+      ((all_tested services_test w.flows).0 tests.services);
+  few =
+      weaker (λ f. has_many_services f ≡ false) (λ f. length f.services ≤ service_limit) w.flows few_services ((none_tested has_many_services w.flows).0 tests.few);
 }
 
 tests-HasUses : (w : Written) → HasUses w → PassesUses w
@@ -317,8 +367,13 @@ tests-HasUses w uses = record {
       (none_tested (λ (f : WrittenFlow). bytes_eq f.from f.to) w.flows).1
       (weaker (λ (f : WrittenFlow). f.from ≢ f.to) (λ (f : WrittenFlow). bytes_eq f.from f.to ≡ false) w.flows (λ f differs. differ_test f.to f.from (λ same. differs (sym same))) uses.apart);
   different = (no_pair_tested same_names w.flows).1 (weaker_pairs AreTwice (λ f g. same_names g f ≡ false) w.flows flows_test uses.different);
+  services =
+      (all_tested services_test w.flows).1
+      (weaker SaysServices (λ f. services_test f ≡ true) w.flows (λ f. (all_tested (λ text. is_some (service_of text)) f.services).1) uses.services);
+  few =
+      (none_tested has_many_services w.flows).1 (weaker (λ f. length f.services ≤ service_limit) (λ f. has_many_services f ≡ false) w.flows few_test uses.few);
 }
 
--- none of the conditions 15 to 20 holds exactly where the facts do
+-- none of the conditions 15 to 22 holds exactly where the facts do
 pub has_uses : (w : Written) → (first_of (use_conditions w) ≡ None) ↔ HasUses w
 has_uses w = (λ none. HasUses-tests w (PassesUses-uses w none), λ uses. uses-PassesUses w (tests-HasUses w uses))

@@ -1,6 +1,7 @@
--- That nothing of a description is passed over: its hosts, its invariants and its flows stand in the network, one for one.
-use Rattle.std.specs.Prelude.{◌≡◌, ℕ, true, false, List, length, Some, None}
-use Rattle.std.specs.List.{AllZip}
+-- That nothing of a description is passed over: its hosts, its invariants, its flows and their services stand in the network, one
+-- for one.
+use Rattle.std.specs.Prelude.{◌≡◌, ◌==◌, ℕ, Bool, true, false, not, List, length, Some, None}
+use Rattle.std.specs.List.{AllZip, filter}
 use Rattle.toml.specs.Data.{Members}
 use Rattle.desc_core.specs.Document.{document}
 use Rattle.desc_core.specs.Flows.{flow_of_names}
@@ -19,6 +20,8 @@ use Rattle.flow_set.specs.FlowSet.{has, IsFull}
 use Rattle.flow_set.specs.declared.flow.Flow.{Flow}
 use Rattle.host_net.specs.Host.{Host}
 use Rattle.host_net.specs.Prefix.{prefix_of}
+use Rattle.host_net.specs.Services.{NarrowedFlow}
+use Rattle.host_net.specs.ServiceText.{IsServiceSpelling}
 
 -- the host is the written one, and each of its entries is a prefix
 pub record IsHostOf (h : WrittenHost) (host : Host) : Type 0 where
@@ -33,6 +36,15 @@ pub record IsSetOf (hosts : List Host) (pairs : List WrittenFlow) (asked : List 
   pub same : (f : Flow) → has asked f ≡ has flows f
   pub count : length asked ≡ length pairs
 
+-- services are written behind the names of the flow
+abbrev pub is_narrowed : WrittenFlow → Bool
+is_narrowed f = not (length f.services == 0)
+
+-- the flow between the hosts of the names is narrowed to the services that its texts say, one for one
+pub record IsNarrowedOf (hosts : List Host) (f : WrittenFlow) (narrowed : NarrowedFlow) : Type 0 where
+  pub flow : flow_of_names hosts f ≡ Some (record { from = narrowed.from; to = narrowed.to })
+  pub services : AllZip IsServiceSpelling f.services narrowed.services
+
 -- the invariant is of the written template, each of its assigns is of a declared host and says an attribute, and each host has the
 -- attribute that the last assign of it says, or the default
 pub record IsInvariantOf (hosts : List Host) (i : WrittenInvariant) (invariant : AnyInv) : Type 0 where
@@ -43,7 +55,8 @@ pub record IsInvariantOf (hosts : List Host) (i : WrittenInvariant) (invariant :
   pub good : bad_assign (form template) hosts assigns ≡ None
   pub made : invariant ≡ (form template).make (attributes_in (form template) hosts assigns)
 
--- the network has what is written, in the same order; where the key `flow` is absent, every flow is asked for
+-- the network has what is written, in the same order; where the key `flow` is absent, every flow is asked for. The flows with
+-- services are narrowed, and no others
 pub record IsWhole (w : Written) (d : Network) : Type 0 where
   pub hosts : AllZip IsHostOf w.hosts d.hosts
   pub invariants : AllZip (IsInvariantOf d.hosts) w.invariants d.invariants
@@ -52,6 +65,7 @@ pub record IsWhole (w : Written) (d : Network) : Type 0 where
   pub sized : d.asked.size ≡ length d.hosts
   pub listed : w.given ≡ true → IsSetOf d.hosts w.flows d.asked.flows
   pub every : w.given ≡ false → IsFull (length d.hosts) d.asked.flows
+  pub services : AllZip (IsNarrowedOf d.hosts) (filter is_narrowed w.flows) d.services
 
 -- w is all that is written in the table, and the network has all of w
 pub record IsDescribedByTable (table : Members) (d : Network) : Type 0 where

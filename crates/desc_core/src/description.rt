@@ -1,5 +1,5 @@
-//! The description of a network: its hosts, the flows between them that are asked for, and its
-//! invariants.
+//! The description of a network: its hosts, the flows between them that are asked for, their services,
+//! and its invariants.
 ghost use Rattle.std.specs.Prelude.{◌≡◌, ◌≢◌, IfOk};
 ghost use Rattle.desc_core.specs.AllConditions.{conditions};
 ghost use Rattle.desc_core.specs.Conditions.{table_conditions};
@@ -27,7 +27,7 @@ pub fn describe(alloc: Global, bytes: &[u8]) -> Result<Description, DescFault>
     // What is read is all that is written in the document: nothing is passed over.
     ensures whole { IfOk result (λ d. IsDescribed bytes.now d) }
 
-    // It is read only where none of the twenty conditions holds.
+    // It is read only where none of the twenty-two conditions holds.
     ensures none { IfOk result (λ _. NoneHolds (conditions bytes.now)) }
 
     // What is told has the least number whose condition holds.

@@ -8,12 +8,15 @@ mod fault;
 mod flows;
 mod invariants;
 mod known;
+mod migration;
 mod names;
 mod network;
+mod services;
 #[cfg(test)]
 mod tests;
 
 pub use desc_form::{Place, Refusal, Why};
 pub use description::{describe, describe_table};
 pub use fault::{BYTE_LIMIT, DescFault};
+pub use migration::migrate;
 pub use net_core::Description;

@@ -17,6 +17,7 @@ use crate::flows::{asked_flows, self_flow};
 use crate::invariants::{attribute_refusal, read_invariants};
 use crate::known::{KnownInvariant, found_flows, known_invariants};
 use crate::names::{duplicate_assign, unknown_name};
+use crate::services::{read_services, service_refusal};
 use desc_form::{Refusal, Written};
 use desc_hosts::{host_refusal, read_hosts};
 use flow_set::Flow;
@@ -73,8 +74,19 @@ fn network_of_known(
         return Err(DescFault::Refused(refusal));
     }
     let asked = asked_flows(alloc, hosts.count(), written.given, flows)?;
+    if let Some(refusal) = service_refusal(&written.flows) {
+        return Err(DescFault::Refused(refusal));
+    }
+    let services = read_services(alloc, flows, &written.flows)?;
     let invariants = read_invariants(alloc, &hosts, invariants)?;
-    Ok(Description::new(hosts, asked, written.given, written.answers, invariants))
+    Ok(Description::new(
+        hosts,
+        asked,
+        services,
+        written.given,
+        written.answers,
+        invariants,
+    ))
 }
 
 /// The first refusal of an assign, or of a flow that leads from a host to itself.

@@ -2,9 +2,10 @@
 //! the clauses say.
 
 use crate::document::read_table;
-use crate::{DescFault, describe, describe_table};
+use crate::{DescFault, describe, describe_table, migrate};
 use desc_form::Place;
 use flow_set::Flow;
+use host_net::Service;
 use net_core::policy_of;
 use std::alloc::Global;
 use std::test::Fail;
@@ -16,11 +17,55 @@ host = [{ name = "a", at = ["10.0.0.1"] }, { name = "b", rest = true }]
 invariant = [{ template = "blp", assign = [{ host = "a", level = 2 }] }]
 "#;
 
+/// The same in version 2, as `toml` prints it: values before tables, by their keys.
+const MIGRATED: &str = r#"answers = "none"
+flow = [["a", "b"], ["b", "a"]]
+topos = 2
+
+[[host]]
+at = ["10.0.0.1"]
+name = "a"
+
+[[host]]
+name = "b"
+rest = true
+
+[[invariant]]
+template = "blp"
+
+[[invariant.assign]]
+host = "a"
+level = 2
+"#;
+
 /// No answer may go back to the lower level.
 const TWO_LEVELS: &str = r#"topos = 1
 host = [{ name = "a", at = ["10.0.0.1/32"] }, { name = "b", rest = true }]
 invariant = [{ template = "blp", assign = [{ host = "a", level = 1 }] }]
 "#;
+
+/// One flow is narrowed to services.
+const NARROWED: &str = r#"topos = 2
+flow = [["a", "b", "tcp/80", "icmp"], ["b", "a"]]
+host = [{ name = "a", at = ["10.0.0.1"] }, { name = "b", rest = true }]
+"#;
+
+/// Flows with services, and what refuses them.
+const NARROWED_REFUSED: [(&str, (u8, Place, u64, u64)); 3] = [
+    (
+        r#"flow = [["b", "a"], ["a", "b", "tcp", "tcp/080"]]"#,
+        (21, Place::FlowAt(2), 4, 0),
+    ),
+    (
+        r#"flow = [["a", "b", "tcp/1", "tcp/2", "tcp/3", "tcp/4", "tcp/5", "tcp/6", "tcp/7", "tcp/8", "tcp/9", "udp/1", "udp/2", "udp/3", "udp/4", "udp/5", "udp/6", "udp/7", "udp/8"]]"#,
+        (22, Place::FlowAt(1), 0, 0),
+    ),
+    // That a flow was listed before is told first, whatever its services are.
+    (
+        r#"flow = [["a", "b", "http"], ["a", "b"]]"#,
+        (20, Place::FlowAt(2), 0, 1),
+    ),
+];
 
 /// Flows and invariants beside the hosts `a` and `b`; the number, the place, the item and the other
 /// of what refuses them.
@@ -135,6 +180,35 @@ fn the_first_condition_is_told(rt: HostRuntime) -> Result<(), Fail> {
 }
 
 #[test]
+fn flows_are_narrowed(rt: HostRuntime) -> Result<(), Fail> {
+    let read = describe(rt.alloc(), NARROWED.as_bytes())?;
+    let web = Service {
+        proto: 6,
+        low: 80,
+        high: 80,
+    };
+    let echo = Service {
+        proto: 1,
+        low: 0,
+        high: 65535,
+    };
+    assert!(rt; read.services().of(0, 1) == [web, echo].as_slice());
+    assert!(rt; read.services().of(1, 0).is_empty());
+    Ok(())
+}
+
+#[test]
+fn services_are_refused(rt: HostRuntime) -> Result<(), Fail> {
+    for (flows, told) in NARROWED_REFUSED {
+        let text = format!(in rt.alloc();
+            "topos = 2\nhost = [{{ name = \"a\", at = [\"10.0.0.1\"] }}, {{ name = \"b\", rest = true }}]\n{flows}"
+        )?;
+        assert_eq!(rt; refusal_of(rt.alloc(), text.as_bytes())?, Some(told));
+    }
+    Ok(())
+}
+
+#[test]
 fn a_policy_without_answers(rt: HostRuntime) -> Result<(), Fail> {
     let network = describe(rt.alloc(), TWO_LEVELS.as_bytes())?;
     let policy = policy_of(rt.alloc(), &network)?;
@@ -144,5 +218,12 @@ fn a_policy_without_answers(rt: HostRuntime) -> Result<(), Fail> {
         Some(Flow { from: 1, to: 0 })
     );
     assert!(rt; policy.stateful().is_empty());
+    Ok(())
+}
+
+#[test]
+fn a_description_is_migrated(rt: HostRuntime) -> Result<(), Fail> {
+    let text = migrate(rt.alloc(), WHOLE.as_bytes())?;
+    assert!(rt; text.as_slice() == MIGRATED.as_bytes());
     Ok(())
 }

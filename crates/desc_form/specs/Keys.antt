@@ -10,8 +10,8 @@ use Rattle.table_core.specs.Keys.{Key, Text, OneOf, Integer, Boolean, Array, Tex
 abbrev pub version_said : Members → Option ℤ
 version_said document = integer_at (codes "topos") document
 
--- the keys of the table at a place, in a document that says a version. So far there is one version, whose keys stand whatever is
--- said. An assign has further keys by its template; a flow is no table
+-- the keys of the table at a place, in a document that says a version; both versions have the same. An assign has further keys by
+-- its template; a flow is no table
 abbrev pub keys_of : Option ℤ → Place → List Key
 keys_of said Document =
     needed (codes "topos") Integer

@@ -1,9 +1,11 @@
+pub mod FlowLaws
 pub mod FormConditions
 pub mod KeyLaws
 pub mod Keys
 pub mod Places
 pub mod PlacesLaws
 pub mod Refusals
+pub mod ShallowFormLaws
 pub mod Walking
 pub mod Written
 pub mod WrittenFlow

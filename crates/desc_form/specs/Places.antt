@@ -1,14 +1,15 @@
 -- All places of a description in their order, and the refusals 3 to 5: keys that are unknown, that are missing, and values of a
 -- wrong type (the description's format, docs/FORMATS.md).
-use Rattle.std.specs.Prelude.{ℕ, ℤ, Bool, true, false, not, List, [], ◌∷◌, ◌++◌, map, flat_map, find, Option, option_map, is_none, codes, unwrap_or, option_and_then}
+use Rattle.std.specs.Prelude.{ℕ, ℤ, pos, Bool, true, false, not, ◌||◌, ◌==◌, List, [], ◌∷◌, ◌++◌, map, flat_map, find, length, Option, option_map, codes, unwrap_or, option_and_then}
 use Rattle.std.specs.Option.{option_map_or}
+use Rattle.std.specs.Ordering.{int_eq}
 use Rattle.toml.specs.Data.{Data, table, Members, as_table}
 use Rattle.desc_form.specs.declared.refusal.Place.{Place}
 use Rattle.desc_form.specs.declared.refusal.Place.TheVariants.{Document, Host, Invariant, Assign, FlowAt}
 use Rattle.desc_form.specs.declared.refusal.Refusal.{Refusal}
 use Rattle.desc_form.specs.declared.refusal.Why.TheVariants.{UnknownKey, MissingKey, WrongType}
 use Rattle.text_core.specs.Firsts.{Numbered, numbered}
-use Rattle.desc_form.specs.WrittenFlow.{flow_written}
+use Rattle.desc_form.specs.WrittenFlow.{WrittenFlow, flow_written}
 use Rattle.desc_form.specs.Keys.{keys_of, version_said}
 use Rattle.desc_form.specs.Refusals.{refused}
 use Rattle.table_core.specs.Keys.{all_suit, has_only_keys, lacks_key}
@@ -67,9 +68,17 @@ has_unknown_key said place d = option_map_or (has_other_key said place) (as_tabl
 abbrev pub has_missing_key : Option ℤ → Place → Data → Bool
 has_missing_key said place d = option_map_or (lacks_needed said place) (as_table d) false
 
--- 5: a flow is an array of two texts; at any other place stands a table, in which all is of its kind
+-- flows may have services: the document says version 2
+abbrev pub may_narrow : Option ℤ → Bool
+may_narrow said = option_map_or (λ version. int_eq version (pos 2)) said false
+
+-- a flow is as the version has it: it has no services, or it may have some
+abbrev pub fits_version : Option ℤ → WrittenFlow → Bool
+fits_version said f = (length f.services == 0) || may_narrow said
+
+-- 5: a flow is an array of two texts, or of more in version 2; at any other place stands a table, in which all is of its kind
 unfoldable pub has_wrong_type : Option ℤ → Place → Data → Bool
-has_wrong_type said (FlowAt k) d = is_none (flow_written d)
+has_wrong_type said (FlowAt k) d = not (option_map_or (fits_version said) (flow_written d) false)
 has_wrong_type said place d = option_map_or (has_unsuited said place) (as_table d) true
 
 -- 3

@@ -1,8 +1,8 @@
 -- The form of a description (its format, docs/FORMATS.md), table by table: which keys it has, what stands at each, and what the
 -- record of its texts says of it.
-use Rattle.std.specs.Prelude.{◌≡◌, ℕ, ℤ, Bool, true, false, if◌then◌else◌, List, [], ◌∷◌, codes, is_some, IsTrue, IsSomeAnd, MatchOption}
-use Rattle.std.specs.List.{AllZip}
-use Rattle.toml.specs.Data.{Data, string, integer, boolean, array, table, Items, no_items, item, Members, get_member}
+use Rattle.std.specs.Prelude.{◌≡◌, ◌≢◌, ℕ, ℤ, pos, Bool, true, false, if◌then◌else◌, List, [], ◌∷◌, codes, is_some, IsTrue, IsSomeAnd, MatchOption}
+use Rattle.std.specs.List.{All, AllZip}
+use Rattle.toml.specs.Data.{Data, string, integer, boolean, array, table, Items, Members, get_member}
 use Rattle.desc_form.specs.Written.{Written, WrittenAssign, WrittenHost, WrittenInvariant}
 use Rattle.desc_form.specs.WrittenFlow.{WrittenFlow}
 use Rattle.table_core.specs.Tables.{elements, has_only}
@@ -21,13 +21,13 @@ IsBoolean d truth = d ≡ boolean truth
 abbrev pub IsAnswers : Data → Bool → Type 0
 IsAnswers d answers = d ≡ string (if answers then codes "all" else codes "none")
 
--- an array of two texts
-abbrev pub IsFlow : Data → WrittenFlow → Type 0
-IsFlow d flow = d ≡ array (item (string flow.from) (item (string flow.to) no_items))
-
 -- an array: each of its elements is what the list has in its place
 abbrev pub IsArray : {A : Type 0} → (Data → A → Type 0) → Data → List A → Type 0
 IsArray Is d xs = (ds : Items) × (d ≡ array ds) × AllZip Is (elements ds) xs
+
+-- an array of texts: two names, and the services behind them
+abbrev pub IsFlow : Data → WrittenFlow → Type 0
+IsFlow d flow = IsArray IsText d (flow.from ∷ flow.to ∷ flow.services)
 
 abbrev pub IsTable : {A : Type 0} → (Members → A → Type 0) → Data → A → Type 0
 IsTable Is d x = (ms : Members) × (d ≡ table ms) × Is ms x
@@ -58,7 +58,7 @@ pub record IsInvariant (ms : Members) (i : WrittenInvariant) : Type 0 where
   pub template : Stands IsText (codes "template") ms i.template
   pub assigns : StandsOr [] (IsArray (IsTable IsAssign)) (codes "assign") ms i.assigns
 
--- the document
+-- the document; only version 2 has flows with services
 pub record IsWritten (ms : Members) (w : Written) : Type 0 where
   pub only : IsTrue (has_only (codes "topos" ∷ codes "answers" ∷ codes "host" ∷ codes "invariant" ∷ codes "flow" ∷ []) ms)
   pub version : Stands IsInteger (codes "topos") ms w.version
@@ -67,6 +67,7 @@ pub record IsWritten (ms : Members) (w : Written) : Type 0 where
   pub invariants : StandsOr [] (IsArray (IsTable IsInvariant)) (codes "invariant") ms w.invariants
   pub given : w.given ≡ is_some (get_member (codes "flow") ms)
   pub flows : StandsOr [] (IsArray IsFlow) (codes "flow") ms w.flows
+  pub whole : w.version ≢ pos 2 → All (λ f. f.services ≡ []) w.flows
 
 -- the description is of the right form: some record says what is written in it
 abbrev pub IsFormed : Members → Type 0

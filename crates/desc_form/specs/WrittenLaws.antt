@@ -1,28 +1,29 @@
 -- A description is of the right form exactly where a record says what is written in it, and then the record that is read says it: nothing
 -- is passed over.
-use Rattle.std.proofs.Common.{◌≡◌, ◌↔◌, ℕ, ℤ, ◌+◌, Bool, true, false, not, ◌||◌, List, [], ◌∷◌, map, Option, Some, None, refl, ap, ◌∙◌, sym, subst}
-use Rattle.std.proofs.lemmas.Bool.{or_parts, not-false}
+use Rattle.std.proofs.Common.{◌≡◌, ◌↔◌, ℕ, ℤ, ◌+◌, Bool, true, false, not, ◌||◌, List, [], ◌∷◌, map, Option, Some, None, refl, ◌∙◌, sym, subst}
+use Rattle.std.proofs.lemmas.Bool.{and_parts, or_parts, not-false}
 use Rattle.std.specs.Cmp.{first_so, second_so}
 use Rattle.std.specs.Cmp.Derive.{both_true}
-use Rattle.std.specs.Prelude.{codes, is_none, filter_map, unwrap_or}
+use Rattle.std.specs.Prelude.{codes, filter_map}
 use Rattle.std.specs.List.{AllZip, cons_option, list_all}
-use Rattle.std.specs.Option.{option_or}
-use Rattle.toml.specs.Data.{Data, string, array, table, Items, no_items, item, Members, as_table, get_member}
+use Rattle.std.specs.Option.{option_map_or, option_or}
+use Rattle.toml.specs.Data.{Data, array, table, Members, as_table, get_member}
 use Rattle.desc_form.specs.PlacesLaws.{by_parts, nowhere_both, nowhere_either}
 use Rattle.desc_form.specs.declared.refusal.Place.{Place}
 use Rattle.desc_form.specs.declared.refusal.Place.TheVariants.{Document, Host, Invariant, Assign, FlowAt}
 use Rattle.text_core.specs.Firsts.{first_of, where_holds}
 use Rattle.text_core.specs.FirstsLaws.{holds_not, neither, none_mapped}
+use Rattle.desc_form.specs.FlowLaws.{fit_where, flow_read, flow_says, said_version, whole_where}
 use Rattle.desc_form.specs.FormConditions.{form_conditions}
 use Rattle.desc_form.specs.KeyLaws.{answers_stand, answers_suit, array_needed, array_stands, array_stands_or, array_suits, array_zips, boolean_stands, boolean_suits, integer_stands, integer_suits, text_stands, text_suits, texts_stand_or, texts_suit}
 use Rattle.desc_form.specs.Keys.{keys_of, version_said}
-use Rattle.desc_form.specs.Places.{assigns_of, has_other_key, has_unknown_key, has_missing_key, has_unsuited, has_wrong_type, lacks_needed, listed, missing_key, unknown_key, wrong_type}
+use Rattle.desc_form.specs.Places.{assigns_of, fits_version, has_other_key, has_unknown_key, has_missing_key, has_unsuited, has_wrong_type, lacks_needed, listed, missing_key, unknown_key, wrong_type}
 use Rattle.desc_form.specs.Walking.{first_at, first_by_parts, first_of_invariant, first_of_invariants}
 use Rattle.desc_form.specs.Written.{Written, WrittenAssign, WrittenHost, WrittenInvariant, assign_written, host_written, invariant_written, written}
-use Rattle.desc_form.specs.WrittenFlow.{WrittenFlow, flow_between, flow_written, two_texts}
+use Rattle.desc_form.specs.WrittenFlow.{WrittenFlow, flow_written}
 use Rattle.desc_form.specs.WrittenForm.{IsAssign, IsFlow, IsFormed, IsHost, IsInvariant, IsTable, IsWritten}
 use Rattle.table_core.specs.Keys.{all_suit, has_only_keys, lacks_key, suits_in}
-use Rattle.table_core.specs.Tables.{boolean_at, elements, elements_of, has_key, integer_at, list_at, text_at}
+use Rattle.table_core.specs.Tables.{boolean_at, has_key, integer_at, list_at, text_at}
 
 -- one of the three conditions holds at a place
 abbrev bad : Option ℤ → Place → Data → Bool
@@ -113,36 +114,27 @@ invariants_read v k (d ∷ ds) found =
     let parts = neither (first_of_invariant (bad v) k d) _ found in
     zip_first IsInvariant invariant_written d ds (invariant_reads v k d parts.0) (invariants_read v (k + 1) ds parts.1)
 
-two_read : (ds : Items) (f : WrittenFlow) → two_texts (elements ds) ≡ Some f → ds ≡ item (string f.from) (item (string f.to) no_items)
-two_read (item (string a) (item (string b) no_items)) f found =
-    ap (λ (g : WrittenFlow). item (string g.from) (item (string g.to) no_items)) (ap (λ o. unwrap_or o (flow_between a b)) found)
-two_read (item a (item b no_items)) f found = cc
-two_read (item a (item b (item c ds))) f found = cc
-two_read (item a no_items) f found = cc
-two_read no_items f found = cc
+-- where no element of a list is bad, each is a flow that fits the version
+flow_first : (v : Option ℤ) (d : Data) (ds : List Data) (o : Option WrittenFlow) → flow_written d ≡ o
+    → not (option_map_or (fits_version v) o false) ≡ false
+    → AllZip IsFlow ds (filter_map flow_written ds) × (list_all (fits_version v) (filter_map flow_written ds) ≡ true)
+    → AllZip IsFlow (d ∷ ds) (cons_option o (filter_map flow_written ds)) × (list_all (fits_version v) (cons_option o (filter_map flow_written ds)) ≡ true)
+flow_first v d ds None read there rest = cc
+flow_first v d ds (Some f) read there (zipped, fit) =
+    ((flow_read d f read, zipped), both_true (not-false (fits_version v f) there) fit)
 
-flow_read : (d : Data) (f : WrittenFlow) → flow_written d ≡ Some f → IsFlow d f
-unfolding flow_written elements_of
-flow_read (array ds) f found = ap array (two_read ds f found)
-flow_read _ f found = cc
-
--- where no element of a list is bad, each is a flow
-flow_first : (d : Data) (ds : List Data) (o : Option WrittenFlow) → flow_written d ≡ o → is_none o ≡ false
-    → AllZip IsFlow ds (filter_map flow_written ds) → AllZip IsFlow (d ∷ ds) (cons_option o (filter_map flow_written ds))
-flow_first d ds None read there rest = cc
-flow_first d ds (Some f) read there rest = (flow_read d f read, rest)
-
-flows_read : (v : Option ℤ) (k : ℕ) (ds : List Data) → first_at (bad v) FlowAt k ds ≡ None → AllZip IsFlow ds (filter_map flow_written ds)
+flows_read : (v : Option ℤ) (k : ℕ) (ds : List Data) → first_at (bad v) FlowAt k ds ≡ None
+    → AllZip IsFlow ds (filter_map flow_written ds) × (list_all (fits_version v) (filter_map flow_written ds) ≡ true)
 unfolding has_wrong_type
-flows_read v k [] found = tt
+flows_read v k [] found = (tt, refl)
 flows_read v k (d ∷ ds) found =
     let parts = neither (where_holds (bad v (FlowAt k) d) (FlowAt k)) _ found in
     let here = or_parts _ _ (or_parts _ _ (holds_not _ _ parts.0)).1 in
-    flow_first d ds (flow_written d) refl here.1 (flows_read v (k + 1) ds parts.1)
+    flow_first v d ds (flow_written d) refl here.1 (flows_read v (k + 1) ds parts.1)
 
-document_stands : (v : Option ℤ) (ms : Members) → first_by_parts (bad v) ms ≡ None → IsWritten ms (written ms)
+document_stands : (v : Option ℤ) (ms : Members) → version_said ms ≡ v → first_by_parts (bad v) ms ≡ None → IsWritten ms (written ms)
 unfolding has_wrong_type has_other_key lacks_needed has_unsuited has_only_keys lacks_key all_suit written listed has_key text_at integer_at list_at
-document_stands v ms found =
+document_stands v ms said found =
     let document = neither (where_holds (bad v Document (table ms)) Document) _ found in
     let hosts = neither (first_at (bad v) Host 1 (listed (codes "host") ms)) _ document.1 in
     let invariants = neither (first_of_invariants (bad v) 1 (listed (codes "invariant") ms)) _ hosts.1 in
@@ -154,9 +146,12 @@ document_stands v ms found =
     let suits_2 = second_so _ _ suits in
     let suits_3 = second_so _ _ suits_2 in
     let suits_4 = second_so _ _ suits_3 in
+    let version = integer_stands (get_member (codes "topos") ms) (not-false _ lacks.0) (first_so _ _ suits) in
+    let flows = flows_read v 1 (listed (codes "flow") ms) invariants.1 in
+    let says = sym said ∙ said_version (get_member (codes "topos") ms) _ version in
     record {
       only = not-false _ here.0;
-      version = integer_stands (get_member (codes "topos") ms) (not-false _ lacks.0) (first_so _ _ suits);
+      version = version;
       answers = answers_stand (get_member (codes "answers") ms) (first_so _ _ suits_2);
       hosts =
           array_stands (IsTable IsHost) (get_member (codes "host") ms) _ (not-false _ lacks_host.0) (first_so _ _ suits_3)
@@ -166,8 +161,8 @@ document_stands v ms found =
           (invariants_read v 1 (listed (codes "invariant") ms) invariants.0);
       given = refl;
       flows =
-          array_stands_or IsFlow (get_member (codes "flow") ms) _ (first_so _ _ (second_so _ _ suits_4))
-          (flows_read v 1 (listed (codes "flow") ms) invariants.1);
+          array_stands_or IsFlow (get_member (codes "flow") ms) _ (first_so _ _ (second_so _ _ suits_4)) flows.0;
+      whole = whole_where _ _ (subst (λ (o : Option ℤ). list_all (fits_version o) (filter_map flow_written (listed (codes "flow") ms)) ≡ true) says flows.1);
     }
 
 -- a description of the right form is what is written in it, each element of its arrays included
@@ -179,7 +174,7 @@ written_stands ms formed =
     let missing = neither _ _ unknown.1 in
     let wrong = neither _ _ missing.1 in
     let nowhere = nowhere_either (has_missing_key v) (has_wrong_type v) ms (none_mapped _ _ missing.0) (none_mapped _ _ wrong.0) in
-    document_stands v ms
+    document_stands v ms refl
     (by_parts (bad v) ms
     ∙ nowhere_either (has_unknown_key v) (λ place d. has_missing_key v place d || has_wrong_type v place d) ms (none_mapped _ _ unknown.0) nowhere)
 
@@ -236,14 +231,19 @@ invariants_good v k (d ∷ ds) (i ∷ is) ((ms, is_table, fits), zipped) =
     subst (λ (e : Data). option_or (first_of_invariant (bad v) k e) (first_of_invariants (bad v) (k + 1) ds) ≡ None) (sym is_table)
     (rw (invariant_good v k ms i fits) (invariants_good v (k + 1) ds is zipped))
 
-flow_good : (v : Option ℤ) (k : ℕ) (d : Data) (f : WrittenFlow) → IsFlow d f → bad v (FlowAt k) d ≡ false
-unfolding has_wrong_type flow_written elements_of
-flow_good v k d f is_flow = rw is_flow refl
+flow_good : (v : Option ℤ) (k : ℕ) (d : Data) (f : WrittenFlow) → IsFlow d f → fits_version v f ≡ true → bad v (FlowAt k) d ≡ false
+unfolding has_wrong_type
+flow_good v k d f (ds, is_array, zipped) fits =
+    let read = flow_says (array ds) f (ds, refl, zipped) in
+    rw (is_array, read, fits) refl
 
-flows_good : (v : Option ℤ) (k : ℕ) (ds : List Data) (fs : List WrittenFlow) → AllZip IsFlow ds fs → first_at (bad v) FlowAt k ds ≡ None
-flows_good v k [] fs zipped = refl
-flows_good v k (d ∷ ds) [] zipped = absurd zipped
-flows_good v k (d ∷ ds) (f ∷ fs) (is_flow, zipped) = rw (flow_good v k d f is_flow) (flows_good v (k + 1) ds fs zipped)
+flows_good : (v : Option ℤ) (k : ℕ) (ds : List Data) (fs : List WrittenFlow) → AllZip IsFlow ds fs → list_all (fits_version v) fs ≡ true
+    → first_at (bad v) FlowAt k ds ≡ None
+flows_good v k [] fs zipped fit = refl
+flows_good v k (d ∷ ds) [] zipped fit = absurd zipped
+flows_good v k (d ∷ ds) (f ∷ fs) (is_flow, zipped) fit =
+    let (here, behind) = and_parts (fits_version v f) (list_all (fits_version v) fs) fit in
+    rw (flow_good v k d f is_flow here) (flows_good v (k + 1) ds fs zipped behind)
 
 document_good : (v : Option ℤ) (ms : Members) (w : Written) → IsWritten ms w → bad v Document (table ms) ≡ false
 unfolding has_wrong_type has_other_key lacks_needed has_unsuited has_only_keys lacks_key all_suit has_key text_at integer_at list_at
@@ -257,23 +257,26 @@ document_good v ms w stands =
     (both_true (array_suits (IsTable IsInvariant) (get_member (codes "invariant") ms) w.invariants stands.invariants)
     (both_true (array_suits IsFlow (get_member (codes "flow") ms) w.flows stands.flows) refl)))))
 
-nothing_bad : (v : Option ℤ) (ms : Members) (w : Written) → IsWritten ms w → first_by_parts (bad v) ms ≡ None
+nothing_bad : (v : Option ℤ) (ms : Members) (w : Written) → IsWritten ms w → list_all (fits_version v) w.flows ≡ true
+    → first_by_parts (bad v) ms ≡ None
 unfolding listed list_at
-nothing_bad v ms w stands =
+nothing_bad v ms w stands fit =
     let hosts = array_needed (IsTable IsHost) (get_member (codes "host") ms) w.hosts stands.hosts in
     rw (
       document_good v ms w stands,
       tables_good v IsHost Host (host_good v) 1 (listed (codes "host") ms) w.hosts (array_zips (IsTable IsHost) (get_member (codes "host") ms) w.hosts hosts.1),
       invariants_good v 1 (listed (codes "invariant") ms) w.invariants (array_zips (IsTable IsInvariant) (get_member (codes "invariant") ms) w.invariants stands.invariants),
-      flows_good v 1 (listed (codes "flow") ms) w.flows (array_zips IsFlow (get_member (codes "flow") ms) w.flows stands.flows),
+      flows_good v 1 (listed (codes "flow") ms) w.flows (array_zips IsFlow (get_member (codes "flow") ms) w.flows stands.flows) fit,
     ) refl
 
 -- a description in which something is written is of the right form
 pub formed_where_written : (ms : Members) (w : Written) → IsWritten ms w → first_of (form_conditions ms) ≡ None
-unfolding form_conditions unknown_key missing_key wrong_type
+unfolding form_conditions unknown_key missing_key wrong_type integer_at
 formed_where_written ms w stands =
     let v = version_said ms in
-    let nowhere = sym (by_parts (bad v) ms) ∙ nothing_bad v ms w stands in
+    let said = said_version (get_member (codes "topos") ms) w.version stands.version in
+    let fit = subst (λ (o : Option ℤ). list_all (fits_version o) w.flows ≡ true) (sym said) (fit_where w.version w.flows stands.whole) in
+    let nowhere = sym (by_parts (bad v) ms) ∙ nothing_bad v ms w stands fit in
     let unknown = nowhere_both (has_unknown_key v) (λ place d. has_missing_key v place d || has_wrong_type v place d) ms nowhere in
     let rest = nowhere_both (has_missing_key v) (has_wrong_type v) ms unknown.1 in
     rw (unknown.0, rest.0, rest.1) refl

@@ -3,7 +3,7 @@ use Rattle.std.proofs.Common.{◌≡◌, ℕ, Bool, true, false, List, [], ◌�
 use Rattle.std.specs.List.{AllZip}
 use Rattle.std.specs.Prelude.{codes, IsSomeAnd, MatchOption, unwrap_or}
 use Rattle.std.specs.Str.{bytes_eq}
-use Rattle.toml.specs.Data.{Data, string, integer, boolean, array, table, Items, no_items, item, Members, as_str, get_member}
+use Rattle.toml.specs.Data.{Data, string, integer, boolean, array, table, Items, Members, as_str, get_member}
 use Rattle.desc_form.specs.Written.{Written, written}
 use Rattle.desc_form.specs.WrittenForm.{IsAnswers, IsArray, IsAssign, IsBoolean, IsFlow, IsHost, IsInteger, IsInvariant, IsTable, IsText, IsWritten, Stands, StandsOr}
 use Rattle.desc_form.specs.WrittenLaws.{formed_where_written, written_stands}
@@ -31,13 +31,6 @@ answers_once d false false is was = refl
 answers_once d true false is was = ap says_all (sym is ∙ was)
 answers_once d false true is was = ap says_all (sym is ∙ was)
 
-flow_once : IsSaidOnce IsFlow
-flow_once d f g is was =
-    let same : array (item (string f.from) (item (string f.to) no_items)) ≡ array (item (string g.from) (item (string g.to) no_items)) = sym is ∙ was in
-    let from : f.from ≡ g.from = cc in
-    let to : f.to ≡ g.to = cc in
-    λ i. record { from = from i; to = to i }
-
 table_once : {A : Type 0} (Is : Members → A → Type 0) → IsSaidOnce Is → IsSaidOnce (IsTable Is)
 table_once Is once d x y (ms, is, fits) (ns, was, suits) =
     let same : table ms ≡ table ns = sym is ∙ was in
@@ -59,6 +52,14 @@ array_once Is once d xs ys (ds, is, here) (es, was, there) =
     let same : array ds ≡ array es = sym is ∙ was in
     let equal : ds ≡ es = cc in
     each_once Is once (elements es) xs ys (subst (λ (vs : Items). AllZip Is (elements vs) xs) equal here) there
+
+flow_once : IsSaidOnce IsFlow
+flow_once d f g is was =
+    let same = array_once IsText text_once d (f.from ∷ f.to ∷ f.services) (g.from ∷ g.to ∷ g.services) is was in
+    let from : f.from ≡ g.from = cc in
+    let to : f.to ≡ g.to = cc in
+    let services : f.services ≡ g.services = cc in
+    λ i. record { from = from i; to = to i; services = services i }
 
 -- at a key
 some_once : {A : Type 0} (Is : Data → A → Type 0) → IsSaidOnce Is → (o : Option Data) (x y : A) → IsSomeAnd o (λ d. Is d x)

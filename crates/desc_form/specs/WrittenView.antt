@@ -19,7 +19,7 @@ abbrev pub invariant_view : WrittenInvariant → meant.WrittenInvariant
 invariant_view i = record { template = i.template.now; assigns = map assign_view i.assigns.items }
 
 abbrev pub flow_view : WrittenFlow → flow.WrittenFlow
-flow_view f = record { from = f.from.now; to = f.to.now }
+flow_view f = record { from = f.from.now; to = f.to.now; services = map (λ text. text.now) f.services.items }
 
 abbrev pub written_view : Written → meant.Written
 written_view w = record {

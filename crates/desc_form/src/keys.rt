@@ -32,8 +32,8 @@ static INVARIANT: [Key; 2] = [
 
 static ASSIGN: [Key; 1] = [Key::Needed("host", Kind::Text)];
 
-/// The keys of the table at a place, in a document that says a version: so far the same whatever it
-/// says. An assign has further keys by its template.
+/// The keys of the table at a place, in a document that says a version: both versions have the same.
+/// An assign has further keys by its template.
 fn keys_of(_version: Option<i64>, place: Place) -> &'static [Key]
     ensures { map key_view result.now ≡ keys_of _version place }
 {

@@ -9,7 +9,7 @@ ghost use Rattle.desc_form.specs.declared.refusal.Place.TheVariants.{Document};
 ghost use Rattle.desc_form.specs.Places.{assigns_of, first_place, has_missing_key, has_unknown_key, has_wrong_type, listed};
 ghost use Rattle.desc_form.specs.Walking.{holds_at, first_at, first_by_parts, first_of_invariant, first_of_invariants, place_in};
 
-use crate::flows::read_flow;
+use crate::flows::is_flow;
 use crate::keys::{has_other_key, has_unsuited, lacks_needed};
 use crate::refusal::Place;
 use table_core::list_at;
@@ -95,7 +95,7 @@ fn has_wrong_type(version: Option<i64>, place: Place, value: &Value) -> bool
     ensures { result ≡ has_wrong_type version place (view value.now) }
 {
     match place {
-        Place::FlowAt(_) => read_flow(value).is_none(),
+        Place::FlowAt(_) => !is_flow(version, value),
         Place::Document | Place::Host(_) | Place::Invariant(_) | Place::Assign(_, _) => {
             match value.as_table() {
                 Some(table) => has_unsuited(version, place, table),

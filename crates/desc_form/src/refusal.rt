@@ -33,9 +33,9 @@ pub enum Why {
     /// A key that has to be there is absent.
     MissingKey,
     /// A value is of another type than its key asks for, the word for answers is unknown, or a flow
-    /// is not two texts.
+    /// is not two texts, or in version 2 not two or more.
     WrongType,
-    /// The version of the description is not 1.
+    /// The version of the description is neither 1 nor 2.
     BadVersion,
     /// There are more hosts, prefixes or invariants than there may be.
     TooMany,
@@ -63,8 +63,12 @@ pub enum Why {
     BadAttribute,
     /// A flow leads from a host to itself.
     SelfFlow,
-    /// A flow is listed twice.
+    /// A flow is listed twice, whatever its services are.
     DuplicateFlow,
+    /// A text behind the two names of a flow is no service.
+    BadService,
+    /// A flow has more services than it may have.
+    ManyServices,
 }
 
 impl Why {
@@ -93,6 +97,8 @@ impl Why {
             Why::BadAttribute => 18,
             Why::SelfFlow => 19,
             Why::DuplicateFlow => 20,
+            Why::BadService => 21,
+            Why::ManyServices => 22,
         }
     }
 
@@ -121,6 +127,8 @@ impl Why {
             Why::BadAttribute => "BadAttribute",
             Why::SelfFlow => "SelfFlow",
             Why::DuplicateFlow => "DuplicateFlow",
+            Why::BadService => "BadService",
+            Why::ManyServices => "ManyServices",
         }
     }
 }
@@ -130,7 +138,7 @@ impl Why {
 pub struct Refusal {
     pub why: Why,
     pub place: Place,
-    /// The prefix of a host, or the name in a flow, that is refused, from 1.
+    /// The prefix of a host, or the text in a flow, that is refused, from 1.
     pub item: u64,
     /// The earlier host, assign or flow that bars this one, from 1.
     pub other: u64,

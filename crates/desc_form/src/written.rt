@@ -39,11 +39,12 @@ pub struct WrittenInvariant<'a> {
     pub assigns: Vec<WrittenAssign<'a>>,
 }
 
-/// A flow: the names of its two hosts.
-#[derive(Clone, Copy)]
+/// A flow: the names of its two hosts, and its services as texts, none where it is whole.
+#[derive(Drop)]
 pub struct WrittenFlow<'a> {
     pub from: &'a str,
     pub to: &'a str,
+    pub services: Vec<&'a str>,
 }
 
 /// A description as it is written, before anything is looked up.
@@ -70,7 +71,7 @@ fn text_in<'a>(table: &'a Table, key: &str) -> &'a str
 }
 
 /// The texts among some values.
-fn texts_among(alloc: Global, values: &[Value]) -> Result<Vec<&str>, AllocError>
+pub(crate) fn texts_among(alloc: Global, values: &[Value]) -> Result<Vec<&str>, AllocError>
     ensures { IfOk result (λ texts. map (λ text. text.now) texts.items ≡ filter_map as_str (map view values.now)) }
 {
     let mut texts = Vec::new(alloc);
@@ -164,7 +165,7 @@ fn flows_among(alloc: Global, values: &[Value]) -> Result<Vec<WrittenFlow<'_>>, 
 {
     let mut flows = Vec::new(alloc);
     for value in values {
-        if let Some(flow) = read_flow(value) {
+        if let Some(flow) = read_flow(alloc, value)? {
             flows.push(flow)?;
         }
     }

@@ -1,8 +1,9 @@
 -- None of the conditions 6 to 14 refuses a description exactly where the facts of HostFacts hold of it.
-use Rattle.std.proofs.Common.{◌≡◌, ◌≢◌, ◌↔◌, ℕ, ℤ, pos, zero, suc, ◌≤◌, ◌<◌, ◌+◌, ◌^◌, IsTrue, Bool, true, false, not, ◌&&◌, nat_lt, List, [], ◌∷◌, length, slice_get, Option, Some, None, option_map, refl, sym, ap, ◌∙◌, subst, arith}
+use Rattle.std.proofs.Common.{◌≡◌, ◌≢◌, ◌↔◌, ◌⊎◌, inl, inr, ℕ, ℤ, pos, zero, suc, ◌≤◌, ◌<◌, ◌+◌, ◌^◌, IsTrue, Bool, true, false, not, ◌&&◌, ◌||◌, nat_lt, List, [], ◌∷◌, length, slice_get, Option, Some, None, option_map, refl, sym, ap, ◌∙◌, subst, arith}
 use Rattle.std.proofs.lemmas.Bool.{and_from, and_parts, false≢true}
 use Rattle.std.proofs.lemmas.Bool.Decides.{Decides-int_eq, nat_tests}
 use Rattle.std.proofs.lemmas.Slice.Eq.{bytes_eq-Decides}
+use Rattle.std.specs.Bool.{Decides}
 use Rattle.std.specs.List.{All, AllPairs, find, list_all}
 use Rattle.std.specs.Ordering.{int_eq}
 use Rattle.std.specs.Str.{bytes_eq}
@@ -14,7 +15,7 @@ use Rattle.desc_form.specs.declared.refusal.Place.TheVariants as place
 use Rattle.desc_form.specs.declared.refusal.Refusal.{Refusal}
 use Rattle.desc_form.specs.declared.refusal.Why.TheVariants.{BadVersion, TooMany, BadName, BadPrefix, HostBits, NoAddress}
 use Rattle.desc_hosts.specs.EntriesLaws.{all_texts, length_texts, no_pair_texts}
-use Rattle.desc_hosts.specs.HostConditions.{Entry, all_entries, bad_name, bad_prefix, bad_version, beyond, duplicate_host, entries_meet, has_host_bits, host_bits, host_conditions, is_prefix, no_address, overlap, too_many, too_many_prefixes, two_rests}
+use Rattle.desc_hosts.specs.HostConditions.{Entry, all_entries, bad_name, bad_prefix, bad_version, beyond, duplicate_host, entries_meet, has_host_bits, host_bits, host_conditions, is_prefix, is_version, no_address, overlap, too_many, too_many_prefixes, two_rests}
 use Rattle.desc_hosts.specs.HostFacts.{AreApart, HasAddress, HasHosts, SaysExact, SaysPrefix, texts}
 use Rattle.desc_hosts.specs.HostsLaws.{none_beyond, unrefused}
 use Rattle.desc_hosts.specs.Mentions.{Mention, all_names, assign_names, flow_names}
@@ -61,13 +62,23 @@ passes_where : (b : Bool) → (not b ≡ false) ↔ (b ≡ true)
 passes_where true = (λ h. refl, λ h. refl)
 passes_where false = (λ h. cc, λ h. cc)
 
+then_words : {A B C : Type 0} → (A ↔ B) → (B ↔ C) → A ↔ C
+then_words first second = (λ a. second.0 (first.0 a), λ c. first.1 (second.1 c))
+
+either_passes : (a b : Bool) {P Q : Type 0} → Decides a P → Decides b Q → ((a || b) ≡ true) ↔ (P ⊎ Q)
+either_passes true b first second = (λ h. inl (first.0 refl), λ either. refl)
+either_passes false b first second = (
+  λ h. inr (second.0 h),
+  λ either. elim either [ inl p ↦ absurd (false≢true (first.1 p)) | inr q ↦ second.1 q ],
+)
+
 -- 6
-pub version_is : (v : ℤ) → (bad_version v ≡ None) ↔ (v ≡ pos 1)
+
+pub version_is : (v : ℤ) → (bad_version v ≡ None) ↔ ((v ≡ pos 1) ⊎ (v ≡ pos 2))
 unfolding bad_version
 version_is v =
-    let told = none_where (not (int_eq v (pos 1))) (refused BadVersion place.Document) in
-    let passed = passes_where (int_eq v (pos 1)) in
-    (λ h. (Decides-int_eq v (pos 1)).0 (passed.0 (told.0 h)), λ same. told.1 (passed.1 ((Decides-int_eq v (pos 1)).1 same)))
+    let told = none_where (not (is_version v)) (refused BadVersion place.Document) in
+    then_words told (then_words (passes_where (is_version v)) (either_passes (int_eq v (pos 1)) (int_eq v (pos 2)) (Decides-int_eq v (pos 1)) (Decides-int_eq v (pos 2))))
 
 -- 7
 small : (limit n : ℕ) → nat_lt limit n ≡ false → n ≤ limit
@@ -117,9 +128,6 @@ sizes_are w =
     )
 
 -- facts that hold exactly where others do
-then_words : {A B C : Type 0} → (A ↔ B) → (B ↔ C) → A ↔ C
-then_words first second = (λ a. second.0 (first.0 a), λ c. first.1 (second.1 c))
-
 other_way : {A B : Type 0} → (A ↔ B) → B ↔ A
 other_way is = (is.1, is.0)
 

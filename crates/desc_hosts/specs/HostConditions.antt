@@ -1,6 +1,6 @@
 -- The refusals 6 to 14 of a description: its version, its size, its names, its hosts and their prefixes (the
 -- description's format, docs/FORMATS.md).
-use Rattle.std.specs.Prelude.{ℕ, ◌+◌, ℤ, pos, Bool, false, not, ◌&&◌, nat_lt, List, [], ◌∷◌, length, map, flat_map, find, slice_get, Option, option_map}
+use Rattle.std.specs.Prelude.{ℕ, ◌+◌, ℤ, pos, Bool, false, not, ◌&&◌, ◌||◌, nat_lt, List, [], ◌∷◌, length, map, flat_map, find, slice_get, Option, option_map}
 use Rattle.std.specs.Option.{option_map_or}
 use Rattle.std.specs.Ordering.{int_eq}
 use Rattle.std.specs.Str.{bytes_eq}
@@ -37,9 +37,13 @@ entries_of h = entries_at h.number h.what.at
 unfoldable pub all_entries : Written → List Entry
 all_entries w = flat_map entries_of (numbered w.hosts)
 
--- 6: the version is not 1
+-- the versions that there are
+abbrev pub is_version : ℤ → Bool
+is_version version = int_eq version (pos 1) || int_eq version (pos 2)
+
+-- 6: the version is neither 1 nor 2
 unfoldable pub bad_version : ℤ → Option Refusal
-bad_version version = where_holds (not (int_eq version (pos 1))) (refused BadVersion Document)
+bad_version version = where_holds (not (is_version version)) (refused BadVersion Document)
 
 -- a list has more elements than a limit: the first beyond it
 abbrev pub beyond : {A : Type 0} → ℕ → (ℕ → Place) → List A → Option Refusal

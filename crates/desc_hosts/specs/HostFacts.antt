@@ -1,6 +1,6 @@
 -- What is true of a written description that none of the conditions 6 to 14 refuses, in plain words: its version, its sizes, its
 -- names, its hosts and their prefixes (the description's format, docs/FORMATS.md).
-use Rattle.std.specs.Prelude.{◌≡◌, ◌≢◌, ◌↔◌, ◌≤◌, ◌<◌, ℕ, pos, true, IsTrue, List, [], length, flat_map, Some}
+use Rattle.std.specs.Prelude.{◌≡◌, ◌≢◌, ◌↔◌, ◌⊎◌, ◌≤◌, ◌<◌, ℕ, pos, true, IsTrue, List, [], length, flat_map, Some}
 use Rattle.std.specs.List.{All, AllPairs}
 use Rattle.desc_form.specs.Written.{Written, WrittenHost}
 use Rattle.host_net.specs.Limits.{host_limit, invariant_limit, prefix_limit}
@@ -30,7 +30,7 @@ abbrev pub HasAddress : WrittenHost → Type 0
 HasAddress h = (h.rest ≡ true) ↔ (h.at ≡ [])
 
 pub record HasHosts (w : Written) : Type 0 where
-  pub version : w.version ≡ pos 1
+  pub version : (w.version ≡ pos 1) ⊎ (w.version ≡ pos 2)
   pub few_hosts : length w.hosts ≤ host_limit
   pub few_prefixes : length (texts w.hosts) ≤ prefix_limit
   pub few_invariants : length w.invariants ≤ invariant_limit

@@ -82,12 +82,12 @@ fn address_refusal(hosts: &[WrittenHost<'_>], entries: &[Entry]) -> Option<Refus
     overlap(entries)
 }
 
-/// The version is another than 1.
+/// The version is neither 1 nor 2.
 #[tactic(auto, unfolding(crate::specs::HostConditions::bad_version))]
 fn bad_version(written: &Written<'_>) -> Option<Refusal>
     ensures { result ≡ bad_version written.now.version }
 {
-    if written.version == 1 {
+    if written.version == 1 || written.version == 2 {
         return None;
     }
     Some(Refusal::at(Why::BadVersion, Place::Document))

@@ -54,6 +54,13 @@ flow = [["a", "b"], ["a", "b.c"]]"#,
     ),
 ];
 
+/// A description of version 2, and what refuses it: its services are passed over here.
+const NARROWED: (&str, (u8, Place, u64, u64)) = (
+    r#"host = [{ name = "a" }]
+flow = [["a", "b", "tcp/80"], ["a", "b.c", "no service"]]"#,
+    (8, Place::FlowAt(2), 2, 0),
+);
+
 fn refusal_of(
     alloc: Global,
     version: u8,
@@ -72,7 +79,9 @@ fn the_first_condition_is_told(rt: HostRuntime) -> Result<(), Fail> {
         assert_eq!(rt; refusal_of(rt.alloc(), 1, rest)?, Some(told));
     }
     let told = (6, Place::Document, 0, 0);
-    assert_eq!(rt; refusal_of(rt.alloc(), 2, REFUSED[0].0)?, Some(told));
+    assert_eq!(rt; refusal_of(rt.alloc(), 3, REFUSED[0].0)?, Some(told));
+    let (narrowed, told) = NARROWED;
+    assert_eq!(rt; refusal_of(rt.alloc(), 2, narrowed)?, Some(told));
     Ok(())
 }
 

@@ -1,13 +1,15 @@
-//! A network: its hosts, the flows between them that are asked for, and its invariants.
+//! A network: its hosts, the flows between them that are asked for, their services, and its
+//! invariants.
 ghost use Rattle.std.specs.Prelude.{◌≡◌, ◌≤◌, All, length};
 ghost use Rattle.flow_set.specs.FlowSetView.{IsFlowSet};
 ghost use Rattle.host_net.specs.Hosts.{IsHosts};
 ghost use Rattle.host_net.specs.Limits.{invariant_limit};
+ghost use Rattle.host_net.specs.Services.{AreServices};
 ghost use Rattle.inv_any.specs.Templates.{meaning_of};
 ghost use Rattle.net_core.specs.Fitting.{IsNetwork};
 
 use flow_set::FlowSet;
-use host_net::Hosts;
+use host_net::{Hosts, Services};
 use inv_any::AnyInv;
 use std::marker::Model;
 
@@ -16,6 +18,7 @@ use std::marker::Model;
 pub struct Description {
     hosts: Hosts,
     asked: FlowSet,
+    services: Services,
     given: bool,
     answers: bool,
     invariants: Vec<AnyInv>,
@@ -34,6 +37,7 @@ impl Model for Description {
     ghost view = { λ d. record {
       hosts = d.hosts;
       asked = d.asked;
+      services = d.services;
       given = d.given;
       answers = d.answers;
       invariants = d.invariants.items;
@@ -42,6 +46,7 @@ impl Model for Description {
     ghost invariant = { λ d. IsNetwork (record {
       hosts = d.hosts;
       asked = d.asked;
+      services = d.services;
       given = d.given;
       answers = d.answers;
       invariants = d.invariants.items;
@@ -53,16 +58,18 @@ impl Description {
     pub fn new(
         hosts: Hosts,
         asked: FlowSet,
+        services: Services,
         given: bool,
         answers: bool,
         invariants: Vec<AnyInv>,
     ) -> Description
-        requires { IsNetwork (record { hosts = hosts; asked = asked; given = given; answers = answers; invariants = invariants.items }) }
-        ensures { result ≡ record { hosts = hosts; asked = asked; given = given; answers = answers; invariants = invariants.items } }
+        requires { IsNetwork (record { hosts = hosts; asked = asked; services = services; given = given; answers = answers; invariants = invariants.items }) }
+        ensures { result ≡ record { hosts = hosts; asked = asked; services = services; given = given; answers = answers; invariants = invariants.items } }
     {
         Description {
             hosts,
             asked,
+            services,
             given,
             answers,
             invariants,
@@ -84,6 +91,14 @@ impl Description {
         ensures set { IsFlowSet self.now.asked.size self.now.asked.flows }
     {
         &self.asked
+    }
+
+    /// The services of the flows. A flow that has none is not narrowed: every packet is of it.
+    pub fn services(&self) -> &Services
+        ensures value { result.now ≡ self.now.services }
+        ensures services { AreServices self.now.services }
+    {
+        &self.services
     }
 
     /// Whether the flows that are asked for were listed, if only as an empty list. Where they were

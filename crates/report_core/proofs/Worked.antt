@@ -6,7 +6,7 @@ use Rattle.flow_set.specs.EveryFlow.{every_flow}
 use Rattle.desc_form.specs.Refusals.{refused, refused_item, refused_by, refused_item_by, refused_name}
 use Rattle.desc_form.specs.declared.refusal.Place.TheVariants.{Document, Host, Assign, FlowAt}
 use Rattle.desc_form.specs.declared.refusal.Refusal.{Refusal}
-use Rattle.desc_form.specs.declared.refusal.Why.TheVariants.{NotToml, UnknownKey, BadVersion, TooMany, DuplicateHost, BadPrefix, HostBits, TwoRests, Overlap, UndeclaredHost, BadAttribute, SelfFlow, DuplicateFlow}
+use Rattle.desc_form.specs.declared.refusal.Why.TheVariants.{NotToml, UnknownKey, BadVersion, TooMany, DuplicateHost, BadPrefix, HostBits, TwoRests, Overlap, UndeclaredHost, BadAttribute, SelfFlow, DuplicateFlow, BadService, ManyServices}
 use Rattle.flow_set.specs.declared.flow.Flow.{Flow}
 use Rattle.host_net.specs.Host as hosts
 use Rattle.inv_any.specs.declared.any_inv.AnyInv.{AnyInv}
@@ -37,7 +37,9 @@ refusals =
     ∷ row (refused_item BadPrefix (Host 1) 1) (codes "10 BadPrefix at host 1 item 1\n")
     ∷ row (refused_by TwoRests (Host 2) 1) (codes "13 TwoRests at host 2, other 1\n")
     ∷ row (refused_by DuplicateHost (Host 2) 1) (codes "9 DuplicateHost at host 2, other 1\n")
-    ∷ row (refused TooMany (Host 129)) (codes "7 TooMany at host 129\n")
+    ∷ row (refused_item BadService (FlowAt 1) 3) (codes "21 BadService at flow 1 item 3\n")
+    ∷ row (refused ManyServices (FlowAt 2)) (codes "22 ManyServices at flow 2\n")
+    ∷ row (refused TooMany (Host 257)) (codes "7 TooMany at host 257\n")
     ∷ row (refused BadVersion Document) (codes "6 BadVersion at document\n")
     ∷ row (refused UnknownKey (Host 2)) (codes "3 UnknownKey at host 2\n")
     ∷ row (refused NotToml Document) (codes "2 NotToml at document\n")
@@ -73,6 +75,7 @@ abbrev network : List (List ℕ) → List AnyInv → Network
 network names invariants = record {
   hosts = named names;
   asked = record { size = length names; flows = [] };
+  services = [];
   given = false;
   answers = true;
   invariants = invariants;

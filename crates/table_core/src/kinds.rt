@@ -73,7 +73,8 @@ fn has_texts(table: &Table, key: &str) -> bool
     }
 }
 
-fn are_texts(values: &[Value]) -> bool
+/// Whether each of the values is a text.
+pub fn are_texts(values: &[Value]) -> bool
     ensures { result ≡ list_all is_text (map view values.now) }
 {
     all_are_texts(values)

@@ -1,15 +1,16 @@
-use Rattle.std.proofs.Common.{ℕ, Ok, ap, map, subst, sym, ◌∙◌}
+use Rattle.std.proofs.Common.{ℕ, map, subst, sym, ◌∙◌}
 use Rattle.std.proofs.lemmas.Result.{err_from_is_err_and}
 use Rattle.std.specs.Prelude.{All}
 use Rattle.desc_core.proofs.KnownLaws.{are_flows}
-use Rattle.desc_core.proofs.NetworkLemmas.{asked_fails, asked_made, network_is, none_before, refused_before}
+use Rattle.desc_core.proofs.NetworkLemmas.{asked_fails, asked_made, network_read, none_before, refused_before, refused_services}
+use Rattle.desc_core.proofs.ServicesLemmas.{all_different, all_few}
+use Rattle.desc_core.proofs.ServicesWalk.{as_many_written}
 use Rattle.desc_core.specs.KnownView.{known_view}
-use Rattle.desc_core.specs.NetworkLaws.{IsNetwork-network_of}
 use Rattle.desc_core.specs.Parts.{bad_known, self_found}
 use Rattle.desc_core.specs.UseConditions.{duplicate_assign}
 use Rattle.desc_form.specs.WrittenView.{written_view}
 use Rattle.flow_set.specs.Flow.{IsFlow}
-use Rattle.net_core.specs.Fitting.{IsNetwork}
+use Rattle.text_core.specs.FirstsLaws.{neither}
 use Rattle.desc_core.proofs.network.network_of_known.Goals as goal
 
 pub returns-in-Some : goal.returns-in-Some
@@ -29,22 +30,53 @@ returns-in_err-asked c =
     rw (p.1, p.2) (asked_fails (written_view c.args.written.now) c.args.hosts (map known_view c.args.invariants.now) c.args.flows.now c.count.result c.in_err-asked.field-0.0
     (record { same = c.requires.hosts; known = c.requires.known; found = c.requires.found }) (sym c.in_ok-refusal.ensures ∙ c.in_default.is) c.in_err-asked.ensures)
 
+pub returns-in-Some-service_refusal : goal.returns-in-Some-service_refusal
+returns-in-Some-service_refusal c =
+    let w = written_view c.args.written.now in
+    let ks = map known_view c.args.invariants.now in
+    let before = sym c.in_ok-refusal.ensures ∙ c.in_default.is in
+    let made = asked_made w c.args.hosts ks c.args.flows.now c.count.result c.in_ok-asked.asked
+    (record { same = c.requires.hosts; known = c.requires.known; found = c.requires.found }) before c.count.ensures.value c.in_ok-asked.ensures in
+    refused_services w c.args.hosts ks c.args.flows.now c.in-Some-service_refusal.refusal (record { same = c.requires.hosts; known = c.requires.known; found = c.requires.found }) before made.0
+    (sym (rw c.deref.ensures.value at c.service_refusal.ensures) ∙ c.in-Some-service_refusal.is)
+
+pub read_services-requires-clause-beside : goal.read_services-requires-clause-beside
+read_services-requires-clause-beside c = rw c.deref-2.ensures.value (as_many_written c.args.hosts c.args.written.now.flows.items c.args.flows.now c.requires.found)
+
+pub read_services-requires-clause-different : goal.read_services-requires-clause-different
+read_services-requires-clause-different c =
+    let w = written_view c.args.written.now in
+    let ks = map known_view c.args.invariants.now in
+    let before = sym c.in_ok-refusal.ensures ∙ c.in_default.is in
+    let made = asked_made w c.args.hosts ks c.args.flows.now c.count.result c.in_ok-asked.asked
+    (record { same = c.requires.hosts; known = c.requires.known; found = c.requires.found }) before c.count.ensures.value c.in_ok-asked.ensures in
+    all_different c.args.flows.now made.0
+
+pub read_services-requires-clause-few : goal.read_services-requires-clause-few
+read_services-requires-clause-few c =
+    let w = written_view c.args.written.now in
+    let (_, few) = neither _ _ (sym (rw c.deref.ensures.value at c.service_refusal.ensures) ∙ c.in_default-service_refusal.is) in
+    rw c.deref-2.ensures.value (all_few w.flows few)
+
 pub new-requires : goal.new-requires
 new-requires c =
     let w = written_view c.args.written.now in
-    let made = asked_made w c.args.hosts (map known_view c.args.invariants.now) c.args.flows.now c.count.result c.in_ok-asked.asked
-    (record { same = c.requires.hosts; known = c.requires.known; found = c.requires.found }) (sym c.in_ok-refusal.ensures ∙ c.in_default.is) c.count.ensures.value c.in_ok-asked.ensures in
-    subst IsNetwork
-    (network_is w c.args.hosts (map known_view c.args.invariants.now) c.args.flows.now c.in_ok-asked.asked c.in_ok-invariants.invariants.items
-    (record { same = c.requires.hosts; known = c.requires.known; found = c.requires.found }) made.1 c.in_ok-invariants.ensures)
-    (IsNetwork-network_of w c.requires.unrefused)
+    let ks = map known_view c.args.invariants.now in
+    let before = sym c.in_ok-refusal.ensures ∙ c.in_default.is in
+    let made = asked_made w c.args.hosts ks c.args.flows.now c.count.result c.in_ok-asked.asked
+    (record { same = c.requires.hosts; known = c.requires.known; found = c.requires.found }) before c.count.ensures.value c.in_ok-asked.ensures in
+    (network_read w c.args.hosts ks c.args.flows.now c.in_ok-asked.asked c.in_ok-services.services c.in_ok-invariants.invariants.items
+    (record { same = c.requires.hosts; known = c.requires.known; found = c.requires.found }) c.requires.unrefused before made.0
+    (sym (rw c.deref.ensures.value at c.service_refusal.ensures) ∙ c.in_default-service_refusal.is) made.1 (rw c.deref-2.ensures.value at c.in_ok-services.ensures) c.in_ok-invariants.ensures).0
 
 pub returns : goal.returns
 returns c =
     let w = written_view c.args.written.now in
-    let made = asked_made w c.args.hosts (map known_view c.args.invariants.now) c.args.flows.now c.count.result c.in_ok-asked.asked
-    (record { same = c.requires.hosts; known = c.requires.known; found = c.requires.found }) (sym c.in_ok-refusal.ensures ∙ c.in_default.is) c.count.ensures.value c.in_ok-asked.ensures in
-    made.0
-    ∙ ap Ok (network_is w c.args.hosts (map known_view c.args.invariants.now) c.args.flows.now c.in_ok-asked.asked c.in_ok-invariants.invariants.items
-    (record { same = c.requires.hosts; known = c.requires.known; found = c.requires.found }) made.1 c.in_ok-invariants.ensures
-    ∙ sym c.new.ensures)
+    let ks = map known_view c.args.invariants.now in
+    let before = sym c.in_ok-refusal.ensures ∙ c.in_default.is in
+    let made = asked_made w c.args.hosts ks c.args.flows.now c.count.result c.in_ok-asked.asked
+    (record { same = c.requires.hosts; known = c.requires.known; found = c.requires.found }) before c.count.ensures.value c.in_ok-asked.ensures in
+    rw c.new.ensures
+    (network_read w c.args.hosts ks c.args.flows.now c.in_ok-asked.asked c.in_ok-services.services c.in_ok-invariants.invariants.items
+    (record { same = c.requires.hosts; known = c.requires.known; found = c.requires.found }) c.requires.unrefused before made.0
+    (sym (rw c.deref.ensures.value at c.service_refusal.ensures) ∙ c.in_default-service_refusal.is) made.1 (rw c.deref-2.ensures.value at c.in_ok-services.ensures) c.in_ok-invariants.ensures).1

@@ -1,0 +1,57 @@
+-- The table of an accepted document is shallow: seven levels at most, from the document to a text in an array of an assign, and no
+-- date, no time and no float.
+use Rattle.std.proofs.Common.{◌≡◌, ℕ, true, List, [], ◌∷◌, Option, Some, None, option_and_then, option_map, Ok, refl, subst}
+use Rattle.std.specs.List.{AllByRecursion, AllZip}
+use Rattle.toml.specs.Data.{Members, table, members_are_sorted}
+use Rattle.attr_core.specs.Assigns.{Given}
+use Rattle.attr_core.specs.ShallowLaws.{IsShallowGiven, assigns_shallow}
+use Rattle.desc_core.proofs.WholeLaws.{IsDescribedByTable-described}
+use Rattle.desc_core.specs.Description.{described_by_table}
+use Rattle.desc_core.specs.Whole.{IsInvariantOf}
+use Rattle.desc_core.specs.WrittenNetwork.{given_by}
+use Rattle.desc_form.specs.ShallowFormLaws.{AreShallowAssigns, IsShallowAssign, written_shallow}
+use Rattle.desc_form.specs.Written.{WrittenAssign, WrittenInvariant}
+use Rattle.host_net.specs.Host.{Host, host_named}
+use Rattle.inv_any.specs.declared.any_inv.AnyInv.{AnyInv}
+use Rattle.net_core.specs.Network.{Network}
+use Rattle.table_core.specs.Listing.{each}
+use Rattle.table_core.specs.Shallow.{IsShallow}
+
+-- an assign and what it gives have the same table
+given_table : (hosts : List Host) (a : WrittenAssign) (g : Given) → given_by hosts a ≡ Some g → IsShallowGiven g → IsShallowAssign a
+given_table hosts a g gives shallow = by_host (host_named hosts a.host) gives
+  where
+    by_host : (o : Option ℕ) → option_map (λ host. record { host = host; table = a.table }) o ≡ Some g → IsShallowAssign a
+    by_host None gives = cc
+    by_host (Some host) gives = let same : g.table ≡ a.table = cc in subst (λ (t : Members). members_are_sorted t ≡ true → IsShallow 2 (table t)) same shallow
+
+given_by_each : (hosts : List Host) (ws : List WrittenAssign) (here : Option Given) (rest : Option (List Given)) (a : WrittenAssign) (gs : List Given)
+    → given_by hosts a ≡ here → ((others : List Given) → rest ≡ Some others → AllByRecursion IsShallowGiven others → AllByRecursion IsShallowAssign ws)
+    → option_and_then (λ g. option_map (λ more. g ∷ more) rest) here ≡ Some gs → AllByRecursion IsShallowGiven gs → AllByRecursion IsShallowAssign (a ∷ ws)
+given_by_each hosts ws None rest a gs is behind gives all = cc
+given_by_each hosts ws (Some g) None a gs is behind gives all = cc
+given_by_each hosts ws (Some g) (Some others) a [] is behind gives all = cc
+given_by_each hosts ws (Some g) (Some others) a (h ∷ hs) is behind gives (first, all) =
+    let same : h ≡ g = cc in
+    let same_rest : hs ≡ others = cc in (
+      given_table hosts a g is (subst IsShallowGiven same first),
+      behind others refl (subst (AllByRecursion IsShallowGiven) same_rest all),
+    )
+
+assigns_are : (hosts : List Host) (ws : List WrittenAssign) (gs : List Given) → each (given_by hosts) ws ≡ Some gs → AllByRecursion IsShallowGiven gs
+    → AllByRecursion IsShallowAssign ws
+assigns_are hosts [] gs gives all = tt
+assigns_are hosts (a ∷ ws) gs gives all =
+    given_by_each hosts ws (given_by hosts a) (each (given_by hosts) ws) a gs refl (λ others. assigns_are hosts ws others) gives all
+
+invariants_are : (hosts : List Host) (is : List WrittenInvariant) (made : List AnyInv) → AllZip (IsInvariantOf hosts) is made
+    → AllByRecursion AreShallowAssigns is
+invariants_are hosts [] made zipped = tt
+invariants_are hosts (i ∷ is) [] zipped = absurd zipped
+invariants_are hosts (i ∷ is) (inv ∷ made) (whole, zipped) =
+    (assigns_are hosts i.assigns whole.assigns whole.given (assigns_shallow hosts whole.template whole.assigns whole.good), invariants_are hosts is made zipped)
+
+pub accepted_shallow : (ms : Members) (d : Network) → members_are_sorted ms ≡ true → described_by_table ms ≡ Ok d → IsShallow 6 (table ms)
+accepted_shallow ms d sorted said =
+    let is = IsDescribedByTable-described ms d said in
+    written_shallow ms is.w sorted is.written (invariants_are d.hosts is.w.invariants d.invariants is.whole.invariants)

@@ -1,0 +1,68 @@
+-- Worked descriptions with services: what is told of them, and what they say. No contract names these laws either.
+use Rattle.std.specs.Prelude.{◌≡◌, refl, pos, true, false, List, [], ◌∷◌, map, replicate, codes, Ok, Err}
+use Rattle.toml.specs.Data.{integer}
+use Rattle.attr_core.specs.Blp.{blp_attribute}
+use Rattle.attr_core.specs.Shapes.{of_shape}
+use Rattle.attr_core.specs.Templates.{bad_in, invariant_in, template_named}
+use Rattle.desc_core.proofs.Examples.{list, texts, flow, host_a, host_b, a_to_b, a_to_b_by, described_as, of_flows, of_narrowed_flows}
+use Rattle.desc_core.proofs.Worked.{Row, row}
+use Rattle.desc_core.specs.Conditions.{table_conditions}
+use Rattle.desc_core.specs.Description.{described_by_table}
+use Rattle.desc_core.specs.UseConditions.{use_conditions, unknown_template, undeclared_host, duplicate_assign, bad_attribute, self_flow, duplicate_flow, bad_service, many_services}
+use Rattle.desc_core.specs.WrittenNetwork.{network_of, asked_of, services_in, invariants_of, known_of}
+use Rattle.desc_form.specs.FormConditions.{form_conditions}
+use Rattle.desc_form.specs.Places.{unknown_key, missing_key, wrong_type, has_other_key, lacks_needed, has_unsuited, has_wrong_type, first_place, spots, listed, assigns_of}
+use Rattle.desc_form.specs.Refusals.{refused, refused_by, refused_item}
+use Rattle.desc_form.specs.Written.{written, host_written, invariant_written, assign_written}
+use Rattle.desc_form.specs.WrittenFlow.{flow_written}
+use Rattle.desc_form.specs.declared.refusal.Place.TheVariants.{Document, FlowAt}
+use Rattle.desc_form.specs.declared.refusal.Why.TheVariants.{BadService, BadVersion, DuplicateFlow, ManyServices, WrongType}
+use Rattle.desc_hosts.specs.HostConditions.{bad_version, too_many, bad_name, duplicate_host, bad_prefix, host_bits, no_address, two_rests, overlap, all_entries, host_conditions}
+use Rattle.desc_hosts.specs.Mentions.{assign_names, flow_names, used_names, all_names}
+use Rattle.desc_hosts.specs.WrittenHosts.{network_hosts}
+use Rattle.flow_set.specs.EveryFlow.{every_flow}
+use Rattle.flow_set.specs.FlowSet.{set_of}
+use Rattle.host_net.specs.Prefix.{prefix_of, prefix_with, address_of, is_exact, meets}
+use Rattle.host_net.specs.ServiceText.{ports_of, service_of}
+use Rattle.table_core.specs.Keys.{all_suit, has_only_keys, lacks_key}
+use Rattle.table_core.specs.Tables.{has_only, has_key, text_at, integer_at, boolean_at, number_at, elements_of, list_at}
+use Rattle.text_core.specs.Decimal.{number, bounded_value}
+
+-- a number with a zero in front; too many services, alone, and behind a text that says none; a repeated flow is told before both
+abbrev service_rows : List Row
+service_rows =
+    row (of_narrowed_flows (a_to_b_by (codes "tcp/080" ∷ []) ∷ [])) (refused_item BadService (FlowAt 1) 3)
+    ∷ row (of_narrowed_flows (a_to_b_by (replicate 17 (codes "icmp")) ∷ [])) (refused ManyServices (FlowAt 1))
+    ∷ row (of_narrowed_flows (a_to_b_by (replicate 17 (codes "icmp")) ∷ flow (codes "b") (codes "a") ∷ [])) (refused ManyServices (FlowAt 1))
+    ∷ row (of_narrowed_flows (flow (codes "b") (codes "a") ∷ a_to_b_by (codes "udp" ∷ codes "tcp/1-0" ∷ []) ∷ [])) (refused_item BadService (FlowAt 2) 4)
+    ∷ row (of_narrowed_flows (a_to_b_by (replicate 17 (codes "web")) ∷ [])) (refused_item BadService (FlowAt 1) 3)
+    ∷ row (of_narrowed_flows (a_to_b_by (codes "tcp/080" ∷ []) ∷ flow (codes "a") (codes "b") ∷ [])) (refused_by DuplicateFlow (FlowAt 2) 1)
+    ∷ row (of_narrowed_flows (a_to_b_by (codes "tcp/80" ∷ []) ∷ a_to_b_by (codes "tcp/22" ∷ []) ∷ [])) (refused_by DuplicateFlow (FlowAt 2) 1)
+    ∷ row (of_narrowed_flows (texts (codes "a" ∷ []) ∷ [])) (refused WrongType (FlowAt 1))
+    ∷ row (of_flows (a_to_b_by (codes "tcp/80" ∷ []) ∷ [])) (refused WrongType (FlowAt 1))
+    ∷ row (described_as (integer (pos 3)) a_to_b (list (host_a ∷ host_b ∷ []))) (refused BadVersion Document)
+    ∷ row (described_as (integer (pos 3)) (a_to_b_by (codes "tcp/80" ∷ []) ∷ []) (list (host_a ∷ host_b ∷ []))) (refused WrongType (FlowAt 1))
+    ∷ []
+
+pub services_refused : map (λ r. described_by_table r.document) service_rows ≡ map (λ r. Err r.refusal) service_rows
+unfolding unknown_key missing_key wrong_type has_other_key lacks_needed has_unsuited has_only_keys lacks_key all_suit of_shape has_wrong_type first_place spots listed assigns_of has_only has_key text_at integer_at boolean_at number_at elements_of list_at flow_written written host_written invariant_written assign_written bad_version too_many bad_name duplicate_host bad_prefix host_bits no_address two_rests overlap all_entries assign_names flow_names used_names all_names unknown_template undeclared_host duplicate_assign bad_attribute self_flow duplicate_flow bad_service many_services network_of network_hosts asked_of services_in invariants_of known_of every_flow described_by_table table_conditions form_conditions host_conditions use_conditions prefix_of address_of number bounded_value is_exact meets template_named bad_in invariant_in blp_attribute service_of ports_of
+services_refused = refl
+
+-- one flow is narrowed, the other is whole
+pub services_accepted : described_by_table (of_narrowed_flows (flow (codes "b") (codes "a") ∷ a_to_b_by (codes "tcp/80" ∷ codes "udp/53-60" ∷ codes "icmp" ∷ []) ∷ [])) ≡ Ok (record {
+  hosts =
+      record { name = codes "a"; prefixes = prefix_with 167772161 32 ∷ []; rest = false }
+      ∷ record { name = codes "b"; prefixes = prefix_with 167772162 32 ∷ []; rest = false }
+      ∷ [];
+  asked = record { size = 2; flows = record { from = 0; to = 1 } ∷ record { from = 1; to = 0 } ∷ [] };
+  services = record {
+    from = 0;
+    to = 1;
+    services = record { proto = 6; low = 80; high = 80 } ∷ record { proto = 17; low = 53; high = 60 } ∷ record { proto = 1; low = 0; high = 65535 } ∷ [];
+  } ∷ [];
+  given = true;
+  answers = false;
+  invariants = [];
+})
+unfolding unknown_key missing_key wrong_type has_other_key lacks_needed has_unsuited has_only_keys lacks_key all_suit of_shape has_wrong_type first_place spots listed assigns_of has_only has_key text_at integer_at boolean_at number_at elements_of list_at flow_written written host_written invariant_written assign_written bad_version too_many bad_name duplicate_host bad_prefix host_bits no_address two_rests overlap all_entries assign_names flow_names used_names all_names unknown_template undeclared_host duplicate_assign bad_attribute self_flow duplicate_flow bad_service many_services network_of network_hosts asked_of services_in invariants_of known_of every_flow described_by_table table_conditions form_conditions host_conditions use_conditions prefix_of address_of number bounded_value is_exact meets template_named bad_in invariant_in blp_attribute set_of service_of ports_of
+services_accepted = refl

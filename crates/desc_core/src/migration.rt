@@ -1,0 +1,48 @@
+//! From a description to the same one in version 2.
+ghost use Rattle.std.specs.Prelude.{◌≡◌, ◌≤◌, true, false, Some, IfOk, OnOk};
+ghost use Rattle.std.specs.Result.{result_map_both};
+ghost use Rattle.desc_core.specs.Document.{document};
+ghost use Rattle.desc_core.specs.Migrated.{Migrates, migrated};
+ghost use Rattle.toml.specs.Data.{members_depth, members_have_valid_dates};
+ghost use Rattle.toml.specs.Text.{IsDocumentText};
+ghost use Rattle.toml.specs.View.{table_view};
+
+use crate::description::describe_table;
+use crate::document::read_table;
+use crate::fault::DescFault;
+use std::alloc::{AllocError, Global};
+use toml::ser::Error as PrintError;
+use toml::{Table, Value};
+
+/// Writes a description in version 2: its table with another version, as `toml` prints it. Comments
+/// and the layout of the text are not kept. What `describe` refuses is refused for the same.
+pub fn migrate(alloc: Global, bytes: &[u8]) -> Result<Vec<u8>, DescFault>
+    ensures { Migrates bytes.now (result_map_both (λ text. text.items) (λ fault. fault) result) }
+{
+    let mut table = read_table(alloc, bytes)?;
+    let _described = describe_table(alloc, &table)?;
+    set_version(alloc, &mut table)?;
+    Ok(print(alloc, &table)?)
+}
+
+fn set_version(alloc: Global, table: &mut Table) -> Result<(), AllocError>
+    ensures { OnOk result (table_view table.new ≡ migrated (table_view table.old)) }
+{
+    let key = String::from_str(alloc, "topos")?;
+    table.insert(key, Value::Integer(2))?;
+    Ok(())
+}
+
+/// The text of a table without dates, which `toml` reads back.
+fn print(alloc: Global, table: &Table) -> Result<Vec<u8>, AllocError>
+    requires depth { members_depth (table_view table.now) ≤ 5 }
+    requires dates { members_have_valid_dates (table_view table.now) ≡ true }
+    ensures read_back { IfOk result (λ text. document text.items ≡ Some (table_view table.now)) }
+    ensures printed { IfOk result (λ text. IsDocumentText false (table_view table.now) text.items) }
+{
+    match toml::table_to_string(alloc, table) {
+        Ok(text) => Ok(text.into_bytes()),
+        Err(PrintError::OutOfMemory) => Err(AllocError),
+        Err(PrintError::DateInvalid) => unreachable!(),
+    }
+}

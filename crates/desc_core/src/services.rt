@@ -1,0 +1,105 @@
+//! The services of flows: the refusals for them, and which flows they narrow.
+ghost use Rattle.std.specs.Prelude.{◌≡◌, ◌≤◌, ◌+◌, [], find, is_none, length, map, option_map, IfOk, IsTrue, OnOk, filter_map, not};
+ghost use Rattle.std.specs.List.{list_all};
+ghost use Rattle.desc_core.specs.Parts.{many_found, narrowed_among, services_found, with_services};
+ghost use Rattle.desc_core.specs.UseConditions.{bad_service_of, has_many_services};
+ghost use Rattle.desc_form.specs.Refusals.{refused, refused_item};
+ghost use Rattle.desc_form.specs.WrittenView.{flow_view};
+ghost use Rattle.desc_form.specs.declared.refusal.Place.TheVariants.{FlowAt};
+ghost use Rattle.desc_form.specs.declared.refusal.Why.TheVariants.{BadService};
+ghost use Rattle.flow_set.specs.Flow.{same_flow};
+ghost use Rattle.host_net.specs.Services.{service_limit, services_of};
+ghost use Rattle.host_net.specs.ServiceText.{service_of};
+ghost use Rattle.text_core.specs.Firsts.{first_found, numbered};
+ghost use Rattle.text_core.specs.Pairs.{no_pair};
+
+use desc_form::{Place, Refusal, Why, WrittenFlow};
+use flow_set::Flow;
+use host_net::{SERVICE_LIMIT, Services, read_service};
+use std::alloc::{AllocError, Global};
+
+/// Which item of a flow its first service is: it stands behind the two names.
+const FIRST_SERVICE: u64 = 3;
+
+/// The refusal for a text that says no service, or else for too many services of a flow.
+pub(crate) fn service_refusal(flows: &[WrittenFlow<'_>]) -> Option<Refusal>
+    ensures { result ≡ services_found (map flow_view flows.now) }
+{
+    let bad = bad_service(flows);
+    if bad.is_some() {
+        return bad;
+    }
+    many_services(flows)
+}
+
+/// A text behind the names of a flow says no service.
+fn bad_service(flows: &[WrittenFlow<'_>]) -> Option<Refusal>
+    ensures { result ≡ first_found bad_service_of (numbered (map flow_view flows.now)) }
+{
+    for (index, flow) in flows.iter().enumerate() {
+        let found = bad_service_in(index as u64 + 1, &flow.services);
+        if found.is_some() {
+            return found;
+        }
+    }
+    None
+}
+
+/// The same among the services of the flow with a number.
+fn bad_service_in(flow: u64, texts: &[&str]) -> Option<Refusal>
+    ensures { result ≡ option_map (λ s. refused_item BadService (FlowAt flow) (s.number + 2))
+        (find (λ s. is_none (service_of s.what)) (numbered (map (λ text. text.now) texts.now))) }
+{
+    for (index, text) in texts.iter().enumerate() {
+        if read_service(text.as_bytes()).is_none() {
+            let refusal = Refusal::at(Why::BadService, Place::FlowAt(flow));
+            return Some(refusal.with_item(index as u64 + FIRST_SERVICE));
+        }
+    }
+    None
+}
+
+/// A flow has more services than there may be.
+fn many_services(flows: &[WrittenFlow<'_>]) -> Option<Refusal>
+    ensures { result ≡ many_found (map flow_view flows.now) }
+{
+    for (index, flow) in flows.iter().enumerate() {
+        if flow.services.len() > SERVICE_LIMIT {
+            let place = Place::FlowAt(index as u64 + 1);
+            return Some(Refusal::at(Why::ManyServices, place));
+        }
+    }
+    None
+}
+
+/// The services of the flows, of which each stands beside its hosts.
+pub(crate) fn read_services(
+    alloc: Global,
+    flows: &[Flow],
+    written: &[WrittenFlow<'_>],
+) -> Result<Services, AllocError>
+    requires beside { length flows.now ≡ length written.now }
+    requires different { IsTrue (no_pair same_flow flows.now) }
+    requires few { IsTrue (list_all (λ f. not (has_many_services f)) (map flow_view written.now)) }
+    ensures { IfOk result (λ services. services ≡ narrowed_among flows.now (map flow_view written.now)) }
+{
+    let mut services = Services::new(alloc);
+    for (index, flow) in written.iter().enumerate() {
+        add_services(&mut services, flows[index], &flow.services)?;
+    }
+    Ok(services)
+}
+
+/// Adds the services that the texts say to a flow that has none yet.
+fn add_services(services: &mut Services, flow: Flow, texts: &[&str]) -> Result<(), AllocError>
+    requires few { length texts.now ≤ service_limit }
+    requires none { services_of services.old flow.from flow.to ≡ [] }
+    ensures { OnOk result (services.new ≡ with_services services.old flow (filter_map service_of (map (λ text. text.now) texts.now))) }
+{
+    for text in texts {
+        if let Some(service) = read_service(text.as_bytes()) {
+            services.add(flow.from, flow.to, service)?;
+        }
+    }
+    Ok(())
+}
