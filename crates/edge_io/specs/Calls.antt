@@ -1,5 +1,6 @@
 -- What single calls of a shelf or a sink do: the fault that one counts, the file that one opens, the pieces that one puts.
 use Rattle.std.specs.Prelude.{◌≡◌, ℕ, Result, is_err, if◌then◌else◌, Option, List, IsSome, IfSome}
+use Rattle.edge_io.specs.declared.faults.Failed.{Failed}
 use Rattle.edge_io.specs.Counts.{more}
 use Rattle.std.specs.Option.{option_and_then}
 use Rattle.std.specs.FinMap.{get}
@@ -10,6 +11,11 @@ use Rattle.std.specs.Borrow.{Bor}
 -- a call that failed counts one fault, and any other none
 abbrev pub CountsFault : {T E : Type 0} → Result T E → ℕ → ℕ → Type 0
 CountsFault result before now = now ≡ (if is_err result then more before 1 else before)
+
+-- each call of this kind that fails counts one fault, and any other none
+abbrev pub CountsOnce : {S T : Type 0} → (S → ℕ) → (S → List ℕ → Result T Failed → S → Type 0) → Type 0
+CountsOnce {S = S} {T = T} faults gives =
+    (old : S) (bytes : List ℕ) (result : Result T Failed) (new : S) → gives old bytes result new → CountsFault result (faults old) (faults new)
 
 -- the bytes of the file of that name, where the shelf tells its files and has it
 abbrev pub file_told : Option Files → List ℕ → Option (List ℕ)

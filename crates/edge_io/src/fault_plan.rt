@@ -1,6 +1,6 @@
 //! Planned faults, for the objects in memory: their calls are numbered from 1, and the calls of
 //! given numbers fail. Numbers and faults have 64 bits and stand still at their last value.
-ghost use Rattle.std.specs.Prelude.{◌≡◌, ◌==◌, ◌≤◌, is_err};
+ghost use Rattle.std.specs.Prelude.{◌≡◌, ◌==◌, ◌≤◌, is_err, OnOk};
 ghost use Rattle.std.specs.List.{list_any};
 
 use crate::Failed;
@@ -39,6 +39,7 @@ impl FaultPlan {
     pub(crate) fn count_call(&mut self) -> Result<(), Failed>
         ensures answer { is_err result ≡ fails_next self.old }
         ensures after { self.new ≡ after_call self.old }
+        ensures no_fault { OnOk result (self.new.faults ≡ self.old.faults) }
         ensures faults_stay { self.old.faults ≤ self.new.faults }
     {
         self.calls = self.calls.saturating_add(1);

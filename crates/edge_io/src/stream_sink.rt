@@ -1,7 +1,7 @@
 //! A stream of the system as a sink. Nothing is told of what it took.
 ghost use Rattle.std.specs.Prelude.{◌≡◌, None};
 ghost use Rattle.std.specs.Io.KnownBytes.{WriteAppends};
-ghost use Rattle.edge_io.specs.Calls.{CountsFault};
+ghost use Rattle.edge_io.specs.Calls.{CountsFault, CountsOnce};
 
 use crate::{Failed, Sink};
 use std::io::Write;
@@ -17,7 +17,8 @@ pub struct StreamSink<W: Write + Drop> {
 impl<W: Write + Drop> StreamSink<W> {
     /// A sink over `inner`, without faults yet.
     pub fn new(inner: W) -> StreamSink<W>
-        ensures { ⟦<StreamSink<W> as Sink>⟧.faults result ≡ 0 }
+        ensures no_faults { ⟦<StreamSink<W> as Sink>⟧.faults result ≡ 0 }
+        ensures counts_once { CountsOnce ⟦<StreamSink<W> as Sink>⟧.faults ⟦<StreamSink<W> as Sink>⟧.write_gives }
     {
         StreamSink { inner, faults: 0 }
     }

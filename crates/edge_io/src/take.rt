@@ -37,6 +37,10 @@ pub fn take_all<H: Shelf>(
     ensures longer { IsErrOf result TakeFault.TooLong → IfSome (H.files shelf.old) (λ files.
         IsSomeAnd (get files name.now) (λ bytes. limit < length bytes)) }
 
+    // Only Read counts a fault, and only a begun file finds no memory.
+    ensures no_fault { IsErrOf result TakeFault.Read ⊎ (H.faults shelf.new ≡ H.faults shelf.old) }
+    ensures memory { IsErrOf result TakeFault.Memory → IsTrue (H.begun shelf.new) }
+
     // Without a fault, what a told file calls for is answered, or there is no memory.
     ensures complete { ¬ Rose (H.faults shelf.old) (H.faults shelf.new) → IfSome (H.files shelf.old) (λ files.
         (outcome_of result ≡ answer_for limit (get files name.now)) ⊎ IsErrOf result TakeFault.Memory) }
@@ -63,6 +67,8 @@ fn take_rest<H: Shelf>(alloc: Global, shelf: &mut H, limit: usize) -> Result<Vec
     ensures read { IsErrOf result TakeFault.Read → Rose (H.faults shelf.old) (H.faults shelf.new) }
     ensures too_long { IsErrOf result TakeFault.TooLong ↔ (H.taken shelf.new ≡ limit + 1) }
     ensures longer { IsErrOf result TakeFault.TooLong → IfSome (H.left shelf.old) (λ left. limit < length left) }
+    ensures no_fault { IsErrOf result TakeFault.Read ⊎ (H.faults shelf.new ≡ H.faults shelf.old) }
+    ensures still_begun { IsTrue (H.begun shelf.new) }
 {
     let mut bytes = Vec::new(alloc);
     let mut piece = [0; PIECE];

@@ -45,6 +45,7 @@ pub trait Shelf {
         ensures known { OnOk result (HasIfTold (files self.old) name.now) }
         ensures all_left { OnOk result (left self.new ≡ file_told (files self.old) name.now) }
         ensures faults_stay { faults self.old ≤ faults self.new }
+        ensures no_fault { OnOk result (faults self.new ≡ faults self.old) }
 
         // It fails only for a fault, or for a name that the shelf lacks.
         ensures failed { OnErr result
@@ -63,6 +64,7 @@ pub trait Shelf {
         ensures end { result ≡ Ok 0 → 0 < length into.new → IsAtEnd (left self.new) }
         ensures counted { IfOk result (λ n. taken self.new ≡ more (taken self.old) n) }
         ensures faults_stay { faults self.old ≤ faults self.new }
+        ensures no_fault { OnOk result (faults self.new ≡ faults self.old) }
 
         // It fails only for a fault, and has then moved nothing.
         ensures failed { OnErr result (Rose (faults self.old) (faults self.new)) }
@@ -93,6 +95,7 @@ pub trait Sink {
         ensures some { IfOk result (λ n. 0 < length piece.now → 0 < n) }
         ensures took { IfOk result (λ n. held self.new ≡ append_known (held self.old) (take n piece.now)) }
         ensures faults_stay { faults self.old ≤ faults self.new }
+        ensures no_fault { OnOk result (faults self.new ≡ faults self.old) }
 
         // It fails only for a fault, and has then taken nothing.
         ensures failed { OnErr result (Rose (faults self.old) (faults self.new)) }

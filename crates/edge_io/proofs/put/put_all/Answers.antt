@@ -1,4 +1,4 @@
-use Rattle.std.proofs.Common.{arith, length-drop}
+use Rattle.std.proofs.Common.{◌∙◌, arith, length-drop}
 use Rattle.std.proofs.Math.Seq.{take_all}
 use Rattle.edge_io.proofs.Pieces.{took_more}
 use Rattle.edge_io.proofs.put.put_all.Goals as goal
@@ -11,5 +11,5 @@ loop-done-preserved g c =
     record {
       within = omega (arith, c.in-Ok.ensures.within, length-drop done piece);
       taken = took_more _ _ _ done c.in-Ok.count piece _ (take_all _ _ (omega (arith, length-drop done piece))) c.loop-done.invariant.taken c.in-Ok.ensures.took;
-      faults_stay = omega arith;
+      no_fault = c.in-Ok.ensures.no_fault ∙ c.loop-done.invariant.no_fault;
     }

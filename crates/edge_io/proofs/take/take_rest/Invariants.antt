@@ -7,7 +7,7 @@ abbrev pub invariant-loop-bytes : goal.invariant-loop-bytes
 invariant-loop-bytes g l = record {
   same_files : g.H.Shelf.files l.shelf ≡ g.H.Shelf.files l.fn.shelf;
   same_begins : g.H.Shelf.begins l.shelf ≡ g.H.Shelf.begins l.fn.shelf;
-  faults_stay : g.H.Shelf.faults l.fn.shelf ≤ g.H.Shelf.faults l.shelf;
+  no_fault : g.H.Shelf.faults l.shelf ≡ g.H.Shelf.faults l.fn.shelf;
   begun : IsTrue (g.H.Shelf.begun l.shelf);
   count : vec_len l.bytes ≡ g.H.Shelf.taken l.shelf;
   within : vec_len l.bytes ≤ l.limit;
