@@ -1,6 +1,6 @@
 -- The table of the sample describes a network of n hosts, for every n up to the limit.
 use Rattle.std.proofs.Common.{◌≡◌, ℕ, suc, ◌≤◌, List, [], ◌∷◌, length, map, Ok, refl, sym, ap, subst, ◌∙◌, arith}
-use Rattle.desc_core.specs.WrittenNetwork.{network_of}
+use Rattle.desc_core.specs.WrittenNetwork.{network_of, services_in}
 use Rattle.desc_hosts.specs.WrittenHosts.{network_host, network_hosts}
 use Rattle.desc_core.specs.Description.{described_by_table}
 use Rattle.desc_core.specs.TableFactsLaws.{IsRight-described, described-IsRight}
@@ -39,6 +39,13 @@ unfolding network_of network_hosts
 hosts_counted n d few described =
     let same : network_of (sample_written n) ≡ d = cc (sample_described n few, described) in
     ap (λ (e : Network). length e.hosts) (sym same) ∙ hosts_kept (map sample_host (sample_hosts n)) ∙ length_made sample_host 0 n
+
+-- between which no flow is narrowed
+pub sample_is_whole : (n : ℕ) (d : Network) → n ≤ host_limit → described_by_table (sample_table n) ≡ Ok d → d.services ≡ []
+unfolding network_of services_in
+sample_is_whole n d few described =
+    let same : network_of (sample_written n) ≡ d = cc (sample_described n few, described) in
+    ap (λ (e : Network). e.services) (sym same)
 
 -- and it has no more than there may be, since it is described
 pub sample_is_small : (n : ℕ) (d : Network) → described_by_table (sample_table n) ≡ Ok d → n ≤ host_limit

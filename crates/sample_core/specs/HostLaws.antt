@@ -126,7 +126,7 @@ sample_has_hosts n few =
     let every = hosts_below n in
     let ascending = range_ascends 0 n in
     record {
-      version = refl;
+      version = inl refl;
       few_hosts = omega (arith, length_made sample_host 0 n, few);
       few_prefixes = omega (arith, counted, few);
       few_invariants = omega arith;

@@ -2,16 +2,16 @@
 use Rattle.std.specs.Prelude.{◌≡◌, ◌≤◌, ◌<◌, ℕ, ◌+◌, ◌*◌, ◌^◌, Bool, false, List, [], ◌∷◌, ◌++◌, length, map, filter, Option, Some, None, Ok, codes, decimal}
 use Rattle.desc_core.specs.Description.{described_by_table}
 use Rattle.emit_core.specs.FlowTable.{flow_entries}
-use Rattle.emit_core.specs.FlowTableEvents.{AnswersArePermitted}
+use Rattle.emit_core.specs.FlowTableEvents.{AnswersAreCovered}
 use Rattle.emit_core.specs.Layout.{layout}
 use Rattle.flow_set.specs.EveryFlow.{every_flow}
 use Rattle.flow_set.specs.declared.flow.Flow.{Flow}
-use Rattle.host_net.specs.Host.{Host}
+use Rattle.host_net.specs.Site.{Site}
 use Rattle.host_net.specs.declared.packet.Packet.{Packet}
 use Rattle.ipt_rules.specs.Chain.{Chain}
 use Rattle.ipt_rules.specs.Meaning.{Passes}
 use Rattle.ipt_rules.specs.Text.{text_lines}
-use Rattle.net_core.specs.Network.{Network}
+use Rattle.net_core.specs.Network.{Network, site_of}
 use Rattle.net_core.specs.Policies.{IsPolicyOf, Policy}
 use Rattle.ofp_rules.specs.Ambiguity.{most_entries}
 use Rattle.ofp_rules.specs.Text.{text_lines as table_text_lines}
@@ -50,11 +50,11 @@ pub record AreOffending (d : Network) (counts : List ℕ) : Type 0 where
   pub counted : counts ≡ map offence_size offences
 
 -- the lines of the flow table of permitted flows p and stateful ones s: a table keeps no connections, and has room for so many entries
-abbrev pub IsTableLines : List Host → (p s : List Flow) → TableLines → Type 0
-IsTableLines hosts p s NeedsState = AnswersArePermitted p s → ⊥
-IsTableLines hosts p s TooMany = AnswersArePermitted p s × (most_entries < length (flow_entries hosts p))
-IsTableLines hosts p s (Lines count) =
-    AnswersArePermitted p s × (length (flow_entries hosts p) ≤ most_entries) × (count ≡ length (table_text_lines (flow_entries hosts p)))
+abbrev pub IsTableLines : Site → (p s : List Flow) → TableLines → Type 0
+IsTableLines site p s NeedsState = AnswersAreCovered site.services p s → ⊥
+IsTableLines site p s TooMany = AnswersAreCovered site.services p s × (most_entries < length (flow_entries site p))
+IsTableLines site p s (Lines count) =
+    AnswersAreCovered site.services p s × (length (flow_entries site p) ≤ most_entries) × (count ≡ length (table_text_lines (flow_entries site p)))
 
 abbrev pub was_forwarded : Option Bool → Bool
 was_forwarded (Some passed) = passed
@@ -85,7 +85,7 @@ pub record Counts : Type 0 where
 
 -- the chains of a policy of the network
 abbrev pub chains_of : Network → Policy → List Chain
-chains_of d policy = layout d.hosts policy.permitted.flows policy.stateful.flows
+chains_of d policy = layout (site_of d) policy.permitted.flows policy.stateful.flows
 
 -- these are the numbers of the sample of n hosts
 pub record AreCounts (n : ℕ) (counts : Counts) : Type 0 where
@@ -98,7 +98,7 @@ pub record AreCounts (n : ℕ) (counts : Counts) : Type 0 where
   pub offending : AreOffending network counts.offending
   pub permitted : counts.permitted ≡ length policy.permitted.flows
   pub stateful : counts.stateful ≡ length policy.stateful.flows
-  pub table : IsTableLines network.hosts policy.permitted.flows policy.stateful.flows counts.table
+  pub table : IsTableLines (site_of network) policy.permitted.flows policy.stateful.flows counts.table
   pub run : AreRunCounts n (chains_of network policy) counts.rules counts.events counts.forwarded
 
 -- ---- as they are printed

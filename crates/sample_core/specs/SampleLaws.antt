@@ -2,11 +2,11 @@
 use Rattle.std.proofs.Common.{◌≡◌, ℕ, List, Result, Ok, Err, length, map, filter, sym, ap, subst, ◌∙◌, refl, arith}
 use Rattle.desc_core.specs.Description.{described_by_table}
 use Rattle.flow_set.specs.declared.flow.Flow.{Flow}
-use Rattle.host_net.specs.Host.{Host}
+use Rattle.host_net.specs.Site.{Site}
 use Rattle.ipt_rules.specs.Chain.{Chain}
 use Rattle.ipt_rules.specs.Meaning.{Passes}
 use Rattle.ipt_rules.specs.Text.{text_lines}
-use Rattle.net_core.specs.Network.{Network}
+use Rattle.net_core.specs.Network.{Network, site_of}
 use Rattle.net_core.specs.Policies.{IsPolicyOf, Policy}
 use Rattle.net_core.specs.PolicyLaws.{policy_is_one}
 use Rattle.pkt_core.specs.Tracking.{nothing_kept}
@@ -29,16 +29,16 @@ offending_is_one : (d : Network) (xs ys : List ℕ) → AreOffending d xs → Ar
 offending_is_one d xs ys a b =
     a.counted ∙ ap (map offence_size) (offences_are_one d.invariants d.asked.flows a.offences b.offences a.found b.found) ∙ sym b.counted
 
-table_is_one : (hosts : List Host) (p s : List Flow) (t u : TableLines) → IsTableLines hosts p s t → IsTableLines hosts p s u → t ≡ u
-table_is_one hosts p s NeedsState NeedsState a b = refl
-table_is_one hosts p s NeedsState TooMany a b = absurd (a b.0)
-table_is_one hosts p s NeedsState (Lines m) a b = absurd (a b.0)
-table_is_one hosts p s TooMany NeedsState a b = absurd (b a.0)
-table_is_one hosts p s TooMany TooMany a b = refl
-table_is_one hosts p s TooMany (Lines m) (_, many) (_, few, counted) = absurd (omega (arith, many, few))
-table_is_one hosts p s (Lines m) NeedsState a b = absurd (b a.0)
-table_is_one hosts p s (Lines m) TooMany (_, few, counted) (_, many) = absurd (omega (arith, many, few))
-table_is_one hosts p s (Lines m) (Lines k) (_, few, counted) (_, other, told) = ap Lines (counted ∙ sym told)
+table_is_one : (site : Site) (p s : List Flow) (t u : TableLines) → IsTableLines site p s t → IsTableLines site p s u → t ≡ u
+table_is_one site p s NeedsState NeedsState a b = refl
+table_is_one site p s NeedsState TooMany a b = absurd (a b.0)
+table_is_one site p s NeedsState (Lines m) a b = absurd (a b.0)
+table_is_one site p s TooMany NeedsState a b = absurd (b a.0)
+table_is_one site p s TooMany TooMany a b = refl
+table_is_one site p s TooMany (Lines m) (_, many) (_, few, counted) = absurd (omega (arith, many, few))
+table_is_one site p s (Lines m) NeedsState a b = absurd (b a.0)
+table_is_one site p s (Lines m) TooMany (_, few, counted) (_, many) = absurd (omega (arith, many, few))
+table_is_one site p s (Lines m) (Lines k) (_, few, counted) (_, other, told) = ap Lines (counted ∙ sym told)
 
 forwarded_is_one : (chains : List Chain) (events : List Event) (m k : ℕ) → AreForwarded (Passes chains) events m
     → AreForwarded (Passes chains) events k → m ≡ k
@@ -68,9 +68,9 @@ counts_are_one n c e p q =
     let policy : p.policy ≡ q.policy =
     policy_is_one q.network p.policy q.policy (subst (λ (d : Network). IsPolicyOf d p.policy) net p.is_policy) q.is_policy in
     let chains : chains_of p.network p.policy ≡ chains_of q.network q.policy = λ i. chains_of (net i) (policy i) in
-    let same_table : IsTableLines q.network.hosts q.policy.permitted.flows q.policy.stateful.flows c.table =
-    subst (λ (d : Network). IsTableLines d.hosts q.policy.permitted.flows q.policy.stateful.flows c.table) net
-    (subst (λ (x : Policy). IsTableLines p.network.hosts x.permitted.flows x.stateful.flows c.table) policy p.table) in
+    let same_table : IsTableLines (site_of q.network) q.policy.permitted.flows q.policy.stateful.flows c.table =
+    subst (λ (d : Network). IsTableLines (site_of d) q.policy.permitted.flows q.policy.stateful.flows c.table) net
+    (subst (λ (x : Policy). IsTableLines (site_of p.network) x.permitted.flows x.stateful.flows c.table) policy p.table) in
     counts_same c e
     (p.hosts ∙ ap (λ (d : Network). length d.hosts) net ∙ sym q.hosts)
     (p.asked ∙ ap (λ (d : Network). length d.asked.flows) net ∙ sym q.asked)
@@ -78,7 +78,7 @@ counts_are_one n c e p q =
     (p.permitted ∙ ap (λ (x : Policy). length x.permitted.flows) policy ∙ sym q.permitted)
     (p.stateful ∙ ap (λ (x : Policy). length x.stateful.flows) policy ∙ sym q.stateful)
     (p.run.lines ∙ ap (λ (x : List Chain). length (text_lines x)) chains ∙ sym q.run.lines)
-    (table_is_one q.network.hosts q.policy.permitted.flows q.policy.stateful.flows c.table e.table same_table q.table)
+    (table_is_one (site_of q.network) q.policy.permitted.flows q.policy.stateful.flows c.table e.table same_table q.table)
     (p.run.all ∙ sym q.run.all)
     (forwarded_is_one (chains_of q.network q.policy) (sample_events n) c.forwarded e.forwarded
     (subst (λ (x : List Chain). AreForwarded (Passes x) (sample_events n) c.forwarded) chains p.run.passed) q.run.passed)

@@ -1,7 +1,7 @@
 -- What an operator may rely on in the report of the sample. It follows from what the report is.
 use Rattle.std.specs.Prelude.{◌≡◌, ℕ, Bool, List, length, filter, Option, Ok}
 use Rattle.desc_core.specs.Description.{described_by_table}
-use Rattle.net_core.specs.Network.{Network}
+use Rattle.net_core.specs.Network.{Network, site_of}
 use Rattle.net_core.specs.Policies.{CompliesWithAll, IsPermitted, IsStateful, MeetsAll, Policy}
 use Rattle.pkt_core.specs.Expected.{AreExpected}
 use Rattle.pkt_core.specs.FlowPolicy.{is_of}
@@ -27,5 +27,5 @@ pub record TellsSample (n : ℕ) (report : List ℕ) : Type 0 where
   pub complies : CompliesWithAll network policy
   pub events_told : counts.events ≡ length (sample_events n)
   pub answers : List (Option Bool)
-  pub expected : AreExpected (is_of network.hosts policy.permitted.flows) (is_of network.hosts policy.stateful.flows) (sample_events n) answers
+  pub expected : AreExpected (is_of (site_of network) policy.permitted.flows) (is_of (site_of network) policy.stateful.flows) (sample_events n) answers
   pub forwarded_told : counts.forwarded ≡ length (filter was_forwarded answers)

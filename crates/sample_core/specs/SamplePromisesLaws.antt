@@ -14,7 +14,7 @@ use Rattle.host_net.specs.Packet.{IsPacket}
 use Rattle.ipt_rules.specs.Meaning.{Passes}
 use Rattle.net_core.specs.Fitting.{IsNetwork}
 use Rattle.net_core.specs.HeadlineLaws.{CompliesWithAll-from_policy}
-use Rattle.net_core.specs.Network.{Network}
+use Rattle.net_core.specs.Network.{Network, site_of}
 use Rattle.net_core.specs.PolicyLaws.{IsSubset-stateful}
 use Rattle.pkt_core.specs.Filter.{ArePackets, ForwardsExpected}
 use Rattle.pkt_core.specs.declared.event.Event.TheVariants.{Seen}
@@ -49,7 +49,7 @@ tells_sample n report is =
     let network : IsNetwork d = IsNetwork-table (sample_table n) d a.described in
     let few : n ≤ host_limit = sample_is_small n d a.described in
     let count : length d.hosts ≡ n = hosts_counted n d few a.described in
-    let forwards : ForwardsExpected (Passes (layout d.hosts p s)) d.hosts p s = layout_expected d.hosts p s network.hosts (IsSubset-stateful d p s a.is_policy.stateful) in
+    let forwards : ForwardsExpected (Passes (layout (site_of d) p s)) (site_of d) p s = layout_expected (site_of d) p s network.hosts (IsSubset-stateful d p s a.is_policy.stateful) in
     record {
       counts = is.counts;
       written = is.written;

@@ -1,5 +1,5 @@
 -- The assigns of the sample are of its hosts, and each says an attribute.
-use Rattle.std.proofs.Common.{◌≡◌, ◌≢◌, IsTrue, ℕ, zero, suc, ◌+◌, ◌%◌, ◌≤◌, ◌<◌, ◌==◌, nat_le, Bool, true, false, ◌||◌, List, [], ◌∷◌, ◌++◌, map, codes, bytes_eq, Option, Some, None, option_and_then, option_map, is_some, All, AllPairs, refl, sym, ap, subst, ◌∙◌, arith}
+use Rattle.std.proofs.Common.{◌≡◌, ◌≢◌, IsTrue, ℕ, zero, suc, ◌+◌, ◌%◌, ◌≤◌, ◌<◌, ◌==◌, nat_le, Bool, true, false, ◌||◌, List, [], ◌∷◌, ◌++◌, length, map, codes, bytes_eq, Option, Some, None, option_and_then, option_map, is_some, All, AllPairs, refl, sym, ap, subst, ◌∙◌, arith}
 use Rattle.std.proofs.lemmas.List.Elements.{All-nil, All-from_recursion, All-head, All-tail}
 use Rattle.std.proofs.lemmas.List.Kept.{AllPairs-filter}
 use Rattle.std.specs.List.{list_any, range_with_len}
@@ -17,6 +17,8 @@ use Rattle.desc_core.specs.UseFacts.{HasUses, SaysAttributes}
 use Rattle.desc_core.specs.WrittenNetwork.{Known, given_by, known_of}
 use Rattle.desc_hosts.specs.WrittenHosts.{network_hosts}
 use Rattle.host_net.specs.Host.{Host, host_named}
+use Rattle.host_net.specs.ServiceText.{service_of}
+use Rattle.host_net.specs.Services.{service_limit}
 use Rattle.table_core.specs.Keys.{all_suit, has_only_keys, lacks_key}
 use Rattle.table_core.specs.Listing.{each}
 use Rattle.text_core.specs.StepsLaws.{bind_some}
@@ -180,4 +182,6 @@ sample_has_uses n few =
           (care_good (network_hosts (sample_written n)) (hosts_in_care n));
       apart = All-nil (λ f. f.from ≢ f.to);
       different = λ i j d lower within. absurd (omega (arith, within));
+      services = All-nil (λ f. All (λ text. IsTrue (is_some (service_of text))) f.services);
+      few = All-nil (λ f. length f.services ≤ service_limit);
     }

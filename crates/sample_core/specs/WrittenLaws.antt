@@ -1,8 +1,10 @@
 -- The table of the sample has the form of a description, and this is written in it.
 use Rattle.std.proofs.Common.{◌≡◌, ℕ, pos, true, false, List, [], ◌∷◌, map, filter_map, codes, refl}
 use Rattle.std.specs.List.{AllZip}
+use Rattle.std.proofs.lemmas.List.Elements.{All-nil}
 use Rattle.table_core.specs.Listing.{each}
 use Rattle.desc_form.specs.Written.{assign_written, host_written, invariant_written, written}
+use Rattle.desc_form.specs.WrittenFlow.{WrittenFlow}
 use Rattle.desc_form.specs.WrittenForm.{IsAssign, IsHost, IsInvariant, IsTable, IsWritten}
 use Rattle.desc_form.specs.Places.{listed}
 use Rattle.sample_core.specs.SampleTable.{care_table, host_table, hosts_in_care, level_table, sample_hosts, sample_table, invariant_table}
@@ -52,6 +54,7 @@ sample_formed n = record {
   );
   given = refl;
   flows = refl;
+  whole = λ other. All-nil (λ (f : WrittenFlow). f.services ≡ []);
 }
 
 -- ---- what is written

@@ -1,12 +1,13 @@
 //! What the jobs make of a description, in numbers.
 
-ghost use Rattle.std.specs.Prelude.{◌≡◌, IfOk, length, option_map};
+ghost use Rattle.std.specs.Prelude.{◌≡◌, IfOk, [], length, option_map};
+ghost use Rattle.host_net.specs.Site.{site_with};
 ghost use Rattle.sample_core.specs.Sample.{IsTableLines, AreOffending, offence_size};
 
 use desc_core::Description;
 use emit_core::{EmitRefusal, emit_openflow, needs_state};
 use flow_set::FlowSet;
-use host_net::Hosts;
+use host_net::{Hosts, Services};
 use net_core::Policy;
 use permit_core::offending_by_steps;
 use std::alloc::{AllocError, Global};
@@ -22,21 +23,24 @@ pub enum TableLines {
     TooMany,
 }
 
-/// How many lines the flow table of a policy has.
+/// How many lines the flow table of a policy has, where no flow is narrowed.
 pub(crate) fn table_lines(
     alloc: Global,
     hosts: &Hosts,
+    services: &Services,
     policy: &Policy,
 ) -> Result<TableLines, AllocError>
     requires permitted { policy.now.permitted.size ≡ length hosts.now }
     requires stateful { policy.now.stateful.size ≡ length hosts.now }
-    ensures { IfOk result (IsTableLines hosts.now policy.now.permitted.flows policy.now.stateful.flows) }
+    requires whole { services.now ≡ [] }
+    ensures { IfOk result (IsTableLines (site_with hosts.now services.now) policy.now.permitted.flows policy.now.stateful.flows) }
 {
-    if needs_state(policy.permitted(), policy.stateful()).is_some() {
+    if needs_state(services, policy.permitted(), policy.stateful()).is_some() {
         return Ok(TableLines::NeedsState);
     }
-    match emit_openflow(alloc, hosts, policy.permitted()) {
+    match emit_openflow(alloc, hosts, services, policy.permitted()) {
         Ok(table) => Ok(TableLines::Lines(table.lines())),
+        Err(EmitRefusal::RangeOfPorts { .. }) => unreachable!(),
         Err(EmitRefusal::TooManyRules { .. }) => Ok(TableLines::TooMany),
         Err(EmitRefusal::Memory) => Err(AllocError),
     }

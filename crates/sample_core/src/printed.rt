@@ -1,6 +1,6 @@
 //! The sample as it is printed.
 
-ghost use Rattle.std.specs.Prelude.{◌≡◌, ◌≤◌, ◌++◌, IfOk, Ok, OnOk, codes, decimal, length};
+ghost use Rattle.std.specs.Prelude.{◌≡◌, ◌≤◌, ◌++◌, IfOk, [], Ok, OnOk, codes, decimal, length};
 ghost use Rattle.desc_core.specs.Description.{described_by_table};
 ghost use Rattle.net_core.specs.Policies.{IsPolicyOf};
 ghost use Rattle.sample_core.specs.SampleTable.{sample_table};
@@ -40,6 +40,7 @@ pub fn sample_text(alloc: Global, count: u16) -> Result<Vec<u8>, AllocError>
 fn counts_of(alloc: Global, count: u16, description: &Description) -> Result<Counts, AllocError>
     requires few { count ≤ host_limit }
     requires described { described_by_table (sample_table count) ≡ Ok description.now }
+    requires whole { description.now.services ≡ [] }
     ensures { IfOk result (λ counts. AreCounts count (counts_view counts)) }
 {
     let policy = policy_of(alloc, description)?;
@@ -57,11 +58,13 @@ fn counts_by(
     requires policy { IsPolicyOf description.now policy.now }
     requires permitted { policy.now.permitted.size ≡ length description.now.hosts }
     requires stateful { policy.now.stateful.size ≡ length description.now.hosts }
+    requires whole { description.now.services ≡ [] }
     ensures { IfOk result (λ counts. AreCounts count (counts_view counts)) }
 {
     let hosts = description.hosts();
-    let table = table_lines(alloc, hosts, policy)?;
-    let run = run_counts(alloc, count, hosts, policy)?;
+    let services = description.services();
+    let table = table_lines(alloc, hosts, services, policy)?;
+    let run = run_counts(alloc, count, hosts, services, policy)?;
     let offending = offending(alloc, description)?;
     Ok(Counts {
         hosts: hosts.count(),

@@ -1,7 +1,8 @@
 //! The run of a rule set over packets, beginning with no connections.
 
-ghost use Rattle.std.specs.Prelude.{◌≡◌, ◌≤◌, ◌∷◌, Bool, List, Option, Some, IfOk, if◌then◌else◌, length, map};
+ghost use Rattle.std.specs.Prelude.{◌≡◌, ◌≤◌, ◌∷◌, Bool, List, [], Option, Some, IfOk, if◌then◌else◌, length, map};
 ghost use Rattle.host_net.specs.Limits.{host_limit};
+ghost use Rattle.host_net.specs.Site.{site_with};
 ghost use Rattle.host_net.specs.Verdict.{verdict_if};
 ghost use Rattle.ipt_rules.specs.Meaning.{Passes};
 ghost use Rattle.pkt_core.specs.Kept.{kept_in};
@@ -12,8 +13,8 @@ ghost use Rattle.sample_core.specs.Sample.{AreForwarded, AreRunCounts};
 ghost use Rattle.emit_core.specs.Layout.{layout};
 
 use crate::packets::sample_packets;
-use emit_core::emit_iptables;
-use host_net::{Hosts, Packet, Verdict};
+use emit_core::{EmitRefusal, emit_iptables};
+use host_net::{Hosts, Packet, Services, Verdict};
 use ipt_rules::Ruleset;
 use net_core::Policy;
 use pkt_core::Track;
@@ -32,14 +33,16 @@ pub(crate) fn run_counts(
     alloc: Global,
     count: u16,
     hosts: &Hosts,
+    services: &Services,
     policy: &Policy,
 ) -> Result<RunCounts, AllocError>
     requires few { count ≤ host_limit }
     requires permitted { policy.now.permitted.size ≡ length hosts.now }
     requires stateful { policy.now.stateful.size ≡ length hosts.now }
-    ensures { IfOk result (λ run. AreRunCounts count (layout hosts.now policy.now.permitted.flows policy.now.stateful.flows) run.rules run.events run.forwarded) }
+    requires whole { services.now ≡ [] }
+    ensures { IfOk result (λ run. AreRunCounts count (layout (site_with hosts.now services.now) policy.now.permitted.flows policy.now.stateful.flows) run.rules run.events run.forwarded) }
 {
-    let rules = emit_iptables(alloc, hosts, policy.permitted(), policy.stateful())?;
+    let rules = rules_of(alloc, hosts, services, policy)?;
     let packets = sample_packets(alloc, count)?;
     let forwarded = forwarded(alloc, &rules, &packets)?;
     Ok(RunCounts {
@@ -47,6 +50,33 @@ pub(crate) fn run_counts(
         events: packets.len(),
         forwarded,
     })
+}
+
+/// The chains of a policy, which are never too many where no flow is narrowed.
+fn rules_of(
+    alloc: Global,
+    hosts: &Hosts,
+    services: &Services,
+    policy: &Policy,
+) -> Result<Ruleset, AllocError>
+    requires permitted { policy.now.permitted.size ≡ length hosts.now }
+    requires stateful { policy.now.stateful.size ≡ length hosts.now }
+    requires whole { services.now ≡ [] }
+    ensures { IfOk result (λ rules. rules ≡ layout (site_with hosts.now services.now) policy.now.permitted.flows policy.now.stateful.flows) }
+{
+    let _count = hosts.count();
+    match emit_iptables(
+        alloc,
+        hosts,
+        services,
+        policy.permitted(),
+        policy.stateful(),
+    ) {
+        Ok(rules) => Ok(rules),
+        Err(EmitRefusal::TooManyRules { .. }) => unreachable!(),
+        Err(EmitRefusal::RangeOfPorts { .. }) => unreachable!(),
+        Err(EmitRefusal::Memory) => Err(AllocError),
+    }
 }
 
 /// How many of the packets are forwarded.

@@ -56,22 +56,22 @@ events 992
 forwarded 602
 ";
 
-const MOST: &str = "sample 128
-hosts 128
-asked 16256
-offending 1 6144
-offending 2 1792
-permitted 9856
-stateful 3712
-iptables 10501
+const MOST: &str = "sample 256
+hosts 256
+asked 65280
+offending 1 24576
+offending 2 7168
+permitted 39680
+stateful 15104
+iptables 41477
 openflow needs state
-events 16256
-forwarded 9992
+events 65280
+forwarded 40208
 ";
 
 #[test]
 fn samples(rt: HostRuntime) -> Result<(), Fail> {
-    for (count, text) in [(1, ONE), (4, FOUR), (8, EIGHT), (32, MANY), (128, MOST)] {
+    for (count, text) in [(1, ONE), (4, FOUR), (8, EIGHT), (32, MANY), (256, MOST)] {
         let bytes = sample_text(rt.alloc(), count)?;
         assert_eq!(rt; bytes.as_slice(), text.as_bytes());
     }

@@ -2,58 +2,79 @@
 use Rattle.std.proofs.Common.{◌≡◌, ℕ, List, ap, sym, ◌∙◌, arith}
 use Rattle.emit_core.specs.FlowTable.{flow_entries}
 use Rattle.emit_core.specs.ForwardingLaws.{layout_enforces}
-use Rattle.emit_core.specs.TableLaws.{flow_entries_arp, flow_entries_enforce, flow_entries_table, first_barred_once, none_barred}
+use Rattle.emit_core.specs.TableLaws.{first_barred_once, first_range_once, flow_entries_arp, flow_entries_enforce, flow_entries_table, none_barred, none_ranging}
 use Rattle.emit_core.specs.WritableLaws.{layout_short, layout_writable}
 use Rattle.flow_set.specs.declared.flow.Flow.{Flow}
-use Rattle.host_net.specs.Host.{Host}
-use Rattle.host_net.specs.Hosts.{IsHosts}
+use Rattle.host_net.specs.Site.{Site, IsSite}
 use Rattle.ipt_read.specs.AgainLaws.{one_reading, text_read_again}
 use Rattle.ofp_read.specs.AgainLaws.{text_read_again as flows_read_again}
 use Rattle.ofp_read.specs.FaultLaws.{one_reading as one_reading_of_flows}
 use Rattle.pkt_core.specs.Filter.{Enforces}
-use Rattle.topos_top.specs.Dialects.{Language, Hindrance, NeedsState, TooManyFlows, iptables, openflow, language_of, BarsTable, FitsTable}
+use Rattle.topos_top.specs.Dialects.{Language, Hindrance, NeedsState, RangeOfPorts, TooManyFlows, TooManyRules, iptables, openflow, language_of, BarsChains, BarsTable, FitsChains, FitsTable}
 use Rattle.topos_top.specs.declared.form.Dialect.{Dialect}
 use Rattle.topos_top.specs.declared.form.Dialect.TheVariants.{Iptables, OpenFlow}
 
 -- what rules keep a policy by
 pub record KeepsPolicies (language : Language) : Type 0 where
-  pub enforces : (hosts : List Host) (p s : List Flow) → IsHosts hosts → language.CanWrite hosts p s
-      → Enforces (language.filter (language.layout hosts p s)) hosts p s
-  pub other_frames : (hosts : List Host) (p s : List Flow) → IsHosts hosts → language.CanWrite hosts p s
-      → language.OtherFrames (language.layout hosts p s)
-  pub read_again : (hosts : List Host) (p s : List Flow) → IsHosts hosts → language.CanWrite hosts p s
-      → language.IsReading (language.text (language.layout hosts p s)) (language.layout hosts p s)
+  pub enforces : (site : Site) (p s : List Flow) → IsSite site → language.CanWrite site p s → Enforces (language.filter (language.layout site p s)) site p s
+  pub other_frames : (site : Site) (p s : List Flow) → IsSite site → language.CanWrite site p s → language.OtherFrames (language.layout site p s)
+  pub read_again : (site : Site) (p s : List Flow) → IsSite site → language.CanWrite site p s
+      → language.IsReading (language.text (language.layout site p s)) (language.layout site p s)
   pub one_reading : (bytes : List ℕ) (rules others : language.Rules) → language.IsReading bytes rules → language.IsReading bytes others
       → rules ≡ others
-  pub one_hindrance : (hosts : List Host) (p s : List Flow) (why other : Hindrance) → language.Hinders hosts p s why
-      → language.Hinders hosts p s other → why ≡ other
-  pub apart : (hosts : List Host) (p s : List Flow) (why : Hindrance) → language.CanWrite hosts p s → language.Hinders hosts p s why → ⊥
+  pub one_hindrance : (site : Site) (p s : List Flow) (why other : Hindrance) → language.Hinders site p s why
+      → language.Hinders site p s other → why ≡ other
+  pub apart : (site : Site) (p s : List Flow) (why : Hindrance) → language.CanWrite site p s → language.Hinders site p s why → ⊥
+
+one_count : (site : Site) (p s : List Flow) (why other : Hindrance) → BarsChains site p s why → BarsChains site p s other → why ≡ other
+one_count site p s (TooManyRules n) (TooManyRules m) is also = ap TooManyRules (is.1 ∙ sym also.1)
+one_count site p s (NeedsState f) other is also = absurd is
+one_count site p s (RangeOfPorts f) other is also = absurd is
+one_count site p s (TooManyFlows n) other is also = absurd is
+one_count site p s (TooManyRules n) (NeedsState f) is also = absurd also
+one_count site p s (TooManyRules n) (RangeOfPorts f) is also = absurd also
+one_count site p s (TooManyRules n) (TooManyFlows m) is also = absurd also
+
+not_too_many : (site : Site) (p s : List Flow) (why : Hindrance) → FitsChains site p s → BarsChains site p s why → ⊥
+not_too_many site p s (NeedsState f) fits bars = bars
+not_too_many site p s (RangeOfPorts f) fits bars = bars
+not_too_many site p s (TooManyFlows count) fits bars = bars
+not_too_many site p s (TooManyRules count) fits bars = omega (arith, fits, bars.0)
 
 iptables_keep : KeepsPolicies iptables
 iptables_keep = record {
-  enforces = λ hosts p s known can. layout_enforces hosts p s known;
-  other_frames = λ hosts p s known can. tt;
-  read_again = λ hosts p s known can. text_read_again _ (layout_writable hosts p s known) (layout_short hosts p s known);
+  enforces = λ site p s known can. layout_enforces site p s known.hosts;
+  other_frames = λ site p s known can. tt;
+  read_again = λ site p s known can. text_read_again _ (layout_writable site p s known can) (layout_short site p s known can);
   one_reading = one_reading;
-  one_hindrance = λ hosts p s why other is also. absurd is;
-  apart = λ hosts p s why can hinders. hinders;
+  one_hindrance = one_count;
+  apart = not_too_many;
 }
 
-one_bar : (hosts : List Host) (p s : List Flow) (why other : Hindrance) → BarsTable hosts p s why → BarsTable hosts p s other → why ≡ other
-one_bar hosts p s (NeedsState f) (NeedsState g) is also = ap NeedsState (first_barred_once p s f g is also)
-one_bar hosts p s (NeedsState f) (TooManyFlows count) is also = absurd (none_barred p s f also.0 is)
-one_bar hosts p s (TooManyFlows count) (NeedsState f) is also = absurd (none_barred p s f is.0 also)
-one_bar hosts p s (TooManyFlows n) (TooManyFlows m) is also = ap TooManyFlows (is.2 ∙ sym also.2)
+one_bar : (site : Site) (p s : List Flow) (why other : Hindrance) → BarsTable site p s why → BarsTable site p s other → why ≡ other
+one_bar site p s (NeedsState f) (NeedsState g) is also = ap NeedsState (first_barred_once site.services p s f g is also)
+one_bar site p s (NeedsState f) (RangeOfPorts g) is also = absurd (none_barred site.services p s f also.0 is)
+one_bar site p s (NeedsState f) (TooManyFlows count) is also = absurd (none_barred site.services p s f also.0 is)
+one_bar site p s (RangeOfPorts f) (NeedsState g) is also = absurd (none_barred site.services p s g is.0 also)
+one_bar site p s (RangeOfPorts f) (RangeOfPorts g) is also = ap RangeOfPorts (first_range_once site.services p f g is.1 also.1)
+one_bar site p s (RangeOfPorts f) (TooManyFlows count) is also = absurd (none_ranging site.services p f also.1 is.1)
+one_bar site p s (TooManyFlows count) (NeedsState f) is also = absurd (none_barred site.services p s f is.0 also)
+one_bar site p s (TooManyFlows count) (RangeOfPorts f) is also = absurd (none_ranging site.services p f is.1 also.1)
+one_bar site p s (TooManyFlows n) (TooManyFlows m) is also = ap TooManyFlows (is.3 ∙ sym also.3)
+one_bar site p s (TooManyRules count) other is also = absurd is
+one_bar site p s why (TooManyRules count) is also = absurd also
 
-not_both : (hosts : List Host) (p s : List Flow) (why : Hindrance) → FitsTable hosts p s → BarsTable hosts p s why → ⊥
-not_both hosts p s (NeedsState f) fits bars = none_barred p s f fits.0 bars
-not_both hosts p s (TooManyFlows count) fits bars = omega (arith, fits.1, bars.1)
+not_both : (site : Site) (p s : List Flow) (why : Hindrance) → FitsTable site p s → BarsTable site p s why → ⊥
+not_both site p s (NeedsState f) fits bars = none_barred site.services p s f fits.0 bars
+not_both site p s (RangeOfPorts f) fits bars = none_ranging site.services p f fits.1 bars.1
+not_both site p s (TooManyFlows count) fits bars = omega (arith, fits.2, bars.2)
+not_both site p s (TooManyRules count) fits bars = bars
 
 openflow_keep : KeepsPolicies openflow
 openflow_keep = record {
-  enforces = λ hosts p s known can. flow_entries_enforce hosts p s known can.0;
-  other_frames = λ hosts p s known can. flow_entries_arp hosts p known;
-  read_again = λ hosts p s known can. flows_read_again (flow_entries hosts p) (flow_entries_table hosts p known can.1);
+  enforces = λ site p s known can. flow_entries_enforce site p s known can.1 can.0;
+  other_frames = λ site p s known can. flow_entries_arp site p known can.1;
+  read_again = λ site p s known can. flows_read_again (flow_entries site p) (flow_entries_table site p known can.1 can.2);
   one_reading = one_reading_of_flows;
   one_hindrance = one_bar;
   apart = not_both;

@@ -3,6 +3,8 @@ use Rattle.std.proofs.Common.{◌≡◌, ◌<◌, ◌≤◌, ℕ, List, [], leng
 use Rattle.std.specs.Result.{result_map_both}
 use Rattle.desc_core.specs.Description.{described}
 use Rattle.desc_core.specs.DescriptionLaws.{described-too_long}
+use Rattle.desc_core.specs.Migrated.{IsMigrated}
+use Rattle.desc_core.specs.MigratedOnceLaws.{migrated_once}
 use Rattle.desc_core.specs.NetworkLaws.{IsNetwork-described}
 use Rattle.desc_form.specs.declared.refusal.Refusal.{Refusal}
 use Rattle.ipt_read.specs.FaultLaws.{one_fault, no_reading_with_fault}
@@ -26,7 +28,7 @@ use Rattle.pkt_core.specs.declared.events.EventWhy.{EventWhy}
 use Rattle.text_core.specs.Lines.{lines}
 use Rattle.text_core.specs.Reading.{line_by_line}
 use Rattle.text_core.specs.ReadingLaws.{first_fault_is_told}
-use Rattle.topos_top.specs.File.{File, most_of, Reads}
+use Rattle.topos_top.specs.File.{File, IsDescription, most_of, Reads}
 use Rattle.topos_top.specs.Kinds.{kind_of, too_long}
 use Rattle.topos_top.specs.Reply.{Reply, Refused, ReadsIn}
 use Rattle.topos_top.specs.declared.fault.Fault.{Fault}
@@ -43,6 +45,7 @@ Reads-too_long kind.Description bytes long = sym (ap (result_map_both reading.Ne
 Reads-too_long (kind.Rules Iptables) bytes long = rules_too_long long
 Reads-too_long (kind.Rules OpenFlow) bytes long = flows_too_long long
 Reads-too_long kind.Events bytes long = events_too_long long
+Reads-too_long kind.Document bytes long = described-too_long bytes long
 
 -- what is known of what was read
 abbrev pub IsSound : Reading → Type 0
@@ -61,6 +64,11 @@ pub read_as-description : (bytes : List ℕ) (x : Reading) → Reads kind.Descri
     → (d : Network) × (described bytes ≡ Ok d) × (x ≡ reading.Network d)
 read_as-description bytes x is = network_of (described bytes) x is
 
+-- a reading of a description that is written anew is its text in version 2
+pub read_as-document : (bytes : List ℕ) (x : Reading) → Reads kind.Document bytes (Ok x) → (text : List ℕ) × IsMigrated bytes text × (x ≡ reading.Migrated text)
+read_as-document bytes (reading.Migrated text) is = (text, is, refl)
+read_as-document bytes x is = absurd is
+
 -- a reading is of the kind of its file
 pub kind_of-Reads : (k : Kind) (bytes : List ℕ) (x : Reading) → Reads k bytes (Ok x) → kind_of x ≡ k
 kind_of-Reads kind.Description bytes x is = ap kind_of (network_of (described bytes) x is).2
@@ -70,6 +78,8 @@ kind_of-Reads (kind.Rules OpenFlow) bytes (reading.Flows entries) is = refl
 kind_of-Reads (kind.Rules OpenFlow) bytes x is = absurd is
 kind_of-Reads kind.Events bytes (reading.Events events) is = refl
 kind_of-Reads kind.Events bytes x is = absurd is
+kind_of-Reads kind.Document bytes (reading.Migrated text) is = refl
+kind_of-Reads kind.Document bytes x is = absurd is
 
 pub IsSound-Reads : (k : Kind) (bytes : List ℕ) (x : Reading) → Reads k bytes (Ok x) → IsSound x
 IsSound-Reads kind.Description bytes x is = let n = network_of (described bytes) x is in rw n.2 (IsNetwork-described bytes n.0 n.1)
@@ -79,6 +89,8 @@ IsSound-Reads (kind.Rules OpenFlow) bytes (reading.Flows entries) is = reading_i
 IsSound-Reads (kind.Rules OpenFlow) bytes x is = absurd is
 IsSound-Reads kind.Events bytes (reading.Events events) is = packets_read bytes events is
 IsSound-Reads kind.Events bytes x is = absurd is
+IsSound-Reads kind.Document bytes (reading.Migrated text) is = tt
+IsSound-Reads kind.Document bytes x is = absurd is
 
 description_by : (read : Result Network Refusal) (why : Refusal)
     → Err (fault.Description why) ≡ result_map_both reading.Network fault.Description read → read ≡ Err why
@@ -92,11 +104,12 @@ not_described (Err other) why is = (other, cc)
 
 -- only a description is refused as one, only rules as rules and only events as events
 pub refused-description : (k : Kind) (bytes : List ℕ) (why : Refusal) → Reads k bytes (Err (fault.Description why))
-    → (k ≡ kind.Description) × (described bytes ≡ Err why)
-refused-description kind.Description bytes why is = (refl, description_by (described bytes) why is)
+    → IsDescription k × (described bytes ≡ Err why)
+refused-description kind.Description bytes why is = (tt, description_by (described bytes) why is)
 refused-description (kind.Rules Iptables) bytes why is = absurd is
 refused-description (kind.Rules OpenFlow) bytes why is = absurd is
 refused-description kind.Events bytes why is = absurd is
+refused-description kind.Document bytes why is = (tt, is)
 
 pub refused-rules : (k : Kind) (bytes : List ℕ) (line : ℕ) (why : IptWhy) → Reads k bytes (Err (fault.Rules line why))
     → (k ≡ kind.Rules Iptables) × HasFault bytes line why
@@ -104,6 +117,7 @@ refused-rules kind.Description bytes line why is = let other = not_described (de
 refused-rules (kind.Rules Iptables) bytes line why is = (refl, is)
 refused-rules (kind.Rules OpenFlow) bytes line why is = absurd is
 refused-rules kind.Events bytes line why is = absurd is
+refused-rules kind.Document bytes line why is = absurd is
 
 pub refused-flows : (k : Kind) (bytes : List ℕ) (line : ℕ) (why : OfpWhy) → Reads k bytes (Err (fault.Flows line why))
     → (k ≡ kind.Rules OpenFlow) × HasFaultInFlows bytes line why
@@ -111,6 +125,7 @@ refused-flows kind.Description bytes line why is = let other = not_described (de
 refused-flows (kind.Rules Iptables) bytes line why is = absurd is
 refused-flows (kind.Rules OpenFlow) bytes line why is = (refl, is)
 refused-flows kind.Events bytes line why is = absurd is
+refused-flows kind.Document bytes line why is = absurd is
 
 pub refused-events : (k : Kind) (bytes : List ℕ) (line : ℕ) (why : EventWhy) → Reads k bytes (Err (fault.Events line why))
     → (k ≡ kind.Events) × IsRefused bytes line why
@@ -118,6 +133,7 @@ refused-events kind.Description bytes line why is = let other = not_described (d
 refused-events (kind.Rules Iptables) bytes line why is = absurd is
 refused-events (kind.Rules OpenFlow) bytes line why is = absurd is
 refused-events kind.Events bytes line why is = (refl, is)
+refused-events kind.Document bytes line why is = absurd is
 
 -- ---- what is read is one
 
@@ -176,11 +192,21 @@ events_once bytes (Err (fault.Events line why)) (Err (fault.Events other cause))
 events_once bytes (Err (fault.Events line why)) b p q = absurd q
 events_once bytes a b p q = absurd p
 
+documents_once : (bytes : List ℕ) (a b : Result Reading Fault) → Reads kind.Document bytes a → Reads kind.Document bytes b → a ≡ b
+documents_once bytes (Ok (reading.Migrated s)) (Ok (reading.Migrated t)) p q = ap (λ (text : List ℕ). Ok (reading.Migrated text)) (migrated_once bytes s t p q)
+documents_once bytes (Ok (reading.Migrated s)) (Err (fault.Description why)) p q = let accepted = p.accepted in cc (accepted, q)
+documents_once bytes (Ok (reading.Migrated s)) b p q = absurd q
+documents_once bytes (Err (fault.Description why)) (Ok (reading.Migrated t)) p q = let accepted = q.accepted in cc (accepted, p)
+documents_once bytes (Err (fault.Description why)) (Err (fault.Description other)) p q = cc (p, q)
+documents_once bytes (Err (fault.Description why)) b p q = absurd q
+documents_once bytes a b p q = absurd p
+
 pub reads_once : (k : Kind) (bytes : List ℕ) (a b : Result Reading Fault) → Reads k bytes a → Reads k bytes b → a ≡ b
 reads_once kind.Description bytes a b p q = p ∙ sym q
 reads_once (kind.Rules Iptables) bytes a b p q = rules_once bytes a b p q
 reads_once (kind.Rules OpenFlow) bytes a b p q = flows_once bytes a b p q
 reads_once kind.Events bytes a b p q = events_once bytes a b p q
+reads_once kind.Document bytes a b p q = documents_once bytes a b p q
 
 -- so is the reading of a file of which something was seen, or the reply to it
 bytes_once : (file : File) (bytes : List ℕ) (a b : Result Reading Reply) → ReadsIn file (Some bytes) a → ReadsIn file (Some bytes) b → a ≡ b

@@ -13,7 +13,7 @@ use Rattle.topos_top.specs.declared.file.Kind.TheVariants as kind
 use Rattle.topos_top.specs.declared.form.Dialect.{Dialect}
 use Rattle.topos_top.specs.declared.form.Slot.TheVariants as slot
 use Rattle.topos_top.specs.declared.form.Verb.{Verb}
-use Rattle.topos_top.specs.declared.form.Verb.TheVariants.{Check, Policy, Rules, Repair, Trace, Sample}
+use Rattle.topos_top.specs.declared.form.Verb.TheVariants.{Check, Policy, Rules, Repair, Trace, Sample, Migrate}
 use Rattle.topos_top.specs.declared.reading.Reading.{Reading}
 use Rattle.topos_top.specs.declared.reading.Reading.TheVariants as reading
 use Rattle.topos_top.proofs.FileLaws.{read_as-description}
@@ -60,6 +60,7 @@ wrote_rules Check dialect hosts names shelf out readings text read holds tells t
 wrote_rules Policy dialect hosts names shelf out readings text read holds tells took writes = absurd writes
 wrote_rules Trace dialect hosts names shelf out readings text read holds tells took writes = absurd writes
 wrote_rules Sample dialect hosts names shelf out readings text read holds tells took writes = absurd writes
+wrote_rules Migrate dialect hosts names shelf out readings text read holds tells took writes = absurd writes
 
 pub headline_law : (words : List (List ℕ)) (shelf : ShelfChange) (out : SinkChange) → WroteText words shelf out
     → KeepsPromise words shelf out

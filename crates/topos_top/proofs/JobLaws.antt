@@ -1,5 +1,5 @@
 -- A job leaves one reply, although policy and reports are said by what is true of them, and what it prints tells what is promised.
-use Rattle.std.proofs.Common.{◌≡◌, ℕ, List, [], ◌∷◌, Bool, ap}
+use Rattle.std.proofs.Common.{◌≡◌, ℕ, List, [], ◌∷◌, Bool, ap, sym, ◌∙◌}
 use Rattle.ipt_rules.specs.Meaning.{Passes as PassesChains}
 use Rattle.net_core.specs.Network.{Network}
 use Rattle.net_core.specs.Fitting.{IsNetwork}
@@ -18,7 +18,7 @@ use Rattle.topos_top.specs.Trace.{trace_job}
 use Rattle.topos_top.specs.declared.form.Dialect.{Dialect}
 use Rattle.topos_top.specs.declared.form.Dialect.TheVariants.{Iptables, OpenFlow}
 use Rattle.topos_top.specs.declared.form.Verb.{Verb}
-use Rattle.topos_top.specs.declared.form.Verb.TheVariants.{Check, Policy, Rules, Repair, Trace, Sample}
+use Rattle.topos_top.specs.declared.form.Verb.TheVariants.{Check, Policy, Rules, Repair, Trace, Sample, Migrate}
 use Rattle.topos_top.specs.declared.reading.Reading.{Reading}
 use Rattle.topos_top.specs.declared.reading.Reading.TheVariants as reading
 use Rattle.topos_top.proofs.DialectLaws.{keeps_policies}
@@ -127,6 +127,7 @@ job_is_one Repair dialect hosts (reading.Network d ∷ []) = record {
 }
 job_is_one Trace dialect hosts readings = trace_is_owed dialect readings
 job_is_one Sample dialect hosts [] = one_writes _ _ _ (λ sound. sample_is_one hosts) (λ sound. tells_sample hosts)
+job_is_one Migrate dialect hosts (reading.Migrated migrated ∷ []) = one_writes _ _ _ (λ sound a b p q. p ∙ sym q) (λ sound text is. is)
 job_is_one _ dialect hosts readings = no_job_is_one (AreSound readings)
 
 -- ---- what follows of any job

@@ -8,6 +8,7 @@ pub mod Seeing
 pub mod Causes
 pub mod RunLaws
 pub mod HeadlineLaw
+pub mod MigrationLaw
 pub mod SampleLaw
 pub mod ToldLaws
 pub mod PutLines

@@ -1,9 +1,10 @@
 -- The rules of a network are one text, and do what is promised of them; so is the line that says why there are none.
 use Rattle.std.proofs.Common.{◌≡◌, ℕ, List, sym, subst, ◌∙◌, ap}
+use Rattle.host_net.specs.Site.{IsSite}
 use Rattle.flow_set.specs.FlowSet.{SetOfFlows}
 use Rattle.flow_set.specs.declared.flow.Flow.{Flow}
 use Rattle.net_core.specs.HeadlineLaws.{IsGreatestPolicy-from_policy, CompliesWithAll-from_policy}
-use Rattle.net_core.specs.Network.{Network}
+use Rattle.net_core.specs.Network.{Network, site_of}
 use Rattle.net_core.specs.Fitting.{IsNetwork}
 use Rattle.net_core.specs.Policies.{Policy}
 use Rattle.net_core.specs.PolicyLaws.{policy_is_one, IsSubset-stateful, asked_is_permitted}
@@ -20,19 +21,19 @@ module _ (language : Language) (keeps : KeepsPolicies language) (d : Network) wh
 
   -- what holds for the policy of one holds for that of the other
   can_write : (written : CanBeWritten language d) (policy : Policy) → written.policy ≡ policy
-      → language.CanWrite d.hosts policy.permitted.flows policy.stateful.flows
-  can_write written policy same = subst (λ (x : Policy). language.CanWrite d.hosts x.permitted.flows x.stateful.flows) same written.can
+      → language.CanWrite (site_of d) policy.permitted.flows policy.stateful.flows
+  can_write written policy same = subst (λ (x : Policy). language.CanWrite (site_of d) x.permitted.flows x.stateful.flows) same written.can
 
   pub never_both : (why : Hindrance) → CanBeWritten language d → IsHindered language d why → ⊥
   never_both why written hindered =
       let same = policy_is_one d written.policy hindered.policy written.is_policy hindered.is_policy in
-      keeps.apart d.hosts hindered.policy.permitted.flows hindered.policy.stateful.flows why (can_write written hindered.policy same) hindered.hinders
+      keeps.apart (site_of d) hindered.policy.permitted.flows hindered.policy.stateful.flows why (can_write written hindered.policy same) hindered.hinders
 
   one_cause : (why other : Hindrance) → IsHindered language d why → IsHindered language d other → why ≡ other
   one_cause why other p q =
       let same = policy_is_one d p.policy q.policy p.is_policy q.is_policy in
-      keeps.one_hindrance d.hosts q.policy.permitted.flows q.policy.stateful.flows why other
-      (subst (λ (x : Policy). language.Hinders d.hosts x.permitted.flows x.stateful.flows why) same p.hinders) q.hinders
+      keeps.one_hindrance (site_of d) q.policy.permitted.flows q.policy.stateful.flows why other
+      (subst (λ (x : Policy). language.Hinders (site_of d) x.permitted.flows x.stateful.flows why) same p.hinders) q.hinders
 
   pub hindrance_is_one : (a b : List ℕ) → TellsHindrance language d a → TellsHindrance language d b → a ≡ b
   hindrance_is_one a b p q = p.told ∙ ap (hindrance_line d.hosts) (one_cause p.why q.why p.hindered q.hindered) ∙ sym q.told
@@ -41,12 +42,13 @@ module _ (language : Language) (keeps : KeepsPolicies language) (d : Network) wh
   rules_keep rules network written is =
       let p : List Flow = is.policy.permitted.flows in
       let s : List Flow = is.policy.stateful.flows in
+      let known : IsSite (site_of d) = record { hosts = network.hosts; services = network.services } in
       let own : language.Rules = rules_for language d is.policy in
-      let can : language.CanWrite d.hosts p s = can_write written is.policy (policy_is_one d written.policy is.policy written.is_policy is.is_policy) in
-      let enforces : Enforces (language.filter own) d.hosts p s = keeps.enforces d.hosts p s network.hosts can in
-      let expected : ForwardsExpected (language.filter own) d.hosts p s =
-      enforced_expected (language.filter own) d.hosts p s (IsSubset-stateful d p s is.is_policy.stateful) enforces in
-      let read : language.IsReading rules own = subst (λ (bytes : List ℕ). language.IsReading bytes own) (sym is.written) (keeps.read_again d.hosts p s network.hosts can) in
+      let can : language.CanWrite (site_of d) p s = can_write written is.policy (policy_is_one d written.policy is.policy written.is_policy is.is_policy) in
+      let enforces : Enforces (language.filter own) (site_of d) p s = keeps.enforces (site_of d) p s known can in
+      let expected : ForwardsExpected (language.filter own) (site_of d) p s =
+      enforced_expected (language.filter own) (site_of d) p s (IsSubset-stateful d p s is.is_policy.stateful) enforces in
+      let read : language.IsReading rules own = subst (λ (bytes : List ℕ). language.IsReading bytes own) (sym is.written) (keeps.read_again (site_of d) p s known can) in
       let one : (others : language.Rules) → language.IsReading rules others → others ≡ own = λ others reading. keeps.one_reading rules others own reading read in
       record {
         policy = is.policy;
@@ -54,8 +56,8 @@ module _ (language : Language) (keeps : KeepsPolicies language) (d : Network) wh
         expected = expected;
         read = read;
         only_reading = one;
-        as_read = λ others reading. subst (λ (x : language.Rules). ForwardsExpected (language.filter x) d.hosts p s) (sym (one others reading)) expected;
-        other_frames = λ others reading. subst (λ (x : language.Rules). language.OtherFrames x) (sym (one others reading)) (keeps.other_frames d.hosts p s network.hosts can);
+        as_read = λ others reading. subst (λ (x : language.Rules). ForwardsExpected (language.filter x) (site_of d) p s) (sym (one others reading)) expected;
+        other_frames = λ others reading. subst (λ (x : language.Rules). language.OtherFrames x) (sym (one others reading)) (keeps.other_frames (site_of d) p s known can);
         enforces = enforces;
         permitted = is.is_policy.permitted;
         meets = is.is_policy.permitted.holds;

@@ -7,7 +7,7 @@ use Rattle.topos_top.specs.Form.{usage_text}
 use Rattle.topos_top.specs.declared.form.Dialect.{Dialect}
 use Rattle.topos_top.specs.declared.form.Dialect.TheVariants.{Iptables, OpenFlow}
 use Rattle.topos_top.specs.declared.form.Verb.{Verb}
-use Rattle.topos_top.specs.declared.form.Verb.TheVariants.{Check, Policy, Rules, Repair, Trace, Sample}
+use Rattle.topos_top.specs.declared.form.Verb.TheVariants.{Check, Policy, Rules, Repair, Trace, Sample, Migrate}
 
 -- a command with these names of files
 abbrev asked : Verb → Dialect → List (List ℕ) → Command
@@ -38,16 +38,20 @@ trace_words : (rules events : List ℕ)
 unfolding command_of
 trace_words rules events = refl
 
-sample_words : command_of (codes "sample" ∷ codes "128" ∷ []) ≡ Some (record { verb = Sample; dialect = Iptables; hosts = 128; names = [] })
+sample_words : command_of (codes "sample" ∷ codes "256" ∷ []) ≡ Some (record { verb = Sample; dialect = Iptables; hosts = 256; names = [] })
 unfolding command_of number bounded_value
 sample_words = refl
+
+migrate_words : (file : List ℕ) → command_of (codes "migrate" ∷ file ∷ []) ≡ Some (asked Migrate Iptables (file ∷ []))
+unfolding command_of
+migrate_words file = refl
 
 -- no host, more than there may be, a zero in front, no number, a word too many
 no_hosts : command_of (codes "sample" ∷ codes "0" ∷ []) ≡ None
 unfolding command_of number bounded_value
 no_hosts = refl
 
-many_hosts : command_of (codes "sample" ∷ codes "129" ∷ []) ≡ None
+many_hosts : command_of (codes "sample" ∷ codes "257" ∷ []) ≡ None
 unfolding command_of number bounded_value
 many_hosts = refl
 
@@ -90,6 +94,7 @@ usage_lines : usage_text
     ++ (codes "       topos rules iptables|openflow FILE\n"
     ++ (codes "       topos repair iptables|openflow FILE\n"
     ++ (codes "       topos trace iptables|openflow RULES EVENTS\n"
-    ++ codes "       topos sample N\n"))))
+    ++ (codes "       topos sample N\n"
+    ++ codes "       topos migrate FILE\n")))))
 unfolding usage_text
 usage_lines = refl

@@ -2,6 +2,7 @@
 use Rattle.std.specs.Prelude.{◌≡◌, ℕ, List, Result, Ok, Err}
 use Rattle.std.specs.Result.{result_map_both}
 use Rattle.desc_core.specs.Description.{described}
+use Rattle.desc_core.specs.Migrated.{IsMigrated}
 use Rattle.desc_core.specs.declared.fault.TheConstants.{BYTE_LIMIT}
 use Rattle.ipt_read.specs.Grammar.{IsReading as IsReadingOfRules}
 use Rattle.ipt_read.specs.TextLines.{HasFault as HasFaultInRules}
@@ -28,12 +29,20 @@ abbrev pub kind_in : Dialect → Slot → Kind
 kind_in dialect slot.Description = kind.Description
 kind_in dialect slot.Rules = kind.Rules dialect
 kind_in dialect slot.Events = kind.Events
+kind_in dialect slot.Document = kind.Document
+
+-- a description, to be asked or to be written anew
+abbrev pub IsDescription : Kind → Type 0
+IsDescription kind.Description = Unit {0}
+IsDescription kind.Document = Unit {0}
+IsDescription _ = ⊥
 
 -- the most bytes that a file of the kind may have
 abbrev pub most_of : Kind → ℕ
 most_of kind.Description = BYTE_LIMIT
 most_of (kind.Rules dialect) = 67108864
 most_of kind.Events = 16777216
+most_of kind.Document = BYTE_LIMIT
 
 -- The bytes have this reading, or are refused for this fault.
 abbrev pub Reads : Kind → List ℕ → Result Reading Fault → Type 0
@@ -44,4 +53,6 @@ Reads (kind.Rules OpenFlow) bytes (Ok (reading.Flows entries)) = IsReadingOfFlow
 Reads (kind.Rules OpenFlow) bytes (Err (fault.Flows line why)) = HasFaultInFlows bytes line why
 Reads kind.Events bytes (Ok (reading.Events events)) = IsReadingOfEvents bytes events
 Reads kind.Events bytes (Err (fault.Events line why)) = IsRefused bytes line why
+Reads kind.Document bytes (Ok (reading.Migrated text)) = IsMigrated bytes text
+Reads kind.Document bytes (Err (fault.Description why)) = described bytes ≡ Err why
 Reads _ bytes said = ⊥

@@ -12,7 +12,7 @@ use Rattle.topos_top.specs.declared.form.Second.TheVariants as second
 use Rattle.topos_top.specs.declared.form.Slot.{Slot}
 use Rattle.topos_top.specs.declared.form.Slot.TheVariants as slot
 use Rattle.topos_top.specs.declared.form.Verb.{Verb}
-use Rattle.topos_top.specs.declared.form.Verb.TheVariants.{Check, Policy, Rules, Repair, Trace, Sample}
+use Rattle.topos_top.specs.declared.form.Verb.TheVariants.{Check, Policy, Rules, Repair, Trace, Sample, Migrate}
 
 -- A form: its first word, what the second word says before its files come, and these files.
 pub record Form : Type 0 where
@@ -27,10 +27,11 @@ form_of Rules = record { word = codes "rules"; second = second.Dialect; slots = 
 form_of Repair = record { word = codes "repair"; second = second.Dialect; slots = slot.Description ∷ [] }
 form_of Trace = record { word = codes "trace"; second = second.Dialect; slots = slot.Rules ∷ (slot.Events ∷ []) }
 form_of Sample = record { word = codes "sample"; second = second.Hosts; slots = [] }
+form_of Migrate = record { word = codes "migrate"; second = second.File; slots = slot.Document ∷ [] }
 
 -- all verbs, in the order of the usage
 abbrev pub verbs : List Verb
-verbs = Check ∷ Policy ∷ Rules ∷ Repair ∷ Trace ∷ Sample ∷ []
+verbs = Check ∷ Policy ∷ Rules ∷ Repair ∷ Trace ∷ Sample ∷ Migrate ∷ []
 
 -- the verb of a word
 abbrev pub verb_among : List Verb → (word : List ℕ) → Option Verb
@@ -61,6 +62,7 @@ abbrev pub slot_text : Slot → List ℕ
 slot_text slot.Description = codes " FILE"
 slot_text slot.Rules = codes " RULES"
 slot_text slot.Events = codes " EVENTS"
+slot_text slot.Document = codes " FILE"
 
 abbrev pub form_text : Form → List ℕ
 form_text form = form.word ++ (second_text form.second ++ flat_map slot_text form.slots)

@@ -29,6 +29,7 @@ kind_of (reading.Network d) = kind.Description
 kind_of (reading.Rules chains) = kind.Rules Iptables
 kind_of (reading.Flows entries) = kind.Rules OpenFlow
 kind_of (reading.Events events) = kind.Events
+kind_of (reading.Migrated text) = kind.Document
 
 abbrev pub kinds_in : List Reading → List Kind
 kinds_in readings = map kind_of readings
@@ -39,3 +40,4 @@ too_long kind.Description = fault.Description (refused TooLong Document)
 too_long (kind.Rules Iptables) = fault.Rules 0 RulesTooLong
 too_long (kind.Rules OpenFlow) = fault.Flows 0 FlowsTooLong
 too_long kind.Events = fault.Events 0 EventsTooLong
+too_long kind.Document = fault.Description (refused TooLong Document)

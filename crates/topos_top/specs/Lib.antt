@@ -13,6 +13,7 @@ pub mod Rules
 pub mod Repair
 pub mod Trace
 pub mod Sample
+pub mod Migrate
 pub mod Jobs
 pub mod Seen
 pub mod Reads

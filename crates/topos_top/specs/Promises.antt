@@ -3,6 +3,7 @@ use Rattle.std.specs.Prelude.{◌≡◌, ℕ, ◌≤◌, ◌<◌, ◌⊎◌, Lis
 use Rattle.edge_io.specs.Counts.{Rose}
 use Rattle.edge_io.specs.Told.{Files}
 use Rattle.desc_core.specs.Description.{described}
+use Rattle.desc_core.specs.Migrated.{IsMigrated}
 use Rattle.ipt_read.specs.TextLines.{HasFault as HasFaultInRules}
 use Rattle.ipt_read.specs.declared.fault.IptWhy.{IptWhy}
 use Rattle.host_net.specs.Limits.{host_limit}
@@ -18,7 +19,7 @@ use Rattle.sample_core.specs.Sample.{IsSample}
 use Rattle.sample_core.specs.SamplePromises.{TellsSample}
 use Rattle.topos_top.specs.Command.{Command, files_of, reports_on_output, command_of}
 use Rattle.topos_top.specs.Ending.{status_of, out_of, cannot_read_line, line_after, memory_line, write_fault_line}
-use Rattle.topos_top.specs.File.{File}
+use Rattle.topos_top.specs.File.{File, IsDescription}
 use Rattle.topos_top.specs.Dialects.{language_of}
 use Rattle.topos_top.specs.Job.{Job, EndsIn}
 use Rattle.topos_top.specs.Reply.{Reply}
@@ -31,7 +32,7 @@ use Rattle.topos_top.specs.declared.file.Kind.{Kind}
 use Rattle.topos_top.specs.declared.file.Kind.TheVariants as kind
 use Rattle.topos_top.specs.declared.form.Dialect.TheVariants.{Iptables, OpenFlow}
 use Rattle.topos_top.specs.declared.form.Verb.{Verb}
-use Rattle.topos_top.specs.declared.form.Verb.TheVariants.{Rules, Repair}
+use Rattle.topos_top.specs.declared.form.Verb.TheVariants.{Rules, Repair, Migrate}
 use Rattle.topos_top.specs.declared.reading.Reading.{Reading}
 use Rattle.topos_top.specs.declared.status.Status.{Status}
 use Rattle.topos_top.specs.declared.status.Status.TheVariants as status
@@ -58,7 +59,7 @@ pub record HasBadDescription (words : List (List ℕ)) (shelf : ShelfChange) (er
   pub command : Command
   pub named : command_of words ≡ Some command
   pub file : File
-  pub is_description : file.kind ≡ kind.Description
+  pub is_description : IsDescription file.kind
   pub bytes : List ℕ
   pub came : CameTo shelf (files_of command) file (Some bytes)
   pub why : Refusal
@@ -179,6 +180,23 @@ pub record WroteRules (command : Command) (shelf : ShelfChange) (out : SinkChang
 abbrev pub KeepsPromise : List (List ℕ) → ShelfChange → SinkChange → Type 0
 KeepsPromise words shelf out =
     (command : Command) → command_of words ≡ Some command → WritesRules command.verb → WroteRules command shelf out
+
+-- ---- descriptions written anew
+
+-- The command names one description, and its text in version 2 went to the output, whole: a document of its table in version 2, so that it describes the same network (`IsMigrated`).
+pub record WroteMigration (command : Command) (shelf : ShelfChange) (out : SinkChange) : Type 0 where
+  pub file : List ℕ
+  pub named : files_of command ≡ record { kind = kind.Document; name = file } ∷ []
+  pub bytes : List ℕ
+  pub held : SawFile shelf file (Some bytes)
+  pub text : List ℕ
+  pub migrated : IsMigrated bytes text
+  pub written : Took out text
+
+-- so it is whenever the words ask for it
+abbrev pub KeepsDescription : List (List ℕ) → ShelfChange → SinkChange → Type 0
+KeepsDescription words shelf out =
+    (command : Command) → command_of words ≡ Some command → command.verb ≡ Migrate → WroteMigration command shelf out
 
 -- ---- the sample
 

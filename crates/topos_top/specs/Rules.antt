@@ -1,6 +1,6 @@
 -- `rules iptables|openflow FILE`: the rules of the permitted policy, unless it was listed and breaks an invariant.
 use Rattle.std.specs.Prelude.{◌≡◌, ℕ, List, IsTrue}
-use Rattle.net_core.specs.Network.{Network}
+use Rattle.net_core.specs.Network.{Network, site_of}
 use Rattle.net_core.specs.Policies.{CompliesWithAll, IsGreatestPolicy, IsPermitted, IsPolicyOf, IsStateful, JudgesFlowsAlone, MeetsAll, Policy}
 use Rattle.pkt_core.specs.Filter.{Enforces, ForwardsExpected}
 use Rattle.topos_top.specs.Check.{AskedHolds, offences_when}
@@ -18,7 +18,7 @@ ListedHolds d = IsTrue d.given → AskedHolds d
 
 -- The rules of a policy of the network: its permitted flows pass, and the answers of its stateful flows.
 abbrev pub rules_for : (language : Language) → Network → Policy → language.Rules
-rules_for language d policy = language.layout d.hosts policy.permitted.flows policy.stateful.flows
+rules_for language d policy = language.layout (site_of d) policy.permitted.flows policy.stateful.flows
 
 -- The text is the rules of the policy of the network.
 pub record IsRules (language : Language) (d : Network) (rules : List ℕ) : Type 0 where
@@ -30,13 +30,13 @@ pub record IsRules (language : Language) (d : Network) (rules : List ℕ) : Type
 pub record CanBeWritten (language : Language) (d : Network) : Type 0 where
   pub policy : Policy
   pub is_policy : IsPolicyOf d policy
-  pub can : language.CanWrite d.hosts policy.permitted.flows policy.stateful.flows
+  pub can : language.CanWrite (site_of d) policy.permitted.flows policy.stateful.flows
 
 -- The rules of the policy of the network cannot be written, for this cause.
 pub record IsHindered (language : Language) (d : Network) (why : Hindrance) : Type 0 where
   pub policy : Policy
   pub is_policy : IsPolicyOf d policy
-  pub hinders : language.Hinders d.hosts policy.permitted.flows policy.stateful.flows why
+  pub hinders : language.Hinders (site_of d) policy.permitted.flows policy.stateful.flows why
 
 -- The line says why the rules cannot be written.
 pub record TellsHindrance (language : Language) (d : Network) (line : List ℕ) : Type 0 where
@@ -52,13 +52,13 @@ pub record TellsHindrance (language : Language) (d : Network) (line : List ℕ) 
 pub record KeepPolicy (language : Language) (d : Network) (rules : List ℕ) : Type 0 where
   pub policy : Policy
   pub written : rules ≡ language.text (rules_for language d policy)
-  pub expected : ForwardsExpected (language.filter (rules_for language d policy)) d.hosts policy.permitted.flows policy.stateful.flows
+  pub expected : ForwardsExpected (language.filter (rules_for language d policy)) (site_of d) policy.permitted.flows policy.stateful.flows
   pub read : language.IsReading rules (rules_for language d policy)
   pub only_reading : (others : language.Rules) → language.IsReading rules others → others ≡ rules_for language d policy
   pub as_read : (others : language.Rules) → language.IsReading rules others
-      → ForwardsExpected (language.filter others) d.hosts policy.permitted.flows policy.stateful.flows
+      → ForwardsExpected (language.filter others) (site_of d) policy.permitted.flows policy.stateful.flows
   pub other_frames : (others : language.Rules) → language.IsReading rules others → language.OtherFrames others
-  pub enforces : Enforces (language.filter (rules_for language d policy)) d.hosts policy.permitted.flows policy.stateful.flows
+  pub enforces : Enforces (language.filter (rules_for language d policy)) (site_of d) policy.permitted.flows policy.stateful.flows
   pub permitted : IsPermitted d policy.permitted.flows
   pub meets : MeetsAll d policy.permitted.flows
   pub greatest : JudgesFlowsAlone d → IsGreatestPolicy d policy

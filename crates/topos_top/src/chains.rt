@@ -8,12 +8,13 @@ ghost use Rattle.topos_top.specs.Repair.{repair_job};
 ghost use Rattle.topos_top.specs.declared.form.Dialect.TheVariants.{Iptables};
 
 use crate::answer::{Answer, Text};
+use crate::hindrance::rules_line;
 use desc_core::Description;
-use emit_core::emit_iptables;
+use emit_core::{EmitRefusal, emit_iptables};
 use net_core::Policy;
 use std::alloc::{AllocError, Global};
 
-/// The chains, which every policy has.
+/// The chains, or that there are too many rules.
 pub fn answer<'a>(
     alloc: Global,
     description: &Description,
@@ -24,11 +25,20 @@ pub fn answer<'a>(
     requires stateful { policy.now.stateful.size ≡ length description.now.hosts }
     ensures { IfOk result (λ answer. Ends false (repair_job Iptables description.now) (reply_view answer)) }
 {
-    let rules = emit_iptables(
+    let hosts = description.hosts();
+    let services = description.services();
+    match emit_iptables(
         alloc,
-        description.hosts(),
+        hosts,
+        services,
         policy.permitted(),
         policy.stateful(),
-    )?;
-    Ok(Answer::Done(Text::Rules(rules)))
+    ) {
+        Ok(rules) => Ok(Answer::Done(Text::Rules(rules))),
+        Err(EmitRefusal::RangeOfPorts { .. }) => unreachable!(),
+        Err(EmitRefusal::TooManyRules { count }) => {
+            Ok(Answer::NotEmittable(rules_line(alloc, count)?))
+        }
+        Err(EmitRefusal::Memory) => Err(AllocError),
+    }
 }

@@ -10,8 +10,9 @@ ghost use Rattle.topos_top.specs.Seen.{RepliesOn};
 use crate::answer::Answer;
 use crate::command::Command;
 use crate::form::Verb;
+use crate::migrate::MigratedText;
 use crate::reading::Reading;
-use crate::{check, policy, repair, rules, sample, trace};
+use crate::{check, migrate, policy, repair, rules, sample, trace};
 use desc_core::Description;
 use std::alloc::{AllocError, Global};
 
@@ -32,10 +33,11 @@ pub fn answer_on<'a>(
         Verb::Repair => repair::answer(alloc, command.dialect, network(readings)),
         Verb::Trace => trace::answer(alloc, command.dialect, readings),
         Verb::Sample => sample::answer(alloc, command.hosts),
+        Verb::Migrate => migrate::answer(alloc, migrated(readings)),
     }
 }
 
-ghost use Rattle.topos_top.specs.declared.file.Kind.TheVariants.{Description as DescriptionKind};
+ghost use Rattle.topos_top.specs.declared.file.Kind.TheVariants.{Description as DescriptionKind, Document as DocumentKind};
 
 /// The network, where that is the one reading.
 fn network(readings: &[Reading]) -> &Description
@@ -44,6 +46,17 @@ fn network(readings: &[Reading]) -> &Description
 {
     match readings {
         [Reading::Network(description)] => description,
+        _ => unreachable!(),
+    }
+}
+
+/// The text of the description in version 2, where that is the one reading.
+fn migrated(readings: &[Reading]) -> &MigratedText
+    requires { kinds_in readings.now ≡ DocumentKind ∷ [] }
+    ensures { readings.now ≡ Reading.Migrated result.now ∷ [] }
+{
+    match readings {
+        [Reading::Migrated(text)] => text,
         _ => unreachable!(),
     }
 }

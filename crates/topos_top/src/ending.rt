@@ -95,6 +95,7 @@ fn say_usage<E: Sink>(err: &mut E)
             b"       topos repair iptables|openflow FILE\n",
             b"       topos trace iptables|openflow RULES EVENTS\n",
             b"       topos sample N\n",
+            b"       topos migrate FILE\n",
         ],
     );
 }

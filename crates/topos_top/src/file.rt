@@ -20,6 +20,8 @@ pub enum Kind {
     Rules(Dialect),
     /// A list of events.
     Events,
+    /// A description that is written anew.
+    Document,
 }
 
 /// A file by its name, as the word has it.
@@ -38,6 +40,7 @@ impl Kind {
             Slot::Description => Kind::Description,
             Slot::Rules => Kind::Rules(dialect),
             Slot::Events => Kind::Events,
+            Slot::Document => Kind::Document,
         }
     }
 
@@ -47,7 +50,7 @@ impl Kind {
         ensures small { result ≤ 2 ^ 26 }
     {
         match self {
-            Kind::Description => desc_core::BYTE_LIMIT,
+            Kind::Description | Kind::Document => desc_core::BYTE_LIMIT,
             Kind::Rules(Dialect::Iptables) => ipt_read::BYTE_LIMIT,
             Kind::Rules(Dialect::OpenFlow) => ofp_read::BYTE_LIMIT,
             Kind::Events => EVENTS_BYTE_LIMIT,
@@ -59,7 +62,9 @@ impl Kind {
         ensures { result ≡ too_long self }
     {
         match self {
-            Kind::Description => Fault::Description(Refusal::at(Why::TooLong, Place::Document)),
+            Kind::Description | Kind::Document => {
+                Fault::Description(Refusal::at(Why::TooLong, Place::Document))
+            }
             Kind::Rules(Dialect::Iptables) => Fault::Rules(0, IptWhy::TooLong),
             Kind::Rules(Dialect::OpenFlow) => Fault::Flows(0, OfpWhy::TooLong),
             Kind::Events => Fault::Events(0, EventWhy::TooLong),

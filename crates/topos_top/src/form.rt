@@ -23,6 +23,8 @@ pub enum Verb {
     Trace,
     /// `sample N`: what every job makes of a network of N hosts, in numbers.
     Sample,
+    /// `migrate FILE`: the description in version 2.
+    Migrate,
 }
 
 /// What the second word of a form says.
@@ -54,9 +56,13 @@ pub enum Slot {
     Rules,
     /// A list of events.
     Events,
+    /// A description that is written anew.
+    Document,
 }
 
 const ONE_DESCRIPTION: &[Slot] = &[Slot::Description];
+
+const ONE_DOCUMENT: &[Slot] = &[Slot::Document];
 
 const RULES_AND_EVENTS: &[Slot] = &[Slot::Rules, Slot::Events];
 
@@ -74,6 +80,7 @@ impl Verb {
             "repair" => Some(Verb::Repair),
             "trace" => Some(Verb::Trace),
             "sample" => Some(Verb::Sample),
+            "migrate" => Some(Verb::Migrate),
             _ => None,
         }
     }
@@ -83,7 +90,7 @@ impl Verb {
         ensures { result ≡ (form_of self).second }
     {
         match self {
-            Verb::Check | Verb::Policy => Second::File,
+            Verb::Check | Verb::Policy | Verb::Migrate => Second::File,
             Verb::Rules | Verb::Repair | Verb::Trace => Second::Dialect,
             Verb::Sample => Second::Hosts,
         }
@@ -97,6 +104,7 @@ impl Verb {
             Verb::Check | Verb::Policy | Verb::Rules | Verb::Repair => ONE_DESCRIPTION,
             Verb::Trace => RULES_AND_EVENTS,
             Verb::Sample => NO_FILES,
+            Verb::Migrate => ONE_DOCUMENT,
         }
     }
 }

@@ -18,7 +18,7 @@ pub fn put_rules<O: Sink>(sink: &mut O, rules: &Ruleset) -> Result<(), WriteFaul
     ensures faults_stay { O.faults sink.old ≤ O.faults sink.new }
     ensures fault { OnErr result (Rose (O.faults sink.old) (O.faults sink.new)) }
 {
-    let mut line = [0; 256];
+    let mut line = [0; 320];
     for i in 0..rules.lines() {
         let length = rules.write_line(i, &mut line);
         put_all(sink, &line[..length])?;

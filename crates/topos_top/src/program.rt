@@ -2,7 +2,7 @@
 
 ghost use Rattle.std.specs.Prelude.{◌≡◌, ◌≢◌, ℕ, ◌≤◌, ◌↔◌, ◌⊎◌, None, map, string_bytes};
 ghost use Rattle.topos_top.specs.Command.{command_of, AsksToReport, NamesNoFile};
-ghost use Rattle.topos_top.specs.Promises.{GaveReply, LacksFile, HasBadDescription, HasBadText, IsViolated, CannotWrite, WroteText, WasCutOff, RanOut, KeepsPromise, AskForSample, EndsAsSample, IsComplete, EndsAsTold};
+ghost use Rattle.topos_top.specs.Promises.{GaveReply, LacksFile, HasBadDescription, HasBadText, IsViolated, CannotWrite, WroteText, WasCutOff, RanOut, KeepsPromise, KeepsDescription, AskForSample, EndsAsSample, IsComplete, EndsAsTold};
 ghost use Rattle.topos_top.specs.Seen.{shelf_change};
 ghost use Rattle.topos_top.specs.Taken.{sink_change};
 
@@ -64,6 +64,10 @@ pub fn run<H: Shelf, O: Sink, E: Sink>(
     // and is the first that does. Flows of OpenFlow do so without connections: they are written only
     // where no answer needs one.
     ensures headline { result ≡ Status.Done → KeepsPromise (map string_bytes words.now)
+        (shelf_change H.files H.faults H.begins H.taken shelf.old shelf.new) (sink_change O.held O.faults out.old out.new) }
+
+    // A description that is migrated is written as a document of its own table in version 2.
+    ensures migrated { result ≡ Status.Done → KeepsDescription (map string_bytes words.now)
         (shelf_change H.files H.faults H.begins H.taken shelf.old shelf.new) (sink_change O.held O.faults out.old out.new) }
 
     // A sample takes nothing off the shelf, and is always written unless the output fails or there is no memory.

@@ -15,7 +15,8 @@ use crate::events::EventList;
 use crate::fault::Fault;
 use crate::file::{File, Kind};
 use crate::form::Dialect;
-use desc_core::{DescFault, Description, describe};
+use crate::migrate::MigratedText;
+use desc_core::{DescFault, Description, describe, migrate};
 use edge_io::{Shelf, TakeFault, take_all};
 use ipt_read::IptFault;
 use ipt_rules::Ruleset;
@@ -35,6 +36,8 @@ pub enum Reading {
     Flows(Table),
     /// The events of a list.
     Events(EventList),
+    /// A description in version 2.
+    Migrated(MigratedText),
 }
 
 /// The readings of the files that a command names, or the answer that ends the run. No file is begun
@@ -110,6 +113,11 @@ fn read_as<'a>(alloc: Global, kind: Kind, bytes: &[u8]) -> Result<Reading, Answe
                 Err(Answer::Refused(Fault::Events(line, why)))
             }
             Err(EventFault::Memory) => Err(Answer::Memory),
+        },
+        Kind::Document => match migrate(alloc, bytes) {
+            Ok(text) => Ok(Reading::Migrated(MigratedText::new(text))),
+            Err(DescFault::Refused(why)) => Err(Answer::Refused(Fault::Description(why))),
+            Err(DescFault::Memory) => Err(Answer::Memory),
         },
     }
 }

@@ -76,13 +76,17 @@ fn stray_answers_are_dropped(rt: HostRuntime) -> Result<(), Fail> {
 fn rules_of(alloc: Global, text: &str) -> Result<Ruleset, DescFault> {
     let description = describe(alloc, text.as_bytes())?;
     let policy = policy_of(alloc, &description)?;
-    let rules = emit_iptables(
+    let (hosts, services) = (description.hosts(), description.services());
+    match emit_iptables(
         alloc,
-        description.hosts(),
+        hosts,
+        services,
         policy.permitted(),
         policy.stateful(),
-    )?;
-    Ok(rules)
+    ) {
+        Ok(rules) => Ok(rules),
+        Err(_) => Err(DescFault::Memory),
+    }
 }
 
 /// Whether the rules forward each packet, in the order of the events; nothing for a forgetting.

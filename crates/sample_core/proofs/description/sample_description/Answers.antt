@@ -1,13 +1,18 @@
 use Rattle.std.proofs.Common.{◌≡◌, Ok, Err, ap, subst, sym, ◌∙◌}
 use Rattle.desc_core.specs.Description.{described_by_table}
 use Rattle.desc_core.specs.TableFacts.{IsRight}
-use Rattle.sample_core.specs.AcceptedLaws.{hosts_counted, sample_is_right}
+use Rattle.sample_core.specs.AcceptedLaws.{hosts_counted, sample_is_right, sample_is_whole}
 use Rattle.toml.specs.Data.{Members}
 use Rattle.sample_core.proofs.description.sample_description.Goals as goal
 
 pub returns-in-Ok-clause-hosts : goal.returns-in-Ok-clause-hosts
 returns-in-Ok-clause-hosts c =
     hosts_counted c.args.count c.in-Ok.description c.requires
+    (subst (λ (t : Members). described_by_table t ≡ Ok c.in-Ok.description) c.in_ok-table.ensures c.in-Ok.ensures.given)
+
+pub returns-in-Ok-clause-whole : goal.returns-in-Ok-clause-whole
+returns-in-Ok-clause-whole c =
+    sample_is_whole c.args.count c.in-Ok.description c.requires
     (subst (λ (t : Members). described_by_table t ≡ Ok c.in-Ok.description) c.in_ok-table.ensures c.in-Ok.ensures.given)
 
 pub unreachable-requires : goal.unreachable-requires

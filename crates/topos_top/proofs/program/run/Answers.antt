@@ -4,6 +4,7 @@ use Rattle.topos_top.specs.Promises.{GaveReply}
 use Rattle.topos_top.specs.Seen.{shelf_change}
 use Rattle.topos_top.specs.Taken.{sink_change}
 use Rattle.topos_top.proofs.HeadlineLaw.{headline_law}
+use Rattle.topos_top.proofs.MigrationLaw.{migration_law}
 use Rattle.topos_top.proofs.RunLaws.{usage_law, read_fault_law, bad_description_law, bad_text_law, violated_law, not_emittable_law, write_fault_law, memory_law, done_law, no_fault, nothing_to_write, something_to_write}
 use Rattle.topos_top.proofs.SampleLaw.{sample_law, sample_names_no_file}
 use Rattle.topos_top.proofs.ToldLaws.{complete_law, ends_as_told_law}
@@ -56,6 +57,9 @@ returns-clause-done g c = done_law _ _ _ _ _ (gave g c)
 
 pub returns-clause-headline : goal.returns-clause-headline
 returns-clause-headline g c = λ is. headline_law _ _ _ (done_law _ _ _ _ _ (gave g c) is)
+
+pub returns-clause-migrated : goal.returns-clause-migrated
+returns-clause-migrated g c = λ is. migration_law _ _ _ (done_law _ _ _ _ _ (gave g c) is)
 
 pub returns-clause-sample : goal.returns-clause-sample
 returns-clause-sample g c = λ n asks.

@@ -1,0 +1,14 @@
+use Rattle.std.proofs.Common.{arith}
+use Rattle.emit_core.specs.EmitRefusals.{HasNoChains}
+use Rattle.emit_core.specs.UnnarrowedSizeLaws.{few_rules-unnarrowed}
+use Rattle.emit_core.specs.declared.refusal.EmitRefusal.TheVariants.{TooManyRules}
+use Rattle.host_net.specs.Site.{unnarrowed}
+use Rattle.sample_core.proofs.run.rules_of.Goals as goal
+
+pub unreachable-requires : goal.unreachable-requires
+unreachable-requires c =
+    let p = c.permitted.result.now.flows in
+    let s = c.stateful.result.now.flows in
+    let many : HasNoChains (unnarrowed c.args.hosts.now) p s (TooManyRules c.in-Err-TooManyRules.field-0-0) =
+    rw (c.requires.whole, c.in-Err-TooManyRules.field-0-is) at c.in-Err-TooManyRules.ensures.refused in
+    omega (arith, many.0, few_rules-unnarrowed c.args.hosts.now p s c.count-count.ensures.hosts)
