@@ -8,7 +8,32 @@ REPOSITORY = os.path.dirname(os.path.dirname(os.path.abspath(__file__)))
 EXAMPLES = os.path.join(REPOSITORY, 'examples')
 TIME_LIMIT = 10.0
 DESCRIPTION_COMMANDS = (['check'], ['policy'], ['rules', 'iptables'], ['rules', 'openflow'],
-                        ['repair', 'iptables'], ['repair', 'openflow'])
+                        ['repair', 'iptables'], ['repair', 'openflow'], ['migrate'])
+SERVICES = b"""topos = 2
+flow = [["web", "db", "tcp/5432", "icmp"], ["lan", "web", "tcp/80", "tcp/8000-8080", "udp"], ["web", "lan"],
+        ["inet", "web", "tcp/443"], ["lan", "inet", "tcp", "udp/53"]]
+host = [{ name = "web", at = ["10.0.0.2", "10.0.0.3"] }, { name = "db", at = ["10.0.0.1"] },
+        { name = "lan", at = ["10.1.0.0/16"] }, { name = "inet", rest = true }]
+invariant = [{ template = "sink", assign = [{ host = "db", kind = "sink" }] }]
+"""
+# What a switch can do: no answers and no ranges.
+PORTS = b"""topos = 2
+answers = "none"
+flow = [["web", "db", "tcp/5432", "icmp"], ["inet", "web", "tcp/443", "udp/443"], ["web", "inet", "udp/53"], ["db", "web"]]
+host = [{ name = "web", at = ["10.0.0.2", "10.0.0.3"] }, { name = "db", at = ["10.0.0.1"] }, { name = "inet", rest = true }]
+"""
+SERVICE_EVENTS = b"""packet 10.0.0.2 10.0.0.1 tcp 40000 5432
+packet 10.0.0.2 10.0.0.1 tcp 40000 5433
+packet 10.0.0.1 10.0.0.2 tcp 5432 40000
+packet 10.0.0.1 10.0.0.2 tcp 5433 40000
+packet 10.1.9.9 10.0.0.3 tcp 1024 8000
+packet 10.0.0.3 10.1.9.9 tcp 8000 1024
+forget 10.0.0.3 10.1.9.9 tcp 8000 1024
+packet 192.0.2.1 10.0.0.3 tcp 1024 443
+packet 192.0.2.1 10.0.0.3 udp 1024 443
+packet 10.0.0.3 192.0.2.1 udp 1024 53
+packet 10.0.0.2 10.0.0.1 icmp 7 7
+"""
 USAGE = b'usage: topos check FILE\n'
 
 
@@ -50,6 +75,12 @@ def run(program, words, folder, environment=None):
 def most_memory():
     """The most megabytes that any run has held so far."""
     return resource.getrusage(resource.RUSAGE_CHILDREN).ru_maxrss / 1024
+
+
+def texts(suffix):
+    """The texts of `examples/`, and those of version 2 of this file."""
+    more = {'.toml': [SERVICES, PORTS], '.events': [SERVICE_EVENTS]}
+    return [*examples(suffix).values(), *more[suffix]]
 
 
 def is_topos(program):

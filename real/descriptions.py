@@ -1,10 +1,10 @@
 """Random descriptions of networks, and events that go with them."""
 import ipaddress
-import re
+import tomllib
 
-from packets import BARE, ICMP, TCP, UDP, Event, is_routed
+from packets import BARE, ICMP, NUMBERS, TCP, UDP, Event, is_routed
+from services import PORTS, Flows, spelled
 
-PORTS = (0, 1, 22, 80, 443, 50000, 65535)
 PATHS = ('a', 'b', 'a/x', 'a/y', 'b/x', 'a/x/1')
 LENGTHS = (2, 5, 8, 12, 16, 20, 23, 24, 26, 28, 30, 31, 32, 32, 32)
 
@@ -12,23 +12,28 @@ LENGTHS = (2, 5, 8, 12, 16, 20, 23, 24, 26, 28, 30, 31, 32, 32, 32)
 class Network:
     """A description, as text, with its prefixes."""
 
-    def __init__(self, chance):
+    def __init__(self, chance, version):
         self.chance, self.prefixes = chance, []
         count = chance.randint(2, 8)
         rest = chance.randrange(count) if chance.random() < 0.6 else None
         self.names = [f'host-{number}' for number in range(count)]
         self.hosts = [self.host(name, place == rest) for place, name in enumerate(self.names)]
-        self.head = ['topos = 1'] + chance.choice([[], ['answers = "all"'], ['answers = "none"']])
-        if chance.random() < 0.75:
-            share = chance.choice([0.1, 0.4, 0.8])
-            flows = [f'["{a}", "{b}"]' for a in self.names for b in self.names if a != b and chance.random() < share]
-            chance.shuffle(flows)
-            self.head.append(f"flow = [{', '.join(flows)}]")
+        self.head = [f'topos = {version}'] + chance.choice([[], ['answers = "all"'], ['answers = "none"']])
+        if chance.random() < (0.75 if version == 1 else 0.95):
+            self.head.append(f'flow = [{self.flows(version)}]')
         self.invariants = [self.invariant() for _ in range(chance.choice([0, 0, 1, 1, 2, 3]))]
 
     def text(self):
         hosts = [f'[[host]]\n{host}' for host in self.hosts]
         return '\n\n'.join(['\n'.join(self.head), *hosts, *self.invariants]) + '\n'
+
+    def flows(self, version):
+        share = self.chance.choice([0.1, 0.4, 0.8])
+        pairs = [(a, b) for a in self.names for b in self.names if a != b and self.chance.random() < share]
+        if version == 2:
+            return Flows(self.chance, pairs).text()
+        self.chance.shuffle(pairs)
+        return ', '.join(f'["{a}", "{b}"]' for a, b in pairs)
 
     def host(self, name, is_rest):
         if is_rest:
@@ -63,15 +68,18 @@ class Network:
 
 
 class Traffic:
-    """Random events between the hosts that have these prefixes, and others."""
+    """Random events between the hosts of a description, and others, often of its flows and of the ports beside them."""
 
-    def __init__(self, chance, prefixes):
-        self.chance, self.prefixes = chance, prefixes
+    def __init__(self, chance, description):
+        table = tomllib.loads(description)
+        self.chance, self.flows = chance, table.get('flow', [])
+        self.at = {host['name']: [ipaddress.ip_network(text) for text in host.get('at', [])] for host in table['host']}
+        self.prefixes = [prefix for at in self.at.values() for prefix in at]
 
-    def address(self):
-        """An address of a host, often the first or last of a prefix, or one beside it, or any."""
+    def address(self, prefixes):
+        """An address of these prefixes, often the first or last of one, or one beside it, or any."""
         while True:
-            prefix = self.chance.choice(self.prefixes) if self.prefixes else ipaddress.ip_network('0.0.0.0/0')
+            prefix = self.chance.choice(prefixes) if prefixes else ipaddress.ip_network('0.0.0.0/0')
             first, last = int(prefix[0]), int(prefix[-1])
             inside, anywhere = self.chance.randint(first, last), self.chance.randrange(2 ** 32)
             number = self.chance.choice([first, last, *[inside] * 4, first - 1, last + 1, anywhere]) % 2 ** 32
@@ -80,26 +88,52 @@ class Traffic:
 
     def events(self, count):
         """Packets of a few connections at a time, from either end, with forgettings in between."""
-        addresses = [self.address() for _ in range(12)]
+        addresses = [self.address(self.prefixes) for _ in range(12)]
         talks, events = [], []
         for _ in range(count):
-            if not talks or self.chance.random() < 0.12:
-                talks = talks[-5:] + [self.packet(addresses)]
-            talk, drawn = self.chance.choice(talks), self.chance.random()
-            event = talk if drawn < 0.45 else talk.answer() if drawn < 0.85 else \
-                self.chance.choice([talk, talk.answer()]).forgotten()
-            events.append(event)
+            if not talks or self.chance.random() < 0.2:
+                is_asked = self.flows and self.chance.random() < 0.6
+                talks = talks[-5:] + [self.asked() if is_asked else self.packet(addresses)]
+            events.append(self.event(self.chance.choice(talks)))
         return events
+
+    def event(self, talk):
+        drawn = self.chance.random()
+        if drawn < 0.5:
+            return talk
+        if drawn < 0.82:
+            return talk.answer()
+        if drawn < 0.9:
+            return self.astray(talk.answer())
+        return self.chance.choice([talk, talk.answer()]).forgotten()
 
     def packet(self, addresses):
         source, destination = self.chance.choice(addresses), self.chance.choice(addresses)
         protocol = self.chance.choice([TCP, TCP, TCP, UDP, UDP, ICMP, self.chance.choice(BARE)])
-        ports = self.chance.choice(PORTS), self.chance.choice(PORTS)
+        return Event(False, source, destination, protocol, self.ports(protocol, self.chance.choice(PORTS)))
+
+    def asked(self):
+        """A packet of an asked flow: of one of its services, or with the port beside it or another protocol."""
+        source, destination, *services = self.chance.choice(self.flows)
+        name, low, high = spelled(self.chance.choice(services or ['tcp', 'udp', 'icmp']))
+        protocol = self.chance.choice([NUMBERS[name]] * 7 + [TCP, UDP])
+        inside = self.chance.randint(low, high)
+        port = self.chance.choice([low, high, inside, low - 1, high + 1, high + 1]) % 2 ** 16
+        ends = self.address(self.at[source]), self.address(self.at[destination])
+        return Event(False, *ends, protocol, self.ports(protocol, port))
+
+    def ports(self, protocol, port):
+        """The ports of a packet to this one."""
         if protocol == ICMP:
-            ports = ports[0], ports[0]
-        elif protocol in BARE:
-            ports = 0, 0
-        return Event(False, source, destination, protocol, ports)
+            return port, port
+        return (0, 0) if protocol in BARE else (self.chance.choice(PORTS), port)
+
+    def astray(self, answer):
+        """The answer from another port, where its protocol has ports."""
+        if answer.protocol not in (TCP, UDP):
+            return answer
+        ports = (answer.ports[0] + self.chance.choice([-1, 1, 1000])) % 2 ** 16, answer.ports[1]
+        return Event(False, answer.source, answer.destination, answer.protocol, ports)
 
 
 def some(chance, names):
@@ -142,8 +176,3 @@ ATTRIBUTES = {
     'noninterference': kind_of('interfering', 'unrelated', 'unrelated'),
     'noreach': lambda chance, others: f'deny = {some(chance, others) if chance.random() < 0.5 else "[]"}',
 }
-
-
-def prefixes_in(description):
-    """The prefixes that stand in a description, as its strings."""
-    return [ipaddress.ip_network(found) for found in re.findall(r'"(\d+\.\d+\.\d+\.\d+(?:/\d+)?)"', description)]
