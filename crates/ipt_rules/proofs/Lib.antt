@@ -9,6 +9,7 @@ pub mod TableLemmas
 pub mod MarkLemmas
 pub mod ChainLemmas
 pub mod TextLemmas
+pub mod RuleLemmas
 pub mod TableLaws
 pub mod NameLemmas
 pub mod NoLoopLemmas

@@ -21,7 +21,7 @@ use Rattle.ipt_rules.proofs.BuildLemmas.{chains_at}
 use Rattle.ipt_rules.proofs.ChainLemmas.{rules_of_read, chain_read}
 use Rattle.ipt_rules.proofs.WalkLemmas.{all_at}
 
-slice_get_in : {A : Type 0} → (xs ys : List A) (i : ℕ) → i < length xs → slice_get (xs ++ ys) i ≡ slice_get xs i
+pub slice_get_in : {A : Type 0} → (xs ys : List A) (i : ℕ) → i < length xs → slice_get (xs ++ ys) i ≡ slice_get xs i
 slice_get_in [] ys i h = absurd (omega arith)
 slice_get_in (x ∷ xs) ys zero h = refl
 slice_get_in (x ∷ xs) ys (suc i) h = slice_get_in xs ys i (omega arith)

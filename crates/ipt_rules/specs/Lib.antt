@@ -16,6 +16,7 @@ pub mod Ranked
 pub mod Ranks
 pub mod Reached
 pub mod RuleParts
+pub mod Rules
 pub mod Saying
 pub mod SayingLaws
 pub mod Starts

@@ -1,9 +1,7 @@
--- That each chain gives one outcome; the numbers of the built-in chains, and the verdict of FORWARD.
+-- That each chain gives one outcome, and the verdict of FORWARD.
 use Rattle.std.specs.Prelude.{◌≡◌, ℕ, Bool, List, Option, drop}
 use Rattle.ipt_rules.specs.declared.rule.Rule.{Rule}
 use Rattle.host_net.specs.declared.packet.Verdict.{Verdict}
-use Rattle.ipt_rules.specs.declared.rule.BuiltIn.{BuiltIn}
-use Rattle.ipt_rules.specs.declared.rule.BuiltIn.TheVariants.{Input, Forward, Output}
 use Rattle.ipt_rules.specs.Chain.{Chain, rules_of}
 use Rattle.ipt_rules.specs.Meaning.{Gives, HasVerdictIn}
 use Rattle.host_net.specs.declared.packet.Packet.{Packet}
@@ -18,12 +16,6 @@ pub record GivesOne (fits : Rule → Bool) (chains : List Chain) (rules : List R
 -- whatever the rules fit, each chain gives one outcome from each place
 abbrev pub EachGivesOne : List Chain → Type 0
 EachGivesOne chains = (fits : Rule → Bool) (c k : ℕ) → GivesOne fits chains (drop k (rules_of chains c))
-
--- the number of a built-in chain
-abbrev pub number_of_built_in : BuiltIn → ℕ
-number_of_built_in Input = 0
-number_of_built_in Forward = 1
-number_of_built_in Output = 2
 
 -- the verdict on a packet that is forwarded: that of FORWARD, chain 1
 abbrev pub HasVerdict : List Chain → Packet → CtState → Verdict → Type 0

@@ -11,6 +11,7 @@ mod name;
 mod pieces;
 mod ranking;
 mod rule;
+mod rules;
 mod ruleset;
 mod services;
 mod starts;
@@ -20,8 +21,8 @@ mod walk;
 pub use chains::Chains;
 pub use host_net::Verdict;
 pub use name::ChainName;
-pub use rule::{AddrMatch, BuiltIn, Policy, PortMatch, ProtoMatch, Rule, StateMatch, Target};
-pub use ruleset::{BuildRefusal, Ruleset};
+pub use rule::{AddrMatch, Policy, PortMatch, ProtoMatch, Rule, StateMatch, Target};
+pub use ruleset::{BuildRefusal, FORWARD, INPUT, OUTPUT, Ruleset};
 
 #[cfg(test)]
 mod tests;

@@ -1,7 +1,6 @@
 //! One rule of a chain: which packets it fits, and what it does with them.
 
 ghost use Rattle.std.specs.Prelude.{◌≡◌, ◌&&◌, nat_le};
-ghost use Rattle.ipt_rules.specs.OneOutcome.{number_of_built_in};
 ghost use Rattle.ipt_rules.specs.Matching.{matches, address_matches, port_matches, protocol_matches, state_matches};
 
 use host_net::{CtState, Packet, Prefix};
@@ -67,27 +66,6 @@ pub struct Rule {
 pub enum Policy {
     Accept,
     Drop,
-}
-
-/// A built-in chain, by the way of the packets that come through it: to the machine itself, through
-/// it to another, or from it.
-#[derive(Clone, Copy, Debug, PartialEq, Eq)]
-pub enum BuiltIn {
-    Input,
-    Forward,
-    Output,
-}
-
-impl BuiltIn {
-    pub(crate) fn number(self) -> u16
-        ensures { result ≡ number_of_built_in self }
-    {
-        match self {
-            BuiltIn::Input => 0,
-            BuiltIn::Forward => 1,
-            BuiltIn::Output => 2,
-        }
-    }
 }
 
 impl Rule {

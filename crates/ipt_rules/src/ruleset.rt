@@ -7,13 +7,13 @@ ghost use Rattle.ipt_rules.specs.ChainTable.{IsTable, rule_count};
 ghost use Rattle.ipt_rules.specs.Build.{refusal_of, RefusedFor, first_unknown, jumps_nowhere, place_of_unknown};
 ghost use Rattle.ipt_rules.specs.Loops.{HasNoLoop};
 ghost use Rattle.ipt_rules.specs.Meaning.{HasVerdictIn};
-ghost use Rattle.ipt_rules.specs.OneOutcome.{HasVerdict, EachGivesOne, number_of_built_in};
+ghost use Rattle.ipt_rules.specs.OneOutcome.{HasVerdict, EachGivesOne};
 
 use crate::chain::Chain;
 use crate::chains::Chains;
 use crate::loops::{Ranked, rank_chains};
 use crate::ranking::{CHAIN_LIMIT, Ranking};
-use crate::rule::{BuiltIn, Rule, Target};
+use crate::rule::{Rule, Target};
 use crate::starts::starts_of;
 use crate::walk::{outcome, policy_of, policy_verdict};
 use host_net::{CtState, Packet, Verdict};
@@ -21,6 +21,13 @@ use std::alloc::Global;
 use std::marker::Model;
 
 const RULE_LIMIT: u32 = 1_000_000;
+
+/// The built-in chain of packets to the machine itself.
+pub const INPUT: u16 = 0;
+/// The built-in chain of packets that go through the machine to another.
+pub const FORWARD: u16 = 1;
+/// The built-in chain of packets from the machine itself.
+pub const OUTPUT: u16 = 2;
 
 /// Why chains make no rule set.
 #[derive(Clone, Copy, Debug, PartialEq, Eq)]
@@ -92,17 +99,18 @@ impl Ruleset {
     pub fn verdict(&self, packet: &Packet, state: CtState) -> Verdict
         ensures { HasVerdict self.now packet.now state result }
     {
-        self.verdict_in(BuiltIn::Forward, packet, state)
+        self.verdict_in(FORWARD, packet, state)
     }
 
-    /// What becomes of a packet that runs through a built-in chain in that state.
-    pub fn verdict_in(&self, chain: BuiltIn, packet: &Packet, state: CtState) -> Verdict
-        ensures { HasVerdictIn self.now (number_of_built_in chain) packet.now state result }
+    /// What becomes of a packet that runs through a built-in chain in that state: `INPUT`, `FORWARD`
+    /// or `OUTPUT`.
+    pub fn verdict_in(&self, chain: u16, packet: &Packet, state: CtState) -> Verdict
+        requires { chain < 3 }
+        ensures { HasVerdictIn self.now chain packet.now state result }
     {
-        let number = chain.number();
-        match outcome(&self.chains, &self.ranking, number, packet, state) {
+        match outcome(&self.chains, &self.ranking, chain, packet, state) {
             Some(verdict) => verdict,
-            None => policy_verdict(policy_of(&self.chains, number)),
+            None => policy_verdict(policy_of(&self.chains, chain)),
         }
     }
 }

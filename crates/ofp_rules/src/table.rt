@@ -141,6 +141,22 @@ impl Table {
         Ok(())
     }
 
+    /// How many entries there are.
+    pub fn len(&self) -> u32
+        ensures count { result ≡ length self.now }
+        ensures table { IsTable self.now }
+    {
+        self.entries.len() as u32
+    }
+
+    /// The entry at place `k`, from 0.
+    pub fn entry(&self, k: u32) -> Entry
+        requires { k < length self.now }
+        ensures { slice_get self.now k ≡ Some result }
+    {
+        self.entries[k as usize]
+    }
+
     /// What becomes of a frame. Entries that stand together and have one source are passed over
     /// at once where it does not match.
     pub fn verdict(&self, frame: &Frame) -> Verdict

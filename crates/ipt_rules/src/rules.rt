@@ -1,0 +1,42 @@
+//! The rules of a rule set one by one, for whoever looks at what they ask for.
+
+ghost use Rattle.std.specs.Prelude.{◌≡◌, ◌<◌, ◌≤◌, length, slice_get, Some};
+ghost use Rattle.ipt_rules.specs.OneOutcome.{EachGivesOne};
+ghost use Rattle.ipt_rules.specs.Rules.{all_rules};
+ghost use Rattle.ipt_rules.specs.Starts.{starts_from};
+
+use crate::chain::Chain;
+use crate::rule::Rule;
+use crate::ruleset::Ruleset;
+use crate::starts::chain_at;
+
+impl Ruleset {
+    /// How many rules stand in all chains.
+    pub fn rules(&self) -> u32
+        ensures count { result ≡ length (all_rules self.now) }
+
+        // Each chain gives every packet one outcome.
+        ensures one_outcome { EachGivesOne self.now }
+    {
+        self.rules
+    }
+
+    /// The rule at place `k`, from 0, among those of all chains in their order.
+    pub fn rule_at(&self, k: u32) -> Rule
+        requires { k < length (all_rules self.now) }
+        ensures { slice_get (all_rules self.now) k ≡ Some result }
+    {
+        rule_among(&self.chains, &self.starts, k)
+    }
+}
+
+fn rule_among(chains: &[Chain], starts: &[u32], number: u32) -> Rule
+    requires starts { starts.now ≡ starts_from 0 chains.now }
+    requires few { length chains.now ≤ 4096 }
+    requires there { number < length (all_rules chains.now) }
+    ensures { slice_get (all_rules chains.now) number ≡ Some result }
+{
+    let place = chain_at(starts, number as usize);
+    let rules = chains[place].rules();
+    rules[(number - starts[place]) as usize]
+}
