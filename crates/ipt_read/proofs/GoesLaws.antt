@@ -18,9 +18,11 @@ use Rattle.ipt_read.specs.declared.option.Given.{Given}
 use Rattle.ipt_read.specs.declared.option.Opt.{Opt}
 use Rattle.ipt_read.specs.declared.option.Opt.TheVariants.{Source, Destination, Protocol, SourcePort, DestinationPort, Interface, Module, CtState, State, Comment, Jump as JumpOption, RejectWith, LogPrefix, LogLevel}
 use Rattle.ipt_read.specs.declared.option.Place.{Place}
-use Rattle.ipt_read.specs.Options.{with_value, is_own_module, with_module, states_of, text_of, target_of, jump_to, nothing_given, target_by}
-use Rattle.ipt_read.specs.ServiceValues.{asked_protocol, asked_ports}
-use Rattle.ipt_read.specs.Grammar.{IsValue, one_word, text, IsPiece, plain, turned, ArePieces, none_left, one_more, IsRuleLine}
+use Rattle.ipt_read.specs.Options.{is_own_module, with_module, target_of, jump_to, nothing_given, target_by}
+use Rattle.ipt_read.specs.ValueSteps.{with_value, states_of, text_of}
+use Rattle.ipt_read.specs.ServiceSteps.{asked_protocol, asked_ports}
+use Rattle.ipt_read.specs.Grammar.{IsPiece, plain, turned, ArePieces, none_left, one_more, IsRuleLine}
+use Rattle.ipt_read.specs.GrammarLaws.{IsTaken, taken_word, taken_text, value_taken}
 use Rattle.ipt_read.specs.Goes.{Goes, AllGo, EachGoes}
 use Rattle.ipt_read.proofs.WithinLaws.{number_of_within}
 
@@ -146,13 +148,13 @@ value_goes chains given RejectWith negated word now h goes = same_goes (length c
 value_goes chains given LogPrefix negated word now h goes = pair_goes (length chains) _ (text_of word) now (λ x e. goes) h
 value_goes chains given LogLevel negated word now h goes = same_goes (length chains) _ now h goes
 
-whole_value_goes : (chains : List Chain) (given now : Given) (o : Opt) (negated : Bool) (ws : List (List ℕ)) → IsValue chains given o negated ws now → TargetGoes (length chains) given.target → TargetGoes (length chains) now.target
-whole_value_goes chains given now o negated ws (one_word {w = w} h) goes = value_goes chains given o negated w _ h goes
-whole_value_goes chains given now o negated ws (text {w = w} h rest) goes = value_goes chains given o negated w _ h goes
+taken_value_goes : (chains : List Chain) (given now : Given) (o : Opt) (negated : Bool) (ws : List (List ℕ)) → IsTaken chains given o negated ws now → TargetGoes (length chains) given.target → TargetGoes (length chains) now.target
+taken_value_goes chains given now o negated ws (taken_word {w = w} h) goes = value_goes chains given o negated w _ h goes
+taken_value_goes chains given now o negated ws (taken_text {w = w} h rest) goes = value_goes chains given o negated w _ h goes
 
 piece_goes : (chains : List Chain) (given now : Given) (ws : List (List ℕ)) → IsPiece chains given ws now → TargetGoes (length chains) given.target → TargetGoes (length chains) now.target
-piece_goes chains given now ws (plain {o = o} {value = value} named stands said) goes = whole_value_goes chains given now o false value said goes
-piece_goes chains given now ws (turned {o = o} {value = value} free named stands said) goes = whole_value_goes chains given now o true value said goes
+piece_goes chains given now ws (plain {o = o} {value = value} named stands said) goes = taken_value_goes chains given now o false value (value_taken chains given now o false value said) goes
+piece_goes chains given now ws (turned {o = o} {value = value} free named stands said) goes = taken_value_goes chains given now o true value (value_taken chains given now o true value said) goes
 
 pieces_go : (chains : List Chain) (given last : Given) (ws : List (List ℕ)) → ArePieces chains given ws last → TargetGoes (length chains) given.target → TargetGoes (length chains) last.target
 pieces_go chains given last ws none_left goes = goes

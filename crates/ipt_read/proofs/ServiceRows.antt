@@ -9,8 +9,9 @@ use Rattle.ipt_rules.specs.declared.rule.Rule.{Rule}
 use Rattle.ipt_rules.specs.declared.rule.Target.TheVariants.{Accept, Count}
 use Rattle.ipt_read.specs.declared.fault.IptWhy.{IptWhy}
 use Rattle.ipt_read.specs.declared.fault.IptWhy.TheVariants.{BadLine, UnknownOption, BadValue}
-use Rattle.ipt_read.specs.Options.{option_of, is_state, states_of, target_of, with_module, with_value}
-use Rattle.ipt_read.specs.ServiceValues.{asked_protocol, asked_ports}
+use Rattle.ipt_read.specs.Options.{option_of, is_state, target_of, with_module}
+use Rattle.ipt_read.specs.ValueSteps.{states_of, with_value}
+use Rattle.ipt_read.specs.ServiceSteps.{asked_protocol, asked_ports}
 use Rattle.ipt_read.specs.Counts.{is_count}
 use Rattle.ipt_read.specs.RuleLine.{is_bang, word_step, rule_line_of}
 use Rattle.ipt_read.proofs.RuleRows.{row}

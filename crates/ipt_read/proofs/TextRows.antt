@@ -14,7 +14,8 @@ use Rattle.ipt_rules.specs.Chain.{with_policy, with_rule}
 use Rattle.ipt_rules.specs.Name.{is_user_name, is_reserved}
 use Rattle.ipt_read.specs.declared.stage.Stage.TheVariants.{After}
 use Rattle.ipt_read.specs.declared.fault.IptWhy.TheVariants.{BadLine, OtherTable, BadChain, UnknownChain, Interface, UnknownTarget, NoCommit, AfterCommit}
-use Rattle.ipt_read.specs.Options.{option_of, text_of, is_state, states_of, target_of, with_module, with_value}
+use Rattle.ipt_read.specs.Options.{option_of, is_state, target_of, with_module}
+use Rattle.ipt_read.specs.ValueSteps.{text_of, states_of, with_value}
 use Rattle.ipt_read.specs.Counts.{is_count}
 use Rattle.ipt_read.specs.RuleLine.{is_bang, word_step, rule_line_of}
 use Rattle.ipt_read.specs.LineStep.{chain_line_of, body_line_of, line_of_words}

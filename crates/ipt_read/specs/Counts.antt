@@ -1,12 +1,7 @@
--- Counts of packets and bytes, as iptables-save(8) writes them with --counters.
-use Rattle.std.specs.Prelude.{ℕ, Bool, true, false, ◌&&◌, ◌==◌, nat_le, List, [], ◌∷◌, Option, Some, None, length}
-use Rattle.std.specs.Char.{is_ascii_digit}
-use Rattle.std.specs.List.{list_all}
+-- Counts of packets and bytes, as the reader reads them. Callers see none of it; they have `Values: IsCount`.
+use Rattle.std.specs.Prelude.{ℕ, Bool, true, false, ◌&&◌, ◌==◌, List, [], ◌∷◌, Option, Some, None}
 use Rattle.text_core.specs.Pieces.{split_once}
-
--- a count of packets and bytes, `[packets:bytes]`, each 1 to 20 digits
-abbrev pub is_figure : List ℕ → Bool
-is_figure bs = list_all is_ascii_digit bs && (nat_le 1 (length bs) && nat_le (length bs) 20)
+use Rattle.ipt_read.specs.Values.{is_figure}
 
 abbrev pub is_nothing : List ℕ → Bool
 is_nothing [] = true

@@ -1,20 +1,24 @@
 -- The grammar of the text of a rule set: which lines a text has, and which pieces a rule line (iptables-save(8),
 -- iptables-restore(8)).
-use Rattle.std.specs.Prelude.{◌≡◌, ℕ, ◌+◌, ◌<◌, ◌≤◌, Bool, true, false, IsTrue, IsFalse, List, [], ◌∷◌, ◌++◌, Some, None, length, codes, slice_set, ◌⊎◌}
+use Rattle.std.specs.Prelude.{◌≡◌, ℕ, ◌+◌, ◌<◌, ◌≤◌, ◌^◌, Bool, true, false, IsTrue, IsFalse, List, [], ◌∷◌, ◌++◌, Some, None, length, codes, slice_set, ◌⊎◌}
 use Rattle.text_core.specs.Lines.{lines, words}
 use Rattle.text_core.specs.Reading.{Follows}
+use Rattle.host_net.specs.declared.prefix.Prefix.{Prefix}
+use Rattle.host_net.specs.PrefixView.{IsSpelling}
 use Rattle.ipt_rules.specs.declared.rule.Policy.{Policy}
 use Rattle.ipt_rules.specs.declared.rule.Rule.{Rule}
+use Rattle.ipt_rules.specs.declared.rule.Target.{Target}
 use Rattle.ipt_rules.specs.Chain.{Chain, number_of, user_chain, with_policy, with_rule}
 use Rattle.ipt_rules.specs.Loops.{HasNoLoop}
 use Rattle.ipt_rules.specs.Name.{is_user_name}
 use Rattle.ipt_rules.specs.Text.{policy_text}
 use Rattle.ipt_read.specs.declared.option.Opt.{Opt}
+use Rattle.ipt_read.specs.declared.option.Opt.TheVariants.{Source, Destination, Protocol, SourcePort, DestinationPort, Module, CtState, State, Comment, Jump, RejectWith, LogPrefix, LogLevel}
 use Rattle.ipt_read.specs.declared.option.Given.{Given}
-use Rattle.ipt_read.specs.declared.option.Place.TheVariants.{AtOption, InText}
 use Rattle.ipt_read.specs.declared.stage.Stage.TheVariants.{Front, Table, After}
-use Rattle.ipt_read.specs.Options.{option_of, may_stand, is_interface, takes_bang, is_given, quoted, with_value, nothing_given, rule_of}
-use Rattle.ipt_read.specs.Counts.{is_count}
+use Rattle.ipt_read.specs.Options.{option_of, may_stand, is_interface, takes_bang, is_given, with_module, target_of, nothing_given, rule_of}
+use Rattle.ipt_read.specs.ServiceValues.{IsProtocolWord, ArePortsWord}
+use Rattle.ipt_read.specs.Values.{IsCount, IsText, IsStateList}
 use Rattle.ipt_read.specs.Said.{SaidSoFar, nothing_said, line_of}
 
 -- an option may stand after what is given, with `!` before it or not: it is no interface, takes the `!`, and was not given where
@@ -25,17 +29,29 @@ pub record Stands (given : Given) (negated : Bool) (o : Opt) : Type 0 where
   pub bang : negated ≡ true → IsTrue (takes_bang o)
   pub once : IsFalse (is_given given o)
 
--- the further words of a quoted text: it is open up to the last, which closes it
-pub data IsRestOfText : List (List ℕ) → Type 0 where
-  closing : {w : List ℕ} → quoted false w ≡ Some AtOption → IsRestOfText (w ∷ [])
-  open_still : {w : List ℕ} {ws : List (List ℕ)} → quoted false w ≡ Some InText → IsRestOfText ws → IsRestOfText (w ∷ ws)
-
--- the value of an option: one word, or a quoted text over several
-pub data IsValue (chains : List Chain) (given : Given) (o : Opt) (negated : Bool) : List (List ℕ) → Given → Type 0 where
-  one_word : {w : List ℕ} {now : Given} → with_value chains given o negated w ≡ Some (now, AtOption)
-      → IsValue chains given o negated (w ∷ []) now
-  text : {w : List ℕ} {ws : List (List ℕ)} {now : Given} → with_value chains given o negated w ≡ Some (now, InText)
-      → IsRestOfText ws → IsValue chains given o negated (w ∷ ws) now
+-- the value of an option, with `!` before it or not, and what is given with it
+pub data IsValue (chains : List Chain) (given : Given) : Opt → Bool → List (List ℕ) → Given → Type 0 where
+  source : {w : List ℕ} {negated : Bool} (p : Prefix) → p.addr < 2 ^ 32 → IsSpelling w p
+      → IsValue chains given Source negated (w ∷ []) (record given { src = Some (record { prefix = p; negated = negated }) })
+  destination : {w : List ℕ} {negated : Bool} (p : Prefix) → p.addr < 2 ^ 32 → IsSpelling w p
+      → IsValue chains given Destination negated (w ∷ []) (record given { dst = Some (record { prefix = p; negated = negated }) })
+  protocol : {w : List ℕ} {negated : Bool} (proto : ℕ) → IsProtocolWord w proto
+      → IsValue chains given Protocol negated (w ∷ []) (record given { proto = Some (record { proto = proto; negated = negated }) })
+  source_port : {w : List ℕ} {negated : Bool} (low high : ℕ) → ArePortsWord w low high
+      → IsValue chains given SourcePort negated (w ∷ []) (record given { sport = Some (record { low = low; high = high; negated = negated }) })
+  destination_port : {w : List ℕ} {negated : Bool} (low high : ℕ) → ArePortsWord w low high
+      → IsValue chains given DestinationPort negated (w ∷ []) (record given { dport = Some (record { low = low; high = high; negated = negated }) })
+  module_name : {w : List ℕ} {negated : Bool} {now : Given} → with_module given w ≡ Some now → IsValue chains given Module negated (w ∷ []) now
+  ct_states : {w : List ℕ} {negated : Bool} (new established : Bool) → IsStateList w new established
+      → IsValue chains given CtState negated (w ∷ []) (record given { state = Some (record { new = new; established = established; negated = negated }) })
+  states : {w : List ℕ} {negated : Bool} (new established : Bool) → IsStateList w new established
+      → IsValue chains given State negated (w ∷ []) (record given { state = Some (record { new = new; established = established; negated = negated }) })
+  comment : {ws : List (List ℕ)} {negated : Bool} → IsText ws → IsValue chains given Comment negated ws given
+  target : {w : List ℕ} {negated : Bool} (t : Target) (logs : Bool) → target_of chains w ≡ Some (t, logs)
+      → IsValue chains given Jump negated (w ∷ []) (record given { target = Some t; logs = logs })
+  reject_with : {w : List ℕ} {negated : Bool} → IsValue chains given RejectWith negated (w ∷ []) given
+  log_prefix : {ws : List (List ℕ)} {negated : Bool} → IsText ws → IsValue chains given LogPrefix negated ws given
+  log_level : {w : List ℕ} {negated : Bool} → IsValue chains given LogLevel negated (w ∷ []) given
 
 -- a piece: an option and its value, maybe after `!`
 pub data IsPiece (chains : List Chain) (given : Given) : List (List ℕ) → Given → Type 0 where
@@ -52,7 +68,7 @@ pub data ArePieces (chains : List Chain) : Given → List (List ℕ) → Given �
 
 -- a count of packets and bytes in front, or nothing
 abbrev pub IsFront : List (List ℕ) → Type 0
-IsFront front = (front ≡ []) ⊎ ((count : List ℕ) × IsTrue (is_count count) × (front ≡ count ∷ []))
+IsFront front = (front ≡ []) ⊎ ((count : List ℕ) × IsCount count × (front ≡ count ∷ []))
 
 -- the words of a rule line: `-A`, a chain that is there, and pieces that make the rule
 pub record IsRuleLine (chains : List Chain) (ws : List (List ℕ)) (c : ℕ) (rule : Rule) : Type 0 where

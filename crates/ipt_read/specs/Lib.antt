@@ -4,6 +4,9 @@ pub mod FaultLaws
 pub mod FineRulesLaws
 pub mod Goes
 pub mod Grammar
+pub mod GrammarLaws
+pub mod LineFault
+pub mod LineFaultLaws
 pub mod LineLaws
 pub mod LineStep
 pub mod LinesAgainLaws
@@ -12,8 +15,10 @@ pub mod PartLaws
 pub mod PieceLaws
 pub mod PrintedLaws
 pub mod ReadAnswers
+pub mod RuleFaultLaws
 pub mod RuleLine
 pub mod Said
+pub mod ServiceSteps
 pub mod ServiceValueLaws
 pub mod ServiceValues
 pub mod State
@@ -23,6 +28,7 @@ pub mod TextLaws
 pub mod TextLines
 pub mod TextSteps
 pub mod ValueLaws
+pub mod ValueSteps
 pub mod Values
 pub mod WrittenLaws
 pub mod WrittenTextLaws

@@ -23,6 +23,7 @@ use Rattle.ipt_read.specs.RuleLine.{word_by_word, rule_in, append_of, rule_line_
 use Rattle.ipt_read.specs.Said.{SaidSoFar, line_of}
 use Rattle.ipt_read.specs.LineStep.{no_words, table_line_of, policy_word, built_in_policy, with_built_in, declare, declare_by, chain_line_of, with_read_rule, commit_line_of, body_line_of, line_at, line_of_words, line_step}
 use Rattle.ipt_read.specs.Grammar.{ArePieces, IsFront, IsRuleLine, IsChainLine, IsLine, table, built_in, user, rule, commit, IsTextLine}
+use Rattle.ipt_read.specs.ValueLaws.{count_said, said_count}
 use Rattle.ipt_read.specs.PieceLaws.{goes_parts, pieces_of_read, read_of_pieces}
 
 -- 1. Rule lines.
@@ -65,7 +66,7 @@ unfolding rule_line_of
 rule_line_of_read chains [] k r h = cc
 rule_line_of_read chains (w ∷ ws) k r h = elim (if_parts (begins_with 91 w) _ (append_of chains (w ∷ ws)) (Ok (k, r)) h) [
   | inl figure ↦ elim (if_parts (is_count w) (append_of chains ws) (Err BadLine) (Ok (k, r)) figure.1) [
-    | inl count ↦ append_line chains (w ∷ []) ws k r (inr (w, count.0, refl)) count.1
+    | inl count ↦ append_line chains (w ∷ []) ws k r (inr (w, count_said w count.0, refl)) count.1
     | inr bad ↦ cc
   ]
   | inr bare ↦ append_line chains [] (w ∷ ws) k r (inl refl) bare.1
@@ -75,7 +76,7 @@ first_true : (a b : Bool) → (a && b) ≡ true → a ≡ true
 first_true true b h = refl
 first_true false b h = cc
 
-count_begins : (w : List ℕ) → is_count w ≡ true → begins_with 91 w ≡ true
+pub count_begins : (w : List ℕ) → is_count w ≡ true → begins_with 91 w ≡ true
 unfolding is_count
 count_begins [] h = cc
 count_begins (b ∷ bs) h = first_true (b == 91) (is_packets_part (split_once 58 bs)) h
@@ -93,7 +94,7 @@ line_read chains front name pieces c given (inl bare) number fit =
     subst (λ (f : List (List ℕ)). rule_line_of chains (f ++ (codes "-A" ∷ name ∷ pieces)) ≡ Ok (c, rule_of given)) (sym bare) (append_read chains name pieces c given number fit)
 line_read chains front name pieces c given (inr count) number fit =
     subst (λ (f : List (List ℕ)). rule_line_of chains (f ++ (codes "-A" ∷ name ∷ pieces)) ≡ Ok (c, rule_of given)) (sym count.2)
-    (counted_read chains count.0 (codes "-A" ∷ name ∷ pieces) c (rule_of given) count.1 (append_read chains name pieces c given number fit))
+    (counted_read chains count.0 (codes "-A" ∷ name ∷ pieces) c (rule_of given) (said_count count.0 count.1) (append_read chains name pieces c given number fit))
 
 pub read_of_rule_line : (chains : List Chain) (ws : List (List ℕ)) (k : ℕ) (r : Rule) → IsRuleLine chains ws k r → rule_line_of chains ws ≡ Ok (k, r)
 read_of_rule_line chains ws k r line =
@@ -102,9 +103,9 @@ read_of_rule_line chains ws k r line =
 -- 2. Chain lines.
 
 front_of_count : (count : List ℕ) → IsTrue (is_count count) → IsFront (count ∷ [])
-front_of_count count h = inr (count, h, refl)
+front_of_count count h = inr (count, count_said count h, refl)
 
-policy_behind : (ws : List (List ℕ)) (p : List ℕ) → policy_word ws ≡ Some p → (behind : List (List ℕ)) × IsFront behind × (ws ≡ p ∷ behind)
+pub policy_behind : (ws : List (List ℕ)) (p : List ℕ) → policy_word ws ≡ Some p → (behind : List (List ℕ)) × IsFront behind × (ws ≡ p ∷ behind)
 policy_behind [] p h = cc
 policy_behind (q ∷ []) p h = let e : q ≡ p = cc in ([], inl refl, ap (λ v. v ∷ []) e)
 policy_behind (q ∷ count ∷ []) p h = elim (if_parts (is_count count) (Some q) None (Some p) h) [
@@ -116,15 +117,15 @@ policy_behind (q ∷ count ∷ more ∷ ws) p h = cc
 counted_policy : (p count : List ℕ) → IsTrue (is_count count) → policy_word (p ∷ count ∷ []) ≡ Some p
 counted_policy p count h = rw h refl
 
-policy_read : (p : List ℕ) (behind : List (List ℕ)) → IsFront behind → policy_word (p ∷ behind) ≡ Some p
+pub policy_read : (p : List ℕ) (behind : List (List ℕ)) → IsFront behind → policy_word (p ∷ behind) ≡ Some p
 policy_read p behind (inl bare) = ap (λ b. policy_word (p ∷ b)) bare
-policy_read p behind (inr count) = ap (λ b. policy_word (p ∷ b)) count.2 ∙ counted_policy p count.0 count.1
+policy_read p behind (inr count) = ap (λ b. policy_word (p ∷ b)) count.2 ∙ counted_policy p count.0 (said_count count.0 count.1)
 
-colon_word : (w : List ℕ) → begins_with 58 w ≡ true → w ≡ 58 ∷ drop 1 w
+pub colon_word : (w : List ℕ) → begins_with 58 w ≡ true → w ≡ 58 ∷ drop 1 w
 colon_word [] h = cc
 colon_word (b ∷ bs) h = let e : b ≡ 58 = grind (arith, nat_tests) in ap (λ c. c ∷ bs) e
 
-built_in_said : (word : List ℕ) (p : Policy) → built_in_policy word ≡ Some p → word ≡ policy_text (Some p)
+pub built_in_said : (word : List ℕ) (p : Policy) → built_in_policy word ≡ Some p → word ≡ policy_text (Some p)
 built_in_said word p h = elim (if_parts (bytes_eq word (codes "ACCEPT")) (Some Accept) _ (Some p) h) [
   | inl accept ↦ let e : Accept ≡ p = cc in bytes_same word (codes "ACCEPT") accept.0 ∙ ap (λ q. policy_text (Some q)) e
   | inr rest ↦ elim (if_parts (bytes_eq word (codes "DROP")) (Some Drop) None (Some p) rest.1) [
@@ -133,7 +134,7 @@ built_in_said word p h = elim (if_parts (bytes_eq word (codes "ACCEPT")) (Some A
   ]
 ]
 
-built_in_read : (p : Policy) → built_in_policy (policy_text (Some p)) ≡ Some p
+pub built_in_read : (p : Policy) → built_in_policy (policy_text (Some p)) ≡ Some p
 built_in_read Accept = refl
 built_in_read Drop = refl
 
@@ -198,7 +199,7 @@ rule_line_by n s t ws (Ok r) stage read h = elim (if_parts (nat_lt 999999 s.rule
       subst (λ (u : SaidSoFar). IsLine n s ws u) e (rule stage (rule_line_of_read s.chains ws r.0 r.1 read) room)
 ]
 
-nothing_behind : (ws : List (List ℕ)) → not (no_words ws) ≡ false → ws ≡ []
+pub nothing_behind : (ws : List (List ℕ)) → not (no_words ws) ≡ false → ws ≡ []
 nothing_behind [] h = refl
 nothing_behind (w ∷ ws) h = cc
 
@@ -304,7 +305,7 @@ rule_in_body n s t front name pieces stage (inl bare) h =
     (λ g. in_body n s t (codes "-A") (name ∷ pieces) stage g) h
 rule_in_body n s t front name pieces stage (inr count) h =
     subst (λ (f : List (List ℕ)). with_read_rule s (rule_line_of s.chains (f ++ (codes "-A" ∷ name ∷ pieces))) ≡ Ok t → line_of_words n s (f ++ (codes "-A" ∷ name ∷ pieces)) ≡ Ok t) (sym count.2)
-    (λ g. in_body n s t count.0 (codes "-A" ∷ name ∷ pieces) stage (rw (count_is_no_chain count.0 (count_begins count.0 count.1), count_begins count.0 count.1, or_true (bytes_eq count.0 (codes "-A"))) g)) h
+    (λ g. in_body n s t count.0 (codes "-A" ∷ name ∷ pieces) stage (rw (count_is_no_chain count.0 (count_begins count.0 (said_count count.0 count.1)), count_begins count.0 (said_count count.0 count.1), or_true (bytes_eq count.0 (codes "-A"))) g)) h
 
 words_read : (n : ℕ) (s t : SaidSoFar) (ws : List (List ℕ)) → IsLine n s ws t → line_of_words n s ws ≡ Ok t
 unfolding line_of_words body_line_of

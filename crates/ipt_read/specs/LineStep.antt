@@ -1,5 +1,5 @@
--- One line of a text, from its first word on: what the lines say with it, or why it cannot stand there (iptables-restore(8)).
--- `Grammar` says without steps what they say; here only the order of reasons is told.
+-- One line of a text as the reader goes through it, from its first word on: what the lines say with it, or why it cannot stand there.
+-- Callers see none of it; they have `Grammar` and `LineFault`.
 use Rattle.std.specs.Prelude.{ℕ, ◌+◌, Bool, true, false, ◌&&◌, ◌||◌, not, ◌==◌, nat_lt, if◌then◌else◌, List, [], ◌∷◌, ◌++◌, Option, Some, None, Result, Ok, Err, length, drop, codes, bytes_eq, slice_set}
 use Rattle.text_core.specs.Lines.{words, begins_with}
 use Rattle.ipt_rules.specs.declared.rule.Policy.{Policy}

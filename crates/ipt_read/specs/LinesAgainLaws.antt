@@ -16,7 +16,7 @@ use Rattle.ipt_rules.specs.ChainTable.{rule_count}
 use Rattle.ipt_rules.specs.Name.{is_user_name}
 use Rattle.ipt_rules.specs.Text.{newline, policy_text, chain_line, rule_line, rule_lines, commit_line}
 use Rattle.ipt_read.specs.declared.stage.Stage.TheVariants.{Table, After}
-use Rattle.ipt_read.specs.Counts.{is_count}
+use Rattle.ipt_read.specs.Values.{IsCount}
 use Rattle.ipt_read.specs.Said.{SaidSoFar}
 use Rattle.ipt_read.specs.Grammar.{IsLine, user, rule, commit, IsTextLine}
 use Rattle.ipt_read.specs.WrittenWords.{rule_words}
@@ -71,9 +71,8 @@ says_commit chains rules = λ n d.
 abbrev pub user_words : List ℕ → List (List ℕ)
 user_words name = (58 ∷ name) ∷ codes "-" ∷ codes "[0:0]" ∷ []
 
-pub zero_count : is_count (codes "[0:0]") ≡ true
-unfolding is_count
-zero_count = refl
+pub zero_count : IsCount (codes "[0:0]")
+zero_count = record { packets = codes "0"; bytes = codes "0"; are_figures = (refl, refl); written = refl }
 
 -- each user chain has a new name, a legal one, and there is room
 abbrev pub AreNew : List Chain → List Chain → Type 0

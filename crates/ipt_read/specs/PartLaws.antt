@@ -17,10 +17,12 @@ use Rattle.ipt_read.specs.declared.option.Given.{Given}
 use Rattle.ipt_read.specs.declared.option.Opt.{Opt}
 use Rattle.ipt_read.specs.declared.option.Opt.TheVariants.{Source, Destination, Protocol, SourcePort, DestinationPort, Interface, Module, CtState, State, Comment, Jump, RejectWith, LogPrefix, LogLevel}
 use Rattle.ipt_read.specs.declared.option.Place.{Place}
-use Rattle.ipt_read.specs.Options.{with_value, is_own_module, with_module, states_of, text_of, target_of, nothing_given, rule_of, port_match, protocol_match}
-use Rattle.ipt_read.specs.ServiceValues.{asked_protocol, asked_ports}
+use Rattle.ipt_read.specs.Options.{is_own_module, with_module, target_of, nothing_given, rule_of}
+use Rattle.ipt_read.specs.ValueSteps.{with_value, states_of, text_of, port_match, protocol_match}
+use Rattle.ipt_read.specs.ServiceSteps.{asked_protocol, asked_ports}
 use Rattle.ipt_read.specs.ServiceValueLaws.{protocol_said, ports_said}
-use Rattle.ipt_read.specs.Grammar.{Stands, IsValue, one_word, text, IsPiece, plain, turned, ArePieces, none_left, one_more, IsRuleLine}
+use Rattle.ipt_read.specs.Grammar.{Stands, IsPiece, plain, turned, ArePieces, none_left, one_more, IsRuleLine}
+use Rattle.ipt_read.specs.GrammarLaws.{IsTaken, taken_word, taken_text, value_taken}
 
 -- 1. The parts of a rule.
 
@@ -142,13 +144,13 @@ value_gives chains given RejectWith negated word now stands h gives = same_gives
 value_gives chains given LogPrefix negated word now stands h gives = pair_gives _ (text_of word) now (λ x e. gives) h
 value_gives chains given LogLevel negated word now stands h gives = same_gives _ now h gives
 
-whole_value_gives : (chains : List Chain) (given now : Given) (o : Opt) (negated : Bool) (ws : List (List ℕ)) → Stands given negated o → IsValue chains given o negated ws now → GivesParts given → GivesParts now
-whole_value_gives chains given now o negated ws stands (one_word {w = w} h) gives = value_gives chains given o negated w _ stands h gives
-whole_value_gives chains given now o negated ws stands (text {w = w} h rest) gives = value_gives chains given o negated w _ stands h gives
+taken_value_gives : (chains : List Chain) (given now : Given) (o : Opt) (negated : Bool) (ws : List (List ℕ)) → Stands given negated o → IsTaken chains given o negated ws now → GivesParts given → GivesParts now
+taken_value_gives chains given now o negated ws stands (taken_word {w = w} h) gives = value_gives chains given o negated w _ stands h gives
+taken_value_gives chains given now o negated ws stands (taken_text {w = w} h rest) gives = value_gives chains given o negated w _ stands h gives
 
 piece_gives : (chains : List Chain) (given now : Given) (ws : List (List ℕ)) → IsPiece chains given ws now → GivesParts given → GivesParts now
-piece_gives chains given now ws (plain {o = o} {value = value} named stands said) gives = whole_value_gives chains given now o false value stands said gives
-piece_gives chains given now ws (turned {o = o} {value = value} free named stands said) gives = whole_value_gives chains given now o true value stands said gives
+piece_gives chains given now ws (plain {o = o} {value = value} named stands said) gives = taken_value_gives chains given now o false value stands (value_taken chains given now o false value said) gives
+piece_gives chains given now ws (turned {o = o} {value = value} free named stands said) gives = taken_value_gives chains given now o true value stands (value_taken chains given now o true value said) gives
 
 pieces_give : (chains : List Chain) (given last : Given) (ws : List (List ℕ)) → ArePieces chains given ws last → GivesParts given → GivesParts last
 pieces_give chains given last ws none_left gives = gives

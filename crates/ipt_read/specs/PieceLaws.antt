@@ -13,10 +13,14 @@ use Rattle.ipt_read.specs.declared.option.Opt.TheVariants.{Source, Destination, 
 use Rattle.ipt_read.specs.declared.option.Given.{Given}
 use Rattle.ipt_read.specs.declared.option.Place.{Place}
 use Rattle.ipt_read.specs.declared.option.Place.TheVariants.{AtOption, AfterBang, AtValue, InText}
-use Rattle.ipt_read.specs.Options.{option_of, may_stand, is_interface, takes_bang, is_given, closes, quoted, text_of, states_of, target_of, with_module, with_value, value_refusal}
-use Rattle.ipt_read.specs.ServiceValues.{asked_protocol, asked_ports}
+use Rattle.ipt_read.specs.Options.{option_of, may_stand, is_interface, takes_bang, is_given, target_of, with_module, value_refusal}
+use Rattle.ipt_read.specs.ValueSteps.{closes, quoted, text_of, states_of, with_value}
+use Rattle.ipt_read.specs.ServiceSteps.{asked_protocol, asked_ports}
 use Rattle.ipt_read.specs.RuleLine.{at_option, is_bang, word_step, goes_on, word_by_word}
-use Rattle.ipt_read.specs.Grammar.{Stands, IsRestOfText, closing, open_still, IsValue, one_word, text, IsPiece, plain, turned, ArePieces, none_left, one_more}
+use Rattle.ipt_read.specs.Values.{IsRestOfText, closing, open_still}
+use Rattle.ipt_read.specs.ValueLaws.{text_ends, ends_text, text_open, open_text}
+use Rattle.ipt_read.specs.Grammar.{Stands, IsValue, IsPiece, plain, turned, ArePieces, none_left, one_more}
+use Rattle.ipt_read.specs.GrammarLaws.{one_word, text, IsTaken, taken_word, taken_text, value_taken}
 
 -- where the whole gave a value, each step gave one
 pub goes_parts : {A B : Type 0} (r : Result A IptWhy) (f : A → Result B IptWhy) (y : B) → goes_on r f ≡ Ok y → (x : A) × (r ≡ Ok x) × (f x ≡ Ok y)
@@ -24,14 +28,14 @@ goes_parts (Ok x) f y h = (x, refl, h)
 goes_parts (Err why) f y h = cc
 
 -- after a word of a text an option stands, or the text goes on
-abbrev IsBehindValue : Place → Type 0
+abbrev pub IsBehindValue : Place → Type 0
 IsBehindValue place = (place ≡ AtOption) ⊎ (place ≡ InText)
 
 closes_place : (bs : List ℕ) (place : Place) → closes bs ≡ Some place → IsBehindValue place
 closes_place [] place h = inl cc
 closes_place (b ∷ bs) place h = cc
 
-quoted_place : (taken : Bool) (bs : List ℕ) (place : Place) → quoted taken bs ≡ Some place → IsBehindValue place
+pub quoted_place : (taken : Bool) (bs : List ℕ) (place : Place) → quoted taken bs ≡ Some place → IsBehindValue place
 quoted_place taken [] place h = inr cc
 quoted_place taken (b ∷ bs) place h = elim (if_parts taken (quoted false bs) _ (Some place) h) [
   | inl behind ↦ quoted_place false bs place behind.1
@@ -65,7 +69,7 @@ text_value_place given now word place h =
     let parts = map_parts {B = Given × Place} (λ p. (given, p)) (text_of word) (now, place) h in
     text_place word place (parts.1 ∙ ap (λ p. Some p) (same_place (given, parts.0) (now, place) parts.2))
 
-value_place : (chains : List Chain) (given now : Given) (o : Opt) (negated : Bool) (word : List ℕ) (place : Place) → with_value chains given o negated word ≡ Some (now, place) → IsBehindValue place
+pub value_place : (chains : List Chain) (given now : Given) (o : Opt) (negated : Bool) (word : List ℕ) (place : Place) → with_value chains given o negated word ≡ Some (now, place) → IsBehindValue place
 unfolding with_value
 value_place chains given now Source negated word place h = at_place _ (prefix_of word) now place (λ x. refl) h
 value_place chains given now Destination negated word place h = at_place _ (prefix_of word) now place (λ x. refl) h
@@ -87,9 +91,9 @@ value_place chains given now LogLevel negated word place h =
     inl (sym (same_place (given, AtOption) (now, place) e))
 
 -- what an option in its place says
-record IsOptionAt (given : Given) (negated : Bool) (o : Opt) (now : Given × Place) : Type 0 where
-  stands : Stands given negated o
-  behind : now ≡ (given, AtValue o negated)
+pub record IsOptionAt (given : Given) (negated : Bool) (o : Opt) (now : Given × Place) : Type 0 where
+  pub stands : Stands given negated o
+  pub behind : now ≡ (given, AtValue o negated)
 
 bar_parts : (negated bang once : Bool) → ((negated && not bang) || once) ≡ false → (negated ≡ true → bang ≡ true) × (once ≡ false)
 bar_parts true true true h = cc
@@ -98,7 +102,7 @@ bar_parts true false once h = cc
 bar_parts false bang true h = cc
 bar_parts false bang false h = (λ e. cc, refl)
 
-option_at : (given : Given) (negated : Bool) (option : Option Opt) (now : Given × Place) → at_option given negated option ≡ Ok now → (o : Opt) × (option ≡ Some o) × IsOptionAt given negated o now
+pub option_at : (given : Given) (negated : Bool) (option : Option Opt) (now : Given × Place) → at_option given negated option ≡ Ok now → (o : Opt) × (option ≡ Some o) × IsOptionAt given negated o now
 option_at given negated None now h = cc
 option_at given negated (Some o) now h = elim (if_parts (not (may_stand given o)) (Err UnknownOption) _ (Ok now) h) [
   | inl bad ↦ cc
@@ -115,7 +119,7 @@ option_at given negated (Some o) now h = elim (if_parts (not (may_stand given o)
 ]
 
 -- what is left of the words of a line, by the place of the first
-abbrev IsLeft : List Chain → Given → Place → List (List ℕ) → Given → Type 0
+abbrev pub IsLeft : List Chain → Given → Place → List (List ℕ) → Given → Type 0
 IsLeft chains given AtOption ws last = ArePieces chains given ws last
 IsLeft chains given AfterBang ws last = given.target ≡ None → ArePieces chains given (codes "!" ∷ ws) last
 IsLeft chains given (AtValue o negated) ws last =
@@ -140,7 +144,7 @@ none_of : {A : Type 0} (o : Option A) → not (is_some o) ≡ true → o ≡ Non
 none_of None h = refl
 none_of (Some x) h = cc
 
-bang_parts : (given : Given) (w : List ℕ) → is_bang given w ≡ true → (given.target ≡ None) × (w ≡ codes "!")
+pub bang_parts : (given : Given) (w : List ℕ) → is_bang given w ≡ true → (given.target ≡ None) × (w ≡ codes "!")
 unfolding is_bang
 bang_parts given w h =
     let parts = both (not (is_some given.target)) (bytes_eq w (codes "!")) h in
@@ -165,21 +169,21 @@ at_step chains given last (AtValue o negated) w ws t step left =
     let said : with_value chains given o negated w ≡ Some (t.0, t.1) = ok_or_parts (with_value chains given o negated w) (value_refusal o) t step in
     elim (value_place chains given t.0 o negated w t.1 said) [
       | inl option ↦ (w ∷ [], ws, t.0, refl, one_word (said ∙ ap (λ p. Some (t.0, p)) option), subst (λ (p : Place). IsLeft chains t.0 p ws last) option left)
-      | inr open_text ↦
-          let rest = subst (λ (p : Place). IsLeft chains t.0 p ws last) open_text left in
-          (w ∷ rest.0, rest.1, t.0, ap (λ vs. w ∷ vs) rest.2, text (said ∙ ap (λ p. Some (t.0, p)) open_text) rest.3, rest.4)
+      | inr behind ↦
+          let rest = subst (λ (p : Place). IsLeft chains t.0 p ws last) behind left in
+          (w ∷ rest.0, rest.1, t.0, ap (λ vs. w ∷ vs) rest.2, text (said ∙ ap (λ p. Some (t.0, p)) behind) rest.3, rest.4)
     ]
 at_step chains given last InText w ws t step left =
     let parts = map_parts {B = Given × Place} (λ p. (given, p)) (quoted false w) t (ok_or_parts (option_map (λ p. (given, p)) (quoted false w)) BadValue t step) in
     let there = subst (λ (p : Given × Place). IsLeft chains p.0 p.1 ws last) (sym parts.2) left in
     elim (quoted_place false w parts.0 parts.1) [
-      | inl option ↦ (w ∷ [], ws, refl, closing (parts.1 ∙ ap (λ p. Some p) option), subst (λ (p : Place). IsLeft chains given p ws last) option there)
-      | inr open_text ↦
-          let rest = subst (λ (p : Place). IsLeft chains given p ws last) open_text there in
-          (w ∷ rest.0, rest.1, ap (λ vs. w ∷ vs) rest.2, open_still (parts.1 ∙ ap (λ p. Some p) open_text) rest.3, rest.4)
+      | inl option ↦ (w ∷ [], ws, refl, closing (text_ends w (parts.1 ∙ ap (λ p. Some p) option)), subst (λ (p : Place). IsLeft chains given p ws last) option there)
+      | inr behind ↦
+          let rest = subst (λ (p : Place). IsLeft chains given p ws last) behind there in
+          (w ∷ rest.0, rest.1, ap (λ vs. w ∷ vs) rest.2, open_still (text_open w (parts.1 ∙ ap (λ p. Some p) behind)) rest.3, rest.4)
     ]
 
-pieces_left : (chains : List Chain) (given last : Given) (place : Place) (ws : List (List ℕ)) → word_by_word chains given place ws ≡ Ok last → IsLeft chains given place ws last
+pub pieces_left : (chains : List Chain) (given last : Given) (place : Place) (ws : List (List ℕ)) → word_by_word chains given place ws ≡ Ok last → IsLeft chains given place ws last
 pieces_left chains given last AtOption [] h = let e : given ≡ last = cc in subst (λ (g : Given). ArePieces chains given [] g) e none_left
 pieces_left chains given last AfterBang [] h = cc
 pieces_left chains given last (AtValue o negated) [] h = cc
@@ -194,13 +198,16 @@ pieces_of_read chains given last ws h = pieces_left chains given last AtOption w
 -- complete: pieces are read
 rest_read : (chains : List Chain) (given : Given) (ws vs : List (List ℕ)) → IsRestOfText ws → word_by_word chains given InText (ws ++ vs) ≡ word_by_word chains given AtOption vs
 unfolding word_step
-rest_read chains given ws vs (closing {w = w} h) = rw h refl
-rest_read chains given ws vs (open_still {w = w} {ws = rest} h others) = rw h (rest_read chains given rest vs others)
+rest_read chains given ws vs (closing {w = w} ends) = rw (ends_text w ends) refl
+rest_read chains given ws vs (open_still {w = w} {ws = rest} is others) = rw (open_text w is) (rest_read chains given rest vs others)
+
+taken_read : (chains : List Chain) (given now : Given) (o : Opt) (negated : Bool) (ws vs : List (List ℕ)) → IsTaken chains given o negated ws now → word_by_word chains given (AtValue o negated) (ws ++ vs) ≡ word_by_word chains now AtOption vs
+unfolding word_step
+taken_read chains given now o negated ws vs (taken_word h) = rw h refl
+taken_read chains given now o negated ws vs (taken_text {ws = rest} h others) = rw h (rest_read chains now rest vs others)
 
 value_read : (chains : List Chain) (given now : Given) (o : Opt) (negated : Bool) (ws vs : List (List ℕ)) → IsValue chains given o negated ws now → word_by_word chains given (AtValue o negated) (ws ++ vs) ≡ word_by_word chains now AtOption vs
-unfolding word_step
-value_read chains given now o negated ws vs (one_word h) = rw h refl
-value_read chains given now o negated ws vs (text {ws = rest} h others) = rw h (rest_read chains now rest vs others)
+value_read chains given now o negated ws vs is = taken_read chains given now o negated ws vs (value_taken chains given now o negated ws is)
 
 bar_none : (negated bang once : Bool) → (negated ≡ true → bang ≡ true) → once ≡ false → ((negated && not bang) || once) ≡ false
 bar_none true true once takes given = given
@@ -211,7 +218,7 @@ and_false : (b : Bool) → (b && false) ≡ false
 and_false true = refl
 and_false false = refl
 
-stands_at : (given : Given) (negated : Bool) (o : Opt) → Stands given negated o → at_option given negated (Some o) ≡ Ok (given, AtValue o negated)
+pub stands_at : (given : Given) (negated : Bool) (o : Opt) → Stands given negated o → at_option given negated (Some o) ≡ Ok (given, AtValue o negated)
 stands_at given negated o stands = rw (stands.here, stands.address, bar_none negated (takes_bang o) (is_given given o) stands.bang stands.once) refl
 
 is_no_bang : (given : Given) (name : List ℕ) (o : Opt) → option_of name ≡ Some o → is_bang given name ≡ false
@@ -220,11 +227,11 @@ is_no_bang given name o named = split_bool (bytes_eq name (codes "!"))
     (λ same. let e = ap option_of (bytes_same name (codes "!") same) in cc)
     (λ other. rw other (and_false (not (is_some given.target))))
 
-bang_stands : (given : Given) → given.target ≡ None → is_bang given (codes "!") ≡ true
+pub bang_stands : (given : Given) → given.target ≡ None → is_bang given (codes "!") ≡ true
 unfolding is_bang
 bang_stands given free = rw free refl
 
-piece_read : (chains : List Chain) (given now : Given) (ws vs : List (List ℕ)) → IsPiece chains given ws now → word_by_word chains given AtOption (ws ++ vs) ≡ word_by_word chains now AtOption vs
+pub piece_read : (chains : List Chain) (given now : Given) (ws vs : List (List ℕ)) → IsPiece chains given ws now → word_by_word chains given AtOption (ws ++ vs) ≡ word_by_word chains now AtOption vs
 unfolding word_step
 piece_read chains given now ws vs (plain {name = name} {o = o} {value = value} named stands value_is) =
     rw (is_no_bang given name o named, named, stands_at given false o stands) (value_read chains given now o false value vs value_is)

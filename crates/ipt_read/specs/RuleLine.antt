@@ -1,5 +1,5 @@
 -- A rule line, word by word: what each word gives, or why it cannot stand there. The first such word refuses the line.
--- `Grammar` says without steps which rule a line writes; here only the order of reasons is told.
+-- Callers see none of it; they have `Grammar` and `LineFault`.
 use Rattle.std.specs.Prelude.{ℕ, Bool, true, false, ◌&&◌, ◌||◌, not, if◌then◌else◌, List, [], ◌∷◌, Option, Some, None, Result, Ok, Err, is_some, codes, bytes_eq}
 use Rattle.std.specs.Option.{option_map, ok_or}
 use Rattle.text_core.specs.Lines.{begins_with}
@@ -12,7 +12,8 @@ use Rattle.ipt_read.specs.declared.option.Given.{Given}
 use Rattle.ipt_read.specs.declared.option.Place.{Place}
 use Rattle.ipt_read.specs.declared.option.Place.TheVariants.{AtOption, AfterBang, AtValue, InText}
 use Rattle.ipt_read.specs.Counts.{is_count}
-use Rattle.ipt_read.specs.Options.{option_of, may_stand, is_interface, takes_bang, is_given, quoted, with_value, value_refusal, nothing_given, rule_of}
+use Rattle.ipt_read.specs.Options.{option_of, may_stand, is_interface, takes_bang, is_given, nothing_given, rule_of, value_refusal}
+use Rattle.ipt_read.specs.ValueSteps.{quoted, with_value}
 
 -- a word in the place of an option, with `!` before it or not
 abbrev pub at_option : Given → Bool → Option Opt → Result (Given × Place) IptWhy

@@ -12,7 +12,8 @@ use Rattle.text_core.specs.StepsLaws.{bind_some, if_parts, bytes_same, bytes_apa
 use Rattle.host_net.specs.Service.{icmp, tcp, udp, last_port}
 use Rattle.host_net.specs.ServiceText.{protocol_text}
 use Rattle.ipt_read.specs.Counts.{is_nothing}
-use Rattle.ipt_read.specs.ServiceValues.{IsOtherName, IsProtocolWord, ArePortsWord, named_protocol, if_positive, named_or_numbered, asked_protocol, port_or, ports_between, ports_of_parts, asked_ports}
+use Rattle.ipt_read.specs.ServiceValues.{IsOtherName, IsProtocolWord, ArePortsWord}
+use Rattle.ipt_read.specs.ServiceSteps.{named_protocol, if_positive, named_or_numbered, asked_protocol, port_or, ports_between, ports_of_parts, asked_ports}
 
 -- 1. Protocols.
 

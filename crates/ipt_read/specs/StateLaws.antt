@@ -6,7 +6,8 @@ use Rattle.std.proofs.lemmas.Bool.{and_parts}
 use Rattle.std.proofs.lemmas.Bool.Decides.{nat_tests}
 use Rattle.text_core.specs.PiecesLaws.{lacks, lacks_parts}
 use Rattle.text_core.specs.StepsLaws.{if_parts, bytes_same}
-use Rattle.ipt_read.specs.Options.{is_state, listed, states_of}
+use Rattle.ipt_read.specs.Options.{is_state}
+use Rattle.ipt_read.specs.ValueSteps.{listed, states_of}
 use Rattle.ipt_read.specs.Values.{joined, IsStateList}
 
 comma_is : (b : ℕ) → (b == 44) ≡ true → b ≡ 44

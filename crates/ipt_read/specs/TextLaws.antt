@@ -21,6 +21,7 @@ use Rattle.ipt_read.specs.LineStep.{line_step}
 use Rattle.ipt_read.specs.TextLines.{HasFault, IsFirstRefused, too_long, at_line, no_commit, loops as at_loop}
 use Rattle.ipt_read.specs.TextSteps.{at_text_end, ended, lines_said, text_said}
 use Rattle.ipt_read.specs.Grammar.{IsTextLine, IsReading}
+use Rattle.ipt_read.specs.LineFaultLaws.{bad_line_of_step, step_of_bad_line}
 use Rattle.ipt_read.specs.LineLaws.{line_of_read, read_of_line}
 
 pub long_said : (bytes : List ℕ) → 67108864 < length bytes → text_said bytes ≡ Err (0, TooLong)
@@ -108,13 +109,14 @@ refused_by_steps ls line why fault =
       read_before = follows_what_is_read line_step IsTextLine line_of_read 1 nothing_said fault.state fault.before fault.read_before;
       number = fault.number;
       is_line = last.0;
-      refused = last.1;
+      refused = bad_line_of_step line fault.state fault.here why last.0 last.1;
     }
 
 pub steps_refused : (ls : List (List ℕ)) (line : ℕ) (why : IptWhy) → IsFirstRefused ls line why
     → IsFirstFault line_step 1 nothing_said ls line why
 steps_refused ls line why first =
     let line_here : is_comment first.here ≡ false = first.is_line in
+    let step : line_step line first.said first.here ≡ Err why = step_of_bad_line line first.said first.here why first.refused in
     record {
       before = first.front;
       here = first.here;
@@ -123,7 +125,7 @@ steps_refused ls line why first =
       parts = first.parts;
       read_before = read_of_told first.front first.said first.read_before;
       number = first.number;
-      fails = rw line_here first.refused;
+      fails = rw line_here step;
     }
 
 -- chains that are refused for a loop have one

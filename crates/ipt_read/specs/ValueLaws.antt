@@ -1,5 +1,5 @@
 -- The values are read exactly where they are written as is said: counts and quoted texts.
-use Rattle.std.proofs.Common.{◌≡◌, ◌≢◌, ℕ, ◌<◌, ◌∙◌, sym, ap, refl, subst, inl, inr, Bool, true, false, not, IsTrue, List, [], ◌∷◌, ◌++◌, Option, Some, None, arith}
+use Rattle.std.proofs.Common.{◌≡◌, ◌≢◌, ℕ, ◌<◌, ◌∙◌, sym, ap, refl, subst, inl, inr, Bool, true, false, not, IsTrue, List, [], ◌∷◌, ◌++◌, Option, Some, None, arith, drop, ◌⊎◌}
 use Rattle.std.specs.Prelude.{if◌then◌else◌, ◌==◌, nat_eq}
 use Rattle.std.specs.Char.{is_ascii_digit}
 use Rattle.std.specs.List.{list_all}
@@ -8,10 +8,11 @@ use Rattle.std.proofs.lemmas.Bool.Decides.{nat_tests}
 use Rattle.text_core.specs.Pieces.{split_once}
 use Rattle.text_core.specs.PiecesLaws.{lacks, split_once-append, split_once_joined}
 use Rattle.text_core.specs.StepsLaws.{if_parts}
-use Rattle.ipt_read.specs.declared.option.Place.TheVariants.{AtOption}
-use Rattle.ipt_read.specs.Options.{closes, quoted}
-use Rattle.ipt_read.specs.Counts.{is_figure, is_nothing, is_bytes_part, is_packets_part, is_count}
-use Rattle.ipt_read.specs.Values.{IsCount, IsInside, nothing, taken, plain, EndsText}
+use Rattle.ipt_read.specs.declared.option.Place.TheVariants.{AtOption, InText}
+use Rattle.ipt_read.specs.ValueSteps.{closes, quoted}
+use Rattle.ipt_read.specs.Counts.{is_nothing, is_bytes_part, is_packets_part, is_count}
+use Rattle.ipt_read.specs.Values.{is_figure}
+use Rattle.ipt_read.specs.Values.{IsCount, IsInside, nothing, taken, plain, EndsText, StaysOpen}
 
 -- 1. Counts.
 
@@ -117,3 +118,59 @@ inside_quoted inside (plain {b = b} {bs = bs} slash quote is) = rw (other_byte b
 
 pub ends_text : (word : List ℕ) → EndsText word → quoted false word ≡ Some AtOption
 ends_text word ends = ap (quoted false) ends.written ∙ inside_quoted ends.inside ends.is_inside
+
+-- a word leaves a quoted text open exactly where it stays open
+stays_more : (front word : List ℕ) → ((inside : List ℕ) → IsInside inside → IsInside (front ++ inside)) → ((inside : List ℕ) → front ++ (inside ++ (32 ∷ [])) ≡ (front ++ inside) ++ (32 ∷ [])) → StaysOpen word → StaysOpen (front ++ word)
+stays_more front word more joined is = subst IsInside (joined word) (more (word ++ (32 ∷ [])) is)
+
+blank_inside : IsInside (32 ∷ [])
+blank_inside = plain (λ e. cc) (λ e. cc) nothing
+
+pub text_open : (word : List ℕ) → quoted false word ≡ Some InText → StaysOpen word
+text_open [] h = blank_inside
+text_open (b ∷ []) h = elim (if_parts (b == 92) (quoted true []) (if b == 34 then closes [] else quoted false []) (Some InText) h) [
+  | inl slash ↦ subst (λ (a : ℕ). StaysOpen (a ∷ [])) (sym (mark_is b 92 slash.0)) (taken nothing)
+  | inr other ↦ elim (if_parts (b == 34) (closes []) (quoted false []) (Some InText) other.1) [
+    | inl quote ↦ cc
+    | inr byte ↦ plain (mark_is_not b 92 other.0) (mark_is_not b 34 byte.0) blank_inside
+  ]
+]
+text_open (b ∷ c ∷ cs) h = elim (if_parts (b == 92) (quoted true (c ∷ cs)) (if b == 34 then closes (c ∷ cs) else quoted false (c ∷ cs)) (Some InText) h) [
+  | inl slash ↦
+      subst (λ (a : ℕ). StaysOpen (a ∷ c ∷ cs)) (sym (mark_is b 92 slash.0)) (stays_more (92 ∷ c ∷ []) cs (λ inside is. taken is) (λ inside. refl) (text_open cs slash.1))
+  | inr other ↦ elim (if_parts (b == 34) (closes (c ∷ cs)) (quoted false (c ∷ cs)) (Some InText) other.1) [
+    | inl quote ↦ cc
+    | inr byte ↦ stays_more (b ∷ []) (c ∷ cs) (λ inside is. plain (mark_is_not b 92 other.0) (mark_is_not b 34 byte.0) is) (λ inside. refl) (text_open (c ∷ cs) byte.1)
+  ]
+]
+
+abbrev InsideParts : ℕ → List ℕ → Type 0
+InsideParts b bs = ((b ≡ 92) × IsInside (drop 1 bs)) ⊎ ((b ≢ 92) × (b ≢ 34) × IsInside bs)
+
+inside_by : (xs : List ℕ) (b : ℕ) (bs : List ℕ) → IsInside xs → xs ≡ b ∷ bs → InsideParts b bs
+inside_by xs b bs nothing e = cc
+inside_by xs b bs (taken {b = c} {bs = cs} is) e =
+    let first : 92 ≡ b = cc in
+    let others : c ∷ cs ≡ bs = cc in
+    inl (sym first, subst (λ (ys : List ℕ). IsInside (drop 1 ys)) others is)
+inside_by xs b bs (plain {b = c} {bs = cs} slash quote is) e =
+    let first : c ≡ b = cc in
+    let others : cs ≡ bs = cc in
+    inr (λ h. slash (first ∙ h), λ h. quote (first ∙ h), subst IsInside others is)
+
+inside_parts : (b : ℕ) (bs : List ℕ) → IsInside (b ∷ bs) → InsideParts b bs
+inside_parts b bs is = inside_by (b ∷ bs) b bs is refl
+
+byte_open : (b : ℕ) (word : List ℕ) → b ≢ 92 → b ≢ 34 → quoted false word ≡ Some InText → quoted false (b ∷ word) ≡ Some InText
+byte_open b word slash quote h = rw (other_byte b 92 slash, other_byte b 34 quote) h
+
+pub open_text : (word : List ℕ) → StaysOpen word → quoted false word ≡ Some InText
+open_text [] is = refl
+open_text (b ∷ []) is = elim (inside_parts b (32 ∷ []) is) [
+  | inl slash ↦ ap (λ (a : ℕ). quoted false (a ∷ [])) slash.0
+  | inr byte ↦ byte_open b [] byte.0 byte.1 refl
+]
+open_text (b ∷ c ∷ cs) is = elim (inside_parts b (c ∷ (cs ++ (32 ∷ []))) is) [
+  | inl slash ↦ ap (λ (a : ℕ). quoted false (a ∷ c ∷ cs)) slash.0 ∙ open_text cs slash.1
+  | inr byte ↦ byte_open b (c ∷ cs) byte.0 byte.1 (open_text (c ∷ cs) byte.2)
+]

@@ -1,10 +1,14 @@
 -- Values of options, said without a reader: counts, quoted texts and lists of states.
-use Rattle.std.specs.Prelude.{◌≡◌, ◌≢◌, ℕ, Bool, IsTrue, List, [], ◌∷◌, ◌++◌, codes, bytes_eq}
+use Rattle.std.specs.Prelude.{◌≡◌, ◌≢◌, ℕ, Bool, ◌&&◌, nat_le, IsTrue, IsFalse, List, [], ◌∷◌, ◌++◌, codes, bytes_eq, length}
+use Rattle.std.specs.Char.{is_ascii_digit}
 use Rattle.std.specs.List.{list_all, list_any}
+use Rattle.text_core.specs.Lines.{begins_with}
 use Rattle.ipt_read.specs.Options.{is_state}
-use Rattle.ipt_read.specs.Counts.{is_figure}
 
--- a count: `[` (91), packets, `:` (58), bytes, `]` (93); each number has 1 to 20 digits
+abbrev pub is_figure : List ℕ → Bool
+is_figure bs = list_all is_ascii_digit bs && (nat_le 1 (length bs) && nat_le (length bs) 20)
+
+-- a count of packets and bytes, as iptables-save(8) writes it with --counters: `[` (91), packets, `:` (58), bytes, `]` (93); each number has 1 to 20 digits
 pub record IsCount (word : List ℕ) : Type 0 where
   pub packets : List ℕ
   pub bytes : List ℕ
@@ -22,6 +26,20 @@ pub record EndsText (word : List ℕ) : Type 0 where
   pub inside : List ℕ
   pub is_inside : IsInside inside
   pub written : word ≡ inside ++ (34 ∷ [])
+
+-- a word within a quoted text that does not end it; a backslash at its end takes the blank (32) behind the word
+abbrev pub StaysOpen : List ℕ → Type 0
+StaysOpen word = IsInside (word ++ (32 ∷ []))
+
+-- the words of a quoted text from behind its first `"`: it stays open up to the last, which ends it
+pub data IsRestOfText : List (List ℕ) → Type 0 where
+  closing : {w : List ℕ} → EndsText w → IsRestOfText (w ∷ [])
+  open_still : {w : List ℕ} {ws : List (List ℕ)} → StaysOpen w → IsRestOfText ws → IsRestOfText (w ∷ ws)
+
+-- a text: one word that does not begin with `"`, or the words of a quoted text
+pub data IsText : List (List ℕ) → Type 0 where
+  bare : {w : List ℕ} → IsFalse (begins_with 34 w) → IsText (w ∷ [])
+  in_quotes : {w : List ℕ} {ws : List (List ℕ)} → IsRestOfText (w ∷ ws) → IsText ((34 ∷ w) ∷ ws)
 
 -- texts with a comma (44) between each two
 abbrev pub joined : List (List ℕ) → List ℕ

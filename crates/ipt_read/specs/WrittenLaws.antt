@@ -23,10 +23,13 @@ use Rattle.ipt_read.specs.declared.option.Given.{Given}
 use Rattle.ipt_read.specs.declared.option.Opt.{Opt}
 use Rattle.ipt_read.specs.declared.option.Opt.TheVariants.{Source, Destination, Protocol, SourcePort, DestinationPort, Module, CtState, Jump as JumpOption}
 use Rattle.ipt_read.specs.declared.option.Place.TheVariants.{AtOption}
-use Rattle.ipt_read.specs.Options.{option_of, with_value, with_module, states_of, is_state, target_of, nothing_given, target_by}
-use Rattle.ipt_read.specs.ServiceValues.{asked_ports, IsProtocolWord, ArePortsWord}
+use Rattle.ipt_read.specs.Options.{option_of, with_module, is_state, target_of, nothing_given, target_by}
+use Rattle.ipt_read.specs.ValueSteps.{with_value, states_of}
+use Rattle.ipt_read.specs.ServiceValues.{IsProtocolWord, ArePortsWord}
+use Rattle.ipt_read.specs.ServiceSteps.{asked_ports}
 use Rattle.ipt_read.specs.ServiceValueLaws.{protocol_read, ports_read}
-use Rattle.ipt_read.specs.Grammar.{Stands, plain, turned, ArePieces, none_left, one_more, one_word, IsRuleLine}
+use Rattle.ipt_read.specs.Grammar.{Stands, plain, turned, ArePieces, none_left, one_more, IsRuleLine}
+use Rattle.ipt_read.specs.GrammarLaws.{one_word}
 use Rattle.ipt_read.specs.PartLaws.{RuleHas, rule_has}
 use Rattle.ipt_read.specs.WrittenWords.{bang_words, address_words, protocol_words, module_words, port_words, service_words, state_words, target_words, rule_pieces, rule_words}
 

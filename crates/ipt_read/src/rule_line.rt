@@ -6,7 +6,8 @@ ghost use Rattle.std.specs.List.{list_all};
 ghost use Rattle.text_core.specs.Lines.{words};
 ghost use Rattle.text_core.specs.Pieces.{split_once};
 ghost use Rattle.ipt_read.specs.declared.option.Place.TheVariants.{AtOption};
-ghost use Rattle.ipt_read.specs.Counts.{is_figure, is_nothing, is_bytes_part, is_packets_part, is_count};
+ghost use Rattle.ipt_read.specs.Counts.{is_nothing, is_bytes_part, is_packets_part, is_count};
+ghost use Rattle.ipt_read.specs.Values.{is_figure};
 ghost use Rattle.ipt_read.specs.Options.{nothing_given, target_by, rule_of};
 ghost use Rattle.ipt_read.specs.RuleLine.{at_option, is_bang, word_step, at_end, word_by_word, append_of, rule_line_of};
 

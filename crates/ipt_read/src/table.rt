@@ -3,7 +3,8 @@
 ghost use Rattle.std.specs.Prelude.{◌≡◌, ◌<◌, ◌==◌, IfSome, Option, List, ℕ, length, false, bytes_eq, slice_index_or};
 ghost use Rattle.std.specs.List.{list_all, list_any};
 ghost use Rattle.ipt_rules.specs.Chain.{number_of};
-ghost use Rattle.ipt_read.specs.Options.{option_of, may_stand, is_interface, takes_bang, is_given, closes, quoted, text_of, is_state, listed, states_of, jump_to, target_of, is_own_module, with_module, port_match, with_value, value_refusal, rejects};
+ghost use Rattle.ipt_read.specs.Options.{option_of, may_stand, is_interface, takes_bang, is_given, is_state, jump_to, target_of, is_own_module, with_module, rejects, value_refusal};
+ghost use Rattle.ipt_read.specs.ValueSteps.{closes, quoted, text_of, listed, states_of, port_match, with_value};
 
 use crate::fault::IptWhy;
 use crate::option::{Given, Opt, Place};
@@ -142,7 +143,7 @@ pub(crate) fn quoted(text: &[u8]) -> Option<Place>
     Some(Place::InText)
 }
 
-#[tactic(auto, unfolding(crate::specs::Options::text_of))]
+#[tactic(auto, unfolding(crate::specs::ValueSteps::text_of))]
 fn text_of(word: &[u8]) -> Option<Place>
     ensures { result ≡ text_of word.now }
 {
@@ -177,7 +178,7 @@ fn lists(word: &[u8], name: &[u8]) -> bool
     word.split(|b| *b == b',').any(|part| part == name)
 }
 
-#[tactic(auto, unfolding(crate::specs::Options::states_of))]
+#[tactic(auto, unfolding(crate::specs::ValueSteps::states_of))]
 fn states_of(word: &[u8]) -> Option<(bool, bool)>
     ensures { result ≡ states_of word.now }
 {
@@ -278,7 +279,7 @@ fn port_match(ports: (u16, u16), negated: bool) -> PortMatch
 }
 
 /// What is given after an option's value, and where the next word stands.
-#[tactic(auto, unfolding(crate::specs::Options::with_value))]
+#[tactic(auto, unfolding(crate::specs::ValueSteps::with_value))]
 pub(crate) fn with_value(
     chains: &Chains,
     given: Given,

@@ -4,7 +4,7 @@ use Rattle.std.specs.Option.{option_map}
 use Rattle.std.proofs.Math.Seq.{take-suc}
 use Rattle.std.proofs.lemmas.List.{drop_more}
 use Rattle.ofp_read.specs.Grammar.{is_separator}
-use Rattle.ofp_read.specs.FlowLine.{begins_action, cut_action}
+use Rattle.ofp_read.specs.Cut.{begins_action, cut_action}
 
 -- the same cut of a text that has more in front
 abbrev pub shifted : List ℕ → Option (List ℕ × List ℕ) → Option (List ℕ × List ℕ)

@@ -12,6 +12,7 @@ use Rattle.ofp_read.specs.FlowLine.{flow_of}
 use Rattle.ofp_read.specs.Grammar.{Writes, AddsEntry, IsReading}
 use Rattle.ofp_read.specs.LineLaws.{flow_of_written}
 use Rattle.ofp_read.specs.RangeLaws.{written_in_range}
+use Rattle.ofp_read.specs.UnwrittenLaws.{refused_by_steps}
 use Rattle.ofp_read.specs.TextLines.{IsBad, unwritten, too_many, ambiguous, IsFirstBad, HasFault, too_long, at_line}
 
 -- 1. One line.
@@ -28,19 +29,22 @@ written_or_not : (line : List ℕ) (e : Entry) (why : OfpWhy) → flow_of line �
 written_or_not line e why refused writes = let read = flow_of_written line e writes in cc
 
 adds_not_bad : (n : ℕ) (before now : List Entry) (l : List ℕ) (why : OfpWhy) → AddsEntry n before l now → IsBad before l why → ⊥
-adds_not_bad n before now l why a (unwritten refused) = written_or_not l a.entry why refused a.written
+adds_not_bad n before now l why a (unwritten refused) = written_or_not l a.entry why (refused_by_steps l why refused) a.written
 adds_not_bad n before now l why a (too_many e writes many) = let few = a.few in omega arith
 adds_not_bad n before now l why a (ambiguous e f place writes few there clash) =
     a.clear place f there (subst (Contradict f) (one_entry l e a.entry writes a.written) clash)
 
+same_why : (w v : OfpWhy) → ◌≡◌ {A = Result Entry OfpWhy} (Err w) (Err v) → w ≡ v
+same_why w v h = cc
+
 one_why : (before : List Entry) (l : List ℕ) (w v : OfpWhy) → IsBad before l w → IsBad before l v → w ≡ v
-one_why before l w v (unwritten a) (unwritten b) = cc
-one_why before l w v (unwritten a) (too_many e writes many) = absurd (written_or_not l e w a writes)
-one_why before l w v (unwritten a) (ambiguous e f place writes few there clash) = absurd (written_or_not l e w a writes)
-one_why before l w v (too_many e writes many) (unwritten b) = absurd (written_or_not l e v b writes)
+one_why before l w v (unwritten a) (unwritten b) = same_why w v (sym (refused_by_steps l w a) ∙ refused_by_steps l v b)
+one_why before l w v (unwritten a) (too_many e writes many) = absurd (written_or_not l e w (refused_by_steps l w a) writes)
+one_why before l w v (unwritten a) (ambiguous e f place writes few there clash) = absurd (written_or_not l e w (refused_by_steps l w a) writes)
+one_why before l w v (too_many e writes many) (unwritten b) = absurd (written_or_not l e v (refused_by_steps l v b) writes)
 one_why before l w v (too_many e writes many) (too_many f other more) = refl
 one_why before l w v (too_many e writes many) (ambiguous d f place other few there clash) = absurd (omega (arith, many, few))
-one_why before l w v (ambiguous d f place other few there clash) (unwritten b) = absurd (written_or_not l d v b other)
+one_why before l w v (ambiguous d f place other few there clash) (unwritten b) = absurd (written_or_not l d v (refused_by_steps l v b) other)
 one_why before l w v (ambiguous d f place other few there clash) (too_many e writes many) = absurd (omega (arith, many, few))
 one_why before l w v (ambiguous d f place other few there clash) (ambiguous e g k writes less at_k contra) = refl
 

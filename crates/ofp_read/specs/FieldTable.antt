@@ -1,5 +1,5 @@
 -- The fields of a flow line, as a table: how each is named, whether it stood already, and what its value says
--- (ovs-ofctl(8), "Flow Syntax"; ovs-fields(7)).
+-- (ovs-ofctl(8), "Flow Syntax"; ovs-fields(7)), as the reader reads them. Callers see none of it; they have `Grammar` and `Unwritten`.
 use Rattle.std.specs.Prelude.{ℕ, Bool, true, if◌then◌else◌, List, [], ◌∷◌, ◌||◌, Option, Some, None, Result, Err, is_some, codes, bytes_eq}
 use Rattle.std.specs.Option.{option_map, ok_or}
 use Rattle.text_core.specs.Decimal.{number}

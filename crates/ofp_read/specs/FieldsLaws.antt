@@ -60,7 +60,7 @@ fields_of_read texts h a read =
 
 -- 2. What is said.
 
-abbrev with_parts : List Part → Entry → Given → Given
+abbrev pub with_parts : List Part → Entry → Given → Given
 with_parts [] e g = g
 with_parts (p ∷ ps) e g = with_parts ps e (with_part p e g)
 
@@ -70,7 +70,7 @@ lack_with [] p e g none lack = tt
 lack_with (q ∷ ps) p e g none lack =
     (sym (same_but p q e g (λ is. none.0 (sym is))) ∙ lack.0, lack_with ps p e g none.1 lack.1)
 
-read_of_each : (e : Entry) (parts : List Part) (texts : List (List ℕ)) (g : Given) → EachSays e parts texts → AreDistinct parts
+pub read_of_each : (e : Entry) (parts : List Part) (texts : List (List ℕ)) (g : Given) → EachSays e parts texts → AreDistinct parts
     → OfEach (λ p. Lacks p g) parts → with_fields g texts ≡ Ok (with_parts parts e g)
 read_of_each e [] [] g no_field once lack = refl
 read_of_each e [] (text ∷ texts) g says once lack = elim says [ ]
@@ -85,7 +85,7 @@ read_of_each e (kind ∷ protocol ∷ ps) (text ∷ texts) g (two_parts says res
     (lack_with ps protocol e (with_part kind e g) once.1.0 first.1)
 
 -- a part was given, or it is as it was
-part_now : (p : Part) (e : Entry) (parts : List Part) (g : Given)
+pub part_now : (p : Part) (e : Entry) (parts : List Part) (g : Given)
     → Has p e (with_parts parts e g) ⊎ (IsNoneOf p parts × Same p g (with_parts parts e g))
 part_now p e [] g = inr (tt, refl)
 part_now p e (q ∷ ps) g = elim (part_now p e ps (with_part q e g)) [
@@ -97,7 +97,7 @@ part_now p e (q ∷ ps) g = elim (part_now p e ps (with_part q e g)) [
 ]
 
 -- nothing was given at first
-all_free : (parts : List Part) → OfEach (λ p. Lacks p nothing_given) parts
+pub all_free : (parts : List Part) → OfEach (λ p. Lacks p nothing_given) parts
 all_free [] = tt
 all_free (p ∷ ps) = (refl, all_free ps)
 

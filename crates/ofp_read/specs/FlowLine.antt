@@ -1,7 +1,6 @@
--- A flow line, from left to right: the entry that it writes, or the first reason why it writes none (ovs-ofctl(8), "Flow Syntax").
--- `Grammar` says without steps which entry that is; here only the order of reasons is told.
-use Rattle.std.specs.Prelude.{ℕ, Bool, true, false, ◌&&◌, if◌then◌else◌, List, [], ◌∷◌, Option, Some, None, Result, Ok, Err, codes, bytes_eq, take}
-use Rattle.std.specs.Option.{option_map}
+-- A flow line as the reader goes through it, from left to right: the entry that it writes, or why it writes none. Callers see none
+-- of it; they have `Grammar` and `Unwritten`.
+use Rattle.std.specs.Prelude.{ℕ, true, false, if◌then◌else◌, List, [], ◌∷◌, Option, Some, None, Result, Ok, Err, codes}
 use Rattle.text_core.specs.Lines.{words}
 use Rattle.ofp_rules.specs.declared.entry.FrameKind.{FrameKind}
 use Rattle.ofp_rules.specs.declared.entry.FrameKind.TheVariants.{Any}
@@ -13,7 +12,8 @@ use Rattle.ofp_read.specs.declared.fault.OfpWhy.{OfpWhy}
 use Rattle.ofp_read.specs.declared.fault.OfpWhy.TheVariants.{BadLine, NeedsIp, UnknownAction}
 use Rattle.ofp_read.specs.declared.given.Given.{Given}
 use Rattle.ofp_read.specs.FieldTable.{named, with_field}
-use Rattle.ofp_read.specs.Grammar.{is_separator, fields}
+use Rattle.ofp_read.specs.Cut.{cut_action}
+use Rattle.ofp_read.specs.Grammar.{fields}
 
 -- a step, and what follows where it gave something
 abbrev pub goes_on : {A B : Type 0} → Result A OfpWhy → (A → Result B OfpWhy) → Result B OfpWhy
@@ -27,16 +27,6 @@ nothing_given = record { priority = None; table = false; kind = None; src = None
 abbrev pub with_fields : Given → List (List ℕ) → Result Given OfpWhy
 with_fields given [] = Ok given
 with_fields given (text ∷ texts) = goes_on (with_field given text) (λ now. with_fields now texts)
-
-abbrev pub begins_action : List ℕ → Bool
-begins_action text = bytes_eq (take 8 text) (codes "actions=")
-
--- the text in front of the first `actions=` that begins a field, and the text from there on; whether a field may begin here
-abbrev pub cut_action : Bool → List ℕ → Option (List ℕ × List ℕ)
-cut_action begins [] = None
-cut_action begins (b ∷ bs) =
-    if begins && begins_action (b ∷ bs) then Some ([], b ∷ bs)
-    else option_map (λ parts. (b ∷ parts.0, parts.1)) (cut_action (is_separator b) bs)
 
 abbrev pub actions : List (List ℕ × Action)
 actions = (codes "actions=NORMAL", Normal) ∷ (codes "actions=normal", Normal) ∷ (codes "actions=drop", Drop) ∷ []

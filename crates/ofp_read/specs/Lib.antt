@@ -3,6 +3,7 @@ pub mod AgainLaws
 pub mod FieldTable
 pub mod FaultLaws
 pub mod FlowLine
+pub mod Cut
 pub mod CutLaws
 pub mod PartLaws
 pub mod RangeLaws
@@ -15,5 +16,7 @@ pub mod LineLaws
 pub mod State
 pub mod TextLaws
 pub mod PieceLaws
+pub mod Unwritten
+pub mod UnwrittenLaws
 pub mod WrittenLaws
 pub mod TextLines

@@ -17,7 +17,8 @@ use Rattle.ofp_read.specs.declared.given.Given.{Given}
 use Rattle.ofp_read.specs.CutLaws.{shifted, cut_past, cut_here}
 use Rattle.ofp_read.specs.FieldsLaws.{goes_on_parts, fields_of_read, read_of_fields}
 use Rattle.ofp_read.specs.NamedLaws.{named_is}
-use Rattle.ofp_read.specs.FlowLine.{goes_on, nothing_given, with_fields, begins_action, cut_action, actions, action_of, entry_of, with_action, flow_by, flow_of}
+use Rattle.ofp_read.specs.FlowLine.{goes_on, nothing_given, with_fields, actions, action_of, entry_of, with_action, flow_by, flow_of}
+use Rattle.ofp_read.specs.Cut.{begins_action, cut_action}
 use Rattle.ofp_read.specs.Grammar.{Part, priority, table, kind, source, destination, protocol, source_port, destination_port, Says, EachSays, no_field, one_part, two_parts, IsProtocolText, is_separator, has_bytes, fields, IsKindText, IsActionText, ends_apart, Writes}
 
 -- 1. The cut in front of the action.
@@ -36,10 +37,10 @@ apart_whole [] = refl
 apart_whole (b ∷ bs) = apart_last b bs
 
 -- what is cut: the text in front, and the text from the action on
-record IsCut (begins : Bool) (line front rest : List ℕ) : Type 0 where
-  whole : line ≡ front ++ rest
+pub record IsCut (begins : Bool) (line front rest : List ℕ) : Type 0 where
+  pub whole : line ≡ front ++ rest
   apart : apart_from begins front ≡ true
-  starts : begins_action rest ≡ true
+  pub starts : begins_action rest ≡ true
 
 same_parts : (p q : List ℕ × List ℕ) → Some p ≡ Some q → p ≡ q
 same_parts p q h = cc
@@ -59,7 +60,7 @@ cut_by begins b bs front rest (Some (f, r)) others h =
       starts = ap begins_action (sym rest_is) ∙ cut.starts;
     }
 
-cut_parts : (begins : Bool) (line front rest : List ℕ) → cut_action begins line ≡ Some (front, rest) → IsCut begins line front rest
+pub cut_parts : (begins : Bool) (line front rest : List ℕ) → cut_action begins line ≡ Some (front, rest) → IsCut begins line front rest
 cut_parts begins [] front rest h = cc
 cut_parts begins (b ∷ bs) front rest h = elim
     (if_parts (begins && begins_action (b ∷ bs)) (Some ([], b ∷ bs)) (shifted (b ∷ []) (cut_action (is_separator b) bs))
@@ -95,10 +96,10 @@ blank_words (b ∷ bs) h =
     onto_some b (w ∷ ws) h = cc
 
 -- a text that begins with a word and has no other is the word and blanks
-record IsOneWord (text word : List ℕ) : Type 0 where
-  blanks : List ℕ
-  whole : text ≡ word ++ blanks
-  blank : list_all is_blank blanks ≡ true
+pub record IsOneWord (text word : List ℕ) : Type 0 where
+  pub blanks : List ℕ
+  pub whole : text ≡ word ++ blanks
+  pub blank : list_all is_blank blanks ≡ true
 
 no_words_end : (bs : List ℕ) → words bs ≡ [] → ends_word bs ≡ false → ⊥
 no_words_end [] none goes_on = cc
@@ -139,11 +140,11 @@ first_no_blank b bs h =
     let first : b ≡ 97 = ap (λ xs. get_or xs 0 0) starts in
     ap is_blank first
 
-word_of_text : (text w : List ℕ) → begins_action text ≡ true → words text ≡ w ∷ [] → IsOneWord text w
+pub word_of_text : (text w : List ℕ) → begins_action text ≡ true → words text ≡ w ∷ [] → IsOneWord text w
 word_of_text [] w starts h = cc
 word_of_text (b ∷ bs) w starts h = one_word b bs w (first_no_blank b bs starts) h
 
-action_said : (ws : List (List ℕ)) (a : Action) → action_of ws ≡ Some a → (w : List ℕ) × (ws ≡ w ∷ []) × IsActionText a w
+pub action_said : (ws : List (List ℕ)) (a : Action) → action_of ws ≡ Some a → (w : List ℕ) × (ws ≡ w ∷ []) × IsActionText a w
 action_said [] a h = cc
 action_said (w ∷ []) a h = (w, refl, named_is (λ text b. IsActionText b text) w actions a h (inl refl, (inr refl, (refl, tt))))
 action_said (w ∷ v ∷ ws) a h = cc
@@ -351,7 +352,7 @@ word_read : (b : ℕ) (w blanks : List ℕ) → has_no_blank (b ∷ w) ≡ true 
 word_read b w blanks word blank =
     words_of_word b w blanks word (ends_blank blanks blank) ∙ ap (λ ws. (b ∷ w) ∷ ws) (words_blank blanks blank)
 
-action_read : (a : Action) (text blanks : List ℕ) → IsActionText a text → list_all is_blank blanks ≡ true
+pub action_read : (a : Action) (text blanks : List ℕ) → IsActionText a text → list_all is_blank blanks ≡ true
     → (begins_action (text ++ blanks) ≡ true) × (action_of (words (text ++ blanks)) ≡ Some a)
 action_read Normal text blanks (inl e) blank = (
   ap (λ t. begins_action (t ++ blanks)) e,

@@ -14,6 +14,7 @@ use Rattle.ofp_read.specs.FlowLine.{flow_of}
 use Rattle.ofp_read.specs.Grammar.{Writes, AddsEntry}
 use Rattle.ofp_read.specs.LineLaws.{written_of_flow}
 use Rattle.ofp_read.specs.State.{Reads, IsLeftOut, TellsOfEntry, TellsOfLine, TellsOfLines, LeadsOn}
+use Rattle.ofp_read.specs.UnwrittenLaws.{unwritten_of_steps}
 use Rattle.ofp_read.specs.TextLines.{IsBad, unwritten, too_many, ambiguous, IsFirstBad}
 
 -- 1. One line.
@@ -45,7 +46,7 @@ entry_told n before line e Memory is read tells = tt
 
 pub line_told : (n : ℕ) (before : List Entry) (line : List ℕ) (why : OfpWhy) → is_comment line ≡ false → Err why ≡ flow_of line
     → TellsOfLine n before line (Refused n why)
-line_told n before line why is read = (refl, is, unwritten (sym read))
+line_told n before line why is read = (refl, is, unwritten (unwritten_of_steps line why (sym read)))
 
 -- 2. A line, and the lines after it.
 

@@ -1,5 +1,5 @@
 -- The first fault of the text of a flow table.
-use Rattle.std.specs.Prelude.{◌≡◌, ◌<◌, ◌≤◌, ℕ, ◌+◌, IsFalse, List, [], ◌∷◌, ◌++◌, Some, Err, length, slice_get}
+use Rattle.std.specs.Prelude.{◌≡◌, ◌<◌, ◌≤◌, ℕ, ◌+◌, IsFalse, List, [], ◌∷◌, ◌++◌, Some, length, slice_get}
 use Rattle.text_core.specs.Lines.{lines, is_comment}
 use Rattle.text_core.specs.Reading.{Follows}
 use Rattle.ofp_rules.specs.declared.entry.Entry.{Entry}
@@ -7,11 +7,11 @@ use Rattle.ofp_rules.specs.Ambiguity.{Contradict, most_entries}
 use Rattle.ofp_read.specs.declared.fault.OfpWhy.{OfpWhy}
 use Rattle.ofp_read.specs.declared.fault.OfpWhy.TheVariants.{TooLong, TooMany, Ambiguous}
 use Rattle.ofp_read.specs.Grammar.{Writes, AddsEntry}
-use Rattle.ofp_read.specs.FlowLine.{flow_of}
+use Rattle.ofp_read.specs.Unwritten.{IsUnwritten}
 
 -- why a line adds no entry to those before it: it writes none, or they are 8,192, or one of them contradicts what it writes
 pub data IsBad (before : List Entry) (line : List ℕ) : OfpWhy → Type 0 where
-  unwritten : {why : OfpWhy} → flow_of line ≡ Err why → IsBad before line why
+  unwritten : {why : OfpWhy} → IsUnwritten line why → IsBad before line why
   too_many : (e : Entry) → Writes line e → most_entries ≤ length before → IsBad before line TooMany
   ambiguous : (e f : Entry) (place : ℕ) → Writes line e → length before < most_entries → slice_get before place ≡ Some f
       → Contradict f e → IsBad before line Ambiguous

@@ -5,7 +5,8 @@ ghost use Rattle.std.specs.Option.{option_map};
 ghost use Rattle.text_core.specs.Lines.{words, is_blank};
 ghost use Rattle.ofp_rules.specs.Matching.{asks_of_ip, ports_asked};
 ghost use Rattle.ofp_read.specs.Grammar.{fields, has_bytes, is_separator};
-ghost use Rattle.ofp_read.specs.FlowLine.{action_of, begins_action, cut_action, entry_of, flow_by, flow_of, nothing_given, with_action, with_fields};
+ghost use Rattle.ofp_read.specs.FlowLine.{action_of, entry_of, flow_by, flow_of, nothing_given, with_action, with_fields};
+ghost use Rattle.ofp_read.specs.Cut.{begins_action, cut_action};
 
 use crate::fault::OfpWhy;
 use crate::field::with_field;

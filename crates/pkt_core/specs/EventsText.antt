@@ -1,12 +1,9 @@
 -- The text of a list of events: one line each, a verb and five words of a packet.
-use Rattle.std.specs.Prelude.{◌≡◌, ℕ, ◌<◌, ◌^◌, ◌≤◌, nat_lt, if◌then◌else◌, List, [], ◌∷◌, ◌++◌, Option, Some, Result, Ok, Err, length, ◌⊎◌, codes, decimal, bytes_eq}
-use Rattle.std.specs.Option.{option_map, ok_or}
-use Rattle.text_core.specs.Decimal.{number}
-use Rattle.text_core.specs.Lines.{lines, words}
-use Rattle.text_core.specs.Reading.{IsFirstFault, Follows}
-use Rattle.text_core.specs.Steps.{◌>>=◌}
+use Rattle.std.specs.Prelude.{◌≡◌, ℕ, ◌+◌, ◌<◌, ◌^◌, ◌≤◌, IsFalse, List, [], ◌∷◌, ◌++◌, length, ◌⊎◌, codes, decimal}
+use Rattle.text_core.specs.Lines.{lines, words, is_comment}
+use Rattle.text_core.specs.Reading.{Follows}
 use Rattle.host_net.specs.declared.packet.Packet.{Packet}
-use Rattle.host_net.specs.Prefix.{address_of, address_text}
+use Rattle.host_net.specs.Prefix.{address_text}
 use Rattle.pkt_core.specs.declared.event.Event.{Event}
 use Rattle.pkt_core.specs.declared.event.Event.TheVariants.{Seen, Forget}
 use Rattle.pkt_core.specs.declared.events.EventWhy.{EventWhy}
@@ -43,47 +40,36 @@ pub record IsReading (bytes : List ℕ) (events : List Event) : Type 0 where
   pub short : length bytes ≤ 16777216
   pub told : Follows AddsEvent 1 [] (lines bytes) events
 
--- B. The first fault: why a line tells no event.
+-- B. The first fault.
 
-abbrev pub protocol_of : List ℕ → Option ℕ
-protocol_of word =
-    if bytes_eq word (codes "icmp") then Some 1
-    else if bytes_eq word (codes "tcp") then Some 6
-    else if bytes_eq word (codes "udp") then Some 17
-    else number 255 word
+-- a verb and five words more
+pub record IsVerbAndFive (ws : List (List ℕ)) : Type 0 where
+  pub verb : List ℕ
+  pub values : List (List ℕ)
+  pub written : ws ≡ verb ∷ values
+  pub five : length values ≡ 5
+  pub is_verb : (verb ≡ codes "packet") ⊎ (verb ≡ codes "forget")
 
--- the packet of five words
-unfoldable pub packet_of : List ℕ → List ℕ → List ℕ → List ℕ → List ℕ → Option Packet
-packet_of src dst protocol sport dport = do
-  a ← address_of src
-  b ← address_of dst
-  n ← protocol_of protocol
-  x ← number 65535 sport
-  y ← number 65535 dport
-  Some (record { src = a; dst = b; proto = n; sport = x; dport = y })
+-- why a line adds no event to those before it: its words are not a verb and five more; or they are, and tell no event; or they
+-- tell one, and 1,000,000 stand before it
+pub data IsBad (before : List Event) (ws : List (List ℕ)) : EventWhy → Type 0 where
+  bad_line : (IsVerbAndFive ws → ⊥) → IsBad before ws BadLine
+  bad_value : IsVerbAndFive ws → ((event : Event) → TellsEvent ws event → ⊥) → IsBad before ws BadValue
+  too_many : (event : Event) → TellsEvent ws event → 1000000 ≤ length before → IsBad before ws TooMany
 
--- by the verb: a packet that is seen, or the forgetting of its connection
-unfoldable pub event_by : List ℕ → Option Packet → Result Event EventWhy
-event_by verb p =
-    if bytes_eq verb (codes "packet") then ok_or (option_map Seen p) BadValue
-    else if bytes_eq verb (codes "forget") then ok_or (option_map Forget p) BadValue
-    else Err BadLine
+-- line `line` is the first that is bad: each line before it is a comment or adds its event
+pub record IsFirstBad (ls : List (List ℕ)) (line : ℕ) (why : EventWhy) : Type 0 where
+  pub front : List (List ℕ)
+  pub here : List ℕ
+  pub behind : List (List ℕ)
+  pub before : List Event
+  pub parts : ls ≡ front ++ here ∷ behind
+  pub read_before : Follows AddsEvent 1 [] front before
+  pub number : line ≡ 1 + length front
+  pub is_event : IsFalse (is_comment here)
+  pub bad : IsBad before (words here) why
 
--- the event of a line's words; another number of words is a bad line
-unfoldable pub event_of : List (List ℕ) → Result Event EventWhy
-event_of (verb ∷ src ∷ dst ∷ protocol ∷ sport ∷ dport ∷ []) = event_by verb (packet_of src dst protocol sport dport)
-event_of _ = Err BadLine
-
--- the events with one more, of 1,000,000 at most
-abbrev pub with_event : List Event → Result Event EventWhy → Result (List Event) EventWhy
-with_event events (Ok e) = if nat_lt 999999 (length events) then Err TooMany else Ok (events ++ e ∷ [])
-with_event events (Err why) = Err why
-
-abbrev pub event_step : ℕ → List Event → List ℕ → Result (List Event) EventWhy
-event_step n events line = with_event events (event_of (words line))
-
--- a text is refused: it is too long, else at the first line that is refused
+-- a text is refused: it is too long, else at its first line that is bad
 pub data IsRefused (bytes : List ℕ) : ℕ → EventWhy → Type 0 where
   too_long : 16777216 < length bytes → IsRefused bytes 0 TooLong
-  at_line : {line : ℕ} {why : EventWhy} → length bytes ≤ 16777216 → IsFirstFault event_step 1 [] (lines bytes) line why
-      → IsRefused bytes line why
+  at_line : {line : ℕ} {why : EventWhy} → length bytes ≤ 16777216 → IsFirstBad (lines bytes) line why → IsRefused bytes line why

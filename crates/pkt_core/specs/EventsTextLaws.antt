@@ -17,7 +17,8 @@ use Rattle.pkt_core.specs.declared.event.Event.{Event}
 use Rattle.pkt_core.specs.declared.event.Event.TheVariants.{Seen, Forget}
 use Rattle.pkt_core.specs.declared.events.EventWhy.{EventWhy}
 use Rattle.pkt_core.specs.declared.events.EventWhy.TheVariants.{BadValue, TooMany}
-use Rattle.pkt_core.specs.EventsText.{IsProtocolName, TellsPacket, TellsEvent, AddsEvent, IsReading, protocol_of, packet_of, event_by, event_of, with_event, event_step}
+use Rattle.pkt_core.specs.EventsText.{IsProtocolName, TellsPacket, TellsEvent, AddsEvent, IsReading}
+use Rattle.pkt_core.specs.EventSteps.{protocol_of, packet_of, event_by, event_of, with_event, event_step}
 
 -- the word of a protocol
 protocol_told : (word : List ℕ) (n : ℕ) → protocol_of word ≡ Some n → ((word ≡ decimal n) ⊎ IsProtocolName word n) × (n < 2 ^ 8)

@@ -27,7 +27,7 @@ of_more services s p packet (Some f) subset h =
     and_from (has p f) (is_served (services_of services f.from f.to) packet) (subset.within f parts.0) parts.1
 
 -- a packet of one of some flows is of one of more flows
-is_of-within : (site : Site) (s p : List Flow) (packet : Packet) → IsSubset s p → is_of site s packet ≡ true → is_of site p packet ≡ true
+pub is_of-within : (site : Site) (s p : List Flow) (packet : Packet) → IsSubset s p → is_of site s packet ≡ true → is_of site p packet ≡ true
 is_of-within site s p packet subset h = of_more site.services s p packet (flow_of site.hosts packet) subset h
 
 -- a filter that enforces a policy is a firewall for it

@@ -1,6 +1,8 @@
 pub mod Connections
+pub mod EventFaultLaws
 pub mod EventLaws
 pub mod Events
+pub mod EventSteps
 pub mod EventsAnswers
 pub mod EventsText
 pub mod EventsTextLaws

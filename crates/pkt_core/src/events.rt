@@ -6,7 +6,8 @@ ghost use Rattle.text_core.specs.Lines.{lines, words};
 ghost use Rattle.text_core.specs.Reading.{after_line, line_by_line, past_comment};
 ghost use Rattle.pkt_core.specs.declared.event.Event.{Event};
 ghost use Rattle.pkt_core.specs.declared.events.EventWhy.{EventWhy};
-ghost use Rattle.pkt_core.specs.EventsText.{IsReading, IsRefused, event_step, with_event, event_of, event_by, packet_of, protocol_of};
+ghost use Rattle.pkt_core.specs.EventsText.{IsReading, IsRefused};
+ghost use Rattle.pkt_core.specs.EventSteps.{event_step, with_event, event_of, event_by, packet_of, protocol_of};
 ghost use Rattle.pkt_core.specs.EventsAnswers.{HasCause, IsFault, Tells};
 ghost use Rattle.pkt_core.specs.Filter.{ArePackets};
 
@@ -113,7 +114,7 @@ fn add_event(events: &mut Vec<Event>, line: u32, event: Event) -> Result<(), Eve
     }
 }
 
-#[tactic(auto, unfolding(crate::specs::EventsText::event_of))]
+#[tactic(auto, unfolding(crate::specs::EventSteps::event_of))]
 fn read_event(line: &[u8]) -> Result<Event, EventWhy>
     ensures { result ≡ event_of (words line.now) }
 {
@@ -142,7 +143,7 @@ fn read_event(line: &[u8]) -> Result<Event, EventWhy>
     event_by(verb, read_packet(src, dst, protocol, sport, dport))
 }
 
-#[tactic(auto, unfolding(crate::specs::EventsText::event_by))]
+#[tactic(auto, unfolding(crate::specs::EventSteps::event_by))]
 fn event_by(verb: &[u8], packet: Option<Packet>) -> Result<Event, EventWhy>
     ensures { result ≡ event_by verb.now packet }
 {
@@ -161,7 +162,7 @@ fn event_by(verb: &[u8], packet: Option<Packet>) -> Result<Event, EventWhy>
     Err(EventWhy::BadLine)
 }
 
-#[tactic(auto, unfolding(crate::specs::EventsText::packet_of))]
+#[tactic(auto, unfolding(crate::specs::EventSteps::packet_of))]
 fn read_packet(
     src: &[u8],
     dst: &[u8],

@@ -1,5 +1,5 @@
 use Rattle.std.proofs.Common.{◌≡◌, true, take, drop}
-use Rattle.ofp_read.specs.FlowLine.{cut_action}
+use Rattle.ofp_read.specs.Cut.{cut_action}
 use Rattle.ofp_read.specs.CutLaws.{shifted}
 use Rattle.ofp_read.proofs.line.cut_action.Given as goal
 

@@ -2,13 +2,15 @@ use Rattle.std.proofs.Common.{◌≡◌, ℕ, ◌<◌, ◌≤◌, List, [], leng
 use Rattle.std.specs.Prelude.{Result, Ok, Err, IfOk, IfErr, MatchResult}
 use Rattle.text_core.specs.Lines.{lines}
 use Rattle.text_core.specs.Reading.{line_by_line}
-use Rattle.text_core.specs.ReadingLaws.{first_fault, first_fault_is_told}
+use Rattle.text_core.specs.ReadingLaws.{first_fault}
 use Rattle.pkt_core.specs.declared.event.Event.{Event}
 use Rattle.pkt_core.specs.declared.events.EventWhy.{EventWhy}
 use Rattle.pkt_core.specs.declared.events.EventWhy.TheVariants.{TooLong}
 use Rattle.pkt_core.specs.declared.events.EventFault.{EventFault}
 use Rattle.pkt_core.specs.declared.events.EventFault.TheVariants.{Refused, Memory}
-use Rattle.pkt_core.specs.EventsText.{IsReading, IsRefused, event_step, too_long, at_line}
+use Rattle.pkt_core.specs.EventsText.{IsReading, IsRefused, too_long, at_line}
+use Rattle.pkt_core.specs.EventSteps.{event_step}
+use Rattle.pkt_core.specs.EventFaultLaws.{first_bad, fault_told}
 use Rattle.pkt_core.specs.EventsAnswers.{IsFault, HasCause, Tells}
 use Rattle.pkt_core.specs.Filter.{ArePackets}
 use Rattle.pkt_core.specs.ReadEventLaws.{packets_read}
@@ -26,7 +28,7 @@ only items bytes (Err Memory) told read tells reading = refl
 
 refused : {V : Type 0} (bytes : List ℕ) (r : Result V EventFault) → length bytes ≤ 16777216 → IfErr r (Tells (line_by_line event_step 1 [] (lines bytes))) → IfErr r (HasCause bytes)
 refused bytes (Ok v) short tells = tt
-refused bytes (Err (Refused line why)) short tells = at_line short (first_fault event_step 1 [] (lines bytes) line why tells)
+refused bytes (Err (Refused line why)) short tells = at_line short (first_bad (lines bytes) line why (first_fault event_step 1 [] (lines bytes) line why tells))
 refused bytes (Err Memory) short tells = tt
 
 packets : {V : Type 0} (items : V → List Event) (bytes : List ℕ) (r : Result V EventFault) → IfOk r (λ v. IsReading bytes (items v)) → IfOk r (λ v. ArePackets (items v))
@@ -36,10 +38,6 @@ packets items bytes (Err e) read = tt
 long_fault : (bytes : List ℕ) (line : ℕ) (why : EventWhy) → 16777216 < length bytes → IsRefused bytes line why → (0 ≡ line) × (TooLong ≡ why)
 long_fault bytes line why long (too_long h) = (refl, refl)
 long_fault bytes line why long (at_line short fault) = absurd (omega arith)
-
-line_fault : (bytes : List ℕ) (line : ℕ) (why : EventWhy) → length bytes ≤ 16777216 → IsRefused bytes line why → line_by_line event_step 1 [] (lines bytes) ≡ Err (line, why)
-line_fault bytes line why short (too_long h) = absurd (omega arith)
-line_fault bytes line why short (at_line h fault) = first_fault_is_told event_step 1 [] (lines bytes) line why fault
 
 same_pair : (l m : ℕ) (w v : EventWhy) → ◌≡◌ {A = Result (List Event) (ℕ × EventWhy)} (Err (l, w)) (Err (m, v)) → (l ≡ m) × (w ≡ v)
 same_pair l m w v e = let f : ◌≡◌ {A = ℕ × EventWhy} (l, w) (m, v) = cc in (λ i. (f i).0, λ i. (f i).1)
@@ -54,7 +52,7 @@ returns-then-bytes-gt-EVENTS_BYTE_LIMIT-clause-faulty c = λ line why fault. lon
 
 pub returns-clause-faulty : goal.returns-clause-faulty
 returns-clause-faulty c = λ line why fault.
-    faulty (λ v. v.items) c.args.bytes.now c.read_lines.result line why c.read_lines.ensures.ok c.read_lines.ensures.err (line_fault c.args.bytes.now line why (omega arith) fault)
+    faulty (λ v. v.items) c.args.bytes.now c.read_lines.result line why c.read_lines.ensures.ok c.read_lines.ensures.err (fault_told c.args.bytes.now line why (omega arith) fault)
 
 pub returns-then-bytes-gt-EVENTS_BYTE_LIMIT-clause-refused : goal.returns-then-bytes-gt-EVENTS_BYTE_LIMIT-clause-refused
 returns-then-bytes-gt-EVENTS_BYTE_LIMIT-clause-refused c = too_long (omega arith)

@@ -1,7 +1,7 @@
 use Rattle.std.proofs.Common.{◌≡◌, ◌+◌, [], length}
 use Rattle.text_core.specs.Lines.{lines}
 use Rattle.text_core.specs.Reading.{line_by_line}
-use Rattle.pkt_core.specs.EventsText.{event_step}
+use Rattle.pkt_core.specs.EventSteps.{event_step}
 use Rattle.pkt_core.proofs.events.read_lines.Given as goal
 
 abbrev pub invariant-loop-text : goal.invariant-loop-text

@@ -1,0 +1,85 @@
+-- Why a line cannot stand where it stands (iptables-restore(8)).
+use Rattle.std.specs.Prelude.{◌≡◌, ◌≢◌, ◌<◌, ◌≤◌, ◌⊎◌, ℕ, Bool, true, false, IsTrue, IsFalse, List, [], ◌∷◌, ◌++◌, Some, None, length, codes}
+use Rattle.text_core.specs.Lines.{begins_with}
+use Rattle.ipt_rules.specs.declared.rule.Policy.{Policy}
+use Rattle.ipt_rules.specs.declared.rule.Rule.{Rule}
+use Rattle.ipt_rules.specs.Chain.{Chain, number_of}
+use Rattle.ipt_rules.specs.Name.{is_user_name}
+use Rattle.ipt_rules.specs.Text.{policy_text}
+use Rattle.ipt_read.specs.declared.fault.IptWhy.{IptWhy}
+use Rattle.ipt_read.specs.declared.fault.IptWhy.TheVariants.{BadLine, OtherTable, BadChain, UnknownChain, UnknownOption, Interface as AnInterface, BadValue, AfterCommit, TooMany}
+use Rattle.ipt_read.specs.declared.option.Opt.{Opt}
+use Rattle.ipt_read.specs.declared.option.Given.{Given}
+use Rattle.ipt_read.specs.declared.stage.Stage.TheVariants.{Front, Table, After}
+use Rattle.ipt_read.specs.Options.{option_of, may_stand, is_interface, takes_bang, is_given, nothing_given, value_refusal}
+use Rattle.ipt_read.specs.Said.{SaidSoFar, line_of}
+use Rattle.ipt_read.specs.Grammar.{Stands, IsValue, ArePieces, IsFront, IsRuleLine, IsChainLine}
+
+-- 1. Rule lines.
+
+-- no value of the option stands in front of these words
+abbrev pub HasNoValue : List Chain → Given → Opt → Bool → List (List ℕ) → Type 0
+HasNoValue chains given o negated ws =
+    (value rest : List (List ℕ)) (now : Given) → ws ≡ value ++ rest → IsValue chains given o negated value now → ⊥
+
+-- why words in the place of an option and its value give none, with `!` before them or not
+pub data IsStuckAt (chains : List Chain) (given : Given) (negated : Bool) (name : List ℕ) : List (List ℕ) → IptWhy → Type 0 where
+  no_option : {ws : List (List ℕ)} → option_of name ≡ None → IsStuckAt chains given negated name ws UnknownOption
+  misplaced : {ws : List (List ℕ)} (o : Opt) → option_of name ≡ Some o → IsFalse (may_stand given o)
+      → IsStuckAt chains given negated name ws UnknownOption
+  interface : {ws : List (List ℕ)} (o : Opt) → option_of name ≡ Some o → IsTrue (may_stand given o) → IsTrue (is_interface o)
+      → IsStuckAt chains given negated name ws AnInterface
+  barred : {ws : List (List ℕ)} (o : Opt) → option_of name ≡ Some o → IsTrue (may_stand given o) → IsFalse (is_interface o)
+      → ((negated ≡ true) × IsFalse (takes_bang o)) ⊎ IsTrue (is_given given o) → IsStuckAt chains given negated name ws BadLine
+  value_missing : (o : Opt) → option_of name ≡ Some o → Stands given negated o → IsStuckAt chains given negated name [] BadValue
+  bad_value : {w : List ℕ} {ws : List (List ℕ)} (o : Opt) → option_of name ≡ Some o → Stands given negated o
+      → HasNoValue chains given o negated (w ∷ ws) → IsStuckAt chains given negated name (w ∷ ws) (value_refusal o)
+
+-- why the words behind what is given begin with no piece; `!` stands in front of the target alone
+pub data IsStuck (chains : List Chain) (given : Given) : List (List ℕ) → IptWhy → Type 0 where
+  bare_option : {name : List ℕ} {ws : List (List ℕ)} {why : IptWhy} → (given.target ≡ None → name ≢ codes "!")
+      → IsStuckAt chains given false name ws why → IsStuck chains given (name ∷ ws) why
+  bang_option : {name : List ℕ} {ws : List (List ℕ)} {why : IptWhy} → given.target ≡ None → IsStuckAt chains given true name ws why
+      → IsStuck chains given (codes "!" ∷ name ∷ ws) why
+  bang_last : given.target ≡ None → IsStuck chains given (codes "!" ∷ []) BadLine
+
+-- why words are no rule line: they have no `-A` and chain, behind a count or not; or there is no such chain; or the pieces get stuck
+pub data IsBadRule (chains : List Chain) (ws : List (List ℕ)) : IptWhy → Type 0 where
+  not_begun : ((front : List (List ℕ)) (name : List ℕ) (pieces : List (List ℕ)) → IsFront front → ws ≡ front ++ (codes "-A" ∷ name ∷ pieces) → ⊥)
+      → IsBadRule chains ws BadLine
+  no_chain : (front : List (List ℕ)) (name : List ℕ) (pieces : List (List ℕ)) → IsFront front
+      → ws ≡ front ++ (codes "-A" ∷ name ∷ pieces) → number_of chains name ≡ None → IsBadRule chains ws UnknownChain
+  stuck : {why : IptWhy} (front : List (List ℕ)) (name : List ℕ) (c : ℕ) (read rest : List (List ℕ)) (given : Given) → IsFront front
+      → ws ≡ front ++ (codes "-A" ∷ name ∷ (read ++ rest)) → number_of chains name ≡ Some c → ArePieces chains nothing_given read given
+      → IsStuck chains given rest why → IsBadRule chains ws why
+
+-- 2. Lines.
+
+-- a chain line that may stand, but for how many there are
+pub data MayDeclare (s : SaidSoFar) (ws : List (List ℕ)) : Type 0 where
+  a_built_in : (name : List ℕ) (policy : Policy) (c : ℕ) → IsChainLine ws name (policy_text (Some policy))
+      → number_of s.chains name ≡ Some c → c < 3 → line_of s.declared c ≡ 0 → MayDeclare s ws
+  a_user : (name : List ℕ) → IsChainLine ws name (policy_text None) → number_of s.chains name ≡ None → IsTrue (is_user_name name)
+      → MayDeclare s ws
+
+-- a rule line begins so
+abbrev pub BeginsRule : List ℕ → Type 0
+BeginsRule w = (w ≡ codes "-A") ⊎ IsTrue (begins_with 91 w)
+
+-- why a line of these words cannot stand behind what was said: in front of the table the line `*filter` alone may; within it a chain
+-- line begins with `:` (58), a rule line as is said, and else the line is COMMIT
+pub data IsBad (s : SaidSoFar) (w : List ℕ) (ws : List (List ℕ)) : IptWhy → Type 0 where
+  no_table : s.stage ≡ Front → IsFalse (begins_with 42 w) → IsBad s w ws BadLine
+  other_table : s.stage ≡ Front → IsTrue (begins_with 42 w) → w ≢ codes "*filter" → IsBad s w ws OtherTable
+  behind_table : s.stage ≡ Front → w ≡ codes "*filter" → ws ≢ [] → IsBad s w ws BadLine
+  bad_chain : s.stage ≡ Table → IsTrue (begins_with 58 w) → (MayDeclare s (w ∷ ws) → ⊥) → IsBad s w ws BadChain
+  many_chains : s.stage ≡ Table → (name : List ℕ) → IsChainLine (w ∷ ws) name (policy_text None) → number_of s.chains name ≡ None
+      → IsTrue (is_user_name name) → 4096 ≤ length s.chains → IsBad s w ws TooMany
+  bad_rule : {why : IptWhy} → s.stage ≡ Table → BeginsRule w → IsBadRule s.chains (w ∷ ws) why → IsBad s w ws why
+  many_rules : s.stage ≡ Table → BeginsRule w → (c : ℕ) (r : Rule) → IsRuleLine s.chains (w ∷ ws) c r → 1000000 ≤ s.rules → IsBad s w ws TooMany
+  other_line : s.stage ≡ Table → IsFalse (begins_with 58 w) → (BeginsRule w → ⊥) → w ∷ ws ≢ codes "COMMIT" ∷ [] → IsBad s w ws BadLine
+  after_commit : s.stage ≡ After → IsBad s w ws AfterCommit
+
+-- the line of these words cannot stand
+abbrev pub IsBadLine : SaidSoFar → List (List ℕ) → IptWhy → Type 0
+IsBadLine s ws why = (word : List ℕ) × (others : List (List ℕ)) × (ws ≡ word ∷ others) × IsBad s word others why

@@ -1,0 +1,14 @@
+-- Where the fields of a flow line end, and its action begins (ovs-ofctl(8), "Flow Syntax").
+use Rattle.std.specs.Prelude.{ℕ, Bool, ◌&&◌, if◌then◌else◌, List, [], ◌∷◌, Option, Some, None, codes, bytes_eq, take}
+use Rattle.std.specs.Option.{option_map}
+use Rattle.ofp_read.specs.Grammar.{is_separator}
+
+abbrev pub begins_action : List ℕ → Bool
+begins_action text = bytes_eq (take 8 text) (codes "actions=")
+
+-- the text in front of the first `actions=` that begins a field, and the text from there on; whether a field may begin here
+abbrev pub cut_action : Bool → List ℕ → Option (List ℕ × List ℕ)
+cut_action begins [] = None
+cut_action begins (b ∷ bs) =
+    if begins && begins_action (b ∷ bs) then Some ([], b ∷ bs)
+    else option_map (λ parts. (b ∷ parts.0, parts.1)) (cut_action (is_separator b) bs)

@@ -1,0 +1,49 @@
+-- A text of events as the reader goes through it, step by step. Callers see none of it; they have the grammar and the first fault.
+use Rattle.std.specs.Prelude.{ℕ, nat_lt, if◌then◌else◌, List, [], ◌∷◌, ◌++◌, Option, Some, Result, Ok, Err, length, codes, bytes_eq}
+use Rattle.std.specs.Option.{option_map, ok_or}
+use Rattle.text_core.specs.Decimal.{number}
+use Rattle.text_core.specs.Lines.{words}
+use Rattle.text_core.specs.Steps.{◌>>=◌}
+use Rattle.host_net.specs.declared.packet.Packet.{Packet}
+use Rattle.host_net.specs.Prefix.{address_of}
+use Rattle.pkt_core.specs.declared.event.Event.{Event}
+use Rattle.pkt_core.specs.declared.event.Event.TheVariants.{Seen, Forget}
+use Rattle.pkt_core.specs.declared.events.EventWhy.{EventWhy}
+use Rattle.pkt_core.specs.declared.events.EventWhy.TheVariants.{BadLine, BadValue, TooMany}
+
+abbrev pub protocol_of : List ℕ → Option ℕ
+protocol_of word =
+    if bytes_eq word (codes "icmp") then Some 1
+    else if bytes_eq word (codes "tcp") then Some 6
+    else if bytes_eq word (codes "udp") then Some 17
+    else number 255 word
+
+-- the packet of five words
+unfoldable pub packet_of : List ℕ → List ℕ → List ℕ → List ℕ → List ℕ → Option Packet
+packet_of src dst protocol sport dport = do
+  a ← address_of src
+  b ← address_of dst
+  n ← protocol_of protocol
+  x ← number 65535 sport
+  y ← number 65535 dport
+  Some (record { src = a; dst = b; proto = n; sport = x; dport = y })
+
+-- by the verb: a packet that is seen, or the forgetting of its connection
+unfoldable pub event_by : List ℕ → Option Packet → Result Event EventWhy
+event_by verb p =
+    if bytes_eq verb (codes "packet") then ok_or (option_map Seen p) BadValue
+    else if bytes_eq verb (codes "forget") then ok_or (option_map Forget p) BadValue
+    else Err BadLine
+
+-- the event of a line's words; another number of words is a bad line
+unfoldable pub event_of : List (List ℕ) → Result Event EventWhy
+event_of (verb ∷ src ∷ dst ∷ protocol ∷ sport ∷ dport ∷ []) = event_by verb (packet_of src dst protocol sport dport)
+event_of _ = Err BadLine
+
+-- the events with one more, of 1,000,000 at most
+abbrev pub with_event : List Event → Result Event EventWhy → Result (List Event) EventWhy
+with_event events (Ok e) = if nat_lt 999999 (length events) then Err TooMany else Ok (events ++ e ∷ [])
+with_event events (Err why) = Err why
+
+abbrev pub event_step : ℕ → List Event → List ℕ → Result (List Event) EventWhy
+event_step n events line = with_event events (event_of (words line))
