@@ -9,11 +9,12 @@ use Rattle.flow_set.specs.declared.flow.Flow.{Flow}
 use Rattle.flow_set.specs.Flow.{IsFlow, same_flow, back_of}
 use Rattle.flow_set.specs.FlowSet.{SetOfFlows, has, with_flow}
 use Rattle.flow_set.specs.FlowSetView.{IsFlowSet}
-use Rattle.flow_set.specs.FlowLaws.{same_flow_self, same_flow_back, has-with_flow}
+use Rattle.flow_set.specs.FlowLaws.{same_flow_self, has-with_flow}
 use Rattle.flow_set.specs.SubsetLaws.{IsFlowSet-nothing, IsFlowSet-with_flow}
 use Rattle.host_set.specs.HostSet.{HostNumbers, row_of}
 use Rattle.reach_core.specs.Walks.{has_either}
 use Rattle.reach_core.specs.WalkLaws.{HasPath, HasWalk-weaker, HasWalk-append, HasPath-weaker, path_of_walk, cases_path, walk_over, walk_cut}
+use Rattle.reach_core.specs.ReachLaws.{has_either-with_flow}
 use Rattle.reach_core.specs.Rows.{Closes, IsClosed, opened, OpensFlow, HasRows}
 use Rattle.host_set.specs.HostSetLaws.{contains-insert, hosts_ext}
 
@@ -111,20 +112,6 @@ closes_same test like rows same closes i j below = (
   λ shown. HasWalk-weaker test like (λ f passes. sym (same f) ∙ passes) i j ((closes i j below).0 shown),
   λ walk. (closes i j below).1 (HasWalk-weaker like test (λ f passes. same f ∙ passes) i j walk),
 )
-
-regroup : (a b c d : Bool) → (c || (a || (b || d))) ≡ ((a || b) || (c || d))
-regroup true b true d = refl
-regroup true b false d = refl
-regroup false true true d = refl
-regroup false true false d = refl
-regroup false false c d = refl
-
-has_either-with_flow : (fs : List Flow) (g f : Flow)
-    → (same_flow (back_of g) f || (same_flow g f || has_either fs f)) ≡ has_either (with_flow fs g) f
-has_either-with_flow fs g f =
-    ap (λ b. b || (same_flow g f || has_either fs f)) (same_flow_back g f)
-    ∙ regroup (same_flow g f) (has fs f) (same_flow g (back_of f)) (has fs (back_of f))
-    ∙ sym (λ i. has-with_flow fs g f i || has-with_flow fs g (back_of f) i)
 
 -- with the flow alone, and its reverse still to come
 closes_halfway : (e : SetOfFlows) (f : Flow) (along either halfway : List HostNumbers) → IsFlow e.size f → HasRows e along either

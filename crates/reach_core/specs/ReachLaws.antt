@@ -1,5 +1,5 @@
 -- Laws of what a host reaches and of what it is joined with: over subsets, no flows, one flow and one more flow.
-use Rattle.std.proofs.Common.{◌≡◌, ℕ, ◌<◌, ◌≤◌, false, ◌⊎◌, ◌↔◌, inl, inr, List, [], ◌∷◌, ◌++◌, refl, sym, ◌∙◌, ap, arith}
+use Rattle.std.proofs.Common.{◌≡◌, ℕ, ◌<◌, ◌≤◌, Bool, true, false, ◌||◌, ◌⊎◌, ◌↔◌, inl, inr, List, [], ◌∷◌, ◌++◌, refl, sym, ◌∙◌, ap, arith}
 use Rattle.std.specs.Prelude.{IsTrue, ◌≢◌}
 use Rattle.std.proofs.lemmas.Bool.{or_cases, or_left, or_right, false≢true}
 use Rattle.std.proofs.lemmas.List.Elements.{All-nil, All-cons}
@@ -7,10 +7,10 @@ use Rattle.flow_set.specs.declared.flow.Flow.{Flow}
 use Rattle.flow_set.specs.Flow.{same_flow, back_of}
 use Rattle.flow_set.specs.FlowSet.{has, with_flow}
 use Rattle.flow_set.specs.FlowSetView.{IsFlowSet}
-use Rattle.flow_set.specs.FlowLaws.{same_flow-true, has-with_flow}
-use Rattle.reach_core.specs.Walks.{LeadsTo, Reaches, has_either, Joined, ReachesAtMost}
+use Rattle.flow_set.specs.FlowLaws.{same_flow-true, same_flow_back, has-with_flow}
+use Rattle.reach_core.specs.Walks.{LeadsTo, HasWalk, Reaches, has_either, Joined, ReachesAtMost}
 use Rattle.reach_core.specs.Counting.{ReachesExactly}
-use Rattle.reach_core.specs.WalkLaws.{HasPath, HasWalk-weaker, LeadsTo-append, walk_over, path_touch, walk_ends}
+use Rattle.reach_core.specs.WalkLaws.{HasPath, HasWalk-weaker, cases_path, walk_without, walk_elsewhere, LeadsTo-append, walk_over, path_touch, walk_ends}
 
 -- ---- over subsets
 
@@ -155,3 +155,45 @@ joined_through e g i j (f, fs, walk) =
       | inl stays ↦ inl (f, fs, stays)
       | inr parts ↦ inr parts
     ]
+
+-- a flow whose receiver is reached already lets nobody reach anything new
+pub Reaches-nothing_new : (e : List Flow) (g : Flow) → Reaches e g.from g.to → (i j : ℕ) → Reaches (with_flow e g) i j → Reaches e i j
+Reaches-nothing_new e g there i j walk =
+    walk_without (has e) g there i j (HasWalk-weaker (has (with_flow e g)) _ (λ f passes. sym (has-with_flow e g f) ∙ passes) i j walk)
+
+-- no flow lets those reach anything new that do not come to its sender
+pub Reaches-elsewhere : (e : List Flow) (g : Flow) (i j : ℕ) → i ≢ g.from → (Reaches e i g.from → ⊥) → Reaches (with_flow e g) i j
+    → Reaches e i j
+Reaches-elsewhere e g i j apart never walk =
+    walk_elsewhere (has e) g i j (λ path. elim (cases_path (has e) i g.from path) [ inl same ↦ apart same | inr walk ↦ never walk ])
+    (HasWalk-weaker (has (with_flow e g)) _ (λ f passes. sym (has-with_flow e g f) ∙ passes) i j walk)
+
+-- whoever reaches no more than before reaches no more others
+pub ReachesAtMost-as_before : (s e : List Flow) (i limit : ℕ) → ((j : ℕ) → Reaches s i j → Reaches e i j) → ReachesAtMost e i limit
+    → ReachesAtMost s i limit
+ReachesAtMost-as_before s e i limit before most hosts are =
+    most hosts (record { different = are.different; others = are.others; reached = λ k d below. before _ (are.reached k d below) })
+
+regroup : (a b c d : Bool) → (c || (a || (b || d))) ≡ ((a || b) || (c || d))
+regroup true b true d = refl
+regroup true b false d = refl
+regroup false true true d = refl
+regroup false true false d = refl
+regroup false false c d = refl
+
+pub has_either-with_flow : (fs : List Flow) (g f : Flow)
+    → (same_flow (back_of g) f || (same_flow g f || has_either fs f)) ≡ has_either (with_flow fs g) f
+has_either-with_flow fs g f =
+    ap (λ b. b || (same_flow g f || has_either fs f)) (same_flow_back g f)
+    ∙ regroup (same_flow g f) (has fs f) (same_flow g (back_of f)) (has fs (back_of f))
+    ∙ sym (λ i. has-with_flow fs g f i || has-with_flow fs g (back_of f) i)
+
+-- a flow between hosts that are joined already joins nothing new
+pub Joined-nothing_new : (e : List Flow) (g : Flow) → Joined e g.from g.to → (i j : ℕ) → Joined (with_flow e g) i j → Joined e i j
+Joined-nothing_new e g there i j walk =
+    let one_way : Flow → Bool = λ f. same_flow g f || has_either e f in
+    let back : HasWalk one_way g.to g.from =
+    HasWalk-weaker (has_either e) one_way (λ f. or_right (same_flow g f) (has_either e f)) g.to g.from (Joined-back e g.from g.to there) in
+    walk_without (has_either e) g there i j
+    (walk_without one_way (back_of g) back i j
+    (HasWalk-weaker (has_either (with_flow e g)) _ (λ f passes. has_either-with_flow e g f ∙ passes) i j walk))

@@ -7,6 +7,7 @@ use Rattle.flow_set.specs.FlowSet.{SetOfFlows, has}
 use Rattle.flow_set.specs.FlowSetView.{IsFlowSet}
 use Rattle.flow_set.specs.Steps.{TriedFlows}
 use Rattle.host_set.specs.HostSet.{HostNumbers, row_of}
+use Rattle.reach_core.specs.declared.stepped.SteppedRows.{SteppedRows}
 use Rattle.reach_core.specs.Walks.{HasWalk, has_either}
 
 -- each row has the hosts that walks lead to from its host
@@ -38,9 +39,13 @@ pub record HasRows (e : SetOfFlows) (along either : List HostNumbers) : Type 0 w
   pub reached : Closes (has e.flows) along
   pub joined : Closes (has_either e.flows) either
 
+-- the rows before the last step, which are those of now where it changed none
+abbrev pub rows_before : SteppedRows → List HostNumbers
+rows_before r = if r.changed then r.before else r.rows
+
 -- the rows of flows that are tried in steps, and those before the last step
-pub record HasSteppedRows (t : TriedFlows) (along either along_before either_before : List HostNumbers) : Type 0 where
-  pub now : HasRows (record { size = t.size; flows = t.flows }) along either
-  pub along_room : length along_before ≡ t.size
-  pub either_room : length either_before ≡ t.size
-  pub before : IfSome t.before_step (λ fs. HasRows (record { size = t.size; flows = fs }) along_before either_before)
+pub record HasSteppedRows (t : TriedFlows) (along either : SteppedRows) : Type 0 where
+  pub now : HasRows (record { size = t.size; flows = t.flows }) along.rows either.rows
+  pub along_room : length along.before ≡ length along.rows
+  pub either_room : length either.before ≡ length either.rows
+  pub before : IfSome t.before_step (λ fs. HasRows (record { size = t.size; flows = fs }) (rows_before along) (rows_before either))

@@ -79,6 +79,33 @@ pub walk_cut : (test : Flow → Bool) (g : Flow) (i j : ℕ) → HasWalk (λ f. 
 walk_cut test g i j (f, fs, walk) =
     elim (path_cut test g i j (f ∷ fs) walk) [ inl stays ↦ inl (f, fs, stays) | inr parts ↦ inr parts ]
 
+-- a path, a walk and a path are a walk
+pub walk_within : (test : Flow → Bool) (i k l j : ℕ) → HasPath test i k → HasWalk test k l → HasPath test l j → HasWalk test i j
+walk_within test i k l j before walk after =
+    let onward : HasWalk test k j = elim (cases_path test l j after) [
+      | inl same ↦ subst (HasWalk test k) same walk
+      | inr rest ↦ HasWalk-append test k l j walk rest
+    ] in
+    elim (cases_path test i k before) [
+      | inl same ↦ subst (λ h. HasWalk test h j) (sym same) onward
+      | inr first ↦ HasWalk-append test i k j first onward
+    ]
+
+-- a flow between whose hosts there is a walk adds no walk
+pub walk_without : (test : Flow → Bool) (g : Flow) → HasWalk test g.from g.to → (i j : ℕ)
+    → HasWalk (λ f. same_flow g f || test f) i j → HasWalk test i j
+walk_without test g there i j walk =
+    elim (walk_cut test g i j walk) [
+      | inl stays ↦ stays
+      | inr parts ↦ walk_within test i g.from g.to j parts.0 there parts.1
+    ]
+
+-- nor does any flow for whoever does not come to its sender
+pub walk_elsewhere : (test : Flow → Bool) (g : Flow) (i j : ℕ) → (HasPath test i g.from → ⊥)
+    → HasWalk (λ f. same_flow g f || test f) i j → HasWalk test i j
+walk_elsewhere test g i j apart walk =
+    elim (walk_cut test g i j walk) [ inl stays ↦ stays | inr parts ↦ absurd (apart parts.0) ]
+
 -- where each further flow has an end at the host, a walk does without these flows, or leads to the host and on from it
 pub path_touch : (test wider : Flow → Bool) (host : ℕ)
     → ((f : Flow) → IsTrue (wider f) → IsTrue (test f) ⊎ ((f.from ≡ host) ⊎ (f.to ≡ host))) → (i j : ℕ) (fs : List Flow)

@@ -10,21 +10,18 @@ ghost use Rattle.reach_core.specs.Walks.{Reaches, Joined};
 ghost use Rattle.reach_core.specs.Counting.{ReachesExactly};
 
 use crate::rows::Rows;
+use crate::stepped::SteppedRows;
 use flow_set::{Flow, FlowSet, FlowSteps};
 use host_set::HostSet;
 use std::alloc::{AllocError, Global};
 use std::marker::Model;
-use std::mem;
 
 /// The walks along a set of flows.
 #[derive(Drop)]
 pub struct Closure {
     steps: FlowSteps,
-    reached: Rows,
-    joined: Rows,
-    // The rows before the last step, and room for them where there is none.
-    reached_before: Rows,
-    joined_before: Rows,
+    reached: SteppedRows,
+    joined: SteppedRows,
 }
 
 impl Model for Closure {
@@ -35,7 +32,7 @@ impl Model for Closure {
 
     ghost view = { λ c. c.steps };
 
-    ghost invariant = { λ c. HasSteppedRows c.steps c.reached c.joined c.reached_before c.joined_before };
+    ghost invariant = { λ c. HasSteppedRows c.steps c.reached c.joined };
 }
 
 impl Closure {
@@ -46,8 +43,8 @@ impl Closure {
         let steps = FlowSteps::new(alloc, e)?;
         let mut reached = Rows::new(alloc, e.size())?;
         let mut joined = Rows::new(alloc, e.size())?;
-        let reached_before = Rows::new(alloc, e.size())?;
-        let joined_before = Rows::new(alloc, e.size())?;
+        let reached_room = Rows::new(alloc, e.size())?;
+        let joined_room = Rows::new(alloc, e.size())?;
         for f in e.iter() {
             reached.open(f);
             joined.open(f);
@@ -55,10 +52,8 @@ impl Closure {
         }
         Ok(Closure {
             steps,
-            reached,
-            joined,
-            reached_before,
-            joined_before,
+            reached: SteppedRows::new(reached, reached_room),
+            joined: SteppedRows::new(joined, joined_room),
         })
     }
 
@@ -67,8 +62,8 @@ impl Closure {
         requires { IsFlow self.old.size f }
         ensures { self.new ≡ stepped self.old f }
     {
-        self.reached_before.copy_from(&self.reached);
-        self.joined_before.copy_from(&self.joined);
+        self.reached.begin();
+        self.joined.begin();
         self.steps.step(f);
         self.reached.open(f);
         self.joined.open(f);
@@ -80,8 +75,8 @@ impl Closure {
         requires { IsSome self.old.before_step }
         ensures { self.new ≡ taken_back self.old }
     {
-        mem::swap(&mut self.reached, &mut self.reached_before);
-        mem::swap(&mut self.joined, &mut self.joined_before);
+        self.reached.back();
+        self.joined.back();
         self.steps.back();
     }
 

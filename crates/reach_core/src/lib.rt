@@ -4,6 +4,7 @@
 
 mod closure;
 mod rows;
+mod stepped;
 #[cfg(test)]
 mod tests;
 

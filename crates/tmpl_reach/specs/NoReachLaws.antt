@@ -6,7 +6,7 @@ use Rattle.std.specs.List.{list_any}
 use Rattle.std.proofs.lemmas.Bool.{and_from, lt-ltb, ne_eqb, not_from_false}
 use Rattle.flow_set.specs.declared.flow.Flow.{Flow}
 use Rattle.flow_set.specs.Flow.{IsFlow}
-use Rattle.flow_set.specs.FlowSet.{has}
+use Rattle.flow_set.specs.FlowSet.{has, with_flow}
 use Rattle.flow_set.specs.FlowLaws.{has_first}
 use Rattle.flow_set.specs.Downward.{IsDownward}
 use Rattle.inv_law.specs.Invariants.{ResetMendsNothing}
@@ -14,7 +14,8 @@ use Rattle.inv_law.specs.TemplateLaws.{IsLawfulTemplate, lawful_walk}
 use Rattle.inv_law.specs.declared.strategy.Strategy.TheVariants.{Access}
 use Rattle.host_set.specs.HostSet.{HostNumbers}
 use Rattle.host_set.specs.HostSetLaws.{contains-hosts_below, hosts_ext}
-use Rattle.reach_core.specs.ReachLaws.{Reaches-within, Reaches-none, Reaches-one, reaches_over}
+use Rattle.reach_core.specs.Walks.{Reaches}
+use Rattle.reach_core.specs.ReachLaws.{Reaches-nothing_new, Reaches-within, Reaches-none, Reaches-one, reaches_over}
 use Rattle.tmpl_reach.specs.NoReach.{no_reach, others, denied_by, ReachesNoDenied}
 use Rattle.tmpl_reach.specs.Resets.{ReachesNoDeniedAfterReset}
 
@@ -43,6 +44,12 @@ ReachesNoDenied-reset denied e f host is_set minimal offending holds =
     subst (λ h. ReachesNoDenied (slice_set denied h (others (length denied) h)) e) (sym offending.blamed) holds in
     after g.from g.to is_flow.2 (ap (λ s. set.contains s g.to) (get_or-set_same denied g.from all set.empty is_flow.0) ∙ denies)
     (reaches_over e g in_e)
+
+-- a flow whose receiver is reached already breaks nothing
+pub ReachesNoDenied-nothing_new : (denied : List HostNumbers) (e : List Flow) (f : Flow) → Reaches e f.from f.to
+    → ReachesNoDenied denied e → ReachesNoDenied denied (with_flow e f)
+ReachesNoDenied-nothing_new denied e f there holds i j apart denies reaches =
+    holds i j apart denies (Reaches-nothing_new e f there i j reaches)
 
 -- one flow alone: its sender reaches its receiver
 pub ReachesNoDenied-one : (denied : List HostNumbers) (f : Flow) → IsFlow (length denied) f

@@ -12,7 +12,7 @@ use Rattle.inv_law.specs.TemplateLaws.{IsLawfulTemplate, lawful_walk}
 use Rattle.inv_law.specs.declared.strategy.Strategy.TheVariants.{Information}
 use Rattle.reach_core.specs.Walks.{Joined, has_either}
 use Rattle.reach_core.specs.WalkLaws.{cases_path}
-use Rattle.reach_core.specs.ReachLaws.{Joined-within, Joined-none, Joined-one, joined_over, joined_through}
+use Rattle.reach_core.specs.ReachLaws.{Joined-nothing_new, Joined-within, Joined-none, Joined-one, joined_over, joined_through}
 use Rattle.tmpl_reach.specs.NonInterference.{non_interference, IsInterfering, IsNonInterfering}
 use Rattle.tmpl_reach.specs.Resets.{IsNonInterferingAfterReset}
 use Rattle.tmpl_reach.specs.declared.non_interference.Interference.{Interference}
@@ -66,6 +66,12 @@ IsNonInterfering-reset hosts e f host is_set minimal offending holds =
         ]
       ]
     ])
+
+-- a flow between hosts that are joined already breaks nothing
+pub IsNonInterfering-nothing_new : (hosts : List Interference) (e : List Flow) (f : Flow) → Joined e f.from f.to
+    → IsNonInterfering hosts e → IsNonInterfering hosts (with_flow e f)
+IsNonInterfering-nothing_new hosts e f there holds i first j apart second joined =
+    holds i first j apart second (Joined-nothing_new e f there i j joined)
 
 -- one flow alone joins its two hosts
 pub IsNonInterfering-one : (hosts : List Interference) (f : Flow) → IsFlow (length hosts) f

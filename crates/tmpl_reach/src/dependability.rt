@@ -1,10 +1,11 @@
 //! Dependability: how many others a host may depend on. A host depends on those that it reaches
 //! along the flows, and never on itself.
 
-ghost use Rattle.std.specs.Prelude.{◌≡◌, ◌<◌, ◌↔◌, IfOk, IsTrue, false, length, replicate, slice_set};
+ghost use Rattle.std.specs.Prelude.{◌≡◌, ℕ, ◌<◌, ◌↔◌, IfOk, IsTrue, false, length, replicate, slice_index, slice_set};
 ghost use Rattle.std.proofs.lemmas.Bool.{false≢true};
 ghost use Rattle.inv_law.specs.declared.strategy.Strategy.TheVariants.{Access};
-ghost use Rattle.tmpl_reach.specs.Dependability.{IsDependable};
+ghost use Rattle.reach_core.specs.Walks.{ReachesAtMost};
+ghost use Rattle.tmpl_reach.specs.Dependability.{IsDependable, StaysWithin};
 ghost use Rattle.tmpl_reach.specs.Resets.{IsDependableAfterReset};
 ghost use Rattle.tmpl_reach.specs.DependabilityLaws.{IsDependable-downward, IsDependable-none, IsDependable-reset};
 
@@ -60,6 +61,39 @@ impl Dependability {
             }
         }
         true
+    }
+
+    // Whether no host reaches more others than its limit, where only the sender of a new flow and those
+    // that come to it may reach more than before.
+    fn still_within(&self, closure: &Closure, from: u16) -> bool
+        requires size { closure.now.size ≡ length self.now }
+        requires from { from < length self.now }
+        requires elsewhere { (host : ℕ) → host < length self.now → StaysWithin self.now closure.now.flows from host }
+        ensures { IsTrue result ↔ IsDependable self.now closure.now.flows }
+    {
+        if !self.is_still_within(closure, from, from) {
+            return false;
+        }
+        for host in 0..closure.size() {
+            if !self.is_still_within(closure, from, host) {
+                return false;
+            }
+        }
+        true
+    }
+
+    // Whether the host reaches no more others than its limit.
+    fn is_still_within(&self, closure: &Closure, from: u16, host: u16) -> bool
+        requires size { closure.now.size ≡ length self.now }
+        requires from { from < length self.now }
+        requires host { host < length self.now }
+        requires elsewhere { StaysWithin self.now closure.now.flows from host }
+        ensures { IsTrue result ↔ ReachesAtMost closure.now.flows host (slice_index self.now host) }
+    {
+        if host != from && !closure.reaches(host, from) {
+            return true;
+        }
+        closure.count(host) <= self.limits[host as usize]
     }
 }
 
@@ -122,8 +156,9 @@ impl Stepwise for Dependability {
     }
 
     fn step(&self, tried: &mut ReachTrial, f: Flow) -> bool {
+        let nothing_new = tried.reaches(f);
         tried.step(f);
-        self.all_within(tried.closure())
+        nothing_new || self.still_within(tried.closure(), f.from)
     }
 
     fn back(&self, tried: &mut ReachTrial) {

@@ -162,8 +162,9 @@ impl Stepwise for NoReach {
     }
 
     fn step(&self, tried: &mut ReachTrial, f: Flow) -> bool {
+        let nothing_new = tried.reaches(f);
         tried.step(f);
-        self.none_reached(tried.closure())
+        nothing_new || self.none_reached(tried.closure())
     }
 
     fn back(&self, tried: &mut ReachTrial) {

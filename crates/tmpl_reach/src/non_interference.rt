@@ -170,8 +170,9 @@ impl Stepwise for NonInterference {
     }
 
     fn step(&self, tried: &mut ReachTrial, f: Flow) -> bool {
+        let nothing_new = tried.joins(f);
         tried.step(f);
-        self.all_apart(tried.closure())
+        nothing_new || self.all_apart(tried.closure())
     }
 
     fn back(&self, tried: &mut ReachTrial) {

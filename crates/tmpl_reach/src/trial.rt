@@ -1,7 +1,8 @@
 //! The trial of an invariant that looks at walks: the closure of the flows, which takes one step back.
 
-ghost use Rattle.std.specs.Prelude.{◌≡◌, IfOk, IsSome};
+ghost use Rattle.std.specs.Prelude.{◌≡◌, ◌↔◌, IfOk, IsSome, IsTrue};
 ghost use Rattle.flow_set.specs.Flow.{IsFlow};
+ghost use Rattle.reach_core.specs.Walks.{Reaches, Joined};
 ghost use Rattle.flow_set.specs.Steps.{untried, stepped, taken_back};
 
 use flow_set::{Flow, FlowSet};
@@ -37,6 +38,22 @@ impl ReachTrial {
         ensures { result.now ≡ self.now }
     {
         &self.closure
+    }
+
+    // Whether a walk leads from the sender of the flow to its receiver already.
+    pub(crate) fn reaches(&self, f: Flow) -> bool
+        requires { IsFlow self.now.size f }
+        ensures { IsTrue result ↔ Reaches self.now.flows f.from f.to }
+    {
+        self.closure.reaches(f.from, f.to)
+    }
+
+    // Whether the sender of the flow and its receiver are joined already.
+    pub(crate) fn joins(&self, f: Flow) -> bool
+        requires { IsFlow self.now.size f }
+        ensures { IsTrue result ↔ Joined self.now.flows f.from f.to }
+    {
+        self.closure.joined(f.from, f.to)
     }
 
     pub(crate) fn step(&mut self, f: Flow)
