@@ -5,7 +5,7 @@ use Rattle.inv_any.specs.Templates.{meaning_of}
 use Rattle.inv_any.specs.declared.any_inv.AnyInv.{AnyInv}
 use Rattle.inv_any.specs.declared.any_inv.AnyInv.TheVariants as inv
 use Rattle.inv_any.specs.declared.any_trial.Case.{Case}
-use Rattle.inv_any.specs.declared.any_trial.Case.TheVariants.{Blp, Tainting, Sink, Gateway, Subnets, Partners, Domains, Dependability, NonInterference, NoReach}
+use Rattle.inv_any.specs.declared.any_trial.Case.TheVariants.{Blp, Tainting, Sink, Gateway, Subnets, Partners, Domains, Dependability, NonInterference, NoReach, Table}
 
 -- what the trial is seen as, of whatever template
 abbrev pub tried_of : Case → TriedFlows
@@ -19,6 +19,7 @@ tried_of (Domains t) = t
 tried_of (Dependability t) = t
 tried_of (NonInterference t) = t
 tried_of (NoReach t) = t
+tried_of (Table t) = t
 
 -- a trial of the template of the invariant
 abbrev pub case_like : AnyInv → TriedFlows → Case
@@ -32,6 +33,7 @@ case_like (inv.Domains hosts) t = Domains t
 case_like (inv.Dependability hosts) t = Dependability t
 case_like (inv.NonInterference hosts) t = NonInterference t
 case_like (inv.NoReach hosts) t = NoReach t
+case_like (inv.Table rule) t = Table t
 
 -- the trial is of the template of the invariant, and of its size
 pub record FitsAny (any : AnyInv) (case : Case) : Type 0 where

@@ -9,6 +9,7 @@ use Rattle.tmpl_levels.specs.TaintingLaws.{tainting_lawful}
 use Rattle.tmpl_reach.specs.DependabilityLaws.{dependability_lawful}
 use Rattle.tmpl_reach.specs.NonInterferenceLaws.{non_interference_lawful}
 use Rattle.tmpl_reach.specs.NoReachLaws.{no_reach_lawful}
+use Rattle.tmpl_table.specs.KindTableLaws.{declared_lawful}
 use Rattle.tmpl_zones.specs.GatewayLaws.{gateways_lawful}
 use Rattle.tmpl_zones.specs.PartnersLaws.{partners_lawful}
 use Rattle.tmpl_zones.specs.SinkLaws.{sinks_lawful}
@@ -25,3 +26,4 @@ lawful (any.Domains hosts) = domains_lawful hosts
 lawful (any.Dependability hosts) = dependability_lawful hosts
 lawful (any.NonInterference hosts) = non_interference_lawful hosts
 lawful (any.NoReach hosts) = no_reach_lawful hosts
+lawful (any.Table rule) = declared_lawful rule.table rule.hosts

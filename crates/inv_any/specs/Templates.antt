@@ -1,4 +1,5 @@
--- An invariant of one of the ten templates: what it means, and its name, by the record of its template.
+-- An invariant of one of the ten templates, or of a template that is declared as a table: what it means, and its name, by the record of
+-- its template.
 use Rattle.std.specs.Prelude.{ℕ, List}
 use Rattle.inv_any.specs.declared.any_inv.AnyInv.{AnyInv}
 use Rattle.inv_any.specs.declared.any_inv.AnyInv.TheVariants as any
@@ -9,6 +10,7 @@ use Rattle.tmpl_levels.specs.Tainting.{tainting}
 use Rattle.tmpl_reach.specs.Dependability.{dependability}
 use Rattle.tmpl_reach.specs.NonInterference.{non_interference}
 use Rattle.tmpl_reach.specs.NoReach.{no_reach}
+use Rattle.tmpl_table.specs.KindTable.{declared}
 use Rattle.tmpl_zones.specs.Gateway.{gateways}
 use Rattle.tmpl_zones.specs.Partners.{partners}
 use Rattle.tmpl_zones.specs.Sink.{sinks}
@@ -27,6 +29,7 @@ by_template say (any.Domains hosts) = say domains hosts any.Domains
 by_template say (any.Dependability hosts) = say dependability hosts any.Dependability
 by_template say (any.NonInterference hosts) = say non_interference hosts any.NonInterference
 by_template say (any.NoReach hosts) = say no_reach hosts any.NoReach
+by_template say (any.Table rule) = say (declared rule.table) rule.hosts (λ hosts. any.Table (record { table = rule.table; hosts = hosts }))
 
 -- what the invariant means
 abbrev pub meaning_of : AnyInv → Meaning

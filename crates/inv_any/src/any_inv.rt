@@ -12,9 +12,10 @@ use std::alloc::{AllocError, Global};
 use tmpl_domains::Domains;
 use tmpl_levels::{Blp, Tainting};
 use tmpl_reach::{Dependability, NoReach, NonInterference};
+use tmpl_table::TableRule;
 use tmpl_zones::{Gateway, Partners, SinkRule, Subnets};
 
-/// An invariant of one of the ten templates.
+/// An invariant of one of the ten templates, or of a template that is declared as a table.
 #[derive(Drop)]
 pub enum AnyInv {
     Blp(EdgeWise<Blp>),
@@ -27,13 +28,14 @@ pub enum AnyInv {
     Dependability(Dependability),
     NonInterference(NonInterference),
     NoReach(NoReach),
+    Table(EdgeWise<TableRule>),
 }
 
 // The templates, for the two macros below: what the invariant in `any`, here `inv`, answers, and an
 // invariant of the same template.
 macro_rules! each {
     ($say:ident, $($args:tt)*) => {
-        $say!($($args)*; Blp Tainting Sink Gateway Subnets Partners Domains Dependability NonInterference NoReach)
+        $say!($($args)*; Blp Tainting Sink Gateway Subnets Partners Domains Dependability NonInterference NoReach Table)
     };
 }
 
@@ -55,10 +57,10 @@ macro_rules! keep {
 
 impl AnyInv {
     /// The name of the template, as a description writes it.
-    pub fn template_name(&self) -> &str
+    pub fn template_name(&self) -> &[u8]
         ensures { result.now ≡ template_name self.now }
     {
-        match self {
+        let name = match self {
             AnyInv::Blp(_) => "blp",
             AnyInv::Tainting(_) => "tainting",
             AnyInv::Sink(_) => "sink",
@@ -69,7 +71,9 @@ impl AnyInv {
             AnyInv::Dependability(_) => "dependability",
             AnyInv::NonInterference(_) => "noninterference",
             AnyInv::NoReach(_) => "noreach",
-        }
+            AnyInv::Table(inv) => return inv.rule().name().bytes(),
+        };
+        name.as_bytes()
     }
 }
 

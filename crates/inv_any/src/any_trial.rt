@@ -21,9 +21,10 @@ enum Case {
     Dependability(ReachTrial),
     NonInterference(ReachTrial),
     NoReach(ReachTrial),
+    Table(EdgeTrial),
 }
 
-/// A set of flows that is tried in steps by an invariant of one of the ten templates.
+/// A set of flows that is tried in steps by an invariant of any template.
 #[derive(Drop)]
 pub struct AnyTrial {
     case: Case,
@@ -44,6 +45,7 @@ impl Trial for AnyTrial {
             Case::Dependability(tried) => tried.size(),
             Case::NonInterference(tried) => tried.size(),
             Case::NoReach(tried) => tried.size(),
+            Case::Table(tried) => tried.size(),
         }
     }
 }
@@ -93,6 +95,10 @@ macro_rules! ask_trial {
                 Case::NoReach($tried) => $answer,
                 _ => $other,
             },
+            AnyInv::Table($inv) => match $case {
+                Case::Table($tried) => $answer,
+                _ => $other,
+            },
         }
     };
 }
@@ -114,6 +120,7 @@ impl Stepwise for AnyInv {
             AnyInv::Dependability(inv) => Case::Dependability(inv.trial(alloc, e)?),
             AnyInv::NonInterference(inv) => Case::NonInterference(inv.trial(alloc, e)?),
             AnyInv::NoReach(inv) => Case::NoReach(inv.trial(alloc, e)?),
+            AnyInv::Table(inv) => Case::Table(inv.trial(alloc, e)?),
         };
         Ok(AnyTrial { case })
     }

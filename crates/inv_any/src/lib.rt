@@ -1,10 +1,13 @@
-//! One of the ten templates: the type of an invariant that is chosen when the program runs.
+//! One of the ten templates, or a declared one: the type of an invariant that is chosen when the
+//! program runs.
 #![tactic(auto)]
 
 mod any_inv;
 mod any_trial;
+mod defaults;
 #[cfg(test)]
 mod tests;
 
 pub use any_inv::AnyInv;
 pub use any_trial::AnyTrial;
+pub use defaults::only_default_is_secure;

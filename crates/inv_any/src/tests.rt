@@ -28,7 +28,7 @@ fn first_reset<I: Invariant>(alloc: Global, inv: &I) -> Result<Option<I>, AllocE
 }
 
 // Whether the invariant has this name, and still has it after a reset.
-fn is_named(alloc: Global, inv: AnyInv, name: &str) -> Result<bool, AllocError> {
+fn is_named(alloc: Global, inv: AnyInv, name: &[u8]) -> Result<bool, AllocError> {
     let Some(reset) = first_reset(alloc, &inv)? else {
         return Ok(false);
     };
@@ -39,13 +39,13 @@ fn is_named(alloc: Global, inv: AnyInv, name: &str) -> Result<bool, AllocError> 
 fn templates_keep_their_names(rt: HostRuntime) -> Result<(), Fail> {
     let alloc = rt.alloc();
     let blp = AnyInv::Blp(EdgeWise::new(Blp::new(alloc, 2)?));
-    assert!(rt; is_named(alloc, blp, "blp")?);
+    assert!(rt; is_named(alloc, blp, b"blp")?);
     let partners = AnyInv::Partners(EdgeWise::new(Partners::new(alloc, 2)?));
-    assert!(rt; is_named(alloc, partners, "partners")?);
+    assert!(rt; is_named(alloc, partners, b"partners")?);
     let domains = AnyInv::Domains(EdgeWise::new(Domains::new(alloc, 2)?));
-    assert!(rt; is_named(alloc, domains, "domains")?);
+    assert!(rt; is_named(alloc, domains, b"domains")?);
     let no_reach = AnyInv::NoReach(NoReach::new(alloc, 2)?);
-    assert!(rt; is_named(alloc, no_reach, "noreach")?);
+    assert!(rt; is_named(alloc, no_reach, b"noreach")?);
     Ok(())
 }
 

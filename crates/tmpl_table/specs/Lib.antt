@@ -1,0 +1,4 @@
+pub mod KindTable
+pub mod KindTableLaws
+pub mod TableFaults
+pub mod TableView
