@@ -32,3 +32,6 @@ pub mod TaintingLaws
 pub mod Templates
 pub mod TemplatesLaws
 pub mod Walks
+pub mod OwnTables
+pub mod OwnTablesLaws
+pub mod OwnTablesWalk

@@ -10,6 +10,7 @@ use Rattle.std.specs.Str.{bytes_eq}
 use Rattle.host_net.specs.Host.{Host}
 use Rattle.toml.specs.Data.{Data, string, table, Members, members_are_sorted}
 use Rattle.attr_core.specs.Assigns.{Given}
+use Rattle.attr_core.specs.OwnTables.{Declared, table_form}
 use Rattle.attr_core.specs.Forms.{Form, bad_assign, bad_from, says}
 use Rattle.attr_core.specs.Kinds.{kind_key, kind_of}
 use Rattle.attr_core.specs.NoReach.{all_denied, noreach_attribute, noreach_form, noreach_keys}
@@ -193,15 +194,25 @@ good_step : {A : Type 0} (o : Option A) (later : Option ℕ) (n : ℕ) → (if i
 good_step None later n none = cc
 good_step (Some x) later n none = (refl, none)
 
-each_shallow : (t : Template) (hosts : List Host) (earlier rest : List Given) → bad_from (says (form t) hosts) earlier rest ≡ None
+-- where what says an attribute is shallow
+abbrev AreSaidShallow : Form → List Host → Type 0
+AreSaidShallow f hosts = (earlier : List Given) (a : Given) (x : f.template.Attribute) → says f hosts earlier a ≡ Some x → IsShallowGiven a
+
+each_shallow : (f : Form) (hosts : List Host) → AreSaidShallow f hosts → (earlier rest : List Given) → bad_from (says f hosts) earlier rest ≡ None
     → AllByRecursion IsShallowGiven rest
-each_shallow t hosts earlier [] none = tt
-each_shallow t hosts earlier (a ∷ rest) none =
-    let (here, behind) = good_step (says (form t) hosts earlier a) _ _ none in
-    let (x, said) = some_of (says (form t) hosts earlier a) here in
-    (says_shallow t hosts earlier a x said, each_shallow t hosts (earlier ++ a ∷ []) rest behind)
+each_shallow f hosts said_shallow earlier [] none = tt
+each_shallow f hosts said_shallow earlier (a ∷ rest) none =
+    let (here, behind) = good_step (says f hosts earlier a) _ _ none in
+    let (x, said) = some_of (says f hosts earlier a) here in
+    (said_shallow earlier a x said, each_shallow f hosts said_shallow (earlier ++ a ∷ []) rest behind)
 
 -- where none of the assigns is bad, the table of each is shallow
 pub assigns_shallow : (hosts : List Host) (t : Template) (assigns : List Given) → bad_assign (form t) hosts assigns ≡ None
     → AllByRecursion IsShallowGiven assigns
-assigns_shallow hosts t assigns none = each_shallow t hosts [] assigns none
+assigns_shallow hosts t assigns none = each_shallow (form t) hosts (λ earlier a x said. says_shallow t hosts earlier a x said) [] assigns none
+
+-- the same of a declared template
+pub kinds_shallow : (hosts : List Host) (d : Declared) (assigns : List Given) → bad_assign (table_form d) hosts assigns ≡ None
+    → AllByRecursion IsShallowGiven assigns
+kinds_shallow hosts d assigns none =
+    each_shallow (table_form d) hosts (λ earlier a x said. without_arrays (table_form d) refl hosts earlier a x said) [] assigns none

@@ -15,6 +15,7 @@ mod invariant;
 mod kinds;
 mod no_reach;
 mod non_interference;
+mod own_table;
 mod partners;
 mod peers;
 mod shapes;
@@ -27,4 +28,5 @@ mod tests;
 
 pub use assign::Assign;
 pub use invariant::{bad_attribute, read_invariant};
+pub use own_table::{bad_kind, kind_numbered, read_kinds};
 pub use template::Template;

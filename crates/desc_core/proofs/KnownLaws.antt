@@ -10,8 +10,8 @@ use Rattle.std.specs.Option.{option_or}
 use Rattle.std.specs.Prelude.{◌≢◌, All, if◌then◌else◌}
 use Rattle.std.specs.Str.{bytes_eq}
 use Rattle.attr_core.specs.Assigns.{Given}
-use Rattle.attr_core.specs.Templates.{template_named}
-use Rattle.attr_core.specs.declared.template.Template.{Template}
+use Rattle.desc_core.specs.Choices.{Choice, chosen}
+use Rattle.desc_form.specs.WrittenTemplate.{WrittenTemplate}
 use Rattle.desc_core.proofs.ListingLaws.{all_both, all_weaker}
 use Rattle.desc_core.proofs.NamesLaws.{undeclared}
 use Rattle.desc_core.specs.Flows.{flow_of_names}
@@ -86,10 +86,10 @@ map_is : {A B : Type 0} (f : A → B) (o : Option A) → is_some (option_map f o
 map_is f None = refl
 map_is f (Some x) = refl
 
-abbrev known : Template → List Given → Known
+abbrev known : Choice → List Given → Known
 known template assigns = record { template = template; assigns = assigns }
 
-known_by : (t : Option Template) (assigns : Option (List Given))
+known_by : (t : Option Choice) (assigns : Option (List Given))
     → is_some (option_and_then (λ template. option_and_then (λ given. Some (known template given)) assigns) t) ≡ (is_some t && is_some assigns)
 known_by None assigns = refl
 known_by (Some t) None = refl
@@ -106,9 +106,9 @@ given_is w as' =
     ∙ (λ j. list_all (λ (a : WrittenAssign). (given_one w a) j) as')
 
 pub is_known : (w : Written) (i : WrittenInvariant)
-    → is_some (known_of (network_hosts w) i) ≡ (is_some (template_named i.template) && list_all (λ (a : WrittenAssign). is_declared w a.host) i.assigns)
+    → is_some (known_of w.templates (network_hosts w) i) ≡ (is_some (chosen w.templates i.template) && list_all (λ (a : WrittenAssign). is_declared w a.host) i.assigns)
 unfolding known_of
-is_known w i = known_by (template_named i.template) (each (given_by (network_hosts w)) i.assigns) ∙ ap (λ b. is_some (template_named i.template) && b) (given_is w i.assigns)
+is_known w i = known_by (chosen w.templates i.template) (each (given_by (network_hosts w)) i.assigns) ∙ ap (λ b. is_some (chosen w.templates i.template) && b) (given_is w i.assigns)
 
 abbrev flow_from_to : ℕ → ℕ → Flow
 flow_from_to from to = record { from = from; to = to }
@@ -123,8 +123,8 @@ are_ends w f = ends_by (host_named (network_hosts w) f.from) (host_named (networ
 
 -- ---- 15 and 16
 
-abbrev template_test : WrittenInvariant → Bool
-template_test i = is_some (template_named i.template)
+abbrev template_test : Written → WrittenInvariant → Bool
+template_test w i = is_some (chosen w.templates i.template)
 
 abbrev assigns_test : Written → WrittenInvariant → Bool
 assigns_test w i = list_all (λ a. is_declared w a.host) i.assigns
@@ -132,7 +132,7 @@ assigns_test w i = list_all (λ a. is_declared w a.host) i.assigns
 abbrev ends_test : Written → WrittenFlow → Bool
 ends_test w f = is_declared w f.from && is_declared w f.to
 
-known_tests : (w : Written) → list_all (λ i. is_some (known_of (network_hosts w) i)) w.invariants ≡ list_all (λ i. template_test i && assigns_test w i) w.invariants
+known_tests : (w : Written) → list_all (λ i. is_some (known_of w.templates (network_hosts w) i)) w.invariants ≡ list_all (λ i. template_test w i && assigns_test w i) w.invariants
 known_tests w = λ j. list_all (λ i. is_known w i j) w.invariants
 
 ends_tests : (w : Written) → list_all (λ f. is_some (ends_of (network_hosts w) f)) w.flows ≡ list_all (ends_test w) w.flows
@@ -143,27 +143,27 @@ nothing_or None p here behind = behind
 nothing_or (Some x) p here behind = here
 
 -- every invariant of a sound description is known
-pub all_known : (w : Written) → PassesUses w → list_all (λ i. is_some (known_of (network_hosts w) i)) w.invariants ≡ true
+pub all_known : (w : Written) → PassesUses w → list_all (λ i. is_some (known_of w.templates (network_hosts w) i)) w.invariants ≡ true
 all_known w sound =
-    known_tests w ∙ all_both template_test (assigns_test w) (λ i. template_test i && assigns_test w i) (λ i a b. rw (a, b) refl) w.invariants sound.templates sound.assigned
+    known_tests w ∙ all_both (template_test w) (assigns_test w) (λ i. template_test w i && assigns_test w i) (λ i a b. rw (a, b) refl) w.invariants sound.templates sound.assigned
 
 -- where all names are known, 15 and 16 refuse nothing
-pub names_known : (w : Written) (ks : List Known) (es : List Flow) → each (known_of (network_hosts w)) w.invariants ≡ Some ks → each (ends_of (network_hosts w)) w.flows ≡ Some es
+pub names_known : (w : Written) (ks : List Known) (es : List Flow) → each (known_of w.templates (network_hosts w)) w.invariants ≡ Some ks → each (ends_of (network_hosts w)) w.flows ≡ Some es
     → (unknown_template w ≡ None) × (undeclared_host w ≡ None)
 names_known w ks es known found =
-    let both : list_all (λ i. template_test i && assigns_test w i) w.invariants ≡ true = sym (known_tests w) ∙ all_read (known_of (network_hosts w)) w.invariants ks known in
+    let both : list_all (λ i. template_test w i && assigns_test w i) w.invariants ≡ true = sym (known_tests w) ∙ all_read (known_of w.templates (network_hosts w)) w.invariants ks known in
     let ends : list_all (ends_test w) w.flows ≡ true = sym (ends_tests w) ∙ all_read (ends_of (network_hosts w)) w.flows es found in
-    let templates = all_weaker (λ i. template_test i && assigns_test w i) template_test (λ i here. (and_parts (template_test i) _ here).0) w.invariants both in
-    let assigns = all_weaker (λ i. template_test i && assigns_test w i) (assigns_test w) (λ i here. (and_parts (template_test i) _ here).1) w.invariants both in
+    let templates = all_weaker (λ i. template_test w i && assigns_test w i) (template_test w) (λ i here. (and_parts (template_test w i) _ here).0) w.invariants both in
+    let assigns = all_weaker (λ i. template_test w i && assigns_test w i) (assigns_test w) (λ i here. (and_parts (template_test w i) _ here).1) w.invariants both in
     ((templates_known w).1 templates, (hosts_declared w).1 (assigns, ends))
 
 -- where one is unknown, one of them refuses the description
-pub unknown_invariant : (w : Written) → each (known_of (network_hosts w)) w.invariants ≡ None → first_of (name_conditions w) ≢ None
+pub unknown_invariant : (w : Written) → each (known_of w.templates (network_hosts w)) w.invariants ≡ None → first_of (name_conditions w) ≢ None
 unknown_invariant w none told =
     let (templates, from_16) = neither (unknown_template w) _ told in
     let (hosts, _) = neither (undeclared_host w) _ from_16 in
-    never_none (known_of (network_hosts w)) w.invariants none
-    (known_tests w ∙ all_both template_test (assigns_test w) (λ i. template_test i && assigns_test w i) (λ i a b. rw (a, b) refl) w.invariants ((templates_known w).0 templates) ((hosts_declared w).0 hosts).0)
+    never_none (known_of w.templates (network_hosts w)) w.invariants none
+    (known_tests w ∙ all_both (template_test w) (assigns_test w) (λ i. template_test w i && assigns_test w i) (λ i a b. rw (a, b) refl) w.invariants ((templates_known w).0 templates) ((hosts_declared w).0 hosts).0)
 
 pub unknown_end : (w : Written) → each (ends_of (network_hosts w)) w.flows ≡ None → first_of (name_conditions w) ≢ None
 unknown_end w none told =
@@ -173,26 +173,26 @@ unknown_end w none told =
 
 -- ---- 18, and the invariants
 
-bad_zip : (hosts : List Host) (n : ℕ) (is : List WrittenInvariant) (ks : List Known) → AllZip (λ i k. known_of hosts i ≡ Some k) is ks
-    → first_found (bad_attribute_of hosts) (numbered_from n is) ≡ first_found (λ (k : Numbered Known). bad_at hosts k.number k.what) (numbered_from n ks)
-bad_zip hosts n [] [] zipped = refl
-bad_zip hosts n [] (k ∷ ks) zipped = absurd zipped
-bad_zip hosts n (i ∷ is) [] zipped = absurd zipped
-bad_zip hosts n (i ∷ is) (k ∷ ks) zipped = λ j. option_or (option_and_then (bad_at hosts n) (zipped.0 j)) (bad_zip hosts (n + 1) is ks zipped.1 j)
+bad_zip : (ts : List WrittenTemplate) (hosts : List Host) (n : ℕ) (is : List WrittenInvariant) (ks : List Known) → AllZip (λ i k. known_of ts hosts i ≡ Some k) is ks
+    → first_found (bad_attribute_of ts hosts) (numbered_from n is) ≡ first_found (λ (k : Numbered Known). bad_at hosts k.number k.what) (numbered_from n ks)
+bad_zip ts hosts n [] [] zipped = refl
+bad_zip ts hosts n [] (k ∷ ks) zipped = absurd zipped
+bad_zip ts hosts n (i ∷ is) [] zipped = absurd zipped
+bad_zip ts hosts n (i ∷ is) (k ∷ ks) zipped = λ j. option_or (option_and_then (bad_at hosts n) (zipped.0 j)) (bad_zip ts hosts (n + 1) is ks zipped.1 j)
 
-pub bad_is : (w : Written) (ks : List Known) → each (known_of (network_hosts w)) w.invariants ≡ Some ks → bad_attribute w ≡ bad_known (network_hosts w) ks
+pub bad_is : (w : Written) (ks : List Known) → each (known_of w.templates (network_hosts w)) w.invariants ≡ Some ks → bad_attribute w ≡ bad_known (network_hosts w) ks
 unfolding bad_attribute
-bad_is w ks known = bad_zip (network_hosts w) 1 w.invariants ks (each_zip (known_of (network_hosts w)) w.invariants ks known)
+bad_is w ks known = bad_zip w.templates (network_hosts w) 1 w.invariants ks (each_zip (known_of w.templates (network_hosts w)) w.invariants ks known)
 
-made_zip : (hosts : List Host) (is : List WrittenInvariant) (ks : List Known) → AllZip (λ i k. known_of hosts i ≡ Some k) is ks → filter_map (invariant_of hosts) is ≡ map (made_of hosts) ks
-made_zip hosts [] [] zipped = refl
-made_zip hosts [] (k ∷ ks) zipped = absurd zipped
-made_zip hosts (i ∷ is) [] zipped = absurd zipped
-made_zip hosts (i ∷ is) (k ∷ ks) zipped = λ j. cons_option (option_map (made_of hosts) (zipped.0 j)) (made_zip hosts is ks zipped.1 j)
+made_zip : (ts : List WrittenTemplate) (hosts : List Host) (is : List WrittenInvariant) (ks : List Known) → AllZip (λ i k. known_of ts hosts i ≡ Some k) is ks → filter_map (invariant_of ts hosts) is ≡ map (made_of hosts) ks
+made_zip ts hosts [] [] zipped = refl
+made_zip ts hosts [] (k ∷ ks) zipped = absurd zipped
+made_zip ts hosts (i ∷ is) [] zipped = absurd zipped
+made_zip ts hosts (i ∷ is) (k ∷ ks) zipped = λ j. cons_option (option_map (made_of hosts) (zipped.0 j)) (made_zip ts hosts is ks zipped.1 j)
 
-pub invariants_are : (w : Written) (ks : List Known) → each (known_of (network_hosts w)) w.invariants ≡ Some ks → invariants_of w ≡ map (made_of (network_hosts w)) ks
+pub invariants_are : (w : Written) (ks : List Known) → each (known_of w.templates (network_hosts w)) w.invariants ≡ Some ks → invariants_of w ≡ map (made_of (network_hosts w)) ks
 unfolding invariants_of
-invariants_are w ks known = made_zip (network_hosts w) w.invariants ks (each_zip (known_of (network_hosts w)) w.invariants ks known)
+invariants_are w ks known = made_zip w.templates (network_hosts w) w.invariants ks (each_zip (known_of w.templates (network_hosts w)) w.invariants ks known)
 
 -- ---- 19 and 20, and the set of flows
 

@@ -8,6 +8,7 @@ use Rattle.desc_core.specs.KnownView.{known_view}
 use Rattle.desc_core.specs.Parts.{ends_of}
 use Rattle.desc_core.specs.WrittenNetwork.{Known, given_by, known_of}
 use Rattle.desc_core.specs.declared.known.KnownInvariant.{KnownInvariant}
+use Rattle.desc_form.specs.WrittenTemplate.{WrittenTemplate}
 use Rattle.desc_form.specs.WrittenView.{assign_view, flow_view, invariant_view}
 use Rattle.desc_form.specs.declared.written.WrittenAssign.{WrittenAssign}
 use Rattle.desc_form.specs.declared.written.WrittenFlow.{WrittenFlow}
@@ -35,13 +36,13 @@ assigns_more hosts given items a w ws i whole more within here says so_far =
     rw more_given (one_more assign_view (given_by hosts) (map given_of given) (given_of a) w ws i whole within here says so_far)
 
 -- an invariant
-pub invariants_more : (hosts : List Host) (known items : List KnownInvariant) (k : KnownInvariant) (w : WrittenInvariant) (ws : List WrittenInvariant) (i : ℕ) (whole : Option (List Known))
-    → items ≡ known ++ k ∷ [] → i < length ws → w ≡ get_or ws i w → known_of hosts (invariant_view w) ≡ Some (known_view k)
-    → option_map (λ rest. map known_view known ++ rest) (each (known_of hosts) (map invariant_view (drop i ws))) ≡ whole
-    → option_map (λ rest. map known_view items ++ rest) (each (known_of hosts) (map invariant_view (drop (i + 1) ws))) ≡ whole
-invariants_more hosts known items k w ws i whole more within here says so_far =
+pub invariants_more : (ts : List WrittenTemplate) (hosts : List Host) (known items : List KnownInvariant) (k : KnownInvariant) (w : WrittenInvariant) (ws : List WrittenInvariant) (i : ℕ) (whole : Option (List Known))
+    → items ≡ known ++ k ∷ [] → i < length ws → w ≡ get_or ws i w → known_of ts hosts (invariant_view w) ≡ Some (known_view k)
+    → option_map (λ rest. map known_view known ++ rest) (each (known_of ts hosts) (map invariant_view (drop i ws))) ≡ whole
+    → option_map (λ rest. map known_view items ++ rest) (each (known_of ts hosts) (map invariant_view (drop (i + 1) ws))) ≡ whole
+invariants_more ts hosts known items k w ws i whole more within here says so_far =
     let more_known : map known_view items ≡ map known_view known ++ known_view k ∷ [] = ap (map known_view) more ∙ map-append known_view known (k ∷ []) in
-    rw more_known (one_more invariant_view (known_of hosts) (map known_view known) (known_view k) w ws i whole within here says so_far)
+    rw more_known (one_more invariant_view (known_of ts hosts) (map known_view known) (known_view k) w ws i whole within here says so_far)
 
 -- a flow
 pub flows_more : (hosts : List Host) (found items : List Flow) (e : Flow) (w : WrittenFlow) (ws : List WrittenFlow) (i : ℕ) (whole : Option (List Flow))

@@ -19,3 +19,6 @@ pub mod UsesLaws
 pub mod WholeLaws
 pub mod Worked
 pub mod WorkedServices
+pub mod MakeableLaws
+pub mod OwnTableLemmas
+pub mod TemplatesWalk

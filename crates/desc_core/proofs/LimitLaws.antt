@@ -24,7 +24,7 @@ use Rattle.text_core.specs.Firsts.{first_of}
 abbrev pub IsVersion : ℤ → Type 0
 IsVersion version = (version ≡ pos 1) ⊎ (version ≡ pos 2)
 
-told_by_sizes : (w : Written) (r : Refusal) → IsVersion w.version → too_many w.hosts (all_entries w) w.invariants ≡ Some r
+told_by_sizes : (w : Written) (r : Refusal) → IsVersion w.version → too_many w.hosts (all_entries w) w.invariants w.templates ≡ Some r
     → first_of (host_conditions w) ≡ Some r
 unfolding host_conditions
 told_by_sizes w r version sizes = let first = (version_is w.version).1 version in rw (first, sizes) refl
@@ -35,7 +35,7 @@ refused_by_second o a b c x r groups first second = rw (groups, first, second) r
 
 -- a table of the right form and version is told what its sizes are refused for
 told_of_sizes : (table : Members) (r : Refusal) → IsFormed table → IsVersion (written table).version
-    → too_many (written table).hosts (all_entries (written table)) (written table).invariants ≡ Some r → described_by_table table ≡ Err r
+    → too_many (written table).hosts (all_entries (written table)) (written table).invariants (written table).templates ≡ Some r → described_by_table table ≡ Err r
 unfolding described_by_table
 told_of_sizes table r form version sizes =
     refused_by_second _ _ _ _ (network_of (written table)) r (by_groups table) ((formed table).1 form) (told_by_sizes (written table) r version sizes)
@@ -44,11 +44,11 @@ pub too_many_hosts : (table : Members) → IsFormed table → IsVersion (written
     → described_by_table table ≡ Err (refused TooMany (Host (host_limit + 1)))
 too_many_hosts table form version more =
     let w = written table in
-    told_of_sizes table (refused TooMany (Host (host_limit + 1))) form version (many_hosts w.hosts (all_entries w) w.invariants more)
+    told_of_sizes table (refused TooMany (Host (host_limit + 1))) form version (many_hosts w.hosts (all_entries w) w.invariants w.templates more)
 
 pub too_many_prefixes : (table : Members) (e : Entry) → IsFormed table → IsVersion (written table).version
     → length (written table).hosts ≤ host_limit → slice_get (all_entries (written table)) prefix_limit ≡ Some e
     → described_by_table table ≡ Err (refused_item TooMany (Host e.host) e.item)
 too_many_prefixes table e form version few there =
     let w = written table in
-    told_of_sizes table (refused_item TooMany (Host e.host) e.item) form version (many_prefixes w.hosts (all_entries w) w.invariants e few there)
+    told_of_sizes table (refused_item TooMany (Host e.host) e.item) form version (many_prefixes w.hosts (all_entries w) w.invariants w.templates e few there)

@@ -7,7 +7,8 @@ use Rattle.desc_core.proofs.ServicesLemmas.{services_are}
 use Rattle.desc_core.specs.Description.{refused_or}
 use Rattle.desc_core.specs.DescriptionLaws.{first_of-append}
 use Rattle.desc_core.specs.NetworkLaws.{IsNetwork-network_of}
-use Rattle.desc_core.specs.Parts.{bad_known, ends_of, name_conditions, narrowed_among, network_by_uses, network_or, self_found, services_found, twice_found}
+use Rattle.desc_core.specs.Parts.{bad_known, ends_of, name_conditions, narrowed_among, network_by_uses, network_or, self_found, services_found, templates_found, twice_found}
+use Rattle.desc_core.specs.TemplateConditions.{bad_template, not_lawful}
 use Rattle.desc_core.specs.Reads.{Reads}
 use Rattle.desc_core.specs.declared.fault.DescFault.{DescFault}
 use Rattle.desc_core.specs.declared.fault.DescFault.TheVariants.{Memory, Refused}
@@ -32,11 +33,11 @@ use Rattle.text_core.specs.Firsts.{first_of}
 -- all names are known: what was found of the invariants and of the flows
 pub record AreKnown (w : Written) (hosts : List Host) (ks : List Known) (es : List Flow) : Type 0 where
   pub same : hosts ≡ network_hosts w
-  pub known : each (known_of hosts) w.invariants ≡ Some ks
+  pub known : each (known_of w.templates hosts) w.invariants ≡ Some ks
   pub found : each (ends_of hosts) w.flows ≡ Some es
 
-known_here : (w : Written) (hosts : List Host) (ks : List Known) (es : List Flow) → AreKnown w hosts ks es → each (known_of (network_hosts w)) w.invariants ≡ Some ks
-known_here w hosts ks es all = ap (λ hs. each (known_of hs) w.invariants) (sym all.same) ∙ all.known
+known_here : (w : Written) (hosts : List Host) (ks : List Known) (es : List Flow) → AreKnown w hosts ks es → each (known_of w.templates (network_hosts w)) w.invariants ≡ Some ks
+known_here w hosts ks es all = ap (λ hs. each (known_of w.templates hs) w.invariants) (sym all.same) ∙ all.known
 
 found_here : (w : Written) (hosts : List Host) (ks : List Known) (es : List Flow) → AreKnown w hosts ks es → each (ends_of (network_hosts w)) w.flows ≡ Some es
 found_here w hosts ks es all = ap (λ hs. each (ends_of hs) w.flows) (sym all.same) ∙ all.found
@@ -51,34 +52,39 @@ grouped None None (Some r) rest = refl
 grouped None (Some r) e rest = refl
 grouped (Some r) d e rest = refl
 
-last_two : (f g h : Option Refusal) → option_or f (option_or g (option_or h None)) ≡ option_or f (option_or g h)
-last_two None None None = refl
-last_two None None (Some r) = refl
-last_two None (Some r) h = refl
-last_two (Some r) g h = refl
+last_four : (f g h i j : Option Refusal)
+    → option_or f (option_or g (option_or h (option_or i (option_or j None)))) ≡ option_or f (option_or (option_or g h) (option_or i j))
+last_four None None None None None = refl
+last_four None None None None (Some r) = refl
+last_four None None None (Some r) j = refl
+last_four None None (Some r) i j = refl
+last_four None (Some r) h i j = refl
+last_four (Some r) g h i j = refl
 
-in_groups : (a b c d e f g h : Option Refusal) → a ≡ None → b ≡ None
-    → option_or a (option_or b (option_or c (option_or d (option_or e (option_or f (option_or g (option_or h None))))))) ≡ option_or (option_or c (option_or d e)) (option_or f (option_or g h))
-in_groups a b c d e f g h first second =
-    rw (first, second) (grouped c d e (option_or f (option_or g (option_or h None))) ∙ ap (option_or (option_or c (option_or d e))) (last_two f g h))
+in_groups : (a b c d e f g h i j : Option Refusal) → a ≡ None → b ≡ None
+    → option_or a (option_or b (option_or c (option_or d (option_or e (option_or f (option_or g (option_or h (option_or i (option_or j None)))))))))
+    ≡ option_or (option_or c (option_or d e)) (option_or f (option_or (option_or g h) (option_or i j)))
+in_groups a b c d e f g h i j first second =
+    rw (first, second)
+    (grouped c d e (option_or f (option_or g (option_or h (option_or i (option_or j None))))) ∙ ap (option_or (option_or c (option_or d e))) (last_four f g h i j))
 
 uses_are : (w : Written) (hosts : List Host) (ks : List Known) (es : List Flow) → AreKnown w hosts ks es
-    → first_of (use_conditions w) ≡ option_or (before_last w hosts ks es) (option_or (twice_found es) (services_found w.flows))
+    → first_of (use_conditions w) ≡ option_or (before_last w hosts ks es) (option_or (twice_found es) (option_or (services_found w.flows) (templates_found w)))
 unfolding use_conditions bad_service many_services
 uses_are w hosts ks es all =
     let known = known_here w hosts ks es all in
     let found = found_here w hosts ks es all in
     let (templates, declared) = names_known w ks es known found in
-    in_groups (unknown_template w) (undeclared_host w) (duplicate_assign w) (bad_attribute w) (self_flow w) (duplicate_flow w) (bad_service w) (many_services w) templates declared
-    ∙ (λ j. option_or (option_or (duplicate_assign w) (option_or ((bad_is w ks known ∙ ap (λ hs. bad_known hs ks) (sym all.same)) j) (self_is w es found j))) (option_or (twice_is w es found j) (services_found w.flows)))
+    in_groups (unknown_template w) (undeclared_host w) (duplicate_assign w) (bad_attribute w) (self_flow w) (duplicate_flow w) (bad_service w) (many_services w) (bad_template w) (not_lawful w) templates declared
+    ∙ (λ j. option_or (option_or (duplicate_assign w) (option_or ((bad_is w ks known ∙ ap (λ hs. bad_known hs ks) (sym all.same)) j) (self_is w es found j))) (option_or (twice_is w es found j) (option_or (services_found w.flows) (templates_found w))))
 
 -- what refuses the description
 told : (w : Written) (r : Refusal) → first_of (use_conditions w) ≡ Some r → network_by_uses w ≡ Err r
 told w r is = rw is refl
 
-names_first : (w : Written) → first_of (use_conditions w) ≡ option_or (first_of (name_conditions w)) (first_of (duplicate_assign w ∷ bad_attribute w ∷ self_flow w ∷ duplicate_flow w ∷ bad_service w ∷ many_services w ∷ []))
+names_first : (w : Written) → first_of (use_conditions w) ≡ option_or (first_of (name_conditions w)) (first_of (duplicate_assign w ∷ bad_attribute w ∷ self_flow w ∷ duplicate_flow w ∷ bad_service w ∷ many_services w ∷ bad_template w ∷ not_lawful w ∷ []))
 unfolding use_conditions
-names_first w = first_of-append (name_conditions w) (duplicate_assign w ∷ bad_attribute w ∷ self_flow w ∷ duplicate_flow w ∷ bad_service w ∷ many_services w ∷ [])
+names_first w = first_of-append (name_conditions w) (duplicate_assign w ∷ bad_attribute w ∷ self_flow w ∷ duplicate_flow w ∷ bad_service w ∷ many_services w ∷ bad_template w ∷ not_lawful w ∷ [])
 
 pub refused_for_name : (w : Written) (r : Refusal) → first_of (name_conditions w) ≡ Some r → network_by_uses w ≡ Err r
 refused_for_name w r name = told w r (names_first w ∙ rw name refl)
@@ -93,6 +99,10 @@ refused_twice w hosts ks es r all before is = told w r (uses_are w hosts ks es a
 pub refused_services : (w : Written) (hosts : List Host) (ks : List Known) (es : List Flow) (r : Refusal) → AreKnown w hosts ks es → before_last w hosts ks es ≡ None → twice_found es ≡ None
     → services_found w.flows ≡ Some r → network_by_uses w ≡ Err r
 refused_services w hosts ks es r all before once is = told w r (uses_are w hosts ks es all ∙ rw (before, once, is) refl)
+
+pub refused_templates : (w : Written) (hosts : List Host) (ks : List Known) (es : List Flow) (r : Refusal) → AreKnown w hosts ks es → before_last w hosts ks es ≡ None
+    → twice_found es ≡ None → services_found w.flows ≡ None → templates_found w ≡ Some r → network_by_uses w ≡ Err r
+refused_templates w hosts ks es r all before once last is = told w r (uses_are w hosts ks es all ∙ rw (before, once, last, is) refl)
 
 -- the parts of what was refused last
 pub none_before : (c d e : Option Refusal) → option_or c (option_or d e) ≡ None → (d ≡ None) × (e ≡ None)
@@ -142,12 +152,12 @@ network_is w hosts ks es asked services invariants all before set narrowed made 
 
 -- that is a network, and what the description says
 pub network_read : (w : Written) (hosts : List Host) (ks : List Known) (es : List Flow) (asked : SetOfFlows) (services : List NarrowedFlow) (invariants : List AnyInv) → AreKnown w hosts ks es
-    → first_of (host_conditions w) ≡ None → before_last w hosts ks es ≡ None → twice_found es ≡ None → services_found w.flows ≡ None
+    → first_of (host_conditions w) ≡ None → before_last w hosts ks es ≡ None → twice_found es ≡ None → services_found w.flows ≡ None → templates_found w ≡ None
     → asked ≡ record { size = length w.hosts; flows = asked_of w } → services ≡ narrowed_among es w.flows → invariants ≡ map (made_of hosts) ks
     → let d : Network = record { hosts = hosts; asked = asked; services = services; given = w.given; answers = w.answers; invariants = invariants } in
     IsNetwork d × (network_by_uses w ≡ Ok d)
-network_read w hosts ks es asked services invariants all free before once last set narrowed made =
-    let none : first_of (use_conditions w) ≡ None = uses_are w hosts ks es all ∙ rw (before, once, last) refl in
+network_read w hosts ks es asked services invariants all free before once last templates set narrowed made =
+    let none : first_of (use_conditions w) ≡ None = uses_are w hosts ks es all ∙ rw (before, once, last, templates) refl in
     let network = network_is w hosts ks es asked services invariants all before set narrowed made in
     (subst IsNetwork network (IsNetwork-network_of w free none), rw none (ap Ok network))
 

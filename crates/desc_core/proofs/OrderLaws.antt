@@ -5,12 +5,12 @@ use Rattle.std.specs.List.{list_all}
 use Rattle.std.specs.Prelude.{is_none, nat_lt}
 use Rattle.toml.specs.Data.{Members}
 use Rattle.desc_form.specs.declared.refusal.Place.{Place}
-use Rattle.desc_form.specs.declared.refusal.Place.TheVariants.{Assign, Invariant}
+use Rattle.desc_form.specs.declared.refusal.Place.TheVariants.{Assign, Invariant, Template}
 use Rattle.desc_form.specs.declared.refusal.Place.TheVariants as place
 use Rattle.desc_form.specs.declared.refusal.Refusal.{Refusal}
 use Rattle.desc_form.specs.declared.refusal.Why.TheVariants.{BadAttribute, TooMany}
 use Rattle.text_core.specs.Firsts.{where_holds, first_of, first_found, Numbered, numbered}
-use Rattle.desc_hosts.specs.HostConditions.{Entry, host_conditions, bad_version, too_many, too_many_prefixes, bad_name, duplicate_host, bad_prefix, host_bits, no_address, two_rests, overlap, beyond, all_entries}
+use Rattle.desc_hosts.specs.HostConditions.{Entry, host_conditions, bad_version, too_many, too_many_prefixes, bad_name, duplicate_host, bad_prefix, host_bits, no_address, two_rests, overlap, beyond, all_entries, template_limit}
 use Rattle.host_net.specs.Limits.{invariant_limit, host_limit, prefix_limit}
 use Rattle.desc_core.specs.Description.{described, described_by_table}
 use Rattle.desc_core.specs.DescriptionLaws.{none_of_table, none_told, told, told_of_table}
@@ -26,7 +26,9 @@ use Rattle.desc_form.specs.Refusals.{number, refused, refused_item}
 use Rattle.desc_core.specs.UseConditions.{use_conditions, unknown_template, undeclared_host, duplicate_assign, duplicate_assign_of, bad_attribute, bad_attribute_of, bad_at, self_flow, duplicate_flow, bad_service, bad_service_of, many_services}
 use Rattle.desc_form.specs.FormConditions.{form_conditions}
 use Rattle.desc_form.specs.Written.{Written, WrittenHost, WrittenInvariant, written}
-use Rattle.attr_core.specs.Templates.{bad_in}
+use Rattle.desc_core.specs.Choices.{bad_of}
+use Rattle.desc_core.specs.TemplateConditions.{bad_template, not_lawful, unlawful_at}
+use Rattle.desc_form.specs.WrittenTemplate.{WrittenTemplate}
 use Rattle.host_net.specs.Host.{Host}
 
 -- what the condition refuses has this number
@@ -68,25 +70,31 @@ tells_beyond limit place xs = tells_where 7 (refused TooMany (place (limit + 1))
 tells_prefixes : (es : List Entry) → Tells 7 (too_many_prefixes es)
 tells_prefixes es = tells_map 7 (λ e. refused_item TooMany (place.Host e.host) e.item) (λ e. refl) (slice_get es prefix_limit)
 
-tells_too_many : (hs : List WrittenHost) (es : List Entry) (is : List WrittenInvariant) → Tells 7 (too_many hs es is)
+tells_too_many : (hs : List WrittenHost) (es : List Entry) (is : List WrittenInvariant) (ts : List WrittenTemplate) → Tells 7 (too_many hs es is ts)
 unfolding too_many
-tells_too_many hs es is =
+tells_too_many hs es is ts =
     let invariants = beyond invariant_limit Invariant is in
-    tells_or 7 (beyond host_limit place.Host hs) (option_or (too_many_prefixes es) (option_or invariants None)) (tells_beyond host_limit place.Host hs)
-    (tells_or 7 (too_many_prefixes es) (option_or invariants None) (tells_prefixes es)
-    (tells_or 7 invariants None (tells_beyond invariant_limit Invariant is) (tells_none 7)))
+    let templates = beyond template_limit Template ts in
+    tells_or 7 (beyond host_limit place.Host hs) (option_or (too_many_prefixes es) (option_or invariants (option_or templates None))) (tells_beyond host_limit place.Host hs)
+    (tells_or 7 (too_many_prefixes es) (option_or invariants (option_or templates None)) (tells_prefixes es)
+    (tells_or 7 invariants (option_or templates None) (tells_beyond invariant_limit Invariant is)
+    (tells_or 7 templates None (tells_beyond template_limit Template ts) (tells_none 7))))
 
 tells_attribute : (hosts : List Host) (i : Numbered WrittenInvariant) (o : Option Known) → Tells 18 (option_and_then (bad_at hosts i.number) o)
 tells_attribute hosts i None = tells_none 18
-tells_attribute hosts i (Some k) = tells_map 18 (λ assign. refused BadAttribute (Assign i.number (assign + 1))) (λ assign. refl) (bad_in hosts k.template k.assigns)
+tells_attribute hosts i (Some k) = tells_map 18 (λ assign. refused BadAttribute (Assign i.number (assign + 1))) (λ assign. refl) (bad_of hosts k.template k.assigns)
 
 tells_bad_attribute : (w : Written) → Tells 18 (bad_attribute w)
 unfolding bad_attribute
-tells_bad_attribute w = tells_found 18 (bad_attribute_of (network_hosts w)) (λ i. tells_attribute (network_hosts w) i (known_of (network_hosts w) i.what)) (numbered w.invariants)
+tells_bad_attribute w = tells_found 18 (bad_attribute_of w.templates (network_hosts w)) (λ i. tells_attribute (network_hosts w) i (known_of w.templates (network_hosts w) i.what)) (numbered w.invariants)
 
 tells_duplicate_assign : (w : Written) → Tells 17 (duplicate_assign w)
 unfolding duplicate_assign
 tells_duplicate_assign w = tells_found 17 duplicate_assign_of (λ i. tells_map 17 _ (λ p. refl) _) (numbered w.invariants)
+
+tells_not_lawful : (w : Written) → Tells 24 (not_lawful w)
+unfolding not_lawful
+tells_not_lawful w = tells_found 24 unlawful_at (λ t. tells_map 24 _ (λ p. refl) _) (numbered w.templates)
 
 tells_bad_service : (w : Written) → Tells 21 (bad_service w)
 unfolding bad_service
@@ -102,7 +110,7 @@ unfolding host_conditions bad_version bad_name duplicate_host bad_prefix host_bi
 hosts_in_order w = (
   tells_where 6 _ refl _,
   (
-    tells_too_many w.hosts (all_entries w) w.invariants,
+    tells_too_many w.hosts (all_entries w) w.invariants w.templates,
     (
       tells_map 8 _ (λ m. refl) _,
       (
@@ -126,7 +134,7 @@ hosts_in_order w = (
 )
 
 uses_in_order : (w : Written) → InOrder 15 (use_conditions w)
-unfolding use_conditions unknown_template undeclared_host self_flow duplicate_flow many_services
+unfolding use_conditions unknown_template undeclared_host self_flow duplicate_flow many_services bad_template
 uses_in_order w = (
   tells_map 15 _ (λ i. refl) _,
   (
@@ -141,7 +149,10 @@ uses_in_order w = (
             tells_map 20 _ (λ p. refl) _,
             (
               tells_bad_service w,
-              (tells_map 22 _ (λ f. refl) _, tt),
+              (
+                tells_map 22 _ (λ f. refl) _,
+                (tells_map 23 _ (λ k. refl) _, (tells_not_lawful w, tt)),
+              ),
             ),
           ),
         ),

@@ -4,7 +4,10 @@ use Rattle.std.proofs.Common.{◌≡◌, ℕ, true, List, [], ◌∷◌, Option,
 use Rattle.std.specs.List.{AllByRecursion, AllZip}
 use Rattle.toml.specs.Data.{Members, table, members_are_sorted}
 use Rattle.attr_core.specs.Assigns.{Given}
-use Rattle.attr_core.specs.ShallowLaws.{IsShallowGiven, assigns_shallow}
+use Rattle.attr_core.specs.Forms.{bad_assign}
+use Rattle.attr_core.specs.ShallowLaws.{IsShallowGiven, assigns_shallow, kinds_shallow}
+use Rattle.desc_core.specs.Choices.{Choice, OneOfTen, OwnTable, choice_form, declared_by}
+use Rattle.desc_form.specs.WrittenTemplate.{WrittenTemplate}
 use Rattle.desc_core.proofs.WholeLaws.{IsDescribedByTable-described}
 use Rattle.desc_core.specs.Description.{described_by_table}
 use Rattle.desc_core.specs.Whole.{IsInvariantOf}
@@ -44,14 +47,18 @@ assigns_are hosts [] gs gives all = tt
 assigns_are hosts (a ∷ ws) gs gives all =
     given_by_each hosts ws (given_by hosts a) (each (given_by hosts) ws) a gs refl (λ others. assigns_are hosts ws others) gives all
 
-invariants_are : (hosts : List Host) (is : List WrittenInvariant) (made : List AnyInv) → AllZip (IsInvariantOf hosts) is made
+choice_shallow : (hosts : List Host) (c : Choice) (assigns : List Given) → bad_assign (choice_form c) hosts assigns ≡ None → AllByRecursion IsShallowGiven assigns
+choice_shallow hosts (OneOfTen t) assigns good = assigns_shallow hosts t assigns good
+choice_shallow hosts (OwnTable t) assigns good = kinds_shallow hosts (declared_by t) assigns good
+
+invariants_are : (ts : List WrittenTemplate) (hosts : List Host) (is : List WrittenInvariant) (made : List AnyInv) → AllZip (IsInvariantOf ts hosts) is made
     → AllByRecursion AreShallowAssigns is
-invariants_are hosts [] made zipped = tt
-invariants_are hosts (i ∷ is) [] zipped = absurd zipped
-invariants_are hosts (i ∷ is) (inv ∷ made) (whole, zipped) =
-    (assigns_are hosts i.assigns whole.assigns whole.given (assigns_shallow hosts whole.template whole.assigns whole.good), invariants_are hosts is made zipped)
+invariants_are ts hosts [] made zipped = tt
+invariants_are ts hosts (i ∷ is) [] zipped = absurd zipped
+invariants_are ts hosts (i ∷ is) (inv ∷ made) (whole, zipped) =
+    (assigns_are hosts i.assigns whole.assigns whole.given (choice_shallow hosts whole.template whole.assigns whole.good), invariants_are ts hosts is made zipped)
 
 pub accepted_shallow : (ms : Members) (d : Network) → members_are_sorted ms ≡ true → described_by_table ms ≡ Ok d → IsShallow 6 (table ms)
 accepted_shallow ms d sorted said =
     let is = IsDescribedByTable-described ms d said in
-    written_shallow ms is.w sorted is.written (invariants_are d.hosts is.w.invariants d.invariants is.whole.invariants)
+    written_shallow ms is.w sorted is.written (invariants_are is.w.templates d.hosts is.w.invariants d.invariants is.whole.invariants)

@@ -20,6 +20,7 @@ use Rattle.desc_core.proofs.SetLaws.{flows_once}
 use Rattle.desc_core.specs.UseConditions.{use_conditions}
 use Rattle.desc_core.proofs.UsesLaws.{all_between}
 use Rattle.desc_core.proofs.KnownLaws.{all_known}
+use Rattle.desc_core.proofs.MakeableLaws.{all_lawful}
 use Rattle.desc_core.specs.UseFacts.{SaysAttributes}
 use Rattle.desc_core.specs.UseFactsLaws.{PassesUses, PassesUses-uses, services_test}
 use Rattle.desc_core.specs.Whole.{IsDescribed, IsDescribedByTable, IsHostOf, IsInvariantOf, IsNarrowedOf, IsSetOf, IsWhole, is_narrowed}
@@ -43,9 +44,9 @@ use Rattle.host_net.specs.declared.prefix.Prefix.{Prefix}
 use Rattle.inv_any.specs.declared.any_inv.AnyInv.{AnyInv}
 use Rattle.std.proofs.lemmas.Option.{option_and_then_some}
 use Rattle.attr_core.specs.Assigns.{Given}
-use Rattle.attr_core.specs.Templates.{bad_in, template_named}
-use Rattle.attr_core.specs.TemplatesLaws.{bad_is, invariant_is}
-use Rattle.attr_core.specs.declared.template.Template.{Template}
+use Rattle.desc_core.specs.ChoiceLaws.{bad_by_form, made_by_form}
+use Rattle.desc_core.specs.Choices.{Choice, bad_of, chosen}
+use Rattle.desc_form.specs.WrittenTemplate.{WrittenTemplate}
 use Rattle.host_net.specs.Host.{Host}
 use Rattle.table_core.specs.Listing.{each}
 
@@ -74,40 +75,40 @@ hosts_whole (h ∷ hs) all =
     )
 
 -- each invariant is made of its assigns
-abbrev known : Template → List Given → Known
+abbrev known : Choice → List Given → Known
 known template assigns = record { template = template; assigns = assigns }
 
-is_invariant_of : (hosts : List Host) (i : WrittenInvariant) (k : Known) → known_of hosts i ≡ Some k → SaysAttributes hosts i → IsInvariantOf hosts i (made_of hosts k)
+is_invariant_of : (ts : List WrittenTemplate) (hosts : List Host) (i : WrittenInvariant) (k : Known) → known_of ts hosts i ≡ Some k → SaysAttributes ts hosts i → IsInvariantOf ts hosts i (made_of hosts k)
 unfolding known_of
-is_invariant_of hosts i k is says =
-    option_and_then_some _ (template_named i.template) k is (λ template named rest.
+is_invariant_of ts hosts i k is says =
+    option_and_then_some _ (chosen ts i.template) k is (λ template named rest.
     option_and_then_some _ (each (given_by hosts) i.assigns) k rest (λ assigns given last.
     let same : known template assigns ≡ k = cc in
-    let good : bad_in hosts k.template k.assigns ≡ None = says k is in
+    let good : bad_of hosts k.template k.assigns ≡ None = says k is in
     record {
       template = template;
       named = named;
       assigns = assigns;
       given = given;
-      good = sym (bad_is hosts template assigns) ∙ ap (λ (j : Known). bad_in hosts j.template j.assigns) same ∙ good;
-      made = ap (λ (j : Known). made_of hosts j) (sym same) ∙ invariant_is hosts template assigns;
+      good = sym (bad_by_form hosts template assigns) ∙ ap (λ (j : Known). bad_of hosts j.template j.assigns) same ∙ good;
+      made = ap (λ (j : Known). made_of hosts j) (sym same) ∙ made_by_form hosts template assigns;
     }))
 
-one_whole : (hosts : List Host) (i : WrittenInvariant) (o : Option Known) (is : List WrittenInvariant) (invs : List AnyInv) → known_of hosts i ≡ o → is_some o ≡ true
-    → SaysAttributes hosts i → AllZip (IsInvariantOf hosts) is invs → AllZip (IsInvariantOf hosts) (i ∷ is) (cons_option (option_map (made_of hosts) o) invs)
-one_whole hosts i None is invs here there says behind = cc
-one_whole hosts i (Some k) is invs here there says behind = (is_invariant_of hosts i k here says, behind)
+one_whole : (ts : List WrittenTemplate) (hosts : List Host) (i : WrittenInvariant) (o : Option Known) (is : List WrittenInvariant) (invs : List AnyInv) → known_of ts hosts i ≡ o → is_some o ≡ true
+    → SaysAttributes ts hosts i → AllZip (IsInvariantOf ts hosts) is invs → AllZip (IsInvariantOf ts hosts) (i ∷ is) (cons_option (option_map (made_of hosts) o) invs)
+one_whole ts hosts i None is invs here there says behind = cc
+one_whole ts hosts i (Some k) is invs here there says behind = (is_invariant_of ts hosts i k here says, behind)
 
-all_whole : (hosts : List Host) (is : List WrittenInvariant) → list_all (λ i. is_some (known_of hosts i)) is ≡ true → AllByRecursion (SaysAttributes hosts) is
-    → AllZip (IsInvariantOf hosts) is (filter_map (invariant_of hosts) is)
-all_whole hosts [] known says = tt
-all_whole hosts (i ∷ is) known says =
-    let (there, rest) = and_parts (is_some (known_of hosts i)) _ known in
-    one_whole hosts i (known_of hosts i) is (filter_map (invariant_of hosts) is) refl there says.0 (all_whole hosts is rest says.1)
+all_whole : (ts : List WrittenTemplate) (hosts : List Host) (is : List WrittenInvariant) → list_all (λ i. is_some (known_of ts hosts i)) is ≡ true → AllByRecursion (SaysAttributes ts hosts) is
+    → AllZip (IsInvariantOf ts hosts) is (filter_map (invariant_of ts hosts) is)
+all_whole ts hosts [] known says = tt
+all_whole ts hosts (i ∷ is) known says =
+    let (there, rest) = and_parts (is_some (known_of ts hosts i)) _ known in
+    one_whole ts hosts i (known_of ts hosts i) is (filter_map (invariant_of ts hosts) is) refl there says.0 (all_whole ts hosts is rest says.1)
 
-invariants_whole : (w : Written) → PassesUses w → AllZip (IsInvariantOf (network_hosts w)) w.invariants (invariants_of w)
+invariants_whole : (w : Written) → PassesUses w → AllZip (IsInvariantOf w.templates (network_hosts w)) w.invariants (invariants_of w)
 unfolding invariants_of
-invariants_whole w sound = all_whole (network_hosts w) w.invariants (all_known w sound) sound.attributes
+invariants_whole w sound = all_whole w.templates (network_hosts w) w.invariants (all_known w sound) sound.attributes
 
 -- each flow with services is narrowed to them
 spelled : (said_by : List (List ℕ)) → list_all (λ text. is_some (service_of text)) said_by ≡ true → AllZip IsServiceSpelling said_by (filter_map service_of said_by)
@@ -171,6 +172,7 @@ IsWhole-network_of w no_host no_use =
       listed = λ given. listed_by w (asked_of w) sound (asked_listed w given);
       every = λ given. rw (asked_every w given, length-network_hosts w) (IsFull-every_flow (length w.hosts));
       services = narrowed_whole (network_hosts w) w.flows (all_between w sound) sound.services;
+      lawful = all_lawful w sound.declared sound.lawful;
     }
 
 pub IsDescribedByTable-described : (table : Members) (d : Network) → described_by_table table ≡ Ok d → IsDescribedByTable table d

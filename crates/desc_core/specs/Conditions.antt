@@ -12,6 +12,6 @@ use Rattle.desc_hosts.specs.HostConditions.{host_conditions}
 abbrev pub byte_limit : ℕ
 byte_limit = 1048576
 
--- 3 to 22: what the conditions on a table refuse, each by itself
+-- 3 to 24: what the conditions on a table refuse, each by itself
 unfoldable pub table_conditions : Members → List (Option Refusal)
 table_conditions table = form_conditions table ++ (host_conditions (written table) ++ use_conditions (written table))

@@ -17,7 +17,7 @@ abbrev pub refused_or : {A : Type 0} → Option Refusal → A → Result A Refus
 refused_or (Some refusal) x = Err refusal
 refused_or None x = Ok x
 
--- what a table describes: the network that is written in it, or the first of 3 to 22 that holds
+-- what a table describes: the network that is written in it, or the first of 3 to 24 that holds
 unfoldable pub described_by_table : Members → Result Network Refusal
 described_by_table table = refused_or (first_of (table_conditions table)) (network_of (written table))
 

@@ -1,4 +1,7 @@
 pub mod AllConditions
+pub mod ChoiceLaws
+pub mod ChoiceView
+pub mod Choices
 pub mod Conditions
 pub mod Description
 pub mod DescriptionLaws
@@ -6,8 +9,10 @@ pub mod Document
 pub mod Flows
 pub mod FlowsLaws
 pub mod KnownView
+pub mod Makeable
 pub mod Migrated
 pub mod MigratedLaws
+pub mod MigratedOnceLaws
 pub mod NarrowedLaws
 pub mod NetworkLaws
 pub mod Order
@@ -15,9 +20,11 @@ pub mod Parts
 pub mod Reads
 pub mod TableFacts
 pub mod TableFactsLaws
+pub mod TemplateConditions
+pub mod TemplateFacts
+pub mod TemplateFactsLaws
 pub mod UseConditions
 pub mod UseFacts
 pub mod UseFactsLaws
 pub mod Whole
 pub mod WrittenNetwork
-pub mod MigratedOnceLaws

@@ -1,12 +1,12 @@
 -- A description that is accepted is accepted in version 2 too, and describes the same network.
-use Rattle.std.proofs.Common.{◌≡◌, ◌≤◌, ℕ, pos, true, false, Bool, List, [], ◌∷◌, length, codes, Option, Some, None, Ok, Result, Ordering, Less, Equal, Greater, nat_cmp, is_eq, refl, ap, ◌∙◌, sym, subst, arith}
+use Rattle.std.proofs.Common.{◌≡◌, ◌≤◌, ℕ, pos, true, false, Bool, ◌||◌, List, [], ◌∷◌, length, codes, Option, Some, None, Ok, Result, Ordering, Less, Equal, Greater, nat_cmp, is_eq, refl, ap, ◌∙◌, sym, subst, arith}
 use Rattle.std.proofs.lemmas.Bool.{and_from, and_parts}
 use Rattle.std.proofs.lemmas.Bool.Decides.{nat_tests}
 use Rattle.std.proofs.lemmas.Cmp.{nat_list_cmp_total}
 use Rattle.std.specs.Cmp.{alike_right, tied_itself}
 use Rattle.std.specs.Cmp.Lexicographic.{slice_cmp}
 use Rattle.std.specs.List.{list_any}
-use Rattle.std.specs.Ordering.{match_ordering}
+use Rattle.std.specs.Ordering.{int_eq, match_ordering}
 use Rattle.std.specs.Prelude.{IsSomeAnd, MatchOption, is_some, nat_lt, if◌then◌else◌}
 use Rattle.std.specs.Str.{bytes_eq}
 use Rattle.toml.specs.Data.{Data, string, integer, float, boolean, datetime, array, table, Items, no_items, item, Members, no_members, member, depth, members_depth, get_member, has_valid_dates, items_have_valid_dates, members_have_valid_dates}
@@ -16,10 +16,11 @@ use Rattle.desc_core.specs.DescriptionLaws.{accepted, by_groups}
 use Rattle.desc_core.specs.Document.{document}
 use Rattle.desc_core.specs.Migrated.{migrated, with_member}
 use Rattle.desc_core.specs.TableFactsLaws.{unrefused}
+use Rattle.desc_core.specs.TemplateConditions.{bad_template, not_lawful}
 use Rattle.desc_core.specs.UseConditions.{bad_attribute, bad_service, duplicate_assign, duplicate_flow, many_services, self_flow, undeclared_host, unknown_template, use_conditions}
 use Rattle.desc_core.specs.WrittenNetwork.{asked_of, invariants_of, network_of, services_in}
 use Rattle.desc_form.specs.Written.{Written, written}
-use Rattle.desc_form.specs.WrittenForm.{IsAnswers, IsArray, IsFlow, IsHost, IsInteger, IsInvariant, IsTable, IsWritten}
+use Rattle.desc_form.specs.WrittenForm.{IsAnswers, IsArray, IsFlow, IsHost, IsInteger, IsInvariant, IsTable, IsTemplate, IsWritten, template_names}
 use Rattle.desc_form.specs.WrittenLaws.{formed_where_written, written_stands}
 use Rattle.desc_form.specs.WrittenOnceLaws.{written_is}
 use Rattle.desc_form.specs.declared.refusal.Refusal.{Refusal}
@@ -152,18 +153,43 @@ in_version_2 w = record {
   invariants = w.invariants;
   given = w.given;
   flows = w.flows;
+  templates = w.templates;
 }
 
 at_other : (key : List ℕ) (ms : Members) (P : Option Data → Type 0) → is_eq (slice_cmp nat_cmp key (codes "topos")) ≡ false → P (get_member key ms)
     → P (get_member key (migrated ms))
 at_other key ms P differs stands = subst P (sym (get_other (codes "topos") key (integer (pos 2)) ms differs)) stands
 
+-- the keys of every version are keys of version 2
+weaker_keys : (p q : List ℕ → Bool) (ms : Members) → ((k : List ℕ) → p k ≡ true → q k ≡ true) → all_keys p ms ≡ true → all_keys q ms ≡ true
+weaker_keys p q no_members step all = refl
+weaker_keys p q (member k d ms) step all =
+    let (here, behind) = and_parts (p k) (all_keys p ms) all in
+    and_from (q k) (all_keys q ms) (step k here) (weaker_keys p q ms step behind)
+
+-- the names that each version has, and one more
+abbrev names_with : Bool → List (List ℕ)
+names_with second = codes "topos" ∷ codes "answers" ∷ codes "host" ∷ codes "invariant" ∷ codes "flow" ∷ template_names second
+
+one_of_more : (b : Bool) (k : List ℕ) → list_any (bytes_eq k) (names_with b) ≡ true → list_any (bytes_eq k) (names_with true) ≡ true
+one_of_more true k one = one
+one_of_more false k one = more (bytes_eq k (codes "topos")) (bytes_eq k (codes "answers")) (bytes_eq k (codes "host")) (bytes_eq k (codes "invariant")) (bytes_eq k (codes "flow")) _ one
+  where
+    more : (a b c d e f : Bool) → (a || (b || (c || (d || (e || false))))) ≡ true → (a || (b || (c || (d || (e || f))))) ≡ true
+    more true b c d e f one = refl
+    more false true c d e f one = refl
+    more false false true d e f one = refl
+    more false false false true e f one = refl
+    more false false false false true f one = refl
+    more false false false false false f one = cc
+
 migrated_written : (ms : Members) (w : Written) → IsWritten ms w → IsWritten (migrated ms) (in_version_2 w)
 unfolding has_only
 migrated_written ms w is =
     let two = get_with (codes "topos") (integer (pos 2)) ms in
     record {
-      only = keys_with (λ k. list_any (bytes_eq k) (codes "topos" ∷ codes "answers" ∷ codes "host" ∷ codes "invariant" ∷ codes "flow" ∷ [])) (codes "topos") (integer (pos 2)) ms refl is.only;
+      only = keys_with (λ k. list_any (bytes_eq k) (names_with true)) (codes "topos") (integer (pos 2)) ms refl
+          (weaker_keys (λ k. list_any (bytes_eq k) (names_with (int_eq w.version (pos 2)))) (λ k. list_any (bytes_eq k) (names_with true)) ms (one_of_more (int_eq w.version (pos 2))) is.only);
       version = subst (λ (o : Option Data). IsSomeAnd o (λ d. IsInteger d (pos 2))) (sym two) refl;
       answers = at_other (codes "answers") ms (λ o. MatchOption o (w.answers ≡ true) (λ d. IsAnswers d w.answers)) refl is.answers;
       hosts = at_other (codes "host") ms (λ o. IsSomeAnd o (λ d. IsArray (IsTable IsHost) d w.hosts)) refl is.hosts;
@@ -171,6 +197,7 @@ migrated_written ms w is =
       given = at_other (codes "flow") ms (λ o. w.given ≡ is_some o) refl is.given;
       flows = at_other (codes "flow") ms (λ o. MatchOption o (w.flows ≡ []) (λ d. IsArray IsFlow d w.flows)) refl is.flows;
       whole = λ other. absurd (other refl);
+      templates = at_other (codes "template") ms (λ o. MatchOption o (w.templates ≡ []) (λ d. IsArray (IsTable IsTemplate) d w.templates)) refl is.templates;
     }
 
 -- ---- what it is refused for, and its network
@@ -180,7 +207,7 @@ unfolding host_conditions bad_version all_entries all_names used_names assign_na
 hosts_pass w none = (neither (bad_version w.version) _ none).1
 
 uses_same : (w : Written) → use_conditions (in_version_2 w) ≡ use_conditions w
-unfolding use_conditions unknown_template undeclared_host duplicate_assign bad_attribute self_flow duplicate_flow bad_service many_services network_hosts used_names assign_names flow_names
+unfolding use_conditions unknown_template undeclared_host duplicate_assign bad_attribute self_flow duplicate_flow bad_service many_services bad_template not_lawful network_hosts used_names assign_names flow_names
 uses_same w = refl
 
 network_same : (w : Written) → network_of (in_version_2 w) ≡ network_of w

@@ -18,7 +18,8 @@ use Rattle.net_core.specs.Network.{Network}
 use Rattle.net_core.specs.Fitting.{IsNetwork}
 use Rattle.desc_core.specs.WrittenNetwork.{Known, asked_of, invariant_of, invariants_of, known_of, made_of, network_of}
 use Rattle.flow_set.specs.EveryFlow.{every_flow}
-use Rattle.attr_core.specs.TemplatesLaws.{invariant_sized}
+use Rattle.desc_core.specs.ChoiceLaws.{made_sized}
+use Rattle.desc_form.specs.WrittenTemplate.{WrittenTemplate}
 use Rattle.text_core.specs.Firsts.{first_of}
 use Rattle.desc_form.specs.Written.{Written, WrittenInvariant, written}
 use Rattle.desc_hosts.specs.EntriesLaws.{no_longer}
@@ -41,12 +42,12 @@ sized_by : (hosts : List Host) (o : Option Known) (invs : List AnyInv)
     → AllByRecursion (λ (inv : AnyInv). (meaning_of inv).size ≡ length hosts) invs
     → AllByRecursion (λ (inv : AnyInv). (meaning_of inv).size ≡ length hosts) (cons_option (option_map (made_of hosts) o) invs)
 sized_by hosts None invs behind = behind
-sized_by hosts (Some k) invs behind = (invariant_sized hosts k.template k.assigns, behind)
+sized_by hosts (Some k) invs behind = (made_sized hosts k.template k.assigns, behind)
 
-sized_all : (hosts : List Host) (is : List WrittenInvariant)
-    → AllByRecursion (λ (inv : AnyInv). (meaning_of inv).size ≡ length hosts) (filter_map (invariant_of hosts) is)
-sized_all hosts [] = tt
-sized_all hosts (i ∷ is) = sized_by hosts (known_of hosts i) (filter_map (invariant_of hosts) is) (sized_all hosts is)
+sized_all : (ts : List WrittenTemplate) (hosts : List Host) (is : List WrittenInvariant)
+    → AllByRecursion (λ (inv : AnyInv). (meaning_of inv).size ≡ length hosts) (filter_map (invariant_of ts hosts) is)
+sized_all ts hosts [] = tt
+sized_all ts hosts (i ∷ is) = sized_by hosts (known_of ts hosts i) (filter_map (invariant_of ts hosts) is) (sized_all ts hosts is)
 
 pub IsNetwork-network_of : (w : Written) → first_of (host_conditions w) ≡ None → first_of (use_conditions w) ≡ None → IsNetwork (network_of w)
 unfolding network_of asked_of invariants_of
@@ -57,7 +58,7 @@ IsNetwork-network_of w free no_use =
       sized = sym (length-network_hosts w);
       asked = asked_by w w.given (omega (arith, small.hosts));
       services = AreServices-services_in w (PassesUses-uses w no_use);
-      invariants = All-from_recursion (λ (inv : AnyInv). (meaning_of inv).size ≡ length (network_hosts w)) (invariants_of w) (sized_all (network_hosts w) w.invariants);
+      invariants = All-from_recursion (λ (inv : AnyInv). (meaning_of inv).size ≡ length (network_hosts w)) (invariants_of w) (sized_all w.templates (network_hosts w) w.invariants);
       few = omega (arith, small.invariants, no_longer {A = WrittenInvariant} {B = AnyInv});
     }
 

@@ -9,6 +9,7 @@ use Rattle.desc_core.specs.Description.{refused_or}
 use Rattle.desc_core.specs.Document.{document}
 use Rattle.net_core.specs.Network.{Network}
 use Rattle.desc_core.specs.WrittenNetwork.{Known, narrowed_to, network_of, services_said}
+use Rattle.desc_core.specs.TemplateConditions.{bad_template, not_lawful}
 use Rattle.desc_core.specs.UseConditions.{bad_at, bad_service_of, has_many_services, undeclared_host, unknown_template, use_conditions}
 use Rattle.desc_form.specs.Refusals.{refused, refused_by}
 use Rattle.desc_form.specs.WrittenFlow.{WrittenFlow}
@@ -71,6 +72,10 @@ many_found ws = option_map (λ f. refused ManyServices (FlowAt f.number)) (find 
 -- 21 and 22
 abbrev pub services_found : List WrittenFlow → Option Refusal
 services_found ws = option_or (first_found bad_service_of (numbered ws)) (many_found ws)
+
+-- 23 and 24
+abbrev pub templates_found : Written → Option Refusal
+templates_found w = option_or (bad_template w) (not_lawful w)
 
 -- the flows that are narrowed, of flows by their hosts and as they are written
 abbrev pub narrowed_among : List Flow → List WrittenFlow → List NarrowedFlow

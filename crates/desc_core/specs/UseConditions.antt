@@ -1,9 +1,11 @@
--- The refusals 15 to 22 of a description: its invariants, their assigns, its flows and their services (the description's format,
--- docs/FORMATS.md).
+-- The refusals 15 to 24 of a description: its invariants, their assigns, its flows and their services, and its templates
+-- (TemplateConditions; the description's format, docs/FORMATS.md).
 use Rattle.std.specs.Prelude.{ℕ, ◌+◌, Bool, not, ◌&&◌, nat_lt, List, [], ◌∷◌, length, find, Option, option_map, is_none}
 use Rattle.std.specs.List.{list_any}
 use Rattle.std.specs.Str.{bytes_eq}
-use Rattle.attr_core.specs.Templates.{bad_in, template_named}
+use Rattle.desc_core.specs.Choices.{bad_of, chosen}
+use Rattle.desc_core.specs.TemplateConditions.{bad_template, not_lawful}
+use Rattle.desc_form.specs.WrittenTemplate.{WrittenTemplate}
 use Rattle.desc_form.specs.declared.refusal.Place.TheVariants.{Invariant, Assign, FlowAt}
 use Rattle.desc_form.specs.declared.refusal.Refusal.{Refusal}
 use Rattle.desc_form.specs.declared.refusal.Why.TheVariants.{UnknownTemplate, UndeclaredHost, DuplicateAssign, BadAttribute, SelfFlow, DuplicateFlow, BadService, ManyServices}
@@ -19,11 +21,11 @@ use Rattle.host_net.specs.Services.{service_limit}
 use Rattle.host_net.specs.ServiceText.{service_of}
 use Rattle.text_core.specs.Steps.{◌>>=◌}
 
--- 15: no template has the name
+-- 15: no template has the name, nor is one declared under it
 unfoldable pub unknown_template : Written → Option Refusal
 unknown_template w =
     option_map (λ i. refused UnknownTemplate (Invariant i.number))
-    (find (λ i. is_none (template_named i.what.template)) (numbered w.invariants))
+    (find (λ i. is_none (chosen w.templates i.what.template)) (numbered w.invariants))
 
 -- a host of the description has the name
 abbrev pub is_declared : Written → List ℕ → Bool
@@ -46,14 +48,14 @@ duplicate_assign w = first_found duplicate_assign_of (numbered w.invariants)
 -- an invariant is refused at its first assign that says no attribute
 abbrev pub bad_at : List Host → ℕ → Known → Option Refusal
 bad_at hosts number known =
-    option_map (λ assign. refused BadAttribute (Assign number (assign + 1))) (bad_in hosts known.template known.assigns)
+    option_map (λ assign. refused BadAttribute (Assign number (assign + 1))) (bad_of hosts known.template known.assigns)
 
-abbrev pub bad_attribute_of : List Host → Numbered WrittenInvariant → Option Refusal
-bad_attribute_of hosts i = known_of hosts i.what >>= bad_at hosts i.number
+abbrev pub bad_attribute_of : List WrittenTemplate → List Host → Numbered WrittenInvariant → Option Refusal
+bad_attribute_of templates hosts i = known_of templates hosts i.what >>= bad_at hosts i.number
 
 -- 18: the table of an assign says no attribute of the template
 unfoldable pub bad_attribute : Written → Option Refusal
-bad_attribute w = first_found (bad_attribute_of (network_hosts w)) (numbered w.invariants)
+bad_attribute w = first_found (bad_attribute_of w.templates (network_hosts w)) (numbered w.invariants)
 
 abbrev pub leads_to_itself : WrittenFlow → Bool
 leads_to_itself f = bytes_eq f.from f.to
@@ -87,7 +89,7 @@ has_many_services f = nat_lt service_limit (length f.services)
 unfoldable pub many_services : Written → Option Refusal
 many_services w = option_map (λ f. refused ManyServices (FlowAt f.number)) (find (λ f. has_many_services f.what) (numbered w.flows))
 
--- the conditions in the order of their numbers, 15 to 22
+-- the conditions in the order of their numbers, 15 to 24
 unfoldable pub use_conditions : Written → List (Option Refusal)
 use_conditions w =
     unknown_template w
@@ -98,4 +100,6 @@ use_conditions w =
     ∷ duplicate_flow w
     ∷ bad_service w
     ∷ many_services w
+    ∷ bad_template w
+    ∷ not_lawful w
     ∷ []

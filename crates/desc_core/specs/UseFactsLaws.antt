@@ -1,4 +1,4 @@
--- None of the conditions 15 to 22 refuses a description exactly where the facts of UseFacts hold of it.
+-- None of the conditions 15 to 24 refuses a description exactly where the facts of UseFacts hold of it.
 use Rattle.std.proofs.Common.{◌≡◌, ℕ, ◌≤◌, ◌+◌, Bool, true, false, cond, not, ◌&&◌, List, [], ◌∷◌, ◌++◌, map, length, append_assoc, Option, Some, None, option_map, option_and_then, is_none, is_some, refl, sym, ap, ◌∙◌, arith}
 use Rattle.std.proofs.lemmas.Bool.{and_from, and_parts, false≢true}
 use Rattle.std.proofs.lemmas.Bool.Decides.{nat_tests}
@@ -10,7 +10,10 @@ use Rattle.std.specs.List.{All, AllByRecursion, AllPairs, find, flat_map, list_a
 use Rattle.std.specs.Option.{option_or}
 use Rattle.std.specs.Prelude.{◌↔◌, ◌≢◌, IsTrue}
 use Rattle.std.specs.Str.{bytes_eq}
-use Rattle.attr_core.specs.Templates.{bad_in, template_named}
+use Rattle.desc_core.specs.Choices.{bad_of, chosen}
+use Rattle.desc_core.specs.TemplateConditions.{bad_template, has_partner, not_lawful, unlawful_at}
+use Rattle.desc_core.specs.TemplateFactsLaws.{partners_are, templates_are}
+use Rattle.desc_form.specs.WrittenTemplate.{WrittenPair, WrittenTemplate}
 use Rattle.desc_core.specs.UseFacts.{HasUses, SaysAttributes}
 use Rattle.desc_core.specs.UseConditions.{bad_at, bad_attribute, bad_attribute_of, bad_service, bad_service_of, duplicate_assign, duplicate_assign_of, duplicate_flow, has_many_services, is_declared, many_services, same_names, self_flow, undeclared_host, unknown_template, use_conditions}
 use Rattle.desc_core.specs.WrittenNetwork.{Known, known_of}
@@ -74,16 +77,16 @@ not_none : {A : Type 0} (o : Option A) → not (is_none o) ≡ is_some o
 not_none None = refl
 not_none (Some x) = refl
 
-templates_same : (is : List WrittenInvariant)
-    → list_all (λ (i : WrittenInvariant). not (is_none (template_named i.template))) is ≡ list_all (λ (i : WrittenInvariant). is_some (template_named i.template)) is
-templates_same is = λ k. list_all (λ (i : WrittenInvariant). not_none (template_named i.template) k) is
+templates_same : (w : Written) (is : List WrittenInvariant)
+    → list_all (λ (i : WrittenInvariant). not (is_none (chosen w.templates i.template))) is ≡ list_all (λ (i : WrittenInvariant). is_some (chosen w.templates i.template)) is
+templates_same w is = λ k. list_all (λ (i : WrittenInvariant). not_none (chosen w.templates i.template) k) is
 
 pub templates_known : (w : Written)
-    → (unknown_template w ≡ None) ↔ (list_all (λ (i : WrittenInvariant). is_some (template_named i.template)) w.invariants ≡ true)
+    → (unknown_template w ≡ None) ↔ (list_all (λ (i : WrittenInvariant). is_some (chosen w.templates i.template)) w.invariants ≡ true)
 unfolding unknown_template
 templates_known w =
-    let (known, unknown) = found_numbered _ (λ (i : WrittenInvariant). is_none (template_named i.template)) w.invariants in
-    (λ none. sym (templates_same w.invariants) ∙ known none, λ all. unknown (templates_same w.invariants ∙ all))
+    let (known, unknown) = found_numbered _ (λ (i : WrittenInvariant). is_none (chosen w.templates i.template)) w.invariants in
+    (λ none. sym (templates_same w w.invariants) ∙ known none, λ all. unknown (templates_same w w.invariants ∙ all))
 
 -- ---- 16
 
@@ -171,30 +174,30 @@ assigns_once w = each_from duplicate_assign_of (λ (i : WrittenInvariant). no_pa
 
 -- ---- 18
 
-good_one : (hosts : List Host) (k : ℕ) (i : WrittenInvariant) → bad_attribute_of hosts (record { number = k; what = i }) ≡ None
-    → SaysAttributes hosts i
-good_one hosts k i none known is =
-    none_mapped (λ assign. refused BadAttribute (Assign k (assign + 1))) (bad_in hosts known.template known.assigns) (ap (option_and_then (bad_at hosts k)) (sym is) ∙ none)
+good_one : (ts : List WrittenTemplate) (hosts : List Host) (k : ℕ) (i : WrittenInvariant) → bad_attribute_of ts hosts (record { number = k; what = i }) ≡ None
+    → SaysAttributes ts hosts i
+good_one ts hosts k i none known is =
+    none_mapped (λ assign. refused BadAttribute (Assign k (assign + 1))) (bad_of hosts known.template known.assigns) (ap (option_and_then (bad_at hosts k)) (sym is) ∙ none)
 
 none_by : (hosts : List Host) (k : ℕ) (o : Option Known)
-    → ((known : Known) → o ≡ Some known → bad_in hosts known.template known.assigns ≡ None) → option_and_then (bad_at hosts k) o ≡ None
+    → ((known : Known) → o ≡ Some known → bad_of hosts known.template known.assigns ≡ None) → option_and_then (bad_at hosts k) o ≡ None
 none_by hosts k None good = refl
 none_by hosts k (Some known) good = ap (option_map (λ assign. refused BadAttribute (Assign k (assign + 1)))) (good known refl)
 
-good_from : (hosts : List Host) (k : ℕ) (is : List WrittenInvariant)
-    → (first_found (bad_attribute_of hosts) (numbered_from k is) ≡ None) ↔ AllByRecursion (SaysAttributes hosts) is
-good_from hosts k [] = (λ none. tt, λ all. refl)
-good_from hosts k (i ∷ is) =
-    let (later, none_later) = good_from hosts (k + 1) is in (
+good_from : (ts : List WrittenTemplate) (hosts : List Host) (k : ℕ) (is : List WrittenInvariant)
+    → (first_found (bad_attribute_of ts hosts) (numbered_from k is) ≡ None) ↔ AllByRecursion (SaysAttributes ts hosts) is
+good_from ts hosts k [] = (λ none. tt, λ all. refl)
+good_from ts hosts k (i ∷ is) =
+    let (later, none_later) = good_from ts hosts (k + 1) is in (
       λ none.
-          let (here, behind) = neither (bad_attribute_of hosts (record { number = k; what = i })) (first_found (bad_attribute_of hosts) (numbered_from (k + 1) is)) none in
-          (good_one hosts k i here, later behind),
-      λ all. nothing_or (bad_attribute_of hosts (record { number = k; what = i })) _ (none_by hosts k (known_of hosts i) all.0) (none_later all.1),
+          let (here, behind) = neither (bad_attribute_of ts hosts (record { number = k; what = i })) (first_found (bad_attribute_of ts hosts) (numbered_from (k + 1) is)) none in
+          (good_one ts hosts k i here, later behind),
+      λ all. nothing_or (bad_attribute_of ts hosts (record { number = k; what = i })) _ (none_by hosts k (known_of ts hosts i) all.0) (none_later all.1),
     )
 
-pub attributes_said : (w : Written) → (bad_attribute w ≡ None) ↔ AllByRecursion (SaysAttributes (network_hosts w)) w.invariants
+pub attributes_said : (w : Written) → (bad_attribute w ≡ None) ↔ AllByRecursion (SaysAttributes w.templates (network_hosts w)) w.invariants
 unfolding bad_attribute
-attributes_said w = good_from (network_hosts w) 1 w.invariants
+attributes_said w = good_from w.templates (network_hosts w) 1 w.invariants
 
 -- ---- 19 and 20
 
@@ -227,19 +230,35 @@ pub services_are_few : (w : Written) → (many_services w ≡ None) ↔ (list_al
 unfolding many_services
 services_are_few w = found_numbered _ has_many_services w.flows
 
+-- ---- 24
+
+partners_same : (t : WrittenTemplate) (ps : List WrittenPair) → list_all (λ p. not (not (has_partner t p))) ps ≡ list_all (has_partner t) ps
+partners_same t ps = λ k. list_all (λ p. not_twice (has_partner t p) k) ps
+
+partners_one : (k : ℕ) (t : WrittenTemplate) → (unlawful_at (nth k t) ≡ None) ↔ (list_all (has_partner t) t.deny ≡ true)
+partners_one k t =
+    let (said, unsaid) = found_numbered _ (λ p. not (has_partner t p)) t.deny in
+    (λ none. sym (partners_same t t.deny) ∙ said none, λ all. unsaid (partners_same t t.deny ∙ all))
+
+pub partners_there : (w : Written) → (not_lawful w ≡ None) ↔ (list_all (λ t. list_all (has_partner t) t.deny) w.templates ≡ true)
+unfolding not_lawful
+partners_there w = each_from unlawful_at (λ t. list_all (has_partner t) t.deny) partners_one 1 w.templates
+
 -- ---- all of them
 
 -- the facts as tests
 pub record PassesUses (w : Written) : Type 0 where
-  pub templates : list_all (λ (i : WrittenInvariant). is_some (template_named i.template)) w.invariants ≡ true
+  pub templates : list_all (λ (i : WrittenInvariant). is_some (chosen w.templates i.template)) w.invariants ≡ true
   pub assigned : list_all (assigns_test w) w.invariants ≡ true
   pub joined : list_all (ends_test w) w.flows ≡ true
   pub once : list_all (λ (i : WrittenInvariant). no_pair same_host i.assigns) w.invariants ≡ true
-  pub attributes : AllByRecursion (SaysAttributes (network_hosts w)) w.invariants
+  pub attributes : AllByRecursion (SaysAttributes w.templates (network_hosts w)) w.invariants
   pub apart : list_all (λ (f : WrittenFlow). not (bytes_eq f.from f.to)) w.flows ≡ true
   pub different : no_pair same_names w.flows ≡ true
   pub services : list_all services_test w.flows ≡ true
   pub few : list_all (λ f. not (has_many_services f)) w.flows ≡ true
+  pub declared : bad_template w ≡ None
+  pub lawful : not_lawful w ≡ None
 
 pub PassesUses-uses : (w : Written) → first_of (use_conditions w) ≡ None → PassesUses w
 unfolding use_conditions
@@ -251,7 +270,9 @@ PassesUses-uses w none =
     let (ends, from_20) = neither (self_flow w) _ from_19 in
     let (flows, from_21) = neither (duplicate_flow w) _ from_20 in
     let (services, from_22) = neither (bad_service w) _ from_21 in
-    let (few, _) = neither (many_services w) _ from_22 in
+    let (few, from_23) = neither (many_services w) _ from_22 in
+    let (declared, from_24) = neither (bad_template w) _ from_23 in
+    let (lawful, _) = neither (not_lawful w) _ from_24 in
     let (assigned, joined) = (hosts_declared w).0 hosts in
     record {
       templates = (templates_known w).0 templates;
@@ -263,6 +284,8 @@ PassesUses-uses w none =
       different = (flows_differ w).0 flows;
       services = (services_are_said w).0 services;
       few = (services_are_few w).0 few;
+      declared = declared;
+      lawful = lawful;
     }
 
 uses-PassesUses : (w : Written) → PassesUses w → first_of (use_conditions w) ≡ None
@@ -275,7 +298,8 @@ uses-PassesUses w sound =
     (nothing_or (self_flow w) _ ((ends_differ w).1 sound.apart)
     (nothing_or (duplicate_flow w) _ ((flows_differ w).1 sound.different)
     (nothing_or (bad_service w) _ ((services_are_said w).1 sound.services)
-    (nothing_or (many_services w) None ((services_are_few w).1 sound.few) refl)))))))
+    (nothing_or (many_services w) _ ((services_are_few w).1 sound.few)
+    (nothing_or (bad_template w) _ sound.declared (nothing_or (not_lawful w) None sound.lawful refl)))))))))
 
 -- ---- in plain words
 
@@ -325,7 +349,7 @@ few_test f few = grind (arith, nat_tests)
 
 pub HasUses-tests : (w : Written) → PassesUses w → HasUses w
 HasUses-tests w tests = record {
-  templates = (all_tested (λ (i : WrittenInvariant). is_some (template_named i.template)) w.invariants).0 tests.templates;
+  templates = (all_tested (λ (i : WrittenInvariant). is_some (chosen w.templates i.template)) w.invariants).0 tests.templates;
   assigned =
       weaker (λ i. assigns_test w i ≡ true) (λ (i : WrittenInvariant). All (λ (a : WrittenAssign). IsTrue (is_declared w a.host)) i.assigns) w.invariants
       (λ i. (all_tested (λ (a : WrittenAssign). is_declared w a.host) i.assigns).0) ((all_tested (assigns_test w) w.invariants).0 tests.assigned);
@@ -335,7 +359,7 @@ HasUses-tests w tests = record {
   once =
       weaker (λ (i : WrittenInvariant). no_pair same_host i.assigns ≡ true) (λ (i : WrittenInvariant). AllPairs (λ (a b : WrittenAssign). a.host ≢ b.host) i.assigns) w.invariants
       (λ i. hosts_apart i.assigns) ((all_tested (λ (i : WrittenInvariant). no_pair same_host i.assigns) w.invariants).0 tests.once);
-  attributes = All-from_recursion (SaysAttributes (network_hosts w)) w.invariants tests.attributes;
+  attributes = All-from_recursion (SaysAttributes w.templates (network_hosts w)) w.invariants tests.attributes;
   apart =
       weaker (λ (f : WrittenFlow). bytes_eq f.from f.to ≡ false) (λ (f : WrittenFlow). f.from ≢ f.to) w.flows (λ f test same. differ f.to f.from test (sym same))
       ((none_tested (λ (f : WrittenFlow). bytes_eq f.from f.to) w.flows).0 tests.apart);
@@ -345,11 +369,14 @@ HasUses-tests w tests = record {
       ((all_tested services_test w.flows).0 tests.services);
   few =
       weaker (λ f. has_many_services f ≡ false) (λ f. length f.services ≤ service_limit) w.flows few_services ((none_tested has_many_services w.flows).0 tests.few);
+  declared = ((templates_are w).0 tests.declared).0;
+  distinct = ((templates_are w).0 tests.declared).1;
+  lawful = (partners_are w.templates).0 ((partners_there w).0 tests.lawful);
 }
 
 tests-HasUses : (w : Written) → HasUses w → PassesUses w
 tests-HasUses w uses = record {
-  templates = (all_tested (λ (i : WrittenInvariant). is_some (template_named i.template)) w.invariants).1 uses.templates;
+  templates = (all_tested (λ (i : WrittenInvariant). is_some (chosen w.templates i.template)) w.invariants).1 uses.templates;
   assigned =
       (all_tested (assigns_test w) w.invariants).1
       (weaker (λ (i : WrittenInvariant). All (λ (a : WrittenAssign). IsTrue (is_declared w a.host)) i.assigns) (λ i. assigns_test w i ≡ true) w.invariants
@@ -362,7 +389,7 @@ tests-HasUses w uses = record {
       (all_tested (λ (i : WrittenInvariant). no_pair same_host i.assigns) w.invariants).1
       (weaker (λ (i : WrittenInvariant). AllPairs (λ (a b : WrittenAssign). a.host ≢ b.host) i.assigns) (λ (i : WrittenInvariant). no_pair same_host i.assigns ≡ true) w.invariants
       (λ i. hosts_test i.assigns) uses.once);
-  attributes = recursion_from_All (SaysAttributes (network_hosts w)) w.invariants uses.attributes;
+  attributes = recursion_from_All (SaysAttributes w.templates (network_hosts w)) w.invariants uses.attributes;
   apart =
       (none_tested (λ (f : WrittenFlow). bytes_eq f.from f.to) w.flows).1
       (weaker (λ (f : WrittenFlow). f.from ≢ f.to) (λ (f : WrittenFlow). bytes_eq f.from f.to ≡ false) w.flows (λ f differs. differ_test f.to f.from (λ same. differs (sym same))) uses.apart);
@@ -372,8 +399,10 @@ tests-HasUses w uses = record {
       (weaker SaysServices (λ f. services_test f ≡ true) w.flows (λ f. (all_tested (λ text. is_some (service_of text)) f.services).1) uses.services);
   few =
       (none_tested has_many_services w.flows).1 (weaker (λ f. length f.services ≤ service_limit) (λ f. has_many_services f ≡ false) w.flows few_test uses.few);
+  declared = (templates_are w).1 (uses.declared, uses.distinct);
+  lawful = (partners_there w).1 ((partners_are w.templates).1 uses.lawful);
 }
 
--- none of the conditions 15 to 22 holds exactly where the facts do
+-- none of the conditions 15 to 24 holds exactly where the facts do
 pub has_uses : (w : Written) → (first_of (use_conditions w) ≡ None) ↔ HasUses w
 has_uses w = (λ none. HasUses-tests w (PassesUses-uses w none), λ uses. uses-PassesUses w (tests-HasUses w uses))

@@ -1,15 +1,16 @@
 -- That nothing of a description is passed over: its hosts, its invariants, its flows and their services stand in the network, one
 -- for one.
-use Rattle.std.specs.Prelude.{◌≡◌, ◌==◌, ℕ, Bool, true, false, not, List, length, Some, None}
-use Rattle.std.specs.List.{AllZip, filter}
+use Rattle.std.specs.Prelude.{◌≡◌, ◌==◌, ℕ, Bool, true, false, not, List, length, Some, None, IsTrue}
+use Rattle.std.specs.List.{All, AllZip, filter}
 use Rattle.toml.specs.Data.{Members}
 use Rattle.desc_core.specs.Document.{document}
 use Rattle.desc_core.specs.Flows.{flow_of_names}
 use Rattle.net_core.specs.Network.{Network}
 use Rattle.attr_core.specs.Assigns.{Given}
 use Rattle.attr_core.specs.Forms.{attributes_in, bad_assign}
-use Rattle.attr_core.specs.Templates.{form, template_named}
-use Rattle.attr_core.specs.declared.template.Template.{Template}
+use Rattle.desc_core.specs.Choices.{Choice, choice_form, chosen, table_said}
+use Rattle.tmpl_table.specs.KindTable.{is_lawful}
+use Rattle.desc_form.specs.WrittenTemplate.{WrittenTemplate}
 use Rattle.desc_core.specs.WrittenNetwork.{given_by}
 use Rattle.inv_any.specs.declared.any_inv.AnyInv.{AnyInv}
 use Rattle.table_core.specs.Listing.{each}
@@ -45,27 +46,28 @@ pub record IsNarrowedOf (hosts : List Host) (f : WrittenFlow) (narrowed : Narrow
   pub flow : flow_of_names hosts f ≡ Some (record { from = narrowed.from; to = narrowed.to })
   pub services : AllZip IsServiceSpelling f.services narrowed.services
 
--- the invariant is of the written template, each of its assigns is of a declared host and says an attribute, and each host has the
--- attribute that the last assign of it says, or the default
-pub record IsInvariantOf (hosts : List Host) (i : WrittenInvariant) (invariant : AnyInv) : Type 0 where
-  pub template : Template
-  pub named : template_named i.template ≡ Some template
+-- the invariant is of the written template, one of the ten or a declared one, each of its assigns is of a declared host and says an
+-- attribute, and each host has the attribute that the last assign of it says, or the default
+pub record IsInvariantOf (templates : List WrittenTemplate) (hosts : List Host) (i : WrittenInvariant) (invariant : AnyInv) : Type 0 where
+  pub template : Choice
+  pub named : chosen templates i.template ≡ Some template
   pub assigns : List Given
   pub given : each (given_by hosts) i.assigns ≡ Some assigns
-  pub good : bad_assign (form template) hosts assigns ≡ None
-  pub made : invariant ≡ (form template).make (attributes_in (form template) hosts assigns)
+  pub good : bad_assign (choice_form template) hosts assigns ≡ None
+  pub made : invariant ≡ (choice_form template).make (attributes_in (choice_form template) hosts assigns)
 
 -- the network has what is written, in the same order; where the key `flow` is absent, every flow is asked for. The flows with
--- services are narrowed, and no others
+-- services are narrowed, and no others. The declared templates are lawful, so each denies the pairs that it lists
 pub record IsWhole (w : Written) (d : Network) : Type 0 where
   pub hosts : AllZip IsHostOf w.hosts d.hosts
-  pub invariants : AllZip (IsInvariantOf d.hosts) w.invariants d.invariants
+  pub invariants : AllZip (IsInvariantOf w.templates d.hosts) w.invariants d.invariants
   pub given : d.given ≡ w.given
   pub answers : d.answers ≡ w.answers
   pub sized : d.asked.size ≡ length d.hosts
   pub listed : w.given ≡ true → IsSetOf d.hosts w.flows d.asked.flows
   pub every : w.given ≡ false → IsFull (length d.hosts) d.asked.flows
   pub services : AllZip (IsNarrowedOf d.hosts) (filter is_narrowed w.flows) d.services
+  pub lawful : All (λ t. IsTrue (is_lawful (table_said t))) w.templates
 
 -- w is all that is written in the table, and the network has all of w
 pub record IsDescribedByTable (table : Members) (d : Network) : Type 0 where

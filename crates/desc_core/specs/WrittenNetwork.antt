@@ -3,12 +3,12 @@
 -- What is refused is passed over here: where a description is refused, what is said here does not count.
 use Rattle.std.specs.Prelude.{List, [], ◌∷◌, length, filter_map, Option, Some, None, option_map, if◌then◌else◌}
 use Rattle.attr_core.specs.Assigns.{Given}
-use Rattle.attr_core.specs.Templates.{invariant_in, template_named}
-use Rattle.attr_core.specs.declared.template.Template.{Template}
+use Rattle.desc_core.specs.Choices.{Choice, chosen, made_by}
 use Rattle.desc_core.specs.Flows.{flow_of_names}
 use Rattle.flow_set.specs.FlowSet.{set_of}
 use Rattle.desc_form.specs.Written.{Written, WrittenAssign, WrittenInvariant}
 use Rattle.desc_form.specs.WrittenFlow.{WrittenFlow}
+use Rattle.desc_form.specs.WrittenTemplate.{WrittenTemplate}
 use Rattle.desc_hosts.specs.WrittenHosts.{network_hosts}
 use Rattle.flow_set.specs.EveryFlow.{every_flow}
 use Rattle.flow_set.specs.declared.flow.Flow.{Flow}
@@ -47,25 +47,25 @@ given_by hosts a = option_map (λ host. record { host = host; table = a.table })
 
 -- an invariant whose names are known: its template, and what its assigns give
 pub record Known : Type 0 where
-  pub template : Template
+  pub template : Choice
   pub assigns : List Given
 
 -- none where the template or a host is unknown
-unfoldable pub known_of : List Host → WrittenInvariant → Option Known
-known_of hosts i = do
-  template ← template_named i.template
+unfoldable pub known_of : List WrittenTemplate → List Host → WrittenInvariant → Option Known
+known_of templates hosts i = do
+  template ← chosen templates i.template
   assigns ← each (given_by hosts) i.assigns
   Some (record { template = template; assigns = assigns })
 
 -- the invariant whose hosts have the attributes that are assigned
 abbrev pub made_of : List Host → Known → AnyInv
-made_of hosts known = invariant_in hosts known.template known.assigns
+made_of hosts known = made_by hosts known.template known.assigns
 
-abbrev pub invariant_of : List Host → WrittenInvariant → Option AnyInv
-invariant_of hosts i = option_map (made_of hosts) (known_of hosts i)
+abbrev pub invariant_of : List WrittenTemplate → List Host → WrittenInvariant → Option AnyInv
+invariant_of templates hosts i = option_map (made_of hosts) (known_of templates hosts i)
 
 unfoldable pub invariants_of : Written → List AnyInv
-invariants_of w = filter_map (invariant_of (network_hosts w)) w.invariants
+invariants_of w = filter_map (invariant_of w.templates (network_hosts w)) w.invariants
 
 unfoldable pub network_of : Written → Network
 network_of w = record {

@@ -27,7 +27,7 @@ pub fn describe(alloc: Global, bytes: &[u8]) -> Result<Description, DescFault>
     // What is read is all that is written in the document: nothing is passed over.
     ensures whole { IfOk result (λ d. IsDescribed bytes.now d) }
 
-    // It is read only where none of the twenty-two conditions holds.
+    // It is read only where none of the twenty-four conditions holds.
     ensures none { IfOk result (λ _. NoneHolds (conditions bytes.now)) }
 
     // What is told has the least number whose condition holds.

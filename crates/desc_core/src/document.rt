@@ -13,8 +13,8 @@ use desc_form::{Place, Refusal, Why};
 use std::alloc::Global;
 use toml::Table;
 
-/// The table of a description's bytes.
-pub(crate) fn read_table(alloc: Global, bytes: &[u8]) -> Result<Table, DescFault>
+/// The table of a description's bytes, or the first of the two conditions on bytes.
+pub fn read_table(alloc: Global, bytes: &[u8]) -> Result<Table, DescFault>
     ensures { Reads (result_map_both table_view (λ fault. fault) result) (table_of bytes.now) }
 {
     if bytes.len() > BYTE_LIMIT {

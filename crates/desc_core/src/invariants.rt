@@ -1,15 +1,22 @@
 //! The invariants of a description: the first assign that says no attribute of its template, and the
 //! invariants themselves, each made of its assigns.
 ghost use Rattle.std.specs.Prelude.{◌≡◌, ◌<◌, None, length, map, All, IfOk};
-ghost use Rattle.attr_core.specs.Templates.{bad_in};
+ghost use Rattle.attr_core.specs.AssignView.{given_of};
+ghost use Rattle.attr_core.specs.OwnTables.{table_form};
+ghost use Rattle.attr_core.specs.Forms.{invariant_by};
+ghost use Rattle.desc_core.specs.Choices.{bad_of, declared_by};
+ghost use Rattle.desc_core.specs.Makeable.{CanBeMade, IsMakeable};
+ghost use Rattle.desc_form.specs.WrittenView.{template_view};
 ghost use Rattle.desc_core.specs.KnownView.{known_view};
 ghost use Rattle.desc_core.specs.Parts.{bad_known};
 ghost use Rattle.desc_core.specs.UseConditions.{bad_at};
 ghost use Rattle.desc_core.specs.WrittenNetwork.{made_of};
 
+use crate::choice::Choice;
 use crate::known::KnownInvariant;
-use attr_core::{bad_attribute, read_invariant};
-use desc_form::{Place, Refusal, Why};
+use crate::own_table::rule_of;
+use attr_core::{Assign, bad_attribute, bad_kind, read_invariant, read_kinds};
+use desc_form::{Place, Refusal, Why, WrittenTemplate};
 use host_net::Hosts;
 use inv_any::AnyInv;
 use std::alloc::{AllocError, Global};
@@ -18,7 +25,7 @@ use std::alloc::{AllocError, Global};
 pub(crate) fn attribute_refusal(
     alloc: Global,
     hosts: &Hosts,
-    invariants: &[KnownInvariant<'_>],
+    invariants: &[KnownInvariant<'_, '_>],
 ) -> Result<Option<Refusal>, AllocError>
     ensures { IfOk result (λ refusal. refusal ≡ bad_known hosts.now (map known_view invariants.now)) }
 {
@@ -36,25 +43,41 @@ fn bad_attribute_of(
     alloc: Global,
     hosts: &Hosts,
     number: u64,
-    invariant: &KnownInvariant<'_>,
+    invariant: &KnownInvariant<'_, '_>,
 ) -> Result<Option<Refusal>, AllocError>
     ensures { IfOk result (λ refusal. refusal ≡ bad_at hosts.now number (known_view invariant.now)) }
 {
-    let Some(assign) = bad_attribute(alloc, hosts, invariant.template, &invariant.assigns)? else {
+    let Some(assign) = bad_assign(alloc, hosts, invariant)? else {
         return Ok(None);
     };
     let place = Place::Assign(number, assign as u64 + 1);
     Ok(Some(Refusal::at(Why::BadAttribute, place)))
 }
 
+/// The number, from 0, of the first assign that says no attribute of the invariant's template.
+#[tactic(auto, unfolding(crate::specs::Choices::bad_of))]
+fn bad_assign(
+    alloc: Global,
+    hosts: &Hosts,
+    invariant: &KnownInvariant<'_, '_>,
+) -> Result<Option<usize>, AllocError>
+    ensures { IfOk result (λ bad. bad ≡ bad_of hosts.now (known_view invariant.now).template (known_view invariant.now).assigns) }
+{
+    match invariant.template {
+        Choice::OneOfTen(template) => bad_attribute(alloc, hosts, template, &invariant.assigns),
+        Choice::OwnTable(template) => Ok(bad_kind(&template.kinds, &invariant.assigns)),
+    }
+}
+
 /// The invariants, in their order, where no assign is bad.
 pub(crate) fn read_invariants(
     alloc: Global,
     hosts: &Hosts,
-    invariants: &[KnownInvariant<'_>],
+    invariants: &[KnownInvariant<'_, '_>],
 ) -> Result<Vec<AnyInv>, AllocError>
     requires hosts { All (λ k. All (λ a. a.host < length hosts.now) k.assigns.items) invariants.now }
     requires good { bad_known hosts.now (map known_view invariants.now) ≡ None }
+    requires made { All (λ k. CanBeMade (known_view k).template) invariants.now }
     ensures { IfOk result (λ made. made.items ≡ map (made_of hosts.now) (map known_view invariants.now)) }
 {
     let mut made = Vec::new(alloc);
@@ -64,14 +87,34 @@ pub(crate) fn read_invariants(
     Ok(made)
 }
 
+#[tactic(auto, unfolding(crate::specs::Choices::bad_of, crate::specs::Choices::made_by))]
 fn read_one(
     alloc: Global,
     hosts: &Hosts,
-    invariant: &KnownInvariant<'_>,
+    invariant: &KnownInvariant<'_, '_>,
 ) -> Result<AnyInv, AllocError>
     requires hosts { All (λ a. a.host < length hosts.now) invariant.now.assigns.items }
-    requires good { bad_in hosts.now (known_view invariant.now).template (known_view invariant.now).assigns ≡ None }
+    requires good { bad_of hosts.now (known_view invariant.now).template (known_view invariant.now).assigns ≡ None }
+    requires made { CanBeMade (known_view invariant.now).template }
     ensures { IfOk result (λ made. made ≡ made_of hosts.now (known_view invariant.now)) }
 {
-    read_invariant(alloc, hosts, invariant.template, &invariant.assigns)
+    match invariant.template {
+        Choice::OneOfTen(template) => read_invariant(alloc, hosts, template, &invariant.assigns),
+        Choice::OwnTable(template) => read_declared(alloc, hosts, template, &invariant.assigns),
+    }
+}
+
+/// The invariant of a declared template.
+fn read_declared(
+    alloc: Global,
+    hosts: &Hosts,
+    template: &WrittenTemplate<'_>,
+    assigns: &[Assign<'_>],
+) -> Result<AnyInv, AllocError>
+    requires hosts { All (λ a. a.host < length hosts.now) assigns.now }
+    requires made { IsMakeable (template_view template.now) }
+    ensures { IfOk result (λ made. made ≡ invariant_by (table_form (declared_by (template_view template.now))) hosts.now (map given_of assigns.now)) }
+{
+    let rule = rule_of(alloc, hosts.count(), template)?;
+    Ok(read_kinds(rule, &template.kinds, assigns))
 }

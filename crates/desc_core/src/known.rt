@@ -5,35 +5,37 @@ ghost use Rattle.attr_core.specs.AssignView.{given_of};
 ghost use Rattle.desc_core.specs.KnownView.{known_view};
 ghost use Rattle.desc_core.specs.Parts.{ends_of};
 ghost use Rattle.desc_core.specs.WrittenNetwork.{given_by, known_of};
-ghost use Rattle.desc_form.specs.WrittenView.{assign_view, flow_view, invariant_view};
+ghost use Rattle.desc_form.specs.WrittenView.{assign_view, flow_view, invariant_view, template_view};
 ghost use Rattle.table_core.specs.Listing.{each};
 
-use attr_core::{Assign, Template};
-use desc_form::{WrittenAssign, WrittenFlow, WrittenInvariant};
+use crate::choice::{Choice, chosen};
+use attr_core::Assign;
+use desc_form::{WrittenAssign, WrittenFlow, WrittenInvariant, WrittenTemplate};
 use flow_set::Flow;
 use host_net::Hosts;
 use std::alloc::{AllocError, Global};
 
 /// An invariant whose template and whose hosts are known.
 #[derive(Drop)]
-pub(crate) struct KnownInvariant<'a> {
-    pub(crate) template: Template,
+pub(crate) struct KnownInvariant<'w, 'a> {
+    pub(crate) template: Choice<'w, 'a>,
     pub(crate) assigns: Vec<Assign<'a>>,
 }
 
 /// The invariants by their templates and hosts, or None where one of these names is unknown.
-pub(crate) fn known_invariants<'a>(
+pub(crate) fn known_invariants<'w, 'a>(
     alloc: Global,
+    templates: &'w [WrittenTemplate<'a>],
     hosts: &Hosts,
     written: &[WrittenInvariant<'a>],
-) -> Result<Option<Vec<KnownInvariant<'a>>>, AllocError>
+) -> Result<Option<Vec<KnownInvariant<'w, 'a>>>, AllocError>
     ensures known { IfOk result (λ known. option_map (λ ks. map known_view ks.items) known
-        ≡ each (known_of hosts.now) (map invariant_view written.now)) }
+        ≡ each (known_of (map template_view templates.now) hosts.now) (map invariant_view written.now)) }
     ensures hosts { IfOk result (λ known. IfSome known (λ ks. All (λ k. All (λ a. a.host < length hosts.now) k.assigns.items) ks.items)) }
 {
     let mut known = Vec::new(alloc);
     for invariant in written {
-        let Some(one) = known_invariant(alloc, hosts, invariant)? else {
+        let Some(one) = known_invariant(alloc, templates, hosts, invariant)? else {
             return Ok(None);
         };
         known.push(one)?;
@@ -42,15 +44,17 @@ pub(crate) fn known_invariants<'a>(
 }
 
 #[tactic(auto, unfolding(crate::specs::WrittenNetwork::known_of))]
-fn known_invariant<'a>(
+fn known_invariant<'w, 'a>(
     alloc: Global,
+    templates: &'w [WrittenTemplate<'a>],
     hosts: &Hosts,
     written: &WrittenInvariant<'a>,
-) -> Result<Option<KnownInvariant<'a>>, AllocError>
-    ensures known { IfOk result (λ known. option_map known_view known ≡ known_of hosts.now (invariant_view written.now)) }
+) -> Result<Option<KnownInvariant<'w, 'a>>, AllocError>
+    ensures known { IfOk result (λ known. option_map known_view known
+        ≡ known_of (map template_view templates.now) hosts.now (invariant_view written.now)) }
     ensures hosts { IfOk result (λ known. IfSome known (λ k. All (λ a. a.host < length hosts.now) k.assigns.items)) }
 {
-    let Some(template) = Template::named(written.template) else {
+    let Some(template) = chosen(templates, written.template) else {
         return Ok(None);
     };
     let Some(assigns) = assigns_among(alloc, hosts, &written.assigns)? else {

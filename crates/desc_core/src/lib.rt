@@ -2,6 +2,7 @@
 //! invariants that have to hold. Here stands what it says, or the first condition that refuses it.
 #![tactic(auto)]
 
+mod choice;
 mod description;
 mod document;
 mod fault;
@@ -11,12 +12,15 @@ mod known;
 mod migration;
 mod names;
 mod network;
+mod own_table;
 mod services;
+mod templates;
 #[cfg(test)]
 mod tests;
 
 pub use desc_form::{Place, Refusal, Why};
 pub use description::{describe, describe_table};
+pub use document::read_table;
 pub use fault::{BYTE_LIMIT, DescFault};
 pub use migration::migrate;
 pub use net_core::Description;

@@ -3,13 +3,13 @@
 ghost use Rattle.std.specs.Prelude.{◌≡◌, ◌≢◌, Some, find, is_none, map, option_map, IfOk, IsTrue, None};
 ghost use Rattle.std.specs.List.{list_all};
 ghost use Rattle.std.specs.Str.{bytes_eq};
-ghost use Rattle.attr_core.specs.Templates.{template_named};
+ghost use Rattle.desc_core.specs.Choices.{chosen};
 ghost use Rattle.desc_core.specs.Parts.{name_conditions};
 ghost use Rattle.desc_core.specs.UseConditions.{duplicate_assign_of, undeclared_host};
 ghost use Rattle.text_core.specs.Firsts.{first_found, first_of, first_pair, numbered};
 ghost use Rattle.text_core.specs.FirstsView.{pair_seen};
 ghost use Rattle.desc_form.specs.Refusals.{refused, refused_by, refused_name};
-ghost use Rattle.desc_form.specs.WrittenView.{assign_view, invariant_view, written_view};
+ghost use Rattle.desc_form.specs.WrittenView.{assign_view, invariant_view, template_view, written_view};
 ghost use Rattle.desc_form.specs.declared.refusal.Place.TheVariants.{Assign, Invariant};
 ghost use Rattle.desc_form.specs.declared.refusal.Why.TheVariants.{DuplicateAssign, UndeclaredHost, UnknownTemplate};
 ghost use Rattle.desc_hosts.specs.HostConditions.{host_conditions};
@@ -18,8 +18,8 @@ ghost use Rattle.desc_hosts.specs.WrittenHosts.{network_hosts};
 ghost use Rattle.host_net.specs.Host.{host_named};
 ghost use Rattle.text_core.specs.Name.{is_name};
 
-use attr_core::Template;
-use desc_form::{Place, Refusal, Why, Written, WrittenAssign, WrittenInvariant};
+use crate::choice::chosen;
+use desc_form::{Place, Refusal, Why, Written, WrittenAssign, WrittenInvariant, WrittenTemplate};
 use desc_hosts::{Mention, used_names};
 use host_net::{Hosts, Name};
 use std::alloc::{AllocError, Global};
@@ -52,20 +52,23 @@ fn name_refusal(
     requires unrefused { first_of (host_conditions (written_view written.now)) ≡ None }
     ensures { IfOk result (λ refusal. refusal ≡ first_of (name_conditions (written_view written.now))) }
 {
-    let template = unknown_template(&written.invariants);
+    let template = unknown_template(&written.templates, &written.invariants);
     if template.is_some() {
         return Ok(template);
     }
     undeclared_host(alloc, hosts, written)
 }
 
-/// No template has the name.
-fn unknown_template(invariants: &[WrittenInvariant<'_>]) -> Option<Refusal>
+/// No template has the name, nor is one declared under it.
+fn unknown_template(
+    templates: &[WrittenTemplate<'_>],
+    invariants: &[WrittenInvariant<'_>],
+) -> Option<Refusal>
     ensures { result ≡ option_map (λ i. refused UnknownTemplate (Invariant i.number))
-        (find (λ i. is_none (template_named i.what.template)) (numbered (map invariant_view invariants.now))) }
+        (find (λ i. is_none (chosen (map template_view templates.now) i.what.template)) (numbered (map invariant_view invariants.now))) }
 {
     for (index, invariant) in invariants.iter().enumerate() {
-        if Template::named(invariant.template).is_none() {
+        if chosen(templates, invariant.template).is_none() {
             let place = Place::Invariant(index as u64 + 1);
             return Some(Refusal::at(Why::UnknownTemplate, place));
         }

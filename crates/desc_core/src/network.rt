@@ -18,6 +18,7 @@ use crate::invariants::{attribute_refusal, read_invariants};
 use crate::known::{KnownInvariant, found_flows, known_invariants};
 use crate::names::{duplicate_assign, unknown_name};
 use crate::services::{read_services, service_refusal};
+use crate::templates::template_refusal;
 use desc_form::{Refusal, Written};
 use desc_hosts::{host_refusal, read_hosts};
 use flow_set::Flow;
@@ -46,7 +47,8 @@ fn network_of_hosts(
     requires unrefused { first_of (host_conditions (written_view written.now)) ≡ None }
     ensures { Reads result (network_by_uses (written_view written.now)) }
 {
-    let Some(invariants) = known_invariants(alloc, &hosts, &written.invariants)? else {
+    let known = known_invariants(alloc, &written.templates, &hosts, &written.invariants)?;
+    let Some(invariants) = known else {
         return Err(DescFault::Refused(unknown_name(alloc, &hosts, written)?));
     };
     let Some(flows) = found_flows(alloc, &hosts, &written.flows)? else {
@@ -60,12 +62,13 @@ fn network_of_known(
     alloc: Global,
     hosts: Hosts,
     written: &Written<'_>,
-    invariants: &[KnownInvariant<'_>],
+    invariants: &[KnownInvariant<'_, '_>],
     flows: &[Flow],
 ) -> Result<Description, DescFault>
     requires hosts { hosts ≡ network_hosts (written_view written.now) }
     requires unrefused { first_of (host_conditions (written_view written.now)) ≡ None }
-    requires known { each (known_of hosts) (written_view written.now).invariants ≡ Some (map known_view invariants.now) }
+    requires known { each (known_of (written_view written.now).templates hosts) (written_view written.now).invariants
+        ≡ Some (map known_view invariants.now) }
     requires within { All (λ k. All (λ a. a.host < length hosts) k.assigns.items) invariants.now }
     requires found { each (ends_of hosts) (written_view written.now).flows ≡ Some flows.now }
     ensures { Reads result (network_by_uses (written_view written.now)) }
@@ -75,6 +78,9 @@ fn network_of_known(
     }
     let asked = asked_flows(alloc, hosts.count(), written.given, flows)?;
     if let Some(refusal) = service_refusal(&written.flows) {
+        return Err(DescFault::Refused(refusal));
+    }
+    if let Some(refusal) = template_refusal(written) {
         return Err(DescFault::Refused(refusal));
     }
     let services = read_services(alloc, flows, &written.flows)?;
@@ -95,7 +101,7 @@ fn use_refusal(
     alloc: Global,
     hosts: &Hosts,
     written: &Written<'_>,
-    invariants: &[KnownInvariant<'_>],
+    invariants: &[KnownInvariant<'_, '_>],
     flows: &[Flow],
 ) -> Result<Option<Refusal>, AllocError>
     ensures { IfOk result (λ refusal. refusal ≡ option_or (duplicate_assign (written_view written.now))

@@ -67,6 +67,42 @@ const NARROWED_REFUSED: [(&str, (u8, Place, u64, u64)); 3] = [
     ),
 ];
 
+/// A template is declared, and the hosts have its kinds red and blue.
+const DECLARED: &str = r#"topos = 2
+answers = "all"
+host = [{ name = "a", at = ["10.0.0.1"] }, { name = "b", rest = true }]
+template = [{ name = "colour", strategy = "access", kinds = ["red", "blue"], default = "blue", deny = [["red", "red"], ["blue", "red"]] }]
+invariant = [{ template = "colour", assign = [{ host = "a", kind = "red" }] }]
+"#;
+
+/// Templates and invariants beside the hosts `a` and `b`, and what refuses them.
+const TEMPLATES_REFUSED: [(&str, (u8, Place, u64, u64)); 6] = [
+    (
+        r#"template = [{ name = "c", strategy = "access", kinds = ["red", "blue"], default = "blue", deny = [["red", "red"]] }]"#,
+        (24, Place::Template(1), 1, 0),
+    ),
+    (
+        r#"template = [{ name = "sink", strategy = "access", kinds = ["red"], default = "red", deny = [] }]"#,
+        (23, Place::Template(1), 0, 0),
+    ),
+    (
+        r#"template = [{ name = "c", strategy = "access", kinds = ["red"], default = "red", deny = [] }, { name = "c", strategy = "access", kinds = ["red"], default = "red", deny = [] }]"#,
+        (23, Place::Template(2), 0, 0),
+    ),
+    (
+        r#"template = [{ name = "c", strategy = "access", kinds = ["red"], default = "red", deny = [["red"]] }]"#,
+        (5, Place::Template(1), 0, 0),
+    ),
+    (
+        "template = [{ name = \"c\", strategy = \"access\", kinds = [\"red\"], default = \"red\", deny = [] }]\ninvariant = [{ template = \"c\", assign = [{ host = \"a\", kind = \"blue\" }] }]",
+        (18, Place::Assign(1, 1), 0, 0),
+    ),
+    (
+        r#"invariant = [{ template = "c" }]"#,
+        (15, Place::Invariant(1), 0, 0),
+    ),
+];
+
 /// Flows and invariants beside the hosts `a` and `b`; the number, the place, the item and the other
 /// of what refuses them.
 const REFUSED: [(&str, (u8, Place, u64, u64)); 10] = [
@@ -225,5 +261,29 @@ fn a_policy_without_answers(rt: HostRuntime) -> Result<(), Fail> {
 fn a_description_is_migrated(rt: HostRuntime) -> Result<(), Fail> {
     let text = migrate(rt.alloc(), WHOLE.as_bytes())?;
     assert!(rt; text.as_slice() == MIGRATED.as_bytes());
+    Ok(())
+}
+
+#[test]
+fn templates_are_refused(rt: HostRuntime) -> Result<(), Fail> {
+    for (rest, told) in TEMPLATES_REFUSED {
+        let text = format!(in rt.alloc();
+            "topos = 2\nhost = [{{ name = \"a\", at = [\"10.0.0.1\"] }}, {{ name = \"b\", rest = true }}]\n{rest}"
+        )?;
+        assert_eq!(rt; refusal_of(rt.alloc(), text.as_bytes())?, Some(told));
+    }
+    Ok(())
+}
+
+#[test]
+fn a_declared_template_is_used(rt: HostRuntime) -> Result<(), Fail> {
+    let network = describe(rt.alloc(), DECLARED.as_bytes())?;
+    let policy = policy_of(rt.alloc(), &network)?;
+    assert_eq!(rt; policy.permitted().len(), 1);
+    assert_eq!(rt;
+        policy.permitted().at_or_after(0, 0),
+        Some(Flow { from: 0, to: 1 })
+    );
+    assert_eq!(rt; policy.stateful().len(), 1);
     Ok(())
 }

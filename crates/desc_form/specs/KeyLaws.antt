@@ -1,14 +1,18 @@
 -- What the tests of a key say of what stands there, and the other way.
-use Rattle.std.proofs.Common.{◌≡◌, ℕ, ℤ, pos, Bool, true, false, not, ◌||◌, List, [], ◌∷◌, Option, Some, None, refl, ap, sym, subst}
+use Rattle.std.proofs.Common.{◌≡◌, ℕ, ℤ, pos, Bool, true, false, not, ◌||◌, List, [], ◌∷◌, Option, Some, None, Ordering, Less, Equal, Greater, nat_cmp, refl, ap, ◌∙◌, sym, subst}
+use Rattle.std.proofs.lemmas.Bool.{and_parts, false≢true}
+use Rattle.std.proofs.lemmas.Map.Lookups.{exact_bytes}
 use Rattle.std.proofs.lemmas.Slice.Eq.{bytes_eq-Decides}
 use Rattle.std.specs.Prelude.{codes, is_none, filter_map, if◌then◌else◌, is_some, unwrap_or, option_and_then, IsSomeAnd, MatchOption}
-use Rattle.std.specs.List.{AllZip, list_all}
+use Rattle.std.specs.Cmp.Lexicographic.{slice_cmp}
+use Rattle.std.specs.List.{AllZip, list_all, list_any}
 use Rattle.std.specs.Option.{option_map_or}
+use Rattle.std.specs.Ordering.{match_ordering}
 use Rattle.std.specs.Str.{bytes_eq}
-use Rattle.toml.specs.Data.{Data, string, integer, boolean, array, as_bool, as_integer, as_str}
+use Rattle.toml.specs.Data.{Data, string, integer, boolean, array, Members, no_members, member, as_bool, as_integer, as_str, get_member}
 use Rattle.desc_form.specs.WrittenForm.{IsAnswers, IsArray, IsBoolean, IsInteger, IsText}
 use Rattle.table_core.specs.Keys.{is_one_of, is_text}
-use Rattle.table_core.specs.Tables.{elements, elements_of}
+use Rattle.table_core.specs.Tables.{all_keys, elements, elements_of, has_only, keys_in}
 
 -- what the tests of a key say, by what stands there
 pub text_stands : (o : Option Data) → is_some o ≡ true → (not (is_some o) || is_some (option_and_then as_str o)) ≡ true
@@ -50,7 +54,7 @@ answers_stand None suits = refl
 answers_stand (Some (string s)) suits = ap string (answers_word s (bytes_eq s (codes "none")) refl suits)
 answers_stand (Some _) suits = cc
 
-nothing_zipped : {A : Type 0} (Is : Data → A → Type 0) (xs : List A) → AllZip Is [] xs → xs ≡ []
+pub nothing_zipped : {A : Type 0} (Is : Data → A → Type 0) (xs : List A) → AllZip Is [] xs → xs ≡ []
 nothing_zipped Is [] zipped = refl
 nothing_zipped Is (x ∷ xs) zipped = absurd zipped
 
@@ -79,6 +83,40 @@ unfolding elements_of
 texts_stand_or None suits = refl
 texts_stand_or (Some (array ds)) suits = (ds, refl, all_texts (elements ds) suits)
 texts_stand_or (Some _) suits = cc
+
+-- what has to be there is there
+pub there : (P : Type 0) (Q : Data → Type 0) (o : Option Data) → is_some o ≡ true → MatchOption o P Q → IsSomeAnd o Q
+there P Q None is stands = cc
+there P Q (Some d) is stands = stands
+
+pub there_or : (P : Type 0) (Q : Data → Type 0) (o : Option Data) → IsSomeAnd o Q → MatchOption o P Q
+there_or P Q None stands = absurd stands
+there_or P Q (Some d) stands = stands
+
+pub some_there : (Q : Data → Type 0) (o : Option Data) → IsSomeAnd o Q → is_some o ≡ true
+some_there Q None stands = absurd stands
+some_there Q (Some d) stands = refl
+
+-- nothing stands at a key that is none of those that the table has
+pub absent_by : (o : Ordering) (keys : List (List ℕ)) (key l : List ℕ) (d : Data) (ms : Members) → slice_cmp nat_cmp key l ≡ o
+    → list_any (bytes_eq key) keys ≡ false → list_any (bytes_eq l) keys ≡ true → get_member key ms ≡ None
+    → match_ordering o (get_member key ms) (Some d) (get_member key ms) ≡ None
+absent_by Less keys key l d ms order out here behind = behind
+absent_by Greater keys key l d ms order out here behind = behind
+absent_by Equal keys key l d ms order out here behind =
+    absurd (false≢true (sym out ∙ ap (λ k. list_any (bytes_eq k) keys) (exact_bytes key l order) ∙ here))
+
+absent_in : (keys : List (List ℕ)) (key : List ℕ) (ms : Members) → list_any (bytes_eq key) keys ≡ false
+    → all_keys (λ k. list_any (bytes_eq k) keys) ms ≡ true → get_member key ms ≡ None
+absent_in keys key no_members out only = refl
+absent_in keys key (member l d ms) out only =
+    let (here, behind) = and_parts (list_any (bytes_eq l) keys) (list_all (λ k. list_any (bytes_eq k) keys) (keys_in ms)) only in
+    absent_by (slice_cmp nat_cmp key l) keys key l d ms refl out here (absent_in keys key ms out behind)
+
+pub absent : (keys : List (List ℕ)) (key : List ℕ) (ms : Members) → list_any (bytes_eq key) keys ≡ false → has_only keys ms ≡ true
+    → get_member key ms ≡ None
+unfolding has_only
+absent keys key ms out only = absent_in keys key ms out only
 
 -- the other way: what stands at a key passes its tests
 pub text_suits : (o : Option Data) (x : List ℕ) → IsSomeAnd o (λ d. IsText d x)

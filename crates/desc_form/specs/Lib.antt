@@ -2,6 +2,7 @@ pub mod FlowLaws
 pub mod FormConditions
 pub mod KeyLaws
 pub mod Keys
+pub mod PairLaws
 pub mod Places
 pub mod PlacesLaws
 pub mod Refusals
@@ -12,4 +13,5 @@ pub mod WrittenFlow
 pub mod WrittenForm
 pub mod WrittenLaws
 pub mod WrittenOnceLaws
+pub mod WrittenTemplate
 pub mod WrittenView

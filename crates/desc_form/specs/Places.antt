@@ -1,16 +1,17 @@
 -- All places of a description in their order, and the refusals 3 to 5: keys that are unknown, that are missing, and values of a
 -- wrong type (the description's format, docs/FORMATS.md).
-use Rattle.std.specs.Prelude.{ℕ, ℤ, pos, Bool, true, false, not, ◌||◌, ◌==◌, List, [], ◌∷◌, ◌++◌, map, flat_map, find, length, Option, option_map, codes, unwrap_or, option_and_then}
+use Rattle.std.specs.Prelude.{ℕ, ℤ, Bool, true, false, not, ◌||◌, ◌==◌, List, [], ◌∷◌, ◌++◌, map, flat_map, find, length, Option, option_map, codes, unwrap_or, option_and_then, is_some}
+use Rattle.std.specs.List.{list_all}
 use Rattle.std.specs.Option.{option_map_or}
-use Rattle.std.specs.Ordering.{int_eq}
 use Rattle.toml.specs.Data.{Data, table, Members, as_table}
 use Rattle.desc_form.specs.declared.refusal.Place.{Place}
-use Rattle.desc_form.specs.declared.refusal.Place.TheVariants.{Document, Host, Invariant, Assign, FlowAt}
+use Rattle.desc_form.specs.declared.refusal.Place.TheVariants.{Document, Host, Invariant, Assign, FlowAt, Template}
 use Rattle.desc_form.specs.declared.refusal.Refusal.{Refusal}
 use Rattle.desc_form.specs.declared.refusal.Why.TheVariants.{UnknownKey, MissingKey, WrongType}
 use Rattle.text_core.specs.Firsts.{Numbered, numbered}
 use Rattle.desc_form.specs.WrittenFlow.{WrittenFlow, flow_written}
-use Rattle.desc_form.specs.Keys.{keys_of, version_said}
+use Rattle.desc_form.specs.WrittenTemplate.{pair_written}
+use Rattle.desc_form.specs.Keys.{keys_of, says_second, version_said}
 use Rattle.desc_form.specs.Refusals.{refused}
 use Rattle.table_core.specs.Keys.{all_suit, has_only_keys, lacks_key}
 use Rattle.table_core.specs.Tables.{list_at}
@@ -34,13 +35,14 @@ invariant_spots d =
     record { place = Invariant d.number; value = d.what }
     ∷ map (λ a. record { place = Assign d.number a.number; value = a.what }) (numbered (assigns_of d.what))
 
--- the document, then the hosts, then each invariant and its assigns, then the flows
+-- the document, then the hosts, then each invariant and its assigns, then the flows, then the templates
 unfoldable pub spots : Members → List Spot
 spots document =
     record { place = Document; value = table document }
     ∷ (map (λ h. record { place = Host h.number; value = h.what }) (numbered (listed (codes "host") document))
     ++ (flat_map invariant_spots (numbered (listed (codes "invariant") document))
-    ++ map (λ f. record { place = FlowAt f.number; value = f.what }) (numbered (listed (codes "flow") document))))
+    ++ (map (λ f. record { place = FlowAt f.number; value = f.what }) (numbered (listed (codes "flow") document))
+    ++ map (λ t. record { place = Template t.number; value = t.what }) (numbered (listed (codes "template") document)))))
 
 -- the first place where a condition holds of what stands there
 unfoldable pub first_place : (Place → Data → Bool) → Members → Option Place
@@ -70,15 +72,21 @@ has_missing_key said place d = option_map_or (lacks_needed said place) (as_table
 
 -- flows may have services: the document says version 2
 abbrev pub may_narrow : Option ℤ → Bool
-may_narrow said = option_map_or (λ version. int_eq version (pos 2)) said false
+may_narrow said = says_second said
 
 -- a flow is as the version has it: it has no services, or it may have some
 abbrev pub fits_version : Option ℤ → WrittenFlow → Bool
 fits_version said f = (length f.services == 0) || may_narrow said
 
--- 5: a flow is an array of two texts, or of more in version 2; at any other place stands a table, in which all is of its kind
+-- what is denied is pairs
+abbrev pub denies_pairs : Members → Bool
+denies_pairs ms = list_all (λ d. is_some (pair_written d)) (listed (codes "deny") ms)
+
+-- 5: a flow is an array of two texts, or of more in version 2; at any other place stands a table, in which all is of its kind, and in
+-- that of a template the array `deny` is one of arrays of two texts
 unfoldable pub has_wrong_type : Option ℤ → Place → Data → Bool
 has_wrong_type said (FlowAt k) d = not (option_map_or (fits_version said) (flow_written d) false)
+has_wrong_type said (Template k) d = option_map_or (λ ms. has_unsuited said (Template k) ms || not (denies_pairs ms)) (as_table d) true
 has_wrong_type said place d = option_map_or (has_unsuited said place) (as_table d) true
 
 -- 3

@@ -7,7 +7,7 @@ use Rattle.std.specs.Option.{option_or}
 use Rattle.toml.specs.Data.{Data, table, Members}
 use Rattle.text_core.specs.FirstsLaws.{none_mapped}
 use Rattle.desc_form.specs.declared.refusal.Place.{Place}
-use Rattle.desc_form.specs.declared.refusal.Place.TheVariants.{Document, Host, Invariant, Assign, FlowAt}
+use Rattle.desc_form.specs.declared.refusal.Place.TheVariants.{Document, Host, Invariant, Assign, FlowAt, Template}
 use Rattle.text_core.specs.Firsts.{Numbered, numbered_from, numbered, where_holds}
 use Rattle.desc_form.specs.Places.{Spot, invariant_spots, spots, first_place, listed, assigns_of}
 use Rattle.desc_form.specs.Walking.{first_at, first_by_parts, first_of_invariant, first_of_invariants}
@@ -62,22 +62,27 @@ in_invariants holds k (d ∷ ds) =
     ∙ ap (λ o. option_or o (place_of holds (flat_map invariant_spots (numbered_from (k + 1) ds)))) (in_invariant holds k d)
     ∙ ap (option_or (first_of_invariant holds k d)) (in_invariants holds (k + 1) ds)
 
--- the document, then the hosts, then the invariants, then the flows
+-- the document, then the hosts, then the invariants, then the flows, then the templates
 pub by_parts : (holds : Place → Data → Bool) (ms : Members) → first_by_parts holds ms ≡ first_place holds ms
 unfolding first_place spots
 by_parts holds ms =
     let hosts = map (λ (n : Numbered Data). spot (Host n.number) n.what) (numbered (listed (codes "host") ms)) in
     let invariants = flat_map invariant_spots (numbered (listed (codes "invariant") ms)) in
     let flows = map (λ (n : Numbered Data). spot (FlowAt n.number) n.what) (numbered (listed (codes "flow") ms)) in
+    let templates = map (λ (n : Numbered Data). spot (Template n.number) n.what) (numbered (listed (codes "template") ms)) in
+    let behind = flows ++ templates in
     sym (
-    first_spot holds (spot Document (table ms)) (hosts ++ (invariants ++ flows))
+    first_spot holds (spot Document (table ms)) (hosts ++ (invariants ++ behind))
     ∙ ap (option_or (where_holds (holds Document (table ms)) Document))
-    (spots_append holds hosts (invariants ++ flows)
-    ∙ ap (λ o. option_or o (place_of holds (invariants ++ flows))) (in_list holds Host 1 (listed (codes "host") ms))
+    (spots_append holds hosts (invariants ++ behind)
+    ∙ ap (λ o. option_or o (place_of holds (invariants ++ behind))) (in_list holds Host 1 (listed (codes "host") ms))
     ∙ ap (option_or (first_at holds Host 1 (listed (codes "host") ms)))
-    (spots_append holds invariants flows
-    ∙ ap (λ o. option_or o (place_of holds flows)) (in_invariants holds 1 (listed (codes "invariant") ms))
-    ∙ ap (option_or (first_of_invariants holds 1 (listed (codes "invariant") ms))) (in_list holds FlowAt 1 (listed (codes "flow") ms)))))
+    (spots_append holds invariants behind
+    ∙ ap (λ o. option_or o (place_of holds behind)) (in_invariants holds 1 (listed (codes "invariant") ms))
+    ∙ ap (option_or (first_of_invariants holds 1 (listed (codes "invariant") ms)))
+    (spots_append holds flows templates
+    ∙ ap (λ o. option_or o (place_of holds templates)) (in_list holds FlowAt 1 (listed (codes "flow") ms))
+    ∙ ap (option_or (first_at holds FlowAt 1 (listed (codes "flow") ms))) (in_list holds Template 1 (listed (codes "template") ms))))))
 
 cond_none : {A : Type 0} (b : Bool) (x : A) (o : Option A) → cond b (Some x) o ≡ None → (b ≡ false) × (o ≡ None)
 cond_none true x o found = cc

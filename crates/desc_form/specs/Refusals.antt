@@ -4,7 +4,7 @@ use Rattle.std.specs.Prelude.{ℕ, List, [], codes}
 use Rattle.desc_form.specs.declared.refusal.Place.{Place}
 use Rattle.desc_form.specs.declared.refusal.Refusal.{Refusal}
 use Rattle.desc_form.specs.declared.refusal.Why.{Why}
-use Rattle.desc_form.specs.declared.refusal.Why.TheVariants.{TooLong, NotToml, UnknownKey, MissingKey, WrongType, BadVersion, TooMany, BadName, DuplicateHost, BadPrefix, HostBits, NoAddress, TwoRests, Overlap, UnknownTemplate, UndeclaredHost, DuplicateAssign, BadAttribute, SelfFlow, DuplicateFlow, BadService, ManyServices}
+use Rattle.desc_form.specs.declared.refusal.Why.TheVariants.{TooLong, NotToml, UnknownKey, MissingKey, WrongType, BadVersion, TooMany, BadName, DuplicateHost, BadPrefix, HostBits, NoAddress, TwoRests, Overlap, UnknownTemplate, UndeclaredHost, DuplicateAssign, BadAttribute, SelfFlow, DuplicateFlow, BadService, ManyServices, BadTemplate, NotLawful}
 
 -- a refusal that tells a place alone
 abbrev pub refused : Why → Place → Refusal
@@ -49,6 +49,8 @@ number SelfFlow = 19
 number DuplicateFlow = 20
 number BadService = 21
 number ManyServices = 22
+number BadTemplate = 23
+number NotLawful = 24
 
 abbrev pub name : Why → List ℕ
 name TooLong = codes "TooLong"
@@ -73,3 +75,5 @@ name SelfFlow = codes "SelfFlow"
 name DuplicateFlow = codes "DuplicateFlow"
 name BadService = codes "BadService"
 name ManyServices = codes "ManyServices"
+name BadTemplate = codes "BadTemplate"
+name NotLawful = codes "NotLawful"

@@ -1,11 +1,13 @@
 -- A description of the right form is shallow: it has six arrays and tables one in another at most, and in them no date, no time and
 -- no float, if that is so of the tables of its assigns. Their further keys are left to the templates.
-use Rattle.std.proofs.Common.{◌≡◌, ℕ, suc, ◌≤◌, true, false, List, [], ◌∷◌, Option, Some, None, refl, sym, subst, arith}
+use Rattle.std.specs.Ordering.{int_eq}
+use Rattle.std.proofs.Common.{◌≡◌, ℕ, suc, pos, ◌≤◌, Bool, true, false, List, [], ◌∷◌, Option, Some, None, refl, sym, subst, arith}
 use Rattle.std.specs.List.{AllByRecursion, AllZip}
 use Rattle.std.specs.Prelude.{codes, IsSomeAnd, MatchOption}
 use Rattle.toml.specs.Data.{Data, table, Members, get_member, is_sorted, members_are_sorted}
 use Rattle.desc_form.specs.Written.{Written, WrittenAssign, WrittenHost, WrittenInvariant}
-use Rattle.desc_form.specs.WrittenForm.{IsAnswers, IsArray, IsAssign, IsBoolean, IsFlow, IsHost, IsInteger, IsInvariant, IsTable, IsText, IsWritten, Stands, StandsOr}
+use Rattle.desc_form.specs.WrittenForm.{IsAnswers, IsArray, IsAssign, IsBoolean, IsFlow, IsHost, IsInteger, IsInvariant, IsPair, IsTable, IsTemplate, IsText, IsWritten, Stands, StandsOr, document_names, template_names}
+use Rattle.desc_form.specs.WrittenTemplate.{WrittenPair, WrittenTemplate}
 use Rattle.table_core.specs.Shallow.{IsShallow}
 use Rattle.table_core.specs.ShallowLaws.{IsShallowAt, array_shallow, table_shallow}
 use Rattle.table_core.specs.Tables.{elements}
@@ -129,11 +131,37 @@ invariants_by (Some e) xs stands all d is sorted =
     arrays_with (IsTable IsInvariant) AreShallowAssigns 4 invariants_are d xs sorted
     (subst (λ (f : Data). IsArray (IsTable IsInvariant) f xs) same stands) all
 
+pair_is : AreShallow IsPair 1
+pair_is d p sorted is = arrays_are IsText 0 texts_are d (p.sender ∷ p.receiver ∷ []) sorted is
+
+template_is : (ms : Members) (t : WrittenTemplate) → members_are_sorted ms ≡ true → IsTemplate ms t → IsShallow 3 (table ms)
+template_is ms t sorted is =
+    table_shallow 2 ms (codes "name" ∷ codes "strategy" ∷ codes "kinds" ∷ codes "default" ∷ codes "deny" ∷ []) sorted is.only (
+      at_key IsText 0 2 (omega arith) texts_are ms (codes "name") t.name is.name,
+      (
+        at_key IsText 0 2 (omega arith) texts_are ms (codes "strategy") t.strategy is.strategy,
+        (
+          at_key (IsArray IsText) 1 2 (omega arith) (arrays_are IsText 0 texts_are) ms (codes "kinds") t.kinds is.kinds,
+          (
+            at_key IsText 0 2 (omega arith) texts_are ms (codes "default") t.default is.default,
+            (at_key (IsArray IsPair) 2 2 (omega arith) (arrays_are IsPair 1 pair_is) ms (codes "deny") t.deny is.deny, tt),
+          ),
+        ),
+      ),
+    )
+
+-- the key that only version 2 has
+template_at : (b : Bool) (ms : Members) (ts : List WrittenTemplate) → StandsOr [] (IsArray (IsTable IsTemplate)) (codes "template") ms ts
+    → AllByRecursion (IsShallowAt 5 ms) (template_names b)
+template_at true ms ts stands =
+    (at_or (IsArray (IsTable IsTemplate)) 4 5 (omega arith) (arrays_are (IsTable IsTemplate) 3 (tables_are IsTemplate 3 template_is)) ms (codes "template") [] ts stands, tt)
+template_at false ms ts stands = tt
+
 -- the document
 pub written_shallow : (ms : Members) (w : Written) → members_are_sorted ms ≡ true → IsWritten ms w → AllByRecursion AreShallowAssigns w.invariants
     → IsShallow 6 (table ms)
 written_shallow ms w sorted is all =
-    table_shallow 5 ms (codes "topos" ∷ codes "answers" ∷ codes "host" ∷ codes "invariant" ∷ codes "flow" ∷ []) sorted is.only (
+    table_shallow 5 ms (document_names w.version) sorted is.only (
       at_key IsInteger 0 5 (omega arith) integers_are ms (codes "topos") w.version is.version,
       (
         at_or IsAnswers 0 5 (omega arith) answers_are ms (codes "answers") true w.answers is.answers,
@@ -141,7 +169,7 @@ written_shallow ms w sorted is all =
           at_key (IsArray (IsTable IsHost)) 3 5 (omega arith) (arrays_are (IsTable IsHost) 2 (tables_are IsHost 2 host_is)) ms (codes "host") w.hosts is.hosts,
           (
             invariants_by (get_member (codes "invariant") ms) w.invariants is.invariants all,
-            (at_or (IsArray IsFlow) 2 5 (omega arith) (arrays_are IsFlow 1 flow_is) ms (codes "flow") [] w.flows is.flows, tt),
+            (at_or (IsArray IsFlow) 2 5 (omega arith) (arrays_are IsFlow 1 flow_is) ms (codes "flow") [] w.flows is.flows, template_at (int_eq w.version (pos 2)) ms w.templates is.templates),
           ),
         ),
       ),

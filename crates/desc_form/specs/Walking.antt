@@ -7,9 +7,9 @@ use Rattle.desc_form.specs.declared.places.FormCondition.{FormCondition}
 use Rattle.desc_form.specs.declared.places.FormCondition.TheVariants as condition
 use Rattle.desc_form.specs.declared.places.FormTest.{FormTest}
 use Rattle.desc_form.specs.declared.places.Row.{Row}
-use Rattle.desc_form.specs.declared.places.Row.TheVariants.{Hosts, Assigns, Flows}
+use Rattle.desc_form.specs.declared.places.Row.TheVariants.{Hosts, Assigns, Flows, Templates}
 use Rattle.desc_form.specs.declared.refusal.Place.{Place}
-use Rattle.desc_form.specs.declared.refusal.Place.TheVariants.{Document, Host, Invariant, Assign, FlowAt}
+use Rattle.desc_form.specs.declared.refusal.Place.TheVariants.{Document, Host, Invariant, Assign, FlowAt, Template}
 use Rattle.text_core.specs.Firsts.{where_holds}
 use Rattle.desc_form.specs.Places.{assigns_of, has_unknown_key, has_missing_key, has_wrong_type, listed}
 
@@ -27,6 +27,7 @@ abbrev pub place_in : Row → ℕ → Place
 place_in Hosts k = Host k
 place_in (Assigns invariant) k = Assign invariant k
 place_in Flows k = FlowAt k
+place_in Templates k = Template k
 
 -- in a list of places, from number k on
 abbrev pub first_at : (Place → Data → Bool) → (ℕ → Place) → ℕ → List Data → Option Place
@@ -42,9 +43,10 @@ abbrev pub first_of_invariants : (Place → Data → Bool) → ℕ → List Data
 first_of_invariants holds k [] = None
 first_of_invariants holds k (d ∷ ds) = option_or (first_of_invariant holds k d) (first_of_invariants holds (k + 1) ds)
 
--- at the document, then the hosts, then the invariants, then the flows
+-- at the document, then the hosts, then the invariants, then the flows, then the templates
 abbrev pub first_by_parts : (Place → Data → Bool) → Members → Option Place
 first_by_parts holds ms =
     option_or (where_holds (holds Document (table ms)) Document)
     (option_or (first_at holds Host 1 (listed (codes "host") ms))
-    (option_or (first_of_invariants holds 1 (listed (codes "invariant") ms)) (first_at holds FlowAt 1 (listed (codes "flow") ms))))
+    (option_or (first_of_invariants holds 1 (listed (codes "invariant") ms))
+    (option_or (first_at holds FlowAt 1 (listed (codes "flow") ms)) (first_at holds Template 1 (listed (codes "template") ms)))))

@@ -6,6 +6,7 @@ use Rattle.std.specs.Str.{bytes_eq}
 use Rattle.toml.specs.Data.{Members, as_str, as_table}
 use Rattle.desc_form.specs.Places.{listed}
 use Rattle.desc_form.specs.WrittenFlow.{WrittenFlow, flow_written}
+use Rattle.desc_form.specs.WrittenTemplate.{WrittenTemplate, pair_written}
 use Rattle.table_core.specs.Tables.{boolean_at, has_key, integer_at, text_at}
 
 pub record WrittenHost : Type 0 where
@@ -30,6 +31,7 @@ pub record Written : Type 0 where
   pub invariants : List WrittenInvariant
   pub given : Bool
   pub flows : List WrittenFlow
+  pub templates : List WrittenTemplate
 
 -- the text at a key
 abbrev pub text_in : List ℕ → Members → List ℕ
@@ -51,6 +53,15 @@ invariant_written ms = record {
   assigns = map assign_written (filter_map as_table (listed (codes "assign") ms));
 }
 
+unfoldable pub template_written : Members → WrittenTemplate
+template_written ms = record {
+  name = text_in (codes "name") ms;
+  strategy = text_in (codes "strategy") ms;
+  kinds = filter_map as_str (listed (codes "kinds") ms);
+  default = text_in (codes "default") ms;
+  deny = filter_map pair_written (listed (codes "deny") ms);
+}
+
 -- answers are given unless the description says none
 unfoldable pub written : Members → Written
 written ms = record {
@@ -60,4 +71,5 @@ written ms = record {
   invariants = map invariant_written (filter_map as_table (listed (codes "invariant") ms));
   given = has_key (codes "flow") ms;
   flows = filter_map flow_written (listed (codes "flow") ms);
+  templates = map template_written (filter_map as_table (listed (codes "template") ms));
 }

@@ -2,9 +2,11 @@
 -- record of its texts says of it.
 use Rattle.std.specs.Prelude.{◌≡◌, ◌≢◌, ℕ, ℤ, pos, Bool, true, false, if◌then◌else◌, List, [], ◌∷◌, codes, is_some, IsTrue, IsSomeAnd, MatchOption}
 use Rattle.std.specs.List.{All, AllZip}
+use Rattle.std.specs.Ordering.{int_eq}
 use Rattle.toml.specs.Data.{Data, string, integer, boolean, array, table, Items, Members, get_member}
 use Rattle.desc_form.specs.Written.{Written, WrittenAssign, WrittenHost, WrittenInvariant}
 use Rattle.desc_form.specs.WrittenFlow.{WrittenFlow}
+use Rattle.desc_form.specs.WrittenTemplate.{WrittenPair, WrittenTemplate}
 use Rattle.table_core.specs.Tables.{elements, has_only}
 
 -- values by their type
@@ -24,6 +26,10 @@ IsAnswers d answers = d ≡ string (if answers then codes "all" else codes "none
 -- an array: each of its elements is what the list has in its place
 abbrev pub IsArray : {A : Type 0} → (Data → A → Type 0) → Data → List A → Type 0
 IsArray Is d xs = (ds : Items) × (d ≡ array ds) × AllZip Is (elements ds) xs
+
+-- an array of two texts: the kinds of a sender and a receiver
+abbrev pub IsPair : Data → WrittenPair → Type 0
+IsPair d pair = IsArray IsText d (pair.sender ∷ pair.receiver ∷ [])
 
 -- an array of texts: two names, and the services behind them
 abbrev pub IsFlow : Data → WrittenFlow → Type 0
@@ -58,9 +64,26 @@ pub record IsInvariant (ms : Members) (i : WrittenInvariant) : Type 0 where
   pub template : Stands IsText (codes "template") ms i.template
   pub assigns : StandsOr [] (IsArray (IsTable IsAssign)) (codes "assign") ms i.assigns
 
--- the document; only version 2 has flows with services
+-- an element of `template`
+pub record IsTemplate (ms : Members) (t : WrittenTemplate) : Type 0 where
+  pub only : IsTrue (has_only (codes "name" ∷ codes "strategy" ∷ codes "kinds" ∷ codes "default" ∷ codes "deny" ∷ []) ms)
+  pub name : Stands IsText (codes "name") ms t.name
+  pub strategy : Stands IsText (codes "strategy") ms t.strategy
+  pub kinds : Stands (IsArray IsText) (codes "kinds") ms t.kinds
+  pub default : Stands IsText (codes "default") ms t.default
+  pub deny : Stands (IsArray IsPair) (codes "deny") ms t.deny
+
+-- the names of the keys of a document of a version; only version 2 has templates
+abbrev pub template_names : Bool → List (List ℕ)
+template_names second = if second then codes "template" ∷ [] else []
+
+abbrev pub document_names : ℤ → List (List ℕ)
+document_names version =
+    codes "topos" ∷ codes "answers" ∷ codes "host" ∷ codes "invariant" ∷ codes "flow" ∷ template_names (int_eq version (pos 2))
+
+-- the document; only version 2 has templates, and flows with services
 pub record IsWritten (ms : Members) (w : Written) : Type 0 where
-  pub only : IsTrue (has_only (codes "topos" ∷ codes "answers" ∷ codes "host" ∷ codes "invariant" ∷ codes "flow" ∷ []) ms)
+  pub only : IsTrue (has_only (document_names w.version) ms)
   pub version : Stands IsInteger (codes "topos") ms w.version
   pub answers : StandsOr true IsAnswers (codes "answers") ms w.answers
   pub hosts : Stands (IsArray (IsTable IsHost)) (codes "host") ms w.hosts
@@ -68,6 +91,7 @@ pub record IsWritten (ms : Members) (w : Written) : Type 0 where
   pub given : w.given ≡ is_some (get_member (codes "flow") ms)
   pub flows : StandsOr [] (IsArray IsFlow) (codes "flow") ms w.flows
   pub whole : w.version ≢ pos 2 → All (λ f. f.services ≡ []) w.flows
+  pub templates : StandsOr [] (IsArray (IsTable IsTemplate)) (codes "template") ms w.templates
 
 -- the description is of the right form: some record says what is written in it
 abbrev pub IsFormed : Members → Type 0

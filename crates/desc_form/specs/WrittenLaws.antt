@@ -1,29 +1,33 @@
 -- A description is of the right form exactly where a record says what is written in it, and then the record that is read says it: nothing
 -- is passed over.
-use Rattle.std.proofs.Common.{◌≡◌, ◌↔◌, ℕ, ℤ, ◌+◌, Bool, true, false, not, ◌||◌, List, [], ◌∷◌, map, Option, Some, None, refl, ◌∙◌, sym, subst}
+use Rattle.std.proofs.Common.{◌≡◌, ◌↔◌, ℕ, ℤ, pos, ◌+◌, Bool, true, false, not, ◌&&◌, ◌||◌, List, [], ◌∷◌, ◌++◌, append-nil, map, Option, Some, None, refl, ap, ◌∙◌, sym, subst}
 use Rattle.std.proofs.lemmas.Bool.{and_parts, or_parts, not-false}
 use Rattle.std.specs.Cmp.{first_so, second_so}
 use Rattle.std.specs.Cmp.Derive.{both_true}
-use Rattle.std.specs.Prelude.{codes, filter_map}
-use Rattle.std.specs.List.{AllZip, cons_option, list_all}
+use Rattle.std.specs.Prelude.{codes, filter_map, is_some, MatchOption}
+use Rattle.std.specs.List.{AllZip, cons_option, list_all, list_any}
+use Rattle.std.specs.Str.{bytes_eq}
 use Rattle.std.specs.Option.{option_map_or, option_or}
-use Rattle.toml.specs.Data.{Data, array, table, Members, as_table, get_member}
+use Rattle.std.specs.Ordering.{int_eq}
+use Rattle.toml.specs.Data.{Data, array, table, Members, as_str, as_table, get_member}
 use Rattle.desc_form.specs.PlacesLaws.{by_parts, nowhere_both, nowhere_either}
 use Rattle.desc_form.specs.declared.refusal.Place.{Place}
-use Rattle.desc_form.specs.declared.refusal.Place.TheVariants.{Document, Host, Invariant, Assign, FlowAt}
+use Rattle.desc_form.specs.declared.refusal.Place.TheVariants.{Document, Host, Invariant, Assign, FlowAt, Template}
 use Rattle.text_core.specs.Firsts.{first_of, where_holds}
 use Rattle.text_core.specs.FirstsLaws.{holds_not, neither, none_mapped}
 use Rattle.desc_form.specs.FlowLaws.{fit_where, flow_read, flow_says, said_version, whole_where}
 use Rattle.desc_form.specs.FormConditions.{form_conditions}
-use Rattle.desc_form.specs.KeyLaws.{answers_stand, answers_suit, array_needed, array_stands, array_stands_or, array_suits, array_zips, boolean_stands, boolean_suits, integer_stands, integer_suits, text_stands, text_suits, texts_stand_or, texts_suit}
-use Rattle.desc_form.specs.Keys.{keys_of, version_said}
-use Rattle.desc_form.specs.Places.{assigns_of, fits_version, has_other_key, has_unknown_key, has_missing_key, has_unsuited, has_wrong_type, lacks_needed, listed, missing_key, unknown_key, wrong_type}
+use Rattle.desc_form.specs.KeyLaws.{answers_stand, answers_suit, array_needed, array_stands, array_stands_or, array_suits, array_zips, boolean_stands, boolean_suits, integer_stands, integer_suits, absent, nothing_zipped, some_there, text_stands, text_suits, texts_stand_or, texts_suit, there, there_or}
+use Rattle.desc_form.specs.Keys.{keys_of, says_second, template_keys, version_said}
+use Rattle.desc_form.specs.PairLaws.{pairs_read, pairs_say}
+use Rattle.desc_form.specs.Places.{assigns_of, denies_pairs, fits_version, has_other_key, has_unknown_key, has_missing_key, has_unsuited, has_wrong_type, lacks_needed, listed, missing_key, unknown_key, wrong_type}
 use Rattle.desc_form.specs.Walking.{first_at, first_by_parts, first_of_invariant, first_of_invariants}
-use Rattle.desc_form.specs.Written.{Written, WrittenAssign, WrittenHost, WrittenInvariant, assign_written, host_written, invariant_written, written}
+use Rattle.desc_form.specs.Written.{Written, WrittenAssign, WrittenHost, WrittenInvariant, assign_written, host_written, invariant_written, template_written, written}
 use Rattle.desc_form.specs.WrittenFlow.{WrittenFlow, flow_written}
-use Rattle.desc_form.specs.WrittenForm.{IsAssign, IsFlow, IsFormed, IsHost, IsInvariant, IsTable, IsWritten}
-use Rattle.table_core.specs.Keys.{all_suit, has_only_keys, lacks_key, suits_in}
-use Rattle.table_core.specs.Tables.{boolean_at, has_key, integer_at, list_at, text_at}
+use Rattle.desc_form.specs.WrittenTemplate.{WrittenTemplate, pair_written}
+use Rattle.desc_form.specs.WrittenForm.{IsAssign, IsFlow, IsFormed, IsHost, IsInvariant, IsPair, IsTable, IsTemplate, IsText, IsArray, IsWritten, document_names, template_names}
+use Rattle.table_core.specs.Keys.{Key, all_suit, has_only_keys, lacks_key, suits_in}
+use Rattle.table_core.specs.Tables.{boolean_at, has_key, has_only, integer_at, list_at, text_at}
 
 -- one of the three conditions holds at a place
 abbrev bad : Option ℤ → Place → Data → Bool
@@ -132,6 +136,61 @@ flows_read v k (d ∷ ds) found =
     let here = or_parts _ _ (or_parts _ _ (holds_not _ _ parts.0)).1 in
     flow_first v d ds (flow_written d) refl here.1 (flows_read v (k + 1) ds parts.1)
 
+template_stands : (v : Option ℤ) (k : ℕ) (ms : Members) → has_other_key v (Template k) ms ≡ false → lacks_needed v (Template k) ms ≡ false
+    → has_unsuited v (Template k) ms ≡ false → denies_pairs ms ≡ true → IsTemplate ms (template_written ms)
+unfolding has_other_key lacks_needed has_unsuited has_only_keys lacks_key all_suit template_written listed has_key text_at list_at
+template_stands v k ms other lacks unsuited pairs =
+    let suits = not-false (list_all (suits_in ms) (keys_of v (Template k))) unsuited in
+    let suits_2 = second_so _ _ suits in
+    let suits_3 = second_so _ _ suits_2 in
+    let suits_4 = second_so _ _ suits_3 in
+    let lacks_2 = or_parts _ _ (or_parts _ _ lacks).1 in
+    let lacks_3 = or_parts _ _ lacks_2.1 in
+    let lacks_4 = or_parts _ _ lacks_3.1 in
+    let lacks_5 = or_parts _ _ lacks_4.1 in
+    record {
+      only = not-false _ other;
+      name = text_stands (get_member (codes "name") ms) (not-false _ (or_parts _ _ lacks).0) (first_so _ _ suits);
+      strategy = text_stands (get_member (codes "strategy") ms) (not-false _ lacks_2.0) (first_so _ _ suits_2);
+      kinds = there (filter_map as_str (listed (codes "kinds") ms) ≡ []) (λ d. IsArray IsText d (filter_map as_str (listed (codes "kinds") ms))) (get_member (codes "kinds") ms) (not-false _ lacks_3.0) (texts_stand_or (get_member (codes "kinds") ms) (first_so _ _ suits_3));
+      default = text_stands (get_member (codes "default") ms) (not-false _ lacks_4.0) (first_so _ _ suits_4);
+      deny =
+          array_stands IsPair (get_member (codes "deny") ms) _ (not-false _ lacks_5.0) (first_so _ _ (second_so _ _ suits_4))
+          (pairs_read (listed (codes "deny") ms) pairs);
+    }
+
+template_reads : (v : Option ℤ) (k : ℕ) (d : Data) → bad v (Template k) d ≡ false → IsReadIn IsTemplate template_written d
+unfolding has_wrong_type
+template_reads v k (table ms) good =
+    let parts = or_parts _ _ good in
+    let rest = or_parts _ _ parts.1 in
+    let wrong = or_parts _ _ rest.1 in
+    (ms, refl, template_stands v k ms parts.0 rest.0 wrong.0 (not-false _ wrong.1))
+template_reads v k _ good = cc
+
+-- the key for templates is one of a document of version 2 alone
+names_by : (b : Bool) → map (λ (key : Key). key.name) (template_keys b) ≡ template_names b
+names_by true = refl
+names_by false = refl
+
+document_only : (v : Option ℤ) (ms : Members) (n : ℤ) → v ≡ Some n → has_only_keys (keys_of v Document) ms ≡ true
+    → has_only (document_names n) ms ≡ true
+unfolding has_only_keys
+document_only v ms n says only =
+    subst (λ (names : List (List ℕ)). has_only (codes "topos" ∷ codes "answers" ∷ codes "host" ∷ codes "invariant" ∷ codes "flow" ∷ names) ms ≡ true)
+    (ap (λ (o : Option ℤ). map (λ (key : Key). key.name) (template_keys (says_second o))) says ∙ names_by (int_eq n (pos 2))) only
+
+templates_by : (b : Bool) (names : List (List ℕ)) (ms : Members) (xs : List WrittenTemplate) → list_any (bytes_eq (codes "template")) names ≡ false
+    → has_only (names ++ template_names b) ms ≡ true → list_all (suits_in ms) (template_keys b) ≡ true
+    → AllZip (IsTable IsTemplate) (listed (codes "template") ms) xs
+    → MatchOption (get_member (codes "template") ms) (xs ≡ []) (λ d. IsArray (IsTable IsTemplate) d xs)
+unfolding listed list_at has_key
+templates_by true names ms xs out only suits zipped =
+    array_stands_or (IsTable IsTemplate) (get_member (codes "template") ms) xs (first_so _ _ suits) zipped
+templates_by false names ms xs out only suits zipped =
+    let none = absent names (codes "template") ms out (subst (λ (ns : List (List ℕ)). has_only ns ms ≡ true) (append-nil names) only) in
+    rw none (nothing_zipped (IsTable IsTemplate) xs (rw none at zipped))
+
 document_stands : (v : Option ℤ) (ms : Members) → version_said ms ≡ v → first_by_parts (bad v) ms ≡ None → IsWritten ms (written ms)
 unfolding has_wrong_type has_other_key lacks_needed has_unsuited has_only_keys lacks_key all_suit written listed has_key text_at integer_at list_at
 document_stands v ms said found =
@@ -141,16 +200,19 @@ document_stands v ms said found =
     let here = or_parts _ _ (holds_not _ _ document.0) in
     let rest = or_parts _ _ here.1 in
     let lacks = or_parts _ _ rest.0 in
-    let lacks_host = or_parts (not (has_key (codes "host") ms)) false lacks.1 in
+    let lacks_host = or_parts (not (has_key (codes "host") ms)) _ lacks.1 in
     let suits = not-false (list_all (suits_in ms) (keys_of v Document)) rest.1 in
     let suits_2 = second_so _ _ suits in
     let suits_3 = second_so _ _ suits_2 in
     let suits_4 = second_so _ _ suits_3 in
     let version = integer_stands (get_member (codes "topos") ms) (not-false _ lacks.0) (first_so _ _ suits) in
-    let flows = flows_read v 1 (listed (codes "flow") ms) invariants.1 in
+    let suits_5 = second_so _ _ suits_4 in
+    let behind = neither (first_at (bad v) FlowAt 1 (listed (codes "flow") ms)) _ invariants.1 in
+    let flows = flows_read v 1 (listed (codes "flow") ms) behind.0 in
     let says = sym said ∙ said_version (get_member (codes "topos") ms) _ version in
+    let only : has_only (document_names (written ms).version) ms ≡ true = document_only v ms (written ms).version says (not-false _ here.0) in
     record {
-      only = not-false _ here.0;
+      only = only;
       version = version;
       answers = answers_stand (get_member (codes "answers") ms) (first_so _ _ suits_2);
       hosts =
@@ -161,8 +223,12 @@ document_stands v ms said found =
           (invariants_read v 1 (listed (codes "invariant") ms) invariants.0);
       given = refl;
       flows =
-          array_stands_or IsFlow (get_member (codes "flow") ms) _ (first_so _ _ (second_so _ _ suits_4)) flows.0;
+          array_stands_or IsFlow (get_member (codes "flow") ms) _ (first_so _ _ suits_5) flows.0;
       whole = whole_where _ _ (subst (λ (o : Option ℤ). list_all (fits_version o) (filter_map flow_written (listed (codes "flow") ms)) ≡ true) says flows.1);
+      templates =
+          templates_by (int_eq (written ms).version (pos 2)) (codes "topos" ∷ codes "answers" ∷ codes "host" ∷ codes "invariant" ∷ codes "flow" ∷ []) ms _ refl only
+          (subst (λ (o : Option ℤ). list_all (suits_in ms) (template_keys (says_second o)) ≡ true) says (second_so _ _ suits_5))
+          (tables_read v IsTemplate template_written Template (template_reads v) 1 (listed (codes "template") ms) behind.1);
     }
 
 -- a description of the right form is what is written in it, each element of its arrays included
@@ -183,6 +249,10 @@ written_stands ms formed =
 -- they hold of no table with these keys and values
 none_bad : {only lacks suits : Bool} → only ≡ true → lacks ≡ false → suits ≡ true → (not only || (lacks || not suits)) ≡ false
 none_bad only lacks suits = rw (only, lacks, suits) refl
+
+none_bad_pairs : {only lacks suits pairs : Bool} → only ≡ true → lacks ≡ false → suits ≡ true → pairs ≡ true
+    → (not only || (lacks || (not suits || not pairs))) ≡ false
+none_bad_pairs only lacks suits pairs = rw (only, lacks, suits, pairs) refl
 
 present : {there rest : Bool} → there ≡ true → rest ≡ false → (not there || rest) ≡ false
 present there rest = rw (there, rest) refl
@@ -245,28 +315,62 @@ flows_good v k (d ∷ ds) (f ∷ fs) (is_flow, zipped) fit =
     let (here, behind) = and_parts (fits_version v f) (list_all (fits_version v) fs) fit in
     rw (flow_good v k d f is_flow here) (flows_good v (k + 1) ds fs zipped behind)
 
-document_good : (v : Option ℤ) (ms : Members) (w : Written) → IsWritten ms w → bad v Document (table ms) ≡ false
+template_good : (v : Option ℤ) (k : ℕ) (ms : Members) (t : WrittenTemplate) → IsTemplate ms t → bad v (Template k) (table ms) ≡ false
+unfolding has_wrong_type has_other_key lacks_needed has_unsuited has_only_keys lacks_key all_suit listed has_key text_at list_at
+template_good v k ms t stands =
+    let name = text_suits (get_member (codes "name") ms) t.name stands.name in
+    let strategy = text_suits (get_member (codes "strategy") ms) t.strategy stands.strategy in
+    let kinds = texts_suit (get_member (codes "kinds") ms) t.kinds (there_or (t.kinds ≡ []) (λ d. IsArray IsText d t.kinds) (get_member (codes "kinds") ms) stands.kinds) in
+    let default = text_suits (get_member (codes "default") ms) t.default stands.default in
+    let deny = array_needed IsPair (get_member (codes "deny") ms) t.deny stands.deny in
+    let suits = both_true name.1 (both_true strategy.1 (both_true kinds (both_true default.1 (both_true (array_suits IsPair (get_member (codes "deny") ms) t.deny deny.1) refl)))) in
+    let pairs = pairs_say (listed (codes "deny") ms) t.deny (array_zips IsPair (get_member (codes "deny") ms) t.deny deny.1) in
+    none_bad_pairs stands.only
+    (present name.0 (present strategy.0 (present (some_there (λ d. IsArray IsText d t.kinds) (get_member (codes "kinds") ms) stands.kinds) (present default.0 (present deny.0 refl)))))
+    suits pairs
+
+-- and may be absent
+template_optional : (b : Bool) (ms : Members) → list_any (λ (key : Key). key.needed && not (has_key key.name ms)) (template_keys b) ≡ false
+template_optional true ms = refl
+template_optional false ms = refl
+
+template_suits : (b : Bool) (ms : Members) (xs : List WrittenTemplate)
+    → MatchOption (get_member (codes "template") ms) (xs ≡ []) (λ d. IsArray (IsTable IsTemplate) d xs) → list_all (suits_in ms) (template_keys b) ≡ true
+unfolding has_key list_at
+template_suits true ms xs stands = both_true (array_suits (IsTable IsTemplate) (get_member (codes "template") ms) xs stands) refl
+template_suits false ms xs stands = refl
+
+only_document : (ms : Members) (n : ℤ) → has_only (document_names n) ms ≡ true → has_only_keys (keys_of (Some n) Document) ms ≡ true
+unfolding has_only_keys
+only_document ms n only =
+    subst (λ (names : List (List ℕ)). has_only (codes "topos" ∷ codes "answers" ∷ codes "host" ∷ codes "invariant" ∷ codes "flow" ∷ names) ms ≡ true)
+    (sym (names_by (int_eq n (pos 2)))) only
+
+document_good : (ms : Members) (w : Written) → IsWritten ms w → bad (Some w.version) Document (table ms) ≡ false
 unfolding has_wrong_type has_other_key lacks_needed has_unsuited has_only_keys lacks_key all_suit has_key text_at integer_at list_at
-document_good v ms w stands =
+document_good ms w stands =
     let version = integer_suits (get_member (codes "topos") ms) w.version stands.version in
     let hosts = array_needed (IsTable IsHost) (get_member (codes "host") ms) w.hosts stands.hosts in
-    none_bad stands.only (present version.0 (present hosts.0 refl))
+    let templates = template_suits (int_eq w.version (pos 2)) ms w.templates stands.templates in
+    none_bad (only_document ms w.version stands.only) (present version.0 (present hosts.0 (template_optional (int_eq w.version (pos 2)) ms)))
     (both_true version.1
     (both_true (answers_suit (get_member (codes "answers") ms) w.answers stands.answers)
     (both_true (array_suits (IsTable IsHost) (get_member (codes "host") ms) w.hosts hosts.1)
     (both_true (array_suits (IsTable IsInvariant) (get_member (codes "invariant") ms) w.invariants stands.invariants)
-    (both_true (array_suits IsFlow (get_member (codes "flow") ms) w.flows stands.flows) refl)))))
+    (both_true (array_suits IsFlow (get_member (codes "flow") ms) w.flows stands.flows) templates)))))
 
-nothing_bad : (v : Option ℤ) (ms : Members) (w : Written) → IsWritten ms w → list_all (fits_version v) w.flows ≡ true
-    → first_by_parts (bad v) ms ≡ None
+nothing_bad : (ms : Members) (w : Written) → IsWritten ms w → list_all (fits_version (Some w.version)) w.flows ≡ true
+    → first_by_parts (bad (Some w.version)) ms ≡ None
 unfolding listed list_at
-nothing_bad v ms w stands fit =
+nothing_bad ms w stands fit =
+    let v : Option ℤ = Some w.version in
     let hosts = array_needed (IsTable IsHost) (get_member (codes "host") ms) w.hosts stands.hosts in
     rw (
-      document_good v ms w stands,
+      document_good ms w stands,
       tables_good v IsHost Host (host_good v) 1 (listed (codes "host") ms) w.hosts (array_zips (IsTable IsHost) (get_member (codes "host") ms) w.hosts hosts.1),
       invariants_good v 1 (listed (codes "invariant") ms) w.invariants (array_zips (IsTable IsInvariant) (get_member (codes "invariant") ms) w.invariants stands.invariants),
       flows_good v 1 (listed (codes "flow") ms) w.flows (array_zips IsFlow (get_member (codes "flow") ms) w.flows stands.flows) fit,
+      tables_good v IsTemplate Template (template_good v) 1 (listed (codes "template") ms) w.templates (array_zips (IsTable IsTemplate) (get_member (codes "template") ms) w.templates stands.templates),
     ) refl
 
 -- a description in which something is written is of the right form
@@ -275,8 +379,9 @@ unfolding form_conditions unknown_key missing_key wrong_type integer_at
 formed_where_written ms w stands =
     let v = version_said ms in
     let said = said_version (get_member (codes "topos") ms) w.version stands.version in
-    let fit = subst (λ (o : Option ℤ). list_all (fits_version o) w.flows ≡ true) (sym said) (fit_where w.version w.flows stands.whole) in
-    let nowhere = sym (by_parts (bad v) ms) ∙ nothing_bad v ms w stands fit in
+    let fit = fit_where w.version w.flows stands.whole in
+    let nowhere = sym (by_parts (bad v) ms)
+    ∙ subst (λ (o : Option ℤ). first_by_parts (bad o) ms ≡ None) (sym said) (nothing_bad ms w stands fit) in
     let unknown = nowhere_both (has_unknown_key v) (λ place d. has_missing_key v place d || has_wrong_type v place d) ms nowhere in
     let rest = nowhere_both (has_missing_key v) (has_wrong_type v) ms unknown.1 in
     rw (unknown.0, rest.0, rest.1) refl

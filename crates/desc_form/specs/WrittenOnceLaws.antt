@@ -5,7 +5,7 @@ use Rattle.std.specs.Prelude.{codes, IsSomeAnd, MatchOption, unwrap_or}
 use Rattle.std.specs.Str.{bytes_eq}
 use Rattle.toml.specs.Data.{Data, string, integer, boolean, array, table, Items, Members, as_str, get_member}
 use Rattle.desc_form.specs.Written.{Written, written}
-use Rattle.desc_form.specs.WrittenForm.{IsAnswers, IsArray, IsAssign, IsBoolean, IsFlow, IsHost, IsInteger, IsInvariant, IsTable, IsText, IsWritten, Stands, StandsOr}
+use Rattle.desc_form.specs.WrittenForm.{IsAnswers, IsArray, IsAssign, IsBoolean, IsFlow, IsHost, IsInteger, IsInvariant, IsPair, IsTable, IsTemplate, IsText, IsWritten, Stands, StandsOr}
 use Rattle.desc_form.specs.WrittenLaws.{formed_where_written, written_stands}
 use Rattle.table_core.specs.Tables.{elements}
 
@@ -61,6 +61,13 @@ flow_once d f g is was =
     let services : f.services ≡ g.services = cc in
     λ i. record { from = from i; to = to i; services = services i }
 
+pair_once : IsSaidOnce IsPair
+pair_once d p q is was =
+    let same = array_once IsText text_once d (p.sender ∷ p.receiver ∷ []) (q.sender ∷ q.receiver ∷ []) is was in
+    let sender : p.sender ≡ q.sender = cc in
+    let receiver : p.receiver ≡ q.receiver = cc in
+    λ i. record { sender = sender i; receiver = receiver i }
+
 -- at a key
 some_once : {A : Type 0} (Is : Data → A → Type 0) → IsSaidOnce Is → (o : Option Data) (x y : A) → IsSomeAnd o (λ d. Is d x)
     → IsSomeAnd o (λ d. Is d y) → x ≡ y
@@ -100,6 +107,15 @@ invariant_once ms i j is was =
     (codes "assign") ms i.assigns j.assigns is.assigns was.assigns in
     λ k. record { template = template k; assigns = assigns k }
 
+template_once : IsSaidOnce IsTemplate
+template_once ms t u is was =
+    let name = stands_once IsText text_once (codes "name") ms t.name u.name is.name was.name in
+    let strategy = stands_once IsText text_once (codes "strategy") ms t.strategy u.strategy is.strategy was.strategy in
+    let kinds = stands_once (IsArray IsText) (array_once IsText text_once) (codes "kinds") ms t.kinds u.kinds is.kinds was.kinds in
+    let default = stands_once IsText text_once (codes "default") ms t.default u.default is.default was.default in
+    let deny = stands_once (IsArray IsPair) (array_once IsPair pair_once) (codes "deny") ms t.deny u.deny is.deny was.deny in
+    λ i. record { name = name i; strategy = strategy i; kinds = kinds i; default = default i; deny = deny i }
+
 -- there is one record at most
 pub written_once : (ms : Members) (v w : Written) → IsWritten ms v → IsWritten ms w → v ≡ w
 written_once ms v w is was =
@@ -113,7 +129,18 @@ written_once ms v w is was =
     (codes "invariant") ms v.invariants w.invariants is.invariants was.invariants in
     let given = is.given ∙ sym was.given in
     let flows = stands_or_once [] (IsArray IsFlow) (array_once IsFlow flow_once) (codes "flow") ms v.flows w.flows is.flows was.flows in
-    λ i. record { version = version i; answers = answers i; hosts = hosts i; invariants = invariants i; given = given i; flows = flows i }
+    let templates =
+    stands_or_once [] (IsArray (IsTable IsTemplate)) (array_once (IsTable IsTemplate) (table_once IsTemplate template_once))
+    (codes "template") ms v.templates w.templates is.templates was.templates in
+    λ i. record {
+      version = version i;
+      answers = answers i;
+      hosts = hosts i;
+      invariants = invariants i;
+      given = given i;
+      flows = flows i;
+      templates = templates i;
+    }
 
 -- what is written is what is read
 pub written_is : (ms : Members) (w : Written) → IsWritten ms w → w ≡ written ms

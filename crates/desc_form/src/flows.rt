@@ -1,12 +1,14 @@
-//! A flow as it is written.
-ghost use Rattle.std.specs.Prelude.{◌≡◌, false, length, map, option_map, IfOk};
+//! A flow as it is written, and a pair of kinds, which is written in the same way.
+ghost use Rattle.std.specs.Prelude.{◌≡◌, false, is_some, length, map, option_map, IfOk};
+ghost use Rattle.std.specs.List.{list_all};
 ghost use Rattle.std.specs.Option.{option_map_or};
 ghost use Rattle.desc_form.specs.Places.{fits_version};
 ghost use Rattle.desc_form.specs.WrittenFlow.{flow_of_values, flow_written};
-ghost use Rattle.desc_form.specs.WrittenView.{flow_view};
+ghost use Rattle.desc_form.specs.WrittenTemplate.{pair_of_flow, pair_written};
+ghost use Rattle.desc_form.specs.WrittenView.{flow_view, pair_view};
 ghost use Rattle.toml.specs.View.{view};
 
-use crate::written::{WrittenFlow, texts_among};
+use crate::written::{WrittenFlow, WrittenPair, texts_among};
 use std::alloc::{AllocError, Global};
 use table_core::{are_texts, elements};
 use toml::Value;
@@ -19,6 +21,53 @@ pub(crate) fn is_flow(version: Option<i64>, value: &Value) -> bool
         Some(count) => count == 0 || version == Some(2),
         None => false,
     }
+}
+
+/// Whether each of the values is a pair.
+pub(crate) fn are_pairs(values: &[Value]) -> bool
+    ensures { result ≡ list_all (λ d. is_some (pair_written d)) (map view values.now) }
+{
+    all_are_pairs(values)
+}
+
+fn all_are_pairs(values: &[Value]) -> bool
+    ensures { result ≡ list_all (λ value. is_some (pair_written (view value))) values.now }
+{
+    values.iter().all(|value| is_pair(value))
+}
+
+/// Whether the value is an array of two texts.
+fn is_pair(value: &Value) -> bool
+    ensures { result ≡ is_some (pair_written (view value.now)) }
+{
+    match service_count(value) {
+        Some(count) => count == 0,
+        None => false,
+    }
+}
+
+/// The pair that an array of two texts says.
+#[tactic(auto, unfolding(crate::specs::WrittenTemplate::pair_written))]
+pub(crate) fn read_pair(alloc: Global, value: &Value) -> Result<Option<WrittenPair<'_>>, AllocError>
+    ensures { IfOk result (λ pair. option_map pair_view pair ≡ pair_written (view value.now)) }
+{
+    match read_flow(alloc, value)? {
+        Some(flow) => Ok(pair_of_flow(&flow)),
+        None => Ok(None),
+    }
+}
+
+/// The pair that a flow is, if it has no services.
+fn pair_of_flow<'a>(flow: &WrittenFlow<'a>) -> Option<WrittenPair<'a>>
+    ensures { option_map pair_view result ≡ pair_of_flow (flow_view flow.now) }
+{
+    if !flow.services.is_empty() {
+        return None;
+    }
+    Some(WrittenPair {
+        sender: flow.from,
+        receiver: flow.to,
+    })
 }
 
 /// How many services the flow has that an array says, if it says one. This takes no memory.

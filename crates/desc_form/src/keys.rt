@@ -1,6 +1,7 @@
 //! Which keys the tables of a description have, place by place.
 ghost use Rattle.std.specs.Prelude.{◌≡◌, map};
 ghost use Rattle.desc_form.specs.Keys.{keys_of};
+ghost use Rattle.desc_form.specs.declared.refusal.Place.TheVariants.{Document};
 ghost use Rattle.desc_form.specs.Places.{has_other_key, lacks_needed, has_unsuited};
 ghost use Rattle.table_core.specs.KeyView.{key_view};
 ghost use Rattle.toml.specs.View.{table_view};
@@ -11,12 +12,23 @@ use toml::Table;
 
 const ANSWERS: [&str; 2] = ["all", "none"];
 
+// The keys of version 1.
 static DOCUMENT: [Key; 5] = [
     Key::Needed("topos", Kind::Integer),
     Key::Optional("answers", Kind::OneOf(&ANSWERS)),
     Key::Needed("host", Kind::List),
     Key::Optional("invariant", Kind::List),
     Key::Optional("flow", Kind::List),
+];
+
+// Version 2 has templates too.
+static SECOND_DOCUMENT: [Key; 6] = [
+    Key::Needed("topos", Kind::Integer),
+    Key::Optional("answers", Kind::OneOf(&ANSWERS)),
+    Key::Needed("host", Kind::List),
+    Key::Optional("invariant", Kind::List),
+    Key::Optional("flow", Kind::List),
+    Key::Optional("template", Kind::List),
 ];
 
 static HOST: [Key; 3] = [
@@ -32,17 +44,36 @@ static INVARIANT: [Key; 2] = [
 
 static ASSIGN: [Key; 1] = [Key::Needed("host", Kind::Text)];
 
-/// The keys of the table at a place, in a document that says a version: both versions have the same.
-/// An assign has further keys by its template.
-fn keys_of(_version: Option<i64>, place: Place) -> &'static [Key]
-    ensures { map key_view result.now ≡ keys_of _version place }
+static TEMPLATE: [Key; 5] = [
+    Key::Needed("name", Kind::Text),
+    Key::Needed("strategy", Kind::Text),
+    Key::Needed("kinds", Kind::Texts),
+    Key::Needed("default", Kind::Text),
+    Key::Needed("deny", Kind::List),
+];
+
+/// The keys of a document that says a version.
+fn document_keys(version: Option<i64>) -> &'static [Key]
+    ensures { map key_view result.now ≡ keys_of version Document }
+{
+    match version {
+        Some(2) => &SECOND_DOCUMENT,
+        _ => &DOCUMENT,
+    }
+}
+
+/// The keys of the table at a place, in a document that says a version. An assign has further keys by its
+/// template.
+fn keys_of(version: Option<i64>, place: Place) -> &'static [Key]
+    ensures { map key_view result.now ≡ keys_of version place }
 {
     match place {
-        Place::Document => &DOCUMENT,
+        Place::Document => document_keys(version),
         Place::Host(_) => &HOST,
         Place::Invariant(_) => &INVARIANT,
         Place::Assign(_, _) => &ASSIGN,
         Place::FlowAt(_) => &[],
+        Place::Template(_) => &TEMPLATE,
     }
 }
 
@@ -52,7 +83,7 @@ pub(crate) fn has_other_key(version: Option<i64>, place: Place, here: &Table) ->
     ensures { result ≡ has_other_key version place (table_view here.now) }
 {
     match place {
-        Place::Document | Place::Host(_) | Place::Invariant(_) => {
+        Place::Document | Place::Host(_) | Place::Invariant(_) | Place::Template(_) => {
             !has_only_keys(here, keys_of(version, place))
         }
         Place::Assign(_, _) | Place::FlowAt(_) => false,

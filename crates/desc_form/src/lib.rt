@@ -15,5 +15,6 @@ mod written;
 pub use refusal::{Place, Refusal, Why};
 pub use well_formed::form_refusal;
 pub use written::{
-    Written, WrittenAssign, WrittenFlow, WrittenHost, WrittenInvariant, read_written,
+    Written, WrittenAssign, WrittenFlow, WrittenHost, WrittenInvariant, WrittenPair,
+    WrittenTemplate, read_written,
 };

@@ -1,15 +1,16 @@
 //! The form of a description: the first place whose table has an unknown key, lacks a key or has a
-//! value of a wrong type. Places are the document, the hosts, each invariant and its assigns, and
-//! the flows, in this order.
-ghost use Rattle.std.specs.Prelude.{◌≡◌, map, option_map, codes};
-ghost use Rattle.std.specs.Option.{option_or};
-ghost use Rattle.toml.specs.Data.{table};
+//! value of a wrong type. Places are the document, the hosts, each invariant and its assigns, the
+//! flows, and the templates, in this order.
+ghost use Rattle.std.specs.Prelude.{◌≡◌, ◌||◌, true, not, map, option_map, codes};
+ghost use Rattle.std.specs.Option.{option_map_or, option_or};
+ghost use Rattle.toml.specs.Data.{as_table, table};
 ghost use Rattle.toml.specs.View.{view, table_view};
 ghost use Rattle.desc_form.specs.declared.refusal.Place.TheVariants.{Document};
-ghost use Rattle.desc_form.specs.Places.{assigns_of, first_place, has_missing_key, has_unknown_key, has_wrong_type, listed};
+ghost use Rattle.desc_form.specs.Places.{assigns_of, denies_pairs, first_place, has_unsuited, has_missing_key, has_unknown_key, has_wrong_type, listed};
+ghost use Rattle.desc_form.specs.declared.places.Row.TheVariants.{Flows, Templates};
 ghost use Rattle.desc_form.specs.Walking.{holds_at, first_at, first_by_parts, first_of_invariant, first_of_invariants, place_in};
 
-use crate::flows::is_flow;
+use crate::flows::{are_pairs, is_flow};
 use crate::keys::{has_other_key, has_unsuited, lacks_needed};
 use crate::refusal::Place;
 use table_core::list_at;
@@ -37,6 +38,7 @@ enum Row {
     /// The assigns of an invariant.
     Assigns(u64),
     Flows,
+    Templates,
 }
 
 impl Row {
@@ -47,6 +49,7 @@ impl Row {
             Row::Hosts => Place::Host(number),
             Row::Assigns(invariant) => Place::Assign(invariant, number),
             Row::Flows => Place::FlowAt(number),
+            Row::Templates => Place::Template(number),
         }
     }
 }
@@ -90,12 +93,31 @@ fn has_missing_key(version: Option<i64>, place: Place, value: &Value) -> bool
     }
 }
 
+/// Whether what is denied is pairs.
+fn denies_pairs(table: &Table) -> bool
+    ensures { result ≡ denies_pairs (table_view table.now) }
+{
+    are_pairs(listed(table, "deny"))
+}
+
+/// Whether the value is no table, or one in which something is not of its kind, or that denies what is no
+/// pair.
+fn is_no_template(version: Option<i64>, place: Place, value: &Value) -> bool
+    ensures { result ≡ option_map_or (λ ms. has_unsuited version place ms || not (denies_pairs ms)) (as_table (view value.now)) true }
+{
+    let Some(table) = value.as_table() else {
+        return true;
+    };
+    has_unsuited(version, place, table) || !denies_pairs(table)
+}
+
 #[tactic(auto, unfolding(crate::specs::Places::has_wrong_type))]
 fn has_wrong_type(version: Option<i64>, place: Place, value: &Value) -> bool
     ensures { result ≡ has_wrong_type version place (view value.now) }
 {
     match place {
         Place::FlowAt(_) => !is_flow(version, value),
+        Place::Template(_) => is_no_template(version, place, value),
         Place::Document | Place::Host(_) | Place::Invariant(_) | Place::Assign(_, _) => {
             match value.as_table() {
                 Some(table) => has_unsuited(version, place, table),
@@ -181,7 +203,19 @@ fn first_by_parts(test: FormTest, document: &Table) -> Option<Place>
     if invariant.is_some() {
         return invariant;
     }
-    first_at_key(test, Row::Flows, document, "flow")
+    first_behind(test, document)
+}
+
+/// At the flows, then the templates.
+fn first_behind(test: FormTest, document: &Table) -> Option<Place>
+    ensures { result ≡ option_or (first_at (holds_at test) (place_in Flows) 1 (listed (codes "flow") (table_view document.now)))
+        (first_at (holds_at test) (place_in Templates) 1 (listed (codes "template") (table_view document.now))) }
+{
+    let flow = first_at_key(test, Row::Flows, document, "flow");
+    if flow.is_some() {
+        return flow;
+    }
+    first_at_key(test, Row::Templates, document, "template")
 }
 
 fn first_at_key(test: FormTest, row: Row, document: &Table, key: &str) -> Option<Place>

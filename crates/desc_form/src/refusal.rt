@@ -5,7 +5,8 @@ ghost use Rattle.desc_form.specs.Refusals.{number, name, refused};
 
 use host_net::Name;
 
-/// A place in a description. Hosts, invariants, the assigns of one invariant and flows count from 1.
+/// A place in a description. Hosts, invariants, the assigns of one invariant, flows and templates count
+/// from 1.
 #[derive(Clone, Copy, PartialEq, Eq, Debug)]
 pub enum Place {
     /// The document as a whole.
@@ -18,6 +19,8 @@ pub enum Place {
     Assign(u64, u64),
     /// A flow.
     FlowAt(u64),
+    /// A declared template.
+    Template(u64),
 }
 
 /// Why a description is refused. The causes stand in the order in which they are told, and count
@@ -37,7 +40,7 @@ pub enum Why {
     WrongType,
     /// The version of the description is neither 1 nor 2.
     BadVersion,
-    /// There are more hosts, prefixes or invariants than there may be.
+    /// There are more hosts, prefixes, invariants or templates than there may be.
     TooMany,
     /// A text in the place of a host name is no legal name.
     BadName,
@@ -53,7 +56,7 @@ pub enum Why {
     TwoRests,
     /// Two prefixes have an address in common.
     Overlap,
-    /// An invariant names a template that there is not.
+    /// An invariant names a template that there is not, nor is one declared under that name.
     UnknownTemplate,
     /// An assign or a flow names a host that is not declared.
     UndeclaredHost,
@@ -69,6 +72,11 @@ pub enum Why {
     BadService,
     /// A flow has more services than it may have.
     ManyServices,
+    /// A declared template has a name that is none or is taken, an unknown strategy, no kinds or too many,
+    /// a kind that is no name or stands twice, or a default or a denied kind that is none of its kinds.
+    BadTemplate,
+    /// A pair of kinds is denied, and its partner is not: with the default kind at the host that is blamed.
+    NotLawful,
 }
 
 impl Why {
@@ -99,6 +107,8 @@ impl Why {
             Why::DuplicateFlow => 20,
             Why::BadService => 21,
             Why::ManyServices => 22,
+            Why::BadTemplate => 23,
+            Why::NotLawful => 24,
         }
     }
 
@@ -129,6 +139,8 @@ impl Why {
             Why::DuplicateFlow => "DuplicateFlow",
             Why::BadService => "BadService",
             Why::ManyServices => "ManyServices",
+            Why::BadTemplate => "BadTemplate",
+            Why::NotLawful => "NotLawful",
         }
     }
 }
@@ -138,7 +150,7 @@ impl Why {
 pub struct Refusal {
     pub why: Why,
     pub place: Place,
-    /// The prefix of a host, or the text in a flow, that is refused, from 1.
+    /// The prefix of a host, the text in a flow, or the pair of a template, that is refused, from 1.
     pub item: u64,
     /// The earlier host, assign or flow that bars this one, from 1.
     pub other: u64,

@@ -4,14 +4,15 @@ ghost use Rattle.text_core.specs.Firsts.{first_of};
 ghost use Rattle.desc_form.specs.FormConditions.{form_conditions};
 ghost use Rattle.desc_form.specs.Places.{listed};
 ghost use Rattle.desc_form.specs.WrittenFlow.{flow_written};
-ghost use Rattle.desc_form.specs.WrittenView.{assign_view, flow_view, host_view, invariant_view, written_view};
-ghost use Rattle.desc_form.specs.Written.{assign_written, host_written, invariant_written, text_in, written};
+ghost use Rattle.desc_form.specs.WrittenTemplate.{pair_written};
+ghost use Rattle.desc_form.specs.WrittenView.{assign_view, flow_view, host_view, invariant_view, pair_view, template_view, written_view};
+ghost use Rattle.desc_form.specs.Written.{assign_written, host_written, invariant_written, template_written, text_in, written};
 ghost use Rattle.desc_form.specs.Written as meant;
 ghost use Rattle.desc_form.specs.WrittenForm.{IsWritten};
 ghost use Rattle.toml.specs.Data.{as_str, as_table};
 ghost use Rattle.toml.specs.View.{view, table_view};
 
-use crate::flows::read_flow;
+use crate::flows::{read_flow, read_pair};
 use crate::places::listed;
 use std::alloc::{AllocError, Global};
 use table_core::{boolean_at, has_key, integer_at, text_at};
@@ -47,6 +48,24 @@ pub struct WrittenFlow<'a> {
     pub services: Vec<&'a str>,
 }
 
+/// A pair of kinds that a template denies.
+#[derive(Clone, Copy)]
+pub struct WrittenPair<'a> {
+    pub sender: &'a str,
+    pub receiver: &'a str,
+}
+
+/// A template: its name, its strategy, the words for its kinds, that of its default, and the pairs that
+/// it denies.
+#[derive(Drop)]
+pub struct WrittenTemplate<'a> {
+    pub name: &'a str,
+    pub strategy: &'a str,
+    pub kinds: Vec<&'a str>,
+    pub default: &'a str,
+    pub deny: Vec<WrittenPair<'a>>,
+}
+
 /// A description as it is written, before anything is looked up.
 #[derive(Drop)]
 pub struct Written<'a> {
@@ -58,6 +77,7 @@ pub struct Written<'a> {
     /// Whether the key `flow` is there, if only with an empty list.
     pub given: bool,
     pub flows: Vec<WrittenFlow<'a>>,
+    pub templates: Vec<WrittenTemplate<'a>>,
 }
 
 /// The text at a key, empty where none stands there.
@@ -172,6 +192,48 @@ fn flows_among(alloc: Global, values: &[Value]) -> Result<Vec<WrittenFlow<'_>>, 
     Ok(flows)
 }
 
+/// The pairs among some values.
+fn pairs_among(alloc: Global, values: &[Value]) -> Result<Vec<WrittenPair<'_>>, AllocError>
+    ensures { IfOk result (λ pairs. map pair_view pairs.items ≡ filter_map pair_written (map view values.now)) }
+{
+    let mut pairs = Vec::new(alloc);
+    for value in values {
+        if let Some(pair) = read_pair(alloc, value)? {
+            pairs.push(pair)?;
+        }
+    }
+    Ok(pairs)
+}
+
+#[tactic(auto, unfolding(crate::specs::Written::template_written))]
+fn template_written(alloc: Global, table: &Table) -> Result<WrittenTemplate<'_>, AllocError>
+    ensures { IfOk result (λ template. template_view template ≡ template_written (table_view table.now)) }
+{
+    let kinds = texts_among(alloc, listed(table, "kinds"))?;
+    let deny = pairs_among(alloc, listed(table, "deny"))?;
+    Ok(WrittenTemplate {
+        name: text_in(table, "name"),
+        strategy: text_in(table, "strategy"),
+        kinds,
+        default: text_in(table, "default"),
+        deny,
+    })
+}
+
+/// The templates among some values.
+fn templates_among(alloc: Global, values: &[Value]) -> Result<Vec<WrittenTemplate<'_>>, AllocError>
+    ensures { IfOk result (λ templates. map template_view templates.items
+        ≡ map template_written (filter_map as_table (map view values.now))) }
+{
+    let mut templates = Vec::new(alloc);
+    for value in values {
+        if let Some(table) = value.as_table() {
+            templates.push(template_written(alloc, table)?)?;
+        }
+    }
+    Ok(templates)
+}
+
 /// What is written in a description. Where a key is missing or a value is of a wrong type, nothing
 /// stands in its place: such a description is refused for that.
 pub fn read_written(alloc: Global, document: &Table) -> Result<Written<'_>, AllocError>
@@ -194,6 +256,7 @@ fn written_in(alloc: Global, document: &Table) -> Result<Written<'_>, AllocError
     let hosts = hosts_among(alloc, listed(document, "host"))?;
     let invariants = invariants_among(alloc, listed(document, "invariant"))?;
     let flows = flows_among(alloc, listed(document, "flow"))?;
+    let templates = templates_among(alloc, listed(document, "template"))?;
     Ok(Written {
         version: integer_at(document, "topos").unwrap_or(0),
         answers: text_in(document, "answers") != "none",
@@ -201,5 +264,6 @@ fn written_in(alloc: Global, document: &Table) -> Result<Written<'_>, AllocError
         invariants,
         given: has_key(document, "flow"),
         flows,
+        templates,
     })
 }

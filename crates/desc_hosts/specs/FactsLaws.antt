@@ -15,7 +15,7 @@ use Rattle.desc_form.specs.declared.refusal.Place.TheVariants as place
 use Rattle.desc_form.specs.declared.refusal.Refusal.{Refusal}
 use Rattle.desc_form.specs.declared.refusal.Why.TheVariants.{BadVersion, TooMany, BadName, BadPrefix, HostBits, NoAddress}
 use Rattle.desc_hosts.specs.EntriesLaws.{all_texts, length_texts, no_pair_texts}
-use Rattle.desc_hosts.specs.HostConditions.{Entry, all_entries, bad_name, bad_prefix, bad_version, beyond, duplicate_host, entries_meet, has_host_bits, host_bits, host_conditions, is_prefix, is_version, no_address, overlap, too_many, too_many_prefixes, two_rests}
+use Rattle.desc_hosts.specs.HostConditions.{Entry, all_entries, bad_name, bad_prefix, bad_version, beyond, duplicate_host, entries_meet, has_host_bits, host_bits, host_conditions, is_prefix, is_version, no_address, overlap, template_limit, too_many, too_many_prefixes, two_rests}
 use Rattle.desc_hosts.specs.HostFacts.{AreApart, HasAddress, HasHosts, SaysExact, SaysPrefix, texts}
 use Rattle.desc_hosts.specs.HostsLaws.{none_beyond, unrefused}
 use Rattle.desc_hosts.specs.Mentions.{Mention, all_names, assign_names, flow_names}
@@ -109,22 +109,25 @@ few_entries es =
     )
 
 pub sizes_are : (w : Written)
-    → (too_many w.hosts (all_entries w) w.invariants ≡ None)
-    ↔ ((length w.hosts ≤ host_limit) × (length (texts w.hosts) ≤ prefix_limit) × (length w.invariants ≤ invariant_limit))
+    → (too_many w.hosts (all_entries w) w.invariants w.templates ≡ None)
+    ↔ ((length w.hosts ≤ host_limit) × (length (texts w.hosts) ≤ prefix_limit) × (length w.invariants ≤ invariant_limit) × (length w.templates ≤ template_limit))
 unfolding too_many
 sizes_are w =
     let hosts = none_beyond_limit host_limit place.Host w.hosts in
     let entries = few_entries (all_entries w) in
     let invariants = none_beyond_limit invariant_limit place.Invariant w.invariants in
+    let templates = none_beyond_limit template_limit place.Template w.templates in
     let count = length_texts w in (
       λ h. let (first, others) = neither (beyond host_limit place.Host w.hosts) _ h in
           let (second, last) = neither (too_many_prefixes (all_entries w)) _ others in
-          let (third, _) = neither (beyond invariant_limit place.Invariant w.invariants) _ last in
-          (hosts.0 first, subst (λ n. n ≤ prefix_limit) (sym count) (entries.0 second), invariants.0 third),
-      λ (few_hosts, few_prefixes, few_invariants).
+          let (third, behind) = neither (beyond invariant_limit place.Invariant w.invariants) _ last in
+          let (fourth, _) = neither (beyond template_limit place.Template w.templates) _ behind in
+          (hosts.0 first, subst (λ n. n ≤ prefix_limit) (sym count) (entries.0 second), invariants.0 third, templates.0 fourth),
+      λ (few_hosts, few_prefixes, few_invariants, few_templates).
           none_of_both (beyond host_limit place.Host w.hosts) _ (hosts.1 few_hosts)
           (none_of_both (too_many_prefixes (all_entries w)) _ (entries.1 (subst (λ n. n ≤ prefix_limit) count few_prefixes))
-          (none_of_both (beyond invariant_limit place.Invariant w.invariants) None (invariants.1 few_invariants) refl)),
+          (none_of_both (beyond invariant_limit place.Invariant w.invariants) _ (invariants.1 few_invariants)
+          (none_of_both (beyond template_limit place.Template w.templates) None (templates.1 few_templates) refl))),
     )
 
 -- facts that hold exactly where others do
@@ -290,13 +293,14 @@ all_apart w =
 facts : (w : Written) → first_of (host_conditions w) ≡ None → HasHosts w
 facts w h =
     let free = unrefused w h in
-    let (few_hosts, few_prefixes, few_invariants) = (sizes_are w).0 free.sizes in
+    let (few_hosts, few_prefixes, few_invariants, few_templates) = (sizes_are w).0 free.sizes in
     let (host_names, assign_names, flow_names) = (names_are w).0 free.names in
     record {
       version = (version_is w.version).0 free.version;
       few_hosts = few_hosts;
       few_prefixes = few_prefixes;
       few_invariants = few_invariants;
+      few_templates = few_templates;
       host_names = host_names;
       assign_names = assign_names;
       flow_names = flow_names;
@@ -312,7 +316,7 @@ none_holds : (w : Written) → HasHosts w → first_of (host_conditions w) ≡ N
 unfolding host_conditions
 none_holds w is =
     none_of_both (bad_version w.version) _ ((version_is w.version).1 is.version)
-    (none_of_both (too_many w.hosts (all_entries w) w.invariants) _ ((sizes_are w).1 (is.few_hosts, is.few_prefixes, is.few_invariants))
+    (none_of_both (too_many w.hosts (all_entries w) w.invariants w.templates) _ ((sizes_are w).1 (is.few_hosts, is.few_prefixes, is.few_invariants, is.few_templates))
     (none_of_both (bad_name (all_names w)) _ ((names_are w).1 (is.host_names, is.assign_names, is.flow_names))
     (none_of_both (duplicate_host w.hosts) _ ((hosts_differ w.hosts).1 is.distinct)
     (none_of_both (bad_prefix (all_entries w)) _ ((all_prefixes w).1 is.prefixes)

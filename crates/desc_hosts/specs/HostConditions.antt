@@ -5,13 +5,14 @@ use Rattle.std.specs.Option.{option_map_or}
 use Rattle.std.specs.Ordering.{int_eq}
 use Rattle.std.specs.Str.{bytes_eq}
 use Rattle.desc_form.specs.declared.refusal.Place.{Place}
-use Rattle.desc_form.specs.declared.refusal.Place.TheVariants.{Document, Host, Invariant}
+use Rattle.desc_form.specs.declared.refusal.Place.TheVariants.{Document, Host, Invariant, Template}
 use Rattle.desc_form.specs.declared.refusal.Refusal.{Refusal}
 use Rattle.desc_form.specs.declared.refusal.Why.TheVariants.{BadVersion, TooMany, BadName, DuplicateHost, BadPrefix, HostBits, NoAddress, TwoRests, Overlap}
 use Rattle.text_core.specs.Firsts.{where_holds, first_of, numbered, Numbered, first_pair}
 use Rattle.desc_hosts.specs.Mentions.{Mention, all_names}
 use Rattle.desc_form.specs.Refusals.{refused, refused_item, refused_by, refused_item_by}
 use Rattle.desc_form.specs.Written.{Written, WrittenHost, WrittenInvariant}
+use Rattle.desc_form.specs.WrittenTemplate.{WrittenTemplate}
 use Rattle.text_core.specs.Name.{is_name}
 use Rattle.host_net.specs.Host.{lacks_address}
 use Rattle.host_net.specs.Limits.{host_limit, prefix_limit, invariant_limit}
@@ -45,6 +46,10 @@ is_version version = int_eq version (pos 1) || int_eq version (pos 2)
 unfoldable pub bad_version : ℤ → Option Refusal
 bad_version version = where_holds (not (is_version version)) (refused BadVersion Document)
 
+-- how many templates may be declared
+abbrev pub template_limit : ℕ
+template_limit = 16
+
 -- a list has more elements than a limit: the first beyond it
 abbrev pub beyond : {A : Type 0} → ℕ → (ℕ → Place) → List A → Option Refusal
 beyond limit place xs = where_holds (nat_lt limit (length xs)) (refused TooMany (place (limit + 1)))
@@ -53,9 +58,15 @@ beyond limit place xs = where_holds (nat_lt limit (length xs)) (refused TooMany 
 abbrev pub too_many_prefixes : List Entry → Option Refusal
 too_many_prefixes es = option_map (λ e. refused_item TooMany (Host e.host) e.item) (slice_get es prefix_limit)
 
--- 7: there are too many hosts, then too many prefixes, then too many invariants
-unfoldable pub too_many : List WrittenHost → List Entry → List WrittenInvariant → Option Refusal
-too_many hs es invariants = first_of (beyond host_limit Host hs ∷ too_many_prefixes es ∷ beyond invariant_limit Invariant invariants ∷ [])
+-- 7: there are too many hosts, then too many prefixes, then too many invariants, then too many templates
+unfoldable pub too_many : List WrittenHost → List Entry → List WrittenInvariant → List WrittenTemplate → Option Refusal
+too_many hs es invariants templates =
+    first_of
+    (beyond host_limit Host hs
+    ∷ too_many_prefixes es
+    ∷ beyond invariant_limit Invariant invariants
+    ∷ beyond template_limit Template templates
+    ∷ [])
 
 -- 8: a text in the place of a name is no legal name
 unfoldable pub bad_name : List Mention → Option Refusal
@@ -111,7 +122,7 @@ address_conditions hs es = bad_prefix es ∷ host_bits es ∷ no_address hs ∷ 
 unfoldable pub host_conditions : Written → List (Option Refusal)
 host_conditions w =
     bad_version w.version
-    ∷ too_many w.hosts (all_entries w) w.invariants
+    ∷ too_many w.hosts (all_entries w) w.invariants w.templates
     ∷ bad_name (all_names w)
     ∷ duplicate_host w.hosts
     ∷ address_conditions w.hosts (all_entries w)

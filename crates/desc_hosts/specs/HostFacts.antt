@@ -3,6 +3,7 @@
 use Rattle.std.specs.Prelude.{◌≡◌, ◌≢◌, ◌↔◌, ◌⊎◌, ◌≤◌, ◌<◌, ℕ, pos, true, IsTrue, List, [], length, flat_map, Some}
 use Rattle.std.specs.List.{All, AllPairs}
 use Rattle.desc_form.specs.Written.{Written, WrittenHost}
+use Rattle.desc_hosts.specs.HostConditions.{template_limit}
 use Rattle.host_net.specs.Limits.{host_limit, invariant_limit, prefix_limit}
 use Rattle.host_net.specs.PrefixView.{ShareAddress}
 use Rattle.host_net.specs.Prefix.{is_exact, prefix_of}
@@ -34,6 +35,7 @@ pub record HasHosts (w : Written) : Type 0 where
   pub few_hosts : length w.hosts ≤ host_limit
   pub few_prefixes : length (texts w.hosts) ≤ prefix_limit
   pub few_invariants : length w.invariants ≤ invariant_limit
+  pub few_templates : length w.templates ≤ template_limit
   pub host_names : All (λ h. IsTrue (is_name h.name)) w.hosts
   pub assign_names : All (λ i. All (λ a. IsTrue (is_name a.host)) i.assigns) w.invariants
   pub flow_names : All (λ f. IsTrue (is_name f.from) × IsTrue (is_name f.to)) w.flows

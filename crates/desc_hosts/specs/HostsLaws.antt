@@ -32,7 +32,7 @@ use Rattle.host_net.specs.declared.prefix.Prefix.{Prefix}
 -- none of the conditions refuses the description
 pub record IsUnrefused (w : Written) : Type 0 where
   pub version : bad_version w.version ≡ None
-  pub sizes : too_many w.hosts (all_entries w) w.invariants ≡ None
+  pub sizes : too_many w.hosts (all_entries w) w.invariants w.templates ≡ None
   pub names : bad_name (all_names w) ≡ None
   pub distinct : duplicate_host w.hosts ≡ None
   pub prefixes : bad_prefix (all_entries w) ≡ None
@@ -45,7 +45,7 @@ pub unrefused : (w : Written) → first_of (host_conditions w) ≡ None → IsUn
 unfolding host_conditions
 unrefused w h =
     let (version, from_7) = neither (bad_version w.version) _ h in
-    let (sizes, from_8) = neither (too_many w.hosts (all_entries w) w.invariants) _ from_7 in
+    let (sizes, from_8) = neither (too_many w.hosts (all_entries w) w.invariants w.templates) _ from_7 in
     let (names, from_9) = neither (bad_name (all_names w)) _ from_8 in
     let (distinct, from_10) = neither (duplicate_host w.hosts) _ from_9 in
     let (prefixes, from_11) = neither (bad_prefix (all_entries w)) _ from_10 in
@@ -93,7 +93,7 @@ pub record IsSmall (w : Written) : Type 0 where
   pub prefixes : length (all_entries w) ≤ prefix_limit
   pub invariants : length w.invariants ≤ invariant_limit
 
-small_by : (w : Written) → too_many w.hosts (all_entries w) w.invariants ≡ None → IsSmall w
+small_by : (w : Written) → too_many w.hosts (all_entries w) w.invariants w.templates ≡ None → IsSmall w
 unfolding too_many
 small_by w h =
     let (hosts, others) = neither (beyond host_limit at_host.Host w.hosts) _ h in

@@ -44,7 +44,7 @@ fn first_refusal(written: &Written<'_>, entries: &[Entry]) -> Option<Refusal>
     if version.is_some() {
         return version;
     }
-    let size = too_many(&written.hosts, entries, &written.invariants);
+    let size = too_many(written, entries);
     if size.is_some() {
         return size;
     }

@@ -6,7 +6,7 @@ use Rattle.std.proofs.lemmas.Fmt.{length-decimal-le}
 use Rattle.desc_form.specs.Refusals.{name, number}
 use Rattle.desc_form.specs.declared.refusal.Refusal.{Refusal}
 use Rattle.desc_form.specs.declared.refusal.Why.{Why}
-use Rattle.desc_form.specs.declared.refusal.Why.TheVariants.{TooLong, NotToml, UnknownKey, MissingKey, WrongType, BadVersion, TooMany, BadName, DuplicateHost, BadPrefix, HostBits, NoAddress, TwoRests, Overlap, UnknownTemplate, UndeclaredHost, DuplicateAssign, BadAttribute, SelfFlow, DuplicateFlow, BadService, ManyServices}
+use Rattle.desc_form.specs.declared.refusal.Why.TheVariants.{TooLong, NotToml, UnknownKey, MissingKey, WrongType, BadVersion, TooMany, BadName, DuplicateHost, BadPrefix, HostBits, NoAddress, TwoRests, Overlap, UnknownTemplate, UndeclaredHost, DuplicateAssign, BadAttribute, SelfFlow, DuplicateFlow, BadService, ManyServices, BadTemplate, NotLawful}
 use Rattle.report_core.specs.RefusalLine.{cause_text, if_named, if_told, place_text, refusal_text}
 
 pub decimal_short : (n : ℕ) → n < 2 ^ 64 → length (decimal n) ≤ 20
@@ -56,6 +56,8 @@ name_short SelfFlow = omega arith
 name_short DuplicateFlow = omega arith
 name_short BadService = omega arith
 name_short ManyServices = omega arith
+name_short BadTemplate = omega arith
+name_short NotLawful = omega arith
 
 pub cause_short : (why : Why) → number why < 2 ^ 64 → length (cause_text why) ≤ 36
 unfolding cause_text

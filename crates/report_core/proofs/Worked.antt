@@ -4,9 +4,9 @@ use Rattle.std.specs.Prelude.{◌≡◌, ℕ, true, false, List, [], ◌∷◌, 
 use Rattle.net_core.specs.Network.{Network}
 use Rattle.flow_set.specs.EveryFlow.{every_flow}
 use Rattle.desc_form.specs.Refusals.{refused, refused_item, refused_by, refused_item_by, refused_name}
-use Rattle.desc_form.specs.declared.refusal.Place.TheVariants.{Document, Host, Assign, FlowAt}
+use Rattle.desc_form.specs.declared.refusal.Place.TheVariants.{Document, Host, Assign, FlowAt, Template}
 use Rattle.desc_form.specs.declared.refusal.Refusal.{Refusal}
-use Rattle.desc_form.specs.declared.refusal.Why.TheVariants.{NotToml, UnknownKey, BadVersion, TooMany, DuplicateHost, BadPrefix, HostBits, TwoRests, Overlap, UndeclaredHost, BadAttribute, SelfFlow, DuplicateFlow, BadService, ManyServices}
+use Rattle.desc_form.specs.declared.refusal.Why.TheVariants.{NotToml, UnknownKey, BadVersion, TooMany, DuplicateHost, BadPrefix, HostBits, TwoRests, Overlap, UndeclaredHost, BadAttribute, SelfFlow, DuplicateFlow, BadService, ManyServices, BadTemplate, NotLawful}
 use Rattle.flow_set.specs.declared.flow.Flow.{Flow}
 use Rattle.host_net.specs.Host as hosts
 use Rattle.inv_any.specs.declared.any_inv.AnyInv.{AnyInv}
@@ -38,6 +38,8 @@ refusals =
     ∷ row (refused_by TwoRests (Host 2) 1) (codes "13 TwoRests at host 2, other 1\n")
     ∷ row (refused_by DuplicateHost (Host 2) 1) (codes "9 DuplicateHost at host 2, other 1\n")
     ∷ row (refused_item BadService (FlowAt 1) 3) (codes "21 BadService at flow 1 item 3\n")
+    ∷ row (refused BadTemplate (Template 2)) (codes "23 BadTemplate at template 2\n")
+    ∷ row (refused_item NotLawful (Template 1) 1) (codes "24 NotLawful at template 1 item 1\n")
     ∷ row (refused ManyServices (FlowAt 2)) (codes "22 ManyServices at flow 2\n")
     ∷ row (refused TooMany (Host 257)) (codes "7 TooMany at host 257\n")
     ∷ row (refused BadVersion Document) (codes "6 BadVersion at document\n")

@@ -1,7 +1,7 @@
 -- The line that tells a refusal of a description (docs/FORMATS.md).
 use Rattle.std.specs.Prelude.{ℕ, zero, suc, List, [], ◌∷◌, ◌++◌, codes, decimal}
 use Rattle.desc_form.specs.declared.refusal.Place.{Place}
-use Rattle.desc_form.specs.declared.refusal.Place.TheVariants.{Document, Host, Invariant, Assign, FlowAt}
+use Rattle.desc_form.specs.declared.refusal.Place.TheVariants.{Document, Host, Invariant, Assign, FlowAt, Template}
 use Rattle.desc_form.specs.declared.refusal.Refusal.{Refusal}
 use Rattle.desc_form.specs.declared.refusal.Why.{Why}
 use Rattle.desc_form.specs.Refusals.{number, name}
@@ -12,6 +12,7 @@ place_text (Host k) = codes "host " ++ decimal k
 place_text (Invariant k) = codes "invariant " ++ decimal k
 place_text (Assign k m) = codes "invariant " ++ (decimal k ++ (codes " assign " ++ decimal m))
 place_text (FlowAt k) = codes "flow " ++ decimal k
+place_text (Template k) = codes "template " ++ decimal k
 
 -- a number after a word, where there is one
 abbrev pub if_told : List ℕ → ℕ → List ℕ

@@ -50,6 +50,7 @@ fn put_place(buffer: &mut [u8; 256], at: usize, place: Place) -> usize
             put_numbered(buffer, invariant, b" assign ", assign)
         }
         Place::FlowAt(flow) => put_numbered(buffer, at, b"flow ", flow),
+        Place::Template(template) => put_numbered(buffer, at, b"template ", template),
     }
 }
 

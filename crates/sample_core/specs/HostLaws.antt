@@ -130,6 +130,7 @@ sample_has_hosts n few =
       few_hosts = omega (arith, length_made sample_host 0 n, few);
       few_prefixes = omega (arith, counted, few);
       few_invariants = omega arith;
+      few_templates = omega arith;
       host_names = each_made (λ h. IsTrue (is_name h.name)) sample_host n (λ k small. name_legal k (below k small)) (sample_hosts n) every;
       assign_names = both_named n below;
       flow_names = All-nil (λ (f : WrittenFlow). IsTrue (is_name f.from) × IsTrue (is_name f.to));

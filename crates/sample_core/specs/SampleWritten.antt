@@ -25,4 +25,5 @@ sample_written n = record {
   invariants = sample_invariants n;
   given = false;
   flows = [];
+  templates = [];
 }

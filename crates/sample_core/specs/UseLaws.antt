@@ -10,6 +10,8 @@ use Rattle.attr_core.specs.Kinds.{kind_of}
 use Rattle.attr_core.specs.Partners.{listless_keys, master_keys, partner_kind, partners_attribute, partners_form}
 use Rattle.attr_core.specs.Shapes.{has_shape, of_shape}
 use Rattle.attr_core.specs.Templates.{bad_in, template_named}
+use Rattle.desc_core.specs.Choices.{Choice, OneOfTen, bad_of, chosen}
+use Rattle.desc_core.specs.TemplateFacts.{HasPartner, IsTemplate}
 use Rattle.attr_core.specs.declared.template.Template.{Template}
 use Rattle.attr_core.specs.declared.template.Template.TheVariants.{Blp, Partners}
 use Rattle.desc_core.specs.UseConditions.{is_declared}
@@ -82,14 +84,15 @@ none_bad said Fine fine hosts (a ∷ assigns) all gs earlier is =
     subst (λ g. bad_from said earlier g ≡ None) (sym same) (rw here behind)
 
 known_parts : (hosts : List Host) (i : WrittenInvariant) (t : Template) (k : Known) → template_named i.template ≡ Some t
-    → known_of hosts i ≡ Some k
-    → (gs : List Given) × (each (given_by hosts) i.assigns ≡ Some gs) × (k ≡ record { template = t; assigns = gs })
+    → known_of [] hosts i ≡ Some k
+    → (gs : List Given) × (each (given_by hosts) i.assigns ≡ Some gs) × (k ≡ record { template = OneOfTen t; assigns = gs })
 unfolding known_of
 known_parts hosts i t k named said =
-    let (u, is_u, rest) = bind_some (template_named i.template) _ k said in
+    let (u, is_u, rest) = bind_some (chosen [] i.template) _ k said in
     let (gs, is_gs, made) = bind_some (each (given_by hosts) i.assigns) _ k rest in
-    let same : u ≡ t = some_same u t (sym is_u ∙ named) in
-    (gs, is_gs, sym (some_same _ k made) ∙ ap (λ (x : Template). record { template = x; assigns = gs }) same)
+    let ten : chosen [] i.template ≡ Some (OneOfTen t) = rw named refl in
+    let same : u ≡ OneOfTen t = some_same u (OneOfTen t) (sym is_u ∙ ten) in
+    (gs, is_gs, sym (some_same _ k made) ∙ ap (λ (x : Choice). record { template = x; assigns = gs }) same)
 
 -- levels
 abbrev IsLevel : Members → Type 0
@@ -112,13 +115,13 @@ named_blp : template_named (codes "blp") ≡ Some Blp
 unfolding template_named
 named_blp = refl
 
-levels_good : (hosts : List Host) (ks : List ℕ) → SaysAttributes hosts (sample_invariant (codes "blp") level_table ks)
-unfolding bad_in
+levels_good : (hosts : List Host) (ks : List ℕ) → SaysAttributes [] hosts (sample_invariant (codes "blp") level_table ks)
+unfolding bad_of bad_in
 levels_good hosts ks k said =
     let (gs, is, same) = known_parts hosts (sample_invariant (codes "blp") level_table ks) Blp k named_blp said in
     let levels : All (λ a. IsLevel a.table) (map (sample_assign level_table) ks) =
     every_made (λ a. IsLevel a.table) (sample_assign level_table) ks (λ j. (j, refl)) in
-    subst (λ (x : Known). bad_in hosts x.template x.assigns ≡ None) (sym same)
+    subst (λ (x : Known). bad_of hosts x.template x.assigns ≡ None) (sym same)
     (none_bad (says blp_form hosts) IsLevel (level_said hosts) hosts (map (sample_assign level_table) ks) levels gs [] is)
 
 -- care
@@ -144,13 +147,13 @@ named_partners : template_named (codes "partners") ≡ Some Partners
 unfolding template_named
 named_partners = refl
 
-care_good : (hosts : List Host) (ks : List ℕ) → SaysAttributes hosts (sample_invariant (codes "partners") care_table ks)
-unfolding bad_in
+care_good : (hosts : List Host) (ks : List ℕ) → SaysAttributes [] hosts (sample_invariant (codes "partners") care_table ks)
+unfolding bad_of bad_in
 care_good hosts ks k said =
     let (gs, is, same) = known_parts hosts (sample_invariant (codes "partners") care_table ks) Partners k named_partners said in
     let cares : All (λ a. IsCare a.table) (map (sample_assign care_table) ks) =
     every_made (λ a. IsCare a.table) (sample_assign care_table) ks (λ j. (j, refl)) in
-    subst (λ (x : Known). bad_in hosts x.template x.assigns ≡ None) (sym same)
+    subst (λ (x : Known). bad_of hosts x.template x.assigns ≡ None) (sym same)
     (none_bad (says partners_form hosts) IsCare (care_said hosts) hosts (map (sample_assign care_table) ks) cares gs [] is)
 
 -- of both invariants
@@ -164,11 +167,15 @@ assigned_once made n few ks below ascends =
     pairs_made (λ a b. a.host ≢ b.host) (sample_assign made) n
     (λ i j small other lower. names_differ i j (omega (arith, small, few)) (omega (arith, other, few)) lower) ks below ascends
 
+-- a name of the ten is chosen, and no template is declared
+ten_chosen : (name : List ℕ) (t : Template) → template_named name ≡ Some t → is_some (chosen [] name) ≡ true
+ten_chosen name t named = rw named refl
+
 pub sample_has_uses : (n : ℕ) → n ≤ host_limit → HasUses (sample_written n)
 sample_has_uses n few =
     let Known_in : WrittenAssign → Type 0 = λ a. IsTrue (is_declared (sample_written n) a.host) in
     record {
-      templates = of_both (λ i. IsTrue (is_some (template_named i.template))) n (ap is_some named_blp) (ap is_some named_partners);
+      templates = of_both (λ i. IsTrue (is_some (chosen [] i.template))) n (ten_chosen (codes "blp") Blp named_blp) (ten_chosen (codes "partners") Partners named_partners);
       assigned = of_both (λ i. All (λ a. IsTrue (is_declared (sample_written n) a.host)) i.assigns) n
           (each_made Known_in (sample_assign level_table) n (declared n) (sample_hosts n) (hosts_below n))
           (each_made Known_in (sample_assign care_table) n (declared n) (hosts_in_care n) (care_below n));
@@ -177,11 +184,14 @@ sample_has_uses n few =
           (assigned_once level_table n few (sample_hosts n) (hosts_below n) (range_ascends 0 n))
           (assigned_once care_table n few (hosts_in_care n) (care_below n)
           (AllPairs-filter Ascends is_in_care (sample_hosts n) (range_ascends 0 n)));
-      attributes = of_both (SaysAttributes (network_hosts (sample_written n))) n
+      attributes = of_both (SaysAttributes [] (network_hosts (sample_written n))) n
           (levels_good (network_hosts (sample_written n)) (sample_hosts n))
           (care_good (network_hosts (sample_written n)) (hosts_in_care n));
       apart = All-nil (λ f. f.from ≢ f.to);
       different = λ i j d lower within. absurd (omega (arith, within));
       services = All-nil (λ f. All (λ text. IsTrue (is_some (service_of text))) f.services);
       few = All-nil (λ f. length f.services ≤ service_limit);
+      declared = All-nil IsTemplate;
+      distinct = λ i j d lower within. absurd (omega (arith, within));
+      lawful = All-nil (λ t. All (HasPartner t) t.deny);
     }

@@ -55,6 +55,7 @@ sample_formed n = record {
   given = refl;
   flows = refl;
   whole = λ other. All-nil (λ (f : WrittenFlow). f.services ≡ []);
+  templates = refl;
 }
 
 -- ---- what is written
@@ -94,4 +95,5 @@ written_is n = λ i. record {
       ∷ [];
   given = false;
   flows = [];
+  templates = [];
 }

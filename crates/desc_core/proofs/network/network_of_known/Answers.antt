@@ -2,7 +2,8 @@ use Rattle.std.proofs.Common.{ℕ, map, subst, sym, ◌∙◌}
 use Rattle.std.proofs.lemmas.Result.{err_from_is_err_and}
 use Rattle.std.specs.Prelude.{All}
 use Rattle.desc_core.proofs.KnownLaws.{are_flows}
-use Rattle.desc_core.proofs.NetworkLemmas.{asked_fails, asked_made, network_read, none_before, refused_before, refused_services}
+use Rattle.desc_core.proofs.MakeableLaws.{known_makeable}
+use Rattle.desc_core.proofs.NetworkLemmas.{asked_fails, asked_made, network_read, none_before, refused_before, refused_services, refused_templates}
 use Rattle.desc_core.proofs.ServicesLemmas.{all_different, all_few}
 use Rattle.desc_core.proofs.ServicesWalk.{as_many_written}
 use Rattle.desc_core.specs.KnownView.{known_view}
@@ -40,6 +41,21 @@ returns-in-Some-service_refusal c =
     refused_services w c.args.hosts ks c.args.flows.now c.in-Some-service_refusal.refusal (record { same = c.requires.hosts; known = c.requires.known; found = c.requires.found }) before made.0
     (sym (rw c.deref.ensures.value at c.service_refusal.ensures) ∙ c.in-Some-service_refusal.is)
 
+pub returns-in-Some-template_refusal : goal.returns-in-Some-template_refusal
+returns-in-Some-template_refusal c =
+    let w = written_view c.args.written.now in
+    let ks = map known_view c.args.invariants.now in
+    let before = sym c.in_ok-refusal.ensures ∙ c.in_default.is in
+    let made = asked_made w c.args.hosts ks c.args.flows.now c.count.result c.in_ok-asked.asked
+    (record { same = c.requires.hosts; known = c.requires.known; found = c.requires.found }) before c.count.ensures.value c.in_ok-asked.ensures in
+    refused_templates w c.args.hosts ks c.args.flows.now c.in-Some-template_refusal.refusal (record { same = c.requires.hosts; known = c.requires.known; found = c.requires.found }) before made.0
+    (sym (rw c.deref.ensures.value at c.service_refusal.ensures) ∙ c.in_default-service_refusal.is)
+    (sym c.template_refusal.ensures ∙ c.in-Some-template_refusal.is)
+
+pub read_invariants-requires-clause-made : goal.read_invariants-requires-clause-made
+read_invariants-requires-clause-made c =
+    known_makeable (written_view c.args.written.now) c.args.hosts c.args.invariants.now (sym c.template_refusal.ensures ∙ c.in_default-template_refusal.is) c.requires.known
+
 pub read_services-requires-clause-beside : goal.read_services-requires-clause-beside
 read_services-requires-clause-beside c = rw c.deref-2.ensures.value (as_many_written c.args.hosts c.args.written.now.flows.items c.args.flows.now c.requires.found)
 
@@ -67,7 +83,7 @@ new-requires c =
     (record { same = c.requires.hosts; known = c.requires.known; found = c.requires.found }) before c.count.ensures.value c.in_ok-asked.ensures in
     (network_read w c.args.hosts ks c.args.flows.now c.in_ok-asked.asked c.in_ok-services.services c.in_ok-invariants.invariants.items
     (record { same = c.requires.hosts; known = c.requires.known; found = c.requires.found }) c.requires.unrefused before made.0
-    (sym (rw c.deref.ensures.value at c.service_refusal.ensures) ∙ c.in_default-service_refusal.is) made.1 (rw c.deref-2.ensures.value at c.in_ok-services.ensures) c.in_ok-invariants.ensures).0
+    (sym (rw c.deref.ensures.value at c.service_refusal.ensures) ∙ c.in_default-service_refusal.is) (sym c.template_refusal.ensures ∙ c.in_default-template_refusal.is) made.1 (rw c.deref-2.ensures.value at c.in_ok-services.ensures) c.in_ok-invariants.ensures).0
 
 pub returns : goal.returns
 returns c =
@@ -79,4 +95,4 @@ returns c =
     rw c.new.ensures
     (network_read w c.args.hosts ks c.args.flows.now c.in_ok-asked.asked c.in_ok-services.services c.in_ok-invariants.invariants.items
     (record { same = c.requires.hosts; known = c.requires.known; found = c.requires.found }) c.requires.unrefused before made.0
-    (sym (rw c.deref.ensures.value at c.service_refusal.ensures) ∙ c.in_default-service_refusal.is) made.1 (rw c.deref-2.ensures.value at c.in_ok-services.ensures) c.in_ok-invariants.ensures).1
+    (sym (rw c.deref.ensures.value at c.service_refusal.ensures) ∙ c.in_default-service_refusal.is) (sym c.template_refusal.ensures ∙ c.in_default-template_refusal.is) made.1 (rw c.deref-2.ensures.value at c.in_ok-services.ensures) c.in_ok-invariants.ensures).1

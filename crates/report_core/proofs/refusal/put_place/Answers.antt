@@ -24,3 +24,7 @@ returns-in-Assign-clause-short c =
 pub returns-in-FlowAt-clause-short : goal.returns-in-FlowAt-clause-short
 unfolding place_text
 returns-in-FlowAt-clause-short c = rw c.in-FlowAt.is (omega (arith, c.put_numbered-in-FlowAt.ensures.short))
+
+pub returns-in-Template-clause-short : goal.returns-in-Template-clause-short
+unfolding place_text
+returns-in-Template-clause-short c = rw c.in-Template.is (omega (arith, c.put_numbered-in-Template.ensures.short))

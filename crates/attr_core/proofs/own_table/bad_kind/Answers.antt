@@ -1,0 +1,13 @@
+use Rattle.std.proofs.Common.{Bor, List, ℕ, map, is_some, sym, ap, ◌∙◌}
+use Rattle.attr_core.specs.AssignView.{given_of}
+use Rattle.attr_core.specs.Assigns.{Given}
+use Rattle.attr_core.specs.Bad.{first_failing}
+use Rattle.attr_core.specs.OwnTablesLaws.{bad_kinds}
+use Rattle.attr_core.specs.OwnTablesWalk.{kind_said}
+use Rattle.attr_core.proofs.own_table.bad_kind.Goals as goal
+
+pub returns : goal.returns
+returns c d hosts same =
+    c.first_silent.ensures
+    ∙ ap (λ (words : List (List ℕ)). first_failing (λ (a : Given). is_some (kind_said words a.table)) 0 (map given_of c.args.assigns.now)) (sym same)
+    ∙ sym (bad_kinds d hosts (map given_of c.args.assigns.now))

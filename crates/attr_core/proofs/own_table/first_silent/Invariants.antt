@@ -1,0 +1,11 @@
+use Rattle.std.proofs.Common.{◌≡◌, Bor, List, ℕ, map, drop, is_some}
+use Rattle.attr_core.specs.AssignView.{given_of}
+use Rattle.attr_core.specs.Assigns.{Given}
+use Rattle.attr_core.specs.Bad.{first_failing}
+use Rattle.attr_core.specs.OwnTablesWalk.{kind_said}
+use Rattle.attr_core.proofs.own_table.first_silent.Given as goal
+
+abbrev pub invariant-loop-place : goal.invariant-loop-place
+invariant-loop-place l =
+    first_failing (λ (a : Given). is_some (kind_said (map (λ (known : Bor (List ℕ)). known.now) l.words) a.table)) l.place (map given_of (drop l.place l.assigns))
+    ≡ first_failing (λ (a : Given). is_some (kind_said (map (λ (known : Bor (List ℕ)). known.now) l.words) a.table)) 0 (map given_of l.assigns)

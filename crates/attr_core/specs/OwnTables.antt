@@ -1,0 +1,31 @@
+-- A template that a description declares as a table: an assign says a kind, by the table's word for it.
+-- The keys of an assign of such a template: docs/FORMATS.md.
+use Rattle.std.specs.Prelude.{ℕ, List, [], ◌∷◌, Option, None, codes, if◌then◌else◌}
+use Rattle.std.specs.List.{position_from}
+use Rattle.std.specs.Str.{bytes_eq}
+use Rattle.inv_any.specs.declared.any_inv.AnyInv.TheVariants as any
+use Rattle.tmpl_table.specs.KindTable.{KindTable, declared}
+use Rattle.toml.specs.Data.{Members}
+use Rattle.attr_core.specs.Alone.{alone}
+use Rattle.attr_core.specs.Forms.{Form}
+use Rattle.attr_core.specs.Kinds.{kind_of}
+use Rattle.attr_core.specs.Shapes.{has_shape, host_key}
+use Rattle.table_core.specs.Keys.{Key, Text, needed}
+
+-- the words for its kinds, in order, and the table of their numbers
+pub record Declared : Type 0 where
+  pub words : List (List ℕ)
+  pub table : KindTable
+
+-- the number of a kind, from 0, by its word
+abbrev pub kind_numbered : List (List ℕ) → List ℕ → Option ℕ
+kind_numbered words word = position_from (bytes_eq word) 0 words
+
+abbrev pub table_keys : List Key
+table_keys = host_key ∷ needed (codes "kind") Text ∷ []
+
+-- the template in descriptions
+abbrev pub table_form : Declared → Form
+table_form d =
+    alone (declared d.table) (table_keys ∷ []) (λ hosts host table. kind_numbered d.words (kind_of table))
+    (λ hosts. any.Table (record { table = d.table; hosts = hosts }))

@@ -1,0 +1,12 @@
+use Rattle.std.proofs.Common.{◌≡◌, ◌+◌, ◌&&◌, [], map, drop, take, not, option_map, Bor, List, ℕ}
+use Rattle.std.specs.Prelude.{find}
+use Rattle.std.specs.List.{list_all, list_any}
+use Rattle.std.specs.Str.{bytes_eq}
+use Rattle.desc_form.specs.WrittenTemplate.{WrittenPair, WrittenTemplate}
+use Rattle.desc_form.specs.WrittenView.{pair_view, template_view}
+use Rattle.text_core.specs.Name.{is_name}
+use Rattle.desc_core.proofs.templates.are_names.Given as goal
+
+abbrev pub invariant-loop-word : goal.invariant-loop-word
+invariant-loop-word l =
+    list_all is_name (map (λ (word : Bor (List ℕ)). word.now) (drop l.word-index l.words)) ≡ list_all is_name (map (λ (word : Bor (List ℕ)). word.now) l.words)

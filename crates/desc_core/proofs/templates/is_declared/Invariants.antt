@@ -1,0 +1,11 @@
+use Rattle.std.proofs.Common.{◌≡◌, ◌+◌, ◌&&◌, [], map, drop, take, not, option_map, Bor, List, ℕ}
+use Rattle.std.specs.Prelude.{find}
+use Rattle.std.specs.List.{list_all, list_any}
+use Rattle.std.specs.Str.{bytes_eq}
+use Rattle.desc_form.specs.WrittenTemplate.{WrittenPair, WrittenTemplate}
+use Rattle.desc_form.specs.WrittenView.{pair_view, template_view}
+use Rattle.desc_core.proofs.templates.is_declared.Given as goal
+
+abbrev pub invariant-loop-template : goal.invariant-loop-template
+invariant-loop-template l =
+    list_any (λ (t : WrittenTemplate). bytes_eq l.name t.name) (map template_view (drop l.template-index l.templates)) ≡ list_any (λ (t : WrittenTemplate). bytes_eq l.name t.name) (map template_view l.templates)

@@ -1,0 +1,12 @@
+use Rattle.std.proofs.Common.{◌≡◌, ◌+◌, ◌&&◌, [], map, drop, take, not, option_map, Bor, List, ℕ}
+use Rattle.std.specs.Prelude.{find}
+use Rattle.std.specs.List.{list_all, list_any}
+use Rattle.std.specs.Str.{bytes_eq}
+use Rattle.desc_form.specs.WrittenTemplate.{WrittenPair, WrittenTemplate}
+use Rattle.desc_form.specs.WrittenView.{pair_view, template_view}
+use Rattle.desc_core.proofs.templates.lists.Given as goal
+
+abbrev pub invariant-loop-pair : goal.invariant-loop-pair
+invariant-loop-pair l =
+    list_any (λ (p : WrittenPair). bytes_eq p.sender l.sender && bytes_eq p.receiver l.receiver) (map pair_view (drop l.pair-index l.pairs))
+    ≡ list_any (λ (p : WrittenPair). bytes_eq p.sender l.sender && bytes_eq p.receiver l.receiver) (map pair_view l.pairs)

@@ -1,0 +1,17 @@
+use Rattle.std.proofs.Common.{◌≡◌, ◌+◌, ◌&&◌, [], map, drop, take, not, option_map, Bor, List, ℕ}
+use Rattle.std.specs.Prelude.{find}
+use Rattle.std.specs.List.{list_all, list_any}
+use Rattle.std.specs.Str.{bytes_eq}
+use Rattle.desc_form.specs.WrittenTemplate.{WrittenPair, WrittenTemplate}
+use Rattle.desc_form.specs.WrittenView.{pair_view, template_view}
+use Rattle.desc_core.specs.TemplateConditions.{are_different, first_bad, has_partner, unlawful_at}
+use Rattle.text_core.specs.Firsts.{Numbered, first_found, numbered_from}
+use Rattle.desc_form.specs.Refusals.{refused_item}
+use Rattle.desc_form.specs.declared.refusal.Place.TheVariants.{Template}
+use Rattle.desc_form.specs.declared.refusal.Why.TheVariants.{NotLawful}
+use Rattle.desc_core.proofs.templates.unlawful_at.Given as goal
+
+abbrev pub invariant-loop-index : goal.invariant-loop-index
+invariant-loop-index l =
+    option_map (λ (p : Numbered WrittenPair). refused_item NotLawful (Template l.number) p.number) (find (λ (p : Numbered WrittenPair). not (has_partner (template_view l.template) p.what)) (numbered_from (l.index + 1) (map pair_view (drop l.index l.template.deny.items))))
+    ≡ option_map (λ (p : Numbered WrittenPair). refused_item NotLawful (Template l.number) p.number) (find (λ (p : Numbered WrittenPair). not (has_partner (template_view l.template) p.what)) (numbered_from 1 (map pair_view l.template.deny.items)))

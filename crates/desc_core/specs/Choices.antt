@@ -1,0 +1,60 @@
+-- The template of an invariant: one of the ten, or one that the description declares as a table (the description's format,
+-- docs/FORMATS.md).
+use Rattle.std.specs.Prelude.{ℕ, List, find, length, map, Option, option_map, unwrap_or, codes, if◌then◌else◌}
+use Rattle.std.specs.Option.{option_or}
+use Rattle.std.specs.Str.{bytes_eq}
+use Rattle.attr_core.specs.Assigns.{Given}
+use Rattle.attr_core.specs.OwnTables.{Declared, kind_numbered, table_form}
+use Rattle.attr_core.specs.Forms.{Form, bad_assign, invariant_by}
+use Rattle.attr_core.specs.Templates.{bad_in, form, invariant_in, template_named}
+use Rattle.attr_core.specs.declared.template.Template.{Template}
+use Rattle.desc_form.specs.WrittenTemplate.{WrittenTemplate}
+use Rattle.host_net.specs.Host.{Host}
+use Rattle.inv_any.specs.declared.any_inv.AnyInv.{AnyInv}
+use Rattle.inv_law.specs.declared.strategy.Strategy.{Strategy}
+use Rattle.inv_law.specs.declared.strategy.Strategy.TheVariants.{Access, Information}
+use Rattle.tmpl_table.specs.KindTable.{KindTable}
+
+pub data Choice : Type 0 where
+  OneOfTen : (template : Template) → Choice
+  OwnTable : (template : WrittenTemplate) → Choice
+
+-- the template of a name: one of the ten, else the first that is declared under it
+abbrev pub chosen : List WrittenTemplate → List ℕ → Option Choice
+chosen templates name =
+    option_or (option_map OneOfTen (template_named name)) (option_map OwnTable (find (λ t. bytes_eq name t.name) templates))
+
+abbrev pub strategy_said : List ℕ → Strategy
+strategy_said word = if bytes_eq word (codes "access") then Access else Information
+
+-- the number of a kind; what is no kind of the template is refused, and does not count
+abbrev pub number_of_kind : WrittenTemplate → List ℕ → ℕ
+number_of_kind t word = unwrap_or (kind_numbered t.kinds word) 0
+
+-- the table of a declared template: its kinds by their numbers
+abbrev pub table_said : WrittenTemplate → KindTable
+table_said t = record {
+  name = t.name;
+  strategy = strategy_said t.strategy;
+  kinds = length t.kinds;
+  default = number_of_kind t t.default;
+  denied = map (λ p. (number_of_kind t p.sender, number_of_kind t p.receiver)) t.deny;
+}
+
+abbrev pub declared_by : WrittenTemplate → Declared
+declared_by t = record { words = t.kinds; table = table_said t }
+
+-- how a description writes the attributes of the template
+abbrev pub choice_form : Choice → Form
+choice_form (OneOfTen t) = form t
+choice_form (OwnTable t) = table_form (declared_by t)
+
+-- the first assign that says no attribute
+unfoldable pub bad_of : List Host → Choice → List Given → Option ℕ
+bad_of hosts (OneOfTen t) assigns = bad_in hosts t assigns
+bad_of hosts (OwnTable t) assigns = bad_assign (table_form (declared_by t)) hosts assigns
+
+-- the invariant whose hosts have the attributes that are assigned
+unfoldable pub made_by : List Host → Choice → List Given → AnyInv
+made_by hosts (OneOfTen t) assigns = invariant_in hosts t assigns
+made_by hosts (OwnTable t) assigns = invariant_by (table_form (declared_by t)) hosts assigns

@@ -1,0 +1,19 @@
+-- Which templates an invariant can be made of: what the private functions ask for that make one. Nothing here has to be believed:
+-- where no condition refuses the description, it holds of each template that an invariant names.
+use Rattle.std.specs.Prelude.{◌≡◌, ◌≤◌, ◌<◌, true, length, IsTrue}
+use Rattle.std.specs.List.{All}
+use Rattle.desc_core.specs.Choices.{Choice, OneOfTen, OwnTable, table_said}
+use Rattle.desc_core.specs.WrittenNetwork.{Known}
+use Rattle.desc_form.specs.WrittenTemplate.{WrittenTemplate}
+use Rattle.text_core.specs.Name.{is_name}
+use Rattle.tmpl_table.specs.KindTable.{is_lawful}
+
+pub record IsMakeable (t : WrittenTemplate) : Type 0 where
+  pub named : IsTrue (is_name t.name)
+  pub some_kinds : 1 ≤ length t.kinds
+  pub few_kinds : length t.kinds ≤ 64
+  pub lawful : is_lawful (table_said t) ≡ true
+
+abbrev pub CanBeMade : Choice → Type 0
+CanBeMade (OneOfTen t) = Unit {0}
+CanBeMade (OwnTable t) = IsMakeable t

@@ -1,0 +1,86 @@
+//! The rule of a declared template: its kinds by their numbers.
+ghost use Rattle.std.specs.Prelude.{◌≡◌, ◌≤◌, ◌<◌, IfOk, length, map, replicate};
+ghost use Rattle.desc_core.specs.Choices.{number_of_kind, strategy_said, table_said};
+ghost use Rattle.desc_core.specs.Makeable.{IsMakeable};
+ghost use Rattle.desc_form.specs.WrittenView.{pair_view, template_view};
+
+use attr_core::kind_numbered;
+use desc_form::{WrittenPair, WrittenTemplate};
+use host_net::Name;
+use inv_law::Strategy;
+use std::alloc::{AllocError, Global};
+use tmpl_table::{TableFault, TableRule};
+
+/// The rule of the template for `n` hosts that have its default kind.
+pub(crate) fn rule_of(
+    alloc: Global,
+    n: u16,
+    template: &WrittenTemplate<'_>,
+) -> Result<TableRule, AllocError>
+    requires { IsMakeable (template_view template.now) }
+    ensures { IfOk result (λ rule. rule ≡ record {
+      table = table_said (template_view template.now);
+      hosts = replicate n (table_said (template_view template.now)).default;
+    }) }
+{
+    let denied = denied_pairs(alloc, template)?;
+    let name = Name::new(template.name.as_bytes()).unwrap_or(Name::none());
+    let strategy = strategy_said(template.strategy);
+    let kinds = template.kinds.len() as u8;
+    let default = number_of_kind(template, template.default);
+    match TableRule::new(alloc, n, name, strategy, kinds, default, &denied) {
+        Ok(rule) => Ok(rule),
+        Err(TableFault::NotLawful { .. }) => unreachable!(),
+        Err(TableFault::Memory) => Err(AllocError),
+    }
+}
+
+fn strategy_said(word: &str) -> Strategy
+    ensures { result ≡ strategy_said word.now }
+{
+    if word == "access" {
+        Strategy::Access
+    } else {
+        Strategy::Information
+    }
+}
+
+/// The number of a kind of the template, by its word.
+fn number_of_kind(template: &WrittenTemplate<'_>, word: &str) -> u8
+    requires some { 1 ≤ length (template_view template.now).kinds }
+    requires few { length (template_view template.now).kinds ≤ 64 }
+    ensures value { result ≡ number_of_kind (template_view template.now) word.now }
+    ensures within { result < length (template_view template.now).kinds }
+{
+    match kind_numbered(&template.kinds, word) {
+        Some(kind) => kind as u8,
+        None => 0,
+    }
+}
+
+/// The pair of the numbers of two kinds.
+fn pair_of(template: &WrittenTemplate<'_>, pair: &WrittenPair<'_>) -> (u8, u8)
+    requires some { 1 ≤ length (template_view template.now).kinds }
+    requires few { length (template_view template.now).kinds ≤ 64 }
+    ensures sender { result.0 ≡ number_of_kind (template_view template.now) (pair_view pair.now).sender }
+    ensures receiver { result.1 ≡ number_of_kind (template_view template.now) (pair_view pair.now).receiver }
+    ensures within { (result.0 < length (template_view template.now).kinds) × (result.1 < length (template_view template.now).kinds) }
+{
+    (
+        number_of_kind(template, pair.sender),
+        number_of_kind(template, pair.receiver),
+    )
+}
+
+/// The denied pairs of the template.
+fn denied_pairs(alloc: Global, template: &WrittenTemplate<'_>) -> Result<Vec<(u8, u8)>, AllocError>
+    requires some { 1 ≤ length (template_view template.now).kinds }
+    requires few { length (template_view template.now).kinds ≤ 64 }
+    ensures { IfOk result (λ pairs. pairs.items ≡ (table_said (template_view template.now)).denied) }
+{
+    let mut pairs = Vec::new(alloc);
+    for pair in &template.deny {
+        pairs.push(pair_of(template, pair))?;
+    }
+    Ok(pairs)
+}

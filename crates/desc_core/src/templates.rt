@@ -1,0 +1,204 @@
+//! The refusals for the templates that a description declares.
+ghost use Rattle.std.specs.Prelude.{◌≡◌, ◌&&◌, ◌||◌, [], find, is_none, length, map, nat_le, nat_lt, not, option_map};
+ghost use Rattle.std.specs.List.{list_all, list_any};
+ghost use Rattle.std.specs.Str.{bytes_eq};
+ghost use Rattle.attr_core.specs.Templates.{template_named};
+ghost use Rattle.desc_core.specs.Parts.{templates_found};
+ghost use Rattle.desc_core.specs.TemplateConditions.{are_different, denies, first_bad, has_kinds, has_own_name, has_partner, has_strategy, is_good, is_kind, unlawful_at, uses_kinds};
+ghost use Rattle.desc_form.specs.Refusals.{refused, refused_item};
+ghost use Rattle.desc_form.specs.WrittenView.{pair_view, template_view, written_view};
+ghost use Rattle.desc_form.specs.declared.refusal.Place.TheVariants as place;
+ghost use Rattle.desc_form.specs.declared.refusal.Why.TheVariants.{BadTemplate, NotLawful};
+ghost use Rattle.text_core.specs.Firsts.{first_found, numbered};
+ghost use Rattle.text_core.specs.Name.{is_name};
+
+use attr_core::Template;
+use desc_form::{Place, Refusal, Why, Written, WrittenPair, WrittenTemplate};
+use text_core::is_name;
+
+/// How many kinds a template may have.
+const KIND_LIMIT: usize = 64;
+
+/// A template is not as it should be, or denies a pair without its partner.
+#[tactic(auto, unfolding(crate::specs::TemplateConditions::bad_template, crate::specs::TemplateConditions::not_lawful))]
+pub(crate) fn template_refusal(written: &Written<'_>) -> Option<Refusal>
+    ensures { result ≡ templates_found (written_view written.now) }
+{
+    let bad = bad_template(&written.templates);
+    if bad.is_some() {
+        return bad;
+    }
+    not_lawful(&written.templates)
+}
+
+/// A template is not as it should be, after those before it.
+fn bad_template(templates: &[WrittenTemplate<'_>]) -> Option<Refusal>
+    ensures { result ≡ option_map (λ k. refused BadTemplate (place.Template k))
+        (first_bad [] 1 (map template_view templates.now)) }
+{
+    for (index, template) in templates.iter().enumerate() {
+        if !is_good(&templates[..index], template) {
+            let place = Place::Template(index as u64 + 1);
+            return Some(Refusal::at(Why::BadTemplate, place));
+        }
+    }
+    None
+}
+
+/// Whether the template is as it should be, after these earlier ones.
+fn is_good(earlier: &[WrittenTemplate<'_>], template: &WrittenTemplate<'_>) -> bool
+    ensures { result ≡ is_good (map template_view earlier.now) (template_view template.now) }
+{
+    has_own_name(earlier, template)
+        && has_strategy(template)
+        && has_kinds(template)
+        && uses_kinds(template)
+}
+
+/// Whether the name is legal, none of the ten, and not that of an earlier template.
+fn has_own_name(earlier: &[WrittenTemplate<'_>], template: &WrittenTemplate<'_>) -> bool
+    ensures { result ≡ has_own_name (map template_view earlier.now) (template_view template.now) }
+{
+    is_name(template.name.as_bytes())
+        && Template::named(template.name).is_none()
+        && !is_declared(earlier, template.name)
+}
+
+/// Whether one of the templates has the name.
+fn is_declared(templates: &[WrittenTemplate<'_>], name: &str) -> bool
+    ensures { result ≡ list_any (λ t. bytes_eq name.now t.name) (map template_view templates.now) }
+{
+    for template in templates {
+        if name == template.name {
+            return true;
+        }
+    }
+    false
+}
+
+fn has_strategy(template: &WrittenTemplate<'_>) -> bool
+    ensures { result ≡ has_strategy (template_view template.now) }
+{
+    template.strategy == "access" || template.strategy == "information"
+}
+
+/// Whether there are 1 to 64 kinds, all different names.
+fn has_kinds(template: &WrittenTemplate<'_>) -> bool
+    ensures { result ≡ has_kinds (template_view template.now) }
+{
+    !template.kinds.is_empty()
+        && template.kinds.len() <= KIND_LIMIT
+        && are_names(&template.kinds)
+        && are_different(&template.kinds)
+}
+
+/// Whether each word is a name.
+fn are_names(words: &[&str]) -> bool
+    ensures { result ≡ list_all is_name (map (λ word. word.now) words.now) }
+{
+    for word in words {
+        if !is_name(word.as_bytes()) {
+            return false;
+        }
+    }
+    true
+}
+
+/// Whether no word stands twice.
+fn are_different(words: &[&str]) -> bool
+    ensures { result ≡ are_different (map (λ word. word.now) words.now) }
+{
+    for (index, word) in words.iter().enumerate() {
+        if is_among(word, &words[index + 1..]) {
+            return false;
+        }
+    }
+    true
+}
+
+/// Whether the word is one of these.
+fn is_among(word: &str, words: &[&str]) -> bool
+    ensures { result ≡ list_any (bytes_eq word.now) (map (λ other. other.now) words.now) }
+{
+    for other in words {
+        if word == *other {
+            return true;
+        }
+    }
+    false
+}
+
+/// Whether the default and all words of the denied pairs are kinds of the template.
+fn uses_kinds(template: &WrittenTemplate<'_>) -> bool
+    ensures { result ≡ uses_kinds (template_view template.now) }
+{
+    is_among(template.default, &template.kinds) && are_of_kinds(&template.kinds, &template.deny)
+}
+
+/// Whether all words of the pairs are among the kinds.
+fn are_of_kinds(kinds: &[&str], pairs: &[WrittenPair<'_>]) -> bool
+    ensures { result ≡ list_all (λ p. list_any (bytes_eq p.sender) (map (λ kind. kind.now) kinds.now)
+        && list_any (bytes_eq p.receiver) (map (λ kind. kind.now) kinds.now)) (map pair_view pairs.now) }
+{
+    for pair in pairs {
+        if !(is_among(pair.sender, kinds) && is_among(pair.receiver, kinds)) {
+            return false;
+        }
+    }
+    true
+}
+
+/// The first denied pair without a partner, of the first template that has one.
+fn not_lawful(templates: &[WrittenTemplate<'_>]) -> Option<Refusal>
+    ensures { result ≡ first_found unlawful_at (numbered (map template_view templates.now)) }
+{
+    for (index, template) in templates.iter().enumerate() {
+        let found = unlawful_at(index as u64 + 1, template);
+        if found.is_some() {
+            return found;
+        }
+    }
+    None
+}
+
+/// The first denied pair without a partner, of the template with a number.
+fn unlawful_at(number: u64, template: &WrittenTemplate<'_>) -> Option<Refusal>
+    ensures { result ≡ unlawful_at (record { number = number; what = template_view template.now }) }
+{
+    for (index, pair) in template.deny.iter().enumerate() {
+        if !has_partner(template, pair) {
+            let refusal = Refusal::at(Why::NotLawful, Place::Template(number));
+            return Some(refusal.with_item(index as u64 + 1));
+        }
+    }
+    None
+}
+
+/// Whether the pair is denied too with the default at the host that is blamed.
+fn has_partner(template: &WrittenTemplate<'_>, pair: &WrittenPair<'_>) -> bool
+    ensures { result ≡ has_partner (template_view template.now) (pair_view pair.now) }
+{
+    if template.strategy == "access" {
+        denies(template, template.default, pair.receiver)
+    } else {
+        denies(template, pair.sender, template.default)
+    }
+}
+
+/// Whether the template denies the pair.
+fn denies(template: &WrittenTemplate<'_>, sender: &str, receiver: &str) -> bool
+    ensures { result ≡ denies (template_view template.now) sender.now receiver.now }
+{
+    lists(&template.deny, sender, receiver)
+}
+
+fn lists(pairs: &[WrittenPair<'_>], sender: &str, receiver: &str) -> bool
+    ensures { result ≡ list_any (λ p. bytes_eq p.sender sender.now && bytes_eq p.receiver receiver.now) (map pair_view pairs.now) }
+{
+    for pair in pairs {
+        if pair.sender == sender && pair.receiver == receiver {
+            return true;
+        }
+    }
+    false
+}
