@@ -14,7 +14,9 @@ use Rattle.emit_core.specs.declared.side.Side.TheVariants.{Sending}
 use Rattle.emit_core.specs.Layout.{host_chain, host_chain_name, host_rules, forward_rules}
 use Rattle.emit_core.specs.LayoutLaws.{name_unused}
 use Rattle.emit_core.specs.Filling.{with_rules, chains_up_to}
-use Rattle.emit_core.proofs.CountLemmas.{few_rules, few_host_rules}
+use Rattle.emit_core.specs.FewRulesLaws.{few_host_rules}
+use Rattle.emit_core.specs.FillingLaws.{with_rules-changed}
+use Rattle.emit_core.proofs.CountLemmas.{few_rules}
 
 -- some of the rules are added
 pub record IsFilling (c : ℕ) (rules : List Rule) (start now : List Chain) (done : ℕ) : Type 0 where
@@ -50,15 +52,6 @@ with_rules-last xs x (r ∷ rs) =
     ∙ with_rules-last xs (record x { rules = x.rules ++ r ∷ [] }) rs
     ∙ ap (λ (all : List Rule). xs ++ record x { rules = all } ∷ []) (append_assoc x.rules (r ∷ []) rs)
 
--- and at the end of FORWARD
-with_rules-second : (x y : Chain) (xs : List Chain) (rules : List Rule)
-    → with_rules (x ∷ y ∷ xs) 1 rules ≡ x ∷ record y { rules = y.rules ++ rules } ∷ xs
-unfolding with_rule
-with_rules-second x y xs [] = ap (λ (rs : List Rule). x ∷ record y { rules = rs } ∷ xs) (sym (append-nil y.rules))
-with_rules-second x y xs (r ∷ rs) =
-    with_rules-second x (record y { rules = y.rules ++ r ∷ [] }) xs rs
-    ∙ ap (λ (all : List Rule). x ∷ record y { rules = all } ∷ xs) (append_assoc y.rules (r ∷ []) rs)
-
 -- the built-in chains, of which FORWARD drops, have no rules yet
 pub no_rules_yet : (start : List Chain) → start ≡ with_policy built_in_chains 1 Dropping → (length start ≡ 3) × (rule_count start ≡ 0)
 unfolding with_policy
@@ -70,7 +63,7 @@ pub forward_filled : (site : Site) (p s : List Flow) (start : List Chain) (rules
     → with_rules start 1 rules ≡ chains_up_to site p s 0
 unfolding with_policy
 forward_filled site p s start rules started all =
-    rw (started, all) (with_rules-second _ _ _ (forward_rules site.hosts))
+    rw (started, all) (with_rules-changed (with_policy built_in_chains 1 Dropping) 1 (forward_rules site.hosts))
 
 -- the chain of one more host
 pub host_filled : (site : Site) (p s : List Flow) (i : ℕ) (chains : List Chain) (name : List ℕ) (rules : List Rule)

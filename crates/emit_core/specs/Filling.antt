@@ -1,4 +1,4 @@
--- Chains and rules that are added one after another. Callers see none of it; they have the layout.
+-- Chains and rules that are added one after another. The contracts of layouts say none of it; they say the chains.
 use Rattle.std.specs.Prelude.{ℕ, List, [], ◌∷◌, ◌++◌, map}
 use Rattle.std.specs.List.{range_with_len}
 use Rattle.host_net.specs.Site.{Site}

@@ -207,7 +207,7 @@ all_from test other follows (r ∷ rs) all =
     let parts = and_parts (test r.target) (list_all (λ x. test x.target) rs) all in
     and_from _ _ (follows r.target parts.0) (all_from test other follows rs parts.1)
 
-decides_up : (c : ℕ) (t : Target) → decides t ≡ true → goes_up c t ≡ true
+pub decides_up : (c : ℕ) (t : Target) → decides t ≡ true → goes_up c t ≡ true
 decides_up c Accept is = refl
 decides_up c Drop is = refl
 decides_up c Reject is = refl

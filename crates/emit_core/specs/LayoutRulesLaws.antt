@@ -187,8 +187,8 @@ answer_is_rule side q (Some s) at is = let asked = service_asked s is in and_fro
 forms_are_rules : PassForms is_rule anywhere
 forms_are_rules = record { plain = λ side q target at. refl; flow = flow_is_rule; answer = answer_is_rule }
 
-pub host_rules_are : (site : Site) (p s : List Flow) (i : ℕ) → AreServices site.services → list_all is_rule (host_rules Sending site p s i) ≡ true
-host_rules_are site p s i are = host_rules_pass is_rule anywhere forms_are_rules Sending site p s i are (all_anywhere (all_prefixes site.hosts))
+pub host_rules_are : (side : Side) (site : Site) (p s : List Flow) (i : ℕ) → AreServices site.services → list_all is_rule (host_rules side site p s i) ≡ true
+host_rules_are side site p s i are = host_rules_pass is_rule anywhere forms_are_rules side site p s i are (all_anywhere (all_prefixes site.hosts))
 
 pub forward_rules_are : (hosts : List Host) → list_all is_rule (forward_rules hosts) ≡ true
 forward_rules_are hosts = forward_rules_pass is_rule anywhere (λ q target at. refl) hosts (all_anywhere (all_prefixes hosts))

@@ -1,7 +1,9 @@
 pub mod AcceptsLaws
 pub mod EachHostLaws
 pub mod EmitRefusals
+pub mod FewRulesLaws
 pub mod Filling
+pub mod FillingLaws
 pub mod FlowTable
 pub mod FlowTableAnswerLaws
 pub mod FlowTableEvents

@@ -96,10 +96,10 @@ layout_table site p s few = record {
 
 -- 2. Its addresses have 32 bits, since those of the hosts' prefixes have.
 
-abbrev prefix_fits : Prefix → Bool
+abbrev pub prefix_fits : Prefix → Bool
 prefix_fits q = nat_lt q.addr (2 ^ 32)
 
-network_fits : (qs : List Prefix) → list_all is_network qs ≡ true → list_all prefix_fits qs ≡ true
+pub network_fits : (qs : List Prefix) → list_all is_network qs ≡ true → list_all prefix_fits qs ≡ true
 network_fits [] all = refl
 network_fits (q ∷ qs) all =
     let parts = and_parts (is_network q) (list_all is_network qs) all in
@@ -125,6 +125,11 @@ forms_fit = record {
 layout_addresses : (site : Site) (p s : List Flow) → IsSite site → AddressesFit (layout site p s)
 layout_addresses site p s is =
     layout_passes addresses_fit prefix_fits forms_fit site p s is.services (network_fits (all_prefixes site.hosts) is.hosts.networks)
+
+-- and so have those in the chain of a host, for what it sends or for what it receives
+pub host_rules_addresses : (side : Side) (site : Site) (p s : List Flow) (i : ℕ) → IsSite site → list_all addresses_fit (host_rules side site p s i) ≡ true
+host_rules_addresses side site p s i is =
+    host_rules_pass addresses_fit prefix_fits forms_fit side site p s i is.services (network_fits (all_prefixes site.hosts) is.hosts.networks)
 
 -- 3. What is written of it is read again.
 

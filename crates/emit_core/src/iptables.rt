@@ -1,18 +1,17 @@
 //! The chains of a policy, put together.
 
-ghost use Rattle.std.specs.Prelude.{◌≡◌, ◌+◌, ◌<◌, ◌≤◌, ◌^◌, length, IfOk, IfErr, OnOk, IsTrue};
-ghost use Rattle.std.specs.List.{list_all};
+ghost use Rattle.std.specs.Prelude.{◌≡◌, ◌+◌, ◌<◌, ◌≤◌, length, IfOk, IfErr, OnOk};
 ghost use Rattle.flow_set.specs.FlowSet.{IsSubset};
 ghost use Rattle.host_net.specs.Hosts.{IsHosts};
 ghost use Rattle.host_net.specs.Site.{site_with};
 ghost use Rattle.pkt_core.specs.Filter.{Enforces, ForwardsExpected};
 ghost use Rattle.ipt_rules.specs.ChainTable.{rule_count};
 ghost use Rattle.ipt_rules.specs.Meaning.{Passes};
-ghost use Rattle.ipt_rules.specs.RuleParts.{is_rule};
 ghost use Rattle.emit_core.specs.EmitRefusals.{HasNoChains, rule_limit};
-ghost use Rattle.emit_core.specs.Filling.{with_rules, chains_up_to};
+ghost use Rattle.emit_core.specs.Filling.{chains_up_to};
 ghost use Rattle.emit_core.specs.Layout.{layout, host_chain_name};
 
+use crate::filling::{build_accepted, fill};
 use crate::forward::forward_rules;
 use crate::host_chain::host_rules;
 use crate::refusal::EmitRefusal;
@@ -20,10 +19,8 @@ use crate::rule_count::count_rules;
 use crate::side::Side;
 use flow_set::FlowSet;
 use host_net::{Hosts, Services};
-use ipt_rules::{BuildRefusal, ChainName, Chains, Policy, Rule, Ruleset};
+use ipt_rules::{ChainName, Chains, FORWARD, Policy, Ruleset};
 use std::alloc::{AllocError, Global};
-
-const FORWARD: u16 = 1;
 
 /// How many rules the chains of a layout may have.
 const RULE_LIMIT: u32 = 600_000;
@@ -76,20 +73,7 @@ fn ruleset_of(
     ensures hosts { OnOk result (IsHosts hosts.now) }
 {
     let chains = chains_of(alloc, hosts, services, p, s)?;
-    match Ruleset::build(alloc, chains) {
-        Ok(rules) => Ok(rules),
-        Err(why) => Err(out_of_memory(why)),
-    }
-}
-
-// No layout with so few rules is refused: where none came, memory ran out.
-fn out_of_memory(why: BuildRefusal) -> AllocError
-    requires { why ≡ BuildRefusal.Memory }
-{
-    match why {
-        BuildRefusal::Memory => AllocError,
-        _ => unreachable!(),
-    }
+    build_accepted(alloc, chains)
 }
 
 fn chains_of(
@@ -141,17 +125,4 @@ fn host_chain_name(alloc: Global, host: u16) -> Result<ChainName, AllocError>
 {
     let text = format!(in alloc; "H{host}")?;
     Ok(ChainName::new(text.as_bytes()).unwrap())
-}
-
-/// Adds the rules at the end of a chain.
-fn fill(chains: &mut Chains, chain: u16, rules: &[Rule]) -> Result<(), AllocError>
-    requires there { chain < length chains.old }
-    requires room { rule_count chains.old + length rules.now < 2 ^ 32 }
-    requires parts { IsTrue (list_all is_rule rules.now) }
-    ensures { OnOk result (chains.new ≡ with_rules chains.old chain rules.now) }
-{
-    for rule in rules {
-        chains.rule(chain, *rule)?;
-    }
-    Ok(())
 }

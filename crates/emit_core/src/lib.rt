@@ -1,9 +1,12 @@
 //! The layouts of a policy: chains of a packet filter, and a flow table, that let exactly its packets
-//! pass. They are made here; the crates above print them and follow lists of packets through them.
+//! pass. They are made here; the crates above print them and follow lists of packets through them. A
+//! host's own rules, on the side where it sends or receives, and what fills chains with rules, are here
+//! for other layouts too.
 #![tactic(auto)]
 
 mod answers;
 mod entry_count;
+mod filling;
 mod flow_entry;
 mod flow_policy;
 mod flows;
@@ -21,9 +24,11 @@ mod rule_count;
 mod side;
 
 pub use answers::needs_state;
+pub use filling::{build_accepted, fill};
 pub use host_chain::host_rules;
 pub use iptables::emit_iptables;
 pub use openflow::emit_openflow;
+pub use parts::{at_other, in_prefix};
 pub use refusal::EmitRefusal;
 pub use side::Side;
 

@@ -24,7 +24,7 @@ pub(crate) fn from_source(prefix: Option<Prefix>, target: Target) -> Rule
 }
 
 /// A rule on the address of the other host; without a prefix it asks for none.
-pub(crate) fn at_other(side: Side, prefix: Option<Prefix>, target: Target) -> Rule
+pub fn at_other(side: Side, prefix: Option<Prefix>, target: Target) -> Rule
     ensures { result ≡ at_other side prefix None target }
 {
     let part = in_prefix(prefix);
@@ -78,7 +78,7 @@ fn answering() -> Option<StateMatch>
 }
 
 /// What a rule asks of an address: that it lies in the prefix; without a prefix nothing.
-fn in_prefix(prefix: Option<Prefix>) -> Option<AddrMatch>
+pub fn in_prefix(prefix: Option<Prefix>) -> Option<AddrMatch>
     ensures { result ≡ in_prefix prefix }
 {
     match prefix {

@@ -4,6 +4,7 @@ use Rattle.host_net.specs.Site.{site_with}
 use Rattle.ipt_rules.specs.Chain.{Chain, user_chain}
 use Rattle.ipt_rules.specs.ChainTable.{rule_count}
 use Rattle.ipt_rules.specs.RuleParts.{is_rule}
+use Rattle.emit_core.specs.declared.side.Side.TheVariants.{Sending}
 use Rattle.emit_core.specs.LayoutRulesLaws.{host_rules_are}
 use Rattle.emit_core.specs.LayoutLaws.{length-chains_up_to}
 use Rattle.emit_core.specs.Filling.{with_rules}
@@ -37,7 +38,7 @@ fill-requires-clause-room c =
 pub fill-requires-clause-parts : goal.fill-requires-clause-parts
 fill-requires-clause-parts c =
     ap (list_all is_rule) (c.deref.ensures.value ∙ c.in_ok-rules.ensures.rules)
-    ∙ host_rules_are (site_with c.args.hosts.now c.args.services.now) c.args.p.now.flows c.args.s.now.flows c.args.host c.in_ok-rules.ensures.services
+    ∙ host_rules_are Sending (site_with c.args.hosts.now c.args.services.now) c.args.p.now.flows c.args.s.now.flows c.args.host c.in_ok-rules.ensures.services
 
 pub returns : goal.returns
 returns c =

@@ -1,7 +1,8 @@
 use Rattle.std.proofs.Common.{arith}
 use Rattle.host_net.specs.Site.{site_with}
 use Rattle.emit_core.specs.Layout.{to_prefix}
-use Rattle.emit_core.proofs.CountLemmas.{counted_each, few_to_hosts}
+use Rattle.emit_core.specs.FewRulesLaws.{few_to_hosts}
+use Rattle.emit_core.proofs.CountLemmas.{counted_each}
 use Rattle.emit_core.proofs.CountSteps.{few_prefixes}
 use Rattle.emit_core.proofs.host_chain.HostChain.count_to_hosts.Goals as goal
 

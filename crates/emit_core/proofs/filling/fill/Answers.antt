@@ -1,7 +1,7 @@
 use Rattle.ipt_rules.specs.RuleParts.{is_rule}
 use Rattle.emit_core.specs.LayoutRulesLaws.{passes_at}
 use Rattle.emit_core.proofs.FillingLemmas.{filling_more}
-use Rattle.emit_core.proofs.iptables.fill.Goals as goal
+use Rattle.emit_core.proofs.filling.fill.Goals as goal
 
 pub rule-requires-clause-parts : goal.rule-requires-clause-parts
 rule-requires-clause-parts c =

@@ -1,0 +1,46 @@
+//! Chains that are filled with rules, and made a rule set.
+
+ghost use Rattle.std.specs.Prelude.{◌≡◌, ◌+◌, ◌<◌, ◌^◌, length, IfOk, OnOk, IsTrue, None};
+ghost use Rattle.std.specs.List.{list_all};
+ghost use Rattle.ipt_rules.specs.Build.{refusal_of};
+ghost use Rattle.ipt_rules.specs.ChainTable.{rule_count};
+ghost use Rattle.ipt_rules.specs.Loops.{HasNoLoop};
+ghost use Rattle.ipt_rules.specs.RuleParts.{is_rule};
+ghost use Rattle.emit_core.specs.Filling.{with_rules};
+
+use ipt_rules::{BuildRefusal, Chains, Rule, Ruleset};
+use std::alloc::{AllocError, Global};
+
+/// Adds the rules at the end of a chain.
+pub fn fill(chains: &mut Chains, chain: u16, rules: &[Rule]) -> Result<(), AllocError>
+    requires there { chain < length chains.old }
+    requires room { rule_count chains.old + length rules.now < 2 ^ 32 }
+    requires parts { IsTrue (list_all is_rule rules.now) }
+    ensures { OnOk result (chains.new ≡ with_rules chains.old chain rules.now) }
+{
+    for rule in rules {
+        chains.rule(chain, *rule)?;
+    }
+    Ok(())
+}
+
+/// The rule set of chains for whose refusal there is no cause: where none comes, memory ran out.
+pub fn build_accepted(alloc: Global, chains: Chains) -> Result<Ruleset, AllocError>
+    requires accepted { refusal_of chains ≡ None }
+    requires no_loop { HasNoLoop chains }
+    ensures { IfOk result (λ rules. rules ≡ chains) }
+{
+    match Ruleset::build(alloc, chains) {
+        Ok(rules) => Ok(rules),
+        Err(why) => Err(out_of_memory(why)),
+    }
+}
+
+fn out_of_memory(why: BuildRefusal) -> AllocError
+    requires { why ≡ BuildRefusal.Memory }
+{
+    match why {
+        BuildRefusal::Memory => AllocError,
+        _ => unreachable!(),
+    }
+}

@@ -1,0 +1,75 @@
+-- The layout for the machines of one host as chains of iptables (the text of the rules, docs/FORMATS.md). The policy is the flows p that are
+-- permitted, each narrowed to its services where it has some, and those of them, s, whose answers pass as well; hosts are known by their numbers.
+use Rattle.std.specs.Prelude.{ℕ, Bool, true, not, ◌==◌, List, [], ◌∷◌, Some, None, codes, slice_get}
+use Rattle.std.specs.List.{flat_map}
+use Rattle.std.specs.Option.{option_map_or}
+use Rattle.host_net.specs.declared.prefix.Prefix.{Prefix}
+use Rattle.host_net.specs.Host.{Host, rest_of}
+use Rattle.host_net.specs.Prefix.{prefix_with}
+use Rattle.host_net.specs.Site.{Site}
+use Rattle.flow_set.specs.declared.flow.Flow.{Flow}
+use Rattle.ipt_rules.specs.declared.rule.Rule.{Rule}
+use Rattle.ipt_rules.specs.declared.rule.Target.TheVariants.{Accept, Jump}
+use Rattle.ipt_rules.specs.declared.rule.Policy.TheVariants.{Drop as Dropping}
+use Rattle.ipt_rules.specs.Chain.{Chain}
+use Rattle.emit_core.specs.declared.side.Side.{Side}
+use Rattle.emit_core.specs.declared.side.Side.TheVariants.{Sending, Receiving}
+use Rattle.emit_core.specs.Layout.{at_other, host_rules, in_prefix}
+use Rattle.emit_core.specs.Sides.{other_side}
+
+-- every host but the rest host is specific
+abbrev pub is_specific : List Host → ℕ → Bool
+is_specific hosts h = option_map_or (λ r. not (r == h)) (rest_of hosts) true
+
+abbrev pub prefixes_of : List Host → ℕ → List Prefix
+prefixes_of hosts h = option_map_or (λ x. x.prefixes) (slice_get hosts h) []
+
+-- 127.0.0.0/8, the addresses by which a machine speaks to itself (RFC 1122, section 3.2.1.3)
+abbrev pub loopback : Prefix
+loopback = prefix_with 2130706432 8
+
+-- what a machine says to itself passes
+abbrev pub loopback_rule : Rule
+loopback_rule = record {
+  src = in_prefix (Some loopback);
+  dst = in_prefix (Some loopback);
+  proto = None;
+  sport = None;
+  dport = None;
+  state = None;
+  target = Accept;
+}
+
+-- a machine sends through OUTPUT, and receives through INPUT
+abbrev pub entry_of : Side → ℕ
+entry_of Sending = 2
+entry_of Receiving = 0
+
+-- OUT is the user chain for what the host sends, and IN the one for what it receives
+abbrev pub chain_for : Side → ℕ
+chain_for Sending = 4
+chain_for Receiving = 3
+
+-- a jump to the user chain for an address of the host's own
+abbrev pub own_jump : Side → Prefix → List Rule
+own_jump side q = at_other (other_side side) (Some q) None (Jump (chain_for side)) ∷ []
+
+-- INPUT or OUTPUT: what the machine says to itself, and what has an address of the host's own
+abbrev pub entry_rules : Side → List Prefix → List Rule
+entry_rules side prefixes = loopback_rule ∷ flat_map (own_jump side) prefixes
+
+-- the chains of a machine by their rules: the built-in ones drop what no rule decides, and FORWARD is empty
+abbrev pub machine_chains : (input output incoming outgoing : List Rule) → List Chain
+machine_chains input output incoming outgoing =
+    record { name = codes "INPUT"; policy = Some Dropping; rules = input }
+    ∷ record { name = codes "FORWARD"; policy = Some Dropping; rules = [] }
+    ∷ record { name = codes "OUTPUT"; policy = Some Dropping; rules = output }
+    ∷ record { name = codes "IN"; policy = None; rules = incoming }
+    ∷ record { name = codes "OUT"; policy = None; rules = outgoing }
+    ∷ []
+
+-- the layout for host h: OUT has the rules of its chain on a box, and IN these rules turned round
+abbrev pub local_layout : Site → List Flow → List Flow → ℕ → List Chain
+local_layout site p s h =
+    machine_chains (entry_rules Receiving (prefixes_of site.hosts h)) (entry_rules Sending (prefixes_of site.hosts h))
+    (host_rules Receiving site p s h) (host_rules Sending site p s h)

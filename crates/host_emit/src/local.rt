@@ -1,0 +1,187 @@
+//! The chains for the machines of one host, put together.
+
+ghost use Rattle.std.specs.Prelude.{◌≡◌, ◌<◌, ◌++◌, [], length, IfOk, OnOk, IsTrue};
+ghost use Rattle.std.specs.List.{flat_map};
+ghost use Rattle.flow_set.specs.FlowSet.{IsSubset};
+ghost use Rattle.host_net.specs.Site.{site_with, IsSite};
+ghost use Rattle.host_emit.specs.Guarding.{Guards};
+ghost use Rattle.host_emit.specs.LocalEvents.{PassesExpected};
+ghost use Rattle.host_emit.specs.LocalFilling.{AreChainRules, dropping_chains};
+ghost use Rattle.host_emit.specs.LocalLayout.{chain_for, entry_rules, is_specific, local_layout, loopback, loopback_rule, machine_chains, own_jump};
+
+use emit_core::{Side, at_other, build_accepted, fill, host_rules, in_prefix};
+use flow_set::FlowSet;
+use host_net::{Hosts, Prefix, Services};
+use ipt_rules::{ChainName, Chains, FORWARD, INPUT, OUTPUT, Policy, Rule, Ruleset, Target};
+use std::alloc::{AllocError, Global};
+
+/// 127.0.0.0.
+const LOOPBACK: u32 = 0x7f000000;
+
+/// The rules for the machines of one specific host, by a policy: the flows of `p` are permitted, each
+/// narrowed to its services where it has some, and the answers of the flows of `s`, which are some of
+/// them, pass where their connection is established.
+pub fn emit_local(
+    alloc: Global,
+    hosts: &Hosts,
+    services: &Services,
+    p: &FlowSet,
+    s: &FlowSet,
+    host: u16,
+) -> Result<Ruleset, AllocError>
+    requires permitted { p.now.size ≡ length hosts.now }
+    requires stateful { s.now.size ≡ length hosts.now }
+    requires subset { IsSubset s.now.flows p.now.flows }
+    requires there { host < length hosts.now }
+    requires specific { IsTrue (is_specific hosts.now host) }
+    ensures layout { IfOk result (λ rules. rules ≡ local_layout (site_with hosts.now services.now) p.now.flows s.now.flows host) }
+
+    // Where it sends, and where it receives, each packet of the host's own passes exactly where the
+    // policy lets it pass, and no other passes but what a machine says to itself.
+    ensures guards { IfOk result (λ rules. Guards rules (site_with hosts.now services.now) p.now.flows s.now.flows host) }
+
+    // With the rules of every specific host on its machines, over every list of packets and
+    // forgettings, a packet passes exactly where the policy and its answers expect it.
+    ensures passes { OnOk result (PassesExpected (local_layout (site_with hosts.now services.now) p.now.flows s.now.flows)
+        (site_with hosts.now services.now) p.now.flows s.now.flows) }
+{
+    let chains = local_chains(alloc, hosts, services, p, s, host)?;
+    build_accepted(alloc, chains)
+}
+
+/// Whether a host is specific: every host but the rest host.
+pub fn is_specific(hosts: &Hosts, host: u16) -> bool
+    ensures { result ≡ is_specific hosts.now host }
+{
+    match hosts.rest() {
+        None => true,
+        Some(rest) => rest != host,
+    }
+}
+
+fn local_chains(
+    alloc: Global,
+    hosts: &Hosts,
+    services: &Services,
+    p: &FlowSet,
+    s: &FlowSet,
+    host: u16,
+) -> Result<Chains, AllocError>
+    requires permitted { p.now.size ≡ length hosts.now }
+    requires stateful { s.now.size ≡ length hosts.now }
+    requires there { host < length hosts.now }
+    ensures layout { IfOk result (λ chains. chains ≡ local_layout (site_with hosts.now services.now) p.now.flows s.now.flows host) }
+    ensures site { IsSite (site_with hosts.now services.now) }
+{
+    // What holds of hosts and services at all times is known by looking at them.
+    let (_count, _services) = (hosts.count(), services.of(host, host));
+    let input = entry_rules(alloc, Side::Receiving, hosts.prefixes(host))?;
+    let output = entry_rules(alloc, Side::Sending, hosts.prefixes(host))?;
+    let incoming = host_rules(alloc, hosts, services, p, s, Side::Receiving, host)?;
+    let outgoing = host_rules(alloc, hosts, services, p, s, Side::Sending, host)?;
+    filled(alloc, &input, &output, &incoming, &outgoing)
+}
+
+/// The chains of a machine by their rules.
+fn filled(
+    alloc: Global,
+    input: &[Rule],
+    output: &[Rule],
+    incoming: &[Rule],
+    outgoing: &[Rule],
+) -> Result<Chains, AllocError>
+    requires input { AreChainRules input.now }
+    requires output { AreChainRules output.now }
+    requires incoming { AreChainRules incoming.now }
+    requires outgoing { AreChainRules outgoing.now }
+    ensures { IfOk result (λ chains. chains ≡ machine_chains input.now output.now incoming.now outgoing.now) }
+{
+    let mut chains = entered(alloc, input, output)?;
+    fill(&mut chains, chain_for(Side::Receiving), incoming)?;
+    fill(&mut chains, chain_for(Side::Sending), outgoing)?;
+    Ok(chains)
+}
+
+/// The chains of a machine with the rules of INPUT and OUTPUT alone.
+fn entered(alloc: Global, input: &[Rule], output: &[Rule]) -> Result<Chains, AllocError>
+    requires input { AreChainRules input.now }
+    requires output { AreChainRules output.now }
+    ensures { IfOk result (λ chains. chains ≡ machine_chains input.now output.now [] []) }
+{
+    let mut chains = empty_chains(alloc)?;
+    fill(&mut chains, INPUT, input)?;
+    fill(&mut chains, OUTPUT, output)?;
+    Ok(chains)
+}
+
+fn empty_chains(alloc: Global) -> Result<Chains, AllocError>
+    ensures { IfOk result (λ chains. chains ≡ machine_chains [] [] [] []) }
+{
+    let mut chains = dropping_chains(alloc)?;
+    chains.add(ChainName::new(b"IN").unwrap())?;
+    chains.add(ChainName::new(b"OUT").unwrap())?;
+    Ok(chains)
+}
+
+/// The built-in chains, which drop what comes to their end.
+fn dropping_chains(alloc: Global) -> Result<Chains, AllocError>
+    ensures { IfOk result (λ chains. chains ≡ dropping_chains) }
+{
+    let mut chains = Chains::new(alloc)?;
+    chains.set_policy(INPUT, Policy::Drop);
+    chains.set_policy(FORWARD, Policy::Drop);
+    chains.set_policy(OUTPUT, Policy::Drop);
+    Ok(chains)
+}
+
+/// The number of the user chain for what the host sends, or receives.
+fn chain_for(side: Side) -> u16
+    ensures { result ≡ chain_for side }
+{
+    match side {
+        Side::Sending => 4,
+        Side::Receiving => 3,
+    }
+}
+
+/// The rules of INPUT or OUTPUT for a host with these prefixes.
+fn entry_rules(alloc: Global, side: Side, prefixes: &[Prefix]) -> Result<Vec<Rule>, AllocError>
+    ensures { IfOk result (λ rules. rules.items ≡ entry_rules side prefixes.now) }
+{
+    let mut rules = Vec::new(alloc);
+    rules.push(loopback_rule())?;
+    push_jumps(&mut rules, side, prefixes)?;
+    Ok(rules)
+}
+
+fn push_jumps(rules: &mut Vec<Rule>, side: Side, prefixes: &[Prefix]) -> Result<(), AllocError>
+    ensures { OnOk result (rules.new.items ≡ rules.old.items ++ flat_map (own_jump side) prefixes.now) }
+{
+    for prefix in prefixes {
+        let target = Target::Jump(chain_for(side));
+        rules.push(at_other(side.other(), Some(*prefix), target))?;
+    }
+    Ok(())
+}
+
+/// What a machine says to itself passes.
+fn loopback_rule() -> Rule
+    ensures { result ≡ loopback_rule }
+{
+    let part = in_prefix(Some(loopback()));
+    Rule {
+        src: part,
+        dst: part,
+        proto: None,
+        sport: None,
+        dport: None,
+        state: None,
+        target: Target::Accept,
+    }
+}
+
+fn loopback() -> Prefix
+    ensures { result ≡ loopback }
+{
+    Prefix::new(LOOPBACK, 8).unwrap()
+}
