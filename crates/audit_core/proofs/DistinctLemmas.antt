@@ -1,0 +1,134 @@
+-- Whether something is named once or more often makes no difference.
+use Rattle.std.proofs.Common.{◌≡◌, ◌⊎◌, inl, inr, ℕ, nat_eq, true, List, [], ◌∷◌, ◌++◌, refl, sym, subst}
+use Rattle.std.specs.List.{AllByRecursion, Contains, dedup, flat_map}
+use Rattle.std.specs.List.Sorted.{IsPermutation}
+use Rattle.std.proofs.lemmas.List.Filters.{dedup_is}
+use Rattle.std.proofs.lemmas.List.Kept.{Contains-dedup, Contains-from_dedup}
+use Rattle.std.proofs.lemmas.List.Sorted.{Contains-permutation, IsPermutation-sym}
+use Rattle.std.specs.Cmp.{IsEquivalence, nat_eq_equiv}
+use Rattle.std.specs.Ordering.{eq_of_both, on}
+use Rattle.std.proofs.lemmas.Cmp.{and_equiv, on_equiv}
+use Rattle.std.specs.List.Retain.{DiffersFromLast, IsFiltered}
+use Rattle.std.proofs.lemmas.Bool.{and_parts}
+use Rattle.std.proofs.lemmas.Bool.Decides.{Decides-eqb}
+use Rattle.std.proofs.lemmas.List.Elements.{Contains-append_left, Contains-append_right}
+use Rattle.audit_core.specs.declared.named.Found.{Found}
+use Rattle.audit_core.specs.Classes.{in_order, protocol_leasts}
+use Rattle.audit_core.specs.Named.{HaveSame, NameSame}
+use Rattle.audit_core.specs.Places.{Leasts}
+use Rattle.audit_core.specs.RangeCuts.{address_cuts, cuts_of_addresses, cuts_of_ports, port_cuts}
+use Rattle.audit_core.specs.Thinning.{AreThinned, IsThinned, SameAddresses, SamePorts}
+use Rattle.audit_core.proofs.OrderLemmas.{contains_cases, contains_first, contains_later, contains_none, in_order_same}
+use Rattle.audit_core.proofs.LeastProtocols.{protocol_leasts_same}
+
+-- 1. Elements of lists that are joined.
+
+append_cases : {X : Type 0} (xs ys : List X) (d : X) → Contains (xs ++ ys) d → Contains xs d ⊎ Contains ys d
+append_cases [] ys d there = inr there
+append_cases (x ∷ xs) ys d there = elim (contains_cases x (xs ++ ys) d there) [
+  | inl is ↦ inl (contains_first x xs d is)
+  | inr later ↦ elim (append_cases xs ys d later) [ inl front ↦ inl (contains_later x xs d front) | inr back ↦ inr back ]
+]
+
+-- what stands in the lists of elements stands in the list of one of them
+pick : {X Y : Type 0} (f : X → List Y) (xs : List X) (d : Y) → Contains (flat_map f xs) d → (x : X) × Contains xs x × Contains (f x) d
+pick f [] d there = absurd (contains_none d there)
+pick f (x ∷ xs) d there = elim (append_cases (f x) (flat_map f xs) d there) [
+  | inl here ↦ (x, contains_first x xs x refl, here)
+  | inr later ↦ let one = pick f xs d later in (one.0, contains_later x xs one.0 one.1, one.2)
+]
+
+place : {X Y : Type 0} (f : X → List Y) (xs : List X) (x : X) (d : Y) → Contains xs x → Contains (f x) d → Contains (flat_map f xs) d
+place f [] x d there here = absurd (contains_none x there)
+place {Y = Y} f (y ∷ xs) x d there here = elim (contains_cases y xs x there) [
+  | inl is ↦ Contains-append_left (f y) (flat_map f xs) d (moved is)
+  | inr later ↦ Contains-append_right (f y) (flat_map f xs) d (place f xs x d later here)
+]
+  where
+    moved : y ≡ x → Contains (f y) d
+    moved is = subst (λ z. Contains (f z) d) (sym is) here
+
+flat_map_same : {X Y : Type 0} (f : X → List Y) (xs ys : List X) → ((x : X) → Contains xs x → Contains ys x) → (d : Y) → Contains (flat_map f xs) d
+    → Contains (flat_map f ys) d
+flat_map_same f xs ys same d there = let one = pick f xs d there in place f ys one.0 d (same one.0 one.1) one.2
+
+cons_same : {X : Type 0} (x : X) (xs ys : List X) → ((d : X) → Contains xs d → Contains ys d) → (d : X) → Contains (x ∷ xs) d → Contains (x ∷ ys) d
+cons_same x xs ys same d there = elim (contains_cases x xs d there) [
+  | inl is ↦ contains_first x ys d is
+  | inr later ↦ contains_later x ys d (same d later)
+]
+
+all_there : {X : Type 0} (P : X → Type 0) (xs : List X) (x : X) → AllByRecursion P xs → Contains xs x → P x
+all_there P [] x all there = absurd (contains_none x there)
+all_there P (y ∷ xs) x all there = elim (contains_cases y xs x there) [ inl is ↦ subst P is all.0 | inr later ↦ all_there P xs x all.1 later ]
+
+all_same : {X : Type 0} (P : X → Type 0) (xs ys : List X) → ((x : X) → Contains xs x → Contains ys x) → AllByRecursion P ys → AllByRecursion P xs
+all_same P [] ys same all = tt
+all_same P (x ∷ xs) ys same all =
+    (all_there P ys x all (same x (contains_first x xs x refl)), all_same P xs ys (λ d there. same d (contains_later x xs d there)) all)
+
+-- 2. The same cuts make the same classes.
+
+cuts_same : {X : Type 0} (f : X → List ℕ) (xs ys : List X) → HaveSame xs ys → in_order (0 ∷ flat_map f xs) ≡ in_order (0 ∷ flat_map f ys)
+cuts_same f xs ys same =
+    in_order_same (0 ∷ flat_map f xs) (0 ∷ flat_map f ys)
+    (cons_same 0 (flat_map f xs) (flat_map f ys) (flat_map_same f xs ys (λ x. (same x).0)))
+    (cons_same 0 (flat_map f ys) (flat_map f xs) (flat_map_same f ys xs (λ x. (same x).1)))
+
+-- the least numbers of the classes of what is named
+abbrev pub leasts_by : Found → Leasts
+leasts_by found = record {
+  addresses = in_order (address_cuts found.addresses.items);
+  protocols = protocol_leasts found.protocols.items;
+  ports = in_order (port_cuts found.ports.items);
+}
+
+pub leasts_same : (found less : Found) → NameSame found less → leasts_by less ≡ leasts_by found
+leasts_same found less same =
+    let addresses = cuts_same cuts_of_addresses found.addresses.items less.addresses.items same.addresses in
+    let protocols = protocol_leasts_same found.protocols.items less.protocols.items (λ n. (same.protocols n).0) (λ n. (same.protocols n).1) in
+    let ports = cuts_same cuts_of_ports found.ports.items less.ports.items same.ports in
+    sym (λ i. record { addresses = addresses i; protocols = protocols i; ports = ports i })
+
+-- 3. Numbers that lie in the same ranges, and those that stand for others.
+
+thinned_by : (Same Other : ℕ → ℕ → Type 0) (numbers kept : List ℕ) → ((a b : ℕ) → Same a b → Other a b) → IsThinned Same numbers kept
+    → IsThinned Other numbers kept
+thinned_by Same Other numbers kept to thinned = record {
+  rises = thinned.rises;
+  short = thinned.short;
+  some = thinned.some;
+  each = λ x there. let by = thinned.each x there in record { by = by.by; there = by.there; low = by.low; same = to by.by x by.same };
+}
+
+pub thinned_same : (found less : Found) (leasts kept : Leasts) → NameSame found less → AreThinned less leasts kept → AreThinned found leasts kept
+thinned_same found less leasts kept same thinned = record {
+  addresses = thinned_by (SameAddresses less.addresses.items) (SameAddresses found.addresses.items) leasts.addresses kept.addresses
+      (λ a b. all_same _ found.addresses.items less.addresses.items (λ x. (same.addresses x).0)) thinned.addresses;
+  protocols = thinned.protocols;
+  ports = thinned_by (SamePorts less.ports.items) (SamePorts found.ports.items) leasts.ports kept.ports
+      (λ a b. all_same _ found.ports.items less.ports.items (λ x. (same.ports x).0)) thinned.ports;
+}
+
+-- 4. What is left of ranges in order where neighbours are the same.
+
+-- two ranges by their ends
+ends_same : {X : Type 0} (low high : X → ℕ) → ((x y : X) → low x ≡ low y → high x ≡ high y → x ≡ y) → (x y : X)
+    → eq_of_both (on low nat_eq) (on high nat_eq) x y ≡ true → x ≡ y
+ends_same low high by_ends x y is =
+    let parts = and_parts (nat_eq (low x) (low y)) (nat_eq (high x) (high y)) is in
+    by_ends x y ((Decides-eqb (low x) (low y)).0 parts.0) ((Decides-eqb (high x) (high y)).0 parts.1)
+
+pub distinct_same : {X : Type 0} (low high : X → ℕ) → ((x y : X) → low x ≡ low y → high x ≡ high y → x ≡ y) → (old ordered new : List X)
+    → IsPermutation old ordered → IsFiltered (DiffersFromLast (eq_of_both (on low nat_eq) (on high nat_eq))) [] ordered new → HaveSame old new
+distinct_same {X} low high by_ends old ordered new moved filtered x = (
+  (λ h. subst (λ (xs : List X). Contains xs x) (sym is) (Contains-dedup equivalent (ends_same low high by_ends) ordered x (Contains-permutation old ordered x moved h))),
+  (λ h. Contains-permutation ordered old x (IsPermutation-sym old ordered moved)
+      (Contains-from_dedup (eq_of_both (on low nat_eq) (on high nat_eq)) ordered x (subst (λ (xs : List X). Contains xs x) is h))),
+)
+  where
+    equivalent : IsEquivalence (eq_of_both (on low nat_eq) (on high nat_eq))
+    equivalent = and_equiv (on_equiv low nat_eq_equiv) (on_equiv high nat_eq_equiv)
+
+    is : new ≡ dedup (eq_of_both (on low nat_eq) (on high nat_eq)) ordered
+    is = dedup_is (eq_of_both (on low nat_eq) (on high nat_eq)) ordered new filtered

@@ -1,0 +1,142 @@
+-- The law of classes at a description: packets that it does not part are of the same flow, by its services.
+use Rattle.std.proofs.Common.{◌≡◌, ◌≢◌, ℕ, suc, ◌+◌, ◌<◌, Bool, true, false, cond, ◌&&◌, ◌||◌, ◌==◌, List, [], ◌∷◌, Option, Some, None, map, length, refl, sym, ap, subst, ◌∙◌, arith, true≢false}
+use Rattle.std.specs.Prelude.{if◌then◌else◌}
+use Rattle.std.specs.List.{AllByRecursion, flat_map, list_any, position_from}
+use Rattle.std.specs.Option.{option_or, option_map_or}
+use Rattle.std.proofs.lemmas.Bool.Decides.{nat_tests}
+use Rattle.host_net.specs.declared.packet.Packet.{Packet}
+use Rattle.host_net.specs.declared.prefix.Prefix.{Prefix}
+use Rattle.host_net.specs.declared.service.Service.{Service}
+use Rattle.host_net.specs.Prefix.{covers}
+use Rattle.host_net.specs.Host.{Host, covers_any, holder_of, owner_of, rest_of}
+use Rattle.host_net.specs.Hosts.{all_prefixes}
+use Rattle.host_net.specs.Service.{is_served, serves}
+use Rattle.host_net.specs.Services.{services_of}
+use Rattle.host_net.specs.Site.{Site}
+use Rattle.flow_set.specs.declared.flow.Flow.{Flow}
+use Rattle.flow_set.specs.EveryFlow.{every_flow}
+use Rattle.flow_set.specs.EveryFlowLaws.{IsFull-every_flow}
+use Rattle.flow_set.specs.Flow.{same_flow}
+use Rattle.flow_set.specs.FlowSet.{has}
+use Rattle.pkt_core.specs.FlowPolicy.{flow_of, flow_of_owners, is_of}
+use Rattle.audit_core.specs.Parts.{Addresses, flow_services, service_parts, site_parts}
+use Rattle.audit_core.proofs.PartLemmas.{AreAlikeFor, SameAddress, alike_for_parts, all_parts}
+
+prefixes_alike : (ps : List Prefix) (a b : ℕ) → AllByRecursion (SameAddress a b) (map Addresses ps) → AllByRecursion (λ p. covers p a ≡ covers p b) ps
+prefixes_alike [] a b all = tt
+prefixes_alike (p ∷ ps) a b all = (all.0, prefixes_alike ps a b all.1)
+
+any_alike : (ps : List Prefix) (a b : ℕ) → AllByRecursion (λ p. covers p a ≡ covers p b) ps → covers_any ps a ≡ covers_any ps b
+any_alike [] a b alike = refl
+any_alike (p ∷ ps) a b alike = λ i. alike.0 i || any_alike ps a b alike.1 i
+
+holder_alike : (hosts : List Host) (k a b : ℕ) → AllByRecursion (λ p. covers p a ≡ covers p b) (all_prefixes hosts)
+    → position_from (λ h. covers_any h.prefixes a) k hosts ≡ position_from (λ h. covers_any h.prefixes b) k hosts
+holder_alike [] k a b alike = refl
+holder_alike (h ∷ hosts) k a b alike =
+    let parts = all_parts (λ p. covers p a ≡ covers p b) h.prefixes (all_prefixes hosts) alike in
+    λ i. cond (any_alike h.prefixes a b parts.0 i) (Some k) (holder_alike hosts (k + 1) a b parts.1 i)
+
+-- one host owns both
+owner_alike : (hosts : List Host) (a b : ℕ) → AllByRecursion (SameAddress a b) (map Addresses (all_prefixes hosts)) → owner_of hosts a ≡ owner_of hosts b
+unfolding owner_of
+owner_alike hosts a b all = ap (λ (o : Option ℕ). option_or o (rest_of hosts)) (holder_alike hosts 0 a b (prefixes_alike (all_prefixes hosts) a b all))
+
+place_below : (test : Host → Bool) (k : ℕ) (hs : List Host) (i : ℕ) → position_from test k hs ≡ Some i → i < k + length hs
+place_below test k [] i found = cc
+place_below test k (h ∷ hs) i found = by_test (test h) (place_below test (k + 1) hs i) found
+  where
+    by_test : (b : Bool) → (position_from test (k + 1) hs ≡ Some i → i < k + 1 + length hs) → cond b (Some k) (position_from test (k + 1) hs) ≡ Some i
+        → i < k + suc (length hs)
+    by_test true later found = let same : k ≡ i = cc in omega arith
+    by_test false later found = let below = later found in omega arith
+
+-- an owner is one of the hosts
+pub owner_below : (hosts : List Host) (a i : ℕ) → owner_of hosts a ≡ Some i → i < length hosts
+unfolding owner_of
+owner_below hosts a i owned = by_holder (holder_of hosts a) refl owned
+  where
+    by_holder : (o : Option ℕ) → holder_of hosts a ≡ o → option_or o (rest_of hosts) ≡ Some i → i < length hosts
+    by_holder None is found = let below = place_below (λ h. h.rest) 0 hosts i found in omega arith
+    by_holder (Some j) is found = let below = place_below (λ h. covers_any h.prefixes a) 0 hosts i (is ∙ found) in omega arith
+
+same_flow_is : (f g : Flow) → same_flow f g ≡ true → f ≡ g
+same_flow_is f g h =
+    let from : f.from ≡ g.from = grind (arith, nat_tests) in
+    let to : f.to ≡ g.to = grind (arith, nat_tests) in
+    λ i. record { from = from i; to = to i }
+
+-- what holds of all that is listed for flows holds of what is listed for one of them
+all_of_flow : {X : Type 0} (P : X → Type 0) (listed : Flow → List X) (fs : List Flow) (f : Flow) → has fs f ≡ true
+    → AllByRecursion P (flat_map listed fs) → AllByRecursion P (listed f)
+all_of_flow P listed [] f there all = absurd (true≢false (sym there))
+all_of_flow P listed (g ∷ fs) f there all =
+    let both = all_parts P (listed g) (flat_map listed fs) all in
+    by_test (same_flow g f) refl there both.0 (λ later. all_of_flow P listed fs f later both.1)
+  where
+    by_test : (b : Bool) → same_flow g f ≡ b → (b || has fs f) ≡ true → AllByRecursion P (listed g) → (has fs f ≡ true → AllByRecursion P (listed f))
+        → AllByRecursion P (listed f)
+    by_test true same h here behind = subst (λ (x : Flow). AllByRecursion P (listed x)) (same_flow_is g f same) here
+    by_test false same h here behind = behind h
+
+abbrev SameService : Packet → Packet → Service → Type 0
+SameService p q s = serves s p ≡ serves s q
+
+service_alike : (s : Service) (p q : Packet) → AreAlikeFor (service_parts s) p q → SameService p q s
+service_alike s p q alike = λ i. alike.proto.0 i && alike.dport.1.0 i
+
+services_alike : (ss : List Service) (p q : Packet) → AreAlikeFor (flat_map service_parts ss) p q → AllByRecursion (SameService p q) ss
+services_alike [] p q alike = tt
+services_alike (s ∷ ss) p q alike =
+    let both = alike_for_parts (service_parts s) (flat_map service_parts ss) p q alike in
+    (service_alike s p q both.0, services_alike ss p q both.1)
+
+any_served : (ss : List Service) (p q : Packet) → AllByRecursion (SameService p q) ss → list_any (λ t. serves t p) ss ≡ list_any (λ t. serves t q) ss
+any_served [] p q alike = refl
+any_served (s ∷ ss) p q alike = λ i. alike.0 i || any_served ss p q alike.1 i
+
+served_alike : (ss : List Service) (p q : Packet) → AllByRecursion (SameService p q) ss → is_served ss p ≡ is_served ss q
+served_alike [] p q alike = refl
+served_alike (s ∷ ss) p q alike = any_served (s ∷ ss) p q alike
+
+-- packets that a description does not part are of the same owners
+site_owners : (site : Site) (p q : Packet) → AreAlikeFor (site_parts site) p q
+    → (owner_of site.hosts p.src ≡ owner_of site.hosts q.src) × (owner_of site.hosts p.dst ≡ owner_of site.hosts q.dst)
+site_owners site p q alike =
+    let both = alike_for_parts (map Addresses (all_prefixes site.hosts)) (flat_map service_parts (flow_services site)) p q alike in
+    (owner_alike site.hosts p.src q.src both.0.src, owner_alike site.hosts p.dst q.dst both.0.dst)
+
+pub flow_alike : (site : Site) (p q : Packet) → AreAlikeFor (site_parts site) p q → flow_of site.hosts p ≡ flow_of site.hosts q
+flow_alike site p q alike = let owners = site_owners site p q alike in λ i. flow_of_owners (owners.0 i) (owners.1 i)
+
+-- a flow of a packet goes between two hosts
+flow_between : (from to : Option ℕ) (n : ℕ) (f : Flow) → ((i : ℕ) → from ≡ Some i → i < n) → ((j : ℕ) → to ≡ Some j → j < n)
+    → flow_of_owners from to ≡ Some f → has (every_flow n) f ≡ true
+flow_between None to n f from_in to_in is = cc
+flow_between (Some i) None n f from_in to_in is = cc
+flow_between (Some i) (Some j) n f from_in to_in is = by_test (i == j) refl is
+  where
+    by_test : (b : Bool) → (i == j) ≡ b → (if b then None else Some (record { from = i; to = j })) ≡ Some f → has (every_flow n) f ≡ true
+    by_test true same h = cc
+    by_test false other h =
+        let is_flow : record { from = i; to = j } ≡ f = cc in
+        let apart : i ≢ j = λ same. grind (arith, nat_tests) in
+        subst (λ (g : Flow). has (every_flow n) g ≡ true) is_flow
+        ((IsFull-every_flow n (record { from = i; to = j })).1 (from_in i refl, to_in j refl, apart))
+
+of_flow_alike : (site : Site) (flows : List Flow) (p q : Packet) (flow : Option Flow) → AllByRecursion (SameService p q) (flow_services site)
+    → ((f : Flow) → flow ≡ Some f → has (every_flow (length site.hosts)) f ≡ true)
+    → option_map_or (λ f. has flows f && is_served (services_of site.services f.from f.to) p) flow false ≡ option_map_or (λ f. has flows f && is_served (services_of site.services f.from f.to) q) flow false
+of_flow_alike site flows p q None served there = refl
+of_flow_alike site flows p q (Some f) served there =
+    ap (λ (b : Bool). has flows f && b)
+    (served_alike (services_of site.services f.from f.to) p q
+    (all_of_flow (SameService p q) (λ g. services_of site.services g.from g.to) (every_flow (length site.hosts)) f (there f refl) served))
+
+-- and so of the same flows by their services
+pub is_of_alike : (site : Site) (flows : List Flow) (p q : Packet) → AreAlikeFor (site_parts site) p q → is_of site flows p ≡ is_of site flows q
+is_of_alike site flows p q alike =
+    let both = alike_for_parts (map Addresses (all_prefixes site.hosts)) (flat_map service_parts (flow_services site)) p q alike in
+    of_flow_alike site flows p q (flow_of site.hosts p) (services_alike (flow_services site) p q both.1)
+    (λ f is. flow_between (owner_of site.hosts p.src) (owner_of site.hosts p.dst) (length site.hosts) f (owner_below site.hosts p.src) (owner_below site.hosts p.dst) is)
+    ∙ ap (λ (o : Option Flow). option_map_or (λ f. has flows f && is_served (services_of site.services f.from f.to) q) o false) (flow_alike site p q alike)

@@ -1,0 +1,54 @@
+-- Where classes are cut, and packets that no cut parts. Between two neighbouring cuts stands an elementary interval, of which each range
+-- that is named has all numbers or none (M. de Berg et al., Computational Geometry, "Segment Trees").
+use Rattle.std.specs.Prelude.{ℕ, ◌^◌, List, [], ◌∷◌, ◌++◌}
+use Rattle.std.specs.List.{flat_map}
+use Rattle.host_net.specs.declared.packet.Packet.{Packet}
+use Rattle.host_net.specs.PrefixView.{first_address, last_address}
+use Rattle.audit_core.specs.Parts.{Part, Addresses, Protocol, Ports, rules_parts, site_parts}
+use Rattle.audit_core.specs.Ranges.{AreOneProtocol, AreTogether, range_cuts}
+use Rattle.audit_core.specs.Sides.{Sides}
+
+-- where a part cuts addresses, which protocols it names, and where it cuts ports
+abbrev pub cut_addresses : Part → List ℕ
+cut_addresses (Addresses prefix) = range_cuts (2 ^ 32) (first_address prefix) (last_address prefix)
+cut_addresses (Protocol n) = []
+cut_addresses (Ports low high) = []
+
+abbrev pub named_protocols : Part → List ℕ
+named_protocols (Addresses prefix) = []
+named_protocols (Protocol n) = n ∷ []
+named_protocols (Ports low high) = []
+
+abbrev pub cut_ports : Part → List ℕ
+cut_ports (Addresses prefix) = []
+cut_ports (Protocol n) = []
+cut_ports (Ports low high) = range_cuts (2 ^ 16) low high
+
+-- the cuts of addresses and of ports, and the protocols that are named
+pub record Cuts : Type 0 where
+  pub addresses : List ℕ
+  pub protocols : List ℕ
+  pub ports : List ℕ
+
+-- 0, and where the parts cut
+abbrev pub cuts_by : List Part → Cuts
+cuts_by parts = record {
+  addresses = 0 ∷ flat_map cut_addresses parts;
+  protocols = flat_map named_protocols parts;
+  ports = 0 ∷ flat_map cut_ports parts;
+}
+
+-- what the two sides name
+abbrev pub parts_between : Sides → List Part
+parts_between sides = site_parts sides.site ++ rules_parts sides.rules
+
+abbrev pub cuts_between : Sides → Cuts
+cuts_between sides = cuts_by (parts_between sides)
+
+-- two packets of one class
+pub record AreOneClass (cuts : Cuts) (p q : Packet) : Type 0 where
+  pub src : AreTogether cuts.addresses p.src q.src
+  pub dst : AreTogether cuts.addresses p.dst q.dst
+  pub proto : AreOneProtocol cuts.protocols p.proto q.proto
+  pub sport : AreTogether cuts.ports p.sport q.sport
+  pub dport : AreTogether cuts.ports p.dport q.dport

@@ -1,0 +1,39 @@
+-- The printed findings of an audit (docs/FORMATS.md). The line of a packet is that of an event.
+use Rattle.std.specs.Prelude.{ℕ, Bool, true, false, List, [], ◌++◌, Option, Some, None, codes, decimal}
+use Rattle.host_net.specs.declared.packet.Packet.{Packet}
+use Rattle.host_net.specs.Prefix.{address_text}
+use Rattle.audit_core.specs.declared.finding.Finding.{Finding}
+use Rattle.audit_core.specs.declared.finding.Finding.TheVariants.{Equal, Differ as Differing}
+use Rattle.audit_core.specs.declared.finding.Trace.{Trace}
+
+-- the words of a packet: two addresses, the protocol, two ports
+abbrev pub addresses_text : Packet → List ℕ
+addresses_text p = codes " " ++ (address_text p.src ++ (codes " " ++ address_text p.dst))
+
+abbrev pub numbers_text : Packet → List ℕ
+numbers_text p = codes " " ++ (decimal p.proto ++ (codes " " ++ (decimal p.sport ++ (codes " " ++ decimal p.dport))))
+
+abbrev pub packet_line : Packet → List ℕ
+packet_line p = codes "packet" ++ (addresses_text p ++ (numbers_text p ++ codes "\n"))
+
+-- the line of a packet, where there is one
+abbrev pub some_line : Option Packet → List ℕ
+some_line None = []
+some_line (Some p) = packet_line p
+
+-- what the rules do with the last packet
+abbrev pub verdict_line : Bool → List ℕ
+verdict_line true = codes "text forwards\n"
+verdict_line false = codes "text drops\n"
+
+abbrev pub trace_text : Trace → List ℕ
+trace_text trace =
+    codes "differ\n" ++ (packet_line trace.first ++ (some_line trace.second ++ (some_line trace.third ++ verdict_line trace.forwards)))
+
+abbrev pub finding_text : Finding → List ℕ
+finding_text Equal = codes "equal\n"
+finding_text (Differing trace) = trace_text trace
+
+-- the line on the error stream where there are so many classes
+abbrev pub classes_line : ℕ → List ℕ
+classes_line count = codes "topos: not emittable: " ++ (decimal count ++ codes " classes exceed 4000000\n")

@@ -1,0 +1,28 @@
+-- The three kinds of list at a packet, and that a filter and a policy differ at the end of one.
+use Rattle.std.specs.Prelude.{◌≡◌, Bool, List, [], ◌∷◌, ◌++◌, length, Option, Some}
+use Rattle.host_net.specs.declared.packet.Packet.{Packet}
+use Rattle.host_net.specs.Packet.{swap_of}
+use Rattle.pkt_core.specs.declared.event.Event.{Event}
+use Rattle.pkt_core.specs.declared.event.Event.TheVariants.{Seen}
+use Rattle.pkt_core.specs.Expected.{Expected}
+use Rattle.pkt_core.specs.Filter.{RunsFromNothing}
+use Rattle.pkt_core.specs.Firewall.{Filter}
+use Rattle.audit_core.specs.declared.kind.Kind.{Kind}
+use Rattle.audit_core.specs.declared.kind.Kind.TheVariants.{Alone, BehindSwap, BehindBoth}
+use Rattle.audit_core.specs.Agreement.{IsWrong}
+
+-- what stands before the packet
+abbrev pub front_of : Kind → Packet → List Event
+front_of Alone p = []
+front_of BehindSwap p = Seen (swap_of p) ∷ []
+front_of BehindBoth p = Seen p ∷ Seen (swap_of p) ∷ []
+
+abbrev pub list_of : Kind → Packet → List Event
+list_of kind p = front_of kind p ++ Seen p ∷ []
+
+-- behind these events the packet passes, or not, and is not or is expected to
+pub record DifferBehind (filter : Filter) (permitted stateful : Packet → Bool) (past : List Event) (p : Packet) (passes : Bool) : Type 0 where
+  pub answers : List (Option Bool)
+  pub run : RunsFromNothing filter (past ++ Seen p ∷ []) (answers ++ Some passes ∷ [])
+  pub many : length answers ≡ length past
+  pub wrong : IsWrong passes (Expected permitted stateful past p)

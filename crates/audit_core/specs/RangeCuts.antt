@@ -1,0 +1,19 @@
+-- Where the code's ranges cut. Callers see none of it; they have `Cuts`.
+use Rattle.std.specs.Prelude.{ℕ, ◌^◌, List, ◌∷◌}
+use Rattle.std.specs.List.{flat_map}
+use Rattle.audit_core.specs.declared.named.PortRange.{PortRange}
+use Rattle.audit_core.specs.declared.named.AddressRange.{AddressRange}
+use Rattle.audit_core.specs.Ranges.{range_cuts}
+
+abbrev pub cuts_of_addresses : AddressRange → List ℕ
+cuts_of_addresses range = range_cuts (2 ^ 32) range.first range.last
+
+abbrev pub cuts_of_ports : PortRange → List ℕ
+cuts_of_ports range = range_cuts (2 ^ 16) range.low range.high
+
+-- 0, and where the ranges cut
+abbrev pub address_cuts : List AddressRange → List ℕ
+address_cuts ranges = 0 ∷ flat_map cuts_of_addresses ranges
+
+abbrev pub port_cuts : List PortRange → List ℕ
+port_cuts ranges = 0 ∷ flat_map cuts_of_ports ranges

@@ -1,0 +1,25 @@
+-- The two kinds of rules that are audited, as filters.
+use Rattle.std.specs.Prelude.{◌≡◌, Bool, List}
+use Rattle.host_net.specs.declared.packet.Packet.{Packet}
+use Rattle.host_net.specs.declared.packet.CtState.{CtState}
+use Rattle.host_net.specs.Packet.{IsPacket}
+use Rattle.pkt_core.specs.Firewall.{Filter}
+use Rattle.ipt_rules.specs.Chain.{Chain}
+use Rattle.ipt_rules.specs.Meaning.{Passes as PassesChains}
+use Rattle.ofp_rules.specs.declared.entry.Entry.{Entry}
+use Rattle.ofp_rules.specs.Meaning.{Passes as PassesTable}
+
+-- the chains of a packet filter, or the entries of a flow table
+pub data Rules : Type 0 where
+  Chains : List Chain → Rules
+  Entries : List Entry → Rules
+
+-- which packets they let pass in which state; a flow table knows no states
+abbrev pub filter_of : Rules → Filter
+filter_of (Chains chains) = PassesChains chains
+filter_of (Entries entries) = PassesTable entries
+
+-- in each state a packet passes or does not, and not both
+abbrev pub GivesOne : Filter → Type 0
+GivesOne filter =
+    (state : CtState) (p : Packet) → IsPacket p → (passes : Bool) × filter state p passes × ((other : Bool) → filter state p other → other ≡ passes)

@@ -1,0 +1,51 @@
+-- The two sides that are compared, and what it is that they agree or differ.
+use Rattle.std.specs.Prelude.{Bool, List}
+use Rattle.host_net.specs.declared.packet.Packet.{Packet}
+use Rattle.host_net.specs.Site.{Site}
+use Rattle.flow_set.specs.declared.flow.Flow.{Flow}
+use Rattle.pkt_core.specs.declared.event.Event.{Event}
+use Rattle.pkt_core.specs.Filter.{ArePackets, ForwardsExpected}
+use Rattle.pkt_core.specs.FlowPolicy.{is_of}
+use Rattle.audit_core.specs.Agreement.{AgreeAt, AgreeOn, DifferOn}
+use Rattle.audit_core.specs.Lists.{DifferBehind}
+use Rattle.audit_core.specs.Rules.{Rules, filter_of}
+
+-- a policy between hosts, with the services of its flows, and rules
+pub record Sides : Type 0 where
+  pub site : Site
+  pub permitted : List Flow
+  pub stateful : List Flow
+  pub rules : Rules
+
+abbrev pub sides_of : Site → (permitted stateful : List Flow) → Rules → Sides
+sides_of site permitted stateful rules = record { site = site; permitted = permitted; stateful = stateful; rules = rules }
+
+-- the policy permits a packet; answers to it may pass
+abbrev pub permits : Sides → Packet → Bool
+permits sides = is_of sides.site sides.permitted
+
+abbrev pub lets_answer : Sides → Packet → Bool
+lets_answer sides = is_of sides.site sides.stateful
+
+-- the two sides agree on a list of events, and they differ on it
+abbrev pub Agree : Sides → List Event → Type 0
+Agree sides = AgreeOn (filter_of sides.rules) (permits sides) (lets_answer sides)
+
+abbrev pub Differ : Sides → List Event → Type 0
+Differ sides = DifferOn (filter_of sides.rules) (permits sides) (lets_answer sides)
+
+-- they differ on one packet more: behind these events it passes, or not, and is not or is expected to
+abbrev pub DifferThen : Sides → List Event → Packet → Bool → Type 0
+DifferThen sides = DifferBehind (filter_of sides.rules) (permits sides) (lets_answer sides)
+
+-- they agree on the three short lists at a packet
+abbrev pub AgreeShortly : Sides → Packet → Type 0
+AgreeShortly sides = AgreeAt (filter_of sides.rules) (permits sides) (lets_answer sides)
+
+-- they agree on every list of events of packets
+abbrev pub AgreeAlways : Sides → Type 0
+AgreeAlways sides = (events : List Event) → ArePackets events → Agree sides events
+
+-- the rules forward what is expected of the policy
+abbrev pub AreAsExpected : Sides → Type 0
+AreAsExpected sides = ForwardsExpected (filter_of sides.rules) sides.site sides.permitted sides.stateful

@@ -1,0 +1,52 @@
+//! The laws that carry the audit, and what its findings say of rules that were written for a policy,
+//! over the definitions alone.
+
+ghost use Rattle.std.specs.Prelude.{◌≡◌, Bool, List};
+ghost use Rattle.host_net.specs.declared.packet.Packet.{Packet};
+ghost use Rattle.host_net.specs.declared.packet.CtState.{CtState};
+ghost use Rattle.host_net.specs.Packet.{IsPacket, swap_of};
+ghost use Rattle.flow_set.specs.FlowSet.{IsSubset};
+ghost use Rattle.pkt_core.specs.FlowPolicy.{flow_of};
+ghost use Rattle.ofp_rules.specs.declared.entry.Entry.{Entry};
+ghost use Rattle.audit_core.specs.declared.finding.Finding.{Finding};
+ghost use Rattle.audit_core.specs.declared.finding.Finding.TheVariants.{Equal};
+ghost use Rattle.audit_core.specs.Agreement.{alone, behind_swap};
+ghost use Rattle.audit_core.specs.Cuts.{AreOneClass, Cuts, cuts_between};
+ghost use Rattle.audit_core.specs.Findings.{IsFinding};
+ghost use Rattle.audit_core.specs.Places.{IsClassPacket, leasts_of};
+ghost use Rattle.audit_core.specs.Rules.{Entries, GivesOne, filter_of};
+ghost use Rattle.audit_core.specs.Sides.{Agree, AgreeAlways, AgreeShortly, AreAsExpected, Sides, lets_answer, permits};
+
+/// Rules that agree with a policy on the three short lists at each packet agree with it on every
+/// list of events. At a flow table, which knows no states, the first two suffice.
+pub fn short_lists_suffice()
+    ensures each { (sides : Sides) → GivesOne (filter_of sides.rules) → IsSubset sides.stateful sides.permitted →
+        ((packet : Packet) → IsPacket packet → AgreeShortly sides packet) → AgreeAlways sides }
+    ensures table { (sides : Sides) (entries : List Entry) → sides.rules ≡ Entries entries → GivesOne (filter_of sides.rules) →
+        IsSubset sides.stateful sides.permitted →
+        ((packet : Packet) → IsPacket packet → Agree sides (alone packet) × Agree sides (behind_swap packet)) → AgreeAlways sides }
+{}
+
+/// Packets of one class are of the same flow by its services or both of none, have the same
+/// verdicts, and have swaps of one class; and each packet is of one class with one that has the
+/// least numbers of its classes.
+pub fn classes_are_uniform()
+    ensures flow { (sides : Sides) (p q : Packet) → IsPacket p → IsPacket q → AreOneClass (cuts_between sides) p q →
+        flow_of sides.site.hosts p ≡ flow_of sides.site.hosts q }
+    ensures permitted { (sides : Sides) (p q : Packet) → IsPacket p → IsPacket q → AreOneClass (cuts_between sides) p q →
+        permits sides p ≡ permits sides q }
+    ensures stateful { (sides : Sides) (p q : Packet) → IsPacket p → IsPacket q → AreOneClass (cuts_between sides) p q →
+        lets_answer sides p ≡ lets_answer sides q }
+    ensures verdict { (sides : Sides) (p q : Packet) (state : CtState) (passes : Bool) → IsPacket p → IsPacket q → AreOneClass (cuts_between sides) p q →
+        filter_of sides.rules state p passes → filter_of sides.rules state q passes }
+    ensures swaps { (cuts : Cuts) (p q : Packet) → AreOneClass cuts p q → AreOneClass cuts (swap_of p) (swap_of q) }
+    ensures class { (sides : Sides) (p : Packet) → IsPacket p →
+        (q : Packet) × IsPacket q × IsClassPacket (leasts_of (cuts_between sides)) q × AreOneClass (cuts_between sides) q p }
+{}
+
+/// Whatever is found of rules that forward what is expected of a policy, it is that they are equal;
+/// and rules that are found equal forward what is expected.
+pub fn equal_is_expected()
+    ensures equal { (sides : Sides) (finding : Finding) → AreAsExpected sides → IsFinding sides finding → finding ≡ Equal }
+    ensures expected { (sides : Sides) → GivesOne (filter_of sides.rules) → IsFinding sides Equal → AreAsExpected sides }
+{}

@@ -1,0 +1,50 @@
+//! The rules that are audited: those of a packet filter, or those of a switch.
+
+ghost use Rattle.std.specs.Prelude.{◌≡◌};
+ghost use Rattle.host_net.specs.Verdict.{verdict_if};
+ghost use Rattle.audit_core.specs.Rules.{GivesOne, filter_of};
+ghost use Rattle.audit_core.specs.RulesView.{rules_of};
+
+use host_net::{CtState, Packet, Verdict};
+use ipt_rules::Ruleset;
+use ofp_rules::{Frame, Table};
+
+/// A rules text, as what it says.
+#[derive(Clone, Copy)]
+pub enum Text<'a> {
+    /// Chains of iptables. Packets that are forwarded run through FORWARD.
+    Ipt(&'a Ruleset),
+    /// A flow table of OpenFlow. It looks at no connections.
+    Ofp(&'a Table),
+}
+
+impl<'a> Text<'a> {
+    /// Whether it lets a packet pass in a state.
+    pub(crate) fn passes(&self, packet: &Packet, state: CtState) -> bool
+        ensures { filter_of (rules_of self.now) state packet.now result }
+    {
+        match self {
+            Text::Ipt(rules) => is_forwarded(rules.verdict(packet, state)),
+            Text::Ofp(table) => is_forwarded(table.verdict(&Frame::Ipv4(*packet))),
+        }
+    }
+
+    /// How many rules it has. Whatever they are, a packet passes in a state or does not.
+    pub(crate) fn rules(&self) -> u32
+        ensures gives { GivesOne (filter_of (rules_of self.now)) }
+    {
+        match self {
+            Text::Ipt(rules) => rules.rules(),
+            Text::Ofp(table) => table.len(),
+        }
+    }
+}
+
+fn is_forwarded(verdict: Verdict) -> bool
+    ensures { verdict_if result ≡ verdict }
+{
+    match verdict {
+        Verdict::Forward => true,
+        Verdict::Drop => false,
+    }
+}
