@@ -1,0 +1,4 @@
+pub mod CopyLemmas
+pub mod RunLemmas
+pub mod SessionLemmas
+pub mod SummaryLemmas

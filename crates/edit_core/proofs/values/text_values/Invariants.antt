@@ -1,0 +1,8 @@
+use Rattle.std.proofs.Common.{◌≡◌, ◌++◌, drop, map, string_bytes}
+use Rattle.toml.specs.Data.{string}
+use Rattle.toml.specs.View.{view}
+use Rattle.edit_core.proofs.values.text_values.Given as goal
+
+-- the values so far and the texts that are left are all texts
+abbrev pub invariant-loop-text : goal.invariant-loop-text
+invariant-loop-text l = map view l.values.items ++ map string (map string_bytes (drop l.text-index l.texts)) ≡ map string (map string_bytes l.texts)

@@ -1,0 +1,6 @@
+pub mod EditFaults
+pub mod Edited
+pub mod Kept
+pub mod Runs
+pub mod Summaries
+pub mod SummaryLaws

@@ -1,0 +1,52 @@
+-- What is told of a description after an edit, and what a session answers.
+use Rattle.std.specs.Prelude.{◌≡◌, ◌↔◌, ℕ, Bool, List, length, Some, Result, Ok, Err, IsFalse}
+use Rattle.std.specs.List.{AllZip, filter}
+use Rattle.desc_core.specs.Description.{described, described_by_table}
+use Rattle.desc_core.specs.Document.{document}
+use Rattle.desc_core.specs.declared.fault.DescFault.{DescFault}
+use Rattle.desc_core.specs.declared.fault.DescFault.TheVariants as desc
+use Rattle.edit_core.specs.Edited.{after_edit}
+use Rattle.edit_core.specs.Kept.{IsKept}
+use Rattle.edit_core.specs.declared.fault.EditFault.{EditFault}
+use Rattle.edit_core.specs.declared.fault.EditFault.TheVariants.{Memory}
+use Rattle.edit_core.specs.declared.summary.Summary.{Summary}
+use Rattle.edit_text.specs.Edit.{Change}
+use Rattle.flow_set.specs.declared.flow.Flow.{Flow}
+use Rattle.inv_any.specs.declared.any_inv.AnyInv.{AnyInv}
+use Rattle.net_core.specs.Network.{Network}
+use Rattle.net_core.specs.Policies.{Policy, holds_on}
+use Rattle.toml.specs.Data.{Members}
+
+-- so many of the invariants fail on the flows: each has a mark, which is false exactly where it holds
+pub record AreFailing (invs : List AnyInv) (flows : List Flow) (count : ℕ) : Type 0 where
+  pub marks : List Bool
+  pub each : AllZip (λ inv failed. IsFalse failed ↔ holds_on inv flows) invs marks
+  pub counted : count ≡ length (filter (λ failed. failed) marks)
+
+-- how many flows the network asks for, how many its policy permits and lets be answered, and how many of its invariants fail on the
+-- asked flows
+pub record TellsOf (d : Network) (policy : Policy) (summary : Summary) : Type 0 where
+  pub asked : summary.asked ≡ length d.asked.flows
+  pub permitted : summary.permitted ≡ length policy.permitted.flows
+  pub stateful : summary.stateful ≡ length policy.stateful.flows
+  pub failing : AreFailing d.invariants d.asked.flows summary.failing
+
+-- this is so of the policy of the network that the table describes
+abbrev pub HasPolicy : Members → (Policy → Type 0) → Type 0
+HasPolicy table Is = (d : Network) × (policy : Policy) × IsKept table d policy × Is policy
+
+-- the summary of the description that a table is
+abbrev pub IsSummary : Members → Summary → Type 0
+IsSummary table summary = (d : Network) × (policy : Policy) × IsKept table d policy × TellsOf d policy summary
+
+-- the bytes are the document of the table, and a description; or they are refused for this
+abbrev pub IsStarted : List ℕ → Result Members DescFault → Type 0
+IsStarted bytes (Ok table) = (document bytes ≡ Some table) × ((d : Network) × (described bytes ≡ Ok d) × (described_by_table table ≡ Ok d))
+IsStarted bytes (Err (desc.Refused refusal)) = described bytes ≡ Err refusal
+IsStarted bytes (Err desc.Memory) = Unit {0}
+
+-- the edit leads from the old table to the new one, of which the summary tells; or it is refused for this, and the table is the old one
+abbrev pub IsApplied : Change → (old new : Members) → Result Summary EditFault → Type 0
+IsApplied change old new (Ok summary) = (after_edit change old ≡ Ok new) × IsSummary new summary
+IsApplied change old new (Err Memory) = new ≡ old
+IsApplied change old new (Err fault) = (after_edit change old ≡ Err fault) × (new ≡ old)

@@ -1,0 +1,218 @@
+//! The assigns of an invariant, edited.
+
+ghost use Rattle.std.specs.Prelude.{◌≡◌, ◌++◌, ◌∷◌, [], codes, map, option_map, filter, if◌then◌else◌, not, IfOk, OnOk};
+ghost use Rattle.std.specs.List.{list_any, slice_set};
+ghost use Rattle.std.specs.Result.{result_map_both};
+ghost use Rattle.desc_form.specs.Places.{assigns_of, listed};
+ghost use Rattle.desc_form.specs.Written.{text_in};
+ghost use Rattle.edit_core.specs.Edited.{assigned, invariant_at, is_of_host, set_in, unset_in, with_assigns, with_invariant};
+ghost use Rattle.edit_core.specs.EditFaults.{Gives};
+ghost use Rattle.toml.specs.Data.{table};
+ghost use Rattle.toml.specs.View.{table_view, view};
+
+use crate::fault::EditFault;
+use crate::values::{copy_table, copy_value, copy_values, with_list};
+use std::alloc::{AllocError, Global};
+use table_core::{list_at, text_at};
+use toml::{Table, Value};
+
+/// The table in which an invariant, by its number from 1, assigns to a host what a table says.
+pub(crate) fn set_in(
+    alloc: Global,
+    document: &Table,
+    number: u8,
+    assign: &Table,
+) -> Result<Table, EditFault>
+    ensures { Gives (set_in (table_view document.now) number (table_view assign.now) (invariant_at number (table_view document.now))) (result_map_both table_view (λ fault. fault) result) }
+{
+    let Some(invariant) = invariant_at(document, number) else {
+        return Err(EditFault::Absent);
+    };
+    let assigns = assigned(alloc, assigns_of(invariant), assign)?;
+    let changed = with_assigns(alloc, invariant, assigns)?;
+    Ok(with_invariant(alloc, document, number, changed)?)
+}
+
+/// The table in which an invariant, by its number from 1, assigns nothing to a host.
+pub(crate) fn unset_in(
+    alloc: Global,
+    document: &Table,
+    number: u8,
+    host: &str,
+) -> Result<Table, EditFault>
+    ensures { Gives (unset_in (table_view document.now) number host.now (invariant_at number (table_view document.now))) (result_map_both table_view (λ fault. fault) result) }
+{
+    let Some(invariant) = invariant_at(document, number) else {
+        return Err(EditFault::Absent);
+    };
+    if !has_host(assigns_of(invariant), host) {
+        return Err(EditFault::Absent);
+    }
+    let assigns = other_assigns(alloc, assigns_of(invariant), host)?;
+    let changed = with_assigns(alloc, invariant, assigns)?;
+    Ok(with_invariant(alloc, document, number, changed)?)
+}
+
+/// The invariants that the table lists.
+#[tactic(auto, unfolding(desc_form::specs::Places::listed))]
+fn invariants_of(document: &Table) -> &[Value]
+    ensures { map view result.now ≡ listed (codes "invariant") (table_view document.now) }
+{
+    match list_at(document, "invariant") {
+        Some(invariants) => invariants,
+        None => &[],
+    }
+}
+
+/// The invariant with a number, from 1.
+fn invariant_at(document: &Table, number: u8) -> Option<&Value>
+    ensures { option_map (λ value. view value.now) result ≡ invariant_at number (table_view document.now) }
+{
+    invariants_of(document).get(number.saturating_sub(1) as usize)
+}
+
+/// The assigns of an invariant.
+#[tactic(auto, unfolding(desc_form::specs::Places::assigns_of))]
+fn assigns_of(invariant: &Value) -> &[Value]
+    ensures { map view result.now ≡ assigns_of (view invariant.now) }
+{
+    let Some(invariant) = invariant.as_table() else {
+        return &[];
+    };
+    match list_at(invariant, "assign") {
+        Some(assigns) => assigns,
+        None => &[],
+    }
+}
+
+/// The invariant with these assigns.
+fn with_assigns(alloc: Global, invariant: &Value, assigns: Vec<Value>) -> Result<Value, AllocError>
+    ensures { IfOk result (λ changed. view changed ≡ with_assigns (map view assigns.items) (view invariant.now)) }
+{
+    match invariant.as_table() {
+        Some(members) => Ok(Value::Table(with_list(alloc, members, "assign", assigns)?)),
+        None => copy_value(invariant),
+    }
+}
+
+/// The table with this invariant in the place of the one with a number, from 1.
+fn with_invariant(
+    alloc: Global,
+    document: &Table,
+    number: u8,
+    invariant: Value,
+) -> Result<Table, AllocError>
+    ensures { IfOk result (λ table. table_view table ≡ with_invariant number (view invariant) (table_view document.now)) }
+{
+    let mut invariants = copy_values(alloc, invariants_of(document))?;
+    put_at(
+        &mut invariants,
+        number.saturating_sub(1) as usize,
+        invariant,
+    );
+    with_list(alloc, document, "invariant", invariants)
+}
+
+/// Puts a value in the place of the one that stands there, if one does.
+fn put_at(values: &mut Vec<Value>, place: usize, value: Value)
+    ensures { map view values.new.items ≡ slice_set (map view values.old.items) place (view value) }
+{
+    if place < values.len() {
+        values[place] = value;
+    }
+}
+
+/// The assigns with one for its host: in the place of the host's, or at the end where it has none.
+fn assigned(alloc: Global, assigns: &[Value], assign: &Table) -> Result<Vec<Value>, AllocError>
+    ensures { IfOk result (λ values. map view values.items ≡ assigned (table_view assign.now) (map view assigns.now)) }
+{
+    let host = host_of(assign);
+    if has_host(assigns, host) {
+        return replaced(alloc, assigns, host, assign);
+    }
+    let mut values = copy_values(alloc, assigns)?;
+    values.push(Value::Table(copy_table(assign)?))?;
+    Ok(values)
+}
+
+/// The name of the host of an assign.
+fn host_of(assign: &Table) -> &str
+    ensures { result.now ≡ text_in (codes "host") (table_view assign.now) }
+{
+    match text_at(assign, "host") {
+        Some(host) => host,
+        None => "",
+    }
+}
+
+fn has_host(assigns: &[Value], host: &str) -> bool
+    ensures { result ≡ list_any (is_of_host host.now) (map view assigns.now) }
+{
+    names_any(assigns, host)
+}
+
+fn names_any(assigns: &[Value], host: &str) -> bool
+    ensures { result ≡ list_any (λ value. is_of_host host.now (view value)) assigns.now }
+{
+    assigns.iter().any(|assign| is_of_host(assign, host))
+}
+
+/// The assigns with this table in the place of that of the host.
+fn replaced(
+    alloc: Global,
+    assigns: &[Value],
+    host: &str,
+    assign: &Table,
+) -> Result<Vec<Value>, AllocError>
+    ensures { IfOk result (λ values. map view values.items ≡ map (λ d. if is_of_host host.now d then table (table_view assign.now) else d) (map view assigns.now)) }
+{
+    let mut values = Vec::new(alloc);
+    for value in assigns {
+        values.push(replacement(value, host, assign)?)?;
+    }
+    Ok(values)
+}
+
+fn replacement(value: &Value, host: &str, assign: &Table) -> Result<Value, AllocError>
+    ensures { IfOk result (λ new. view new ≡ (if is_of_host host.now (view value.now) then table (table_view assign.now) else view value.now)) }
+{
+    if is_of_host(value, host) {
+        Ok(Value::Table(copy_table(assign)?))
+    } else {
+        copy_value(value)
+    }
+}
+
+/// A copy of each assign that is not the host's.
+fn other_assigns(alloc: Global, assigns: &[Value], host: &str) -> Result<Vec<Value>, AllocError>
+    ensures { IfOk result (λ copies. map view copies.items ≡ filter (λ d. not (is_of_host host.now d)) (map view assigns.now)) }
+{
+    let mut copies = Vec::new(alloc);
+    for assign in assigns {
+        push_other(&mut copies, assign, host)?;
+    }
+    Ok(copies)
+}
+
+/// Puts a copy of an assign that is not the host's.
+fn push_other(copies: &mut Vec<Value>, assign: &Value, host: &str) -> Result<(), AllocError>
+    ensures { OnOk result (map view copies.new.items ≡ map view copies.old.items ++ filter (λ d. not (is_of_host host.now d)) (view assign.now ∷ [])) }
+{
+    if !is_of_host(assign, host) {
+        copies.push(copy_value(assign)?)?;
+    }
+    Ok(())
+}
+
+/// Whether an assign is of the host.
+fn is_of_host(assign: &Value, host: &str) -> bool
+    ensures { result ≡ is_of_host host.now (view assign.now) }
+{
+    let Some(assign) = assign.as_table() else {
+        return false;
+    };
+    match text_at(assign, "host") {
+        Some(named) => host == named,
+        None => false,
+    }
+}

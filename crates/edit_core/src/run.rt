@@ -1,0 +1,57 @@
+//! Edits one after another.
+
+ghost use Rattle.std.specs.Prelude.{◌≡◌, IfErr, IfOk, OnOk, Ok, map};
+ghost use Rattle.edit_core.specs.Edited.{after_edit};
+ghost use Rattle.edit_core.specs.Kept.{table_of};
+ghost use Rattle.edit_core.specs.Runs.{AreSummaries, IsCause, after_edits, next_edit};
+ghost use Rattle.edit_core.specs.Summaries.{IsSummary};
+ghost use Rattle.edit_text.specs.EditView.{edit_view};
+
+use crate::fault::EditFault;
+use crate::session::Session;
+use crate::summary::Summary;
+use edit_text::Edit;
+use std::alloc::Global;
+
+/// The first edit that is refused, by its line, and why.
+#[derive(Clone, Copy, Debug, PartialEq, Eq)]
+pub enum EditRefusal {
+    Refused { line: u32, fault: EditFault },
+    /// Memory ran out.
+    Memory,
+}
+
+impl Session {
+    /// Changes the table by edits one after another, up to the first that is refused, and tells what
+    /// the description is after each.
+    pub fn apply_all(&mut self, alloc: Global, edits: &[Edit]) -> Result<Vec<Summary>, EditRefusal>
+        ensures table { OnOk result (after_edits (map edit_view edits.now) (table_of self.old) ≡ Ok (table_of self.new)) }
+        ensures summaries { IfOk result (λ told. AreSummaries (map edit_view edits.now) (table_of self.old) told.items) }
+        ensures refused { IfErr result (IsCause (after_edits (map edit_view edits.now) (table_of self.old))) }
+    {
+        let mut told = Vec::new(alloc);
+        for edit in edits {
+            let summary = self.step(edit)?;
+            if told.push(summary).is_err() {
+                return Err(EditRefusal::Memory);
+            }
+        }
+        Ok(told)
+    }
+
+    /// One edit more.
+    fn step(&mut self, edit: &Edit) -> Result<Summary, EditRefusal>
+        ensures table { OnOk result (after_edit (edit_view edit.now).change (table_of self.old) ≡ Ok (table_of self.new)) }
+        ensures summary { IfOk result (IsSummary (table_of self.new)) }
+        ensures refused { IfErr result (IsCause (next_edit (edit_view edit.now).line (after_edit (edit_view edit.now).change (table_of self.old)) (λ table. Ok table))) }
+    {
+        match self.apply(edit) {
+            Ok(summary) => Ok(summary),
+            Err(EditFault::Memory) => Err(EditRefusal::Memory),
+            Err(fault) => Err(EditRefusal::Refused {
+                line: edit.line(),
+                fault,
+            }),
+        }
+    }
+}

@@ -1,0 +1,107 @@
+//! A description that is edited. The session keeps its table, its network and their policy.
+
+ghost use Rattle.std.specs.Prelude.{◌≡◌, IfErr, IfOk, Ok, OnErr};
+ghost use Rattle.std.specs.Result.{result_map_both};
+ghost use Rattle.desc_core.specs.Description.{described_by_table};
+ghost use Rattle.edit_core.specs.Kept.{IsDescription, Refuses, entries_of, table_of};
+ghost use Rattle.edit_core.specs.Summaries.{HasPolicy, IsApplied, IsStarted};
+ghost use Rattle.edit_text.specs.EditView.{edit_view};
+ghost use Rattle.toml.specs.View.{table_view};
+
+use crate::fault::EditFault;
+use crate::summary::{Summary, summary_of};
+use crate::table::edited;
+use desc_core::{DescFault, describe_table, read_table};
+use edit_text::Edit;
+use flow_set::FlowSet;
+use net_core::{Description, Policy, policy_of};
+use std::alloc::Global;
+use std::marker::Model;
+use toml::Table;
+
+/// A description that is edited, with its policy. It is seen as its table.
+#[derive(Drop)]
+pub struct Session {
+    alloc: Global,
+    table: Table,
+    description: Description,
+    policy: Policy,
+}
+
+impl Model for Session {
+    ghost use Rattle.std.specs.Prelude.{ℕ, List};
+    ghost use Rattle.std.specs.Coded.{codes};
+    ghost use Rattle.toml.specs.declared.value.Value.{Value as TomlValue};
+    ghost use Rattle.toml.specs.contracts.value.Value as value;
+
+    ghost Value = { List (List ℕ × TomlValue) };
+
+    ghost coded = { Prim.hlevel (codes, value.the_row.coded) };
+
+    ghost use Rattle.toml.specs.View.{table_view};
+    ghost use Rattle.edit_core.specs.Kept.{IsKept, entries_of};
+
+    ghost view = { λ s. entries_of s.table };
+
+    ghost invariant = { λ s. IsKept (table_view s.table) s.description s.policy };
+}
+
+impl Session {
+    /// A session of a description, or the first condition that refuses it.
+    pub fn start(alloc: Global, bytes: &[u8]) -> Result<Session, DescFault>
+        ensures { IsStarted bytes.now (result_map_both table_of (λ fault. fault) result) }
+    {
+        let table = read_table(alloc, bytes)?;
+        Session::of_table(alloc, table)
+    }
+
+    /// A session of a table that is a description, or the first condition on tables that refuses it.
+    fn of_table(alloc: Global, table: Table) -> Result<Session, DescFault>
+        ensures table { IfOk result (λ session. session ≡ entries_of table) }
+        ensures described { IfOk result (λ session. IsDescription (table_of session)) }
+        ensures refused { IfErr result (Refuses (table_view table)) }
+    {
+        let description = describe_table(alloc, &table)?;
+        let policy = policy_of(alloc, &description)?;
+        Ok(Session {
+            alloc,
+            table,
+            description,
+            policy,
+        })
+    }
+
+    /// Changes the table by an edit, and tells what the description is then. After a refusal, and
+    /// where there is no memory, the table is as it was.
+    pub fn apply(&mut self, edit: &Edit) -> Result<Summary, EditFault>
+        ensures applied { IsApplied (edit_view edit.now).change (table_of self.old) (table_of self.new) result }
+        ensures unchanged { OnErr result (self.new ≡ self.old) }
+    {
+        let table = edited(self.alloc, &self.table, edit.change())?;
+        let next = Session::of_table(self.alloc, table)?;
+        let summary = summary_of(self.alloc, &next.description, &next.policy)?;
+        *self = next;
+        Ok(summary)
+    }
+
+    /// The description now.
+    pub fn description(&self) -> &Description
+        ensures { described_by_table (table_of self.now) ≡ Ok result.now }
+    {
+        &self.description
+    }
+
+    /// The permitted flows of the description now.
+    pub fn permitted(&self) -> &FlowSet
+        ensures { HasPolicy (table_of self.now) (λ policy. result.now ≡ policy.permitted) }
+    {
+        self.policy.permitted()
+    }
+
+    /// Those among them whose answers may pass.
+    pub fn stateful(&self) -> &FlowSet
+        ensures { HasPolicy (table_of self.now) (λ policy. result.now ≡ policy.stateful) }
+    {
+        self.policy.stateful()
+    }
+}

@@ -1,0 +1,57 @@
+-- Worked rows: lines of edits that are refused, and what stands behind words.
+use Rattle.std.proofs.Common.{◌≡◌, [], ◌∷◌, ◌++◌, refl}
+use Rattle.std.specs.Prelude.{codes, Ok, Err}
+use Rattle.text_core.specs.Decimal.{number, bounded_value}
+use Rattle.text_core.specs.Lines.{lines, is_comment}
+use Rattle.text_core.specs.Reading.{line_by_line}
+use Rattle.edit_text.specs.Behind.{behind_word}
+use Rattle.edit_text.specs.ChangeLine.{change_of, invariant_said}
+use Rattle.edit_text.specs.EditsText.{edit_step}
+use Rattle.edit_text.specs.declared.fault.EditsWhy.TheVariants.{BadLine, BadValue}
+
+-- the number of words goes before every value
+row_add : change_of (codes "add a") ≡ Err BadLine
+unfolding change_of
+row_add = refl
+
+row_remove : change_of (codes "remove a b c") ≡ Err BadLine
+unfolding change_of
+row_remove = refl
+
+row_set : change_of (codes " set 99 ") ≡ Err BadLine
+unfolding change_of
+row_set = refl
+
+row_unset : change_of (codes "unset 1 a b") ≡ Err BadLine
+unfolding change_of
+row_unset = refl
+
+row_verb : change_of (codes "Add a b") ≡ Err BadLine
+unfolding change_of
+row_verb = refl
+
+-- invariants count from 1, to 16, and no number has a leading zero
+row_zero : change_of (codes "unset 0 a") ≡ Err BadValue
+unfolding change_of number bounded_value
+row_zero = refl
+
+row_many : change_of (codes "unset 17 a") ≡ Err BadValue
+unfolding change_of number bounded_value
+row_many = refl
+
+row_padded : change_of (codes "set 01 { host = \"a\" }") ≡ Err BadValue
+unfolding change_of number bounded_value
+row_padded = refl
+
+-- a word ends at a blank alone
+row_joined : change_of (codes "set 1{ host = \"a\" } b") ≡ Err BadValue
+unfolding change_of number bounded_value
+row_joined = refl
+
+row_behind : behind_word (behind_word (codes " set  1 { } # c ")) ≡ codes " { } # c "
+row_behind = refl
+
+-- lines count from 1, and comments count
+row_line : line_by_line edit_step 1 [] (lines (codes "# a" ++ (10 ∷ (10 ∷ codes "remove a")))) ≡ Err (3, BadLine)
+unfolding change_of is_comment
+row_line = refl

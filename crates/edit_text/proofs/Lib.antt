@@ -1,0 +1,3 @@
+pub mod BehindLaws
+pub mod EditsRows
+pub mod TextLemmas

@@ -1,0 +1,9 @@
+pub mod Behind
+pub mod ChangeLine
+pub mod ChangeLaws
+pub mod Edit
+pub mod EditView
+pub mod EditsAnswers
+pub mod EditsText
+pub mod EditsTextLaws
+pub mod OneReadingLaws
