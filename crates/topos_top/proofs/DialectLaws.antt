@@ -11,8 +11,8 @@ use Rattle.ofp_read.specs.AgainLaws.{text_read_again as flows_read_again}
 use Rattle.ofp_read.specs.FaultLaws.{one_reading as one_reading_of_flows}
 use Rattle.pkt_core.specs.Filter.{Enforces}
 use Rattle.topos_top.specs.Dialects.{Language, Hindrance, NeedsState, RangeOfPorts, TooManyFlows, TooManyRules, iptables, openflow, language_of, BarsChains, BarsTable, FitsChains, FitsTable}
-use Rattle.topos_top.specs.declared.form.Dialect.{Dialect}
-use Rattle.topos_top.specs.declared.form.Dialect.TheVariants.{Iptables, OpenFlow}
+use Rattle.topos_top.specs.declared.dialect.Dialect.{Dialect}
+use Rattle.topos_top.specs.declared.dialect.Dialect.TheVariants.{Iptables, OpenFlow}
 
 -- what rules keep a policy by
 pub record KeepsPolicies (language : Language) : Type 0 where

@@ -1,71 +1,98 @@
--- The headline, from what was written by the commands that write rules.
-use Rattle.std.proofs.Common.{◌≡◌, ℕ, List, [], ◌∷◌, refl, ap, subst}
+-- The headline, from what was written by the commands that write rules and descriptions, and by the one that compares rules.
+use Rattle.std.proofs.Common.{◌≡◌, inl, inr, ℕ, List, subst}
+use Rattle.audit_core.specs.Rules.{Rules as AuditedRules}
+use Rattle.edge_io.specs.Counts.{more}
 use Rattle.net_core.specs.Network.{Network}
-use Rattle.topos_top.specs.Command.{Command, files_in, files_of}
+use Rattle.std.specs.Prelude.{codes}
+use Rattle.topos_top.specs.Ask.{Ask, Check, Policy, Rules, Repair, Trace, Sample, Migrate, Audit, Edit, Local}
+use Rattle.topos_top.specs.Audit.{ForwardAlike, OfSides, audit_job, rules_in}
+use Rattle.topos_top.specs.Commands.{course_of}
+use Rattle.topos_top.specs.Course.{CameAlong}
 use Rattle.topos_top.specs.Dialects.{language_of}
-use Rattle.topos_top.specs.File.{File}
-use Rattle.topos_top.specs.Jobs.{job_of}
-use Rattle.topos_top.specs.Promises.{Describes, WroteText, WritesRules, WroteRules, KeepsPromise}
-use Rattle.topos_top.specs.Rules.{ListedHolds, KeepPolicy}
-use Rattle.topos_top.specs.Seen.{ShelfChange, HaveReadings, ReadAll}
+use Rattle.topos_top.specs.Job.{OneEnd, Told}
+use Rattle.topos_top.specs.Local.{KeepLocal, local_job}
+use Rattle.topos_top.specs.Promises.{WroteText, Keeps, KeepsPromise}
+use Rattle.topos_top.specs.Repair.{repair_job}
+use Rattle.topos_top.specs.Rules.{ListedHolds, KeepPolicy, rules_job}
+use Rattle.topos_top.specs.Shelf.{ShelfChange}
 use Rattle.topos_top.specs.Taken.{SinkChange, Took}
-use Rattle.topos_top.specs.declared.file.Kind.TheVariants as kind
-use Rattle.topos_top.specs.declared.form.Dialect.{Dialect}
-use Rattle.topos_top.specs.declared.form.Slot.TheVariants as slot
-use Rattle.topos_top.specs.declared.form.Verb.{Verb}
-use Rattle.topos_top.specs.declared.form.Verb.TheVariants.{Check, Policy, Rules, Repair, Trace, Sample, Migrate}
-use Rattle.topos_top.specs.declared.reading.Reading.{Reading}
-use Rattle.topos_top.specs.declared.reading.Reading.TheVariants as reading
-use Rattle.topos_top.proofs.FileLaws.{read_as-description}
+use Rattle.topos_top.specs.declared.dialect.Dialect.{Dialect}
+use Rattle.topos_top.specs.declared.status.Status.TheVariants.{Done}
+use Rattle.topos_top.proofs.CommandLaws.{settled}
+use Rattle.topos_top.proofs.CourseLaws.{came_so}
 
--- one description was read, of this name, and it is a network
-record OneNetwork (shelf : ShelfChange) (files : List File) (readings : List Reading) : Type 0 where
-  file : List ℕ
-  named : files ≡ record { kind = kind.Description; name = file } ∷ []
-  network : Network
-  read : Describes shelf file network
-  is : readings ≡ reading.Network network ∷ []
+-- the one end of the two jobs that is done is that of the rules
+by_rules : (dialect : Dialect) (d : Network) (text : List ℕ) → OneEnd (Told Done text) (rules_job dialect d) → ListedHolds d × KeepPolicy (language_of dialect) d text
+by_rules dialect d text (inl violated) = let other = violated.0.0 in cc other
+by_rules dialect d text (inr (inl hindered)) = let other = hindered.0.0 in cc other
+by_rules dialect d text (inr (inr (inl written))) = (written.0.1.0, written.1)
+by_rules dialect d text (inr (inr (inr none))) = absurd none
 
-one_network : (shelf : ShelfChange) (dialect : Dialect) (names : List (List ℕ)) (readings : List Reading)
-    → HaveReadings shelf (files_in dialect (slot.Description ∷ []) names) [] readings → (readings ≡ [] → ⊥)
-    → OneNetwork shelf (files_in dialect (slot.Description ∷ []) names) readings
-one_network shelf dialect [] [] have some = absurd (some refl)
-one_network shelf dialect [] (r ∷ readings) have some = absurd have
-one_network shelf dialect (name ∷ names) [] have some = absurd (some refl)
-one_network shelf dialect (name ∷ names) (r ∷ (s ∷ rest)) have some = absurd have.1
-one_network shelf dialect (name ∷ names) (r ∷ []) have some =
-    let n = read_as-description have.0.bytes r have.0.read in
+by_repair : (dialect : Dialect) (d : Network) (text : List ℕ) → OneEnd (Told Done text) (repair_job dialect d) → KeepPolicy (language_of dialect) d text
+by_repair dialect d text (inl hindered) = let other = hindered.0.0 in cc other
+by_repair dialect d text (inr (inl written)) = written.1
+by_repair dialect d text (inr (inr none)) = absurd none
+
+by_local : (d : Network) (host text : List ℕ) → OneEnd (Told Done text) (local_job d host) → KeepLocal d host text
+by_local d host text (inl violated) = let other = violated.0.0 in cc other
+by_local d host text (inr (inl barred)) = let other = barred.0.0 in cc other
+by_local d host text (inr (inr (inl written))) = written.1
+by_local d host text (inr (inr (inr none))) = absurd none
+
+by_audit : (d : Network) (rules : AuditedRules) (text : List ℕ) → OneEnd (Told Done text) (audit_job d rules) → (text ≡ codes "equal\n") × OfSides d rules ForwardAlike
+by_audit d rules text (inl many) = let other = many.0.0 in cc other
+by_audit d rules text (inr (inl differ)) = let other = differ.0.0 in cc other
+by_audit d rules text (inr (inr (inl equal))) = (equal.0.2, equal.1)
+by_audit d rules text (inr (inr (inr none))) = absurd none
+
+kept : (ask : Ask) (shelf : ShelfChange) (out : SinkChange)
+    → CameAlong (course_of ask) shelf.before (λ kind file at. (shelf.after.begins ≡ more at.begins 1) × ⊥) (λ job at. (shelf.after ≡ at) × ((text : List ℕ) × OneEnd (Told Done text) job × Took out text))
+    → Keeps ask shelf out
+kept (Rules dialect file) shelf out (inl stopped) = absurd stopped.1
+kept (Rules dialect file) shelf out (inr on) =
+    let end = by_rules dialect on.said on.next.1.0 on.next.1.1 in
     record {
-      file = name;
-      named = refl;
-      network = n.0;
-      read = record { bytes = have.0.bytes; held = have.0.held; read = n.1 };
-      is = ap (λ (x : Reading). x ∷ []) n.2;
+      wrote = record { bytes = on.bytes; held = on.held; network = on.said; read = on.read; rules = on.next.1.0; written = on.next.1.2; keep = end.1 };
+      listed = λ given. end.1.listed given (end.0 given);
     }
+kept (Repair dialect file) shelf out (inl stopped) = absurd stopped.1
+kept (Repair dialect file) shelf out (inr on) =
+    record { bytes = on.bytes; held = on.held; network = on.said; read = on.read; rules = on.next.1.0; written = on.next.1.2; keep = by_repair dialect on.said on.next.1.0 on.next.1.1 }
+kept (Migrate file) shelf out (inl stopped) = absurd stopped.1
+kept (Migrate file) shelf out (inr on) = elim on.next.1.1 [
+  | inl end ↦ record { bytes = on.bytes; held = on.held; text = on.said; migrated = on.read; written = subst (Took out) end.1 on.next.1.2 }
+  | inr none ↦ absurd none
+]
+kept (Local file host) shelf out (inl stopped) = absurd stopped.1
+kept (Local file host) shelf out (inr on) =
+    record { bytes = on.bytes; held = on.held; network = on.said; read = on.read; rules = on.next.1.0; written = on.next.1.2; keep = by_local on.said host on.next.1.0 on.next.1.1 }
+kept (Audit dialect file rules) shelf out (inl stopped) = absurd stopped.1
+kept (Audit dialect file rules) shelf out (inr on) = elim on.next [
+  | inl stopped ↦ absurd stopped.1
+  | inr second ↦
+      let end = by_audit on.said (rules_in dialect second.said) second.next.1.0 second.next.1.1 in
+      record {
+        bytes = on.bytes;
+        held = on.held;
+        network = on.said;
+        read = on.read;
+        text = second.bytes;
+        text_held = second.held;
+        said = second.said;
+        text_read = second.read;
+        alike = end.1;
+        written = subst (Took out) end.0 second.next.1.2;
+      }
+]
+kept (Check file) shelf out came = tt
+kept (Policy file) shelf out came = tt
+kept (Trace dialect rules events) shelf out came = tt
+kept (Sample hosts) shelf out came = tt
+kept (Edit file edits) shelf out came = tt
 
-wrote_rules : (verb : Verb) (dialect : Dialect) (hosts : ℕ) (names : List (List ℕ)) (shelf : ShelfChange) (out : SinkChange) (readings : List Reading) (text : List ℕ)
-    → ReadAll shelf (files_of (record { verb = verb; dialect = dialect; hosts = hosts; names = names })) readings
-    → (job_of verb dialect hosts readings).text.when → (job_of verb dialect hosts readings).text.tells text
-    → Took out text → WritesRules verb → WroteRules (record { verb = verb; dialect = dialect; hosts = hosts; names = names }) shelf out
-wrote_rules Rules dialect hosts names shelf out readings text read holds tells took writes =
-    let n = one_network shelf dialect names readings read.accepted (λ none. subst (λ (rs : List Reading). (job_of Rules dialect hosts rs).text.when) none holds) in
-    let listed : ListedHolds n.network = (subst (λ (rs : List Reading). (job_of Rules dialect hosts rs).text.when) n.is holds).0 in
-    let keep : KeepPolicy (language_of dialect) n.network text = subst (λ (rs : List Reading). (job_of Rules dialect hosts rs).text.tells text) n.is tells in
-    record { file = n.file; named = n.named; network = n.network; read = n.read; rules = text; written = took; keep = keep; listed = λ given. keep.listed given (listed given) }
-wrote_rules Repair dialect hosts names shelf out readings text read holds tells took writes =
-    let n = one_network shelf dialect names readings read.accepted (λ none. subst (λ (rs : List Reading). (job_of Repair dialect hosts rs).text.when) none holds) in
-    let keep : KeepPolicy (language_of dialect) n.network text = subst (λ (rs : List Reading). (job_of Repair dialect hosts rs).text.tells text) n.is tells in
-    record { file = n.file; named = n.named; network = n.network; read = n.read; rules = text; written = took; keep = keep; listed = tt }
-wrote_rules Check dialect hosts names shelf out readings text read holds tells took writes = absurd writes
-wrote_rules Policy dialect hosts names shelf out readings text read holds tells took writes = absurd writes
-wrote_rules Trace dialect hosts names shelf out readings text read holds tells took writes = absurd writes
-wrote_rules Sample dialect hosts names shelf out readings text read holds tells took writes = absurd writes
-wrote_rules Migrate dialect hosts names shelf out readings text read holds tells took writes = absurd writes
-
-pub headline_law : (words : List (List ℕ)) (shelf : ShelfChange) (out : SinkChange) → WroteText words shelf out
-    → KeepsPromise words shelf out
-headline_law words shelf out wrote command named =
-    let a = wrote.accepted in
-    let same : a.command ≡ command = cc (a.named, named) in
-    subst (λ (c : Command). WritesRules c.verb → WroteRules c shelf out) same
-    (wrote_rules a.command.verb a.command.dialect a.command.hosts a.command.names shelf out a.readings wrote.text a.read wrote.holds wrote.tells wrote.took)
+pub headline_law : (words : List (List ℕ)) (shelf : ShelfChange) (out err : SinkChange) → WroteText words shelf out err → KeepsPromise words shelf out
+headline_law words shelf out err wrote ask asked =
+    let own = wrote.asked in
+    let same : wrote.ask ≡ ask = cc (own, asked) in
+    subst (λ (a : Ask). Keeps a shelf out) same (kept wrote.ask shelf out
+    (came_so (course_of wrote.ask) shelf.before _ _ _ _ (settled wrote.ask) (λ kind file at here. here) (λ job at owed here. (here.0, (here.1.0, here.1.1, here.1.2.0))) wrote.along))

@@ -1,12 +1,13 @@
 -- The rules of a network are one text, and do what is promised of them; so is the line that says why there are none.
 use Rattle.std.proofs.Common.{◌≡◌, ℕ, List, sym, subst, ◌∙◌, ap}
 use Rattle.host_net.specs.Site.{IsSite}
+use Rattle.first_core.specs.FirstLaws.{first_with}
 use Rattle.flow_set.specs.FlowSet.{SetOfFlows}
 use Rattle.flow_set.specs.declared.flow.Flow.{Flow}
 use Rattle.net_core.specs.HeadlineLaws.{IsGreatestPolicy-from_policy, CompliesWithAll-from_policy}
 use Rattle.net_core.specs.Network.{Network, site_of}
 use Rattle.net_core.specs.Fitting.{IsNetwork}
-use Rattle.net_core.specs.Policies.{Policy}
+use Rattle.net_core.specs.Policies.{MeetsAll, Policy}
 use Rattle.net_core.specs.PolicyLaws.{policy_is_one, IsSubset-stateful, asked_is_permitted}
 use Rattle.pkt_core.specs.Filter.{Enforces, ForwardsExpected}
 use Rattle.pkt_core.specs.FilterLaws.{enforced_expected}
@@ -20,7 +21,7 @@ module _ (language : Language) (keeps : KeepsPolicies language) (d : Network) wh
       p.written ∙ ap (λ (policy : Policy). language.text (rules_for language d policy)) (policy_is_one d p.policy q.policy p.is_policy q.is_policy) ∙ sym q.written
 
   -- what holds for the policy of one holds for that of the other
-  can_write : (written : CanBeWritten language d) (policy : Policy) → written.policy ≡ policy
+  pub can_write : (written : CanBeWritten language d) (policy : Policy) → written.policy ≡ policy
       → language.CanWrite (site_of d) policy.permitted.flows policy.stateful.flows
   can_write written policy same = subst (λ (x : Policy). language.CanWrite (site_of d) x.permitted.flows x.stateful.flows) same written.can
 
@@ -38,7 +39,7 @@ module _ (language : Language) (keeps : KeepsPolicies language) (d : Network) wh
   pub hindrance_is_one : (a b : List ℕ) → TellsHindrance language d a → TellsHindrance language d b → a ≡ b
   hindrance_is_one a b p q = p.told ∙ ap (hindrance_line d.hosts) (one_cause p.why q.why p.hindered q.hindered) ∙ sym q.told
 
-  pub rules_keep : (rules : List ℕ) → IsNetwork d → CanBeWritten language d → IsRules language d rules → KeepPolicy language d rules
+  unfoldable pub rules_keep : (rules : List ℕ) → IsNetwork d → CanBeWritten language d → IsRules language d rules → KeepPolicy language d rules
   rules_keep rules network written is =
       let p : List Flow = is.policy.permitted.flows in
       let s : List Flow = is.policy.stateful.flows in
@@ -61,6 +62,7 @@ module _ (language : Language) (keeps : KeepsPolicies language) (d : Network) wh
         enforces = enforces;
         permitted = is.is_policy.permitted;
         meets = is.is_policy.permitted.holds;
+        left_out = λ f asked absent meets. first_with (MeetsAll d) d.asked.flows p f is.is_policy.permitted asked absent meets;
         greatest = IsGreatestPolicy-from_policy d is.policy network is.is_policy;
         listed = λ given holds. ap (λ (set : SetOfFlows). set.flows) (asked_is_permitted d is.policy network holds is.is_policy);
         stateful = is.is_policy.stateful;

@@ -1,244 +1,188 @@
--- What follows from the one reply of a run, by its cause.
-use Rattle.std.proofs.Common.{◌≡◌, ◌⊎◌, inl, inr, ℕ, zero, suc, take, List, [], Option, None, Some, refl, ap, sym, subst, ◌∙◌}
-use Rattle.std.proofs.lemmas.List.{append-nil}
-use Rattle.std.specs.Io.KnownBytes.{append_known}
-use Rattle.std.specs.Prelude.{◌↔◌, Bool, true, false, IsTrue, IsFalse}
-use Rattle.edge_io.specs.Counts.{Rose}
-use Rattle.topos_top.specs.Command.{Command, reports_on_output, command_of, AsksToReport}
-use Rattle.topos_top.specs.Ending.{status_of, out_of, has_output, err_of, line_after, write_fault_line}
-use Rattle.topos_top.specs.Promises.{GaveReply, LacksFile, HasBadDescription, HasBadText, BadRules as RulesRefused, BadFlows as FlowsRefused, BadEvents as EventsRefused, ReportedOn, IsViolated, CannotWrite, WroteText, WasCutOff, RanOut}
-use Rattle.topos_top.specs.Reply.{Reply, Usage, CannotRead, Refused, Violated, Reported, NotEmittable, Done, Memory}
-use Rattle.topos_top.specs.Seen.{ShelfChange, MayGiveBy}
-use Rattle.topos_top.specs.Taken.{SinkChange, Took, TookSome, IsWritten, IsSaid}
-use Rattle.topos_top.specs.TextFault.{rules_fault_line, flows_fault_line, events_fault_line}
-use Rattle.topos_top.specs.declared.fault.Fault.TheVariants as fault
+-- What follows from the one reply of a run, by where it came to: a table of what is so there in each status.
+use Rattle.std.proofs.Common.{◌≡◌, ◌⊎◌, inl, inr, ℕ, List, Option, None, Some, Bool, true, false, refl, ap, sym, subst, ◌∙◌}
+use Rattle.std.specs.Prelude.{◌↔◌}
+use Rattle.edge_io.specs.Counts.{more}
+use Rattle.topos_top.specs.Ask.{Ask, ask_of, reports_on_output, AsksToReport}
+use Rattle.topos_top.specs.Commands.{course_of}
+use Rattle.topos_top.specs.Job.{Job, Answers, stream_of}
+use Rattle.topos_top.specs.Kinds.{refused_as}
+use Rattle.topos_top.specs.Promises.{GaveReply, Came, SaidRefusal, SaidAs, GaveEnd, BrokeOffEnd}
+use Rattle.topos_top.specs.Replies.{StopsAt, NoMemory, Stopped, MayGiveBy}
+use Rattle.topos_top.specs.Reply.{Reply, error, cannot_read_line, no_memory, memory_line}
+use Rattle.topos_top.specs.Shelf.{Shelf, ShelfChange, SawFile, since}
+use Rattle.topos_top.specs.Taken.{SinkChange, IsSaid, WentTo, IsGiven}
+use Rattle.topos_top.specs.declared.kind.Kind.{Kind}
+use Rattle.topos_top.specs.declared.kind.Kind.TheVariants.{Description, Rules, Events, Document, Edited, Edits}
 use Rattle.topos_top.specs.declared.status.Status.{Status}
 use Rattle.topos_top.specs.declared.status.Status.TheVariants as status
-use Rattle.topos_top.proofs.Causes.{Cause, NoForm, OutOfMemory, Unread, BadDescription, BadRules, BadFlows, BadEvents, Fails, FailsOnOutput, Hindered, Holds, cause_of, ends_so, ends_as}
-use Rattle.topos_top.proofs.FileLaws.{refused-description, refused-rules, refused-flows, refused-events}
-use Rattle.topos_top.proofs.JobLaws.{job_is_one}
-use Rattle.topos_top.proofs.ReadingLaws.{AreSound-read}
+use Rattle.topos_top.specs.declared.status.Stream.{Stream}
+use Rattle.topos_top.specs.declared.status.Stream.TheVariants.{Output, Errors}
+use Rattle.topos_top.proofs.CommandLaws.{settled}
+use Rattle.topos_top.proofs.CourseLaws.{wherever, came_so}
+use Rattle.topos_top.proofs.JobLaws.{is_end, IsSettled, told_of, end_status}
 
--- ---- usage
+-- ---- what is so where a run came to, by its status
 
-usage_asked : (words : List (List ℕ)) (shelf : ShelfChange) (given : Reply) → Cause words shelf given → status_of given ≡ status.Usage
-    → command_of words ≡ None
-usage_asked words shelf given (NoForm none) says = none
-usage_asked words shelf given cause says = cc says
+-- at the file that stopped it
+abbrev AtFile : (err : SinkChange) → Status → ShelfChange → Kind → (file : List ℕ) → Type 0
+AtFile err status.ReadFault seen kind file = SawFile seen file None × IsSaid err (cannot_read_line file)
+AtFile err status.BadDescription seen kind file = SaidAs status.BadDescription err seen kind file
+AtFile err status.BadText seen kind file = SaidAs status.BadText err seen kind file
+AtFile err status.Memory seen kind file = IsSaid err memory_line
+AtFile err _ seen kind file = ⊥
 
-usage_given : (asked : Option Command) (shelf : ShelfChange) (out : SinkChange) (given : Reply) (s : Status) → MayGiveBy asked shelf given
-    → IsWritten out given s → asked ≡ None → s ≡ status.Usage
-usage_given None shelf out given s may written none = ends_so out given s (ap has_output may.0) written ∙ ap status_of may.0
-usage_given (Some command) shelf out given s may written none = cc none
+-- at the job
+abbrev AtJob : (out err : SinkChange) → Status → Ask → Job → Type 0
+AtJob out err status.Done ask job = GaveEnd status.Done out err ask job
+AtJob out err status.Violated ask job = GaveEnd status.Violated out err ask job
+AtJob out err status.NotEmittable ask job = GaveEnd status.NotEmittable out err ask job
+AtJob out err status.BadText ask job = GaveEnd status.BadText out err ask job
+AtJob out err status.WriteFault ask job = BrokeOffEnd out err ask job
+AtJob out err status.Memory ask job = IsSaid err memory_line
+AtJob out err _ ask job = ⊥
 
--- what a run that ended in no write fault says of its reply
-said : (out : SinkChange) (given : Reply) (s t : Status) → IsWritten out given s → s ≡ t → (t ≡ status.WriteFault → ⊥)
-    → status_of given ≡ t
-said out given s t written is not_cut = sym (ends_as out given s (λ cut. not_cut (sym is ∙ cut)) written).0 ∙ is
+-- an end that gave its text is of a status of ends
+of_end : (out err : SinkChange) (t : Status) (ask : Ask) (job : Job) → is_end t ≡ true → GaveEnd t out err ask job → AtJob out err t ask job
+of_end out err status.Done ask job is here = here
+of_end out err status.Violated ask job is here = here
+of_end out err status.NotEmittable ask job is here = here
+of_end out err status.BadText ask job is here = here
+of_end out err t ask job is here = cc is
 
--- ---- streams that are as they were
+-- what is so of both statuses of refused files is so of each
+of_refused : (P : Status → Type 0) → P status.BadDescription → P status.BadText → (kind : Kind) → P (refused_as kind)
+of_refused P description text Description = description
+of_refused P description text (Rules dialect) = text
+of_refused P description text Events = text
+of_refused P description text Document = description
+of_refused P description text Edited = description
+of_refused P description text Edits = text
 
--- nothing was said
-said_nothing : (err : SinkChange) → IsSaid err [] → err.held_after ≡ err.held_before
-said_nothing err line = nothing line.0.count line.0.taken
-  where
-    known : (held : Option (List ℕ)) → append_known held [] ≡ held
-    known None = refl
-    known (Some bytes) = ap Some (append-nil bytes)
+-- a line for the error stream ends the run in its status
+pub ends_in_error : (out err : SinkChange) (s : Status) (reply : Reply) (ended : Status) (line : List ℕ) → reply ≡ error ended line → IsGiven out err reply s
+    → (s ≡ ended) × (out.held_after ≡ out.held_before) × IsSaid err line
+ends_in_error out err s reply ended line is given = elim (subst (λ (r : Reply). IsGiven out err r s) is given) [
+  | inl whole ↦ (whole.0, whole.1.0, whole.1.1)
+  | inr cut ↦ let other = cut.1 in cc other
+]
 
-    nothing : (n : ℕ) → err.held_after ≡ append_known err.held_before (take n []) → err.held_after ≡ err.held_before
-    nothing zero is = is ∙ known err.held_before
-    nothing (suc n) is = is ∙ known err.held_before
+-- whether the words ask for a report on the output
+abbrev reports : Option Ask → Bool
+reports None = false
+reports (Some ask) = reports_on_output ask
 
-pub took_nothing : (out : SinkChange) → Took out [] → out.held_after ≡ out.held_before
-took_nothing out took = took ∙ known out.held_before
-  where
-    known : (held : Option (List ℕ)) → append_known held [] ≡ held
-    known None = refl
-    known (Some bytes) = ap Some (append-nil bytes)
+asks : (words : List (List ℕ)) (asked : Option Ask) → ask_of words ≡ asked → reports asked ≡ true → AsksToReport words
+asks words None is on = cc on
+asks words (Some ask) is on = (ask, is, on)
 
-reported_out : (on : Bool) (out err : SinkChange) (report : List ℕ) → IsTrue on → Took out report → IsSaid err []
-    → ReportedOn on out err report
-reported_out true out err report on took line = (took, said_nothing err line)
-reported_out false out err report on took line = cc on
-
-reported_err : (on : Bool) (out err : SinkChange) (report : List ℕ) → IsFalse on → Took out [] → IsSaid err report
-    → ReportedOn on out err report
-reported_err true out err report off took line = cc off
-reported_err false out err report off took line = (took_nothing out took, line)
-
--- ---- each cause
-
-lacks_file : (words : List (List ℕ)) (shelf : ShelfChange) (err : SinkChange) (given : Reply) → Cause words shelf given
-    → status_of given ≡ status.ReadFault → IsSaid err (err_of given) → LacksFile words shelf err
-lacks_file words shelf err given (Unread command named file came) says line = record { command = command; named = named; file = file; came = came; said = line }
-lacks_file words shelf err given cause says line = cc says
-
-bad_description : (words : List (List ℕ)) (shelf : ShelfChange) (err : SinkChange) (given : Reply) → Cause words shelf given
-    → status_of given ≡ status.BadDescription → IsSaid err (err_of given) → HasBadDescription words shelf err
-bad_description words shelf err given (BadDescription command named file bytes came why read) says line =
-    let refused = refused-description file.kind bytes why read in
-    record { command = command; named = named; file = file; is_description = refused.0; bytes = bytes; came = came; why = why; refused = refused.1; said = line }
-bad_description words shelf err given cause says line = cc says
-
-bad_text : (words : List (List ℕ)) (shelf : ShelfChange) (err : SinkChange) (given : Reply) → Cause words shelf given
-    → status_of given ≡ status.BadText → IsSaid err (err_of given) → HasBadText words shelf err
-bad_text words shelf err given (BadRules command named file bytes came number why read) says line =
-    let refused = refused-rules file.kind bytes number why read in
-    record { command = command; named = named; file = file; bytes = bytes; came = came; line = rules_fault_line number why; refused = RulesRefused refused.0 number why refused.1 refl; said = line }
-bad_text words shelf err given (BadFlows command named file bytes came number why read) says line =
-    let refused = refused-flows file.kind bytes number why read in
-    record { command = command; named = named; file = file; bytes = bytes; came = came; line = flows_fault_line number why; refused = FlowsRefused refused.0 number why refused.1 refl; said = line }
-bad_text words shelf err given (BadEvents command named file bytes came number why read) says line =
-    let refused = refused-events file.kind bytes number why read in
-    record { command = command; named = named; file = file; bytes = bytes; came = came; line = events_fault_line number why; refused = EventsRefused refused.0 number why refused.1 refl; said = line }
-bad_text words shelf err given cause says line = cc says
-
-ran_out : (words : List (List ℕ)) (shelf : ShelfChange) (err : SinkChange) (given : Reply) → Cause words shelf given
-    → status_of given ≡ status.Memory → IsSaid err (err_of given) → RanOut words shelf err
-ran_out words shelf err given (OutOfMemory command named began) says line = record { command = command; named = named; began = began; said = line }
-ran_out words shelf err given cause says line = cc says
-
-is_violated : (words : List (List ℕ)) (shelf : ShelfChange) (out err : SinkChange) (given : Reply) → Cause words shelf given
-    → status_of given ≡ status.Violated → Took out (out_of given) → IsSaid err (err_of given) → IsViolated words shelf out err
-is_violated words shelf out err given (Fails a off report ends) says took line = record {
-  accepted = a;
-  fails = ends.0;
-  report = report;
-  is_report = ends.1;
-  tells = (job_is_one a.command.verb a.command.dialect a.command.hosts a.readings).report.tells (AreSound-read shelf _ _ a.readings a.read.accepted) ends.0 report ends.1;
-  reported = reported_err (reports_on_output a.command) out err report off took line;
-}
-is_violated words shelf out err given (FailsOnOutput a on report ends) says took line = record {
-  accepted = a;
-  fails = ends.0;
-  report = report;
-  is_report = ends.1;
-  tells = (job_is_one a.command.verb a.command.dialect a.command.hosts a.readings).report.tells (AreSound-read shelf _ _ a.readings a.read.accepted) ends.0 report ends.1;
-  reported = reported_out (reports_on_output a.command) out err report on took line;
-}
-is_violated words shelf out err given cause says took line = cc says
-
-cannot_write : (words : List (List ℕ)) (shelf : ShelfChange) (out err : SinkChange) (given : Reply) → Cause words shelf given
-    → status_of given ≡ status.NotEmittable → Took out (out_of given) → IsSaid err (err_of given) → CannotWrite words shelf out err
-cannot_write words shelf out err given (Hindered a line ends) says took told = record {
-  accepted = a;
-  hindered = ends.0;
-  line = line;
-  is_line = ends.1;
-  tells = (job_is_one a.command.verb a.command.dialect a.command.hosts a.readings).hindrance.tells (AreSound-read shelf _ _ a.readings a.read.accepted) ends.0 line ends.1;
-  kept = took_nothing out took;
-  said = told;
-}
-cannot_write words shelf out err given cause says took told = cc says
-
-wrote_text : (words : List (List ℕ)) (shelf : ShelfChange) (out : SinkChange) (given : Reply) → Cause words shelf given
-    → status_of given ≡ status.Done → Took out (out_of given) → WroteText words shelf out
-wrote_text words shelf out given (Holds a text ends) says took = record {
-  accepted = a;
-  holds = ends.0;
-  text = text;
-  is_text = ends.1;
-  tells = (job_is_one a.command.verb a.command.dialect a.command.hosts a.readings).text.tells (AreSound-read shelf _ _ a.readings a.read.accepted) ends.0 text ends.1;
-  took = took;
-}
-wrote_text words shelf out given cause says took = cc says
-
-was_cut_off : (words : List (List ℕ)) (shelf : ShelfChange) (out err : SinkChange) (given : Reply) → Cause words shelf given
-    → IsTrue (has_output given) → Rose out.faults_before out.faults_after → TookSome out (out_of given) → IsSaid err write_fault_line
-    → WasCutOff words shelf out err
-was_cut_off words shelf out err given (Holds a text ends) some fault prefix line = record { accepted = a; text = text; is_output = inl ends; prefix = prefix; fault = fault; said = line }
-was_cut_off words shelf out err given (FailsOnOutput a on report ends) some fault prefix line = record { accepted = a; text = report; is_output = inr (on, ends); prefix = prefix; fault = fault; said = line }
-was_cut_off words shelf out err given cause some fault prefix line = cc some
-
-nothing_given : (words : List (List ℕ)) (shelf : ShelfChange) (given : Reply) → Cause words shelf given
-    → (status_of given ≡ status.Done → ⊥) → (status_of given ≡ status.Violated → AsksToReport words → ⊥) → IsFalse (has_output given)
-nothing_given words shelf given (Holds a text ends) not_done not_reported = absurd (not_done refl)
-nothing_given words shelf given (FailsOnOutput a on report ends) not_done not_reported = absurd (not_reported refl (a.command, a.named, on))
-nothing_given words shelf given cause not_done not_reported = refl
-
-some_given : (words : List (List ℕ)) (shelf : ShelfChange) (given : Reply) → Cause words shelf given
-    → (status_of given ≡ status.Done) ⊎ ((status_of given ≡ status.Violated) × AsksToReport words) → IsTrue (has_output given)
-some_given words shelf given (Holds a text ends) says = refl
-some_given words shelf given (FailsOnOutput a on report ends) says = refl
-some_given words shelf given (Fails a off report ends) (inl done) = cc done
-some_given words shelf given (Fails a off report ends) (inr (violated, (command, named, on))) =
-    let same : command ≡ a.command = cc (named, a.named) in
-    let on_it : IsTrue (reports_on_output a.command) = subst (λ (c : Command). IsTrue (reports_on_output c)) same on in
-    cc (on_it, off)
-some_given words shelf given cause (inl done) = cc done
-some_given words shelf given cause (inr (violated, asked)) = cc violated
-
-no_write_fault : (given : Reply) → status.WriteFault ≡ status_of given → ⊥
-no_write_fault (Refused (fault.Description why)) is = cc is
-no_write_fault (Refused (fault.Rules line why)) is = cc is
-no_write_fault (Refused (fault.Flows line why)) is = cc is
-no_write_fault (Refused (fault.Events line why)) is = cc is
-no_write_fault Usage is = cc is
-no_write_fault (CannotRead file) is = cc is
-no_write_fault (Violated report) is = cc is
-no_write_fault (Reported report) is = cc is
-no_write_fault (NotEmittable line) is = cc is
-no_write_fault (Done text) is = cc is
-no_write_fault Memory is = cc is
+-- what is neither done nor reported on the output goes to the error stream
+to_errors : (on : Bool) (s : Status) → (s ≡ status.Done → ⊥) → (s ≡ status.Violated → on ≡ true → ⊥) → stream_of on s ≡ Errors
+to_errors on status.Done not_done not_reported = absurd (not_done refl)
+to_errors true status.Violated not_done not_reported = absurd (not_reported refl refl)
+to_errors false status.Violated not_done not_reported = refl
+to_errors on s not_done not_reported = refl
 
 -- ---- the clauses
 
 module _ (words : List (List ℕ)) (shelf : ShelfChange) (out err : SinkChange) (s : Status) (gave : GaveReply words shelf out err s) where
-  cause : Cause words shelf gave.given
-  cause = cause_of words shelf gave.given gave.allowed
+  in_error : (ended : Status) (line : List ℕ) → gave.reply ≡ error ended line → (s ≡ ended) × (out.held_after ≡ out.held_before) × IsSaid err line
+  in_error ended line is = ends_in_error out err s gave.reply ended line is gave.given
 
-  -- what stands in the status, on the output and on the error stream, where the run ended otherwise than by a write fault
-  says : (t : Status) → s ≡ t → (t ≡ status.WriteFault → ⊥) → status_of gave.given ≡ t
-  says t is not_cut = said out gave.given s t gave.written is not_cut
+  at_file : (kind : Kind) (file : List ℕ) (at : Shelf) → StopsAt (since at shelf) kind file gave.reply
+      → (shelf.after.begins ≡ more at.begins 1) × AtFile err s (since at shelf) kind file
+  at_file kind file at stops = by_stop stops
+    where
+      row : (t : Status) → s ≡ t → AtFile err t (since at shelf) kind file → AtFile err s (since at shelf) kind file
+      row t is here = subst (λ (t : Status). AtFile err t (since at shelf) kind file) (sym is) here
 
-  took : (t : Status) → s ≡ t → (t ≡ status.WriteFault → ⊥) → Took out (out_of gave.given)
-  took t is not_cut = (ends_as out gave.given s (λ cut. not_cut (sym is ∙ cut)) gave.written).1
+      refused : SaidRefusal (since at shelf) kind file err → AtFile err (refused_as kind) (since at shelf) kind file
+      refused why = of_refused (λ t. refused_as kind ≡ t → AtFile err t (since at shelf) kind file) (λ same. (same, why)) (λ same. (same, why)) kind refl
 
-  line : (t : Status) → s ≡ t → IsSaid err (line_after gave.given t)
-  line t is = subst (λ (t : Status). IsSaid err (line_after gave.given t)) is gave.said
+      by_stop : StopsAt (since at shelf) kind file gave.reply → (shelf.after.begins ≡ more at.begins 1) × AtFile err s (since at shelf) kind file
+      by_stop (NoMemory begins is) = let end = in_error _ _ is in (begins, row _ end.0 end.2)
+      by_stop (Stopped None last is) = let end = in_error _ _ is in (last.begins, row _ end.0 (last.held, end.2))
+      by_stop (Stopped (Some bytes) last is) =
+          let end = in_error _ _ is.replied in
+          (last.begins, row _ end.0 (refused (record { bytes = bytes; last = last; line = is.line; refused = is.refuses; said = end.2 })))
 
-  pub usage_law : (s ≡ status.Usage) ↔ (command_of words ≡ None)
-  usage_law = (λ is. usage_asked words shelf gave.given cause (says status.Usage is (λ e. cc e)), usage_given (command_of words) shelf out gave.given s gave.allowed gave.written)
+  at_job : (ask : Ask) (job : Job) → IsSettled job → (gave.reply ≡ no_memory) ⊎ Answers (reports_on_output ask) job gave.reply → AtJob out err s ask job
+  at_job ask job owed (inl lack) = let end = in_error _ _ lack in subst (λ (t : Status). AtJob out err t ask job) (sym end.0) end.2
+  at_job ask job owed (inr answers) =
+      let reply = gave.reply in
+      let told = told_of job owed reply.status reply.text answers.1 in
+      let is = end_status job owed reply.status reply.text answers.1 in
+      elim gave.given [
+        | inl whole ↦
+            let went = subst (λ (stream : Stream). WentTo stream out err reply.text) answers.0 whole.1 in
+            subst (λ (t : Status). AtJob out err t ask job) (sym whole.0) (of_end out err reply.status ask job is (reply.text, told, went))
+        | inr cut ↦ subst (λ (t : Status). AtJob out err t ask job) (sym cut.0) (reply.status, reply.text, told, sym answers.0 ∙ cut.1, cut.2)
+      ]
 
-  pub read_fault_law : s ≡ status.ReadFault → LacksFile words shelf err
-  read_fault_law is = lacks_file words shelf err gave.given cause (says status.ReadFault is (λ e. cc e)) (line status.ReadFault is)
+  came_by : (asked : Option Ask) → ask_of words ≡ asked → MayGiveBy asked shelf gave.reply
+      → ((s ≡ status.Usage) × (ask_of words ≡ None)) ⊎ Came words shelf (AtFile err s) (AtJob out err s)
+  came_by None is may = inl ((in_error _ _ may.0).0, is)
+  came_by (Some ask) is may = inr (record {
+    ask = ask;
+    asked = is;
+    along = came_so (course_of ask) shelf.before _ _ _ _ (settled ask) at_file (λ job at owed here. (here.0, at_job ask job owed here.1)) may;
+  })
 
-  pub bad_description_law : s ≡ status.BadDescription → HasBadDescription words shelf err
-  bad_description_law is = bad_description words shelf err gave.given cause (says status.BadDescription is (λ e. cc e)) (line status.BadDescription is)
+  came : ((s ≡ status.Usage) × (ask_of words ≡ None)) ⊎ Came words shelf (AtFile err s) (AtJob out err s)
+  came = came_by (ask_of words) refl gave.allowed
 
-  pub bad_text_law : s ≡ status.BadText → HasBadText words shelf err
-  bad_text_law is = bad_text words shelf err gave.given cause (says status.BadText is (λ e. cc e)) (line status.BadText is)
+  -- the cause of each status but usage is its row
+  pub caused : (t : Status) → (t ≡ status.Usage → ⊥) → s ≡ t → Came words shelf (AtFile err t) (AtJob out err t)
+  caused t other is = elim came [
+    | inl usage ↦ absurd (other (sym is ∙ usage.0))
+    | inr there ↦ subst (λ (t : Status). Came words shelf (AtFile err t) (AtJob out err t)) is there
+  ]
 
-  pub memory_law : s ≡ status.Memory → RanOut words shelf err
-  memory_law is = ran_out words shelf err gave.given cause (says status.Memory is (λ e. cc e)) (line status.Memory is)
+  pub usage_law : (s ≡ status.Usage) ↔ (ask_of words ≡ None)
+  usage_law = elim came [
+    | inl usage ↦ (λ is. usage.1, λ none. usage.0)
+    | inr there ↦ (λ is. absurd (nowhere (subst (λ (t : Status). Came words shelf (AtFile err t) (AtJob out err t)) is there)), λ none. let asked = there.asked in cc (none, asked))
+  ]
+    where
+      nowhere : Came words shelf (AtFile err status.Usage) (AtJob out err status.Usage) → ⊥
+      nowhere there = wherever (course_of there.ask) shelf.before _ _ (settled there.ask) (λ kind file at here. here.1) (λ job at owed here. here.1) there.along
 
-  pub violated_law : s ≡ status.Violated → IsViolated words shelf out err
-  violated_law is = is_violated words shelf out err gave.given cause (says status.Violated is (λ e. cc e)) (took status.Violated is (λ e. cc e)) (line status.Violated is)
+  -- ---- streams that are as they were
 
-  pub not_emittable_law : s ≡ status.NotEmittable → CannotWrite words shelf out err
-  not_emittable_law is = cannot_write words shelf out err gave.given cause (says status.NotEmittable is (λ e. cc e)) (took status.NotEmittable is (λ e. cc e)) (line status.NotEmittable is)
+  -- the reply is for the stream of its status
+  error_goes : (on : Bool) (ended : Status) (line : List ℕ) → gave.reply ≡ error ended line → Errors ≡ stream_of on ended → gave.reply.stream ≡ stream_of on gave.reply.status
+  error_goes on ended line is errors = subst (λ (r : Reply). r.stream ≡ stream_of on r.status) (sym is) errors
 
-  pub done_law : s ≡ status.Done → WroteText words shelf out
-  done_law is = wrote_text words shelf out gave.given cause (says status.Done is (λ e. cc e)) (took status.Done is (λ e. cc e))
+  file_goes : (on : Bool) (kind : Kind) (file : List ℕ) (at : Shelf) → StopsAt (since at shelf) kind file gave.reply → gave.reply.stream ≡ stream_of on gave.reply.status
+  file_goes on kind file at (NoMemory begins is) = error_goes on _ _ is refl
+  file_goes on kind file at (Stopped None last is) = error_goes on _ _ is refl
+  file_goes on kind file at (Stopped (Some bytes) last is) = error_goes on _ _ is.replied (of_refused (λ t. Errors ≡ stream_of on t) refl refl kind)
 
-  pub write_fault_law : s ≡ status.WriteFault → WasCutOff words shelf out err
-  write_fault_law is = elim gave.written [
-    | inl whole ↦ absurd (no_write_fault gave.given (sym is ∙ whole.0))
-    | inr cut ↦ was_cut_off words shelf out err gave.given cause cut.1 cut.2 cut.3 (line status.WriteFault is)
+  job_goes : (on : Bool) (job : Job) → (gave.reply ≡ no_memory) ⊎ Answers on job gave.reply → gave.reply.stream ≡ stream_of on gave.reply.status
+  job_goes on job (inl lack) = error_goes on _ _ lack refl
+  job_goes on job (inr answers) = answers.0
+
+  goes : (asked : Option Ask) → MayGiveBy asked shelf gave.reply → gave.reply.stream ≡ stream_of (reports asked) gave.reply.status
+  goes None may = error_goes false _ _ may.0 refl
+  goes (Some ask) may =
+      wherever (course_of ask) shelf.before _ _ (settled ask) (file_goes (reports_on_output ask)) (λ job at owed here. job_goes (reports_on_output ask) job here.1) may
+
+  -- so it is for the stream of the status in which the run ended, unless it was cut off
+  stream_is : (s ≡ status.WriteFault → ⊥) → gave.reply.stream ≡ stream_of (reports (ask_of words)) s
+  stream_is not_cut = elim gave.given [
+    | inl whole ↦ goes (ask_of words) gave.allowed ∙ ap (stream_of (reports (ask_of words))) (sym whole.0)
+    | inr cut ↦ absurd (not_cut cut.0)
   ]
 
   -- a run that ends otherwise than done, by a write fault, or with a report on the output has nothing for the output
-  pub nothing_to_write : (s ≡ status.Done → ⊥) → (s ≡ status.WriteFault → ⊥) → (s ≡ status.Violated → AsksToReport words → ⊥)
-      → IsFalse (has_output gave.given)
+  pub nothing_to_write : (s ≡ status.Done → ⊥) → (s ≡ status.WriteFault → ⊥) → (s ≡ status.Violated → AsksToReport words → ⊥) → gave.reply.stream ≡ Errors
   nothing_to_write not_done not_cut not_reported =
-      let is : s ≡ status_of gave.given = (ends_as out gave.given s not_cut gave.written).0 in
-      nothing_given words shelf gave.given cause (λ done. not_done (is ∙ done)) (λ violated. not_reported (is ∙ violated))
+      stream_is not_cut ∙ to_errors (reports (ask_of words)) s not_done (λ violated on. not_reported violated (asks words (ask_of words) refl on))
 
   -- a run that is done, or ends with a report on the output, has a text for the output
-  pub something_to_write : (s ≡ status.Done) ⊎ ((s ≡ status.Violated) × AsksToReport words) → IsTrue (has_output gave.given)
-  something_to_write (inl done) = some_given words shelf gave.given cause (inl (says status.Done done (λ e. cc e)))
-  something_to_write (inr (violated, asked)) = some_given words shelf gave.given cause (inr (says status.Violated violated (λ e. cc e), asked))
+  pub something_to_write : (s ≡ status.Done) ⊎ ((s ≡ status.Violated) × AsksToReport words) → gave.reply.stream ≡ Output
+  something_to_write (inl done) = stream_is (λ cut. cc (done, cut)) ∙ ap (stream_of (reports (ask_of words))) done
+  something_to_write (inr (violated, (ask, asked, on))) =
+      stream_is (λ cut. cc (violated, cut)) ∙ (λ i. stream_of ((ap reports asked ∙ on) i) (violated i))
 
 pub no_fault : (words : List (List ℕ)) (s : Status) → (s ≡ status.Done) ⊎ ((s ≡ status.Violated) × AsksToReport words)
     → s ≡ status.WriteFault → ⊥

@@ -1,26 +1,23 @@
 -- The sample names no file, so that its run is its job alone.
-use Rattle.std.proofs.Common.{◌≡◌, ◌≤◌, ◌<◌, inl, inr, ℕ, false, List, [], ◌∷◌, ◌++◌, Option, Some, arith, decimal, refl, sym, ap, subst}
+use Rattle.std.proofs.Common.{◌≡◌, ◌≤◌, ◌<◌, inl, inr, ℕ, false, List, Option, Some, arith, decimal, refl, ap, subst, ◌∙◌}
 use Rattle.host_net.specs.Limits.{host_limit}
 use Rattle.sample_core.specs.SamplePromisesLaws.{tells_sample}
 use Rattle.text_core.specs.DecimalLaws.{number-decimal}
-use Rattle.topos_top.specs.Command.{Command, NamesNoFile, command_of, files_of}
-use Rattle.topos_top.specs.File.{File}
-use Rattle.topos_top.specs.Form.{hosts_said, some_hosts}
-use Rattle.topos_top.specs.Job.{Ends}
-use Rattle.topos_top.specs.Promises.{AskForSample, CutOff, EndsAsSample, GaveReply, NoMemory as NoMemoryLeft, Written}
-use Rattle.topos_top.specs.Reply.{Reply, Done, Violated, Reported, NotEmittable, Memory}
+use Rattle.topos_top.specs.Ask.{Ask, Sample, ask_of, hosts_said, some_hosts}
+use Rattle.topos_top.specs.Commands.{NamesNoFile, course_of}
+use Rattle.topos_top.specs.Course.{ReadsNothing}
+use Rattle.topos_top.specs.Job.{Answers, stream_of}
+use Rattle.topos_top.specs.Promises.{AskForSample, CutOff, EndsAsSample, GaveReply, NoMemory, Written}
+use Rattle.topos_top.specs.Replies.{MayGiveBy}
+use Rattle.topos_top.specs.Reply.{Reply, no_memory, memory_line}
 use Rattle.topos_top.specs.Sample.{sample_job}
-use Rattle.topos_top.specs.Seen.{ShelfChange, HaveReadings, NoMemory, Stopped, Early, Ended, MayGiveBy, RepliesOn}
-use Rattle.topos_top.specs.Taken.{SinkChange, IsWritten}
-use Rattle.topos_top.specs.declared.form.Dialect.TheVariants.{Iptables}
-use Rattle.topos_top.specs.declared.form.Verb.TheVariants.{Sample}
-use Rattle.topos_top.specs.declared.reading.Reading.{Reading}
+use Rattle.topos_top.specs.Shelf.{ShelfChange}
+use Rattle.topos_top.specs.Taken.{SinkChange, WentTo, IsGiven}
 use Rattle.topos_top.specs.declared.status.Status.{Status}
-use Rattle.topos_top.proofs.RunLaws.{took_nothing}
-
--- the command of the words
-abbrev sample_of : ℕ → Command
-sample_of n = record { verb = Sample; dialect = Iptables; hosts = n; names = [] }
+use Rattle.topos_top.specs.declared.status.Status.TheVariants as status
+use Rattle.topos_top.specs.declared.status.Stream.{Stream}
+use Rattle.topos_top.specs.declared.status.Stream.TheVariants.{Output}
+use Rattle.topos_top.proofs.RunLaws.{ends_in_error}
 
 some_said : (n : ℕ) → 0 < n → some_hosts n ≡ Some n
 some_said n some = grind arith
@@ -28,49 +25,36 @@ some_said n some = grind arith
 said : (n : ℕ) → 0 < n → n ≤ host_limit → hosts_said (decimal n) ≡ Some n
 said n some few = rw (number-decimal host_limit n few (omega (arith, few))) (some_said n some)
 
-named : (words : List (List ℕ)) (n : ℕ) → AskForSample words n → command_of words ≡ Some (sample_of n)
-unfolding command_of
-named words n asks = rw asks.spelled (rw (said n asks.some asks.few) refl)
+asked : (words : List (List ℕ)) (n : ℕ) → AskForSample words n → ask_of words ≡ Some (Sample n)
+unfolding ask_of
+asked words n asks = rw asks.spelled (rw (said n asks.some asks.few) refl)
 
 pub sample_names_no_file : (words : List (List ℕ)) (n : ℕ) → AskForSample words n → NamesNoFile words
-sample_names_no_file words n asks command is =
-    let same : sample_of n ≡ command = cc (named words n asks, is) in
-    ap files_of (sym same)
+sample_names_no_file words n asks ask is =
+    let own = asked words n asks in
+    let same : Sample n ≡ ask = cc (own, is) in
+    subst (λ (a : Ask). ReadsNothing (course_of a)) same tt
 
--- there is no file to come to
-no_place : (earlier later : List File) (file : File) → [] ≡ earlier ++ (file ∷ later) → ⊥
-no_place [] later file is = cc
-no_place (f ∷ fs) later file is = cc
+by_answer : (n : ℕ) (out err : SinkChange) (reply : Reply) (s : Status) → Answers false (sample_job n) reply → IsGiven out err reply s → EndsAsSample n out s
+by_answer n out err reply s (stream, inr none) given = absurd none
+by_answer n out err reply s (stream, inl end) given =
+    let done = end.0 in
+    let goes : reply.stream ≡ Output = stream ∙ ap (stream_of false) done in
+    elim given [
+      | inl whole ↦ Written (whole.0 ∙ done) reply.text end.2 (tells_sample n reply.text end.2) (subst (λ (x : Stream). WentTo x out err reply.text) goes whole.1).0
+      | inr cut ↦ CutOff cut.0 reply.text end.2 cut.2.0 cut.2.1
+    ]
 
-no_readings : (shelf : ShelfChange) (readings : List Reading) → HaveReadings shelf [] [] readings → readings ≡ []
-no_readings shelf [] have = refl
-no_readings shelf (r ∷ rs) have = absurd have
+by_memory : (n : ℕ) (out err : SinkChange) (reply : Reply) (s : Status) → reply ≡ no_memory → IsGiven out err reply s → EndsAsSample n out s
+by_memory n out err reply s lack given =
+    let end = ends_in_error out err s reply status.Memory memory_line lack given in
+    NoMemory end.0 end.1
 
-ends_by : (n : ℕ) (out : SinkChange) (given : Reply) (s : Status) → Ends false (sample_job n) given → IsWritten out given s → EndsAsSample n out s
-ends_by n out (Done text) s ends written = elim written [
-  | inl whole ↦ Written whole.0 text ends.1 (tells_sample n text ends.1) whole.1
-  | inr cut ↦ CutOff cut.0 text ends.1 cut.3 cut.2
-]
-ends_by n out (NotEmittable line) s ends written = absurd ends.0
-ends_by n out (Violated report) s ends written = absurd ends.1.0
-ends_by n out (Reported report) s ends written = absurd ends.1.0
-ends_by n out given s ends written = absurd ends
-
-ends_in_memory : (n : ℕ) (out : SinkChange) (s : Status) → IsWritten out Memory s → EndsAsSample n out s
-ends_in_memory n out s written = elim written [
-  | inl whole ↦ NoMemoryLeft whole.0 (took_nothing out whole.1)
-  | inr cut ↦ let says = cut.1 in cc
-]
-
-by_cause : (n : ℕ) (shelf : ShelfChange) (out : SinkChange) (given : Reply) (s : Status) → MayGiveBy (Some (sample_of n)) shelf given
-    → IsWritten out given s → EndsAsSample n out s
-by_cause n shelf out given s (Early (NoMemory began is)) written = ends_in_memory n out s (subst (λ (r : Reply). IsWritten out r s) is written)
-by_cause n shelf out given s (Early (Stopped file saw came is)) written = absurd (no_place came.earlier came.later file came.place)
-by_cause n shelf out given s (Ended readings read ends) written =
-    let none = no_readings shelf readings read.accepted in
-    ends_by n out given s (subst (λ (rs : List Reading). RepliesOn (sample_of n) rs given) none ends) written
+by_asked : (n : ℕ) (shelf : ShelfChange) (out err : SinkChange) (reply : Reply) (s : Status) → MayGiveBy (Some (Sample n)) shelf reply → IsGiven out err reply s → EndsAsSample n out s
+by_asked n shelf out err reply s (same, inl lack) given = by_memory n out err reply s lack given
+by_asked n shelf out err reply s (same, inr answers) given = by_answer n out err reply s answers given
 
 pub sample_law : (words : List (List ℕ)) (shelf : ShelfChange) (out err : SinkChange) (s : Status) → GaveReply words shelf out err s
     → (n : ℕ) → AskForSample words n → EndsAsSample n out s
 sample_law words shelf out err s gave n asks =
-    by_cause n shelf out gave.given s (subst (λ (asked : Option Command). MayGiveBy asked shelf gave.given) (named words n asks) gave.allowed) gave.written
+    by_asked n shelf out err gave.reply s (subst (λ (asked : Option Ask). MayGiveBy asked shelf gave.reply) (asked words n asks) gave.allowed) gave.given

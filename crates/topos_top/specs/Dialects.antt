@@ -21,8 +21,8 @@ use Rattle.ofp_rules.specs.Text.{text as table_text}
 use Rattle.ofp_rules.specs.declared.entry.Entry.{Entry}
 use Rattle.pkt_core.specs.Firewall.{Filter}
 use Rattle.report_core.specs.Names.{flow_text}
-use Rattle.topos_top.specs.declared.form.Dialect.{Dialect}
-use Rattle.topos_top.specs.declared.form.Dialect.TheVariants.{Iptables, OpenFlow}
+use Rattle.topos_top.specs.declared.dialect.Dialect.{Dialect}
+use Rattle.topos_top.specs.declared.dialect.Dialect.TheVariants.{Iptables, OpenFlow}
 
 -- Why the rules of a policy cannot be written: the answers of this flow need a look at connections; this flow asks for a range of ports; there are so many flows of a table; there are so many rules of chains.
 pub data Hindrance : Type 0 where

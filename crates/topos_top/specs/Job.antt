@@ -1,38 +1,50 @@
--- What a command has to do with its readings, in one form for all commands, and how it ends by that.
-use Rattle.std.specs.Prelude.{ℕ, List, Bool, IsTrue, IsFalse}
-use Rattle.topos_top.specs.Reply.{Reply, Violated, Reported, NotEmittable, Done}
+-- What a command has to do with what it read, in one form for all commands, and how it ends by that.
+use Rattle.std.specs.Prelude.{◌≡◌, ◌⊎◌, ℕ, List, [], ◌∷◌, Bool, if◌then◌else◌}
+use Rattle.topos_top.specs.Reply.{Reply}
+use Rattle.topos_top.specs.declared.status.Status.{Status}
+use Rattle.topos_top.specs.declared.status.Status.TheVariants as status
+use Rattle.topos_top.specs.declared.status.Stream.{Stream}
+use Rattle.topos_top.specs.declared.status.Stream.TheVariants.{Output, Errors}
 
--- One way in which a command may end: when it does, what singles out the text that it then gives, and what an operator may rely on in it.
+-- One way in which a command may end: its status, when it does, what singles out the text that it then gives, and what an operator may rely on in it.
 pub record End : Type 1 where
+  pub status : Status
   pub when : Type 0
   pub is : List ℕ → Type 0
   pub tells : List ℕ → Type 0
 
--- The report where something that has to hold fails, the line where what is asked for cannot be written, and the text otherwise.
-pub record Job : Type 1 where
-  pub report : End
-  pub hindrance : End
-  pub text : End
+-- A job: its ends, in their order.
+abbrev pub Job : Type 1
+Job = List End
 
-abbrev pub never : End
-never = record { when = ⊥; is = λ _. ⊥; tells = λ _. ⊥ }
+-- one of the ends is so
+abbrev pub OneEnd : (End → Type 0) → Job → Type 0
+OneEnd P [] = ⊥
+OneEnd P (end ∷ job) = P end ⊎ OneEnd P job
 
 -- a text in any case
 abbrev pub writes : (is tells : List ℕ → Type 0) → Job
-writes is tells = record { report = never; hindrance = never; text = record { when = Unit {0}; is = is; tells = tells } }
+writes is tells = record { status = status.Done; when = Unit {0}; is = is; tells = tells } ∷ []
 
--- readings that are not those of the command: there is nothing to do
-abbrev pub no_job : Job
-no_job = record { report = never; hindrance = never; text = never }
+-- the end comes with this status and text
+abbrev pub EndsIn : Status → (text : List ℕ) → End → Type 0
+EndsIn ended text end = (ended ≡ end.status) × end.when × end.is text
 
--- a command ends in this way, with this text
-abbrev pub EndsIn : End → List ℕ → Type 0
-EndsIn end text = end.when × end.is text
+-- where the text of an end goes: to the output where it is done, and the report of what fails where that is for the output; else to the error stream
+abbrev pub stream_of : (on_output : Bool) → Status → Stream
+stream_of on_output status.Done = Output
+stream_of on_output status.Violated = if on_output then Output else Errors
+stream_of on_output _ = Errors
 
--- The reply to a job, where its report goes to the output or else to the error stream.
-abbrev pub Ends : (on_output : Bool) → Job → Reply → Type 0
-Ends on_output job (Done text) = EndsIn job.text text
-Ends on_output job (NotEmittable line) = EndsIn job.hindrance line
-Ends on_output job (Reported report) = IsTrue on_output × EndsIn job.report report
-Ends on_output job (Violated report) = IsFalse on_output × EndsIn job.report report
-Ends on_output job _ = ⊥
+-- The reply to a job.
+abbrev pub Answers : (on_output : Bool) → Job → Reply → Type 0
+Answers on_output job reply = (reply.stream ≡ stream_of on_output reply.status) × OneEnd (EndsIn reply.status reply.text) job
+
+-- The reply to a job by the first of its ends that comes.
+abbrev pub AnswersFirst : Job → Reply → Type 0
+AnswersFirst [] reply = ⊥
+AnswersFirst (end ∷ job) reply = EndsIn reply.status reply.text end ⊎ ((end.when → ⊥) × AnswersFirst job reply)
+
+-- the job ended so, and its text tells what is promised
+abbrev pub Told : Status → (text : List ℕ) → End → Type 0
+Told ended text end = EndsIn ended text end × end.tells text

@@ -1,43 +1,89 @@
--- The kinds of files and of readings, and the fault of a file that is too long. Only what the code ensures stands on them, and no promise of `run`.
-use Rattle.std.specs.Prelude.{List, map}
-use Rattle.desc_form.specs.Refusals.{refused}
-use Rattle.desc_form.specs.declared.refusal.Place.TheVariants.{Document}
-use Rattle.desc_form.specs.declared.refusal.Why.TheVariants.{TooLong}
-use Rattle.ipt_read.specs.declared.fault.IptWhy.TheVariants.{TooLong as RulesTooLong}
-use Rattle.ofp_read.specs.declared.fault.OfpWhy.TheVariants.{TooLong as FlowsTooLong}
-use Rattle.pkt_core.specs.declared.events.EventWhy.TheVariants.{TooLong as EventsTooLong}
-use Rattle.topos_top.specs.Command.{Command}
-use Rattle.topos_top.specs.File.{File, kind_in}
-use Rattle.topos_top.specs.Form.{form_of}
-use Rattle.topos_top.specs.declared.fault.Fault.{Fault}
-use Rattle.topos_top.specs.declared.fault.Fault.TheVariants as fault
-use Rattle.topos_top.specs.declared.file.Kind.{Kind}
-use Rattle.topos_top.specs.declared.file.Kind.TheVariants as kind
-use Rattle.topos_top.specs.declared.form.Dialect.TheVariants.{Iptables, OpenFlow}
-use Rattle.topos_top.specs.declared.reading.Reading.{Reading}
-use Rattle.topos_top.specs.declared.reading.Reading.TheVariants as reading
+-- The kinds of files: what is read of the bytes of each, and why bytes are refused.
+use Rattle.std.specs.Prelude.{◌≡◌, ℕ, List, Ok, Err}
+use Rattle.desc_core.specs.Description.{described}
+use Rattle.desc_core.specs.Migrated.{IsMigrated}
+use Rattle.desc_core.specs.declared.fault.TheConstants.{BYTE_LIMIT}
+use Rattle.desc_form.specs.declared.refusal.Refusal.{Refusal}
+use Rattle.edit_core.specs.Summaries.{IsStarted}
+use Rattle.edit_text.specs.Edit.{Edit}
+use Rattle.edit_text.specs.EditsText.{IsReading as IsReadingOfEdits, IsRefused as IsRefusedInEdits}
+use Rattle.ipt_read.specs.TextLines.{HasFault as HasFaultInRules}
+use Rattle.net_core.specs.Network.{Network}
+use Rattle.ofp_read.specs.TextLines.{HasFault as HasFaultInFlows}
+use Rattle.pkt_core.specs.EventsText.{IsReading as IsReadingOfEvents, IsRefused as IsRefusedInEvents}
+use Rattle.pkt_core.specs.declared.event.Event.{Event}
+use Rattle.report_core.specs.RefusalLine.{refusal_text}
+use Rattle.toml.specs.Data.{Members}
+use Rattle.topos_top.specs.Dialects.{language_of}
+use Rattle.topos_top.specs.Reply.{Reply, error}
+use Rattle.topos_top.specs.TextFault.{rules_fault_line, flows_fault_line, events_fault_line, edits_fault_line}
+use Rattle.topos_top.specs.declared.dialect.Dialect.TheVariants.{Iptables, OpenFlow}
+use Rattle.topos_top.specs.declared.kind.Kind.{Kind}
+use Rattle.topos_top.specs.declared.kind.Kind.TheVariants.{Description, Rules, Events, Document, Edited, Edits}
+use Rattle.topos_top.specs.declared.status.Status.{Status}
+use Rattle.topos_top.specs.declared.status.Status.TheVariants as status
 
-abbrev pub kinds_of : List File → List Kind
-kinds_of files = map (λ file. file.kind) files
+-- what is read of a file
+abbrev pub Said : Kind → Type 0
+Said Description = Network
+Said (Rules dialect) = (language_of dialect).Rules
+Said Events = List Event
+Said Document = List ℕ
+Said Edited = Members
+Said Edits = List Edit
 
--- the kinds that the form of a command asks for
-abbrev pub kinds_for : Command → List Kind
-kinds_for command = map (kind_in command.dialect) (form_of command.verb).slots
+-- the most bytes that a file may have
+abbrev pub most_of : Kind → ℕ
+most_of Description = BYTE_LIMIT
+most_of (Rules dialect) = 67108864
+most_of Events = 16777216
+most_of Document = BYTE_LIMIT
+most_of Edited = BYTE_LIMIT
+most_of Edits = 1048576
 
-abbrev pub kind_of : Reading → Kind
-kind_of (reading.Network d) = kind.Description
-kind_of (reading.Rules chains) = kind.Rules Iptables
-kind_of (reading.Flows entries) = kind.Rules OpenFlow
-kind_of (reading.Events events) = kind.Events
-kind_of (reading.Migrated text) = kind.Document
+-- The bytes have this reading.
+abbrev pub Reads : (kind : Kind) → List ℕ → Said kind → Type 0
+Reads Description bytes d = described bytes ≡ Ok d
+Reads (Rules dialect) bytes rules = (language_of dialect).IsReading bytes rules
+Reads Events bytes events = IsReadingOfEvents bytes events
+Reads Document bytes text = IsMigrated bytes text
+Reads Edited bytes table = IsStarted bytes (Ok table)
+Reads Edits bytes edits = IsReadingOfEdits bytes edits
 
-abbrev pub kinds_in : List Reading → List Kind
-kinds_in readings = map kind_of readings
+-- the line for a fault of these, by its number and why
+pub record HasLine {Why : Type 0} (HasFault : ℕ → Why → Type 0) (line_of : ℕ → Why → List ℕ) (line : List ℕ) : Type 0 where
+  pub number : ℕ
+  pub why : Why
+  pub fault : HasFault number why
+  pub told : line ≡ line_of number why
 
--- the fault of a file that has more
-abbrev pub too_long : Kind → Fault
-too_long kind.Description = fault.Description (refused TooLong Document)
-too_long (kind.Rules Iptables) = fault.Rules 0 RulesTooLong
-too_long (kind.Rules OpenFlow) = fault.Flows 0 FlowsTooLong
-too_long kind.Events = fault.Events 0 EventsTooLong
-too_long kind.Document = fault.Description (refused TooLong Document)
+-- the bytes are no description, for this refusal
+pub record IsNoDescription (bytes line : List ℕ) : Type 0 where
+  pub why : Refusal
+  pub refused : described bytes ≡ Err why
+  pub told : line ≡ refusal_text why
+
+-- The bytes are refused, and the line says why.
+abbrev pub Refuses : Kind → (bytes line : List ℕ) → Type 0
+Refuses Description bytes line = IsNoDescription bytes line
+Refuses (Rules Iptables) bytes line = HasLine (HasFaultInRules bytes) rules_fault_line line
+Refuses (Rules OpenFlow) bytes line = HasLine (HasFaultInFlows bytes) flows_fault_line line
+Refuses Events bytes line = HasLine (IsRefusedInEvents bytes) events_fault_line line
+Refuses Document bytes line = IsNoDescription bytes line
+Refuses Edited bytes line = IsNoDescription bytes line
+Refuses Edits bytes line = HasLine (IsRefusedInEdits bytes) edits_fault_line line
+
+-- the status of a run that such a file ends
+abbrev pub refused_as : Kind → Status
+refused_as Description = status.BadDescription
+refused_as (Rules dialect) = status.BadText
+refused_as Events = status.BadText
+refused_as Document = status.BadDescription
+refused_as Edited = status.BadDescription
+refused_as Edits = status.BadText
+
+-- the reply to bytes that are refused
+pub record IsRefused (kind : Kind) (bytes : List ℕ) (given : Reply) : Type 0 where
+  pub line : List ℕ
+  pub refuses : Refuses kind bytes line
+  pub replied : given ≡ error (refused_as kind) line

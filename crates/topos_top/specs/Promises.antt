@@ -1,202 +1,171 @@
 -- What an operator may rely on, each by itself. All of it follows from the one reply of a run.
-use Rattle.std.specs.Prelude.{◌≡◌, ℕ, ◌≤◌, ◌<◌, ◌⊎◌, List, [], ◌∷◌, codes, decimal, Bool, true, false, None, Some, Result, Ok, Err, IsTrue, IfSome}
-use Rattle.edge_io.specs.Counts.{Rose}
+use Rattle.std.specs.Prelude.{◌≡◌, ℕ, ◌≤◌, ◌<◌, ◌⊎◌, List, [], ◌∷◌, codes, decimal, None, Some, Ok, IsTrue, IfSome}
+use Rattle.edge_io.specs.Counts.{more, Rose}
 use Rattle.edge_io.specs.Told.{Files}
 use Rattle.desc_core.specs.Description.{described}
 use Rattle.desc_core.specs.Migrated.{IsMigrated}
-use Rattle.ipt_read.specs.TextLines.{HasFault as HasFaultInRules}
-use Rattle.ipt_read.specs.declared.fault.IptWhy.{IptWhy}
 use Rattle.host_net.specs.Limits.{host_limit}
 use Rattle.net_core.specs.Network.{Network}
-use Rattle.ofp_read.specs.TextLines.{HasFault as HasFaultInFlows}
-use Rattle.ofp_read.specs.declared.fault.OfpWhy.{OfpWhy}
-use Rattle.desc_form.specs.declared.refusal.Refusal.{Refusal}
-use Rattle.net_core.specs.Policies.{Policy}
-use Rattle.pkt_core.specs.EventsText.{IsRefused}
-use Rattle.pkt_core.specs.declared.events.EventWhy.{EventWhy}
-use Rattle.report_core.specs.RefusalLine.{refusal_text}
 use Rattle.sample_core.specs.Sample.{IsSample}
 use Rattle.sample_core.specs.SamplePromises.{TellsSample}
-use Rattle.topos_top.specs.Command.{Command, files_of, reports_on_output, command_of}
-use Rattle.topos_top.specs.Ending.{status_of, out_of, cannot_read_line, line_after, memory_line, write_fault_line}
-use Rattle.topos_top.specs.File.{File, IsDescription}
+use Rattle.topos_top.specs.Ask.{Ask, Rules, Repair, Migrate, Audit, Local, ask_of, reports_on_output}
+use Rattle.topos_top.specs.Audit.{ForwardAlike, OfSides, rules_in}
+use Rattle.topos_top.specs.Commands.{course_of}
+use Rattle.topos_top.specs.Course.{CameAlong}
 use Rattle.topos_top.specs.Dialects.{language_of}
-use Rattle.topos_top.specs.Job.{Job, EndsIn}
-use Rattle.topos_top.specs.Reply.{Reply}
+use Rattle.topos_top.specs.Job.{Job, OneEnd, Told, stream_of}
+use Rattle.topos_top.specs.Kinds.{Refuses, refused_as}
+use Rattle.topos_top.specs.Local.{KeepLocal}
+use Rattle.topos_top.specs.Replies.{BeganLast, MayGive, RepliesTo}
+use Rattle.topos_top.specs.Reply.{Reply, cannot_read_line, memory_line}
 use Rattle.topos_top.specs.Rules.{KeepPolicy}
-use Rattle.topos_top.specs.Seen.{ShelfChange, SawFile, ReadAll, CameTo, BeganSome, MayGive, job_with}
-use Rattle.topos_top.specs.Taken.{SinkChange, Took, TookSome, IsWritten, IsSaid}
-use Rattle.topos_top.specs.TextFault.{rules_fault_line, flows_fault_line, events_fault_line}
-use Rattle.topos_top.specs.Told.{ReadsTold, RepliesTo}
-use Rattle.topos_top.specs.declared.file.Kind.{Kind}
-use Rattle.topos_top.specs.declared.file.Kind.TheVariants as kind
-use Rattle.topos_top.specs.declared.form.Dialect.TheVariants.{Iptables, OpenFlow}
-use Rattle.topos_top.specs.declared.form.Verb.{Verb}
-use Rattle.topos_top.specs.declared.form.Verb.TheVariants.{Rules, Repair, Migrate}
-use Rattle.topos_top.specs.declared.reading.Reading.{Reading}
+use Rattle.topos_top.specs.Shelf.{ShelfChange, SawFile, since}
+use Rattle.topos_top.specs.Taken.{SinkChange, Took, TookSome, IsSaid, WentTo, BrokeOff, IsGiven}
+use Rattle.topos_top.specs.declared.dialect.Dialect.{Dialect}
+use Rattle.topos_top.specs.declared.kind.Kind.{Kind}
 use Rattle.topos_top.specs.declared.status.Status.{Status}
 use Rattle.topos_top.specs.declared.status.Status.TheVariants as status
+use Rattle.topos_top.specs.declared.status.Stream.TheVariants.{Output}
 
--- The run gave one reply that the files as it saw them allow: its status, its text on the output, its line on the error stream.
+-- The run gave one reply that the files as it saw them allow: in its status, and with its text on its stream.
 pub record GaveReply (words : List (List ℕ)) (shelf : ShelfChange) (out err : SinkChange) (ended : Status) : Type 0 where
-  pub given : Reply
-  pub allowed : MayGive words shelf given
-  pub written : IsWritten out given ended
-  pub said : IsSaid err (line_after given ended)
+  pub reply : Reply
+  pub allowed : MayGive words shelf reply
+  pub given : IsGiven out err reply ended
 
 -- ---- the causes of each end
 
--- a file that the words name could not be read, and every one before it was accepted: the count of faults rose, or a told shelf lacks it; the error stream names it
-pub record LacksFile (words : List (List ℕ)) (shelf : ShelfChange) (err : SinkChange) : Type 0 where
-  pub command : Command
-  pub named : command_of words ≡ Some command
-  pub file : File
-  pub came : CameTo shelf (files_of command) file None
-  pub said : IsSaid err (cannot_read_line file.name)
+-- The words ask for a command, and along its course the run was stopped by a file, the last that it began and the first that was not accepted, or came to the job, with every file accepted.
+pub record Came (words : List (List ℕ)) (shelf : ShelfChange) (AtFile : ShelfChange → Kind → (file : List ℕ) → Type 0) (AtJob : Ask → Job → Type 0) : Type 0 where
+  pub ask : Ask
+  pub asked : ask_of words ≡ Some ask
+  pub along : CameAlong (course_of ask) shelf.before
+      (λ kind file before. (shelf.after.begins ≡ more before.begins 1) × AtFile (since before shelf) kind file)
+      (λ job before. (shelf.after ≡ before) × AtJob ask job)
 
--- the bytes of a file that the words name are refused as a description, every file before it was accepted, and the error stream has the line of this refusal
-pub record HasBadDescription (words : List (List ℕ)) (shelf : ShelfChange) (err : SinkChange) : Type 0 where
-  pub command : Command
-  pub named : command_of words ≡ Some command
-  pub file : File
-  pub is_description : IsDescription file.kind
+abbrev pub CameToFile : List (List ℕ) → ShelfChange → (ShelfChange → Kind → (file : List ℕ) → Type 0) → Type 0
+CameToFile words shelf AtFile = Came words shelf AtFile (λ ask job. ⊥)
+
+abbrev pub CameToJob : List (List ℕ) → ShelfChange → (Ask → Job → Type 0) → Type 0
+CameToJob words shelf AtJob = Came words shelf (λ seen kind file. ⊥) AtJob
+
+-- a file that the words name could not be read: the count of faults rose, or a told shelf lacks it; the error stream names it
+abbrev pub LacksFile : List (List ℕ) → ShelfChange → (err : SinkChange) → Type 0
+LacksFile words shelf err = CameToFile words shelf (λ seen kind file. SawFile seen file None × IsSaid err (cannot_read_line file))
+
+-- a file that the words name is refused, and the error stream has the line that says why
+pub record SaidRefusal (seen : ShelfChange) (kind : Kind) (file : List ℕ) (err : SinkChange) : Type 0 where
   pub bytes : List ℕ
-  pub came : CameTo shelf (files_of command) file (Some bytes)
-  pub why : Refusal
-  pub refused : described bytes ≡ Err why
-  pub said : IsSaid err (refusal_text why)
-
--- why a text is refused as rules or as events, with its line for the error stream
-pub data RefusesText (k : Kind) (bytes line : List ℕ) : Type 0 where
-  BadRules : k ≡ kind.Rules Iptables → (number : ℕ) (why : IptWhy) → HasFaultInRules bytes number why → line ≡ rules_fault_line number why → RefusesText k bytes line
-  BadFlows : k ≡ kind.Rules OpenFlow → (number : ℕ) (why : OfpWhy) → HasFaultInFlows bytes number why → line ≡ flows_fault_line number why → RefusesText k bytes line
-  BadEvents : k ≡ kind.Events → (number : ℕ) (why : EventWhy) → IsRefused bytes number why → line ≡ events_fault_line number why → RefusesText k bytes line
-
--- the bytes of a file that the words name are refused as rules or as events, every file before it was accepted and none after it begun, and the error stream has the line of the first fault
-pub record HasBadText (words : List (List ℕ)) (shelf : ShelfChange) (err : SinkChange) : Type 0 where
-  pub command : Command
-  pub named : command_of words ≡ Some command
-  pub file : File
-  pub bytes : List ℕ
-  pub came : CameTo shelf (files_of command) file (Some bytes)
+  pub last : BeganLast seen kind file (Some bytes)
   pub line : List ℕ
-  pub refused : RefusesText file.kind bytes line
+  pub refused : Refuses kind bytes line
   pub said : IsSaid err line
 
--- all files of the command that the words name were accepted, with these readings
-pub record Accepted (words : List (List ℕ)) (shelf : ShelfChange) : Type 0 where
-  pub command : Command
-  pub named : command_of words ≡ Some command
-  pub readings : List Reading
-  pub read : ReadAll shelf (files_of command) readings
+-- a file is refused, with this status
+abbrev pub SaidAs : Status → (err : SinkChange) → ShelfChange → Kind → (file : List ℕ) → Type 0
+SaidAs ended err seen kind file = (refused_as kind ≡ ended) × SaidRefusal seen kind file err
 
-abbrev pub job_in : {words : List (List ℕ)} {shelf : ShelfChange} → Accepted words shelf → Job
-job_in accepted = job_with accepted.command accepted.readings
+-- the run was stopped by such a file
+abbrev pub HasRefused : Status → List (List ℕ) → ShelfChange → (err : SinkChange) → Type 0
+HasRefused ended words shelf err = CameToFile words shelf (SaidAs ended err)
 
--- where a report goes; the other stream is as it was
-abbrev pub ReportedOn : (on_output : Bool) → (out err : SinkChange) → List ℕ → Type 0
-ReportedOn true out err report = Took out report × (err.held_after ≡ err.held_before)
-ReportedOn false out err report = (out.held_after ≡ out.held_before) × IsSaid err report
+-- an end of the job came, in this status, with a text that tells what is promised, and the text went to its stream
+abbrev pub GaveEnd : Status → (out err : SinkChange) → Ask → Job → Type 0
+GaveEnd ended out err ask job = (text : List ℕ) × OneEnd (Told ended text) job × WentTo (stream_of (reports_on_output ask) ended) out err text
 
--- what has to hold by the readings fails, and the report of the command went where it goes
-pub record IsViolated (words : List (List ℕ)) (shelf : ShelfChange) (out err : SinkChange) : Type 0 where
-  pub accepted : Accepted words shelf
-  pub fails : (job_in accepted).report.when
-  pub report : List ℕ
-  pub is_report : (job_in accepted).report.is report
-  pub tells : (job_in accepted).report.tells report
-  pub reported : ReportedOn (reports_on_output accepted.command) out err report
+-- a text that the words name is refused: for what its bytes are; or, where every file was accepted, for what it asks of another one. The error stream has the line that says why
+abbrev pub HasBadText : List (List ℕ) → ShelfChange → (out err : SinkChange) → Type 0
+HasBadText words shelf out err = Came words shelf (SaidAs status.BadText err) (GaveEnd status.BadText out err)
+
+-- so the run ended, with every file accepted
+abbrev pub EndedJob : Status → List (List ℕ) → ShelfChange → (out err : SinkChange) → Type 0
+EndedJob ended words shelf out err = CameToJob words shelf (GaveEnd ended out err)
+
+-- what has to hold by what was read fails, and the report went to the output or to the error stream, as the command has it
+abbrev pub IsViolated : List (List ℕ) → ShelfChange → (out err : SinkChange) → Type 0
+IsViolated = EndedJob status.Violated
 
 -- what is asked for cannot be written; the line that says why went to the error stream, and the output holds what it held
-pub record CannotWrite (words : List (List ℕ)) (shelf : ShelfChange) (out err : SinkChange) : Type 0 where
-  pub accepted : Accepted words shelf
-  pub hindered : (job_in accepted).hindrance.when
-  pub line : List ℕ
-  pub is_line : (job_in accepted).hindrance.is line
-  pub tells : (job_in accepted).hindrance.tells line
-  pub kept : out.held_after ≡ out.held_before
-  pub said : IsSaid err line
+abbrev pub CannotWrite : List (List ℕ) → ShelfChange → (out err : SinkChange) → Type 0
+CannotWrite = EndedJob status.NotEmittable
 
--- what has to hold by the readings holds, and the text of the command went to the output, whole
-pub record WroteText (words : List (List ℕ)) (shelf : ShelfChange) (out : SinkChange) : Type 0 where
-  pub accepted : Accepted words shelf
-  pub holds : (job_in accepted).text.when
-  pub text : List ℕ
-  pub is_text : (job_in accepted).text.is text
-  pub tells : (job_in accepted).text.tells text
-  pub took : Took out text
+-- what has to hold holds, and the text went to the output, whole; the error stream holds what it held
+abbrev pub WroteText : List (List ℕ) → ShelfChange → (out err : SinkChange) → Type 0
+WroteText = EndedJob status.Done
 
--- what a job is to write to the output: its text where all holds, or its report if that goes there
-abbrev pub IsOutput : (on_output : Bool) → Job → List ℕ → Type 0
-IsOutput on_output job text = EndsIn job.text text ⊎ (IsTrue on_output × EndsIn job.report text)
+-- an end of the job came whose text goes to the output, and there it broke off
+abbrev pub BrokeOffEnd : (out err : SinkChange) → Ask → Job → Type 0
+BrokeOffEnd out err ask job =
+    (ended : Status) × (text : List ℕ) × OneEnd (Told ended text) job × (stream_of (reports_on_output ask) ended ≡ Output) × BrokeOff out err text
 
--- the output had a fault after a prefix of what the command is to write, and the error stream says so
-pub record WasCutOff (words : List (List ℕ)) (shelf : ShelfChange) (out err : SinkChange) : Type 0 where
-  pub accepted : Accepted words shelf
-  pub text : List ℕ
-  pub is_output : IsOutput (reports_on_output accepted.command) (job_in accepted) text
-  pub prefix : TookSome out text
-  pub fault : Rose out.faults_before out.faults_after
-  pub said : IsSaid err write_fault_line
+-- the output had a fault after a prefix of a text of the job that goes there, and the error stream says so
+abbrev pub WasCutOff : List (List ℕ) → ShelfChange → (out err : SinkChange) → Type 0
+WasCutOff words shelf out err = CameToJob words shelf (BrokeOffEnd out err)
 
--- there was no memory for what the words ask for; the first file that they name was begun, and no more than they name
-pub record RanOut (words : List (List ℕ)) (shelf : ShelfChange) (err : SinkChange) : Type 0 where
-  pub command : Command
-  pub named : command_of words ≡ Some command
-  pub began : BeganSome shelf (files_of command)
-  pub said : IsSaid err memory_line
+-- there was no memory for a file, the last that was begun, or for the job
+abbrev pub RanOut : List (List ℕ) → ShelfChange → (err : SinkChange) → Type 0
+RanOut words shelf err = Came words shelf (λ seen kind file. IsSaid err memory_line) (λ ask job. IsSaid err memory_line)
 
--- ---- what rules do
+-- ---- what commands write
 
--- the verbs that write rules of a description
-abbrev pub WritesRules : Verb → Type 0
-WritesRules Rules = Unit {0}
-WritesRules Repair = Unit {0}
-WritesRules _ = ⊥
-
--- the file, as the call saw it, describes the network
-pub record Describes (shelf : ShelfChange) (name : List ℕ) (d : Network) : Type 0 where
+-- The file, as the call saw it, describes the network, and the rules of its policy went to the output, whole, and do what is said of them in their dialect (`KeepPolicy`).
+pub record WroteRules (dialect : Dialect) (file : List ℕ) (shelf : ShelfChange) (out : SinkChange) : Type 0 where
   pub bytes : List ℕ
-  pub held : SawFile shelf name (Some bytes)
-  pub read : described bytes ≡ Ok d
-
--- `rules` permits a listed policy as it is
-abbrev pub KeepsListed : Verb → Network → Policy → Type 0
-KeepsListed Rules d policy = IsTrue d.given → policy.permitted.flows ≡ d.asked.flows
-KeepsListed _ d policy = Unit {0}
-
--- The command names one description, and the rules of its network's policy went to the output, whole, and do what is said of them in their dialect (`KeepPolicy`).
-pub record WroteRules (command : Command) (shelf : ShelfChange) (out : SinkChange) : Type 0 where
-  pub file : List ℕ
-  pub named : files_of command ≡ record { kind = kind.Description; name = file } ∷ []
+  pub held : SawFile shelf file (Some bytes)
   pub network : Network
-  pub read : Describes shelf file network
+  pub read : described bytes ≡ Ok network
   pub rules : List ℕ
   pub written : Took out rules
-  pub keep : KeepPolicy (language_of command.dialect) network rules
-  pub listed : KeepsListed command.verb network keep.policy
+  pub keep : KeepPolicy (language_of dialect) network rules
 
--- so it is whenever the words ask for rules
-abbrev pub KeepsPromise : List (List ℕ) → ShelfChange → SinkChange → Type 0
-KeepsPromise words shelf out =
-    (command : Command) → command_of words ≡ Some command → WritesRules command.verb → WroteRules command shelf out
+-- `rules` permits a listed policy as it is
+pub record KeptListed (dialect : Dialect) (file : List ℕ) (shelf : ShelfChange) (out : SinkChange) : Type 0 where
+  pub wrote : WroteRules dialect file shelf out
+  pub listed : IsTrue wrote.network.given → wrote.keep.policy.permitted.flows ≡ wrote.network.asked.flows
 
--- ---- descriptions written anew
-
--- The command names one description, and its text in version 2 went to the output, whole: a document of its table in version 2, so that it describes the same network (`IsMigrated`).
-pub record WroteMigration (command : Command) (shelf : ShelfChange) (out : SinkChange) : Type 0 where
-  pub file : List ℕ
-  pub named : files_of command ≡ record { kind = kind.Document; name = file } ∷ []
+-- The text of the file in version 2 went to the output, whole: a document of its table in version 2, so that it describes the same network (`IsMigrated`).
+pub record WroteMigration (file : List ℕ) (shelf : ShelfChange) (out : SinkChange) : Type 0 where
   pub bytes : List ℕ
   pub held : SawFile shelf file (Some bytes)
   pub text : List ℕ
   pub migrated : IsMigrated bytes text
   pub written : Took out text
 
--- so it is whenever the words ask for it
-abbrev pub KeepsDescription : List (List ℕ) → ShelfChange → SinkChange → Type 0
-KeepsDescription words shelf out =
-    (command : Command) → command_of words ≡ Some command → command.verb ≡ Migrate → WroteMigration command shelf out
+-- The first file describes the network and the second has the rules, and over every list of packets and forgettings the rules forward exactly what the
+-- policy of the network and its answers expect (`ForwardAlike`). The output got a line that says so.
+pub record FoundEqual (dialect : Dialect) (file rules : List ℕ) (shelf : ShelfChange) (out : SinkChange) : Type 0 where
+  pub bytes : List ℕ
+  pub held : SawFile shelf file (Some bytes)
+  pub network : Network
+  pub read : described bytes ≡ Ok network
+  pub text : List ℕ
+  pub text_held : SawFile shelf rules (Some text)
+  pub said : (language_of dialect).Rules
+  pub text_read : (language_of dialect).IsReading text said
+  pub alike : OfSides network (rules_in dialect said) ForwardAlike
+  pub written : Took out (codes "equal\n")
+
+-- The file describes the network, and the rules for the machines of a specific host of it went to the output, whole, and do what is said of them (`KeepLocal`).
+pub record WroteLocal (file host : List ℕ) (shelf : ShelfChange) (out : SinkChange) : Type 0 where
+  pub bytes : List ℕ
+  pub held : SawFile shelf file (Some bytes)
+  pub network : Network
+  pub read : described bytes ≡ Ok network
+  pub rules : List ℕ
+  pub written : Took out rules
+  pub keep : KeepLocal network host rules
+
+-- what the commands that write rules and descriptions keep, and the one that compares rules
+abbrev pub Keeps : Ask → ShelfChange → (out : SinkChange) → Type 0
+Keeps (Rules dialect file) shelf out = KeptListed dialect file shelf out
+Keeps (Repair dialect file) shelf out = WroteRules dialect file shelf out
+Keeps (Migrate file) shelf out = WroteMigration file shelf out
+Keeps (Audit dialect file rules) shelf out = FoundEqual dialect file rules shelf out
+Keeps (Local file host) shelf out = WroteLocal file host shelf out
+Keeps _ shelf out = Unit {0}
+
+abbrev pub KeepsPromise : List (List ℕ) → ShelfChange → SinkChange → Type 0
+KeepsPromise words shelf out = (ask : Ask) → ask_of words ≡ Some ask → Keeps ask shelf out
 
 -- ---- the sample
 
@@ -219,37 +188,8 @@ pub record IsTheReply (words : List (List ℕ)) (told : Files) (given : Reply) :
   pub allowed : RepliesTo words told given
   pub only : (other : Reply) → RepliesTo words told other → other ≡ given
 
--- The run ended by this reply. Where the output had no fault, its status is that of the reply and the output took the whole text; where the error stream had none, it took the whole line.
-pub record EndedBy (out err : SinkChange) (given : Reply) (ended : Status) : Type 0 where
-  pub written : IsWritten out given ended
-  pub said : IsSaid err (line_after given ended)
-  pub whole : (Rose out.faults_before out.faults_after → ⊥) → (ended ≡ status_of given) × Took out (out_of given)
-  pub heard : (Rose err.faults_before err.faults_after → ⊥) → Took err (line_after given ended)
-
--- The words and the told files alone decide what the run gives, unless there is no memory.
+-- The words and the told files alone decide the reply that the run gives, unless there is no memory.
 abbrev pub IsComplete : List (List ℕ) → ShelfChange → (out err : SinkChange) → Status → Type 0
 IsComplete words shelf out err ended =
-    IfSome shelf.told (λ files. (Rose shelf.faults_before shelf.faults_after → ⊥)
-    → (ended ≡ status.Memory) ⊎ ((given : Reply) × IsTheReply words files given × EndedBy out err given ended))
-
--- how a job ends: what has to hold fails, or what is asked for cannot be written, or neither
-pub data EndsAs (job : Job) (ended : Status) : Type 0 where
-  Fails : job.report.when → ended ≡ status.Violated → EndsAs job ended
-  Hindered : job.hindrance.when → (job.report.when → ⊥) → ended ≡ status.NotEmittable → EndsAs job ended
-  Holds : job.text.when → (job.report.when → ⊥) → (job.hindrance.when → ⊥) → ended ≡ status.Done → EndsAs job ended
-
--- how the command ends, by what is read of its files
-abbrev pub EndsByReadings : Command → Result (List Reading) Reply → Status → Type 0
-EndsByReadings command (Err why) ended = ended ≡ status_of why
-EndsByReadings command (Ok readings) ended = EndsAs (job_with command readings) ended
-
--- the told files have these readings, or this reply for the first that has none, and no others
-pub record AreTheReadings (told : Files) (files : List File) (read : Result (List Reading) Reply) : Type 0 where
-  pub given : ReadsTold told files read
-  pub only : (other : Result (List Reading) Reply) → ReadsTold told files other → other ≡ read
-
--- Where the output had no fault either, the told files alone decide how a command ends, unless there is no memory.
-abbrev pub EndsAsTold : List (List ℕ) → ShelfChange → SinkChange → Status → Type 0
-EndsAsTold words shelf out ended =
-    (command : Command) → command_of words ≡ Some command → IfSome shelf.told (λ files. (Rose shelf.faults_before shelf.faults_after → ⊥) → (Rose out.faults_before out.faults_after → ⊥)
-    → (ended ≡ status.Memory) ⊎ ((read : Result (List Reading) Reply) × AreTheReadings files (files_of command) read × EndsByReadings command read ended))
+    IfSome shelf.before.told (λ files. (Rose shelf.before.faults shelf.after.faults → ⊥)
+    → (ended ≡ status.Memory) ⊎ ((given : Reply) × IsTheReply words files given × IsGiven out err given ended))

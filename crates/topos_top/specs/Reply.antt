@@ -1,23 +1,39 @@
--- What the program replies to its words, and what a file says of it.
-use Rattle.std.specs.Prelude.{◌≡◌, ℕ, List, Option, None, Some, Result, Ok, Err}
-use Rattle.topos_top.specs.File.{File, Reads}
-use Rattle.topos_top.specs.declared.fault.Fault.{Fault}
-use Rattle.topos_top.specs.declared.reading.Reading.{Reading}
+-- What the program replies to its words: how the run ends, and a text for one of the two streams (docs/GUIDE.md, docs/FORMATS.md).
+use Rattle.std.specs.Prelude.{ℕ, List, ◌++◌, codes}
+use Rattle.topos_top.specs.Ask.{usage_text}
+use Rattle.topos_top.specs.declared.status.Status.{Status}
+use Rattle.topos_top.specs.declared.status.Status.TheVariants as status
+use Rattle.topos_top.specs.declared.status.Stream.{Stream}
+use Rattle.topos_top.specs.declared.status.Stream.TheVariants.{Errors}
 
--- A constructor for each kind of reply.
-pub data Reply : Type 0 where
-  Usage : Reply  -- the words are no form of the command line
-  CannotRead : (file : List ℕ) → Reply
-  Refused : (why : Fault) → Reply  -- a file is refused
-  Violated : (report : List ℕ) → Reply  -- what has to hold fails, and the report goes to the error stream
-  Reported : (report : List ℕ) → Reply  -- what has to hold fails, and the report goes to the output
-  NotEmittable : (line : List ℕ) → Reply  -- what is asked for cannot be written, and the line says why
-  Done : (text : List ℕ) → Reply  -- this text goes to the output
-  Memory : Reply  -- want of memory, which no definition gives
+pub record Reply : Type 0 where
+  pub status : Status
+  pub stream : Stream
+  pub text : List ℕ
 
--- The reading of a file of which this was seen, or the reply that ends the run: its bytes, or None where it could not be read.
-abbrev pub ReadsIn : File → Option (List ℕ) → Result Reading Reply → Type 0
-ReadsIn file None said = said ≡ Err (CannotRead file.name)
-ReadsIn file (Some bytes) (Ok reading) = Reads file.kind bytes (Ok reading)
-ReadsIn file (Some bytes) (Err (Refused why)) = Reads file.kind bytes (Err why)
-ReadsIn file (Some bytes) _ = ⊥
+abbrev pub reply_on : Status → Stream → (text : List ℕ) → Reply
+reply_on ended stream text = record { status = ended; stream = stream; text = text }
+
+-- a line on the error stream
+abbrev pub error : Status → (line : List ℕ) → Reply
+error ended line = reply_on ended Errors line
+
+-- words that are no form, a file that cannot be read, and want of memory
+abbrev pub usage : Reply
+usage = error status.Usage usage_text
+
+abbrev pub cannot_read_line : (file : List ℕ) → List ℕ
+cannot_read_line file = codes "topos: cannot read " ++ (file ++ codes "\n")
+
+abbrev pub cannot_read : (file : List ℕ) → Reply
+cannot_read file = error status.ReadFault (cannot_read_line file)
+
+abbrev pub memory_line : List ℕ
+memory_line = codes "topos: out of memory\n"
+
+abbrev pub no_memory : Reply
+no_memory = error status.Memory memory_line
+
+-- the line after a write fault of the output
+abbrev pub write_fault_line : List ℕ
+write_fault_line = codes "topos: cannot write\n"

@@ -1,12 +1,15 @@
 -- `rules iptables|openflow FILE`: the rules of the permitted policy, unless it was listed and breaks an invariant.
-use Rattle.std.specs.Prelude.{◌≡◌, ℕ, List, IsTrue}
+use Rattle.std.specs.Prelude.{◌≡◌, ℕ, List, [], ◌∷◌, IsTrue, IsFalse}
+use Rattle.flow_set.specs.FlowSet.{has, with_flow}
+use Rattle.flow_set.specs.declared.flow.Flow.{Flow}
 use Rattle.net_core.specs.Network.{Network, site_of}
 use Rattle.net_core.specs.Policies.{CompliesWithAll, IsGreatestPolicy, IsPermitted, IsPolicyOf, IsStateful, JudgesFlowsAlone, MeetsAll, Policy}
 use Rattle.pkt_core.specs.Filter.{Enforces, ForwardsExpected}
 use Rattle.topos_top.specs.Check.{AskedHolds, offences_when}
 use Rattle.topos_top.specs.Dialects.{Language, Hindrance, hindrance_line, language_of}
 use Rattle.topos_top.specs.Job.{End, Job}
-use Rattle.topos_top.specs.declared.form.Dialect.{Dialect}
+use Rattle.topos_top.specs.declared.dialect.Dialect.{Dialect}
+use Rattle.topos_top.specs.declared.status.Status.TheVariants.{Violated, NotEmittable, Done}
 
 -- A policy is listed, and some invariant fails on it.
 abbrev pub ListedFails : Network → Type 0
@@ -47,7 +50,7 @@ pub record TellsHindrance (language : Language) (d : Network) (line : List ℕ) 
 -- What rules of a network do.
 -- Over every list of packets and forgettings, beginning with no connections, they forward exactly the packets of a permitted flow and those that answer a stateful one.
 -- The text has a reading as rules of the dialect, which is one, and whoever reads it so forwards the same, and does with frames of other kinds what the dialect says.
--- The permitted policy is the first subset of the asked flows that meets every invariant, and the greatest where all of them judge flows alone. A listed policy that meets every invariant is permitted as it is.
+-- The permitted policy is the first subset of the asked flows that meets every invariant, and the greatest where all of them judge flows alone. Each asked flow that is left out breaks an invariant beside the permitted flows. A listed policy that meets every invariant is permitted as it is.
 -- The stateful flows are the first whose answers break no strict invariant, and with these answers the policy complies with every invariant.
 pub record KeepPolicy (language : Language) (d : Network) (rules : List ℕ) : Type 0 where
   pub policy : Policy
@@ -61,6 +64,7 @@ pub record KeepPolicy (language : Language) (d : Network) (rules : List ℕ) : T
   pub enforces : Enforces (language.filter (rules_for language d policy)) (site_of d) policy.permitted.flows policy.stateful.flows
   pub permitted : IsPermitted d policy.permitted.flows
   pub meets : MeetsAll d policy.permitted.flows
+  pub left_out : (f : Flow) → IsTrue (has d.asked.flows f) → IsFalse (has policy.permitted.flows f) → MeetsAll d (with_flow policy.permitted.flows f) → ⊥
   pub greatest : JudgesFlowsAlone d → IsGreatestPolicy d policy
   pub listed : IsTrue d.given → AskedHolds d → policy.permitted.flows ≡ d.asked.flows
   pub stateful : IsStateful d policy.permitted.flows policy.stateful.flows
@@ -68,11 +72,12 @@ pub record KeepPolicy (language : Language) (d : Network) (rules : List ℕ) : T
 
 -- the rules, where this holds and they can be written
 abbrev pub rules_when : Type 0 → Language → Network → End
-rules_when holds language d = record { when = holds × CanBeWritten language d; is = IsRules language d; tells = KeepPolicy language d }
+rules_when holds language d = record { status = Done; when = holds × CanBeWritten language d; is = IsRules language d; tells = KeepPolicy language d }
 
 -- the line, where this holds and they cannot
 abbrev pub hindrance_when : Type 0 → Language → Network → End
 hindrance_when holds language d = record {
+  status = NotEmittable;
   when = holds × (why : Hindrance) × IsHindered language d why;
   is = TellsHindrance language d;
   tells = TellsHindrance language d;
@@ -80,8 +85,8 @@ hindrance_when holds language d = record {
 
 -- The rules, or the report of `check` where a listed policy breaks an invariant.
 abbrev pub rules_job : Dialect → Network → Job
-rules_job dialect d = record {
-  report = offences_when (ListedFails d) d;
-  hindrance = hindrance_when (ListedHolds d) (language_of dialect) d;
-  text = rules_when (ListedHolds d) (language_of dialect) d;
-}
+rules_job dialect d =
+    offences_when Violated (ListedFails d) d
+    ∷ (hindrance_when (ListedHolds d) (language_of dialect) d
+    ∷ (rules_when (ListedHolds d) (language_of dialect) d
+    ∷ []))

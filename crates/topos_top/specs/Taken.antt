@@ -1,12 +1,13 @@
 -- What one call put into its sinks.
-use Rattle.std.specs.Prelude.{◌≡◌, ℕ, ◌⊎◌, List, Option, IsTrue}
+use Rattle.std.specs.Prelude.{◌≡◌, ℕ, ◌⊎◌, List, Option}
 use Rattle.std.specs.Io.KnownBytes.{append_known}
 use Rattle.edge_io.specs.Counts.{Rose}
 use Rattle.edge_io.specs.Told.{TookPrefix}
-use Rattle.topos_top.specs.Reply.{Reply}
-use Rattle.topos_top.specs.Ending.{status_of, out_of, has_output}
+use Rattle.topos_top.specs.Reply.{Reply, write_fault_line}
 use Rattle.topos_top.specs.declared.status.Status.{Status}
 use Rattle.topos_top.specs.declared.status.Status.TheVariants as status
+use Rattle.topos_top.specs.declared.status.Stream.{Stream}
+use Rattle.topos_top.specs.declared.status.Stream.TheVariants.{Output, Errors}
 
 -- A sink before a call and after it.
 pub record SinkChange : Type 0 where
@@ -31,14 +32,22 @@ Took sink bytes = sink.held_after ≡ append_known sink.held_before bytes
 abbrev pub TookSome : SinkChange → List ℕ → Type 0
 TookSome sink bytes = TookPrefix sink.held_before sink.held_after bytes
 
--- The text of the reply is written whole and the status is that of the reply; or the output had a
--- fault after a prefix of the text. So the reply alone decides status and output where there was no
--- fault; how much of the text stands before one is the sink's to say.
-abbrev pub IsWritten : SinkChange → Reply → Status → Type 0
-IsWritten out reply ended =
-    ((ended ≡ status_of reply) × Took out (out_of reply))
-    ⊎ ((ended ≡ status.WriteFault) × IsTrue (has_output reply) × Rose out.faults_before out.faults_after × TookSome out (out_of reply))
-
 -- The line is said whole where the count of faults did not rise, and else a prefix of it.
 abbrev pub IsSaid : SinkChange → List ℕ → Type 0
 IsSaid err line = TookSome err line × (Rose err.faults_before err.faults_after ⊎ Took err line)
+
+-- A text went to its stream, and the other stream holds what it held.
+abbrev pub WentTo : Stream → (out err : SinkChange) → (text : List ℕ) → Type 0
+WentTo Output out err text = Took out text × (err.held_after ≡ err.held_before)
+WentTo Errors out err text = (out.held_after ≡ out.held_before) × IsSaid err text
+
+-- The output had a fault after a prefix of its text, and the error stream says so.
+abbrev pub BrokeOff : (out err : SinkChange) → (text : List ℕ) → Type 0
+BrokeOff out err text = TookSome out text × Rose out.faults_before out.faults_after × IsSaid err write_fault_line
+
+-- How a reply is given: the run ends in its status, and its text goes to its stream; or the text is for the output, and broke off there.
+-- So the reply alone decides status and output where the output had no fault; how much of the text stands before a fault is the sink's to say.
+abbrev pub IsGiven : (out err : SinkChange) → Reply → (ended : Status) → Type 0
+IsGiven out err reply ended =
+    ((ended ≡ reply.status) × WentTo reply.stream out err reply.text)
+    ⊎ ((ended ≡ status.WriteFault) × (reply.stream ≡ Output) × BrokeOff out err reply.text)

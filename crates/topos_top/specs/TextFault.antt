@@ -1,5 +1,10 @@
--- The line of a text of rules or of events that is refused, with its first line that is faulty and why (docs/FORMATS.md).
+-- The line of a text of rules, of events or of edits that is refused, with its first line that is faulty and why (docs/FORMATS.md).
 use Rattle.std.specs.Prelude.{ℕ, List, ◌++◌, codes, decimal}
+use Rattle.desc_form.specs.Refusals.{name}
+use Rattle.edit_core.specs.declared.fault.EditFault.{EditFault}
+use Rattle.edit_core.specs.declared.fault.EditFault.TheVariants as edit
+use Rattle.edit_text.specs.declared.fault.EditsWhy.{EditsWhy}
+use Rattle.edit_text.specs.declared.fault.EditsWhy.TheVariants as edits
 use Rattle.ipt_read.specs.declared.fault.IptWhy.{IptWhy}
 use Rattle.ipt_read.specs.declared.fault.IptWhy.TheVariants as rules
 use Rattle.ofp_read.specs.declared.fault.OfpWhy.{OfpWhy}
@@ -38,6 +43,19 @@ events_reason events.BadLine = codes "BadLine"
 events_reason events.BadValue = codes "BadValue"
 events_reason events.TooMany = codes "TooMany"
 
+abbrev pub edits_reason : EditsWhy → List ℕ
+edits_reason edits.TooLong = codes "TooLong"
+edits_reason edits.BadLine = codes "BadLine"
+edits_reason edits.BadValue = codes "BadValue"
+edits_reason edits.TooMany = codes "TooMany"
+
+-- Why an edit is refused on the table that it changes. Memory has a name as well, though no edit is refused for it.
+abbrev pub edit_reason : EditFault → List ℕ
+edit_reason edit.NoPolicy = codes "NoPolicy"
+edit_reason edit.Absent = codes "Absent"
+edit_reason (edit.Refused why) = name why
+edit_reason edit.Memory = codes "Memory"
+
 -- a line by its number, from 1, and the reason; line 0 stands for the whole text
 abbrev pub fault_line : (text : List ℕ) → (line : ℕ) → (reason : List ℕ) → List ℕ
 fault_line text line reason = text ++ (decimal line ++ (codes ": " ++ (reason ++ codes "\n")))
@@ -51,3 +69,9 @@ flows_fault_line line why = fault_line (codes "topos: rules: line ") line (flows
 
 abbrev pub events_fault_line : (line : ℕ) → EventWhy → List ℕ
 events_fault_line line why = fault_line (codes "topos: events: line ") line (events_reason why)
+
+abbrev pub edits_fault_line : (line : ℕ) → EditsWhy → List ℕ
+edits_fault_line line why = fault_line (codes "topos: edits: line ") line (edits_reason why)
+
+unfoldable pub edit_fault_line : (line : ℕ) → EditFault → List ℕ
+edit_fault_line line fault = fault_line (codes "topos: edits: line ") line (edit_reason fault)

@@ -2,13 +2,14 @@
 
 ghost use Rattle.std.specs.Prelude.{◌≡◌, IfOk, false, length};
 ghost use Rattle.net_core.specs.Policies.{IsPolicyOf};
-ghost use Rattle.topos_top.specs.AnswerView.{reply_view};
-ghost use Rattle.topos_top.specs.Job.{Ends};
+ghost use Rattle.topos_top.specs.Views.{reply_view};
+ghost use Rattle.topos_top.specs.Job.{Answers};
 ghost use Rattle.topos_top.specs.Repair.{repair_job};
-ghost use Rattle.topos_top.specs.declared.form.Dialect.TheVariants.{Iptables};
+ghost use Rattle.topos_top.specs.declared.dialect.Dialect.TheVariants.{Iptables};
 
-use crate::answer::{Answer, Text};
+use crate::answer::Answer;
 use crate::hindrance::rules_line;
+use crate::text::Text;
 use desc_core::Description;
 use emit_core::{EmitRefusal, emit_iptables};
 use net_core::Policy;
@@ -23,7 +24,7 @@ pub fn answer<'a>(
     requires policy { IsPolicyOf description.now policy.now }
     requires permitted { policy.now.permitted.size ≡ length description.now.hosts }
     requires stateful { policy.now.stateful.size ≡ length description.now.hosts }
-    ensures { IfOk result (λ answer. Ends false (repair_job Iptables description.now) (reply_view answer)) }
+    ensures { IfOk result (λ answer. Answers false (repair_job Iptables description.now) (reply_view answer)) }
 {
     let hosts = description.hosts();
     let services = description.services();
@@ -34,10 +35,10 @@ pub fn answer<'a>(
         policy.permitted(),
         policy.stateful(),
     ) {
-        Ok(rules) => Ok(Answer::Done(Text::Rules(rules))),
+        Ok(rules) => Ok(Answer::done(Text::Rules(rules))),
         Err(EmitRefusal::RangeOfPorts { .. }) => unreachable!(),
         Err(EmitRefusal::TooManyRules { count }) => {
-            Ok(Answer::NotEmittable(rules_line(alloc, count)?))
+            Ok(Answer::not_emittable(rules_line(alloc, count)?))
         }
         Err(EmitRefusal::Memory) => Err(AllocError),
     }

@@ -1,23 +1,45 @@
 //! `check FILE`: whether the asked flows meet the invariants.
 
-ghost use Rattle.std.specs.Prelude.{IfOk, true};
-ghost use Rattle.topos_top.specs.AnswerView.{reply_view};
+ghost use Rattle.std.specs.Prelude.{◌≡◌, ◌≤◌, IfOk, true};
+ghost use Rattle.topos_top.specs.Ask.{Check};
 ghost use Rattle.topos_top.specs.Check.{check_job};
-ghost use Rattle.topos_top.specs.Job.{Ends};
+ghost use Rattle.topos_top.specs.Commands.{course_of};
+ghost use Rattle.topos_top.specs.Job.{Answers};
+ghost use Rattle.topos_top.specs.Replies.{MayReply};
+ghost use Rattle.topos_top.specs.Shelf.{shelf_change};
+ghost use Rattle.topos_top.specs.Views.{reply_view, reply_in};
 
-use crate::answer::{Answer, Text};
+use crate::answer::Answer;
+use crate::reading::read_description;
+use crate::text::Text;
 use desc_core::Description;
+use edge_io::Shelf;
 use report_core::check_report;
 use std::alloc::{AllocError, Global};
 
+/// The answer to the file of that name.
+pub fn reply<'a, H: Shelf>(
+    alloc: Global,
+    file: &'a str,
+    shelf: &mut H,
+) -> Result<Answer<'a>, Answer<'a>>
+    ensures same_files { H.files shelf.new ≡ H.files shelf.old }
+    ensures faults_stay { H.faults shelf.old ≤ H.faults shelf.new }
+    ensures reply { MayReply true (course_of (Check file.now))
+        (shelf_change H.files H.faults H.begins H.taken shelf.old shelf.new) (reply_in result) }
+{
+    let description = read_description(alloc, file, shelf)?;
+    Ok(answer(alloc, &description)?)
+}
+
 /// The report, as a violation where an invariant fails on the asked flows.
-pub fn answer<'a>(alloc: Global, description: &Description) -> Result<Answer<'a>, AllocError>
-    ensures { IfOk result (λ answer. Ends true (check_job description.now) (reply_view answer)) }
+fn answer<'a>(alloc: Global, description: &Description) -> Result<Answer<'a>, AllocError>
+    ensures { IfOk result (λ answer. Answers true (check_job description.now) (reply_view answer)) }
 {
     let (report, holds) = check_report(alloc, description)?;
     if holds {
-        Ok(Answer::Done(Text::Report(report)))
+        Ok(Answer::done(Text::Report(report)))
     } else {
-        Ok(Answer::Reported(Text::Report(report)))
+        Ok(Answer::reported(Text::Report(report)))
     }
 }

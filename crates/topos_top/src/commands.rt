@@ -1,62 +1,42 @@
-//! The table of the commands: each answers its readings.
+//! The table of the commands.
 
-ghost use Rattle.std.specs.Prelude.{◌≡◌, ◌≤◌, IfOk, [], ◌∷◌};
-ghost use Rattle.host_net.specs.Limits.{host_limit};
-ghost use Rattle.topos_top.specs.AnswerView.{reply_view};
-ghost use Rattle.topos_top.specs.CommandView.{command_view};
-ghost use Rattle.topos_top.specs.Kinds.{kinds_for, kinds_in};
-ghost use Rattle.topos_top.specs.Seen.{RepliesOn};
+ghost use Rattle.std.specs.Prelude.{◌≡◌, ◌≤◌};
+ghost use Rattle.topos_top.specs.Ask.{reports_on_output};
+ghost use Rattle.topos_top.specs.Commands.{course_of};
+ghost use Rattle.topos_top.specs.Course.{ReadsNothing};
+ghost use Rattle.topos_top.specs.Replies.{MayReply};
+ghost use Rattle.topos_top.specs.Shelf.{shelf_change};
+ghost use Rattle.topos_top.specs.Views.{ask_view, reply_in, HasFewHosts};
 
 use crate::answer::Answer;
-use crate::command::Command;
-use crate::form::Verb;
-use crate::migrate::MigratedText;
-use crate::reading::Reading;
-use crate::{check, migrate, policy, repair, rules, sample, trace};
-use desc_core::Description;
-use std::alloc::{AllocError, Global};
+use crate::ask::Ask;
+use crate::{audit, check, edit, local, migrate, policy, repair, rules, sample, trace};
+use edge_io::Shelf;
+use std::alloc::Global;
 
-/// The answer of a command to its readings.
-pub fn answer_on<'a>(
+/// The answer to what is asked. An `Err` is one that ended the run early.
+pub fn reply<'a, H: Shelf>(
     alloc: Global,
-    command: Command<'a>,
-    readings: &[Reading],
-) -> Result<Answer<'a>, AllocError>
-    requires kinds { kinds_in readings.now ≡ kinds_for (command_view command) }
-    requires few { command.hosts ≤ host_limit }
-    ensures { IfOk result (λ answer. RepliesOn (command_view command.entry) readings.now (reply_view answer)) }
+    ask: Ask<'a>,
+    shelf: &mut H,
+) -> Result<Answer<'a>, Answer<'a>>
+    requires { HasFewHosts (ask_view ask) }
+    ensures same_files { H.files shelf.new ≡ H.files shelf.old }
+    ensures faults_stay { H.faults shelf.old ≤ H.faults shelf.new }
+    ensures reply { MayReply (reports_on_output (ask_view ask.entry)) (course_of (ask_view ask.entry))
+        (shelf_change H.files H.faults H.begins H.taken shelf.old shelf.new) (reply_in result) }
+    ensures no_files { ReadsNothing (course_of (ask_view ask.entry)) → shelf.new ≡ shelf.old }
 {
-    match command.verb {
-        Verb::Check => check::answer(alloc, network(readings)),
-        Verb::Policy => policy::answer(alloc, network(readings)),
-        Verb::Rules => rules::answer(alloc, command.dialect, network(readings)),
-        Verb::Repair => repair::answer(alloc, command.dialect, network(readings)),
-        Verb::Trace => trace::answer(alloc, command.dialect, readings),
-        Verb::Sample => sample::answer(alloc, command.hosts),
-        Verb::Migrate => migrate::answer(alloc, migrated(readings)),
-    }
-}
-
-ghost use Rattle.topos_top.specs.declared.file.Kind.TheVariants.{Description as DescriptionKind, Document as DocumentKind};
-
-/// The network, where that is the one reading.
-fn network(readings: &[Reading]) -> &Description
-    requires { kinds_in readings.now ≡ DescriptionKind ∷ [] }
-    ensures { readings.now ≡ Reading.Network result.now ∷ [] }
-{
-    match readings {
-        [Reading::Network(description)] => description,
-        _ => unreachable!(),
-    }
-}
-
-/// The text of the description in version 2, where that is the one reading.
-fn migrated(readings: &[Reading]) -> &MigratedText
-    requires { kinds_in readings.now ≡ DocumentKind ∷ [] }
-    ensures { readings.now ≡ Reading.Migrated result.now ∷ [] }
-{
-    match readings {
-        [Reading::Migrated(text)] => text,
-        _ => unreachable!(),
+    match ask {
+        Ask::Check(file) => check::reply(alloc, file, shelf),
+        Ask::Policy(file) => policy::reply(alloc, file, shelf),
+        Ask::Rules(dialect, file) => rules::reply(alloc, dialect, file, shelf),
+        Ask::Repair(dialect, file) => repair::reply(alloc, dialect, file, shelf),
+        Ask::Trace(dialect, rules, events) => trace::reply(alloc, dialect, rules, events, shelf),
+        Ask::Sample(hosts) => Ok(sample::answer(alloc, hosts)?),
+        Ask::Migrate(file) => migrate::reply(alloc, file, shelf),
+        Ask::Audit(dialect, file, rules) => audit::reply(alloc, dialect, file, rules, shelf),
+        Ask::Edit(file, edits) => edit::reply(alloc, file, edits, shelf),
+        Ask::Local(file, host) => local::reply(alloc, file, host, shelf),
     }
 }

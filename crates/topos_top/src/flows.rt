@@ -2,13 +2,14 @@
 
 ghost use Rattle.std.specs.Prelude.{◌≡◌, IfOk, false, length};
 ghost use Rattle.net_core.specs.Policies.{IsPolicyOf};
-ghost use Rattle.topos_top.specs.AnswerView.{reply_view};
-ghost use Rattle.topos_top.specs.Job.{Ends};
+ghost use Rattle.topos_top.specs.Views.{reply_view};
+ghost use Rattle.topos_top.specs.Job.{Answers};
 ghost use Rattle.topos_top.specs.Repair.{repair_job};
-ghost use Rattle.topos_top.specs.declared.form.Dialect.TheVariants.{OpenFlow};
+ghost use Rattle.topos_top.specs.declared.dialect.Dialect.TheVariants.{OpenFlow};
 
-use crate::answer::{Answer, Text};
+use crate::answer::Answer;
 use crate::hindrance::{answers_line, flows_line, ports_line};
+use crate::text::Text;
 use desc_core::Description;
 use emit_core::{EmitRefusal, emit_openflow, needs_state};
 use net_core::Policy;
@@ -24,23 +25,23 @@ pub fn answer<'a>(
     requires policy { IsPolicyOf description.now policy.now }
     requires permitted { policy.now.permitted.size ≡ length description.now.hosts }
     requires stateful { policy.now.stateful.size ≡ length description.now.hosts }
-    ensures { IfOk result (λ answer. Ends false (repair_job OpenFlow description.now) (reply_view answer)) }
+    ensures { IfOk result (λ answer. Answers false (repair_job OpenFlow description.now) (reply_view answer)) }
 {
     let hosts = description.hosts();
     let services = description.services();
     if let Some(flow) = needs_state(services, policy.permitted(), policy.stateful()) {
         let line = answers_line(alloc, hosts, flow)?;
-        return Ok(Answer::NotEmittable(line));
+        return Ok(Answer::not_emittable(line));
     }
     let permitted = policy.permitted();
     match emit_openflow(alloc, hosts, services, permitted) {
-        Ok(table) => Ok(Answer::Done(Text::Table(table))),
+        Ok(table) => Ok(Answer::done(Text::Table(table))),
         Err(EmitRefusal::RangeOfPorts { flow }) => {
             let line = ports_line(alloc, hosts, permitted, flow)?;
-            Ok(Answer::NotEmittable(line))
+            Ok(Answer::not_emittable(line))
         }
         Err(EmitRefusal::TooManyRules { count }) => {
-            Ok(Answer::NotEmittable(flows_line(alloc, count)?))
+            Ok(Answer::not_emittable(flows_line(alloc, count)?))
         }
         Err(EmitRefusal::Memory) => Err(AllocError),
     }

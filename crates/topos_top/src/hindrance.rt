@@ -34,6 +34,7 @@ pub fn ports_line(
     requires member { IsTrue (has flows.now.flows flow) }
     ensures { IfOk result (λ line. line.items ≡ hindrance_line hosts.now (RangeOfPorts flow)) }
 {
+    // A set of flows bounds the ends of each of them.
     let _hosts = flows.size();
     let mut line = Vec::new(alloc);
     line.extend_from_slice(b"topos: not emittable: ports of ")?;

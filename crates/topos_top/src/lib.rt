@@ -1,30 +1,34 @@
-//! Everything that the program does, over any shelf of files and any two sinks of bytes. The words
-//! give a command, the command an answer from its files, and the answer its ending. Each command has a
-//! file of its own here and in `specs/`; `form` and `commands`, `specs/Form.antt` and `specs/Jobs.antt`
-//! list them.
+//! Everything that the program does, over any shelf of files and any two sinks of bytes. The words ask
+//! for a command, a command has a course over its files to its job, and the job gives an answer. Each
+//! command has a file of its own here and in `specs/`; `ask` and `commands`, `specs/Ask.antt` and
+//! `specs/Commands.antt` list them.
 #![tactic(auto)]
 
 mod answer;
+mod ask;
+mod audit;
 mod chains;
 mod check;
-mod command;
 mod commands;
+mod dialect;
+mod edit;
 mod ending;
-mod events;
-mod fault;
-mod file;
 mod flows;
-mod form;
 mod hindrance;
+mod kind;
 mod lines;
+mod listed;
+mod local;
 mod migrate;
 mod policy;
 mod program;
 mod reading;
+mod refused;
 mod repair;
 mod rules;
 mod sample;
 mod status;
+mod text;
 mod text_fault;
 mod trace;
 

@@ -1,42 +1,105 @@
-//! Putting rules into a sink line by line, so that no text of them is held.
+//! Putting a text into a sink in blocks of lines, so that the text is never held whole and a write
+//! takes many of its lines. The block stands on the stack.
 
-ghost use Rattle.std.specs.Prelude.{◌≡◌, ◌≤◌, OnOk, OnErr};
+ghost use Rattle.std.specs.Prelude.{◌≡◌, ◌≤◌, OnOk, OnErr, IfOk, take};
+ghost use Rattle.std.specs.List.{concat};
 ghost use Rattle.std.specs.Io.KnownBytes.{append_known};
 ghost use Rattle.edge_io.specs.Counts.{Rose};
 ghost use Rattle.edge_io.specs.Told.{TookPrefix};
-ghost use Rattle.ipt_rules.specs.Text.{text as rules_text};
-ghost use Rattle.ofp_rules.specs.Text.{text as table_text};
+ghost use Rattle.topos_top.specs.Blocks.{HasRoom};
 
 use edge_io::{Sink, WriteFault, put_all};
 use ipt_rules::Ruleset;
 use ofp_rules::Table;
+use text_core::put;
 
-/// Puts the lines of a rule set into the sink, and stops at the first fault.
-pub fn put_rules<O: Sink>(sink: &mut O, rules: &Ruleset) -> Result<(), WriteFault>
-    ensures prefix { TookPrefix (O.held sink.old) (O.held sink.new) (rules_text rules.now) }
-    ensures whole { OnOk result (O.held sink.new ≡ append_known (O.held sink.old) (rules_text rules.now)) }
-    ensures faults_stay { O.faults sink.old ≤ O.faults sink.new }
-    ensures fault { OnErr result (Rose (O.faults sink.old) (O.faults sink.new)) }
-{
-    let mut line = [0; 320];
-    for i in 0..rules.lines() {
-        let length = rules.write_line(i, &mut line);
-        put_all(sink, &line[..length])?;
-    }
-    Ok(())
+/// The most bytes of a line.
+const LINE: usize = 320;
+
+/// The bytes of a block: 8 KB and room for a line, so that each write but the last takes more than 8 KB.
+const BLOCK: usize = 8512;
+
+/// A text that is written line by line.
+pub trait Lines: Sized {
+    ghost use Rattle.std.specs.Prelude.{◌≡◌, ◌≤◌, ◌<◌, ℕ, List, Some, length, slice_get, take};
+
+    /// Its lines, each with its newline.
+    ghost lines_of: { Self → List (List ℕ) };
+
+    /// How many lines it has.
+    fn count(&self) -> u32
+        ensures { result ≡ length (lines_of self.now) };
+
+    /// Writes line `i`, from 0, to the front of the buffer, and answers its length.
+    fn write(&self, i: u32, buffer: &mut [u8; 320]) -> usize
+        requires { i < length (lines_of self.now) }
+        ensures line { slice_get (lines_of self.now) i ≡ Some (take result buffer.new) }
+        ensures short { result ≤ 320 };
 }
 
-/// Puts the lines of a flow table into the sink, and stops at the first fault.
-pub fn put_table<O: Sink>(sink: &mut O, table: &Table) -> Result<(), WriteFault>
-    ensures prefix { TookPrefix (O.held sink.old) (O.held sink.new) (table_text table.now) }
-    ensures whole { OnOk result (O.held sink.new ≡ append_known (O.held sink.old) (table_text table.now)) }
+impl Lines for Ruleset {
+    ghost use Rattle.ipt_rules.specs.Text.{text_lines};
+
+    ghost lines_of = { text_lines };
+
+    fn count(&self) -> u32 {
+        self.lines()
+    }
+
+    fn write(&self, i: u32, buffer: &mut [u8; 320]) -> usize {
+        self.write_line(i, buffer)
+    }
+}
+
+impl Lines for Table {
+    ghost use Rattle.ofp_rules.specs.Text.{text_lines};
+
+    ghost lines_of = { text_lines };
+
+    fn count(&self) -> u32 {
+        self.lines()
+    }
+
+    fn write(&self, i: u32, buffer: &mut [u8; 320]) -> usize {
+        let mut line = [0; 256];
+        let length = self.write_line(i, &mut line);
+        buffer[..length].copy_from_slice(&line[..length]);
+        length
+    }
+}
+
+/// Puts the lines of a text into the sink, in blocks, and stops at the first fault. Takes no memory.
+pub fn put_lines<T: Lines, O: Sink>(sink: &mut O, text: &T) -> Result<(), WriteFault>
+    ensures prefix { TookPrefix (O.held sink.old) (O.held sink.new) (concat (T.lines_of text.now)) }
+    ensures whole { OnOk result (O.held sink.new ≡ append_known (O.held sink.old) (concat (T.lines_of text.now))) }
     ensures faults_stay { O.faults sink.old ≤ O.faults sink.new }
     ensures fault { OnErr result (Rose (O.faults sink.old) (O.faults sink.new)) }
 {
-    let mut line = [0; 256];
-    for i in 0..table.lines() {
-        let length = table.write_line(i, &mut line);
-        put_all(sink, &line[..length])?;
+    let mut block = [0; BLOCK];
+    let mut line = [0; LINE];
+    let mut filled = 0;
+    for i in 0..text.count() {
+        let start = make_room(sink, &block, filled)?;
+        let length = text.write(i, &mut line);
+        filled = put(&mut block, start, &line[..length]);
     }
-    Ok(())
+    put_all(sink, &block[..filled])
+}
+
+/// Puts the block where what is left of it may be too little for a line, and answers how much of it is
+/// filled now.
+fn make_room<O: Sink>(sink: &mut O, block: &[u8; 8512], filled: usize) -> Result<usize, WriteFault>
+    requires { filled ≤ 8512 }
+    ensures room { IfOk result (λ left. left ≤ 8192) }
+    ensures left { IfOk result (λ left.
+        HasRoom (O.held sink.old) (O.held sink.new) (take filled block.now) (take left block.now)) }
+    ensures prefix { OnErr result (TookPrefix (O.held sink.old) (O.held sink.new) (take filled block.now)) }
+    ensures faults_stay { O.faults sink.old ≤ O.faults sink.new }
+    ensures fault { OnErr result (Rose (O.faults sink.old) (O.faults sink.new)) }
+{
+    if filled + LINE <= BLOCK {
+        return Ok(filled);
+    }
+    put_all(sink, &block[..filled])?;
+    Ok(0)
 }

@@ -1,46 +1,29 @@
 //! `migrate FILE`: the description in version 2.
 
-ghost use Rattle.std.specs.Prelude.{◌≡◌, IfOk, false};
-ghost use Rattle.topos_top.specs.AnswerView.{reply_view};
-ghost use Rattle.topos_top.specs.Job.{Ends};
-ghost use Rattle.topos_top.specs.Migrate.{migrate_job};
+ghost use Rattle.std.specs.Prelude.{◌≡◌, ◌≤◌, false};
+ghost use Rattle.topos_top.specs.Ask.{Migrate};
+ghost use Rattle.topos_top.specs.Commands.{course_of};
+ghost use Rattle.topos_top.specs.Replies.{MayReply};
+ghost use Rattle.topos_top.specs.Shelf.{shelf_change};
+ghost use Rattle.topos_top.specs.Views.{reply_in};
 
-use crate::answer::{Answer, Text};
-use std::alloc::{AllocError, Global};
-use std::marker::Model;
+use crate::answer::Answer;
+use crate::reading::read_document;
+use crate::text::Text;
+use edge_io::Shelf;
+use std::alloc::Global;
 
-/// The text of a description, whose value is its bytes alone.
-#[derive(Drop)]
-pub struct MigratedText {
-    text: Vec<u8>,
-}
-
-impl Model for MigratedText {
-    ghost use Rattle.std.specs.Prelude.{ℕ, List};
-
-    ghost Value = { List ℕ };
-
-    ghost view = { λ migrated. migrated.text.items };
-}
-
-impl MigratedText {
-    pub fn new(text: Vec<u8>) -> MigratedText
-        ensures { result ≡ text.items }
-    {
-        MigratedText { text }
-    }
-
-    fn bytes(&self) -> &[u8]
-        ensures { result.now ≡ self.now }
-    {
-        &self.text
-    }
-}
-
-/// The text.
-pub fn answer<'a>(alloc: Global, migrated: &MigratedText) -> Result<Answer<'a>, AllocError>
-    ensures { IfOk result (λ answer. Ends false (migrate_job migrated.now) (reply_view answer)) }
+/// The answer to the file of that name.
+pub fn reply<'a, H: Shelf>(
+    alloc: Global,
+    file: &'a str,
+    shelf: &mut H,
+) -> Result<Answer<'a>, Answer<'a>>
+    ensures same_files { H.files shelf.new ≡ H.files shelf.old }
+    ensures faults_stay { H.faults shelf.old ≤ H.faults shelf.new }
+    ensures reply { MayReply false (course_of (Migrate file.now))
+        (shelf_change H.files H.faults H.begins H.taken shelf.old shelf.new) (reply_in result) }
 {
-    let text = Vec::from_slice(alloc, migrated.bytes())?;
-    Ok(Answer::Done(Text::Bytes(text)))
+    let text = read_document(alloc, file, shelf)?;
+    Ok(Answer::done(Text::Bytes(text)))
 }

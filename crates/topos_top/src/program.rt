@@ -1,14 +1,20 @@
 //! The whole program, over any shelf of files and any two sinks.
 
 ghost use Rattle.std.specs.Prelude.{◌≡◌, ◌≢◌, ℕ, ◌≤◌, ◌↔◌, ◌⊎◌, None, map, string_bytes};
-ghost use Rattle.topos_top.specs.Command.{command_of, AsksToReport, NamesNoFile};
-ghost use Rattle.topos_top.specs.Promises.{GaveReply, LacksFile, HasBadDescription, HasBadText, IsViolated, CannotWrite, WroteText, WasCutOff, RanOut, KeepsPromise, KeepsDescription, AskForSample, EndsAsSample, IsComplete, EndsAsTold};
-ghost use Rattle.topos_top.specs.Seen.{shelf_change};
+ghost use Rattle.topos_top.specs.Ask.{ask_of, AsksToReport};
+ghost use Rattle.topos_top.specs.Commands.{NamesNoFile};
+ghost use Rattle.topos_top.specs.Promises.{GaveReply, LacksFile, HasRefused, HasBadText, IsViolated, CannotWrite, WroteText, WasCutOff, RanOut, KeepsPromise, AskForSample, EndsAsSample, IsComplete};
+ghost use Rattle.topos_top.specs.Replies.{MayGive};
+ghost use Rattle.topos_top.specs.Shelf.{shelf_change};
 ghost use Rattle.topos_top.specs.Taken.{sink_change};
+ghost use Rattle.topos_top.specs.Views.{reply_view};
 
-use crate::answer::answer_to;
+use crate::answer::Answer;
+use crate::ask::ask_of_words;
+use crate::commands::reply;
 use crate::ending::give;
 use crate::status::Status;
+use crate::text::Text;
 use edge_io::{Shelf, Sink};
 use std::alloc::Global;
 
@@ -31,7 +37,7 @@ pub fn run<H: Shelf, O: Sink, E: Sink>(
         (sink_change O.held O.faults out.old out.new) (sink_change E.held E.faults err.old err.new) result }
 
     // What follows from it. Usage is given exactly for words that are no form, and reads nothing.
-    ensures usage { (result ≡ Status.Usage) ↔ (command_of (map string_bytes words.now) ≡ None) }
+    ensures usage { (result ≡ Status.Usage) ↔ (ask_of (map string_bytes words.now) ≡ None) }
     ensures usage_reads_nothing { result ≡ Status.Usage → shelf.new ≡ shelf.old }
     ensures reads_nothing { NamesNoFile (map string_bytes words.now) → shelf.new ≡ shelf.old }
 
@@ -39,12 +45,12 @@ pub fn run<H: Shelf, O: Sink, E: Sink>(
     ensures read_fault { result ≡ Status.ReadFault → LacksFile (map string_bytes words.now)
         (shelf_change H.files H.faults H.begins H.taken shelf.old shelf.new)
         (sink_change E.held E.faults err.old err.new) }
-    ensures bad_description { result ≡ Status.BadDescription → HasBadDescription (map string_bytes words.now)
+    ensures bad_description { result ≡ Status.BadDescription → HasRefused Status.BadDescription (map string_bytes words.now)
         (shelf_change H.files H.faults H.begins H.taken shelf.old shelf.new)
         (sink_change E.held E.faults err.old err.new) }
     ensures bad_text { result ≡ Status.BadText → HasBadText (map string_bytes words.now)
         (shelf_change H.files H.faults H.begins H.taken shelf.old shelf.new)
-        (sink_change E.held E.faults err.old err.new) }
+        (sink_change O.held O.faults out.old out.new) (sink_change E.held E.faults err.old err.new) }
     ensures violated { result ≡ Status.Violated → IsViolated (map string_bytes words.now)
         (shelf_change H.files H.faults H.begins H.taken shelf.old shelf.new)
         (sink_change O.held O.faults out.old out.new) (sink_change E.held E.faults err.old err.new) }
@@ -57,17 +63,17 @@ pub fn run<H: Shelf, O: Sink, E: Sink>(
     ensures memory { result ≡ Status.Memory → RanOut (map string_bytes words.now)
         (shelf_change H.files H.faults H.begins H.taken shelf.old shelf.new) (sink_change E.held E.faults err.old err.new) }
     ensures done { result ≡ Status.Done → WroteText (map string_bytes words.now)
-        (shelf_change H.files H.faults H.begins H.taken shelf.old shelf.new) (sink_change O.held O.faults out.old out.new) }
+        (shelf_change H.files H.faults H.begins H.taken shelf.old shelf.new)
+        (sink_change O.held O.faults out.old out.new) (sink_change E.held E.faults err.old err.new) }
 
     // The headline: rules that are written forward exactly what the policy expects, over every list
     // of packets and forgettings, also as they are read again, and the policy meets every invariant
     // and is the first that does. Flows of OpenFlow do so without connections: they are written only
-    // where no answer needs one.
+    // where no answer needs one. A description that is migrated is written as a document of its own
+    // table in version 2. Rules are said to be equal to a description only where they forward what its
+    // policy expects. With the rules of every specific host on its machines, a packet passes between
+    // them exactly where the policy expects it.
     ensures headline { result ≡ Status.Done → KeepsPromise (map string_bytes words.now)
-        (shelf_change H.files H.faults H.begins H.taken shelf.old shelf.new) (sink_change O.held O.faults out.old out.new) }
-
-    // A description that is migrated is written as a document of its own table in version 2.
-    ensures migrated { result ≡ Status.Done → KeepsDescription (map string_bytes words.now)
         (shelf_change H.files H.faults H.begins H.taken shelf.old shelf.new) (sink_change O.held O.faults out.old out.new) }
 
     // A sample takes nothing off the shelf, and is always written unless the output fails or there is no memory.
@@ -81,13 +87,28 @@ pub fn run<H: Shelf, O: Sink, E: Sink>(
     ensures silent { (result ≡ Status.Done) ⊎ ((result ≡ Status.Violated) × AsksToReport (map string_bytes words.now))
         → err.new ≡ err.old }
 
-    // The words and the told files decide what is given, and how the run ends.
+    // The words and the told files decide what is given, and so how the run ends.
     ensures complete { IsComplete (map string_bytes words.now)
         (shelf_change H.files H.faults H.begins H.taken shelf.old shelf.new)
         (sink_change O.held O.faults out.old out.new) (sink_change E.held E.faults err.old err.new) result }
-    ensures ends_as_told { EndsAsTold (map string_bytes words.now)
-        (shelf_change H.files H.faults H.begins H.taken shelf.old shelf.new) (sink_change O.held O.faults out.old out.new) result }
 {
     let answer = answer_to(alloc, words, shelf);
     give(&answer, out, err)
+}
+
+/// The answer to the words, with its files taken off the shelf.
+fn answer_to<'a, H: Shelf>(alloc: Global, words: &'a [String], shelf: &mut H) -> Answer<'a>
+    ensures same_files { H.files shelf.new ≡ H.files shelf.old }
+    ensures faults_stay { H.faults shelf.old ≤ H.faults shelf.new }
+    ensures reply { MayGive (map string_bytes words.now)
+        (shelf_change H.files H.faults H.begins H.taken shelf.old shelf.new) (reply_view result) }
+    ensures reads_nothing { NamesNoFile (map string_bytes words.now) → shelf.new ≡ shelf.old }
+{
+    match ask_of_words(words) {
+        None => Answer::error(Status::Usage, Text::Usage),
+        Some(ask) => match reply(alloc, ask, shelf) {
+            Ok(answer) => answer,
+            Err(answer) => answer,
+        },
+    }
 }

@@ -1,123 +1,180 @@
-//! Reading the files of a command in their order, and what is in each.
+//! Reading a file of each kind. What is not accepted ends the run with its answer.
 
-ghost use Rattle.std.specs.Prelude.{◌≡◌, ◌≤◌, [], length};
-ghost use Rattle.edge_io.specs.Counts.{more};
-ghost use Rattle.topos_top.specs.AnswerView.{outcome_view, readings_view};
-ghost use Rattle.topos_top.specs.Command.{files_of};
-ghost use Rattle.topos_top.specs.CommandView.{command_view, file_view};
-ghost use Rattle.topos_top.specs.Form.{form_of};
-ghost use Rattle.topos_top.specs.Reads.{IsOutcome, MayReadOne, MayRead};
-ghost use Rattle.topos_top.specs.Seen.{shelf_change};
+ghost use Rattle.std.specs.Prelude.{◌≡◌, ◌≤◌, IfOk};
+ghost use Rattle.ipt_rules.specs.OneOutcome.{EachGivesOne};
+ghost use Rattle.ofp_rules.specs.Build.{IsTable};
+ghost use Rattle.topos_top.specs.Reads.{MayTake, MayRead};
+ghost use Rattle.topos_top.specs.Shelf.{shelf_change};
+ghost use Rattle.topos_top.specs.Views.{outcome_view, items_view, session_view, edits_view};
+ghost use Rattle.topos_top.specs.declared.dialect.Dialect.TheVariants.{Iptables, OpenFlow};
 
 use crate::answer::Answer;
-use crate::command::Command;
-use crate::events::EventList;
-use crate::fault::Fault;
-use crate::file::{File, Kind};
-use crate::form::Dialect;
-use crate::migrate::MigratedText;
+use crate::dialect::Dialect;
+use crate::kind::Kind;
+use crate::refused::{bad_description, bad_edits, bad_events, bad_flows, bad_rules};
+use crate::status::Status;
+use crate::text::Text;
 use desc_core::{DescFault, Description, describe, migrate};
 use edge_io::{Shelf, TakeFault, take_all};
+use edit_core::{Edit, EditsFault, Session};
 use ipt_read::IptFault;
 use ipt_rules::Ruleset;
 use ofp_read::OfpFault;
 use ofp_rules::Table;
-use pkt_core::{EventFault, read_events};
+use pkt_core::{Event, EventFault};
 use std::alloc::Global;
 
-/// What is read of a file.
-#[derive(Drop)]
-pub enum Reading {
-    /// The network of a description.
-    Network(Description),
-    /// Rules of iptables.
-    Rules(Ruleset),
-    /// A flow table of OpenFlow.
-    Flows(Table),
-    /// The events of a list.
-    Events(EventList),
-    /// A description in version 2.
-    Migrated(MigratedText),
-}
-
-/// The readings of the files that a command names, or the answer that ends the run. No file is begun
-/// before those that stand before it are accepted.
-pub fn read_files<'a, H: Shelf>(
+/// The network that a file describes.
+pub fn read_description<'a, H: Shelf>(
     alloc: Global,
-    command: Command<'a>,
+    name: &'a str,
     shelf: &mut H,
-) -> Result<Vec<Reading>, Answer<'a>>
-    requires { length command.names.now ≡ length (form_of command.verb).slots }
+) -> Result<Description, Answer<'a>>
     ensures same_files { H.files shelf.new ≡ H.files shelf.old }
     ensures faults_stay { H.faults shelf.old ≤ H.faults shelf.new }
-    ensures no_files { files_of (command_view command.entry) ≡ [] → shelf.new ≡ shelf.old }
-    ensures readings { MayRead (shelf_change H.files H.faults H.begins H.taken shelf.old shelf.new)
-        (files_of (command_view command.entry)) (readings_view result) }
-{
-    let slots = command.verb.slots();
-    let mut readings = Vec::new(alloc);
-    for (place, name) in command.names.iter().enumerate() {
-        let file = File {
-            kind: Kind::of(slots[place], command.dialect),
-            name: name.as_str(),
-        };
-        let reading = read_one(alloc, file, shelf)?;
-        readings.push(reading)?;
-    }
-    Ok(readings)
-}
-
-/// The reading of a file, or the answer that ends the run.
-fn read_one<'a, H: Shelf>(
-    alloc: Global,
-    file: File<'a>,
-    shelf: &mut H,
-) -> Result<Reading, Answer<'a>>
-    ensures same_files { H.files shelf.new ≡ H.files shelf.old }
-    ensures faults_stay { H.faults shelf.old ≤ H.faults shelf.new }
-    ensures begins { H.begins shelf.new ≡ more (H.begins shelf.old) 1 }
-    ensures reading { MayReadOne (file_view file.entry)
+    ensures reading { MayRead Kind.Description name.now
         (shelf_change H.files H.faults H.begins H.taken shelf.old shelf.new) (outcome_view result) }
 {
-    match take_all(alloc, shelf, file.name, file.kind.most()) {
-        Ok(bytes) => read_as(alloc, file.kind, &bytes),
-        Err(TakeFault::Read) => Err(Answer::CannotRead(file.name)),
-        Err(TakeFault::TooLong) => Err(Answer::Refused(file.kind.too_long())),
-        Err(TakeFault::Memory) => Err(Answer::Memory),
+    let bytes = take(alloc, Kind::Description, name, shelf)?;
+    match describe(alloc, &bytes) {
+        Ok(description) => Ok(description),
+        Err(DescFault::Refused(why)) => Err(bad_description(why)),
+        Err(DescFault::Memory) => Err(Answer::error(Status::Memory, Text::NoMemory)),
     }
 }
 
-/// The reading of the bytes of a file.
-fn read_as<'a>(alloc: Global, kind: Kind, bytes: &[u8]) -> Result<Reading, Answer<'a>>
-    ensures { IsOutcome kind bytes.now (outcome_view result) }
+/// The chains of a file. Each of them gives every packet one outcome.
+pub fn read_rules<'a, H: Shelf>(
+    alloc: Global,
+    name: &'a str,
+    shelf: &mut H,
+) -> Result<Ruleset, Answer<'a>>
+    ensures same_files { H.files shelf.new ≡ H.files shelf.old }
+    ensures faults_stay { H.faults shelf.old ≤ H.faults shelf.new }
+    ensures reading { MayRead (Kind.Rules Iptables) name.now
+        (shelf_change H.files H.faults H.begins H.taken shelf.old shelf.new) (outcome_view result) }
+    ensures one_outcome { IfOk result EachGivesOne }
 {
-    match kind {
-        Kind::Description => match describe(alloc, bytes) {
-            Ok(description) => Ok(Reading::Network(description)),
-            Err(DescFault::Refused(why)) => Err(Answer::Refused(Fault::Description(why))),
-            Err(DescFault::Memory) => Err(Answer::Memory),
-        },
-        Kind::Rules(Dialect::Iptables) => match ipt_read::read(alloc, bytes) {
-            Ok(rules) => Ok(Reading::Rules(rules)),
-            Err(IptFault::Refused { line, why }) => Err(Answer::Refused(Fault::Rules(line, why))),
-            Err(IptFault::Memory) => Err(Answer::Memory),
-        },
-        Kind::Rules(Dialect::OpenFlow) => match ofp_read::read(alloc, bytes) {
-            Ok(table) => Ok(Reading::Flows(table)),
-            Err(OfpFault::Refused { line, why }) => Err(Answer::Refused(Fault::Flows(line, why))),
-            Err(OfpFault::Memory) => Err(Answer::Memory),
-        },
-        Kind::Events => match read_events(alloc, bytes) {
-            Ok(events) => Ok(Reading::Events(EventList::new(events))),
-            Err(EventFault::Refused { line, why }) => {
-                Err(Answer::Refused(Fault::Events(line, why)))
-            }
-            Err(EventFault::Memory) => Err(Answer::Memory),
-        },
-        Kind::Document => match migrate(alloc, bytes) {
-            Ok(text) => Ok(Reading::Migrated(MigratedText::new(text))),
-            Err(DescFault::Refused(why)) => Err(Answer::Refused(Fault::Description(why))),
-            Err(DescFault::Memory) => Err(Answer::Memory),
-        },
+    let bytes = take(alloc, Kind::Rules(Dialect::Iptables), name, shelf)?;
+    match ipt_read::read(alloc, &bytes) {
+        Ok(rules) => Ok(rules),
+        Err(IptFault::Refused { line, why }) => Err(bad_rules(line, why)),
+        Err(IptFault::Memory) => Err(Answer::error(Status::Memory, Text::NoMemory)),
+    }
+}
+
+/// The flow table of a file. It gives every frame one verdict.
+pub fn read_table<'a, H: Shelf>(
+    alloc: Global,
+    name: &'a str,
+    shelf: &mut H,
+) -> Result<Table, Answer<'a>>
+    ensures same_files { H.files shelf.new ≡ H.files shelf.old }
+    ensures faults_stay { H.faults shelf.old ≤ H.faults shelf.new }
+    ensures reading { MayRead (Kind.Rules OpenFlow) name.now
+        (shelf_change H.files H.faults H.begins H.taken shelf.old shelf.new) (outcome_view result) }
+    ensures table { IfOk result IsTable }
+{
+    let bytes = take(alloc, Kind::Rules(Dialect::OpenFlow), name, shelf)?;
+    match ofp_read::read(alloc, &bytes) {
+        Ok(table) => Ok(table),
+        Err(OfpFault::Refused { line, why }) => Err(bad_flows(line, why)),
+        Err(OfpFault::Memory) => Err(Answer::error(Status::Memory, Text::NoMemory)),
+    }
+}
+
+/// The events of a file.
+pub fn read_events<'a, H: Shelf>(
+    alloc: Global,
+    name: &'a str,
+    shelf: &mut H,
+) -> Result<Vec<Event>, Answer<'a>>
+    ensures same_files { H.files shelf.new ≡ H.files shelf.old }
+    ensures faults_stay { H.faults shelf.old ≤ H.faults shelf.new }
+    ensures reading { MayRead Kind.Events name.now
+        (shelf_change H.files H.faults H.begins H.taken shelf.old shelf.new) (items_view result) }
+{
+    let bytes = take(alloc, Kind::Events, name, shelf)?;
+    match pkt_core::read_events(alloc, &bytes) {
+        Ok(events) => Ok(events),
+        Err(EventFault::Refused { line, why }) => Err(bad_events(line, why)),
+        Err(EventFault::Memory) => Err(Answer::error(Status::Memory, Text::NoMemory)),
+    }
+}
+
+/// The description of a file in version 2.
+pub fn read_document<'a, H: Shelf>(
+    alloc: Global,
+    name: &'a str,
+    shelf: &mut H,
+) -> Result<Vec<u8>, Answer<'a>>
+    ensures same_files { H.files shelf.new ≡ H.files shelf.old }
+    ensures faults_stay { H.faults shelf.old ≤ H.faults shelf.new }
+    ensures reading { MayRead Kind.Document name.now
+        (shelf_change H.files H.faults H.begins H.taken shelf.old shelf.new) (items_view result) }
+{
+    let bytes = take(alloc, Kind::Document, name, shelf)?;
+    match migrate(alloc, &bytes) {
+        Ok(text) => Ok(text),
+        Err(DescFault::Refused(why)) => Err(bad_description(why)),
+        Err(DescFault::Memory) => Err(Answer::error(Status::Memory, Text::NoMemory)),
+    }
+}
+
+/// The description of a file, to be edited.
+pub fn read_session<'a, H: Shelf>(
+    alloc: Global,
+    name: &'a str,
+    shelf: &mut H,
+) -> Result<Session, Answer<'a>>
+    ensures same_files { H.files shelf.new ≡ H.files shelf.old }
+    ensures faults_stay { H.faults shelf.old ≤ H.faults shelf.new }
+    ensures reading { MayRead Kind.Edited name.now
+        (shelf_change H.files H.faults H.begins H.taken shelf.old shelf.new) (session_view result) }
+{
+    let bytes = take(alloc, Kind::Edited, name, shelf)?;
+    match Session::start(alloc, &bytes) {
+        Ok(session) => Ok(session),
+        Err(DescFault::Refused(why)) => Err(bad_description(why)),
+        Err(DescFault::Memory) => Err(Answer::error(Status::Memory, Text::NoMemory)),
+    }
+}
+
+/// The edits of a file.
+pub fn read_edits<'a, H: Shelf>(
+    alloc: Global,
+    name: &'a str,
+    shelf: &mut H,
+) -> Result<Vec<Edit>, Answer<'a>>
+    ensures same_files { H.files shelf.new ≡ H.files shelf.old }
+    ensures faults_stay { H.faults shelf.old ≤ H.faults shelf.new }
+    ensures reading { MayRead Kind.Edits name.now
+        (shelf_change H.files H.faults H.begins H.taken shelf.old shelf.new) (edits_view result) }
+{
+    let bytes = take(alloc, Kind::Edits, name, shelf)?;
+    match edit_core::read_edits(alloc, &bytes) {
+        Ok(edits) => Ok(edits),
+        Err(EditsFault::Refused { line, why }) => Err(bad_edits(line, why)),
+        Err(EditsFault::Memory) => Err(Answer::error(Status::Memory, Text::NoMemory)),
+    }
+}
+
+/// The bytes of a file.
+fn take<'a, H: Shelf>(
+    alloc: Global,
+    kind: Kind,
+    name: &'a str,
+    shelf: &mut H,
+) -> Result<Vec<u8>, Answer<'a>>
+    ensures same_files { H.files shelf.new ≡ H.files shelf.old }
+    ensures faults_stay { H.faults shelf.old ≤ H.faults shelf.new }
+    ensures taken { MayTake kind name.now
+        (shelf_change H.files H.faults H.begins H.taken shelf.old shelf.new) (items_view result) }
+{
+    match take_all(alloc, shelf, name, kind.most()) {
+        Ok(bytes) => Ok(bytes),
+        Err(TakeFault::Read) => Err(Answer::error(Status::ReadFault, Text::CannotRead(name))),
+        Err(TakeFault::TooLong) => Err(kind.too_long()),
+        Err(TakeFault::Memory) => Err(Answer::error(Status::Memory, Text::NoMemory)),
     }
 }

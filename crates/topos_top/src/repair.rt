@@ -1,23 +1,31 @@
 //! `repair iptables|openflow FILE`: the rules of the permitted policy, whatever was listed.
 
-ghost use Rattle.std.specs.Prelude.{IfOk, false};
-ghost use Rattle.topos_top.specs.AnswerView.{reply_view};
-ghost use Rattle.topos_top.specs.Job.{Ends};
-ghost use Rattle.topos_top.specs.Repair.{repair_job};
+ghost use Rattle.std.specs.Prelude.{◌≡◌, ◌≤◌, false};
+ghost use Rattle.topos_top.specs.Ask.{Repair};
+ghost use Rattle.topos_top.specs.Commands.{course_of};
+ghost use Rattle.topos_top.specs.Replies.{MayReply};
+ghost use Rattle.topos_top.specs.Shelf.{shelf_change};
+ghost use Rattle.topos_top.specs.Views.{reply_in};
 
 use crate::answer::Answer;
-use crate::form::Dialect;
+use crate::dialect::Dialect;
+use crate::reading::read_description;
 use crate::rules::policy_rules;
-use desc_core::Description;
-use std::alloc::{AllocError, Global};
+use edge_io::Shelf;
+use std::alloc::Global;
 
-/// The rules, or why they cannot be written.
-pub fn answer<'a>(
+/// The answer to the file of that name: the rules, or why they cannot be written.
+pub fn reply<'a, H: Shelf>(
     alloc: Global,
     dialect: Dialect,
-    description: &Description,
-) -> Result<Answer<'a>, AllocError>
-    ensures { IfOk result (λ answer. Ends false (repair_job dialect description.now) (reply_view answer)) }
+    file: &'a str,
+    shelf: &mut H,
+) -> Result<Answer<'a>, Answer<'a>>
+    ensures same_files { H.files shelf.new ≡ H.files shelf.old }
+    ensures faults_stay { H.faults shelf.old ≤ H.faults shelf.new }
+    ensures reply { MayReply false (course_of (Repair dialect file.now))
+        (shelf_change H.files H.faults H.begins H.taken shelf.old shelf.new) (reply_in result) }
 {
-    policy_rules(alloc, dialect, description)
+    let description = read_description(alloc, file, shelf)?;
+    Ok(policy_rules(alloc, dialect, &description)?)
 }

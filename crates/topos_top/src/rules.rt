@@ -1,35 +1,56 @@
 //! `rules iptables|openflow FILE`: the rules of the permitted policy, unless it was listed and breaks
 //! an invariant.
 
-ghost use Rattle.std.specs.Prelude.{IfOk, false};
-ghost use Rattle.topos_top.specs.AnswerView.{reply_view};
-ghost use Rattle.topos_top.specs.Job.{Ends};
+ghost use Rattle.std.specs.Prelude.{◌≡◌, ◌≤◌, IfOk, false};
+ghost use Rattle.topos_top.specs.Ask.{Rules};
+ghost use Rattle.topos_top.specs.Commands.{course_of};
+ghost use Rattle.topos_top.specs.Job.{Answers};
 ghost use Rattle.topos_top.specs.Repair.{repair_job};
+ghost use Rattle.topos_top.specs.Replies.{MayReply};
 ghost use Rattle.topos_top.specs.Rules.{rules_job};
+ghost use Rattle.topos_top.specs.Shelf.{shelf_change};
+ghost use Rattle.topos_top.specs.Views.{reply_view, reply_in};
 
-use crate::answer::{Answer, Text};
-use crate::form::Dialect;
+use crate::answer::Answer;
+use crate::dialect::Dialect;
+use crate::listed::listed_offences;
+use crate::reading::read_description;
+use crate::status::Status;
+use crate::text::Text;
 use crate::{chains, flows};
 use desc_core::Description;
+use edge_io::Shelf;
 use net_core::policy_of;
-use report_core::check_report;
 use std::alloc::{AllocError, Global};
 
-/// The rules, or why there are none. Where no policy is listed, there is none to break an invariant.
-pub fn answer<'a>(
+/// The answer to the file of that name.
+pub fn reply<'a, H: Shelf>(
+    alloc: Global,
+    dialect: Dialect,
+    file: &'a str,
+    shelf: &mut H,
+) -> Result<Answer<'a>, Answer<'a>>
+    ensures same_files { H.files shelf.new ≡ H.files shelf.old }
+    ensures faults_stay { H.faults shelf.old ≤ H.faults shelf.new }
+    ensures reply { MayReply false (course_of (Rules dialect file.now))
+        (shelf_change H.files H.faults H.begins H.taken shelf.old shelf.new) (reply_in result) }
+{
+    let description = read_description(alloc, file, shelf)?;
+    Ok(answer(alloc, dialect, &description)?)
+}
+
+/// The rules, or why there are none.
+fn answer<'a>(
     alloc: Global,
     dialect: Dialect,
     description: &Description,
 ) -> Result<Answer<'a>, AllocError>
-    ensures { IfOk result (λ answer. Ends false (rules_job dialect description.now) (reply_view answer)) }
+    ensures { IfOk result (λ answer. Answers false (rules_job dialect description.now) (reply_view answer)) }
 {
-    if description.given() {
-        let (report, holds) = check_report(alloc, description)?;
-        if !holds {
-            return Ok(Answer::Violated(Text::Report(report)));
-        }
+    match listed_offences(alloc, description)? {
+        Some(report) => Ok(Answer::error(Status::Violated, Text::Report(report))),
+        None => policy_rules(alloc, dialect, description),
     }
-    policy_rules(alloc, dialect, description)
 }
 
 /// The rules of the policy of a description, or why they cannot be written.
@@ -38,7 +59,7 @@ pub fn policy_rules<'a>(
     dialect: Dialect,
     description: &Description,
 ) -> Result<Answer<'a>, AllocError>
-    ensures { IfOk result (λ answer. Ends false (repair_job dialect description.now) (reply_view answer)) }
+    ensures { IfOk result (λ answer. Answers false (repair_job dialect description.now) (reply_view answer)) }
 {
     let policy = policy_of(alloc, description)?;
     match dialect {

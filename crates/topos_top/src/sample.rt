@@ -2,18 +2,19 @@
 
 ghost use Rattle.std.specs.Prelude.{◌≤◌, IfOk, false};
 ghost use Rattle.host_net.specs.Limits.{host_limit};
-ghost use Rattle.topos_top.specs.AnswerView.{reply_view};
-ghost use Rattle.topos_top.specs.Job.{Ends};
+ghost use Rattle.topos_top.specs.Job.{Answers};
 ghost use Rattle.topos_top.specs.Sample.{sample_job};
+ghost use Rattle.topos_top.specs.Views.{reply_view};
 
-use crate::answer::{Answer, Text};
+use crate::answer::Answer;
+use crate::text::Text;
 use sample_core::sample_text;
 use std::alloc::{AllocError, Global};
 
 /// The numbers of the sample.
 pub fn answer<'a>(alloc: Global, hosts: u16) -> Result<Answer<'a>, AllocError>
     requires { hosts ≤ host_limit }
-    ensures { IfOk result (λ answer. Ends false (sample_job hosts) (reply_view answer)) }
+    ensures { IfOk result (λ answer. Answers false (sample_job hosts) (reply_view answer)) }
 {
-    Ok(Answer::Done(Text::Bytes(sample_text(alloc, hosts)?)))
+    Ok(Answer::done(Text::Bytes(sample_text(alloc, hosts)?)))
 }

@@ -1,4 +1,4 @@
-//! How a run ends, as an exit status.
+//! How a run ends, as an exit status, and the streams that it writes.
 
 ghost use Rattle.std.specs.Prelude.{◌≡◌};
 ghost use Rattle.topos_top.specs.StatusNumber.{number_of};
@@ -14,7 +14,7 @@ pub enum Status {
     Violated,
     /// The description is refused.
     BadDescription,
-    /// A text of rules or of events is refused.
+    /// A text of rules, of events or of edits is refused.
     BadText,
     /// What is asked for cannot be written.
     NotEmittable,
@@ -43,4 +43,13 @@ impl Status {
             Status::Memory => 8,
         }
     }
+}
+
+/// Where a text goes.
+#[derive(Clone, Copy)]
+pub enum Stream {
+    /// The output, for what was asked for.
+    Output,
+    /// The error stream, for why there is none of it.
+    Errors,
 }

@@ -1,8 +1,9 @@
-//! The names of the reasons for which a text of rules or of events is refused.
+//! The names of the reasons for which a text of rules, of events or of edits is refused.
 
 ghost use Rattle.std.specs.Prelude.{◌≡◌};
-ghost use Rattle.topos_top.specs.TextFault.{rules_reason, flows_reason, events_reason};
+ghost use Rattle.topos_top.specs.TextFault.{rules_reason, flows_reason, events_reason, edits_reason, edit_reason};
 
+use edit_core::{EditFault, EditsWhy};
 use ipt_read::IptWhy;
 use ofp_read::OfpWhy;
 use pkt_core::EventWhy;
@@ -53,5 +54,29 @@ pub fn events_reason(why: EventWhy) -> &'static [u8]
         EventWhy::BadLine => b"BadLine",
         EventWhy::BadValue => b"BadValue",
         EventWhy::TooMany => b"TooMany",
+    }
+}
+
+/// Why edits are refused as a text.
+pub fn edits_reason(why: EditsWhy) -> &'static [u8]
+    ensures { result.now ≡ edits_reason why }
+{
+    match why {
+        EditsWhy::TooLong => b"TooLong",
+        EditsWhy::BadLine => b"BadLine",
+        EditsWhy::BadValue => b"BadValue",
+        EditsWhy::TooMany => b"TooMany",
+    }
+}
+
+/// Why an edit is refused on the description that it changes.
+pub fn edit_reason(fault: &EditFault) -> &[u8]
+    ensures { result.now ≡ edit_reason fault.now }
+{
+    match fault {
+        EditFault::NoPolicy => b"NoPolicy",
+        EditFault::Absent => b"Absent",
+        EditFault::Refused(why) => why.name().as_bytes(),
+        EditFault::Memory => b"Memory",
     }
 }

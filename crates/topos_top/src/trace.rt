@@ -1,63 +1,72 @@
 //! `trace iptables|openflow RULES EVENTS`: what becomes of each event.
 
-ghost use Rattle.std.specs.Prelude.{◌≡◌, IfOk, false, [], ◌∷◌};
-ghost use Rattle.topos_top.specs.AnswerView.{reply_view};
-ghost use Rattle.topos_top.specs.Job.{Ends};
-ghost use Rattle.topos_top.specs.Kinds.{kinds_in};
-ghost use Rattle.topos_top.specs.Trace.{trace_job};
-ghost use Rattle.topos_top.specs.declared.file.Kind.TheVariants.{Rules as RulesKind, Events as EventsKind};
-ghost use Rattle.topos_top.specs.declared.form.Dialect.TheVariants.{Iptables, OpenFlow};
+ghost use Rattle.std.specs.Prelude.{◌≡◌, ◌≤◌, false};
+ghost use Rattle.topos_top.specs.Ask.{Trace};
+ghost use Rattle.topos_top.specs.Commands.{course_of};
+ghost use Rattle.topos_top.specs.Replies.{MayReply};
+ghost use Rattle.topos_top.specs.Shelf.{shelf_change};
+ghost use Rattle.topos_top.specs.Views.{reply_in};
+ghost use Rattle.topos_top.specs.declared.dialect.Dialect.TheVariants.{Iptables, OpenFlow};
 
-use crate::answer::{Answer, Text};
-use crate::events::EventList;
-use crate::form::Dialect;
-use crate::reading::Reading;
-use ipt_rules::Ruleset;
-use ofp_rules::Table;
-use std::alloc::{AllocError, Global};
+use crate::answer::Answer;
+use crate::dialect::Dialect;
+use crate::reading::{read_events, read_rules, read_table};
+use crate::text::Text;
+use edge_io::Shelf;
+use std::alloc::Global;
 use trace_core::{trace_rules, trace_table};
 
-/// The line of each event.
-pub fn answer<'a>(
+/// The answer to the files of those names.
+pub fn reply<'a, H: Shelf>(
     alloc: Global,
     dialect: Dialect,
-    readings: &[Reading],
-) -> Result<Answer<'a>, AllocError>
-    requires { kinds_in readings.now ≡ RulesKind dialect ∷ EventsKind ∷ [] }
-    ensures { IfOk result (λ answer. Ends false (trace_job dialect readings.now) (reply_view answer)) }
+    rules: &'a str,
+    events: &'a str,
+    shelf: &mut H,
+) -> Result<Answer<'a>, Answer<'a>>
+    ensures same_files { H.files shelf.new ≡ H.files shelf.old }
+    ensures faults_stay { H.faults shelf.old ≤ H.faults shelf.new }
+    ensures reply { MayReply false (course_of (Trace dialect rules.now events.now))
+        (shelf_change H.files H.faults H.begins H.taken shelf.old shelf.new) (reply_in result) }
 {
     match dialect {
-        Dialect::Iptables => {
-            let (rules, events) = rules_and_events(readings);
-            let text = trace_rules(alloc, rules, events.as_slice())?;
-            Ok(Answer::Done(Text::Bytes(text)))
-        }
-        Dialect::OpenFlow => {
-            let (table, events) = table_and_events(readings);
-            let text = trace_table(alloc, table, events.as_slice())?;
-            Ok(Answer::Done(Text::Bytes(text)))
-        }
+        Dialect::Iptables => reply_by_rules(alloc, rules, events, shelf),
+        Dialect::OpenFlow => reply_by_table(alloc, rules, events, shelf),
     }
 }
 
-/// The rules and the events, where those are the readings.
-fn rules_and_events(readings: &[Reading]) -> (&Ruleset, &EventList)
-    requires { kinds_in readings.now ≡ RulesKind Iptables ∷ EventsKind ∷ [] }
-    ensures { readings.now ≡ Reading.Rules result.0.now ∷ Reading.Events result.1.now ∷ [] }
+/// The answer, where the first file has chains of iptables.
+fn reply_by_rules<'a, H: Shelf>(
+    alloc: Global,
+    rules: &'a str,
+    events: &'a str,
+    shelf: &mut H,
+) -> Result<Answer<'a>, Answer<'a>>
+    ensures same_files { H.files shelf.new ≡ H.files shelf.old }
+    ensures faults_stay { H.faults shelf.old ≤ H.faults shelf.new }
+    ensures reply { MayReply false (course_of (Trace Iptables rules.now events.now))
+        (shelf_change H.files H.faults H.begins H.taken shelf.old shelf.new) (reply_in result) }
 {
-    match readings {
-        [Reading::Rules(rules), Reading::Events(events)] => (rules, events),
-        _ => unreachable!(),
-    }
+    let rules = read_rules(alloc, rules, shelf)?;
+    let events = read_events(alloc, events, shelf)?;
+    let text = trace_rules(alloc, &rules, &events)?;
+    Ok(Answer::done(Text::Bytes(text)))
 }
 
-/// The flow table and the events, where those are the readings.
-fn table_and_events(readings: &[Reading]) -> (&Table, &EventList)
-    requires { kinds_in readings.now ≡ RulesKind OpenFlow ∷ EventsKind ∷ [] }
-    ensures { readings.now ≡ Reading.Flows result.0.now ∷ Reading.Events result.1.now ∷ [] }
+/// The answer, where the first file has a flow table of OpenFlow.
+fn reply_by_table<'a, H: Shelf>(
+    alloc: Global,
+    rules: &'a str,
+    events: &'a str,
+    shelf: &mut H,
+) -> Result<Answer<'a>, Answer<'a>>
+    ensures same_files { H.files shelf.new ≡ H.files shelf.old }
+    ensures faults_stay { H.faults shelf.old ≤ H.faults shelf.new }
+    ensures reply { MayReply false (course_of (Trace OpenFlow rules.now events.now))
+        (shelf_change H.files H.faults H.begins H.taken shelf.old shelf.new) (reply_in result) }
 {
-    match readings {
-        [Reading::Flows(table), Reading::Events(events)] => (table, events),
-        _ => unreachable!(),
-    }
+    let table = read_table(alloc, rules, shelf)?;
+    let events = read_events(alloc, events, shelf)?;
+    let text = trace_table(alloc, &table, &events)?;
+    Ok(Answer::done(Text::Bytes(text)))
 }

@@ -1,3 +1,10 @@
+use Rattle.std.proofs.Common.{inl, inr, refl, ap, sym, subst, false, List}
+use Rattle.topos_top.specs.Job.{Answers}
+use Rattle.topos_top.specs.Repair.{repair_job}
+use Rattle.topos_top.specs.Reply.{Reply}
+use Rattle.topos_top.specs.declared.dialect.Dialect.TheVariants.{OpenFlow}
+use Rattle.ofp_rules.specs.Text.{text as table_text}
+use Rattle.ofp_rules.specs.declared.entry.Entry.{Entry}
 use Rattle.emit_core.specs.EmitRefusals.{HasNoTable}
 use Rattle.emit_core.specs.declared.refusal.EmitRefusal.TheVariants as refusal
 use Rattle.net_core.specs.Network.{site_of}
@@ -12,10 +19,8 @@ returns-in-Some c =
       policy = c.args.policy.now;
       is_policy = c.requires.policy;
       hinders = rw (c.services-services.ensures.value, c.permitted.ensures.value, c.stateful.ensures.value) at c.in-Some.ensures.barred;
-    } in (
-      (tt, NeedsState c.in-Some.flow, hindered),
-      record { why = NeedsState c.in-Some.flow; hindered = hindered; told = rw c.hosts-hosts.ensures.value at c.in_ok-line.ensures },
-    )
+    } in
+    subst (λ (r : Reply). Answers false (repair_job OpenFlow c.args.description.now) r) (sym c.not_emittable.ensures) (refl, inl (refl, (tt, NeedsState c.in-Some.flow, hindered), record { why = NeedsState c.in-Some.flow; hindered = hindered; told = rw c.hosts-hosts.ensures.value at c.in_ok-line.ensures }))
 
 pub returns-in_ok-line-in-Err-RangeOfPorts : goal.returns-in_ok-line-in-Err-RangeOfPorts
 returns-in_ok-line-in-Err-RangeOfPorts c =
@@ -28,10 +33,8 @@ returns-in_ok-line-in-Err-RangeOfPorts c =
       policy = c.args.policy.now;
       is_policy = c.requires.policy;
       hinders = (rw (c.services-services.ensures.value, c.permitted.ensures.value, c.stateful.ensures.value) at c.in_default.ensures.barred, ranged);
-    } in (
-      (tt, RangeOfPorts flow, hindered),
-      record { why = RangeOfPorts flow; hindered = hindered; told = rw c.hosts-hosts.ensures.value at c.in_ok-line-in-Err-RangeOfPorts.ensures },
-    )
+    } in
+    subst (λ (r : Reply). Answers false (repair_job OpenFlow c.args.description.now) r) (sym c.not_emittable-in-Err-RangeOfPorts.ensures) (refl, inl (refl, (tt, RangeOfPorts flow, hindered), record { why = RangeOfPorts flow; hindered = hindered; told = rw c.hosts-hosts.ensures.value at c.in_ok-line-in-Err-RangeOfPorts.ensures }))
 
 pub returns-in_ok-flows_line-in-Err-TooManyRules : goal.returns-in_ok-flows_line-in-Err-TooManyRules
 returns-in_ok-flows_line-in-Err-TooManyRules c =
@@ -49,7 +52,21 @@ returns-in_ok-flows_line-in-Err-TooManyRules c =
         many.1,
         many.2,
       );
-    } in (
-      (tt, TooManyFlows count, hindered),
-      record { why = TooManyFlows count; hindered = hindered; told = c.in_ok-flows_line-in-Err-TooManyRules.ensures },
+    } in
+    subst (λ (r : Reply). Answers false (repair_job OpenFlow c.args.description.now) r) (sym c.not_emittable-in-Err-TooManyRules.ensures) (refl, inl (refl, (tt, TooManyFlows count, hindered), record { why = TooManyFlows count; hindered = hindered; told = c.in_ok-flows_line-in-Err-TooManyRules.ensures }))
+
+pub returns-in-Ok : goal.returns-in-Ok
+returns-in-Ok c =
+    let d = c.args.description.now in
+    let covered = rw (c.services-services.ensures.value, c.permitted.ensures.value, c.stateful.ensures.value) at c.in_default.ensures.barred in
+    let ports = rw (c.services-services.ensures.value, c.permitted-permitted.ensures.value) at c.in-Ok.ensures.ports in
+    let few = rw (c.hosts-hosts.ensures.value, c.services-services.ensures.value, c.permitted-permitted.ensures.value) at c.in-Ok.ensures.few in
+    let layout = rw (c.hosts-hosts.ensures.value, c.services-services.ensures.value, c.permitted-permitted.ensures.value) at c.in-Ok.ensures.layout in
+    subst (λ (r : Reply). Answers false (repair_job OpenFlow c.args.description.now) r) (sym c.done.ensures) (
+      refl,
+      inr (inl (
+        refl,
+        (tt, record { policy = c.args.policy.now; is_policy = c.requires.policy; can = (covered, ports, few) }),
+        record { policy = c.args.policy.now; is_policy = c.requires.policy; written = ap (λ (entries : List Entry). table_text entries) layout },
+      )),
     )

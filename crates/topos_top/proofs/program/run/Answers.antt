@@ -1,13 +1,13 @@
 use Rattle.std.proofs.Common.{map, string_bytes}
-use Rattle.topos_top.specs.AnswerView.{reply_view}
 use Rattle.topos_top.specs.Promises.{GaveReply}
-use Rattle.topos_top.specs.Seen.{shelf_change}
+use Rattle.topos_top.specs.Shelf.{shelf_change}
 use Rattle.topos_top.specs.Taken.{sink_change}
+use Rattle.topos_top.specs.Views.{reply_view}
+use Rattle.topos_top.specs.declared.status.Status.TheVariants as status
 use Rattle.topos_top.proofs.HeadlineLaw.{headline_law}
-use Rattle.topos_top.proofs.MigrationLaw.{migration_law}
-use Rattle.topos_top.proofs.RunLaws.{usage_law, read_fault_law, bad_description_law, bad_text_law, violated_law, not_emittable_law, write_fault_law, memory_law, done_law, no_fault, nothing_to_write, something_to_write}
+use Rattle.topos_top.proofs.RunLaws.{usage_law, caused, no_fault, nothing_to_write, something_to_write}
 use Rattle.topos_top.proofs.SampleLaw.{sample_law, sample_names_no_file}
-use Rattle.topos_top.proofs.ToldLaws.{complete_law, ends_as_told_law}
+use Rattle.topos_top.proofs.ToldLaws.{complete_law}
 use Rattle.topos_top.proofs.program.run.Given as given
 use Rattle.topos_top.proofs.program.run.Goals as goal
 
@@ -16,10 +16,9 @@ gave : (g : given.Over) (c : goal.Joined-answer g) → GaveReply (map string_byt
     (shelf_change g.H.Shelf.files g.H.Shelf.faults g.H.Shelf.begins g.H.Shelf.taken c.args.shelf.now c.answer_to-answer.new.shelf)
     (sink_change g.O.Sink.held g.O.Sink.faults c.args.out.now c.give.new.out) (sink_change g.E.Sink.held g.E.Sink.faults c.args.err.now c.give.new.err) c.give.result
 gave g c = record {
-  given = reply_view c.answer_to-answer.result;
+  reply = reply_view c.answer_to-answer.result;
   allowed = c.answer_to-answer.ensures.reply;
-  written = c.give.ensures.written;
-  said = c.give.ensures.said;
+  given = c.give.ensures.given;
 }
 
 pub returns-clause-reply : goal.returns-clause-reply
@@ -29,37 +28,35 @@ pub returns-clause-usage : goal.returns-clause-usage
 returns-clause-usage g c = usage_law _ _ _ _ _ (gave g c)
 
 pub returns-clause-usage_reads_nothing : goal.returns-clause-usage_reads_nothing
-returns-clause-usage_reads_nothing g c = λ is. let none = (usage_law _ _ _ _ _ (gave g c)).0 is in c.answer_to-answer.ensures.reads_nothing (λ command named. cc (none, named))
+returns-clause-usage_reads_nothing g c = λ is. let none = (usage_law _ _ _ _ _ (gave g c)).0 is in c.answer_to-answer.ensures.reads_nothing (λ ask asked. cc (none, asked))
 
 pub returns-clause-read_fault : goal.returns-clause-read_fault
-returns-clause-read_fault g c = read_fault_law _ _ _ _ _ (gave g c)
+returns-clause-read_fault g c = caused _ _ _ _ _ (gave g c) status.ReadFault (λ e. cc e)
 
 pub returns-clause-bad_description : goal.returns-clause-bad_description
-returns-clause-bad_description g c = bad_description_law _ _ _ _ _ (gave g c)
+returns-clause-bad_description g c = caused _ _ _ _ _ (gave g c) status.BadDescription (λ e. cc e)
 
 pub returns-clause-bad_text : goal.returns-clause-bad_text
-returns-clause-bad_text g c = bad_text_law _ _ _ _ _ (gave g c)
+returns-clause-bad_text g c = caused _ _ _ _ _ (gave g c) status.BadText (λ e. cc e)
 
 pub returns-clause-violated : goal.returns-clause-violated
-returns-clause-violated g c = violated_law _ _ _ _ _ (gave g c)
+returns-clause-violated g c = caused _ _ _ _ _ (gave g c) status.Violated (λ e. cc e)
 
 pub returns-clause-not_emittable : goal.returns-clause-not_emittable
-returns-clause-not_emittable g c = not_emittable_law _ _ _ _ _ (gave g c)
+returns-clause-not_emittable g c = caused _ _ _ _ _ (gave g c) status.NotEmittable (λ e. cc e)
 
 pub returns-clause-write_fault : goal.returns-clause-write_fault
-returns-clause-write_fault g c = write_fault_law _ _ _ _ _ (gave g c)
+returns-clause-write_fault g c = caused _ _ _ _ _ (gave g c) status.WriteFault (λ e. cc e)
 
 pub returns-clause-memory : goal.returns-clause-memory
-returns-clause-memory g c = memory_law _ _ _ _ _ (gave g c)
+returns-clause-memory g c = caused _ _ _ _ _ (gave g c) status.Memory (λ e. cc e)
 
 pub returns-clause-done : goal.returns-clause-done
-returns-clause-done g c = done_law _ _ _ _ _ (gave g c)
+returns-clause-done g c = caused _ _ _ _ _ (gave g c) status.Done (λ e. cc e)
 
 pub returns-clause-headline : goal.returns-clause-headline
-returns-clause-headline g c = λ is. headline_law _ _ _ (done_law _ _ _ _ _ (gave g c) is)
-
-pub returns-clause-migrated : goal.returns-clause-migrated
-returns-clause-migrated g c = λ is. migration_law _ _ _ (done_law _ _ _ _ _ (gave g c) is)
+returns-clause-headline g c = λ is.
+    headline_law _ _ _ (sink_change g.E.Sink.held g.E.Sink.faults c.args.err.now c.give.new.err) (caused _ _ _ _ _ (gave g c) status.Done (λ e. cc e) is)
 
 pub returns-clause-sample : goal.returns-clause-sample
 returns-clause-sample g c = λ n asks.
@@ -77,6 +74,3 @@ returns-clause-silent g c = λ says.
 
 pub returns-clause-complete : goal.returns-clause-complete
 returns-clause-complete g c = complete_law _ _ _ _ _ (gave g c)
-
-pub returns-clause-ends_as_told : goal.returns-clause-ends_as_told
-returns-clause-ends_as_told g c = ends_as_told_law _ _ _ _ _ (gave g c)

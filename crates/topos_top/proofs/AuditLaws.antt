@@ -1,0 +1,216 @@
+-- What an audit gives is one, its three ends are apart, and rules that were written for a network audit as equal to it.
+use Rattle.std.proofs.Common.{◌≡◌, ◌↔◌, inl, inr, ℕ, zero, suc, List, [], ◌∷◌, ◌++◌, Option, Some, None, Bool, true, refl, sym, subst, ◌∙◌, ap, arith}
+use Rattle.audit_core.specs.FindingLaws.{trace_packets}
+use Rattle.audit_core.specs.FindingOnce.{finding_once}
+use Rattle.audit_core.specs.Findings.{DifferSomewhere, IsFinding, IsRefused, events_of, trace_of}
+use Rattle.audit_core.specs.FindingText.{classes_line, finding_text}
+use Rattle.audit_core.specs.ListLaws.{agree_not_differ}
+use Rattle.audit_core.specs.Lists.{front_of}
+use Rattle.audit_core.specs.Places.{class_count}
+use Rattle.audit_core.specs.Rules.{GivesOne, Rules, filter_of}
+use Rattle.audit_core.specs.Sides.{AgreeAlways, Sides, lets_answer, permits}
+use Rattle.audit_core.specs.declared.finding.AuditRefusal.TheVariants.{TooManyClasses}
+use Rattle.audit_core.specs.declared.finding.Finding.TheVariants.{Equal, Differ as Differing}
+use Rattle.audit_core.specs.declared.finding.Trace.{Trace}
+use Rattle.audit_core.specs.declared.kind.Kind.{Kind}
+use Rattle.audit_core.specs.declared.kind.Kind.TheVariants.{Alone, BehindSwap, BehindBoth}
+use Rattle.host_net.specs.declared.packet.Packet.{Packet}
+use Rattle.net_core.specs.Fitting.{IsNetwork}
+use Rattle.net_core.specs.Network.{Network}
+use Rattle.net_core.specs.Policies.{IsPolicyOf, Policy}
+use Rattle.net_core.specs.PolicyLaws.{policy_is_one}
+use Rattle.pkt_core.specs.declared.event.Event.{Event}
+use Rattle.pkt_core.specs.declared.event.Event.TheVariants.{Forget, Seen}
+use Rattle.pkt_core.specs.ExpectedLaws.{expected_once}
+use Rattle.pkt_core.specs.Filter.{ArePackets}
+use Rattle.pkt_core.specs.Firewall.{Filter}
+use Rattle.pkt_core.specs.Tracking.{Kept, Runs, after_forget, after_seen, nothing_kept, state_of}
+use Rattle.topos_top.specs.Audit.{FewClasses, ForwardAlike, ManyClasses, OfSides, TellsDifference, TellsTrace, audit_job, rules_in, sides_for}
+use Rattle.topos_top.specs.Dialects.{language_of}
+use Rattle.topos_top.specs.Job.{Answers}
+use Rattle.topos_top.specs.Reply.{Reply, error, reply_on}
+use Rattle.topos_top.specs.Rules.{CanBeWritten, IsRules}
+use Rattle.topos_top.specs.declared.dialect.Dialect.{Dialect}
+use Rattle.topos_top.specs.declared.dialect.Dialect.TheVariants.{Iptables, OpenFlow}
+use Rattle.topos_top.specs.declared.status.Status.TheVariants.{Violated, NotEmittable, Done}
+use Rattle.topos_top.specs.declared.status.Stream.TheVariants.{Output}
+use Rattle.topos_top.proofs.DialectLaws.{keeps_policies}
+use Rattle.topos_top.proofs.RulesLaws.{rules_keep}
+
+-- ---- agreement
+
+-- a filter that gives each packet an answer has a run over every list of packets and forgettings
+some_run : (filter : Filter) → GivesOne filter → (kept : Kept) (events : List Event) → ArePackets events → (answers : List (Option Bool)) × Runs filter kept events answers
+some_run filter gives kept [] packets = ([], tt)
+some_run filter gives kept (Seen p ∷ events) packets =
+    let one = gives (state_of kept p) p (packets zero p refl) in
+    let rest = some_run filter gives (after_seen kept p one.0) events (λ k q there. packets (suc k) q there) in
+    (Some one.0 ∷ rest.0, (one.1, rest.1))
+some_run filter gives kept (Forget p ∷ events) packets =
+    let rest = some_run filter gives (after_forget kept p) events (λ k q there. packets (suc k) q there) in
+    (None ∷ rest.0, rest.1)
+
+-- rules that agree with the policy on every list forward what it expects
+forwards_alike : (sides : Sides) → GivesOne (filter_of sides.rules) → AgreeAlways sides → ForwardAlike sides
+forwards_alike sides gives agree = record {
+  expected = λ events answers packets run. agree events packets answers run;
+  some = λ events packets. some_run (filter_of sides.rules) gives nothing_kept events packets;
+  one = λ events answers others packets run other.
+      expected_once (permits sides) (lets_answer sides) events answers others (agree events packets answers run) (agree events packets others other);
+}
+
+-- and differ from it on none
+never_differ : (sides : Sides) → ForwardAlike sides → DifferSomewhere sides → ⊥
+never_differ sides alike differ =
+    agree_not_differ (filter_of sides.rules) (permits sides) (lets_answer sides) differ.0
+    (λ answers run. alike.expected differ.0 answers differ.1 run) differ.2
+
+few_not_many : (sides : Sides) → FewClasses sides → ManyClasses sides → ⊥
+few_not_many sides few many = omega (arith, few, many)
+
+-- ---- what is told of a difference
+
+trace_events : (kind : Kind) (p : Packet) (forwards : Bool) → events_of (trace_of kind p forwards) ≡ front_of kind p ++ Seen p ∷ []
+trace_events Alone p forwards = refl
+trace_events BehindSwap p forwards = refl
+trace_events BehindBoth p forwards = refl
+
+tells_difference : (sides : Sides) (text : List ℕ) → TellsTrace sides text → TellsDifference sides text
+tells_difference sides text is =
+    let first = is.first in
+    record {
+      trace = is.trace;
+      told = is.told;
+      before = front_of first.kind first.packet;
+      last = first.packet;
+      events = ap events_of first.is ∙ trace_events first.kind first.packet is.trace.forwards;
+      packets = subst (λ (t : Trace). ArePackets (events_of t)) (sym first.is) (trace_packets first.kind first.packet is.trace.forwards first.first.packet);
+      differ = first.first.differ;
+    }
+
+-- a first trace is a list of packets on which they differ
+differ_there : (sides : Sides) (t : Trace) → IsFinding sides (Differing t) → DifferSomewhere sides
+differ_there sides t found =
+    (events_of t, subst (λ (u : Trace). ArePackets (events_of u)) (sym found.is) (trace_packets found.kind found.packet t.forwards found.first.packet), found.differ)
+
+-- ---- what is owed of the ends
+
+module _ (d : Network) (rules : Rules) where
+  -- what holds of the sides of one holds of those of the other
+  moved : (Holds Other : Sides → Type 0) (p : OfSides d rules Holds) (q : OfSides d rules Other) → Holds (sides_for d rules q.policy)
+  moved Holds Other p q =
+      subst (λ (policy : Policy). Holds (sides_for d rules policy)) (policy_is_one d p.policy q.policy p.is_policy q.is_policy) p.so
+
+  pub trace_once : (a b : List ℕ) → OfSides d rules (λ sides. TellsTrace sides a) → OfSides d rules (λ sides. TellsTrace sides b) → a ≡ b
+  trace_once a b p q =
+      let first = moved (λ sides. TellsTrace sides a) (λ sides. TellsTrace sides b) p q in
+      let second = q.so in
+      let same = finding_once (sides_for d rules q.policy) (Differing first.trace) (Differing second.trace) first.first second.first in
+      first.told ∙ ap finding_text same ∙ sym second.told
+
+  pub trace_tells : (text : List ℕ) → OfSides d rules (λ sides. TellsTrace sides text) → OfSides d rules (λ sides. TellsTrace sides text × TellsDifference sides text)
+  trace_tells text is = record { policy = is.policy; is_policy = is.is_policy; so = (is.so, tells_difference (sides_for d rules is.policy) text is.so) }
+
+  pub line_once : (a b : List ℕ) → OfSides d rules (λ sides. a ≡ classes_line (class_count sides)) → OfSides d rules (λ sides. b ≡ classes_line (class_count sides)) → a ≡ b
+  line_once a b p q = moved (λ sides. a ≡ classes_line (class_count sides)) (λ sides. b ≡ classes_line (class_count sides)) p q ∙ sym q.so
+
+  pub line_tells : (line : List ℕ) → OfSides d rules ManyClasses → OfSides d rules (λ sides. line ≡ classes_line (class_count sides))
+      → OfSides d rules (λ sides. ManyClasses sides × (line ≡ classes_line (class_count sides)))
+  line_tells line many is = record {
+    policy = is.policy;
+    is_policy = is.is_policy;
+    so = (moved ManyClasses (λ sides. line ≡ classes_line (class_count sides)) many is, is.so);
+  }
+
+  pub agreement_tells : OfSides d rules (λ sides. FewClasses sides × ForwardAlike sides) → OfSides d rules ForwardAlike
+  agreement_tells agree = record { policy = agree.policy; is_policy = agree.is_policy; so = agree.so.1 }
+
+  pub many_or_few : (Holds : Sides → Type 0) → OfSides d rules ManyClasses → OfSides d rules (λ sides. FewClasses sides × Holds sides) → ⊥
+  many_or_few Holds many few = few_not_many (sides_for d rules many.policy) (moved (λ sides. FewClasses sides × Holds sides) ManyClasses few many).0 many.so
+
+  pub differ_or_agree : OfSides d rules (λ sides. FewClasses sides × DifferSomewhere sides) → OfSides d rules (λ sides. FewClasses sides × ForwardAlike sides) → ⊥
+  differ_or_agree differ agree =
+      never_differ (sides_for d rules agree.policy) agree.so.1
+      (moved (λ sides. FewClasses sides × DifferSomewhere sides) (λ sides. FewClasses sides × ForwardAlike sides) differ agree).1
+
+-- ---- both ways
+
+-- where the classes are few, `equal` is written exactly where they forward alike
+pub equal_exactly : (d : Network) (rules : Rules) (reply : Reply) → Answers true (audit_job d rules) reply → OfSides d rules FewClasses
+    → (reply.status ≡ Done) ↔ OfSides d rules ForwardAlike
+equal_exactly d rules reply answers few = (alike_where_done, done_where_alike)
+  where
+    alike_where_done : reply.status ≡ Done → OfSides d rules ForwardAlike
+    alike_where_done done = elim answers.1 [
+      | inl many ↦ let other = many.0 in cc (done, other)
+      | inr rest ↦ elim rest [
+        | inl differ ↦ let other = differ.0 in cc (done, other)
+        | inr last ↦ elim last [ inl equal ↦ agreement_tells d rules equal.1 | inr none ↦ absurd none ]
+      ]
+    ]
+
+    done_where_alike : OfSides d rules ForwardAlike → reply.status ≡ Done
+    done_where_alike alike = elim answers.1 [
+      | inl many ↦ absurd (few_not_many (sides_for d rules many.1.policy) (moved d rules FewClasses ManyClasses few many.1) many.1.so)
+      | inr rest ↦ elim rest [
+        | inl differ ↦
+            let both = moved d rules ForwardAlike (λ sides. FewClasses sides × DifferSomewhere sides) alike differ.1 in
+            absurd (never_differ (sides_for d rules differ.1.policy) both differ.1.so.1)
+        | inr last ↦ elim last [ inl equal ↦ equal.0 | inr none ↦ absurd none ]
+      ]
+    ]
+
+-- the rules that are read of a text that `rules` or `repair` writes forward alike
+pub written_alike : (dialect : Dialect) (d : Network) (text : List ℕ) (said : (language_of dialect).Rules) → IsNetwork d
+    → CanBeWritten (language_of dialect) d → IsRules (language_of dialect) d text → (language_of dialect).IsReading text said
+    → OfSides d (rules_in dialect said) ForwardAlike
+unfolding rules_keep
+written_alike Iptables d text said network can is reading = record {
+  policy = is.policy;
+  is_policy = is.is_policy;
+  so = (rules_keep (language_of Iptables) (keeps_policies Iptables) d text network can is).as_read said reading;
+}
+written_alike OpenFlow d text said network can is reading = record {
+  policy = is.policy;
+  is_policy = is.is_policy;
+  so = (rules_keep (language_of OpenFlow) (keeps_policies OpenFlow) d text network can is).as_read said reading;
+}
+
+-- ---- what the code answers
+
+module _ (d : Network) (rules : Rules) (policy : Policy) (is_policy : IsPolicyOf d policy) where
+  pub ends_many : (reply : Reply) (count : ℕ) → IsRefused (class_count (sides_for d rules policy)) (TooManyClasses count)
+      → reply ≡ error NotEmittable (classes_line count) → Answers true (audit_job d rules) reply
+  ends_many reply count many is =
+      subst (λ (r : Reply). Answers true (audit_job d rules) r) (sym is) (
+        refl,
+        inl (
+          refl,
+          record { policy = policy; is_policy = is_policy; so = many.1 },
+          record { policy = policy; is_policy = is_policy; so = ap (λ (n : ℕ). classes_line n) many.0 },
+        ),
+      )
+
+  pub ends_different : (reply : Reply) (t : Trace) → FewClasses (sides_for d rules policy) → IsFinding (sides_for d rules policy) (Differing t)
+      → reply ≡ reply_on Violated Output (finding_text (Differing t)) → Answers true (audit_job d rules) reply
+  ends_different reply t few found is =
+      subst (λ (r : Reply). Answers true (audit_job d rules) r) (sym is) (
+        refl,
+        inr (inl (
+          refl,
+          record { policy = policy; is_policy = is_policy; so = (few, differ_there (sides_for d rules policy) t found) },
+          record { policy = policy; is_policy = is_policy; so = record { trace = t; first = found; told = refl } },
+        )),
+      )
+
+  pub ends_equal : (reply : Reply) → GivesOne (filter_of rules) → FewClasses (sides_for d rules policy) → IsFinding (sides_for d rules policy) Equal
+      → reply ≡ reply_on Done Output (finding_text Equal) → Answers true (audit_job d rules) reply
+  ends_equal reply gives few found is =
+      subst (λ (r : Reply). Answers true (audit_job d rules) r) (sym is) (
+        refl,
+        inr (inr (inl (
+          refl,
+          record { policy = policy; is_policy = is_policy; so = (few, forwards_alike (sides_for d rules policy) gives found) },
+          refl,
+        ))),
+      )

@@ -1,0 +1,182 @@
+-- What else follows from the clauses of `run`: how a command ends by what its told files say, and how many files a run began that had no memory.
+use Rattle.std.proofs.Common.{◌≡◌, ◌⊎◌, ◌≤◌, ◌+◌, inl, inr, ℕ, zero, suc, min, List, [], ◌∷◌, length, ◌-◌, ◌^◌, Option, None, Some, Result, Ok, Err, Bool, refl, ap, sym, subst, ◌∙◌, arith}
+use Rattle.std.specs.Prelude.{IfSome}
+use Rattle.std.specs.FinMap.{get}
+use Rattle.std.specs.Result.{result_map_both}
+use Rattle.edge_io.specs.Counts.{more, Rose}
+use Rattle.edge_io.specs.Told.{Files}
+use Rattle.topos_top.specs.Ask.{Ask, ask_of, reports_on_output}
+use Rattle.topos_top.specs.Commands.{course_of}
+use Rattle.topos_top.specs.Course.{Course, reads, ends, CameAlong}
+use Rattle.topos_top.specs.Job.{Job, Answers, AnswersFirst}
+use Rattle.topos_top.specs.Kinds.{Said, Reads}
+use Rattle.topos_top.specs.Promises.{Came, IsTheReply, IsComplete}
+use Rattle.topos_top.specs.Replies.{Stops, RepliesBy, telling}
+use Rattle.topos_top.specs.Reply.{Reply}
+use Rattle.topos_top.specs.Shelf.{Shelf, ShelfChange, after_file}
+use Rattle.topos_top.specs.Taken.{SinkChange, Took, IsSaid, WentTo, IsGiven}
+use Rattle.topos_top.specs.declared.kind.Kind.{Kind}
+use Rattle.topos_top.specs.declared.status.Status.{Status}
+use Rattle.topos_top.specs.declared.status.Status.TheVariants as status
+use Rattle.topos_top.proofs.CourseLaws.{stops_once, stops_or_read}
+use Rattle.topos_top.proofs.KindLaws.{reads_once}
+
+-- ---- streams that had no fault
+
+-- where the output had none, the run ends in the status of the reply, and the text went to its stream, whole for the output
+pub given_whole : (out err : SinkChange) (reply : Reply) (ended : Status) → IsGiven out err reply ended → (Rose out.faults_before out.faults_after → ⊥)
+    → (ended ≡ reply.status) × WentTo reply.stream out err reply.text
+given_whole out err reply ended given no_fault = elim given [ inl whole ↦ whole | inr cut ↦ absurd (no_fault cut.2.1) ]
+
+-- where the error stream had none, it took its line whole
+pub heard_whole : (err : SinkChange) (line : List ℕ) → IsSaid err line → (Rose err.faults_before err.faults_after → ⊥) → Took err line
+heard_whole err line said no_fault = elim said.1 [ inl fault ↦ absurd (no_fault fault) | inr took ↦ took ]
+
+-- ---- how a command ends by what its told files say
+
+-- how a job ends: in the status of the first of its ends that comes
+abbrev pub EndsAs : Job → Status → Type 0
+EndsAs [] ended = ⊥
+EndsAs (end ∷ job) ended = (end.when × (ended ≡ end.status)) ⊎ ((end.when → ⊥) × EndsAs job ended)
+
+-- what was read of a file
+abbrev pub Reading : Type 0
+Reading = (kind : Kind) × Said kind
+
+abbrev pub with_reading : (kind : Kind) → Said kind → Result (List Reading) Reply → Result (List Reading) Reply
+with_reading kind said read = result_map_both (λ readings. (kind, said) ∷ readings) (λ why. why) read
+
+-- a file has this reading, and is followed by such readings
+pub record HasReading (told : Files) (kind : Kind) (file : List ℕ) (Follow : Said kind → Result (List Reading) Reply → Type 0) (read : Result (List Reading) Reply) : Type 0 where
+  pub bytes : List ℕ
+  pub held : get told file ≡ Some bytes
+  pub said : Said kind
+  pub reads : Reads kind bytes said
+  pub rest : Result (List Reading) Reply
+  pub follow : Follow said rest
+  pub is : read ≡ with_reading kind said rest
+
+-- the readings of the files along a course, in their order, or the reply for the first that has none
+abbrev pub ReadsTold : Files → Course → Result (List Reading) Reply → Type 0
+ReadsTold told (ends job) read = read ≡ Ok []
+ReadsTold told (reads kind file next) read =
+    ((why : Reply) × Stops kind file (get told file) why × (read ≡ Err why)) ⊎ HasReading told kind file (λ said rest. ReadsTold told (next said) rest) read
+
+-- how a command ends, by what is read of its files
+abbrev pub EndsByReadings : Result (List Reading) Reply → Course → Status → Type 0
+EndsByReadings (Err why) course ended = ended ≡ why.status
+EndsByReadings (Ok []) (ends job) ended = EndsAs job ended
+EndsByReadings (Ok (reading ∷ readings)) (reads kind file next) ended = (said : Said kind) × (reading ≡ (kind, said)) × EndsByReadings (Ok readings) (next said) ended
+EndsByReadings _ course ended = ⊥
+
+-- the told files have these readings, or this reply for the first that has none, and no others
+pub record AreTheReadings (told : Files) (course : Course) (read : Result (List Reading) Reply) : Type 0 where
+  pub given : ReadsTold told course read
+  pub only : (other : Result (List Reading) Reply) → ReadsTold told course other → other ≡ read
+
+-- Where neither shelf nor output had a fault, the told files alone decide how a command ends, unless there is no memory.
+abbrev pub EndsAsTold : List (List ℕ) → ShelfChange → SinkChange → Status → Type 0
+EndsAsTold words shelf out ended = (ask : Ask) → ask_of words ≡ Some ask → IfSome shelf.before.told (λ files.
+    (Rose shelf.before.faults shelf.after.faults → ⊥) → (Rose out.faults_before out.faults_after → ⊥)
+    → (ended ≡ status.Memory) ⊎ ((read : Result (List Reading) Reply) × AreTheReadings files (course_of ask) read × EndsByReadings read (course_of ask) ended))
+
+read_once : (told : Files) (course : Course) (a b : Result (List Reading) Reply) → ReadsTold told course a → ReadsTold told course b → a ≡ b
+read_once told (ends job) a b p q = p ∙ sym q
+read_once told (reads kind file next) a b (inl p) (inl q) = p.2 ∙ ap Err (stops_once kind file (get told file) p.0 q.0 p.1 q.1) ∙ sym q.2
+read_once told (reads kind file next) a b (inl p) (inr q) = stops_or_read kind file q.bytes (get told file) p.0 q.said q.held p.1 q.reads
+read_once told (reads kind file next) a b (inr p) (inl q) = stops_or_read kind file p.bytes (get told file) q.0 p.said p.held q.1 p.reads
+read_once told (reads kind file next) a b (inr p) (inr q) =
+    let here = p.held in
+    let there = q.held in
+    let bytes : q.bytes ≡ p.bytes = cc (here, there) in
+    let said : p.said ≡ q.said = reads_once kind q.bytes p.said q.said (subst (λ (bs : List ℕ). Reads kind bs p.said) (sym bytes) p.reads) q.reads in
+    let rest : p.rest ≡ q.rest = read_once told (next q.said) p.rest q.rest (subst (λ (x : Said kind). ReadsTold told (next x) p.rest) said p.follow) q.follow in
+    p.is ∙ (λ i. with_reading kind (said i) (rest i)) ∙ sym q.is
+
+ends_as : (job : Job) (reply : Reply) → AnswersFirst job reply → EndsAs job reply.status
+ends_as [] reply first = absurd first
+ends_as (end ∷ job) reply (inl here) = inl (here.1, here.0)
+ends_as (end ∷ job) reply (inr later) = inr (later.0, ends_as job reply later.1)
+
+ends_later : (kind : Kind) (file : List ℕ) (next : Said kind → Course) (said : Said kind) (ended : Status) (rest : Result (List Reading) Reply)
+    → EndsByReadings rest (next said) ended → EndsByReadings (with_reading kind said rest) (reads kind file next) ended
+ends_later kind file next said ended (Ok readings) is = (said, refl, is)
+ends_later kind file next said ended (Err why) is = is
+
+ends_by : (on : Bool) (course : Course) (told : Files) (reply : Reply) (at : Shelf) → at.told ≡ Some told
+    → CameAlong course at (λ kind file before. Stops kind file (get told file) reply) (λ job before. Answers on job reply × AnswersFirst job reply)
+    → (read : Result (List Reading) Reply) × ReadsTold told course read × EndsByReadings read course reply.status
+ends_by on (ends job) told reply at tells answers = (Ok [], refl, ends_as job reply answers.1)
+ends_by on (reads kind file next) told reply at tells (inl stops) = (Err reply, inl (reply, stops, refl), refl)
+ends_by on (reads kind file next) told reply at tells (inr go) =
+    let rest = ends_by on (next go.said) told reply (after_file kind go.bytes at) tells go.next in
+    let held = subst (λ (t : Option Files). IfSome t (λ files. get files file ≡ Some go.bytes)) tells go.held in (
+      with_reading kind go.said rest.0,
+      inr (record { bytes = go.bytes; held = held; said = go.said; reads = go.read; rest = rest.0; follow = rest.1; is = refl }),
+      ends_later kind file next go.said reply.status rest.0 rest.2,
+    )
+
+pub ends_as_told : (words : List (List ℕ)) (shelf : ShelfChange) (out err : SinkChange) (ended : Status) → IsComplete words shelf out err ended → EndsAsTold words shelf out ended
+ends_as_told words shelf out err ended complete ask asked = by_told shelf.before.told complete
+  where
+    by_told : (told : Option Files)
+        → IfSome told (λ files. (Rose shelf.before.faults shelf.after.faults → ⊥) → (ended ≡ status.Memory) ⊎ ((reply : Reply) × IsTheReply words files reply × IsGiven out err reply ended))
+        → IfSome told (λ files. (Rose shelf.before.faults shelf.after.faults → ⊥) → (Rose out.faults_before out.faults_after → ⊥)
+        → (ended ≡ status.Memory) ⊎ ((read : Result (List Reading) Reply) × AreTheReadings files (course_of ask) read × EndsByReadings read (course_of ask) ended))
+    by_told None gives = tt
+    by_told (Some files) gives = λ no_fault whole. elim (gives no_fault) [
+      | inl memory ↦ inl memory
+      | inr gave ↦
+          let along = subst (λ (asked : Option Ask). RepliesBy asked files gave.0) asked gave.1.allowed in
+          let found = ends_by (reports_on_output ask) (course_of ask) files gave.0 (telling files) refl along in
+          let is = (given_whole out err gave.0 ended gave.2 whole).0 in
+          inr (
+            found.0,
+            record { given = found.1; only = λ other reads. read_once files (course_of ask) other found.0 reads found.1 },
+            subst (λ (t : Status). EndsByReadings found.0 (course_of ask) t) (sym is) found.2,
+          )
+    ]
+
+-- ---- how many files a run began
+
+-- the files along a course, whatever is read of them
+abbrev pub HasFiles : List (Kind × List ℕ) → Course → Type 0
+HasFiles [] (ends job) = Unit {0}
+HasFiles (named ∷ files) (reads kind file next) = (named ≡ (kind, file)) × ((said : Said kind) → HasFiles files (next said))
+HasFiles _ course = ⊥
+
+-- the count of begun files after n more
+abbrev pub begun : ℕ → ℕ → ℕ
+begun count zero = count
+begun count (suc n) = more count (suc n)
+
+-- The call began the first of these files, if there is one, and no more than there are. Of one file it began just that.
+pub record BeganSome (shelf : ShelfChange) (files : List (Kind × List ℕ)) : Type 0 where
+  pub count : ℕ
+  pub some : min 1 (length files) ≤ count
+  pub most : count ≤ length files
+  pub begins : shelf.after.begins ≡ begun shelf.before.begins count
+
+begun_more : (b n : ℕ) → begun (more b 1) n ≡ begun b (suc n)
+begun_more b zero = refl
+begun_more b (suc n) = twice b n (2 ^ 64 - 1)
+  where
+    twice : (b n most : ℕ) → min (min (b + 1) most + suc n) most ≡ min (b + suc (suc n)) most
+    twice b n most = omega arith
+
+began_along : (course : Course) (files : List (Kind × List ℕ)) (before after : Shelf) (AtFile : Kind → List ℕ → Shelf → Type 0) (AtJob : Job → Shelf → Type 0) → HasFiles files course
+    → CameAlong course before (λ kind file at. (after.begins ≡ more at.begins 1) × AtFile kind file at) (λ job at. (after ≡ at) × AtJob job at)
+    → BeganSome (record { before = before; after = after }) files
+began_along (reads kind file next) (named ∷ files) before after AtFile AtJob has (inl here) =
+    record { count = 1; some = omega arith; most = omega arith; begins = here.0 }
+began_along (reads kind file next) (named ∷ files) before after AtFile AtJob has (inr on) =
+    let rest = began_along (next on.said) files (after_file kind on.bytes before) after AtFile AtJob (has.1 on.said) on.next in
+    record { count = suc rest.count; some = omega arith; most = omega arith; begins = rest.begins ∙ begun_more before.begins rest.count }
+began_along (ends job) [] before after AtFile AtJob has here = record { count = 0; some = omega arith; most = omega arith; begins = ap (λ (shelf : Shelf). shelf.begins) here.0 }
+began_along (reads kind file next) [] before after AtFile AtJob has came = absurd has
+began_along (ends job) (named ∷ files) before after AtFile AtJob has came = absurd has
+
+-- wherever a run came to, as where there was no memory (`RanOut`)
+pub began_some : (words : List (List ℕ)) (shelf : ShelfChange) (AtFile : ShelfChange → Kind → List ℕ → Type 0) (AtJob : Ask → Job → Type 0) (came : Came words shelf AtFile AtJob)
+    → (files : List (Kind × List ℕ)) → HasFiles files (course_of came.ask) → BeganSome shelf files
+began_some words shelf AtFile AtJob came files has = began_along (course_of came.ask) files shelf.before shelf.after _ _ has came.along

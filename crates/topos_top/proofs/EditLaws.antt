@@ -1,0 +1,102 @@
+-- What edits give is one, and their two ends are apart.
+use Rattle.std.proofs.Common.{◌≡◌, ℕ, ◌+◌, List, [], ◌∷◌, ◌++◌, Ok, Err, inl, inr, false, refl, sym, subst, ◌∙◌, ap, append_assoc, append-nil}
+use Rattle.desc_core.specs.NetworkLaws.{IsNetwork-table}
+use Rattle.edit_core.specs.Runs.{AreSummaries, after_edits}
+use Rattle.edit_core.specs.SummaryLaws.{summaries_are_one}
+use Rattle.edit_core.specs.declared.fault.EditFault.{EditFault}
+use Rattle.edit_core.specs.declared.summary.Summary.{Summary}
+use Rattle.edit_text.specs.Edit.{Edit}
+use Rattle.net_core.specs.Network.{Network}
+use Rattle.report_core.specs.PolicyReport.{IsPolicyReport}
+use Rattle.report_core.specs.ReportLaws.{policy_report_is_one}
+use Rattle.report_core.specs.ReportPromises.{TellsPolicy}
+use Rattle.report_core.specs.ReportPromisesLaws.{tells_policy}
+use Rattle.toml.specs.Data.{Members}
+use Rattle.topos_top.specs.Edit.{SaysEdits, SaysRefusal, SaysTable, edit_job, summary_line, summary_lines}
+use Rattle.topos_top.specs.Job.{Answers}
+use Rattle.topos_top.specs.Reply.{Reply, error, reply_on}
+use Rattle.topos_top.specs.TextFault.{edit_fault_line}
+use Rattle.topos_top.specs.declared.status.Status.TheVariants.{BadText, Done}
+use Rattle.topos_top.specs.declared.status.Stream.TheVariants.{Output}
+
+-- ---- of one table
+
+says_once : (table : Members) (summaries : List Summary) (a b : List ℕ) → SaysTable IsPolicyReport table summaries a → SaysTable IsPolicyReport table summaries b → a ≡ b
+says_once table summaries a b p q =
+    let here = p.described in
+    let there = q.described in
+    let network : q.network ≡ p.network = cc (here, there) in
+    let report = policy_report_is_one p.network p.report q.report p.reports (subst (λ (d : Network). IsPolicyReport d q.report) network q.reports) in
+    p.written ∙ ap (λ (text : List ℕ). summary_lines 1 summaries ++ text) report ∙ sym q.written
+
+tells_table : (table : Members) (summaries : List Summary) (text : List ℕ) → SaysTable IsPolicyReport table summaries text → SaysTable TellsPolicy table summaries text
+tells_table table summaries text says = record {
+  network = says.network;
+  described = says.described;
+  report = says.report;
+  reports = tells_policy says.network says.report (IsNetwork-table table says.network says.described) says.reports;
+  written = says.written;
+}
+
+-- ---- of edits
+
+module _ (table : Members) (edits : List Edit) where
+  pub line_is_one : (a b : List ℕ) → SaysRefusal table edits a → SaysRefusal table edits b → a ≡ b
+  line_is_one a b p q =
+      let here = p.refused in
+      let there = q.refused in
+      let same : ◌≡◌ {A = ℕ × EditFault} (p.number, p.fault) (q.number, q.fault) = cc (here, there) in
+      p.told ∙ ap (λ (why : ℕ × EditFault). edit_fault_line why.0 why.1) same ∙ sym q.told
+
+  pub text_is_one : (a b : List ℕ) → SaysEdits IsPolicyReport table edits a → SaysEdits IsPolicyReport table edits b → a ≡ b
+  text_is_one a b p q =
+      let here = p.accepted in
+      let there = q.accepted in
+      let last : q.last ≡ p.last = cc (here, there) in
+      let told = summaries_are_one edits table q.summaries p.summaries q.told p.told in
+      says_once p.last p.summaries a b p.says
+      (subst (λ (ss : List Summary). SaysTable IsPolicyReport p.last ss b) told (subst (λ (t : Members). SaysTable IsPolicyReport t q.summaries b) last q.says))
+
+  pub tells_edits : (text : List ℕ) → SaysEdits IsPolicyReport table edits text → SaysEdits TellsPolicy table edits text
+  tells_edits text says = record {
+    last = says.last;
+    accepted = says.accepted;
+    summaries = says.summaries;
+    told = says.told;
+    says = tells_table says.last says.summaries text says.says;
+  }
+
+  pub never_both : (line : List ℕ) × SaysRefusal table edits line → (last : Members) × (after_edits edits table ≡ Ok last) → ⊥
+  never_both refused accepted =
+      let why = refused.1.refused in
+      let last = accepted.1 in
+      cc (why, last)
+
+  -- ---- what the code answers
+
+  pub ends_refused : (reply : Reply) (line : ℕ) (fault : EditFault) → after_edits edits table ≡ Err (line, fault)
+      → reply ≡ error BadText (edit_fault_line line fault) → Answers false (edit_job table edits) reply
+  ends_refused reply line fault refused is =
+      let says : SaysRefusal table edits (edit_fault_line line fault) = record { number = line; fault = fault; refused = refused; told = refl } in
+      subst (λ (r : Reply). Answers false (edit_job table edits) r) (sym is) (refl, inl (refl, (edit_fault_line line fault, says), says))
+
+  pub ends_accepted : (reply : Reply) (last : Members) (summaries : List Summary) (text : List ℕ) → after_edits edits table ≡ Ok last
+      → AreSummaries edits table summaries → SaysTable IsPolicyReport last summaries text → reply ≡ reply_on Done Output text
+      → Answers false (edit_job table edits) reply
+  ends_accepted reply last summaries text accepted told says is =
+      let all : SaysEdits IsPolicyReport table edits text = record { last = last; accepted = accepted; summaries = summaries; told = told; says = says } in
+      subst (λ (r : Reply). Answers false (edit_job table edits) r) (sym is) (refl, inr (inl (refl, (last, accepted), all)))
+
+-- ---- lines, one after another
+
+pub lines_next : (k : ℕ) (old new whole : List ℕ) (s : Summary) (ss rest : List Summary) → ss ≡ s ∷ rest → new ≡ old ++ summary_line k s
+    → old ++ summary_lines k ss ≡ whole → new ++ summary_lines (k + 1) rest ≡ whole
+lines_next k old new whole s ss rest here pushed so_far =
+    ap (λ (text : List ℕ). text ++ summary_lines (k + 1) rest) pushed
+    ∙ append_assoc old (summary_line k s) (summary_lines (k + 1) rest)
+    ∙ ap (λ (xs : List Summary). old ++ summary_lines k xs) (sym here)
+    ∙ so_far
+
+pub no_lines_left : (k : ℕ) (text whole : List ℕ) (left : List Summary) → left ≡ [] → text ++ summary_lines k left ≡ whole → text ≡ whole
+no_lines_left k text whole left none so_far =
+    sym (append-nil text) ∙ ap (λ (xs : List Summary). text ++ summary_lines k xs) (sym none) ∙ so_far

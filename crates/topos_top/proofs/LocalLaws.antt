@@ -1,0 +1,123 @@
+-- The rules for the machines of a host are one text, and do what is promised of them; so is the line that says why there are none.
+use Rattle.std.proofs.Common.{◌≡◌, inl, inr, ℕ, true, false, not, ◌==◌, List, None, Some, sym, ap, subst, ◌∙◌, true≢false, arith}
+use Rattle.std.specs.Prelude.{◌↔◌, Option}
+use Rattle.std.specs.Option.{option_map_or}
+use Rattle.std.proofs.lemmas.Bool.Decides.{nat_tests}
+use Rattle.host_emit.specs.GuardingLaws.{layout_guards}
+use Rattle.host_emit.specs.LocalEventsLaws.{layouts_expected}
+use Rattle.host_emit.specs.LocalLayout.{is_specific}
+use Rattle.host_emit.specs.LocalWritableLaws.{local_short, local_writable}
+use Rattle.host_net.specs.Host.{Host, rest_of}
+use Rattle.host_net.specs.Site.{IsSite}
+use Rattle.ipt_read.specs.AgainLaws.{one_reading, text_read_again}
+use Rattle.ipt_read.specs.Grammar.{IsReading}
+use Rattle.ipt_rules.specs.Chain.{Chain}
+use Rattle.ipt_rules.specs.Text.{text}
+use Rattle.net_core.specs.Fitting.{IsNetwork}
+use Rattle.net_core.specs.Network.{Network, site_of}
+use Rattle.net_core.specs.PolicyLaws.{IsSubset-stateful, policy_is_one}
+use Rattle.topos_top.specs.Job.{Answers}
+use Rattle.topos_top.specs.Local.{IsBarred, NoHost, RestHost, IsLocal, IsSpecific, KeepLocal, local_job, machines_for, machines_job}
+use Rattle.topos_top.specs.Reply.{Reply}
+use Rattle.topos_top.specs.Rules.{ListedHolds}
+use Rattle.topos_top.specs.declared.status.Status.TheVariants.{NotEmittable}
+
+some_number : (i j : ℕ) → Some i ≡ Some j → i ≡ j
+some_number i j h = cc
+
+none_is_some : (o : Option ℕ) (i : ℕ) → o ≡ None → o ≡ Some i → ⊥
+none_is_some o i none some = cc
+
+-- the rest host is not specific
+rest_is_not : (hosts : List Host) (h : ℕ) → rest_of hosts ≡ Some h → is_specific hosts h ≡ false
+rest_is_not hosts h rest = ap (λ (o : Option ℕ). option_map_or (λ r. not (r == h)) o true) rest ∙ itself h
+  where
+    itself : (n : ℕ) → not (n == n) ≡ false
+    itself n = grind (arith, nat_tests)
+
+-- a host that is not specific is the rest host
+pub is_rest : (hosts : List Host) (h : ℕ) → is_specific hosts h ≡ false → rest_of hosts ≡ Some h
+is_rest hosts h other = by_rest (rest_of hosts) other
+  where
+    same : (r : ℕ) → not (r == h) ≡ false → r ≡ h
+    same r it = grind (arith, nat_tests)
+
+    by_rest : (o : Option ℕ) → option_map_or (λ r. not (r == h)) o true ≡ false → o ≡ Some h
+    by_rest None it = absurd (true≢false it)
+    by_rest (Some r) it = ap (λ (n : ℕ). Some n) (same r it)
+
+module _ (d : Network) (host : List ℕ) where
+  pub local_is_one : (a b : List ℕ) → IsLocal d host a → IsLocal d host b → a ≡ b
+  local_is_one a b p q =
+      let policies = policy_is_one d p.policy q.policy p.is_policy q.is_policy in
+      let numbers = some_number p.number q.number (sym p.named ∙ q.named) in
+      p.written ∙ (λ i. text (machines_for d (policies i) (numbers i))) ∙ sym q.written
+
+  pub bar_is_one : (a b : List ℕ) → IsBarred d host a → IsBarred d host b → a ≡ b
+  bar_is_one a b (NoHost none is) (NoHost also same) = is ∙ sym same
+  bar_is_one a b (NoHost none is) (RestHost h named rest same) = absurd (none_is_some _ h none named)
+  bar_is_one a b (RestHost h named rest is) (NoHost none same) = absurd (none_is_some _ h none named)
+  bar_is_one a b (RestHost h named rest is) (RestHost k also other same) = is ∙ sym same
+
+  pub specific_or_barred : (line : List ℕ) → IsBarred d host line → IsSpecific d host → ⊥
+  specific_or_barred line (NoHost none is) found = none_is_some _ found.number none found.named
+  specific_or_barred line (RestHost h named rest is) found =
+      let same = some_number h found.number (sym named ∙ found.named) in
+      true≢false (sym found.specific ∙ ap (is_specific d.hosts) (sym same) ∙ rest_is_not d.hosts h rest)
+
+  pub local_keeps : (rules : List ℕ) → IsNetwork d → IsSpecific d host → IsLocal d host rules → KeepLocal d host rules
+  local_keeps rules network found is =
+      let p = is.policy.permitted.flows in
+      let s = is.policy.stateful.flows in
+      let known : IsSite (site_of d) = record { hosts = network.hosts; services = network.services } in
+      let number = some_number is.number found.number (sym is.named ∙ found.named) in
+      let own : List Chain = machines_for d is.policy found.number in
+      let written : rules ≡ text own = is.written ∙ ap (λ (h : ℕ). text (machines_for d is.policy h)) number in
+      let read : IsReading rules own =
+      subst (λ (bytes : List ℕ). IsReading bytes own) (sym written)
+      (text_read_again own (local_writable (site_of d) p s found.number known) (local_short (site_of d) p s found.number known)) in
+      record {
+        policy = is.policy;
+        is_policy = is.is_policy;
+        found = found;
+        written = written;
+        guards = layout_guards (site_of d) p s found.number network.hosts;
+        passes = layouts_expected (site_of d) p s network.hosts (IsSubset-stateful d p s is.is_policy.stateful);
+        read = read;
+        only_reading = λ others reading. one_reading rules others own reading read;
+      }
+
+  -- the reply whatever was listed is that where a listed policy holds
+  pub answers_listed : (reply : Reply) → ListedHolds d → Answers false (machines_job d host) reply → Answers false (local_job d host) reply
+  answers_listed reply holds answers = (
+    answers.0,
+    elim answers.1 [
+      | inl barred ↦ inr (inl (barred.0, (holds, barred.1.1, barred.1.2), barred.2))
+      | inr rest ↦ elim rest [
+        | inl written ↦ inr (inr (inl (written.0, (holds, written.1.1), written.2)))
+        | inr none ↦ absurd none
+      ]
+    ],
+  )
+
+  -- where a listed policy holds, the line that there are none comes exactly for a host that is not declared or is the rest host
+  pub barred_exactly : (reply : Reply) → Answers false (local_job d host) reply → ListedHolds d → (reply.status ≡ NotEmittable) ↔ ((line : List ℕ) × IsBarred d host line)
+  barred_exactly reply answers holds = (bar_where_said, said_where_barred)
+    where
+      bar_where_said : reply.status ≡ NotEmittable → (line : List ℕ) × IsBarred d host line
+      bar_where_said said = elim answers.1 [
+        | inl violated ↦ let other = violated.0 in cc (said, other)
+        | inr rest ↦ elim rest [
+          | inl barred ↦ (barred.1.1, barred.1.2)
+          | inr last ↦ elim last [ inl written ↦ let other = written.0 in cc (said, other) | inr none ↦ absurd none ]
+        ]
+      ]
+
+      said_where_barred : ((line : List ℕ) × IsBarred d host line) → reply.status ≡ NotEmittable
+      said_where_barred bar = elim answers.1 [
+        | inl violated ↦ absurd (violated.1.1 (holds violated.1.0))
+        | inr rest ↦ elim rest [
+          | inl barred ↦ barred.0
+          | inr last ↦ elim last [ inl written ↦ absurd (specific_or_barred bar.0 bar.1 written.1.1) | inr none ↦ absurd none ]
+        ]
+      ]

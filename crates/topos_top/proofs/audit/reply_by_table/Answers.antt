@@ -1,0 +1,35 @@
+use Rattle.std.proofs.Common.{inl, inr, refl, true, ap, ◌∙◌}
+use Rattle.std.proofs.lemmas.Result.{err_from_is_err_and}
+use Rattle.audit_core.specs.RulesLaws.{table_gives}
+use Rattle.topos_top.specs.Audit.{audit_job, rules_in}
+use Rattle.topos_top.specs.Course.{reads, ends}
+use Rattle.topos_top.specs.Views.{reply_in, reply_view}
+use Rattle.topos_top.specs.declared.dialect.Dialect.TheVariants.{OpenFlow}
+use Rattle.topos_top.specs.declared.kind.Kind.TheVariants.{Description, Rules}
+use Rattle.topos_top.proofs.CourseLaws.{then_no_memory, then_stopped, went_on}
+use Rattle.topos_top.proofs.audit.reply_by_table.Goals as goal
+
+pub answer-requires : goal.answer-requires
+answer-requires g c = table_gives c.in_ok-table.table c.in_ok-table.ensures.table
+
+pub returns-in_err-description-clause-reply : goal.returns-in_err-description-clause-reply
+returns-in_err-description-clause-reply g c =
+    let p = err_from_is_err_and c.from_residual.result c.from_residual.ensures.1 in
+    rw (p.1, p.2) (inl c.in_err-description.ensures.reading)
+
+pub returns-in_err-table-clause-reply : goal.returns-in_err-table-clause-reply
+returns-in_err-table-clause-reply g c =
+    let p = err_from_is_err_and c.from_residual-in_err-table.result c.from_residual-in_err-table.ensures.1 in
+    rw (p.1, p.2) (then_stopped true _ _ _ _ (λ d said. ends (audit_job d (rules_in OpenFlow said))) _ _ _ _ _ c.in_ok-description.ensures.reading c.in_err-table.ensures.reading)
+
+pub returns-in_err-answer-clause-reply : goal.returns-in_err-answer-clause-reply
+returns-in_err-answer-clause-reply g c =
+    let p = err_from_is_err_and c.from_residual-in_err-answer.result c.from_residual-in_err-answer.ensures.1 in
+    then_no_memory true Description (Rules OpenFlow) c.args.file.now c.args.rules.now (λ d said. audit_job d (rules_in OpenFlow said)) _ _ _ c.in_ok-description.description c.in_ok-table.table (reply_in c.from_residual-in_err-answer.result)
+    c.in_ok-description.ensures.reading c.in_ok-table.ensures.reading (ap reply_in p.1 ∙ p.2)
+
+pub returns-clause-reply : goal.returns-clause-reply
+returns-clause-reply g c =
+    let d = c.in_ok-description.description in
+    went_on true Description c.args.file.now (λ x. reads (Rules OpenFlow) c.args.rules.now (λ said. ends (audit_job x (rules_in OpenFlow said)))) _ _ _ d (reply_view c.in_ok-answer.field-0) c.in_ok-description.ensures.reading
+    (went_on true (Rules OpenFlow) c.args.rules.now (λ said. ends (audit_job d (rules_in OpenFlow said))) _ _ _ c.in_ok-table.table (reply_view c.in_ok-answer.field-0) c.in_ok-table.ensures.reading (refl, inr c.in_ok-answer.ensures))

@@ -1,0 +1,11 @@
+-- What was put and what waits in the block are the lines before `i`.
+use Rattle.std.proofs.Common.{◌≤◌, take}
+use Rattle.topos_top.proofs.PutBlocks.{IsSofar}
+use Rattle.topos_top.proofs.lines.put_lines.Given as goal
+
+abbrev pub invariant-loop-i : goal.invariant-loop-i
+invariant-loop-i g l = record {
+  sofar : IsSofar (g.O.Sink.held l.fn.sink) (g.O.Sink.held l.sink) (g.T.Lines.lines_of l.text) l.i (take l.filled l.block);
+  fits : l.filled ≤ 8512;
+  faults_stay : g.O.Sink.faults l.fn.sink ≤ g.O.Sink.faults l.sink;
+}

@@ -1,0 +1,10 @@
+use Rattle.std.proofs.Common.{refl}
+use Rattle.topos_top.specs.declared.kind.Kind.TheVariants.{Edits}
+use Rattle.topos_top.specs.Views.{reply_view}
+use Rattle.topos_top.proofs.Taking.{refused_whole}
+use Rattle.topos_top.proofs.reading.read_edits.Goals as goal
+
+pub returns-in-Err-Refused-clause-reading : goal.returns-in-Err-Refused-clause-reading
+returns-in-Err-Refused-clause-reading g c =
+    refused_whole Edits c.args.name.now c.in_ok-bytes.bytes.items _ _ (reply_view c.bad_edits.result) c.in_ok-bytes.ensures.taken
+    (record { line = _; refuses = record { number = c.in-Err-Refused.line; why = c.in-Err-Refused.why; fault = rw (c.in-Err-Refused.field-0-is, c.deref.ensures.value) at c.in-Err-Refused.ensures.refused; told = refl }; replied = c.bad_edits.ensures })

@@ -1,0 +1,12 @@
+use Rattle.topos_top.specs.TextFault.{edit_fault_line}
+use Rattle.topos_top.proofs.text.Text.put.Goals as goal
+
+pub returns-in-CannotRead-clause-whole : goal.returns-in-CannotRead-clause-whole
+returns-in-CannotRead-clause-whole g c = rw c.in-CannotRead.is (rw c.as_bytes.ensures.value at c.put_pieces.ensures.whole)
+
+pub returns-in-NoMemory-clause-whole : goal.returns-in-NoMemory-clause-whole
+returns-in-NoMemory-clause-whole g c = rw c.in-NoMemory.is c.put_all.ensures.whole
+
+pub returns-in-RefusedEdit-clause-whole : goal.returns-in-RefusedEdit-clause-whole
+unfolding edit_fault_line
+returns-in-RefusedEdit-clause-whole g c = rw c.in-RefusedEdit.is (rw c.edit_reason.ensures at c.put_fault-in-RefusedEdit.ensures.whole)

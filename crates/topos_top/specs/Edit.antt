@@ -1,0 +1,73 @@
+-- `edit FILE EDITS`: what becomes of a network as its description is edited, and its policy in the end.
+use Rattle.std.specs.Prelude.{◌≡◌, ℕ, ◌+◌, List, [], ◌∷◌, ◌++◌, Ok, Err, codes, decimal}
+use Rattle.desc_core.specs.Description.{described_by_table}
+use Rattle.edit_core.specs.Runs.{AreSummaries, after_edits}
+use Rattle.edit_core.specs.declared.fault.EditFault.{EditFault}
+use Rattle.edit_core.specs.declared.summary.Summary.{Summary}
+use Rattle.edit_text.specs.Edit.{Edit}
+use Rattle.net_core.specs.Network.{Network}
+use Rattle.report_core.specs.PolicyReport.{IsPolicyReport}
+use Rattle.report_core.specs.ReportPromises.{TellsPolicy}
+use Rattle.toml.specs.Data.{Members}
+use Rattle.topos_top.specs.Job.{End, Job}
+use Rattle.topos_top.specs.TextFault.{edit_fault_line}
+use Rattle.topos_top.specs.declared.status.Status.TheVariants.{BadText, Done}
+
+-- The line of a summary, by the number of its edit from 1 (docs/FORMATS.md).
+abbrev pub summary_line : ℕ → Summary → List ℕ
+summary_line k s =
+    decimal k
+    ++ (codes " asked "
+    ++ (decimal s.asked
+    ++ (codes " permitted "
+    ++ (decimal s.permitted ++ (codes " stateful " ++ (decimal s.stateful ++ (codes " failing " ++ (decimal s.failing ++ codes "\n"))))))))
+
+-- the lines of the summaries, where the first is that of edit k
+abbrev pub summary_lines : ℕ → List Summary → List ℕ
+summary_lines k [] = []
+summary_lines k (s ∷ ss) = summary_line k s ++ summary_lines (k + 1) ss
+
+-- The text says the summaries, and then reports what this table describes.
+pub record SaysTable (Reports : Network → List ℕ → Type 0) (table : Members) (summaries : List Summary) (text : List ℕ) : Type 0 where
+  pub network : Network
+  pub described : described_by_table table ≡ Ok network
+  pub report : List ℕ
+  pub reports : Reports network report
+  pub written : text ≡ summary_lines 1 summaries ++ report
+
+-- No edit is refused. The text says of the description after each of them how much is asked for, permitted and stateful and how many
+-- invariants fail, and then reports what the last table describes.
+pub record SaysEdits (Reports : Network → List ℕ → Type 0) (table : Members) (edits : List Edit) (text : List ℕ) : Type 0 where
+  pub last : Members
+  pub accepted : after_edits edits table ≡ Ok last
+  pub summaries : List Summary
+  pub told : AreSummaries edits table summaries
+  pub says : SaysTable Reports last summaries text
+
+-- The line says which edit is the first that is refused, on the table that those before it leave, and why.
+pub record SaysRefusal (table : Members) (edits : List Edit) (line : List ℕ) : Type 0 where
+  pub number : ℕ
+  pub fault : EditFault
+  pub refused : after_edits edits table ≡ Err (number, fault)
+  pub told : line ≡ edit_fault_line number fault
+
+-- an edit is refused
+abbrev pub refusal : Members → List Edit → End
+refusal table edits = record {
+  status = BadText;
+  when = (line : List ℕ) × SaysRefusal table edits line;
+  is = SaysRefusal table edits;
+  tells = SaysRefusal table edits;
+}
+
+-- none is
+abbrev pub acceptance : Members → List Edit → End
+acceptance table edits = record {
+  status = Done;
+  when = (last : Members) × (after_edits edits table ≡ Ok last);
+  is = SaysEdits IsPolicyReport table edits;
+  tells = SaysEdits TellsPolicy table edits;
+}
+
+abbrev pub edit_job : Members → List Edit → Job
+edit_job table edits = refusal table edits ∷ (acceptance table edits ∷ [])

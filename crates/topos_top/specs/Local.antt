@@ -1,0 +1,78 @@
+-- `local FILE HOST`: the rules for the machines of one host, unless the policy was listed and breaks an invariant.
+use Rattle.std.specs.Prelude.{◌≡◌, ℕ, List, [], ◌∷◌, ◌++◌, None, Some, codes, IsTrue}
+use Rattle.host_emit.specs.Guarding.{Guards}
+use Rattle.host_emit.specs.LocalEvents.{PassesExpected}
+use Rattle.host_emit.specs.LocalLayout.{is_specific, local_layout}
+use Rattle.host_net.specs.Host.{host_named, rest_of}
+use Rattle.ipt_read.specs.Grammar.{IsReading}
+use Rattle.ipt_rules.specs.Chain.{Chain}
+use Rattle.ipt_rules.specs.Text.{text}
+use Rattle.net_core.specs.Network.{Network, site_of}
+use Rattle.net_core.specs.Policies.{IsPolicyOf, Policy}
+use Rattle.topos_top.specs.Check.{offences_when}
+use Rattle.topos_top.specs.Job.{End, Job}
+use Rattle.topos_top.specs.Rules.{ListedFails, ListedHolds}
+use Rattle.topos_top.specs.declared.status.Status.TheVariants.{Violated, NotEmittable, Done}
+
+-- The line that there is no host of that name, and the one that it is the rest host, which has no machines of its own (docs/FORMATS.md).
+abbrev pub no_host_line : (host : List ℕ) → List ℕ
+no_host_line host = codes "topos: not emittable: no host " ++ (host ++ codes "\n")
+
+abbrev pub rest_host_line : (host : List ℕ) → List ℕ
+rest_host_line host = codes "topos: not emittable: " ++ (host ++ codes " is the rest host\n")
+
+-- Why there are no rules for a host of that name.
+pub data IsBarred (d : Network) (host line : List ℕ) : Type 0 where
+  NoHost : host_named d.hosts host ≡ None → line ≡ no_host_line host → IsBarred d host line
+  RestHost : (h : ℕ) → host_named d.hosts host ≡ Some h → rest_of d.hosts ≡ Some h → line ≡ rest_host_line host → IsBarred d host line
+
+-- The host of that name is a specific one, and this is its number.
+pub record IsSpecific (d : Network) (host : List ℕ) : Type 0 where
+  pub number : ℕ
+  pub named : host_named d.hosts host ≡ Some number
+  pub specific : IsTrue (is_specific d.hosts number)
+
+-- The chains for the machines of each host, by a policy of the network.
+abbrev pub machines_for : Network → Policy → ℕ → List Chain
+machines_for d policy = local_layout (site_of d) policy.permitted.flows policy.stateful.flows
+
+-- The text is the rules for the machines of that host, by the policy of the network.
+pub record IsLocal (d : Network) (host rules : List ℕ) : Type 0 where
+  pub policy : Policy
+  pub is_policy : IsPolicyOf d policy
+  pub number : ℕ
+  pub named : host_named d.hosts host ≡ Some number
+  pub written : rules ≡ text (machines_for d policy number)
+
+-- What rules for the machines of a host do. They guard it by the policy, which is that of the network. Where every specific host has its own on its
+-- machines, over every list of packets and forgettings, a packet passes exactly where the policy and its answers expect it. The text has these rules
+-- as its reading, and no others.
+pub record KeepLocal (d : Network) (host rules : List ℕ) : Type 0 where
+  pub policy : Policy
+  pub is_policy : IsPolicyOf d policy
+  pub found : IsSpecific d host
+  pub written : rules ≡ text (machines_for d policy found.number)
+  pub guards : Guards (machines_for d policy found.number) (site_of d) policy.permitted.flows policy.stateful.flows found.number
+  pub passes : PassesExpected (machines_for d policy) (site_of d) policy.permitted.flows policy.stateful.flows
+  pub read : IsReading rules (machines_for d policy found.number)
+  pub only_reading : (others : List Chain) → IsReading rules others → others ≡ machines_for d policy found.number
+
+-- the rules, where this holds and the host is a specific one
+abbrev pub machines_when : Type 0 → Network → (host : List ℕ) → End
+machines_when holds d host = record { status = Done; when = holds × IsSpecific d host; is = IsLocal d host; tells = KeepLocal d host }
+
+-- the line, where this holds and it is not
+abbrev pub bar_when : Type 0 → Network → (host : List ℕ) → End
+bar_when holds d host = record { status = NotEmittable; when = holds × (line : List ℕ) × IsBarred d host line; is = IsBarred d host; tells = IsBarred d host }
+
+-- The rules or the line, whatever was listed.
+abbrev pub machines_job : Network → (host : List ℕ) → Job
+machines_job d host = bar_when (Unit {0}) d host ∷ (machines_when (Unit {0}) d host ∷ [])
+
+-- The same, or the report of `check` where a listed policy breaks an invariant.
+abbrev pub local_job : Network → (host : List ℕ) → Job
+local_job d host =
+    offences_when Violated (ListedFails d) d
+    ∷ (bar_when (ListedHolds d) d host
+    ∷ (machines_when (ListedHolds d) d host
+    ∷ []))

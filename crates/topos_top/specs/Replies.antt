@@ -1,0 +1,67 @@
+-- Which replies a run may give, by what it saw of its files; and which one where the files are told.
+use Rattle.std.specs.Prelude.{◌≡◌, ℕ, ◌⊎◌, List, Option, None, Some, Bool, IfSome}
+use Rattle.std.specs.FinMap.{get}
+use Rattle.edge_io.specs.Counts.{more}
+use Rattle.edge_io.specs.Told.{Files}
+use Rattle.topos_top.specs.Ask.{Ask, ask_of, reports_on_output}
+use Rattle.topos_top.specs.Commands.{course_of}
+use Rattle.topos_top.specs.Course.{Course, CameAlong}
+use Rattle.topos_top.specs.Job.{Job, Answers, AnswersFirst}
+use Rattle.topos_top.specs.Kinds.{IsRefused}
+use Rattle.topos_top.specs.Reply.{Reply, usage, cannot_read, no_memory}
+use Rattle.topos_top.specs.Shelf.{Shelf, ShelfChange, SawFile, since, taken_of}
+use Rattle.topos_top.specs.declared.kind.Kind.{Kind}
+
+-- A file ends the run with this reply, by what was seen of it: its bytes, or None where it could not be read.
+abbrev pub Stops : Kind → (file : List ℕ) → Option (List ℕ) → Reply → Type 0
+Stops kind file None given = given ≡ cannot_read file
+Stops kind file (Some bytes) given = IsRefused kind bytes given
+
+-- A file was begun, and none after it, and this was seen of it.
+pub record BeganLast (shelf : ShelfChange) (kind : Kind) (file : List ℕ) (saw : Option (List ℕ)) : Type 0 where
+  pub begins : shelf.after.begins ≡ more shelf.before.begins 1
+  pub held : SawFile shelf file saw
+  pub taken : IfSome saw (λ bytes. shelf.after.taken ≡ taken_of kind bytes)
+
+-- Why a file ends the run with this reply: there was no memory for it, or it is by what was seen of it.
+pub data StopsAt (shelf : ShelfChange) (kind : Kind) (file : List ℕ) (given : Reply) : Type 0 where
+  NoMemory : shelf.after.begins ≡ more shelf.before.begins 1 → given ≡ no_memory → StopsAt shelf kind file given
+  Stopped : (saw : Option (List ℕ)) → BeganLast shelf kind file saw → Stops kind file saw given → StopsAt shelf kind file given
+
+-- The reply at the job, for which nothing is taken off the shelf: there was no memory for it, or it is that of the job.
+abbrev pub EndsAt : (on_output : Bool) → ShelfChange → Job → Reply → Type 0
+EndsAt on_output shelf job given = (shelf.after ≡ shelf.before) × ((given ≡ no_memory) ⊎ Answers on_output job given)
+
+-- Why a command may give a reply: along its course it was stopped by a file, or it came to its job.
+abbrev pub MayReply : (on_output : Bool) → Course → ShelfChange → Reply → Type 0
+MayReply on_output course shelf given = CameAlong course shelf.before
+    (λ kind file before. StopsAt (since before shelf) kind file given)
+    (λ job before. EndsAt on_output (since before shelf) job given)
+
+-- Words that are no form of the command line give the usage, and begin no file.
+abbrev pub MayGiveBy : Option Ask → ShelfChange → Reply → Type 0
+MayGiveBy None shelf given = (given ≡ usage) × (shelf.after ≡ shelf.before)
+MayGiveBy (Some ask) shelf given = MayReply (reports_on_output ask) (course_of ask) shelf given
+
+abbrev pub MayGive : List (List ℕ) → ShelfChange → Reply → Type 0
+MayGive words = MayGiveBy (ask_of words)
+
+-- ---- where the files are told
+
+-- a shelf that tells these files, before anything is taken off it
+abbrev pub telling : Files → Shelf
+telling told = record { told = Some told; faults = 0; begins = 0; taken = 0 }
+
+-- The reply to a command: for the first file that is missing or refused, or that of its job, by the first end that comes.
+abbrev pub Replies : (on_output : Bool) → Course → Files → Reply → Type 0
+Replies on_output course told given = CameAlong course (telling told)
+    (λ kind file before. Stops kind file (get told file) given)
+    (λ job before. Answers on_output job given × AnswersFirst job given)
+
+-- The reply to the words of a command line.
+abbrev pub RepliesBy : Option Ask → Files → Reply → Type 0
+RepliesBy None told given = given ≡ usage
+RepliesBy (Some ask) told given = Replies (reports_on_output ask) (course_of ask) told given
+
+abbrev pub RepliesTo : List (List ℕ) → Files → Reply → Type 0
+RepliesTo words = RepliesBy (ask_of words)

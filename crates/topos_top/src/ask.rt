@@ -1,0 +1,125 @@
+//! What the words of a command line ask for.
+
+ghost use Rattle.std.specs.Prelude.{◌≡◌, ◌≤◌, map, string_bytes, option_map, IfSome};
+ghost use Rattle.host_net.specs.Limits.{host_limit};
+ghost use Rattle.topos_top.specs.Ask.{ask_of, hosts_said, among, forms, one_word, two_words, three_words};
+ghost use Rattle.topos_top.specs.Views.{ask_view, HasFewHosts};
+
+use crate::dialect::Dialect;
+use host_net::HOST_LIMIT;
+use text_core::read_number;
+
+/// What the program is asked to do: a variant for each form, with all that its words say.
+#[derive(Clone, Copy)]
+pub enum Ask<'a> {
+    /// `check FILE`: whether the asked flows meet the invariants.
+    Check(&'a str),
+    /// `policy FILE`: what becomes of each flow, and why.
+    Policy(&'a str),
+    /// `rules iptables|openflow FILE`: the rules of the permitted policy, unless it was listed and
+    /// breaks an invariant.
+    Rules(Dialect, &'a str),
+    /// `repair iptables|openflow FILE`: the rules of the permitted policy.
+    Repair(Dialect, &'a str),
+    /// `trace iptables|openflow RULES EVENTS`: what becomes of each event.
+    Trace(Dialect, &'a str, &'a str),
+    /// `sample N`: what every job makes of a network of N hosts, in numbers.
+    Sample(u16),
+    /// `migrate FILE`: the description in version 2.
+    Migrate(&'a str),
+    /// `audit iptables|openflow FILE RULES`: whether rules do what the policy says.
+    Audit(Dialect, &'a str, &'a str),
+    /// `edit FILE EDITS`: what becomes of the network edit by edit, and the policy in the end.
+    Edit(&'a str, &'a str),
+    /// `local FILE HOST`: the rules for the machines of one host.
+    Local(&'a str, &'a str),
+}
+
+/// What the words ask for, where they are one of the forms.
+#[tactic(auto, unfolding(crate::specs::Ask::ask_of))]
+pub fn ask_of_words(words: &[String]) -> Option<Ask<'_>>
+    ensures ask { option_map ask_view result ≡ ask_of (map string_bytes words.now) }
+    ensures few { IfSome result (λ ask. HasFewHosts (ask_view ask)) }
+{
+    match words {
+        [verb, rest @ ..] => ask_after(verb.as_str(), rest),
+        [] => None,
+    }
+}
+
+/// What a verb asks for with the words after it.
+fn ask_after<'a>(verb: &str, rest: &'a [String]) -> Option<Ask<'a>>
+    ensures ask { option_map ask_view result ≡ among forms verb.now (map string_bytes rest.now) }
+    ensures few { IfSome result (λ ask. HasFewHosts (ask_view ask)) }
+{
+    match verb {
+        "check" => Some(Ask::Check(one_word(rest)?)),
+        "policy" => Some(Ask::Policy(one_word(rest)?)),
+        "rules" => {
+            let (word, file) = two_words(rest)?;
+            Some(Ask::Rules(Dialect::named(word)?, file))
+        }
+        "repair" => {
+            let (word, file) = two_words(rest)?;
+            Some(Ask::Repair(Dialect::named(word)?, file))
+        }
+        "trace" => {
+            let (word, rules, events) = three_words(rest)?;
+            Some(Ask::Trace(Dialect::named(word)?, rules, events))
+        }
+        "sample" => Some(Ask::Sample(hosts_said(one_word(rest)?)?)),
+        "migrate" => Some(Ask::Migrate(one_word(rest)?)),
+        "audit" => {
+            let (word, file, rules) = three_words(rest)?;
+            Some(Ask::Audit(Dialect::named(word)?, file, rules))
+        }
+        "edit" => {
+            let (file, edits) = two_words(rest)?;
+            Some(Ask::Edit(file, edits))
+        }
+        "local" => {
+            let (file, host) = two_words(rest)?;
+            Some(Ask::Local(file, host))
+        }
+        _ => None,
+    }
+}
+
+/// The words, where there are just as many.
+fn one_word(words: &[String]) -> Option<&str>
+    ensures { option_map (λ word. word.now) result ≡ one_word (map string_bytes words.now) }
+{
+    match words {
+        [word] => Some(word.as_str()),
+        [] | [_, _, ..] => None,
+    }
+}
+
+fn two_words(words: &[String]) -> Option<(&str, &str)>
+    ensures { option_map (λ pair. (pair.0.now, pair.1.now)) result ≡ two_words (map string_bytes words.now) }
+{
+    match words {
+        [first, second] => Some((first.as_str(), second.as_str())),
+        [] | [_] | [_, _, _, ..] => None,
+    }
+}
+
+fn three_words(words: &[String]) -> Option<(&str, &str, &str)>
+    ensures { option_map (λ all. (all.0.now, all.1.now, all.2.now)) result ≡ three_words (map string_bytes words.now) }
+{
+    match words {
+        [first, second, third] => Some((first.as_str(), second.as_str(), third.as_str())),
+        [] | [_] | [_, _] | [_, _, _, _, ..] => None,
+    }
+}
+
+/// The number of hosts that a word says, from 1 to as many as there may be.
+fn hosts_said(word: &str) -> Option<u16>
+    ensures said { result ≡ hosts_said word.now }
+    ensures few { IfSome result (λ hosts. hosts ≤ host_limit) }
+{
+    match read_number(HOST_LIMIT as u32, word.as_bytes()) {
+        Some(hosts) if hosts != 0 => Some(hosts as u16),
+        _ => None,
+    }
+}

@@ -1,0 +1,110 @@
+//! `audit iptables|openflow FILE RULES`: whether rules do what the policy of a network says.
+
+ghost use Rattle.std.specs.Prelude.{◌≡◌, ◌≤◌, IfOk, true};
+ghost use Rattle.audit_core.specs.Rules.{GivesOne, filter_of};
+ghost use Rattle.audit_core.specs.RulesView.{rules_of};
+ghost use Rattle.topos_top.specs.Ask.{Audit};
+ghost use Rattle.topos_top.specs.Audit.{audit_job};
+ghost use Rattle.topos_top.specs.Commands.{course_of};
+ghost use Rattle.topos_top.specs.Job.{Answers};
+ghost use Rattle.topos_top.specs.Replies.{MayReply};
+ghost use Rattle.topos_top.specs.Shelf.{shelf_change};
+ghost use Rattle.topos_top.specs.Views.{reply_view, reply_in};
+ghost use Rattle.topos_top.specs.declared.dialect.Dialect.TheVariants.{Iptables, OpenFlow};
+
+use crate::answer::Answer;
+use crate::dialect::Dialect;
+use crate::reading::{read_description, read_rules, read_table};
+use crate::text::Text;
+use audit_core::{AuditRefusal, Finding, classes_line, finding_text};
+use desc_core::Description;
+use edge_io::Shelf;
+use net_core::policy_of;
+use std::alloc::{AllocError, Global};
+
+/// The answer to the files of those names.
+pub fn reply<'a, H: Shelf>(
+    alloc: Global,
+    dialect: Dialect,
+    file: &'a str,
+    rules: &'a str,
+    shelf: &mut H,
+) -> Result<Answer<'a>, Answer<'a>>
+    ensures same_files { H.files shelf.new ≡ H.files shelf.old }
+    ensures faults_stay { H.faults shelf.old ≤ H.faults shelf.new }
+    ensures reply { MayReply true (course_of (Audit dialect file.now rules.now))
+        (shelf_change H.files H.faults H.begins H.taken shelf.old shelf.new) (reply_in result) }
+{
+    match dialect {
+        Dialect::Iptables => reply_by_rules(alloc, file, rules, shelf),
+        Dialect::OpenFlow => reply_by_table(alloc, file, rules, shelf),
+    }
+}
+
+/// The answer, where the second file has chains of iptables.
+fn reply_by_rules<'a, H: Shelf>(
+    alloc: Global,
+    file: &'a str,
+    rules: &'a str,
+    shelf: &mut H,
+) -> Result<Answer<'a>, Answer<'a>>
+    ensures same_files { H.files shelf.new ≡ H.files shelf.old }
+    ensures faults_stay { H.faults shelf.old ≤ H.faults shelf.new }
+    ensures reply { MayReply true (course_of (Audit Iptables file.now rules.now))
+        (shelf_change H.files H.faults H.begins H.taken shelf.old shelf.new) (reply_in result) }
+{
+    let description = read_description(alloc, file, shelf)?;
+    let rules = read_rules(alloc, rules, shelf)?;
+    Ok(answer(alloc, &description, audit_core::Text::Ipt(&rules))?)
+}
+
+/// The answer, where the second file has a flow table of OpenFlow.
+fn reply_by_table<'a, H: Shelf>(
+    alloc: Global,
+    file: &'a str,
+    rules: &'a str,
+    shelf: &mut H,
+) -> Result<Answer<'a>, Answer<'a>>
+    ensures same_files { H.files shelf.new ≡ H.files shelf.old }
+    ensures faults_stay { H.faults shelf.old ≤ H.faults shelf.new }
+    ensures reply { MayReply true (course_of (Audit OpenFlow file.now rules.now))
+        (shelf_change H.files H.faults H.begins H.taken shelf.old shelf.new) (reply_in result) }
+{
+    let description = read_description(alloc, file, shelf)?;
+    let table = read_table(alloc, rules, shelf)?;
+    Ok(answer(alloc, &description, audit_core::Text::Ofp(&table))?)
+}
+
+/// What an audit finds, or that there are too many classes of packets. The rules have one verdict
+/// for every packet in each state.
+fn answer<'a>(
+    alloc: Global,
+    description: &Description,
+    rules: audit_core::Text<'_>,
+) -> Result<Answer<'a>, AllocError>
+    requires { GivesOne (filter_of (rules_of rules)) }
+    ensures { IfOk result (λ answer. Answers true (audit_job description.now (rules_of rules.entry)) (reply_view answer)) }
+{
+    let policy = policy_of(alloc, description)?;
+    match audit_core::audit(
+        alloc,
+        description.hosts(),
+        description.services(),
+        policy.permitted(),
+        policy.stateful(),
+        &rules,
+    ) {
+        Ok(Finding::Equal) => {
+            let text = finding_text(alloc, &Finding::Equal)?;
+            Ok(Answer::done(Text::Bytes(text)))
+        }
+        Ok(Finding::Differ(trace)) => {
+            let text = finding_text(alloc, &Finding::Differ(trace))?;
+            Ok(Answer::reported(Text::Bytes(text)))
+        }
+        Err(AuditRefusal::TooManyClasses { count }) => {
+            Ok(Answer::not_emittable(classes_line(alloc, count)?))
+        }
+        Err(AuditRefusal::Memory) => Err(AllocError),
+    }
+}

@@ -1,0 +1,101 @@
+//! `edit FILE EDITS`: what becomes of a network as its description is edited, and its policy in the
+//! end.
+
+ghost use Rattle.std.specs.Prelude.{◌≡◌, ◌≤◌, ◌++◌, OnOk, IfOk, decimal, false, map};
+ghost use Rattle.edit_core.specs.Kept.{table_of};
+ghost use Rattle.edit_text.specs.EditView.{edit_view};
+ghost use Rattle.report_core.specs.PolicyReport.{IsPolicyReport};
+ghost use Rattle.topos_top.specs.Ask.{Edit};
+ghost use Rattle.topos_top.specs.Commands.{course_of};
+ghost use Rattle.topos_top.specs.Edit.{SaysTable, edit_job, summary_line, summary_lines};
+ghost use Rattle.topos_top.specs.Job.{Answers};
+ghost use Rattle.topos_top.specs.Replies.{MayReply};
+ghost use Rattle.topos_top.specs.Shelf.{shelf_change};
+ghost use Rattle.topos_top.specs.Views.{reply_view, reply_in};
+
+use crate::answer::Answer;
+use crate::reading::{read_edits, read_session};
+use crate::status::Status;
+use crate::text::Text;
+use edge_io::Shelf;
+use edit_core::{EditRefusal, Session, Summary};
+use report_core::policy_report;
+use std::alloc::{AllocError, Global};
+
+/// The answer to the files of those names.
+pub fn reply<'a, H: Shelf>(
+    alloc: Global,
+    file: &'a str,
+    edits: &'a str,
+    shelf: &mut H,
+) -> Result<Answer<'a>, Answer<'a>>
+    ensures same_files { H.files shelf.new ≡ H.files shelf.old }
+    ensures faults_stay { H.faults shelf.old ≤ H.faults shelf.new }
+    ensures reply { MayReply false (course_of (Edit file.now edits.now))
+        (shelf_change H.files H.faults H.begins H.taken shelf.old shelf.new) (reply_in result) }
+{
+    let mut session = read_session(alloc, file, shelf)?;
+    let edits = read_edits(alloc, edits, shelf)?;
+    Ok(answer(alloc, &mut session, &edits)?)
+}
+
+/// The summaries and the policy in the end, or the first edit that is refused.
+fn answer<'a>(
+    alloc: Global,
+    session: &mut Session,
+    edits: &[edit_core::Edit],
+) -> Result<Answer<'a>, AllocError>
+    ensures { IfOk result (λ answer. Answers false (edit_job (table_of session.old) (map edit_view edits.now)) (reply_view answer)) }
+{
+    match session.apply_all(alloc, edits) {
+        Ok(summaries) => {
+            let text = text_of(alloc, session, &summaries)?;
+            Ok(Answer::done(Text::Bytes(text)))
+        }
+        Err(EditRefusal::Refused { line, fault }) => Ok(Answer::error(
+            Status::BadText,
+            Text::RefusedEdit(line, fault),
+        )),
+        Err(EditRefusal::Memory) => Err(AllocError),
+    }
+}
+
+/// The lines of the summaries, and then what becomes of each flow of the description now.
+fn text_of(alloc: Global, session: &Session, summaries: &[Summary]) -> Result<Vec<u8>, AllocError>
+    ensures { IfOk result (λ text. SaysTable IsPolicyReport (table_of session.now) summaries.now text.items) }
+{
+    let mut text = Vec::new(alloc);
+    push_summaries(&mut text, summaries)?;
+    let report = policy_report(alloc, session.description())?;
+    text.extend_from_slice(report.bytes())?;
+    Ok(text)
+}
+
+/// Puts a line for each summary, by the number of its edit.
+fn push_summaries(text: &mut Vec<u8>, summaries: &[Summary]) -> Result<(), AllocError>
+    ensures { OnOk result (text.new.items ≡ text.old.items ++ summary_lines 1 summaries.now) }
+{
+    for (place, summary) in summaries.iter().enumerate() {
+        push_summary(text, place + 1, summary)?;
+    }
+    Ok(())
+}
+
+fn push_summary(text: &mut Vec<u8>, number: usize, summary: &Summary) -> Result<(), AllocError>
+    ensures { OnOk result (text.new.items ≡ text.old.items ++ summary_line number summary.now) }
+{
+    push_numbered(text, number, b" asked ")?;
+    push_numbered(text, summary.asked as usize, b" permitted ")?;
+    push_numbered(text, summary.permitted as usize, b" stateful ")?;
+    push_numbered(text, summary.stateful as usize, b" failing ")?;
+    push_numbered(text, summary.failing as usize, b"\n")
+}
+
+/// Puts a number and the words behind it.
+fn push_numbered(text: &mut Vec<u8>, number: usize, words: &[u8]) -> Result<(), AllocError>
+    ensures { OnOk result (text.new.items ≡ text.old.items ++ (decimal number ++ words.now)) }
+{
+    let mut digits = itoa::Buffer::new();
+    text.extend_from_slice(digits.format(number).as_bytes())?;
+    text.extend_from_slice(words)
+}

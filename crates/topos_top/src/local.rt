@@ -1,0 +1,117 @@
+//! `local FILE HOST`: the rules for the machines of one host, unless the policy was listed and breaks
+//! an invariant.
+
+ghost use Rattle.std.specs.Prelude.{◌≡◌, ◌≤◌, ◌<◌, ◌++◌, IfOk, IsTrue, Some, codes, false, length};
+ghost use Rattle.host_emit.specs.LocalLayout.{is_specific};
+ghost use Rattle.host_net.specs.Host.{host_named};
+ghost use Rattle.topos_top.specs.Ask.{Local};
+ghost use Rattle.topos_top.specs.Commands.{course_of};
+ghost use Rattle.topos_top.specs.Job.{Answers};
+ghost use Rattle.topos_top.specs.Local.{local_job, machines_job, no_host_line, rest_host_line};
+ghost use Rattle.topos_top.specs.Replies.{MayReply};
+ghost use Rattle.topos_top.specs.Shelf.{shelf_change};
+ghost use Rattle.topos_top.specs.Views.{reply_view, reply_in};
+
+use crate::answer::Answer;
+use crate::listed::listed_offences;
+use crate::reading::read_description;
+use crate::status::Status;
+use crate::text::Text;
+use desc_core::Description;
+use edge_io::Shelf;
+use host_emit::{emit_local, is_specific};
+use net_core::policy_of;
+use std::alloc::{AllocError, Global};
+
+/// The answer to the file of that name, for the host of that name.
+pub fn reply<'a, H: Shelf>(
+    alloc: Global,
+    file: &'a str,
+    host: &str,
+    shelf: &mut H,
+) -> Result<Answer<'a>, Answer<'a>>
+    ensures same_files { H.files shelf.new ≡ H.files shelf.old }
+    ensures faults_stay { H.faults shelf.old ≤ H.faults shelf.new }
+    ensures reply { MayReply false (course_of (Local file.now host.now))
+        (shelf_change H.files H.faults H.begins H.taken shelf.old shelf.new) (reply_in result) }
+{
+    let description = read_description(alloc, file, shelf)?;
+    Ok(answer(alloc, &description, host)?)
+}
+
+/// The rules, or why there are none.
+fn answer<'a>(
+    alloc: Global,
+    description: &Description,
+    host: &str,
+) -> Result<Answer<'a>, AllocError>
+    ensures { IfOk result (λ answer. Answers false (local_job description.now host.now) (reply_view answer)) }
+{
+    match listed_offences(alloc, description)? {
+        Some(report) => Ok(Answer::error(Status::Violated, Text::Report(report))),
+        None => machines(alloc, description, host),
+    }
+}
+
+/// The rules for the machines of the host of that name, or the line that there are none.
+fn machines<'a>(
+    alloc: Global,
+    description: &Description,
+    host: &str,
+) -> Result<Answer<'a>, AllocError>
+    ensures { IfOk result (λ answer. Answers false (machines_job description.now host.now) (reply_view answer)) }
+{
+    let hosts = description.hosts();
+    let Some(number) = hosts.find(host.as_bytes()) else {
+        return Ok(Answer::not_emittable(no_host_line(alloc, host)?));
+    };
+    if !is_specific(hosts, number) {
+        return Ok(Answer::not_emittable(rest_host_line(alloc, host)?));
+    }
+    specific_machines(alloc, description, host, number)
+}
+
+/// The rules for the machines of a specific host.
+fn specific_machines<'a>(
+    alloc: Global,
+    description: &Description,
+    host: &str,
+    number: u16,
+) -> Result<Answer<'a>, AllocError>
+    requires named { host_named description.now.hosts host.now ≡ Some number }
+    requires specific { IsTrue (is_specific description.now.hosts number) }
+    ensures { IfOk result (λ answer. Answers false (machines_job description.now host.now) (reply_view answer)) }
+{
+    let policy = policy_of(alloc, description)?;
+    let rules = emit_local(
+        alloc,
+        description.hosts(),
+        description.services(),
+        policy.permitted(),
+        policy.stateful(),
+        number,
+    )?;
+    Ok(Answer::done(Text::Rules(rules)))
+}
+
+/// The line that there is no host of that name.
+fn no_host_line(alloc: Global, host: &str) -> Result<Vec<u8>, AllocError>
+    ensures { IfOk result (λ line. line.items ≡ no_host_line host.now) }
+{
+    let mut line = Vec::new(alloc);
+    line.extend_from_slice(b"topos: not emittable: no host ")?;
+    line.extend_from_slice(host.as_bytes())?;
+    line.extend_from_slice(b"\n")?;
+    Ok(line)
+}
+
+/// The line that the host is the rest host.
+fn rest_host_line(alloc: Global, host: &str) -> Result<Vec<u8>, AllocError>
+    ensures { IfOk result (λ line. line.items ≡ rest_host_line host.now) }
+{
+    let mut line = Vec::new(alloc);
+    line.extend_from_slice(b"topos: not emittable: ")?;
+    line.extend_from_slice(host.as_bytes())?;
+    line.extend_from_slice(b" is the rest host\n")?;
+    Ok(line)
+}

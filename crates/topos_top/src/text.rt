@@ -1,0 +1,124 @@
+//! A text for a stream. None of them takes memory to be written, so that want of memory can be told.
+
+ghost use Rattle.std.specs.Prelude.{◌≡◌, ◌≤◌, OnOk, OnErr};
+ghost use Rattle.std.specs.Io.KnownBytes.{append_known};
+ghost use Rattle.edge_io.specs.Counts.{Rose};
+ghost use Rattle.edge_io.specs.Told.{TookPrefix};
+ghost use Rattle.report_core.specs.RefusalLine.{refusal_text};
+ghost use Rattle.topos_top.specs.Ask.{usage_text};
+ghost use Rattle.topos_top.specs.TextFault.{fault_line, edit_fault_line};
+ghost use Rattle.topos_top.specs.Views.{text_view};
+
+use crate::lines::put_lines;
+use crate::text_fault::edit_reason;
+use desc_core::Refusal;
+use edge_io::{Sink, WriteFault, put_all, put_pieces};
+use edit_core::EditFault;
+use ipt_rules::Ruleset;
+use ofp_rules::Table;
+use report_core::{Report, refusal_line};
+
+/// What goes to a stream.
+#[derive(Drop)]
+pub enum Text<'a> {
+    /// The forms of the command line.
+    Usage,
+    /// The line of a file that cannot be read.
+    CannotRead(&'a str),
+    /// The line of a refused description.
+    Refusal(Refusal),
+    /// The line of another file that is refused: what it was to hold, the number of its faulty line,
+    /// or 0 for the whole of it, and why.
+    Fault(&'static [u8], u32, &'static [u8]),
+    /// The line of an edit that is refused: the number of its line, and why.
+    RefusedEdit(u32, EditFault),
+    /// The line of want of memory.
+    NoMemory,
+    /// A report.
+    Report(Report),
+    /// A text that is written out already.
+    Bytes(Vec<u8>),
+    /// The chains of iptables, which are written line by line.
+    Rules(Ruleset),
+    /// The flow table of OpenFlow, which is written line by line.
+    Table(Table),
+}
+
+impl<'a> Text<'a> {
+    /// Puts the text into the sink, without memory, and stops at the first fault.
+    #[tactic(auto, unfolding(crate::specs::TextFault::edit_fault_line))]
+    pub fn put<O: Sink>(&self, sink: &mut O) -> Result<(), WriteFault>
+        ensures prefix { TookPrefix (O.held sink.old) (O.held sink.new) (text_view self.now) }
+        ensures whole { OnOk result (O.held sink.new ≡ append_known (O.held sink.old) (text_view self.now)) }
+        ensures faults_stay { O.faults sink.old ≤ O.faults sink.new }
+        ensures fault { OnErr result (Rose (O.faults sink.old) (O.faults sink.new)) }
+    {
+        match self {
+            Text::Usage => put_usage(sink),
+            Text::CannotRead(name) => {
+                put_pieces(sink, &[b"topos: cannot read ", name.as_bytes(), b"\n"])
+            }
+            Text::Refusal(why) => put_refusal(sink, why),
+            Text::Fault(text, line, reason) => put_fault(sink, text, *line, reason),
+            Text::RefusedEdit(line, fault) => {
+                put_fault(sink, b"topos: edits: line ", *line, edit_reason(fault))
+            }
+            Text::NoMemory => put_all(sink, b"topos: out of memory\n"),
+            Text::Report(report) => put_all(sink, report.bytes()),
+            Text::Bytes(bytes) => put_all(sink, bytes),
+            Text::Rules(rules) => put_lines(sink, rules),
+            Text::Table(table) => put_lines(sink, table),
+        }
+    }
+}
+
+/// The forms of the command line.
+#[tactic(auto, unfolding(crate::specs::Ask::usage_text))]
+fn put_usage<O: Sink>(sink: &mut O) -> Result<(), WriteFault>
+    ensures prefix { TookPrefix (O.held sink.old) (O.held sink.new) usage_text }
+    ensures whole { OnOk result (O.held sink.new ≡ append_known (O.held sink.old) usage_text) }
+    ensures faults_stay { O.faults sink.old ≤ O.faults sink.new }
+    ensures fault { OnErr result (Rose (O.faults sink.old) (O.faults sink.new)) }
+{
+    put_pieces(
+        sink,
+        &[
+            b"usage: topos check FILE\n",
+            b"       topos policy FILE\n",
+            b"       topos rules iptables|openflow FILE\n",
+            b"       topos repair iptables|openflow FILE\n",
+            b"       topos trace iptables|openflow RULES EVENTS\n",
+            b"       topos sample N\n",
+            b"       topos migrate FILE\n",
+            b"       topos audit iptables|openflow FILE RULES\n",
+            b"       topos edit FILE EDITS\n",
+            b"       topos local FILE HOST\n",
+        ],
+    )
+}
+
+/// The line of a refused description.
+fn put_refusal<O: Sink>(sink: &mut O, why: &Refusal) -> Result<(), WriteFault>
+    ensures prefix { TookPrefix (O.held sink.old) (O.held sink.new) (refusal_text why.now) }
+    ensures whole { OnOk result (O.held sink.new ≡ append_known (O.held sink.old) (refusal_text why.now)) }
+    ensures faults_stay { O.faults sink.old ≤ O.faults sink.new }
+    ensures fault { OnErr result (Rose (O.faults sink.old) (O.faults sink.new)) }
+{
+    let mut line = [0; 256];
+    let length = refusal_line(why, &mut line);
+    put_all(sink, &line[..length])
+}
+
+/// The line of a refused text, with the number of its line and the reason.
+fn put_fault<O: Sink>(sink: &mut O, text: &[u8], line: u32, reason: &[u8]) -> Result<(), WriteFault>
+    ensures prefix { TookPrefix (O.held sink.old) (O.held sink.new) (fault_line text.now line reason.now) }
+    ensures whole { OnOk result (O.held sink.new ≡ append_known (O.held sink.old) (fault_line text.now line reason.now)) }
+    ensures faults_stay { O.faults sink.old ≤ O.faults sink.new }
+    ensures fault { OnErr result (Rose (O.faults sink.old) (O.faults sink.new)) }
+{
+    let mut digits = itoa::Buffer::new();
+    put_pieces(
+        sink,
+        &[text, digits.format(line).as_bytes(), b": ", reason, b"\n"],
+    )
+}
