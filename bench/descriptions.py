@@ -177,6 +177,18 @@ def from_many_prefixes(count):
     return small_description(flows, [*single_hosts(200), f'{{ name = "many", at = {at} }}'], version=2)
 
 
+def between_one_and_all():
+    """One host asks each other one for 16 ranges of ports and is asked for as many, and all prefixes are those of the
+    others: its own rules are as many as those of a host can be."""
+    services = lambda low: quoted(f'tcp/{low + number}-{low + 20000 + number}' for number in range(SERVICES))[1:-1]
+    address = lambda number: f'203.100.{100 + number // 128}.{100 + number % 128}/32'
+    at = lambda host: quoted(address(number) for number in range(host, PREFIXES, HOSTS - 1))
+    others = [f'{{ name = "h{host}", at = {at(host)} }},\n' for host in range(1, HOSTS)]
+    flows = ''.join(f'["one", "h{host}", {services(10000)}], ["h{host}", "one", {services(40000)}], '
+                    for host in range(1, HOSTS))
+    return small_description(flows, ['{ name = "one", at = ["203.0.113.1"] },\n', *others], version=2)
+
+
 def beside_the_rest(count):
     """A host of so many prefixes, with a rest host: every pair of them has its flow."""
     at = quoted(f'{number}.0.0.0/24' for number in range(1, count + 1))

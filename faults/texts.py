@@ -22,6 +22,30 @@ answers = "none"
 flow = [["web", "db", "tcp/5432", "icmp"], ["inet", "web", "tcp/443", "udp/443"], ["web", "inet", "udp/53"], ["db", "web"]]
 host = [{ name = "web", at = ["10.0.0.2", "10.0.0.3"] }, { name = "db", at = ["10.0.0.1"] }, { name = "inet", rest = true }]
 """
+# Templates of one's own, of either strategy.
+TABLES = b"""topos = 2
+flow = [["web", "app", "tcp/9000"], ["app", "db", "tcp/5432"], ["inet", "web", "tcp/443"], ["db", "log", "udp/514"]]
+host = [{ name = "web", at = ["10.0.0.2", "10.0.0.3"] }, { name = "app", at = ["10.0.1.0/28"] },
+        { name = "db", at = ["10.0.0.1"] }, { name = "log", at = ["10.0.2.1"] }, { name = "inet", rest = true }]
+[[template]]
+name = "tiers"
+strategy = "access"
+kinds = ["front", "middle", "back", "other"]
+default = "other"
+deny = [["front", "back"], ["other", "back"], ["other", "middle"]]
+[[template]]
+name = "records"
+strategy = "information"
+kinds = ["keeps", "plain"]
+default = "plain"
+deny = [["keeps", "plain"]]
+[[invariant]]
+template = "tiers"
+assign = [{ host = "web", kind = "front" }, { host = "app", kind = "middle" }, { host = "db", kind = "back" }]
+[[invariant]]
+template = "records"
+assign = [{ host = "log", kind = "keeps" }]
+"""
 SERVICE_EVENTS = b"""packet 10.0.0.2 10.0.0.1 tcp 40000 5432
 packet 10.0.0.2 10.0.0.1 tcp 40000 5433
 packet 10.0.0.1 10.0.0.2 tcp 5432 40000
@@ -79,7 +103,7 @@ def most_memory():
 
 def texts(suffix):
     """The texts of `examples/`, and those of version 2 of this file."""
-    more = {'.toml': [SERVICES, PORTS], '.events': [SERVICE_EVENTS]}
+    more = {'.toml': [SERVICES, PORTS, TABLES], '.events': [SERVICE_EVENTS]}
     return [*examples(suffix).values(), *more[suffix]]
 
 

@@ -89,15 +89,16 @@ class Box:
             if came[0] >> 4 == 4:
                 arrived.append(came)
 
-    def forget(self, event):
-        """Makes the kernel forget the connection of a packet, whoever began it."""
-        for one in (event, event.answer()):
-            words = ['conntrack', '-D', '-p', str(one.protocol), '-s', one.source, '-d', one.destination]
-            if one.protocol == 1:
-                words += ['--icmp-type', '8', '--icmp-code', '0', '--icmp-id', str(one.ports[0])]
-            elif one.protocol in (6, 17):
-                words += ['--sport', str(one.ports[0]), '--dport', str(one.ports[1])]
-            run(words, also=[1])  # 1: there was none
+
+def forget(event):
+    """Makes the kernel forget the connection of a packet, whoever began it."""
+    for one in (event, event.answer()):
+        words = ['conntrack', '-D', '-p', str(one.protocol), '-s', one.source, '-d', one.destination]
+        if one.protocol == 1:
+            words += ['--icmp-type', '8', '--icmp-code', '0', '--icmp-id', str(one.ports[0])]
+        elif one.protocol in (6, 17):
+            words += ['--sport', str(one.ports[0]), '--dport', str(one.ports[1])]
+        run(words, also=[1])  # 1: there was none
 
 
 def interface(name):

@@ -12,20 +12,22 @@ LENGTHS = (2, 5, 8, 12, 16, 20, 23, 24, 26, 28, 30, 31, 32, 32, 32)
 class Network:
     """A description, as text, with its prefixes."""
 
-    def __init__(self, chance, version):
+    def __init__(self, chance, version, most=8):
         self.chance, self.prefixes = chance, []
-        count = chance.randint(2, 8)
+        count = chance.randint(2, most)
         rest = chance.randrange(count) if chance.random() < 0.6 else None
         self.names = [f'host-{number}' for number in range(count)]
         self.hosts = [self.host(name, place == rest) for place, name in enumerate(self.names)]
         self.head = [f'topos = {version}'] + chance.choice([[], ['answers = "all"'], ['answers = "none"']])
         if chance.random() < (0.75 if version == 1 else 0.95):
             self.head.append(f'flow = [{self.flows(version)}]')
+        self.templates = [Template(chance, f'own-{k}') for k in range(chance.choice([0, 1, 2]))] if version == 2 else []
         self.invariants = [self.invariant() for _ in range(chance.choice([0, 0, 1, 1, 2, 3]))]
 
     def text(self):
         hosts = [f'[[host]]\n{host}' for host in self.hosts]
-        return '\n\n'.join(['\n'.join(self.head), *hosts, *self.invariants]) + '\n'
+        templates = [template.text() for template in self.templates]
+        return '\n\n'.join(['\n'.join(self.head), *hosts, *templates, *self.invariants]) + '\n'
 
     def flows(self, version):
         share = self.chance.choice([0.1, 0.4, 0.8])
@@ -57,14 +59,37 @@ class Network:
         return self.chance.randrange(2 ** 24, 224 * 2 ** 24)
 
     def invariant(self):
-        template = self.chance.choice(sorted(ATTRIBUTES))
+        attributes = {**ATTRIBUTES, **{own.name: kind_of(*own.kinds) for own in self.templates}}
+        own = [template.name for template in self.templates]
+        template = self.chance.choice(own if own and self.chance.random() < 0.5 else sorted(ATTRIBUTES))
         share = self.chance.choice([0.3, 0.7, 1.0])
-        entries = [f'  {{ host = "{name}", {ATTRIBUTES[template](self.chance, self.others(name))} }},'
+        entries = [f'  {{ host = "{name}", {attributes[template](self.chance, self.others(name))} }},'
                    for name in self.names if self.chance.random() < share]
         return '\n'.join(['[[invariant]]', f'template = "{template}"', 'assign = [', *entries, ']'])
 
     def others(self, name):
         return [other for other in self.names if other != name]
+
+
+class Template:
+    """A table of kinds, of which each denied pair has its partner with the default."""
+
+    def __init__(self, chance, name):
+        self.name, self.strategy = name, chance.choice(['access', 'information'])
+        self.kinds = [f'kind-{letter}' for letter in 'abcd'[:chance.randint(1, 4)]]
+        self.default = chance.choice(self.kinds)
+        share = chance.choice([0.1, 0.3])
+        pairs = [(a, b) for a in self.kinds for b in self.kinds if chance.random() < share]
+        self.deny = pairs + [pair for pair in map(self.partner, pairs) if pair not in pairs or chance.random() < 0.2]
+        chance.shuffle(self.deny)
+
+    def partner(self, pair):
+        return (self.default, pair[1]) if self.strategy == 'access' else (pair[0], self.default)
+
+    def text(self):
+        deny = ', '.join(f'["{a}", "{b}"]' for a, b in self.deny)
+        return (f'[[template]]\nname = "{self.name}"\nstrategy = "{self.strategy}"\nkinds = {listed(self.kinds)}\n'
+                f'default = "{self.default}"\ndeny = [{deny}]')
 
 
 class Traffic:

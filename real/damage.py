@@ -1,0 +1,103 @@
+"""Rules texts of iptables that somebody has touched: one rule of a text that topos wrote is changed at random."""
+import ipaddress
+import re
+
+PREFIX, PORTS, STATE = re.compile(r'( !)? -([sd]) (\S+)'), re.compile(r'( !)? --([sd])port (\S+)'), re.compile(
+    r' -m conntrack --ctstate \w+')
+OTHERWISE = {'ACCEPT': 'DROP', 'DROP': 'ACCEPT', 'REJECT': 'ACCEPT'}
+
+
+class Damage:
+    """What may happen to the rules of a text. Each change leaves a text that a kernel takes."""
+
+    def __init__(self, chance, text):
+        self.chance = chance
+        lines = text.splitlines()
+        self.head = [line for line in lines if not line.startswith('-A')][:-1]
+        self.rules = [line for line in lines if line.startswith('-A')]
+
+    def text(self):
+        """The text with some change, and in words what was changed."""
+        while True:
+            place = self.chance.randrange(len(self.rules))
+            change = self.chance.choice([self.dropped, self.doubled, self.moved, self.readdressed, self.readdressed,
+                                         self.reported, self.reported, self.restated, self.retargeted])
+            rules = change(self.rules[place], place)
+            if rules and rules != self.rules:
+                return '\n'.join([*self.head, *rules, 'COMMIT', '']), f'{change.__name__}: {self.rules[place]}'
+
+    def replaced(self, place, *rules):
+        return [*self.rules[:place], *rules, *self.rules[place + 1:]]
+
+    def dropped(self, _, place):
+        return self.replaced(place)
+
+    def doubled(self, rule, _):
+        return self.inserted(self.rules, rule)
+
+    def moved(self, rule, place):
+        return self.inserted(self.replaced(place), rule)
+
+    def inserted(self, rules, rule):
+        """With the rule at some place. Only its place in its own chain makes a difference."""
+        place = self.chance.randint(0, len(rules))
+        return [*rules[:place], rule, *rules[place:]]
+
+    def readdressed(self, rule, place):
+        """With another prefix, or all addresses but those of the prefix."""
+        found = self.some(PREFIX, rule)
+        if not found:
+            return None
+        negated, end, prefix = found.groups()
+        if self.chance.random() < 0.2:
+            changed = f'{"" if negated else " !"} -{end} {prefix}'
+        else:
+            changed = f'{negated or ""} -{end} {self.near(ipaddress.ip_network(prefix))}'
+        return self.replaced(place, rule[:found.start()] + changed + rule[found.end():])
+
+    def near(self, prefix):
+        """A half of the prefix, what it is a half of, the one beside it, or one that stands elsewhere."""
+        choices = [ipaddress.ip_network(found.group(3)) for line in self.rules for found in PREFIX.finditer(line)]
+        if prefix.prefixlen < 32:
+            choices += list(prefix.subnets()) * len(choices)
+        if prefix.prefixlen > 1:
+            whole = prefix.supernet()
+            choices += [whole, *(each for each in whole.subnets() if each != prefix)] * len(choices)
+        return self.chance.choice(choices)
+
+    def reported(self, rule, place):
+        """With a port more or less, all ports but these, or the ports of the other end."""
+        found = self.some(PORTS, rule)
+        if not found:
+            return None
+        negated, end, ports = found.groups()
+        low, _, high = ports.partition(':')
+        low, high = int(low), int(high or low)
+        how = self.chance.choice(['negated', 'turned', 'low', 'high', 'low', 'high'])
+        if how == 'negated':
+            negated = None if negated else ' !'
+        elif how == 'turned':
+            end = 's' if end == 'd' else 'd'
+        elif how == 'low':
+            low += self.chance.choice([-1, 1])
+        else:
+            high += self.chance.choice([-1, 1])
+        if not 0 <= low <= high <= 65535:
+            return None
+        changed = f'{negated or ""} --{end}port {low}' + ('' if low == high else f':{high}')
+        return self.replaced(place, rule[:found.start()] + changed + rule[found.end():])
+
+    def restated(self, rule, place):
+        """Of another state, of any state, or of one where it was of any."""
+        state = self.chance.choice(['', ' -m conntrack --ctstate NEW', ' -m conntrack --ctstate ESTABLISHED',
+                                    ' -m conntrack ! --ctstate ESTABLISHED', ' -m conntrack ! --ctstate NEW'])
+        before, target = STATE.sub('', rule).split(' -j ')
+        return self.replaced(place, f'{before}{state} -j {target}')
+
+    def retargeted(self, rule, place):
+        before, target = rule.split(' -j ')
+        return self.replaced(place, f'{before} -j {OTHERWISE[target]}') if target in OTHERWISE else None
+
+    def some(self, pattern, rule):
+        found = list(pattern.finditer(rule))
+        return self.chance.choice(found) if found else None

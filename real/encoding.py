@@ -1,0 +1,155 @@
+"""A description and a rules text of iptables, as a question to a solver of bit vectors (SMT-LIB 2).
+
+The question is whether some packet p shows a difference: alone, behind the packet that it answers, or behind itself
+and its answer. Where none does, no list of packets does; that is proved of audits, and taken over here. What is
+permitted, and what is stateful, is read from what `topos policy` prints.
+"""
+import ipaddress
+import re
+import tomllib
+
+from packets import NUMBERS
+from services import spelled
+
+PACKET = '(source (_ BitVec 32)) (target (_ BitVec 32)) (kind (_ BitVec 8)) (sport (_ BitVec 16)) (dport (_ BitVec 16))'
+FIELDS, SWAPPED = 'source target kind sport dport', 'target source kind dport sport'
+RETURNED, ACCEPTED, DROPPED = '#b00', '#b01', '#b10'
+OUTCOMES = {'ACCEPT': ACCEPTED, 'DROP': DROPPED, 'REJECT': DROPPED, 'RETURN': RETURNED}
+OPTIONS = {'-s': ('source', 32), '-d': ('target', 32), '-p': ('kind', 8), '--sport': ('sport', 16),
+           '--dport': ('dport', 16)}
+
+
+def number(value, bits):
+    return f'(_ bv{value} {bits})'
+
+
+def between(field, low, high, bits):
+    if low == high:
+        return f'(= {field} {number(low, bits)})'
+    parts = [f'(bvuge {field} {number(low, bits)})'] * (low > 0)
+    parts += [f'(bvule {field} {number(high, bits)})'] * (high < 2 ** bits - 1)
+    return joined('and', parts)
+
+
+def joined(word, parts):
+    if not parts:
+        return 'true' if word == 'and' else 'false'
+    return parts[0] if len(parts) == 1 else f'({word} {" ".join(parts)})'
+
+
+def covered(field, prefix):
+    return between(field, int(prefix[0]), int(prefix[-1]), 32)
+
+
+class Rules:
+    """The chains of a text, each a function from a packet and whether it is established to an outcome."""
+
+    def __init__(self, text):
+        self.policy, self.chains = {}, {}
+        for line in text.splitlines():
+            if line.startswith(':'):
+                name, policy = line[1:].split()[:2]
+                self.policy[name], self.chains[name] = policy, []
+            elif line.startswith('-A'):
+                _, chain, *words = line.split()
+                self.chains[chain].append(words)
+
+    def functions(self):
+        written = []
+        self.write('FORWARD', written)
+        end = '' if self.policy['FORWARD'] == 'DROP' else f' (= (FORWARD {FIELDS} est) {RETURNED})'
+        return [*written, f'(define-fun passes ({PACKET} (est Bool)) Bool '
+                          f'(or (= (FORWARD {FIELDS} est) {ACCEPTED}){end}))']
+
+    def write(self, chain, written):
+        """Each chain behind those that it jumps to."""
+        body = RETURNED
+        for words in reversed(self.chains[chain]):
+            *_, option, target = words
+            if option != '-j':
+                raise ValueError(f'no target: {words}')
+            met = joined('and', list(self.parts(words[:-2])))
+            if target in OUTCOMES:
+                body = f'(ite {met} {OUTCOMES[target]} {body})'
+                continue
+            if not any(each.startswith(f'(define-fun {target} ') for each in written):
+                self.write(target, written)
+            jump = f'({target} {FIELDS} est)'
+            body = f'(ite (and {met} (not (= {jump} {RETURNED}))) {jump} {body})'
+        written.append(f'(define-fun {chain} ({PACKET} (est Bool)) (_ BitVec 2) {body})')
+
+    @staticmethod
+    def parts(words):
+        negated, words = False, iter(words)
+        for word in words:
+            if word == '!':
+                negated = True
+                continue
+            value = next(words)
+            if word != '-m':
+                part = Rules.part(word, value)
+                yield f'(not {part})' if negated else part
+                negated = False
+
+    @staticmethod
+    def part(option, value):
+        if option == '--ctstate':
+            states = value.split(',')
+            return joined('or', ['est'] * ('ESTABLISHED' in states) + ['(not est)'] * ('NEW' in states))
+        field, bits = OPTIONS[option]
+        if bits == 32:
+            return covered(field, ipaddress.ip_network(value, strict=False))
+        if bits == 8:
+            return f'(= {field} {number(NUMBERS.get(value) or int(value), bits)})'
+        low, _, high = value.partition(':')
+        return between(field, int(low), int(high or low), bits)
+
+
+class Policy:
+    """What `topos policy` says of a description, as functions of a packet."""
+
+    def __init__(self, description, policy):
+        table = tomllib.loads(description)
+        self.at = {host['name']: [ipaddress.ip_network(text) for text in host.get('at', [])] for host in table['host']}
+        self.services = {tuple(flow[:2]): flow[2:] for flow in table.get('flow', [])}
+        allowed = re.findall(r'^(\S+) -> (\S+) allowed( with answers)?$', policy, re.MULTILINE)
+        self.permitted = [(one, other) for one, other, _ in allowed]
+        self.stateful = [(one, other) for one, other, answers in allowed if answers]
+
+    def functions(self):
+        return [f'(define-fun permitted ({PACKET}) Bool {self.some(self.permitted)})',
+                f'(define-fun stateful ({PACKET}) Bool {self.some(self.stateful)})']
+
+    def some(self, flows):
+        """That a packet is of one of these flows, which are told apart by their senders first."""
+        parts = []
+        for one in self.at:
+            receivers = [self.received(one, other) for sender, other in flows if sender == one]
+            if receivers:
+                parts.append(f'(and {self.owned("source", one)} {joined("or", receivers)})')
+        return joined('or', parts)
+
+    def owned(self, field, host):
+        if self.at[host]:
+            return joined('or', [covered(field, prefix) for prefix in self.at[host]])
+        return f'(not {joined("or", [covered(field, prefix) for at in self.at.values() for prefix in at])})'
+
+    def received(self, one, other):
+        services = [self.served(*spelled(text)) for text in self.services.get((one, other), [])]
+        return joined('and', [self.owned('target', other)] + [joined('or', services)] * bool(services))
+
+    @staticmethod
+    def served(name, low, high):
+        return joined('and', [f'(= kind {number(NUMBERS[name], 8)})', between('dport', low, high, 16)])
+
+
+def question(description, policy, rules):
+    """Satisfiable exactly where the rules and the policy differ."""
+    constants = [f'(declare-const {field} (_ BitVec {bits}))' for field, bits in OPTIONS.values()]
+    alone = f'(passes {FIELDS} false)'
+    answers = f'(passes {SWAPPED} false)'
+    expected = f'(or (permitted {FIELDS}) (stateful {SWAPPED}))'
+    behind = [f'(passes {FIELDS} {answers})', f'(passes {FIELDS} (or {alone} {answers}))']
+    differences = [f'(distinct {alone} (permitted {FIELDS}))', *(f'(distinct {each} {expected})' for each in behind)]
+    return '\n'.join([*Policy(description, policy).functions(), *Rules(rules).functions(), *constants,
+                      f'(assert {joined("or", differences)})', '(check-sat)', ''])

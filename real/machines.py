@@ -1,0 +1,153 @@
+"""The machines of hosts, each a network namespace with tracked connections, and the wire that joins them.
+
+A machine has one interface, of the kind TUN. What a raw socket of the machine sends goes through OUTPUT and comes out
+of the interface; what is put into the interface goes through INPUT, whatever its receiver is, and the raw sockets of
+the machine get what was let in. The wire between the interfaces is this process: it carries every packet to the
+machine of its receiver and enforces nothing. A marker of IPv6, which no rule sees, follows each packet: once it has
+arrived, what has not arrived before was dropped.
+
+The kernel of a machine would answer by itself, with a reset of TCP or an error of ICMP. Such packets lack the mark that
+those of the raw socket have, and are dropped before they are tracked.
+"""
+import ctypes
+import os
+import select
+import socket
+
+from box import HOUR, MARKER, NEW_NETWORK, PATIENCE, Failed, forget, interface, run
+from packets import BARE, ICMP, TCP, UDP
+
+MARK, SET_MARK = 1, 36
+UNMARKED = f'*raw\n:OUTPUT ACCEPT [0:0]\n-A OUTPUT -m mark ! --mark {MARK} -j DROP\nCOMMIT\n'
+OWN, FAR, MARKING = '2001:db8::2', '2001:db8::1', 253
+LINKS = ('link set lo up', 'link set lan up', 'route add default dev lan', 'rule add pref 10 iif lan lookup 100',
+         'route add local default dev lo table 100', f'-6 address add {OWN}/128 dev lan nodad',
+         '-6 route add default dev lan')
+SETTINGS = {
+    'ipv4/conf/all/rp_filter': '0',
+    'ipv4/conf/lan/rp_filter': '0',
+    'ipv4/icmp_echo_ignore_all': '1',
+    **{f'netfilter/nf_conntrack_{each}': HOUR for each in (
+        'udp_timeout', 'udp_timeout_stream', 'icmp_timeout', 'generic_timeout', 'tcp_timeout_syn_sent',
+        'tcp_timeout_syn_recv')},
+}
+
+
+class Machine:
+    """The process moves into the namespace of the machine that it works on."""
+
+    def __init__(self, back_end):
+        self.restore = f'iptables-{back_end}-restore'
+        if library().unshare(NEW_NETWORK):
+            raise Failed(f'no network namespace: {os.strerror(ctypes.get_errno())}')
+        try:
+            self.namespace = os.open('/proc/self/ns/net', os.O_RDONLY)
+            self.wire = interface('lan')
+            for words in LINKS:
+                run(['ip', *words.split()])
+            run([self.restore], UNMARKED)
+            for name, value in SETTINGS.items():
+                with open(f'/proc/sys/net/{name}', 'w', encoding='ascii') as file:
+                    file.write(value)
+            self.open_sockets()
+        except OSError as fault:
+            raise Failed(str(fault)) from fault
+
+    def open_sockets(self):
+        self.sender = socket.socket(socket.AF_INET, socket.SOCK_RAW, socket.IPPROTO_RAW)
+        self.sender.setsockopt(socket.SOL_SOCKET, SET_MARK, MARK)
+        self.marker = socket.socket(socket.AF_INET6, socket.SOCK_RAW, MARKING)
+        self.receivers = [socket.socket(socket.AF_INET, socket.SOCK_RAW, each) for each in (ICMP, TCP, UDP, *BARE)]
+        for each in self.receivers:
+            each.setblocking(False)
+
+    def enter(self):
+        if library().setns(self.namespace, NEW_NETWORK):
+            raise Failed(f'no way into a namespace: {os.strerror(ctypes.get_errno())}')
+
+    def version(self):
+        return run([self.restore, '--version']).strip()
+
+    def load(self, text):
+        self.enter()
+        run([self.restore], text)
+        run(['conntrack', '-F'])
+
+    def forget(self, event):
+        self.enter()
+        forget(event)
+
+    def send(self, packet, receiver):
+        """The packets of IPv4 that are on the wire once the machine was to send this one."""
+        try:
+            self.sender.sendto(packet, (receiver, 0))
+        except PermissionError:
+            pass  # OUTPUT dropped it
+        self.marker.sendto(b'', (FAR, 0))
+        sent = []
+        while True:
+            await_one(self.wire)
+            came = os.read(self.wire, 65536)
+            if came[0] >> 4 == 4:
+                sent.append(came)
+            elif came[6] == MARKING:
+                return sent
+
+    def take(self, packet):
+        """The packets that the machine lets in once this one is there."""
+        os.write(self.wire, packet)
+        os.write(self.wire, MARKER[:6] + bytes([MARKING]) + MARKER[7:])
+        await_one(self.marker)
+        self.marker.recv(65536)
+        return [came for each in self.receivers for came in waiting(each)]
+
+
+def await_one(source):
+    ready, _, _ = select.select([source], [], [], PATIENCE)
+    if not ready:
+        raise Failed('no packet of IPv6, which marks the end, comes through a machine')
+
+
+def waiting(receiver):
+    while True:
+        try:
+            yield receiver.recv(65536)
+        except BlockingIOError:
+            return
+
+
+def library():
+    return ctypes.CDLL(None, use_errno=True)
+
+
+class Machines:
+    """As many machines as a description of this mode has hosts, used again for each."""
+
+    def __init__(self, back_end, count):
+        self.back_end, self.all = back_end, [Machine(back_end) for _ in range(count)]
+
+    def version(self):
+        return f'{self.all[0].version()}, {len(self.all)} machines'
+
+    def load(self, texts):
+        """One text for each host in the order of the description, nothing for one that enforces nothing."""
+        self.there = {host: machine for host, machine in enumerate(self.all[:len(texts)]) if texts[host]}
+        for host, machine in self.there.items():
+            machine.load(texts[host])
+
+    def enforce(self, ends):
+        """Whether one of the two hosts has a machine with rules."""
+        return any(end in self.there for end in ends)
+
+    def forget(self, event):
+        for machine in self.there.values():
+            machine.forget(event)
+
+    def pass_on(self, packet, event, sender, receiver):
+        """What arrives of a packet between two hosts; an end that has no machine enforces nothing."""
+        carried = [packet]
+        if sender in self.there:
+            carried = self.there[sender].send(packet, event.destination)
+        if receiver in self.there and receiver != sender:
+            carried = [came for each in carried for came in self.there[receiver].take(each)]
+        return carried
