@@ -18,6 +18,12 @@ def assigns(template, *entries):
     return f'[[invariant]]\ntemplate = "{template}"\nassign = [{", ".join(entries)}]\n'
 
 
+def templates(count, default='"out"', deny='[]'):
+    """So many tables of the kinds `in` and `out`."""
+    return ''.join(f'[[template]]\nname = "t{k}"\nstrategy = "access"\nkinds = ["in", "out"]\n'
+                   f'default = {default}\ndeny = {deny}\n' for k in range(count))
+
+
 DESCRIPTIONS = [
     '#' * 1048577,                                                                          # 1 TooLong
     'topos = 1\nhost = [\n',                                                                # 2 NotToml
@@ -28,6 +34,7 @@ DESCRIPTIONS = [
     hosts([1] * 257),                                                                       # 7 TooMany
     hosts([52] * 18 + [84, 5]),
     HEAD + assigns('blp') * 17,
+    'topos = 2\n' + TWO + templates(17),
     'topos = 1\nflow = [["a", "b"], ["b c", "a"]]\n' + TWO,                                 # 8 BadName
     'topos = 1\nhost = [{ name = "a", at = ["10.0.1.1"] }, { name = "a", at = ["10.0.2.1"] }]\n',
     'topos = 1\nhost = [{ name = "a", at = ["10.0.0.01"] }]\n',                             # 10 BadPrefix
@@ -43,6 +50,8 @@ DESCRIPTIONS = [
     'topos = 1\nflow = [["a", "b"], ["a", "b"]]\n' + TWO,                                   # 20 DuplicateFlow
     'topos = 2\nflow = [["a", "b", "tcp/080"]]\n' + TWO,                                    # 21 BadService
     'topos = 2\nflow = [["a", "b", %s]]\n' % ', '.join(['"tcp"'] * 17) + TWO,               # 22 ManyServices
+    'topos = 2\n' + TWO + templates(1, default='"somewhere"'),                              # 23 BadTemplate
+    'topos = 2\n' + TWO + templates(1, deny='[["out", "in"], ["in", "in"], ["in", "out"]]'),  # 24 NotLawful
 ]
 
 # 91 addresses beside the rest of the world
