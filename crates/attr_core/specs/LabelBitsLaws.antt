@@ -94,7 +94,7 @@ not_before p n k (x ∷ xs) is = by_test (p x) (not_before p (n + 1) k xs) is
     by_test true behind found = let same : n ≡ k = cc in omega (arith, same)
     by_test false behind found = let later = behind found in omega (arith, later)
 
-one_place : (a b : List ℕ) (n k : ℕ) (xs : List (List ℕ)) → position_from (bytes_eq a) n xs ≡ Some k
+pub one_place : (a b : List ℕ) (n k : ℕ) (xs : List (List ℕ)) → position_from (bytes_eq a) n xs ≡ Some k
     → position_from (bytes_eq b) n xs ≡ Some k → a ≡ b
 one_place a b n k [] first second = cc
 one_place a b n k (x ∷ xs) first second = by_tests (bytes_eq a x) (bytes_eq b x) refl refl (one_place a b (n + 1) k xs) first second
@@ -129,7 +129,7 @@ bit_more bits number k = elim (cases_eq number k) [
 ]
 
 -- some listed label has the place
-abbrev Marks : List (List ℕ) → List (List ℕ) → ℕ → Type 0
+abbrev pub Marks : List (List ℕ) → List (List ℕ) → ℕ → Type 0
 Marks all ls k = (l : List ℕ) × (is_listed ls l ≡ true) × (place_of all l ≡ Some k)
 
 pub record AreBits (labels : List (List ℕ)) (bits : ℕ) (t : LabelSet) (ls : List (List ℕ)) : Type 0 where
@@ -233,12 +233,12 @@ bits_within u t each =
 zero_has : (k : ℕ) {C : Type 0} → bit_at 0 k ≡ 1 → C
 zero_has k has = let none = bit_at-zero k in absurd (omega (arith, has, none))
 
-all_listed : (ts us : List (List ℕ)) → ((l : List ℕ) → is_listed us l ≡ true → is_listed ts l ≡ true) → list_all (is_listed ts) us ≡ true
+pub all_listed : (ts us : List (List ℕ)) → ((l : List ℕ) → is_listed us l ≡ true → is_listed ts l ≡ true) → list_all (is_listed ts) us ≡ true
 all_listed ts [] each = refl
 all_listed ts (l ∷ us) each =
     rw (each l (or_left (bytes_eq l l) (is_listed us l) ((bytes_eq-Decides l l).1 refl)), all_listed ts us (λ m listed. each m (or_right (bytes_eq m l) (is_listed us m) listed))) refl
 
-each_listed : (ts us : List (List ℕ)) → list_all (is_listed ts) us ≡ true → (l : List ℕ) → is_listed us l ≡ true → is_listed ts l ≡ true
+pub each_listed : (ts us : List (List ℕ)) → list_all (is_listed ts) us ≡ true → (l : List ℕ) → is_listed us l ≡ true → is_listed ts l ≡ true
 each_listed ts [] all l listed = absurd (false≢true listed)
 each_listed ts (m ∷ us) all l listed =
     let (here, later) = and_parts (is_listed ts m) (list_all (is_listed ts) us) all in
@@ -269,7 +269,7 @@ among_is labels ts us t u taints untaints = same_tests (are_among u.bits t.bits)
     ]))
 
 -- a set of labels has the bits of their places
-bits_mark : (labels ls : List (List ℕ)) → ((l : List ℕ) → is_listed ls l ≡ true → (k : ℕ) × (place_of labels l ≡ Some k)) → (k : ℕ)
+pub bits_mark : (labels ls : List (List ℕ)) → ((l : List ℕ) → is_listed ls l ≡ true → (k : ℕ) × (place_of labels l ≡ Some k)) → (k : ℕ)
     → (bit_at (bits_of labels ls) k ≡ 1) ↔ Marks labels ls k
 bits_mark labels [] placed k = (λ has. zero_has k has, λ marks. absurd (false≢true marks.1))
 bits_mark labels (m ∷ ls) placed k =

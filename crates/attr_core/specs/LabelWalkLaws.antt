@@ -133,7 +133,7 @@ said_by_walk labels table None few is = said_none labels table (bad_labels_are l
 said_by_walk labels table (Some l) few is = said_some labels table l few is
 
 -- one assign more
-told_more : (earlier : List Given) (a : Given) → labels_of (earlier ++ a ∷ []) ≡ different (labels_of earlier) (told a.table)
+pub told_more : (earlier : List Given) (a : Given) → labels_of (earlier ++ a ∷ []) ≡ different (labels_of earlier) (told a.table)
 told_more earlier a =
     let listed : List (List ℕ) = flat_map (λ (b : Given). told b.table) earlier in
     ap (different []) (flat_map-append (λ (b : Given). told b.table) earlier (a ∷ []) ∙ ap (λ ls. listed ++ ls) (append-nil (told a.table)))

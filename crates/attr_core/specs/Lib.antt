@@ -17,6 +17,8 @@ pub mod LabelBitsLaws
 pub mod LabelWalk
 pub mod LabelWalkLaws
 pub mod LabelsLaws
+pub mod MayHave
+pub mod MayHaveLaws
 pub mod NoReach
 pub mod NonInterference
 pub mod Partners
@@ -26,6 +28,7 @@ pub mod ShallowLaws
 pub mod Shapes
 pub mod Sink
 pub mod Subnets
+pub mod TaintedMayHaveLaws
 pub mod TaintedView
 pub mod Tainting
 pub mod TaintingLaws

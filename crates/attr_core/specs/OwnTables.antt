@@ -1,15 +1,14 @@
 -- A template that a description declares as a table: an assign says a kind, by the table's word for it.
 -- The keys of an assign of such a template: docs/FORMATS.md.
-use Rattle.std.specs.Prelude.{ℕ, List, [], ◌∷◌, Option, None, codes, if◌then◌else◌}
+use Rattle.std.specs.Prelude.{ℕ, List, [], ◌∷◌, Option, codes}
 use Rattle.std.specs.List.{position_from}
 use Rattle.std.specs.Str.{bytes_eq}
 use Rattle.inv_any.specs.declared.any_inv.AnyInv.TheVariants as any
 use Rattle.tmpl_table.specs.KindTable.{KindTable, declared}
-use Rattle.toml.specs.Data.{Members}
 use Rattle.attr_core.specs.Alone.{alone}
 use Rattle.attr_core.specs.Forms.{Form}
 use Rattle.attr_core.specs.Kinds.{kind_of}
-use Rattle.attr_core.specs.Shapes.{has_shape, host_key}
+use Rattle.attr_core.specs.Shapes.{host_key}
 use Rattle.table_core.specs.Keys.{Key, Text, needed}
 
 -- the words for its kinds, in order, and the table of their numbers

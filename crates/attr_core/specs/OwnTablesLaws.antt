@@ -1,11 +1,11 @@
 -- What the assigns of a declared template come to, assign by assign.
-use Rattle.std.proofs.Common.{◌≡◌, ℕ, ◌<◌, ◌+◌, Bool, true, false, List, [], ◌∷◌, ◌++◌, length, map, replicate, Option, Some, None, is_some, refl, sym, ap, ◌∙◌, subst, arith}
-use Rattle.std.specs.List.{position_from, range_with_len}
+use Rattle.std.proofs.Common.{◌≡◌, ℕ, ◌<◌, ◌+◌, Bool, true, false, List, [], ◌∷◌, ◌++◌, length, map, replicate, Option, Some, None, is_some, refl, sym, ap, ◌∙◌, arith}
+use Rattle.std.specs.List.{position_from}
 use Rattle.std.specs.Prelude.{if◌then◌else◌, IfSome}
 use Rattle.host_net.specs.Host.{Host}
 use Rattle.inv_any.specs.declared.any_inv.AnyInv.TheVariants as any
 use Rattle.attr_core.specs.Assigns.{Given}
-use Rattle.attr_core.specs.Bad.{bad_alone, first_failing, shaped_alone}
+use Rattle.attr_core.specs.Bad.{bad_alone, first_failing}
 use Rattle.attr_core.specs.OwnTables.{Declared, table_form}
 use Rattle.attr_core.specs.OwnTablesWalk.{kind_said, kinds_after}
 use Rattle.attr_core.specs.FormLaws.{set_all, set_all_assigned, set_said}

@@ -1,5 +1,5 @@
 -- The walk through the assigns of a declared template. Nothing here has to be believed: OwnTablesLaws ties it to the form.
-use Rattle.std.specs.Prelude.{ℕ, List, [], ◌∷◌, Option, Some, None, slice_set, if◌then◌else◌}
+use Rattle.std.specs.Prelude.{ℕ, List, [], ◌∷◌, Option, None, if◌then◌else◌}
 use Rattle.toml.specs.Data.{Members}
 use Rattle.attr_core.specs.Assigns.{Given}
 use Rattle.attr_core.specs.OwnTables.{kind_numbered, table_keys}

@@ -1,9 +1,10 @@
 //! Domains: the place of a host in the hierarchy, and its trust.
-ghost use Rattle.std.specs.Prelude.{◌≡◌, ◌≤◌, IsTrue, IfSome, option_map, length, codes, unwrap_or};
+ghost use Rattle.std.specs.Prelude.{◌≡◌, ◌≤◌, IfSome, option_map, length, codes, unwrap_or};
 ghost use Rattle.attr_core.specs.Domains.{domains_attribute};
 ghost use Rattle.std.specs.List.{list_all};
 ghost use Rattle.table_core.specs.Tables.{number_at};
 ghost use Rattle.text_core.specs.Name.{is_name};
+ghost use Rattle.tmpl_domains.specs.Domains.{IsPlace};
 ghost use Rattle.tmpl_domains.specs.Path.{is_path, segments};
 ghost use Rattle.toml.specs.View.{table_view};
 
@@ -84,7 +85,7 @@ impl Alone for Domains {
 fn read_attribute(table: &Table) -> Option<(&[u8], u8)>
     ensures place { option_map (λ said. record { path = segments said.0.now; trust = said.1 }) result
         ≡ domains_attribute (table_view table.now) }
-    ensures legal { IfSome result (λ said. IsTrue (is_path said.0.now) × (said.1 ≤ 16)) }
+    ensures may { IfSome result (λ said. IsPlace (record { path = segments said.0.now; trust = said.1 })) }
 {
     let path = text_at(table, "path")?.as_bytes();
     if is_path(path) {

@@ -5,7 +5,7 @@ ghost use Rattle.attr_core.specs.FirstBad.{SaysNothing, TellsFirstBad};
 ghost use Rattle.attr_core.specs.ReadIn.{read_in};
 ghost use Rattle.attr_core.specs.Templates.{bad_in, form, invariant_in, template_named};
 ghost use Rattle.attr_core.specs.declared.fault.AttrFault.TheVariants.{Memory};
-ghost use Rattle.inv_any.specs.Templates.{meaning_of, template_name};
+ghost use Rattle.inv_any.specs.Templates.{HostsMayHave, meaning_of, template_name};
 
 use crate::alone::first_bad;
 use crate::assign::Assign;
@@ -74,6 +74,7 @@ pub fn read_invariant(
     ensures invariant { IfOk result (λ any. any ≡ invariant_in hosts.now template (map given_of assigns.now)) }
     ensures size { IfOk result (λ any. (meaning_of any).size ≡ length hosts.now) }
     ensures named { IfOk result (λ any. template_named (template_name any) ≡ Some template) }
+    ensures may_have { IfOk result (λ any. HostsMayHave any) }
 {
     match by_template(alloc, hosts, template, assigns) {
         Ok(invariant) => Ok(invariant),

@@ -13,6 +13,7 @@ mod fault;
 mod gateway;
 mod invariant;
 mod kinds;
+mod may_have;
 mod no_reach;
 mod non_interference;
 mod own_table;
@@ -28,5 +29,6 @@ mod tests;
 
 pub use assign::Assign;
 pub use invariant::{bad_attribute, read_invariant};
+pub use may_have::says_what_hosts_may_have;
 pub use own_table::{bad_kind, kind_numbered, read_kinds};
 pub use template::Template;

@@ -9,7 +9,7 @@ ghost use Rattle.attr_core.specs.Tainting.{label_in, tainting_form};
 ghost use Rattle.host_net.specs.Host.{Host};
 ghost use Rattle.std.specs.List.{position_from};
 ghost use Rattle.std.specs.Str.{bytes_eq};
-ghost use Rattle.tmpl_levels.specs.TaintingView.{AreAmong};
+ghost use Rattle.tmpl_levels.specs.Tainting.{TakesOffItsOwn};
 ghost use Rattle.toml.specs.View.{view, table_view};
 
 use crate::assign::Assign;
@@ -136,7 +136,7 @@ fn labelled(labels: &mut Vec<Name>, table: &Table) -> Result<Option<(u64, u64)>,
     ensures few { length labels.new.items ≤ 64 }
     ensures said { IfOk result (λ said. labelled labels.old.items (table_view table.now)
         ≡ option_map (λ set. record { labels = labels.new.items; attribute = record { taints = set.0; untaints = set.1 } }) said) }
-    ensures among { IfOk result (λ said. IfSome said (λ set. AreAmong set.1 set.0)) }
+    ensures own { IfOk result (λ said. IfSome said (λ set. TakesOffItsOwn (record { taints = set.0; untaints = set.1 }))) }
 {
     let Some(taints) = labels_at(labels, table, "taints")? else {
         return Ok(None);
@@ -151,9 +151,10 @@ fn labelled(labels: &mut Vec<Name>, table: &Table) -> Result<Option<(u64, u64)>,
     }
 }
 
+#[tactic(auto, using(tmpl_levels::specs::TaintingLaws::own_by_mask))]
 fn are_among(untaints: u64, taints: u64) -> bool
     ensures said { result ≡ are_among untaints taints }
-    ensures among { IsTrue result → AreAmong untaints taints }
+    ensures own { IsTrue result → TakesOffItsOwn (record { taints = taints; untaints = untaints }) }
 {
     untaints & taints == untaints
 }

@@ -13,7 +13,7 @@ use Rattle.flow_set.specs.FlowSet.{has, with_flow, without}
 use Rattle.flow_set.specs.declared.flow.Flow.{Flow}
 use Rattle.host_set.specs.HostSet.{HostNumbers}
 use Rattle.host_set.specs.HostSetLaws.{hosts_ext}
-use Rattle.inv_any.specs.OtherDefaults.{Anything, DeniesOthers, LetsOff, OnlyDefaultIsSecure, TakesOffItsOwn}
+use Rattle.inv_any.specs.OtherDefaults.{LetsOff, OnlyDefaultIsSecure}
 use Rattle.inv_law.specs.Attributes.{PassesBetween}
 use Rattle.inv_law.specs.Invariants.{IsOffendingHost, blamed_host}
 use Rattle.inv_law.specs.RuleLaws.{AllFlowsPass-none, AllFlowsPass-one, passes_alone}
@@ -145,7 +145,7 @@ receiver_lets_off {A} d Passes x y z denies takes n host two is_host =
     }
 
 -- a sender of level 1 may not send to a host of level 0 that is not trusted
-pub blp_only : OnlyDefaultIsSecure blp Anything
+pub blp_only : OnlyDefaultIsSecure blp
 blp_only n host x two is_host may other =
     receiver_lets_off untrusted (λ i. BlpPasses) x (record { level = 1; trusted = false }) untrusted
     (λ i passes. elim passes [
@@ -179,7 +179,7 @@ zero_or_one : {C : Type 0} (bit : ℕ) → bit ≡ 0 → bit ≡ 1 → C
 zero_or_one bit none one = absurd (omega arith)
 
 -- a host with labels takes those labels
-pub tainting_only : OnlyDefaultIsSecure tainting TakesOffItsOwn
+pub tainting_only : OnlyDefaultIsSecure tainting
 tainting_only n host x two is_host may other =
     let (label, has) = some_label in
     receiver_lets_off untainted (λ i. TaintsPass) x (record { taints = x.taints; untaints = 0 }) untainted
@@ -203,7 +203,7 @@ tainting_only n host x two is_host may other =
         ]
 
 -- a pool sends to sinks and pools
-pub sinks_only : OnlyDefaultIsSecure sinks Anything
+pub sinks_only : OnlyDefaultIsSecure sinks
 sinks_only n host sink.Sink two is_host may other =
     receiver_lets_off sink.Unassigned (λ i. TablePasses sink_passes) sink.Sink sink.Pool sink.Unassigned (λ i passes. false≢true passes) (λ i. refl) n host two is_host
 sinks_only n host sink.Pool two is_host may other =
@@ -211,7 +211,7 @@ sinks_only n host sink.Pool two is_host may other =
 sinks_only n host sink.Unassigned two is_host may other = absurd (other refl)
 
 -- all but unassigned hosts reach a gateway
-pub gateways_only : OnlyDefaultIsSecure gateways Anything
+pub gateways_only : OnlyDefaultIsSecure gateways
 gateways_only n host gate.Gateway two is_host may other =
     sender_lets_off gate.Unassigned (λ i. TablePasses gateway_passes) gate.Gateway gate.Gateway gate.Unassigned (λ i passes. false≢true passes) (λ i. refl) n host two is_host
 gateways_only n host gate.GatewayIn two is_host may other =
@@ -223,7 +223,7 @@ gateways_only n host gate.Accessible two is_host may other =
 gateways_only n host gate.Unassigned two is_host may other = absurd (other refl)
 
 -- subnets reach their own hosts, and borders reach borders
-pub subnets_only : OnlyDefaultIsSecure subnets Anything
+pub subnets_only : OnlyDefaultIsSecure subnets
 subnets_only n host (net.Subnet a) two is_host may other =
     sender_lets_off net.Unassigned (λ i. TablePasses subnets_passes) (net.Subnet a) (net.Subnet a) net.Unassigned (λ i passes. false≢true passes) (λ i. eq-eqb a a refl) n host two is_host
 subnets_only n host (net.Border a) two is_host may other =
@@ -231,7 +231,7 @@ subnets_only n host (net.Border a) two is_host may other =
 subnets_only n host net.Unassigned two is_host may other = absurd (other refl)
 
 -- all but those that do not care reach one that cares
-pub partners_only : OnlyDefaultIsSecure partners Anything
+pub partners_only : OnlyDefaultIsSecure partners
 partners_only n host DontCare two is_host may other = absurd (other refl)
 partners_only n host Care two is_host may other =
     sender_lets_off DontCare (λ i. TablePasses (partners_passes i)) Care Care DontCare (λ i passes. false≢true passes) (λ i. refl) n host two is_host
@@ -239,14 +239,14 @@ partners_only n host (Master from) two is_host may other =
     sender_lets_off DontCare (λ i. TablePasses (partners_passes i)) (Master from) Care DontCare (λ i passes. false≢true passes) (λ i. refl) n host two is_host
 
 -- a host with a place reaches that place
-pub domains_only : OnlyDefaultIsSecure domains Anything
+pub domains_only : OnlyDefaultIsSecure domains
 domains_only n host None two is_host may other = absurd (other refl)
 domains_only n host (Some place) two is_host may other =
     let kept : ℕ = length place.path - place.trust in
     sender_lets_off None (λ i. DomainsPass) (Some place) (Some place) None (λ i passes. passes) (λ i. (drop kept place.path, sym (take-append-drop kept place.path))) n host two is_host
 
 -- a host with a limit above 0 may reach one other
-pub dependability_only : OnlyDefaultIsSecure dependability Anything
+pub dependability_only : OnlyDefaultIsSecure dependability
 dependability_only n host x two is_host may other =
     let o : Another n host = another n host two in
     let hosts : List ℕ = replicate n 0 in
@@ -270,7 +270,7 @@ dependability_only n host x two is_host may other =
     }
 
 -- a host that does not interfere may learn of another
-pub interference_only : OnlyDefaultIsSecure non_interference Anything
+pub interference_only : OnlyDefaultIsSecure non_interference
 interference_only n host Interfering two is_host may other = absurd (other refl)
 interference_only n host Unrelated two is_host may other =
     let o : Another n host = another n host two in
@@ -310,7 +310,7 @@ all_or_one test (suc n) =
     ]
 
 -- a host that does not deny all others may reach one of them
-pub no_reach_only : OnlyDefaultIsSecure no_reach DeniesOthers
+pub no_reach_only : OnlyDefaultIsSecure no_reach
 no_reach_only n host x two is_host may other =
     elim (all_or_one (λ j. fin.contains x j || nat_eq j host) n) [
       | inl all ↦ absurd (other (hosts_ext x (others n host) (λ j. same_answer j all)))

@@ -1,28 +1,46 @@
 //! Why the templates have their defaults.
 
-ghost use Rattle.inv_any.specs.OtherDefaults.{Anything, DeniesOthers, OnlyDefaultIsSecure, TakesOffItsOwn};
+ghost use Rattle.std.specs.Prelude.{◌<◌};
+ghost use Rattle.inv_any.specs.OtherDefaults.{OnlyDefaultIsSecure};
+ghost use Rattle.inv_law.specs.Template.{MayHaveDefault};
 ghost use Rattle.tmpl_domains.specs.Domains.{domains};
 ghost use Rattle.tmpl_levels.specs.Blp.{blp};
 ghost use Rattle.tmpl_levels.specs.Tainting.{tainting};
 ghost use Rattle.tmpl_reach.specs.Dependability.{dependability};
 ghost use Rattle.tmpl_reach.specs.NoReach.{no_reach};
 ghost use Rattle.tmpl_reach.specs.NonInterference.{non_interference};
+ghost use Rattle.tmpl_table.specs.KindTable.{KindTable, declared};
 ghost use Rattle.tmpl_zones.specs.Gateway.{gateways};
 ghost use Rattle.tmpl_zones.specs.Partners.{partners};
 ghost use Rattle.tmpl_zones.specs.Sink.{sinks};
 ghost use Rattle.tmpl_zones.specs.Subnets.{subnets};
 
-/// No other attribute of the ten templates would be a secure default: given to a host that is to blame,
-/// it hides the fault of some flow.
+/// Of the attributes of the ten templates that a host may have, none but the default would be a secure
+/// default: given to a host that is to blame, it hides the fault of some flow.
 pub fn only_default_is_secure()
-    ensures blp { OnlyDefaultIsSecure blp Anything }
-    ensures tainting { OnlyDefaultIsSecure tainting TakesOffItsOwn }
-    ensures sink { OnlyDefaultIsSecure sinks Anything }
-    ensures gateway { OnlyDefaultIsSecure gateways Anything }
-    ensures subnets { OnlyDefaultIsSecure subnets Anything }
-    ensures partners { OnlyDefaultIsSecure partners Anything }
-    ensures domains { OnlyDefaultIsSecure domains Anything }
-    ensures dependability { OnlyDefaultIsSecure dependability Anything }
-    ensures non_interference { OnlyDefaultIsSecure non_interference Anything }
-    ensures no_reach { OnlyDefaultIsSecure no_reach DeniesOthers }
+    ensures blp { OnlyDefaultIsSecure blp }
+    ensures tainting { OnlyDefaultIsSecure tainting }
+    ensures sink { OnlyDefaultIsSecure sinks }
+    ensures gateway { OnlyDefaultIsSecure gateways }
+    ensures subnets { OnlyDefaultIsSecure subnets }
+    ensures partners { OnlyDefaultIsSecure partners }
+    ensures domains { OnlyDefaultIsSecure domains }
+    ensures dependability { OnlyDefaultIsSecure dependability }
+    ensures non_interference { OnlyDefaultIsSecure non_interference }
+    ensures no_reach { OnlyDefaultIsSecure no_reach }
+{}
+
+/// The default of a template is an attribute that each host may have.
+pub fn hosts_may_have_the_default()
+    ensures blp { MayHaveDefault blp }
+    ensures tainting { MayHaveDefault tainting }
+    ensures sink { MayHaveDefault sinks }
+    ensures gateway { MayHaveDefault gateways }
+    ensures subnets { MayHaveDefault subnets }
+    ensures partners { MayHaveDefault partners }
+    ensures domains { MayHaveDefault domains }
+    ensures dependability { MayHaveDefault dependability }
+    ensures non_interference { MayHaveDefault non_interference }
+    ensures no_reach { MayHaveDefault no_reach }
+    ensures table { (table : KindTable) → table.default < table.kinds → MayHaveDefault (declared table) }
 {}

@@ -10,4 +10,4 @@ mod tests;
 
 pub use any_inv::AnyInv;
 pub use any_trial::AnyTrial;
-pub use defaults::only_default_is_secure;
+pub use defaults::{hosts_may_have_the_default, only_default_is_secure};

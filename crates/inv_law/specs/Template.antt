@@ -1,18 +1,20 @@
 -- A template as one record: all that is said of it but how a description writes its attributes.
 -- What an invariant of the template means is derived from the record and the attributes of the hosts.
-use Rattle.std.specs.Prelude.{ℕ, Bool, true, false, List, length, slice_set}
+use Rattle.std.specs.Prelude.{ℕ, ◌<◌, Bool, true, false, List, length, slice_index_or, slice_set}
 use Rattle.flow_set.specs.declared.flow.Flow.{Flow}
 use Rattle.inv_law.specs.Attributes.{PassesBetween}
 use Rattle.inv_law.specs.Rules.{AllFlowsPass}
 use Rattle.inv_law.specs.declared.strategy.Strategy.{Strategy}
 
--- its name in descriptions and reports, whom it blames, whether it judges flows one by one, what a host's attribute is,
--- the attribute of a host of n hosts to which none is given, and what the attributes of all hosts ask of a set of flows
+-- its name in descriptions and reports, whom it blames, whether it judges flows one by one, what an attribute is, which of them a
+-- host of n hosts may have, by its number, the attribute of a host of n hosts to which none is given, and what the attributes of all
+-- hosts ask of a set of flows
 pub record Template : Type 1 where
   pub name : List ℕ
   pub strategy : Strategy
   pub edge_mark : Bool
   pub Attribute : Type 0
+  pub MayHave : ℕ → ℕ → Attribute → Type 0
   pub default : ℕ → ℕ → Attribute
   pub Holds : List Attribute → List Flow → Type 0
 
@@ -29,6 +31,19 @@ pub record Meaning : Type 1 where
 abbrev pub reset_at : (t : Template) → List t.Attribute → ℕ → List t.Attribute
 reset_at t hosts host = slice_set hosts host (t.default (length hosts) host)
 
+-- each host has an attribute that it may have
+abbrev pub AllMayHave : (t : Template) → List t.Attribute → Type 0
+AllMayHave t hosts =
+    (host : ℕ) → host < length hosts → t.MayHave (length hosts) host (slice_index_or hosts host (t.default (length hosts) host))
+
+-- the default is an attribute that each host may have
+abbrev pub MayHaveDefault : Template → Type 0
+MayHaveDefault t = (n host : ℕ) → host < n → t.MayHave n host (t.default n host)
+
+-- no attribute is kept from any host
+abbrev pub Anything : {A : Type 0} → A → Type 0
+Anything x = Unit {0}
+
 -- what the invariant of these attributes means
 abbrev pub meaning : (t : Template) → List t.Attribute → Meaning
 meaning t hosts = record {
@@ -39,24 +54,26 @@ meaning t hosts = record {
   holds_after_reset = λ host. t.Holds (reset_at t hosts host);
 }
 
--- a template that judges each flow alone, by the attributes of its two hosts, with one default for all hosts
-abbrev pub edge_template : {A : Type 0} → List ℕ → Strategy → A → (A → A → Type 0) → Template
-edge_template {A} name strategy default Passes = record {
+-- a template that judges each flow alone, by the attributes of its two hosts, with the same attributes and one default for all hosts
+abbrev pub edge_template : {A : Type 0} → List ℕ → Strategy → (A → Type 0) → A → (A → A → Type 0) → Template
+edge_template {A} name strategy MayHave default Passes = record {
   name = name;
   strategy = strategy;
   edge_mark = true;
   Attribute = A;
+  MayHave = λ n host. MayHave;
   default = λ n host. default;
   Holds = λ hosts. AllFlowsPass (PassesBetween default Passes hosts);
 }
 
 -- a template that judges the flows together, by where they lead
-abbrev pub walk_template : {A : Type 0} → List ℕ → Strategy → (ℕ → ℕ → A) → (List A → List Flow → Type 0) → Template
-walk_template {A} name strategy default Holds = record {
+abbrev pub walk_template : {A : Type 0} → List ℕ → Strategy → (ℕ → ℕ → A → Type 0) → (ℕ → ℕ → A) → (List A → List Flow → Type 0) → Template
+walk_template {A} name strategy MayHave default Holds = record {
   name = name;
   strategy = strategy;
   edge_mark = false;
   Attribute = A;
+  MayHave = MayHave;
   default = default;
   Holds = Holds;
 }

@@ -1,9 +1,10 @@
 -- The default of the domain hierarchy template hides no fault.
-use Rattle.std.specs.Prelude.{Some, None}
+use Rattle.std.specs.Prelude.{IfSome, Some, None}
 use Rattle.inv_law.specs.Resets.{IsSecureDefault}
+use Rattle.inv_law.specs.Template.{MayHaveDefault}
 use Rattle.inv_law.specs.TemplateLaws.{IsLawfulTemplate, lawful_edge}
 use Rattle.inv_law.specs.declared.strategy.Strategy.TheVariants.{Access}
-use Rattle.tmpl_domains.specs.Domains.{DomainsPass, domains}
+use Rattle.tmpl_domains.specs.Domains.{DomainsPass, IsPlace, domains}
 
 -- a sender without a place reaches only receivers without one, whom all senders reach
 pub domains_secure : IsSecureDefault Access None DomainsPass
@@ -11,4 +12,7 @@ domains_secure sender None passes = tt
 domains_secure sender (Some receiver) passes = absurd passes
 
 pub domains_lawful : IsLawfulTemplate domains
-domains_lawful = lawful_edge domains.name domains.strategy None DomainsPass domains_secure
+domains_lawful = lawful_edge domains.name domains.strategy (λ place. IfSome place IsPlace) None DomainsPass domains_secure
+
+pub domains_default : MayHaveDefault domains
+domains_default n host within = tt

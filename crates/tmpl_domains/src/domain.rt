@@ -1,8 +1,8 @@
 //! One host's place in the hierarchy: the segments of its path, and its trust.
 
-ghost use Rattle.std.specs.Prelude.{◌≡◌, ◌≤◌, ◌↔◌, IsTrue, IfOk};
-ghost use Rattle.tmpl_domains.specs.Domains.{Place, trusted_path};
-ghost use Rattle.tmpl_domains.specs.Path.{segments, is_path, IsPrefix};
+ghost use Rattle.std.specs.Prelude.{◌≡◌, ◌↔◌, IsTrue, IfOk};
+ghost use Rattle.tmpl_domains.specs.Domains.{IsPlace, Place, trusted_path};
+ghost use Rattle.tmpl_domains.specs.Path.{segments, IsPrefix};
 ghost use Rattle.tmpl_domains.specs.DomainView.{segment_bytes};
 
 use std::alloc::{AllocError, Global};
@@ -16,8 +16,7 @@ pub(crate) struct Domain {
 }
 
 impl Model for Domain {
-    ghost use Rattle.tmpl_domains.specs.Domains.{Place};
-    ghost use Rattle.tmpl_domains.specs.DomainView.{IsPlace};
+    ghost use Rattle.tmpl_domains.specs.Domains.{IsPlace, Place};
     ghost use Rattle.tmpl_domains.specs.DomainView.{segment_bytes};
 
     ghost Value = { Place };
@@ -29,8 +28,7 @@ impl Model for Domain {
 
 impl Domain {
     pub(crate) fn new(alloc: Global, path: &[u8], trust: u8) -> Result<Domain, AllocError>
-        requires path { IsTrue (is_path path.now) }
-        requires trust { trust ≤ 16 }
+        requires { IsPlace (record { path = segments path.now; trust = trust }) }
         ensures { IfOk result (λ domain. domain ≡ record { path = segments path.now; trust = trust }) }
     {
         let path = cut(alloc, path)?;

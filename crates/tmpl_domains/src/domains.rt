@@ -1,13 +1,13 @@
 //! The rule of the hierarchy, for hosts that each have a place or none.
 
-ghost use Rattle.std.specs.Prelude.{◌≡◌, ◌≤◌, ◌<◌, IsTrue, IfOk, OnOk, OnErr, length, replicate, slice_set};
+ghost use Rattle.std.specs.Prelude.{◌≡◌, ◌<◌, IfOk, Some, OnOk, OnErr, length, replicate, slice_set};
 ghost use Rattle.inv_law.specs.Attributes.{PassesBetween};
 ghost use Rattle.inv_law.specs.Resets.{PassesAfterReset};
 ghost use Rattle.inv_law.specs.AttributeLaws.{ResetPassesNoMore-attributes};
 ghost use Rattle.inv_law.specs.declared.strategy.Strategy.TheVariants.{Access};
-ghost use Rattle.tmpl_domains.specs.Domains.{DomainsPass};
+ghost use Rattle.tmpl_domains.specs.Domains.{DomainsPass, domains};
 ghost use Rattle.tmpl_domains.specs.DomainsLaws.{domains_secure};
-ghost use Rattle.tmpl_domains.specs.Path.{segments, is_path};
+ghost use Rattle.tmpl_domains.specs.Path.{segments};
 
 use crate::domain::Domain;
 use inv_law::{EdgeRule, Strategy};
@@ -22,14 +22,15 @@ pub struct Domains {
 }
 
 impl Model for Domains {
-    ghost use Rattle.std.specs.Prelude.{List, Option, length, ◌<◌, ◌^◌};
+    ghost use Rattle.std.specs.Prelude.{List, Option};
+    ghost use Rattle.tmpl_domains.specs.DomainView.{ArePlaced};
     ghost use Rattle.tmpl_domains.specs.Domains.{Place};
 
     ghost Value = { List (Option Place) };
 
     ghost view = { λ domains. domains.hosts.items };
 
-    ghost invariant = { λ domains. length domains.hosts.items < 2 ^ 16 };
+    ghost invariant = { λ domains. ArePlaced domains.hosts.items };
 }
 
 impl Domains {
@@ -47,8 +48,7 @@ impl Domains {
     /// Gives the host this place, where it acts as if its path had `trust` segments less.
     pub fn set(&mut self, host: u16, path: &[u8], trust: u8) -> Result<(), AllocError>
         requires host { host < length self.old }
-        requires path { IsTrue (is_path path.now) }
-        requires trust { trust ≤ 16 }
+        requires may { domains.MayHave (length self.old) host (Some (record { path = segments path.now; trust = trust })) }
         ensures ok { OnOk result (self.new
             ≡ slice_set self.old host (Some (record { path = segments path.now; trust = trust }))) }
         ensures err { OnErr result (self.new ≡ self.old) }

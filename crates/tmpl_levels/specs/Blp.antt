@@ -1,7 +1,7 @@
 -- The Bell-LaPadula template with trusted hosts: information flows upward, or to a host that is trusted with it.
 -- After the entry Network_Security_Policy_Verification of the Archive of Formal Proofs.
 use Rattle.std.specs.Prelude.{◌≤◌, ◌⊎◌, false, IsTrue, codes}
-use Rattle.inv_law.specs.Template.{Template, edge_template}
+use Rattle.inv_law.specs.Template.{Anything, Template, edge_template}
 use Rattle.inv_law.specs.declared.strategy.Strategy.TheVariants.{Information}
 use Rattle.tmpl_levels.specs.declared.blp.Clearance.{Clearance}
 
@@ -14,4 +14,4 @@ abbrev pub BlpPasses : Clearance → Clearance → Type 0
 BlpPasses sender receiver = IsTrue receiver.trusted ⊎ (sender.level ≤ receiver.level)
 
 abbrev pub blp : Template
-blp = edge_template (codes "blp") Information unclassified BlpPasses
+blp = edge_template (codes "blp") Information Anything unclassified BlpPasses

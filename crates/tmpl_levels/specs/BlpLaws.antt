@@ -2,6 +2,7 @@
 use Rattle.std.proofs.Common.{inl, inr, arith}
 use Rattle.std.proofs.lemmas.Bool.{false≢true}
 use Rattle.inv_law.specs.Resets.{IsSecureDefault}
+use Rattle.inv_law.specs.Template.{Anything, MayHaveDefault}
 use Rattle.inv_law.specs.TemplateLaws.{IsLawfulTemplate, lawful_edge}
 use Rattle.inv_law.specs.declared.strategy.Strategy.TheVariants.{Information}
 use Rattle.tmpl_levels.specs.Blp.{blp, unclassified, BlpPasses}
@@ -12,4 +13,7 @@ blp_secure sender receiver (inl trusted) = absurd (false≢true trusted)
 blp_secure sender receiver (inr low) = inr (omega arith)
 
 pub blp_lawful : IsLawfulTemplate blp
-blp_lawful = lawful_edge blp.name blp.strategy unclassified BlpPasses blp_secure
+blp_lawful = lawful_edge blp.name blp.strategy Anything unclassified BlpPasses blp_secure
+
+pub blp_default : MayHaveDefault blp
+blp_default n host within = tt

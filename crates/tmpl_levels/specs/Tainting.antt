@@ -10,6 +10,10 @@ use Rattle.tmpl_levels.specs.declared.tainting.Labels.{Labels}
 abbrev pub HasLabel : ℕ → ℕ → Type 0
 HasLabel labels label = bit_at labels label ≡ 1
 
+-- a host takes off only labels that it has
+abbrev pub TakesOffItsOwn : Labels → Type 0
+TakesOffItsOwn host = (label : ℕ) → HasLabel host.untaints label → HasLabel host.taints label
+
 -- a host without labels
 abbrev pub untainted : Labels
 untainted = record { taints = 0; untaints = 0 }
@@ -20,4 +24,4 @@ TaintsPass sender receiver =
     (label : ℕ) → HasLabel sender.taints label → (HasLabel sender.untaints label → ⊥) → HasLabel receiver.taints label
 
 abbrev pub tainting : Template
-tainting = edge_template (codes "tainting") Information untainted TaintsPass
+tainting = edge_template (codes "tainting") Information TakesOffItsOwn untainted TaintsPass

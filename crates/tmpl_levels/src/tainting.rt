@@ -5,8 +5,7 @@ ghost use Rattle.inv_law.specs.Attributes.{PassesBetween};
 ghost use Rattle.inv_law.specs.Resets.{PassesAfterReset};
 ghost use Rattle.inv_law.specs.AttributeLaws.{ResetPassesNoMore-attributes};
 ghost use Rattle.inv_law.specs.declared.strategy.Strategy.TheVariants.{Information};
-ghost use Rattle.tmpl_levels.specs.Tainting.{untainted, TaintsPass};
-ghost use Rattle.tmpl_levels.specs.TaintingView.{AreAmong};
+ghost use Rattle.tmpl_levels.specs.Tainting.{tainting, untainted, TaintsPass};
 ghost use Rattle.tmpl_levels.specs.TaintingLaws.{tainting_secure};
 
 use inv_law::{EdgeRule, Strategy};
@@ -66,7 +65,7 @@ impl Tainting {
     /// Gives the host these labels, one bit a label. It can only take off labels that it has.
     pub fn set(&mut self, host: u16, taints: u64, untaints: u64)
         requires host { host < length self.old }
-        requires among { AreAmong untaints taints }
+        requires may { tainting.MayHave (length self.old) host (record { taints = taints; untaints = untaints }) }
         ensures { self.new ≡ slice_set self.old host (record { taints = taints; untaints = untaints }) }
     {
         self.hosts[host as usize] = Labels { taints, untaints };

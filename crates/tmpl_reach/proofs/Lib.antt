@@ -1,1 +1,2 @@
+pub mod DeniedHosts
 pub mod OtherHosts

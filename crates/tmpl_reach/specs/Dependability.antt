@@ -2,7 +2,7 @@
 -- In the manner of the template of this name in the entry Network_Security_Policy_Verification of the Archive of Formal Proofs.
 use Rattle.std.specs.Prelude.{◌≢◌, ℕ, ◌<◌, List, length, slice_index, codes}
 use Rattle.flow_set.specs.declared.flow.Flow.{Flow}
-use Rattle.inv_law.specs.Template.{Template, walk_template}
+use Rattle.inv_law.specs.Template.{Anything, Template, walk_template}
 use Rattle.inv_law.specs.declared.strategy.Strategy.TheVariants.{Access}
 use Rattle.reach_core.specs.Walks.{Reaches, ReachesAtMost}
 
@@ -15,4 +15,4 @@ abbrev pub StaysWithin : List ℕ → List Flow → ℕ → ℕ → Type 0
 StaysWithin limits e from host = host ≢ from → (Reaches e host from → ⊥) → ReachesAtMost e host (slice_index limits host)
 
 abbrev pub dependability : Template
-dependability = walk_template (codes "dependability") Access (λ n host. 0) IsDependable
+dependability = walk_template (codes "dependability") Access (λ n host. Anything) (λ n host. 0) IsDependable

@@ -9,6 +9,7 @@ use Rattle.flow_set.specs.FlowLaws.{has_first, has-with_flow}
 use Rattle.flow_set.specs.Downward.{IsDownward}
 use Rattle.inv_law.specs.Invariants.{ResetMendsNothing}
 use Rattle.inv_law.specs.AttributeLaws.{get_or-set_default}
+use Rattle.inv_law.specs.Template.{Anything, MayHaveDefault}
 use Rattle.inv_law.specs.TemplateLaws.{IsLawfulTemplate, lawful_walk}
 use Rattle.inv_law.specs.declared.strategy.Strategy.TheVariants.{Access}
 use Rattle.reach_core.specs.Walks.{Reaches, ReachesAtMost}
@@ -78,4 +79,7 @@ example_beyond holds =
 pub dependability_lawful : IsLawfulTemplate dependability
 dependability_lawful =
     lawful_walk dependability.name dependability.strategy
-    (λ n host. 0) IsDependable IsDependable-downward IsDependable-none IsDependable-reset
+    (λ n host. Anything) (λ n host. 0) IsDependable IsDependable-downward IsDependable-none IsDependable-reset
+
+pub dependability_default : MayHaveDefault dependability
+dependability_default n host within = tt

@@ -4,4 +4,5 @@ pub mod NonInterference
 pub mod NonInterferenceLaws
 pub mod NoReach
 pub mod NoReachLaws
+pub mod NoReachView
 pub mod Resets

@@ -12,6 +12,10 @@ use Rattle.reach_core.specs.Walks.{Reaches}
 abbrev pub others : ℕ → ℕ → HostNumbers
 others n host = hosts_below n (λ other. not (other == host))
 
+-- of n hosts, each of these is another one than the host
+abbrev pub AreOthers : ℕ → ℕ → HostNumbers → Type 0
+AreOthers n host denied = (j : ℕ) → IsTrue (set.contains denied j) → IsTrue (set.contains (others n host) j)
+
 -- the hosts that a host denies
 abbrev pub denied_by : List HostNumbers → ℕ → HostNumbers
 denied_by denied i = slice_index_or denied i set.empty
@@ -25,4 +29,4 @@ abbrev pub ReachesNoDenied : List HostNumbers → List Flow → Type 0
 ReachesNoDenied denied e = (i : ℕ) → ReachesNone (denied_by denied i) e i
 
 abbrev pub no_reach : Template
-no_reach = walk_template (codes "noreach") Access others ReachesNoDenied
+no_reach = walk_template (codes "noreach") Access AreOthers others ReachesNoDenied

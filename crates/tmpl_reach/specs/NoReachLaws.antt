@@ -1,22 +1,24 @@
 -- No-reach holds of subsets and of no flows, and to deny all others is secure.
-use Rattle.std.proofs.Common.{◌≡◌, ◌≢◌, ℕ, not, ◌&&◌, nat_eq, nat_lt, List, [], ◌∷◌, length, ◌↔◌, refl, sym, ◌∙◌, ap, subst, get_or-set_same, arith}
-use Rattle.std.specs.Prelude.{IsTrue, slice_set}
+use Rattle.std.proofs.Common.{◌≡◌, ◌≢◌, ℕ, not, ◌&&◌, nat_eq, nat_lt, List, [], ◌∷◌, length, ◌↔◌, inl, inr, refl, sym, ◌∙◌, ap, subst, get_or-set_same, arith}
+use Rattle.std.specs.Ordering.{nat_cmp}
+use Rattle.std.specs.Prelude.{◌<◌, IsTrue, slice_set}
 use Rattle.std.specs.FinSet as set
 use Rattle.std.specs.List.{list_any}
-use Rattle.std.proofs.lemmas.Bool.{and_from, lt-ltb, ne_eqb, not_from_false}
+use Rattle.std.proofs.lemmas.Bool.{and_from, and_parts, eq-eqb, eqb-true, false≢true, lt-ltb, ltb-true, ne_eqb, not_from_false, not_from_true, or_cases, or_left}
 use Rattle.flow_set.specs.declared.flow.Flow.{Flow}
 use Rattle.flow_set.specs.Flow.{IsFlow}
 use Rattle.flow_set.specs.FlowSet.{has, with_flow}
 use Rattle.flow_set.specs.FlowLaws.{has_first}
 use Rattle.flow_set.specs.Downward.{IsDownward}
 use Rattle.inv_law.specs.Invariants.{ResetMendsNothing}
+use Rattle.inv_law.specs.Template.{MayHaveDefault}
 use Rattle.inv_law.specs.TemplateLaws.{IsLawfulTemplate, lawful_walk}
 use Rattle.inv_law.specs.declared.strategy.Strategy.TheVariants.{Access}
 use Rattle.host_set.specs.HostSet.{HostNumbers}
-use Rattle.host_set.specs.HostSetLaws.{contains-hosts_below, hosts_ext}
+use Rattle.host_set.specs.HostSetLaws.{contains-hosts_below, contains-insert, hosts_ext}
 use Rattle.reach_core.specs.Walks.{Reaches}
 use Rattle.reach_core.specs.ReachLaws.{Reaches-nothing_new, Reaches-within, Reaches-none, Reaches-one, reaches_over}
-use Rattle.tmpl_reach.specs.NoReach.{no_reach, others, denied_by, ReachesNoDenied}
+use Rattle.tmpl_reach.specs.NoReach.{AreOthers, no_reach, others, denied_by, ReachesNoDenied}
 use Rattle.tmpl_reach.specs.Resets.{ReachesNoDeniedAfterReset}
 
 pub ReachesNoDenied-downward : (n : ℕ) (denied : List HostNumbers) → IsDownward n (ReachesNoDenied denied)
@@ -28,6 +30,31 @@ ReachesNoDenied-none denied i j apart denies reaches = Reaches-none i j reaches
 
 pub contains-others : (n host j : ℕ) → set.contains (others n host) j ≡ (nat_lt j n && not (nat_eq j host))
 contains-others n host j = contains-hosts_below n (λ other. not (nat_eq other host)) j
+
+-- one more host may be denied exactly where it is another one of the hosts
+pub AreOthers-insert : (n host : ℕ) (denied : HostNumbers) (other : ℕ) → AreOthers n host denied
+    → ((other < n) × (host ≢ other)) ↔ AreOthers n host (set.insert denied other)
+AreOthers-insert n host denied other may = (
+  λ (within, apart) j denies. elim (or_cases (nat_eq j other) (set.contains denied j) (sym (contains-insert denied other j) ∙ denies)) [
+    | inl same ↦
+        contains-others n host j
+        ∙ and_from _ _ (lt-ltb j n (subst (λ k. k < n) (sym (eqb-true j other same)) within))
+        (not_from_false _ (ne_eqb j host (λ is. apart (sym is ∙ eqb-true j other same))))
+    | inr before ↦ may j before
+  ],
+  λ all.
+      let (below, apart) =
+      and_parts (nat_lt other n) (not (nat_eq other host))
+      (sym (contains-others n host other) ∙ all other (contains-insert denied other other ∙ or_left _ _ (eq-eqb other other refl))) in
+      (ltb-true other n below, λ same. false≢true (sym (not_from_true (nat_eq other host) (eq-eqb other host (sym same))) ∙ apart)),
+)
+
+-- a host that denies none, and one with the default
+pub AreOthers-none : (n host : ℕ) → AreOthers n host set.empty
+AreOthers-none n host j denies = absurd (false≢true (sym (set.contains-empty nat_cmp j) ∙ denies))
+
+pub no_reach_default : MayHaveDefault no_reach
+no_reach_default n host within j denies = denies
 
 -- an offending host sends, so it reaches another, and denies it after its reset
 pub ReachesNoDenied-reset : (denied : List HostNumbers)
@@ -79,4 +106,4 @@ example_chain holds =
 
 pub no_reach_lawful : IsLawfulTemplate no_reach
 no_reach_lawful =
-    lawful_walk no_reach.name no_reach.strategy others ReachesNoDenied ReachesNoDenied-downward ReachesNoDenied-none ReachesNoDenied-reset
+    lawful_walk no_reach.name no_reach.strategy AreOthers others ReachesNoDenied ReachesNoDenied-downward ReachesNoDenied-none ReachesNoDenied-reset

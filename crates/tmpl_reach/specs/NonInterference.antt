@@ -2,7 +2,7 @@
 -- After the entry Network_Security_Policy_Verification of the Archive of Formal Proofs.
 use Rattle.std.specs.Prelude.{◌≡◌, ◌≢◌, ℕ, List, slice_index_or, codes}
 use Rattle.flow_set.specs.declared.flow.Flow.{Flow}
-use Rattle.inv_law.specs.Template.{Template, walk_template}
+use Rattle.inv_law.specs.Template.{Anything, Template, walk_template}
 use Rattle.inv_law.specs.declared.strategy.Strategy.TheVariants.{Information}
 use Rattle.reach_core.specs.Walks.{Joined}
 use Rattle.tmpl_reach.specs.declared.non_interference.Interference.{Interference}
@@ -21,4 +21,4 @@ abbrev pub IsNonInterfering : List Interference → List Flow → Type 0
 IsNonInterfering hosts e = (i : ℕ) → IsInterfering hosts i → IsApart hosts e i
 
 abbrev pub non_interference : Template
-non_interference = walk_template (codes "noninterference") Information (λ n host. Interfering) IsNonInterfering
+non_interference = walk_template (codes "noninterference") Information (λ n host. Anything) (λ n host. Interfering) IsNonInterfering

@@ -8,6 +8,7 @@ use Rattle.flow_set.specs.FlowSet.{has, with_flow, without}
 use Rattle.flow_set.specs.FlowLaws.{has_first, has-with_flow, has-without, same_flow-true}
 use Rattle.flow_set.specs.Downward.{IsDownward}
 use Rattle.inv_law.specs.Invariants.{ResetMendsNothing}
+use Rattle.inv_law.specs.Template.{Anything, MayHaveDefault}
 use Rattle.inv_law.specs.TemplateLaws.{IsLawfulTemplate, lawful_walk}
 use Rattle.inv_law.specs.declared.strategy.Strategy.TheVariants.{Information}
 use Rattle.reach_core.specs.Walks.{Joined, has_either}
@@ -105,4 +106,7 @@ example_meeting holds =
 pub non_interference_lawful : IsLawfulTemplate non_interference
 non_interference_lawful =
     lawful_walk non_interference.name non_interference.strategy
-    (λ n host. Interfering) IsNonInterfering IsNonInterfering-downward IsNonInterfering-none IsNonInterfering-reset
+    (λ n host. Anything) (λ n host. Interfering) IsNonInterfering IsNonInterfering-downward IsNonInterfering-none IsNonInterfering-reset
+
+pub non_interference_default : MayHaveDefault non_interference
+non_interference_default n host within = tt

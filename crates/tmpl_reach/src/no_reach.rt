@@ -23,10 +23,11 @@ pub struct NoReach {
 }
 
 impl Model for NoReach {
-    ghost use Rattle.std.specs.Prelude.{List, length, ◌≤◌};
+    ghost use Rattle.std.specs.Prelude.{List};
     ghost use Rattle.std.specs.Coded.{coded_list, coded_ℕ};
     ghost use Rattle.std.specs.FinSet as set;
     ghost use Rattle.host_set.specs.HostSet.{HostNumbers};
+    ghost use Rattle.tmpl_reach.specs.NoReachView.{DenyOthers};
 
     ghost Value = { List HostNumbers };
 
@@ -34,7 +35,7 @@ impl Model for NoReach {
 
     ghost view = { λ x. x.denied.items };
 
-    ghost invariant = { λ x. length x.denied.items ≤ 256 };
+    ghost invariant = { λ x. DenyOthers x.denied.items };
 }
 
 impl NoReach {

@@ -54,7 +54,7 @@ TablePasses table sender receiver = IsTrue (not (is_lawful table && lists table.
 
 -- the template that the table declares: each flow is judged alone, by the kinds of its two hosts
 abbrev pub declared : KindTable → Template
-declared table = edge_template table.name table.strategy table.default (TablePasses table)
+declared table = edge_template table.name table.strategy (λ kind. kind < table.kinds) table.default (TablePasses table)
 
 -- a table, and the kind of each host
 pub record TableHosts : Type 0 where

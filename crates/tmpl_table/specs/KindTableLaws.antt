@@ -9,6 +9,7 @@ use Rattle.inv_law.specs.AttributeLaws.{ResetPassesNoMore-attributes}
 use Rattle.inv_law.specs.Attributes.{PassesBetween}
 use Rattle.inv_law.specs.Invariants.{blamed_host}
 use Rattle.inv_law.specs.Resets.{IsSecureDefault, ResetPassesNoMore, PassesAfterReset}
+use Rattle.inv_law.specs.Template.{MayHaveDefault}
 use Rattle.inv_law.specs.TemplateLaws.{IsLawfulTemplate, lawful_edge}
 use Rattle.inv_law.specs.declared.strategy.Strategy.{Strategy}
 use Rattle.inv_law.specs.declared.strategy.Strategy.TheVariants.{Access, Information}
@@ -91,7 +92,10 @@ table_secure table = secure_by table.strategy refl
     secure_by Information is = λ sender receiver passes. any_pair (sender, receiver) (subst (λ (t : Strategy). not (is_lawful table && lists table.denied (with_kind t table.default (sender, receiver))) ≡ true) (sym is) passes)
 
 pub declared_lawful : (table : KindTable) → IsLawfulTemplate (declared table)
-declared_lawful table = lawful_edge table.name table.strategy table.default (TablePasses table) (table_secure table)
+declared_lawful table = lawful_edge table.name table.strategy (λ kind. kind < table.kinds) table.default (TablePasses table) (table_secure table)
+
+pub declared_default : (table : KindTable) → table.default < table.kinds → MayHaveDefault (declared table)
+declared_default table is_kind n host within = is_kind
 
 -- a lawful table hides no fault
 pub HidesNoFault-lawful : (table : KindTable) → is_lawful table ≡ true → HidesNoFault table

@@ -4,7 +4,7 @@ ghost use Rattle.std.specs.Prelude.{◌≡◌, ◌≤◌, ◌<◌, ◌↔◌, Al
 ghost use Rattle.inv_law.specs.AttributeLaws.{ResetPassesNoMore-attributes};
 ghost use Rattle.inv_law.specs.Attributes.{PassesBetween};
 ghost use Rattle.inv_law.specs.Resets.{PassesAfterReset};
-ghost use Rattle.tmpl_table.specs.KindTable.{HidesNoFault, PairPasses, TablePasses, first_weaker, is_lawful};
+ghost use Rattle.tmpl_table.specs.KindTable.{HidesNoFault, PairPasses, TablePasses, declared, first_weaker, is_lawful};
 ghost use Rattle.tmpl_table.specs.KindTableLaws.{table_secure};
 ghost use Rattle.tmpl_table.specs.TableFaults.{IsRefused};
 
@@ -90,7 +90,7 @@ impl TableRule {
     /// Gives the host this kind.
     pub fn set(&mut self, host: u16, kind: u8)
         requires host { host < length self.old.hosts }
-        requires kind { kind < self.old.table.kinds }
+        requires may { (declared self.old.table).MayHave (length self.old.hosts) host kind }
         ensures { self.new ≡ record self.old { hosts = slice_set self.old.hosts host kind } }
     {
         self.hosts[host as usize] = kind;

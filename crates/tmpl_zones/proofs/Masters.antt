@@ -1,9 +1,9 @@
 -- A master takes from the hosts that were added to its list, and from no other.
-use Rattle.std.proofs.Common.{◌≡◌, ℕ, ◌<◌, Bool, true, false, List, [], length, replicate, get_or, set, inl, inr, sym, ◌∙◌, subst, get_or-set_other}
+use Rattle.std.proofs.Common.{◌≡◌, ℕ, ◌<◌, Bool, true, false, List, [], length, length-set, replicate, get_or, set, inl, inr, sym, ◌∙◌, subst, get_or-set_other}
 use Rattle.std.specs.Prelude.{◌⊎◌, ◌↔◌, IsTrue}
 use Rattle.std.proofs.lemmas.Bool.{false≢true, cases_eq}
-use Rattle.std.proofs.lemmas.List.{get_or-set_same, get_or-replicate}
-use Rattle.tmpl_zones.specs.Partners.{Partner, DontCare, Care, Master, PartnersPass, partners_passes, with_sender}
+use Rattle.std.proofs.lemmas.List.{get_or-set_same, get_or-replicate, length-replicate}
+use Rattle.tmpl_zones.specs.Partners.{Partner, DontCare, Care, Master, PartnersPass, TakesFromOthers, partners_passes, with_sender}
 use Rattle.tmpl_zones.specs.PartnersView.{IsMaster}
 
 -- a mark for each host
@@ -57,3 +57,14 @@ PartnersPass-nobody partners n host within sender is_host passes =
     subst (λ (q : Partner). IsTrue (partners_passes sender (get_or new sender DontCare) q))
     (get_or-set_same partners host none DontCare within) passes in
     false≢true (sym (get_or-replicate n sender false false is_host) ∙ taken)
+
+-- a master without marks, and one with another host marked
+pub TakesFromOthers-nobody : (n host : ℕ) → host < n → TakesFromOthers n host (Master (replicate n false))
+TakesFromOthers-nobody n host within = (length-replicate n false, get_or-replicate n host false false within)
+
+pub TakesFromOthers-with_sender : (n host : ℕ) (p : Partner) (sender : ℕ) → (sender ≡ host → ⊥) → TakesFromOthers n host p
+    → TakesFromOthers n host (with_sender p sender)
+TakesFromOthers-with_sender n host DontCare sender apart may = tt
+TakesFromOthers-with_sender n host Care sender apart may = tt
+TakesFromOthers-with_sender n host (Master marks) sender apart (sized, itself) =
+    (length-set marks sender true ∙ sized, get_or-set_other marks sender host true false (λ same. apart (sym same)) ∙ itself)

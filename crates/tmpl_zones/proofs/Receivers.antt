@@ -1,8 +1,12 @@
 -- One host's row, and the attribute that it stands for.
-use Rattle.std.proofs.Common.{◌≡◌, ℕ, ◌+◌, ◌<◌, Bool, true, List, [], ◌∷◌, ◌++◌, length, map, take, get_or, set, refl, sym, ◌∙◌, ap, subst, arith}
+use Rattle.std.proofs.Common.{◌≡◌, ℕ, ◌+◌, ◌<◌, Bool, true, List, [], ◌∷◌, ◌++◌, length, length-set, map, take, get_or, set, refl, sym, ◌∙◌, ap, subst, arith}
 use Rattle.std.proofs.lemmas.List.{map-set, get_or-map, length-map, map_push, take_more}
-use Rattle.std.proofs.lemmas.List.Elements.{All-get_or}
-use Rattle.tmpl_zones.specs.Partners.{Partner, DontCare, with_sender}
+use Rattle.std.proofs.lemmas.List.Elements.{All-get_or, All-set}
+use Rattle.std.specs.Prelude.{All}
+use Rattle.inv_law.specs.Template.{AllMayHave}
+use Rattle.inv_law.specs.TemplateLaws.{AllMayHave-set}
+use Rattle.tmpl_zones.specs.Partners.{Partner, DontCare, TakesFromOthers, with_sender}
+use Rattle.tmpl_zones.specs.Partners as template
 use Rattle.tmpl_zones.specs.PartnersView.{IsMaster}
 use Rattle.tmpl_zones.proofs.Masters.{marks_of}
 use Rattle.tmpl_zones.specs.PartnersView.{partner_of, attribute_by, HasRooms}
@@ -66,3 +70,26 @@ pub has_mark : (row : Receiver) (partner : Partner) (sender : ℕ) → partner_o
 has_mark row partner sender seen is_master within =
     subst (λ (p : Partner). sender < length (marks_of p)) seen
     (has_mark_by row.taking row.from.items sender (subst IsMaster (sym seen) is_master) within)
+
+-- the attribute of a row is one that its host may have
+pub may_have_row : (rows : List Receiver) (i : ℕ) (row : Receiver) → HasRooms rows → i < length rows → row ≡ get_or rows i row
+    → TakesFromOthers (length rows) i (partner_of row)
+may_have_row rows i row rooms within here =
+    let sized : length (map partner_of rows) ≡ length rows = length-map rows partner_of in
+    let below : i < length (map partner_of rows) = subst (λ n. i < n) (sym sized) within in
+    let at_row = partner_of_row rows (map partner_of rows) i row refl below here in
+    subst (λ n. TakesFromOthers n i (partner_of row)) sized
+    (subst (TakesFromOthers (length (map partner_of rows)) i) (sym at_row) (rooms.may_have i below))
+
+-- a row with as many marks, for an attribute that its host may have
+pub HasRooms-set : (rows : List Receiver) (i : ℕ) (row : Receiver) → HasRooms rows → length row.from.items ≡ length rows
+    → TakesFromOthers (length rows) i (partner_of row) → HasRooms (set rows i row)
+HasRooms-set rows i row rooms sized may = record {
+  few = rw (length-set rows i row) rooms.few;
+  rows =
+      subst (λ n. All (λ (r : Receiver). length r.from.items ≡ n) (set rows i row)) (sym (length-set rows i row))
+      (All-set (λ (r : Receiver). length r.from.items ≡ length rows) rows i row sized rooms.rows);
+  may_have =
+      subst (AllMayHave template.partners) (sym (map-set partner_of rows i row))
+      (AllMayHave-set template.partners (map partner_of rows) i (partner_of row) rooms.may_have (subst (λ n. TakesFromOthers n i (partner_of row)) (sym (length-map rows partner_of)) may));
+}

@@ -1,6 +1,7 @@
 -- The default of the security gateway template hides no fault.
 use Rattle.std.specs.Prelude.{refl}
 use Rattle.inv_law.specs.Resets.{IsSecureDefault}
+use Rattle.inv_law.specs.Template.{Anything, MayHaveDefault}
 use Rattle.inv_law.specs.TemplateLaws.{IsLawfulTemplate, lawful_edge}
 use Rattle.inv_law.specs.declared.strategy.Strategy.TheVariants.{Access}
 use Rattle.tmpl_zones.specs.Kinds.{TablePasses}
@@ -15,4 +16,7 @@ gateway_secure Unassigned receiver passes = passes
 gateway_secure sender receiver passes = refl
 
 pub gateways_lawful : IsLawfulTemplate gateways
-gateways_lawful = lawful_edge gateways.name gateways.strategy Unassigned (TablePasses gateway_passes) gateway_secure
+gateways_lawful = lawful_edge gateways.name gateways.strategy Anything Unassigned (TablePasses gateway_passes) gateway_secure
+
+pub gateways_default : MayHaveDefault gateways
+gateways_default n host within = tt

@@ -1,7 +1,7 @@
 -- The communication partners template: whom a host takes packets from.
 -- In the manner of the template of this name of Network_Security_Policy_Verification in the Archive of Formal Proofs,
 -- with the table of docs/FORMATS.md.
-use Rattle.std.specs.Prelude.{ℕ, Bool, true, false, List, codes, slice_index_or, slice_set}
+use Rattle.std.specs.Prelude.{◌≡◌, ℕ, Bool, true, false, IsFalse, List, length, codes, slice_index_or, slice_set}
 use Rattle.inv_law.specs.Attributes.{PassesBetween}
 use Rattle.inv_law.specs.Rules.{AllFlowsPass}
 use Rattle.inv_law.specs.Template.{Template}
@@ -13,6 +13,12 @@ pub data Partner : Type 0 where
   DontCare : Partner
   Care : Partner
   Master : (takes_from : List Bool) → Partner
+
+-- of n hosts, a master marks those that it takes from, and not itself
+abbrev pub TakesFromOthers : ℕ → ℕ → Partner → Type 0
+TakesFromOthers n host DontCare = Unit {0}
+TakesFromOthers n host Care = Unit {0}
+TakesFromOthers n host (Master takes_from) = (length takes_from ≡ n) × IsFalse (slice_index_or takes_from host false)
 
 -- whether a flow passes, by the number of its sender and the attributes of its sender and its receiver
 abbrev pub partners_passes : ℕ → Partner → Partner → Bool
@@ -39,6 +45,7 @@ partners = record {
   strategy = Access;
   edge_mark = true;
   Attribute = Partner;
+  MayHave = TakesFromOthers;
   default = λ n host. DontCare;
   Holds = λ hosts. AllFlowsPass (PartnersPass hosts);
 }

@@ -5,6 +5,7 @@ use Rattle.inv_law.specs.AttributeLaws.{ResetPassesNoMore-attributes}
 use Rattle.inv_law.specs.Resets.{IsSecureDefault}
 use Rattle.inv_law.specs.RuleLaws.{AllFlowsPass-downward, AllFlowsPass-none, AllFlowsPass-edge_wise, AllFlowsPass-reset}
 use Rattle.inv_law.specs.Resets.{ResetPassesNoMore}
+use Rattle.inv_law.specs.Template.{MayHaveDefault}
 use Rattle.inv_law.specs.TemplateLaws.{IsLawfulTemplate}
 use Rattle.inv_law.specs.declared.strategy.Strategy.TheVariants.{Access}
 use Rattle.tmpl_zones.specs.Kinds.{TablePasses}
@@ -29,3 +30,6 @@ partners_lawful hosts = record {
   reset_mends_nothing = AllFlowsPass-reset (length hosts) Access (PartnersPass hosts) (PartnersPassAfterReset hosts) (partners_reset (length hosts) hosts);
   mark_is_right = λ marked. AllFlowsPass-edge_wise (length hosts) (PartnersPass hosts);
 }
+
+pub partners_default : MayHaveDefault partners
+partners_default n host within = tt

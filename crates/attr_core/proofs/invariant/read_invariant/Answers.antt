@@ -1,7 +1,8 @@
 use Rattle.std.proofs.Common.{◌≡◌, Some, map, length, sym, subst}
-use Rattle.inv_any.specs.Templates.{meaning_of, template_name}
+use Rattle.inv_any.specs.Templates.{HostsMayHave, meaning_of, template_name}
 use Rattle.inv_any.specs.declared.any_inv.AnyInv.{AnyInv}
 use Rattle.attr_core.specs.AssignView.{given_of}
+use Rattle.attr_core.specs.MayHaveLaws.{hosts_may_have}
 use Rattle.attr_core.specs.Templates.{template_named}
 use Rattle.attr_core.specs.TemplatesLaws.{invariant_named, invariant_sized, made_is, made_of_all}
 use Rattle.attr_core.proofs.invariant.read_invariant.Goals as goal
@@ -21,3 +22,8 @@ pub returns-in-Ok-clause-named : goal.returns-in-Ok-clause-named
 returns-in-Ok-clause-named c =
     let is = made_is c.args.hosts.now c.args.template (map given_of c.args.assigns.now) c.in-Ok.invariant c.requires.good c.in-Ok.ensures in
     subst (λ (inv : AnyInv). template_named (template_name inv) ≡ Some c.args.template) (sym is) (invariant_named c.args.hosts.now c.args.template (map given_of c.args.assigns.now))
+
+pub returns-in-Ok-clause-may_have : goal.returns-in-Ok-clause-may_have
+returns-in-Ok-clause-may_have c =
+    let is = made_is c.args.hosts.now c.args.template (map given_of c.args.assigns.now) c.in-Ok.invariant c.requires.good c.in-Ok.ensures in
+    subst HostsMayHave (sym is) (hosts_may_have c.args.hosts.now c.args.template (map given_of c.args.assigns.now))

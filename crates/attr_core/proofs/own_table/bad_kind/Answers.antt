@@ -1,4 +1,4 @@
-use Rattle.std.proofs.Common.{Bor, List, ℕ, map, is_some, sym, ap, ◌∙◌}
+use Rattle.std.proofs.Common.{List, ℕ, map, is_some, sym, ap, ◌∙◌}
 use Rattle.attr_core.specs.AssignView.{given_of}
 use Rattle.attr_core.specs.Assigns.{Given}
 use Rattle.attr_core.specs.Bad.{first_failing}

@@ -4,7 +4,6 @@ use Rattle.attr_core.specs.AssignView.{given_of}
 use Rattle.attr_core.specs.OwnTables.{Declared}
 use Rattle.attr_core.specs.OwnTablesLaws.{made_of_kinds}
 use Rattle.attr_core.specs.OwnTablesWalk.{kinds_after}
-use Rattle.tmpl_table.specs.KindTable.{TableHosts}
 use Rattle.attr_core.proofs.own_table.read_kinds.Goals as goal
 
 pub returns : goal.returns

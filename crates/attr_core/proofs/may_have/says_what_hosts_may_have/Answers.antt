@@ -1,0 +1,12 @@
+use Rattle.attr_core.specs.MayHaveLaws.{domains_may_have, kinds_may_have, noreach_may_have, partners_may_have}
+use Rattle.attr_core.specs.TaintedMayHaveLaws.{tainting_may_have}
+use Rattle.attr_core.proofs.may_have.says_what_hosts_may_have.Goals as goal
+
+pub returns : goal.returns
+returns c = record {
+  tainting = tainting_may_have;
+  partners = partners_may_have;
+  domains = domains_may_have;
+  no_reach = noreach_may_have;
+  table = kinds_may_have;
+}

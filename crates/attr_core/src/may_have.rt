@@ -1,0 +1,21 @@
+//! What a description lets an assign say.
+
+ghost use Rattle.std.specs.Prelude.{◌≡◌, ◌++◌, [], ◌∷◌, Some, length, option_map};
+ghost use Rattle.attr_core.specs.Domains.{domains_form};
+ghost use Rattle.attr_core.specs.Kinds.{kind_of};
+ghost use Rattle.attr_core.specs.MayHave.{SaysWhatHostsMayHave, domains_listed, noreach_listed, partners_listed, sets_listed};
+ghost use Rattle.attr_core.specs.NoReach.{noreach_form};
+ghost use Rattle.attr_core.specs.OwnTables.{Declared, kind_numbered, table_form};
+ghost use Rattle.attr_core.specs.Partners.{partners_form};
+ghost use Rattle.attr_core.specs.Tainting.{labels_of, tainting_form};
+
+/// Of the attributes that a table lists, its assign says one exactly where its host may have it. Of the
+/// templates that are not named here a host may have every attribute.
+pub fn says_what_hosts_may_have()
+    ensures tainting { SaysWhatHostsMayHave tainting_form (λ hosts earlier a. sets_listed (labels_of (earlier ++ a ∷ [])) a.table) }
+    ensures partners { SaysWhatHostsMayHave partners_form (λ hosts earlier a. partners_listed hosts a.table) }
+    ensures domains { SaysWhatHostsMayHave domains_form (λ hosts earlier a. option_map Some (domains_listed a.table)) }
+    ensures no_reach { SaysWhatHostsMayHave noreach_form (λ hosts earlier a. noreach_listed hosts a.table) }
+    ensures table { (d : Declared) → d.table.kinds ≡ length d.words
+        → SaysWhatHostsMayHave (table_form d) (λ hosts earlier a. kind_numbered d.words (kind_of a.table)) }
+{}
