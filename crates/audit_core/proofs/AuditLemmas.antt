@@ -20,6 +20,8 @@ use Rattle.audit_core.specs.Rules.{GivesOne, filter_of}
 use Rattle.audit_core.specs.Searching.{ArePacketsAll, IsSearched}
 use Rattle.audit_core.specs.Sides.{Sides}
 use Rattle.audit_core.specs.Thinning.{AreThinned}
+use Rattle.audit_core.specs.Treatment.{AreMerged}
+use Rattle.audit_core.proofs.MergedLemmas.{merged_classes, merged_represent}
 use Rattle.audit_core.proofs.StandingLemmas.{kept_classes, kept_represent}
 use Rattle.flow_set.specs.FlowSet.{IsSubset}
 
@@ -68,18 +70,18 @@ pub leasts_distinct : (parts : List Part) (named found : Found) (leasts : Leasts
 leasts_distinct parts named found leasts are same is = leasts_named parts named leasts are (is ∙ leasts_same named found same)
 
 -- what is found in the kept classes
-pub found_by_kept : (sides : Sides) (named found : Found) (leasts kept : Leasts) (finding : Finding) → leasts ≡ leasts_of (cuts_between sides)
-    → IsNamedBy (parts_between sides) named → NameSame named found → AreThinned found leasts kept → GivesOne (filter_of sides.rules)
-    → IsSubset sides.stateful sides.permitted → ArePacketsAll leasts → IsSearched sides kept finding → IsFinding sides finding
-found_by_kept sides named found leasts kept finding is are same thinned gives subset packets searched =
-    let thinned_all : AreThinned named (leasts_of (cuts_between sides)) kept =
-    subst (λ (l : Leasts). AreThinned named l kept) is (thinned_same named found leasts kept same thinned) in
+pub found_by_kept : (sides : Sides) (named found : Found) (leasts thinned kept : Leasts) (finding : Finding) → leasts ≡ leasts_of (cuts_between sides)
+    → IsNamedBy (parts_between sides) named → NameSame named found → AreThinned found leasts thinned → AreMerged sides thinned kept
+    → GivesOne (filter_of sides.rules) → IsSubset sides.stateful sides.permitted → ArePacketsAll leasts → IsSearched sides kept finding → IsFinding sides finding
+found_by_kept sides named found leasts thinned kept finding is are same thin merged gives subset packets searched =
+    let thinned_all : AreThinned named (leasts_of (cuts_between sides)) thinned =
+    subst (λ (l : Leasts). AreThinned named l thinned) is (thinned_same named found leasts thinned same thin) in
     found_by_search sides kept finding
     (record {
       gives = gives;
       subset = subset;
       packets = subst ArePacketsAll is packets;
-      some = kept_classes named (leasts_of (cuts_between sides)) kept thinned_all;
-      represent = kept_represent sides named kept are thinned_all;
+      some = λ q there. kept_classes named (leasts_of (cuts_between sides)) thinned thinned_all q (merged_classes sides thinned kept merged q there);
+      represent = merged_represent sides thinned kept gives merged (kept_represent sides named thinned are thinned_all);
     })
     searched

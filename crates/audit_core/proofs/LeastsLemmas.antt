@@ -6,12 +6,13 @@ use Rattle.std.proofs.lemmas.List.{get_or_default}
 use Rattle.audit_core.specs.Classes.{Rises}
 use Rattle.audit_core.proofs.OrderLemmas.{rises_short}
 
+-- where each place has a number below a bound, all are below it
+pub all_fit : (xs : List ℕ) (b : ℕ) → ((i : ℕ) → get_or xs i 0 < b) → (y : ℕ) → Contains xs y → y < b
+all_fit xs b fits y (k, within, is) = subst (λ (x : ℕ). x < b) (get_or_default xs k 0 y within ∙ is) (fits k)
+
 -- an ascending list of numbers of a type is no longer than there are such numbers
 pub fits_short : (xs : List ℕ) (b : ℕ) → Rises xs → ((i : ℕ) → get_or xs i 0 < b) → length xs ≤ b
-fits_short xs b up fits = rises_short xs b up below
-  where
-    below : (y : ℕ) → Contains xs y → y < b
-    below y (k, within, is) = subst (λ (x : ℕ). x < b) (get_or_default xs k 0 y within ∙ is) (fits k)
+fits_short xs b up fits = rises_short xs b up (all_fit xs b fits)
 
 pub pairs_fit : (a q : ℕ) → a ≤ 2 ^ 32 → q ≤ 2 ^ 8 → q * (a * a) ≤ 2 ^ 72
 pairs_fit a q ha hq = mul-le-mul hq (mul-le-mul ha ha)

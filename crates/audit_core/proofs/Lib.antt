@@ -5,6 +5,8 @@ pub mod DistinctLemmas
 pub mod JudgingLemmas
 pub mod LeastProtocols
 pub mod LeastsLemmas
+pub mod LeftLemmas
+pub mod MergedLemmas
 pub mod NamedLemmas
 pub mod OrderLemmas
 pub mod PartLemmas
@@ -17,3 +19,4 @@ pub mod SideLemmas
 pub mod SiteLemmas
 pub mod StandingLemmas
 pub mod ThinningLemmas
+pub mod TreatmentLemmas

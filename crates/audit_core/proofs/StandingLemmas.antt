@@ -19,7 +19,7 @@ use Rattle.audit_core.proofs.PartLemmas.{AreAlikeFor, SameAddress, SamePort, Sam
 
 -- 1. Kept classes are classes, and no more than all.
 
-some_kept : {Same : ℕ → ℕ → Type 0} (numbers kept : List ℕ) → IsThinned Same numbers kept → 0 < length numbers → 0 < length kept
+pub some_kept : {Same : ℕ → ℕ → Type 0} (numbers kept : List ℕ) → IsThinned Same numbers kept → 0 < length numbers → 0 < length kept
 some_kept [] kept thinned some = absurd (omega arith)
 some_kept (x ∷ xs) kept thinned some = let within = (thinned.each x (0, omega arith, refl)).there.1 in omega arith
 

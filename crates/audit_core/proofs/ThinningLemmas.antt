@@ -1,10 +1,14 @@
 -- Numbers that are kept one after another.
 use Rattle.std.proofs.Common.{◌≡◌, ◌⊎◌, inl, inr, ℕ, zero, suc, ◌+◌, ◌<◌, List, [], ◌∷◌, ◌++◌, length, get_or, take, refl, sym, subst, arith, length-append}
 use Rattle.std.specs.List.{Contains}
+use Rattle.std.proofs.lemmas.List.{get_or_default}
 use Rattle.std.proofs.lemmas.List.Elements.{Contains-append_left, Contains-append_right}
 use Rattle.audit_core.specs.declared.named.AddressRange.{AddressRange}
 use Rattle.audit_core.specs.declared.named.PortRange.{PortRange}
+use Rattle.audit_core.specs.declared.likeness.Likeness.{Likeness}
+use Rattle.audit_core.specs.declared.likeness.Likeness.TheVariants.{Addresses, Ports, Treatment}
 use Rattle.audit_core.specs.Classes.{Rises}
+use Rattle.audit_core.specs.Likeness.{are_alike}
 use Rattle.audit_core.proofs.OrderLemmas.{contains_cases, contains_first, contains_later, contains_none}
 use Rattle.audit_core.specs.Thinning.{IsKeptFor, IsThinned, SameAddresses, SamePorts, Stands}
 use Rattle.audit_core.proofs.NamedLemmas.{take_at}
@@ -102,3 +106,13 @@ module _ (Same : ℕ → ℕ → Type 0) (numbers : List ℕ) (i x : ℕ) (kept 
       })
     ];
   })
+
+-- a number at a place is below what all are below
+pub small_there : (xs : List ℕ) (b i : ℕ) → ((y : ℕ) → Contains xs y → y < b) → i < length xs → get_or xs i 0 < b
+small_there xs b i small within = small (get_or xs i 0) (i, within, sym (get_or_default xs i 0 (get_or xs i 0) within))
+
+-- a number is like itself
+pub alike_itself : (likeness : Likeness) (n : ℕ) → are_alike likeness n n
+alike_itself (Addresses ranges) n = same_addresses_itself ranges.now n
+alike_itself (Ports ranges) n = same_ports_itself ranges.now n
+alike_itself (Treatment hosts rules) n = (refl, λ end c. refl)

@@ -7,6 +7,7 @@ pub mod FindingOnce
 pub mod FindingText
 pub mod Findings
 pub mod Judging
+pub mod Likeness
 pub mod ListLaws
 pub mod Lists
 pub mod Named
@@ -21,3 +22,4 @@ pub mod Searching
 pub mod ShortLaws
 pub mod Sides
 pub mod Thinning
+pub mod Treatment

@@ -47,8 +47,9 @@ pub fn audit(
     if count > MOST_CLASSES {
         return Err(AuditRefusal::TooManyClasses { count });
     }
-    let kept = leasts.thinned(alloc, &found)?;
     let sides = Sides::new(hosts, services, p, s, *text);
+    let thinned = leasts.thinned(alloc, &found)?;
+    let kept = sides.merged(alloc, &thinned)?;
     let owners = sides.owners(alloc, &kept.addresses)?;
     Ok(sides.find(&kept, &owners, kept.total() as usize))
 }

@@ -10,8 +10,9 @@ ghost use Rattle.audit_core.specs.Searching.{AreOwners, ArePacketsAll};
 ghost use Rattle.audit_core.specs.Thinning.{AreThinned};
 
 use crate::cuts::{least_addresses, least_ports};
+use crate::likeness::Likeness;
 use crate::named::Found;
-use crate::thinning::{thin_addresses, thin_ports};
+use crate::thinning::{thin, thin_ports};
 use host_net::Packet;
 use std::alloc::{AllocError, Global};
 use std::marker::Model;
@@ -75,7 +76,11 @@ impl Leasts {
         ensures { IfOk result (AreThinned found.now self.now) }
     {
         Ok(Leasts {
-            addresses: thin_addresses(alloc, &self.addresses, &found.addresses)?,
+            addresses: thin(
+                alloc,
+                &self.addresses,
+                Likeness::Addresses(&found.addresses),
+            )?,
             protocols: Vec::from_slice(alloc, &self.protocols)?,
             ports: thin_ports(alloc, &self.ports, &found.ports)?,
         })

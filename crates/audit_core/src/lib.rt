@@ -5,12 +5,18 @@ mod classes;
 mod compare;
 mod cuts;
 mod distinct;
+mod end;
 mod finding;
 mod kind;
 mod laws;
 mod leasts;
+mod left;
+mod likeness;
+mod marks;
+mod merging;
 mod named;
 mod report;
+mod same_parts;
 mod sides;
 #[cfg(test)]
 mod tests;

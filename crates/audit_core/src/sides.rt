@@ -24,11 +24,11 @@ use std::marker::Model;
 /// A policy between hosts, and the rules that are to do what it says.
 #[derive(Drop)]
 pub(crate) struct Sides<'a> {
-    hosts: &'a Hosts,
+    pub(crate) hosts: &'a Hosts,
     services: &'a Services,
     permitted: &'a FlowSet,
     stateful: &'a FlowSet,
-    text: Text<'a>,
+    pub(crate) text: Text<'a>,
 }
 
 impl<'a> Model for Sides<'a> {

@@ -1,37 +1,52 @@
-//! Of numbers that lie in the same ranges the first stands for all: what rules and a policy do with a
-//! packet is the same for each of them. So fewer packets have to be asked about than there are
-//! classes.
+//! Of numbers that are alike the first stands for all. So fewer packets have to be asked about than
+//! there are classes.
 
-ghost use Rattle.std.specs.Prelude.{◌≡◌, ◌==◌, ◌&&◌, nat_le, IfOk, IsTrue};
+ghost use Rattle.std.specs.Prelude.{◌≡◌, ◌<◌, ◌^◌, ℕ, IfOk, IsTrue};
+ghost use Rattle.std.specs.List.{Contains};
 ghost use Rattle.audit_core.specs.Classes.{Rises};
-ghost use Rattle.audit_core.specs.Ranges.{within};
-ghost use Rattle.audit_core.specs.Thinning.{IsThinned, SameAddresses, SamePorts, Stands};
+ghost use Rattle.audit_core.specs.Likeness.{are_alike};
+ghost use Rattle.audit_core.specs.Thinning.{IsThinned, SamePorts, Stands};
 
-use crate::named::{AddressRange, PortRange};
+use crate::likeness::Likeness;
+use crate::marks::Marks;
+use crate::named::PortRange;
 use std::alloc::{AllocError, Global};
 
-/// Of the addresses that lie in the same ranges the first.
-pub(crate) fn thin_addresses(
+/// Of numbers that are alike the first.
+pub(crate) fn thin(
     alloc: Global,
-    addresses: &[u32],
-    ranges: &[AddressRange],
+    numbers: &[u32],
+    likeness: Likeness<'_>,
 ) -> Result<Vec<u32>, AllocError>
-    requires { Rises addresses.now }
-    ensures { IfOk result (λ kept. IsThinned (SameAddresses ranges.now) addresses.now kept.items) }
+    requires { Rises numbers.now }
+    ensures { IfOk result (λ kept. IsThinned (are_alike likeness.entry) numbers.now kept.items) }
 {
+    let marks = Marks::of(alloc, numbers, likeness)?;
     let mut kept = Vec::new(alloc);
-    let mut marks = Vec::new(alloc);
-    for address in addresses {
-        let mark = address_mark(ranges, *address);
-        if !address_stands(&kept, &marks, ranges, *address, mark) {
-            kept.push(*address)?;
-            marks.push(mark)?;
+    let mut kept_marks = Vec::new(alloc);
+    for (place, number) in numbers.iter().enumerate() {
+        let mark = marks.at(place);
+        if !stands(&kept, &kept_marks, likeness, *number, mark) {
+            kept.push(*number)?;
+            kept_marks.push(mark)?;
         }
     }
     Ok(kept)
 }
 
-/// Of the ports that lie in the same ranges the first.
+/// Whether the first kept number with that mark is alike.
+fn stands(kept: &[u32], marks: &[u64], likeness: Likeness<'_>, number: u32, mark: u64) -> bool
+    ensures { IsTrue result → Stands (are_alike likeness.entry) kept.now number }
+{
+    for (place, other) in kept.iter().enumerate() {
+        if marks.get(place) == Some(&mark) {
+            return likeness.has_both(*other, number);
+        }
+    }
+    false
+}
+
+/// Of ports that lie in the same ranges the first.
 pub(crate) fn thin_ports(
     alloc: Global,
     ports: &[u16],
@@ -40,107 +55,28 @@ pub(crate) fn thin_ports(
     requires { Rises ports.now }
     ensures { IfOk result (λ kept. IsThinned (SamePorts ranges.now) ports.now kept.items) }
 {
-    let mut kept = Vec::new(alloc);
-    let mut marks = Vec::new(alloc);
+    let numbers = widened(alloc, ports)?;
+    let kept = thin(alloc, &numbers, Likeness::Ports(ranges))?;
+    narrowed(alloc, &kept)
+}
+
+fn widened(alloc: Global, ports: &[u16]) -> Result<Vec<u32>, AllocError>
+    ensures { IfOk result (λ numbers. numbers.items ≡ ports.now) }
+{
+    let mut numbers = Vec::new(alloc);
     for port in ports {
-        let mark = port_mark(ranges, *port);
-        if !port_stands(&kept, &marks, ranges, *port, mark) {
-            kept.push(*port)?;
-            marks.push(mark)?;
-        }
+        numbers.push(*port as u32)?;
     }
-    Ok(kept)
+    Ok(numbers)
 }
 
-/// Whether one of the kept addresses lies in the same ranges. Only those with the same mark are
-/// compared.
-fn address_stands(
-    kept: &[u32],
-    marks: &[u64],
-    ranges: &[AddressRange],
-    address: u32,
-    mark: u64,
-) -> bool
-    ensures { IsTrue result → Stands (SameAddresses ranges.now) kept.now address }
+fn narrowed(alloc: Global, numbers: &[u32]) -> Result<Vec<u16>, AllocError>
+    requires { (x : ℕ) → Contains numbers.now x → x < 2 ^ 16 }
+    ensures { IfOk result (λ ports. ports.items ≡ numbers.now) }
 {
-    for (place, other) in kept.iter().enumerate() {
-        if marks.get(place) == Some(&mark) && same_address(ranges, *other, address) {
-            return true;
-        }
+    let mut ports = Vec::new(alloc);
+    for number in numbers {
+        ports.push(*number as u16)?;
     }
-    false
-}
-
-/// The same for ports.
-fn port_stands(kept: &[u16], marks: &[u64], ranges: &[PortRange], port: u16, mark: u64) -> bool
-    ensures { IsTrue result → Stands (SamePorts ranges.now) kept.now port }
-{
-    for (place, other) in kept.iter().enumerate() {
-        if marks.get(place) == Some(&mark) && same_port(ranges, *other, port) {
-            return true;
-        }
-    }
-    false
-}
-
-fn same_address(ranges: &[AddressRange], one: u32, other: u32) -> bool
-    ensures { IsTrue result → SameAddresses ranges.now one other }
-{
-    for range in ranges {
-        if has_address(*range, one) != has_address(*range, other) {
-            return false;
-        }
-    }
-    true
-}
-
-fn same_port(ranges: &[PortRange], one: u16, other: u16) -> bool
-    ensures { IsTrue result → SamePorts ranges.now one other }
-{
-    for range in ranges {
-        if has_port(*range, one) != has_port(*range, other) {
-            return false;
-        }
-    }
-    true
-}
-
-fn has_address(range: AddressRange, address: u32) -> bool
-    ensures { result ≡ within range.first range.last address }
-{
-    range.first <= address && address <= range.last
-}
-
-fn has_port(range: PortRange, port: u16) -> bool
-    ensures { result ≡ within range.low range.high port }
-{
-    range.low <= port && port <= range.high
-}
-
-/// A number by which addresses that lie in other ranges mostly differ. It is but a guide.
-fn address_mark(ranges: &[AddressRange], address: u32) -> u64 {
-    let mut mark = 0;
-    for (place, range) in ranges.iter().enumerate() {
-        if has_address(*range, address) {
-            mark = mixed(mark, place as u64);
-        }
-    }
-    mark
-}
-
-/// The same for ports.
-fn port_mark(ranges: &[PortRange], port: u16) -> u64 {
-    let mut mark = 0;
-    for (place, range) in ranges.iter().enumerate() {
-        if has_port(*range, port) {
-            mark = mixed(mark, place as u64);
-        }
-    }
-    mark
-}
-
-fn mixed(mark: u64, place: u64) -> u64 {
-    (mark ^ place)
-        .wrapping_mul(0x9e37_79b9_7f4a_7c15)
-        .rotate_left(29)
+    Ok(ports)
 }

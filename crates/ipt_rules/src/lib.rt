@@ -21,7 +21,9 @@ mod walk;
 pub use chains::Chains;
 pub use host_net::Verdict;
 pub use name::ChainName;
-pub use rule::{AddrMatch, Policy, PortMatch, ProtoMatch, Rule, StateMatch, Target};
+pub use rule::{
+    AddrMatch, Policy, PortMatch, ProtoMatch, Rule, StateMatch, Target, address_matches,
+};
 pub use ruleset::{BuildRefusal, FORWARD, INPUT, OUTPUT, Ruleset};
 
 #[cfg(test)]

@@ -105,7 +105,8 @@ fn lies_in(part: PortMatch, port: u16) -> bool
     part.low <= port && port <= part.high
 }
 
-fn address_matches(part: Option<AddrMatch>, address: u32) -> bool
+/// Whether a packet with that source or destination fits this part of a rule.
+pub fn address_matches(part: Option<AddrMatch>, address: u32) -> bool
     ensures { result ≡ address_matches part address }
 {
     match part {

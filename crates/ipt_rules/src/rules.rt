@@ -1,6 +1,7 @@
-//! The rules of a rule set one by one, for whoever looks at what they ask for.
+//! The rules of a rule set one by one or chain by chain, for whoever looks at what they ask for.
 
 ghost use Rattle.std.specs.Prelude.{◌≡◌, ◌<◌, ◌≤◌, length, slice_get, Some};
+ghost use Rattle.ipt_rules.specs.Chain.{rules_of};
 ghost use Rattle.ipt_rules.specs.OneOutcome.{EachGivesOne};
 ghost use Rattle.ipt_rules.specs.Rules.{all_rules};
 ghost use Rattle.ipt_rules.specs.Starts.{starts_from};
@@ -9,6 +10,7 @@ use crate::chain::Chain;
 use crate::rule::Rule;
 use crate::ruleset::Ruleset;
 use crate::starts::chain_at;
+use crate::walk::rules_of;
 
 impl Ruleset {
     /// How many rules stand in all chains.
@@ -27,6 +29,21 @@ impl Ruleset {
         ensures { slice_get (all_rules self.now) k ≡ Some result }
     {
         rule_among(&self.chains, &self.starts, k)
+    }
+
+    /// How many chains there are, the built-in ones among them.
+    pub fn chains(&self) -> u16
+        ensures { result ≡ length self.now }
+    {
+        self.chains.len() as u16
+    }
+
+    /// The rules of a chain, in their order.
+    pub fn rules_in(&self, chain: u16) -> &[Rule]
+        requires { chain < length self.now }
+        ensures { result.now ≡ rules_of self.now chain }
+    {
+        rules_of(&self.chains, chain)
     }
 }
 

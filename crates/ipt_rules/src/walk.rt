@@ -42,7 +42,7 @@ fn step_at(rule: &Rule, packet: &Packet, state: CtState) -> Step
 }
 
 #[tactic(auto, using(crate::proofs::ChainLemmas::rules_of_read))]
-fn rules_of(chains: &[Chain], number: u16) -> &[Rule]
+pub(crate) fn rules_of(chains: &[Chain], number: u16) -> &[Rule]
     requires { number < length chains.now }
     ensures { result.now ≡ rules_of chains.now number }
 {
