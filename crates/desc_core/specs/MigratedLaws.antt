@@ -41,7 +41,7 @@ get_by Less k l d e ms order behind = rw (tied_itself nat_list_cmp_total k) refl
 get_by Equal k l d e ms order behind = rw order refl
 get_by Greater k l d e ms order behind = rw order behind
 
-get_with : (k : List ℕ) (d : Data) (ms : Members) → get_member k (with_member k d ms) ≡ Some d
+pub get_with : (k : List ℕ) (d : Data) (ms : Members) → get_member k (with_member k d ms) ≡ Some d
 get_with k d no_members = rw (tied_itself nat_list_cmp_total k) refl
 get_with k d (member l e ms) = get_by (slice_cmp nat_cmp k l) k l d e ms refl (get_with k d ms)
 
@@ -62,7 +62,7 @@ other_by Greater k l other d e ms order differs behind =
     ap (λ (rest : Option Data). match_ordering (slice_cmp nat_cmp other l) rest (Some e) rest) behind
 
 -- what stands at another key
-get_other : (k other : List ℕ) (d : Data) (ms : Members) → is_eq (slice_cmp nat_cmp other k) ≡ false
+pub get_other : (k other : List ℕ) (d : Data) (ms : Members) → is_eq (slice_cmp nat_cmp other k) ≡ false
     → get_member other (with_member k d ms) ≡ get_member other ms
 get_other k other d no_members differs = passed_over (slice_cmp nat_cmp other k) None (Some d) differs
 get_other k other d (member l e ms) differs = other_by (slice_cmp nat_cmp k l) k l other d e ms refl differs (get_other k other d ms differs)
@@ -77,7 +77,7 @@ keys_by test Greater k l d e ms here all behind =
     and_from (test l) (all_keys test (with_member k d ms)) first behind
 
 -- its keys
-keys_with : (test : List ℕ → Bool) (k : List ℕ) (d : Data) (ms : Members) → test k ≡ true → all_keys test ms ≡ true
+pub keys_with : (test : List ℕ → Bool) (k : List ℕ) (d : Data) (ms : Members) → test k ≡ true → all_keys test ms ≡ true
     → all_keys test (with_member k d ms) ≡ true
 keys_with test k d no_members here all = and_from (test k) true here refl
 keys_with test k d (member l e ms) here all =

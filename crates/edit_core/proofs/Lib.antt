@@ -1,4 +1,9 @@
 pub mod CopyLemmas
+pub mod FlowExact
+pub mod FlowLaws
+pub mod FlowLemmas
+pub mod FlowTables
+pub mod InPlaceLemmas
 pub mod RunLemmas
 pub mod SessionLemmas
-pub mod SummaryLemmas
+pub mod WrittenLemmas

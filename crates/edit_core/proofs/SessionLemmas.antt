@@ -1,8 +1,8 @@
 -- What a session answers, case by case.
-use Rattle.std.proofs.Common.{◌≡◌, ℕ, List, Option, Some, None, Result, Ok, Err, inl, inr, refl, sym, ap, subst, ◌∙◌}
+use Rattle.std.proofs.Common.{◌≡◌, ℕ, List, map, string_bytes, Option, Some, None, Result, Ok, Err, inl, inr, refl, sym, ap, subst, ◌∙◌}
 use Rattle.std.specs.BTreeMap.{BTreeMap}
 use Rattle.std.specs.Option.{ok_or}
-use Rattle.std.specs.Prelude.{IfErr, IfOk, String, length, nat_lt}
+use Rattle.std.specs.Prelude.{IfErr, IfOk, OnErr, String, length, nat_lt}
 use Rattle.std.specs.Result.{result_map_both}
 use Rattle.std.specs.declared.alloc.Global.{Global}
 use Rattle.text_core.specs.StepsLaws.{if_parts, ok_or_parts}
@@ -19,6 +19,7 @@ use Rattle.desc_form.specs.declared.refusal.Place.TheVariants.{Document}
 use Rattle.desc_form.specs.declared.refusal.Why.TheVariants.{NotToml, TooLong}
 use Rattle.edit_core.specs.EditFaults.{Gives, edit_fault}
 use Rattle.edit_core.specs.Edited.{accepted_as, after_edit, edited, if_accepted}
+use Rattle.edit_core.specs.InPlace.{IsDone}
 use Rattle.edit_core.specs.Kept.{IsDescription, IsKept, Refuses, entries_of, table_of, table_of-entries_of}
 use Rattle.edit_core.specs.Summaries.{IsApplied, IsStarted, IsSummary, TellsOf}
 use Rattle.edit_core.specs.declared.fault.EditFault.{EditFault}
@@ -95,28 +96,49 @@ kept_now s table d policy is kept = record {
 
 -- ---- an edit, of the entries
 
-seen : (s : Entries) (table : Table) → entries_of table ≡ s → table_view table ≡ table_of s
+pub seen : (s : Entries) (table : Table) → entries_of table ≡ s → table_view table ≡ table_of s
 seen s table is = sym (ap table_of (sym is) ∙ table_of-entries_of table)
 
-pub not_edited_now : (change said : Change) (s : Entries) (table : Table) (fault : EditFault) → entries_of table ≡ s → said ≡ change
-    → Gives {A = Members} (edited said (table_view table)) (Err fault) → IsApplied change (table_of s) (table_of s) (Err fault)
-not_edited_now change said s table fault is same given =
-    subst (λ (ms : Members). IsApplied change ms ms (Err fault)) (seen s table is)
-    (not_edited change (table_view table) fault (subst (λ (x : Change). Gives {A = Members} (edited x (table_view table)) (Err fault)) same given))
+pub not_edited_now : (change : Change) (s : Entries) (table : Table) (fault : EditFault) → entries_of table ≡ s
+    → Gives {A = Members} (edited change (table_view table)) (Err fault) → IsApplied change (table_of s) (table_of s) (Err fault)
+not_edited_now change s table fault is given =
+    subst (λ (ms : Members). IsApplied change ms ms (Err fault)) (seen s table is) (not_edited change (table_view table) fault given)
 
-pub not_described_now : (change said : Change) (s : Entries) (table new : Table) (fault : DescFault) → entries_of table ≡ s → said ≡ change
-    → edited said (table_view table) ≡ Ok (table_view new) → Refuses (table_view new) fault
+pub not_described_now : (change : Change) (s : Entries) (table new : Table) (fault : DescFault) → entries_of table ≡ s
+    → edited change (table_view table) ≡ Ok (table_view new) → Refuses (table_view new) fault
     → IsApplied change (table_of s) (table_of s) (Err (edit_fault fault))
-not_described_now change said s table new fault is same made none =
+not_described_now change s table new fault is made none =
     subst (λ (ms : Members). IsApplied change ms ms (Err (edit_fault fault))) (seen s table is)
-    (not_described change (table_view table) (table_view new) fault (ap (λ (x : Change). edited x (table_view table)) (sym same) ∙ made) none)
+    (not_described change (table_view table) (table_view new) fault made none)
 
-pub applied_now : (change said : Change) (s next : Entries) (table made inside : Table) (d : Network) (policy : Policy) (summary : Summary)
-    → entries_of table ≡ s → said ≡ change → edited said (table_view table) ≡ Ok (table_view made) → next ≡ entries_of made
-    → entries_of inside ≡ next → IsKept (table_view inside) d policy → TellsOf d policy summary
-    → IsApplied change (table_of s) (table_of (entries_of inside)) (Ok summary)
-applied_now change said s next table made inside d policy summary is same given kept_as opened kept tells =
+pub applied_now : (change : Change) (s next : Entries) (table made inside : Table) (d : Network) (policy : Policy) (summary : Summary)
+    → entries_of table ≡ s → edited change (table_view table) ≡ Ok (table_view made) → next ≡ entries_of made → entries_of inside ≡ next
+    → IsKept (table_view inside) d policy → TellsOf d policy summary → IsApplied change (table_of s) (table_of (entries_of inside)) (Ok summary)
+applied_now change s next table made inside d policy summary is given kept_as opened kept tells =
     let new : table_view made ≡ table_of (entries_of inside) = sym (ap table_of (opened ∙ kept_as) ∙ table_of-entries_of made) in
     let there : IsKept (table_of (entries_of inside)) d policy = kept_now (entries_of inside) inside d policy refl kept in
     applied change (table_of s) (table_of (entries_of inside)) d policy summary
-    (ap (λ (x : Change). edited x (table_of s)) (sym same) ∙ ap (edited said) (sym (seen s table is)) ∙ given ∙ ap (λ (ms : Members). Ok ms) new) there tells
+    (ap (edited change) (sym (seen s table is)) ∙ given ∙ ap (λ (ms : Members). Ok ms) new) there tells
+
+-- an edit that was made where the table stands
+pub done_now : (change said : Change) (s : Entries) (old new : Table) (summary : Summary) → entries_of old ≡ s → said ≡ change
+    → IsDone said (table_view old) (table_view new) summary → IsApplied change (table_of s) (table_of (entries_of new)) (Ok summary)
+done_now change said s old new summary is same done =
+    subst (λ (x : Change). IsApplied x (table_of s) (table_of (entries_of new)) (Ok summary)) same
+    (subst (λ (ms : Members). IsApplied said ms (table_of (entries_of new)) (Ok summary)) (seen s old is)
+    (subst (λ (ms : Members). IsApplied said (table_view old) ms (Ok summary)) (sym (table_of-entries_of new)) done))
+
+-- the entries where nothing was changed
+pub same_entries : (s : Entries) (old new : Table) → entries_of old ≡ s → new.entries ≡ old.entries → entries_of new ≡ s
+same_entries s old new is same = ap (map (λ (e : String Global × Value). (string_bytes e.0, e.1))) same ∙ is
+
+-- an edit that was made anew, from entries that were left as they are
+pub anew_now : (change said : Change) (s t next : Entries) (r : Result Summary EditFault) → t ≡ s → said ≡ change
+    → IsApplied said (table_of t) (table_of next) r → IsApplied change (table_of s) (table_of next) r
+anew_now change said s t next r same is applied =
+    subst (λ (x : Change). IsApplied x (table_of s) (table_of next) r) is
+    (subst (λ (es : Entries). IsApplied said (table_of es) (table_of next) r) same applied)
+
+pub unchanged_now : (r : Result Summary EditFault) (s t next : Entries) → t ≡ s → OnErr r (next ≡ t) → OnErr r (next ≡ s)
+unchanged_now (Ok summary) s t next same unchanged = unchanged
+unchanged_now (Err fault) s t next same unchanged = unchanged ∙ same

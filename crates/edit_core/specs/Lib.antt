@@ -1,5 +1,7 @@
 pub mod EditFaults
 pub mod Edited
+pub mod FlowEdits
+pub mod InPlace
 pub mod Kept
 pub mod Runs
 pub mod Summaries

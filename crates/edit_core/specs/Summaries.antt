@@ -1,6 +1,5 @@
 -- What is told of a description after an edit, and what a session answers.
-use Rattle.std.specs.Prelude.{◌≡◌, ◌↔◌, ℕ, Bool, List, length, Some, Result, Ok, Err, IsFalse}
-use Rattle.std.specs.List.{AllZip, filter}
+use Rattle.std.specs.Prelude.{◌≡◌, length, Some, Result, Ok, Err, List, ℕ}
 use Rattle.desc_core.specs.Description.{described, described_by_table}
 use Rattle.desc_core.specs.Document.{document}
 use Rattle.desc_core.specs.declared.fault.DescFault.{DescFault}
@@ -11,17 +10,10 @@ use Rattle.edit_core.specs.declared.fault.EditFault.{EditFault}
 use Rattle.edit_core.specs.declared.fault.EditFault.TheVariants.{Memory}
 use Rattle.edit_core.specs.declared.summary.Summary.{Summary}
 use Rattle.edit_text.specs.Edit.{Change}
-use Rattle.flow_set.specs.declared.flow.Flow.{Flow}
-use Rattle.inv_any.specs.declared.any_inv.AnyInv.{AnyInv}
 use Rattle.net_core.specs.Network.{Network}
-use Rattle.net_core.specs.Policies.{Policy, holds_on}
+use Rattle.net_core.specs.Policies.{Policy}
+use Rattle.policy_steps.specs.FailingFlows.{AreFailing}
 use Rattle.toml.specs.Data.{Members}
-
--- so many of the invariants fail on the flows: each has a mark, which is false exactly where it holds
-pub record AreFailing (invs : List AnyInv) (flows : List Flow) (count : ℕ) : Type 0 where
-  pub marks : List Bool
-  pub each : AllZip (λ inv failed. IsFalse failed ↔ holds_on inv flows) invs marks
-  pub counted : count ≡ length (filter (λ failed. failed) marks)
 
 -- how many flows the network asks for, how many its policy permits and lets be answered, and how many of its invariants fail on the
 -- asked flows

@@ -89,7 +89,7 @@ fn push_other(
 }
 
 /// Whether a value is a list that begins with the names of the two hosts.
-fn is_between(value: &Value, from: &str, to: &str) -> bool
+pub(crate) fn is_between(value: &Value, from: &str, to: &str) -> bool
     ensures { result ≡ is_between from.now to.now (view value.now) }
 {
     match elements(value) {

@@ -5,6 +5,7 @@
 mod assigns;
 mod fault;
 mod flows;
+mod in_place;
 mod run;
 mod session;
 mod summary;

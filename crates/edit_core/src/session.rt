@@ -5,16 +5,18 @@ ghost use Rattle.std.specs.Result.{result_map_both};
 ghost use Rattle.desc_core.specs.Description.{described_by_table};
 ghost use Rattle.edit_core.specs.Kept.{IsDescription, Refuses, entries_of, table_of};
 ghost use Rattle.edit_core.specs.Summaries.{HasPolicy, IsApplied, IsStarted};
-ghost use Rattle.edit_text.specs.EditView.{edit_view};
+ghost use Rattle.edit_text.specs.EditView.{change_view, edit_view};
 ghost use Rattle.toml.specs.View.{table_view};
 
 use crate::fault::EditFault;
+use crate::in_place::edit_in_place;
 use crate::summary::{Summary, summary_of};
 use crate::table::edited;
 use desc_core::{DescFault, describe_table, read_table};
-use edit_text::Edit;
+use edit_text::{Change, Edit};
 use flow_set::FlowSet;
-use net_core::{Description, Policy, policy_of};
+use net_core::Description;
+use policy_steps::PolicedNetwork;
 use std::alloc::Global;
 use std::marker::Model;
 use toml::Table;
@@ -24,8 +26,7 @@ use toml::Table;
 pub struct Session {
     alloc: Global,
     table: Table,
-    description: Description,
-    policy: Policy,
+    network: PolicedNetwork,
 }
 
 impl Model for Session {
@@ -38,12 +39,14 @@ impl Model for Session {
 
     ghost coded = { Prim.hlevel (codes, value.the_row.coded) };
 
+    ghost use Rattle.std.specs.Prelude.{◌≡◌, Ok};
     ghost use Rattle.toml.specs.View.{table_view};
-    ghost use Rattle.edit_core.specs.Kept.{IsKept, entries_of};
+    ghost use Rattle.desc_core.specs.Description.{described_by_table};
+    ghost use Rattle.edit_core.specs.Kept.{entries_of};
 
     ghost view = { λ s. entries_of s.table };
 
-    ghost invariant = { λ s. IsKept (table_view s.table) s.description s.policy };
+    ghost invariant = { λ s. described_by_table (table_view s.table) ≡ Ok s.network.network };
 }
 
 impl Session {
@@ -62,12 +65,11 @@ impl Session {
         ensures refused { IfErr result (Refuses (table_view table)) }
     {
         let description = describe_table(alloc, &table)?;
-        let policy = policy_of(alloc, &description)?;
+        let network = PolicedNetwork::new(alloc, description)?;
         Ok(Session {
             alloc,
             table,
-            description,
-            policy,
+            network,
         })
     }
 
@@ -77,9 +79,21 @@ impl Session {
         ensures applied { IsApplied (edit_view edit.now).change (table_of self.old) (table_of self.new) result }
         ensures unchanged { OnErr result (self.new ≡ self.old) }
     {
-        let table = edited(self.alloc, &self.table, edit.change())?;
+        let change = edit.change();
+        match edit_in_place(self.alloc, &mut self.table, &mut self.network, change) {
+            Some(summary) => Ok(summary),
+            None => self.apply_anew(change),
+        }
+    }
+
+    /// Changes the table by an edit, and describes it anew.
+    fn apply_anew(&mut self, change: &Change) -> Result<Summary, EditFault>
+        ensures applied { IsApplied (change_view change.now) (table_of self.old) (table_of self.new) result }
+        ensures unchanged { OnErr result (self.new ≡ self.old) }
+    {
+        let table = edited(self.alloc, &self.table, change)?;
         let next = Session::of_table(self.alloc, table)?;
-        let summary = summary_of(self.alloc, &next.description, &next.policy)?;
+        let summary = summary_of(&next.network);
         *self = next;
         Ok(summary)
     }
@@ -88,20 +102,20 @@ impl Session {
     pub fn description(&self) -> &Description
         ensures { described_by_table (table_of self.now) ≡ Ok result.now }
     {
-        &self.description
+        self.network.description()
     }
 
     /// The permitted flows of the description now.
     pub fn permitted(&self) -> &FlowSet
         ensures { HasPolicy (table_of self.now) (λ policy. result.now ≡ policy.permitted) }
     {
-        self.policy.permitted()
+        self.network.permitted()
     }
 
     /// Those among them whose answers may pass.
     pub fn stateful(&self) -> &FlowSet
         ensures { HasPolicy (table_of self.now) (λ policy. result.now ≡ policy.stateful) }
     {
-        self.policy.stateful()
+        self.network.stateful()
     }
 }

@@ -1,14 +1,9 @@
 //! What is told of a description after an edit.
 
-ghost use Rattle.std.specs.Prelude.{◌≡◌, ◌≤◌, ◌∷◌, [], IfOk};
-ghost use Rattle.edit_core.specs.Summaries.{AreFailing, TellsOf};
-ghost use Rattle.inv_any.specs.Templates.{meaning_of};
+ghost use Rattle.edit_core.specs.Summaries.{TellsOf};
+ghost use Rattle.net_core.specs.Policies.{IsPolicyOf};
 
-use flow_set::FlowSet;
-use inv_any::AnyInv;
-use inv_law::Invariant;
-use net_core::{Description, Policy};
-use std::alloc::{AllocError, Global};
+use policy_steps::PolicedNetwork;
 
 /// How many flows are asked for, permitted and stateful, and how many invariants fail on the asked
 /// flows.
@@ -20,43 +15,15 @@ pub struct Summary {
     pub failing: u16,
 }
 
-/// What is told of a description whose policy this is.
-pub(crate) fn summary_of(
-    alloc: Global,
-    description: &Description,
-    policy: &Policy,
-) -> Result<Summary, AllocError>
-    ensures { IfOk result (TellsOf description.now policy.now) }
+/// What is told of a network and its policy.
+pub(crate) fn summary_of(network: &PolicedNetwork) -> Summary
+    ensures tells { TellsOf network.now.network network.now.policy result }
+    ensures policy { IsPolicyOf network.now.network network.now.policy }
 {
-    Ok(Summary {
-        asked: description.asked().len(),
-        permitted: policy.permitted().len(),
-        stateful: policy.stateful().len(),
-        failing: failing(alloc, description)?,
-    })
-}
-
-/// How many invariants fail on the asked flows.
-fn failing(alloc: Global, description: &Description) -> Result<u16, AllocError>
-    ensures { IfOk result (AreFailing description.now.invariants description.now.asked.flows) }
-{
-    let asked = description.asked();
-    let mut count = 0;
-    for invariant in description.invariants() {
-        count += failed(alloc, invariant, asked)?;
-    }
-    Ok(count)
-}
-
-/// 1 where the invariant fails on the flows, else 0.
-fn failed(alloc: Global, invariant: &AnyInv, flows: &FlowSet) -> Result<u16, AllocError>
-    requires { flows.now.size ≡ (meaning_of invariant.now).size }
-    ensures failing { IfOk result (AreFailing (invariant.now ∷ []) flows.now.flows) }
-    ensures small { IfOk result (λ count. count ≤ 1) }
-{
-    if invariant.holds(alloc, flows)? {
-        Ok(0)
-    } else {
-        Ok(1)
+    Summary {
+        asked: network.description().asked().len(),
+        permitted: network.permitted().len(),
+        stateful: network.stateful().len(),
+        failing: network.failed(),
     }
 }

@@ -1,3 +1,5 @@
+pub mod Asking
+pub mod AskingLaws
 pub mod Fitting
 pub mod HeadlineLaws
 pub mod Network

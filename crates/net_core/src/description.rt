@@ -1,14 +1,16 @@
 //! A network: its hosts, the flows between them that are asked for, their services, and its
 //! invariants.
 ghost use Rattle.std.specs.Prelude.{◌≡◌, ◌≤◌, All, length};
+ghost use Rattle.flow_set.specs.Flow.{IsFlow};
 ghost use Rattle.flow_set.specs.FlowSetView.{IsFlowSet};
 ghost use Rattle.host_net.specs.Hosts.{IsHosts};
 ghost use Rattle.host_net.specs.Limits.{invariant_limit};
 ghost use Rattle.host_net.specs.Services.{AreServices};
 ghost use Rattle.inv_any.specs.Templates.{meaning_of};
+ghost use Rattle.net_core.specs.Asking.{asking_for, not_asking_for};
 ghost use Rattle.net_core.specs.Fitting.{IsNetwork};
 
-use flow_set::FlowSet;
+use flow_set::{Flow, FlowSet};
 use host_net::{Hosts, Services};
 use inv_any::AnyInv;
 use std::marker::Model;
@@ -91,6 +93,22 @@ impl Description {
         ensures set { IsFlowSet self.now.asked.size self.now.asked.flows }
     {
         &self.asked
+    }
+
+    /// Asks for one flow more. It is narrowed to the services that it has.
+    pub fn ask_for(&mut self, flow: Flow)
+        requires { IsFlow self.old.asked.size flow }
+        ensures { self.new ≡ asking_for self.old flow }
+    {
+        self.asked.insert(flow);
+    }
+
+    /// Asks for one flow less. What services it has stay.
+    pub fn ask_no_more_for(&mut self, flow: Flow)
+        requires { IsFlow self.old.asked.size flow }
+        ensures { self.new ≡ not_asking_for self.old flow }
+    {
+        self.asked.remove(flow);
     }
 
     /// The services of the flows. A flow that has none is not narrowed: every packet is of it.

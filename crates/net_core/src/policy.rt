@@ -43,6 +43,14 @@ impl Policy {
     {
         &self.stateful
     }
+
+    /// Both sets: the permitted flows, and those among them whose answers may pass.
+    pub fn into_sets(self) -> (FlowSet, FlowSet)
+        ensures permitted { result.0 ≡ self.permitted }
+        ensures stateful { result.1 ≡ self.stateful }
+    {
+        (self.permitted, self.stateful)
+    }
 }
 
 /// The permitted flows of a description, and those among them whose answers may pass.

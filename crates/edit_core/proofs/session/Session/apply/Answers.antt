@@ -1,24 +1,8 @@
-use Rattle.std.proofs.lemmas.Result.{err_from_is_err_and}
 use Rattle.edit_text.specs.EditView.{change_view}
-use Rattle.edit_core.proofs.SessionLemmas.{applied_now, not_described_now, not_edited_now}
+use Rattle.edit_core.proofs.SessionLemmas.{anew_now, done_now, same_entries, unchanged_now}
 use Rattle.edit_core.proofs.session.Session.apply.Goals as goal
 
-pub returns-in_err-table-clause-applied : goal.returns-in_err-table-clause-applied
-returns-in_err-table-clause-applied c =
-    let p = err_from_is_err_and c.from_residual.result c.from_residual.ensures.1 in
-    rw (p.1, p.2)
-    (not_edited_now (change_view c.args.edit.now.change) (change_view c.change.result.now) c.args.self.now c.self.inside.table c.in_err-table.field-0.0
-    c.self.view_is c.change.ensures c.in_err-table.ensures)
-
-pub returns-in_err-next-clause-applied : goal.returns-in_err-next-clause-applied
-returns-in_err-next-clause-applied c =
-    let p = err_from_is_err_and c.from_residual-in_err-next.result c.from_residual-in_err-next.ensures.1 in
-    rw (p.1, p.2)
-    (not_described_now (change_view c.args.edit.now.change) (change_view c.change.result.now) c.args.self.now c.self.inside.table c.in_ok-table.table
-    c.in_err-next.field-0.0 c.self.view_is c.change.ensures c.in_ok-table.ensures c.in_err-next.ensures.refused)
-
-pub returns-clause-applied : goal.returns-clause-applied
-returns-clause-applied c =
-    applied_now (change_view c.args.edit.now.change) (change_view c.change.result.now) c.args.self.now c.in_ok-next.next c.self.inside.table
-    c.in_ok-table.table c.next.inside.table c.next.inside.description c.next.inside.policy c.in_ok-summary.summary c.self.view_is c.change.ensures
-    c.in_ok-table.ensures c.in_ok-next.ensures.table c.next.view_is c.next.invariant c.in_ok-summary.ensures
+pub returns-in-Some-clause-applied : goal.returns-in-Some-clause-applied
+returns-in-Some-clause-applied c =
+    done_now (change_view c.args.edit.now.change) (change_view c.change-change.result.now) c.args.self.now c.self.inside.table c.edit_in_place.new.table
+    c.in-Some.summary c.self.view_is c.change-change.ensures c.in-Some.ensures.done

@@ -3,8 +3,9 @@ use Rattle.edit_core.proofs.session.Session.stateful.Goals as goal
 
 pub returns : goal.returns
 returns c = (
-  c.self.inside.description,
-  c.self.inside.policy,
-  kept_now c.args.self.now c.self.inside.table c.self.inside.description c.self.inside.policy c.self.view_is c.self.invariant,
+  c.self.inside.network.network,
+  c.self.inside.network.policy,
+  kept_now c.args.self.now c.self.inside.table c.self.inside.network.network c.self.inside.network.policy c.self.view_is
+      (record { described = c.self.invariant; is_policy = c.stateful.ensures.policy }),
   c.stateful.ensures.value,
 )

@@ -2,9 +2,9 @@ use Rattle.std.proofs.Common.{◌≡◌, ◌+◌, ◌∷◌, [], ℕ, List, suc,
 use Rattle.std.proofs.lemmas.List.{drop_all}
 use Rattle.flow_set.specs.FlowSet.{SetOfFlows}
 use Rattle.inv_any.specs.declared.any_inv.AnyInv.{AnyInv}
-use Rattle.edit_core.proofs.SummaryLemmas.{failing_more, none_failing}
-use Rattle.edit_core.specs.Summaries.{AreFailing}
-use Rattle.edit_core.proofs.summary.failing.Goals as goal
+use Rattle.policy_steps.proofs.CountLemmas.{failing_more, none_failing}
+use Rattle.policy_steps.specs.FailingFlows.{AreFailing}
+use Rattle.policy_steps.proofs.counts.count_failed.Goals as goal
 
 pub loop-invariant-preserved : goal.loop-invariant-preserved
 loop-invariant-preserved c =

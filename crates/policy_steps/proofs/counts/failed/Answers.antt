@@ -1,7 +1,7 @@
 use Rattle.std.proofs.Common.{sym, ◌∙◌}
 use Rattle.std.proofs.lemmas.Bool.{false≢true}
-use Rattle.edit_core.proofs.SummaryLemmas.{one_fails, one_holds}
-use Rattle.edit_core.proofs.summary.failed.Goals as goal
+use Rattle.policy_steps.proofs.CountLemmas.{one_fails, one_holds}
+use Rattle.policy_steps.proofs.counts.failed.Goals as goal
 
 pub returns-then-branch-clause-failing : goal.returns-then-branch-clause-failing
 returns-then-branch-clause-failing c = one_holds c.args.invariant.now c.args.flows.now.flows (c.in_ok-holds.ensures.0 c.if-branch.true)

@@ -1,6 +1,6 @@
 use Rattle.std.proofs.Common.{◌+◌, ◌≤◌, ℕ, drop}
-use Rattle.edit_core.specs.Summaries.{AreFailing}
-use Rattle.edit_core.proofs.summary.failing.Given as goal
+use Rattle.policy_steps.specs.FailingFlows.{AreFailing}
+use Rattle.policy_steps.proofs.counts.count_failed.Given as goal
 
 -- those so far and those that are left are all; and each counts once at the most
 abbrev pub invariant-loop-invariant : goal.invariant-loop-invariant

@@ -1,0 +1,190 @@
+-- A table with other flows: what is written in it, and the network that it describes, where the flows are right.
+use Rattle.std.proofs.Common.{◌≡◌, ◌≢◌, ℕ, pos, ◌≤◌, true, false, List, [], ◌∷◌, length, codes, Option, Some, None, Ok, option_and_then, unwrap_or, nat_cmp, is_eq, refl, sym, ap, subst, ◌∙◌}
+use Rattle.std.specs.Cmp.Lexicographic.{slice_cmp}
+use Rattle.std.specs.List.{All, AllPairs, AllZip, list_all, list_any}
+use Rattle.std.specs.Prelude.{IsSomeAnd, IsTrue, MatchOption, is_some}
+use Rattle.std.specs.Str.{bytes_eq}
+use Rattle.toml.specs.Data.{Data, array, Members, get_member}
+use Rattle.toml.specs.View.{items_of}
+use Rattle.desc_core.proofs.UsesLaws.{all_between}
+use Rattle.desc_core.specs.Description.{described_by_table}
+use Rattle.desc_core.specs.DescriptionLaws.{accepted}
+use Rattle.desc_core.specs.Flows.{flow_of_names}
+use Rattle.desc_core.specs.Migrated.{with_member}
+use Rattle.desc_core.specs.MigratedLaws.{get_other, get_with, keys_with}
+use Rattle.desc_core.specs.TableFactsLaws.{described-IsRight}
+use Rattle.desc_core.specs.UseConditions.{is_declared}
+use Rattle.desc_core.specs.UseFacts.{HasUses}
+use Rattle.desc_core.specs.UseFactsLaws.{PassesUses-uses, has_uses}
+use Rattle.desc_core.specs.WrittenNetwork.{network_of}
+use Rattle.desc_form.specs.KeyLaws.{array_zips}
+use Rattle.desc_form.specs.Written.{Written, written}
+use Rattle.desc_form.specs.WrittenFlow.{WrittenFlow}
+use Rattle.desc_form.specs.WrittenForm.{IsAnswers, IsArray, IsFlow, IsHost, IsInteger, IsInvariant, IsTable, IsTemplate, IsWritten, document_names}
+use Rattle.desc_form.specs.WrittenLaws.{written_stands}
+use Rattle.desc_form.specs.WrittenOnceLaws.{written_is}
+use Rattle.desc_hosts.specs.FactsLaws.{has_hosts}
+use Rattle.desc_hosts.specs.HostFacts.{HasHosts}
+use Rattle.desc_hosts.specs.WrittenHosts.{network_hosts}
+use Rattle.edit_core.specs.Edited.{with_list}
+use Rattle.host_net.specs.Services.{service_limit}
+use Rattle.host_net.specs.ServiceText.{service_of}
+use Rattle.net_core.specs.Network.{Network}
+use Rattle.table_core.specs.Tables.{elements, elements_of, has_only, list_at}
+use Rattle.text_core.specs.Name.{is_name}
+
+-- ---- what is written
+
+-- the same with other flows; the key `flow` is there
+abbrev pub with_flows : Written → List WrittenFlow → Written
+with_flows w flows = record {
+  version = w.version;
+  answers = w.answers;
+  hosts = w.hosts;
+  invariants = w.invariants;
+  given = true;
+  flows = flows;
+  templates = w.templates;
+}
+
+items_again : (ds : List Data) → elements (items_of ds) ≡ ds
+items_again [] = refl
+items_again (d ∷ ds) = ap (λ (rest : List Data). d ∷ rest) (items_again ds)
+
+pub listed_again : (ds : List Data) → elements_of (array (items_of ds)) ≡ Some ds
+unfolding elements_of
+listed_again ds = ap (λ (es : List Data). Some es) (items_again ds)
+
+at_other : (key : List ℕ) (d : Data) (ms : Members) (P : Option Data → Type 0) → is_eq (slice_cmp nat_cmp key (codes "flow")) ≡ false
+    → P (get_member key ms) → P (get_member key (with_member (codes "flow") d ms))
+at_other key d ms P differs stands = subst P (sym (get_other (codes "flow") key d ms differs)) stands
+
+written_flows : (ms : Members) (w : Written) (ds : List Data) (fs : List WrittenFlow) → IsWritten ms w → AllZip IsFlow ds fs
+    → (w.version ≢ pos 2 → All (λ (f : WrittenFlow). f.services ≡ []) fs)
+    → IsWritten (with_list (codes "flow") ds ms) (with_flows w fs)
+unfolding has_only
+written_flows ms w ds fs is zipped whole =
+    let d = array (items_of ds) in
+    let new = get_with (codes "flow") d ms in
+    record {
+      only = keys_with (λ k. list_any (bytes_eq k) (document_names w.version)) (codes "flow") d ms refl is.only;
+      version = at_other (codes "topos") d ms (λ o. IsSomeAnd o (λ e. IsInteger e w.version)) refl is.version;
+      answers = at_other (codes "answers") d ms (λ o. MatchOption o (w.answers ≡ true) (λ e. IsAnswers e w.answers)) refl is.answers;
+      hosts = at_other (codes "host") d ms (λ o. IsSomeAnd o (λ e. IsArray (IsTable IsHost) e w.hosts)) refl is.hosts;
+      invariants = at_other (codes "invariant") d ms (λ o. MatchOption o (w.invariants ≡ []) (λ e. IsArray (IsTable IsInvariant) e w.invariants)) refl is.invariants;
+      given = sym (ap is_some new);
+      flows = subst (λ (o : Option Data). MatchOption o (fs ≡ []) (λ e. IsArray IsFlow e fs)) (sym new)
+          (items_of ds, refl, subst (λ (es : List Data). AllZip IsFlow es fs) (sym (items_again ds)) zipped);
+      whole = whole;
+      templates = at_other (codes "template") d ms (λ o. MatchOption o (w.templates ≡ []) (λ e. IsArray (IsTable IsTemplate) e w.templates)) refl is.templates;
+    }
+
+-- ---- what is right
+
+-- flows that may be listed in a description
+pub record AreRightFlows (w : Written) (fs : List WrittenFlow) : Type 0 where
+  pub whole : w.version ≢ pos 2 → All (λ (f : WrittenFlow). f.services ≡ []) fs
+  pub named : All (λ (f : WrittenFlow). IsTrue (is_name f.from) × IsTrue (is_name f.to)) fs
+  pub joined : All (λ (f : WrittenFlow). IsTrue (is_declared w f.from) × IsTrue (is_declared w f.to)) fs
+  pub apart : All (λ (f : WrittenFlow). f.from ≢ f.to) fs
+  pub different : AllPairs (λ (f g : WrittenFlow). f.from ≡ g.from → f.to ≡ g.to → ⊥) fs
+  pub services : All (λ (f : WrittenFlow). All (λ text. IsTrue (is_some (service_of text))) f.services) fs
+  pub few : All (λ (f : WrittenFlow). length f.services ≤ service_limit) fs
+
+-- what is written in a table that describes a network, and lists these flows
+pub record IsListing (table : Members) (flows : List Data) (w : Written) : Type 0 where
+  pub is_written : IsWritten table w
+  pub hosts : HasHosts w
+  pub uses : HasUses w
+  pub zipped : AllZip IsFlow flows w.flows
+  pub given : w.given ≡ true
+  pub between : list_all (λ f. is_some (flow_of_names (network_hosts w) f)) w.flows ≡ true
+
+given_where : (o : Option Data) (ds : List Data) → option_and_then elements_of o ≡ Some ds → is_some o ≡ true
+given_where None ds is = cc
+given_where (Some d) ds is = refl
+
+-- the flows that stand in the table
+zipped_where : (ms : Members) (w : Written) (ds : List Data) → list_at (codes "flow") ms ≡ Some ds → IsWritten ms w → AllZip IsFlow ds w.flows
+unfolding list_at
+zipped_where ms w ds there is =
+    subst (λ (o : Option (List Data)). AllZip IsFlow (unwrap_or o []) w.flows) there
+    (array_zips IsFlow (get_member (codes "flow") ms) w.flows is.flows)
+
+list_given : (ms : Members) (w : Written) (ds : List Data) → list_at (codes "flow") ms ≡ Some ds → IsWritten ms w → w.given ≡ true
+unfolding list_at
+list_given ms w ds there is = is.given ∙ given_where (get_member (codes "flow") ms) ds there
+
+pub listing : (table : Members) (flows : List Data) (d : Network) → list_at (codes "flow") table ≡ Some flows → described_by_table table ≡ Ok d
+    → IsListing table flows (written table)
+listing table flows d there said =
+    let none = accepted table d said in
+    let is = written_stands table none.form in
+    record {
+      is_written = is;
+      hosts = (has_hosts (written table)).0 none.hosts;
+      uses = (has_uses (written table)).0 none.uses;
+      zipped = zipped_where table (written table) flows there is;
+      given = list_given table (written table) flows there is;
+      between = all_between (written table) (PassesUses-uses (written table) none.uses);
+    }
+
+-- its flows are right
+pub own_flows : (table : Members) (flows : List Data) (w : Written) → IsListing table flows w → AreRightFlows w w.flows
+own_flows table flows w listing = record {
+  whole = listing.is_written.whole;
+  named = listing.hosts.flow_names;
+  joined = listing.uses.joined;
+  apart = listing.uses.apart;
+  different = listing.uses.different;
+  services = listing.uses.services;
+  few = listing.uses.few;
+}
+
+hosts_with : (w : Written) (fs : List WrittenFlow) → HasHosts w → AreRightFlows w fs → HasHosts (with_flows w fs)
+hosts_with w fs hosts right = record {
+  version = hosts.version;
+  few_hosts = hosts.few_hosts;
+  few_prefixes = hosts.few_prefixes;
+  few_invariants = hosts.few_invariants;
+  few_templates = hosts.few_templates;
+  host_names = hosts.host_names;
+  assign_names = hosts.assign_names;
+  flow_names = right.named;
+  distinct = hosts.distinct;
+  prefixes = hosts.prefixes;
+  exact = hosts.exact;
+  addressed = hosts.addressed;
+  one_rest = hosts.one_rest;
+  apart = hosts.apart;
+}
+
+uses_with : (w : Written) (fs : List WrittenFlow) → HasUses w → AreRightFlows w fs → HasUses (with_flows w fs)
+unfolding network_hosts
+uses_with w fs uses right = record {
+  templates = uses.templates;
+  assigned = uses.assigned;
+  joined = right.joined;
+  once = uses.once;
+  attributes = uses.attributes;
+  apart = right.apart;
+  different = right.different;
+  services = right.services;
+  few = right.few;
+  declared = uses.declared;
+  distinct = uses.distinct;
+  lawful = uses.lawful;
+}
+
+-- the table with other flows describes the network with these, where they are right
+pub described_with : (table : Members) (flows : List Data) (w : Written) (ds : List Data) (fs : List WrittenFlow) → IsListing table flows w
+    → AllZip IsFlow ds fs → AreRightFlows w fs → described_by_table (with_list (codes "flow") ds table) ≡ Ok (network_of (with_flows w fs))
+described_with table flows w ds fs listing zipped right =
+    let next = with_list (codes "flow") ds table in
+    let is = written_flows table w ds fs listing.is_written zipped right.whole in
+    described-IsRight next (record {
+      w = with_flows w fs;
+      written = is;
+      hosts = hosts_with w fs listing.hosts right;
+      uses = uses_with w fs listing.uses right;
+    }) ∙ ap (λ (v : Written). Ok (network_of v)) (sym (written_is next (with_flows w fs) is))

@@ -1,0 +1,3 @@
+pub mod AdmittedLemmas
+pub mod CountLemmas
+pub mod FailingLemmas

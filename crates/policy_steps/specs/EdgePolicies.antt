@@ -1,0 +1,32 @@
+-- The policy of a network in which every invariant judges flows alone: it is told flow by flow.
+use Rattle.std.specs.Prelude.{◌≡◌, ◌↔◌, Bool, true, false, List, [], ◌∷◌, IsTrue}
+use Rattle.flow_set.specs.Flow.{back_of}
+use Rattle.flow_set.specs.FlowSet.{has, IsSubset}
+use Rattle.flow_set.specs.declared.flow.Flow.{Flow}
+use Rattle.net_core.specs.Network.{Network}
+use Rattle.net_core.specs.Policies.{MeetsAll, MeetsStrict, Policy}
+
+-- of the flows of `all`, xs has exactly those that pass
+abbrev pub AreMarked : (Flow → Type 0) → (all xs : List Flow) → Type 0
+AreMarked Passes all xs = (f : Flow) → IsTrue (has all f) → IsTrue (has xs f) ↔ Passes f
+
+-- the flow alone meets every invariant; its answer alone meets every strict one
+abbrev pub IsAdmitted : Network → Flow → Type 0
+IsAdmitted d f = MeetsAll d (f ∷ [])
+
+abbrev pub IsAnswered : Network → Flow → Type 0
+IsAnswered d f = MeetsStrict d (back_of f ∷ [])
+
+-- those whose answers pass, where there are answers
+abbrev pub AreAnswered : Bool → (Flow → Type 0) → (p s : List Flow) → Type 0
+AreAnswered true Passes p s = AreMarked Passes p s
+AreAnswered false Passes p s = s ≡ []
+
+-- the asked flows that are admitted, and among them those whose answers are
+pub record IsEdgePolicy (d : Network) (policy : Policy) : Type 0 where
+  pub permitted_size : policy.permitted.size ≡ d.asked.size
+  pub stateful_size : policy.stateful.size ≡ d.asked.size
+  pub permitted_within : IsSubset policy.permitted.flows d.asked.flows
+  pub stateful_within : IsSubset policy.stateful.flows policy.permitted.flows
+  pub permitted : AreMarked (IsAdmitted d) d.asked.flows policy.permitted.flows
+  pub stateful : AreAnswered d.answers (IsAnswered d) policy.permitted.flows policy.stateful.flows
