@@ -1,0 +1,61 @@
+"""Descriptions of 256 hosts, and texts of edits of them."""
+import random
+
+from descriptions import HOSTS, description, each, mixed_invariants, name, pairs
+
+EDITS, WALK_EDITS, SAME_EDITS = 10000, 1000, 100
+SPARSE, DENSE = 217, 8  # one of so many pairs of hosts is asked for: some 300 flows, and some 8,200
+EDGE_WISE = 8  # the first of the mixed invariants that judges flows alone
+
+
+def asked(share):
+    return pairs(lambda i, j: (37 * i + 11 * j) % share == 0)
+
+
+def alone(share):
+    """Eight invariants that judge flows alone."""
+    return description(asked(share), mixed_invariants()[EDGE_WISE:])
+
+
+def walks(share):
+    """Sixteen invariants, of which half look at walks."""
+    return description(asked(share), mixed_invariants())
+
+
+def flow_edits(share, count, chosen):
+    """Flows that come and go by turns, so that as many as before are left."""
+    flows = asked(share)
+    there, every = set(flows), pairs(lambda i, j: True)
+    for number in range(count):
+        if number % 2:
+            place = chosen.randrange(len(flows))
+            flow, flows[place] = flows[place], flows[-1]
+            flows.pop()
+            there.remove(flow)
+            yield 'remove ' + ' '.join(flow)
+        else:
+            flow = chosen.choice([flow for flow in (chosen.choice(every) for _ in range(64)) if flow not in there])
+            flows.append(flow)
+            there.add(flow)
+            yield 'add ' + ' '.join(flow)
+
+
+def flows_alone(share):
+    return flow_edits(share, EDITS, random.Random(share))
+
+
+def flows_and_assigns(share):
+    """Every other edit sets the limit of a host, or takes out what was set there."""
+    chosen = random.Random(share)
+    flows = flow_edits(share, WALK_EDITS // 2, chosen)
+    for host, flow in enumerate(flows):
+        yield flow
+        if host % 4 == 3:
+            yield f'unset 1 {name(host // 2 % HOSTS)}'
+        else:
+            yield f'set 1 {{ host = "{name(host // 2 % HOSTS)}", limit = {100 + host % 150} }}'
+
+
+def same():
+    """Each sets what is set, so that the description is read anew and stays as it is: the cost of from scratch."""
+    return [f'set 1 {{ host = "{name(host)}", level = 7 }}' for host in list(each(id))[:SAME_EDITS]]
