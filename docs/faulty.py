@@ -1,4 +1,4 @@
-"""The smallest files that are refused: each prints a line that docs/FORMATS.md or docs/GUIDE.md shows."""
+"""The smallest files that are refused: each prints a line that docs/FORMATS.md, TEXTS.md or GUIDE.md shows."""
 
 TWO = 'host = [{ name = "a", at = ["10.0.1.1"] }, { name = "b", at = ["10.0.2.1"] }]\n'
 HEAD = 'topos = 1\n' + TWO
