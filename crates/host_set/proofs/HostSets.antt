@@ -135,7 +135,7 @@ is_marked-both low high low' high' q = both_cases (nat_lt q 128) _ _ _ _ _ _ (is
 in_range : (q : ℕ) (b : Bool) → q < 256 → (nat_lt q 256 && b) ≡ b
 in_range q b below = grind (arith, nat_tests)
 
-contains-marked : (low high q : ℕ) → q < 256 → set.contains (hosts_below 256 (is_marked low high)) q ≡ is_marked low high q
+pub contains-marked : (low high q : ℕ) → q < 256 → set.contains (hosts_below 256 (is_marked low high)) q ≡ is_marked low high q
 contains-marked low high q below = contains-hosts_below 256 (is_marked low high) q ∙ in_range q _ below
 
 -- the test of one bit

@@ -1,2 +1,3 @@
 pub mod HostSets
 pub mod Apart
+pub mod FirstBits

@@ -1,9 +1,10 @@
 //! A set of hosts, one bit for each number below 256. A row of a closure is such
 //! a set, and so is a list of hosts that must not be reached.
 
-ghost use Rattle.std.specs.Prelude.{◌≡◌, ◌<◌, ◌↔◌, IsTrue, MatchOption};
+ghost use Rattle.std.specs.Prelude.{◌≡◌, ◌<◌, ◌+◌, ◌↔◌, IsTrue, MatchOption};
 ghost use Rattle.std.specs.FinSet as set;
 ghost use Rattle.host_set.specs.Calls.{AreApart, HasNone, IsFirstFrom};
+ghost use Rattle.host_set.specs.HostBits.{is_set, IsFirstBit};
 
 use std::marker::Model;
 
@@ -74,12 +75,28 @@ impl HostSet {
     pub fn first_from(&self, from: u16) -> Option<u16>
         ensures { MatchOption result (HasNone (set.contains self.now) from 256) (IsFirstFrom (set.contains self.now) from) }
     {
-        for host in from..256 {
-            if self.has(host) {
-                return Some(host);
-            }
+        if from >= HALF {
+            return self.first_upper(from - HALF);
         }
-        None
+        match first_bit(self.low, from) {
+            Some(host) => Some(host),
+            None => self.first_upper(0),
+        }
+    }
+
+    // The first host from the one at this place of the upper half on.
+    fn first_upper(&self, from: u16) -> Option<u16>
+        ensures { MatchOption result
+            (HasNone (set.contains self.now) (128 + from) 256)
+            (IsFirstFrom (set.contains self.now) (128 + from)) }
+    {
+        if from >= HALF {
+            return None;
+        }
+        match first_bit(self.high, from) {
+            Some(place) => Some(HALF + place),
+            None => None,
+        }
     }
 
     /// Whether no host is in both sets.
@@ -112,4 +129,16 @@ impl HostSet {
     {
         (self.low.count_ones() + self.high.count_ones()) as u16
     }
+}
+
+// The place of the first bit that is set, from this place on.
+fn first_bit(bits: u128, from: u16) -> Option<u16>
+    requires { from < 128 }
+    ensures { MatchOption result (HasNone (is_set bits) from 128) (IsFirstBit bits from) }
+{
+    let left = bits >> from;
+    if left == 0 {
+        return None;
+    }
+    Some(from + left.trailing_zeros() as u16)
 }

@@ -1,4 +1,5 @@
-//! The trial of an invariant of any template: that of the invariant in it, with its template.
+//! The trial of an invariant of any template. It knows no template, but only what a template looks at: single
+//! flows, whom hosts reach, or who is joined.
 
 ghost use Rattle.std.specs.Prelude.{◌≡◌};
 ghost use Rattle.inv_any.specs.AnyTrials.{tried_of, FitsAny};
@@ -7,21 +8,13 @@ use crate::any_inv::AnyInv;
 use flow_set::{Flow, FlowSet};
 use inv_law::{EdgeTrial, Stepwise, Trial};
 use std::alloc::{AllocError, Global};
-use tmpl_reach::ReachTrial;
+use tmpl_reach::{JoinTrial, ReachTrial};
 
 #[derive(Drop)]
 enum Case {
-    Blp(EdgeTrial),
-    Tainting(EdgeTrial),
-    Sink(EdgeTrial),
-    Gateway(EdgeTrial),
-    Subnets(EdgeTrial),
-    Partners(EdgeTrial),
-    Domains(EdgeTrial),
-    Dependability(ReachTrial),
-    NonInterference(ReachTrial),
-    NoReach(ReachTrial),
-    Table(EdgeTrial),
+    Edge(EdgeTrial),
+    Reach(ReachTrial),
+    Join(JoinTrial),
 }
 
 /// A set of flows that is tried in steps by an invariant of any template.
@@ -35,70 +28,37 @@ impl Trial for AnyTrial {
 
     fn size(&self) -> u16 {
         match &self.case {
-            Case::Blp(tried) => tried.size(),
-            Case::Tainting(tried) => tried.size(),
-            Case::Sink(tried) => tried.size(),
-            Case::Gateway(tried) => tried.size(),
-            Case::Subnets(tried) => tried.size(),
-            Case::Partners(tried) => tried.size(),
-            Case::Domains(tried) => tried.size(),
-            Case::Dependability(tried) => tried.size(),
-            Case::NonInterference(tried) => tried.size(),
-            Case::NoReach(tried) => tried.size(),
-            Case::Table(tried) => tried.size(),
+            Case::Edge(tried) => tried.size(),
+            Case::Reach(tried) => tried.size(),
+            Case::Join(tried) => tried.size(),
         }
     }
 }
 
-// What the invariant in `any`, here `inv`, answers of the trial in `case`, here `tried`. A trial that fits
-// is of the same template.
-macro_rules! ask_trial {
-    ($any:expr, $case:expr, $inv:ident, $tried:ident => $answer:expr, $other:expr) => {
+// The templates with their trials, for the two macros below: a trial of the invariant in `any`, here `inv`, and
+// what that invariant answers of the trial in `case`, here `tried`. A trial that fits is of the template's case.
+macro_rules! each_trial {
+    ($say:ident, $($args:tt)*) => {
+        $say!($($args)*; Blp Edge, Tainting Edge, Sink Edge, Gateway Edge, Subnets Edge, Partners Edge, Domains Edge,
+            Dependability Reach, NonInterference Join, NoReach Reach, Table Edge)
+    };
+}
+
+macro_rules! begin_trial {
+    ($any:expr, $inv:ident => $trial:expr; $($template:ident $kind:ident),*) => {
         match $any {
-            AnyInv::Blp($inv) => match $case {
-                Case::Blp($tried) => $answer,
+            $(AnyInv::$template($inv) => Case::$kind($trial),)*
+        }
+    };
+}
+
+macro_rules! ask_trial {
+    ($any:expr, $case:expr, $inv:ident, $tried:ident => $answer:expr, $other:expr; $($template:ident $kind:ident),*) => {
+        match $any {
+            $(AnyInv::$template($inv) => match $case {
+                Case::$kind($tried) => $answer,
                 _ => $other,
-            },
-            AnyInv::Tainting($inv) => match $case {
-                Case::Tainting($tried) => $answer,
-                _ => $other,
-            },
-            AnyInv::Sink($inv) => match $case {
-                Case::Sink($tried) => $answer,
-                _ => $other,
-            },
-            AnyInv::Gateway($inv) => match $case {
-                Case::Gateway($tried) => $answer,
-                _ => $other,
-            },
-            AnyInv::Subnets($inv) => match $case {
-                Case::Subnets($tried) => $answer,
-                _ => $other,
-            },
-            AnyInv::Partners($inv) => match $case {
-                Case::Partners($tried) => $answer,
-                _ => $other,
-            },
-            AnyInv::Domains($inv) => match $case {
-                Case::Domains($tried) => $answer,
-                _ => $other,
-            },
-            AnyInv::Dependability($inv) => match $case {
-                Case::Dependability($tried) => $answer,
-                _ => $other,
-            },
-            AnyInv::NonInterference($inv) => match $case {
-                Case::NonInterference($tried) => $answer,
-                _ => $other,
-            },
-            AnyInv::NoReach($inv) => match $case {
-                Case::NoReach($tried) => $answer,
-                _ => $other,
-            },
-            AnyInv::Table($inv) => match $case {
-                Case::Table($tried) => $answer,
-                _ => $other,
-            },
+            },)*
         }
     };
 }
@@ -109,28 +69,16 @@ impl Stepwise for AnyInv {
     ghost fits = { λ any tried. FitsAny any tried.case };
 
     fn trial(&self, alloc: Global, e: &FlowSet) -> Result<AnyTrial, AllocError> {
-        let case = match self {
-            AnyInv::Blp(inv) => Case::Blp(inv.trial(alloc, e)?),
-            AnyInv::Tainting(inv) => Case::Tainting(inv.trial(alloc, e)?),
-            AnyInv::Sink(inv) => Case::Sink(inv.trial(alloc, e)?),
-            AnyInv::Gateway(inv) => Case::Gateway(inv.trial(alloc, e)?),
-            AnyInv::Subnets(inv) => Case::Subnets(inv.trial(alloc, e)?),
-            AnyInv::Partners(inv) => Case::Partners(inv.trial(alloc, e)?),
-            AnyInv::Domains(inv) => Case::Domains(inv.trial(alloc, e)?),
-            AnyInv::Dependability(inv) => Case::Dependability(inv.trial(alloc, e)?),
-            AnyInv::NonInterference(inv) => Case::NonInterference(inv.trial(alloc, e)?),
-            AnyInv::NoReach(inv) => Case::NoReach(inv.trial(alloc, e)?),
-            AnyInv::Table(inv) => Case::Table(inv.trial(alloc, e)?),
-        };
+        let case = each_trial!(begin_trial, self, inv => inv.trial(alloc, e)?);
         Ok(AnyTrial { case })
     }
 
     fn step(&self, tried: &mut AnyTrial, f: Flow) -> bool {
-        ask_trial!(self, &mut tried.case, inv, tried => inv.step(tried, f), false)
+        each_trial!(ask_trial, self, &mut tried.case, inv, tried => inv.step(tried, f), false)
     }
 
     fn back(&self, tried: &mut AnyTrial) {
-        ask_trial!(self, &mut tried.case, inv, tried => inv.back(tried), ())
+        each_trial!(ask_trial, self, &mut tried.case, inv, tried => inv.back(tried), ())
     }
 
     ghost fits_size = { λ any tried fits. fits.size };

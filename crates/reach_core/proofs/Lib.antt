@@ -1,5 +1,7 @@
 pub mod Closes
-pub mod Lasts
 pub mod Counts
-pub mod Steps
+pub mod JoinRows
+pub mod Lasts
+pub mod ReachRows
 pub mod Shows
+pub mod Widened

@@ -1,16 +1,16 @@
 -- Laws of what a host reaches and of what it is joined with: over subsets, no flows, one flow and one more flow.
-use Rattle.std.proofs.Common.{◌≡◌, ℕ, ◌<◌, ◌≤◌, Bool, true, false, ◌||◌, ◌⊎◌, ◌↔◌, inl, inr, List, [], ◌∷◌, ◌++◌, refl, sym, ◌∙◌, ap, arith}
-use Rattle.std.specs.Prelude.{IsTrue, ◌≢◌}
-use Rattle.std.proofs.lemmas.Bool.{or_cases, or_left, or_right, false≢true}
+use Rattle.std.proofs.Common.{◌≡◌, ℕ, ◌<◌, ◌≤◌, Bool, true, false, ◌&&◌, ◌||◌, ◌⊎◌, ◌↔◌, inl, inr, List, [], ◌∷◌, ◌++◌, refl, sym, ◌∙◌, ap, arith}
+use Rattle.std.specs.Prelude.{IsTrue, IsFalse, ◌≢◌}
+use Rattle.std.proofs.lemmas.Bool.{or_cases, or_left, or_right, and_parts, and_from, both_ways, cases_Bool, false≢true}
 use Rattle.std.proofs.lemmas.List.Elements.{All-nil, All-cons}
 use Rattle.flow_set.specs.declared.flow.Flow.{Flow}
 use Rattle.flow_set.specs.Flow.{same_flow, back_of}
 use Rattle.flow_set.specs.FlowSet.{has, with_flow}
 use Rattle.flow_set.specs.FlowSetView.{IsFlowSet}
-use Rattle.flow_set.specs.FlowLaws.{same_flow-true, same_flow_back, has-with_flow}
+use Rattle.flow_set.specs.FlowLaws.{same_flow-true, same_flow_self, same_flow_back, has-with_flow}
 use Rattle.reach_core.specs.Walks.{LeadsTo, HasWalk, Reaches, has_either, Joined, ReachesAtMost}
 use Rattle.reach_core.specs.Counting.{ReachesExactly}
-use Rattle.reach_core.specs.WalkLaws.{HasPath, HasWalk-weaker, cases_path, walk_without, walk_elsewhere, LeadsTo-append, walk_over, path_touch, walk_ends}
+use Rattle.reach_core.specs.WalkLaws.{HasPath, HasWalk-weaker, HasPath-weaker, HasWalk-append, path_of_walk, cases_path, walk_within, walk_without, walk_elsewhere, LeadsTo-append, walk_over, path_touch, walk_ends}
 
 -- ---- over subsets
 
@@ -38,6 +38,15 @@ ReachesAtMost-within s e within i limit most hosts are =
 pub Reaches-below : (n : ℕ) (e : List Flow) → IsFlowSet n e → (i j : ℕ) → Reaches e i j → (i < n) × (j < n)
 Reaches-below n e is_set i j walk =
     walk_ends (has e) (λ h. h < n) (λ h. h < n) (λ f here. ((is_set.flows f here).0, (is_set.flows f here).1)) i j walk.0 walk.1 walk.2
+
+pub Joined-below : (n : ℕ) (e : List Flow) → IsFlowSet n e → (i j : ℕ) → Joined e i j → (i < n) × (j < n)
+Joined-below n e is_set i j walk =
+    let each : (f : Flow) → IsTrue (has_either e f) → (f.from < n) × (f.to < n) =
+    λ f here. elim (or_cases (has e f) (has e (back_of f)) here) [
+      | inl forth ↦ ((is_set.flows f forth).0, (is_set.flows f forth).1)
+      | inr back ↦ ((is_set.flows (back_of f) back).1, (is_set.flows (back_of f) back).0)
+    ] in
+    walk_ends (has_either e) (λ h. h < n) (λ h. h < n) each i j walk.0 walk.1 walk.2
 
 -- ---- no flows
 
@@ -197,3 +206,79 @@ Joined-nothing_new e g there i j walk =
     walk_without (has_either e) g there i j
     (walk_without one_way (back_of g) back i j
     (HasWalk-weaker (has_either (with_flow e g)) _ (λ f passes. has_either-with_flow e g f ∙ passes) i j walk))
+
+-- ---- who is joined by one more flow
+
+-- i is one of the two hosts of the flow, or joined with one of them
+abbrev pub Touches : List Flow → Flow → ℕ → Type 0
+Touches e g i = HasPath (has_either e) i g.from ⊎ HasPath (has_either e) i g.to
+
+-- the flow joins nobody with those that it does not touch
+pub Joined-untouched : (e : List Flow) (g : Flow) (i j : ℕ) → (Touches e g i → ⊥) → Joined (with_flow e g) i j → Joined e i j
+Joined-untouched e g i j apart walk =
+    let one_way : Flow → Bool = λ f. same_flow g f || has_either e f in
+    let never : HasPath one_way i g.to → ⊥ =
+    λ path. elim (cases_path one_way i g.to path) [
+      | inl same ↦ apart (inr ([], same))
+      | inr walks ↦ apart (inr (path_of_walk (has_either e) i g.to (walk_elsewhere (has_either e) g i g.to (λ p. apart (inl p)) walks)))
+    ] in
+    walk_elsewhere (has_either e) g i j (λ p. apart (inl p))
+    (walk_elsewhere one_way (back_of g) i j never
+    (HasWalk-weaker (has_either (with_flow e g)) _ (λ f passes. has_either-with_flow e g f ∙ passes) i j walk))
+
+path_turned : (e : List Flow) (i j : ℕ) → HasPath (has_either e) i j → HasPath (has_either e) j i
+path_turned e i j path =
+    elim (cases_path (has_either e) i j path) [
+      | inl same ↦ ([], sym same)
+      | inr walk ↦ path_of_walk (has_either e) j i (Joined-back e i j walk)
+    ]
+
+-- and joins all that it touches
+pub Joined-touching : (e : List Flow) (g : Flow) (i j : ℕ) → Touches e g i → Touches e g j → Joined (with_flow e g) i j
+Joined-touching e g i j first second =
+    let s : List Flow = with_flow e g in
+    let there : Joined s g.from g.to = joined_over s g (has-with_flow e g g ∙ or_left _ _ (same_flow_self g)) in
+    let back : Joined s g.to g.from = Joined-back s g.from g.to there in
+    let more : (k l : ℕ) → HasPath (has_either e) k l → HasPath (has_either s) k l =
+    HasPath-weaker (has_either e) (has_either s) (has_either-within e s (λ h here. has-with_flow e g h ∙ or_right (same_flow g h) (has e h) here)) in
+    let via : (k l : ℕ) → HasPath (has_either e) i k → Joined s k l → HasPath (has_either e) j l → Joined s i j =
+    λ k l before walk after. walk_within (has_either s) i k l j (more i k before) walk (more l j (path_turned e j l after)) in
+    elim first [
+      | inl p ↦ elim second [
+        | inl q ↦ via g.from g.from p (HasWalk-append (has_either s) g.from g.to g.from there back) q
+        | inr q ↦ via g.from g.to p there q
+      ]
+      | inr p ↦ elim second [
+        | inl q ↦ via g.to g.from p back q
+        | inr q ↦ via g.to g.to p (HasWalk-append (has_either s) g.to g.from g.to back there) q
+      ]
+    ]
+
+lead_in : (test : Flow → Bool) (j i k : ℕ) → HasWalk test j i → HasPath test i k → HasPath test j k
+lead_in test j i k (f, fs, walk) (gs, rest) = ((f ∷ fs) ++ gs, LeadsTo-append test j i k (f ∷ fs) gs walk rest)
+
+touches_on : (e : List Flow) (g : Flow) (i j : ℕ) → Joined e j i → Touches e g i → Touches e g j
+touches_on e g i j walk (inl path) = inl (lead_in (has_either e) j i g.from walk path)
+touches_on e g i j walk (inr path) = inr (lead_in (has_either e) j i g.to walk path)
+
+pub Joined-with_flow : (e : List Flow) (g : Flow) (i j : ℕ) (was first second : Bool) → (IsTrue was ↔ Joined e i j)
+    → (IsTrue first ↔ Touches e g i) → (IsTrue second ↔ Touches e g j)
+    → IsTrue (was || (first && second)) ↔ Joined (with_flow e g) i j
+Joined-with_flow e g i j was first second tells at_i at_j =
+    let untouched : IsFalse second → Touches e g j → ⊥ = λ apart touches. both_ways second apart (at_j.1 touches) in
+    let stays : IsFalse second → Joined (with_flow e g) i j → Joined e j i =
+    λ apart walk. Joined-untouched e g j i (untouched apart) (Joined-back (with_flow e g) i j walk) in (
+      λ shown. elim (or_cases was (first && second) shown) [
+        | inl already ↦ Joined-within e (with_flow e g) (λ h here. has-with_flow e g h ∙ or_right (same_flow g h) (has e h) here) i j (tells.0 already)
+        | inr both ↦
+            let parts = and_parts first second both in
+            Joined-touching e g i j (at_i.0 parts.0) (at_j.0 parts.1)
+      ],
+      λ walk. elim (cases_Bool first) [
+        | inr apart ↦ or_left was _ (tells.1 (Joined-untouched e g i j (λ touches. both_ways first apart (at_i.1 touches)) walk))
+        | inl touches ↦ elim (cases_Bool second) [
+          | inl both ↦ or_right was _ (and_from first second touches both)
+          | inr apart ↦ absurd (untouched apart (touches_on e g i j (stays apart walk) (at_i.0 touches)))
+        ]
+      ],
+    )

@@ -1,5 +1,4 @@
-//! The closure of a set of flows: for each host a row of the hosts that it reaches and a row of
-//! those that it is joined with. The rows begin empty and grow by one flow at a time.
+//! The closure of a set of flows: whom each host reaches, and with whom it is joined.
 
 ghost use Rattle.std.specs.Prelude.{◌≡◌, ℕ, ◌<◌, ◌↔◌, IsTrue, IfOk, IsSome};
 ghost use Rattle.std.specs.FinSet as set;
@@ -9,30 +8,30 @@ ghost use Rattle.flow_set.specs.Steps.{untried, stepped, taken_back};
 ghost use Rattle.reach_core.specs.Walks.{Reaches, Joined};
 ghost use Rattle.reach_core.specs.Counting.{ReachesExactly};
 
-use crate::rows::Rows;
-use crate::stepped::SteppedRows;
-use flow_set::{Flow, FlowSet, FlowSteps};
+use crate::join_closure::JoinClosure;
+use crate::reach_closure::ReachClosure;
+use flow_set::{Flow, FlowSet};
 use host_set::HostSet;
 use std::alloc::{AllocError, Global};
 use std::marker::Model;
 
-/// The walks along a set of flows.
+/// The walks along a set of flows, in their direction and in whatever direction. Who asks one kind alone
+/// takes that closure.
 #[derive(Drop)]
 pub struct Closure {
-    steps: FlowSteps,
-    reached: SteppedRows,
-    joined: SteppedRows,
+    reach: ReachClosure,
+    join: JoinClosure,
 }
 
 impl Model for Closure {
+    ghost use Rattle.std.specs.Prelude.{◌≡◌};
     ghost use Rattle.flow_set.specs.Steps.{TriedFlows};
-    ghost use Rattle.reach_core.specs.Rows.{HasSteppedRows};
 
     ghost Value = { TriedFlows };
 
-    ghost view = { λ c. c.steps };
+    ghost view = { λ c. c.reach };
 
-    ghost invariant = { λ c. HasSteppedRows c.steps c.reached c.joined };
+    ghost invariant = { λ c. c.join ≡ c.reach };
 }
 
 impl Closure {
@@ -40,20 +39,9 @@ impl Closure {
     pub fn of(alloc: Global, e: &FlowSet) -> Result<Closure, AllocError>
         ensures { IfOk result (λ closure. closure ≡ untried e.now) }
     {
-        let steps = FlowSteps::new(alloc, e)?;
-        let mut reached = Rows::new(alloc, e.size())?;
-        let mut joined = Rows::new(alloc, e.size())?;
-        let reached_room = Rows::new(alloc, e.size())?;
-        let joined_room = Rows::new(alloc, e.size())?;
-        for f in e.iter() {
-            reached.open(f);
-            joined.open(f);
-            joined.open(f.back());
-        }
         Ok(Closure {
-            steps,
-            reached: SteppedRows::new(reached, reached_room),
-            joined: SteppedRows::new(joined, joined_room),
+            reach: ReachClosure::of(alloc, e)?,
+            join: JoinClosure::of(alloc, e)?,
         })
     }
 
@@ -62,12 +50,8 @@ impl Closure {
         requires { IsFlow self.old.size f }
         ensures { self.new ≡ stepped self.old f }
     {
-        self.reached.begin();
-        self.joined.begin();
-        self.steps.step(f);
-        self.reached.open(f);
-        self.joined.open(f);
-        self.joined.open(f.back());
+        self.reach.try_add(f);
+        self.join.try_add(f);
     }
 
     /// Takes the last `try_add` back.
@@ -75,9 +59,8 @@ impl Closure {
         requires { IsSome self.old.before_step }
         ensures { self.new ≡ taken_back self.old }
     {
-        self.reached.back();
-        self.joined.back();
-        self.steps.back();
+        self.reach.undo();
+        self.join.undo();
     }
 
     /// The number of hosts.
@@ -85,7 +68,7 @@ impl Closure {
         ensures size { result ≡ self.now.size }
         ensures set { IsFlowSet self.now.size self.now.flows }
     {
-        self.steps.size()
+        self.reach.size()
     }
 
     /// The hosts that one gets to from `i` along flows. A host gets back to itself by a round trip only.
@@ -93,7 +76,7 @@ impl Closure {
         requires { i < self.now.size }
         ensures { (j : ℕ) → IsTrue (set.contains result.now j) ↔ Reaches self.now.flows i j }
     {
-        self.reached.row(i)
+        self.reach.reached_from(i)
     }
 
     /// Whether one gets from `i` to `j` along flows.
@@ -102,8 +85,7 @@ impl Closure {
         requires j { j < self.now.size }
         ensures { IsTrue result ↔ Reaches self.now.flows i j }
     {
-        let _ = self.size();
-        self.reached_from(i).has(j)
+        self.reach.reaches(i, j)
     }
 
     /// How many other hosts `i` reaches. A round trip adds nothing.
@@ -111,9 +93,7 @@ impl Closure {
         requires { i < self.now.size }
         ensures { ReachesExactly self.now.flows i result }
     {
-        let _ = self.size();
-        let row = self.reached_from(i);
-        if row.has(i) { row.len() - 1 } else { row.len() }
+        self.reach.count(i)
     }
 
     /// The hosts that flows join with `i`, taken forwards or backwards.
@@ -121,7 +101,7 @@ impl Closure {
         requires { i < self.now.size }
         ensures { (j : ℕ) → IsTrue (set.contains result.now j) ↔ Joined self.now.flows i j }
     {
-        self.joined.row(i)
+        self.join.joined_with(i)
     }
 
     /// Whether flows join `i` and `j`, taken forwards or backwards.
@@ -130,7 +110,6 @@ impl Closure {
         requires j { j < self.now.size }
         ensures { IsTrue result ↔ Joined self.now.flows i j }
     {
-        let _ = self.size();
-        self.joined_with(i).has(j)
+        self.join.joined(i, j)
     }
 }

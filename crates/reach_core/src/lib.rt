@@ -3,6 +3,8 @@
 #![tactic(auto)]
 
 mod closure;
+mod join_closure;
+mod reach_closure;
 mod rows;
 mod stepped;
 #[cfg(test)]
@@ -10,3 +12,5 @@ mod tests;
 
 pub use closure::Closure;
 pub use host_set::HostSet;
+pub use join_closure::JoinClosure;
+pub use reach_closure::ReachClosure;

@@ -1,18 +1,14 @@
-//! One row of hosts for each host, and the step that one more flow is. A closure grows by this step
-//! alone, so what is proved of it holds of every closure.
+//! One row of hosts for each host.
 
-ghost use Rattle.std.specs.Prelude.{◌≡◌, ◌<◌, ◌≤◌, length, replicate, IfOk};
+ghost use Rattle.std.specs.Prelude.{◌≡◌, ◌<◌, length, replicate, slice_set, IfOk};
 ghost use Rattle.std.specs.FinSet as set;
-ghost use Rattle.flow_set.specs.Flow.{IsFlow};
 ghost use Rattle.host_set.specs.HostSet.{row_of};
-ghost use Rattle.reach_core.specs.Rows.{IsClosed, OpensFlow};
 
-use flow_set::Flow;
 use host_set::HostSet;
 use std::alloc::{AllocError, Global};
 use std::marker::Model;
 
-// For each host the hosts that walks lead to from it.
+// For each host a set of hosts.
 #[derive(Drop)]
 pub struct Rows {
     rows: Vec<HostSet>,
@@ -32,7 +28,7 @@ impl Model for Rows {
 }
 
 impl Rows {
-    // The rows of `size` hosts that no flow leads away from.
+    // The empty rows of `size` hosts.
     pub fn new(alloc: Global, size: u16) -> Result<Rows, AllocError>
         ensures { IfOk result (λ rows. rows ≡ replicate size set.empty) }
     {
@@ -50,33 +46,10 @@ impl Rows {
         &self.rows[host as usize]
     }
 
-    // Takes over the rows of others, in the room of its own.
-    pub fn copy_from(&mut self, other: &Rows)
-        requires { length self.old ≡ length other.now }
-        ensures { self.new ≡ other.now }
+    pub fn put(&mut self, host: u16, row: HostSet)
+        requires { host < length self.old }
+        ensures { self.new ≡ slice_set self.old host row }
     {
-        for (host, row) in self.rows.iter_mut().enumerate() {
-            *row = other.rows[host].copy();
-        }
-    }
-
-    // One more flow: whoever is its sender or comes to it goes on to its receiver and to all beyond.
-    // Where the sender comes to the receiver already, that is nothing new.
-    pub fn open(&mut self, f: Flow)
-        requires size { length self.old ≤ 256 }
-        requires closed { IsClosed self.old }
-        requires flow { IsFlow (length self.old) f }
-        ensures { OpensFlow self.old self.new f }
-    {
-        if self.row(f.from).has(f.to) {
-            return;
-        }
-        let mut beyond = self.row(f.to).copy();
-        beyond.insert(f.to);
-        for (host, row) in self.rows.iter_mut().enumerate() {
-            if host == f.from as usize || row.has(f.from) {
-                row.insert_all(&beyond);
-            }
-        }
+        self.rows[host as usize] = row;
     }
 }

@@ -1,35 +1,34 @@
-//! Rows that remember those before the last step. A step that opens nothing new leaves them as they
-//! are, and costs no copy.
+//! Rows that grow in steps, and remember those that the last step changed. So a step, and the way back,
+//! cost no more than what they change.
 
-ghost use Rattle.std.specs.Prelude.{◌≡◌, ◌<◌, ◌≤◌, length, false};
-ghost use Rattle.flow_set.specs.Flow.{IsFlow};
+ghost use Rattle.std.specs.Prelude.{◌≡◌, ◌<◌, ◌≤◌, length, replicate, IfOk};
+ghost use Rattle.std.specs.FinSet as set;
 ghost use Rattle.host_set.specs.HostSet.{row_of};
-ghost use Rattle.reach_core.specs.Rows.{IsClosed, OpensFlow, rows_before};
+ghost use Rattle.reach_core.specs.Rows.{AreBelow, FitsRows, IsWidened, IsBack};
 
 use crate::rows::Rows;
-use flow_set::Flow;
 use host_set::HostSet;
-use std::mem;
+use std::alloc::{AllocError, Global};
 
 // The rows of a closure that grows in steps.
 #[derive(Drop)]
 pub struct SteppedRows {
     rows: Rows,
-    // The rows before the last step where it changed any, and else room for them.
+    // The rows of the changed hosts before the last step. Its other rows are room.
     before: Rows,
-    changed: bool,
+    changed: HostSet,
 }
 
 impl SteppedRows {
-    // The rows before any step, with room for others.
-    pub fn new(rows: Rows, room: Rows) -> SteppedRows
-        ensures { result ≡ record { rows = rows; before = room; changed = false } }
+    // Empty rows, before any step.
+    pub fn new(alloc: Global, size: u16) -> Result<SteppedRows, AllocError>
+        ensures { IfOk result (λ new. new ≡ record { rows = replicate size set.empty; before = replicate size set.empty; changed = set.empty }) }
     {
-        SteppedRows {
-            rows,
-            before: room,
-            changed: false,
-        }
+        Ok(SteppedRows {
+            rows: Rows::new(alloc, size)?,
+            before: Rows::new(alloc, size)?,
+            changed: HostSet::empty(),
+        })
     }
 
     pub fn row(&self, host: u16) -> &HostSet
@@ -39,42 +38,46 @@ impl SteppedRows {
         self.rows.row(host)
     }
 
-    // A step begins: from now on the rows as they are stand for those before it.
-    pub fn begin(&mut self)
-        ensures { self.new ≡ record self.old { changed = false } }
+    // A step that changes nothing.
+    pub fn keep(&mut self)
+        ensures { self.new ≡ record self.old { changed = set.empty } }
     {
-        self.changed = false;
+        self.changed = HostSet::empty();
     }
 
-    // One more flow in the same step.
-    pub fn open(&mut self, f: Flow)
+    // A step that puts the hosts of `by` into the rows of `hosts`.
+    pub fn widen(&mut self, hosts: &HostSet, by: &HostSet)
         requires room { length self.old.before ≡ length self.old.rows }
-        requires size { length self.old.rows ≤ 256 }
-        requires closed { IsClosed self.old.rows }
-        requires flow { IsFlow (length self.old.rows) f }
-        ensures opens { OpensFlow self.old.rows self.new.rows f }
-        ensures before { rows_before self.new ≡ rows_before self.old }
-        ensures room { length self.new.before ≡ length self.new.rows }
+        requires small { length self.old.rows ≤ 256 }
+        requires below { AreBelow hosts.now (length self.old.rows) }
+        ensures rows { IsWidened self.old.rows self.new.rows self.new.before hosts.now by.now }
+        ensures changed { self.new.changed ≡ hosts.now }
     {
-        if self.rows.row(f.from).has(f.to) {
-            return;
+        let mut from = 0;
+        while let Some(host) = hosts.first_from(from) {
+            let mut row = self.rows.row(host).copy();
+            self.before.put(host, row.copy());
+            row.insert_all(by);
+            self.rows.put(host, row);
+            from = host + 1;
         }
-        if !self.changed {
-            self.before.copy_from(&self.rows);
-            self.changed = true;
-        }
-        self.rows.open(f);
+        self.changed = hosts.copy();
     }
 
     // Takes the last step back.
     pub fn back(&mut self)
-        requires { length self.old.before ≡ length self.old.rows }
-        ensures rows { self.new.rows ≡ rows_before self.old }
-        ensures room { length self.new.before ≡ length self.new.rows }
+        requires { FitsRows self.old (length self.old.rows) }
+        ensures rows { IsBack self.old self.new.rows }
+        ensures before { self.new.before ≡ self.old.before }
+        ensures changed { self.new.changed ≡ set.empty }
     {
-        if self.changed {
-            mem::swap(&mut self.rows, &mut self.before);
-            self.changed = false;
+        let changed = self.changed.copy();
+        let mut from = 0;
+        while let Some(host) = changed.first_from(from) {
+            let row = self.before.row(host).copy();
+            self.rows.put(host, row);
+            from = host + 1;
         }
+        self.changed = HostSet::empty();
     }
 }

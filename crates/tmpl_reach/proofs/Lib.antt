@@ -1,2 +1,4 @@
 pub mod DeniedHosts
+pub mod EachHost
 pub mod OtherHosts
+pub mod Still

@@ -1,5 +1,7 @@
 pub mod Dependability
 pub mod DependabilityLaws
+pub mod EachOf
+pub mod Interferences
 pub mod NonInterference
 pub mod NonInterferenceLaws
 pub mod NoReach

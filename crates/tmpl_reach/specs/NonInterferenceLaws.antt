@@ -13,7 +13,8 @@ use Rattle.inv_law.specs.TemplateLaws.{IsLawfulTemplate, lawful_walk}
 use Rattle.inv_law.specs.declared.strategy.Strategy.TheVariants.{Information}
 use Rattle.reach_core.specs.Walks.{Joined, has_either}
 use Rattle.reach_core.specs.WalkLaws.{cases_path}
-use Rattle.reach_core.specs.ReachLaws.{Joined-nothing_new, Joined-within, Joined-none, Joined-one, joined_over, joined_through}
+use Rattle.reach_core.specs.ReachLaws.{Joined-nothing_new, Joined-touching, Joined-untouched, Joined-within, Joined-none, Joined-one, joined_over, joined_through}
+use Rattle.tmpl_reach.specs.Interferences.{StaysApart}
 use Rattle.tmpl_reach.specs.NonInterference.{non_interference, IsInterfering, IsNonInterfering}
 use Rattle.tmpl_reach.specs.Resets.{IsNonInterferingAfterReset}
 use Rattle.tmpl_reach.specs.declared.non_interference.Interference.{Interference}
@@ -73,6 +74,13 @@ pub IsNonInterfering-nothing_new : (hosts : List Interference) (e : List Flow) (
     → IsNonInterfering hosts e → IsNonInterfering hosts (with_flow e f)
 IsNonInterfering-nothing_new hosts e f there holds i first j apart second joined =
     holds i first j apart second (Joined-nothing_new e f there i j joined)
+
+-- one more flow changes nothing for those that are not joined with its sender then
+pub StaysApart-with_flow : (hosts : List Interference) (e : List Flow) (f : Flow) → IsNonInterfering hosts e → (host : ℕ)
+    → StaysApart hosts (with_flow e f) f.from host
+StaysApart-with_flow hosts e f holds host never first j apart second joined =
+    holds host first j apart second
+    (Joined-untouched e f host j (λ touches. never (Joined-touching e f f.from host (inl ([], refl)) touches)) joined)
 
 -- one flow alone joins its two hosts
 pub IsNonInterfering-one : (hosts : List Interference) (f : Flow) → IsFlow (length hosts) f

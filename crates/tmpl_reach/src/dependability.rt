@@ -6,13 +6,14 @@ ghost use Rattle.std.proofs.lemmas.Bool.{false≢true};
 ghost use Rattle.inv_law.specs.declared.strategy.Strategy.TheVariants.{Access};
 ghost use Rattle.reach_core.specs.Walks.{ReachesAtMost};
 ghost use Rattle.tmpl_reach.specs.Dependability.{IsDependable, StaysWithin};
+ghost use Rattle.tmpl_reach.specs.EachOf.{EachOf};
 ghost use Rattle.tmpl_reach.specs.Resets.{IsDependableAfterReset};
 ghost use Rattle.tmpl_reach.specs.DependabilityLaws.{IsDependable-downward, IsDependable-none, IsDependable-reset};
 
 use crate::trial::ReachTrial;
 use flow_set::{Flow, FlowSet};
 use inv_law::{Invariant, Stepwise, Strategy};
-use reach_core::Closure;
+use reach_core::{HostSet, ReachClosure};
 use std::alloc::{AllocError, Global};
 use std::marker::Model;
 
@@ -51,12 +52,12 @@ impl Dependability {
     }
 
     // Whether no host reaches more others than its limit.
-    fn all_within(&self, closure: &Closure) -> bool
+    fn all_within(&self, closure: &ReachClosure) -> bool
         requires { closure.now.size ≡ length self.now }
         ensures { IsTrue result ↔ IsDependable self.now closure.now.flows }
     {
         for host in 0..closure.size() {
-            if closure.count(host) > self.limits[host as usize] {
+            if !self.is_within(closure, host) {
                 return false;
             }
         }
@@ -65,34 +66,39 @@ impl Dependability {
 
     // Whether no host reaches more others than its limit, where only the sender of a new flow and those
     // that come to it may reach more than before.
-    fn still_within(&self, closure: &Closure, from: u16) -> bool
+    fn still_within(&self, closure: &ReachClosure, from: u16) -> bool
         requires size { closure.now.size ≡ length self.now }
         requires from { from < length self.now }
         requires elsewhere { (host : ℕ) → host < length self.now → StaysWithin self.now closure.now.flows from host }
         ensures { IsTrue result ↔ IsDependable self.now closure.now.flows }
     {
-        if !self.is_still_within(closure, from, from) {
-            return false;
-        }
-        for host in 0..closure.size() {
-            if !self.is_still_within(closure, from, host) {
+        let _ = closure.size();
+        self.is_within(closure, from) && self.are_within(closure, closure.coming_to(from))
+    }
+
+    // Whether none of the hosts reaches more others than its limit.
+    fn are_within(&self, closure: &ReachClosure, hosts: &HostSet) -> bool
+        requires size { closure.now.size ≡ length self.now }
+        requires hosts { EachOf hosts.now (λ host. host < length self.now) }
+        ensures { IsTrue result ↔ EachOf hosts.now (λ host. ReachesAtMost closure.now.flows host (slice_index self.now host)) }
+    {
+        let _ = closure.size();
+        let mut from = 0;
+        while let Some(host) = hosts.first_from(from) {
+            if !self.is_within(closure, host) {
                 return false;
             }
+            from = host + 1;
         }
         true
     }
 
     // Whether the host reaches no more others than its limit.
-    fn is_still_within(&self, closure: &Closure, from: u16, host: u16) -> bool
+    fn is_within(&self, closure: &ReachClosure, host: u16) -> bool
         requires size { closure.now.size ≡ length self.now }
-        requires from { from < length self.now }
         requires host { host < length self.now }
-        requires elsewhere { StaysWithin self.now closure.now.flows from host }
         ensures { IsTrue result ↔ ReachesAtMost closure.now.flows host (slice_index self.now host) }
     {
-        if host != from && !closure.reaches(host, from) {
-            return true;
-        }
         closure.count(host) <= self.limits[host as usize]
     }
 }
@@ -127,7 +133,7 @@ impl Invariant for Dependability {
     }
 
     fn holds(&self, alloc: Global, e: &FlowSet) -> Result<bool, AllocError> {
-        let closure = Closure::of(alloc, e)?;
+        let closure = ReachClosure::of(alloc, e)?;
         Ok(self.all_within(&closure))
     }
 

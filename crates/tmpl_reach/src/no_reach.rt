@@ -1,10 +1,11 @@
 //! No-reach: hosts that a host must not reach, on whatever way.
 
-ghost use Rattle.std.specs.Prelude.{◌≡◌, ◌≢◌, ◌<◌, ◌≤◌, ◌↔◌, IfOk, IsTrue, false, length, slice_set};
+ghost use Rattle.std.specs.Prelude.{◌≡◌, ◌≢◌, ℕ, ◌<◌, ◌≤◌, ◌↔◌, IfOk, IsTrue, false, length, slice_set};
 ghost use Rattle.std.specs.FinSet as set;
 ghost use Rattle.std.proofs.lemmas.Bool.{false≢true};
 ghost use Rattle.inv_law.specs.declared.strategy.Strategy.TheVariants.{Access};
-ghost use Rattle.tmpl_reach.specs.NoReach.{others, denied_by, ReachesNoDenied, ReachesNone};
+ghost use Rattle.tmpl_reach.specs.EachOf.{EachOf};
+ghost use Rattle.tmpl_reach.specs.NoReach.{others, denied_by, ReachesNoDenied, ReachesNone, StaysClear};
 ghost use Rattle.tmpl_reach.specs.Resets.{all_others};
 ghost use Rattle.tmpl_reach.specs.Resets.{ReachesNoDeniedAfterReset};
 ghost use Rattle.tmpl_reach.specs.NoReachLaws.{ReachesNoDenied-downward, ReachesNoDenied-none, ReachesNoDenied-reset};
@@ -12,7 +13,7 @@ ghost use Rattle.tmpl_reach.specs.NoReachLaws.{ReachesNoDenied-downward, Reaches
 use crate::trial::ReachTrial;
 use flow_set::{Flow, FlowSet};
 use inv_law::{Invariant, Stepwise, Strategy};
-use reach_core::{Closure, HostSet};
+use reach_core::{HostSet, ReachClosure};
 use std::alloc::{AllocError, Global};
 use std::marker::Model;
 
@@ -79,7 +80,7 @@ impl NoReach {
     }
 
     // Whether each host keeps clear of those that it denies.
-    fn none_reached(&self, closure: &Closure) -> bool
+    fn none_reached(&self, closure: &ReachClosure) -> bool
         requires { closure.now.size ≡ length self.now }
         ensures { IsTrue result ↔ ReachesNoDenied self.now closure.now.flows }
     {
@@ -91,8 +92,37 @@ impl NoReach {
         true
     }
 
+    // Whether each host keeps clear of those that it denies, where only the sender of a new flow and those
+    // that come to it may reach more than before.
+    fn still_none_reached(&self, closure: &ReachClosure, from: u16) -> bool
+        requires size { closure.now.size ≡ length self.now }
+        requires from { from < length self.now }
+        requires elsewhere { (host : ℕ) → StaysClear self.now closure.now.flows from host }
+        ensures { IsTrue result ↔ ReachesNoDenied self.now closure.now.flows }
+    {
+        let _ = closure.size();
+        self.reaches_none(closure, from) && self.reach_none(closure, closure.coming_to(from))
+    }
+
+    // Whether each of the hosts keeps clear of those that it denies.
+    fn reach_none(&self, closure: &ReachClosure, hosts: &HostSet) -> bool
+        requires size { closure.now.size ≡ length self.now }
+        requires hosts { EachOf hosts.now (λ host. host < length self.now) }
+        ensures { IsTrue result ↔ EachOf hosts.now (λ host. ReachesNone (denied_by self.now host) closure.now.flows host) }
+    {
+        let _ = closure.size();
+        let mut from = 0;
+        while let Some(host) = hosts.first_from(from) {
+            if !self.reaches_none(closure, host) {
+                return false;
+            }
+            from = host + 1;
+        }
+        true
+    }
+
     // Whether the host keeps clear of those that it denies.
-    fn reaches_none(&self, closure: &Closure, host: u16) -> bool
+    fn reaches_none(&self, closure: &ReachClosure, host: u16) -> bool
         requires size { closure.now.size ≡ length self.now }
         requires host { host < length self.now }
         ensures { IsTrue result ↔ ReachesNone (denied_by self.now host) closure.now.flows host }
@@ -134,7 +164,7 @@ impl Invariant for NoReach {
     }
 
     fn holds(&self, alloc: Global, e: &FlowSet) -> Result<bool, AllocError> {
-        let closure = Closure::of(alloc, e)?;
+        let closure = ReachClosure::of(alloc, e)?;
         Ok(self.none_reached(&closure))
     }
 
@@ -165,7 +195,7 @@ impl Stepwise for NoReach {
     fn step(&self, tried: &mut ReachTrial, f: Flow) -> bool {
         let nothing_new = tried.reaches(f);
         tried.step(f);
-        nothing_new || self.none_reached(tried.closure())
+        nothing_new || self.still_none_reached(tried.closure(), f.from)
     }
 
     fn back(&self, tried: &mut ReachTrial) {

@@ -1,21 +1,23 @@
 //! Non-interference: hosts that must not learn of each other. Whatever joins two of them counts, in
 //! either direction.
 
-ghost use Rattle.std.specs.Prelude.{◌≡◌, ◌≢◌, ℕ, ◌<◌, ◌≤◌, ◌↔◌, IfOk, IsTrue, false, length, replicate, slice_set};
+ghost use Rattle.std.specs.Prelude.{◌≡◌, ◌≢◌, ℕ, ◌<◌, ◌≤◌, ◌↔◌, IfOk, IsTrue, MatchOption, false, length, replicate, slice_set};
 ghost use Rattle.std.specs.FinSet as set;
 ghost use Rattle.std.proofs.lemmas.Bool.{false≢true};
 ghost use Rattle.inv_law.specs.declared.strategy.Strategy.TheVariants.{Information};
 ghost use Rattle.reach_core.specs.Walks.{Joined};
+ghost use Rattle.tmpl_reach.specs.EachOf.{EachOf};
+ghost use Rattle.tmpl_reach.specs.Interferences.{HasOneAtMost, NoneInterferes, IsNextInterfering, StaysApart};
 ghost use Rattle.tmpl_reach.specs.NonInterference.{IsInterfering, IsApart, IsNonInterfering};
 ghost use Rattle.tmpl_reach.specs.Resets.{IsNonInterferingAfterReset};
 ghost use Rattle.tmpl_reach.specs.NonInterferenceLaws.{IsNonInterfering-downward, IsNonInterfering-none, IsNonInterfering-reset};
 ghost use Rattle.tmpl_reach.specs.declared.non_interference.Interference.TheVariants.{Interfering, Unrelated};
 
-use crate::trial::ReachTrial;
+use crate::trial::JoinTrial;
 use flow_set::{Flow, FlowSet};
 use host_set::HostSet;
 use inv_law::{Invariant, Stepwise, Strategy};
-use reach_core::Closure;
+use reach_core::JoinClosure;
 use std::alloc::{AllocError, Global};
 use std::marker::Model;
 
@@ -85,7 +87,7 @@ impl NonInterference {
     }
 
     // Whether nothing joins an interfering host with another.
-    fn all_apart(&self, closure: &Closure) -> bool
+    fn all_apart(&self, closure: &JoinClosure) -> bool
         requires { closure.now.size ≡ length self.now }
         ensures { IsTrue result ↔ IsNonInterfering self.now closure.now.flows }
     {
@@ -98,10 +100,54 @@ impl NonInterference {
         }
         true
     }
+
+    // Whether nothing joins an interfering host with another, where a new flow joined those alone that are
+    // joined with its sender now.
+    fn still_apart(&self, closure: &JoinClosure, from: u16) -> bool
+        requires size { closure.now.size ≡ length self.now }
+        requires from { from < length self.now }
+        requires elsewhere { (host : ℕ) → StaysApart self.now closure.now.flows from host }
+        ensures { IsTrue result ↔ IsNonInterfering self.now closure.now.flows }
+    {
+        let _ = closure.size();
+        self.has_one_at_most(closure.joined_with(from))
+    }
+
+    // Whether at most one of the hosts is an interfering one.
+    fn has_one_at_most(&self, hosts: &HostSet) -> bool
+        requires small { length self.now ≤ 256 }
+        requires hosts { EachOf hosts.now (λ host. host < length self.now) }
+        ensures { IsTrue result ↔ HasOneAtMost self.now hosts.now }
+    {
+        let Some(first) = self.next_interfering(hosts, 0) else {
+            return true;
+        };
+        match self.next_interfering(hosts, first + 1) {
+            Some(_) => false,
+            None => true,
+        }
+    }
+
+    // The first of the hosts, from this one on, that is an interfering one.
+    fn next_interfering(&self, hosts: &HostSet, from: u16) -> Option<u16>
+        requires { EachOf hosts.now (λ host. host < length self.now) }
+        ensures { MatchOption result
+            (NoneInterferes self.now hosts.now from 256)
+            (IsNextInterfering self.now hosts.now from) }
+    {
+        let mut from = from;
+        while let Some(host) = hosts.first_from(from) {
+            if self.interferes(host) {
+                return Some(host);
+            }
+            from = host + 1;
+        }
+        None
+    }
 }
 
 // Whether nothing joins the host with another of these.
-fn is_apart(hosts: &HostSet, closure: &Closure, host: u16) -> bool
+fn is_apart(hosts: &HostSet, closure: &JoinClosure, host: u16) -> bool
     requires host { host < closure.now.size }
     requires few { closure.now.size ≤ 256 }
     ensures { IsTrue result ↔ ((other : ℕ) → host ≢ other → IsTrue (set.contains hosts.now other) → Joined closure.now.flows host other → ⊥) }
@@ -141,7 +187,7 @@ impl Invariant for NonInterference {
     }
 
     fn holds(&self, alloc: Global, e: &FlowSet) -> Result<bool, AllocError> {
-        let closure = Closure::of(alloc, e)?;
+        let closure = JoinClosure::of(alloc, e)?;
         Ok(self.all_apart(&closure))
     }
 
@@ -161,21 +207,21 @@ impl Invariant for NonInterference {
 }
 
 impl Stepwise for NonInterference {
-    type Tried = ReachTrial;
+    type Tried = JoinTrial;
 
     ghost fits = { λ x tried. tried.size ≡ length x };
 
-    fn trial(&self, alloc: Global, e: &FlowSet) -> Result<ReachTrial, AllocError> {
-        ReachTrial::new(alloc, e)
+    fn trial(&self, alloc: Global, e: &FlowSet) -> Result<JoinTrial, AllocError> {
+        JoinTrial::new(alloc, e)
     }
 
-    fn step(&self, tried: &mut ReachTrial, f: Flow) -> bool {
+    fn step(&self, tried: &mut JoinTrial, f: Flow) -> bool {
         let nothing_new = tried.joins(f);
         tried.step(f);
-        nothing_new || self.all_apart(tried.closure())
+        nothing_new || self.still_apart(tried.closure(), f.from)
     }
 
-    fn back(&self, tried: &mut ReachTrial) {
+    fn back(&self, tried: &mut JoinTrial) {
         tried.back();
     }
 

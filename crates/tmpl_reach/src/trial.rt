@@ -1,4 +1,4 @@
-//! The trial of an invariant that looks at walks: the closure of the flows, which takes one step back.
+//! The trials of the invariants that look at walks: the closure that each asks, which takes one step back.
 
 ghost use Rattle.std.specs.Prelude.{◌≡◌, ◌↔◌, IfOk, IsSome, IsTrue};
 ghost use Rattle.flow_set.specs.Flow.{IsFlow};
@@ -7,14 +7,14 @@ ghost use Rattle.flow_set.specs.Steps.{untried, stepped, taken_back};
 
 use flow_set::{Flow, FlowSet};
 use inv_law::Trial;
-use reach_core::Closure;
+use reach_core::{JoinClosure, ReachClosure};
 use std::alloc::{AllocError, Global};
 use std::marker::Model;
 
-/// A set of flows that is tried in steps by a template on walks.
+/// A set of flows that is tried in steps by a template on what hosts reach.
 #[derive(Drop)]
 pub struct ReachTrial {
-    closure: Closure,
+    closure: ReachClosure,
 }
 
 impl Model for ReachTrial {
@@ -30,11 +30,11 @@ impl ReachTrial {
         ensures { IfOk result (λ new. new ≡ untried e.now) }
     {
         Ok(ReachTrial {
-            closure: Closure::of(alloc, e)?,
+            closure: ReachClosure::of(alloc, e)?,
         })
     }
 
-    pub(crate) fn closure(&self) -> &Closure
+    pub(crate) fn closure(&self) -> &ReachClosure
         ensures { result.now ≡ self.now }
     {
         &self.closure
@@ -46,6 +46,58 @@ impl ReachTrial {
         ensures { IsTrue result ↔ Reaches self.now.flows f.from f.to }
     {
         self.closure.reaches(f.from, f.to)
+    }
+
+    pub(crate) fn step(&mut self, f: Flow)
+        requires { IsFlow self.old.size f }
+        ensures { self.new ≡ stepped self.old f }
+    {
+        self.closure.try_add(f);
+    }
+
+    pub(crate) fn back(&mut self)
+        requires { IsSome self.old.before_step }
+        ensures { self.new ≡ taken_back self.old }
+    {
+        self.closure.undo();
+    }
+}
+
+impl Trial for ReachTrial {
+    ghost tried = { λ t. t };
+
+    fn size(&self) -> u16 {
+        self.closure.size()
+    }
+}
+
+/// A set of flows that is tried in steps by a template on which hosts are joined.
+#[derive(Drop)]
+pub struct JoinTrial {
+    closure: JoinClosure,
+}
+
+impl Model for JoinTrial {
+    ghost use Rattle.flow_set.specs.Steps.{TriedFlows};
+
+    ghost Value = { TriedFlows };
+
+    ghost view = { λ t. t.closure };
+}
+
+impl JoinTrial {
+    pub(crate) fn new(alloc: Global, e: &FlowSet) -> Result<JoinTrial, AllocError>
+        ensures { IfOk result (λ new. new ≡ untried e.now) }
+    {
+        Ok(JoinTrial {
+            closure: JoinClosure::of(alloc, e)?,
+        })
+    }
+
+    pub(crate) fn closure(&self) -> &JoinClosure
+        ensures { result.now ≡ self.now }
+    {
+        &self.closure
     }
 
     // Whether the sender of the flow and its receiver are joined already.
@@ -71,7 +123,7 @@ impl ReachTrial {
     }
 }
 
-impl Trial for ReachTrial {
+impl Trial for JoinTrial {
     ghost tried = { λ t. t };
 
     fn size(&self) -> u16 {

@@ -1,0 +1,208 @@
+-- The rows of who is joined with whom: of no flows, after one more flow, and after a step back.
+use Rattle.std.proofs.Common.{◌≡◌, ℕ, ◌<◌, ◌≤◌, Bool, ◌||◌, nat_eq, nat_cmp, ◌↔◌, ◌⊎◌, inl, inr, List, [], Option, Some, None, length, replicate, refl, sym, ◌∙◌, ap, subst, arith}
+use Rattle.std.specs.Prelude.{IsTrue, IsSome, IfSome}
+use Rattle.std.specs.FinSet as set
+use Rattle.std.specs.Cmp.{nat_cmp_total}
+use Rattle.std.proofs.lemmas.Bool.{or_cases, or_left, or_right, eqb-true, eq-eqb, false≢true}
+use Rattle.std.proofs.lemmas.List.{length-replicate}
+use Rattle.flow_set.specs.declared.flow.Flow.{Flow}
+use Rattle.flow_set.specs.Flow.{IsFlow, same_flow}
+use Rattle.flow_set.specs.FlowSet.{has, with_flow}
+use Rattle.flow_set.specs.FlowLaws.{has-with_flow}
+use Rattle.flow_set.specs.FlowSetView.{IsFlowSet}
+use Rattle.flow_set.specs.Steps.{TriedFlows, stepped, taken_back, flows_before_step}
+use Rattle.flow_set.specs.SubsetLaws.{IsFlowSet-nothing, IsFlowSet-with_flow}
+use Rattle.host_set.specs.HostSet.{HostNumbers, row_of}
+use Rattle.host_set.specs.HostSetLaws.{contains-insert}
+use Rattle.reach_core.specs.Walks.{Joined, has_either}
+use Rattle.reach_core.specs.WalkLaws.{HasPath, cases_path, path_of_walk}
+use Rattle.reach_core.specs.ReachLaws.{Joined-within, Joined-back, Joined-nothing_new, Joined-below, Joined-with_flow, Touches}
+use Rattle.reach_core.specs.Rows.{ShowsJoin, AreBelow, IsWidened, IsBack, HasJoinRows, row_now, row_before}
+use Rattle.reach_core.specs.declared.stepped.SteppedRows.{SteppedRows}
+use Rattle.reach_core.proofs.Closes.{tells_as, tells_bool, tells_nothing}
+use Rattle.reach_core.proofs.Widened.{contains-widened, before-widened, before-kept, fits_same, fits_widened}
+
+-- ---- other rows that say the same
+
+ShowsJoin-as : (n : ℕ) (fs : List Flow) (joined other : ℕ → HostNumbers) → ShowsJoin n fs joined
+    → ((i : ℕ) → i < n → other i ≡ joined i) → ShowsJoin n fs other
+ShowsJoin-as n fs joined other shows same = record {
+  is_set = shows.is_set;
+  either = λ i j below. tells_as (other i) (joined i) j (Joined fs i j) (same i below) (shows.either i j below);
+}
+
+-- ---- a flow whose hosts are joined already
+
+ShowsJoin-nothing_new : (n : ℕ) (fs : List Flow) (f : Flow) (joined : ℕ → HostNumbers) → IsFlow n f → Joined fs f.from f.to
+    → ShowsJoin n fs joined → ShowsJoin n (with_flow fs f) joined
+ShowsJoin-nothing_new n fs f joined is_flow there shows = record {
+  is_set = IsFlowSet-with_flow n fs f shows.is_set is_flow;
+  either = λ i j below. (
+    λ shown. Joined-within fs (with_flow fs f) (λ g here. has-with_flow fs f g ∙ or_right (same_flow f g) (has fs g) here) i j ((shows.either i j below).0 shown),
+    λ walk. (shows.either i j below).1 (Joined-nothing_new fs f there i j walk),
+  );
+}
+
+-- ---- one more flow
+
+-- the hosts that a new flow touches
+pub record AreTouched (fs : List Flow) (f : Flow) (all : HostNumbers) : Type 0 where
+  pub touched : (i : ℕ) → IsTrue (set.contains all i) ↔ Touches fs f i
+
+-- the hosts that are joined with one of its hosts, and the two
+abbrev pub joined_by : Flow → (ℕ → HostNumbers) → HostNumbers
+joined_by f joined = set.insert (set.insert (set.union (joined f.from) (joined f.to)) f.from) f.to
+
+contains-joined_by : (f : Flow) (joined : ℕ → HostNumbers) (i : ℕ)
+    → set.contains (joined_by f joined) i ≡ (nat_eq i f.to || (nat_eq i f.from || (set.contains (joined f.from) i || set.contains (joined f.to) i)))
+contains-joined_by f joined i =
+    contains-insert (set.insert (set.union (joined f.from) (joined f.to)) f.from) f.to i
+    ∙ ap (λ b. nat_eq i f.to || b)
+    (contains-insert (set.union (joined f.from) (joined f.to)) f.from i
+    ∙ ap (λ b. nat_eq i f.from || b) (set.contains-union nat_cmp_total (joined f.from) (joined f.to) i))
+
+-- a path to the host of a row, by the row
+shown_by : (fs : List Flow) (k i : ℕ) (row : HostNumbers) → (IsTrue (set.contains row i) ↔ Joined fs k i)
+    → IsTrue (set.contains row i) → HasPath (has_either fs) i k
+shown_by fs k i row tells there = path_of_walk (has_either fs) i k (Joined-back fs k i (tells.0 there))
+
+shows_path : (fs : List Flow) (k i : ℕ) (row : HostNumbers) → (IsTrue (set.contains row i) ↔ Joined fs k i)
+    → HasPath (has_either fs) i k → IsTrue (nat_eq i k) ⊎ IsTrue (set.contains row i)
+shows_path fs k i row tells path =
+    elim (cases_path (has_either fs) i k path) [
+      | inl same ↦ inl (eq-eqb _ _ same)
+      | inr walk ↦ inr (tells.1 (Joined-back fs i k walk))
+    ]
+
+pub touched : (n : ℕ) (fs : List Flow) (f : Flow) (joined : ℕ → HostNumbers) (all : HostNumbers) → IsFlow n f → ShowsJoin n fs joined
+    → all ≡ joined_by f joined → AreTouched fs f all
+touched n fs f joined all is_flow shows is =
+    let from = joined f.from in
+    let to = joined f.to in
+    let tells_from : (i : ℕ) → IsTrue (set.contains from i) ↔ Joined fs f.from i = λ i. shows.either f.from i is_flow.0 in
+    let tells_to : (i : ℕ) → IsTrue (set.contains to i) ↔ Joined fs f.to i = λ i. shows.either f.to i is_flow.1 in
+    record {
+      touched = λ i. tells_as all (joined_by f joined) i (Touches fs f i) is (
+        λ there. elim (or_cases (nat_eq i f.to) _ (sym (contains-joined_by f joined i) ∙ there)) [
+          | inl same ↦ inr ([], eqb-true _ _ same)
+          | inr other ↦ elim (or_cases (nat_eq i f.from) _ other) [
+            | inl same ↦ inl ([], eqb-true _ _ same)
+            | inr rows ↦ elim (or_cases (set.contains from i) (set.contains to i) rows) [
+              | inl first ↦ inl (shown_by fs f.from i from (tells_from i) first)
+              | inr second ↦ inr (shown_by fs f.to i to (tells_to i) second)
+            ]
+          ]
+        ],
+        λ touches. contains-joined_by f joined i ∙ elim touches [
+          | inl path ↦ or_right (nat_eq i f.to) _ (elim (shows_path fs f.from i from (tells_from i) path) [
+            | inl same ↦ or_left (nat_eq i f.from) _ same
+            | inr first ↦ or_right (nat_eq i f.from) _ (or_left (set.contains from i) (set.contains to i) first)
+          ])
+          | inr path ↦ elim (shows_path fs f.to i to (tells_to i) path) [
+            | inl same ↦ or_left (nat_eq i f.to) _ same
+            | inr second ↦ or_right (nat_eq i f.to) _ (or_right (nat_eq i f.from) _ (or_right (set.contains from i) (set.contains to i) second))
+          ]
+        ],
+      );
+    }
+
+pub touched_below : (n : ℕ) (fs : List Flow) (f : Flow) (all : HostNumbers) → IsFlow n f → IsFlowSet n fs → AreTouched fs f all
+    → AreBelow all n
+touched_below n fs f all is_flow is_set are i there =
+    let near : (k : ℕ) → k < n → HasPath (has_either fs) i k → i < n =
+    λ k within path. elim (cases_path (has_either fs) i k path) [
+      | inl same ↦ omega (arith, same, within)
+      | inr walk ↦ (Joined-below n fs is_set i k walk).0
+    ] in
+    elim ((are.touched i).0 there) [ inl path ↦ near f.from is_flow.0 path | inr path ↦ near f.to is_flow.1 path ]
+
+ShowsJoin-with_flow : (n : ℕ) (fs : List Flow) (f : Flow) (joined joined' was : List HostNumbers) (all : HostNumbers) → IsFlow n f
+    → length joined ≡ n → ShowsJoin n fs (row_of joined) → AreTouched fs f all → IsWidened joined joined' was all all
+    → ShowsJoin n (with_flow fs f) (row_of joined')
+ShowsJoin-with_flow n fs f joined joined' was all is_flow counted shows are widened = record {
+  is_set = IsFlowSet-with_flow n fs f shows.is_set is_flow;
+  either = λ i j below. tells_bool _ _ _ (contains-widened joined joined' was all all i j widened (omega (arith, below, counted)))
+      (Joined-with_flow fs f i j _ _ _ (shows.either i j below) (are.touched i) (are.touched j));
+}
+
+-- ---- steps
+
+-- the hosts that a new flow touches, put together one by one
+pub joined_by_is : (f : Flow) (joined : ℕ → HostNumbers) (from to both once all : HostNumbers) → from ≡ joined f.from → to ≡ joined f.to
+    → both ≡ set.union from to → once ≡ set.insert both f.from → all ≡ set.insert once f.to → all ≡ joined_by f joined
+joined_by_is f joined from to both once all from_is to_is both_is once_is all_is =
+    all_is
+    ∙ ap (λ (s : HostNumbers). set.insert s f.to)
+    (once_is ∙ ap (λ (s : HostNumbers). set.insert s f.from) (both_is ∙ (λ i. set.union (from_is i) (to_is i))))
+
+-- its hosts are joined already where the row of its sender has its receiver
+pub joined_already : (t : TriedFlows) (f : Flow) (joined : SteppedRows) (row : HostNumbers) (shown : Bool) → IsFlow t.size f
+    → HasJoinRows t joined → row ≡ row_of joined.rows f.from → shown ≡ set.contains row f.to → IsTrue shown → Joined t.flows f.from f.to
+joined_already t f joined row shown is_flow rows row_is shown_is there =
+    (rows.now.either f.from f.to is_flow.0).0 (sym (ap (λ (s : HostNumbers). set.contains s f.to) row_is) ∙ (sym shown_is ∙ there))
+
+pub HasJoinRows-as : (t new : TriedFlows) (f : Flow) (steps : TriedFlows) (joined rows : SteppedRows) → new ≡ stepped steps f → steps ≡ t
+    → rows ≡ joined → HasJoinRows (stepped t f) joined → HasJoinRows new rows
+HasJoinRows-as t new f steps joined rows new_is steps_is rows_is has =
+    subst (λ (s : TriedFlows). HasJoinRows s rows) (sym (new_is ∙ ap (λ (s : TriedFlows). stepped s f) steps_is))
+    (subst (λ (r : SteppedRows). HasJoinRows (stepped t f) r) (sym rows_is) has)
+
+pub HasJoinRows-kept : (t : TriedFlows) (f : Flow) (joined joined' : SteppedRows) → IsFlow t.size f → HasJoinRows t joined
+    → Joined t.flows f.from f.to → joined' ≡ record joined { changed = set.empty } → HasJoinRows (stepped t f) joined'
+HasJoinRows-kept t f joined joined' is_flow rows there kept =
+    let r : SteppedRows = record joined { changed = set.empty } in
+    subst (λ (x : SteppedRows). HasJoinRows (stepped t f) x) (sym kept)
+    (record {
+      joined_fits = fits_same t.size joined r rows.joined_fits refl refl refl;
+      now = ShowsJoin-nothing_new t.size t.flows f (row_of joined.rows) is_flow there rows.now;
+      before = ShowsJoin-as t.size t.flows (row_now joined) (row_before r) rows.now (λ i below. before-kept r i refl);
+    })
+
+pub HasJoinRows-widened : (t : TriedFlows) (f : Flow) (joined joined' : SteppedRows) (all : HostNumbers) → IsFlow t.size f
+    → HasJoinRows t joined → AreTouched t.flows f all → IsWidened joined.rows joined'.rows joined'.before all all → joined'.changed ≡ all
+    → HasJoinRows (stepped t f) joined'
+HasJoinRows-widened t f joined joined' all is_flow rows are widened changed = record {
+  joined_fits = fits_widened t.size joined joined' all all rows.joined_fits widened changed
+      (touched_below t.size t.flows f all is_flow rows.now.is_set are);
+  now = ShowsJoin-with_flow t.size t.flows f joined.rows joined'.rows joined'.before all is_flow rows.joined_fits.rows_length rows.now are widened;
+  before = ShowsJoin-as t.size t.flows (row_now joined) (row_before joined') rows.now
+      (λ i below. before-widened joined.rows joined' all all i widened changed (omega (arith, below, rows.joined_fits.rows_length)));
+}
+
+before_shown : (n : ℕ) (fs : List Flow) (before : Option (List Flow)) (joined : ℕ → HostNumbers) → IsSome before
+    → IfSome before (λ gs. ShowsJoin n gs joined) → ShowsJoin n (flows_before_step before fs) joined
+before_shown n fs (Some gs) joined some shows = shows
+before_shown n fs None joined some shows = absurd (false≢true some)
+
+pub HasJoinRows-back : (t : TriedFlows) (joined joined' : SteppedRows) → IsSome t.before_step → HasJoinRows t joined
+    → IsBack joined joined'.rows → joined'.before ≡ joined.before → joined'.changed ≡ set.empty → HasJoinRows (taken_back t) joined'
+HasJoinRows-back t joined joined' some rows back room changed = record {
+  joined_fits = fits_same t.size joined joined' rows.joined_fits back.same_length (ap length room) changed;
+  now = ShowsJoin-as t.size (flows_before_step t.before_step t.flows) (row_before joined) (row_now joined')
+      (before_shown t.size t.flows t.before_step (row_before joined) some rows.before)
+      (λ i below. back.back i (omega (arith, below, rows.joined_fits.rows_length)));
+  before = tt;
+}
+
+-- ---- no flows
+
+pub HasJoinRows-nothing : (n : ℕ) (t : TriedFlows) (joined : SteppedRows) → n ≤ 256
+    → t ≡ record { size = n; flows = []; before_step = None }
+    → joined ≡ record { rows = replicate n set.empty; before = replicate n set.empty; changed = set.empty }
+    → HasJoinRows t joined
+HasJoinRows-nothing n t joined small t_is joined_is =
+    subst (λ (s : TriedFlows). HasJoinRows s joined) (sym t_is)
+    (subst (λ (x : SteppedRows). HasJoinRows (record { size = n; flows = []; before_step = None }) x) (sym joined_is)
+    (record {
+      joined_fits = record {
+        small = small;
+        rows_length = length-replicate n _;
+        before_length = length-replicate n _;
+        changed_below = λ i there. absurd (false≢true (sym (set.contains-empty nat_cmp i) ∙ there));
+      };
+      now = record {
+        is_set = IsFlowSet-nothing n small;
+        either = λ i j below. tells_nothing n (has_either []) i j i j (λ f. refl) below;
+      };
+      before = tt;
+    }))

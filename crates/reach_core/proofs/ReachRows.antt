@@ -1,0 +1,210 @@
+-- The rows of who reaches whom: of no flows, after one more flow, and after a step back.
+use Rattle.std.proofs.Common.{◌≡◌, ℕ, ◌<◌, ◌≤◌, Bool, true, false, ◌&&◌, ◌||◌, nat_cmp, ◌↔◌, inl, inr, List, [], Option, Some, None, length, replicate, refl, sym, ◌∙◌, ap, subst, arith}
+use Rattle.std.specs.Prelude.{IsTrue, IsSome, IfSome}
+use Rattle.std.specs.FinSet as set
+use Rattle.std.proofs.lemmas.Bool.{or_right, false≢true}
+use Rattle.std.proofs.lemmas.List.{length-replicate}
+use Rattle.flow_set.specs.declared.flow.Flow.{Flow}
+use Rattle.flow_set.specs.Flow.{IsFlow, same_flow}
+use Rattle.flow_set.specs.FlowSet.{has, with_flow}
+use Rattle.flow_set.specs.FlowLaws.{has-with_flow}
+use Rattle.flow_set.specs.Steps.{TriedFlows, stepped, taken_back, flows_before_step}
+use Rattle.flow_set.specs.SubsetLaws.{IsFlowSet-nothing, IsFlowSet-with_flow}
+use Rattle.host_set.specs.HostSet.{HostNumbers, row_of}
+use Rattle.reach_core.specs.Walks.{Reaches}
+use Rattle.reach_core.specs.WalkLaws.{HasPath, cases_path}
+use Rattle.reach_core.specs.ReachLaws.{Reaches-within, Reaches-nothing_new, Reaches-below}
+use Rattle.reach_core.specs.Rows.{ShowsReach, AreBelow, IsWidened, IsBack, FitsRows, HasReachRows, row_now, row_before}
+use Rattle.reach_core.specs.declared.stepped.SteppedRows.{SteppedRows}
+use Rattle.reach_core.proofs.Closes.{path_to, path_from, tells_step, tells_same, tells_as, tells_nothing}
+use Rattle.reach_core.proofs.Widened.{contains-widened, before-widened, before-kept, fits_same, fits_widened}
+
+-- ---- other rows that say the same
+
+ShowsReach-as : (n : ℕ) (fs : List Flow) (reached coming other_reached other_coming : ℕ → HostNumbers)
+    → ShowsReach n fs reached coming → ((i : ℕ) → i < n → other_reached i ≡ reached i)
+    → ((i : ℕ) → i < n → other_coming i ≡ coming i) → ShowsReach n fs other_reached other_coming
+ShowsReach-as n fs reached coming other_reached other_coming shows forth back = record {
+  is_set = shows.is_set;
+  forth = λ i j below. tells_as (other_reached i) (reached i) j (Reaches fs i j) (forth i below) (shows.forth i j below);
+  back = λ i j below. tells_as (other_coming j) (coming j) i (Reaches fs i j) (back j below) (shows.back i j below);
+}
+
+-- ---- a flow whose sender comes to its receiver already
+
+reaches_more : (fs : List Flow) (f : Flow) (i j : ℕ) → Reaches fs i j → Reaches (with_flow fs f) i j
+reaches_more fs f =
+    Reaches-within fs (with_flow fs f) (λ g here. has-with_flow fs f g ∙ or_right (same_flow f g) (has fs g) here)
+
+nothing_new : (fs : List Flow) (f : Flow) (i j : ℕ) (P : Type 0) → Reaches fs f.from f.to → (P ↔ Reaches fs i j)
+    → P ↔ Reaches (with_flow fs f) i j
+nothing_new fs f i j P there tells =
+    (λ shown. reaches_more fs f i j (tells.0 shown), λ walk. tells.1 (Reaches-nothing_new fs f there i j walk))
+
+ShowsReach-nothing_new : (n : ℕ) (fs : List Flow) (f : Flow) (reached coming : ℕ → HostNumbers) → IsFlow n f
+    → Reaches fs f.from f.to → ShowsReach n fs reached coming → ShowsReach n (with_flow fs f) reached coming
+ShowsReach-nothing_new n fs f reached coming is_flow there shows = record {
+  is_set = IsFlowSet-with_flow n fs f shows.is_set is_flow;
+  forth = λ i j below. nothing_new fs f i j _ there (shows.forth i j below);
+  back = λ i j below. nothing_new fs f i j _ there (shows.back i j below);
+}
+
+-- ---- one more flow
+
+and_swap : (a b c : Bool) → (a || (b && c)) ≡ (a || (c && b))
+and_swap true b c = refl
+and_swap false true true = refl
+and_swap false true false = refl
+and_swap false false true = refl
+and_swap false false false = refl
+
+-- the senders of a new flow, and those beyond it
+pub record AreEnds (n : ℕ) (fs : List Flow) (f : Flow) (senders beyond : HostNumbers) : Type 0 where
+  pub come : (i : ℕ) → IsTrue (set.contains senders i) ↔ HasPath (has fs) i f.from
+  pub go : (j : ℕ) → IsTrue (set.contains beyond j) ↔ HasPath (has fs) f.to j
+
+pub ends : (n : ℕ) (fs : List Flow) (f : Flow) (reached coming : ℕ → HostNumbers) (senders beyond : HostNumbers) → IsFlow n f
+    → ShowsReach n fs reached coming → senders ≡ set.insert (coming f.from) f.from → beyond ≡ set.insert (reached f.to) f.to
+    → AreEnds n fs f senders beyond
+ends n fs f reached coming senders beyond is_flow shows sends goes = record {
+  come = λ i. tells_as senders _ i (HasPath (has fs) i f.from) sends (path_to (has fs) i f.from (coming f.from) (shows.back i f.from is_flow.0));
+  go = λ j. tells_as beyond _ j (HasPath (has fs) f.to j) goes (path_from (has fs) f.to j (reached f.to) (shows.forth f.to j is_flow.1));
+}
+
+pub senders_below : (n : ℕ) (fs : List Flow) (f : Flow) (reached coming : ℕ → HostNumbers) (senders beyond : HostNumbers) → IsFlow n f
+    → ShowsReach n fs reached coming → AreEnds n fs f senders beyond → AreBelow senders n
+senders_below n fs f reached coming senders beyond is_flow shows are i there =
+    elim (cases_path (has fs) i f.from ((are.come i).0 there)) [
+      | inl same ↦ omega (arith, same, is_flow.0)
+      | inr walk ↦ (Reaches-below n fs shows.is_set i f.from walk).0
+    ]
+
+pub beyond_below : (n : ℕ) (fs : List Flow) (f : Flow) (reached coming : ℕ → HostNumbers) (senders beyond : HostNumbers) → IsFlow n f
+    → ShowsReach n fs reached coming → AreEnds n fs f senders beyond → AreBelow beyond n
+beyond_below n fs f reached coming senders beyond is_flow shows are j there =
+    elim (cases_path (has fs) f.to j ((are.go j).0 there)) [
+      | inl same ↦ omega (arith, same, is_flow.1)
+      | inr walk ↦ (Reaches-below n fs shows.is_set f.to j walk).1
+    ]
+
+ShowsReach-with_flow : (n : ℕ) (fs : List Flow) (f : Flow) (reached reached' was coming coming' was' : List HostNumbers)
+    (senders beyond : HostNumbers) → IsFlow n f → length reached ≡ n → length coming ≡ n
+    → ShowsReach n fs (row_of reached) (row_of coming) → AreEnds n fs f senders beyond
+    → IsWidened reached reached' was senders beyond → IsWidened coming coming' was' beyond senders
+    → ShowsReach n (with_flow fs f) (row_of reached') (row_of coming')
+ShowsReach-with_flow n fs f reached reached' was coming coming' was' senders beyond is_flow all all_coming shows are widened widened_back =
+    record {
+      is_set = IsFlowSet-with_flow n fs f shows.is_set is_flow;
+      forth = λ i j below. tells_same _ _ (λ g. same_flow f g || has fs g) (has (with_flow fs f)) i j
+          (contains-widened reached reached' was senders beyond i j widened (omega (arith, below, all)))
+          (λ g. sym (has-with_flow fs f g))
+          (tells_step (has fs) f i j _ _ _ (shows.forth i j below) (are.come i) (are.go j));
+      back = λ i j below. tells_same _ _ (λ g. same_flow f g || has fs g) (has (with_flow fs f)) i j
+          (contains-widened coming coming' was' beyond senders j i widened_back (omega (arith, below, all_coming)) ∙ and_swap _ (set.contains beyond j) (set.contains senders i))
+          (λ g. sym (has-with_flow fs f g))
+          (tells_step (has fs) f i j _ _ _ (shows.back i j below) (are.come i) (are.go j));
+    }
+
+-- ---- steps
+
+-- its receiver is reached already where the row of its sender has it
+pub reached_already : (t : TriedFlows) (f : Flow) (reached coming : SteppedRows) (row : HostNumbers) (shown : Bool) → IsFlow t.size f
+    → HasReachRows t reached coming → row ≡ row_of reached.rows f.from → shown ≡ set.contains row f.to → IsTrue shown
+    → Reaches t.flows f.from f.to
+reached_already t f reached coming row shown is_flow rows row_is shown_is there =
+    (rows.now.forth f.from f.to is_flow.0).0 (sym (ap (λ (s : HostNumbers). set.contains s f.to) row_is) ∙ (sym shown_is ∙ there))
+
+-- a row with its own host
+pub with_host : (rows : List HostNumbers) (host : ℕ) (row copy new : HostNumbers) → row ≡ row_of rows host → copy ≡ row
+    → new ≡ set.insert copy host → new ≡ set.insert (row_of rows host) host
+with_host rows host row copy new row_is copy_is new_is =
+    new_is ∙ ap (λ (s : HostNumbers). set.insert s host) (copy_is ∙ row_is)
+
+pub HasReachRows-as : (t new : TriedFlows) (f : Flow) (steps : TriedFlows) (reached coming rows others : SteppedRows) → new ≡ stepped steps f
+    → steps ≡ t → rows ≡ reached → others ≡ coming → HasReachRows (stepped t f) reached coming → HasReachRows new rows others
+HasReachRows-as t new f steps reached coming rows others new_is steps_is rows_is others_is has =
+    subst (λ (s : TriedFlows). HasReachRows s rows others) (sym (new_is ∙ ap (λ (s : TriedFlows). stepped s f) steps_is))
+    (subst (λ (r : SteppedRows). HasReachRows (stepped t f) r others) (sym rows_is)
+    (subst (λ (r : SteppedRows). HasReachRows (stepped t f) reached r) (sym others_is) has))
+
+pub HasReachRows-kept : (t : TriedFlows) (f : Flow) (reached coming reached' coming' : SteppedRows) → IsFlow t.size f
+    → HasReachRows t reached coming → Reaches t.flows f.from f.to → reached' ≡ record reached { changed = set.empty }
+    → coming' ≡ record coming { changed = set.empty } → HasReachRows (stepped t f) reached' coming'
+HasReachRows-kept t f reached coming reached' coming' is_flow rows there kept kept_coming =
+    let P : SteppedRows → SteppedRows → Type 0 = λ r c. HasReachRows (stepped t f) r c in
+    let r : SteppedRows = record reached { changed = set.empty } in
+    let c : SteppedRows = record coming { changed = set.empty } in
+    subst (λ x. P x coming') (sym kept) (subst (λ x. P r x) (sym kept_coming)
+    (record {
+      reached_fits = fits_same t.size reached r rows.reached_fits refl refl refl;
+      coming_fits = fits_same t.size coming c rows.coming_fits refl refl refl;
+      now = ShowsReach-nothing_new t.size t.flows f (row_of reached.rows) (row_of coming.rows) is_flow there rows.now;
+      before = ShowsReach-as t.size t.flows (row_now reached) (row_now coming) (row_before r) (row_before c) rows.now
+          (λ i below. before-kept r i refl) (λ i below. before-kept c i refl);
+    }))
+
+pub HasReachRows-widened : (t : TriedFlows) (f : Flow) (reached coming reached' coming' : SteppedRows) (senders beyond : HostNumbers)
+    → IsFlow t.size f → HasReachRows t reached coming → AreEnds t.size t.flows f senders beyond
+    → IsWidened reached.rows reached'.rows reached'.before senders beyond → reached'.changed ≡ senders
+    → IsWidened coming.rows coming'.rows coming'.before beyond senders → coming'.changed ≡ beyond
+    → HasReachRows (stepped t f) reached' coming'
+HasReachRows-widened t f reached coming reached' coming' senders beyond is_flow rows are widened changed widened_back changed_back =
+    record {
+      reached_fits = fits_widened t.size reached reached' senders beyond rows.reached_fits widened changed
+          (senders_below t.size t.flows f _ _ senders beyond is_flow rows.now are);
+      coming_fits = fits_widened t.size coming coming' beyond senders rows.coming_fits widened_back changed_back
+          (beyond_below t.size t.flows f _ _ senders beyond is_flow rows.now are);
+      now = ShowsReach-with_flow t.size t.flows f reached.rows reached'.rows reached'.before coming.rows coming'.rows coming'.before senders beyond
+          is_flow rows.reached_fits.rows_length rows.coming_fits.rows_length rows.now are widened widened_back;
+      before = ShowsReach-as t.size t.flows (row_now reached) (row_now coming) (row_before reached') (row_before coming') rows.now
+          (λ i below. before-widened reached.rows reached' senders beyond i widened changed (omega (arith, below, rows.reached_fits.rows_length)))
+          (λ i below. before-widened coming.rows coming' beyond senders i widened_back changed_back (omega (arith, below, rows.coming_fits.rows_length)));
+    }
+
+before_shown : (n : ℕ) (fs : List Flow) (before : Option (List Flow)) (reached coming : ℕ → HostNumbers) → IsSome before
+    → IfSome before (λ gs. ShowsReach n gs reached coming) → ShowsReach n (flows_before_step before fs) reached coming
+before_shown n fs (Some gs) reached coming some shows = shows
+before_shown n fs None reached coming some shows = absurd (false≢true some)
+
+pub HasReachRows-back : (t : TriedFlows) (reached coming reached' coming' : SteppedRows) → IsSome t.before_step
+    → HasReachRows t reached coming → IsBack reached reached'.rows → reached'.before ≡ reached.before → reached'.changed ≡ set.empty
+    → IsBack coming coming'.rows → coming'.before ≡ coming.before → coming'.changed ≡ set.empty
+    → HasReachRows (taken_back t) reached' coming'
+HasReachRows-back t reached coming reached' coming' some rows back room changed back' room' changed' = record {
+  reached_fits = fits_same t.size reached reached' rows.reached_fits back.same_length (ap length room) changed;
+  coming_fits = fits_same t.size coming coming' rows.coming_fits back'.same_length (ap length room') changed';
+  now = ShowsReach-as t.size (flows_before_step t.before_step t.flows) (row_before reached) (row_before coming) (row_now reached') (row_now coming')
+      (before_shown t.size t.flows t.before_step (row_before reached) (row_before coming) some rows.before)
+      (λ i below. back.back i (omega (arith, below, rows.reached_fits.rows_length)))
+      (λ i below. back'.back i (omega (arith, below, rows.coming_fits.rows_length)));
+  before = tt;
+}
+
+-- ---- no flows
+
+pub HasReachRows-nothing : (n : ℕ) (t : TriedFlows) (reached coming : SteppedRows) → n ≤ 256
+    → t ≡ record { size = n; flows = []; before_step = None }
+    → reached ≡ record { rows = replicate n set.empty; before = replicate n set.empty; changed = set.empty }
+    → coming ≡ record { rows = replicate n set.empty; before = replicate n set.empty; changed = set.empty }
+    → HasReachRows t reached coming
+HasReachRows-nothing n t reached coming small t_is reached_is coming_is =
+    let r : SteppedRows = record { rows = replicate n set.empty; before = replicate n set.empty; changed = set.empty } in
+    let fits : FitsRows r n = record {
+      small = small;
+      rows_length = length-replicate n _;
+      before_length = length-replicate n _;
+      changed_below = λ i there. absurd (false≢true (sym (set.contains-empty nat_cmp i) ∙ there));
+    } in
+    subst (λ (s : TriedFlows). HasReachRows s reached coming) (sym t_is)
+    (subst (λ (x : SteppedRows). HasReachRows (record { size = n; flows = []; before_step = None }) x coming) (sym reached_is)
+    (subst (λ (x : SteppedRows). HasReachRows (record { size = n; flows = []; before_step = None }) r x) (sym coming_is)
+    (record {
+      reached_fits = fits;
+      coming_fits = fits;
+      now = record {
+        is_set = IsFlowSet-nothing n small;
+        forth = λ i j below. tells_nothing n (has []) i j i j (λ f. refl) below;
+        back = λ i j below. tells_nothing n (has []) j i i j (λ f. refl) below;
+      };
+      before = tt;
+    })))

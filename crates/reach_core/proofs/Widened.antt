@@ -1,0 +1,110 @@
+-- Rows that are widened, one after the other: what the step changes, and the way back.
+use Rattle.std.proofs.Common.{◌≡◌, ℕ, ◌+◌, ◌<◌, ◌≤◌, Bool, true, false, ◌&&◌, ◌||◌, cond, nat_cmp, inl, inr, List, length, length-set, set, refl, sym, ◌∙◌, ap, subst, arith}
+use Rattle.std.specs.Prelude.{◌≢◌, IsTrue, IsFalse}
+use Rattle.std.specs.FinSet as fin
+use Rattle.std.specs.Cmp.{nat_cmp_total}
+use Rattle.std.proofs.lemmas.Bool.{cond_both, cond-false, cases_eq, cases_lt, both_ways}
+use Rattle.std.proofs.lemmas.List.{get_or-set_same, get_or-set_other}
+use Rattle.host_set.specs.HostSet.{HostNumbers, row_of}
+use Rattle.host_set.specs.Calls.{HasNone, IsFirstFrom}
+use Rattle.reach_core.specs.Rows.{AreBelow, IsWidened, FitsRows, row_before}
+use Rattle.reach_core.specs.declared.stepped.SteppedRows.{SteppedRows}
+
+-- ---- rows that change at the hosts of a set, from the first on
+
+-- the rows of the hosts below `from` are done: they are as they are to be, and the others as they were
+pub record AreDone (old new : List HostNumbers) (wanted : ℕ → HostNumbers) (hosts : HostNumbers) (from : ℕ) : Type 0 where
+  pub same_length : length new ≡ length old
+  pub done : (i : ℕ) → i < from → IsTrue (fin.contains hosts i) → row_of new i ≡ wanted i
+  pub left : (i : ℕ) → from ≤ i → row_of new i ≡ row_of old i
+  pub others : (i : ℕ) → IsFalse (fin.contains hosts i) → row_of new i ≡ row_of old i
+
+pub done_none : (old : List HostNumbers) (wanted : ℕ → HostNumbers) (hosts : HostNumbers) → AreDone old old wanted hosts 0
+done_none old wanted hosts =
+    record { same_length = refl; done = λ i below _. absurd (omega arith); left = λ i _. refl; others = λ i _. refl }
+
+pub done_next : (old new newer : List HostNumbers) (wanted : ℕ → HostNumbers) (hosts row : HostNumbers) (from host : ℕ)
+    → AreDone old new wanted hosts from → IsFirstFrom (fin.contains hosts) from host → host < length old
+    → row ≡ wanted host → newer ≡ set new host row → AreDone old newer wanted hosts (host + 1)
+done_next old new newer wanted hosts row from host are first below is put =
+    let within : host < length new = omega (arith, below, are.same_length) in
+    let elsewhere : (i : ℕ) → i ≢ host → row_of newer i ≡ row_of new i =
+    λ i other. ap (λ (rs : List HostNumbers). row_of rs i) put ∙ get_or-set_other new host i row fin.empty other in
+    let here : row_of newer host ≡ wanted host =
+    ap (λ (rs : List HostNumbers). row_of rs host) put ∙ get_or-set_same new host row fin.empty within ∙ is in
+    record {
+      same_length = ap length put ∙ length-set new host row ∙ are.same_length;
+      done = λ i earlier there. elim (cases_eq i host) [
+        | inl same ↦ ap (row_of newer) same ∙ here ∙ ap wanted (sym same)
+        | inr other ↦ elsewhere i other ∙ elim (cases_lt i from) [
+          | inl before ↦ are.done i before there
+          | inr late ↦ absurd (both_ways (fin.contains hosts i) (first.none_before i late (omega (arith, earlier, other))) there)
+        ]
+      ];
+      left = λ i late. elsewhere i (omega (arith, late)) ∙ are.left i (omega (arith, late, first.late));
+      others = λ i out. elsewhere i (λ same. both_ways (fin.contains hosts host) (sym (ap (fin.contains hosts) same) ∙ out) first.passes) ∙ are.others i out;
+    }
+
+-- where no host is left, all are done
+pub done_all : (old new : List HostNumbers) (wanted : ℕ → HostNumbers) (hosts : HostNumbers) (from : ℕ) → length old ≤ 256
+    → AreDone old new wanted hosts from → HasNone (fin.contains hosts) from 256 → (i : ℕ) → i < length old
+    → row_of new i ≡ cond (fin.contains hosts i) (wanted i) (row_of old i)
+done_all old new wanted hosts from small are none i below =
+    cond_both (fin.contains hosts i) (wanted i) (row_of old i) (λ s. row_of new i ≡ s)
+    (λ there. elim (cases_lt i from) [
+      | inl before ↦ are.done i before there
+      | inr late ↦ absurd (both_ways (fin.contains hosts i) (none i late (omega (arith, small, below))) there)
+    ])
+    (λ out. are.others i out)
+
+-- ---- a row after a step, and before it
+
+contains-either_of : (b : Bool) (s t : HostNumbers) (j : ℕ) (x y : Bool) → fin.contains s j ≡ x → fin.contains t j ≡ (x || y)
+    → fin.contains (cond b t s) j ≡ (x || (b && y))
+contains-either_of true s t j x y from_s from_t = from_t
+contains-either_of false s t j true y from_s from_t = from_s
+contains-either_of false s t j false y from_s from_t = from_s
+
+pub contains-widened : (old new before : List HostNumbers) (hosts by : HostNumbers) (i j : ℕ) → IsWidened old new before hosts by
+    → i < length old
+    → fin.contains (row_of new i) j ≡ (fin.contains (row_of old i) j || (fin.contains hosts i && fin.contains by j))
+contains-widened old new before hosts by i j widened below =
+    ap (λ (s : HostNumbers). fin.contains s j) (widened.now i below)
+    ∙ contains-either_of (fin.contains hosts i) (row_of old i) (fin.union (row_of old i) by) j _ _ refl (fin.contains-union nat_cmp_total (row_of old i) by j)
+
+pub before-widened : (old : List HostNumbers) (r : SteppedRows) (hosts by : HostNumbers) (i : ℕ)
+    → IsWidened old r.rows r.before hosts by → r.changed ≡ hosts → i < length old → row_before r i ≡ row_of old i
+before-widened old r hosts by i widened changed below =
+    ap (λ (hs : HostNumbers). cond (fin.contains hs i) (row_of r.before i) (row_of r.rows i)) changed
+    ∙ cond_both (fin.contains hosts i) (row_of r.before i) (row_of r.rows i) (λ s. s ≡ row_of old i) (λ there. widened.was i there)
+    (λ out. widened.now i below ∙ cond-false _ _ _ out)
+
+-- where nothing changed, the rows before are those of now
+pub before-kept : (r : SteppedRows) (i : ℕ) → r.changed ≡ fin.empty → row_before r i ≡ row_of r.rows i
+before-kept r i changed =
+    ap (λ (hs : HostNumbers). cond (fin.contains hs i) (row_of r.before i) (row_of r.rows i)) changed
+    ∙ cond-false _ _ _ (fin.contains-empty nat_cmp i)
+
+-- ---- room for the next step
+
+none_below : (n : ℕ) (hosts : HostNumbers) → hosts ≡ fin.empty → AreBelow hosts n
+none_below n hosts none i there =
+    absurd (both_ways (fin.contains hosts i) (ap (λ (s : HostNumbers). fin.contains s i) none ∙ fin.contains-empty nat_cmp i) there)
+
+pub fits_same : (n : ℕ) (old new : SteppedRows) → FitsRows old n → length new.rows ≡ length old.rows
+    → length new.before ≡ length old.before → new.changed ≡ fin.empty → FitsRows new n
+fits_same n old new fits rows before changed = record {
+  small = fits.small;
+  rows_length = rows ∙ fits.rows_length;
+  before_length = before ∙ fits.before_length;
+  changed_below = none_below n new.changed changed;
+}
+
+pub fits_widened : (n : ℕ) (old new : SteppedRows) (hosts by : HostNumbers) → FitsRows old n
+    → IsWidened old.rows new.rows new.before hosts by → new.changed ≡ hosts → AreBelow hosts n → FitsRows new n
+fits_widened n old new hosts by fits widened changed below = record {
+  small = fits.small;
+  rows_length = widened.rows_length ∙ fits.rows_length;
+  before_length = widened.before_length ∙ fits.rows_length;
+  changed_below = subst (λ (hs : HostNumbers). AreBelow hs n) (sym changed) below;
+}

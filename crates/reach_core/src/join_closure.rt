@@ -1,0 +1,114 @@
+//! Which hosts are joined along a set of flows, in whatever direction: for each host a row of those that
+//! it is joined with. The rows begin empty and grow by one flow at a time.
+
+ghost use Rattle.std.specs.Prelude.{◌≡◌, ℕ, ◌<◌, ◌≤◌, ◌↔◌, List, [], IsTrue, IfOk, IsSome};
+ghost use Rattle.std.specs.FinSet as set;
+ghost use Rattle.flow_set.specs.Flow.{IsFlow};
+ghost use Rattle.flow_set.specs.FlowSetView.{IsFlowSet};
+ghost use Rattle.flow_set.specs.Steps.{untried, stepped, taken_back};
+ghost use Rattle.reach_core.specs.Walks.{Joined};
+
+use crate::stepped::SteppedRows;
+use flow_set::{Flow, FlowSet, FlowSteps};
+use host_set::HostSet;
+use std::alloc::{AllocError, Global};
+use std::marker::Model;
+
+/// The walks along a set of flows, taken forwards or backwards.
+#[derive(Drop)]
+pub struct JoinClosure {
+    steps: FlowSteps,
+    joined: SteppedRows,
+}
+
+impl Model for JoinClosure {
+    ghost use Rattle.flow_set.specs.Steps.{TriedFlows};
+    ghost use Rattle.reach_core.specs.Rows.{HasJoinRows};
+
+    ghost Value = { TriedFlows };
+
+    ghost view = { λ c. c.steps };
+
+    ghost invariant = { λ c. HasJoinRows c.steps c.joined };
+}
+
+impl JoinClosure {
+    // The closure of no flows.
+    fn none(alloc: Global, size: u16) -> Result<JoinClosure, AllocError>
+        requires { size ≤ 256 }
+        ensures { IfOk result (λ closure. closure ≡ untried (record { size = size; flows = [] })) }
+    {
+        let none = FlowSet::empty(alloc, size)?;
+        Ok(JoinClosure {
+            steps: FlowSteps::new(alloc, &none)?,
+            joined: SteppedRows::new(alloc, size)?,
+        })
+    }
+
+    /// The closure of the flows of `e`.
+    pub fn of(alloc: Global, e: &FlowSet) -> Result<JoinClosure, AllocError>
+        ensures { IfOk result (λ closure. closure ≡ untried e.now) }
+    {
+        let steps = FlowSteps::new(alloc, e)?;
+        let mut closure = JoinClosure::none(alloc, e.size())?;
+        for f in e.iter() {
+            closure.try_add(f);
+        }
+        closure.steps = steps;
+        Ok(closure)
+    }
+
+    /// One more flow, which may be there already: whoever is joined with one of its hosts is joined with
+    /// all who are. Where its hosts are joined already, that is nothing new.
+    pub fn try_add(&mut self, f: Flow)
+        requires { IsFlow self.old.size f }
+        ensures { self.new ≡ stepped self.old f }
+    {
+        let _ = self.size();
+        if self.joined.row(f.from).has(f.to) {
+            self.joined.keep();
+        } else {
+            let mut all = self.joined.row(f.from).copy();
+            all.insert_all(self.joined.row(f.to));
+            all.insert(f.from);
+            all.insert(f.to);
+            self.joined.widen(&all, &all);
+        }
+        self.steps.step(f);
+    }
+
+    /// Takes the last `try_add` back.
+    pub fn undo(&mut self)
+        requires { IsSome self.old.before_step }
+        ensures { self.new ≡ taken_back self.old }
+    {
+        self.joined.back();
+        self.steps.back();
+    }
+
+    /// The number of hosts.
+    pub fn size(&self) -> u16
+        ensures size { result ≡ self.now.size }
+        ensures set { IsFlowSet self.now.size self.now.flows }
+    {
+        self.steps.size()
+    }
+
+    /// The hosts that flows join with `i`, taken forwards or backwards.
+    pub fn joined_with(&self, i: u16) -> &HostSet
+        requires { i < self.now.size }
+        ensures { (j : ℕ) → IsTrue (set.contains result.now j) ↔ Joined self.now.flows i j }
+    {
+        self.joined.row(i)
+    }
+
+    /// Whether flows join `i` and `j`, taken forwards or backwards.
+    pub fn joined(&self, i: u16, j: u16) -> bool
+        requires i { i < self.now.size }
+        requires j { j < self.now.size }
+        ensures { IsTrue result ↔ Joined self.now.flows i j }
+    {
+        let _ = self.size();
+        self.joined_with(i).has(j)
+    }
+}

@@ -1,0 +1,138 @@
+//! Who reaches whom along a set of flows: for each host a row of the hosts that it reaches and a row of
+//! those that come to it. The rows begin empty and grow by one flow at a time.
+
+ghost use Rattle.std.specs.Prelude.{◌≡◌, ℕ, ◌<◌, ◌≤◌, ◌↔◌, List, [], IsTrue, IfOk, IsSome};
+ghost use Rattle.std.specs.FinSet as set;
+ghost use Rattle.flow_set.specs.Flow.{IsFlow};
+ghost use Rattle.flow_set.specs.FlowSetView.{IsFlowSet};
+ghost use Rattle.flow_set.specs.Steps.{untried, stepped, taken_back};
+ghost use Rattle.reach_core.specs.Walks.{Reaches};
+ghost use Rattle.reach_core.specs.Counting.{ReachesExactly};
+
+use crate::stepped::SteppedRows;
+use flow_set::{Flow, FlowSet, FlowSteps};
+use host_set::HostSet;
+use std::alloc::{AllocError, Global};
+use std::marker::Model;
+
+/// The walks along a set of flows.
+#[derive(Drop)]
+pub struct ReachClosure {
+    steps: FlowSteps,
+    reached: SteppedRows,
+    coming: SteppedRows,
+}
+
+impl Model for ReachClosure {
+    ghost use Rattle.flow_set.specs.Steps.{TriedFlows};
+    ghost use Rattle.reach_core.specs.Rows.{HasReachRows};
+
+    ghost Value = { TriedFlows };
+
+    ghost view = { λ c. c.steps };
+
+    ghost invariant = { λ c. HasReachRows c.steps c.reached c.coming };
+}
+
+impl ReachClosure {
+    // The closure of no flows.
+    fn none(alloc: Global, size: u16) -> Result<ReachClosure, AllocError>
+        requires { size ≤ 256 }
+        ensures { IfOk result (λ closure. closure ≡ untried (record { size = size; flows = [] })) }
+    {
+        let none = FlowSet::empty(alloc, size)?;
+        Ok(ReachClosure {
+            steps: FlowSteps::new(alloc, &none)?,
+            reached: SteppedRows::new(alloc, size)?,
+            coming: SteppedRows::new(alloc, size)?,
+        })
+    }
+
+    /// The closure of the flows of `e`.
+    pub fn of(alloc: Global, e: &FlowSet) -> Result<ReachClosure, AllocError>
+        ensures { IfOk result (λ closure. closure ≡ untried e.now) }
+    {
+        let steps = FlowSteps::new(alloc, e)?;
+        let mut closure = ReachClosure::none(alloc, e.size())?;
+        for f in e.iter() {
+            closure.try_add(f);
+        }
+        closure.steps = steps;
+        Ok(closure)
+    }
+
+    /// One more flow, which may be there already: whoever is its sender or comes to it goes on to its
+    /// receiver and to all beyond. Where the sender comes to the receiver already, that is nothing new.
+    pub fn try_add(&mut self, f: Flow)
+        requires { IsFlow self.old.size f }
+        ensures { self.new ≡ stepped self.old f }
+    {
+        let _ = self.size();
+        if self.reached.row(f.from).has(f.to) {
+            self.reached.keep();
+            self.coming.keep();
+        } else {
+            let mut senders = self.coming.row(f.from).copy();
+            senders.insert(f.from);
+            let mut beyond = self.reached.row(f.to).copy();
+            beyond.insert(f.to);
+            self.reached.widen(&senders, &beyond);
+            self.coming.widen(&beyond, &senders);
+        }
+        self.steps.step(f);
+    }
+
+    /// Takes the last `try_add` back.
+    pub fn undo(&mut self)
+        requires { IsSome self.old.before_step }
+        ensures { self.new ≡ taken_back self.old }
+    {
+        self.reached.back();
+        self.coming.back();
+        self.steps.back();
+    }
+
+    /// The number of hosts.
+    pub fn size(&self) -> u16
+        ensures size { result ≡ self.now.size }
+        ensures set { IsFlowSet self.now.size self.now.flows }
+    {
+        self.steps.size()
+    }
+
+    /// The hosts that one gets to from `i` along flows. A host gets back to itself by a round trip only.
+    pub fn reached_from(&self, i: u16) -> &HostSet
+        requires { i < self.now.size }
+        ensures { (j : ℕ) → IsTrue (set.contains result.now j) ↔ Reaches self.now.flows i j }
+    {
+        self.reached.row(i)
+    }
+
+    /// The hosts from which one gets to `j`.
+    pub fn coming_to(&self, j: u16) -> &HostSet
+        requires { j < self.now.size }
+        ensures { (i : ℕ) → IsTrue (set.contains result.now i) ↔ Reaches self.now.flows i j }
+    {
+        self.coming.row(j)
+    }
+
+    /// Whether one gets from `i` to `j` along flows.
+    pub fn reaches(&self, i: u16, j: u16) -> bool
+        requires i { i < self.now.size }
+        requires j { j < self.now.size }
+        ensures { IsTrue result ↔ Reaches self.now.flows i j }
+    {
+        let _ = self.size();
+        self.reached_from(i).has(j)
+    }
+
+    /// How many other hosts `i` reaches. A round trip adds nothing.
+    pub fn count(&self, i: u16) -> u16
+        requires { i < self.now.size }
+        ensures { ReachesExactly self.now.flows i result }
+    {
+        let _ = self.size();
+        let row = self.reached_from(i);
+        if row.has(i) { row.len() - 1 } else { row.len() }
+    }
+}

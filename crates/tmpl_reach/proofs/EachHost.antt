@@ -1,0 +1,43 @@
+-- Going over the hosts of a set, from the first on.
+use Rattle.std.proofs.Common.{ℕ, ◌+◌, ◌<◌, ◌≤◌, inl, inr, sym, subst, arith}
+use Rattle.std.specs.Prelude.{◌≢◌, IsTrue}
+use Rattle.std.specs.FinSet as set
+use Rattle.std.proofs.lemmas.Bool.{both_ways, cases_Bool, cases_eq, cases_lt}
+use Rattle.host_set.specs.HostSet.{HostNumbers}
+use Rattle.host_set.specs.Calls.{HasNone, IsFirstFrom}
+use Rattle.tmpl_reach.specs.EachOf.{EachOf}
+
+-- what is said of each host below `from`
+abbrev pub UpTo : HostNumbers → (ℕ → Type 0) → ℕ → Type 0
+UpTo hosts P from = (host : ℕ) → host < from → IsTrue (set.contains hosts host) → P host
+
+pub upto_next : (hosts : HostNumbers) (P : ℕ → Type 0) (from host : ℕ) → UpTo hosts P from
+    → IsFirstFrom (set.contains hosts) from host → P host → UpTo hosts P (host + 1)
+upto_next hosts P from host sofar first here k below there =
+    elim (cases_eq k host) [
+      | inl same ↦ subst P (sym same) here
+      | inr other ↦ elim (cases_lt k from) [
+        | inl before ↦ sofar k before there
+        | inr late ↦ absurd (both_ways (set.contains hosts k) (first.none_before k late (omega (arith, below, other))) there)
+      ]
+    ]
+
+pub upto_all : (hosts : HostNumbers) (P : ℕ → Type 0) (from n : ℕ) → n ≤ 256 → EachOf hosts (λ host. host < n) → UpTo hosts P from
+    → HasNone (set.contains hosts) from 256 → EachOf hosts P
+upto_all hosts P from n small within sofar none k there =
+    elim (cases_lt k from) [
+      | inl before ↦ sofar k before there
+      | inr late ↦ absurd (both_ways (set.contains hosts k) (none k late (omega (arith, small, within k there))) there)
+    ]
+
+-- what holds of a host, of each of a set, and of all others holds of all
+pub everywhere : (P : ℕ → Type 0) (hosts : HostNumbers) (from : ℕ) → P from → EachOf hosts P
+    → ((host : ℕ) → host ≢ from → (IsTrue (set.contains hosts host) → ⊥) → P host) → (host : ℕ) → P host
+everywhere P hosts from here each rest host =
+    elim (cases_eq host from) [
+      | inl same ↦ subst P (sym same) here
+      | inr other ↦ elim (cases_Bool (set.contains hosts host)) [
+        | inl there ↦ each host there
+        | inr out ↦ rest host other (λ there. both_ways (set.contains hosts host) out there)
+      ]
+    ]

@@ -1,0 +1,70 @@
+-- What is left to ask after one more flow: of its sender and of those that come to it, or are joined with it.
+use Rattle.std.proofs.Common.{◌≡◌, ℕ, ◌+◌, ◌<◌, ◌≤◌, ◌↔◌, ◌∙◌, List, length, inl, inr, sym, arith}
+use Rattle.std.specs.Prelude.{IsTrue, slice_index}
+use Rattle.std.specs.FinSet as set
+use Rattle.std.proofs.lemmas.Bool.{both_ways, cases_Bool, cases_eq, cases_lt}
+use Rattle.flow_set.specs.declared.flow.Flow.{Flow}
+use Rattle.host_set.specs.HostSet.{HostNumbers}
+use Rattle.reach_core.specs.Walks.{Reaches, Joined, has_either, ReachesAtMost}
+use Rattle.reach_core.specs.WalkLaws.{HasWalk-append}
+use Rattle.reach_core.specs.ReachLaws.{Joined-back}
+use Rattle.tmpl_reach.specs.Dependability.{IsDependable, StaysWithin}
+use Rattle.tmpl_reach.specs.EachOf.{EachOf}
+use Rattle.tmpl_reach.specs.Interferences.{HasOneAtMost, IsNextInterfering, NoneInterferes, StaysApart}
+use Rattle.tmpl_reach.specs.NonInterference.{IsInterfering, IsNonInterfering}
+use Rattle.tmpl_reach.specs.NoReach.{denied_by, ReachesNone, ReachesNoDenied, StaysClear}
+use Rattle.tmpl_reach.specs.declared.non_interference.Interference.{Interference}
+use Rattle.tmpl_reach.proofs.EachHost.{everywhere}
+
+pub still_dependable : (limits : List ℕ) (e : List Flow) (from : ℕ) (hosts : HostNumbers)
+    → ((i : ℕ) → IsTrue (set.contains hosts i) ↔ Reaches e i from) → from < length limits
+    → ((host : ℕ) → host < length limits → StaysWithin limits e from host) → EachOf hosts (λ host. host < length limits)
+    → (ReachesAtMost e from (slice_index limits from) × EachOf hosts (λ host. ReachesAtMost e host (slice_index limits host))) ↔ IsDependable limits e
+still_dependable limits e from hosts come within elsewhere below = (
+  λ parts. everywhere (λ host. host < length limits → ReachesAtMost e host (slice_index limits host)) hosts from (λ _. parts.0) (λ host there _. parts.1 host there)
+      (λ host other out is_host. elsewhere host is_host other (λ reaches. out ((come host).1 reaches))),
+  λ holds. (holds from within, λ host there. holds host (below host there)),
+)
+
+pub still_clear : (denied : List HostNumbers) (e : List Flow) (from : ℕ) (hosts : HostNumbers)
+    → ((i : ℕ) → IsTrue (set.contains hosts i) ↔ Reaches e i from) → ((host : ℕ) → StaysClear denied e from host)
+    → (ReachesNone (denied_by denied from) e from × EachOf hosts (λ host. ReachesNone (denied_by denied host) e host)) ↔ ReachesNoDenied denied e
+still_clear denied e from hosts come elsewhere = (
+  λ parts. everywhere (λ host. ReachesNone (denied_by denied host) e host) hosts from parts.0 parts.1
+      (λ host other out. elsewhere host other (λ reaches. out ((come host).1 reaches))),
+  λ holds. (holds from, λ host there. holds host),
+)
+
+pub still_apart : (kinds : List Interference) (e : List Flow) (from : ℕ) (hosts : HostNumbers)
+    → ((i : ℕ) → IsTrue (set.contains hosts i) ↔ Joined e from i) → ((host : ℕ) → StaysApart kinds e from host)
+    → HasOneAtMost kinds hosts ↔ IsNonInterfering kinds e
+still_apart kinds e from hosts joined elsewhere = (
+  λ one i first j apart second walk. elim (cases_Bool (set.contains hosts i)) [
+    | inl there ↦
+        one i j apart there ((joined j).1 (HasWalk-append (has_either e) from i j ((joined i).0 there) walk)) first second
+    | inr out ↦ elsewhere i (λ walks. both_ways (set.contains hosts i) out ((joined i).1 walks)) first j apart second walk
+  ],
+  λ holds i j apart at_i at_j first second.
+      holds i first j apart second
+      (HasWalk-append (has_either e) i from j (Joined-back e from i ((joined i).0 at_i)) ((joined j).0 at_j)),
+)
+
+-- ---- one interfering host at most
+
+pub none_of_two : (kinds : List Interference) (hosts : HostNumbers) (n : ℕ) → n ≤ 256 → EachOf hosts (λ host. host < n)
+    → NoneInterferes kinds hosts 0 256 → HasOneAtMost kinds hosts
+none_of_two kinds hosts n small below none i j apart at_i at_j first second =
+    none i (omega arith) (omega (arith, below i at_i, small)) at_i first
+
+pub one_of_two : (kinds : List Interference) (hosts : HostNumbers) (n first : ℕ) → n ≤ 256 → EachOf hosts (λ host. host < n)
+    → IsNextInterfering kinds hosts 0 first → NoneInterferes kinds hosts (first + 1) 256 → HasOneAtMost kinds hosts
+one_of_two kinds hosts n first small below next none i j apart at_i at_j marked_i marked_j =
+    let is_first : (k : ℕ) → IsTrue (set.contains hosts k) → IsInterfering kinds k → k ≡ first =
+    λ k at marked. elim (cases_eq k first) [
+      | inl same ↦ same
+      | inr other ↦ elim (cases_lt k first) [
+        | inl before ↦ absurd (next.none_before k (omega arith) before at marked)
+        | inr late ↦ absurd (none k (omega (arith, late, other)) (omega (arith, below k at, small)) at marked)
+      ]
+    ] in
+    apart (is_first i at_i marked_i ∙ sym (is_first j at_j marked_j))

@@ -1,0 +1,10 @@
+use Rattle.std.proofs.Common.{◌-◌}
+use Rattle.tmpl_reach.specs.NoReach.{denied_by, ReachesNone}
+use Rattle.tmpl_reach.proofs.EachHost.{UpTo}
+use Rattle.tmpl_reach.proofs.no_reach.NoReach.reach_none.Given as goal
+
+abbrev pub invariant-loop-host : goal.invariant-loop-host
+invariant-loop-host l = UpTo l.hosts (λ host. ReachesNone (denied_by l.self host) l.closure.flows host) l.from
+
+abbrev pub decreases-loop-host : goal.decreases-loop-host
+decreases-loop-host l = 256 - l.from
