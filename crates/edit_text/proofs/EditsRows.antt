@@ -1,12 +1,9 @@
 -- Worked rows: lines of edits that are refused, and what stands behind words.
-use Rattle.std.proofs.Common.{◌≡◌, [], ◌∷◌, ◌++◌, refl}
-use Rattle.std.specs.Prelude.{codes, Ok, Err}
+use Rattle.std.proofs.Common.{◌≡◌, refl}
+use Rattle.std.specs.Prelude.{codes, Err}
 use Rattle.text_core.specs.Decimal.{number, bounded_value}
-use Rattle.text_core.specs.Lines.{lines, is_comment}
-use Rattle.text_core.specs.Reading.{line_by_line}
 use Rattle.edit_text.specs.Behind.{behind_word}
-use Rattle.edit_text.specs.ChangeLine.{change_of, invariant_said}
-use Rattle.edit_text.specs.EditsText.{edit_step}
+use Rattle.edit_text.specs.ChangeSteps.{change_of}
 use Rattle.edit_text.specs.declared.fault.EditsWhy.TheVariants.{BadLine, BadValue}
 
 -- the number of words goes before every value
@@ -50,8 +47,3 @@ row_joined = refl
 
 row_behind : behind_word (behind_word (codes " set  1 { } # c ")) ≡ codes " { } # c "
 row_behind = refl
-
--- lines count from 1, and comments count
-row_line : line_by_line edit_step 1 [] (lines (codes "# a" ++ (10 ∷ (10 ∷ codes "remove a")))) ≡ Err (3, BadLine)
-unfolding change_of is_comment
-row_line = refl

@@ -1,5 +1,5 @@
 -- Laws of the lines of edits: a line is read as a change exactly where it tells it.
-use Rattle.std.proofs.Common.{◌≡◌, ℕ, ◌≤◌, true, false, List, [], ◌∷◌, Option, Some, None, length, inl, inr, refl, sym, ap, ◌∙◌, subst, arith}
+use Rattle.std.proofs.Common.{◌≡◌, ℕ, ◌≤◌, true, false, List, [], ◌∷◌, Option, Some, None, length, inl, inr, refl, ap, ◌∙◌, subst, arith}
 use Rattle.std.specs.Prelude.{codes, decimal, Ok, bytes_eq, is_some, ◌==◌, ◌++◌, IsTrue}
 use Rattle.std.specs.List.{list_all}
 use Rattle.std.specs.Option.{option_map, ok_or}
@@ -15,11 +15,10 @@ use Rattle.table_core.specs.Tables.{text_at}
 use Rattle.toml.specs.Data.{Data, string, integer, float, boolean, datetime, array, table, Members, as_table, get_member}
 use Rattle.toml.specs.Parse.{parse_document}
 use Rattle.edit_text.specs.Behind.{behind_word}
-use Rattle.edit_text.specs.ChangeLine.{add_of, assign_of, assigned, change_by, change_of, change_of_words, from_one, invariant_said, remove_of, removed, set_of, text_of, texts_of, unassigned, unset_of, value_in, with_host}
+use Rattle.edit_text.specs.ChangeSteps.{add_of, assign_of, assigned, change_of, change_of_words, from_one, invariant_said, remove_of, removed, set_of, text_of, texts_of, unassigned, unset_of, value_in, with_host}
 use Rattle.edit_text.specs.Edit.{Change, Add, Remove, Set, Unset}
-use Rattle.edit_text.specs.EditsText.{AreTexts, IsAssignText, IsInvariantNumber, TellsAssign, TellsChange}
-use Rattle.edit_text.specs.declared.fault.EditsWhy.{EditsWhy}
-use Rattle.edit_text.specs.declared.fault.EditsWhy.TheVariants.{BadLine, BadValue}
+use Rattle.edit_text.specs.EditsText.{AreTexts, IsAssignText, IsInvariantNumber, TellsChange}
+use Rattle.edit_text.specs.declared.fault.EditsWhy.TheVariants.{BadValue}
 
 -- ---- words
 

@@ -1,18 +1,17 @@
 -- The text of a list of edits, one line each (docs/FORMATS.md): which edits a text tells, and its first fault.
-use Rattle.std.specs.Prelude.{◌≡◌, ℕ, ◌<◌, ◌≤◌, nat_lt, if◌then◌else◌, List, [], ◌∷◌, ◌++◌, Some, Result, Ok, Err, length, codes, decimal, is_some, IsTrue}
+use Rattle.std.specs.Prelude.{◌≡◌, ℕ, ◌<◌, ◌≤◌, List, [], ◌∷◌, ◌++◌, Some, length, codes, decimal, is_some, IsTrue}
 use Rattle.std.specs.List.{list_all}
 use Rattle.std.specs.Str.{is_utf8}
-use Rattle.text_core.specs.Lines.{lines, words}
-use Rattle.text_core.specs.Reading.{IsFirstFault, Follows}
+use Rattle.text_core.specs.Lines.{words}
+use Rattle.text_core.specs.TextByLines.{TextByLines, HasFault, IsReading as IsReadingOf}
 use Rattle.host_net.specs.Limits.{invariant_limit}
 use Rattle.table_core.specs.Tables.{text_at}
 use Rattle.toml.specs.Data.{Members, get_member, table}
 use Rattle.toml.specs.Parse.{parse_document}
 use Rattle.edit_text.specs.Behind.{behind_word}
-use Rattle.edit_text.specs.ChangeLine.{change_of}
 use Rattle.edit_text.specs.Edit.{Change, Add, Remove, Set, Unset, Edit}
 use Rattle.edit_text.specs.declared.fault.EditsWhy.{EditsWhy}
-use Rattle.edit_text.specs.declared.fault.EditsWhy.TheVariants.{TooLong, TooMany}
+use Rattle.edit_text.specs.declared.fault.EditsWhy.TheVariants.{TooLong, BadLine, BadValue, TooMany}
 
 -- A. The grammar: which edits a text tells.
 
@@ -61,23 +60,38 @@ pub record AddsEdit (n : ℕ) (before : List Edit) (line : List ℕ) (now : List
   pub added : now ≡ before ++ record { line = n; change = change } ∷ []
   pub few : length before < edit_limit
 
--- the reading of a text: its edits, line by line
-pub record IsReading (bytes : List ℕ) (edits : List Edit) : Type 0 where
-  pub short : length bytes ≤ byte_limit
-  pub told : Follows AddsEdit 1 [] (lines bytes) edits
+-- B. Why a line tells none.
 
--- B. The first fault: why a line tells no edit.
+-- words have the form of an edit: one of the four first words, and as many behind it as that asks for
+pub data IsForm (ws : List (List ℕ)) : Type 0 where
+  add : (from to : List ℕ) (services : List (List ℕ)) → ws ≡ codes "add" ∷ from ∷ to ∷ services → IsForm ws
+  remove : (from to : List ℕ) → ws ≡ codes "remove" ∷ from ∷ to ∷ [] → IsForm ws
+  set : (number word : List ℕ) (rest : List (List ℕ)) → ws ≡ codes "set" ∷ number ∷ word ∷ rest → IsForm ws
+  unset : (number host : List ℕ) → ws ≡ codes "unset" ∷ number ∷ host ∷ [] → IsForm ws
 
--- the edits with one more, of 10,000 at most
-abbrev pub with_change : ℕ → List Edit → Result Change EditsWhy → Result (List Edit) EditsWhy
-with_change n edits (Ok change) = if nat_lt 9999 (length edits) then Err TooMany else Ok (edits ++ record { line = n; change = change } ∷ [])
-with_change n edits (Err why) = Err why
+-- why a line adds no edit to those before it: its words have no form of an edit; or they have one, and tell no change; or they tell
+-- one, and 10,000 edits stand before it
+pub data IsBad (before : List Edit) (line : List ℕ) : EditsWhy → Type 0 where
+  bad_line : (IsForm (words line) → ⊥) → IsBad before line BadLine
+  bad_value : IsForm (words line) → ((change : Change) → TellsChange line change → ⊥) → IsBad before line BadValue
+  too_many : (change : Change) → TellsChange line change → edit_limit ≤ length before → IsBad before line TooMany
 
-abbrev pub edit_step : ℕ → List Edit → List ℕ → Result (List Edit) EditsWhy
-edit_step n edits line = with_change n edits (change_of line)
+-- C. The text: its lines are edits, and it may end behind each of them.
 
--- a text is refused: it is too long, else at the first line that is refused
-pub data IsRefused (bytes : List ℕ) : ℕ → EditsWhy → Type 0 where
-  too_long : byte_limit < length bytes → IsRefused bytes 0 TooLong
-  at_line : {line : ℕ} {why : EditsWhy} → length bytes ≤ byte_limit → IsFirstFault edit_step 1 [] (lines bytes) line why
-      → IsRefused bytes line why
+abbrev pub edits_text : TextByLines (List Edit) EditsWhy
+edits_text = record {
+  byte_limit = byte_limit;
+  when_longer = TooLong;
+  start = [];
+  IsLine = AddsEdit;
+  IsBadLine = λ n before line why. IsBad before line why;
+  MayEnd = λ edits. Unit {0};
+  EndsBadly = λ n edits line why. ⊥;
+}
+
+-- the reading of a text, and its first fault
+abbrev pub IsReading : List ℕ → List Edit → Type 0
+IsReading bytes edits = IsReadingOf edits_text bytes edits
+
+abbrev pub IsRefused : List ℕ → ℕ → EditsWhy → Type 0
+IsRefused bytes line why = HasFault edits_text bytes line why

@@ -1,15 +1,12 @@
--- Laws of the texts of edits: a text is read as these edits exactly where they are its reading.
-use Rattle.std.proofs.Common.{◌≡◌, ℕ, ◌<◌, ◌≤◌, false, List, [], ◌∷◌, ◌++◌, inl, inr, refl, sym, ap, arith, length}
+-- Laws of the lines of edits: a line adds an edit exactly where its step does.
+use Rattle.std.proofs.Common.{◌≡◌, ℕ, ◌<◌, false, List, [], ◌∷◌, ◌++◌, inl, inr, refl, sym, ap, arith, length}
 use Rattle.std.specs.Prelude.{Result, Ok, Err, nat_lt}
 use Rattle.std.proofs.lemmas.Bool.Decides.{nat_tests}
-use Rattle.text_core.specs.Lines.{lines}
-use Rattle.text_core.specs.Reading.{line_by_line}
-use Rattle.text_core.specs.ReadingLaws.{follows_what_is_read, reads_what_follows}
 use Rattle.text_core.specs.StepsLaws.{if_parts}
 use Rattle.edit_text.specs.ChangeLaws.{change_told, told_change}
-use Rattle.edit_text.specs.ChangeLine.{change_of}
+use Rattle.edit_text.specs.ChangeSteps.{change_of, edit_step, with_change}
 use Rattle.edit_text.specs.Edit.{Change, Edit}
-use Rattle.edit_text.specs.EditsText.{AddsEdit, IsReading, byte_limit, edit_limit, edit_step, with_change}
+use Rattle.edit_text.specs.EditsText.{AddsEdit, edit_limit}
 use Rattle.edit_text.specs.declared.fault.EditsWhy.{EditsWhy}
 use Rattle.edit_text.specs.declared.fault.EditsWhy.TheVariants.{TooMany}
 
@@ -37,10 +34,3 @@ pub adds_step : (n : ℕ) (es now : List Edit) (line : List ℕ) → AddsEdit n 
 adds_step n es now line adds =
     let fits : nat_lt 9999 (length es) ≡ false = small (length es) adds.few in
     rw (told_change line adds.change adds.told, fits) (ap (λ xs. Ok xs) (sym adds.added))
-
-pub is_reading : (bytes : List ℕ) (es : List Edit) → length bytes ≤ byte_limit → line_by_line edit_step 1 [] (lines bytes) ≡ Ok es
-    → IsReading bytes es
-is_reading bytes es short read = record { short = short; told = follows_what_is_read edit_step AddsEdit step_adds 1 [] es (lines bytes) read }
-
-pub reading_is : (bytes : List ℕ) (es : List Edit) → IsReading bytes es → line_by_line edit_step 1 [] (lines bytes) ≡ Ok es
-reading_is bytes es reading = reads_what_follows edit_step AddsEdit adds_step 1 [] es (lines bytes) reading.told

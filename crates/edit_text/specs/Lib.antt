@@ -1,9 +1,9 @@
 pub mod Behind
-pub mod ChangeLine
 pub mod ChangeLaws
+pub mod ChangeSteps
 pub mod Edit
+pub mod EditFaultLaws
 pub mod EditView
 pub mod EditsAnswers
 pub mod EditsText
 pub mod EditsTextLaws
-pub mod OneReadingLaws

@@ -2,7 +2,7 @@
 
 ghost use Rattle.std.specs.Prelude.{◌≡◌, ◌++◌, codes, map, option_map, string_bytes};
 ghost use Rattle.std.specs.Result.{result_map_both};
-ghost use Rattle.edit_text.specs.ChangeLine.{add_of, assign_of, change_of, invariant_said, remove_of, set_of, text_of, unset_of, value_in};
+ghost use Rattle.edit_text.specs.ChangeSteps.{add_of, assign_of, change_of, invariant_said, remove_of, set_of, text_of, unset_of, value_in};
 ghost use Rattle.edit_text.specs.EditsAnswers.{PutsTexts, Says, SaysValue};
 ghost use Rattle.toml.specs.Data.{as_table};
 ghost use Rattle.toml.specs.Parse.{parse_document};
@@ -10,18 +10,18 @@ ghost use Rattle.toml.specs.View.{table_view, view};
 
 use crate::behind::behind_word;
 use crate::edit::Change;
-use crate::fault::{EditsWhy, LineFault};
+use crate::fault::EditsWhy;
 use std::alloc::Global;
 use std::str;
 use table_core::text_at;
-use text_core::{Words, read_number};
+use text_core::{LineFault, Words, read_number};
 use toml::{Table, Value};
 
 const INVARIANT_LIMIT: u32 = 16;
 
 /// The change that a line tells, or why it tells none.
-#[tactic(auto, unfolding(crate::specs::ChangeLine::change_of))]
-pub(crate) fn read_change(alloc: Global, line: &[u8]) -> Result<Change, LineFault>
+#[tactic(auto, unfolding(crate::specs::ChangeSteps::change_of))]
+pub(crate) fn read_change(alloc: Global, line: &[u8]) -> Result<Change, LineFault<EditsWhy>>
     ensures { Says (change_of line.now) result }
 {
     let mut words = Words::new(line);
@@ -44,7 +44,7 @@ pub(crate) fn read_change(alloc: Global, line: &[u8]) -> Result<Change, LineFaul
 }
 
 /// A flow that is listed, by the words behind `add`.
-fn read_add(alloc: Global, mut words: Words<'_>) -> Result<Change, LineFault>
+fn read_add(alloc: Global, mut words: Words<'_>) -> Result<Change, LineFault<EditsWhy>>
     ensures { Says (add_of words.entry) result }
 {
     let Some(from) = words.next_word() else {
@@ -61,7 +61,11 @@ fn read_add(alloc: Global, mut words: Words<'_>) -> Result<Change, LineFault>
 }
 
 /// Puts the words behind the texts.
-fn read_texts(alloc: Global, texts: &mut Vec<String>, mut words: Words<'_>) -> Result<(), LineFault>
+fn read_texts(
+    alloc: Global,
+    texts: &mut Vec<String>,
+    mut words: Words<'_>,
+) -> Result<(), LineFault<EditsWhy>>
     ensures { PutsTexts words.entry (map string_bytes texts.old.items) (map string_bytes texts.new.items) result }
 {
     while let Some(word) = words.next_word() {
@@ -71,7 +75,7 @@ fn read_texts(alloc: Global, texts: &mut Vec<String>, mut words: Words<'_>) -> R
 }
 
 /// A flow that is taken out, by the words behind `remove`.
-fn read_remove(alloc: Global, mut words: Words<'_>) -> Result<Change, LineFault>
+fn read_remove(alloc: Global, mut words: Words<'_>) -> Result<Change, LineFault<EditsWhy>>
     ensures { Says (remove_of words.entry) result }
 {
     let Some(from) = words.next_word() else {
@@ -89,7 +93,7 @@ fn read_remove(alloc: Global, mut words: Words<'_>) -> Result<Change, LineFault>
 }
 
 /// An assign, by the words behind `set` and the text behind the first of them.
-fn read_set(alloc: Global, mut words: Words<'_>, text: &[u8]) -> Result<Change, LineFault>
+fn read_set(alloc: Global, mut words: Words<'_>, text: &[u8]) -> Result<Change, LineFault<EditsWhy>>
     ensures { Says (set_of text.now words.entry) result }
 {
     let Some(number) = words.next_word() else {
@@ -105,7 +109,7 @@ fn read_set(alloc: Global, mut words: Words<'_>, text: &[u8]) -> Result<Change, 
 }
 
 /// What an invariant assigns to a host is taken out, by the words behind `unset`.
-fn read_unset(alloc: Global, mut words: Words<'_>) -> Result<Change, LineFault>
+fn read_unset(alloc: Global, mut words: Words<'_>) -> Result<Change, LineFault<EditsWhy>>
     ensures { Says (unset_of words.entry) result }
 {
     let Some(number) = words.next_word() else {
@@ -135,7 +139,7 @@ fn invariant_said(word: &[u8]) -> Option<u8>
 }
 
 /// A word as a text.
-fn read_text(alloc: Global, word: &[u8]) -> Result<String, LineFault>
+fn read_text(alloc: Global, word: &[u8]) -> Result<String, LineFault<EditsWhy>>
     ensures { SaysValue (text_of word.now) (result_map_both string_bytes (λ fault. fault) result) }
 {
     match str::from_utf8(word) {
@@ -145,8 +149,8 @@ fn read_text(alloc: Global, word: &[u8]) -> Result<String, LineFault>
 }
 
 /// The table of an assign, which a text says as a TOML value.
-#[tactic(auto, unfolding(crate::specs::ChangeLine::assign_of))]
-fn read_assign(alloc: Global, text: &[u8]) -> Result<Table, LineFault>
+#[tactic(auto, unfolding(crate::specs::ChangeSteps::assign_of))]
+fn read_assign(alloc: Global, text: &[u8]) -> Result<Table, LineFault<EditsWhy>>
     ensures { SaysValue (assign_of text.now) (result_map_both table_view (λ fault. fault) result) }
 {
     let Ok(text) = str::from_utf8(text) else {
@@ -163,7 +167,7 @@ fn read_assign(alloc: Global, text: &[u8]) -> Result<Table, LineFault>
 }
 
 /// The document `v = ` and a text.
-fn read_document(alloc: Global, text: &str) -> Result<Table, LineFault>
+fn read_document(alloc: Global, text: &str) -> Result<Table, LineFault<EditsWhy>>
     ensures { SaysValue (parse_document (codes "v = " ++ text.now)) (result_map_both table_view (λ fault. fault) result) }
 {
     let mut line = String::from_str(alloc, "v = ")?;
@@ -171,7 +175,7 @@ fn read_document(alloc: Global, text: &str) -> Result<Table, LineFault>
     match toml::table_from_str(alloc, line.as_str()) {
         Ok(document) => Ok(document),
         Err(error) => Err(if error.is_memory() {
-            LineFault::NoRoom
+            LineFault::Memory
         } else {
             LineFault::Bad(EditsWhy::BadValue)
         }),

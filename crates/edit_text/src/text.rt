@@ -1,20 +1,19 @@
 //! Reading the text of a list of edits: one line each, as `add web db`, `remove web db`,
 //! `set 1 { host = "web", level = 2 }` or `unset 1 web`.
 
-ghost use Rattle.std.specs.Prelude.{◌≡◌, ◌≤◌, ◌<◌, ◌+◌, ℕ, List, [], map, Ok, Err, IfOk, IfErr, OnOk, MatchResult, length};
-ghost use Rattle.text_core.specs.Lines.{lines};
-ghost use Rattle.text_core.specs.Reading.{after_line, line_by_line, past_comment};
+ghost use Rattle.std.specs.Prelude.{◌≡◌, ℕ, List, map, Ok, Err, IfOk, IfErr, OnOk, MatchResult};
+ghost use Rattle.text_core.specs.TextAnswers.{HasCause, HasReason, IsFault};
 ghost use Rattle.edit_text.specs.Edit.{Edit as Meant};
 ghost use Rattle.edit_text.specs.EditView.{change_view, edit_view};
-ghost use Rattle.edit_text.specs.EditsText.{IsReading, IsRefused, byte_limit, edit_step, with_change};
-ghost use Rattle.edit_text.specs.EditsAnswers.{HasCause, IsFault, Tells};
+ghost use Rattle.edit_text.specs.EditsText.{IsReading, IsRefused, edits_text};
+ghost use Rattle.edit_text.specs.ChangeSteps.{with_change};
 ghost use Rattle.edit_text.specs.declared.fault.EditsWhy.{EditsWhy};
 
 use crate::edit::{Change, Edit};
-use crate::fault::{EditsFault, EditsWhy, LineFault};
+use crate::fault::{EditsFault, EditsWhy};
 use crate::line::read_change;
 use std::alloc::Global;
-use text_core::{Lines, is_comment};
+use text_core::{LineFault, LineReader, TextFault, read_lines};
 
 /// The most bytes that a text of edits may have.
 pub const EDITS_BYTE_LIMIT: usize = 1_048_576;
@@ -26,63 +25,61 @@ pub fn read_edits(alloc: Global, bytes: &[u8]) -> Result<Vec<Edit>, EditsFault>
     ensures found { IfOk result (λ edits. IsReading bytes.now (map edit_view edits.items)) }
     // A text that tells edits is refused for want of memory alone.
     ensures only { (told : List Meant) → IsReading bytes.now told →
-        MatchResult result (λ edits. map edit_view edits.items ≡ told) (λ fault. fault ≡ EditsFault.Memory) }
-    ensures refused { IfErr result (HasCause bytes.now) }
+        MatchResult result (λ edits. map edit_view edits.items ≡ told) (λ fault. fault ≡ TextFault.Memory) }
+    ensures refused { IfErr result (HasCause edits_text bytes.now) }
     // A text has one first fault at most, and none where it tells edits.
     ensures faulty { (line : ℕ) (why : EditsWhy) → IsRefused bytes.now line why →
         MatchResult result (λ edits. ⊥) (IsFault line why) }
 {
-    if bytes.len() > EDITS_BYTE_LIMIT {
-        return Err(EditsFault::Refused {
-            line: 0,
-            why: EditsWhy::TooLong,
-        });
-    }
-    read_lines(alloc, bytes)
-}
-
-fn read_lines(alloc: Global, bytes: &[u8]) -> Result<Vec<Edit>, EditsFault>
-    requires { length bytes.now ≤ byte_limit }
-    ensures ok { IfOk result (λ edits. line_by_line edit_step 1 [] (lines bytes.now) ≡ Ok (map edit_view edits.items)) }
-    ensures err { IfErr result (Tells (line_by_line edit_step 1 [] (lines bytes.now))) }
-{
-    let mut lines = Lines::new(bytes);
-    let mut edits = Vec::new(alloc);
-    let mut line = 0;
-    while let Some(text) = lines.next_line() {
-        line += 1;
-        read_line(alloc, &mut edits, line, text)?;
-    }
-    Ok(edits)
-}
-
-/// One line more.
-fn read_line(alloc: Global, edits: &mut Vec<Edit>, line: u32, text: &[u8]) -> Result<(), EditsFault>
-    ensures ok { OnOk result (past_comment edit_step line (map edit_view edits.old.items) text.now ≡ Ok (map edit_view edits.new.items)) }
-    ensures err { IfErr result (Tells (after_line line (past_comment edit_step line (map edit_view edits.old.items) text.now) (λ t. Ok t))) }
-{
-    if is_comment(text) {
-        return Ok(());
-    }
-    match read_change(alloc, text) {
-        Ok(change) => add_edit(edits, line, change),
-        Err(LineFault::Bad(why)) => Err(EditsFault::Refused { line, why }),
-        Err(LineFault::NoRoom) => Err(EditsFault::Memory),
+    let start = EditReader {
+        alloc,
+        edits: Vec::new(alloc),
+    };
+    match read_lines(start, bytes) {
+        Ok(reader) => Ok(reader.edits),
+        Err(fault) => Err(fault),
     }
 }
 
-fn add_edit(edits: &mut Vec<Edit>, line: u32, change: Change) -> Result<(), EditsFault>
-    ensures ok { OnOk result (with_change line (map edit_view edits.old.items) (Ok (change_view change)) ≡ Ok (map edit_view edits.new.items)) }
-    ensures err { IfErr result (Tells (after_line line (with_change line (map edit_view edits.old.items) (Ok (change_view change))) (λ t. Ok t))) }
+/// The edits of the lines so far.
+#[derive(Drop)]
+struct EditReader {
+    alloc: Global,
+    edits: Vec<Edit>,
+}
+
+impl LineReader for EditReader {
+    type Why = EditsWhy;
+
+    ghost Said = { List Meant };
+
+    ghost text = { edits_text };
+
+    ghost said = { λ reader. map edit_view reader.edits.items };
+
+    ghost holds = { λ reader. Unit {0} };
+
+    fn limit(&self) -> (usize, EditsWhy) {
+        (EDITS_BYTE_LIMIT, EditsWhy::TooLong)
+    }
+
+    fn read_line(mut self, number: u32, line: &[u8]) -> Result<EditReader, LineFault<EditsWhy>> {
+        let change = read_change(self.alloc, line)?;
+        add_edit(&mut self.edits, number, change)?;
+        Ok(self)
+    }
+}
+
+/// Puts the edit on a line behind those before it.
+fn add_edit(edits: &mut Vec<Edit>, line: u32, change: Change) -> Result<(), LineFault<EditsWhy>>
+    ensures ok { OnOk result
+        (with_change line (map edit_view edits.old.items) (Ok (change_view change)) ≡ Ok (map edit_view edits.new.items)) }
+    ensures err { IfErr result
+        (HasReason (λ why. with_change line (map edit_view edits.old.items) (Ok (change_view change)) ≡ Err why)) }
 {
     if edits.len() >= EDIT_LIMIT {
-        return Err(EditsFault::Refused {
-            line,
-            why: EditsWhy::TooMany,
-        });
+        return Err(LineFault::Bad(EditsWhy::TooMany));
     }
-    match edits.push(Edit::on_line(line, change)) {
-        Ok(()) => Ok(()),
-        Err(_) => Err(EditsFault::Memory),
-    }
+    edits.push(Edit::on_line(line, change))?;
+    Ok(())
 }

@@ -1,13 +1,12 @@
 -- Worked rows: lines of events, as they are read.
-use Rattle.std.proofs.Common.{◌≡◌, [], ◌∷◌, ◌++◌, refl}
+use Rattle.std.proofs.Common.{◌≡◌, refl}
 use Rattle.std.specs.Prelude.{codes, Ok, Err}
 use Rattle.text_core.specs.Decimal.{number, bounded_value}
-use Rattle.text_core.specs.Lines.{words, lines, is_comment}
-use Rattle.text_core.specs.Reading.{line_by_line}
+use Rattle.text_core.specs.Lines.{words}
 use Rattle.host_net.specs.Prefix.{address_of}
 use Rattle.pkt_core.specs.declared.event.Event.TheVariants.{Seen, Forget}
 use Rattle.pkt_core.specs.declared.events.EventWhy.TheVariants.{BadLine, BadValue}
-use Rattle.pkt_core.specs.EventSteps.{event_of, event_by, packet_of, event_step}
+use Rattle.pkt_core.specs.EventSteps.{event_of, event_by, packet_of}
 
 -- a packet with a named protocol; ports stand as they are, also of `icmp`
 row_packet : event_of (words (codes "packet 8.8.8.8 10.1.0.10 icmp 3333 443")) ≡ Ok (Seen record { src = 134744072; dst = 167837706; proto = 1; sport = 3333; dport = 443 })
@@ -39,8 +38,3 @@ row_length = refl
 row_zero : event_of (words (codes "packet 0.0.0.1 0.0.0.2 06 1 2")) ≡ Err BadValue
 unfolding event_of event_by packet_of address_of number bounded_value
 row_zero = refl
-
--- lines count from 1, and comments count
-row_line : line_by_line event_step 1 [] (lines (codes "# a" ++ (10 ∷ (10 ∷ codes "packet")))) ≡ Err (3, BadLine)
-unfolding event_of is_comment
-row_line = refl

@@ -1,20 +1,22 @@
--- The first fault of a text of events, said in the format's words, is the one that the steps find.
+-- A line of events is bad, in the format's words, exactly where its step refuses it; so a text has one reading or one first fault.
 use Rattle.std.proofs.Common.{◌≡◌, ◌≢◌, ℕ, ◌≤◌, true, false, List, [], ◌∷◌, Option, Some, None, ◌⊎◌, inl, inr, refl, sym, ap, ◌∙◌, arith, length, subst}
 use Rattle.std.specs.Prelude.{codes, Result, Ok, Err, bytes_eq, nat_lt}
 use Rattle.std.specs.Option.{option_map, ok_or}
 use Rattle.std.proofs.lemmas.Bool.Decides.{nat_tests}
-use Rattle.text_core.specs.Lines.{lines, words, is_comment}
-use Rattle.text_core.specs.Reading.{line_by_line, past_comment, IsFirstFault}
-use Rattle.text_core.specs.ReadingLaws.{follows_what_is_read, reads_what_follows, first_fault_is_told}
+use Rattle.text_core.specs.Lines.{words}
+use Rattle.text_core.specs.TextAnswers.{HasReason}
+use Rattle.text_core.specs.declared.faults.LineFault.{LineFault}
+use Rattle.text_core.specs.declared.faults.LineFault.TheVariants.{Bad, Memory as NoMemory}
+use Rattle.text_core.specs.TextByLinesLaws.{EndsAnywhere, IsSettled, IsStep, IsTotal, settled_by_step, total_by_step}
 use Rattle.text_core.specs.StepsLaws.{if_parts, bytes_same}
 use Rattle.host_net.specs.declared.packet.Packet.{Packet}
 use Rattle.pkt_core.specs.declared.event.Event.{Event}
 use Rattle.pkt_core.specs.declared.event.Event.TheVariants.{Seen, Forget}
 use Rattle.pkt_core.specs.declared.events.EventWhy.{EventWhy}
 use Rattle.pkt_core.specs.declared.events.EventWhy.TheVariants.{BadLine, BadValue, TooMany}
-use Rattle.pkt_core.specs.EventsText.{TellsEvent, AddsEvent, IsReading, IsVerbAndFive, IsBad, bad_line, bad_value, too_many, IsFirstBad, IsRefused, too_long, at_line}
+use Rattle.pkt_core.specs.EventsText.{TellsEvent, IsVerbAndFive, IsBad, bad_line, bad_value, too_many, events_text}
 use Rattle.pkt_core.specs.EventSteps.{packet_of, event_by, event_of, with_event, event_step}
-use Rattle.pkt_core.specs.EventsTextLaws.{event_told, told_event, step_adds, adds_step, reading_is}
+use Rattle.pkt_core.specs.EventsTextLaws.{event_told, told_event, step_adds, adds_step}
 
 -- 1. Why words tell no event.
 
@@ -125,69 +127,28 @@ bad_step before ws why (bad_line other) = line_refused before ws (event_of ws) r
 bad_step before ws why (bad_value form none) = value_refused before ws (event_of ws) refl form none
 bad_step before ws why (too_many e told full) = ap (with_event before) (told_event ws e told) ∙ full_step before e full
 
--- 3. The first line that is bad is the first that the steps refuse.
+-- 3. The steps are those of the text.
 
-is_no_comment : (n : ℕ) (es : List Event) (l : List ℕ) (why : EventWhy) → past_comment event_step n es l ≡ Err why
-    → (is_comment l ≡ false) × (event_step n es l ≡ Err why)
-is_no_comment n es l why fails = elim (if_parts (is_comment l) (Ok es) (event_step n es l) (Err why) fails) [
-  | inl comment ↦ let wrong = comment.1 in cc
-  | inr line ↦ line
-]
+pub events_step : IsStep events_text event_step
+events_step = record {
+  reads = λ n es now line h. step_adds n es now line h;
+  read = λ n es now line adds. adds_step n es now line adds;
+  refuses = λ n es line why h. bad_by es (words line) why (event_of (words line)) refl h;
+  refused = λ n es line why bad. bad_step es (words line) why bad;
+}
 
-pub first_bad : (ls : List (List ℕ)) (line : ℕ) (why : EventWhy) → IsFirstFault event_step 1 [] ls line why → IsFirstBad ls line why
-first_bad ls line why fault =
-    let last = is_no_comment line fault.state fault.here why fault.fails in
-    record {
-      front = fault.before;
-      here = fault.here;
-      behind = fault.behind;
-      before = fault.state;
-      parts = fault.parts;
-      read_before = follows_what_is_read event_step AddsEvent step_adds 1 [] fault.state fault.before fault.read_before;
-      number = fault.number;
-      is_event = last.0;
-      bad = bad_by fault.state (words fault.here) why (event_of (words fault.here)) refl last.1;
-    }
+ends : EndsAnywhere events_text
+ends = record { ends = λ es. tt; never_badly = λ n es line why none. none }
 
-pub bad_first : (ls : List (List ℕ)) (line : ℕ) (why : EventWhy) → IsFirstBad ls line why → IsFirstFault event_step 1 [] ls line why
-bad_first ls line why first =
-    let line_here : is_comment first.here ≡ false = first.is_event in
-    let refused : event_step line first.before first.here ≡ Err why = bad_step first.before (words first.here) why first.bad in
-    record {
-      before = first.front;
-      here = first.here;
-      behind = first.behind;
-      state = first.before;
-      parts = first.parts;
-      read_before = reads_what_follows event_step AddsEvent adds_step 1 [] first.before first.front first.read_before;
-      number = first.number;
-      fails = rw line_here refused;
-    }
+-- a text has one reading or one first fault
+pub events_settled : IsSettled events_text
+events_settled = settled_by_step events_text event_step events_step ends
 
-pub fault_told : (bytes : List ℕ) (line : ℕ) (why : EventWhy) → length bytes ≤ 16777216 → IsRefused bytes line why
-    → line_by_line event_step 1 [] (lines bytes) ≡ Err (line, why)
-fault_told bytes line why short (too_long long) = absurd (omega (arith, long, short))
-fault_told bytes line why short (at_line fits first) =
-    first_fault_is_told event_step 1 [] (lines bytes) line why (bad_first (lines bytes) line why first)
+pub events_total : IsTotal events_text
+events_total = total_by_step events_text event_step events_step ends
 
--- a text has one first fault at most, and none where it tells events; and it tells its events once
-same_pair : (l m : ℕ) (w v : EventWhy) → ◌≡◌ {A = Result (List Event) (ℕ × EventWhy)} (Err (l, w)) (Err (m, v)) → (l ≡ m) × (w ≡ v)
-same_pair l m w v e = let f : ◌≡◌ {A = ℕ × EventWhy} (l, w) (m, v) = cc in (λ i. (f i).0, λ i. (f i).1)
-
-pub one_fault : (bytes : List ℕ) (l m : ℕ) (w v : EventWhy) → IsRefused bytes l w → IsRefused bytes m v → (l ≡ m) × (w ≡ v)
-one_fault bytes l m w v (too_long long) (too_long other) = (refl, refl)
-one_fault bytes l m w v (too_long long) (at_line short first) = absurd (omega (arith, long, short))
-one_fault bytes l m w v (at_line short first) (too_long long) = absurd (omega (arith, long, short))
-one_fault bytes l m w v (at_line short first) (at_line fits other) =
-    same_pair l m w v (sym (fault_told bytes l w short (at_line short first)) ∙ fault_told bytes m v fits (at_line fits other))
-
-pub no_reading_with_fault : (bytes : List ℕ) (events : List Event) (line : ℕ) (why : EventWhy) → IsRefused bytes line why
-    → IsReading bytes events → ⊥
-no_reading_with_fault bytes events line why fault reading =
-    let read : line_by_line event_step 1 [] (lines bytes) ≡ Ok events = reading_is bytes events reading in
-    let said : line_by_line event_step 1 [] (lines bytes) ≡ Err (line, why) = fault_told bytes line why reading.short fault in
-    cc (read, said)
-
-pub one_reading : (bytes : List ℕ) (es fs : List Event) → IsReading bytes es → IsReading bytes fs → es ≡ fs
-one_reading bytes es fs p q =
-    let ok : ◌≡◌ {A = Result (List Event) (ℕ × EventWhy)} (Ok es) (Ok fs) = sym (reading_is bytes es p) ∙ reading_is bytes fs q in cc
+-- a reason of the step is one of the text
+pub has_reason : (n : ℕ) (es : List Event) (line : List ℕ) (fault : LineFault EventWhy)
+    → HasReason (λ why. with_event es (event_of (words line)) ≡ Err why) fault → HasReason (events_text.IsBadLine n es line) fault
+has_reason n es line (Bad why) refused = events_step.refuses n es line why refused
+has_reason n es line NoMemory refused = tt

@@ -1,7 +1,7 @@
 -- The text of a list of events: one line each, a verb and five words of a packet.
-use Rattle.std.specs.Prelude.{◌≡◌, ℕ, ◌+◌, ◌<◌, ◌^◌, ◌≤◌, IsFalse, List, [], ◌∷◌, ◌++◌, length, ◌⊎◌, codes, decimal}
-use Rattle.text_core.specs.Lines.{lines, words, is_comment}
-use Rattle.text_core.specs.Reading.{Follows}
+use Rattle.std.specs.Prelude.{◌≡◌, ℕ, ◌<◌, ◌^◌, ◌≤◌, List, [], ◌∷◌, ◌++◌, length, ◌⊎◌, codes, decimal}
+use Rattle.text_core.specs.Lines.{words}
+use Rattle.text_core.specs.TextByLines.{TextByLines, HasFault, IsReading as IsReadingOf}
 use Rattle.host_net.specs.declared.packet.Packet.{Packet}
 use Rattle.host_net.specs.Prefix.{address_text}
 use Rattle.pkt_core.specs.declared.event.Event.{Event}
@@ -35,12 +35,7 @@ pub record AddsEvent (n : ℕ) (before : List Event) (line : List ℕ) (now : Li
   pub added : now ≡ before ++ event ∷ []
   pub few : length before < 1000000
 
--- the reading of a text: its events, line by line
-pub record IsReading (bytes : List ℕ) (events : List Event) : Type 0 where
-  pub short : length bytes ≤ 16777216
-  pub told : Follows AddsEvent 1 [] (lines bytes) events
-
--- B. The first fault.
+-- B. Why a line tells none.
 
 -- a verb and five words more
 pub record IsVerbAndFive (ws : List (List ℕ)) : Type 0 where
@@ -57,19 +52,22 @@ pub data IsBad (before : List Event) (ws : List (List ℕ)) : EventWhy → Type 
   bad_value : IsVerbAndFive ws → ((event : Event) → TellsEvent ws event → ⊥) → IsBad before ws BadValue
   too_many : (event : Event) → TellsEvent ws event → 1000000 ≤ length before → IsBad before ws TooMany
 
--- line `line` is the first that is bad: each line before it is a comment or adds its event
-pub record IsFirstBad (ls : List (List ℕ)) (line : ℕ) (why : EventWhy) : Type 0 where
-  pub front : List (List ℕ)
-  pub here : List ℕ
-  pub behind : List (List ℕ)
-  pub before : List Event
-  pub parts : ls ≡ front ++ here ∷ behind
-  pub read_before : Follows AddsEvent 1 [] front before
-  pub number : line ≡ 1 + length front
-  pub is_event : IsFalse (is_comment here)
-  pub bad : IsBad before (words here) why
+-- C. The text: its lines are events, and it may end behind each of them.
 
--- a text is refused: it is too long, else at its first line that is bad
-pub data IsRefused (bytes : List ℕ) : ℕ → EventWhy → Type 0 where
-  too_long : 16777216 < length bytes → IsRefused bytes 0 TooLong
-  at_line : {line : ℕ} {why : EventWhy} → length bytes ≤ 16777216 → IsFirstBad (lines bytes) line why → IsRefused bytes line why
+abbrev pub events_text : TextByLines (List Event) EventWhy
+events_text = record {
+  byte_limit = 16777216;
+  when_longer = TooLong;
+  start = [];
+  IsLine = AddsEvent;
+  IsBadLine = λ n before line why. IsBad before (words line) why;
+  MayEnd = λ events. Unit {0};
+  EndsBadly = λ n events line why. ⊥;
+}
+
+-- the reading of a text, and its first fault
+abbrev pub IsReading : List ℕ → List Event → Type 0
+IsReading bytes events = IsReadingOf events_text bytes events
+
+abbrev pub IsRefused : List ℕ → ℕ → EventWhy → Type 0
+IsRefused bytes line why = HasFault events_text bytes line why

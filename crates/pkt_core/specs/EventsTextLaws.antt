@@ -1,14 +1,12 @@
 -- Laws of the texts of events: a line is read as an event exactly where it tells it.
-use Rattle.std.proofs.Common.{◌≡◌, ℕ, ◌<◌, ◌≤◌, ◌^◌, false, List, [], ◌∷◌, ◌++◌, Some, ◌⊎◌, inl, inr, refl, sym, ap, ◌∙◌, arith, length, subst}
+use Rattle.std.proofs.Common.{◌≡◌, ℕ, ◌<◌, ◌^◌, false, List, [], ◌∷◌, ◌++◌, Some, ◌⊎◌, inl, inr, refl, sym, ap, ◌∙◌, arith, length, subst}
 use Rattle.std.specs.Prelude.{codes, decimal, Result, Ok, Err, bytes_eq, nat_lt}
 use Rattle.std.specs.Option.{option_map}
 use Rattle.std.specs.Str.{all_ascii_digits}
 use Rattle.std.proofs.lemmas.Bool.Decides.{nat_tests}
 use Rattle.text_core.specs.Decimal.{number}
 use Rattle.text_core.specs.DecimalLaws.{number-decimal, decimal_of_number, decimal_digits}
-use Rattle.text_core.specs.Lines.{lines, words}
-use Rattle.text_core.specs.Reading.{line_by_line}
-use Rattle.text_core.specs.ReadingLaws.{follows_what_is_read, reads_what_follows}
+use Rattle.text_core.specs.Lines.{words}
 use Rattle.text_core.specs.StepsLaws.{bind_some, if_parts, ok_or_parts, map_parts, bytes_same, bytes_apart}
 use Rattle.host_net.specs.declared.packet.Packet.{Packet}
 use Rattle.host_net.specs.Prefix.{address_of, address_text}
@@ -17,7 +15,7 @@ use Rattle.pkt_core.specs.declared.event.Event.{Event}
 use Rattle.pkt_core.specs.declared.event.Event.TheVariants.{Seen, Forget}
 use Rattle.pkt_core.specs.declared.events.EventWhy.{EventWhy}
 use Rattle.pkt_core.specs.declared.events.EventWhy.TheVariants.{BadValue, TooMany}
-use Rattle.pkt_core.specs.EventsText.{IsProtocolName, TellsPacket, TellsEvent, AddsEvent, IsReading}
+use Rattle.pkt_core.specs.EventsText.{IsProtocolName, TellsPacket, TellsEvent, AddsEvent}
 use Rattle.pkt_core.specs.EventSteps.{protocol_of, packet_of, event_by, event_of, with_event, event_step}
 
 -- the word of a protocol
@@ -141,11 +139,3 @@ pub adds_step : (n : ℕ) (es now : List Event) (line : List ℕ) → AddsEvent 
 adds_step n es now line adds =
     let room : nat_lt 999999 (length es) ≡ false = small (length es) adds.few in
     rw (told_event (words line) adds.event adds.told, room) (ap (λ xs. Ok xs) (sym adds.added))
-
--- a text is read as these events exactly where they are its reading
-pub is_reading : (bytes : List ℕ) (es : List Event) → length bytes ≤ 16777216 → line_by_line event_step 1 [] (lines bytes) ≡ Ok es
-    → IsReading bytes es
-is_reading bytes es short read = record { short = short; told = follows_what_is_read event_step AddsEvent step_adds 1 [] es (lines bytes) read }
-
-pub reading_is : (bytes : List ℕ) (es : List Event) → IsReading bytes es → line_by_line event_step 1 [] (lines bytes) ≡ Ok es
-reading_is bytes es reading = reads_what_follows event_step AddsEvent adds_step 1 [] es (lines bytes) reading.told

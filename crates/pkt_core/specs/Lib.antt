@@ -3,7 +3,6 @@ pub mod EventFaultLaws
 pub mod EventLaws
 pub mod Events
 pub mod EventSteps
-pub mod EventsAnswers
 pub mod EventsText
 pub mod EventsTextLaws
 pub mod Expected

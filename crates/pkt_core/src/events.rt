@@ -1,20 +1,19 @@
 //! Reading the text of a list of events: one line each, as
 //! `packet 10.0.0.1 10.0.0.2 tcp 1024 80` or `forget` with the same five words.
 
-ghost use Rattle.std.specs.Prelude.{◌≡◌, ◌≤◌, ◌<◌, ◌^◌, ◌+◌, ◌∷◌, [], ◌++◌, ℕ, List, Ok, Err, Some, IfOk, IfErr, OnOk, MatchResult, length};
-ghost use Rattle.text_core.specs.Lines.{lines, words};
-ghost use Rattle.text_core.specs.Reading.{after_line, line_by_line, past_comment};
+ghost use Rattle.std.specs.Prelude.{◌≡◌, ℕ, List, Ok, Err, IfOk, IfErr, OnOk, MatchResult};
+ghost use Rattle.text_core.specs.Lines.{words};
+ghost use Rattle.text_core.specs.TextAnswers.{HasCause, HasReason, IsFault};
 ghost use Rattle.pkt_core.specs.declared.event.Event.{Event};
 ghost use Rattle.pkt_core.specs.declared.events.EventWhy.{EventWhy};
-ghost use Rattle.pkt_core.specs.EventsText.{IsReading, IsRefused};
-ghost use Rattle.pkt_core.specs.EventSteps.{event_step, with_event, event_of, event_by, packet_of, protocol_of};
-ghost use Rattle.pkt_core.specs.EventsAnswers.{HasCause, IsFault, Tells};
+ghost use Rattle.pkt_core.specs.EventsText.{IsReading, IsRefused, events_text};
+ghost use Rattle.pkt_core.specs.EventSteps.{with_event, event_of, event_by, packet_of, protocol_of};
 ghost use Rattle.pkt_core.specs.Filter.{ArePackets};
 
 use crate::event::Event;
 use host_net::{Packet, read_address};
 use std::alloc::Global;
-use text_core::{Lines, Words, is_comment, read_number};
+use text_core::{LineFault, LineReader, TextFault, Words, read_lines, read_number};
 use thiserror::Error;
 
 /// The most bytes that a text of events may have.
@@ -40,78 +39,71 @@ pub enum EventWhy {
 }
 
 /// The first line that tells no event, from 1, and why; line 0 stands for the whole text.
-#[derive(Clone, Copy, Debug, PartialEq, Eq, Error)]
-pub enum EventFault {
-    #[error("line {line}: {why}")]
-    Refused { line: u32, why: EventWhy },
-    #[error("out of memory")]
-    Memory,
-}
+pub type EventFault = TextFault<EventWhy>;
 
 /// The events that a text tells.
 pub fn read_events(alloc: Global, bytes: &[u8]) -> Result<Vec<Event>, EventFault>
     ensures found { IfOk result (λ events. IsReading bytes.now events.items) }
     // A text that tells events is refused for want of memory alone.
     ensures only { (told : List Event) → IsReading bytes.now told →
-        MatchResult result (λ events. events.items ≡ told) (λ fault. fault ≡ EventFault.Memory) }
-    ensures refused { IfErr result (HasCause bytes.now) }
+        MatchResult result (λ events. events.items ≡ told) (λ fault. fault ≡ TextFault.Memory) }
+    ensures refused { IfErr result (HasCause events_text bytes.now) }
     // A text has one first fault at most, and none where it tells events.
     ensures faulty { (line : ℕ) (why : EventWhy) → IsRefused bytes.now line why →
         MatchResult result (λ events. ⊥) (IsFault line why) }
     ensures packets { IfOk result (λ events. ArePackets events.items) }
 {
-    if bytes.len() > EVENTS_BYTE_LIMIT {
-        return Err(EventFault::Refused {
-            line: 0,
-            why: EventWhy::TooLong,
-        });
-    }
-    read_lines(alloc, bytes)
-}
-
-fn read_lines(alloc: Global, bytes: &[u8]) -> Result<Vec<Event>, EventFault>
-    requires { length bytes.now ≤ 16777216 }
-    ensures ok { IfOk result (λ events. line_by_line event_step 1 [] (lines bytes.now) ≡ Ok events.items) }
-    ensures err { IfErr result (Tells (line_by_line event_step 1 [] (lines bytes.now))) }
-{
-    let mut lines = Lines::new(bytes);
-    let mut events = Vec::new(alloc);
-    let mut line = 0;
-    while let Some(text) = lines.next_line() {
-        line += 1;
-        read_line(&mut events, line, text)?;
-    }
-    Ok(events)
-}
-
-/// One line more.
-fn read_line(events: &mut Vec<Event>, line: u32, text: &[u8]) -> Result<(), EventFault>
-    ensures ok { OnOk result (past_comment event_step line events.old.items text.now ≡ Ok events.new.items) }
-    ensures err { IfErr result (Tells (after_line line (past_comment event_step line events.old.items text.now) (λ t. Ok t))) }
-{
-    if is_comment(text) {
-        return Ok(());
-    }
-    match read_event(text) {
-        Ok(event) => add_event(events, line, event),
-        Err(why) => Err(EventFault::Refused { line, why }),
+    let start = EventReader {
+        events: Vec::new(alloc),
+    };
+    match read_lines(start, bytes) {
+        Ok(reader) => Ok(reader.events),
+        Err(fault) => Err(fault),
     }
 }
 
-fn add_event(events: &mut Vec<Event>, line: u32, event: Event) -> Result<(), EventFault>
-    ensures ok { OnOk result (with_event events.old.items (Ok event) ≡ Ok events.new.items) }
-    ensures err { IfErr result (Tells (after_line line (with_event events.old.items (Ok event)) (λ t. Ok t))) }
+/// The events of the lines so far.
+#[derive(Drop)]
+struct EventReader {
+    events: Vec<Event>,
+}
+
+impl LineReader for EventReader {
+    type Why = EventWhy;
+
+    ghost Said = { List Event };
+
+    ghost text = { events_text };
+
+    ghost said = { λ reader. reader.events.items };
+
+    ghost holds = { λ reader. Unit {0} };
+
+    fn limit(&self) -> (usize, EventWhy) {
+        (EVENTS_BYTE_LIMIT, EventWhy::TooLong)
+    }
+
+    fn read_line(mut self, _number: u32, line: &[u8]) -> Result<EventReader, LineFault<EventWhy>> {
+        add_event(&mut self.events, line)?;
+        Ok(self)
+    }
+}
+
+/// Puts the event of a line behind those before it.
+fn add_event(events: &mut Vec<Event>, line: &[u8]) -> Result<(), LineFault<EventWhy>>
+    ensures ok { OnOk result (with_event events.old.items (event_of (words line.now)) ≡ Ok events.new.items) }
+    ensures err { IfErr result
+        (HasReason (λ why. with_event events.old.items (event_of (words line.now)) ≡ Err why)) }
 {
+    let event = match read_event(line) {
+        Ok(event) => event,
+        Err(why) => return Err(LineFault::Bad(why)),
+    };
     if events.len() >= EVENT_LIMIT {
-        return Err(EventFault::Refused {
-            line,
-            why: EventWhy::TooMany,
-        });
+        return Err(LineFault::Bad(EventWhy::TooMany));
     }
-    match events.push(event) {
-        Ok(()) => Ok(()),
-        Err(_) => Err(EventFault::Memory),
-    }
+    events.push(event)?;
+    Ok(())
 }
 
 #[tactic(auto, unfolding(crate::specs::EventSteps::event_of))]

@@ -3,3 +3,4 @@ pub mod DecimalLemmas
 pub mod PiecesLemmas
 pub mod FirstsLemmas
 pub mod LinesRows
+pub mod SoFar

@@ -19,3 +19,6 @@ pub mod ReadingLaws
 pub mod SpacedLaws
 pub mod Steps
 pub mod StepsLaws
+pub mod TextAnswers
+pub mod TextByLines
+pub mod TextByLinesLaws

@@ -4,6 +4,7 @@
 #![tactic(auto)]
 
 mod decimals;
+mod faults;
 mod firsts;
 mod line;
 mod lines;
@@ -12,11 +13,14 @@ mod padding;
 mod pieces;
 #[cfg(test)]
 mod tests;
+mod texts;
 
 pub use decimals::read_number;
+pub use faults::{LineFault, TextFault};
 pub use firsts::{Numbered, Pair, first_pair};
 pub use line::{put, put_number};
 pub use lines::{Lines, Words, begins_with, is_comment};
 pub use names::is_name;
 pub use padding::padded;
 pub use pieces::split_once;
+pub use texts::{LineReader, read_lines};

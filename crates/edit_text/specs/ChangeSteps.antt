@@ -1,5 +1,5 @@
--- The change that a line tells, or why it tells none: another first word or another number of words goes before every value.
-use Rattle.std.specs.Prelude.{ℕ, ◌==◌, ◌++◌, if◌then◌else◌, List, [], ◌∷◌, Option, Some, None, Result, Ok, Err, codes, is_some, bytes_eq}
+-- A line of edits as the reader goes through it, step by step. Callers see none of it; they have the grammar and the reasons.
+use Rattle.std.specs.Prelude.{ℕ, ◌==◌, ◌++◌, nat_lt, if◌then◌else◌, List, [], ◌∷◌, Option, Some, None, Result, Ok, Err, codes, is_some, bytes_eq, length}
 use Rattle.std.specs.List.{list_all}
 use Rattle.std.specs.Option.{option_map, ok_or}
 use Rattle.std.specs.Str.{is_utf8}
@@ -11,9 +11,9 @@ use Rattle.table_core.specs.Tables.{text_at}
 use Rattle.toml.specs.Data.{Members, as_table, get_member}
 use Rattle.toml.specs.Parse.{parse_document}
 use Rattle.edit_text.specs.Behind.{behind_word}
-use Rattle.edit_text.specs.Edit.{Change, Add, Remove, Set, Unset}
+use Rattle.edit_text.specs.Edit.{Change, Add, Remove, Set, Unset, Edit}
 use Rattle.edit_text.specs.declared.fault.EditsWhy.{EditsWhy}
-use Rattle.edit_text.specs.declared.fault.EditsWhy.TheVariants.{BadLine, BadValue}
+use Rattle.edit_text.specs.declared.fault.EditsWhy.TheVariants.{BadLine, BadValue, TooMany}
 
 -- words that are UTF-8
 abbrev pub texts_of : List (List ℕ) → Option (List (List ℕ))
@@ -80,3 +80,11 @@ change_of_words (verb ∷ rest) text = change_by verb rest text
 
 unfoldable pub change_of : List ℕ → Result Change EditsWhy
 change_of line = change_of_words (words line) (behind_word (behind_word line))
+
+-- the edits with one more, of 10,000 at most
+abbrev pub with_change : ℕ → List Edit → Result Change EditsWhy → Result (List Edit) EditsWhy
+with_change n edits (Ok change) = if nat_lt 9999 (length edits) then Err TooMany else Ok (edits ++ record { line = n; change = change } ∷ [])
+with_change n edits (Err why) = Err why
+
+abbrev pub edit_step : ℕ → List Edit → List ℕ → Result (List Edit) EditsWhy
+edit_step n edits line = with_change n edits (change_of line)
