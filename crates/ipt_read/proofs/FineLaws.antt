@@ -1,8 +1,6 @@
 -- What holds between two lines holds after each line.
-use Rattle.text_core.specs.Lines.{is_comment}
-use Rattle.text_core.specs.Reading.{past_comment}
-use Rattle.text_core.specs.StepsLaws.{if_parts}
-use Rattle.std.proofs.Common.{◌≡◌, ℕ, ◌∙◌, sym, refl, subst, inl, inr, List, [], ◌∷◌, ◌++◌, None, length, arith, length-append, length-set}
+use Rattle.text_core.specs.Lines.{words}
+use Rattle.std.proofs.Common.{◌≡◌, ℕ, ◌∙◌, sym, refl, subst, List, [], ◌∷◌, ◌++◌, None, length, arith, length-append, length-set}
 use Rattle.std.specs.Prelude.{Ok}
 use Rattle.ipt_rules.specs.Chain.{with_policy, with_rule, user_chain}
 use Rattle.ipt_rules.specs.ChainLaws.{length_with_policy, length_with_rule, rule_count_with_rule, rule_count_with_policy, length_added, rule_count_added}
@@ -48,13 +46,7 @@ fine_behind n s t ws (rule {c = c} {r = r} stage line few) fine =
     }
 
 pub fine_kept : (n : ℕ) (s t : SaidSoFar) (l : List ℕ) → IsFine s → line_step n s l ≡ Ok t → IsFine t
-fine_kept n s t l fine read = fine_behind n s t _ (line_of_read n s t l read) fine
-
-pub fine_past_comment : (n : ℕ) (s t : SaidSoFar) (l : List ℕ) → IsFine s → past_comment line_step n s l ≡ Ok t → IsFine t
-fine_past_comment n s t l fine read = elim (if_parts (is_comment l) (Ok s) (line_step n s l) (Ok t) read) [
-  | inl comment ↦ let e : s ≡ t = cc in subst IsFine e fine
-  | inr line ↦ fine_kept n s t l fine line.1
-]
+fine_kept n s t l fine read = fine_behind n s t (words l) (line_of_read n s t l read) fine
 
 -- chains that were read are refused for a loop or for want of memory alone
 pub fine_not_refused : (s : SaidSoFar) → IsFine s → refusal_of s.chains ≡ None

@@ -1,5 +1,5 @@
 -- Worked rows: rule lines as they are read, and why they are not.
-use Rattle.std.proofs.Common.{◌≡◌, true, false, List, [], ◌∷◌, ◌++◌, ℕ, Some, None, refl}
+use Rattle.std.proofs.Common.{◌≡◌, true, false, List, [], ◌∷◌, ◌++◌, ℕ, Some, None, map, refl}
 use Rattle.std.specs.Prelude.{codes, Result, Ok, Err}
 use Rattle.text_core.specs.Decimal.{number, bounded_value}
 use Rattle.text_core.specs.Lines.{words}
@@ -21,169 +21,55 @@ chains = built_in_chains ++ (user_chain (codes "x") ∷ [])
 abbrev pub row : List ℕ → Result (ℕ × Rule) IptWhy
 row line = rule_line_of chains (words line)
 
-row_chain_missing : row (codes "-A") ≡ Err BadLine
-unfolding rule_line_of is_count word_step is_bang option_of with_value text_of is_state states_of target_of with_module prefix_of address_of number bounded_value
-row_chain_missing = refl
+-- rule lines that are refused, and why
+abbrev refused_rows : List (List ℕ × IptWhy)
+refused_rows =
+    (codes "-A", BadLine)
+    ∷ (codes "[0:0 -A FORWARD", BadLine)
+    ∷ (codes "[0:0] COMMIT", BadLine)
+    ∷ (codes "[0:123456789012345678901] -A FORWARD", BadLine)
+    ∷ (codes "-A nowhere -i x", UnknownChain)
+    ∷ (codes "-A FORWARD -i eth0 -j ACCEPT", Interface)
+    ∷ (codes "-A FORWARD ! -i eth0", Interface)
+    ∷ (codes "-A FORWARD -j DROP -i eth0", UnknownOption)
+    ∷ (codes "-A FORWARD !", BadLine)
+    ∷ (codes "-A FORWARD ! -m conntrack", BadLine)
+    ∷ (codes "-A FORWARD ! -m bogus", BadLine)
+    ∷ (codes "-A FORWARD ! -j ACCEPT", BadLine)
+    ∷ (codes "-A FORWARD -m comment ! --comment a", BadLine)
+    ∷ (codes "-A FORWARD ! --comment a", UnknownOption)
+    ∷ (codes "-A FORWARD ! --reject-with a", UnknownOption)
+    ∷ (codes "-A FORWARD ! x", UnknownOption)
+    ∷ (codes "-A FORWARD ! -s", BadValue)
+    ∷ (codes "-A FORWARD -j DROP !", UnknownOption)
+    ∷ (codes "-A FORWARD ! !", UnknownOption)
+    ∷ (codes "-A FORWARD ! ! -s 10.0.0.1", UnknownOption)
+    ∷ (codes "-A FORWARD -s 10.0.0.1 -s x", BadLine)
+    ∷ (codes "-A FORWARD -s 10.0.0.1/33", BadValue)
+    ∷ (codes "-A FORWARD -s", BadValue)
+    ∷ (codes "-A FORWARD -m conntrack --ctstate NEW --state NEW", UnknownOption)
+    ∷ (codes "-A FORWARD -m conntrack -m state --ctstate NEW --state x", BadLine)
+    ∷ (codes "-A FORWARD -m state --state NEW,", BadValue)
+    ∷ (codes "-A FORWARD -m state --state new", BadValue)
+    ∷ (codes "-A FORWARD -m tcp", UnknownOption)
+    ∷ (codes "-A FORWARD -m", BadValue)
+    ∷ (codes "-A FORWARD -j INPUT", UnknownTarget)
+    ∷ (codes "-A FORWARD -j QUEUE", UnknownTarget)
+    ∷ (codes "-A FORWARD -j \"ACCEPT\"", UnknownTarget)
+    ∷ (codes "-A FORWARD -j ACCEPT -j DROP", UnknownOption)
+    ∷ (codes "-A FORWARD -j REJECT --reject-with \"a b\"", UnknownOption)
+    ∷ (codes "-A FORWARD -j DROP --reject-with a", UnknownOption)
+    ∷ (codes "-A FORWARD -m comment --comment \"a b", BadValue)
+    ∷ (codes "-A FORWARD -m comment --comment \"a\"b c", BadValue)
+    ∷ (codes "-A FORWARD -m comment --comment \"a\\\"", BadValue)
+    ∷ (codes "-A FORWARD -m comment --comment \"a\\ \" -i", Interface)
+    ∷ (codes "-A FORWARD -m comment --comment \"a \" x", UnknownOption)
+    ∷ (codes "-A FORWARD -j LOG --log-prefix a --log-level 4 -s", UnknownOption)
+    ∷ []
 
-row_count_wrong : row (codes "[0:0 -A FORWARD") ≡ Err BadLine
-unfolding rule_line_of is_count word_step is_bang option_of with_value text_of is_state states_of target_of with_module prefix_of address_of number bounded_value
-row_count_wrong = refl
-
-row_count_behind : row (codes "[0:0] COMMIT") ≡ Err BadLine
-unfolding rule_line_of is_count word_step is_bang option_of with_value text_of is_state states_of target_of with_module prefix_of address_of number bounded_value
-row_count_behind = refl
-
-row_count_far : row (codes "[0:123456789012345678901] -A FORWARD") ≡ Err BadLine
-unfolding rule_line_of is_count word_step is_bang option_of with_value text_of is_state states_of target_of with_module prefix_of address_of number bounded_value
-row_count_far = refl
-
-row_chain_unknown : row (codes "-A nowhere -i x") ≡ Err UnknownChain
-unfolding rule_line_of is_count word_step is_bang option_of with_value text_of is_state states_of target_of with_module prefix_of address_of number bounded_value
-row_chain_unknown = refl
-
-row_interface : row (codes "-A FORWARD -i eth0 -j ACCEPT") ≡ Err Interface
-unfolding rule_line_of is_count word_step is_bang option_of with_value text_of is_state states_of target_of with_module prefix_of address_of number bounded_value
-row_interface = refl
-
-row_interface_bang : row (codes "-A FORWARD ! -i eth0") ≡ Err Interface
-unfolding rule_line_of is_count word_step is_bang option_of with_value text_of is_state states_of target_of with_module prefix_of address_of number bounded_value
-row_interface_bang = refl
-
-row_interface_behind : row (codes "-A FORWARD -j DROP -i eth0") ≡ Err UnknownOption
-unfolding rule_line_of is_count word_step is_bang option_of with_value text_of is_state states_of target_of with_module prefix_of address_of number bounded_value
-row_interface_behind = refl
-
-row_bang_last : row (codes "-A FORWARD !") ≡ Err BadLine
-unfolding rule_line_of is_count word_step is_bang option_of with_value text_of is_state states_of target_of with_module prefix_of address_of number bounded_value
-row_bang_last = refl
-
-row_bang_module : row (codes "-A FORWARD ! -m conntrack") ≡ Err BadLine
-unfolding rule_line_of is_count word_step is_bang option_of with_value text_of is_state states_of target_of with_module prefix_of address_of number bounded_value
-row_bang_module = refl
-
-row_bang_module_other : row (codes "-A FORWARD ! -m bogus") ≡ Err BadLine
-unfolding rule_line_of is_count word_step is_bang option_of with_value text_of is_state states_of target_of with_module prefix_of address_of number bounded_value
-row_bang_module_other = refl
-
-row_bang_jump : row (codes "-A FORWARD ! -j ACCEPT") ≡ Err BadLine
-unfolding rule_line_of is_count word_step is_bang option_of with_value text_of is_state states_of target_of with_module prefix_of address_of number bounded_value
-row_bang_jump = refl
-
-row_bang_comment : row (codes "-A FORWARD -m comment ! --comment a") ≡ Err BadLine
-unfolding rule_line_of is_count word_step is_bang option_of with_value text_of is_state states_of target_of with_module prefix_of address_of number bounded_value
-row_bang_comment = refl
-
-row_bang_comment_alone : row (codes "-A FORWARD ! --comment a") ≡ Err UnknownOption
-unfolding rule_line_of is_count word_step is_bang option_of with_value text_of is_state states_of target_of with_module prefix_of address_of number bounded_value
-row_bang_comment_alone = refl
-
-row_bang_reject : row (codes "-A FORWARD ! --reject-with a") ≡ Err UnknownOption
-unfolding rule_line_of is_count word_step is_bang option_of with_value text_of is_state states_of target_of with_module prefix_of address_of number bounded_value
-row_bang_reject = refl
-
-row_bang_other : row (codes "-A FORWARD ! x") ≡ Err UnknownOption
-unfolding rule_line_of is_count word_step is_bang option_of with_value text_of is_state states_of target_of with_module prefix_of address_of number bounded_value
-row_bang_other = refl
-
-row_bang_source : row (codes "-A FORWARD ! -s") ≡ Err BadValue
-unfolding rule_line_of is_count word_step is_bang option_of with_value text_of is_state states_of target_of with_module prefix_of address_of number bounded_value
-row_bang_source = refl
-
-row_bang_behind : row (codes "-A FORWARD -j DROP !") ≡ Err UnknownOption
-unfolding rule_line_of is_count word_step is_bang option_of with_value text_of is_state states_of target_of with_module prefix_of address_of number bounded_value
-row_bang_behind = refl
-
-row_bang_bang : row (codes "-A FORWARD ! !") ≡ Err UnknownOption
-unfolding rule_line_of is_count word_step is_bang option_of with_value text_of is_state states_of target_of with_module prefix_of address_of number bounded_value
-row_bang_bang = refl
-
-row_bang_bang_source : row (codes "-A FORWARD ! ! -s 10.0.0.1") ≡ Err UnknownOption
-unfolding rule_line_of is_count word_step is_bang option_of with_value text_of is_state states_of target_of with_module prefix_of address_of number bounded_value
-row_bang_bang_source = refl
-
-row_source_twice : row (codes "-A FORWARD -s 10.0.0.1 -s x") ≡ Err BadLine
-unfolding rule_line_of is_count word_step is_bang option_of with_value text_of is_state states_of target_of with_module prefix_of address_of number bounded_value
-row_source_twice = refl
-
-row_source_bad : row (codes "-A FORWARD -s 10.0.0.1/33") ≡ Err BadValue
-unfolding rule_line_of is_count word_step is_bang option_of with_value text_of is_state states_of target_of with_module prefix_of address_of number bounded_value
-row_source_bad = refl
-
-row_source_none : row (codes "-A FORWARD -s") ≡ Err BadValue
-unfolding rule_line_of is_count word_step is_bang option_of with_value text_of is_state states_of target_of with_module prefix_of address_of number bounded_value
-row_source_none = refl
-
-row_state_no_module : row (codes "-A FORWARD -m conntrack --ctstate NEW --state NEW") ≡ Err UnknownOption
-unfolding rule_line_of is_count word_step is_bang option_of with_value text_of is_state states_of target_of with_module prefix_of address_of number bounded_value
-row_state_no_module = refl
-
-row_state_twice : row (codes "-A FORWARD -m conntrack -m state --ctstate NEW --state x") ≡ Err BadLine
-unfolding rule_line_of is_count word_step is_bang option_of with_value text_of is_state states_of target_of with_module prefix_of address_of number bounded_value
-row_state_twice = refl
-
-row_state_empty : row (codes "-A FORWARD -m state --state NEW,") ≡ Err BadValue
-unfolding rule_line_of is_count word_step is_bang option_of with_value text_of is_state states_of target_of with_module prefix_of address_of number bounded_value
-row_state_empty = refl
-
-row_state_other : row (codes "-A FORWARD -m state --state new") ≡ Err BadValue
-unfolding rule_line_of is_count word_step is_bang option_of with_value text_of is_state states_of target_of with_module prefix_of address_of number bounded_value
-row_state_other = refl
-
-row_module_other : row (codes "-A FORWARD -m tcp") ≡ Err UnknownOption
-unfolding rule_line_of is_count word_step is_bang option_of with_value text_of is_state states_of target_of with_module prefix_of address_of number bounded_value
-row_module_other = refl
-
-row_module_none : row (codes "-A FORWARD -m") ≡ Err BadValue
-unfolding rule_line_of is_count word_step is_bang option_of with_value text_of is_state states_of target_of with_module prefix_of address_of number bounded_value
-row_module_none = refl
-
-row_target_built_in : row (codes "-A FORWARD -j INPUT") ≡ Err UnknownTarget
-unfolding rule_line_of is_count word_step is_bang option_of with_value text_of is_state states_of target_of with_module prefix_of address_of number bounded_value
-row_target_built_in = refl
-
-row_target_queue : row (codes "-A FORWARD -j QUEUE") ≡ Err UnknownTarget
-unfolding rule_line_of is_count word_step is_bang option_of with_value text_of is_state states_of target_of with_module prefix_of address_of number bounded_value
-row_target_queue = refl
-
-row_target_quoted : row (codes "-A FORWARD -j \"ACCEPT\"") ≡ Err UnknownTarget
-unfolding rule_line_of is_count word_step is_bang option_of with_value text_of is_state states_of target_of with_module prefix_of address_of number bounded_value
-row_target_quoted = refl
-
-row_target_twice : row (codes "-A FORWARD -j ACCEPT -j DROP") ≡ Err UnknownOption
-unfolding rule_line_of is_count word_step is_bang option_of with_value text_of is_state states_of target_of with_module prefix_of address_of number bounded_value
-row_target_twice = refl
-
-row_reject_quoted : row (codes "-A FORWARD -j REJECT --reject-with \"a b\"") ≡ Err UnknownOption
-unfolding rule_line_of is_count word_step is_bang option_of with_value text_of is_state states_of target_of with_module prefix_of address_of number bounded_value
-row_reject_quoted = refl
-
-row_reject_elsewhere : row (codes "-A FORWARD -j DROP --reject-with a") ≡ Err UnknownOption
-unfolding rule_line_of is_count word_step is_bang option_of with_value text_of is_state states_of target_of with_module prefix_of address_of number bounded_value
-row_reject_elsewhere = refl
-
-row_text_open : row (codes "-A FORWARD -m comment --comment \"a b") ≡ Err BadValue
-unfolding rule_line_of is_count word_step is_bang option_of with_value text_of is_state states_of target_of with_module prefix_of address_of number bounded_value
-row_text_open = refl
-
-row_text_far : row (codes "-A FORWARD -m comment --comment \"a\"b c") ≡ Err BadValue
-unfolding rule_line_of is_count word_step is_bang option_of with_value text_of is_state states_of target_of with_module prefix_of address_of number bounded_value
-row_text_far = refl
-
-row_text_taken : row (codes "-A FORWARD -m comment --comment \"a\\\"") ≡ Err BadValue
-unfolding rule_line_of is_count word_step is_bang option_of with_value text_of is_state states_of target_of with_module prefix_of address_of number bounded_value
-row_text_taken = refl
-
-row_text_blank_taken : row (codes "-A FORWARD -m comment --comment \"a\\ \" -i") ≡ Err Interface
-unfolding rule_line_of is_count word_step is_bang option_of with_value text_of is_state states_of target_of with_module prefix_of address_of number bounded_value
-row_text_blank_taken = refl
-
-row_text_quote_alone : row (codes "-A FORWARD -m comment --comment \"a \" x") ≡ Err UnknownOption
-unfolding rule_line_of is_count word_step is_bang option_of with_value text_of is_state states_of target_of with_module prefix_of address_of number bounded_value
-row_text_quote_alone = refl
-
-row_log_else : row (codes "-A FORWARD -j LOG --log-prefix a --log-level 4 -s") ≡ Err UnknownOption
-unfolding rule_line_of is_count word_step is_bang option_of with_value text_of is_state states_of target_of with_module prefix_of address_of number bounded_value
-row_log_else = refl
+rows_refused : map (λ (r : List ℕ × IptWhy). row r.0) refused_rows ≡ map (λ (r : List ℕ × IptWhy). Err r.1) refused_rows
+unfolding address_of bounded_value is_bang is_count is_state number option_of prefix_of rule_line_of states_of target_of text_of with_module with_value word_step
+rows_refused = refl
 
 row_accepts : row (codes "-A FORWARD") ≡ Ok (1, record { src = None; dst = None; proto = None; sport = None; dport = None; state = None; target = Count })
 unfolding rule_line_of is_count word_step is_bang option_of with_value text_of is_state states_of target_of with_module prefix_of address_of number bounded_value

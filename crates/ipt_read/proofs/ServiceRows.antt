@@ -1,5 +1,5 @@
 -- Worked rows: rule lines with protocols and ports as they are read, and why they are not.
-use Rattle.std.proofs.Common.{◌≡◌, true, false, ℕ, List, ◌++◌, Option, Some, None, refl}
+use Rattle.std.proofs.Common.{◌≡◌, true, false, ℕ, List, [], ◌∷◌, ◌++◌, Option, Some, None, map, refl}
 use Rattle.std.specs.Prelude.{codes, Result, Ok, Err}
 use Rattle.text_core.specs.Decimal.{number, bounded_value}
 use Rattle.host_net.specs.Prefix.{prefix_of, prefix_with, address_of}
@@ -46,125 +46,44 @@ row_web : forward (codes "-d 192.168.1.10/32 -p tcp -m tcp --dport 443 -m conntr
 unfolding rule_line_of is_count word_step is_bang option_of with_value states_of is_state target_of with_module asked_protocol asked_ports prefix_of address_of number bounded_value
 row_web = refl
 
-row_multiport : forward (codes "-p tcp -m multiport --dports 80,443 -j ACCEPT") ≡ Err UnknownOption
-unfolding rule_line_of is_count word_step is_bang option_of with_value states_of is_state target_of with_module asked_protocol asked_ports prefix_of address_of number bounded_value
-row_multiport = refl
+-- options that are refused, and why
+abbrev refused_options : List (List ℕ × IptWhy)
+refused_options =
+    (codes "-p tcp -m multiport --dports 80,443 -j ACCEPT", UnknownOption)
+    ∷ (codes "--dport 80 -j ACCEPT", UnknownOption)
+    ∷ (codes "-p tcp --dport 80", UnknownOption)
+    ∷ (codes "! --sport 80", UnknownOption)
+    ∷ (codes "-p icmp --icmp-type 8", UnknownOption)
+    ∷ (codes "-p icmp -m icmp", UnknownOption)
+    ∷ (codes "-m tcp", UnknownOption)
+    ∷ (codes "-m tcp -p tcp", UnknownOption)
+    ∷ (codes "! -p tcp -m tcp", UnknownOption)
+    ∷ (codes "-p tcp -m udp", UnknownOption)
+    ∷ (codes "-p icmp -m tcp", UnknownOption)
+    ∷ (codes "-p tcp ! -m tcp", BadLine)
+    ∷ (codes "-p tcp -p udp", BadLine)
+    ∷ (codes "-p tcp ! -p x", BadLine)
+    ∷ (codes "-j ACCEPT -p tcp", UnknownOption)
+    ∷ (codes "-p tcp -m tcp -j ACCEPT --dport 80", UnknownOption)
+    ∷ (codes "-p tcp -m tcp --dport 80 --dport x", BadLine)
+    ∷ (codes "-p", BadValue)
+    ∷ (codes "-p 0", BadValue)
+    ∷ (codes "-p 256", BadValue)
+    ∷ (codes "-p 06", BadValue)
+    ∷ (codes "-p all", BadValue)
+    ∷ (codes "-p TCP", BadValue)
+    ∷ (codes "-p tcp -m tcp --dport 90:80", BadValue)
+    ∷ (codes "-p tcp -m tcp --dport :", BadValue)
+    ∷ (codes "-p tcp -m tcp --dport 1:2:3", BadValue)
+    ∷ (codes "-p tcp -m tcp --dport 65536", BadValue)
+    ∷ (codes "-p udp -m udp --sport 080", BadValue)
+    ∷ (codes "-p tcp -m tcp --dport http", BadValue)
+    ∷ (codes "-p tcp -m tcp ! --dport", BadValue)
+    ∷ []
 
-row_port_alone : forward (codes "--dport 80 -j ACCEPT") ≡ Err UnknownOption
-unfolding rule_line_of is_count word_step is_bang option_of with_value states_of is_state target_of with_module asked_protocol asked_ports prefix_of address_of number bounded_value
-row_port_alone = refl
-
-row_port_no_module : forward (codes "-p tcp --dport 80") ≡ Err UnknownOption
-unfolding rule_line_of is_count word_step is_bang option_of with_value states_of is_state target_of with_module asked_protocol asked_ports prefix_of address_of number bounded_value
-row_port_no_module = refl
-
-row_port_bang_alone : forward (codes "! --sport 80") ≡ Err UnknownOption
-unfolding rule_line_of is_count word_step is_bang option_of with_value states_of is_state target_of with_module asked_protocol asked_ports prefix_of address_of number bounded_value
-row_port_bang_alone = refl
-
-row_icmp_type : forward (codes "-p icmp --icmp-type 8") ≡ Err UnknownOption
-unfolding rule_line_of is_count word_step is_bang option_of with_value states_of is_state target_of with_module asked_protocol asked_ports prefix_of address_of number bounded_value
-row_icmp_type = refl
-
-row_icmp_module : forward (codes "-p icmp -m icmp") ≡ Err UnknownOption
-unfolding rule_line_of is_count word_step is_bang option_of with_value states_of is_state target_of with_module asked_protocol asked_ports prefix_of address_of number bounded_value
-row_icmp_module = refl
-
-row_module_alone : forward (codes "-m tcp") ≡ Err UnknownOption
-unfolding rule_line_of is_count word_step is_bang option_of with_value states_of is_state target_of with_module asked_protocol asked_ports prefix_of address_of number bounded_value
-row_module_alone = refl
-
-row_module_in_front : forward (codes "-m tcp -p tcp") ≡ Err UnknownOption
-unfolding rule_line_of is_count word_step is_bang option_of with_value states_of is_state target_of with_module asked_protocol asked_ports prefix_of address_of number bounded_value
-row_module_in_front = refl
-
-row_module_turned : forward (codes "! -p tcp -m tcp") ≡ Err UnknownOption
-unfolding rule_line_of is_count word_step is_bang option_of with_value states_of is_state target_of with_module asked_protocol asked_ports prefix_of address_of number bounded_value
-row_module_turned = refl
-
-row_module_of_other : forward (codes "-p tcp -m udp") ≡ Err UnknownOption
-unfolding rule_line_of is_count word_step is_bang option_of with_value states_of is_state target_of with_module asked_protocol asked_ports prefix_of address_of number bounded_value
-row_module_of_other = refl
-
-row_module_of_none : forward (codes "-p icmp -m tcp") ≡ Err UnknownOption
-unfolding rule_line_of is_count word_step is_bang option_of with_value states_of is_state target_of with_module asked_protocol asked_ports prefix_of address_of number bounded_value
-row_module_of_none = refl
-
-row_module_bang : forward (codes "-p tcp ! -m tcp") ≡ Err BadLine
-unfolding rule_line_of is_count word_step is_bang option_of with_value states_of is_state target_of with_module asked_protocol asked_ports prefix_of address_of number bounded_value
-row_module_bang = refl
-
-row_protocol_twice : forward (codes "-p tcp -p udp") ≡ Err BadLine
-unfolding rule_line_of is_count word_step is_bang option_of with_value states_of is_state target_of with_module asked_protocol asked_ports prefix_of address_of number bounded_value
-row_protocol_twice = refl
-
-row_protocol_twice_bad : forward (codes "-p tcp ! -p x") ≡ Err BadLine
-unfolding rule_line_of is_count word_step is_bang option_of with_value states_of is_state target_of with_module asked_protocol asked_ports prefix_of address_of number bounded_value
-row_protocol_twice_bad = refl
-
-row_protocol_behind : forward (codes "-j ACCEPT -p tcp") ≡ Err UnknownOption
-unfolding rule_line_of is_count word_step is_bang option_of with_value states_of is_state target_of with_module asked_protocol asked_ports prefix_of address_of number bounded_value
-row_protocol_behind = refl
-
-row_port_behind : forward (codes "-p tcp -m tcp -j ACCEPT --dport 80") ≡ Err UnknownOption
-unfolding rule_line_of is_count word_step is_bang option_of with_value states_of is_state target_of with_module asked_protocol asked_ports prefix_of address_of number bounded_value
-row_port_behind = refl
-
-row_port_twice : forward (codes "-p tcp -m tcp --dport 80 --dport x") ≡ Err BadLine
-unfolding rule_line_of is_count word_step is_bang option_of with_value states_of is_state target_of with_module asked_protocol asked_ports prefix_of address_of number bounded_value
-row_port_twice = refl
-
-row_protocol_none : forward (codes "-p") ≡ Err BadValue
-unfolding rule_line_of is_count word_step is_bang option_of with_value states_of is_state target_of with_module asked_protocol asked_ports prefix_of address_of number bounded_value
-row_protocol_none = refl
-
-row_protocol_zero : forward (codes "-p 0") ≡ Err BadValue
-unfolding rule_line_of is_count word_step is_bang option_of with_value states_of is_state target_of with_module asked_protocol asked_ports prefix_of address_of number bounded_value
-row_protocol_zero = refl
-
-row_protocol_large : forward (codes "-p 256") ≡ Err BadValue
-unfolding rule_line_of is_count word_step is_bang option_of with_value states_of is_state target_of with_module asked_protocol asked_ports prefix_of address_of number bounded_value
-row_protocol_large = refl
-
-row_protocol_padded : forward (codes "-p 06") ≡ Err BadValue
-unfolding rule_line_of is_count word_step is_bang option_of with_value states_of is_state target_of with_module asked_protocol asked_ports prefix_of address_of number bounded_value
-row_protocol_padded = refl
-
-row_protocol_all : forward (codes "-p all") ≡ Err BadValue
-unfolding rule_line_of is_count word_step is_bang option_of with_value states_of is_state target_of with_module asked_protocol asked_ports prefix_of address_of number bounded_value
-row_protocol_all = refl
-
-row_protocol_upper : forward (codes "-p TCP") ≡ Err BadValue
-unfolding rule_line_of is_count word_step is_bang option_of with_value states_of is_state target_of with_module asked_protocol asked_ports prefix_of address_of number bounded_value
-row_protocol_upper = refl
-
-row_ports_turned_round : forward (codes "-p tcp -m tcp --dport 90:80") ≡ Err BadValue
-unfolding rule_line_of is_count word_step is_bang option_of with_value states_of is_state target_of with_module asked_protocol asked_ports prefix_of address_of number bounded_value
-row_ports_turned_round = refl
-
-row_ports_colon : forward (codes "-p tcp -m tcp --dport :") ≡ Err BadValue
-unfolding rule_line_of is_count word_step is_bang option_of with_value states_of is_state target_of with_module asked_protocol asked_ports prefix_of address_of number bounded_value
-row_ports_colon = refl
-
-row_ports_two_colons : forward (codes "-p tcp -m tcp --dport 1:2:3") ≡ Err BadValue
-unfolding rule_line_of is_count word_step is_bang option_of with_value states_of is_state target_of with_module asked_protocol asked_ports prefix_of address_of number bounded_value
-row_ports_two_colons = refl
-
-row_port_large : forward (codes "-p tcp -m tcp --dport 65536") ≡ Err BadValue
-unfolding rule_line_of is_count word_step is_bang option_of with_value states_of is_state target_of with_module asked_protocol asked_ports prefix_of address_of number bounded_value
-row_port_large = refl
-
-row_port_padded : forward (codes "-p udp -m udp --sport 080") ≡ Err BadValue
-unfolding rule_line_of is_count word_step is_bang option_of with_value states_of is_state target_of with_module asked_protocol asked_ports prefix_of address_of number bounded_value
-row_port_padded = refl
-
-row_port_name : forward (codes "-p tcp -m tcp --dport http") ≡ Err BadValue
-unfolding rule_line_of is_count word_step is_bang option_of with_value states_of is_state target_of with_module asked_protocol asked_ports prefix_of address_of number bounded_value
-row_port_name = refl
-
-row_port_bang_none : forward (codes "-p tcp -m tcp ! --dport") ≡ Err BadValue
-unfolding rule_line_of is_count word_step is_bang option_of with_value states_of is_state target_of with_module asked_protocol asked_ports prefix_of address_of number bounded_value
-row_port_bang_none = refl
+options_refused : map (λ (r : List ℕ × IptWhy). forward r.0) refused_options ≡ map (λ (r : List ℕ × IptWhy). Err r.1) refused_options
+unfolding address_of asked_ports asked_protocol bounded_value is_bang is_count is_state number option_of prefix_of rule_line_of states_of target_of with_module with_value word_step
+options_refused = refl
 
 row_protocol_number : forward (codes "-p 6 -m tcp --dport 80") ≡ asks (protocol 6) None (ports 80 80)
 unfolding rule_line_of is_count word_step is_bang option_of with_value states_of is_state target_of with_module asked_protocol asked_ports prefix_of address_of number bounded_value

@@ -1,9 +1,9 @@
 -- Worked rows: whole texts as they are read, and their first faults.
-use Rattle.std.proofs.Common.{◌≡◌, ℕ, List, [], ◌∷◌, ◌++◌, Some, None, true, false, refl}
-use Rattle.std.specs.Prelude.{codes, Ok, Err}
+use Rattle.std.proofs.Common.{◌≡◌, ℕ, List, [], ◌∷◌, ◌++◌, Some, None, true, false, map, refl}
+use Rattle.std.specs.Prelude.{codes, Result, Ok, Err, ◌+◌, if◌then◌else◌}
 use Rattle.std.specs.List.{flat_map}
 use Rattle.text_core.specs.Decimal.{number, bounded_value}
-use Rattle.text_core.specs.Lines.{is_comment}
+use Rattle.text_core.specs.Lines.{lines, is_comment}
 use Rattle.host_net.specs.Prefix.{prefix_of, prefix_with, address_of}
 use Rattle.ipt_rules.specs.declared.rule.AddrMatch.{AddrMatch}
 use Rattle.ipt_rules.specs.declared.rule.StateMatch.{StateMatch}
@@ -19,7 +19,23 @@ use Rattle.ipt_read.specs.ValueSteps.{text_of, states_of, with_value}
 use Rattle.ipt_read.specs.Counts.{is_count}
 use Rattle.ipt_read.specs.RuleLine.{is_bang, word_step, rule_line_of}
 use Rattle.ipt_read.specs.LineStep.{chain_line_of, body_line_of, line_of_words}
-use Rattle.ipt_read.specs.TextSteps.{text_said}
+use Rattle.ipt_read.specs.declared.fault.IptWhy.{IptWhy}
+use Rattle.ipt_read.specs.declared.stage.Stage.{Stage}
+use Rattle.ipt_read.specs.LineStep.{line_step}
+use Rattle.ipt_read.specs.Said.{SaidSoFar, nothing_said}
+
+-- what the lines of a text say by steps, from line n on
+abbrev ended : ℕ → Stage → SaidSoFar → Result SaidSoFar (ℕ × IptWhy)
+ended n After s = Ok s
+ended n _ s = Err (n, NoCommit)
+
+abbrev by_lines : ℕ → Result SaidSoFar IptWhy → List (List ℕ) → Result SaidSoFar (ℕ × IptWhy)
+by_lines n (Err why) ls = Err (n, why)
+by_lines n (Ok s) [] = ended (n + 1) s.stage s
+by_lines n (Ok s) (l ∷ ls) = by_lines (n + 1) (if is_comment l then Ok s else line_step (n + 1) s l) ls
+
+unfoldable text_said : List ℕ → Result SaidSoFar (ℕ × IptWhy)
+text_said bytes = by_lines 0 (Ok nothing_said) (lines bytes)
 
 -- a rule that jumps whatever comes
 abbrev jumps : ℕ → Rule
@@ -29,106 +45,51 @@ jumps c = record { src = None; dst = None; proto = None; sport = None; dport = N
 abbrev text_of_lines : List (List ℕ) → List ℕ
 text_of_lines ls = flat_map (λ l. l ++ (10 ∷ [])) ls
 
-row_interface : text_said (text_of_lines (codes "*filter" ∷ codes ":INPUT ACCEPT [0:0]" ∷ codes ":FORWARD DROP [0:0]" ∷ codes ":OUTPUT ACCEPT [0:0]" ∷ codes ":x - [0:0]" ∷ codes ":y - [0:0]" ∷ codes "-A FORWARD -i eth0 -j ACCEPT" ∷ codes "-A y -j x" ∷ codes "COMMIT" ∷ [])) ≡ Err (7, Interface)
-unfolding text_said line_of_words body_line_of chain_line_of is_comment is_user_name is_reserved with_policy with_rule rule_line_of is_count word_step is_bang option_of with_value text_of is_state states_of target_of with_module prefix_of address_of number bounded_value
-row_interface = refl
+-- texts that are refused, at which line and why
+abbrev refused_texts : List (List ℕ × ℕ × IptWhy)
+refused_texts = (
+  text_of_lines (codes "*filter" ∷ codes ":INPUT ACCEPT [0:0]" ∷ codes ":FORWARD DROP [0:0]"
+      ∷ codes ":OUTPUT ACCEPT [0:0]" ∷ codes ":x - [0:0]" ∷ codes ":y - [0:0]"
+      ∷ codes "-A FORWARD -i eth0 -j ACCEPT" ∷ codes "-A y -j x" ∷ codes "COMMIT" ∷ []),
+  7,
+  Interface,
+)
+    ∷ (
+      text_of_lines (codes "*filter" ∷ codes ":INPUT ACCEPT [0:0]" ∷ codes ":FORWARD DROP [0:0]"
+          ∷ codes ":OUTPUT ACCEPT [0:0]" ∷ codes ":x - [0:0]" ∷ codes ":y - [0:0]"
+          ∷ codes "-A x -j y" ∷ []),
+      8,
+      NoCommit,
+    )
+    ∷ ([], 1, NoCommit)
+    ∷ (text_of_lines (codes "# a" ∷ [] ∷ codes "#" ∷ []), 4, NoCommit)
+    ∷ (text_of_lines (codes "*nat" ∷ []), 1, OtherTable)
+    ∷ (text_of_lines (codes "*nat extra" ∷ []), 1, OtherTable)
+    ∷ (text_of_lines (codes "*filter extra" ∷ []), 1, BadLine)
+    ∷ (text_of_lines (codes "*" ∷ []), 1, OtherTable)
+    ∷ (text_of_lines (codes "COMMIT" ∷ []), 1, BadLine)
+    ∷ (text_of_lines (codes "*filter" ∷ codes "*nat" ∷ []), 2, BadLine)
+    ∷ (text_of_lines (codes "# a" ∷ codes "*filter" ∷ codes "COMMIT" ∷ codes "# b" ∷ codes "*nat" ∷ []), 5, AfterCommit)
+    ∷ (text_of_lines (codes "*filter" ∷ codes "COMMIT x" ∷ []), 2, BadLine)
+    ∷ (text_of_lines (codes "*filter" ∷ codes ":" ∷ []), 2, BadChain)
+    ∷ (text_of_lines (codes "*filter" ∷ codes "-AFORWARD" ∷ []), 2, BadLine)
+    ∷ (text_of_lines (codes "*filter" ∷ codes "! -A FORWARD" ∷ []), 2, BadLine)
+    ∷ (text_of_lines (codes "*filter" ∷ codes ":INPUT ACCEPT" ∷ codes ":INPUT ACCEPT" ∷ []), 3, BadChain)
+    ∷ (text_of_lines (codes "*filter" ∷ codes ":x -" ∷ codes ":x -" ∷ []), 3, BadChain)
+    ∷ (text_of_lines (codes "*filter" ∷ codes ":INPUT -" ∷ []), 2, BadChain)
+    ∷ (text_of_lines (codes "*filter" ∷ codes ":x ACCEPT" ∷ []), 2, BadChain)
+    ∷ (text_of_lines (codes "*filter" ∷ codes ":QUEUE -" ∷ []), 2, BadChain)
+    ∷ (text_of_lines (codes "*filter" ∷ codes ":x - 0:0" ∷ []), 2, BadChain)
+    ∷ (text_of_lines (codes "*filter" ∷ codes ":x - [0:0] x" ∷ []), 2, BadChain)
+    ∷ (text_of_lines (codes "*filter" ∷ codes "-A x" ∷ codes ":x -" ∷ codes "COMMIT" ∷ []), 2, UnknownChain)
+    ∷ (text_of_lines (codes "*filter" ∷ codes "-A INPUT -j x" ∷ codes ":x -" ∷ codes "COMMIT" ∷ []), 2, UnknownTarget)
+    -- a text with a byte 13 at a line's end is refused at its first line that is no comment
+    ∷ (codes "*filter" ++ (13 ∷ 10 ∷ []), 1, OtherTable)
+    ∷ []
 
-row_no_commit : text_said (text_of_lines (codes "*filter" ∷ codes ":INPUT ACCEPT [0:0]" ∷ codes ":FORWARD DROP [0:0]" ∷ codes ":OUTPUT ACCEPT [0:0]" ∷ codes ":x - [0:0]" ∷ codes ":y - [0:0]" ∷ codes "-A x -j y" ∷ [])) ≡ Err (8, NoCommit)
-unfolding text_said line_of_words body_line_of chain_line_of is_comment is_user_name is_reserved with_policy with_rule rule_line_of is_count word_step is_bang option_of with_value text_of is_state states_of target_of with_module prefix_of address_of number bounded_value
-row_no_commit = refl
-
-row_empty : text_said ([]) ≡ Err (1, NoCommit)
-unfolding text_said line_of_words body_line_of chain_line_of is_comment is_user_name is_reserved with_policy with_rule rule_line_of is_count word_step is_bang option_of with_value text_of is_state states_of target_of with_module prefix_of address_of number bounded_value
-row_empty = refl
-
-row_comments_alone : text_said (text_of_lines (codes "# a" ∷ [] ∷ codes "#" ∷ [])) ≡ Err (4, NoCommit)
-unfolding text_said line_of_words body_line_of chain_line_of is_comment is_user_name is_reserved with_policy with_rule rule_line_of is_count word_step is_bang option_of with_value text_of is_state states_of target_of with_module prefix_of address_of number bounded_value
-row_comments_alone = refl
-
-row_other_table : text_said (text_of_lines (codes "*nat" ∷ [])) ≡ Err (1, OtherTable)
-unfolding text_said line_of_words body_line_of chain_line_of is_comment is_user_name is_reserved with_policy with_rule rule_line_of is_count word_step is_bang option_of with_value text_of is_state states_of target_of with_module prefix_of address_of number bounded_value
-row_other_table = refl
-
-row_other_table_more : text_said (text_of_lines (codes "*nat extra" ∷ [])) ≡ Err (1, OtherTable)
-unfolding text_said line_of_words body_line_of chain_line_of is_comment is_user_name is_reserved with_policy with_rule rule_line_of is_count word_step is_bang option_of with_value text_of is_state states_of target_of with_module prefix_of address_of number bounded_value
-row_other_table_more = refl
-
-row_table_more : text_said (text_of_lines (codes "*filter extra" ∷ [])) ≡ Err (1, BadLine)
-unfolding text_said line_of_words body_line_of chain_line_of is_comment is_user_name is_reserved with_policy with_rule rule_line_of is_count word_step is_bang option_of with_value text_of is_state states_of target_of with_module prefix_of address_of number bounded_value
-row_table_more = refl
-
-row_star : text_said (text_of_lines (codes "*" ∷ [])) ≡ Err (1, OtherTable)
-unfolding text_said line_of_words body_line_of chain_line_of is_comment is_user_name is_reserved with_policy with_rule rule_line_of is_count word_step is_bang option_of with_value text_of is_state states_of target_of with_module prefix_of address_of number bounded_value
-row_star = refl
-
-row_front : text_said (text_of_lines (codes "COMMIT" ∷ [])) ≡ Err (1, BadLine)
-unfolding text_said line_of_words body_line_of chain_line_of is_comment is_user_name is_reserved with_policy with_rule rule_line_of is_count word_step is_bang option_of with_value text_of is_state states_of target_of with_module prefix_of address_of number bounded_value
-row_front = refl
-
-row_second_table : text_said (text_of_lines (codes "*filter" ∷ codes "*nat" ∷ [])) ≡ Err (2, BadLine)
-unfolding text_said line_of_words body_line_of chain_line_of is_comment is_user_name is_reserved with_policy with_rule rule_line_of is_count word_step is_bang option_of with_value text_of is_state states_of target_of with_module prefix_of address_of number bounded_value
-row_second_table = refl
-
-row_behind : text_said (text_of_lines (codes "# a" ∷ codes "*filter" ∷ codes "COMMIT" ∷ codes "# b" ∷ codes "*nat" ∷ [])) ≡ Err (5, AfterCommit)
-unfolding text_said line_of_words body_line_of chain_line_of is_comment is_user_name is_reserved with_policy with_rule rule_line_of is_count word_step is_bang option_of with_value text_of is_state states_of target_of with_module prefix_of address_of number bounded_value
-row_behind = refl
-
-row_commit_more : text_said (text_of_lines (codes "*filter" ∷ codes "COMMIT x" ∷ [])) ≡ Err (2, BadLine)
-unfolding text_said line_of_words body_line_of chain_line_of is_comment is_user_name is_reserved with_policy with_rule rule_line_of is_count word_step is_bang option_of with_value text_of is_state states_of target_of with_module prefix_of address_of number bounded_value
-row_commit_more = refl
-
-row_colon : text_said (text_of_lines (codes "*filter" ∷ codes ":" ∷ [])) ≡ Err (2, BadChain)
-unfolding text_said line_of_words body_line_of chain_line_of is_comment is_user_name is_reserved with_policy with_rule rule_line_of is_count word_step is_bang option_of with_value text_of is_state states_of target_of with_module prefix_of address_of number bounded_value
-row_colon = refl
-
-row_append_joined : text_said (text_of_lines (codes "*filter" ∷ codes "-AFORWARD" ∷ [])) ≡ Err (2, BadLine)
-unfolding text_said line_of_words body_line_of chain_line_of is_comment is_user_name is_reserved with_policy with_rule rule_line_of is_count word_step is_bang option_of with_value text_of is_state states_of target_of with_module prefix_of address_of number bounded_value
-row_append_joined = refl
-
-row_bang : text_said (text_of_lines (codes "*filter" ∷ codes "! -A FORWARD" ∷ [])) ≡ Err (2, BadLine)
-unfolding text_said line_of_words body_line_of chain_line_of is_comment is_user_name is_reserved with_policy with_rule rule_line_of is_count word_step is_bang option_of with_value text_of is_state states_of target_of with_module prefix_of address_of number bounded_value
-row_bang = refl
-
-row_built_in_twice : text_said (text_of_lines (codes "*filter" ∷ codes ":INPUT ACCEPT" ∷ codes ":INPUT ACCEPT" ∷ [])) ≡ Err (3, BadChain)
-unfolding text_said line_of_words body_line_of chain_line_of is_comment is_user_name is_reserved with_policy with_rule rule_line_of is_count word_step is_bang option_of with_value text_of is_state states_of target_of with_module prefix_of address_of number bounded_value
-row_built_in_twice = refl
-
-row_user_twice : text_said (text_of_lines (codes "*filter" ∷ codes ":x -" ∷ codes ":x -" ∷ [])) ≡ Err (3, BadChain)
-unfolding text_said line_of_words body_line_of chain_line_of is_comment is_user_name is_reserved with_policy with_rule rule_line_of is_count word_step is_bang option_of with_value text_of is_state states_of target_of with_module prefix_of address_of number bounded_value
-row_user_twice = refl
-
-row_built_in_dash : text_said (text_of_lines (codes "*filter" ∷ codes ":INPUT -" ∷ [])) ≡ Err (2, BadChain)
-unfolding text_said line_of_words body_line_of chain_line_of is_comment is_user_name is_reserved with_policy with_rule rule_line_of is_count word_step is_bang option_of with_value text_of is_state states_of target_of with_module prefix_of address_of number bounded_value
-row_built_in_dash = refl
-
-row_user_policy : text_said (text_of_lines (codes "*filter" ∷ codes ":x ACCEPT" ∷ [])) ≡ Err (2, BadChain)
-unfolding text_said line_of_words body_line_of chain_line_of is_comment is_user_name is_reserved with_policy with_rule rule_line_of is_count word_step is_bang option_of with_value text_of is_state states_of target_of with_module prefix_of address_of number bounded_value
-row_user_policy = refl
-
-row_reserved : text_said (text_of_lines (codes "*filter" ∷ codes ":QUEUE -" ∷ [])) ≡ Err (2, BadChain)
-unfolding text_said line_of_words body_line_of chain_line_of is_comment is_user_name is_reserved with_policy with_rule rule_line_of is_count word_step is_bang option_of with_value text_of is_state states_of target_of with_module prefix_of address_of number bounded_value
-row_reserved = refl
-
-row_chain_count : text_said (text_of_lines (codes "*filter" ∷ codes ":x - 0:0" ∷ [])) ≡ Err (2, BadChain)
-unfolding text_said line_of_words body_line_of chain_line_of is_comment is_user_name is_reserved with_policy with_rule rule_line_of is_count word_step is_bang option_of with_value text_of is_state states_of target_of with_module prefix_of address_of number bounded_value
-row_chain_count = refl
-
-row_chain_more : text_said (text_of_lines (codes "*filter" ∷ codes ":x - [0:0] x" ∷ [])) ≡ Err (2, BadChain)
-unfolding text_said line_of_words body_line_of chain_line_of is_comment is_user_name is_reserved with_policy with_rule rule_line_of is_count word_step is_bang option_of with_value text_of is_state states_of target_of with_module prefix_of address_of number bounded_value
-row_chain_more = refl
-
-row_late_chain : text_said (text_of_lines (codes "*filter" ∷ codes "-A x" ∷ codes ":x -" ∷ codes "COMMIT" ∷ [])) ≡ Err (2, UnknownChain)
-unfolding text_said line_of_words body_line_of chain_line_of is_comment is_user_name is_reserved with_policy with_rule rule_line_of is_count word_step is_bang option_of with_value text_of is_state states_of target_of with_module prefix_of address_of number bounded_value
-row_late_chain = refl
-
-row_late_target : text_said (text_of_lines (codes "*filter" ∷ codes "-A INPUT -j x" ∷ codes ":x -" ∷ codes "COMMIT" ∷ [])) ≡ Err (2, UnknownTarget)
-unfolding text_said line_of_words body_line_of chain_line_of is_comment is_user_name is_reserved with_policy with_rule rule_line_of is_count word_step is_bang option_of with_value text_of is_state states_of target_of with_module prefix_of address_of number bounded_value
-row_late_target = refl
-
--- a text with a byte 13 at a line's end is refused at its first line that is no comment
-row_carriage : text_said (codes "*filter" ++ (13 ∷ 10 ∷ [])) ≡ Err (1, OtherTable)
-unfolding text_said line_of_words body_line_of chain_line_of is_comment is_user_name is_reserved with_policy with_rule rule_line_of is_count word_step is_bang option_of with_value text_of is_state states_of target_of with_module prefix_of address_of number bounded_value
-row_carriage = refl
+texts_refused : map (λ (r : List ℕ × ℕ × IptWhy). text_said r.0) refused_texts ≡ map (λ (r : List ℕ × ℕ × IptWhy). Err (r.1, r.2)) refused_texts
+unfolding address_of body_line_of bounded_value chain_line_of is_bang is_comment is_count is_reserved is_state is_user_name line_of_words number option_of prefix_of rule_line_of states_of target_of text_of text_said with_module with_policy with_rule with_value word_step
+texts_refused = refl
 
 -- two chains that jump to one another: each has the line of its chain line
 row_loop : text_said (text_of_lines (codes "*filter" ∷ codes ":INPUT ACCEPT [0:0]" ∷ codes ":FORWARD DROP [0:0]" ∷ codes ":OUTPUT ACCEPT [0:0]" ∷ codes ":x - [0:0]" ∷ codes ":y - [0:0]" ∷ codes "-A x -j y" ∷ codes "-A y -j x" ∷ codes "COMMIT" ∷ []))

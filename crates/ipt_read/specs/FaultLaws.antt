@@ -1,80 +1,65 @@
--- A text has one fault at most, and none where it has a reading.
-use Rattle.std.proofs.Common.{◌≡◌, ◌≢◌, ℕ, ◌+◌, ◌≤◌, ◌∙◌, ◌⊎◌, sym, ap, refl, subst, inl, inr, List, length, arith}
+-- A text has one reading at most and one first fault at most, and not both.
+use Rattle.std.proofs.Common.{◌≡◌, ℕ, ◌≤◌, ◌∙◌, sym, ap, refl, List, arith}
 use Rattle.std.specs.Prelude.{Result, Ok, Err}
-use Rattle.text_core.specs.Lines.{lines}
-use Rattle.text_core.specs.ReadingLaws.{first_fault_is_told}
+use Rattle.text_core.specs.TextByLinesLaws.{IsSettled, one_reading as reading_once, one_fault as fault_once, no_reading_with_fault as reading_or_fault_alone}
 use Rattle.ipt_rules.specs.Chain.{Chain}
-use Rattle.ipt_rules.specs.Loops.{IsLeastLoop}
+use Rattle.ipt_rules.specs.Loops.{HasNoLoop, IsLeastLoop}
 use Rattle.ipt_read.specs.declared.fault.IptWhy.{IptWhy}
-use Rattle.ipt_read.specs.declared.fault.IptWhy.TheVariants.{Loop, NoCommit}
-use Rattle.ipt_read.specs.declared.stage.Stage.{Stage}
-use Rattle.ipt_read.specs.declared.stage.Stage.TheVariants.{Front, Table, After}
-use Rattle.ipt_read.specs.Said.{SaidSoFar, nothing_said, line_of}
-use Rattle.ipt_read.specs.LineStep.{line_step}
-use Rattle.ipt_read.specs.TextLines.{HasFault, too_long, at_line, no_commit, loops}
-use Rattle.ipt_read.specs.TextSteps.{at_text_end, ended, text_said}
-use Rattle.ipt_read.specs.Grammar.{IsReading}
-use Rattle.ipt_read.specs.TextLaws.{long_said, short_said, read_of_told, said_of_told, said_of_reading, steps_refused}
+use Rattle.ipt_read.specs.declared.stage.Stage.TheVariants.{After}
+use Rattle.ipt_read.specs.Said.{SaidSoFar, line_of}
+use Rattle.ipt_read.specs.Grammar.{IsTextLine}
+use Rattle.ipt_read.specs.LineFault.{IsBadLine}
+use Rattle.text_core.specs.Lines.{words}
+use Rattle.ipt_read.specs.LineLaws.{read_of_line}
+use Rattle.ipt_read.specs.LineFaultLaws.{step_of_bad_line}
+use Rattle.ipt_read.specs.TextLines.{EndsBadly, no_commit, loops, rules_text, IsReading, HasFault}
 
--- a loop of what was said
-record IsLoopAt (bytes : List ℕ) (line : ℕ) (why : IptWhy) : Type 0 where
-  said : SaidSoFar
-  chain : ℕ
-  read : text_said bytes ≡ Ok said
-  least : IsLeastLoop said.chains chain
-  number : line ≡ line_of said.declared chain
-  reason : why ≡ Loop
+-- 1. One line.
 
-not_ended : (n : ℕ) (s : SaidSoFar) (stage : Stage) → s.stage ≡ stage → s.stage ≢ After → at_text_end n stage s ≡ Err (n, NoCommit)
-not_ended n s Front is h = refl
-not_ended n s Table is h = refl
-not_ended n s After is h = absurd (h is)
+one_next : (n : ℕ) (s : SaidSoFar) (l : List ℕ) (t u : SaidSoFar) → IsTextLine n s l t → IsTextLine n s l u → t ≡ u
+one_next n s l t u p q =
+    let ok : ◌≡◌ {A = Result SaidSoFar IptWhy} (Ok t) (Ok u) = sym (read_of_line n s t l p) ∙ read_of_line n s u l q in cc
 
-fault_said : (bytes : List ℕ) (line : ℕ) (why : IptWhy) → HasFault bytes line why
-    → (text_said bytes ≡ Err (line, why)) ⊎ IsLoopAt bytes line why
-fault_said bytes line why (too_long h) = inl (long_said bytes h)
-fault_said bytes line why (at_line short fault) =
-    inl (short_said bytes short ∙ ap (ended (length (lines bytes) + 1))
-    (first_fault_is_told line_step 1 nothing_said (lines bytes) line why (steps_refused (lines bytes) line why fault)))
-fault_said bytes line why (no_commit s short told h) =
-    inl (short_said bytes short ∙ ap (ended (length (lines bytes) + 1)) (read_of_told (lines bytes) s told)
-    ∙ not_ended (length (lines bytes) + 1) s s.stage refl h)
-fault_said bytes line why (loops s c short told whole least) =
-    inr (record { said = s; chain = c; read = said_of_told bytes s short told whole; least = least; number = refl; reason = refl })
+one_reason : (n : ℕ) (s : SaidSoFar) (l : List ℕ) (w v : IptWhy) → IsBadLine s (words l) w → IsBadLine s (words l) v → w ≡ v
+one_reason n s l w v p q =
+    let err : ◌≡◌ {A = Result SaidSoFar IptWhy} (Err w) (Err v) = sym (step_of_bad_line n s l w p) ∙ step_of_bad_line n s l v q in cc
 
-same_pair : (l m : ℕ) (w v : IptWhy) → ◌≡◌ {A = Result SaidSoFar (ℕ × IptWhy)} (Err (l, w)) (Err (m, v)) → (l ≡ m) × (w ≡ v)
-same_pair l m w v e = let f : ◌≡◌ {A = ℕ × IptWhy} (l, w) (m, v) = cc in (λ i. (f i).0, λ i. (f i).1)
+good_or_bad : (n : ℕ) (s : SaidSoFar) (l : List ℕ) (t : SaidSoFar) (w : IptWhy) → IsTextLine n s l t → IsBadLine s (words l) w → ⊥
+good_or_bad n s l t w p q =
+    let both : ◌≡◌ {A = Result SaidSoFar IptWhy} (Ok t) (Err w) = sym (read_of_line n s t l p) ∙ step_of_bad_line n s l w q in cc
+
+-- 2. The end.
 
 same_least : (xs : List Chain) (c d : ℕ) → IsLeastLoop xs c → IsLeastLoop xs d → c ≡ d
 same_least xs c d p q = let a : c ≤ d = p.least d q.back in let b : d ≤ c = q.least c p.back in omega arith
 
-same_loop : (bytes : List ℕ) (l m : ℕ) (w v : IptWhy) → IsLoopAt bytes l w → IsLoopAt bytes m v → (l ≡ m) × (w ≡ v)
-same_loop bytes l m w v p q =
-    let ok : ◌≡◌ {A = Result SaidSoFar (ℕ × IptWhy)} (Ok p.said) (Ok q.said) = sym p.read ∙ q.read in
-    let same : p.said ≡ q.said = cc in
-    let chain : p.chain ≡ q.chain = same_least q.said.chains p.chain q.chain
-    (subst (λ (s : SaidSoFar). IsLeastLoop s.chains p.chain) same p.least) q.least in
-    (p.number ∙ (λ i. line_of (same i).declared (chain i)) ∙ sym q.number, p.reason ∙ sym q.reason)
+one_end : (n : ℕ) (s : SaidSoFar) (l m : ℕ) (w v : IptWhy) → EndsBadly n s l w → EndsBadly n s m v → (l ≡ m) × (w ≡ v)
+one_end n s l m w v (no_commit open_still) (no_commit other) = (refl, refl)
+one_end n s l m w v (no_commit open_still) (loops d whole least) = absurd (open_still whole)
+one_end n s l m w v (loops c whole least) (no_commit open_still) = absurd (open_still whole)
+one_end n s l m w v (loops c whole least) (loops d other first) = (ap (line_of s.declared) (same_least s.chains c d least first), refl)
+
+ends_or_not : (n : ℕ) (s : SaidSoFar) (l : ℕ) (w : IptWhy) → s.stage ≡ After → HasNoLoop s.chains → EndsBadly n s l w → ⊥
+ends_or_not n s l w whole none (no_commit open_still) = open_still whole
+ends_or_not n s l w whole none (loops c stage least) = none c least.back
+
+pub rules_settled : IsSettled rules_text
+rules_settled = record {
+  one_next = λ n s l t u p q. one_next n s l t u p q;
+  one_reason = λ n s l w v p q. one_reason n s l w v p q;
+  good_or_bad = λ n s l t w p q. good_or_bad n s l t w p q;
+  one_end = λ n s l m w v p q. one_end n s l m w v p q;
+  ends_or_not = λ n s l w p q. ends_or_not n s l w p.0 p.1 q;
+}
+
+-- 3. Texts.
+
+pub one_reading : (bytes : List ℕ) (a b : List Chain) → IsReading bytes a → IsReading bytes b → a ≡ b
+one_reading bytes a b p q =
+    p.2 ∙ ap (λ (s : SaidSoFar). s.chains) (reading_once rules_text rules_settled bytes p.0 q.0 p.1 q.1) ∙ sym q.2
 
 pub one_fault : (bytes : List ℕ) (l m : ℕ) (w v : IptWhy) → HasFault bytes l w → HasFault bytes m v → (l ≡ m) × (w ≡ v)
-one_fault bytes l m w v p q = elim (fault_said bytes l w p) [
-  | inl a ↦ elim (fault_said bytes m v q) [
-    | inl b ↦ same_pair l m w v (sym a ∙ b)
-    | inr b ↦ let read = b.read in cc
-  ]
-  | inr a ↦ elim (fault_said bytes m v q) [
-    | inl b ↦ let read = a.read in cc
-    | inr b ↦ same_loop bytes l m w v a b
-  ]
-]
+one_fault = fault_once rules_text rules_settled
 
 pub no_reading_with_fault : (bytes : List ℕ) (chains : List Chain) (l : ℕ) (w : IptWhy) → HasFault bytes l w → IsReading bytes chains → ⊥
-no_reading_with_fault bytes chains l w fault reading = elim (fault_said bytes l w fault) [
-  | inl a ↦ let whole = said_of_reading bytes chains reading in cc
-  | inr a ↦
-      let whole = said_of_reading bytes chains reading in
-      let read = a.read in
-      let same : a.said ≡ reading.said = cc in
-      reading.no_loop a.chain (subst (λ (cs : List Chain). IsLeastLoop cs a.chain)
-      (ap (λ (s : SaidSoFar). s.chains) same ∙ sym reading.same) a.least).back
-]
+no_reading_with_fault bytes chains l w fault reading = reading_or_fault_alone rules_text rules_settled bytes reading.0 l w fault reading.1

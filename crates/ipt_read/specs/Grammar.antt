@@ -1,15 +1,12 @@
--- The grammar of the text of a rule set: which lines a text has, and which pieces a rule line (iptables-save(8),
--- iptables-restore(8)).
-use Rattle.std.specs.Prelude.{◌≡◌, ℕ, ◌+◌, ◌<◌, ◌≤◌, ◌^◌, Bool, true, false, IsTrue, IsFalse, List, [], ◌∷◌, ◌++◌, Some, None, length, codes, slice_set, ◌⊎◌}
-use Rattle.text_core.specs.Lines.{lines, words}
-use Rattle.text_core.specs.Reading.{Follows}
+-- The grammar of the lines of a rule set: what each says, and which pieces a rule line has (iptables-save(8), iptables-restore(8)).
+use Rattle.std.specs.Prelude.{◌≡◌, ℕ, ◌+◌, ◌<◌, ◌^◌, Bool, true, false, IsTrue, IsFalse, List, [], ◌∷◌, ◌++◌, Some, None, length, codes, slice_set, ◌⊎◌}
+use Rattle.text_core.specs.Lines.{words}
 use Rattle.host_net.specs.declared.prefix.Prefix.{Prefix}
 use Rattle.host_net.specs.PrefixView.{IsSpelling}
 use Rattle.ipt_rules.specs.declared.rule.Policy.{Policy}
 use Rattle.ipt_rules.specs.declared.rule.Rule.{Rule}
 use Rattle.ipt_rules.specs.declared.rule.Target.{Target}
 use Rattle.ipt_rules.specs.Chain.{Chain, number_of, user_chain, with_policy, with_rule}
-use Rattle.ipt_rules.specs.Loops.{HasNoLoop}
 use Rattle.ipt_rules.specs.Name.{is_user_name}
 use Rattle.ipt_rules.specs.Text.{policy_text}
 use Rattle.ipt_read.specs.declared.option.Opt.{Opt}
@@ -19,7 +16,7 @@ use Rattle.ipt_read.specs.declared.stage.Stage.TheVariants.{Front, Table, After}
 use Rattle.ipt_read.specs.Options.{option_of, may_stand, is_interface, takes_bang, is_given, with_module, target_of, nothing_given, rule_of}
 use Rattle.ipt_read.specs.ServiceValues.{IsProtocolWord, ArePortsWord}
 use Rattle.ipt_read.specs.Values.{IsCount, IsText, IsStateList}
-use Rattle.ipt_read.specs.Said.{SaidSoFar, nothing_said, line_of}
+use Rattle.ipt_read.specs.Said.{SaidSoFar, line_of}
 
 -- an option may stand after what is given, with `!` before it or not: it is no interface, takes the `!`, and was not given where
 -- it may stand once
@@ -103,12 +100,3 @@ pub data IsLine (n : ℕ) (s : SaidSoFar) : List (List ℕ) → SaidSoFar → Ty
 
 abbrev pub IsTextLine : ℕ → SaidSoFar → List ℕ → SaidSoFar → Type 0
 IsTextLine n s line t = IsLine n s (words line) t
-
--- the reading of a text: its lines follow one another up to COMMIT, and no jumps lead back
-pub record IsReading (bytes : List ℕ) (chains : List Chain) : Type 0 where
-  pub short : length bytes ≤ 67108864
-  pub said : SaidSoFar
-  pub told : Follows IsTextLine 1 nothing_said (lines bytes) said
-  pub whole : said.stage ≡ After
-  pub same : chains ≡ said.chains
-  pub no_loop : HasNoLoop chains

@@ -14,7 +14,6 @@ pub mod Options
 pub mod PartLaws
 pub mod PieceLaws
 pub mod PrintedLaws
-pub mod ReadAnswers
 pub mod RuleFaultLaws
 pub mod RuleLine
 pub mod Said
@@ -26,7 +25,6 @@ pub mod StateLaws
 pub mod TextAgainLaws
 pub mod TextLaws
 pub mod TextLines
-pub mod TextSteps
 pub mod ValueLaws
 pub mod ValueSteps
 pub mod Values

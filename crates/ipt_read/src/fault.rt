@@ -2,6 +2,7 @@
 
 ghost use Rattle.std.specs.Prelude.{◌≡◌};
 
+use text_core::{LineFault, TextFault};
 use thiserror::Error;
 
 /// Why a line cannot stand where it stands.
@@ -49,17 +50,11 @@ pub enum IptWhy {
     TooMany,
 }
 
-/// The first line that cannot stand where it stands, from 1, and why; line 0 stands for the whole text.
-#[derive(Clone, Copy, Debug, PartialEq, Eq, Error)]
-pub enum IptFault {
-    #[error("line {line}: {why}")]
-    Refused { line: u32, why: IptWhy },
-    #[error("out of memory")]
-    Memory,
-}
+/// The first line that cannot stand where it stands, and why.
+pub type IptFault = TextFault<IptWhy>;
 
-pub(crate) fn refused(line: u32, why: IptWhy) -> IptFault
-    ensures { result ≡ IptFault.Refused line why }
+pub(crate) fn bad(why: IptWhy) -> LineFault<IptWhy>
+    ensures { result ≡ LineFault.Bad why }
 {
-    IptFault::Refused { line, why }
+    LineFault::Bad(why)
 }

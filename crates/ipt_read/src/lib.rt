@@ -11,7 +11,8 @@ mod table;
 mod whole;
 
 pub use fault::{IptFault, IptWhy};
-pub use whole::{BYTE_LIMIT, read};
+pub use reader::BYTE_LIMIT;
+pub use whole::read;
 
 #[cfg(test)]
 mod tests;

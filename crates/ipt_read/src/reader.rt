@@ -3,21 +3,24 @@
 ghost use Rattle.std.specs.Prelude.{◌≡◌, ◌<◌, ◌≤◌, ◌^◌, ◌∷◌, [], ◌++◌, Some, None, Ok, IfOk, IsTrue, length};
 ghost use Rattle.std.specs.Option.{option_map};
 ghost use Rattle.text_core.specs.Lines.{words};
-ghost use Rattle.text_core.specs.Reading.{past_comment};
 ghost use Rattle.ipt_rules.specs.Chain.{number_of, user_chain};
 ghost use Rattle.ipt_rules.specs.ChainTable.{rule_count};
 ghost use Rattle.ipt_rules.specs.RuleParts.{is_rule};
-ghost use Rattle.ipt_read.specs.Said.{nothing_said, line_of};
+ghost use Rattle.ipt_read.specs.Said.{SaidSoFar, nothing_said, line_of};
 ghost use Rattle.ipt_read.specs.LineStep.{table_line_of, policy_word, built_in_policy, with_built_in, declare, declare_by, chain_line_of, with_read_rule, commit_line_of, body_line_of, line_at, line_of_words, line_step};
 ghost use Rattle.ipt_read.specs.RuleLine.{rule_line_of};
 ghost use Rattle.ipt_read.specs.State.{said_of, AnswersTo, IsFine};
+ghost use Rattle.ipt_read.specs.TextLines.{rules_text};
 
-use crate::fault::{IptFault, IptWhy, refused};
+use crate::fault::{IptWhy, bad};
 use crate::rule_line::{is_count, rule_line_of};
 use crate::stage::Stage;
 use ipt_rules::{ChainName, Chains, Policy, Rule};
 use std::alloc::{AllocError, Global};
-use text_core::{Words, begins_with, is_comment};
+use text_core::{LineFault, LineReader, Words, begins_with};
+
+/// The most bytes that a text may have.
+pub const BYTE_LIMIT: usize = 67_108_864;
 
 const CHAIN_LIMIT: usize = 4096;
 
@@ -32,17 +35,17 @@ pub(crate) struct Reader {
     pub(crate) rules: u32,
 }
 
-fn table_line(mut state: Reader, n: u32, word: &[u8], mut rest: Words) -> Result<Reader, IptFault>
-    ensures { AnswersTo n (table_line_of (said_of state) word.now rest.entry) result }
+fn table_line(mut state: Reader, word: &[u8], mut rest: Words) -> Result<Reader, LineFault<IptWhy>>
+    ensures { AnswersTo (table_line_of (said_of state) word.now rest.entry) result }
 {
     if !begins_with(word, b'*') {
-        return Err(refused(n, IptWhy::BadLine));
+        return Err(bad(IptWhy::BadLine));
     }
     if word != b"*filter".as_slice() {
-        return Err(refused(n, IptWhy::OtherTable));
+        return Err(bad(IptWhy::OtherTable));
     }
     if rest.next_word().is_some() {
-        return Err(refused(n, IptWhy::BadLine));
+        return Err(bad(IptWhy::BadLine));
     }
     state.stage = Stage::Table;
     Ok(state)
@@ -81,15 +84,15 @@ fn with_built_in(
     n: u32,
     chain: u16,
     policy: Option<Policy>,
-) -> Result<Reader, IptFault>
+) -> Result<Reader, LineFault<IptWhy>>
     requires { chain < length state.declared.items }
-    ensures { AnswersTo n (with_built_in n (said_of state) chain policy) result }
+    ensures { AnswersTo (with_built_in n (said_of state) chain policy) result }
 {
     let Some(policy) = policy else {
-        return Err(refused(n, IptWhy::BadChain));
+        return Err(bad(IptWhy::BadChain));
     };
     if chain >= 3 || state.declared[chain as usize] != 0 {
-        return Err(refused(n, IptWhy::BadChain));
+        return Err(bad(IptWhy::BadChain));
     }
     state.chains.set_policy(chain, policy);
     state.declared[chain as usize] = n;
@@ -101,24 +104,24 @@ fn with_user_chain(
     n: u32,
     name: &[u8],
     policy: &[u8],
-) -> Result<Reader, IptFault>
+) -> Result<Reader, LineFault<IptWhy>>
     requires unused { number_of state.chains name.now ≡ None }
     requires few { length state.chains ≤ 4096 }
     requires numbered { length state.declared.items ≡ length state.chains }
-    ensures { AnswersTo n (declare n (said_of state) name.now policy.now None) result }
+    ensures { AnswersTo (declare n (said_of state) name.now policy.now None) result }
 {
     let Some(name) = ChainName::new(name) else {
-        return Err(refused(n, IptWhy::BadChain));
+        return Err(bad(IptWhy::BadChain));
     };
     if policy != b"-".as_slice() {
-        return Err(refused(n, IptWhy::BadChain));
+        return Err(bad(IptWhy::BadChain));
     }
     if state.declared.len() >= CHAIN_LIMIT {
-        return Err(refused(n, IptWhy::TooMany));
+        return Err(bad(IptWhy::TooMany));
     }
     match add_chain(state, n, name) {
         Ok(state) => Ok(state),
-        Err(_) => Err(IptFault::Memory),
+        Err(_) => Err(LineFault::Memory),
     }
 }
 
@@ -133,27 +136,27 @@ fn add_chain(mut state: Reader, n: u32, name: ChainName) -> Result<Reader, Alloc
     Ok(state)
 }
 
-fn add_rule(mut state: Reader, n: u32, chain: u16, rule: Rule) -> Result<Reader, IptFault>
+fn add_rule(mut state: Reader, chain: u16, rule: Rule) -> Result<Reader, LineFault<IptWhy>>
     requires there { chain < length state.chains }
     requires counted { state.rules ≡ rule_count state.chains }
     requires parts { IsTrue (is_rule rule) }
-    ensures { AnswersTo n (with_read_rule (said_of state) (Ok (chain, rule))) result }
+    ensures { AnswersTo (with_read_rule (said_of state) (Ok (chain, rule))) result }
 {
     if state.rules >= RULE_LIMIT {
-        return Err(refused(n, IptWhy::TooMany));
+        return Err(bad(IptWhy::TooMany));
     }
     match state.chains.rule(chain, rule) {
         Ok(()) => {}
-        Err(_) => return Err(IptFault::Memory),
+        Err(_) => return Err(LineFault::Memory),
     }
     state.rules += 1;
     Ok(state)
 }
 
 #[tactic(auto, using(crate::proofs::WithinLaws::number_of_within))]
-fn declare(state: Reader, n: u32, name: &[u8], policy: &[u8]) -> Result<Reader, IptFault>
+fn declare(state: Reader, n: u32, name: &[u8], policy: &[u8]) -> Result<Reader, LineFault<IptWhy>>
     requires { IsFine (said_of state) }
-    ensures { AnswersTo n (declare n (said_of state) name.now policy.now (number_of state.chains name.now)) result }
+    ensures { AnswersTo (declare n (said_of state) name.now policy.now (number_of state.chains name.now)) result }
 {
     match state.chains.find(name) {
         Some(chain) => with_built_in(state, n, chain, built_in_policy(policy)),
@@ -162,13 +165,13 @@ fn declare(state: Reader, n: u32, name: &[u8], policy: &[u8]) -> Result<Reader, 
 }
 
 #[tactic(auto, unfolding(crate::specs::LineStep::chain_line_of))]
-fn chain_line(state: Reader, n: u32, word: &[u8], rest: Words) -> Result<Reader, IptFault>
+fn chain_line(state: Reader, n: u32, word: &[u8], rest: Words) -> Result<Reader, LineFault<IptWhy>>
     requires fine { IsFine (said_of state) }
     requires word { 0 < length word.now }
-    ensures { AnswersTo n (chain_line_of n (said_of state) word.now rest.entry) result }
+    ensures { AnswersTo (chain_line_of n (said_of state) word.now rest.entry) result }
 {
     match policy_word(rest) {
-        None => Err(refused(n, IptWhy::BadChain)),
+        None => Err(bad(IptWhy::BadChain)),
         Some(policy) => {
             let (_, name) = word.split_at(1);
             declare(state, n, name, policy)
@@ -177,75 +180,77 @@ fn chain_line(state: Reader, n: u32, word: &[u8], rest: Words) -> Result<Reader,
 }
 
 #[tactic(auto, using(crate::proofs::WithinLaws::rule_line_within))]
-fn rule_line(state: Reader, n: u32, line: &[u8]) -> Result<Reader, IptFault>
+fn rule_line(state: Reader, word: &[u8], rest: Words) -> Result<Reader, LineFault<IptWhy>>
     requires { IsFine (said_of state) }
-    ensures { AnswersTo n (with_read_rule (said_of state) (rule_line_of state.chains (words line.now))) result }
+    ensures { AnswersTo (with_read_rule (said_of state) (rule_line_of state.chains (word.now ∷ rest.entry))) result }
 {
-    match rule_line_of(&state.chains, line) {
-        Ok((chain, rule)) => add_rule(state, n, chain, rule),
-        Err(why) => Err(refused(n, why)),
+    match rule_line_of(&state.chains, word, rest) {
+        Ok((chain, rule)) => add_rule(state, chain, rule),
+        Err(why) => Err(bad(why)),
     }
 }
 
-fn commit_line(mut state: Reader, n: u32, word: &[u8], mut rest: Words) -> Result<Reader, IptFault>
-    ensures { AnswersTo n (commit_line_of (said_of state) word.now rest.entry) result }
+fn commit_line(mut state: Reader, word: &[u8], mut rest: Words) -> Result<Reader, LineFault<IptWhy>>
+    ensures { AnswersTo (commit_line_of (said_of state) word.now rest.entry) result }
 {
     if word != b"COMMIT".as_slice() {
-        return Err(refused(n, IptWhy::BadLine));
+        return Err(bad(IptWhy::BadLine));
     }
     if rest.next_word().is_some() {
-        return Err(refused(n, IptWhy::BadLine));
+        return Err(bad(IptWhy::BadLine));
     }
     state.stage = Stage::After;
     Ok(state)
 }
 
 #[tactic(auto, unfolding(crate::specs::LineStep::body_line_of))]
-fn body_line(
-    state: Reader,
-    n: u32,
-    line: &[u8],
-    word: &[u8],
-    rest: Words,
-) -> Result<Reader, IptFault>
-    requires fine { IsFine (said_of state) }
-    requires whole { words line.now ≡ word.now ∷ rest }
-    ensures { AnswersTo n (body_line_of n (said_of state) word.now rest.entry) result }
+fn body_line(state: Reader, n: u32, word: &[u8], rest: Words) -> Result<Reader, LineFault<IptWhy>>
+    requires { IsFine (said_of state) }
+    ensures { AnswersTo (body_line_of n (said_of state) word.now rest.entry) result }
 {
     if begins_with(word, b':') {
         return chain_line(state, n, word, rest);
     }
     if word == b"-A".as_slice() || begins_with(word, b'[') {
-        return rule_line(state, n, line);
+        return rule_line(state, word, rest);
     }
-    commit_line(state, n, word, rest)
+    commit_line(state, word, rest)
 }
 
 #[tactic(auto, unfolding(crate::specs::LineStep::line_of_words))]
-fn words_line(state: Reader, n: u32, line: &[u8]) -> Result<Reader, IptFault>
+fn words_line(state: Reader, n: u32, line: &[u8]) -> Result<Reader, LineFault<IptWhy>>
     requires { IsFine (said_of state) }
-    ensures { AnswersTo n (line_step n (said_of state) line.now) result }
+    ensures { AnswersTo (line_step n (said_of state) line.now) result }
 {
     let mut rest = Words::new(line);
     let Some(word) = rest.next_word() else {
-        return Err(refused(n, IptWhy::BadLine));
+        return Err(bad(IptWhy::BadLine));
     };
     match state.stage {
-        Stage::Front => table_line(state, n, word, rest),
-        Stage::Table => body_line(state, n, line, word, rest),
-        Stage::After => Err(refused(n, IptWhy::AfterCommit)),
+        Stage::Front => table_line(state, word, rest),
+        Stage::Table => body_line(state, n, word, rest),
+        Stage::After => Err(bad(IptWhy::AfterCommit)),
     }
 }
 
-/// One line more.
-pub(crate) fn read_line(state: Reader, n: u32, line: &[u8]) -> Result<Reader, IptFault>
-    requires { IsFine (said_of state) }
-    ensures { AnswersTo n (past_comment line_step n (said_of state) line.now) result }
-{
-    if is_comment(line) {
-        return Ok(state);
+impl LineReader for Reader {
+    type Why = IptWhy;
+
+    ghost Said = { SaidSoFar };
+
+    ghost text = { rules_text };
+
+    ghost said = { said_of };
+
+    ghost holds = { λ reader. IsFine (said_of reader) };
+
+    fn limit(&self) -> (usize, IptWhy) {
+        (BYTE_LIMIT, IptWhy::TooLong)
     }
-    words_line(state, n, line)
+
+    fn read_line(self, number: u32, line: &[u8]) -> Result<Reader, LineFault<IptWhy>> {
+        words_line(self, number, line)
+    }
 }
 
 /// The state in front of the first line.

@@ -3,7 +3,6 @@
 ghost use Rattle.std.specs.Prelude.{◌≡◌, ◌<◌, ◌∷◌, [], IfOk, length};
 ghost use Rattle.std.specs.Char.{is_ascii_digit};
 ghost use Rattle.std.specs.List.{list_all};
-ghost use Rattle.text_core.specs.Lines.{words};
 ghost use Rattle.text_core.specs.Pieces.{split_once};
 ghost use Rattle.ipt_read.specs.declared.option.Place.TheVariants.{AtOption};
 ghost use Rattle.ipt_read.specs.Counts.{is_nothing, is_bytes_part, is_packets_part, is_count};
@@ -180,23 +179,23 @@ fn append_of(chains: &Chains, first: &[u8], mut line: Words) -> Result<(u16, Rul
     }
 }
 
-/// The rule of a line, and the number of its chain.
+/// The rule of a line of these words, and the number of its chain.
 #[tactic(auto, unfolding(crate::specs::RuleLine::rule_line_of))]
-pub(crate) fn rule_line_of(chains: &Chains, line: &[u8]) -> Result<(u16, Rule), IptWhy>
-    ensures { result ≡ rule_line_of chains.now (words line.now) }
+pub(crate) fn rule_line_of(
+    chains: &Chains,
+    first: &[u8],
+    mut rest: Words,
+) -> Result<(u16, Rule), IptWhy>
+    ensures { result ≡ rule_line_of chains.now (first.now ∷ rest.entry) }
 {
-    let mut words = Words::new(line);
-    let Some(first) = words.next_word() else {
-        return Err(IptWhy::BadLine);
-    };
     if !begins_with(first, b'[') {
-        return append_of(chains, first, words);
+        return append_of(chains, first, rest);
     }
     if !is_count(first) {
         return Err(IptWhy::BadLine);
     }
-    let Some(second) = words.next_word() else {
+    let Some(second) = rest.next_word() else {
         return Err(IptWhy::BadLine);
     };
-    append_of(chains, second, words)
+    append_of(chains, second, rest)
 }

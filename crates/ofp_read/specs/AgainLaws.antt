@@ -15,7 +15,8 @@ use Rattle.ofp_rules.specs.LineLaws.{entry_line_short}
 use Rattle.ofp_rules.specs.Matching.{asks_of_ip}
 use Rattle.ofp_rules.specs.Ranges.{in_range, AreInRange}
 use Rattle.ofp_rules.specs.Text.{text}
-use Rattle.ofp_read.specs.Grammar.{AddsEntry, IsReading}
+use Rattle.ofp_read.specs.Grammar.{AddsEntry}
+use Rattle.ofp_read.specs.TextLines.{IsReading}
 use Rattle.ofp_read.specs.WrittenLaws.{bare_line, line_is, bare_writes, bare_lacks, bare_flow}
 
 -- 1. How long it is.
@@ -82,4 +83,5 @@ text_read_again entries table =
       short = omega (arith, text_short entries table.in_range);
       told = subst (λ (ls : List (List ℕ)). Follows AddsEntry 1 [] ls entries) (sym (lines_of entries table.in_range))
           (entries_follow 1 [] entries table.accepted table.asks table.in_range);
+      ends = tt;
     }

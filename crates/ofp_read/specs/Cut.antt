@@ -1,4 +1,4 @@
--- Where the fields of a flow line end, and its action begins (ovs-ofctl(8), "Flow Syntax").
+-- Where the reader ends the fields of a flow line, and begins its action. Callers see none of it; they have `Grammar` and `Unwritten`.
 use Rattle.std.specs.Prelude.{ℕ, Bool, ◌&&◌, if◌then◌else◌, List, [], ◌∷◌, Option, Some, None, codes, bytes_eq, take}
 use Rattle.std.specs.Option.{option_map}
 use Rattle.ofp_read.specs.Grammar.{is_separator}

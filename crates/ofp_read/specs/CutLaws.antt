@@ -10,10 +10,6 @@ use Rattle.ofp_read.specs.Cut.{begins_action, cut_action}
 abbrev pub shifted : List ℕ → Option (List ℕ × List ℕ) → Option (List ℕ × List ℕ)
 shifted front parts = option_map (λ (p : List ℕ × List ℕ). (front ++ p.0, p.1)) parts
 
-shifted_none : (o : Option (List ℕ × List ℕ)) → shifted [] o ≡ o
-shifted_none None = refl
-shifted_none (Some p) = refl
-
 shifted_once : (front : List ℕ) (b : ℕ) (o : Option (List ℕ × List ℕ)) → shifted front (shifted (b ∷ []) o) ≡ shifted (front ++ b ∷ []) o
 shifted_once front b None = refl
 shifted_once front b (Some p) = ap (λ bs. Some (bs, p.1)) (sym (append_assoc front (b ∷ []) p.0))

@@ -1,9 +1,7 @@
--- The grammar of the text of a flow table: which lines a text has, and which fields and which action a line (ovs-ofctl(8), "Flow Syntax";
--- ovs-fields(7)).
-use Rattle.std.specs.Prelude.{◌≡◌, ◌≢◌, ◌<◌, ◌≤◌, ◌^◌, ◌⊎◌, ◌||◌, ◌==◌, ℕ, Bool, true, false, IsTrue, List, [], ◌∷◌, ◌++◌, Option, Some, None, length, codes, decimal}
+-- The grammar of a flow line: which fields and which action it has, and what it adds (ovs-ofctl(8), "Flow Syntax"; ovs-fields(7)).
+use Rattle.std.specs.Prelude.{◌≡◌, ◌≢◌, ◌<◌, ◌^◌, ◌⊎◌, ◌||◌, ◌==◌, ℕ, Bool, true, false, IsTrue, List, [], ◌∷◌, ◌++◌, Option, Some, None, length, codes, decimal}
 use Rattle.std.specs.List.{filter, list_all, slice_split}
-use Rattle.text_core.specs.Lines.{lines, is_blank}
-use Rattle.text_core.specs.Reading.{Follows}
+use Rattle.text_core.specs.Lines.{is_blank}
 use Rattle.host_net.specs.declared.prefix.Prefix.{Prefix}
 use Rattle.host_net.specs.PrefixView.{IsSpelling}
 use Rattle.host_net.specs.Service.{icmp, tcp, udp}
@@ -40,6 +38,17 @@ pub data Part : Type 0 where
   source_port : Part
   destination_port : Part
 
+-- the name in front of the value of a field about a part
+abbrev pub name_of : Part → List ℕ
+name_of priority = codes "priority="
+name_of table = codes "table="
+name_of kind = codes "dl_type="
+name_of protocol = codes "nw_proto="
+name_of source = codes "nw_src="
+name_of destination = codes "nw_dst="
+name_of source_port = codes "tp_src="
+name_of destination_port = codes "tp_dst="
+
 -- a frame kind, by its name or by the number of its EtherType
 abbrev pub IsKindText : FrameKind → List ℕ → Type 0
 IsKindText Any text = ⊥
@@ -64,14 +73,14 @@ pub record IsNumberText (name : List ℕ) (limit : ℕ) (given : Option ℕ) (te
 
 -- the field says of this part what the entry has there; there is only table 0
 abbrev pub Says : Part → Entry → List ℕ → Type 0
-Says priority e text = IsNumberText (codes "priority=") (2 ^ 16) (Some e.priority) text
-Says table e text = text ≡ codes "table=0"
+Says priority e text = IsNumberText (name_of priority) (2 ^ 16) (Some e.priority) text
+Says table e text = text ≡ name_of table ++ codes "0"
 Says kind e text = IsKindText e.kind text
-Says source e text = IsAddressText (codes "nw_src=") e.src text
-Says destination e text = IsAddressText (codes "nw_dst=") e.dst text
-Says protocol e text = IsNumberText (codes "nw_proto=") (2 ^ 8) e.proto text
-Says source_port e text = IsNumberText (codes "tp_src=") (2 ^ 16) e.tp_src text
-Says destination_port e text = IsNumberText (codes "tp_dst=") (2 ^ 16) e.tp_dst text
+Says source e text = IsAddressText (name_of source) e.src text
+Says destination e text = IsAddressText (name_of destination) e.dst text
+Says protocol e text = IsNumberText (name_of protocol) (2 ^ 8) e.proto text
+Says source_port e text = IsNumberText (name_of source_port) (2 ^ 16) e.tp_src text
+Says destination_port e text = IsNumberText (name_of destination_port) (2 ^ 16) e.tp_dst text
 
 -- IPv4 frames of a protocol, by its name
 abbrev pub IsProtocolText : FrameKind → Option ℕ → List ℕ → Type 0
@@ -137,8 +146,6 @@ pub record Writes (line : List ℕ) (e : Entry) : Type 0 where
   pub blank : IsTrue (list_all is_blank blanks)
   pub asks : IsTrue (asks_of_ip e)
 
--- 3. Texts.
-
 -- a line adds the entry that it writes: fewer than 8,192 stand before it, and none of them contradicts it
 pub record AddsEntry (n : ℕ) (before : List Entry) (line : List ℕ) (now : List Entry) : Type 0 where
   pub entry : Entry
@@ -146,8 +153,3 @@ pub record AddsEntry (n : ℕ) (before : List Entry) (line : List ℕ) (now : Li
   pub few : length before < most_entries
   pub clear : ContradictsNone before entry
   pub added : now ≡ before ++ entry ∷ []
-
--- the reading of a text: its entries, line by line
-pub record IsReading (bytes : List ℕ) (entries : List Entry) : Type 0 where
-  pub short : length bytes ≤ 67108864
-  pub told : Follows AddsEntry 1 [] (lines bytes) entries

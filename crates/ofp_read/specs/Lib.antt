@@ -1,5 +1,6 @@
 pub mod Grammar
 pub mod AgainLaws
+pub mod ApartLaws
 pub mod FieldTable
 pub mod FaultLaws
 pub mod FlowLine
@@ -7,7 +8,6 @@ pub mod Cut
 pub mod CutLaws
 pub mod PartLaws
 pub mod RangeLaws
-pub mod ReadAnswers
 pub mod NamedLaws
 pub mod KeyLaws
 pub mod FieldLaws

@@ -39,7 +39,7 @@ apart_whole (b ∷ bs) = apart_last b bs
 -- what is cut: the text in front, and the text from the action on
 pub record IsCut (begins : Bool) (line front rest : List ℕ) : Type 0 where
   pub whole : line ≡ front ++ rest
-  apart : apart_from begins front ≡ true
+  pub apart : apart_from begins front ≡ true
   pub starts : begins_action rest ≡ true
 
 same_parts : (p q : List ℕ × List ℕ) → Some p ≡ Some q → p ≡ q
@@ -217,10 +217,10 @@ says_begins protocol e text says = ap begins_action says.written
 says_begins source_port e text says = ap begins_action says.written
 says_begins destination_port e text says = ap begins_action says.written
 
-abbrev is_field : List ℕ → Bool
+abbrev pub is_field : List ℕ → Bool
 is_field text = not (begins_action text)
 
-fields_begin : (e : Entry) (parts : List Part) (texts : List (List ℕ)) → EachSays e parts texts → list_all is_field texts ≡ true
+pub fields_begin : (e : Entry) (parts : List Part) (texts : List (List ℕ)) → EachSays e parts texts → list_all is_field texts ≡ true
 fields_begin e [] [] no_field = refl
 fields_begin e [] (text ∷ texts) says = elim says [ ]
 fields_begin e (p ∷ ps) [] says = elim says [ ]
@@ -230,7 +230,7 @@ fields_begin e (kind ∷ protocol ∷ ps) (text ∷ texts) (two_parts says rest)
     and_from (is_field text) (list_all is_field texts) (ap not (protocol_begins e.kind e.proto text says)) (fields_begin e ps texts rest)
 
 -- nor does what has no bytes
-pieces_begin : (pieces : List (List ℕ)) → list_all is_field (filter has_bytes pieces) ≡ true → list_all is_field pieces ≡ true
+pub pieces_begin : (pieces : List (List ℕ)) → list_all is_field (filter has_bytes pieces) ≡ true → list_all is_field pieces ≡ true
 pieces_begin [] h = refl
 pieces_begin ([] ∷ pieces) h = pieces_begin pieces h
 pieces_begin ((b ∷ bs) ∷ pieces) h =
@@ -298,11 +298,11 @@ piece_begins piece behind s separates none = split_bool (begins_action (piece ++
     (λ other. other)
 
 -- where a field begins in front of pieces it does not begin as the action, nor do the further ones
-abbrev none_begins : Bool → List (List ℕ) → Bool
+abbrev pub none_begins : Bool → List (List ℕ) → Bool
 none_begins begins [] = true
 none_begins begins (piece ∷ pieces) = not (begins && begins_action piece) && list_all is_field pieces
 
-all_begin : (pieces : List (List ℕ)) → list_all is_field pieces ≡ true → none_begins true pieces ≡ true
+pub all_begin : (pieces : List (List ℕ)) → list_all is_field pieces ≡ true → none_begins true pieces ≡ true
 all_begin [] h = refl
 all_begin (piece ∷ pieces) h = h
 
@@ -327,7 +327,7 @@ not_begun true b bs rest apart none =
     negated true h = cc
     negated false h = refl
 
-cut_written : (begins : Bool) (front rest : List ℕ) → apart_from begins front ≡ true
+pub cut_written : (begins : Bool) (front rest : List ℕ) → apart_from begins front ≡ true
     → none_begins begins (slice_split is_separator front) ≡ true → begins_action rest ≡ true
     → cut_action begins (front ++ rest) ≡ Some (front, rest)
 cut_written begins [] [] apart none starts = cc

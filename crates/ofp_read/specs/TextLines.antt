@@ -1,7 +1,6 @@
--- The first fault of the text of a flow table.
-use Rattle.std.specs.Prelude.{◌≡◌, ◌<◌, ◌≤◌, ℕ, ◌+◌, IsFalse, List, [], ◌∷◌, ◌++◌, Some, length, slice_get}
-use Rattle.text_core.specs.Lines.{lines, is_comment}
-use Rattle.text_core.specs.Reading.{Follows}
+-- The text of a flow table: why a line cannot stand where it stands, and which entries a text has.
+use Rattle.std.specs.Prelude.{◌≡◌, ◌<◌, ◌≤◌, ℕ, List, [], Some, length, slice_get}
+use Rattle.text_core.specs.TextByLines.{TextByLines, IsReading as IsReadingOf, HasFault as HasFaultOf}
 use Rattle.ofp_rules.specs.declared.entry.Entry.{Entry}
 use Rattle.ofp_rules.specs.Ambiguity.{Contradict, most_entries}
 use Rattle.ofp_read.specs.declared.fault.OfpWhy.{OfpWhy}
@@ -16,19 +15,21 @@ pub data IsBad (before : List Entry) (line : List ℕ) : OfpWhy → Type 0 where
   ambiguous : (e f : Entry) (place : ℕ) → Writes line e → length before < most_entries → slice_get before place ≡ Some f
       → Contradict f e → IsBad before line Ambiguous
 
--- line `line` of those from line n on is the first that is bad: each line before it is a comment or adds its entry
-pub record IsFirstBad (n : ℕ) (entries : List Entry) (ls : List (List ℕ)) (line : ℕ) (why : OfpWhy) : Type 0 where
-  pub front : List (List ℕ)
-  pub here : List ℕ
-  pub behind : List (List ℕ)
-  pub before : List Entry
-  pub parts : ls ≡ front ++ here ∷ behind
-  pub read_before : Follows AddsEntry n entries front before
-  pub number : line ≡ n + length front
-  pub is_flow : IsFalse (is_comment here)
-  pub bad : IsBad before here why
+-- a text of flows, line by line: it says entries, and may end behind any of them
+abbrev pub flows_text : TextByLines (List Entry) OfpWhy
+flows_text = record {
+  byte_limit = 67108864;
+  when_longer = TooLong;
+  start = [];
+  IsLine = AddsEntry;
+  IsBadLine = λ n. IsBad;
+  MayEnd = λ entries. Unit {0};
+  EndsBadly = λ n entries line why. ⊥;
+}
 
--- the first fault of a text: it is too long; else its first line that is bad
-pub data HasFault (bytes : List ℕ) : ℕ → OfpWhy → Type 0 where
-  too_long : 67108864 < length bytes → HasFault bytes 0 TooLong
-  at_line : {line : ℕ} {why : OfpWhy} → length bytes ≤ 67108864 → IsFirstBad 1 [] (lines bytes) line why → HasFault bytes line why
+-- the reading of a text, and its first fault
+abbrev pub IsReading : List ℕ → List Entry → Type 0
+IsReading = IsReadingOf flows_text
+
+abbrev pub HasFault : List ℕ → ℕ → OfpWhy → Type 0
+HasFault = HasFaultOf flows_text

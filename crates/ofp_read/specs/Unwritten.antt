@@ -1,5 +1,5 @@
 -- Why a line writes no entry (ovs-ofctl(8), "Flow Syntax").
-use Rattle.std.specs.Prelude.{◌≡◌, ◌⊎◌, ℕ, true, IsTrue, IsFalse, List, [], ◌∷◌, ◌++◌, Some, None, codes}
+use Rattle.std.specs.Prelude.{◌≡◌, ◌≢◌, ◌⊎◌, ℕ, IsTrue, IsFalse, List, [], ◌∷◌, ◌++◌, Some, codes}
 use Rattle.std.specs.List.{list_all}
 use Rattle.text_core.specs.Lines.{is_blank}
 use Rattle.ofp_rules.specs.declared.entry.FrameKind.TheVariants.{Ip}
@@ -8,19 +8,7 @@ use Rattle.ofp_rules.specs.declared.entry.Entry.{Entry}
 use Rattle.ofp_rules.specs.Matching.{asks_of_ip}
 use Rattle.ofp_read.specs.declared.fault.OfpWhy.{OfpWhy}
 use Rattle.ofp_read.specs.declared.fault.OfpWhy.TheVariants.{BadLine, UnknownField, BadValue, NeedsIp, UnknownAction}
-use Rattle.ofp_read.specs.Cut.{cut_action}
-use Rattle.ofp_read.specs.Grammar.{Part, priority, table, kind, protocol, source, destination, source_port, destination_port, fields, IsProtocolText, EachSays, IsNoneOf, AreFieldsOf, IsActionText}
-
--- the name in front of the value of a field about a part
-abbrev pub name_of : Part → List ℕ
-name_of priority = codes "priority="
-name_of table = codes "table="
-name_of kind = codes "dl_type="
-name_of protocol = codes "nw_proto="
-name_of source = codes "nw_src="
-name_of destination = codes "nw_dst="
-name_of source_port = codes "tp_src="
-name_of destination_port = codes "tp_dst="
+use Rattle.ofp_read.specs.Grammar.{Part, kind, protocol, name_of, fields, IsProtocolText, EachSays, IsNoneOf, AreFieldsOf, IsActionText, ends_apart}
 
 -- a field is about these parts, whatever its value: it has their name, or is a name that stands alone
 pub data IsAbout : List Part → List ℕ → Type 0 where
@@ -41,26 +29,27 @@ pub data IsBadField (said : List Part) (text : List ℕ) : OfpWhy → Type 0 whe
   valueless : (parts : List Part) → IsAbout parts text → AreNew parts said
       → ((e : Entry) (ps : List Part) → EachSays e ps (text ∷ []) → ⊥) → IsBadField said text BadValue
 
--- the first of these fields that cannot follow those before it, which are fields of an entry
-pub record HasBadField (texts : List (List ℕ)) (why : OfpWhy) : Type 0 where
+-- the first field of a line that cannot follow those before it: these are fields of an entry, and it is no action
+pub record HasBadField (line : List ℕ) (why : OfpWhy) : Type 0 where
   pub front : List (List ℕ)
   pub here : List ℕ
   pub behind : List (List ℕ)
   pub entry : Entry
-  pub whole : texts ≡ front ++ here ∷ behind
+  pub whole : fields line ≡ front ++ here ∷ behind
   pub of_fields : AreFieldsOf entry front
+  pub no_action : (value : List ℕ) → here ≢ codes "actions=" ++ value
   pub bad : IsBadField of_fields.parts here why
 
 -- a line writes no entry: a field in front of its action is bad; or none is, and it has no action; or its action is neither of the
 -- two; or the entry asks of frames what not all of them have
 pub data IsUnwritten (line : List ℕ) : OfpWhy → Type 0 where
-  bad_field : {why : OfpWhy} (front action : List ℕ) → cut_action true line ≡ Some (front, action) → HasBadField (fields front) why
-      → IsUnwritten line why
-  bad_field_alone : {why : OfpWhy} → cut_action true line ≡ None → HasBadField (fields line) why → IsUnwritten line why
-  no_action : (e : Entry) → cut_action true line ≡ None → AreFieldsOf e (fields line) → IsUnwritten line BadLine
-  unknown_action : (e : Entry) (front rest : List ℕ) → cut_action true line ≡ Some (front, rest) → AreFieldsOf e (fields front)
-      → ((a : Action) (action blanks : List ℕ) → rest ≡ action ++ blanks → IsActionText a action → IsTrue (list_all is_blank blanks) → ⊥)
+  bad_field : {why : OfpWhy} → HasBadField line why → IsUnwritten line why
+  no_action : (e : Entry) → AreFieldsOf e (fields line) → IsUnwritten line BadLine
+  unknown_action : (e : Entry) (front text : List ℕ) → line ≡ front ++ (codes "actions=" ++ text) → IsTrue (ends_apart front)
+      → AreFieldsOf e (fields front)
+      → ((a : Action) (action blanks : List ℕ) → codes "actions=" ++ text ≡ action ++ blanks → IsActionText a action
+      → IsTrue (list_all is_blank blanks) → ⊥)
       → IsUnwritten line UnknownAction
-  needs_ip : (e : Entry) (front action blanks : List ℕ) → cut_action true line ≡ Some (front, action ++ blanks)
+  needs_ip : (e : Entry) (front action blanks : List ℕ) → line ≡ front ++ (action ++ blanks) → IsTrue (ends_apart front)
       → AreFieldsOf e (fields front) → IsActionText e.action action → IsTrue (list_all is_blank blanks) → IsFalse (asks_of_ip e)
       → IsUnwritten line NeedsIp

@@ -1,8 +1,8 @@
 -- Why a line writes no entry, said in the format's words, is what the steps find.
-use Rattle.std.proofs.Common.{◌≡◌, inl, inr, ℕ, Bool, true, false, ◌||◌, List, [], ◌∷◌, ◌++◌, Option, Some, None, refl, sym, ap, subst, ◌∙◌}
+use Rattle.std.proofs.Common.{◌≡◌, inl, inr, ℕ, Bool, true, false, ◌||◌, not, List, [], ◌∷◌, ◌++◌, Option, Some, None, drop, refl, sym, ap, subst, ◌∙◌, append_assoc}
 use Rattle.std.specs.Prelude.{Result, Ok, Err, codes, is_some, if◌then◌else◌, decimal}
 use Rattle.std.specs.Option.{ok_or}
-use Rattle.std.specs.List.{list_all}
+use Rattle.std.specs.List.{list_all, slice_split}
 use Rattle.text_core.specs.Lines.{words, is_blank}
 use Rattle.text_core.specs.StepsLaws.{if_parts, split_bool}
 use Rattle.ofp_rules.specs.declared.entry.FrameKind.{FrameKind}
@@ -16,16 +16,17 @@ use Rattle.ofp_read.specs.declared.fault.OfpWhy.TheVariants.{BadLine, UnknownFie
 use Rattle.ofp_read.specs.declared.given.Key.{Key}
 use Rattle.ofp_read.specs.declared.given.Key.TheVariants as key
 use Rattle.ofp_read.specs.declared.given.Given.{Given}
-use Rattle.ofp_read.specs.Cut.{cut_action}
+use Rattle.ofp_read.specs.ApartLaws.{action_begins, has_action, fields_apart, fields_in_front, is_field_at, no_field_is_action, is_field_of, in_front_of_action}
+use Rattle.ofp_read.specs.Cut.{begins_action, cut_action}
 use Rattle.ofp_read.specs.FieldTable.{key_with_value, key_alone, key_of, is_given, with_value, with_key, with_field}
 use Rattle.ofp_read.specs.FlowLine.{goes_on, nothing_given, with_fields, action_of, entry_of, with_action, flow_by, flow_of}
-use Rattle.ofp_read.specs.Grammar.{Part, priority, table, kind, protocol, source, destination, source_port, destination_port, fields, IsKindText, IsProtocolText, Says, EachSays, no_field, one_part, two_parts, IsNoneOf, AreDistinct, AreFieldsOf, IsActionText}
+use Rattle.ofp_read.specs.Grammar.{Part, priority, table, kind, protocol, source, destination, source_port, destination_port, name_of, is_separator, ends_apart, fields, IsKindText, IsProtocolText, Says, EachSays, no_field, one_part, two_parts, IsNoneOf, AreDistinct, AreFieldsOf, IsActionText}
 use Rattle.ofp_read.specs.KeyLaws.{field_of_key, key_priority, key_table, key_source, key_destination, key_protocol, key_source_port, key_destination_port}
 use Rattle.ofp_read.specs.PartLaws.{value_of, own_value, Lacks, Has, Same, OfEach, of_each, IsGiven, with_part, same_but, has_own}
 use Rattle.ofp_read.specs.FieldLaws.{step_of_read}
 use Rattle.ofp_read.specs.FieldsLaws.{goes_on_parts, fields_of_read, with_parts, read_of_each, part_now, all_free, read_of_fields}
-use Rattle.ofp_read.specs.LineLaws.{cut_parts, word_of_text, action_said, action_read}
-use Rattle.ofp_read.specs.Unwritten.{name_of, IsAbout, by_name, kind_alone, protocol_alone, AreNew, IsBadField, unknown, twice, valueless, HasBadField, IsUnwritten, bad_field, bad_field_alone, no_action, unknown_action, needs_ip}
+use Rattle.ofp_read.specs.LineLaws.{apart_whole, cut_parts, word_of_text, action_said, action_read, is_field, fields_begin, pieces_begin, all_begin, cut_written}
+use Rattle.ofp_read.specs.Unwritten.{IsAbout, by_name, kind_alone, protocol_alone, AreNew, IsBadField, unknown, twice, valueless, HasBadField, IsUnwritten, bad_field, no_action, unknown_action, needs_ip}
 
 -- 1. What a field is about.
 
@@ -377,7 +378,17 @@ given_by : (e : Entry) (texts : List (List ℕ)) (of_fields : AreFieldsOf e text
     → with_fields nothing_given texts ≡ Ok (with_parts of_fields.parts e nothing_given)
 given_by e texts of_fields = read_of_each e of_fields.parts texts nothing_given of_fields.each of_fields.once (all_free of_fields.parts)
 
-fields_refused : (texts : List (List ℕ)) (why : OfpWhy) → with_fields nothing_given texts ≡ Err why → HasBadField texts why
+-- the first of these fields that cannot follow those before it
+record HasBadOf (texts : List (List ℕ)) (why : OfpWhy) : Type 0 where
+  front : List (List ℕ)
+  here : List ℕ
+  behind : List (List ℕ)
+  entry : Entry
+  whole : texts ≡ front ++ here ∷ behind
+  of_fields : AreFieldsOf entry front
+  bad : IsBadField of_fields.parts here why
+
+fields_refused : (texts : List (List ℕ)) (why : OfpWhy) → with_fields nothing_given texts ≡ Err why → HasBadOf texts why
 fields_refused texts why h =
     let at = stops texts nothing_given why h in
     let of_fields = fields_of_read at.front at.now actions.Drop at.read in
@@ -394,7 +405,7 @@ fields_refused texts why h =
       bad = bad_by (entry_of at.now actions.Drop) of_fields.parts at.front at.here why (key_of at.here) of_fields.each refl refused refused;
     }
 
-refused_fields : (texts : List (List ℕ)) (why : OfpWhy) → HasBadField texts why → with_fields nothing_given texts ≡ Err why
+refused_fields : (texts : List (List ℕ)) (why : OfpWhy) → HasBadOf texts why → with_fields nothing_given texts ≡ Err why
 refused_fields texts why has =
     ap (with_fields nothing_given) has.whole
     ∙ stopped has.front has.here has.behind nothing_given (with_parts has.of_fields.parts has.entry nothing_given) why
@@ -405,12 +416,78 @@ refused_fields texts why has =
 err_why : (w v : OfpWhy) → ◌≡◌ {A = Result Entry OfpWhy} (Err w) (Err v) → w ≡ v
 err_why w v h = cc
 
+bad_in_line : (line front rest : List ℕ) (why : OfpWhy) → cut_action true line ≡ Some (front, rest) → HasBadOf (fields front) why
+    → HasBadField line why
+bad_in_line line front rest why cut bad =
+    let parts = cut_parts true line front rest cut in
+    let field = is_field_at bad.front bad.here bad.behind
+    (ap (list_all is_field) (sym bad.whole) ∙ fields_in_front line (Some (front, rest)) cut) in
+    record {
+      front = bad.front;
+      here = bad.here;
+      behind = bad.behind ++ fields rest;
+      entry = bad.entry;
+      whole = ap fields parts.whole ∙ fields_apart front rest parts.apart ∙ ap (λ fs. fs ++ fields rest) bad.whole
+          ∙ append_assoc bad.front (bad.here ∷ bad.behind) (fields rest);
+      of_fields = bad.of_fields;
+      no_action = λ value is. no_field_is_action bad.here value field is;
+      bad = bad.bad;
+    }
+
+bad_alone : (line : List ℕ) (why : OfpWhy) → cut_action true line ≡ None → HasBadOf (fields line) why → HasBadField line why
+bad_alone line why cut bad =
+    let field = is_field_at bad.front bad.here bad.behind (ap (list_all is_field) (sym bad.whole) ∙ fields_in_front line None cut) in
+    record {
+      front = bad.front;
+      here = bad.here;
+      behind = bad.behind;
+      entry = bad.entry;
+      whole = bad.whole;
+      of_fields = bad.of_fields;
+      no_action = λ value is. no_field_is_action bad.here value field is;
+      bad = bad.bad;
+    }
+
+bad_of_line : (line : List ℕ) (why : OfpWhy) → HasBadField line why → HasBadOf (fields line) why
+bad_of_line line why bad = record {
+  front = bad.front;
+  here = bad.here;
+  behind = bad.behind;
+  entry = bad.entry;
+  whole = bad.whole;
+  of_fields = bad.of_fields;
+  bad = bad.bad;
+}
+
+-- the bad field of a line that has an action stands in front of it
+bad_in_front : (line front rest : List ℕ) (why : OfpWhy) → cut_action true line ≡ Some (front, rest) → HasBadField line why
+    → HasBadOf (fields front) why
+bad_in_front line front rest why cut bad =
+    let parts = cut_parts true line front rest cut in
+    let action = has_action rest parts.starts in
+    let left = in_front_of_action (fields front) action.action action.others bad.front bad.here bad.behind
+    (ap (λ fs. fields front ++ fs) (sym action.whole) ∙ sym (fields_apart front rest parts.apart) ∙ ap fields (sym parts.whole) ∙ bad.whole)
+    action.begins (fields_begin bad.entry bad.of_fields.parts bad.front bad.of_fields.each) (is_field_of bad.here bad.no_action) in
+    record {
+      front = bad.front;
+      here = bad.here;
+      behind = left.0;
+      entry = bad.entry;
+      whole = left.1;
+      of_fields = bad.of_fields;
+      bad = bad.bad;
+    }
+
 action_by : (line front rest : List ℕ) (h : Given) (why : OfpWhy) (o : Option Action) → cut_action true line ≡ Some (front, rest)
     → with_fields nothing_given (fields front) ≡ Ok h → action_of (words rest) ≡ o → with_action h o ≡ Err why → IsUnwritten line why
 action_by line front rest h why None cut read is refused =
+    let parts = cut_parts true line front rest cut in
+    let begins = action_begins rest parts.starts in
     subst (IsUnwritten line) (err_why UnknownAction why refused)
-    (unknown_action (entry_of h actions.Drop) front rest cut (fields_of_read (fields front) h actions.Drop read)
-    (λ a action blanks whole text blank. none a (ap (λ t. action_of (words t)) whole ∙ (action_read a action blanks text blank).1)))
+    (unknown_action (entry_of h actions.Drop) front (drop 8 rest) (parts.whole ∙ ap (λ bs. front ++ bs) begins)
+    (apart_whole front ∙ parts.apart) (fields_of_read (fields front) h actions.Drop read)
+    (λ a action blanks whole text blank. none a
+    (ap (λ t. action_of (words t)) (begins ∙ whole) ∙ (action_read a action blanks text blank).1)))
   where
     none : (a : Action) → action_of (words rest) ≡ Some a → ⊥
     none a found = cc
@@ -418,24 +495,26 @@ action_by line front rest h why (Some a) cut read is refused =
     elim (if_parts (asks_of_ip (entry_of h a)) (Ok (entry_of h a)) (Err NeedsIp) (Err why) refused) [
       | inl asks ↦ let wrong = asks.1 in cc
       | inr none ↦
+          let parts = cut_parts true line front rest cut in
           let said = action_said (words rest) a is in
-          let word = word_of_text rest said.0 (cut_parts true line front rest cut).starts said.1 in
+          let word = word_of_text rest said.0 parts.starts said.1 in
           subst (IsUnwritten line) (err_why NeedsIp why none.1)
-          (needs_ip (entry_of h a) front said.0 word.blanks (cut ∙ ap (λ t. Some (front, t)) word.whole) (fields_of_read (fields front) h a read) said.2 word.blank none.0)
+          (needs_ip (entry_of h a) front said.0 word.blanks (parts.whole ∙ ap (λ t. front ++ t) word.whole) (apart_whole front ∙ parts.apart)
+          (fields_of_read (fields front) h a read) said.2 word.blank none.0)
     ]
 
 fields_by : (line front rest : List ℕ) (why : OfpWhy) (r : Result Given OfpWhy) → cut_action true line ≡ Some (front, rest)
     → with_fields nothing_given (fields front) ≡ r → goes_on r (λ h. with_action h (action_of (words rest))) ≡ Err why → IsUnwritten line why
 fields_by line front rest why (Err cause) cut read refused =
-    subst (IsUnwritten line) (err_why cause why refused) (bad_field front rest cut (fields_refused (fields front) cause read))
+    subst (IsUnwritten line) (err_why cause why refused) (bad_field (bad_in_line line front rest cause cut (fields_refused (fields front) cause read)))
 fields_by line front rest why (Ok h) cut read refused = action_by line front rest h why (action_of (words rest)) cut read refl refused
 
 alone_by : (line : List ℕ) (why : OfpWhy) (r : Result Given OfpWhy) → cut_action true line ≡ None → with_fields nothing_given (fields line) ≡ r
     → goes_on {B = Entry} r (λ h. Err BadLine) ≡ Err why → IsUnwritten line why
 alone_by line why (Err cause) cut read refused =
-    subst (IsUnwritten line) (err_why cause why refused) (bad_field_alone cut (fields_refused (fields line) cause read))
+    subst (IsUnwritten line) (err_why cause why refused) (bad_field (bad_alone line cause cut (fields_refused (fields line) cause read)))
 alone_by line why (Ok h) cut read refused =
-    subst (IsUnwritten line) (err_why BadLine why refused) (no_action (entry_of h actions.Drop) cut (fields_of_read (fields line) h actions.Drop read))
+    subst (IsUnwritten line) (err_why BadLine why refused) (no_action (entry_of h actions.Drop) (fields_of_read (fields line) h actions.Drop read))
 
 line_by : (line : List ℕ) (why : OfpWhy) (o : Option (List ℕ × List ℕ)) → cut_action true line ≡ o → flow_by line o ≡ Err why → IsUnwritten line why
 line_by line why None cut refused = alone_by line why (with_fields nothing_given (fields line)) cut refl refused
@@ -460,22 +539,53 @@ unasked h e same asks =
     let own : asks_of_ip (entry_of h e.action) ≡ false = ap asks_of_ip same ∙ asks in
     ap (λ t. if t then Ok (entry_of h e.action) else Err NeedsIp) own
 
+-- a line is cut behind the fields of an entry, where an action begins there
+cut_behind : (e : Entry) (line front rest : List ℕ) → line ≡ front ++ rest → ends_apart front ≡ true → AreFieldsOf e (fields front)
+    → begins_action rest ≡ true → cut_action true line ≡ Some (front, rest)
+cut_behind e line front rest whole apart of_fields begins =
+    let pieces = slice_split is_separator front in
+    ap (cut_action true) whole
+    ∙ cut_written true front rest (sym (apart_whole front) ∙ apart)
+    (all_begin pieces (pieces_begin pieces (fields_begin e of_fields.parts (fields front) of_fields.each))) begins
+
+bad_refused : (line : List ℕ) (why : OfpWhy) (o : Option (List ℕ × List ℕ)) → cut_action true line ≡ o → HasBadField line why
+    → flow_by line o ≡ Err why
+bad_refused line why None cut bad =
+    ap (λ r. goes_on {B = Entry} r (λ h. Err BadLine)) (refused_fields (fields line) why (bad_of_line line why bad))
+bad_refused line why (Some (front, rest)) cut bad =
+    ap (λ r. goes_on r (λ h. with_action h (action_of (words rest))))
+    (refused_fields (fields front) why (bad_in_front line front rest why cut bad))
+
+-- a line whose fields are all of an entry has no action
+no_action_refused : (line : List ℕ) (e : Entry) (o : Option (List ℕ × List ℕ)) → cut_action true line ≡ o → AreFieldsOf e (fields line)
+    → flow_by line o ≡ Err BadLine
+no_action_refused line e None cut of_fields =
+    ap (λ r. goes_on {B = Entry} r (λ h. Err BadLine)) (read_of_fields e (fields line) of_fields).1
+no_action_refused line e (Some (front, rest)) cut of_fields =
+    let parts = cut_parts true line front rest cut in
+    let action = has_action rest parts.starts in
+    let own = is_field_at (fields front) action.action action.others
+    (ap (list_all is_field) (ap (λ fs. fields front ++ fs) (sym action.whole) ∙ sym (fields_apart front rest parts.apart)
+    ∙ ap fields (sym parts.whole))
+    ∙ fields_begin e of_fields.parts (fields line) of_fields.each) in
+    let clash : is_field action.action ≡ false = ap not action.begins in cc
+
 pub refused_by_steps : (line : List ℕ) (why : OfpWhy) → IsUnwritten line why → flow_of line ≡ Err why
 unfolding flow_of
-refused_by_steps line why (bad_field front action cut bad) =
-    ap (flow_by line) cut ∙ ap (λ r. goes_on r (λ h. with_action h (action_of (words action)))) (refused_fields (fields front) why bad)
-refused_by_steps line why (bad_field_alone cut bad) =
-    ap (flow_by line) cut ∙ ap (λ r. goes_on {B = Entry} r (λ h. Err BadLine)) (refused_fields (fields line) why bad)
-refused_by_steps line why (no_action e cut of_fields) =
-    ap (flow_by line) cut ∙ ap (λ r. goes_on {B = Entry} r (λ h. Err BadLine)) (read_of_fields e (fields line) of_fields).1
-refused_by_steps line why (unknown_action e front rest cut of_fields none) =
+refused_by_steps line why (bad_field bad) = bad_refused line why (cut_action true line) refl bad
+refused_by_steps line why (no_action e of_fields) = no_action_refused line e (cut_action true line) refl of_fields
+refused_by_steps line why (unknown_action e front text whole apart of_fields none) =
+    let rest = codes "actions=" ++ text in
     let given = read_of_fields e (fields front) of_fields in
-    ap (flow_by line) cut
+    let starts : begins_action rest ≡ true = refl in
+    ap (flow_by line) (cut_behind e line front rest whole apart of_fields starts)
     ∙ ap (λ r. goes_on r (λ h. with_action h (action_of (words rest)))) given.1
-    ∙ no_such_action rest given.0 (λ w is. let word = word_of_text rest w (cut_parts true line front rest cut).starts is in (word.blanks, word.whole, word.blank)) (action_of (words rest)) refl none
-refused_by_steps line why (needs_ip e front action blanks cut of_fields text blank asks) =
+    ∙ no_such_action rest given.0 (λ w is. let word = word_of_text rest w starts is in (word.blanks, word.whole, word.blank))
+    (action_of (words rest)) refl none
+refused_by_steps line why (needs_ip e front action blanks whole apart of_fields text blank asks) =
     let given = read_of_fields e (fields front) of_fields in
-    ap (flow_by line) cut
+    let read = action_read e.action action blanks text blank in
+    ap (flow_by line) (cut_behind e line front (action ++ blanks) whole apart of_fields read.0)
     ∙ ap (λ r. goes_on r (λ h. with_action h (action_of (words (action ++ blanks))))) given.1
-    ∙ ap (with_action given.0) (action_read e.action action blanks text blank).1
+    ∙ ap (with_action given.0) read.1
     ∙ unasked given.0 e given.2 asks

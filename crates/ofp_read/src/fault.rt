@@ -1,5 +1,6 @@
 //! Why a text is no flow table.
 
+use text_core::TextFault;
 use thiserror::Error;
 
 /// Why a line adds no entry to those before it.
@@ -32,11 +33,5 @@ pub enum OfpWhy {
     TooMany,
 }
 
-/// The first line that adds no entry, from 1, and why; line 0 stands for the whole text.
-#[derive(Clone, Copy, Debug, PartialEq, Eq, Error)]
-pub enum OfpFault {
-    #[error("line {line}: {why}")]
-    Refused { line: u32, why: OfpWhy },
-    #[error("out of memory")]
-    Memory,
-}
+/// The first line that adds no entry, and why.
+pub type OfpFault = TextFault<OfpWhy>;

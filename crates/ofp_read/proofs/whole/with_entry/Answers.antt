@@ -1,9 +1,9 @@
 use Rattle.std.proofs.Common.{subst}
 use Rattle.ofp_rules.specs.AddingLaws.{contradicts_none}
 use Rattle.ofp_rules.specs.Build.{IsTable}
-use Rattle.ofp_read.proofs.whole.add_entry.Goals as goal
+use Rattle.ofp_read.proofs.whole.with_entry.Goals as goal
 
 pub returns-in-Ok-clause-clear : goal.returns-in-Ok-clause-clear
 returns-in-Ok-clause-clear c =
     let table = subst IsTable c.in-Ok.ensures.added c.in-Ok.ensures.table in
-    contradicts_none c.args.table.now c.args.entry table.accepted.1
+    contradicts_none c.args.table c.args.entry table.accepted.1
