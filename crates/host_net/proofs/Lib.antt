@@ -1,3 +1,4 @@
+pub mod CoverLemmas
 pub mod HostsKept
 pub mod HostsLemmas
 pub mod OverlapLemmas

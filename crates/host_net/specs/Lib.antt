@@ -1,4 +1,6 @@
 pub mod AcceptedLaws
+pub mod Cover
+pub mod CoverView
 pub mod Host
 pub mod Hosts
 pub mod HostsView

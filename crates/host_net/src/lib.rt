@@ -4,6 +4,7 @@
 #![tactic(auto)]
 
 mod addresses;
+mod cover;
 mod hosts;
 mod name;
 mod overlap;
@@ -16,6 +17,7 @@ mod services;
 #[cfg(test)]
 mod tests;
 
+pub use cover::{Covers, Ends};
 pub use hosts::Hosts;
 pub use name::Name;
 pub use packet::{CtState, Packet, Verdict};

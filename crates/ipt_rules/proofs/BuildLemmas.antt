@@ -6,6 +6,7 @@ use Rattle.std.proofs.lemmas.Bool.{and_from}
 use Rattle.std.proofs.lemmas.Bool.Decides.{nat_tests}
 use Rattle.std.specs.Prelude.{is_some}
 use Rattle.std.specs.List.{position_from, list_all}
+use Rattle.host_net.specs.declared.cover.Covers.{Covers}
 use Rattle.ipt_rules.specs.declared.rule.Rule.{Rule}
 use Rattle.ipt_rules.specs.declared.ruleset.BuildRefusal.{BuildRefusal}
 use Rattle.ipt_rules.specs.declared.ruleset.BuildRefusal.TheVariants.{UnknownChain}
@@ -14,6 +15,7 @@ use Rattle.ipt_rules.specs.ChainTable.{rule_count, IsChainList}
 use Rattle.ipt_rules.specs.Build.{jumps_nowhere, place_of_unknown, unknown_at, first_unknown, refusal_of}
 use Rattle.ipt_rules.specs.Jumps.{JumpsAreKnown, IsRuleset}
 use Rattle.ipt_rules.specs.Loops.{jumps_from}
+use Rattle.ipt_rules.specs.Next.{AreIndexes}
 use Rattle.ipt_rules.specs.Ranks.{IsRanking}
 use Rattle.ipt_rules.specs.Starts.{starts_from}
 
@@ -79,10 +81,10 @@ pub few_rules_of : (xs : List Chain) → refusal_of xs ≡ None → rule_count x
 unfolding fine_parts
 few_rules_of xs fine = (fine_parts xs fine).few_rules
 
-pub built : (xs : List Chain) (n : ℕ) (starts order : List ℕ) (places : List (Option ℕ)) → IsChainList xs n → refusal_of xs ≡ None → starts ≡ starts_from 0 xs
-    → IsRanking (jumps_from xs) (length xs) order places → IsRuleset xs n starts order places
+pub built : (xs : List Chain) (n : ℕ) (starts order : List ℕ) (places : List (Option ℕ)) (indexes : List Covers) → IsChainList xs n → refusal_of xs ≡ None → starts ≡ starts_from 0 xs
+    → IsRanking (jumps_from xs) (length xs) order places → AreIndexes indexes xs → IsRuleset xs n starts order places indexes
 unfolding fine_parts
-built xs n starts order places chains fine begin ranking =
+built xs n starts order places indexes chains fine begin ranking are =
     let parts = fine_parts xs fine in
     record {
       list = chains;
@@ -92,4 +94,5 @@ built xs n starts order places chains fine begin ranking =
       jumps = known_of xs fine;
       starts_are = begin;
       ranking = ranking;
+      indexes_are = are;
     }

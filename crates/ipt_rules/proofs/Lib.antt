@@ -12,4 +12,5 @@ pub mod TextLemmas
 pub mod RuleLemmas
 pub mod TableLaws
 pub mod NameLemmas
+pub mod NextLemmas
 pub mod NoLoopLemmas

@@ -11,6 +11,7 @@ pub mod Matching
 pub mod Meaning
 pub mod MeaningLaws
 pub mod Name
+pub mod Next
 pub mod OneOutcome
 pub mod Ranked
 pub mod Ranks

@@ -8,6 +8,7 @@ mod chains;
 mod jumps;
 mod loops;
 mod name;
+mod next;
 mod pieces;
 mod ranking;
 mod rule;

@@ -12,11 +12,12 @@ ghost use Rattle.ipt_rules.specs.OneOutcome.{HasVerdict, EachGivesOne};
 use crate::chain::Chain;
 use crate::chains::Chains;
 use crate::loops::{Ranked, rank_chains};
+use crate::next::indexes_of;
 use crate::ranking::{CHAIN_LIMIT, Ranking};
 use crate::rule::{Rule, Target};
 use crate::starts::starts_of;
 use crate::walk::{outcome, policy_of, policy_verdict};
-use host_net::{CtState, Packet, Verdict};
+use host_net::{Covers, CtState, Packet, Verdict};
 use std::alloc::Global;
 use std::marker::Model;
 
@@ -50,6 +51,7 @@ pub struct Ruleset {
     /// The number of each chain's first rule among the rules of all chains.
     pub(crate) starts: Vec<u32>,
     ranking: Ranking,
+    indexes: Vec<Covers>,
 }
 
 impl Model for Ruleset {
@@ -62,7 +64,7 @@ impl Model for Ruleset {
 
     ghost view = { λ r. r.chains.items };
 
-    ghost invariant = { λ r. IsRuleset r.chains.items r.rules r.starts.items r.ranking.order.items r.ranking.places.items };
+    ghost invariant = { λ r. IsRuleset r.chains.items r.rules r.starts.items r.ranking.order.items r.ranking.places.items r.indexes.items };
 }
 
 impl Ruleset {
@@ -82,12 +84,16 @@ impl Ruleset {
         }
         match rank_chains(alloc, &chains.chains) {
             Ok(Ranked::Order(ranking)) => match starts_of(alloc, &chains.chains) {
-                Ok(starts) => Ok(Ruleset {
-                    chains: chains.chains,
-                    rules: chains.rules,
-                    starts,
-                    ranking,
-                }),
+                Ok(starts) => match indexes_of(alloc, &chains.chains) {
+                    Ok(indexes) => Ok(Ruleset {
+                        chains: chains.chains,
+                        rules: chains.rules,
+                        starts,
+                        ranking,
+                        indexes,
+                    }),
+                    Err(_) => Err(BuildRefusal::Memory),
+                },
                 Err(_) => Err(BuildRefusal::Memory),
             },
             Ok(Ranked::Loop(chain)) => Err(BuildRefusal::Loop { chain }),
@@ -108,7 +114,14 @@ impl Ruleset {
         requires { chain < 3 }
         ensures { HasVerdictIn self.now chain packet.now state result }
     {
-        match outcome(&self.chains, &self.ranking, chain, packet, state) {
+        match outcome(
+            &self.chains,
+            &self.indexes,
+            &self.ranking,
+            chain,
+            packet,
+            state,
+        ) {
             Some(verdict) => verdict,
             None => policy_verdict(policy_of(&self.chains, chain)),
         }

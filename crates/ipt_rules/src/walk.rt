@@ -1,7 +1,8 @@
 //! What the chains give a packet. They are gone through by their order and not along the jumps:
 //! first backwards, to mark the chains that the packet comes to, and then forwards, to give each
 //! marked chain its outcome, where those of the chains that it jumps to are there already. So it
-//! takes no more memory, and no longer, however the jumps are nested.
+//! takes no more memory, and no longer, however the jumps are nested. Of a chain only those rules are
+//! looked at whose prefixes cover the addresses of the packet.
 
 ghost use Rattle.std.specs.Prelude.{◌≡◌, ◌<◌, ◌≤◌, ℕ, length, Contains, Some, slice_get};
 ghost use Rattle.ipt_rules.specs.Matching.{matches};
@@ -11,11 +12,14 @@ ghost use Rattle.ipt_rules.specs.Meaning.{step_of, Gives, policy_verdict};
 ghost use Rattle.ipt_rules.specs.WalkView.{step_view};
 ghost use Rattle.ipt_rules.specs.Ranks.{place_of, outcome_at, IsBefore, IsRanking, IsSet};
 ghost use Rattle.ipt_rules.specs.Reached.{WalksTo, Marks, IsClosed, IsSettled};
+ghost use Rattle.ipt_rules.specs.Next.{AreIndexes, all_ends};
+ghost use Rattle.host_net.specs.CoverView.{IsIndexOf};
 
 use crate::chain::Chain;
+use crate::next::next_rule;
 use crate::ranking::{CHAIN_LIMIT, Ranking, place_of};
 use crate::rule::{Policy, Rule, Target};
-use host_net::{CtState, Packet, Verdict};
+use host_net::{Covers, CtState, Packet, Verdict};
 
 /// What one rule does with a packet: it goes on to the next rule, ends its chain with an outcome,
 /// or walks another chain. The outcome of a chain is a verdict, or None where it returns.
@@ -52,33 +56,39 @@ pub(crate) fn rules_of(chains: &[Chain], number: u16) -> &[Rule]
 /// Marks the places of the chains that matching jumps of the rules go to. All are before `own`.
 fn mark_jumps(
     rules: &[Rule],
+    index: &Covers,
     places: &[Option<u16>],
     own: usize,
     packet: &Packet,
     state: CtState,
     marked: &mut [bool],
 )
+    requires index { IsIndexOf (all_ends rules.now) index.now }
     requires room { own ≤ length marked.old }
     requires back { (d : ℕ) → Contains (jumps_of rules.now) d → IsBefore places.now d own }
     ensures { Marks (matches packet.now state) rules.now places.now own marked.old marked.new }
 {
-    for rule in rules {
-        if let Step::Walks(next) = step_at(rule, packet, state) {
+    let mut from = 0;
+    while let Some(at) = next_rule(index, from, packet) {
+        if let Step::Walks(next) = step_at(&rules[at], packet, state) {
             if let Some(place) = place_of(places, next) {
                 marked[place as usize] = true;
             }
         }
+        from = at + 1;
     }
 }
 
 /// Marks every chain that the packet comes to from the marked ones.
 fn mark_all(
     chains: &[Chain],
+    indexes: &[Covers],
     ranking: &Ranking,
     packet: &Packet,
     state: CtState,
     marked: &mut [bool],
 )
+    requires indexes { AreIndexes indexes.now chains.now }
     requires ranking { IsRanking (jumps_from chains.now) (length chains.now) ranking.now.order.items ranking.now.places.items }
     requires room { length chains.now ≤ length marked.old }
     ensures grows { (k : ℕ) → IsSet marked.old k → IsSet marked.new k }
@@ -89,7 +99,8 @@ fn mark_all(
         at -= 1;
         if marked[at] {
             let rules = rules_of(chains, ranking.order[at]);
-            mark_jumps(rules, &ranking.places, at, packet, state, marked);
+            let index = &indexes[ranking.order[at] as usize];
+            mark_jumps(rules, index, &ranking.places, at, packet, state, marked);
         }
     }
 }
@@ -97,6 +108,7 @@ fn mark_all(
 /// Marks the chain of that number and every chain that the packet comes to from it.
 fn mark_from(
     chains: &[Chain],
+    indexes: &[Covers],
     ranking: &Ranking,
     number: u16,
     packet: &Packet,
@@ -104,6 +116,7 @@ fn mark_from(
     marked: &mut [bool],
 )
     requires there { number < length chains.now }
+    requires indexes { AreIndexes indexes.now chains.now }
     requires ranking { IsRanking (jumps_from chains.now) (length chains.now) ranking.now.order.items ranking.now.places.items }
     requires room { length chains.now ≤ length marked.old }
     ensures first { (place : ℕ) → place_of ranking.now.places.items number ≡ Some place → IsSet marked.new place }
@@ -111,7 +124,7 @@ fn mark_from(
 {
     if let Some(place) = place_of(&ranking.places, number) {
         marked[place as usize] = true;
-        mark_all(chains, ranking, packet, state, marked);
+        mark_all(chains, indexes, ranking, packet, state, marked);
     } else {
         unreachable!()
     }
@@ -128,18 +141,21 @@ fn outcome_at(places: &[Option<u16>], outcomes: &[Option<Verdict>], number: u16)
 fn outcome_by(
     chains: &[Chain],
     number: u16,
+    index: &Covers,
     places: &[Option<u16>],
     outcomes: &[Option<Verdict>],
     packet: &Packet,
     state: CtState,
 ) -> Option<Verdict>
     requires there { number < length chains.now }
+    requires index { IsIndexOf (all_ends (rules_of chains.now number)) index.now }
     requires known { (d : ℕ) → WalksTo (matches packet.now state) (rules_of chains.now number) d → Gives (matches packet.now state) chains.now (rules_of chains.now d) (outcome_at places.now outcomes.now d) }
     ensures { Gives (matches packet.now state) chains.now (rules_of chains.now number) result }
 {
     let rules = rules_of(chains, number);
-    for rule in rules {
-        match step_at(rule, packet, state) {
+    let mut from = 0;
+    while let Some(at) = next_rule(index, from, packet) {
+        match step_at(&rules[at], packet, state) {
             Step::GoesOn => {}
             Step::Ends(outcome) => return outcome,
             Step::Walks(next) => {
@@ -149,6 +165,7 @@ fn outcome_by(
                 }
             }
         }
+        from = at + 1;
     }
     None
 }
@@ -156,12 +173,14 @@ fn outcome_by(
 /// Gives each marked chain its outcome.
 fn settle_all(
     chains: &[Chain],
+    indexes: &[Covers],
     ranking: &Ranking,
     marked: &[bool],
     packet: &Packet,
     state: CtState,
     outcomes: &mut [Option<Verdict>],
 )
+    requires indexes { AreIndexes indexes.now chains.now }
     requires ranking { IsRanking (jumps_from chains.now) (length chains.now) ranking.now.order.items ranking.now.places.items }
     requires marks { length chains.now ≤ length marked.now }
     requires room { length chains.now ≤ length outcomes.old }
@@ -170,7 +189,9 @@ fn settle_all(
 {
     for (at, number) in ranking.order.iter().enumerate() {
         if marked[at] {
-            let outcome = outcome_by(chains, *number, &ranking.places, outcomes, packet, state);
+            let index = &indexes[*number as usize];
+            let places = &ranking.places;
+            let outcome = outcome_by(chains, *number, index, places, outcomes, packet, state);
             outcomes[at] = outcome;
         }
     }
@@ -179,6 +200,7 @@ fn settle_all(
 /// What a chain gives a packet from its first rule.
 pub(crate) fn outcome(
     chains: &[Chain],
+    indexes: &[Covers],
     ranking: &Ranking,
     number: u16,
     packet: &Packet,
@@ -186,13 +208,22 @@ pub(crate) fn outcome(
 ) -> Option<Verdict>
     requires there { number < length chains.now }
     requires few { length chains.now ≤ 4096 }
+    requires indexes { AreIndexes indexes.now chains.now }
     requires ranking { IsRanking (jumps_from chains.now) (length chains.now) ranking.now.order.items ranking.now.places.items }
     ensures { Gives (matches packet.now state) chains.now (rules_of chains.now number) result }
 {
     let mut marked = [false; CHAIN_LIMIT];
-    mark_from(chains, ranking, number, packet, state, &mut marked);
+    mark_from(chains, indexes, ranking, number, packet, state, &mut marked);
     let mut outcomes = [None; CHAIN_LIMIT];
-    settle_all(chains, ranking, &marked, packet, state, &mut outcomes);
+    settle_all(
+        chains,
+        indexes,
+        ranking,
+        &marked,
+        packet,
+        state,
+        &mut outcomes,
+    );
     outcome_at(&ranking.places, &outcomes, number)
 }
 

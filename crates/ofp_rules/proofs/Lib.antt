@@ -1,3 +1,3 @@
 pub mod EntryLemmas
 pub mod MeetingLemmas
-pub mod StretchLemmas
+pub mod NextLemmas

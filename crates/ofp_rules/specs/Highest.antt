@@ -1,5 +1,5 @@
 -- The matching entry of the highest priority, found in one pass. Callers see none of it; they have `Meaning`.
-use Rattle.std.specs.Prelude.{ℕ, Bool, true, ◌&&◌, nat_lt, if◌then◌else◌, List, ◌++◌, Option, Some, None}
+use Rattle.std.specs.Prelude.{ℕ, Bool, true, ◌&&◌, nat_lt, if◌then◌else◌, List, Option, Some, None}
 use Rattle.host_net.specs.declared.packet.Verdict.{Verdict}
 use Rattle.host_net.specs.declared.packet.Verdict.TheVariants.{Drop as Dropped}
 use Rattle.ofp_rules.specs.declared.entry.Frame.{Frame}
@@ -23,7 +23,3 @@ higher frame found e = if matches frame e && is_above e.priority found then Some
 abbrev pub verdict_by : Option Entry → Verdict
 verdict_by None = Dropped
 verdict_by (Some e) = verdict_of e.action
-
--- beside whatever entries the first was found, the other is found with these entries behind them
-abbrev pub FindsMore : Frame → Option Entry → List Entry → Option Entry → Type 0
-FindsMore frame found entries more = (before : List Entry) → IsFound before frame found → IsFound (before ++ entries) frame more

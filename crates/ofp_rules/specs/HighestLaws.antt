@@ -39,7 +39,7 @@ pub with_first : (x : Entry) (xs : List Entry) → IsWith x xs (x ∷ xs)
 with_first x xs = record { new = inl refl; old = λ f h. inr h; only = λ f h. h }
 
 -- the entry does not match: what was found is found
-skipped : (frame : Frame) (x : Entry) (xs ys : List Entry) (found : Option Entry) → IsWith x xs ys → matches frame x ≡ false → IsFound xs frame found → IsFound ys frame found
+pub skipped : (frame : Frame) (x : Entry) (xs ys : List Entry) (found : Option Entry) → IsWith x xs ys → matches frame x ≡ false → IsFound xs frame found → IsFound ys frame found
 skipped frame x xs ys None more off is = λ f h on. elim (more.only f h) [
   | inl same ↦ let off_f : matches frame f ≡ false = ap (matches frame) same ∙ off in cc
   | inr old ↦ is f old on

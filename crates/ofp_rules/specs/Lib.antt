@@ -7,8 +7,8 @@ pub mod LineLaws
 pub mod Matching
 pub mod Meeting
 pub mod Meaning
+pub mod Next
 pub mod Ranges
 pub mod RangesLaws
-pub mod Stretches
 pub mod TableLaws
 pub mod Text

@@ -1,8 +1,7 @@
 //! One entry of a flow table, the frames, and which of them it matches.
 
-ghost use Rattle.std.specs.Prelude.{◌≡◌, IsTrue};
+ghost use Rattle.std.specs.Prelude.{◌≡◌};
 ghost use Rattle.ofp_rules.specs.Matching.{matches, number_matches, packet_matches, part_matches};
-ghost use Rattle.ofp_rules.specs.Stretches.{ShareSource, same_part, source_matches};
 
 use host_net::{Packet, Prefix};
 
@@ -54,26 +53,6 @@ impl Entry {
             _ => false,
         }
     }
-
-    /// Whether it matches the frame, but for what it asks of IPv4 beside the source.
-    pub(crate) fn source_matches(&self, frame: &Frame) -> bool
-        ensures { result ≡ source_matches frame.now self.now }
-    {
-        match (self.kind, *frame) {
-            (FrameKind::Any, _) => true,
-            (FrameKind::Arp, Frame::Arp) => true,
-            (FrameKind::Ip, Frame::Ipv4(packet)) => part_matches(self.src, packet.src),
-            _ => false,
-        }
-    }
-
-    /// Whether the two match the same frames, but for what they ask of IPv4 beside the source.
-    #[tactic(auto, using(crate::proofs::StretchLemmas::share_source))]
-    pub(crate) fn shares_source(&self, other: &Entry) -> bool
-        ensures { IsTrue result → ShareSource self.now other.now }
-    {
-        self.kind == other.kind && same_part(self.src, other.src)
-    }
 }
 
 fn packet_matches(entry: Entry, packet: Packet) -> bool
@@ -110,15 +89,5 @@ fn part_matches(part: Option<Prefix>, address: u32) -> bool
     match part {
         None => true,
         Some(prefix) => prefix.covers(address),
-    }
-}
-
-fn same_part(part: Option<Prefix>, other: Option<Prefix>) -> bool
-    ensures { result ≡ same_part part other }
-{
-    match (part, other) {
-        (None, None) => true,
-        (Some(p), Some(q)) => p.addr() == q.addr() && p.len() == q.len(),
-        _ => false,
     }
 }

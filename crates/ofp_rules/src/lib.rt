@@ -3,6 +3,7 @@
 
 mod entry;
 mod meeting;
+mod next;
 mod table;
 mod text;
 

@@ -8,11 +8,13 @@ ghost use Rattle.ofp_rules.specs.Matching.{asks_of_ip};
 ghost use Rattle.ofp_rules.specs.Ambiguity.{Contradict};
 ghost use Rattle.ofp_rules.specs.Build.{IsNotAdded, IsRefused, IsTable};
 ghost use Rattle.ofp_rules.specs.Meaning.{HasVerdict, verdict_of};
-ghost use Rattle.ofp_rules.specs.Highest.{FindsMore, IsFound, higher, is_above, verdict_by};
-ghost use Rattle.ofp_rules.specs.Stretches.{AreStretches, IsStretch, ShareLastSource};
+ghost use Rattle.ofp_rules.specs.Highest.{IsFound, higher, is_above, verdict_by};
+ghost use Rattle.ofp_rules.specs.Next.{all_ends};
+ghost use Rattle.host_net.specs.CoverView.{IsIndexOf};
 
 use crate::entry::{Action, Entry, Frame};
-use host_net::Verdict;
+use crate::next::next_entry;
+use host_net::{Covers, Verdict};
 use std::alloc::{AllocError, Global};
 use std::marker::Model;
 
@@ -47,8 +49,8 @@ impl From<AllocError> for TableRefusal {
 #[derive(Drop)]
 pub struct Table {
     pub(crate) entries: Vec<Entry>,
-    // Where stretches of entries of one kind and source begin, but for the first.
-    starts: Vec<usize>,
+    // Of what the entries ask of the addresses.
+    index: Covers,
 }
 
 impl Model for Table {
@@ -58,11 +60,12 @@ impl Model for Table {
     ghost Value = { List Entry };
 
     ghost use Rattle.ofp_rules.specs.Build.{IsTable};
-    ghost use Rattle.ofp_rules.specs.Stretches.{AreStretches};
+    ghost use Rattle.ofp_rules.specs.Next.{all_ends};
+    ghost use Rattle.host_net.specs.CoverView.{IsIndexOf};
 
     ghost view = { λ t. t.entries.items };
 
-    ghost invariant = { λ t. IsTable t.entries.items × AreStretches 0 t.starts.items t.entries.items };
+    ghost invariant = { λ t. IsTable t.entries.items × IsIndexOf (all_ends t.entries.items) t.index };
 }
 
 impl Table {
@@ -74,7 +77,7 @@ impl Table {
         let entries = Vec::with_capacity(alloc, FIRST_ROOM)?;
         Ok(Table {
             entries,
-            starts: Vec::new(alloc),
+            index: Covers::new(alloc),
         })
     }
 
@@ -134,9 +137,7 @@ impl Table {
         ensures table { IsTable self.new }
     {
         self.entries.reserve(1)?;
-        if begins_stretch(&self.entries, &entry) {
-            self.starts.push(self.entries.len())?;
-        }
+        self.index.add(entry.ends())?;
         self.entries.push(entry)?;
         Ok(())
     }
@@ -157,22 +158,11 @@ impl Table {
         self.entries[k as usize]
     }
 
-    /// What becomes of a frame. Entries that stand together and have one source are passed over
-    /// at once where it does not match.
+    /// What becomes of a frame. Only those entries are looked at whose prefixes cover its addresses.
     pub fn verdict(&self, frame: &Frame) -> Verdict
         ensures { HasVerdict self.now frame.now result }
     {
-        verdict_by(highest(&self.entries, &self.starts, frame))
-    }
-}
-
-/// Whether the entry does not share the source of the last one.
-fn begins_stretch(entries: &[Entry], entry: &Entry) -> bool
-    ensures { IsFalse result → ShareLastSource entries.now entry.now }
-{
-    match entries.last() {
-        Some(last) => !last.shares_source(entry),
-        None => false,
+        verdict_by(highest(&self.entries, &self.index, frame))
     }
 }
 
@@ -190,51 +180,18 @@ fn first_against(earlier: &[Entry], entry: &Entry) -> Option<usize>
     None
 }
 
-/// The matching entry of the highest priority, the first of several, of entries with the later
-/// stretches beginning at these places.
-fn highest<'a>(entries: &'a [Entry], starts: &[usize], frame: &Frame) -> Option<&'a Entry>
-    requires { AreStretches 0 starts.now entries.now }
+/// The matching entry of the highest priority, the first of several.
+fn highest<'a>(entries: &'a [Entry], index: &Covers, frame: &Frame) -> Option<&'a Entry>
+    requires { IsIndexOf (all_ends entries.now) index.now }
     ensures { IsFound entries.now frame.now (option_copied result) }
 {
     let mut found = None;
     let mut from = 0;
-    for to in starts {
-        found = highest_with(&entries[from..*to], frame, found);
-        from = *to;
+    while let Some(at) = next_entry(index, from, frame) {
+        found = higher(frame, found, &entries[at]);
+        from = at + 1;
     }
-    highest_with(&entries[from..], frame, found)
-}
-
-/// The highest of what was found and the entries of a stretch.
-fn highest_with<'a>(
-    stretch: &'a [Entry],
-    frame: &Frame,
-    found: Option<&'a Entry>,
-) -> Option<&'a Entry>
-    requires { IsStretch stretch.now }
-    ensures { FindsMore frame.now (option_copied found.entry) stretch.now (option_copied result) }
-{
-    let Some(first) = stretch.first() else {
-        return found;
-    };
-    if !first.source_matches(frame) {
-        return found;
-    }
-    highest_of(stretch, frame, found)
-}
-
-fn highest_of<'a>(
-    entries: &'a [Entry],
-    frame: &Frame,
-    found: Option<&'a Entry>,
-) -> Option<&'a Entry>
-    ensures { FindsMore frame.now (option_copied found.entry) entries.now (option_copied result) }
-{
-    let mut highest = found;
-    for entry in entries {
-        highest = higher(frame, highest, entry);
-    }
-    highest
+    found
 }
 
 fn higher<'a>(frame: &Frame, found: Option<&'a Entry>, entry: &'a Entry) -> Option<&'a Entry>

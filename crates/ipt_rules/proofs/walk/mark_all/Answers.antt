@@ -1,12 +1,34 @@
-use Rattle.std.proofs.Common.{◌≡◌, ◌-◌, ◌<◌, ℕ, List, Option, Some, length, refl, subst, arith}
-use Rattle.std.specs.Prelude.{slice_get}
-use Rattle.std.proofs.lemmas.Option.{slice_get_read}
+use Rattle.std.proofs.Common.{◌≡◌, ◌-◌, ◌<◌, ℕ, List, Option, Some, length, refl, sym, ap, ◌∙◌, subst, arith}
+use Rattle.std.specs.Prelude.{slice_get, Contains}
+use Rattle.std.proofs.lemmas.Option.{same_Some, slice_get_read}
 use Rattle.ipt_rules.specs.declared.rule.Rule.{Rule}
 use Rattle.ipt_rules.specs.Chain.{rules_of}
+use Rattle.ipt_rules.specs.Loops.{jumps_of}
 use Rattle.ipt_rules.specs.Matching.{matches}
+use Rattle.ipt_rules.specs.Ranks.{IsBefore}
 use Rattle.ipt_rules.specs.Reached.{Marks}
 use Rattle.ipt_rules.proofs.MarkLemmas.{closed_more, closed_unmarked}
+use Rattle.ipt_rules.proofs.NextLemmas.{index_there}
 use Rattle.ipt_rules.proofs.walk.mark_all.Goals as goal
+
+pub mark_jumps-requires-clause-index : goal.mark_jumps-requires-clause-index
+mark_jumps-requires-clause-index c =
+    let low : c.loop-at.at - 1 < length c.args.ranking.now.order.items = omega (arith, c.loop-at-test.true, c.loop-at.invariant.within) in
+    let here : slice_get c.args.ranking.now.order.items (c.loop-at.at - 1) ≡ Some c.index.result.now = slice_get_read c.args.ranking.now.order.items (length c.args.ranking.now.order.items) (c.loop-at.at - 1) c.index.result.now refl low c.index.ensures in
+    let there : slice_get c.args.ranking.now.order.items (c.loop-at.at - 1) ≡ Some c.index-then-marked-at.result.now = slice_get_read c.args.ranking.now.order.items (length c.args.ranking.now.order.items) (c.loop-at.at - 1) c.index-then-marked-at.result.now refl low c.index-then-marked-at.ensures in
+    let same : c.index-then-marked-at.result.now ≡ c.index.result.now = same_Some c.index-then-marked-at.result.now c.index.result.now (sym there ∙ here) in
+    let inside = c.requires.ranking.ordered.inside (c.loop-at.at - 1) c.index-then-marked-at.result.now there in
+    let all = c.requires.indexes.all in
+    index_there c.args.indexes.now c.args.chains.now c.requires.indexes c.index-then-marked-at.result.now c.index-indexes-index.result c.rules_of-rules.result.now
+    (omega (arith, inside, all)) c.index-indexes-index.is (c.rules_of-rules.ensures ∙ ap (rules_of c.args.chains.now) (sym same))
+
+pub mark_jumps-requires-clause-back : goal.mark_jumps-requires-clause-back
+mark_jumps-requires-clause-back c = λ d jump.
+    let low : c.loop-at.at - 1 < length c.args.ranking.now.order.items = omega (arith, c.loop-at-test.true, c.loop-at.invariant.within) in
+    let here : slice_get c.args.ranking.now.order.items (c.loop-at.at - 1) ≡ Some c.index.result.now = slice_get_read c.args.ranking.now.order.items (length c.args.ranking.now.order.items) (c.loop-at.at - 1) c.index.result.now refl low c.index.ensures in
+    let own = subst (λ (rs : List Rule). Contains (jumps_of rs) d) c.rules_of-rules.ensures jump in
+    subst (λ (ps : List (Option ℕ)). IsBefore ps d (c.loop-at.at - 1)) (sym c.deref.ensures.value)
+    (c.requires.ranking.ordered.back (c.loop-at.at - 1) c.index.result.now d here own)
 
 pub loop-at-preserved-then-marked-at : goal.loop-at-preserved-then-marked-at
 loop-at-preserved-then-marked-at c =

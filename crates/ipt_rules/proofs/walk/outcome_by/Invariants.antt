@@ -1,7 +1,13 @@
-use Rattle.std.proofs.Common.{drop}
+use Rattle.std.proofs.Common.{◌≤◌, ◌-◌, drop, length}
 use Rattle.ipt_rules.specs.Matching.{matches}
 use Rattle.ipt_rules.proofs.WalkLemmas.{GivesAlso}
 use Rattle.ipt_rules.proofs.walk.outcome_by.Given as goal
 
-abbrev pub invariant-loop-rule : goal.invariant-loop-rule
-invariant-loop-rule l = GivesAlso (matches l.packet l.state) l.chains (drop l.rule-index l.rules) l.rules
+abbrev pub decreases-loop-at : goal.decreases-loop-at
+decreases-loop-at l = length l.rules - l.from
+
+abbrev pub invariant-loop-at : goal.invariant-loop-at
+invariant-loop-at l = record {
+  within : l.from ≤ length l.rules;
+  also : GivesAlso (matches l.packet l.state) l.chains (drop l.from l.rules) l.rules;
+}

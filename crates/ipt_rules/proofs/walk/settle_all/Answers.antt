@@ -1,4 +1,4 @@
-use Rattle.std.proofs.Common.{◌≡◌, ◌<◌, ℕ, List, Option, Some, length, get_or, sym, ap, subst, arith}
+use Rattle.std.proofs.Common.{◌≡◌, ◌<◌, ℕ, List, Option, Some, length, get_or, refl, sym, ap, subst, arith}
 use Rattle.std.specs.Prelude.{slice_get}
 use Rattle.std.proofs.lemmas.Option.{slice_get-get_or}
 use Rattle.ipt_rules.specs.Chain.{rules_of}
@@ -6,6 +6,7 @@ use Rattle.ipt_rules.specs.Matching.{matches}
 use Rattle.ipt_rules.specs.Meaning.{Gives}
 use Rattle.ipt_rules.specs.Ranks.{outcome_at}
 use Rattle.ipt_rules.proofs.MarkLemmas.{is_on, settled_known, settled_more, settled_unmarked}
+use Rattle.ipt_rules.proofs.NextLemmas.{index_there}
 use Rattle.ipt_rules.proofs.walk.settle_all.Goals as goal
 use Rattle.ipt_rules.proofs.walk.settle_all.Goals.{then-marked-at, else-marked-at}
 
@@ -13,6 +14,15 @@ use Rattle.ipt_rules.proofs.walk.settle_all.Goals.{then-marked-at, else-marked-a
 chain_at : (order items : List ℕ) (at : ℕ) → items ≡ order → at < length items → slice_get order at ≡ Some (get_or items at 0)
 chain_at order items at same low =
     subst (λ (l : List ℕ). slice_get l at ≡ Some (get_or items at 0)) same (slice_get-get_or items at 0 low)
+
+pub outcome_by-outcome-requires-clause-index : goal.outcome_by-outcome-requires-clause-index
+outcome_by-outcome-requires-clause-index c =
+    let number = get_or c.deref-number-items.result.now c.loop-at.at 0 in
+    let inside = c.requires.ranking.ordered.inside c.loop-at.at number
+    (chain_at c.args.ranking.now.order.items c.deref-number-items.result.now c.loop-at.at c.deref-number-items.ensures.value c.loop-at-test.true) in
+    let all = c.requires.indexes.all in
+    index_there c.args.indexes.now c.args.chains.now c.requires.indexes number c.index-indexes-number.result (rules_of c.args.chains.now number)
+    (omega (arith, inside, all)) c.index-indexes-number.is refl
 
 pub outcome_by-outcome-requires-clause-known : goal.outcome_by-outcome-requires-clause-known
 outcome_by-outcome-requires-clause-known c =

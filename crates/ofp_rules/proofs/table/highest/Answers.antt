@@ -1,34 +1,48 @@
-use Rattle.std.proofs.Common.{◌+◌, ◌∷◌, [], ◌∙◌, subst, List, ℕ, take, drop, length, get_or, arith}
-use Rattle.std.proofs.lemmas.List.{drop_all, drop_more, take_all}
+use Rattle.std.proofs.Common.{List, subst, length, arith}
+use Rattle.std.proofs.lemmas.List.{take_all}
 use Rattle.std.specs.Option.{option_copied}
 use Rattle.ofp_rules.specs.declared.entry.Entry.{Entry}
 use Rattle.ofp_rules.specs.Highest.{IsFound}
-use Rattle.ofp_rules.specs.Stretches.{AreStretches}
-use Rattle.ofp_rules.proofs.StretchLemmas.{take_range}
+use Rattle.ofp_rules.proofs.NextLemmas.{at_small, found_next, found_passed}
 use Rattle.ofp_rules.proofs.table.highest.Goals as goal
 
-pub loop-to-preserved : goal.loop-to-preserved
-loop-to-preserved c =
+pub offset_bounds-entries-at : goal.offset_bounds-entries-at
+offset_bounds-entries-at c =
+    let next = c.in-Some.ensures c.args.entries.now c.requires in
+    let small = at_small c.args.entries.now c.args.index.now c.requires c.in-Some.at next.within in
+    omega (arith, small)
+
+pub bounds-entries-at : goal.bounds-entries-at
+bounds-entries-at c = (c.in-Some.ensures c.args.entries.now c.requires).within
+
+pub overflow_add-from : goal.overflow_add-from
+overflow_add-from c =
+    let next = c.in-Some.ensures c.args.entries.now c.requires in
+    let small = at_small c.args.entries.now c.args.index.now c.requires c.in-Some.at next.within in
+    omega (arith, small)
+
+pub loop-at-smaller : goal.loop-at-smaller
+loop-at-smaller c =
+    let next = c.in-Some.ensures c.args.entries.now c.requires in
+    let later = next.later in
+    let within = next.within in
+    omega (arith, later, within)
+
+pub loop-at-preserved : goal.loop-at-preserved
+loop-at-preserved c =
     let entries = c.args.entries.now in
-    let from = c.loop-to.from in
-    let to = get_or c.args.starts.now c.loop-to.to-index 0 in
-    let left : AreStretches from (to ∷ drop (c.loop-to.to-index + 1) c.args.starts.now) entries =
-    subst (λ (ns : List ℕ). AreStretches from ns entries)
-    (drop_more c.args.starts.now c.loop-to.to-index 0 (omega arith)) c.loop-to.invariant.left in
+    let next = c.in-Some.ensures entries c.requires in
+    let within = next.within in
+    let so_far = found_passed c.args.frame.now entries (option_copied c.loop-at.found) c.loop-at.from c.in-Some.at next.later (omega (arith, within)) next.passed c.loop-at.invariant.found in
     record {
-      left = left.3;
-      found = subst (λ (es : List Entry). IsFound es c.args.frame.now (option_copied c.highest_with-found.result))
-          (take_range entries from to left.0)
-          (c.highest_with-found.ensures (take from entries) c.loop-to.invariant.found);
+      within = omega (arith, within);
+      found = found_next c.args.frame.now entries (option_copied c.loop-at.found) (option_copied c.higher-found.result) c.in-Some.at c.index-entries-at.result
+          within c.index-entries-at.is c.higher-found.ensures so_far;
     }
 
 pub returns : goal.returns
 returns c =
     let entries = c.args.entries.now in
-    let from = c.loop-to.from in
-    let left : AreStretches from [] entries =
-    subst (λ (ns : List ℕ). AreStretches from ns entries)
-    (drop_all c.loop-to.to-index c.args.starts.now (omega arith)) c.loop-to.invariant.left in
-    subst (λ (es : List Entry). IsFound es c.args.frame.now (option_copied c.highest_with.result))
-    (take_range entries from (length entries) left.0 ∙ take_all (length entries) entries (omega arith))
-    (c.highest_with.ensures (take from entries) c.loop-to.invariant.found)
+    let none = c.in_default.ensures entries c.requires in
+    subst (λ (es : List Entry). IsFound es c.args.frame.now (option_copied c.loop-at.found)) (take_all (length entries) entries (omega arith))
+    (found_passed c.args.frame.now entries (option_copied c.loop-at.found) c.loop-at.from (length entries) c.loop-at.invariant.within (omega arith) none c.loop-at.invariant.found)

@@ -1,11 +1,13 @@
-use Rattle.std.proofs.Common.{drop, take}
+use Rattle.std.proofs.Common.{◌≤◌, ◌-◌, length, take}
 use Rattle.std.specs.Option.{option_copied}
 use Rattle.ofp_rules.specs.Highest.{IsFound}
-use Rattle.ofp_rules.specs.Stretches.{AreStretches}
 use Rattle.ofp_rules.proofs.table.highest.Given as goal
 
-abbrev pub invariant-loop-to : goal.invariant-loop-to
-invariant-loop-to l = record {
-  left : AreStretches l.from (drop l.to-index l.starts) l.entries;
+abbrev pub decreases-loop-at : goal.decreases-loop-at
+decreases-loop-at l = length l.entries - l.from
+
+abbrev pub invariant-loop-at : goal.invariant-loop-at
+invariant-loop-at l = record {
+  within : l.from ≤ length l.entries;
   found : IsFound (take l.from l.entries) l.frame (option_copied l.found);
 }

@@ -1,0 +1,446 @@
+-- Keys in order, the first of them that has the bits of two addresses, and an index with one more key.
+use Rattle.std.proofs.Common.{◌≡◌, ℕ, zero, suc, ◌+◌, ◌*◌, ◌^◌, ◌≤◌, ◌<◌, ◌⊎◌, inl, inr, Bool, true, false, List, [], ◌∷◌, ◌++◌, length, get_or, take, drop, append_assoc, slice_get, slice_index_or, Option, Some, None, Result, Ok, Err, OnErr, refl, sym, ap, ◌∙◌, subst, arith, length-append}
+use Rattle.std.specs.Prelude.{Contains}
+use Rattle.std.specs.List.{insert}
+use Rattle.std.specs.List.Sorted.{IsNonDecreasingBy, IsPartitionPoint, IsPermutation}
+use Rattle.std.proofs.lemmas.Bool.{and_from, and_parts, cases_lt}
+use Rattle.std.proofs.lemmas.List.{drop_more, take_more}
+use Rattle.std.proofs.lemmas.List.Elements.{Contains-push_cases, Contains-append_left, Contains-push}
+use Rattle.std.proofs.lemmas.List.Sorted.{Contains-permutation, IsNonDecreasingBy-insert, IsPermutation-insert, IsPermutation-refl, IsPermutation-sym, length_permutation}
+use Rattle.std.proofs.lemmas.Option.{same_Some, slice_get-get_or, slice_get_within, get_or_from_slice_get}
+use Rattle.host_net.specs.declared.cover.Ends.{Ends}
+use Rattle.host_net.specs.declared.cover.Key.{Key}
+use Rattle.host_net.specs.declared.cover.Lengths.{Lengths}
+use Rattle.host_net.specs.declared.prefix.Prefix.{Prefix}
+use Rattle.host_net.specs.Cover.{IsFirstFrom, covers_both, part_covers}
+use Rattle.host_net.specs.CoverView.{AreInOrder, AreIndexOf, Begins, IsFirstKey, IsSmall, SameBits, begins, earlier, key_at, key_of, keys_from, length_of, own_address, rank}
+use Rattle.host_net.specs.Prefix.{front}
+use Rattle.host_net.specs.PrefixLaws.{covers_front, front_covers}
+
+-- what a loop reads at a place that is not there
+abbrev pub no_lengths : Lengths
+no_lengths = record { src = 0; dst = 0 }
+
+abbrev pub no_key : Key
+no_key = record { lengths = record { src = 0; dst = 0 }; src = 0; dst = 0; place = 0 }
+
+-- ---- the order of keys
+
+-- with the same bits the place decides
+pub rank_later : (p k : Key) → SameBits k p → p.place ≤ k.place → rank p ≤ rank k
+unfolding rank
+rank_later p k same later = omega (arith, same.src_length, same.dst_length, same.src, same.dst, later)
+
+pub later_rank : (p k : Key) → SameBits k p → rank p ≤ rank k → p.place ≤ k.place
+unfolding rank
+later_rank p k same above = omega (arith, same.src_length, same.dst_length, same.src, same.dst, above)
+
+-- what lies between two numbers that share all digits but the last shares them too
+digits : (a x r s t : ℕ) → s < 2 ^ 32 → t < 2 ^ 32 → a * 2 ^ 32 + r ≤ x * 2 ^ 32 + s → x * 2 ^ 32 + s ≤ a * 2 ^ 32 + t → x ≡ a
+digits a x r s t small_s small_t above below = omega arith
+
+same_digits : (a x s t : ℕ) → s < 2 ^ 32 → t < 2 ^ 32 → x * 2 ^ 32 + s ≡ a * 2 ^ 32 + t → x ≡ a
+same_digits a x s t small_s small_t same = omega arith
+
+same_lengths : (a x s t : ℕ) → s < 2 ^ 8 → t < 2 ^ 8 → x * 2 ^ 8 + s ≡ a * 2 ^ 8 + t → x ≡ a
+same_lengths a x s t small_s small_t same = omega arith
+
+-- what is left of a key, digit by digit
+lengths_part : Key → ℕ
+lengths_part k = k.lengths.src * 2 ^ 8 + k.lengths.dst
+
+src_part : Key → ℕ
+src_part k = lengths_part k * 2 ^ 32 + k.src
+
+bits_part : Key → ℕ
+bits_part k = src_part k * 2 ^ 32 + k.dst
+
+rank_parts : (k : Key) → rank k ≡ bits_part k * 2 ^ 32 + k.place
+unfolding rank bits_part src_part lengths_part
+rank_parts k = refl
+
+same_parts : (k p : Key) → SameBits k p → bits_part k ≡ bits_part p
+unfolding bits_part src_part lengths_part
+same_parts k p same = omega (arith, same.src_length, same.dst_length, same.src, same.dst)
+
+parts_same : (q p : Key) → IsSmall q → IsSmall p → bits_part q ≡ bits_part p → SameBits q p
+unfolding bits_part src_part lengths_part
+parts_same q p small_q small_p bits =
+    let src_parts : src_part q ≡ src_part p = same_digits (src_part p) (src_part q) q.dst p.dst small_q.dst small_p.dst bits in
+    let length_parts : lengths_part q ≡ lengths_part p = same_digits (lengths_part p) (lengths_part q) q.src p.src small_q.src small_p.src src_parts in
+    let src_length : q.lengths.src ≡ p.lengths.src = same_lengths p.lengths.src q.lengths.src q.lengths.dst p.lengths.dst small_q.dst_length small_p.dst_length length_parts in
+    record {
+      src_length = src_length;
+      dst_length = omega (arith, length_parts, src_length);
+      src = omega (arith, src_parts, length_parts);
+      dst = omega (arith, bits, src_parts);
+    }
+
+-- the bits of a key have room where those of another do that shares them
+small_too : (k p : Key) → SameBits k p → IsSmall k → p.place < 2 ^ 32 → IsSmall p
+small_too k p same small place = record {
+  dst_length = let s = small.dst_length in omega (arith, s, same.dst_length);
+  src = let s = small.src in omega (arith, s, same.src);
+  dst = let s = small.dst in omega (arith, s, same.dst);
+  place = place;
+}
+
+-- a key between two of the same bits has these bits
+pub between : (p q k : Key) → SameBits k p → IsSmall k → IsSmall q → p.place < 2 ^ 32 → rank p ≤ rank q → rank q ≤ rank k → SameBits q p
+between p q k same small_k small_q place above below =
+    let of_p = rank_parts p in
+    let of_q = rank_parts q in
+    let of_k = rank_parts k in
+    let shared = same_parts k p same in
+    parts_same q p small_q (small_too k p same small_k place)
+    (digits (bits_part p) (bits_part q) p.place q.place k.place small_q.place small_k.place
+    (omega (arith, of_p, of_q, above)) (omega (arith, of_q, of_k, shared, below)))
+
+-- ---- a search
+
+module _ (keys : List Key) (p : Key) (at : ℕ) (order : AreInOrder keys) (point : IsPartitionPoint (λ k. rank k < rank p) (λ k. rank p ≤ rank k) keys at) where
+  -- what is no lower stands there or behind
+  no_earlier : (k : Key) → (c : Contains keys k) → rank p ≤ rank k → at ≤ c.0
+  no_earlier k c above = elim (cases_lt c.0 at) [
+    | inl before ↦
+        let lower : rank (slice_index_or keys c.0 k) < rank p = point.0 c.0 k (omega arith) before in
+        let same : rank (slice_index_or keys c.0 k) ≡ rank k = ap rank c.2 in
+        omega (arith, lower, same, above)
+    | inr behind ↦ omega (arith, behind)
+  ]
+
+  -- nor lower than the key that stands there
+  above_found : (found k : Key) → slice_get keys at ≡ Some found → (c : Contains keys k) → rank p ≤ rank k → rank found ≤ rank k
+  above_found found k there c above =
+      let rises : rank (get_or keys at k) ≤ rank (get_or keys c.0 k) = order.rise at c.0 k (no_earlier k c above) c.1 in
+      let left : rank (get_or keys at k) ≡ rank found = ap rank (get_or_from_slice_get keys at found k there) in
+      let right : rank (get_or keys c.0 k) ≡ rank k = ap rank c.2 in
+      omega (arith, rises, left, right)
+
+  found_within : (found : Key) → slice_get keys at ≡ Some found → Contains keys found
+  found_within found there = (at, slice_get_within keys at found there, get_or_from_slice_get keys at found found there)
+
+  above_probe : (found : Key) → slice_get keys at ≡ Some found → rank p ≤ rank found
+  above_probe found there =
+      let above : rank p ≤ rank (slice_index_or keys at found) = point.1 at found (omega arith) (slice_get_within keys at found there) in
+      let same : rank (slice_index_or keys at found) ≡ rank found = ap rank (get_or_from_slice_get keys at found found there) in
+      omega (arith, above, same)
+
+  pub next_found : (found : Key) → slice_get keys at ≡ Some found → SameBits found p → IsFirstKey (λ k. SameBits k p) keys p.place (Some found.place)
+  next_found found there same = record {
+    key = found;
+    among = found_within found there;
+    has = same;
+    there = refl;
+    later = later_rank p found same (above_probe found there);
+    least = λ k c same_k later.
+        let as_found : SameBits k found = record {
+          src_length = same_k.src_length ∙ sym same.src_length;
+          dst_length = same_k.dst_length ∙ sym same.dst_length;
+          src = same_k.src ∙ sym same.src;
+          dst = same_k.dst ∙ sym same.dst;
+        } in
+        later_rank found k as_found (above_found found k there c (rank_later p k same_k later));
+  }
+
+  pub next_other : (found : Key) → slice_get keys at ≡ Some found → (SameBits found p → ⊥) → IsFirstKey (λ k. SameBits k p) keys p.place None
+  next_other found there other k c same_k later =
+      let above = rank_later p k same_k later in
+      let small = (order.small k c).place in
+      other (between p found k same_k (order.small k c) (order.small found (found_within found there)) (omega (arith, small, later)) (above_probe found there) (above_found found k there c above))
+
+  pub next_none : length keys ≤ at → IsFirstKey (λ k. SameBits k p) keys p.place None
+  next_none past k c same_k later =
+      let behind = no_earlier k c (rank_later p k same_k later) in
+      let within = c.1 in
+      omega (arith, behind, within, past)
+
+-- ---- the first of several
+
+module _ (P Q R : Key → Type 0) (keys : List Key) (from : ℕ) (from_first : (k : Key) → P k → R k) (from_second : (k : Key) → Q k → R k) (split : (k : Key) → R k → P k ⊎ Q k) where
+  none_of_both : IsFirstKey P keys from None → IsFirstKey Q keys from None → IsFirstKey R keys from None
+  none_of_both first second k c has later = elim (split k has) [ inl by_first ↦ first k c by_first later | inr by_second ↦ second k c by_second later ]
+
+  pub earlier_is : (a b : Option ℕ) → IsFirstKey P keys from a → IsFirstKey Q keys from b → IsFirstKey R keys from (earlier a b)
+  earlier_is None None first second = none_of_both first second
+  earlier_is None (Some y) first second = record {
+    key = second.key;
+    among = second.among;
+    has = from_second second.key second.has;
+    there = second.there;
+    later = second.later;
+    least = λ k c has later. elim (split k has) [ inl by_first ↦ absurd (first k c by_first later) | inr by_second ↦ second.least k c by_second later ];
+  }
+  earlier_is (Some x) None first second = record {
+    key = first.key;
+    among = first.among;
+    has = from_first first.key first.has;
+    there = first.there;
+    later = first.later;
+    least = λ k c has later. elim (split k has) [ inl by_first ↦ first.least k c by_first later | inr by_second ↦ absurd (second k c by_second later) ];
+  }
+  earlier_is (Some x) (Some y) first second = elim (cases_lt x y) [
+    | inl less ↦ record {
+      key = first.key;
+      among = first.among;
+      has = from_first first.key first.has;
+      there = let is = first.there in omega (arith, is, less);
+      later = let is = first.later in omega (arith, is, less);
+      least = λ k c has later. elim (split k has) [
+        | inl by_first ↦ let l = first.least k c by_first later in omega (arith, l)
+        | inr by_second ↦ let l = second.least k c by_second later in omega (arith, l)
+      ];
+    }
+    | inr more ↦ record {
+      key = second.key;
+      among = second.among;
+      has = from_second second.key second.has;
+      there = let is = second.there in omega (arith, is, more);
+      later = let is = second.later in omega (arith, is, more);
+      least = λ k c has later. elim (split k has) [
+        | inl by_first ↦ let l = first.least k c by_first later in omega (arith, l)
+        | inr by_second ↦ let l = second.least k c by_second later in omega (arith, l)
+      ];
+    }
+  ]
+
+-- ---- one more pair of lengths
+
+same_both : (l m : Lengths) → l.src ≡ m.src → l.dst ≡ m.dst → l ≡ m
+same_both l m src dst = λ i. record { src = src i; dst = dst i }
+
+module _ (seen : List Lengths) (l : Lengths) (src dst from : ℕ) where
+  begins_more : (k : Key) → Begins (seen ++ l ∷ []) src dst k → Begins seen src dst k ⊎ SameBits k (key_at l src dst from)
+  begins_more k is = elim (Contains-push_cases seen l k.lengths is.among) [
+    | inl old ↦ inl (record { among = old; src_bits = is.src_bits; dst_bits = is.dst_bits })
+    | inr new ↦
+        let src_length : k.lengths.src ≡ l.src = ap (λ (m : Lengths). m.src) (sym new) in
+        let dst_length : k.lengths.dst ≡ l.dst = ap (λ (m : Lengths). m.dst) (sym new) in
+        inr (record {
+          src_length = src_length;
+          dst_length = dst_length;
+          src = is.src_bits ∙ ap (λ n. front n src) src_length;
+          dst = is.dst_bits ∙ ap (λ n. front n dst) dst_length;
+        })
+  ]
+
+  begins_old : (k : Key) → Begins seen src dst k → Begins (seen ++ l ∷ []) src dst k
+  begins_old k is = record { among = Contains-append_left seen (l ∷ []) k.lengths is.among; src_bits = is.src_bits; dst_bits = is.dst_bits }
+
+  begins_new : (k : Key) → SameBits k (key_at l src dst from) → Begins (seen ++ l ∷ []) src dst k
+  begins_new k same = record {
+    among = subst (Contains (seen ++ l ∷ [])) (sym (same_both k.lengths l same.src_length same.dst_length)) (Contains-push seen l);
+    src_bits = same.src ∙ ap (λ n. front n src) (sym same.src_length);
+    dst_bits = same.dst ∙ ap (λ n. front n dst) (sym same.dst_length);
+  }
+
+pub first_more : (keys : List Key) (all : List Lengths) (i : ℕ) (l d : Lengths) (src dst from : ℕ) (found next : Option ℕ) → i < length all → l ≡ get_or all i d
+    → IsFirstKey (begins (take i all) src dst) keys from found → IsFirstKey (λ k. SameBits k (key_at l src dst from)) keys from next
+    → IsFirstKey (begins (take (i + 1) all) src dst) keys from (earlier found next)
+first_more keys all i l d src dst from found next low is first second =
+    let more : take (i + 1) all ≡ take i all ++ l ∷ [] = take_more all i d low ∙ ap (λ (m : Lengths). take i all ++ m ∷ []) (sym is) in
+    subst (λ (ls : List Lengths). IsFirstKey (begins ls src dst) keys from (earlier found next)) (sym more)
+    (earlier_is (begins (take i all) src dst) (λ k. SameBits k (key_at l src dst from)) (begins (take i all ++ l ∷ []) src dst) keys from
+    (begins_old (take i all) l src dst from) (begins_new (take i all) l src dst from) (begins_more (take i all) l src dst from)
+    found next first second)
+
+pub first_of_none : (keys : List Key) (src dst from : ℕ) → IsFirstKey (begins [] src dst) keys from None
+first_of_none keys src dst from k c is later = let within = is.among.1 in omega (arith, within)
+
+-- ---- what an index answers
+
+by_test : (b : Bool) → (b ≡ true → ⊥) → b ≡ false
+by_test true fails = absurd (fails refl)
+by_test false fails = refl
+
+part_bits : (part : Option Prefix) (a : ℕ) → a < 2 ^ 32 → part_covers part a ≡ true → front (length_of part) (own_address part) ≡ front (length_of part) a
+part_bits None a small on = omega (arith, small)
+part_bits (Some p) a small on = covers_front p a on
+
+bits_part_covers : (part : Option Prefix) (a : ℕ) → front (length_of part) (own_address part) ≡ front (length_of part) a → part_covers part a ≡ true
+bits_part_covers None a same = refl
+bits_part_covers (Some p) a same = front_covers p a same
+
+module _ (all : List Ends) (keys : List Key) (lengths : List Lengths) (is : AreIndexOf all keys lengths) (src dst : ℕ) (small_src : src < 2 ^ 32) (small_dst : dst < 2 ^ 32) where
+  -- what covers both has a key with their bits
+  begins_there : (i : ℕ) (e : Ends) → slice_get all i ≡ Some e → covers_both src dst e ≡ true → Begins lengths src dst (key_of e i)
+  begins_there i e there on =
+      let both = and_parts (part_covers e.src src) (part_covers e.dst dst) on in
+      record {
+        among = is.listed (key_of e i) (is.every i e there);
+        src_bits = part_bits e.src src small_src both.0;
+        dst_bits = part_bits e.dst dst small_dst both.1;
+      }
+
+  -- and what has them covers both
+  covers_there : (k : Key) (e : Ends) → k ≡ key_of e k.place → Begins lengths src dst k → covers_both src dst e ≡ true
+  covers_there k e same begun =
+      let src_length : k.lengths.src ≡ length_of e.src = ap (λ (l : Key). l.lengths.src) same in
+      let dst_length : k.lengths.dst ≡ length_of e.dst = ap (λ (l : Key). l.lengths.dst) same in
+      and_from (part_covers e.src src) (part_covers e.dst dst)
+      (bits_part_covers e.src src (sym (ap (λ (l : Key). l.src) same) ∙ begun.src_bits ∙ ap (λ n. front n src) src_length))
+      (bits_part_covers e.dst dst (sym (ap (λ (l : Key). l.dst) same) ∙ begun.dst_bits ∙ ap (λ n. front n dst) dst_length))
+
+  pub index_first : (from : ℕ) (found : Option ℕ) → IsFirstKey (begins lengths src dst) keys from found → IsFirstFrom all from src dst found
+  index_first from None first = λ i e low high there.
+      by_test (covers_both src dst e) (λ on. first (key_of e i) (is.every i e there) (begins_there i e there on) low)
+  index_first from (Some place) first =
+      let own = is.only first.key first.among in
+      record {
+        ends = own.0;
+        there = subst (λ (n : ℕ). slice_get all n ≡ Some own.0) first.there own.1;
+        covers = covers_there first.key own.0 own.2 first.has;
+        later = first.later;
+        first = λ i e low high there.
+            by_test (covers_both src dst e) (λ on.
+            let least = first.least (key_of e i) (is.every i e there) (begins_there i e there on) low in
+            omega (arith, least, high));
+      }
+
+-- no place is so late
+pub none_so_late : (all : List Ends) (keys : List Key) (lengths : List Lengths) (from src dst : ℕ) → AreIndexOf all keys lengths → 2 ^ 32 ≤ from → IsFirstFrom all from src dst None
+none_so_late all keys lengths from src dst is late i e low high there =
+    let small = (is.order.small (key_of e i) (is.every i e there)).place in
+    absurd (omega (arith, small, low, late))
+
+-- ---- an index as it is made
+
+key_there : (n : ℕ) (all : List Ends) (i : ℕ) (e : Ends) → slice_get all i ≡ Some e → slice_get (keys_from n all) i ≡ Some (key_of e (n + i))
+key_there n [] i e there = cc
+key_there n (f ∷ all) zero e there =
+    ap (λ (g : Ends). Some (key_of g n)) (same_Some f e there) ∙ ap (λ (m : ℕ). Some (key_of e m)) (omega arith)
+key_there n (f ∷ all) (suc i) e there = key_there (n + 1) all i e there ∙ ap (λ (m : ℕ). Some (key_of e m)) (omega arith)
+
+there_key : (n : ℕ) (all : List Ends) (i : ℕ) (k : Key) → slice_get (keys_from n all) i ≡ Some k → (e : Ends) × (slice_get all i ≡ Some e) × (k ≡ key_of e (n + i))
+there_key n [] i k there = cc
+there_key n (f ∷ all) zero k there = (f, refl, sym (same_Some (key_of f n) k there) ∙ ap (λ (m : ℕ). key_of f m) (omega arith))
+there_key n (f ∷ all) (suc i) k there =
+    let rest = there_key (n + 1) all i k there in
+    (rest.0, rest.1, rest.2 ∙ ap (λ (m : ℕ). key_of rest.0 m) (omega arith))
+
+length_keys : (n : ℕ) (all : List Ends) → length (keys_from n all) ≡ length all
+length_keys n [] = refl
+length_keys n (e ∷ all) = ap suc (length_keys (n + 1) all)
+
+pub keys_more : (all : List Ends) (keys now : List Key) (i : ℕ) (e : Ends) (key : Key) → i < length all → e ≡ get_or all i e → keys ++ keys_from i (drop i all) ≡ keys_from 0 all → now ≡ keys ++ key ∷ [] → key ≡ key_of e i
+    → now ++ keys_from (i + 1) (drop (i + 1) all) ≡ keys_from 0 all
+keys_more all keys now i e key low is so_far more of_e =
+    let rest = keys_from (i + 1) (drop (i + 1) all) in
+    let here : keys_from i (drop i all) ≡ key ∷ rest = ap (keys_from i) (drop_more all i e low) ∙ ap (λ (f : Ends). key_of f i ∷ rest) (sym is) ∙ ap (λ (k : Key). k ∷ rest) (sym of_e) in
+    ap (λ (ks : List Key). ks ++ rest) more ∙ append_assoc keys (key ∷ []) rest ∙ ap (λ (ks : List Key). keys ++ ks) (sym here) ∙ so_far
+
+pub small_more : (keys now : List Key) (key : Key) → ((k : Key) → Contains keys k → IsSmall k) → IsSmall key → now ≡ keys ++ key ∷ [] → (k : Key) → Contains now k → IsSmall k
+small_more keys now key so_far small more k c = elim (Contains-push_cases keys key k (subst (λ (ks : List Key). Contains ks k) more c)) [
+  | inl old ↦ so_far k old
+  | inr new ↦ subst IsSmall new small
+]
+
+pub lengths_more : (keys : List Key) (i : ℕ) (d : Key) (all now : List Lengths) → i < length keys → ((k : Key) → Contains (take i keys) k → Contains all k.lengths) → ((l : Lengths) → Contains all l → Contains now l)
+    → Contains now (get_or keys i d).lengths → (k : Key) → Contains (take (i + 1) keys) k → Contains now k.lengths
+lengths_more keys i d all now low so_far kept there k c =
+    elim (Contains-push_cases (take i keys) (get_or keys i d) k (subst (λ (ks : List Key). Contains ks k) (take_more keys i d low) c)) [
+      | inl old ↦ kept k.lengths (so_far k old)
+      | inr new ↦ subst (λ (l : Key). Contains now l.lengths) new there
+    ]
+
+pub index_made : (all : List Ends) (keys sorted : List Key) (lengths : List Lengths) → keys ≡ keys_from 0 all → ((k : Key) → Contains keys k → IsSmall k) → IsPermutation keys sorted
+    → IsNonDecreasingBy rank sorted → ((k : Key) → Contains sorted k → Contains lengths k.lengths) → AreIndexOf all sorted lengths
+index_made all keys sorted lengths are small moved rise listed = record {
+  order = record { rise = rise; small = λ k c. small k (back k c) };
+  counted = length_permutation keys sorted moved ∙ ap length are ∙ length_keys 0 all;
+  every = λ i e there.
+      let at : slice_get keys i ≡ Some (key_of e i) = ap (λ (ks : List Key). slice_get ks i) are ∙ key_there 0 all i e there ∙ ap (λ (m : ℕ). Some (key_of e m)) (omega arith) in
+      Contains-permutation keys sorted (key_of e i) moved (i, slice_get_within keys i (key_of e i) at, get_or_from_slice_get keys i (key_of e i) (key_of e i) at);
+  only = λ k c.
+      let before = back k c in
+      let at : slice_get (keys_from 0 all) before.0 ≡ Some k = ap (λ (ks : List Key). slice_get ks before.0) (sym are) ∙ slice_get-get_or keys before.0 k before.1 ∙ ap (λ (l : Key). Some l) before.2 in
+      let own = there_key 0 all before.0 k at in
+      let place : before.0 ≡ k.place = let p = ap (λ (l : Key). l.place) own.2 in omega (arith, p) in
+      (own.0, subst (λ (n : ℕ). slice_get all n ≡ Some own.0) place own.1, own.2 ∙ ap (λ (m : ℕ). key_of own.0 m) (omega (arith, place)));
+  listed = listed;
+}
+  where
+    back : (k : Key) → Contains sorted k → Contains keys k
+    back k c = Contains-permutation sorted keys k (IsPermutation-sym keys sorted moved) c
+
+pub no_index : AreIndexOf [] [] []
+no_index = index_made [] [] [] [] refl (λ k c. let within = c.1 in absurd (omega (arith, within))) (IsPermutation-refl []) (λ i j d le within. absurd (omega (arith, within)))
+    (λ k c. let within = c.1 in absurd (omega (arith, within)))
+
+-- ---- one more
+
+one_of_two : (x : Key) (xs : List Key) (k : Key) → Contains (x ∷ xs) k → (x ≡ k) ⊎ Contains xs k
+one_of_two x xs k (zero, within, is) = inl is
+one_of_two x xs k (suc i, within, is) = inr (i, omega (arith, within), is)
+
+pushed : (all : List Ends) (e : Ends) (i : ℕ) (f : Ends) → slice_get (all ++ e ∷ []) i ≡ Some f → (slice_get all i ≡ Some f) ⊎ ((i ≡ length all) × (e ≡ f))
+pushed [] e zero f is = inr (refl, same_Some e f is)
+pushed [] e (suc i) f is = cc
+pushed (g ∷ all) e zero f is = inl is
+pushed (g ∷ all) e (suc i) f is = elim (pushed all e i f is) [ inl old ↦ inl old | inr new ↦ inr (ap suc new.0, new.1) ]
+
+in_front : (all : List Ends) (e : Ends) (i : ℕ) (f : Ends) → slice_get all i ≡ Some f → slice_get (all ++ e ∷ []) i ≡ Some f
+in_front [] e i f is = cc
+in_front (g ∷ all) e zero f is = is
+in_front (g ∷ all) e (suc i) f is = in_front all e i f is
+
+at_end : (all : List Ends) (e : Ends) → slice_get (all ++ e ∷ []) (length all) ≡ Some e
+at_end [] e = refl
+at_end (g ∷ all) e = at_end all e
+
+module _ (all : List Ends) (keys : List Key) (lengths now : List Lengths) (e : Ends) (new : Key) (at : ℕ) (is : AreIndexOf all keys lengths) (of_e : new ≡ key_of e (length keys)) (small : IsSmall new)
+    (bound : at ≤ length keys) (point : IsPartitionPoint (λ k. rank k < rank new) (λ k. rank new ≤ rank k) keys at) (there : Contains now new.lengths) (kept : (l : Lengths) → Contains lengths l → Contains now l) where
+  put : List Key
+  put = insert keys at new
+
+  moved : IsPermutation (new ∷ keys) (insert keys at new)
+  moved = IsPermutation-insert keys at new
+
+  cases : (k : Key) → Contains (insert keys at new) k → (new ≡ k) ⊎ Contains keys k
+  cases k c = one_of_two new keys k (Contains-permutation (insert keys at new) (new ∷ keys) k (IsPermutation-sym (new ∷ keys) (insert keys at new) moved) c)
+
+  into : (k : Key) → Contains keys k → Contains (insert keys at new) k
+  into k (i, within, same) = Contains-permutation (new ∷ keys) (insert keys at new) k moved (suc i, omega (arith, within), same)
+
+  place_new : new.place ≡ length all
+  place_new = ap (λ (k : Key). k.place) of_e ∙ is.counted
+
+  as_new : new ≡ key_of e new.place
+  as_new = of_e ∙ ap (λ (m : ℕ). key_of e m) (sym (ap (λ (k : Key). k.place) of_e))
+
+  pub index_more : AreIndexOf (all ++ e ∷ []) (insert keys at new) now
+  index_more = record {
+    order = record {
+      rise = IsNonDecreasingBy-insert rank keys at new is.order.rise bound
+          (λ k d before. let low = point.0 k d (omega arith) before in omega (arith, low)) (λ k d behind within. point.1 k d behind within);
+      small = λ k c. elim (cases k c) [ inl same ↦ subst IsSmall same small | inr old ↦ is.order.small k old ];
+    };
+    counted = length_permutation (new ∷ keys) (insert keys at new) moved ∙ ap suc is.counted ∙ sym (simp length-append (omega arith));
+    every = λ i f at_f. elim (pushed all e i f at_f) [
+      | inl old ↦ into (key_of f i) (is.every i f old)
+      | inr last ↦
+          let as_key : new ≡ key_of f i = as_new ∙ ap (λ (m : ℕ). key_of e m) (place_new ∙ sym last.0) ∙ ap (λ (g : Ends). key_of g i) last.1 in
+          subst (Contains (insert keys at new)) as_key (Contains-permutation (new ∷ keys) (insert keys at new) new moved (0, omega arith, refl))
+    ];
+    only = λ k c. elim (cases k c) [
+      | inl same ↦
+          let place : length all ≡ k.place = sym place_new ∙ ap (λ (l : Key). l.place) same in
+          (e, subst (λ (n : ℕ). slice_get (all ++ e ∷ []) n ≡ Some e) place (at_end all e), subst (λ (l : Key). l ≡ key_of e l.place) same as_new)
+      | inr old ↦ let own = is.only k old in (own.0, in_front all e k.place own.0 own.1, own.2)
+    ];
+    listed = λ k c. elim (cases k c) [ inl same ↦ subst (λ (l : Key). Contains now l.lengths) same there | inr old ↦ kept k.lengths (is.listed k old) ];
+  }
+
+-- more lengths than those of the keys do no harm
+pub index_kept : (all : List Ends) (keys : List Key) (lengths now : List Lengths) → AreIndexOf all keys lengths → ((l : Lengths) → Contains lengths l → Contains now l) → AreIndexOf all keys now
+index_kept all keys lengths now is kept = record {
+  order = is.order;
+  counted = is.counted;
+  every = is.every;
+  only = is.only;
+  listed = λ k c. kept k.lengths (is.listed k c);
+}
+
+pub always : {A E : Type 0} (r : Result A E) (P : Type 0) → P → OnErr r P
+always (Ok x) P holds = tt
+always (Err e) P holds = holds

@@ -1,0 +1,93 @@
+-- The keys of an index of prefixes, and their order. Callers have `IsIndexOf` from the calls that make an index, and hand it on.
+use Rattle.std.specs.Prelude.{◌≡◌, ◌≤◌, ◌<◌, ◌+◌, ◌*◌, ◌^◌, ℕ, min, List, [], ◌∷◌, length, slice_get, Contains, Option, Some, None}
+use Rattle.std.specs.List.Sorted.{IsNonDecreasingBy}
+use Rattle.host_net.specs.declared.cover.Covers.{Covers}
+use Rattle.host_net.specs.declared.cover.Ends.{Ends}
+use Rattle.host_net.specs.declared.cover.Key.{Key}
+use Rattle.host_net.specs.declared.cover.Lengths.{Lengths}
+use Rattle.host_net.specs.declared.prefix.Prefix.{Prefix}
+use Rattle.host_net.specs.Prefix.{front}
+
+-- what is not asked for are no bits
+abbrev pub length_of : Option Prefix → ℕ
+length_of None = 0
+length_of (Some p) = p.len
+
+abbrev pub own_address : Option Prefix → ℕ
+own_address None = 0
+own_address (Some p) = p.addr
+
+abbrev pub lengths_of : Ends → Lengths
+lengths_of e = record { src = length_of e.src; dst = length_of e.dst }
+
+-- the first bits of two addresses
+abbrev pub key_at : Lengths → ℕ → ℕ → ℕ → Key
+key_at l src dst place = record { lengths = l; src = front l.src src; dst = front l.dst dst; place = place }
+
+abbrev pub key_of : Ends → ℕ → Key
+key_of e place = key_at (lengths_of e) (own_address e.src) (own_address e.dst) place
+
+-- the keys of a list, whose places are counted from one on
+abbrev pub keys_from : ℕ → List Ends → List Key
+keys_from place [] = []
+keys_from place (e ∷ es) = key_of e place ∷ keys_from (place + 1) es
+
+-- the number by which keys are in order
+unfoldable pub rank : Key → ℕ
+rank k = (((k.lengths.src * 2 ^ 8 + k.lengths.dst) * 2 ^ 32 + k.src) * 2 ^ 32 + k.dst) * 2 ^ 32 + k.place
+
+pub record SameBits (k l : Key) : Type 0 where
+  pub src_length : k.lengths.src ≡ l.lengths.src
+  pub dst_length : k.lengths.dst ≡ l.lengths.dst
+  pub src : k.src ≡ l.src
+  pub dst : k.dst ≡ l.dst
+
+-- its numbers have room in a key
+pub record IsSmall (k : Key) : Type 0 where
+  pub dst_length : k.lengths.dst < 2 ^ 8
+  pub src : k.src < 2 ^ 32
+  pub dst : k.dst < 2 ^ 32
+  pub place : k.place < 2 ^ 32
+
+pub record AreInOrder (keys : List Key) : Type 0 where
+  pub rise : IsNonDecreasingBy rank keys
+  pub small : (k : Key) → Contains keys k → IsSmall k
+
+-- the key of such a list that has the least place from one on
+pub record IsFirstKeyAt (Has : Key → Type 0) (keys : List Key) (from place : ℕ) : Type 0 where
+  pub key : Key
+  pub among : Contains keys key
+  pub has : Has key
+  pub there : key.place ≡ place
+  pub later : from ≤ place
+  pub least : (k : Key) → Contains keys k → Has k → from ≤ k.place → place ≤ k.place
+
+abbrev pub IsFirstKey : (Key → Type 0) → List Key → ℕ → Option ℕ → Type 0
+IsFirstKey Has keys from None = (k : Key) → Contains keys k → Has k → from ≤ k.place → ⊥
+IsFirstKey Has keys from (Some place) = IsFirstKeyAt Has keys from place
+
+-- it has one of these lengths, and the bits of the two addresses
+pub record Begins (all : List Lengths) (src dst : ℕ) (k : Key) : Type 0 where
+  pub among : Contains all k.lengths
+  pub src_bits : k.src ≡ front k.lengths.src src
+  pub dst_bits : k.dst ≡ front k.lengths.dst dst
+
+abbrev pub begins : List Lengths → ℕ → ℕ → Key → Type 0
+begins all src dst k = Begins all src dst k
+
+abbrev pub earlier : Option ℕ → Option ℕ → Option ℕ
+earlier None other = other
+earlier (Some one) None = Some one
+earlier (Some one) (Some other) = Some (min one other)
+
+-- the keys are those of the list, in order, and the lengths of each are among the lengths
+pub record AreIndexOf (all : List Ends) (keys : List Key) (lengths : List Lengths) : Type 0 where
+  pub order : AreInOrder keys
+  pub counted : length keys ≡ length all
+  pub every : (i : ℕ) (e : Ends) → slice_get all i ≡ Some e → Contains keys (key_of e i)
+  pub only : (k : Key) → Contains keys k → (e : Ends) × (slice_get all k.place ≡ Some e) × (k ≡ key_of e k.place)
+  pub listed : (k : Key) → Contains keys k → Contains lengths k.lengths
+
+-- the index is that of the list
+abbrev pub IsIndexOf : List Ends → Covers → Type 0
+IsIndexOf all index = AreIndexOf all index.keys.items index.lengths.items

@@ -1,0 +1,248 @@
+//! Which of many rules can fit the two addresses of a packet: an index of the prefixes that they ask
+//! for. Those that ask for equally many bits of each address stand together, in the order of these
+//! bits and then of their places, so that the next that asks for the bits of a packet is found by
+//! halving, once for each two lengths that are in use.
+
+ghost use Rattle.std.specs.Prelude.{◌≡◌, ◌<◌, ◌≤◌, ◌^◌, ◌+◌, ◌++◌, ◌∷◌, [], List, IfOk, OnOk, OnErr, Contains, IsTrue, ◌↔◌, length};
+ghost use Rattle.std.specs.List.Sorted.{IsNonDecreasingBy, IsPartitionPoint};
+ghost use Rattle.host_net.specs.declared.cover.Ends.{Ends};
+ghost use Rattle.host_net.specs.declared.cover.Key.{Key};
+ghost use Rattle.host_net.specs.declared.cover.Lengths.{Lengths};
+ghost use Rattle.host_net.specs.Prefix.{front};
+ghost use Rattle.host_net.specs.Cover.{IsFirstFrom};
+ghost use Rattle.host_net.specs.CoverView.{AreInOrder, IsFirstKey, IsIndexOf, IsSmall, SameBits, begins, earlier, key_at, key_of, keys_from, length_of, lengths_of, own_address, rank};
+
+use crate::prefix::Prefix;
+use std::alloc::{AllocError, Global};
+
+/// What a rule asks of the two addresses of a packet: that each prefix that is given covers its own.
+#[derive(Clone, Copy, Debug, PartialEq, Eq)]
+pub struct Ends {
+    pub src: Option<Prefix>,
+    pub dst: Option<Prefix>,
+}
+
+/// How many bits of each address count.
+#[derive(Clone, Copy, PartialEq, Eq)]
+struct Lengths {
+    src: u8,
+    dst: u8,
+}
+
+/// The bits that count, and the place of what asks for them.
+#[derive(Clone, Copy)]
+struct Key {
+    lengths: Lengths,
+    src: u32,
+    dst: u32,
+    place: u32,
+}
+
+/// An index of a list of `Ends`.
+#[derive(Drop)]
+pub struct Covers {
+    keys: Vec<Key>,
+    lengths: Vec<Lengths>,
+}
+
+fn length_of(part: Option<Prefix>) -> u8
+    ensures { result ≡ length_of part }
+{
+    match part {
+        None => 0,
+        Some(prefix) => prefix.len(),
+    }
+}
+
+fn own_address(part: Option<Prefix>) -> u32
+    ensures { result ≡ own_address part }
+{
+    match part {
+        None => 0,
+        Some(prefix) => prefix.addr(),
+    }
+}
+
+fn lengths_of(ends: Ends) -> Lengths
+    ensures { result ≡ lengths_of ends }
+{
+    Lengths {
+        src: length_of(ends.src),
+        dst: length_of(ends.dst),
+    }
+}
+
+/// The first bits of an address.
+fn front(len: u8, addr: u32) -> u32
+    ensures { result ≡ front len addr }
+{
+    ((addr as u64) >> 32u8.saturating_sub(len)) as u32
+}
+
+fn key_at(lengths: Lengths, src: u32, dst: u32, place: u32) -> Key
+    ensures { result ≡ key_at lengths src dst place }
+{
+    Key {
+        lengths,
+        src: front(lengths.src, src),
+        dst: front(lengths.dst, dst),
+        place,
+    }
+}
+
+fn key_of(ends: Ends, place: u32) -> Key
+    ensures key { result ≡ key_of ends place }
+    ensures small { IsSmall result }
+{
+    key_at(
+        lengths_of(ends),
+        own_address(ends.src),
+        own_address(ends.dst),
+        place,
+    )
+}
+
+impl Key {
+    /// The number by which keys are in order.
+    #[tactic(auto, unfolding(crate::specs::CoverView::rank))]
+    fn rank(&self) -> u128
+        ensures { result ≡ rank self.now }
+    {
+        let lengths = self.lengths.src as u128 * (1 << 8) + self.lengths.dst as u128;
+        let bits = (lengths * (1 << 32) + self.src as u128) * (1 << 32) + self.dst as u128;
+        bits * (1 << 32) + self.place as u128
+    }
+
+    /// Whether both ask for the same bits.
+    fn shares_bits(&self, other: &Key) -> bool
+        ensures { IsTrue result ↔ SameBits self.now other.now }
+    {
+        self.lengths == other.lengths && self.src == other.src && self.dst == other.dst
+    }
+}
+
+/// How many keys stand before the first whose rank is no lower.
+fn place_of(keys: &[Key], least: u128) -> usize
+    ensures bound { result ≤ length keys.now }
+    ensures point { IsNonDecreasingBy rank keys.now → IsPartitionPoint (λ k. rank k < least) (λ k. least ≤ rank k) keys.now result }
+{
+    keys.partition_point(|key| key.rank() < least)
+}
+
+/// The first place, from that of the key on, of a key with the same bits.
+fn next_of(keys: &[Key], from: &Key) -> Option<usize>
+    ensures { AreInOrder keys.now → IsFirstKey (λ k. SameBits k from.now) keys.now from.now.place result }
+{
+    let at = place_of(keys, from.rank());
+    if at == keys.len() {
+        return None;
+    }
+    let key = &keys[at];
+    if key.shares_bits(from) {
+        Some(key.place as usize)
+    } else {
+        None
+    }
+}
+
+fn earlier(first: Option<usize>, second: Option<usize>) -> Option<usize>
+    ensures { result ≡ earlier first second }
+{
+    match (first, second) {
+        (Some(one), Some(other)) => Some(one.min(other)),
+        (Some(one), None) => Some(one),
+        (None, other) => other,
+    }
+}
+
+impl Covers {
+    /// The index of no `Ends`.
+    #[tactic(auto, using(crate::proofs::CoverLemmas::no_index))]
+    pub fn new(alloc: Global) -> Covers
+        ensures { IsIndexOf [] result }
+    {
+        Covers {
+            keys: Vec::new(alloc),
+            lengths: Vec::new(alloc),
+        }
+    }
+
+    /// The index of these `Ends`.
+    pub fn of(alloc: Global, all: &[Ends]) -> Result<Covers, AllocError>
+        requires { length all.now < 2 ^ 32 }
+        ensures { IfOk result (IsIndexOf all.now) }
+    {
+        let mut keys = keys_of(alloc, all)?;
+        keys.sort_unstable_by_key(|key| key.rank());
+        let lengths = lengths_in(alloc, &keys)?;
+        Ok(Covers { keys, lengths })
+    }
+
+    /// Puts one more behind the others.
+    pub fn add(&mut self, ends: Ends) -> Result<(), AllocError>
+        requires { length self.old.keys.items + 1 < 2 ^ 32 }
+        ensures added { OnOk result ((all : List Ends) → IsIndexOf all self.old → IsIndexOf (all ++ ends ∷ []) self.new) }
+        ensures kept { OnErr result ((all : List Ends) → IsIndexOf all self.old → IsIndexOf all self.new) }
+    {
+        let key = key_of(ends, self.keys.len() as u32);
+        note(&mut self.lengths, key.lengths)?;
+        let place = place_of(&self.keys, key.rank());
+        self.keys.insert(place, key)?;
+        Ok(())
+    }
+
+    /// The first place, from `from` on, whose prefixes cover both addresses.
+    pub fn first(&self, from: usize, src: u32, dst: u32) -> Option<usize>
+        ensures { (all : List Ends) → IsIndexOf all self.now → IsFirstFrom all from src dst result }
+    {
+        if from > u32::MAX as usize {
+            return None;
+        }
+        first_among(&self.keys, &self.lengths, from as u32, src, dst)
+    }
+}
+
+fn first_among(keys: &[Key], all: &[Lengths], from: u32, src: u32, dst: u32) -> Option<usize>
+    ensures { AreInOrder keys.now → IsFirstKey (begins all.now src dst) keys.now from result }
+{
+    let mut first = None;
+    for lengths in all {
+        let next = next_of(keys, &key_at(*lengths, src, dst, from));
+        first = earlier(first, next);
+    }
+    first
+}
+
+fn keys_of(alloc: Global, all: &[Ends]) -> Result<Vec<Key>, AllocError>
+    requires { length all.now < 2 ^ 32 }
+    ensures keys { IfOk result (λ keys. keys.items ≡ keys_from 0 all.now) }
+    ensures small { IfOk result (λ keys. (k : Key) → Contains keys.items k → IsSmall k) }
+{
+    let mut keys = Vec::with_capacity(alloc, all.len())?;
+    for (place, ends) in all.iter().enumerate() {
+        keys.push(key_of(*ends, place as u32))?;
+    }
+    Ok(keys)
+}
+
+/// The lengths that are in use.
+fn lengths_in(alloc: Global, keys: &[Key]) -> Result<Vec<Lengths>, AllocError>
+    ensures { IfOk result (λ all. (k : Key) → Contains keys.now k → Contains all.items k.lengths) }
+{
+    let mut all = Vec::new(alloc);
+    for key in keys {
+        note(&mut all, key.lengths)?;
+    }
+    Ok(all)
+}
+
+/// Puts the lengths behind the others where they are new.
+fn note(all: &mut Vec<Lengths>, lengths: Lengths) -> Result<(), AllocError>
+    ensures there { OnOk result (Contains all.new.items lengths) }
+    ensures kept { (l : Lengths) → Contains all.old.items l → Contains all.new.items l }
+{
+    if !all.contains(&lengths) {
+        all.push(lengths)?;
+    }
+    Ok(())
+}

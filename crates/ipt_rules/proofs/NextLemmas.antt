@@ -1,0 +1,168 @@
+-- Rules that are passed over do not fit, and change nothing.
+use Rattle.std.proofs.Common.{◌≡◌, ℕ, zero, suc, ◌+◌, ◌-◌, ◌≤◌, ◌<◌, ◌^◌, ◌∙◌, inl, inr, sym, ap, refl, subst, arith, Bool, true, false, cond, List, [], ◌∷◌, ◌++◌, Option, Some, None, length, append_assoc, get_or, take, drop, slice_get}
+use Rattle.std.proofs.lemmas.Bool.{and_from, and_parts, cases_lt}
+use Rattle.std.proofs.lemmas.List.{drop_more}
+use Rattle.std.proofs.lemmas.Option.{same_Some, slice_get_within, slice_get_cases, slice_get_read}
+use Rattle.std.specs.Option.{option_map_or}
+use Rattle.host_net.specs.declared.cover.Covers.{Covers}
+use Rattle.host_net.specs.declared.cover.Ends.{Ends}
+use Rattle.host_net.specs.declared.packet.Packet.{Packet}
+use Rattle.host_net.specs.declared.packet.CtState.{CtState}
+use Rattle.host_net.specs.declared.prefix.Prefix.{Prefix}
+use Rattle.host_net.specs.Cover.{IsFirstFrom, covers_both, part_covers}
+use Rattle.host_net.specs.CoverView.{IsIndexOf, key_of}
+use Rattle.host_net.specs.Prefix.{covers}
+use Rattle.ipt_rules.specs.declared.rule.AddrMatch.{AddrMatch}
+use Rattle.ipt_rules.specs.declared.rule.Rule.{Rule}
+use Rattle.ipt_rules.specs.Chain.{Chain, rules_of}
+use Rattle.ipt_rules.specs.ChainTable.{rule_count}
+use Rattle.ipt_rules.specs.Matching.{address_matches, matches, port_matches, protocol_matches, turned}
+use Rattle.ipt_rules.specs.Meaning.{GoesOn, Walks, step_of}
+use Rattle.ipt_rules.specs.Next.{AreIndexes, IsNext, NoneFits, all_ends, ends_of, part_of}
+use Rattle.ipt_rules.specs.Reached.{Marks}
+use Rattle.ipt_rules.proofs.Gets.{get_pushed}
+use Rattle.ipt_rules.proofs.WalkLemmas.{GivesAlso, goes_on_here}
+
+by_test : (b : Bool) → (b ≡ true → ⊥) → b ≡ false
+by_test true fails = absurd (fails refl)
+by_test false fails = refl
+
+turned_covers : (negated : Bool) (p : Prefix) (a : ℕ) → turned negated (covers p a) ≡ true → part_covers (cond negated None (Some p)) a ≡ true
+turned_covers true p a fits = refl
+turned_covers false p a fits = fits
+
+part_fits : (part : Option AddrMatch) (a : ℕ) → address_matches part a ≡ true → part_covers (part_of part) a ≡ true
+part_fits None a fits = refl
+part_fits (Some part) a fits = turned_covers part.negated part.prefix a fits
+
+-- what a rule that fits asks of the addresses is so
+rule_covers : (packet : Packet) (state : CtState) (r : Rule) → matches packet state r ≡ true → covers_both packet.src packet.dst (ends_of r) ≡ true
+rule_covers packet state r fits =
+    let (proto, ports) = and_parts (protocol_matches r.proto packet.proto) _ fits in
+    let (sport, others) = and_parts (port_matches r.sport packet.sport) _ ports in
+    let (dport, addresses) = and_parts (port_matches r.dport packet.dport) _ others in
+    let (src, rest) = and_parts (address_matches r.src packet.src) _ addresses in
+    let (dst, last) = and_parts (address_matches r.dst packet.dst) _ rest in
+    and_from (part_covers (part_of r.src) packet.src) (part_covers (part_of r.dst) packet.dst) (part_fits r.src packet.src src) (part_fits r.dst packet.dst dst)
+
+not_covered : (packet : Packet) (state : CtState) (r : Rule) → covers_both packet.src packet.dst (ends_of r) ≡ false → matches packet state r ≡ false
+not_covered packet state r off = by_test (matches packet state r) (λ fits. let on = rule_covers packet state r fits in cc)
+
+ends_at : (rules : List Rule) (i : ℕ) (r : Rule) → slice_get rules i ≡ Some r → slice_get (all_ends rules) i ≡ Some (ends_of r)
+ends_at [] i r there = cc
+ends_at (x ∷ rules) zero r there = ap (λ (y : Rule). Some (ends_of y)) (same_Some x r there)
+ends_at (x ∷ rules) (suc i) r there = ends_at rules i r there
+
+pub length_ends : (rules : List Rule) → length (all_ends rules) ≡ length rules
+length_ends [] = refl
+length_ends (r ∷ rules) = ap suc (length_ends rules)
+
+pub next_is : (rules : List Rule) (packet : Packet) (state : CtState) (from : ℕ) (found : Option ℕ) → IsFirstFrom (all_ends rules) from packet.src packet.dst found → IsNext (matches packet state) rules from found
+next_is rules packet state from None none = λ i r low high there.
+    let all = length_ends rules in
+    not_covered packet state r (none i (ends_of r) low (omega (arith, high, all)) (ends_at rules i r there))
+next_is rules packet state from (Some at) first = record {
+  later = first.later;
+  within = let all = length_ends rules in let low = slice_get_within (all_ends rules) at first.ends first.there in omega (arith, all, low);
+  passed = λ i r low high there. not_covered packet state r (first.first i (ends_of r) low high (ends_at rules i r there));
+}
+
+-- ---- what is passed over changes nothing
+
+get_taken : (n : ℕ) (rules : List Rule) (i : ℕ) (r : Rule) → slice_get (take n rules) i ≡ Some r → slice_get rules i ≡ Some r
+get_taken zero rules i r there = cc
+get_taken (suc n) [] i r there = cc
+get_taken (suc n) (x ∷ rules) zero r there = there
+get_taken (suc n) (x ∷ rules) (suc i) r there = get_taken n rules i r there
+
+taken_before : (n : ℕ) (rules : List Rule) (i : ℕ) (r : Rule) → slice_get (take n rules) i ≡ Some r → i < n
+taken_before zero rules i r there = cc
+taken_before (suc n) [] i r there = cc
+taken_before (suc n) (x ∷ rules) zero r there = omega arith
+taken_before (suc n) (x ∷ rules) (suc i) r there = let before = taken_before n rules i r there in omega (arith, before)
+
+take_get : (n : ℕ) (rules : List Rule) (i : ℕ) (r : Rule) → i < n → slice_get rules i ≡ Some r → slice_get (take n rules) i ≡ Some r
+take_get zero rules i r before there = absurd (omega (arith, before))
+take_get (suc n) [] i r before there = cc
+take_get (suc n) (x ∷ rules) zero r before there = there
+take_get (suc n) (x ∷ rules) (suc i) r before there = take_get n rules i r (omega (arith, before)) there
+
+no_walk : (fits : Rule → Bool) (r : Rule) (d : ℕ) → fits r ≡ false → step_of (fits r) r.target ≡ Walks d → ⊥
+no_walk fits r d off step = let on : step_of false r.target ≡ Walks d = ap (λ (b : Bool). step_of b r.target) (sym off) ∙ step in cc
+
+pub marks_passed : (fits : Rule → Bool) (rules : List Rule) (places : List (Option ℕ)) (own from at : ℕ) (marked now : List Bool) → NoneFits fits rules from at
+    → Marks fits (take from rules) places own marked now → Marks fits (take at rules) places own marked now
+marks_passed fits rules places own from at marked now none is = record {
+  grows = is.grows;
+  keeps = is.keeps;
+  marks = λ d j w place.
+      let there = get_taken at rules w.at w.rule w.there in
+      elim (cases_lt w.at from) [
+        | inl low ↦ is.marks d j (record { at = w.at; rule = w.rule; there = take_get from rules w.at w.rule low there; step = w.step }) place
+        | inr high ↦
+            absurd (no_walk fits w.rule d (none w.at w.rule high (taken_before at rules w.at w.rule w.there) there) w.step)
+      ];
+}
+
+passes : (fits : Rule → Bool) (r : Rule) → fits r ≡ false → GoesOn ≡ step_of (fits r) r.target
+passes fits r off = sym (ap (λ (b : Bool). step_of b r.target) off)
+
+passed_some : (fits : Rule → Bool) (chains : List Chain) (rules : List Rule) (from n : ℕ) → from + n ≤ length rules → NoneFits fits rules from (from + n)
+    → GivesAlso fits chains (drop from rules) rules → GivesAlso fits chains (drop (from + n) rules) rules
+passed_some fits chains rules from zero within none also =
+    subst (λ (k : ℕ). GivesAlso fits chains (drop k rules) rules) (omega arith) also
+passed_some fits chains rules from (suc n) within none also =
+    let before = passed_some fits chains rules from n (omega (arith, within)) (λ i r low high there. none i r low (omega (arith, high)) there) also in
+    elim (slice_get_cases rules (from + n)).1 [
+      | inl (r, low, there, is) ↦
+          subst (λ (k : ℕ). GivesAlso fits chains (drop k rules) rules) (omega arith)
+          (goes_on_here fits chains rules (from + n) r low (sym is) before (passes fits r (none (from + n) r (omega arith) (omega arith) there)))
+      | inr (past, there) ↦ absurd (omega (arith, past, within))
+    ]
+
+pub gives_passed : (fits : Rule → Bool) (chains : List Chain) (rules : List Rule) (from at : ℕ) → from ≤ at → at ≤ length rules → NoneFits fits rules from at
+    → GivesAlso fits chains (drop from rules) rules → GivesAlso fits chains (drop at rules) rules
+gives_passed fits chains rules from at later within none also =
+    let place : from + (at - from) ≡ at = omega (arith, later) in
+    subst (λ (k : ℕ). GivesAlso fits chains (drop k rules) rules) place
+    (passed_some fits chains rules from (at - from) (omega (arith, place, within)) (λ i r low high there. none i r low (omega (arith, place, high)) there) also)
+
+-- ---- the indexes of chains
+
+pub ends_more : (rules : List Rule) (all now : List Ends) (i : ℕ) (r : Rule) (e : Ends) → i < length rules → r ≡ get_or rules i r → all ++ all_ends (drop i rules) ≡ all_ends rules → e ≡ ends_of r → now ≡ all ++ e ∷ []
+    → now ++ all_ends (drop (i + 1) rules) ≡ all_ends rules
+ends_more rules all now i r e low is so_far of_r more =
+    let rest = all_ends (drop (i + 1) rules) in
+    let here : all_ends (drop i rules) ≡ e ∷ rest = ap all_ends (drop_more rules i r low) ∙ ap (λ (x : Rule). ends_of x ∷ rest) (sym is) ∙ ap (λ (x : Ends). x ∷ rest) (sym of_r) in
+    ap (λ (es : List Ends). es ++ rest) more ∙ append_assoc all (e ∷ []) rest ∙ ap (λ (es : List Ends). all ++ es) (sym here) ∙ so_far
+
+-- a chain has no more rules than all have
+pub rules_few : (xs : List Chain) (i : ℕ) (x : Chain) → i < length xs → x ≡ get_or xs i x → length x.rules ≤ rule_count xs
+rules_few [] i x low is = absurd (omega (arith, low))
+rules_few (y ∷ ys) zero x low is = let same = ap (λ (c : Chain). length c.rules) is in omega (arith, same)
+rules_few (y ∷ ys) (suc i) x low is = let rest = rules_few ys i x (omega (arith, low)) is in omega (arith, rest)
+
+pub indexes_more : (chains : List Chain) (indexes now : List Covers) (i : ℕ) (x : Chain) (rules : List Rule) (index : Covers) → i < length chains → x ≡ get_or chains i x → rules ≡ x.rules → length indexes ≡ i
+    → ((c : ℕ) (own : Covers) → slice_get indexes c ≡ Some own → IsIndexOf (all_ends (rules_of chains c)) own) → IsIndexOf (all_ends rules) index → now ≡ indexes ++ index ∷ []
+    → (c : ℕ) (own : Covers) → slice_get now c ≡ Some own → IsIndexOf (all_ends (rules_of chains c)) own
+indexes_more chains indexes now i x rules index low is same counted so_far new more c own there =
+    elim (get_pushed indexes index c own (ap (λ (l : List Covers). slice_get l c) (sym more) ∙ there)) [
+      | inl old ↦ so_far c own old
+      | inr (place, last) ↦
+          let at : c ≡ i = place ∙ counted in
+          let here : slice_get chains i ≡ Some x = slice_get_read chains (length chains) i x refl low is in
+          let own_rules : rules ≡ rules_of chains c = same ∙ ap (λ (o : Option Chain). option_map_or (λ y. y.rules) o []) (sym here) ∙ ap (rules_of chains) (sym at) in
+          subst (λ (y : Covers). IsIndexOf (all_ends (rules_of chains c)) y) last (subst (λ (rs : List Rule). IsIndexOf (all_ends rs) index) own_rules new)
+    ]
+
+-- a rule that an index has stands at a place of 32 bits
+pub at_small : (rules : List Rule) (index : Covers) → IsIndexOf (all_ends rules) index → (at : ℕ) → at < length rules → at < 2 ^ 32
+at_small rules index is at within = elim (slice_get_cases rules at).1 [
+  | inl (r, low, there, same) ↦ (is.order.small (key_of (ends_of r) at) (is.every at (ends_of r) (ends_at rules at r there))).place
+  | inr (past, there) ↦ absurd (omega (arith, past, within))
+]
+
+pub index_there : (indexes : List Covers) (chains : List Chain) → AreIndexes indexes chains → (number : ℕ) (index : Covers) (rules : List Rule) → number < length indexes → index ≡ get_or indexes number index → rules ≡ rules_of chains number
+    → IsIndexOf (all_ends rules) index
+index_there indexes chains are number index rules low is same =
+    subst (λ (rs : List Rule). IsIndexOf (all_ends rs) index) (sym same) (are.each number index (slice_get_read indexes (length indexes) number index refl low is))

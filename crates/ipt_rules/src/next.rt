@@ -1,0 +1,79 @@
+//! Which rule of a chain is the next that may fit a packet, by an index of the addresses that the
+//! rules of each chain ask for.
+
+ghost use Rattle.std.specs.Prelude.{◌≡◌, ◌<◌, ◌≤◌, ◌^◌, List, length, IfOk};
+ghost use Rattle.host_net.specs.CoverView.{IsIndexOf};
+ghost use Rattle.host_net.specs.declared.packet.CtState.{CtState};
+ghost use Rattle.ipt_rules.specs.declared.rule.Rule.{Rule};
+ghost use Rattle.ipt_rules.specs.ChainTable.{rule_count};
+ghost use Rattle.ipt_rules.specs.Matching.{matches};
+ghost use Rattle.ipt_rules.specs.Next.{AreIndexes, IsNext, all_ends, ends_of, part_of};
+
+use crate::chain::Chain;
+use crate::rule::{AddrMatch, Rule};
+use host_net::{Covers, Ends, Packet, Prefix};
+use std::alloc::{AllocError, Global};
+
+/// What is asked of an address, where it is that a prefix covers it.
+fn part_of(part: Option<AddrMatch>) -> Option<Prefix>
+    ensures { result ≡ part_of part }
+{
+    match part {
+        None => None,
+        Some(asked) => {
+            if asked.negated {
+                None
+            } else {
+                Some(asked.prefix)
+            }
+        }
+    }
+}
+
+fn ends_of(rule: &Rule) -> Ends
+    ensures { result ≡ ends_of rule.now }
+{
+    Ends {
+        src: part_of(rule.src),
+        dst: part_of(rule.dst),
+    }
+}
+
+fn all_ends(alloc: Global, rules: &[Rule]) -> Result<Vec<Ends>, AllocError>
+    ensures { IfOk result (λ all. all.items ≡ all_ends rules.now) }
+{
+    let mut all = Vec::with_capacity(alloc, rules.len())?;
+    for rule in rules {
+        all.push(ends_of(rule))?;
+    }
+    Ok(all)
+}
+
+fn index_of(alloc: Global, rules: &[Rule]) -> Result<Covers, AllocError>
+    requires { length rules.now < 2 ^ 32 }
+    ensures { IfOk result (IsIndexOf (all_ends rules.now)) }
+{
+    let all = all_ends(alloc, rules)?;
+    Covers::of(alloc, &all)
+}
+
+/// An index of the rules of each chain.
+pub(crate) fn indexes_of(alloc: Global, chains: &[Chain]) -> Result<Vec<Covers>, AllocError>
+    requires { rule_count chains.now ≤ 1000000 }
+    ensures { IfOk result (λ indexes. AreIndexes indexes.items chains.now) }
+{
+    let mut indexes = Vec::with_capacity(alloc, chains.len())?;
+    for chain in chains {
+        let index = index_of(alloc, chain.rules())?;
+        indexes.push(index)?;
+    }
+    Ok(indexes)
+}
+
+/// The place of the next rule, from one on, whose prefixes cover the addresses of the packet. Those
+/// that are passed over do not fit it.
+pub(crate) fn next_rule(index: &Covers, from: usize, packet: &Packet) -> Option<usize>
+    ensures { (rules : List Rule) (state : CtState) → IsIndexOf (all_ends rules) index.now → IsNext (matches packet.now state) rules from result }
+{
+    index.first(from, packet.src, packet.dst)
+}

@@ -1,0 +1,46 @@
+-- The entries that a search passes over, by the addresses that they ask for. Callers see none of it; they have `Meaning`.
+use Rattle.std.specs.Prelude.{◌≡◌, ◌≤◌, ◌<◌, ℕ, Bool, false, List, map, length, slice_get, Option, Some, None}
+use Rattle.host_net.specs.declared.cover.Ends.{Ends}
+use Rattle.host_net.specs.declared.prefix.Prefix.{Prefix}
+use Rattle.ofp_rules.specs.declared.entry.Entry.{Entry}
+use Rattle.ofp_rules.specs.declared.entry.Frame.{Frame}
+use Rattle.ofp_rules.specs.declared.entry.Frame.TheVariants.{Arp, Ipv4, Other}
+use Rattle.ofp_rules.specs.declared.entry.FrameKind.{FrameKind}
+use Rattle.ofp_rules.specs.declared.entry.FrameKind.TheVariants.{Any as OfAny, Arp as OfArp, Ip as OfIp}
+
+-- only an entry for IPv4 asks for addresses
+abbrev pub kind_ends : FrameKind → Option Prefix → Option Prefix → Ends
+kind_ends OfAny src dst = record { src = None; dst = None }
+kind_ends OfArp src dst = record { src = None; dst = None }
+kind_ends OfIp src dst = record { src = src; dst = dst }
+
+abbrev pub ends_of : Entry → Ends
+ends_of e = kind_ends e.kind e.src e.dst
+
+abbrev pub all_ends : List Entry → List Ends
+all_ends entries = map ends_of entries
+
+-- a frame that has no addresses counts as one of the address 0
+abbrev pub source_of : Frame → ℕ
+source_of Arp = 0
+source_of (Ipv4 packet) = packet.src
+source_of Other = 0
+
+abbrev pub destination_of : Frame → ℕ
+destination_of Arp = 0
+destination_of (Ipv4 packet) = packet.dst
+destination_of Other = 0
+
+-- from one place on, and before another, no entry matches
+abbrev pub NoneMatches : (Entry → Bool) → List Entry → ℕ → ℕ → Type 0
+NoneMatches by entries from to = (i : ℕ) (e : Entry) → from ≤ i → i < to → slice_get entries i ≡ Some e → by e ≡ false
+
+-- all entries from one place on that stand before another do not match
+pub record IsNextAt (by : Entry → Bool) (entries : List Entry) (from at : ℕ) : Type 0 where
+  pub later : from ≤ at
+  pub within : at < length entries
+  pub passed : NoneMatches by entries from at
+
+abbrev pub IsNext : (Entry → Bool) → List Entry → ℕ → Option ℕ → Type 0
+IsNext by entries from None = NoneMatches by entries from (length entries)
+IsNext by entries from (Some at) = IsNextAt by entries from at

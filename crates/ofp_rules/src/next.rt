@@ -1,0 +1,54 @@
+//! Which entry is the next that may match a frame, by an index of the addresses that entries ask for.
+
+ghost use Rattle.std.specs.Prelude.{◌≡◌, List};
+ghost use Rattle.host_net.specs.CoverView.{IsIndexOf};
+ghost use Rattle.ofp_rules.specs.declared.entry.Entry.{Entry};
+ghost use Rattle.ofp_rules.specs.Matching.{matches};
+ghost use Rattle.ofp_rules.specs.Next.{IsNext, all_ends, destination_of, ends_of, source_of};
+
+use crate::entry::{Entry, Frame, FrameKind};
+use host_net::{Covers, Ends};
+
+impl Entry {
+    /// What it asks of the addresses of a frame.
+    pub(crate) fn ends(&self) -> Ends
+        ensures { result ≡ ends_of self.now }
+    {
+        match self.kind {
+            FrameKind::Any | FrameKind::Arp => Ends {
+                src: None,
+                dst: None,
+            },
+            FrameKind::Ip => Ends {
+                src: self.src,
+                dst: self.dst,
+            },
+        }
+    }
+}
+
+fn source_of(frame: &Frame) -> u32
+    ensures { result ≡ source_of frame.now }
+{
+    match *frame {
+        Frame::Arp | Frame::Other => 0,
+        Frame::Ipv4(packet) => packet.src,
+    }
+}
+
+fn destination_of(frame: &Frame) -> u32
+    ensures { result ≡ destination_of frame.now }
+{
+    match *frame {
+        Frame::Arp | Frame::Other => 0,
+        Frame::Ipv4(packet) => packet.dst,
+    }
+}
+
+/// The place of the next entry, from one on, that may match the frame. Those that are passed over do
+/// not match it.
+pub(crate) fn next_entry(index: &Covers, from: usize, frame: &Frame) -> Option<usize>
+    ensures { (entries : List Entry) → IsIndexOf (all_ends entries) index.now → IsNext (matches frame.now) entries from result }
+{
+    index.first(from, source_of(frame), destination_of(frame))
+}
