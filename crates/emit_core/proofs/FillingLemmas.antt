@@ -1,22 +1,19 @@
 -- What chains are while rules are added to one of them, and when its rules are all there.
-use Rattle.std.proofs.Common.{◌≡◌, ℕ, ◌+◌, ◌^◌, ◌<◌, ◌≤◌, List, [], ◌∷◌, ◌++◌, Option, None, length, drop, get_or, refl, sym, ap, subst, ◌∙◌, arith, append_assoc}
+use Rattle.std.proofs.Common.{◌≡◌, ℕ, ◌+◌, ◌^◌, ◌<◌, List, [], ◌∷◌, ◌++◌, Option, None, length, drop, get_or, refl, sym, ap, subst, ◌∙◌, arith, append_assoc}
 use Rattle.std.specs.Prelude.{IsNone}
 use Rattle.std.proofs.lemmas.List.{append-nil, at_drop_more}
-use Rattle.std.proofs.lemmas.List.FromFn.{map-range_with_len_more}
-use Rattle.host_net.specs.Site.{Site, IsSite}
+use Rattle.host_net.specs.Host.{Host}
+use Rattle.host_net.specs.Site.{Site}
 use Rattle.flow_set.specs.declared.flow.Flow.{Flow}
 use Rattle.ipt_rules.specs.declared.rule.Rule.{Rule}
 use Rattle.ipt_rules.specs.declared.rule.Policy.TheVariants.{Drop as Dropping}
-use Rattle.ipt_rules.specs.Chain.{Chain, built_in_chains, user_chain, with_policy, with_rule, number_of}
+use Rattle.ipt_rules.specs.Chain.{Chain, built_in_chains, with_policy, with_rule, number_of}
 use Rattle.ipt_rules.specs.ChainTable.{rule_count}
-use Rattle.ipt_rules.specs.ChainLaws.{length_with_rule, rule_count_with_rule, rule_count-append}
-use Rattle.emit_core.specs.declared.side.Side.TheVariants.{Sending}
-use Rattle.emit_core.specs.Layout.{host_chain, host_chain_name, host_rules, forward_rules}
+use Rattle.ipt_rules.specs.ChainLaws.{length_with_rule, rule_count_with_rule}
+use Rattle.emit_core.specs.Layout.{entry_chains, forward_rules, host_chain_name}
 use Rattle.emit_core.specs.LayoutLaws.{name_unused}
 use Rattle.emit_core.specs.Filling.{with_rules, chains_up_to}
-use Rattle.emit_core.specs.FewRulesLaws.{few_host_rules}
 use Rattle.emit_core.specs.FillingLaws.{with_rules-changed}
-use Rattle.emit_core.proofs.CountLemmas.{few_rules}
 
 -- some of the rules are added
 pub record IsFilling (c : ℕ) (rules : List Rule) (start now : List Chain) (done : ℕ) : Type 0 where
@@ -58,44 +55,18 @@ unfolding with_policy
 no_rules_yet start started = (ap length started, ap rule_count started)
 
 -- the built-in chains, with the rules of FORWARD
-pub forward_filled : (site : Site) (p s : List Flow) (start : List Chain) (rules : List Rule)
-    → start ≡ with_policy built_in_chains 1 Dropping → rules ≡ forward_rules site.hosts
-    → with_rules start 1 rules ≡ chains_up_to site p s 0
+pub forward_filled : (hosts : List Host) (start : List Chain) (rules : List Rule)
+    → start ≡ with_policy built_in_chains 1 Dropping → rules ≡ forward_rules hosts
+    → with_rules start 1 rules ≡ entry_chains hosts
 unfolding with_policy
-forward_filled site p s start rules started all =
-    rw (started, all) (with_rules-changed (with_policy built_in_chains 1 Dropping) 1 (forward_rules site.hosts))
-
--- the chain of one more host
-pub host_filled : (site : Site) (p s : List Flow) (i : ℕ) (chains : List Chain) (name : List ℕ) (rules : List Rule)
-    → chains ≡ chains_up_to site p s i → name ≡ host_chain_name i → rules ≡ host_rules Sending site p s i
-    → with_rules (chains ++ user_chain name ∷ []) (length chains) rules ≡ chains_up_to site p s (i + 1)
-host_filled site p s i chains name rules before named all =
-    with_rules-last chains (user_chain name) rules
-    ∙ ap (λ (x : List ℕ). chains ++ record { name = x; policy = None; rules = rules } ∷ []) named
-    ∙ ap (λ (x : List Rule). chains ++ record { name = host_chain_name i; policy = None; rules = x } ∷ []) all
-    ∙ ap (λ (x : List Chain). x ++ host_chain site p s i ∷ []) before
-    ∙ ap (λ (x : List Chain). chains_up_to site p s 0 ++ x) (sym (map-range_with_len_more (host_chain site p s) 0 i i (omega arith)))
+forward_filled hosts start rules started all =
+    rw (started, all) (with_rules-changed (with_policy built_in_chains 1 Dropping) 1 (forward_rules hosts))
 
 none_is : {A : Type 0} (o : Option A) → o ≡ None → IsNone o
 none_is o is = rw is refl
 
 -- before the chain of a host is added its name is unused
-pub unused : (site : Site) (p s : List Flow) (i : ℕ) (chains : List Chain) (name : List ℕ)
-    → chains ≡ chains_up_to site p s i → name ≡ host_chain_name i → i < 2 ^ 16 → IsNone (number_of chains name)
-unused site p s i chains name before named fits =
-    subst (λ (x : List ℕ). IsNone (number_of chains x)) (sym named)
-    (subst (λ (x : List Chain). IsNone (number_of x (host_chain_name i))) (sym before) (none_is _ (name_unused site p s i fits)))
-
--- and there is room for its rules
-pub room : (site : Site) (p s : List Flow) (i : ℕ) (chains : List Chain) (name : List ℕ) (rules : List Rule) → IsSite site
-    → chains ≡ chains_up_to site p s i → rules ≡ host_rules Sending site p s i → i ≤ 256
-    → rule_count (chains ++ user_chain name ∷ []) + length rules < 2 ^ 32
-room site p s i chains name rules is before all few =
-    omega (
-      arith,
-      rule_count-append chains (user_chain name ∷ []),
-      ap rule_count before,
-      ap length all,
-      few_rules site p s i is few,
-      few_host_rules Sending site p s i is,
-    )
+pub unused : (site : Site) (p s : List Flow) (i : ℕ) (chains : List Chain)
+    → chains ≡ chains_up_to site p s i → i < 2 ^ 16 → IsNone (number_of chains (host_chain_name i))
+unused site p s i chains before fits =
+    subst (λ (x : List Chain). IsNone (number_of x (host_chain_name i))) (sym before) (none_is _ (name_unused site p s i fits))

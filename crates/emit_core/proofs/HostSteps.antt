@@ -1,5 +1,5 @@
 -- One step of a loop over hosts that writes entries: what is left to write before it, and after it.
-use Rattle.std.proofs.Common.{◌≡◌, ℕ, ◌+◌, List, [], ◌∷◌, ◌++◌, Option, Some, drop, length, sym, ap, ◌∙◌, append_assoc, arith}
+use Rattle.std.proofs.Common.{◌≡◌, ℕ, ◌+◌, List, [], ◌∷◌, ◌++◌, Option, Some, drop, length, sym, ap, ◌∙◌, arith}
 use Rattle.std.specs.Prelude.{slice_get, option_map}
 use Rattle.std.proofs.lemmas.List.{drop_all}
 use Rattle.host_net.specs.declared.prefix.Prefix.{Prefix}
@@ -9,6 +9,8 @@ use Rattle.ofp_rules.specs.declared.entry.Entry.{Entry}
 use Rattle.emit_core.proofs.Steps.{drop_here}
 use Rattle.flow_set.specs.declared.flow.Flow.{Flow}
 use Rattle.emit_core.specs.FlowTable.{arp_entry, between, flow_entries, for_each_host, other_entry, with_rest}
+use Rattle.emit_core.specs.KeptEntries.{KeptEntries, no_entries, with_entries, with_entry}
+use Rattle.emit_core.proofs.EntrySteps.{in_parts}
 
 -- after the last host nothing is left
 pub for_each_all : (written : ℕ → List Prefix → List Entry) (hosts : List Host) (i : ℕ) → i ≡ length hosts
@@ -23,22 +25,26 @@ host_left written hosts i qs here =
     let found = drop_here hosts i qs here in
     ap (for_each_host written i) found.1 ∙ ap (λ (x : List Prefix). written i x ++ for_each_host written (i + 1) (drop (i + 1) hosts)) (sym found.2)
 
--- the entries for host i are written: what was left before is written and left now
-pub grow_host : (written : ℕ → List Prefix → List Entry) (hosts : List Host) (i : ℕ) (qs : List Prefix) (old new whole : List Entry)
+-- the entries for host i are added: what was left before is added and left now
+pub grow_host : (written : ℕ → List Prefix → List Entry) (hosts : List Host) (i : ℕ) (qs : List Prefix) (old new whole : KeptEntries)
     → option_map (λ h. h.prefixes) (slice_get hosts i) ≡ Some qs
-    → old ++ for_each_host written i (drop i hosts) ≡ whole
-    → new ≡ old ++ written i qs
-    → new ++ for_each_host written (i + 1) (drop (i + 1) hosts) ≡ whole
+    → with_entries old (for_each_host written i (drop i hosts)) ≡ whole
+    → new ≡ with_entries old (written i qs)
+    → with_entries new (for_each_host written (i + 1) (drop (i + 1) hosts)) ≡ whole
 grow_host written hosts i qs old new whole here before step =
-    ap (λ (x : List Entry). x ++ for_each_host written (i + 1) (drop (i + 1) hosts)) step
-    ∙ append_assoc old (written i qs) (for_each_host written (i + 1) (drop (i + 1) hosts))
-    ∙ ap (λ (x : List Entry). old ++ x) (sym (host_left written hosts i qs here))
+    ap (λ (x : KeptEntries). with_entries x (for_each_host written (i + 1) (drop (i + 1) hosts))) step
+    ∙ sym (in_parts old (written i qs) (for_each_host written (i + 1) (drop (i + 1) hosts)))
+    ∙ ap (with_entries old) (sym (host_left written hosts i qs here))
     ∙ before
 
 -- the parts, one after the other
-pub put_together : (site : Site) (p : List Flow) (rest : Option ℕ) (none first second third all : List Entry) (arp other : Entry)
-    → rest ≡ rest_of site.hosts → none ≡ [] → first ≡ none ++ between site p rest → second ≡ first ++ with_rest site p rest → third ≡ second ++ arp ∷ [] → all ≡ third ++ other ∷ [] → arp ≡ arp_entry → other ≡ other_entry
-    → all ≡ flow_entries site p
+pub put_together : (site : Site) (p : List Flow) (rest : Option ℕ) (none first second third all : KeptEntries) (arp other : Entry)
+    → rest ≡ rest_of site.hosts → none ≡ no_entries → first ≡ with_entries none (between site p rest) → second ≡ with_entries first (with_rest site p rest)
+    → third ≡ with_entry second arp → all ≡ with_entry third other → arp ≡ arp_entry → other ≡ other_entry
+    → all ≡ with_entries no_entries (flow_entries site p)
 unfolding flow_entries
 put_together site p rest none first second third all arp other by_rest empty one two three four is_arp is_other =
-    rw (four, three, two, one, empty, by_rest, is_arp, is_other) (simp append_assoc)
+    rw (four, three, two, one, empty, by_rest, is_arp, is_other) (
+    sym (in_parts (with_entries no_entries (between site p (rest_of site.hosts))) (with_rest site p (rest_of site.hosts)) (arp_entry ∷ other_entry ∷ []))
+    ∙ sym (in_parts no_entries (between site p (rest_of site.hosts)) (with_rest site p (rest_of site.hosts) ++ arp_entry ∷ other_entry ∷ []))
+    )

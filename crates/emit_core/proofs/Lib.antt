@@ -1,5 +1,5 @@
 pub mod CountLemmas
-pub mod CountSteps
+pub mod EntrySteps
 pub mod FillingLemmas
 pub mod HostSteps
 pub mod NarrowedSteps

@@ -1,10 +1,12 @@
 -- Chains and rules that are added one after another. The contracts of layouts say none of it; they say the chains.
-use Rattle.std.specs.Prelude.{ℕ, List, [], ◌∷◌, ◌++◌, map}
+use Rattle.std.specs.Prelude.{◌≡◌, ◌≤◌, ℕ, List, [], ◌∷◌, ◌++◌, map}
 use Rattle.std.specs.List.{range_with_len}
 use Rattle.host_net.specs.Site.{Site}
 use Rattle.flow_set.specs.declared.flow.Flow.{Flow}
 use Rattle.ipt_rules.specs.declared.rule.Rule.{Rule}
 use Rattle.ipt_rules.specs.Chain.{Chain, with_rule}
+use Rattle.ipt_rules.specs.ChainTable.{rule_count}
+use Rattle.emit_core.specs.EmitRefusals.{rule_limit}
 use Rattle.emit_core.specs.Layout.{entry_chains, host_chain}
 
 -- the chains with more rules at the end of chain c
@@ -15,3 +17,8 @@ with_rules chains c (r ∷ rs) = with_rules (with_rule chains c r) c rs
 -- the layout up to the chain of the n-th host
 abbrev pub chains_up_to : Site → List Flow → List Flow → ℕ → List Chain
 chains_up_to site p s n = entry_chains site.hosts ++ map (host_chain site p s) (range_with_len 0 n)
+
+-- the rules of chains are counted, and where they are not too many the chains are kept
+pub record AreCounted (all chains : List Chain) (count : ℕ) : Type 0 where
+  pub counted : count ≡ rule_count all
+  pub kept : count ≤ rule_limit → chains ≡ all

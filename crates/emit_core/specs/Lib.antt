@@ -15,12 +15,12 @@ pub mod FlowTablePairLaws
 pub mod FlowTableRangeLaws
 pub mod FlowTableRefusals
 pub mod FlowTableServiceLaws
-pub mod FlowTableSizeLaws
 pub mod FlowTableUnnarrowedLaws
 pub mod FlowTableVerdictLaws
 pub mod ForwardingLaws
 pub mod HeldLaws
 pub mod HostChainLaws
+pub mod KeptEntries
 pub mod Layout
 pub mod LayoutLaws
 pub mod LayoutRulesLaws

@@ -1,9 +1,11 @@
 //! The few forms of entries that a flow table has.
 
-ghost use Rattle.std.specs.Prelude.{◌≡◌, ◌++◌, OnOk, Some, map};
+ghost use Rattle.std.specs.Prelude.{◌≡◌, OnOk, Some, map};
 ghost use Rattle.host_net.specs.Service.{narrowings};
 ghost use Rattle.emit_core.specs.FlowTable.{arp_entry, ip_entry, other_entry, port_of_service, rest_drop, service_entry};
+ghost use Rattle.emit_core.specs.KeptEntries.{with_entries};
 
+use crate::entries::Entries;
 use crate::narrowing::{has_all_ports, is_whole};
 use host_net::{Prefix, Service};
 use ofp_rules::{Action, Entry, FrameKind};
@@ -12,13 +14,14 @@ use std::alloc::AllocError;
 /// The entries that forward what services serve, or everything where there are none. Without a
 /// prefix they ask for no source, or no destination.
 pub(crate) fn push_services(
-    entries: &mut Vec<Entry>,
+    entries: &mut Entries,
     priority: u16,
     src: Option<Prefix>,
     dst: Option<Prefix>,
     services: &[Service],
 ) -> Result<(), AllocError>
-    ensures { OnOk result (entries.new.items ≡ entries.old.items ++ map (service_entry priority src dst) (narrowings services.now)) }
+    ensures { OnOk result (entries.new ≡ with_entries entries.old
+        (map (service_entry priority src dst) (narrowings services.now))) }
 {
     if is_whole(services) {
         entries.push(service_entry(priority, src, dst, None))?;
@@ -28,13 +31,14 @@ pub(crate) fn push_services(
 }
 
 fn push_each_service(
-    entries: &mut Vec<Entry>,
+    entries: &mut Entries,
     priority: u16,
     src: Option<Prefix>,
     dst: Option<Prefix>,
     services: &[Service],
 ) -> Result<(), AllocError>
-    ensures { OnOk result (entries.new.items ≡ entries.old.items ++ map (λ service. service_entry priority src dst (Some service)) services.now) }
+    ensures { OnOk result (entries.new ≡ with_entries entries.old
+        (map (λ service. service_entry priority src dst (Some service)) services.now)) }
 {
     for service in services {
         entries.push(service_entry(priority, src, dst, Some(*service)))?;
@@ -45,13 +49,14 @@ fn push_each_service(
 /// What drops packets between two prefixes, where there is a rest host from or to which they would
 /// pass else.
 pub(crate) fn push_rest_drop(
-    entries: &mut Vec<Entry>,
+    entries: &mut Entries,
     rest: Option<u16>,
     priority: u16,
     source: Prefix,
     destination: Prefix,
 ) -> Result<(), AllocError>
-    ensures { OnOk result (entries.new.items ≡ entries.old.items ++ rest_drop rest priority source destination) }
+    ensures { OnOk result (entries.new ≡ with_entries entries.old
+        (rest_drop rest priority source destination)) }
 {
     if rest.is_some() {
         entries.push(drop_entry(priority, source, destination))?;

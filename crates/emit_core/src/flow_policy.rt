@@ -2,6 +2,7 @@
 
 ghost use Rattle.std.specs.Prelude.{◌≡◌, ◌≤◌, ◌<◌, length};
 ghost use Rattle.host_net.specs.Host.{rest_of};
+ghost use Rattle.host_net.specs.Hosts.{IsHosts};
 ghost use Rattle.host_net.specs.Services.{AreServices, service_limit, services_of};
 ghost use Rattle.emit_core.specs.Sides.{permits};
 
@@ -18,6 +19,7 @@ pub(crate) struct FlowPolicy<'a> {
     pub(crate) rest: Option<u16>,
     ghost same_size: { permitted.now.size ≡ length hosts.now },
     ghost rest_is: { rest ≡ rest_of hosts.now },
+    ghost hosts_are: { IsHosts hosts.now },
     ghost services_are: { AreServices services.now },
 }
 

@@ -1,25 +1,24 @@
 //! The entries of a flow table, by the hosts that a frame comes from and goes to.
 
-ghost use Rattle.std.specs.Prelude.{◌≡◌, ◌<◌, ◌++◌, length, OnOk, if◌then◌else◌, []};
+ghost use Rattle.std.specs.Prelude.{◌≡◌, ◌<◌, length, OnOk, if◌then◌else◌, []};
 ghost use Rattle.host_net.specs.Service.{is_whole};
 ghost use Rattle.host_net.specs.Site.{site_with};
 ghost use Rattle.emit_core.specs.FlowTable.{between, from_host, from_prefix, host_pair, pair_entries, rest_drop};
+ghost use Rattle.emit_core.specs.KeptEntries.{with_entries};
 
+use crate::entries::Entries;
 use crate::flow_entry::{push_rest_drop, push_services};
 use crate::flow_policy::{FlowPolicy, PolicyFlow};
 use crate::narrowing::is_whole;
 use host_net::{Prefix, Service};
-use ofp_rules::Entry;
 use std::alloc::AllocError;
 
 /// The entries from each host to each host.
 #[tactic(auto, using(crate::proofs::HostSteps::for_each_all))]
-pub(crate) fn push_between(
-    entries: &mut Vec<Entry>,
-    policy: &FlowPolicy<'_>,
-) -> Result<(), AllocError>
-    ensures { OnOk result (entries.new.items ≡ entries.old.items ++ between (site_with policy.now.hosts.now policy.now.services.now)
-        policy.now.permitted.now.flows policy.now.rest) }
+pub(crate) fn push_between(entries: &mut Entries, policy: &FlowPolicy<'_>) -> Result<(), AllocError>
+    ensures { OnOk result (entries.new ≡ with_entries entries.old
+        (between (site_with policy.now.hosts.now policy.now.services.now)
+        policy.now.permitted.now.flows policy.now.rest)) }
 {
     for from in 0..policy.hosts.count() {
         push_from_host(entries, policy, from, policy.hosts.prefixes(from))?;
@@ -29,14 +28,15 @@ pub(crate) fn push_between(
 
 #[tactic(auto, using(crate::proofs::HostSteps::for_each_all))]
 fn push_from_host(
-    entries: &mut Vec<Entry>,
+    entries: &mut Entries,
     policy: &FlowPolicy<'_>,
     from: u16,
     sources: &[Prefix],
 ) -> Result<(), AllocError>
     requires { from < length policy.now.hosts.now }
-    ensures { OnOk result (entries.new.items ≡ entries.old.items ++ from_host (site_with policy.now.hosts.now policy.now.services.now)
-        policy.now.permitted.now.flows policy.now.rest from sources.now) }
+    ensures { OnOk result (entries.new ≡ with_entries entries.old
+        (from_host (site_with policy.now.hosts.now policy.now.services.now)
+        policy.now.permitted.now.flows policy.now.rest from sources.now)) }
 {
     for to in 0..policy.hosts.count() {
         let flow = policy.flow(from, to);
@@ -52,13 +52,14 @@ fn push_from_host(
 }
 
 fn push_host_pair(
-    entries: &mut Vec<Entry>,
+    entries: &mut Entries,
     flow: &PolicyFlow<'_>,
     rest: Option<u16>,
     sources: &[Prefix],
     destinations: &[Prefix],
 ) -> Result<(), AllocError>
-    ensures { OnOk result (entries.new.items ≡ entries.old.items ++ host_pair flow.now.permitted flow.now.services.now rest sources.now destinations.now) }
+    ensures { OnOk result (entries.new ≡ with_entries entries.old
+        (host_pair flow.now.permitted flow.now.services.now rest sources.now destinations.now)) }
 {
     for source in sources {
         push_from_prefix(entries, flow, rest, *source, destinations)?;
@@ -67,13 +68,14 @@ fn push_host_pair(
 }
 
 fn push_from_prefix(
-    entries: &mut Vec<Entry>,
+    entries: &mut Entries,
     flow: &PolicyFlow<'_>,
     rest: Option<u16>,
     source: Prefix,
     destinations: &[Prefix],
 ) -> Result<(), AllocError>
-    ensures { OnOk result (entries.new.items ≡ entries.old.items ++ from_prefix flow.now.permitted flow.now.services.now rest destinations.now source) }
+    ensures { OnOk result (entries.new ≡ with_entries entries.old
+        (from_prefix flow.now.permitted flow.now.services.now rest destinations.now source)) }
 {
     for destination in destinations {
         push_pair(entries, flow, rest, source, *destination)?;
@@ -81,14 +83,16 @@ fn push_from_prefix(
     Ok(())
 }
 
+#[tactic(auto, using(crate::proofs::EntrySteps::in_parts))]
 fn push_pair(
-    entries: &mut Vec<Entry>,
+    entries: &mut Entries,
     flow: &PolicyFlow<'_>,
     rest: Option<u16>,
     source: Prefix,
     destination: Prefix,
 ) -> Result<(), AllocError>
-    ensures { OnOk result (entries.new.items ≡ entries.old.items ++ pair_entries flow.now.permitted flow.now.services.now rest source destination) }
+    ensures { OnOk result (entries.new ≡ with_entries entries.old
+        (pair_entries flow.now.permitted flow.now.services.now rest source destination)) }
 {
     if flow.permitted {
         push_services(entries, 40, Some(source), Some(destination), flow.services)?;
@@ -100,13 +104,14 @@ fn push_pair(
 
 // Below the services of a narrowed flow, what would pass else as if from or to the rest host.
 fn push_low_drop(
-    entries: &mut Vec<Entry>,
+    entries: &mut Entries,
     services: &[Service],
     rest: Option<u16>,
     source: Prefix,
     destination: Prefix,
 ) -> Result<(), AllocError>
-    ensures { OnOk result (entries.new.items ≡ entries.old.items ++ (if is_whole services.now then [] else rest_drop rest 35 source destination)) }
+    ensures { OnOk result (entries.new ≡ with_entries entries.old
+        (if is_whole services.now then [] else rest_drop rest 35 source destination)) }
 {
     if !is_whole(services) {
         push_rest_drop(entries, rest, 35, source, destination)?;

@@ -11,7 +11,6 @@ ghost use Rattle.emit_core.specs.Sides.{links, other_side, services_on};
 ghost use Rattle.emit_core.specs.Layout.{links_whole, is_open, drops, to_prefix, to_rest, for_each_prefix, host_rules};
 
 mod accepts;
-mod counts;
 
 use crate::narrowing::is_whole;
 use crate::parts::at_other;
@@ -41,25 +40,6 @@ pub fn host_rules(
 {
     let chain = HostChain::new(hosts, services, p, s, side, host);
     chain.rules(alloc)
-}
-
-/// How many rules there are in that chain.
-pub(crate) fn count_host_rules(
-    hosts: &Hosts,
-    services: &Services,
-    p: &FlowSet,
-    s: &FlowSet,
-    side: Side,
-    host: u16,
-) -> u32
-    requires permitted { p.now.size ≡ length hosts.now }
-    requires stateful { s.now.size ≡ length hosts.now }
-    requires there { host < length hosts.now }
-    ensures rules { result ≡ length (host_rules side (site_with hosts.now services.now) p.now.flows s.now.flows host) }
-    ensures services { AreServices services.now }
-{
-    let chain = HostChain::new(hosts, services, p, s, side, host);
-    chain.count()
 }
 
 /// The host whose chain is written, with the policy that it is written for.

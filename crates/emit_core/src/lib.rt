@@ -5,7 +5,7 @@
 #![tactic(auto)]
 
 mod answers;
-mod entry_count;
+mod entries;
 mod filling;
 mod flow_entry;
 mod flow_policy;
@@ -20,7 +20,6 @@ mod permitted;
 mod ranges;
 mod refusal;
 mod rest_flows;
-mod rule_count;
 mod side;
 
 pub use answers::needs_state;

@@ -10,9 +10,10 @@ ghost use Rattle.emit_core.specs.EmitRefusals.{HasNoTable};
 ghost use Rattle.emit_core.specs.FlowTable.{flow_entries};
 ghost use Rattle.emit_core.specs.FlowTableEvents.{AnswersAreCovered};
 ghost use Rattle.emit_core.specs.FlowTableForwarding.{ForwardsArpAlone};
+ghost use Rattle.emit_core.specs.KeptEntries.{AreCounted};
 ghost use Rattle.emit_core.specs.PortRanges.{HasNoRange};
 
-use crate::entry_count::entry_count;
+use crate::entries::{ENTRY_LIMIT, Entries};
 use crate::flow_entry::{arp_entry, other_entry};
 use crate::flow_policy::FlowPolicy;
 use crate::flows::push_between;
@@ -21,11 +22,8 @@ use crate::refusal::EmitRefusal;
 use crate::rest_flows::push_with_rest;
 use flow_set::FlowSet;
 use host_net::{Hosts, Services};
-use ofp_rules::{Entry, Table, TableRefusal};
+use ofp_rules::{Table, TableRefusal};
 use std::alloc::{AllocError, Global};
-
-/// How many entries a flow table may have.
-const ENTRY_LIMIT: u32 = 8192;
 
 /// The flow table of a policy: the flows of `p` are permitted, each narrowed to its services where
 /// it has some, and answers to them only where they are of flows of `p` themselves, since a table
@@ -55,20 +53,22 @@ pub fn emit_openflow(
     if let Some(flow) = first_range(services, p) {
         return Err(EmitRefusal::RangeOfPorts { flow });
     }
+    // What holds of hosts at all times is known by looking at them.
+    let _count = hosts.count();
     let policy = FlowPolicy {
         hosts,
         services,
         permitted: p,
         rest: hosts.rest(),
     };
-    let count = entry_count(&policy);
-    if count > ENTRY_LIMIT {
-        return Err(EmitRefusal::TooManyRules { count });
-    }
     let Ok(entries) = entries_of(alloc, &policy) else {
         return Err(EmitRefusal::Memory);
     };
-    match Table::build(alloc, entries) {
+    let count = entries.count();
+    if count > ENTRY_LIMIT {
+        return Err(EmitRefusal::TooManyRules { count });
+    }
+    match Table::build(alloc, entries.into_kept()) {
         Ok(table) => Ok(table),
         Err(why) => Err(out_of_memory(why)),
     }
@@ -85,10 +85,11 @@ fn out_of_memory(why: TableRefusal) -> EmitRefusal
     }
 }
 
-fn entries_of(alloc: Global, policy: &FlowPolicy<'_>) -> Result<Vec<Entry>, AllocError>
-    ensures { IfOk result (λ entries. entries.items ≡ flow_entries (site_with policy.now.hosts.now policy.now.services.now) policy.now.permitted.now.flows) }
+fn entries_of(alloc: Global, policy: &FlowPolicy<'_>) -> Result<Entries, AllocError>
+    ensures { IfOk result (AreCounted (flow_entries
+        (site_with policy.now.hosts.now policy.now.services.now) policy.now.permitted.now.flows)) }
 {
-    let mut entries = Vec::new(alloc);
+    let mut entries = Entries::new(alloc);
     push_between(&mut entries, policy)?;
     push_with_rest(&mut entries, policy)?;
     entries.push(arp_entry())?;

@@ -1,23 +1,26 @@
 //! The entries of a flow table from each host to the rest host, and from there to each.
 
-ghost use Rattle.std.specs.Prelude.{◌≡◌, ◌<◌, ◌++◌, length, OnOk};
+ghost use Rattle.std.specs.Prelude.{◌≡◌, ◌<◌, length, OnOk};
 ghost use Rattle.std.specs.Option.{ForSome};
 ghost use Rattle.host_net.specs.Site.{site_with};
 ghost use Rattle.emit_core.specs.FlowTable.{from_rest, from_rest_host, to_rest, to_rest_host, with_rest};
+ghost use Rattle.emit_core.specs.KeptEntries.{with_entries};
 
+use crate::entries::Entries;
 use crate::flow_entry::push_services;
 use crate::flow_policy::{FlowPolicy, PolicyFlow};
 use host_net::Prefix;
-use ofp_rules::Entry;
 use std::alloc::AllocError;
 
 /// The entries to and from the rest host, where there is one.
+#[tactic(auto, using(crate::proofs::EntrySteps::in_parts))]
 pub(crate) fn push_with_rest(
-    entries: &mut Vec<Entry>,
+    entries: &mut Entries,
     policy: &FlowPolicy<'_>,
 ) -> Result<(), AllocError>
-    ensures { OnOk result (entries.new.items ≡ entries.old.items ++ with_rest (site_with policy.now.hosts.now policy.now.services.now)
-        policy.now.permitted.now.flows policy.now.rest) }
+    ensures { OnOk result (entries.new ≡ with_entries entries.old
+        (with_rest (site_with policy.now.hosts.now policy.now.services.now)
+        policy.now.permitted.now.flows policy.now.rest)) }
 {
     if let Some(rest) = policy.rest {
         push_to_rest(entries, policy, rest)?;
@@ -27,14 +30,11 @@ pub(crate) fn push_with_rest(
 }
 
 #[tactic(auto, using(crate::proofs::HostSteps::for_each_all))]
-fn push_to_rest(
-    entries: &mut Vec<Entry>,
-    policy: &FlowPolicy<'_>,
-    rest: u16,
-) -> Result<(), AllocError>
+fn push_to_rest(entries: &mut Entries, policy: &FlowPolicy<'_>, rest: u16) -> Result<(), AllocError>
     requires { rest < length policy.now.hosts.now }
-    ensures { OnOk result (entries.new.items ≡ entries.old.items ++ to_rest (site_with policy.now.hosts.now policy.now.services.now)
-        policy.now.permitted.now.flows rest) }
+    ensures { OnOk result (entries.new ≡ with_entries entries.old
+        (to_rest (site_with policy.now.hosts.now policy.now.services.now)
+        policy.now.permitted.now.flows rest)) }
 {
     for from in 0..policy.hosts.count() {
         push_sources(
@@ -48,13 +48,14 @@ fn push_to_rest(
 
 #[tactic(auto, using(crate::proofs::HostSteps::for_each_all))]
 fn push_from_rest(
-    entries: &mut Vec<Entry>,
+    entries: &mut Entries,
     policy: &FlowPolicy<'_>,
     rest: u16,
 ) -> Result<(), AllocError>
     requires { rest < length policy.now.hosts.now }
-    ensures { OnOk result (entries.new.items ≡ entries.old.items ++ from_rest (site_with policy.now.hosts.now policy.now.services.now)
-        policy.now.permitted.now.flows rest) }
+    ensures { OnOk result (entries.new ≡ with_entries entries.old
+        (from_rest (site_with policy.now.hosts.now policy.now.services.now)
+        policy.now.permitted.now.flows rest)) }
 {
     for to in 0..policy.hosts.count() {
         push_destinations(entries, &policy.flow(rest, to), policy.hosts.prefixes(to))?;
@@ -63,11 +64,12 @@ fn push_from_rest(
 }
 
 fn push_sources(
-    entries: &mut Vec<Entry>,
+    entries: &mut Entries,
     flow: &PolicyFlow<'_>,
     prefixes: &[Prefix],
 ) -> Result<(), AllocError>
-    ensures { OnOk result (entries.new.items ≡ entries.old.items ++ to_rest_host flow.now.permitted flow.now.services.now prefixes.now) }
+    ensures { OnOk result (entries.new ≡ with_entries entries.old
+        (to_rest_host flow.now.permitted flow.now.services.now prefixes.now)) }
 {
     if !flow.permitted {
         return Ok(());
@@ -79,11 +81,12 @@ fn push_sources(
 }
 
 fn push_destinations(
-    entries: &mut Vec<Entry>,
+    entries: &mut Entries,
     flow: &PolicyFlow<'_>,
     prefixes: &[Prefix],
 ) -> Result<(), AllocError>
-    ensures { OnOk result (entries.new.items ≡ entries.old.items ++ from_rest_host flow.now.permitted flow.now.services.now prefixes.now) }
+    ensures { OnOk result (entries.new ≡ with_entries entries.old
+        (from_rest_host flow.now.permitted flow.now.services.now prefixes.now)) }
 {
     if !flow.permitted {
         return Ok(());

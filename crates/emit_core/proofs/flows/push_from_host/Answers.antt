@@ -1,8 +1,9 @@
-use Rattle.std.proofs.Common.{◌++◌, ◌∙◌, ap, Bool, List}
+use Rattle.std.proofs.Common.{◌∙◌, ap, Bool, List}
 use Rattle.host_net.specs.declared.service.Service.{Service}
 use Rattle.host_net.specs.Services.{services_of}
 use Rattle.emit_core.specs.Sides.{permits}
 use Rattle.emit_core.specs.FlowTable.{host_pair}
+use Rattle.emit_core.specs.KeptEntries.{with_entries}
 use Rattle.emit_core.proofs.HostSteps.{grow_host}
 use Rattle.emit_core.proofs.flows.push_from_host.Goals as goal
 
@@ -12,6 +13,6 @@ loop-to-preserved c =
     grow_host (λ j ts. host_pair (permits policy.permitted.now.flows c.args.from j) (services_of policy.services.now c.args.from j) policy.rest c.args.sources.now ts) _ _ _ _ _ _
     c.prefixes.ensures c.loop-to.invariant
     (c.in_ok-push_host_pair.ensures
-    ∙ ap (λ (b : Bool). c.loop-to.entries.items ++ host_pair b c.flow-flow.result.services.now policy.rest c.args.sources.now c.prefixes.result.now) c.flow-flow.ensures.permitted
-    ∙ ap (λ (ss : List Service). c.loop-to.entries.items ++ host_pair (permits policy.permitted.now.flows c.args.from c.loop-to.to) ss policy.rest c.args.sources.now c.prefixes.result.now)
+    ∙ ap (λ (b : Bool). with_entries c.loop-to.entries (host_pair b c.flow-flow.result.services.now policy.rest c.args.sources.now c.prefixes.result.now)) c.flow-flow.ensures.permitted
+    ∙ ap (λ (ss : List Service). with_entries c.loop-to.entries (host_pair (permits policy.permitted.now.flows c.args.from c.loop-to.to) ss policy.rest c.args.sources.now c.prefixes.result.now))
     c.flow-flow.ensures.services)

@@ -1,13 +1,14 @@
-use Rattle.std.proofs.Common.{◌≡◌, ◌++◌, ℕ, List, drop}
+use Rattle.std.proofs.Common.{◌≡◌, ℕ, List, drop}
 use Rattle.host_net.specs.declared.prefix.Prefix.{Prefix}
 use Rattle.host_net.specs.Services.{services_of}
 use Rattle.emit_core.specs.Sides.{permits}
 use Rattle.emit_core.specs.FlowTable.{for_each_host, host_pair}
+use Rattle.emit_core.specs.KeptEntries.{with_entries}
 use Rattle.emit_core.proofs.flows.push_from_host.Given as goal
 
 abbrev pub invariant-loop-to : goal.invariant-loop-to
 invariant-loop-to l =
     let written = λ (j : ℕ) (ts : List Prefix).
     host_pair (permits l.policy.permitted.now.flows l.from j) (services_of l.policy.services.now l.from j) l.policy.rest l.sources ts in
-    l.entries.items ++ for_each_host written l.to (drop l.to l.policy.hosts.now)
-    ≡ l.fn.entries.items ++ for_each_host written 0 l.policy.hosts.now
+    with_entries l.entries (for_each_host written l.to (drop l.to l.policy.hosts.now))
+    ≡ with_entries l.fn.entries (for_each_host written 0 l.policy.hosts.now)

@@ -1,49 +1,62 @@
-use Rattle.std.proofs.Common.{◌∙◌, List, ◌++◌, ◌∷◌, [], arith, ap, length}
+use Rattle.std.proofs.Common.{◌∙◌, ap, arith, length}
 use Rattle.std.specs.List.{list_all}
 use Rattle.host_net.specs.Site.{site_with}
-use Rattle.ipt_rules.specs.Chain.{Chain, user_chain}
-use Rattle.ipt_rules.specs.ChainTable.{rule_count}
 use Rattle.ipt_rules.specs.RuleParts.{is_rule}
 use Rattle.emit_core.specs.declared.side.Side.TheVariants.{Sending}
-use Rattle.emit_core.specs.LayoutRulesLaws.{host_rules_are}
+use Rattle.emit_core.specs.FewRulesLaws.{few_host_rules}
 use Rattle.emit_core.specs.LayoutLaws.{length-chains_up_to}
-use Rattle.emit_core.specs.Filling.{with_rules}
-use Rattle.emit_core.proofs.FillingLemmas.{unused, room, host_filled}
+use Rattle.emit_core.specs.LayoutRulesLaws.{host_rules_are}
+use Rattle.emit_core.proofs.CountLemmas.{chain_kept, next_fits, too_many_kept}
+use Rattle.emit_core.proofs.FillingLemmas.{unused}
 use Rattle.emit_core.proofs.iptables.add_host_chain.Goals as goal
 
-pub add-requires-clause-unused : goal.add-requires-clause-unused
-add-requires-clause-unused c =
-    let few = c.requires.hosts.few in
-    unused (site_with c.args.hosts.now c.args.services.now) c.args.p.now.flows c.args.s.now.flows c.args.host c.args.chains.now c.in_ok-host_chain_name.field-0
-    c.requires.before c.in_ok-host_chain_name.ensures (omega (arith, c.requires.there))
+pub overflow_cast-made : goal.overflow_cast-made
+overflow_cast-made c =
+    let all = c.len.ensures ∙ c.in_ok-rules.rules.ok.0 ∙ ap length c.in_ok-rules.ensures.rules in
+    omega (arith, all, few_host_rules Sending (site_with c.args.hosts.now c.args.services.now) c.args.p.now.flows c.args.s.now.flows c.args.host c.requires.site)
 
-pub add-requires-clause-room : goal.add-requires-clause-room
-add-requires-clause-room c =
-    let few = c.requires.hosts.few in
+pub overflow_add-made : goal.overflow_add-made
+overflow_add-made c =
+    let all = c.len.ensures ∙ c.in_ok-rules.rules.ok.0 ∙ ap length c.in_ok-rules.ensures.rules in
     omega (
       arith,
+      next_fits (site_with c.args.hosts.now c.args.services.now) c.args.p.now.flows c.args.s.now.flows c.args.host c.args.made.now.count c.len.result
+          c.requires.site c.requires.there c.requires.before.counted all,
+    )
+
+pub add_chain-requires-clause-unused : goal.add_chain-requires-clause-unused
+add_chain-requires-clause-unused c =
+    let hosts = c.requires.site.hosts in
+    let few = hosts.few in
+    unused (site_with c.args.hosts.now c.args.services.now) c.args.p.now.flows c.args.s.now.flows c.args.host c.args.made.now.chains
+    (c.requires.before.kept (omega (arith, c.if-made-gt-RULE_LIMIT.false))) (omega (arith, few, c.requires.there))
+
+pub add_chain-requires-clause-few_chains : goal.add_chain-requires-clause-few_chains
+add_chain-requires-clause-few_chains c =
+    let hosts = c.requires.site.hosts in
+    let few = hosts.few in
+    omega (
+      arith,
+      few,
       c.requires.there,
-      ap length c.requires.before,
+      ap length (c.requires.before.kept (omega (arith, c.if-made-gt-RULE_LIMIT.false))),
       length-chains_up_to (site_with c.args.hosts.now c.args.services.now) c.args.p.now.flows c.args.s.now.flows c.args.host,
     )
 
-pub fill-requires-clause-room : goal.fill-requires-clause-room
-fill-requires-clause-room c =
-    let few = c.requires.hosts.few in
-    let enough = room (site_with c.args.hosts.now c.args.services.now) c.args.p.now.flows c.args.s.now.flows c.args.host c.args.chains.now c.in_ok-host_chain_name.field-0
-    c.in_ok-rules.rules.items (record { hosts = c.requires.hosts; services = c.in_ok-rules.ensures.services }) c.requires.before c.in_ok-rules.ensures.rules
-    (omega (arith, c.requires.there)) in
-    omega (arith, enough, ap rule_count c.in_ok-chain.ensures.ok, ap length c.deref.ensures.value)
-
-pub fill-requires-clause-parts : goal.fill-requires-clause-parts
-fill-requires-clause-parts c =
+pub add_chain-requires-clause-parts : goal.add_chain-requires-clause-parts
+add_chain-requires-clause-parts c =
     ap (list_all is_rule) (c.deref.ensures.value ∙ c.in_ok-rules.ensures.rules)
     ∙ host_rules_are Sending (site_with c.args.hosts.now c.args.services.now) c.args.p.now.flows c.args.s.now.flows c.args.host c.in_ok-rules.ensures.services
 
+pub returns-then-made-gt-RULE_LIMIT : goal.returns-then-made-gt-RULE_LIMIT
+returns-then-made-gt-RULE_LIMIT c =
+    let all = c.len.ensures ∙ c.in_ok-rules.rules.ok.0 ∙ ap length c.in_ok-rules.ensures.rules in
+    too_many_kept (site_with c.args.hosts.now c.args.services.now) c.args.p.now.flows c.args.s.now.flows c.args.host c.args.made.now.chains
+    c.args.made.now.count c.len.result c.requires.before all c.if-made-gt-RULE_LIMIT.true
+
 pub returns : goal.returns
 returns c =
-    c.in_ok-fill.ensures
-    ∙ ap (λ (x : List Chain). with_rules x c.in_ok-chain.chain c.deref.result.now) c.in_ok-chain.ensures.ok
-    ∙ ap (λ x. with_rules (c.args.chains.now ++ user_chain c.in_ok-host_chain_name.field-0 ∷ []) x c.deref.result.now) c.in_ok-chain.ensures.number
-    ∙ host_filled (site_with c.args.hosts.now c.args.services.now) c.args.p.now.flows c.args.s.now.flows c.args.host c.args.chains.now c.in_ok-host_chain_name.field-0 c.deref.result.now
-    c.requires.before c.in_ok-host_chain_name.ensures (c.deref.ensures.value ∙ c.in_ok-rules.ensures.rules)
+    let all = c.len.ensures ∙ c.in_ok-rules.rules.ok.0 ∙ ap length c.in_ok-rules.ensures.rules in
+    chain_kept (site_with c.args.hosts.now c.args.services.now) c.args.p.now.flows c.args.s.now.flows c.args.host c.args.made.now.chains c.add_chain.new.chains
+    c.args.made.now.count c.len.result c.deref.result.now c.requires.before all c.if-made-gt-RULE_LIMIT.false (c.deref.ensures.value ∙ c.in_ok-rules.ensures.rules)
+    c.in_ok-add_chain.ensures

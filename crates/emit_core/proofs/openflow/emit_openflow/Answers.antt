@@ -17,7 +17,7 @@ use Rattle.emit_core.proofs.openflow.emit_openflow.Goals as goal
 
 pub build-requires-clause-asks : goal.build-requires-clause-asks
 build-requires-clause-asks c =
-    ap (list_all asks_of_ip) c.in-Ok.ensures ∙ all_ask (site_with c.args.hosts.now c.args.services.now) c.args.p.now.flows c.first_range.ensures.services
+    ap (list_all asks_of_ip) (c.into_kept.ensures ∙ c.in-Ok.ensures.kept (omega (arith, c.count-count-2.ensures, c.if-count-gt-ENTRY_LIMIT.false))) ∙ all_ask (site_with c.args.hosts.now c.args.services.now) c.args.p.now.flows c.first_range.ensures.services
 
 -- few entries without a range of ports are refused for want of memory alone
 memory_alone : (site : Site) (p : List Flow) (entries : List Entry) (count : ℕ) (why : TableRefusal) → IsSite site → HasNoRange site.services p
@@ -29,15 +29,16 @@ memory_alone site p entries count Memory known plain is all few refused = refl
 
 pub out_of_memory-requires : goal.out_of_memory-requires
 out_of_memory-requires c =
-    memory_alone (site_with c.args.hosts.now c.args.services.now) c.args.p.now.flows c.in-Ok.entries.items c.entry_count-count.result c.in-Err.why
-    (record { hosts = c.entry_count-count.ensures.hosts; services = c.first_range.ensures.services }) c.in_default.ensures.first
-    c.in-Ok.ensures c.entry_count-count.ensures.count c.if-count-gt-ENTRY_LIMIT.false c.in-Err.ensures.refused
+    memory_alone (site_with c.args.hosts.now c.args.services.now) c.args.p.now.flows c.into_kept.result.items c.count-count-2.result c.in-Err.why
+    (record { hosts = c.count-count.ensures.hosts; services = c.first_range.ensures.services }) c.in_default.ensures.first
+    (c.into_kept.ensures ∙ c.in-Ok.ensures.kept (omega (arith, c.count-count-2.ensures, c.if-count-gt-ENTRY_LIMIT.false)))
+    (c.count-count-2.ensures ∙ c.in-Ok.ensures.counted) c.if-count-gt-ENTRY_LIMIT.false c.in-Err.ensures.refused
 
 forwards : (c : goal.In-Ok-build) → ForwardsFlows c.in-Ok-build.table (site_with c.args.hosts.now c.args.services.now) c.args.p.now.flows
 forwards c =
     let site = site_with c.args.hosts.now c.args.services.now in
-    subst (λ (es : List Entry). ForwardsFlows es site c.args.p.now.flows) (sym (c.in-Ok-build.ensures.ok ∙ c.in-Ok.ensures))
-    (forwards_flows site c.args.p.now.flows (record { hosts = c.entry_count-count.ensures.hosts; services = c.first_range.ensures.services }) c.in_default.ensures.first)
+    subst (λ (es : List Entry). ForwardsFlows es site c.args.p.now.flows) (sym (c.in-Ok-build.ensures.ok ∙ c.into_kept.ensures ∙ c.in-Ok.ensures.kept (omega (arith, c.count-count-2.ensures, c.if-count-gt-ENTRY_LIMIT.false))))
+    (forwards_flows site c.args.p.now.flows (record { hosts = c.count-count.ensures.hosts; services = c.first_range.ensures.services }) c.in_default.ensures.first)
 
 pub returns-in-Ok-build-clause-enforces : goal.returns-in-Ok-build-clause-enforces
 returns-in-Ok-build-clause-enforces c = flows_enforced c.in-Ok-build.table (site_with c.args.hosts.now c.args.services.now) c.args.p.now.flows (forwards c)

@@ -1,8 +1,9 @@
-use Rattle.std.proofs.Common.{◌++◌, ◌∙◌, ap, Bool, List}
+use Rattle.std.proofs.Common.{◌∙◌, ap, Bool, List}
 use Rattle.host_net.specs.declared.service.Service.{Service}
 use Rattle.host_net.specs.Services.{services_of}
 use Rattle.emit_core.specs.Sides.{permits}
 use Rattle.emit_core.specs.FlowTable.{to_rest_host}
+use Rattle.emit_core.specs.KeptEntries.{with_entries}
 use Rattle.emit_core.proofs.HostSteps.{grow_host}
 use Rattle.emit_core.proofs.rest_flows.push_to_rest.Goals as goal
 
@@ -12,5 +13,5 @@ loop-from-preserved c =
     grow_host (λ i qs. to_rest_host (permits policy.permitted.now.flows i c.args.rest) (services_of policy.services.now i c.args.rest) qs) _ _ _ _ _ _
     c.prefixes.ensures c.loop-from.invariant
     (c.in_ok-push_sources.ensures
-    ∙ ap (λ (b : Bool). c.loop-from.entries.items ++ to_rest_host b c.flow.result.services.now c.prefixes.result.now) c.flow.ensures.permitted
-    ∙ ap (λ (ss : List Service). c.loop-from.entries.items ++ to_rest_host (permits policy.permitted.now.flows c.loop-from.from c.args.rest) ss c.prefixes.result.now) c.flow.ensures.services)
+    ∙ ap (λ (b : Bool). with_entries c.loop-from.entries (to_rest_host b c.flow.result.services.now c.prefixes.result.now)) c.flow.ensures.permitted
+    ∙ ap (λ (ss : List Service). with_entries c.loop-from.entries (to_rest_host (permits policy.permitted.now.flows c.loop-from.from c.args.rest) ss c.prefixes.result.now)) c.flow.ensures.services)

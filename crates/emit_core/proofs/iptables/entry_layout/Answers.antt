@@ -1,13 +1,12 @@
 use Rattle.std.proofs.Common.{◌∙◌, List, arith, ap, length}
 use Rattle.ipt_rules.specs.declared.rule.Policy.TheVariants.{Drop as Dropping}
 use Rattle.std.specs.List.{list_all}
-use Rattle.host_net.specs.Site.{site_with}
 use Rattle.ipt_rules.specs.Chain.{Chain, with_policy}
 use Rattle.ipt_rules.specs.RuleParts.{is_rule}
 use Rattle.emit_core.specs.LayoutRulesLaws.{forward_rules_are}
 use Rattle.emit_core.specs.LayoutLaws.{few_forward_rules}
 use Rattle.emit_core.proofs.FillingLemmas.{no_rules_yet, forward_filled}
-use Rattle.emit_core.proofs.iptables.chains_of.Goals as goal
+use Rattle.emit_core.proofs.iptables.entry_layout.Goals as goal
 
 pub fill-requires-clause-there : goal.fill-requires-clause-there
 fill-requires-clause-there c = omega (arith, (no_rules_yet c.set_policy.new.self (c.set_policy.ensures ∙ ap (λ (x : List Chain). with_policy x 1 Dropping) c.in_ok-chains.ensures)).0)
@@ -19,17 +18,23 @@ fill-requires-clause-room c =
     omega (
       arith,
       (no_rules_yet c.set_policy.new.self (c.set_policy.ensures ∙ ap (λ (x : List Chain). with_policy x 1 Dropping) c.in_ok-chains.ensures)).1,
-      ap length (c.deref.ensures.value ∙ c.in_ok-forward_rules.ensures),
+      ap length (c.deref.ensures.value ∙ c.in_ok-rules.ensures),
       few_forward_rules c.args.hosts.now,
     )
 
 pub fill-requires-clause-parts : goal.fill-requires-clause-parts
 fill-requires-clause-parts c =
-    ap (list_all is_rule) (c.deref.ensures.value ∙ c.in_ok-forward_rules.ensures) ∙ forward_rules_are c.args.hosts.now
+    ap (list_all is_rule) (c.deref.ensures.value ∙ c.in_ok-rules.ensures) ∙ forward_rules_are c.args.hosts.now
 
-pub loop-host-init : goal.loop-host-init
-loop-host-init c =
+pub overflow_cast-result : goal.overflow_cast-result
+overflow_cast-result c =
+    let hosts = c.count-count.ensures.hosts in
+    let prefixes = hosts.few_prefixes in
+    omega (arith, ap length c.in_ok-rules.ensures, few_forward_rules c.args.hosts.now)
+
+pub returns-clause-chains : goal.returns-clause-chains
+returns-clause-chains c =
     c.in_ok-fill.ensures
-    ∙ forward_filled (site_with c.args.hosts.now c.args.services.now) c.args.p.now.flows c.args.s.now.flows c.set_policy.new.self c.deref.result.now
+    ∙ forward_filled c.args.hosts.now c.set_policy.new.self c.deref.result.now
     (c.set_policy.ensures ∙ ap (λ (x : List Chain). with_policy x 1 Dropping) c.in_ok-chains.ensures)
-    (c.deref.ensures.value ∙ c.in_ok-forward_rules.ensures)
+    (c.deref.ensures.value ∙ c.in_ok-rules.ensures)

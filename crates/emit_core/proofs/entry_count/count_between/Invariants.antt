@@ -1,9 +1,0 @@
-use Rattle.std.proofs.Common.{◌≡◌, ◌+◌, drop, length}
-use Rattle.host_net.specs.Site.{site_with}
-use Rattle.emit_core.specs.FlowTable.{for_each_host, from_host}
-use Rattle.emit_core.proofs.entry_count.count_between.Given as goal
-
-abbrev pub invariant-loop-from : goal.invariant-loop-from
-invariant-loop-from l =
-    let written = from_host (site_with l.policy.hosts.now l.policy.services.now) l.policy.permitted.now.flows l.policy.rest in
-    l.count + length (for_each_host written l.from (drop l.from l.policy.hosts.now)) ≡ length (for_each_host written 0 l.policy.hosts.now)

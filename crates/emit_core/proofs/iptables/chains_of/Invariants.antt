@@ -1,7 +1,0 @@
-use Rattle.std.proofs.Common.{◌≡◌}
-use Rattle.host_net.specs.Site.{site_with}
-use Rattle.emit_core.specs.Filling.{chains_up_to}
-use Rattle.emit_core.proofs.iptables.chains_of.Given as goal
-
-abbrev pub invariant-loop-host : goal.invariant-loop-host
-invariant-loop-host l = l.chains ≡ chains_up_to (site_with l.hosts l.services) l.p.flows l.s.flows l.host

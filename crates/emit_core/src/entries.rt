@@ -1,0 +1,64 @@
+//! The entries of a flow table as they come: they are kept while a table may have so many, and all are
+//! counted.
+
+ghost use Rattle.std.specs.Prelude.{◌≡◌, OnOk};
+ghost use Rattle.emit_core.specs.KeptEntries.{no_entries, with_entry};
+
+use ofp_rules::Entry;
+use std::alloc::{AllocError, Global};
+use std::marker::Model;
+
+/// How many entries a flow table may have.
+pub(crate) const ENTRY_LIMIT: u32 = 8192;
+
+/// Entries in their order, of which those are kept that a table may have.
+#[derive(Drop)]
+pub(crate) struct Entries {
+    kept: Vec<Entry>,
+    count: u32,
+}
+
+impl Model for Entries {
+    ghost use Rattle.emit_core.specs.KeptEntries.{KeptEntries};
+
+    ghost Value = { KeptEntries };
+
+    ghost view = { λ e. record { kept = e.kept.items; count = e.count } };
+}
+
+impl Entries {
+    pub(crate) fn new(alloc: Global) -> Entries
+        ensures { result ≡ no_entries }
+    {
+        Entries {
+            kept: Vec::new(alloc),
+            count: 0,
+        }
+    }
+
+    /// Adds an entry. One that can no longer be counted finds no memory; no layout has so many.
+    pub(crate) fn push(&mut self, entry: Entry) -> Result<(), AllocError>
+        ensures { OnOk result (self.new ≡ with_entry self.old entry) }
+    {
+        let count = self.count.checked_add(1).ok_or(AllocError)?;
+        if self.count < ENTRY_LIMIT {
+            self.kept.push(entry)?;
+        }
+        self.count = count;
+        Ok(())
+    }
+
+    /// How many entries came.
+    pub(crate) fn count(&self) -> u32
+        ensures { result ≡ self.now.count }
+    {
+        self.count
+    }
+
+    /// Those that are kept.
+    pub(crate) fn into_kept(self) -> Vec<Entry>
+        ensures { result.items ≡ self.kept }
+    {
+        self.kept
+    }
+}
