@@ -1,5 +1,5 @@
 -- Where no condition refuses a description, its network has all that is written.
-use Rattle.std.proofs.Common.{◌≡◌, ℕ, suc, ◌==◌, true, false, not, nat_lt, List, [], ◌∷◌, map, length, Option, Some, None, option_map, option_and_then, is_some, Ok, refl, sym, ap, ◌∙◌, subst, arith}
+use Rattle.std.proofs.Common.{◌≡◌, ℕ, suc, ◌==◌, true, false, nat_lt, List, [], ◌∷◌, map, length, Option, Some, None, option_map, option_and_then, is_some, Ok, refl, sym, ap, ◌∙◌, subst, arith}
 use Rattle.std.proofs.lemmas.Bool.{and_parts}
 use Rattle.std.proofs.lemmas.Bool.Decides.{nat_tests}
 use Rattle.std.proofs.lemmas.List.Folds.{list_all-append}
@@ -28,10 +28,9 @@ use Rattle.text_core.specs.Firsts.{first_of}
 use Rattle.desc_form.specs.Written.{Written, WrittenHost, WrittenInvariant, written}
 use Rattle.desc_form.specs.WrittenFlow.{WrittenFlow}
 use Rattle.desc_form.specs.WrittenLaws.{written_stands}
-use Rattle.desc_hosts.specs.EntriesLaws.{all_texts}
-use Rattle.text_core.specs.FirstsLaws.{all_twice, none_found, none_mapped}
-use Rattle.desc_hosts.specs.HostConditions.{Entry, all_entries, bad_prefix, host_conditions, is_prefix}
-use Rattle.desc_hosts.specs.HostsLaws.{length-network_hosts, unrefused}
+use Rattle.desc_hosts.specs.FactsLaws.{all_say_prefixes, has_hosts}
+use Rattle.desc_hosts.specs.HostConditions.{host_conditions, is_prefix}
+use Rattle.desc_hosts.specs.HostsLaws.{length-network_hosts}
 use Rattle.desc_hosts.specs.HostFacts.{texts}
 use Rattle.desc_hosts.specs.WrittenHosts.{network_host, network_hosts}
 use Rattle.flow_set.specs.declared.flow.Flow.{Flow}
@@ -51,12 +50,8 @@ use Rattle.host_net.specs.Host.{Host}
 use Rattle.table_core.specs.Listing.{each}
 
 -- each entry is a prefix
-none_bad : (es : List Entry) → bad_prefix es ≡ None → list_all (λ (e : Entry). is_prefix e.prefix) es ≡ true
-unfolding bad_prefix
-none_bad es h = all_twice (λ (e : Entry). is_prefix e.prefix) es (none_found (λ (e : Entry). not (is_prefix e.prefix)) es (none_mapped _ _ h))
-
 all_prefixes : (w : Written) → first_of (host_conditions w) ≡ None → list_all (λ t. is_prefix (prefix_of t)) (texts w.hosts) ≡ true
-all_prefixes w h = sym (all_texts is_prefix w) ∙ none_bad (all_entries w) (unrefused w h).prefixes
+all_prefixes w h = (all_say_prefixes (texts w.hosts)).1 ((has_hosts w).0 h).prefixes
 
 prefix_by : (o : Option Prefix) → option_map_or (λ p. nat_lt 0 p.len) o false ≡ true → is_some o ≡ true
 prefix_by None h = cc

@@ -24,7 +24,8 @@ use Rattle.text_core.specs.Firsts.{first_of}
 use Rattle.desc_form.specs.Written.{Written, WrittenInvariant, written}
 use Rattle.desc_hosts.specs.EntriesLaws.{no_longer}
 use Rattle.desc_hosts.specs.HostConditions.{host_conditions}
-use Rattle.desc_hosts.specs.HostsLaws.{IsHosts-network_hosts, is_small, length-network_hosts}
+use Rattle.desc_hosts.specs.FactsLaws.{has_hosts}
+use Rattle.desc_hosts.specs.HostsLaws.{IsHosts-network_hosts, length-network_hosts}
 use Rattle.desc_hosts.specs.WrittenHosts.{network_hosts}
 use Rattle.host_net.specs.Host.{Host}
 use Rattle.flow_set.specs.FlowSetView.{IsFlowSet}
@@ -52,14 +53,14 @@ sized_all ts hosts (i ∷ is) = sized_by hosts (known_of ts hosts i) (filter_map
 pub IsNetwork-network_of : (w : Written) → first_of (host_conditions w) ≡ None → first_of (use_conditions w) ≡ None → IsNetwork (network_of w)
 unfolding network_of asked_of invariants_of
 IsNetwork-network_of w free no_use =
-    let small = is_small w free in
+    let small = (has_hosts w).0 free in
     record {
       hosts = IsHosts-network_hosts w free;
       sized = sym (length-network_hosts w);
-      asked = asked_by w w.given (omega (arith, small.hosts));
+      asked = asked_by w w.given (omega (arith, small.few_hosts));
       services = AreServices-services_in w (PassesUses-uses w no_use);
       invariants = All-from_recursion (λ (inv : AnyInv). (meaning_of inv).size ≡ length (network_hosts w)) (invariants_of w) (sized_all w.templates (network_hosts w) w.invariants);
-      few = omega (arith, small.invariants, no_longer {A = WrittenInvariant} {B = AnyInv});
+      few = omega (arith, small.few_invariants, no_longer {A = WrittenInvariant} {B = AnyInv});
     }
 
 pub IsNetwork-table : (table : Members) (d : Network) → described_by_table table ≡ Ok d → IsNetwork d

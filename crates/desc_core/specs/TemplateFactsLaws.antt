@@ -1,6 +1,6 @@
 -- Neither of the conditions 23 and 24 refuses a description exactly where the facts of TemplateFacts hold of its templates.
 use Rattle.std.proofs.Common.{◌≡◌, ◌≢◌, ◌⊎◌, inl, inr, ℕ, zero, suc, ◌≤◌, ◌+◌, Bool, true, false, not, ◌&&◌, ◌||◌, nat_lt, nat_le, List, [], ◌∷◌, ◌++◌, length, Option, Some, None, option_map, is_none, codes, refl, sym, ap, ◌∙◌, arith}
-use Rattle.std.proofs.lemmas.Bool.{and_from, and_parts, false≢true, false_from_ne_true, or_cases, or_left, or_right}
+use Rattle.std.proofs.lemmas.Bool.{and_from, and_parts, false≢true, or_cases, or_left, or_right}
 use Rattle.std.proofs.lemmas.Bool.Decides.{nat_tests}
 use Rattle.std.proofs.lemmas.Slice.Eq.{bytes_eq-Decides}
 use Rattle.std.specs.List.{All, AllPairs, Contains, list_all, list_any}
@@ -15,7 +15,8 @@ use Rattle.desc_form.specs.Written.{Written}
 use Rattle.desc_form.specs.WrittenTemplate.{WrittenPair, WrittenTemplate}
 use Rattle.desc_form.specs.declared.refusal.Place.TheVariants.{Template}
 use Rattle.desc_form.specs.declared.refusal.Why.TheVariants.{BadTemplate}
-use Rattle.desc_hosts.specs.NoneLaws.{all_tested, no_pair_tested}
+use Rattle.desc_hosts.specs.NoneLaws.{all_tested}
+use Rattle.desc_hosts.specs.RowLaws.{and_words, differ_words, each_says, pairs_say, same_test, then_words, unequal_words}
 use Rattle.text_core.specs.FirstsLaws.{none_mapped}
 use Rattle.text_core.specs.Name.{is_name}
 use Rattle.text_core.specs.Pairs.{no_pair}
@@ -190,32 +191,15 @@ different_same : (words : List (List ℕ)) → are_different words ≡ no_pair i
 different_same [] = refl
 different_same (word ∷ words) = λ k. none_any (bytes_eq word) words k && different_same words k
 
-pairs_weaker : {A : Type 0} (P Q : A → A → Type 0) (xs : List A) → ((x y : A) → P x y → Q x y) → AllPairs P xs → AllPairs Q xs
-pairs_weaker P Q xs step pairs = λ i j d before within. step _ _ (pairs i j d before within)
-
-weaker : {A : Type 0} (P Q : A → Type 0) (xs : List A) → ((x : A) → P x → Q x) → All P xs → All Q xs
-weaker P Q xs step all = λ k d within. step _ (all k d within)
-
 words_differ : (words : List (List ℕ)) → (are_different words ≡ true) ↔ AllPairs (λ word other. word ≢ other) words
 words_differ words =
-    let tested = no_pair_tested is_earlier words in (
-      λ h. pairs_weaker (λ x y. is_earlier y x ≡ false) (λ word other. word ≢ other) words
-          (λ x y test same. false≢true (sym test ∙ (bytes_eq-Decides x y).1 same)) (tested.0 (sym (different_same words) ∙ h)),
-      λ pairs. different_same words ∙ tested.1 (pairs_weaker (λ word other. word ≢ other) (λ x y. is_earlier y x ≡ false) words
-          (λ x y differs. false_from_ne_true (bytes_eq x y) (λ same. differs ((bytes_eq-Decides x y).0 same))) pairs),
-    )
+    then_words (same_test (different_same words)) (pairs_say is_earlier (λ word other. word ≢ other) unequal_words words)
 
 abbrev names_differ : WrittenTemplate → WrittenTemplate → Type 0
 names_differ t u = t.name ≢ u.name
 
 templates_differ : (ts : List WrittenTemplate) → (no_pair same_name ts ≡ true) ↔ AllPairs names_differ ts
-templates_differ ts =
-    let tested = no_pair_tested same_name ts in (
-      λ h. pairs_weaker (λ t u. same_name u t ≡ false) names_differ ts
-          (λ t u test same. false≢true (sym test ∙ (bytes_eq-Decides u.name t.name).1 (sym same))) (tested.0 h),
-      λ pairs. tested.1 (pairs_weaker names_differ (λ t u. same_name u t ≡ false) ts
-          (λ t u differs. false_from_ne_true (same_name u t) (λ same. differs (sym ((bytes_eq-Decides u.name t.name).0 same)))) pairs),
-    )
+templates_differ ts = pairs_say same_name names_differ (λ t u. differ_words t.name u.name) ts
 
 at_least_one : (n : ℕ) → (nat_lt 0 n ≡ true) ↔ (1 ≤ n)
 at_least_one n = (λ h. grind (arith, nat_tests), λ h. grind (arith, nat_tests))
@@ -227,12 +211,10 @@ abbrev pair_test : WrittenTemplate → WrittenPair → Bool
 pair_test t p = is_kind t p.sender && is_kind t p.receiver
 
 pair_words : (t : WrittenTemplate) (p : WrittenPair) → (pair_test t p ≡ true) ↔ (IsKind t p.sender × IsKind t p.receiver)
-pair_words t p =
-    let sender = word_among p.sender t.kinds in
-    let receiver = word_among p.receiver t.kinds in (
-      λ h. let (first, second) = and_parts (is_kind t p.sender) (is_kind t p.receiver) h in (sender.0 first, receiver.0 second),
-      λ both. and_from (is_kind t p.sender) (is_kind t p.receiver) (sender.1 both.0) (receiver.1 both.1),
-    )
+pair_words t p = and_words (is_kind t p.sender) (is_kind t p.receiver) (word_among p.sender t.kinds) (word_among p.receiver t.kinds)
+
+pairs_words : (t : WrittenTemplate) → (list_all (pair_test t) t.deny ≡ true) ↔ All (λ (p : WrittenPair). IsKind t p.sender × IsKind t p.receiver) t.deny
+pairs_words t = each_says (pair_test t) (λ (p : WrittenPair). IsKind t p.sender × IsKind t p.receiver) (pair_words t) t.deny
 
 tested_template : (t : WrittenTemplate) → is_template t ≡ true → IsTemplate t
 tested_template t h =
@@ -253,7 +235,7 @@ tested_template t h =
       kind_names = (all_tested is_name t.kinds).0 names;
       different_kinds = (words_differ t.kinds).0 different;
       default = (word_among t.default t.kinds).0 default;
-      pairs = weaker (λ p. pair_test t p ≡ true) (λ (p : WrittenPair). IsKind t p.sender × IsKind t p.receiver) t.deny (λ p. (pair_words t p).0) ((all_tested (pair_test t) t.deny).0 pairs);
+      pairs = (pairs_words t).0 pairs;
     }
 
 template_tested : (t : WrittenTemplate) → IsTemplate t → is_template t ≡ true
@@ -270,24 +252,20 @@ template_tested t is =
     ((all_tested is_name t.kinds).1 is.kind_names))
     ((words_differ t.kinds).1 is.different_kinds)))
     (and_from (is_kind t t.default) (list_all (pair_test t) t.deny) ((word_among t.default t.kinds).1 is.default)
-    ((all_tested (pair_test t) t.deny).1 (weaker (λ (p : WrittenPair). IsKind t p.sender × IsKind t p.receiver) (λ p. pair_test t p ≡ true) t.deny (λ p. (pair_words t p).1) is.pairs)))
+    ((pairs_words t).1 is.pairs))
 
 -- each is a template, and no two have one name
 pub templates_are : (w : Written) → (bad_template w ≡ None) ↔ (All IsTemplate w.templates × AllPairs (λ t u. t.name ≢ u.name) w.templates)
 unfolding bad_template
 templates_are w =
-    let tested = all_tested is_template w.templates in
+    let each_is = each_says is_template IsTemplate (λ t. (tested_template t, template_tested t)) w.templates in
     let differ = templates_differ w.templates in (
       λ none.
           let are = none_are [] 1 w.templates (none_mapped (λ k. refused BadTemplate (Template k)) (first_bad [] 1 w.templates) none) in
-          (weaker (λ t. is_template t ≡ true) IsTemplate w.templates tested_template (tested.0 are.each), differ.0 are.apart),
+          (each_is.0 are.each, differ.0 are.apart),
       λ (each, apart).
           ap (λ o. option_map (λ k. refused BadTemplate (Template k)) o)
-          (are_none [] 1 w.templates (record {
-            each = tested.1 (weaker IsTemplate (λ t. is_template t ≡ true) w.templates template_tested each);
-            apart = differ.1 apart;
-            free = all_free w.templates;
-          })),
+          (are_none [] 1 w.templates (record { each = each_is.1 each; apart = differ.1 apart; free = all_free w.templates })),
     )
 
 -- ---- 24, in plain words
@@ -316,14 +294,5 @@ partner_words t p =
 pub partners_are : (ts : List WrittenTemplate)
     → (list_all (λ t. list_all (test.has_partner t) t.deny) ts ≡ true) ↔ All (λ t. All (HasPartner t) t.deny) ts
 partners_are ts =
-    let tested = all_tested (λ (t : WrittenTemplate). list_all (test.has_partner t) t.deny) ts in (
-      λ h. weaker (λ (t : WrittenTemplate). list_all (test.has_partner t) t.deny ≡ true) (λ (t : WrittenTemplate). All (HasPartner t) t.deny) ts (λ t. (each t).0) (tested.0 h),
-      λ all. tested.1 (weaker (λ (t : WrittenTemplate). All (HasPartner t) t.deny) (λ (t : WrittenTemplate). list_all (test.has_partner t) t.deny ≡ true) ts (λ t. (each t).1) all),
-    )
-  where
-    each : (t : WrittenTemplate) → (list_all (test.has_partner t) t.deny ≡ true) ↔ All (HasPartner t) t.deny
-    each t =
-        let tested = all_tested (test.has_partner t) t.deny in (
-          λ h. weaker (λ p. test.has_partner t p ≡ true) (HasPartner t) t.deny (λ p. (partner_words t p).0) (tested.0 h),
-          λ all. tested.1 (weaker (HasPartner t) (λ p. test.has_partner t p ≡ true) t.deny (λ p. (partner_words t p).1) all),
-        )
+    each_says (λ (t : WrittenTemplate). list_all (test.has_partner t) t.deny) (λ (t : WrittenTemplate). All (HasPartner t) t.deny)
+    (λ t. each_says (test.has_partner t) (HasPartner t) (partner_words t) t.deny) ts

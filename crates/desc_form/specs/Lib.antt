@@ -4,9 +4,9 @@ pub mod KeyLaws
 pub mod Keys
 pub mod PairLaws
 pub mod Places
-pub mod PlacesLaws
 pub mod Refusals
 pub mod ShallowFormLaws
+pub mod SpotsLaws
 pub mod Walking
 pub mod Written
 pub mod WrittenFlow

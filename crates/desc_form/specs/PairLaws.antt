@@ -1,14 +1,13 @@
 -- A pair is read from a value exactly where the value is the array of its two texts.
-use Rattle.std.proofs.Common.{◌≡◌, ℕ, suc, Bool, true, false, ◌==◌, ◌<◌, List, [], ◌∷◌, length, Option, Some, None, option_map, refl, ap, ◌∙◌, sym, subst, arith}
+use Rattle.std.proofs.Common.{◌≡◌, ℕ, suc, Bool, true, false, ◌==◌, List, [], ◌∷◌, length, Option, Some, None, option_map, refl, ap, ◌∙◌, sym, subst, arith}
 use Rattle.std.proofs.lemmas.Bool.{and_parts}
 use Rattle.std.proofs.lemmas.Bool.Decides.{nat_tests}
-use Rattle.std.specs.Cmp.Derive.{both_true}
 use Rattle.std.specs.List.{AllZip, cons_option, list_all}
 use Rattle.std.specs.Prelude.{filter_map, if◌then◌else◌, is_some}
 use Rattle.toml.specs.Data.{Data}
 use Rattle.desc_form.specs.FlowLaws.{flow_read, flow_says}
 use Rattle.desc_form.specs.WrittenFlow.{WrittenFlow, flow_written}
-use Rattle.desc_form.specs.WrittenForm.{IsFlow, IsPair}
+use Rattle.desc_form.specs.WrittenForm.{IsPair}
 use Rattle.desc_form.specs.WrittenTemplate.{WrittenPair, pair_of_flow, pair_written}
 use Rattle.text_core.specs.Steps.{◌>>=◌}
 use Rattle.text_core.specs.StepsLaws.{bind_some}

@@ -29,20 +29,22 @@ listed key ms = unwrap_or (list_at key ms) []
 unfoldable pub assigns_of : Data → List Data
 assigns_of d = unwrap_or (option_and_then (list_at (codes "assign")) (as_table d)) []
 
+-- the element of a list with a number, at the place that has this number
+abbrev pub spot_in : (ℕ → Place) → Numbered Data → Spot
+spot_in place d = record { place = place d.number; value = d.what }
+
 -- an invariant, and after it its assigns
 abbrev pub invariant_spots : Numbered Data → List Spot
-invariant_spots d =
-    record { place = Invariant d.number; value = d.what }
-    ∷ map (λ a. record { place = Assign d.number a.number; value = a.what }) (numbered (assigns_of d.what))
+invariant_spots d = spot_in Invariant d ∷ map (spot_in (Assign d.number)) (numbered (assigns_of d.what))
 
 -- the document, then the hosts, then each invariant and its assigns, then the flows, then the templates
 unfoldable pub spots : Members → List Spot
 spots document =
     record { place = Document; value = table document }
-    ∷ (map (λ h. record { place = Host h.number; value = h.what }) (numbered (listed (codes "host") document))
+    ∷ (map (spot_in Host) (numbered (listed (codes "host") document))
     ++ (flat_map invariant_spots (numbered (listed (codes "invariant") document))
-    ++ (map (λ f. record { place = FlowAt f.number; value = f.what }) (numbered (listed (codes "flow") document))
-    ++ map (λ t. record { place = Template t.number; value = t.what }) (numbered (listed (codes "template") document)))))
+    ++ (map (spot_in FlowAt) (numbered (listed (codes "flow") document))
+    ++ map (spot_in Template) (numbered (listed (codes "template") document)))))
 
 -- the first place where a condition holds of what stands there
 unfoldable pub first_place : (Place → Data → Bool) → Members → Option Place

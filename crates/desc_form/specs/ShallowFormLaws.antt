@@ -7,7 +7,7 @@ use Rattle.std.specs.Prelude.{codes, IsSomeAnd, MatchOption}
 use Rattle.toml.specs.Data.{Data, table, Members, get_member, is_sorted, members_are_sorted}
 use Rattle.desc_form.specs.Written.{Written, WrittenAssign, WrittenHost, WrittenInvariant}
 use Rattle.desc_form.specs.WrittenForm.{IsAnswers, IsArray, IsAssign, IsBoolean, IsFlow, IsHost, IsInteger, IsInvariant, IsPair, IsTable, IsTemplate, IsText, IsWritten, Stands, StandsOr, document_names, template_names}
-use Rattle.desc_form.specs.WrittenTemplate.{WrittenPair, WrittenTemplate}
+use Rattle.desc_form.specs.WrittenTemplate.{WrittenTemplate}
 use Rattle.table_core.specs.Shallow.{IsShallow}
 use Rattle.table_core.specs.ShallowLaws.{IsShallowAt, array_shallow, table_shallow}
 use Rattle.table_core.specs.Tables.{elements}

@@ -1,26 +1,16 @@
--- The first place where a condition holds, part by part: what the private functions find that go through the places. Nothing
--- here has to be believed: PlacesLaws proves that the parts give the first of all places.
-use Rattle.std.specs.Prelude.{ℕ, ℤ, ◌+◌, Bool, List, [], ◌∷◌, Option, None, codes}
+-- What is found as the places are gone through one by one: what the private functions compute that go through them. Nothing
+-- here has to be believed: FoundLaws proves that the first places come out.
+use Rattle.std.specs.Prelude.{ℕ, ◌+◌, ℤ, List, [], ◌∷◌, Option, None}
 use Rattle.std.specs.Option.{option_or}
-use Rattle.toml.specs.Data.{Data, table, Members}
-use Rattle.desc_form.specs.declared.places.FormCondition.{FormCondition}
-use Rattle.desc_form.specs.declared.places.FormCondition.TheVariants as condition
-use Rattle.desc_form.specs.declared.places.FormTest.{FormTest}
+use Rattle.toml.specs.Data.{Data, Members}
+use Rattle.desc_form.specs.declared.places.Found.{Found}
 use Rattle.desc_form.specs.declared.places.Row.{Row}
 use Rattle.desc_form.specs.declared.places.Row.TheVariants.{Hosts, Assigns, Flows, Templates}
 use Rattle.desc_form.specs.declared.refusal.Place.{Place}
-use Rattle.desc_form.specs.declared.refusal.Place.TheVariants.{Document, Host, Invariant, Assign, FlowAt, Template}
+use Rattle.desc_form.specs.declared.refusal.Place.TheVariants.{Host, Assign, FlowAt, Template}
 use Rattle.text_core.specs.Firsts.{where_holds}
-use Rattle.desc_form.specs.Places.{assigns_of, has_unknown_key, has_missing_key, has_wrong_type, listed}
-
--- the condition of this name holds of what stands at a place, in a document that says a version
-abbrev pub holds_of : FormCondition → Option ℤ → Place → Data → Bool
-holds_of condition.UnknownKey said place d = has_unknown_key said place d
-holds_of condition.MissingKey said place d = has_missing_key said place d
-holds_of condition.WrongType said place d = has_wrong_type said place d
-
-abbrev pub holds_at : FormTest → Place → Data → Bool
-holds_at test place d = holds_of test.condition test.version place d
+use Rattle.desc_form.specs.Keys.{version_said}
+use Rattle.desc_form.specs.Places.{Spot, first_place, has_unknown_key, has_missing_key, has_wrong_type, invariant_spots}
 
 -- the place with a number in one of the lists
 abbrev pub place_in : Row → ℕ → Place
@@ -29,24 +19,34 @@ place_in (Assigns invariant) k = Assign invariant k
 place_in Flows k = FlowAt k
 place_in Templates k = Template k
 
--- in a list of places, from number k on
-abbrev pub first_at : (Place → Data → Bool) → (ℕ → Place) → ℕ → List Data → Option Place
-first_at holds place k [] = None
-first_at holds place k (d ∷ ds) = option_or (where_holds (holds (place k) d) (place k)) (first_at holds place (k + 1) ds)
+-- nothing, in a document that says a version
+abbrev pub nothing_found : Option ℤ → Found
+nothing_found said = record { version = said; unknown = None; missing = None; wrong = None }
 
--- at an invariant and its assigns
-abbrev pub first_of_invariant : (Place → Data → Bool) → ℕ → Data → Option Place
-first_of_invariant holds k d = option_or (where_holds (holds (Invariant k) d) (Invariant k)) (first_at holds (Assign k) 1 (assigns_of d))
+-- after one more place
+abbrev pub after : Found → Spot → Found
+after f s = record {
+  version = f.version;
+  unknown = option_or f.unknown (where_holds (has_unknown_key f.version s.place s.value) s.place);
+  missing = option_or f.missing (where_holds (has_missing_key f.version s.place s.value) s.place);
+  wrong = option_or f.wrong (where_holds (has_wrong_type f.version s.place s.value) s.place);
+}
 
--- at the invariants, from number k on
-abbrev pub first_of_invariants : (Place → Data → Bool) → ℕ → List Data → Option Place
-first_of_invariants holds k [] = None
-first_of_invariants holds k (d ∷ ds) = option_or (first_of_invariant holds k d) (first_of_invariants holds (k + 1) ds)
+-- after further places
+abbrev pub after_all : Found → List Spot → Found
+after_all f [] = f
+after_all f (s ∷ ss) = after_all (after f s) ss
 
--- at the document, then the hosts, then the invariants, then the flows, then the templates
-abbrev pub first_by_parts : (Place → Data → Bool) → Members → Option Place
-first_by_parts holds ms =
-    option_or (where_holds (holds Document (table ms)) Document)
-    (option_or (first_at holds Host 1 (listed (codes "host") ms))
-    (option_or (first_of_invariants holds 1 (listed (codes "invariant") ms))
-    (option_or (first_at holds FlowAt 1 (listed (codes "flow") ms)) (first_at holds Template 1 (listed (codes "template") ms)))))
+-- after the invariants from number k on, each with its assigns
+abbrev pub after_invariants : Found → ℕ → List Data → Found
+after_invariants f k [] = f
+after_invariants f k (d ∷ ds) = after_invariants (after_all f (invariant_spots (record { number = k; what = d }))) (k + 1) ds
+
+-- the first place for each of the three conditions
+abbrev pub first_places : Members → Found
+first_places document = record {
+  version = version_said document;
+  unknown = first_place (has_unknown_key (version_said document)) document;
+  missing = first_place (has_missing_key (version_said document)) document;
+  wrong = first_place (has_wrong_type (version_said document)) document;
+}

@@ -4,27 +4,26 @@ use Rattle.std.proofs.Common.{◌≡◌, ◌↔◌, ℕ, ℤ, pos, ◌+◌, Bool
 use Rattle.std.proofs.lemmas.Bool.{and_parts, or_parts, not-false}
 use Rattle.std.specs.Cmp.{first_so, second_so}
 use Rattle.std.specs.Cmp.Derive.{both_true}
-use Rattle.std.specs.Prelude.{codes, filter_map, is_some, MatchOption}
+use Rattle.std.specs.Prelude.{codes, filter_map, flat_map, MatchOption}
 use Rattle.std.specs.List.{AllZip, cons_option, list_all, list_any}
 use Rattle.std.specs.Str.{bytes_eq}
-use Rattle.std.specs.Option.{option_map_or, option_or}
+use Rattle.std.specs.Option.{option_map_or}
 use Rattle.std.specs.Ordering.{int_eq}
 use Rattle.toml.specs.Data.{Data, array, table, Members, as_str, as_table, get_member}
-use Rattle.desc_form.specs.PlacesLaws.{by_parts, nowhere_both, nowhere_either}
 use Rattle.desc_form.specs.declared.refusal.Place.{Place}
 use Rattle.desc_form.specs.declared.refusal.Place.TheVariants.{Document, Host, Invariant, Assign, FlowAt, Template}
-use Rattle.text_core.specs.Firsts.{first_of, where_holds}
-use Rattle.text_core.specs.FirstsLaws.{holds_not, neither, none_mapped}
+use Rattle.text_core.specs.Firsts.{first_of, numbered, numbered_from}
+use Rattle.text_core.specs.FirstsLaws.{neither, none_mapped}
 use Rattle.desc_form.specs.FlowLaws.{fit_where, flow_read, flow_says, said_version, whole_where}
 use Rattle.desc_form.specs.FormConditions.{form_conditions}
 use Rattle.desc_form.specs.KeyLaws.{answers_stand, answers_suit, array_needed, array_stands, array_stands_or, array_suits, array_zips, boolean_stands, boolean_suits, integer_stands, integer_suits, absent, nothing_zipped, some_there, text_stands, text_suits, texts_stand_or, texts_suit, there, there_or}
 use Rattle.desc_form.specs.Keys.{keys_of, says_second, template_keys, version_said}
 use Rattle.desc_form.specs.PairLaws.{pairs_read, pairs_say}
-use Rattle.desc_form.specs.Places.{assigns_of, denies_pairs, fits_version, has_other_key, has_unknown_key, has_missing_key, has_unsuited, has_wrong_type, lacks_needed, listed, missing_key, unknown_key, wrong_type}
-use Rattle.desc_form.specs.Walking.{first_at, first_by_parts, first_of_invariant, first_of_invariants}
+use Rattle.desc_form.specs.Places.{Spot, assigns_of, denies_pairs, first_place, fits_version, has_other_key, has_unknown_key, has_missing_key, has_unsuited, has_wrong_type, invariant_spots, lacks_needed, listed, missing_key, spot_in, spots, unknown_key, wrong_type}
+use Rattle.desc_form.specs.SpotsLaws.{Fails, fails_apart, fails_joined, fails_where_none, none_where_fails}
 use Rattle.desc_form.specs.Written.{Written, WrittenAssign, WrittenHost, WrittenInvariant, assign_written, host_written, invariant_written, template_written, written}
 use Rattle.desc_form.specs.WrittenFlow.{WrittenFlow, flow_written}
-use Rattle.desc_form.specs.WrittenTemplate.{WrittenTemplate, pair_written}
+use Rattle.desc_form.specs.WrittenTemplate.{WrittenTemplate}
 use Rattle.desc_form.specs.WrittenForm.{IsAssign, IsFlow, IsFormed, IsHost, IsInvariant, IsPair, IsTable, IsTemplate, IsText, IsArray, IsWritten, document_names, template_names}
 use Rattle.table_core.specs.Keys.{Key, all_suit, has_only_keys, lacks_key, suits_in}
 use Rattle.table_core.specs.Tables.{boolean_at, has_key, has_only, integer_at, list_at, text_at}
@@ -32,6 +31,10 @@ use Rattle.table_core.specs.Tables.{boolean_at, has_key, has_only, integer_at, l
 -- one of the three conditions holds at a place
 abbrev bad : Option ℤ → Place → Data → Bool
 bad v place d = has_unknown_key v place d || (has_missing_key v place d || has_wrong_type v place d)
+
+-- none of them does at any of some places
+abbrev AreGood : Option ℤ → List Spot → Type 0
+AreGood v ss = Fails (λ s. bad v s.place s.value) ss
 
 -- a value is a table, and what is read there is as it should be
 abbrev IsReadIn : {A : Type 0} → (Members → A → Type 0) → (Members → A) → Data → Type 0
@@ -82,41 +85,41 @@ zip_first Is read d ds (ms, is_table, fits) rest =
 -- where no element of a list is bad, each is read
 tables_read : (v : Option ℤ) {A : Type 0} (Is : Members → A → Type 0) (read : Members → A) (place : ℕ → Place)
     → ((k : ℕ) (d : Data) → bad v (place k) d ≡ false → IsReadIn Is read d)
-    → (k : ℕ) (ds : List Data) → first_at (bad v) place k ds ≡ None → AllZip (IsTable Is) ds (map read (filter_map as_table ds))
-tables_read v Is read place reads k [] found = tt
-tables_read v Is read place reads k (d ∷ ds) found =
-    let parts = neither (where_holds (bad v (place k) d) (place k)) _ found in
-    zip_first Is read d ds (reads k d (holds_not _ _ parts.0)) (tables_read v Is read place reads (k + 1) ds parts.1)
+    → (k : ℕ) (ds : List Data) → AreGood v (map (spot_in place) (numbered_from k ds))
+    → AllZip (IsTable Is) ds (map read (filter_map as_table ds))
+tables_read v Is read place reads k [] good = tt
+tables_read v Is read place reads k (d ∷ ds) (here, behind) =
+    zip_first Is read d ds (reads k d here) (tables_read v Is read place reads (k + 1) ds behind)
 
 invariant_stands : (v : Option ℤ) (k : ℕ) (ms : Members) → has_other_key v (Invariant k) ms ≡ false
     → lacks_needed v (Invariant k) ms ≡ false → has_unsuited v (Invariant k) ms ≡ false
-    → first_at (bad v) (Assign k) 1 (listed (codes "assign") ms) ≡ None → IsInvariant ms (invariant_written ms)
+    → AreGood v (map (spot_in (Assign k)) (numbered (listed (codes "assign") ms))) → IsInvariant ms (invariant_written ms)
 unfolding has_other_key lacks_needed has_unsuited has_only_keys lacks_key all_suit invariant_written listed has_key text_at list_at
-invariant_stands v k ms other lacks unsuited found =
+invariant_stands v k ms other lacks unsuited good =
     let suits = not-false (list_all (suits_in ms) (keys_of v (Invariant k))) unsuited in
     record {
       only = not-false _ other;
       template = text_stands (get_member (codes "template") ms) (not-false _ (or_parts _ _ lacks).0) (first_so _ _ suits);
       assigns =
           array_stands_or (IsTable IsAssign) (get_member (codes "assign") ms) _ (first_so _ _ (second_so _ _ suits))
-          (tables_read v IsAssign assign_written (Assign k) (assign_reads v k) 1 (listed (codes "assign") ms) found);
+          (tables_read v IsAssign assign_written (Assign k) (assign_reads v k) 1 (listed (codes "assign") ms) good);
     }
 
-invariant_reads : (v : Option ℤ) (k : ℕ) (d : Data) → first_of_invariant (bad v) k d ≡ None → IsReadIn IsInvariant invariant_written d
+invariant_reads : (v : Option ℤ) (k : ℕ) (d : Data) → AreGood v (invariant_spots (record { number = k; what = d }))
+    → IsReadIn IsInvariant invariant_written d
 unfolding has_wrong_type assigns_of listed
-invariant_reads v k (table ms) found =
-    let parts = neither (where_holds (bad v (Invariant k) (table ms)) (Invariant k)) _ found in
-    let here = or_parts _ _ (holds_not _ _ parts.0) in
+invariant_reads v k (table ms) (good, assigns) =
+    let here = or_parts _ _ good in
     let rest = or_parts _ _ here.1 in
-    (ms, refl, invariant_stands v k ms here.0 rest.0 rest.1 parts.1)
-invariant_reads v k _ found = cc
+    (ms, refl, invariant_stands v k ms here.0 rest.0 rest.1 assigns)
+invariant_reads v k _ (good, assigns) = cc
 
-invariants_read : (v : Option ℤ) (k : ℕ) (ds : List Data) → first_of_invariants (bad v) k ds ≡ None
+invariants_read : (v : Option ℤ) (k : ℕ) (ds : List Data) → AreGood v (flat_map invariant_spots (numbered_from k ds))
     → AllZip (IsTable IsInvariant) ds (map invariant_written (filter_map as_table ds))
-invariants_read v k [] found = tt
-invariants_read v k (d ∷ ds) found =
-    let parts = neither (first_of_invariant (bad v) k d) _ found in
-    zip_first IsInvariant invariant_written d ds (invariant_reads v k d parts.0) (invariants_read v (k + 1) ds parts.1)
+invariants_read v k [] good = tt
+invariants_read v k (d ∷ ds) good =
+    let (here, behind) = fails_apart _ (invariant_spots (record { number = k; what = d })) (flat_map invariant_spots (numbered_from (k + 1) ds)) good in
+    zip_first IsInvariant invariant_written d ds (invariant_reads v k d here) (invariants_read v (k + 1) ds behind)
 
 -- where no element of a list is bad, each is a flow that fits the version
 flow_first : (v : Option ℤ) (d : Data) (ds : List Data) (o : Option WrittenFlow) → flow_written d ≡ o
@@ -127,14 +130,13 @@ flow_first v d ds None read there rest = cc
 flow_first v d ds (Some f) read there (zipped, fit) =
     ((flow_read d f read, zipped), both_true (not-false (fits_version v f) there) fit)
 
-flows_read : (v : Option ℤ) (k : ℕ) (ds : List Data) → first_at (bad v) FlowAt k ds ≡ None
+flows_read : (v : Option ℤ) (k : ℕ) (ds : List Data) → AreGood v (map (spot_in FlowAt) (numbered_from k ds))
     → AllZip IsFlow ds (filter_map flow_written ds) × (list_all (fits_version v) (filter_map flow_written ds) ≡ true)
 unfolding has_wrong_type
-flows_read v k [] found = (tt, refl)
-flows_read v k (d ∷ ds) found =
-    let parts = neither (where_holds (bad v (FlowAt k) d) (FlowAt k)) _ found in
-    let here = or_parts _ _ (or_parts _ _ (holds_not _ _ parts.0)).1 in
-    flow_first v d ds (flow_written d) refl here.1 (flows_read v (k + 1) ds parts.1)
+flows_read v k [] good = (tt, refl)
+flows_read v k (d ∷ ds) (good, behind) =
+    let here = or_parts _ _ (or_parts _ _ good).1 in
+    flow_first v d ds (flow_written d) refl here.1 (flows_read v (k + 1) ds behind)
 
 template_stands : (v : Option ℤ) (k : ℕ) (ms : Members) → has_other_key v (Template k) ms ≡ false → lacks_needed v (Template k) ms ≡ false
     → has_unsuited v (Template k) ms ≡ false → denies_pairs ms ≡ true → IsTemplate ms (template_written ms)
@@ -191,13 +193,13 @@ templates_by false names ms xs out only suits zipped =
     let none = absent names (codes "template") ms out (subst (λ (ns : List (List ℕ)). has_only ns ms ≡ true) (append-nil names) only) in
     rw none (nothing_zipped (IsTable IsTemplate) xs (rw none at zipped))
 
-document_stands : (v : Option ℤ) (ms : Members) → version_said ms ≡ v → first_by_parts (bad v) ms ≡ None → IsWritten ms (written ms)
-unfolding has_wrong_type has_other_key lacks_needed has_unsuited has_only_keys lacks_key all_suit written listed has_key text_at integer_at list_at
-document_stands v ms said found =
-    let document = neither (where_holds (bad v Document (table ms)) Document) _ found in
-    let hosts = neither (first_at (bad v) Host 1 (listed (codes "host") ms)) _ document.1 in
-    let invariants = neither (first_of_invariants (bad v) 1 (listed (codes "invariant") ms)) _ hosts.1 in
-    let here = or_parts _ _ (holds_not _ _ document.0) in
+document_stands : (v : Option ℤ) (ms : Members) → version_said ms ≡ v → AreGood v (spots ms) → IsWritten ms (written ms)
+unfolding spots has_wrong_type has_other_key lacks_needed has_unsuited has_only_keys lacks_key all_suit written listed has_key text_at integer_at list_at
+document_stands v ms said (document, behind) =
+    let (hosts, behind_hosts) = fails_apart _ (map (spot_in Host) (numbered (listed (codes "host") ms))) _ behind in
+    let (invariants, behind_invariants) = fails_apart _ (flat_map invariant_spots (numbered (listed (codes "invariant") ms))) _ behind_hosts in
+    let (flows_good, templates) = fails_apart _ (map (spot_in FlowAt) (numbered (listed (codes "flow") ms))) _ behind_invariants in
+    let here = or_parts _ _ document in
     let rest = or_parts _ _ here.1 in
     let lacks = or_parts _ _ rest.0 in
     let lacks_host = or_parts (not (has_key (codes "host") ms)) _ lacks.1 in
@@ -207,8 +209,7 @@ document_stands v ms said found =
     let suits_4 = second_so _ _ suits_3 in
     let version = integer_stands (get_member (codes "topos") ms) (not-false _ lacks.0) (first_so _ _ suits) in
     let suits_5 = second_so _ _ suits_4 in
-    let behind = neither (first_at (bad v) FlowAt 1 (listed (codes "flow") ms)) _ invariants.1 in
-    let flows = flows_read v 1 (listed (codes "flow") ms) behind.0 in
+    let flows = flows_read v 1 (listed (codes "flow") ms) flows_good in
     let says = sym said ∙ said_version (get_member (codes "topos") ms) _ version in
     let only : has_only (document_names (written ms).version) ms ≡ true = document_only v ms (written ms).version says (not-false _ here.0) in
     record {
@@ -217,10 +218,10 @@ document_stands v ms said found =
       answers = answers_stand (get_member (codes "answers") ms) (first_so _ _ suits_2);
       hosts =
           array_stands (IsTable IsHost) (get_member (codes "host") ms) _ (not-false _ lacks_host.0) (first_so _ _ suits_3)
-          (tables_read v IsHost host_written Host (host_reads v) 1 (listed (codes "host") ms) hosts.0);
+          (tables_read v IsHost host_written Host (host_reads v) 1 (listed (codes "host") ms) hosts);
       invariants =
           array_stands_or (IsTable IsInvariant) (get_member (codes "invariant") ms) _ (first_so _ _ suits_4)
-          (invariants_read v 1 (listed (codes "invariant") ms) invariants.0);
+          (invariants_read v 1 (listed (codes "invariant") ms) invariants);
       given = refl;
       flows =
           array_stands_or IsFlow (get_member (codes "flow") ms) _ (first_so _ _ suits_5) flows.0;
@@ -228,21 +229,20 @@ document_stands v ms said found =
       templates =
           templates_by (int_eq (written ms).version (pos 2)) (codes "topos" ∷ codes "answers" ∷ codes "host" ∷ codes "invariant" ∷ codes "flow" ∷ []) ms _ refl only
           (subst (λ (o : Option ℤ). list_all (suits_in ms) (template_keys (says_second o)) ≡ true) says (second_so _ _ suits_5))
-          (tables_read v IsTemplate template_written Template (template_reads v) 1 (listed (codes "template") ms) behind.1);
+          (tables_read v IsTemplate template_written Template (template_reads v) 1 (listed (codes "template") ms) templates);
     }
 
 -- a description of the right form is what is written in it, each element of its arrays included
 pub written_stands : (ms : Members) → first_of (form_conditions ms) ≡ None → IsWritten ms (written ms)
-unfolding form_conditions unknown_key missing_key wrong_type
+unfolding form_conditions unknown_key missing_key wrong_type first_place
 written_stands ms formed =
     let v = version_said ms in
-    let unknown = neither _ _ formed in
-    let missing = neither _ _ unknown.1 in
-    let wrong = neither _ _ missing.1 in
-    let nowhere = nowhere_either (has_missing_key v) (has_wrong_type v) ms (none_mapped _ _ missing.0) (none_mapped _ _ wrong.0) in
+    let (unknown, others) = neither _ _ formed in
+    let (missing, last) = neither _ _ others in
+    let (wrong, _) = neither _ _ last in
     document_stands v ms refl
-    (by_parts (bad v) ms
-    ∙ nowhere_either (has_unknown_key v) (λ place d. has_missing_key v place d || has_wrong_type v place d) ms (none_mapped _ _ unknown.0) nowhere)
+    (fails_where_none (λ s. has_unknown_key v s.place s.value) (λ s. has_missing_key v s.place s.value) (λ s. has_wrong_type v s.place s.value) (spots ms)
+    (none_mapped _ _ (none_mapped _ _ unknown)) (none_mapped _ _ (none_mapped _ _ missing)) (none_mapped _ _ (none_mapped _ _ wrong)))
 
 -- The other way: where something is written, none of the three conditions holds.
 
@@ -273,15 +273,16 @@ assign_good v k m ms a stands =
 -- where each element of a list is a good table, none is bad
 tables_good : (v : Option ℤ) {A : Type 0} (Is : Members → A → Type 0) (place : ℕ → Place)
     → ((k : ℕ) (ms : Members) (x : A) → Is ms x → bad v (place k) (table ms) ≡ false)
-    → (k : ℕ) (ds : List Data) (xs : List A) → AllZip (IsTable Is) ds xs → first_at (bad v) place k ds ≡ None
-tables_good v Is place good k [] xs zipped = refl
+    → (k : ℕ) (ds : List Data) (xs : List A) → AllZip (IsTable Is) ds xs → AreGood v (map (spot_in place) (numbered_from k ds))
+tables_good v Is place good k [] xs zipped = tt
 tables_good v Is place good k (d ∷ ds) [] zipped = absurd zipped
-tables_good v Is place good k (d ∷ ds) (x ∷ xs) ((ms, is_table, fits), zipped) =
-    subst (λ (e : Data). option_or (where_holds (bad v (place k) e) (place k)) (first_at (bad v) place (k + 1) ds) ≡ None) (sym is_table)
-    (rw (good k ms x fits) (tables_good v Is place good (k + 1) ds xs zipped))
+tables_good v Is place good k (d ∷ ds) (x ∷ xs) ((ms, is_table, fits), zipped) = (
+  subst (λ (e : Data). bad v (place k) e ≡ false) (sym is_table) (good k ms x fits),
+  tables_good v Is place good (k + 1) ds xs zipped,
+)
 
 invariant_good : (v : Option ℤ) (k : ℕ) (ms : Members) (i : WrittenInvariant) → IsInvariant ms i
-    → first_of_invariant (bad v) k (table ms) ≡ None
+    → AreGood v (invariant_spots (record { number = k; what = table ms }))
 unfolding has_wrong_type has_other_key lacks_needed has_unsuited has_only_keys lacks_key all_suit assigns_of listed has_key text_at list_at
 invariant_good v k ms i stands =
     let template = text_suits (get_member (codes "template") ms) i.template stands.template in
@@ -289,17 +290,16 @@ invariant_good v k ms i stands =
     let here : bad v (Invariant k) (table ms) ≡ false =
     none_bad stands.only (present template.0 refl)
     (both_true template.1 (both_true (array_suits (IsTable IsAssign) assigns i.assigns stands.assigns) refl)) in
-    rw here
-    (tables_good v IsAssign (Assign k) (assign_good v k) 1 (listed (codes "assign") ms) i.assigns
-    (array_zips (IsTable IsAssign) assigns i.assigns stands.assigns))
+    (here, tables_good v IsAssign (Assign k) (assign_good v k) 1 (listed (codes "assign") ms) i.assigns (array_zips (IsTable IsAssign) assigns i.assigns stands.assigns))
 
 invariants_good : (v : Option ℤ) (k : ℕ) (ds : List Data) (is : List WrittenInvariant) → AllZip (IsTable IsInvariant) ds is
-    → first_of_invariants (bad v) k ds ≡ None
-invariants_good v k [] is zipped = refl
+    → AreGood v (flat_map invariant_spots (numbered_from k ds))
+invariants_good v k [] is zipped = tt
 invariants_good v k (d ∷ ds) [] zipped = absurd zipped
 invariants_good v k (d ∷ ds) (i ∷ is) ((ms, is_table, fits), zipped) =
-    subst (λ (e : Data). option_or (first_of_invariant (bad v) k e) (first_of_invariants (bad v) (k + 1) ds) ≡ None) (sym is_table)
-    (rw (invariant_good v k ms i fits) (invariants_good v (k + 1) ds is zipped))
+    fails_joined _ (invariant_spots (record { number = k; what = d })) (flat_map invariant_spots (numbered_from (k + 1) ds))
+    (subst (λ (e : Data). AreGood v (invariant_spots (record { number = k; what = e }))) (sym is_table) (invariant_good v k ms i fits))
+    (invariants_good v (k + 1) ds is zipped)
 
 flow_good : (v : Option ℤ) (k : ℕ) (d : Data) (f : WrittenFlow) → IsFlow d f → fits_version v f ≡ true → bad v (FlowAt k) d ≡ false
 unfolding has_wrong_type
@@ -308,12 +308,12 @@ flow_good v k d f (ds, is_array, zipped) fits =
     rw (is_array, read, fits) refl
 
 flows_good : (v : Option ℤ) (k : ℕ) (ds : List Data) (fs : List WrittenFlow) → AllZip IsFlow ds fs → list_all (fits_version v) fs ≡ true
-    → first_at (bad v) FlowAt k ds ≡ None
-flows_good v k [] fs zipped fit = refl
+    → AreGood v (map (spot_in FlowAt) (numbered_from k ds))
+flows_good v k [] fs zipped fit = tt
 flows_good v k (d ∷ ds) [] zipped fit = absurd zipped
 flows_good v k (d ∷ ds) (f ∷ fs) (is_flow, zipped) fit =
     let (here, behind) = and_parts (fits_version v f) (list_all (fits_version v) fs) fit in
-    rw (flow_good v k d f is_flow here) (flows_good v (k + 1) ds fs zipped behind)
+    (flow_good v k d f is_flow here, flows_good v (k + 1) ds fs zipped behind)
 
 template_good : (v : Option ℤ) (k : ℕ) (ms : Members) (t : WrittenTemplate) → IsTemplate ms t → bad v (Template k) (table ms) ≡ false
 unfolding has_wrong_type has_other_key lacks_needed has_unsuited has_only_keys lacks_key all_suit listed has_key text_at list_at
@@ -360,31 +360,31 @@ document_good ms w stands =
     (both_true (array_suits IsFlow (get_member (codes "flow") ms) w.flows stands.flows) templates)))))
 
 nothing_bad : (ms : Members) (w : Written) → IsWritten ms w → list_all (fits_version (Some w.version)) w.flows ≡ true
-    → first_by_parts (bad (Some w.version)) ms ≡ None
-unfolding listed list_at
+    → AreGood (Some w.version) (spots ms)
+unfolding spots listed list_at
 nothing_bad ms w stands fit =
     let v : Option ℤ = Some w.version in
-    let hosts = array_needed (IsTable IsHost) (get_member (codes "host") ms) w.hosts stands.hosts in
-    rw (
+    let hosts = array_needed (IsTable IsHost) (get_member (codes "host") ms) w.hosts stands.hosts in (
       document_good ms w stands,
-      tables_good v IsHost Host (host_good v) 1 (listed (codes "host") ms) w.hosts (array_zips (IsTable IsHost) (get_member (codes "host") ms) w.hosts hosts.1),
-      invariants_good v 1 (listed (codes "invariant") ms) w.invariants (array_zips (IsTable IsInvariant) (get_member (codes "invariant") ms) w.invariants stands.invariants),
-      flows_good v 1 (listed (codes "flow") ms) w.flows (array_zips IsFlow (get_member (codes "flow") ms) w.flows stands.flows) fit,
-      tables_good v IsTemplate Template (template_good v) 1 (listed (codes "template") ms) w.templates (array_zips (IsTable IsTemplate) (get_member (codes "template") ms) w.templates stands.templates),
-    ) refl
+      fails_joined _ (map (spot_in Host) (numbered (listed (codes "host") ms))) _
+          (tables_good v IsHost Host (host_good v) 1 (listed (codes "host") ms) w.hosts (array_zips (IsTable IsHost) (get_member (codes "host") ms) w.hosts hosts.1))
+          (fails_joined _ (flat_map invariant_spots (numbered (listed (codes "invariant") ms))) _
+          (invariants_good v 1 (listed (codes "invariant") ms) w.invariants (array_zips (IsTable IsInvariant) (get_member (codes "invariant") ms) w.invariants stands.invariants))
+          (fails_joined _ (map (spot_in FlowAt) (numbered (listed (codes "flow") ms))) _
+          (flows_good v 1 (listed (codes "flow") ms) w.flows (array_zips IsFlow (get_member (codes "flow") ms) w.flows stands.flows) fit)
+          (tables_good v IsTemplate Template (template_good v) 1 (listed (codes "template") ms) w.templates (array_zips (IsTable IsTemplate) (get_member (codes "template") ms) w.templates stands.templates)))),
+    )
 
 -- a description in which something is written is of the right form
 pub formed_where_written : (ms : Members) (w : Written) → IsWritten ms w → first_of (form_conditions ms) ≡ None
-unfolding form_conditions unknown_key missing_key wrong_type integer_at
+unfolding form_conditions unknown_key missing_key wrong_type first_place integer_at
 formed_where_written ms w stands =
     let v = version_said ms in
     let said = said_version (get_member (codes "topos") ms) w.version stands.version in
-    let fit = fit_where w.version w.flows stands.whole in
-    let nowhere = sym (by_parts (bad v) ms)
-    ∙ subst (λ (o : Option ℤ). first_by_parts (bad o) ms ≡ None) (sym said) (nothing_bad ms w stands fit) in
-    let unknown = nowhere_both (has_unknown_key v) (λ place d. has_missing_key v place d || has_wrong_type v place d) ms nowhere in
-    let rest = nowhere_both (has_missing_key v) (has_wrong_type v) ms unknown.1 in
-    rw (unknown.0, rest.0, rest.1) refl
+    let good = subst (λ (o : Option ℤ). AreGood o (spots ms)) (sym said) (nothing_bad ms w stands (fit_where w.version w.flows stands.whole)) in
+    let (unknown, missing, wrong) =
+    none_where_fails (λ s. has_unknown_key v s.place s.value) (λ s. has_missing_key v s.place s.value) (λ s. has_wrong_type v s.place s.value) (spots ms) good in
+    rw (unknown, missing, wrong) refl
 
 -- a description is of the right form exactly where none of the three conditions holds
 pub formed : (ms : Members) → (first_of (form_conditions ms) ≡ None) ↔ IsFormed ms

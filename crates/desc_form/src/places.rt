@@ -1,35 +1,21 @@
-//! The form of a description: the first place whose table has an unknown key, lacks a key or has a
-//! value of a wrong type. Places are the document, the hosts, each invariant and its assigns, the
-//! flows, and the templates, in this order.
-ghost use Rattle.std.specs.Prelude.{◌≡◌, ◌||◌, true, not, map, option_map, codes};
-ghost use Rattle.std.specs.Option.{option_map_or, option_or};
+//! The form of a description: the first place where a table has an unknown key, the first where one
+//! lacks a key, and the first where a value is of a wrong type. Places are the document, the hosts, each
+//! invariant and its assigns, the flows, and the templates, and are gone through once, in this order.
+ghost use Rattle.std.specs.Prelude.{◌≡◌, ◌||◌, true, not, map};
+ghost use Rattle.std.specs.Option.{option_map_or};
 ghost use Rattle.toml.specs.Data.{as_table, table};
 ghost use Rattle.toml.specs.View.{view, table_view};
+ghost use Rattle.desc_form.specs.Keys.{version_said};
 ghost use Rattle.desc_form.specs.declared.refusal.Place.TheVariants.{Document};
-ghost use Rattle.desc_form.specs.Places.{assigns_of, denies_pairs, first_place, has_unsuited, has_missing_key, has_unknown_key, has_wrong_type, listed};
-ghost use Rattle.desc_form.specs.declared.places.Row.TheVariants.{Flows, Templates};
-ghost use Rattle.desc_form.specs.Walking.{holds_at, first_at, first_by_parts, first_of_invariant, first_of_invariants, place_in};
+ghost use Rattle.desc_form.specs.Places.{assigns_of, denies_pairs, has_unsuited, has_missing_key, has_unknown_key, has_wrong_type, invariant_spots, listed, spot_in};
+ghost use Rattle.desc_form.specs.Walking.{after, after_all, after_invariants, first_places, nothing_found, place_in};
+ghost use Rattle.text_core.specs.Firsts.{numbered};
 
 use crate::flows::{are_pairs, is_flow};
 use crate::keys::{has_other_key, has_unsuited, lacks_needed};
 use crate::refusal::Place;
-use table_core::list_at;
+use table_core::{integer_at, list_at};
 use toml::{Table, Value};
-
-/// A condition on the form of a description.
-#[derive(Clone, Copy, PartialEq, Eq, Debug)]
-pub(crate) enum FormCondition {
-    UnknownKey,
-    MissingKey,
-    WrongType,
-}
-
-/// A condition on the form of a document that says a version.
-#[derive(Clone, Copy, PartialEq, Eq, Debug)]
-pub(crate) struct FormTest {
-    pub(crate) condition: FormCondition,
-    pub(crate) version: Option<i64>,
-}
 
 /// One of the lists of a description.
 #[derive(Clone, Copy, PartialEq, Eq, Debug)]
@@ -127,105 +113,76 @@ fn has_wrong_type(version: Option<i64>, place: Place, value: &Value) -> bool
     }
 }
 
-fn holds_at(test: FormTest, place: Place, value: &Value) -> bool
-    ensures { result ≡ holds_at test place (view value.now) }
-{
-    match test.condition {
-        FormCondition::UnknownKey => has_unknown_key(test.version, place, value),
-        FormCondition::MissingKey => has_missing_key(test.version, place, value),
-        FormCondition::WrongType => has_wrong_type(test.version, place, value),
-    }
+/// What is found at the places that were gone through: where a key is unknown, where one is missing, and
+/// where a value is of a wrong type, each time at the first place.
+#[derive(Clone, Copy)]
+pub(crate) struct Found {
+    /// The version that the document says.
+    version: Option<i64>,
+    pub(crate) unknown: Option<Place>,
+    pub(crate) missing: Option<Place>,
+    pub(crate) wrong: Option<Place>,
 }
 
-#[tactic(auto, unfolding(crate::specs::Places::has_wrong_type))]
-fn holds_of_document(test: FormTest, document: &Table) -> bool
-    ensures { result ≡ holds_at test Document (table (table_view document.now)) }
-{
-    match test.condition {
-        FormCondition::UnknownKey => has_other_key(test.version, Place::Document, document),
-        FormCondition::MissingKey => lacks_needed(test.version, Place::Document, document),
-        FormCondition::WrongType => has_unsuited(test.version, Place::Document, document),
+impl Found {
+    /// What is found in the whole document.
+    pub(crate) fn of(document: &Table) -> Found
+        ensures { result ≡ first_places (table_view document.now) }
+    {
+        let mut found = Found::at_document(document);
+        found.go_through(Row::Hosts, listed(document, "host"));
+        found.go_through_invariants(listed(document, "invariant"));
+        found.go_through(Row::Flows, listed(document, "flow"));
+        found.go_through(Row::Templates, listed(document, "template"));
+        found
     }
-}
 
-fn first_at(test: FormTest, row: Row, values: &[Value]) -> Option<Place>
-    ensures { result ≡ first_at (holds_at test) (place_in row) 1 (map view values.now) }
-{
-    for (index, value) in values.iter().enumerate() {
-        let place = row.place(index as u64 + 1);
-        if holds_at(test, place, value) {
-            return Some(place);
+    /// What is found at the document itself, which is a table and no value.
+    #[tactic(auto, unfolding(crate::specs::Places::has_wrong_type))]
+    fn at_document(document: &Table) -> Found
+        ensures { result ≡ after (nothing_found (version_said (table_view document.now)))
+            (record { place = Document; value = table (table_view document.now) }) }
+    {
+        let (version, place) = (integer_at(document, "topos"), Place::Document);
+        Found {
+            version,
+            unknown: has_other_key(version, place, document).then_some(place),
+            missing: lacks_needed(version, place, document).then_some(place),
+            wrong: has_unsuited(version, place, document).then_some(place),
         }
     }
-    None
-}
 
-fn first_of_invariant(test: FormTest, number: u64, value: &Value) -> Option<Place>
-    ensures { result ≡ first_of_invariant (holds_at test) number (view value.now) }
-{
-    let place = Place::Invariant(number);
-    if holds_at(test, place, value) {
-        return Some(place);
+    fn look_at(&mut self, place: Place, value: &Value)
+        ensures { self.new ≡ after self.old (record { place = place; value = view value.now }) }
+    {
+        let unknown = has_unknown_key(self.version, place, value);
+        let missing = has_missing_key(self.version, place, value);
+        let wrong = has_wrong_type(self.version, place, value);
+        self.unknown = self.unknown.or(unknown.then_some(place));
+        self.missing = self.missing.or(missing.then_some(place));
+        self.wrong = self.wrong.or(wrong.then_some(place));
     }
-    first_at(test, Row::Assigns(number), assigns_of(value))
-}
 
-fn first_of_invariants(test: FormTest, values: &[Value]) -> Option<Place>
-    ensures { result ≡ first_of_invariants (holds_at test) 1 (map view values.now) }
-{
-    for (index, value) in values.iter().enumerate() {
-        let found = first_of_invariant(test, index as u64 + 1, value);
-        if found.is_some() {
-            return found;
+    fn go_through(&mut self, row: Row, values: &[Value])
+        ensures { self.new ≡ after_all self.old (map (spot_in (place_in row)) (numbered (map view values.now))) }
+    {
+        for (index, value) in values.iter().enumerate() {
+            self.look_at(row.place(index as u64 + 1), value);
         }
     }
-    None
-}
 
-/// The first place where the condition holds.
-pub(crate) fn first_place(test: FormTest, document: &Table) -> Option<Place>
-    ensures { result ≡ first_place (holds_at test) (table_view document.now) }
-{
-    first_by_parts(test, document)
-}
-
-fn first_by_parts(test: FormTest, document: &Table) -> Option<Place>
-    ensures { result ≡ first_by_parts (holds_at test) (table_view document.now) }
-{
-    if holds_of_document(test, document) {
-        return Some(Place::Document);
+    fn go_through_invariant(&mut self, number: u64, value: &Value)
+        ensures { self.new ≡ after_all self.old (invariant_spots (record { number = number; what = view value.now })) }
+    {
+        self.look_at(Place::Invariant(number), value);
+        self.go_through(Row::Assigns(number), assigns_of(value));
     }
-    let host = first_at_key(test, Row::Hosts, document, "host");
-    if host.is_some() {
-        return host;
-    }
-    let invariant = first_invariant(test, document);
-    if invariant.is_some() {
-        return invariant;
-    }
-    first_behind(test, document)
-}
 
-/// At the flows, then the templates.
-fn first_behind(test: FormTest, document: &Table) -> Option<Place>
-    ensures { result ≡ option_or (first_at (holds_at test) (place_in Flows) 1 (listed (codes "flow") (table_view document.now)))
-        (first_at (holds_at test) (place_in Templates) 1 (listed (codes "template") (table_view document.now))) }
-{
-    let flow = first_at_key(test, Row::Flows, document, "flow");
-    if flow.is_some() {
-        return flow;
+    fn go_through_invariants(&mut self, values: &[Value])
+        ensures { self.new ≡ after_invariants self.old 1 (map view values.now) }
+    {
+        for (index, value) in values.iter().enumerate() {
+            self.go_through_invariant(index as u64 + 1, value);
+        }
     }
-    first_at_key(test, Row::Templates, document, "template")
-}
-
-fn first_at_key(test: FormTest, row: Row, document: &Table, key: &str) -> Option<Place>
-    ensures { result ≡ first_at (holds_at test) (place_in row) 1 (listed key.now (table_view document.now)) }
-{
-    first_at(test, row, listed(document, key))
-}
-
-fn first_invariant(test: FormTest, document: &Table) -> Option<Place>
-    ensures { result ≡ first_of_invariants (holds_at test) 1 (listed (codes "invariant") (table_view document.now)) }
-{
-    first_of_invariants(test, listed(document, "invariant"))
 }

@@ -89,17 +89,17 @@ prefix_count_entries w =
 
 -- what an entry says is a network, where it is a prefix of at least one bit without bits after its length
 network_said : (t : List ℕ) (o : Option Prefix) (ps : List Prefix) → prefix_of t ≡ o
-    → not (not (option_map_or (λ p. nat_lt 0 p.len) o false)) ≡ true → not (option_map_or (λ p. not (is_exact p)) o false) ≡ true
+    → option_map_or (λ p. nat_lt 0 p.len) o false ≡ true → not (option_map_or (λ p. not (is_exact p)) o false) ≡ true
     → list_all is_network ps ≡ true → list_all is_network (cons_option o ps) ≡ true
 network_said t None ps said prefix exact all = cc
 network_said t (Some p) ps said prefix exact all = grind (arith, nat_tests, prefix_of-fits t p said)
 
-pub networks : (ts : List (List ℕ)) → list_all (λ t. not (not (is_prefix (prefix_of t)))) ts ≡ true
+pub networks : (ts : List (List ℕ)) → list_all (λ t. is_prefix (prefix_of t)) ts ≡ true
     → list_all (λ t. not (has_host_bits (prefix_of t))) ts ≡ true
     → list_all is_network (filter_map prefix_of ts) ≡ true
 networks [] prefixes exact = refl
 networks (t ∷ ts) prefixes exact =
-    let (prefix, prefixes_behind) = and_parts (not (not (is_prefix (prefix_of t)))) _ prefixes in
+    let (prefix, prefixes_behind) = and_parts (is_prefix (prefix_of t)) _ prefixes in
     let (exact_here, exact_behind) = and_parts (not (has_host_bits (prefix_of t))) _ exact in
     network_said t (prefix_of t) (filter_map prefix_of ts) refl prefix exact_here (networks ts prefixes_behind exact_behind)
 

@@ -8,5 +8,6 @@ pub mod MentionView
 pub mod Mentions
 pub mod NamesLaws
 pub mod NoneLaws
+pub mod RowLaws
 pub mod SizesLaws
 pub mod WrittenHosts

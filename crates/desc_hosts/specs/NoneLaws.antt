@@ -1,13 +1,13 @@
 -- Where a search finds nothing, in plain words: exactly where each element fails its test, or each two of them.
-use Rattle.std.proofs.Common.{◌≡◌, ◌↔◌, ℕ, zero, suc, ◌<◌, Bool, true, false, not, ◌&&◌, List, [], ◌∷◌, ◌++◌, Option, None, option_map, refl, sym, ap, ◌∙◌, arith}
+use Rattle.std.proofs.Common.{◌≡◌, ◌↔◌, ℕ, zero, suc, ◌<◌, Bool, true, false, not, ◌&&◌, List, [], ◌∷◌, ◌++◌, Option, None, refl, ap, arith}
 use Rattle.std.proofs.lemmas.Bool.{and_from, and_parts}
 use Rattle.std.proofs.lemmas.List.Elements.{All-from_recursion, recursion_from_All}
 use Rattle.std.proofs.lemmas.List.Kept.{AllPairs-cons}
 use Rattle.std.specs.List.{All, AllByRecursion, AllPairs, find, list_all}
 use Rattle.std.specs.Option.{option_or}
-use Rattle.text_core.specs.Firsts.{Numbered, Pair, first_pair, first_pair_behind, numbered, where_holds}
+use Rattle.text_core.specs.Firsts.{first_pair, first_pair_behind, where_holds}
 use Rattle.text_core.specs.Pairs.{no_pair}
-use Rattle.text_core.specs.FirstsLaws.{all_numbered, holds_not, no_pair_numbered, none_barred, none_found, none_mapped}
+use Rattle.text_core.specs.FirstsLaws.{holds_not}
 use Rattle.text_core.specs.PairLaws.{list_all-push}
 
 not_true : (b : Bool) → not b ≡ true → b ≡ false
@@ -15,11 +15,11 @@ not_true true h = cc
 not_true false h = refl
 
 -- a test of each element
-tested_by : {A : Type 0} (p : A → Bool) (xs : List A) → list_all p xs ≡ true → AllByRecursion (λ x. p x ≡ true) xs
+pub tested_by : {A : Type 0} (p : A → Bool) (xs : List A) → list_all p xs ≡ true → AllByRecursion (λ x. p x ≡ true) xs
 tested_by p [] h = tt
 tested_by p (x ∷ xs) h = let (here, behind) = and_parts (p x) (list_all p xs) h in (here, tested_by p xs behind)
 
-testing : {A : Type 0} (p : A → Bool) (xs : List A) → AllByRecursion (λ x. p x ≡ true) xs → list_all p xs ≡ true
+pub testing : {A : Type 0} (p : A → Bool) (xs : List A) → AllByRecursion (λ x. p x ≡ true) xs → list_all p xs ≡ true
 testing p [] all = refl
 testing p (x ∷ xs) (here, behind) = and_from (p x) (list_all p xs) here (testing p xs behind)
 
@@ -61,7 +61,7 @@ pub no_pair_tested : {A : Type 0} (r : A → A → Bool) (xs : List A) → (no_p
 no_pair_tested r xs = (pairs_tested r xs, pairs_testing r xs)
 
 -- the other way of the laws of firsts: what no element meets is not found, and where no element bars a later one there is no pair
-unfound : {A : Type 0} (p : A → Bool) (xs : List A) → list_all (λ x. not (p x)) xs ≡ true → find p xs ≡ None
+pub unfound : {A : Type 0} (p : A → Bool) (xs : List A) → list_all (λ x. not (p x)) xs ≡ true → find p xs ≡ None
 unfound p [] h = refl
 unfound p (x ∷ xs) h =
     let (here, behind) = and_parts (not (p x)) _ h in
@@ -85,46 +85,10 @@ unbarred_behind {A} bars before (x ∷ xs) apart unbarring =
     let (here, later) = each_of_both (λ y. not (bars x y)) rest before unbarring in
     rw (unfound (bars x) before here) (unbarred_behind bars (before ++ x ∷ []) xs behind (list_all-push rest before x later own))
 
-unbarred : {A : Type 0} (bars : A → A → Bool) (xs : List A) → no_pair bars xs ≡ true → first_pair bars xs ≡ None
+pub unbarred : {A : Type 0} (bars : A → A → Bool) (xs : List A) → no_pair bars xs ≡ true → first_pair bars xs ≡ None
 unbarred bars xs apart = unbarred_behind bars [] xs apart refl
 
--- None is told exactly where no element is to be told
-pub none_told : {A B : Type 0} (p : A → Bool) (tell : A → B) (xs : List A)
-    → (option_map tell (find p xs) ≡ None) ↔ All (λ x. p x ≡ false) xs
-none_told p tell xs =
-    let tested = none_tested p xs in
-    (λ h. tested.0 (none_found p xs (none_mapped tell (find p xs) h)), λ all. ap (option_map tell) (unfound p xs (tested.1 all)))
-
-pub none_told_numbered : {A B : Type 0} (p : A → Bool) (tell : Numbered A → B) (xs : List A)
-    → (option_map tell (find (λ n. p n.what) (numbered xs)) ≡ None) ↔ All (λ x. p x ≡ false) xs
-none_told_numbered {A} p tell xs =
-    let tested = none_tested p xs in
-    let test : Numbered A → Bool = λ n. p n.what in
-    let same = all_numbered (λ x. not (p x)) 1 xs in (
-      λ h. tested.0 (sym same ∙ none_found test (numbered xs) (none_mapped tell (find test (numbered xs)) h)),
-      λ all. ap (option_map tell) (unfound test (numbered xs) (same ∙ tested.1 all)),
-    )
-
--- and where no element is barred by an earlier one
-pub none_told_pair : {A B : Type 0} (bars : A → A → Bool) (tell : Pair A → B) (xs : List A)
-    → (option_map tell (first_pair bars xs) ≡ None) ↔ AllPairs (λ x y. bars y x ≡ false) xs
-none_told_pair bars tell xs =
-    let tested = no_pair_tested bars xs in (
-      λ h. tested.0 (none_barred bars xs (none_mapped tell (first_pair bars xs) h)),
-      λ pairs. ap (option_map tell) (unbarred bars xs (tested.1 pairs)),
-    )
-
-pub none_told_numbered_pair : {A B : Type 0} (bars : A → A → Bool) (tell : Pair (Numbered A) → B) (xs : List A)
-    → (option_map tell (first_pair (λ (x y : Numbered A). bars x.what y.what) (numbered xs)) ≡ None) ↔ AllPairs (λ x y. bars y x ≡ false) xs
-none_told_numbered_pair {A} bars tell xs =
-    let tested = no_pair_tested bars xs in
-    let barring : Numbered A → Numbered A → Bool = λ x y. bars x.what y.what in
-    let same = no_pair_numbered bars 1 xs in (
-      λ h. tested.0 (sym same ∙ none_barred barring (numbered xs) (none_mapped tell (first_pair barring (numbered xs)) h)),
-      λ pairs. ap (option_map tell) (unbarred barring (numbered xs) (same ∙ tested.1 pairs)),
-    )
-
--- a condition that is told where a test holds, and several conditions in turn
+-- a condition that is told where a test holds, and two conditions in turn
 pub none_where : {A : Type 0} (holds : Bool) (x : A) → (where_holds holds x ≡ None) ↔ (holds ≡ false)
 none_where holds x = (holds_not holds x, λ not_here. rw not_here refl)
 

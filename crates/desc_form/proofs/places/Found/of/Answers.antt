@@ -1,0 +1,17 @@
+use Rattle.toml.specs.View.{table_view}
+use Rattle.desc_form.proofs.FoundLaws.{in_parts}
+use Rattle.desc_form.proofs.places.Found.of.Goals as goal
+
+pub returns : goal.returns
+returns c =
+    rw (
+      c.go_through-3.ensures,
+      c.listed-4.ensures,
+      c.go_through-2.ensures,
+      c.listed-3.ensures,
+      c.go_through_invariants.ensures,
+      c.listed-2.ensures,
+      c.go_through.ensures,
+      c.listed.ensures,
+      c.at_document-found.ensures,
+    ) (in_parts (table_view c.args.document.now))
