@@ -7,7 +7,7 @@ use Rattle.std.specs.List.{AllZip, list_any}
 use Rattle.std.specs.Ordering.{match_ordering}
 use Rattle.std.specs.String.{string_cmp}
 use Rattle.desc_core.specs.Migrated.{with_member}
-use Rattle.toml.specs.Data.{Data, string, Members, member}
+use Rattle.toml.specs.Data.{Data, string, member}
 use Rattle.toml.specs.View.{members_view, table_view, view}
 use Rattle.toml.specs.declared.value.Value.{Value}
 

@@ -1,6 +1,6 @@
 -- Edits one after another.
 use Rattle.std.specs.Prelude.{if◌then◌else◌, is_err, is_ok}
-use Rattle.std.proofs.Common.{◌≡◌, ℕ, ◌+◌, ◌<◌, ◌≤◌, Bool, true, false, List, [], ◌∷◌, ◌++◌, length, get_or, drop, map, append_assoc, append-nil, Result, Ok, Err, refl, sym, ap, subst, ◌∙◌}
+use Rattle.std.proofs.Common.{◌≡◌, ℕ, ◌+◌, ◌<◌, ◌≤◌, Bool, false, List, [], ◌∷◌, ◌++◌, length, get_or, drop, map, append_assoc, append-nil, Result, Ok, Err, sym, ap, subst, ◌∙◌}
 use Rattle.std.proofs.lemmas.List.{drop_all, drop_more}
 use Rattle.edit_core.specs.Edited.{after_edit}
 use Rattle.edit_core.specs.Runs.{AreSummaries, IsCause, after_edits, next_edit}

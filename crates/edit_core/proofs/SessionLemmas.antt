@@ -1,5 +1,5 @@
 -- What a session answers, case by case.
-use Rattle.std.proofs.Common.{◌≡◌, ℕ, List, map, string_bytes, Option, Some, None, Result, Ok, Err, inl, inr, refl, sym, ap, subst, ◌∙◌}
+use Rattle.std.proofs.Common.{◌≡◌, ℕ, List, map, string_bytes, Some, Result, Ok, Err, inl, inr, refl, sym, ap, subst, ◌∙◌}
 use Rattle.std.specs.BTreeMap.{BTreeMap}
 use Rattle.std.specs.Option.{ok_or}
 use Rattle.std.specs.Prelude.{IfErr, IfOk, OnErr, String, length, nat_lt}
@@ -21,13 +21,13 @@ use Rattle.edit_core.specs.EditFaults.{Gives, edit_fault}
 use Rattle.edit_core.specs.Edited.{accepted_as, after_edit, edited, if_accepted}
 use Rattle.edit_core.specs.InPlace.{IsDone}
 use Rattle.edit_core.specs.Kept.{IsDescription, IsKept, Refuses, entries_of, table_of, table_of-entries_of}
-use Rattle.edit_core.specs.Summaries.{IsApplied, IsStarted, IsSummary, TellsOf}
+use Rattle.edit_core.specs.Summaries.{IsApplied, IsStarted, TellsOf}
 use Rattle.edit_core.specs.declared.fault.EditFault.{EditFault}
 use Rattle.edit_core.specs.declared.fault.EditFault.TheVariants.{NoPolicy, Absent, Refused, Memory}
 use Rattle.edit_core.specs.declared.summary.Summary.{Summary}
 use Rattle.edit_text.specs.Edit.{Change}
 use Rattle.net_core.specs.Network.{Network}
-use Rattle.net_core.specs.Policies.{IsPolicyOf, Policy}
+use Rattle.net_core.specs.Policies.{Policy}
 use Rattle.toml.specs.Data.{Members}
 use Rattle.toml.specs.View.{table_view}
 use Rattle.toml.specs.declared.value.Value.{Value}

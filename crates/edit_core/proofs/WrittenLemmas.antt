@@ -1,5 +1,5 @@
 -- A table whose value at a key is changed where it stands.
-use Rattle.std.proofs.Common.{◌≡◌, ℕ, Bool, true, false, cond, MutBor, Vec, List, [], ◌∷◌, ◌++◌, map, filter, not, Option, Some, None, option_map, String, Global, string_bytes, codes, Ordering, Less, Equal, Greater, nat_cmp, refl, sym, ap, ◌∙◌}
+use Rattle.std.proofs.Common.{◌≡◌, ℕ, Bool, true, false, cond, MutBor, Vec, List, [], ◌∷◌, ◌++◌, map, filter, Option, Some, None, option_map, String, Global, string_bytes, codes, Ordering, Less, Equal, Greater, nat_cmp, refl, sym, ap, ◌∙◌}
 use Rattle.std.proofs.lemmas.Cmp.{nat_list_cmp_total}
 use Rattle.std.proofs.lemmas.Map.Steps.{set_value_same}
 use Rattle.std.specs.BTreeMap.{BTreeMap, get_by, is_at}
@@ -12,11 +12,11 @@ use Rattle.std.specs.Ordering.{match_ordering}
 use Rattle.std.specs.Prelude.{option_and_then}
 use Rattle.std.specs.String.{string_cmp}
 use Rattle.desc_core.specs.Migrated.{with_member}
-use Rattle.edit_core.specs.Edited.{is_between}
-use Rattle.edit_core.specs.InPlace.{IsGrown, IsPushed, IsShrunk, IsWithout}
+use Rattle.edit_core.specs.InPlace.{IsListAfter, IsTableAfter, flows_after}
+use Rattle.edit_text.specs.Edit.{Change}
 use Rattle.table_core.specs.Tables.{elements, elements_of, list_at}
 use Rattle.toml.proofs.Views.{view-Array, view-lookup}
-use Rattle.toml.specs.Data.{Data, Members, array, as_array, get_member, member}
+use Rattle.toml.specs.Data.{Data, array, as_array, member}
 use Rattle.toml.specs.View.{items_of, members_view, table_view, view}
 use Rattle.toml.specs.declared.value.Value.{Value, Array}
 
@@ -63,23 +63,14 @@ listed_there : (key : List ℕ) (es : List Entry) (v : Value) → lookup (is_at 
 unfolding list_at
 listed_there key es v found = ap (option_and_then elements_of) (sym (view-lookup key es) ∙ ap (option_map view) found)
 
-pub pushed_in : (key : List ℕ) (table new : BTreeMap (String Global) Value) (v w : Value) (flow : Data) → key ≡ codes "flow"
+-- the table after an edit
+pub edited_in : (key : List ℕ) (table new : BTreeMap (String Global) Value) (v w : Value) (change : Change) → key ≡ codes "flow"
     → IsStrictlySortedBy string_cmp (keys_of table.entries) → lookup (is_at (at key)) table.entries ≡ Some v
-    → new.entries ≡ set_value (is_at (at key)) table.entries w → IsGrown (view v) flow (view w) → IsPushed (table_view table) flow (table_view new)
-pushed_in key table new v w flow is sorted found written_as grown = (
-  grown.0,
-  ap (λ (k : List ℕ). list_at k (table_view table)) (sym is) ∙ listed_there key table.entries v found ∙ grown.1,
-  ap members_view written_as ∙ written key table.entries v w sorted found ∙ (λ i. with_member (is i) (grown.2 i) (table_view table)),
-)
-
-pub without_in : (key : List ℕ) (table new : BTreeMap (String Global) Value) (v w : Value) (from to : List ℕ) → key ≡ codes "flow"
-    → IsStrictlySortedBy string_cmp (keys_of table.entries) → lookup (is_at (at key)) table.entries ≡ Some v
-    → new.entries ≡ set_value (is_at (at key)) table.entries w → IsShrunk from to (view v) (view w)
-    → IsWithout from to (table_view table) (table_view new)
-without_in key table new v w from to is sorted found written_as shrunk = (
-  shrunk.0,
-  ap (λ (k : List ℕ). list_at k (table_view table)) (sym is) ∙ listed_there key table.entries v found ∙ shrunk.1,
-  ap members_view written_as ∙ written key table.entries v w sorted found ∙ (λ i. with_member (is i) (shrunk.2 i) (table_view table)),
+    → new.entries ≡ set_value (is_at (at key)) table.entries w → IsListAfter change (view v) (view w) → IsTableAfter change (table_view table) (table_view new)
+edited_in key table new v w change is sorted found written_as after = (
+  after.0,
+  ap (λ (k : List ℕ). list_at k (table_view table)) (sym is) ∙ listed_there key table.entries v found ∙ after.1,
+  ap members_view written_as ∙ written key table.entries v w sorted found ∙ (λ i. with_member (is i) (after.2 i) (table_view table)),
 )
 
 -- what is written back as it was
@@ -103,24 +94,17 @@ listed_in : (v : Vec Value Global) → elements_of (view (Array v)) ≡ Some (ma
 unfolding elements_of
 listed_in v = ap (λ (d : Data). option_map elements (as_array d)) (view-Array v) ∙ ap (λ (ds : List Data). Some ds) (items_again (map view v.items))
 
-map_pushed : (vs : List Value) (v : Value) → map view (vs ++ v ∷ []) ≡ map view vs ++ view v ∷ []
+pub map_pushed : (vs : List Value) (v : Value) → map view (vs ++ v ∷ []) ≡ map view vs ++ view v ∷ []
 map_pushed [] v = refl
 map_pushed (x ∷ vs) v = ap (λ (ds : List Data). view x ∷ ds) (map_pushed vs v)
 
-pub array_grown : (list : Value) (old new : Vec Value Global) (element : Value) → list ≡ Array old → new.items ≡ old.items ++ element ∷ []
-    → IsGrown (view list) (view element) (view (Array new))
-array_grown list old new element is grown = (
+-- a list after an edit
+pub array_after : (change : Change) (list : Value) (old new : Vec Value Global) → list ≡ Array old
+    → map view new.items ≡ flows_after change (map view old.items) → IsListAfter change (view list) (view (Array new))
+array_after change list old new is after = (
   map view old.items,
   ap (λ (v : Value). elements_of (view v)) is ∙ listed_in old,
-  view-Array new ∙ ap (λ (ds : List Data). array (items_of ds)) (ap (map view) grown ∙ map_pushed old.items element),
-)
-
-pub array_shrunk : (from to : List ℕ) (list : Value) (old new : Vec Value Global) → list ≡ Array old
-    → map view new.items ≡ filter (λ d. not (is_between from to d)) (map view old.items) → IsShrunk from to (view list) (view (Array new))
-array_shrunk from to list old new is shrunk = (
-  map view old.items,
-  ap (λ (v : Value). elements_of (view v)) is ∙ listed_in old,
-  view-Array new ∙ ap (λ (ds : List Data). array (items_of ds)) shrunk,
+  view-Array new ∙ ap (λ (ds : List Data). array (items_of ds)) after,
 )
 
 by_test : (b : Bool) (v : Value) (vs : List Value) (ds : List Data) → map view vs ≡ ds → map view (cond b (v ∷ vs) vs) ≡ cond b (view v ∷ ds) ds

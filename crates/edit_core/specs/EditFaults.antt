@@ -1,9 +1,9 @@
 -- What is answered to an edit, against what the definitions say; memory may run out instead at any time.
-use Rattle.std.specs.Prelude.{◌≡◌, Result, Ok, Err}
+use Rattle.std.specs.Prelude.{◌≡◌, Result, Err}
 use Rattle.desc_core.specs.declared.fault.DescFault.{DescFault}
 use Rattle.desc_core.specs.declared.fault.DescFault.TheVariants as desc
 use Rattle.edit_core.specs.declared.fault.EditFault.{EditFault}
-use Rattle.edit_core.specs.declared.fault.EditFault.TheVariants.{NoPolicy, Absent, Refused, Memory}
+use Rattle.edit_core.specs.declared.fault.EditFault.TheVariants.{Refused, Memory}
 
 -- the fault of a table that is no description
 abbrev pub edit_fault : DescFault → EditFault

@@ -1,6 +1,6 @@
 -- The table that an edit makes of the table of a description (docs/FORMATS.md). `add` and `remove` change the list of flows, `set` and
 -- `unset` the assigns of one invariant; all else stays as it is.
-use Rattle.std.specs.Prelude.{ℕ, ◌-◌, Bool, true, false, not, ◌&&◌, if◌then◌else◌, List, [], ◌∷◌, ◌++◌, map, filter, Option, Some, None, option_and_then, Result, Ok, Err, codes, slice_get}
+use Rattle.std.specs.Prelude.{ℕ, ◌-◌, Bool, false, not, ◌&&◌, if◌then◌else◌, List, [], ◌∷◌, ◌++◌, map, filter, Option, Some, None, option_and_then, Result, Ok, Err, codes, slice_get}
 use Rattle.std.specs.List.{list_any, slice_set}
 use Rattle.std.specs.Option.{option_map_or}
 use Rattle.std.specs.Str.{bytes_eq}
@@ -14,7 +14,7 @@ use Rattle.edit_core.specs.declared.fault.EditFault.TheVariants.{NoPolicy, Absen
 use Rattle.edit_text.specs.Edit.{Change, Add, Remove, Set, Unset}
 use Rattle.net_core.specs.Network.{Network}
 use Rattle.table_core.specs.Tables.{elements_of, list_at, text_at}
-use Rattle.toml.specs.Data.{Data, string, integer, float, boolean, datetime, array, table, Members, as_str, as_table}
+use Rattle.toml.specs.Data.{Data, string, array, table, Members, as_str, as_table}
 use Rattle.toml.specs.View.{items_of}
 
 -- the table with these elements as the array at a key

@@ -1,9 +1,7 @@
 -- A description has one summary, and edits one after another have one list of them.
-use Rattle.std.proofs.Common.{◌≡◌, ℕ, Bool, true, false, List, [], ◌∷◌, filter, length, Ok, refl, sym, ap, subst, ◌∙◌}
+use Rattle.std.proofs.Common.{◌≡◌, ℕ, Bool, true, false, List, [], ◌∷◌, filter, length, refl, sym, ap, subst, ◌∙◌}
 use Rattle.std.specs.Prelude.{◌↔◌, IsFalse}
 use Rattle.std.specs.List.{AllZip}
-use Rattle.edit_core.specs.Edited.{after_edit}
-use Rattle.edit_core.specs.Kept.{IsKept}
 use Rattle.edit_core.specs.Runs.{AreSummaries}
 use Rattle.edit_core.specs.Summaries.{IsSummary, TellsOf}
 use Rattle.edit_core.specs.declared.summary.Summary.{Summary}

@@ -1,19 +1,17 @@
 //! Edits of one flow, by which table, network and policy are changed where they stand.
 //!
-//! A flow without services comes or goes by itself where every invariant judges flows alone: it breaks
-//! no other condition on descriptions, and no other flow is permitted or denied for it.
+//! A flow without services comes or goes by itself: it breaks no other condition on descriptions.
 
-ghost use Rattle.std.specs.Prelude.{◌≡◌, ◌++◌, ◌∷◌, [], List, Some, codes, filter, map, not, string_bytes, IfNone, IfSome, IsFalse, IsTrue, Ok};
+ghost use Rattle.std.specs.Prelude.{◌≡◌, ◌++◌, ◌∷◌, [], List, Some, filter, map, not, string_bytes, IfNone, IfSome, IsFalse, IsTrue, Ok};
 ghost use Rattle.desc_core.specs.Description.{described_by_table};
-ghost use Rattle.edit_core.specs.Edited.{is_between, with_list};
+ghost use Rattle.edit_core.specs.Edited.{is_between, text_list};
 ghost use Rattle.edit_core.specs.FlowEdits.{IsAskedFlow, IsRightFlow};
-ghost use Rattle.edit_core.specs.InPlace.{IsDone, IsGrown, IsPushed, IsShrunk, IsWithout};
-ghost use Rattle.edit_text.specs.Edit.{Add, Remove};
+ghost use Rattle.edit_core.specs.InPlace.{IsDone, IsListAfter, IsOfFlow, IsTableAfter, flows_after, network_after};
 ghost use Rattle.edit_text.specs.EditView.{change_view};
 ghost use Rattle.flow_set.specs.Flow.{IsFlow};
 ghost use Rattle.host_net.specs.Host.{host_named};
 ghost use Rattle.host_net.specs.Services.{services_of};
-ghost use Rattle.net_core.specs.Policies.{JudgesFlowsAlone};
+ghost use Rattle.net_core.specs.Asking.{asking_for, not_asking_for};
 ghost use Rattle.toml.specs.Data.{Members};
 ghost use Rattle.toml.specs.View.{table_view, view};
 
@@ -28,8 +26,8 @@ use std::alloc::Global;
 use std::mem;
 use toml::{Table, Value};
 
-/// Makes the edit, or leaves all as it is: where the flow has services or is not right, where an
-/// invariant looks at more than single flows, and where there is no room.
+/// Makes the edit, or leaves all as it is: where it is not of one flow, where the flow has services
+/// or is not right, and where there is no room.
 pub(crate) fn edit_in_place(
     alloc: Global,
     table: &mut Table,
@@ -41,54 +39,24 @@ pub(crate) fn edit_in_place(
     ensures done { IfSome result (IsDone (change_view change.now) (table_view table.old) (table_view table.new)) }
     ensures untouched { IfNone result (table.new.entries ≡ table.old.entries) }
 {
-    if !network.judges_flows_alone() {
-        return None;
+    let flow = flow_of(network.description(), change)?;
+    if edit_table(alloc, table, network, change, flow) {
+        Some(summary_of(network))
+    } else {
+        None
     }
+}
+
+/// The flow that the edit adds or takes out, if it may and the flow has no services.
+fn flow_of(description: &Description, change: &Change) -> Option<Flow>
+    ensures right { IfSome result (λ flow. (t : Members) → IsOfFlow t description.now (change_view change.now) flow) }
+    ensures flow { IfSome result (IsFlow description.now.asked.size) }
+{
     match change {
-        Change::Add(words) => add(alloc, table, network, words.as_slice()),
-        Change::Remove(from, to) => remove(table, network, from.as_str(), to.as_str()),
+        Change::Add(words) => right_flow(description, words.as_slice()),
+        Change::Remove(from, to) => asked_flow(description, from.as_str(), to.as_str()),
         _ => None,
     }
-}
-
-/// Lists a flow behind the others, and asks for it.
-fn add(
-    alloc: Global,
-    table: &mut Table,
-    network: &mut PolicedNetwork,
-    words: &[String],
-) -> Option<Summary>
-    requires described { described_by_table (table_view table.old) ≡ Ok network.old.network }
-    requires alone { JudgesFlowsAlone network.old.network }
-    ensures described { described_by_table (table_view table.new) ≡ Ok network.new.network }
-    ensures done { IfSome result (IsDone (Add (map string_bytes words.now)) (table_view table.old) (table_view table.new)) }
-    ensures untouched { IfNone result (table.new.entries ≡ table.old.entries) }
-{
-    let flow = right_flow(network.description(), words)?;
-    let Ok(listed) = text_list(alloc, words) else {
-        return None;
-    };
-    if !push_flow(table, listed) {
-        return None;
-    }
-    network.ask_for(flow);
-    Some(summary_of(network))
-}
-
-/// Takes the flow between two hosts out of those that are listed, and asks for it no more.
-fn remove(table: &mut Table, network: &mut PolicedNetwork, from: &str, to: &str) -> Option<Summary>
-    requires described { described_by_table (table_view table.old) ≡ Ok network.old.network }
-    requires alone { JudgesFlowsAlone network.old.network }
-    ensures described { described_by_table (table_view table.new) ≡ Ok network.new.network }
-    ensures done { IfSome result (IsDone (Remove from.now to.now) (table_view table.old) (table_view table.new)) }
-    ensures untouched { IfNone result (table.new.entries ≡ table.old.entries) }
-{
-    let flow = asked_flow(network.description(), from, to)?;
-    if !remove_flow(table, from, to) {
-        return None;
-    }
-    network.ask_no_more_for(flow);
-    Some(summary_of(network))
 }
 
 /// The flow that the words say, if they say one that may be asked for and has no services.
@@ -134,16 +102,25 @@ fn flow_between(description: &Description, from: &str, to: &str) -> Option<Flow>
     Some(Flow { from, to })
 }
 
-/// Puts a flow behind those that the table lists, if it lists flows and their list has room.
-fn push_flow(table: &mut Table, flow: Value) -> bool
-    ensures pushed { IsTrue result → IsPushed (table_view table.old) (view flow) (table_view table.new) }
+/// Edits the list of flows of the table, if it has one, and the network with it.
+fn edit_table(
+    alloc: Global,
+    table: &mut Table,
+    network: &mut PolicedNetwork,
+    change: &Change,
+    flow: Flow,
+) -> bool
+    requires { IsFlow network.old.network.asked.size flow }
+    ensures table { IsTrue result → IsTableAfter (change_view change.now) (table_view table.old) (table_view table.new) }
+    ensures network { IsTrue result → network.new.network ≡ network_after (change_view change.now) flow network.old.network }
     ensures untouched { IsFalse result → table.new.entries ≡ table.old.entries }
+    ensures unchanged { IsFalse result → network.new ≡ network.old }
 {
     match table.get_mut("flow") {
         Some(slot) => {
-            let (flows, is_pushed) = push_to(take(slot), flow);
+            let (flows, is_done) = edit_list(alloc, take(slot), network, change, flow);
             *slot = flows;
-            is_pushed
+            is_done
         }
         None => false,
     }
@@ -156,57 +133,98 @@ fn take(slot: &mut Value) -> Value
     mem::replace(slot, Value::Boolean(false))
 }
 
-/// The list with an element behind the others, if it has room, and whether it has.
-fn push_to(list: Value, element: Value) -> (Value, bool)
-    ensures pushed { IsTrue result.1 → IsGrown (view list) (view element) (view result.0) }
+/// The list after the edit, if it is one, and whether the edit is done.
+fn edit_list(
+    alloc: Global,
+    list: Value,
+    network: &mut PolicedNetwork,
+    change: &Change,
+    flow: Flow,
+) -> (Value, bool)
+    requires { IsFlow network.old.network.asked.size flow }
+    ensures list { IsTrue result.1 → IsListAfter (change_view change.now) (view list) (view result.0) }
+    ensures network { IsTrue result.1 → network.new.network ≡ network_after (change_view change.now) flow network.old.network }
     ensures untouched { IsFalse result.1 → result.0 ≡ list }
+    ensures unchanged { IsFalse result.1 → network.new ≡ network.old }
 {
     match list {
         Value::Array(mut elements) => {
-            let is_pushed = push_with_room(&mut elements, element);
-            (Value::Array(elements), is_pushed)
+            let is_done = edit_elements(alloc, &mut elements, network, change, flow);
+            (Value::Array(elements), is_done)
         }
         other => (other, false),
     }
 }
 
-fn push_with_room(elements: &mut Vec<Value>, element: Value) -> bool
-    ensures pushed { IsTrue result → elements.new.items ≡ elements.old.items ++ element ∷ [] }
+/// Edits the elements of a list of flows.
+fn edit_elements(
+    alloc: Global,
+    elements: &mut Vec<Value>,
+    network: &mut PolicedNetwork,
+    change: &Change,
+    flow: Flow,
+) -> bool
+    requires { IsFlow network.old.network.asked.size flow }
+    ensures elements { IsTrue result → map view elements.new.items ≡ flows_after (change_view change.now) (map view elements.old.items) }
+    ensures network { IsTrue result → network.new.network ≡ network_after (change_view change.now) flow network.old.network }
     ensures untouched { IsFalse result → elements.new ≡ elements.old }
+    ensures unchanged { IsFalse result → network.new ≡ network.old }
+{
+    match change {
+        Change::Add(words) => add(alloc, elements, network, words.as_slice(), flow),
+        Change::Remove(from, to) => {
+            remove(alloc, elements, network, from.as_str(), to.as_str(), flow)
+        }
+        _ => false,
+    }
+}
+
+/// Lists a flow behind the others, if there is room, and asks for it.
+fn add(
+    alloc: Global,
+    elements: &mut Vec<Value>,
+    network: &mut PolicedNetwork,
+    words: &[String],
+    flow: Flow,
+) -> bool
+    requires { IsFlow network.old.network.asked.size flow }
+    ensures elements { IsTrue result → map view elements.new.items ≡ map view elements.old.items ++ text_list (map string_bytes words.now) ∷ [] }
+    ensures network { IsTrue result → network.new.network ≡ asking_for network.old.network flow }
+    ensures untouched { IsFalse result → elements.new ≡ elements.old }
+    ensures unchanged { IsFalse result → network.new ≡ network.old }
 {
     if elements.len() == elements.capacity() {
         return false;
     }
-    elements.push(element).is_ok()
+    let Ok(listed) = text_list(alloc, words) else {
+        return false;
+    };
+    if network.ask_for(alloc, flow).is_err() {
+        return false;
+    }
+    elements.push(listed).is_ok()
 }
 
-/// Takes the flow between two hosts out of those that the table lists, if it lists flows.
-fn remove_flow(table: &mut Table, from: &str, to: &str) -> bool
-    ensures removed { IsTrue result → IsWithout from.now to.now (table_view table.old) (table_view table.new) }
-    ensures untouched { IsFalse result → table.new.entries ≡ table.old.entries }
+/// Takes the flow between two hosts out of those that are listed, and asks for it no more.
+fn remove(
+    alloc: Global,
+    elements: &mut Vec<Value>,
+    network: &mut PolicedNetwork,
+    from: &str,
+    to: &str,
+    flow: Flow,
+) -> bool
+    requires { IsFlow network.old.network.asked.size flow }
+    ensures elements { IsTrue result → map view elements.new.items ≡ filter (λ d. not (is_between from.now to.now d)) (map view elements.old.items) }
+    ensures network { IsTrue result → network.new.network ≡ not_asking_for network.old.network flow }
+    ensures untouched { IsFalse result → elements.new ≡ elements.old }
+    ensures unchanged { IsFalse result → network.new ≡ network.old }
 {
-    match table.get_mut("flow") {
-        Some(slot) => {
-            let (flows, is_list) = keep_others(take(slot), from, to);
-            *slot = flows;
-            is_list
-        }
-        None => false,
+    if network.ask_no_more_for(alloc, flow).is_err() {
+        return false;
     }
-}
-
-/// The list without the elements between two hosts, and whether it is a list.
-fn keep_others(list: Value, from: &str, to: &str) -> (Value, bool)
-    ensures removed { IsTrue result.1 → IsShrunk from.now to.now (view list) (view result.0) }
-    ensures untouched { IsFalse result.1 → result.0 ≡ list }
-{
-    match list {
-        Value::Array(mut elements) => {
-            retain_others(&mut elements, from, to);
-            (Value::Array(elements), true)
-        }
-        other => (other, false),
-    }
+    retain_others(elements, from, to);
+    true
 }
 
 fn retain_others(elements: &mut Vec<Value>, from: &str, to: &str)

@@ -1,6 +1,6 @@
 -- How many invariants fail, one after another.
-use Rattle.std.proofs.Common.{◌≡◌, ◌+◌, ℕ, Bool, true, false, not, List, [], ◌∷◌, ◌++◌, filter, length, refl, sym, ap, ◌∙◌, arith, drop, add_assoc, length-append}
-use Rattle.std.specs.Prelude.{◌↔◌, IsTrue, IsFalse}
+use Rattle.std.proofs.Common.{◌≡◌, ◌+◌, ℕ, Bool, true, false, List, [], ◌∷◌, filter, length, refl, arith}
+use Rattle.std.specs.Prelude.{◌↔◌, IsFalse}
 use Rattle.std.specs.List.{AllZip}
 use Rattle.policy_steps.specs.FailingFlows.{AreFailing}
 use Rattle.flow_set.specs.declared.flow.Flow.{Flow}

@@ -1,3 +1,4 @@
 pub mod AdmittedLemmas
+pub mod AskedLemmas
 pub mod CountLemmas
 pub mod FailingLemmas

@@ -158,18 +158,6 @@ absent_from all xs f sub absent = elim (cases_Bool (has xs f)) [ inl there ↦ a
 not_there : (d : Network) (policy : Policy) (f : Flow) → IsFalse (has d.asked.flows f) → IsEdgePolicy d policy → IsFalse (has policy.permitted.flows f)
 not_there d policy f fresh is = absent_from d.asked.flows policy.permitted.flows f is.permitted_within fresh
 
--- a flow that some invariant does not admit is asked for alone
-pub denied_more : (d : Network) (policy : Policy) (f : Flow) → IsFalse (has d.asked.flows f) → (IsAdmitted d f → ⊥) → IsEdgePolicy d policy
-    → IsEdgePolicy (asking_for d f) policy
-denied_more d policy f fresh denied is = record {
-  permitted_size = is.permitted_size;
-  stateful_size = is.stateful_size;
-  permitted_within = within_more policy.permitted.flows d.asked.flows f is.permitted_within;
-  stateful_within = is.stateful_within;
-  permitted = marked_left (IsAdmitted d) d.asked.flows policy.permitted.flows f denied (not_there d policy f fresh is) is.permitted;
-  stateful = is.stateful;
-}
-
 -- one that is admitted is permitted; its answers may pass where they are admitted
 pub admitted_more : (d : Network) (policy : Policy) (f : Flow) (s : List Flow) → IsFalse (has d.asked.flows f) → IsAdmitted d f → IsEdgePolicy d policy
     → IsSubset s (with_flow policy.permitted.flows f) → AreAnswered d.answers (IsAnswered d) (with_flow policy.permitted.flows f) s
@@ -221,14 +209,7 @@ policy_less d policy f network alone is =
     policy-IsEdgePolicy (not_asking_for d f) (WithFlows (without_flow policy.permitted.flows f) (without_flow policy.stateful.flows f) policy)
     (network_less d f network) alone (one_less d policy f (IsEdgePolicy-policy d policy network alone is))
 
--- a flow that is asked for and denied
-pub policy_denied : (d : Network) (policy : Policy) (f : Flow) → IsNetwork d → JudgesFlowsAlone d → IsFlow d.asked.size f → IsFalse (has d.asked.flows f)
-    → (IsAdmitted d f → ⊥) → IsPolicyOf d policy → IsPolicyOf (asking_for d f) policy
-policy_denied d policy f network alone flow fresh denied is =
-    policy-IsEdgePolicy (asking_for d f) policy (network_more d f flow network) alone
-    (denied_more d policy f fresh denied (IsEdgePolicy-policy d policy network alone is))
-
--- one that is admitted, with its answers
+-- a flow that is asked for and admitted, with its answers
 pub policy_answered : (d : Network) (policy : Policy) (f : Flow) → IsNetwork d → JudgesFlowsAlone d → IsFlow d.asked.size f → IsFalse (has d.asked.flows f)
     → IsAdmitted d f → IsTrue d.answers → IsAnswered d f → IsPolicyOf d policy
     → IsPolicyOf (asking_for d f) (WithFlows (with_flow policy.permitted.flows f) (with_flow policy.stateful.flows f) policy)

@@ -4,3 +4,4 @@ pub mod FailingFlows
 pub mod FailingLaws
 pub mod MarkedLaws
 pub mod Policed
+pub mod UnpermittedLaws

@@ -71,7 +71,7 @@ marked_first n Holds all xs set edge_wise sub marked = record {
   });
 }
 
-alone : (all : List Flow) (f : Flow) → IsTrue (has all f) → IsSubset (f ∷ []) all
+pub alone : (all : List Flow) (f : Flow) → IsTrue (has all f) → IsSubset (f ∷ []) all
 alone all f there = record {
   ordered = (λ g none. has_nothing g none, tt);
   within = λ g same. elim (or_cases (same_flow f g) false same) [

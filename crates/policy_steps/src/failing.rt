@@ -17,7 +17,10 @@ use permit_core::offending_by_steps;
 use std::alloc::{AllocError, Global};
 
 /// For each invariant the asked flows on which it fails.
-pub fn failing_flows(alloc: Global, description: &Description) -> Result<Vec<FlowSet>, AllocError>
+pub(crate) fn failing_flows(
+    alloc: Global,
+    description: &Description,
+) -> Result<Vec<FlowSet>, AllocError>
     requires { JudgesFlowsAlone description.now }
     ensures { IfOk result (λ failing. AreFailingFlows description.now failing.items) }
 {
@@ -43,7 +46,7 @@ fn failing_on(alloc: Global, invariant: &AnyInv, asked: &FlowSet) -> Result<Flow
 }
 
 /// Puts a flow that is asked for from now on to those on which invariants fail.
-pub fn add_failing(description: &Description, failing: &mut Vec<FlowSet>, flow: Flow)
+pub(crate) fn add_failing(description: &Description, failing: &mut Vec<FlowSet>, flow: Flow)
     requires flow { IsFlow description.now.asked.size flow }
     requires fresh { IsFalse (has description.now.asked.flows flow) }
     requires failing { AreFailingFlows description.now failing.old.items }
@@ -70,7 +73,7 @@ fn add_where_failing(invariant: &AnyInv, failing: &mut FlowSet, flow: Flow)
 }
 
 /// Takes a flow that is asked for no more from those on which invariants fail.
-pub fn remove_failing(description: &Description, failing: &mut Vec<FlowSet>, flow: Flow)
+pub(crate) fn remove_failing(description: &Description, failing: &mut Vec<FlowSet>, flow: Flow)
     requires flow { IsFlow description.now.asked.size flow }
     requires failing { AreFailingFlows description.now failing.old.items }
     ensures { AreFailingFlows (not_asking_for description.now flow) failing.new.items }

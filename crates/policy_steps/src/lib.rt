@@ -1,11 +1,11 @@
-//! The policy of a network in which every invariant judges flows alone, as flows come and go.
+//! A network with its policy, as flows come and go. Where every invariant judges flows alone, a flow
+//! changes the policy by itself; else the policy is found anew.
 #![tactic(auto)]
 
 mod counts;
 mod failing;
+mod judged;
 mod policed;
 mod steps;
 
-pub use failing::{add_failing, failing_flows, remove_failing};
 pub use policed::PolicedNetwork;
-pub use steps::{add_flow, judges_flows_alone, remove_flow};

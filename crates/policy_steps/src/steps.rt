@@ -17,7 +17,7 @@ use net_core::Description;
 
 /// Puts a flow in that is asked for from now on: it is permitted where every invariant admits it, and
 /// its answers may pass where they are admitted as well.
-pub fn add_flow(
+pub(crate) fn add_flow(
     description: &Description,
     permitted: &mut FlowSet,
     stateful: &mut FlowSet,
@@ -41,7 +41,7 @@ pub fn add_flow(
 }
 
 /// Takes a flow out that is asked for no more.
-pub fn remove_flow(
+pub(crate) fn remove_flow(
     description: &Description,
     permitted: &mut FlowSet,
     stateful: &mut FlowSet,
@@ -59,7 +59,7 @@ pub fn remove_flow(
 }
 
 /// Whether every invariant judges flows alone.
-pub fn judges_flows_alone(description: &Description) -> bool
+pub(crate) fn judges_flows_alone(description: &Description) -> bool
     ensures { IsTrue result ↔ JudgesFlowsAlone description.now }
 {
     for invariant in description.invariants() {
@@ -71,7 +71,7 @@ pub fn judges_flows_alone(description: &Description) -> bool
 }
 
 /// Whether every invariant admits the flow.
-fn is_admitted(description: &Description, flow: Flow) -> bool
+pub(crate) fn is_admitted(description: &Description, flow: Flow) -> bool
     requires flow { IsFlow description.now.asked.size flow }
     ensures { IsTrue result ↔ IsAdmitted description.now flow }
 {

@@ -1,4 +1,4 @@
-use Rattle.std.proofs.Common.{◌++◌, ◌∷◌, [], ◌+◌, drop, filter, map, not, refl}
+use Rattle.std.proofs.Common.{◌∷◌, [], ◌+◌, drop, filter, map, not, refl}
 use Rattle.toml.specs.Data.{Data}
 use Rattle.toml.specs.View.{view}
 use Rattle.edit_core.proofs.CopyLemmas.{filter_first, made_all, made_next}

@@ -1,4 +1,4 @@
-use Rattle.std.proofs.Common.{◌++◌, ◌∷◌, [], List, ap, map, refl, ◌∙◌}
+use Rattle.std.proofs.Common.{◌++◌, ◌∷◌, [], ap, map, refl, ◌∙◌}
 use Rattle.std.proofs.lemmas.List.{map_push}
 use Rattle.toml.specs.Data.{Data}
 use Rattle.toml.specs.View.{view}

@@ -1,4 +1,4 @@
-use Rattle.std.proofs.Common.{ap, map, ◌∙◌}
+use Rattle.std.proofs.Common.{ap, ◌∙◌}
 use Rattle.toml.proofs.Views.{view-Array}
 use Rattle.toml.specs.View.{members_view}
 use Rattle.desc_core.specs.Migrated.{with_member}

@@ -1,4 +1,4 @@
-use Rattle.std.proofs.Common.{◌≡◌, ◌+◌, ◌∷◌, [], ℕ, List, suc, drop, add-one, add-zero, add_assoc, drop-cons, sym, ap, subst, ◌∙◌, arith}
+use Rattle.std.proofs.Common.{◌≡◌, ◌+◌, ◌∷◌, [], List, suc, drop, add-one, add-zero, add_assoc, drop-cons, sym, ap, subst, ◌∙◌, arith}
 use Rattle.std.proofs.lemmas.List.{drop_all}
 use Rattle.flow_set.specs.FlowSet.{SetOfFlows}
 use Rattle.inv_any.specs.declared.any_inv.AnyInv.{AnyInv}

@@ -1,7 +1,6 @@
-use Rattle.std.proofs.Common.{◌≡◌, ◌+◌, refl, ◌∷◌, [], ℕ, List, suc, drop, add-one, add-zero, add_assoc, drop-cons, get_or, sym, ap, subst, ◌∙◌, arith}
+use Rattle.std.proofs.Common.{◌≡◌, ◌+◌, refl, ◌∷◌, [], List, suc, drop, add-one, add-zero, add_assoc, drop-cons, sym, ap, subst, ◌∙◌, arith}
 use Rattle.std.proofs.lemmas.List.{drop_all}
 use Rattle.flow_set.specs.Downward.{IsEdgeWise}
-use Rattle.flow_set.specs.FlowSet.{SetOfFlows}
 use Rattle.inv_any.specs.declared.any_inv.AnyInv.{AnyInv}
 use Rattle.net_core.specs.Policies.{holds_on}
 use Rattle.policy_steps.proofs.CountLemmas.{failing_more, none_failing}

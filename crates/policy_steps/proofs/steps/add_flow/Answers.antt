@@ -4,7 +4,8 @@ use Rattle.flow_set.specs.Flow.{IsFlow}
 use Rattle.flow_set.specs.FlowSet.{SetOfFlows, with_flow}
 use Rattle.net_core.specs.Asking.{asking_for}
 use Rattle.net_core.specs.Policies.{IsPolicyOf}
-use Rattle.policy_steps.specs.EdgePolicyLaws.{policy_answered, policy_denied, policy_unanswered}
+use Rattle.policy_steps.specs.EdgePolicyLaws.{policy_answered, policy_unanswered}
+use Rattle.policy_steps.specs.UnpermittedLaws.{policy_denied}
 use Rattle.policy_steps.proofs.steps.add_flow.Goals as goal
 
 pub insert-requires : goal.insert-requires
@@ -16,7 +17,7 @@ insert-requires-2 c = subst (λ n. IsFlow n c.args.flow) (sym c.requires.policy.
 pub returns-then-not-is_admitted : goal.returns-then-not-is_admitted
 returns-then-not-is_admitted c =
     policy_denied c.args.description.now (record { permitted = c.args.permitted.now; stateful = c.args.stateful.now }) c.args.flow c.requires.network
-    c.requires.alone c.requires.flow c.requires.fresh (λ admitted. both_ways _ c.if-not-is_admitted.true (c.is_admitted.ensures.1 admitted)) c.requires.policy
+    c.requires.flow (λ admitted. both_ways _ c.if-not-is_admitted.true (c.is_admitted.ensures.1 admitted)) c.requires.policy
 
 pub returns-then-not-has_answers : goal.returns-then-not-has_answers
 returns-then-not-has_answers c =

@@ -1,5 +1,5 @@
 use Rattle.edit_text.specs.EditView.{change_view}
-use Rattle.edit_core.proofs.SessionLemmas.{anew_now, done_now, same_entries, unchanged_now}
+use Rattle.edit_core.proofs.SessionLemmas.{done_now}
 use Rattle.edit_core.proofs.session.Session.apply.Goals as goal
 
 pub returns-in-Some-clause-applied : goal.returns-in-Some-clause-applied
