@@ -1,10 +1,11 @@
 -- How a piece goes into a sink write by write, and a text piece by piece.
-use Rattle.std.proofs.Common.{◌≡◌, ℕ, ◌+◌, ◌<◌, Option, List, ◌∷◌, ◌++◌, Bor, sym, ap, ◌∙◌, get_or, length, take, drop, add-one, take-append-drop, drop-cons}
-use Rattle.std.proofs.Math.Seq.{take-add}
+use Rattle.std.proofs.Common.{◌≡◌, ℕ, ◌+◌, ◌<◌, Option, List, ◌∷◌, ◌++◌, Bor, sym, ap, ◌∙◌, arith, get_or, length, take, drop, add-one, take-append-drop, drop-cons}
+use Rattle.std.proofs.Math.Seq.{take-add, take_all}
 use Rattle.std.proofs.lemmas.Grind.{flat_map-append}
 use Rattle.std.specs.Io.KnownBytes.{append_known}
 use Rattle.edge_io.specs.Calls.{joined}
 use Rattle.edge_io.specs.PutLaws.{append_known-append}
+use Rattle.edge_io.specs.Told.{TookPrefix}
 
 -- the bytes up to i, and then n of the rest
 pub took_more : (old now new : Option (List ℕ)) (i n : ℕ) (bytes rest : List ℕ) → rest ≡ drop i bytes → now ≡ append_known old (take i bytes)
@@ -23,3 +24,11 @@ joined_at pieces i d inside =
     ap joined (sym (take-append-drop i pieces))
     ∙ flat_map-append (λ (piece : Bor (List ℕ)). piece.now) (take i pieces) (drop i pieces)
     ∙ ap (λ rest. joined (take i pieces) ++ joined rest) next
+
+-- all of the bytes are a prefix
+pub TookPrefix-all : (old new : Option (List ℕ)) (bytes : List ℕ) → new ≡ append_known old bytes → TookPrefix old new bytes
+TookPrefix-all old new bytes took = record {
+  count = length bytes;
+  within = omega arith;
+  taken = took ∙ ap (append_known old) (sym (take_all (length bytes) bytes (omega arith)));
+}

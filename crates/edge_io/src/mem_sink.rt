@@ -28,7 +28,7 @@ impl Model for MemSink {
 }
 
 impl MemSink {
-    ghost use Rattle.edge_io.specs.Calls.{CountsOnce};
+    ghost use Rattle.edge_io.specs.Calls.{CountsOnce, CountsOnlyFailures};
     ghost use Rattle.edge_io.specs.MemSink.{fresh_sink};
 
     /// A sink with room for `room` bytes. `fails` has the numbers of the writes that fail; the first
@@ -42,6 +42,7 @@ impl MemSink {
         requires { 0 < grain }
         ensures fresh { IfOk result (λ sink. sink ≡ fresh_sink room grain fails.items) }
         ensures counts_once { CountsOnce ⟦<MemSink as Sink>⟧.faults ⟦<MemSink as Sink>⟧.write_gives }
+        ensures counts { CountsOnlyFailures ⟦<MemSink as Sink>⟧.faults ⟦<MemSink as Sink>⟧.write_gives }
     {
         Ok(MemSink {
             bytes: Vec::with_capacity(alloc, room)?,

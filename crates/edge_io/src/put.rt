@@ -3,7 +3,7 @@ ghost use Rattle.std.specs.Prelude.{◌≡◌, ◌≤◌, OnOk, OnErr};
 ghost use Rattle.std.specs.Io.KnownBytes.{append_known};
 ghost use Rattle.edge_io.specs.Counts.{Rose};
 ghost use Rattle.edge_io.specs.Told.{TookPrefix};
-ghost use Rattle.edge_io.specs.Calls.{CountsFault, CountsOnce, joined};
+ghost use Rattle.edge_io.specs.Calls.{CountsFault, CountsOnce, CountsOnlyFailures, joined};
 
 use crate::{Sink, WriteFault};
 
@@ -13,7 +13,8 @@ pub fn put_all<O: Sink>(sink: &mut O, piece: &[u8]) -> Result<(), WriteFault>
     ensures whole { OnOk result (O.held sink.new ≡ append_known (O.held sink.old) piece.now) }
     ensures faults_stay { O.faults sink.old ≤ O.faults sink.new }
     ensures fault { OnErr result (Rose (O.faults sink.old) (O.faults sink.new)) }
-    ensures no_fault { OnOk result (O.faults sink.new ≡ O.faults sink.old) }
+    ensures no_fault { CountsOnlyFailures O.faults O.write_gives →
+        OnOk result (O.faults sink.new ≡ O.faults sink.old) }
 
     // No write after the one that failed.
     ensures first_fault { CountsOnce O.faults O.write_gives →
@@ -35,7 +36,8 @@ pub fn put_pieces<O: Sink>(sink: &mut O, pieces: &[&[u8]]) -> Result<(), WriteFa
     ensures whole { OnOk result (O.held sink.new ≡ append_known (O.held sink.old) (joined pieces.now)) }
     ensures faults_stay { O.faults sink.old ≤ O.faults sink.new }
     ensures fault { OnErr result (Rose (O.faults sink.old) (O.faults sink.new)) }
-    ensures no_fault { OnOk result (O.faults sink.new ≡ O.faults sink.old) }
+    ensures no_fault { CountsOnlyFailures O.faults O.write_gives →
+        OnOk result (O.faults sink.new ≡ O.faults sink.old) }
 
     // No write after the one that failed.
     ensures first_fault { CountsOnce O.faults O.write_gives →

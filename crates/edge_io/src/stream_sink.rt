@@ -1,7 +1,7 @@
 //! A stream of the system as a sink. Nothing is told of what it took.
 ghost use Rattle.std.specs.Prelude.{◌≡◌, None};
 ghost use Rattle.std.specs.Io.KnownBytes.{WriteAppends};
-ghost use Rattle.edge_io.specs.Calls.{CountsFault, CountsOnce};
+ghost use Rattle.edge_io.specs.Calls.{CountsFault, CountsOnce, CountsOnlyFailures};
 
 use crate::{Failed, Sink};
 use std::io::Write;
@@ -19,6 +19,7 @@ impl<W: Write + Drop> StreamSink<W> {
     pub fn new(inner: W) -> StreamSink<W>
         ensures no_faults { ⟦<StreamSink<W> as Sink>⟧.faults result ≡ 0 }
         ensures counts_once { CountsOnce ⟦<StreamSink<W> as Sink>⟧.faults ⟦<StreamSink<W> as Sink>⟧.write_gives }
+        ensures counts { CountsOnlyFailures ⟦<StreamSink<W> as Sink>⟧.faults ⟦<StreamSink<W> as Sink>⟧.write_gives }
     {
         StreamSink { inner, faults: 0 }
     }

@@ -73,6 +73,38 @@ fn a_sink_in_memory_has_its_room(rt: HostRuntime) -> Result<(), Fail> {
     Ok(())
 }
 
+/// A sink that tries a write once more where it fails: the fault is counted, and the write succeeds.
+#[derive(Drop)]
+struct Patient {
+    inner: MemSink,
+}
+
+impl Sink for Patient {
+    ghost use Rattle.std.specs.Prelude.{Some};
+
+    ghost held = { λ s. Some s.inner.bytes };
+
+    ghost faults = { λ s. s.inner.plan.faults };
+
+    fn write(&mut self, piece: &[u8]) -> Result<usize, Failed> {
+        match self.inner.write(piece) {
+            Ok(count) => Ok(count),
+            Err(_) => self.inner.write(piece),
+        }
+    }
+}
+
+#[test]
+fn a_sink_may_get_over_a_fault(rt: HostRuntime) -> Result<(), Fail> {
+    let alloc = rt.alloc();
+    let mut sink = Patient {
+        inner: MemSink::new(alloc, 64, 7, vec![in alloc; 2]?)?,
+    };
+    assert_eq!(rt; put_all(&mut sink, TEXT), Ok(()));
+    assert_eq!(rt; sink.inner.bytes(), TEXT);
+    Ok(())
+}
+
 /// A stream that takes one byte at once, six in all, and is broken after them.
 #[derive(Drop)]
 struct Narrow {

@@ -1,6 +1,7 @@
 //! A shelf of named files and a sink of bytes, as contracts see them. Each has a count of faults
 //! that never falls, and may tell the bytes that pass: then the clauses on content hold, while those
-//! on answers and counts hold always. Counts have 64 bits and stand still at their last value.
+//! on answers and counts hold always. A call that succeeds may have counted a fault that it met and
+//! got over. Counts have 64 bits and stand still at their last value.
 ghost use Rattle.std.specs.Prelude.{◌≡◌, ℕ, Bool, ◌<◌, ◌≤◌, ◌⊎◌, ⊤, Option, Result, List, length, take, is_some, is_ok, Ok, IsTrue, IfOk, OnOk, OnErr};
 ghost use Rattle.std.specs.Io.KnownBytes.{prepend_known, append_known, IsAtEnd};
 ghost use Rattle.edge_io.specs.declared.faults.Failed.{Failed};
@@ -45,7 +46,6 @@ pub trait Shelf {
         ensures known { OnOk result (HasIfTold (files self.old) name.now) }
         ensures all_left { OnOk result (left self.new ≡ file_told (files self.old) name.now) }
         ensures faults_stay { faults self.old ≤ faults self.new }
-        ensures no_fault { OnOk result (faults self.new ≡ faults self.old) }
 
         // It fails only for a fault, or for a name that the shelf lacks.
         ensures failed { OnErr result
@@ -64,7 +64,6 @@ pub trait Shelf {
         ensures end { result ≡ Ok 0 → 0 < length into.new → IsAtEnd (left self.new) }
         ensures counted { IfOk result (λ n. taken self.new ≡ more (taken self.old) n) }
         ensures faults_stay { faults self.old ≤ faults self.new }
-        ensures no_fault { OnOk result (faults self.new ≡ faults self.old) }
 
         // It fails only for a fault, and has then moved nothing.
         ensures failed { OnErr result (Rose (faults self.old) (faults self.new)) }
@@ -95,7 +94,6 @@ pub trait Sink {
         ensures some { IfOk result (λ n. 0 < length piece.now → 0 < n) }
         ensures took { IfOk result (λ n. held self.new ≡ append_known (held self.old) (take n piece.now)) }
         ensures faults_stay { faults self.old ≤ faults self.new }
-        ensures no_fault { OnOk result (faults self.new ≡ faults self.old) }
 
         // It fails only for a fault, and has then taken nothing.
         ensures failed { OnErr result (Rose (faults self.old) (faults self.new)) }

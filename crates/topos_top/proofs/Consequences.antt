@@ -13,12 +13,12 @@ use Rattle.topos_top.specs.Kinds.{Said, Reads}
 use Rattle.topos_top.specs.Promises.{Came, IsTheReply, IsComplete}
 use Rattle.topos_top.specs.Replies.{Stops, RepliesBy, telling}
 use Rattle.topos_top.specs.Reply.{Reply}
-use Rattle.topos_top.specs.Shelf.{Shelf, ShelfChange, after_file}
+use Rattle.topos_top.specs.Shelf.{Shelf, ShelfChange}
 use Rattle.topos_top.specs.Taken.{SinkChange, Took, IsSaid, WentTo, IsGiven}
 use Rattle.topos_top.specs.declared.kind.Kind.{Kind}
 use Rattle.topos_top.specs.declared.status.Status.{Status}
 use Rattle.topos_top.specs.declared.status.Status.TheVariants as status
-use Rattle.topos_top.proofs.CourseLaws.{stops_once, stops_or_read}
+use Rattle.topos_top.proofs.CourseLaws.{between, stops_once, stops_or_read}
 use Rattle.topos_top.proofs.KindLaws.{reads_once}
 
 -- ---- streams that had no fault
@@ -104,12 +104,12 @@ ends_later kind file next said ended (Ok readings) is = (said, refl, is)
 ends_later kind file next said ended (Err why) is = is
 
 ends_by : (on : Bool) (course : Course) (told : Files) (reply : Reply) (at : Shelf) → at.told ≡ Some told
-    → CameAlong course at (λ kind file before. Stops kind file (get told file) reply) (λ job before. Answers on job reply × AnswersFirst job reply)
+    → CameAlong (Unit {0}) course at (λ kind file before. Stops kind file (get told file) reply) (λ job before. Answers on job reply × AnswersFirst job reply)
     → (read : Result (List Reading) Reply) × ReadsTold told course read × EndsByReadings read course reply.status
 ends_by on (ends job) told reply at tells answers = (Ok [], refl, ends_as job reply answers.1)
 ends_by on (reads kind file next) told reply at tells (inl stops) = (Err reply, inl (reply, stops, refl), refl)
 ends_by on (reads kind file next) told reply at tells (inr go) =
-    let rest = ends_by on (next go.said) told reply (after_file kind go.bytes at) tells go.next in
+    let rest = ends_by on (next go.said) told reply go.after (go.took.told ∙ tells) go.next in
     let held = subst (λ (t : Option Files). IfSome t (λ files. get files file ≡ Some go.bytes)) tells go.held in (
       with_reading kind go.said rest.0,
       inr (record { bytes = go.bytes; held = held; said = go.said; reads = go.read; rest = rest.0; follow = rest.1; is = refl }),
@@ -164,19 +164,19 @@ begun_more b (suc n) = twice b n (2 ^ 64 - 1)
     twice : (b n most : ℕ) → min (min (b + 1) most + suc n) most ≡ min (b + suc (suc n)) most
     twice b n most = omega arith
 
-began_along : (course : Course) (files : List (Kind × List ℕ)) (before after : Shelf) (AtFile : Kind → List ℕ → Shelf → Type 0) (AtJob : Job → Shelf → Type 0) → HasFiles files course
-    → CameAlong course before (λ kind file at. (after.begins ≡ more at.begins 1) × AtFile kind file at) (λ job at. (after ≡ at) × AtJob job at)
-    → BeganSome (record { before = before; after = after }) files
-began_along (reads kind file next) (named ∷ files) before after AtFile AtJob has (inl here) =
+began_along : (only : Type 0) (course : Course) (files : List (Kind × List ℕ)) (before after : Shelf) (AtFile : Kind → List ℕ → Shelf → Type 0) (AtJob : Job → Shelf → Type 0) → HasFiles files course
+    → CameAlong only course before (λ kind file at. (after.begins ≡ more at.begins 1) × AtFile kind file at) (λ job at. (after ≡ at) × AtJob job at)
+    → BeganSome (between only before after) files
+began_along only (reads kind file next) (named ∷ files) before after AtFile AtJob has (inl here) =
     record { count = 1; some = omega arith; most = omega arith; begins = here.0 }
-began_along (reads kind file next) (named ∷ files) before after AtFile AtJob has (inr on) =
-    let rest = began_along (next on.said) files (after_file kind on.bytes before) after AtFile AtJob (has.1 on.said) on.next in
-    record { count = suc rest.count; some = omega arith; most = omega arith; begins = rest.begins ∙ begun_more before.begins rest.count }
-began_along (ends job) [] before after AtFile AtJob has here = record { count = 0; some = omega arith; most = omega arith; begins = ap (λ (shelf : Shelf). shelf.begins) here.0 }
-began_along (reads kind file next) [] before after AtFile AtJob has came = absurd has
-began_along (ends job) (named ∷ files) before after AtFile AtJob has came = absurd has
+began_along only (reads kind file next) (named ∷ files) before after AtFile AtJob has (inr on) =
+    let rest = began_along only (next on.said) files on.after after AtFile AtJob (has.1 on.said) on.next in
+    record { count = suc rest.count; some = omega arith; most = omega arith; begins = rest.begins ∙ ap (λ (n : ℕ). begun n rest.count) on.took.begins ∙ begun_more before.begins rest.count }
+began_along only (ends job) [] before after AtFile AtJob has here = record { count = 0; some = omega arith; most = omega arith; begins = ap (λ (shelf : Shelf). shelf.begins) here.0 }
+began_along only (reads kind file next) [] before after AtFile AtJob has came = absurd has
+began_along only (ends job) (named ∷ files) before after AtFile AtJob has came = absurd has
 
 -- wherever a run came to, as where there was no memory (`RanOut`)
 pub began_some : (words : List (List ℕ)) (shelf : ShelfChange) (AtFile : ShelfChange → Kind → List ℕ → Type 0) (AtJob : Ask → Job → Type 0) (came : Came words shelf AtFile AtJob)
     → (files : List (Kind × List ℕ)) → HasFiles files (course_of came.ask) → BeganSome shelf files
-began_some words shelf AtFile AtJob came files has = began_along (course_of came.ask) files shelf.before shelf.after _ _ has came.along
+began_some words shelf AtFile AtJob came files has = began_along shelf.only_failures (course_of came.ask) files shelf.before shelf.after _ _ has came.along

@@ -1,8 +1,8 @@
 -- What is so along a course: the laws for a file and for the job, each once.
-use Rattle.std.proofs.Common.{◌≡◌, ◌⊎◌, inl, inr, ℕ, List, Option, None, Some, Bool, Ok, Err, refl, sym, subst, ◌∙◌}
+use Rattle.std.proofs.Common.{◌≡◌, ◌≤◌, ◌⊎◌, inl, inr, ℕ, ◌+◌, ◌^◌, ◌-◌, min, arith, List, Option, None, Some, Bool, Ok, Err, refl, sym, subst, ◌∙◌}
 use Rattle.std.specs.Prelude.{IfSome}
 use Rattle.std.specs.FinMap.{get}
-use Rattle.edge_io.specs.Counts.{Rose}
+use Rattle.edge_io.specs.Counts.{more, Rose}
 use Rattle.edge_io.specs.Told.{Files, Lacks}
 use Rattle.topos_top.specs.Course.{Course, reads, ends, CameAlong}
 use Rattle.topos_top.specs.Job.{Job, Answers, AnswersFirst}
@@ -10,7 +10,7 @@ use Rattle.topos_top.specs.Kinds.{Said, Reads, Refuses}
 use Rattle.topos_top.specs.Reads.{MayRead}
 use Rattle.topos_top.specs.Replies.{Stops, StopsAt, NoMemory, Stopped, MayReply}
 use Rattle.topos_top.specs.Reply.{Reply, no_memory}
-use Rattle.topos_top.specs.Shelf.{Shelf, ShelfChange, SawFile, after_file}
+use Rattle.topos_top.specs.Shelf.{Shelf, ShelfChange, SawFile, TookBytes, taken_of}
 use Rattle.topos_top.specs.declared.kind.Kind.{Kind}
 use Rattle.topos_top.proofs.CommandLaws.{IsOwedAlong}
 use Rattle.topos_top.proofs.JobLaws.{IsSettled, answers_first, answers_once}
@@ -18,34 +18,40 @@ use Rattle.topos_top.proofs.KindLaws.{IsSound-Reads, reads_once, reads_or_refuse
 
 -- ---- what the code does
 
+-- a shelf between two moments
+abbrev pub between : Type 0 → (before after : Shelf) → ShelfChange
+between only before after = record { before = before; after = after; only_failures = only }
+
 -- a file that was not accepted ends the run
 pub stopped : (on : Bool) (kind : Kind) (file : List ℕ) (next : Said kind → Course) (shelf : ShelfChange) (given : Reply)
     → MayRead kind file shelf (Err given) → MayReply on (reads kind file next) shelf given
 stopped on kind file next shelf given stops = inl stops
 
 -- after one that was accepted the run goes on
-pub went_on : (on : Bool) (kind : Kind) (file : List ℕ) (next : Said kind → Course) (before mid after : Shelf) (said : Said kind) (given : Reply)
-    → MayRead kind file (record { before = before; after = mid }) (Ok said) → MayReply on (next said) (record { before = mid; after = after }) given
-    → MayReply on (reads kind file next) (record { before = before; after = after }) given
+pub went_on : {only : Type 0} (on : Bool) (kind : Kind) (file : List ℕ) (next : Said kind → Course) (before mid after : Shelf) (said : Said kind) (given : Reply)
+    → MayRead kind file (between only before mid) (Ok said) → MayReply on (next said) (between only mid after) given
+    → MayReply on (reads kind file next) (between only before after) given
 went_on on kind file next before mid after said given read rest = inr (record {
   bytes = read.0;
   held = read.1.held;
   said = said;
   read = read.2;
-  next = subst (λ (shelf : Shelf). MayReply on (next said) (record { before = shelf; after = after }) given) read.1.after rest;
+  after = mid;
+  took = read.1.took;
+  next = rest;
 })
 
 -- a second file stopped it
-pub then_stopped : (on : Bool) (kind other : Kind) (file second : List ℕ) (next : (x : Said kind) → Said other → Course) (before mid after : Shelf) (said : Said kind) (given : Reply)
-    → MayRead kind file (record { before = before; after = mid }) (Ok said) → StopsAt (record { before = mid; after = after }) other second given
-    → MayReply on (reads kind file (λ x. reads other second (next x))) (record { before = before; after = after }) given
+pub then_stopped : {only : Type 0} (on : Bool) (kind other : Kind) (file second : List ℕ) (next : (x : Said kind) → Said other → Course) (before mid after : Shelf) (said : Said kind) (given : Reply)
+    → MayRead kind file (between only before mid) (Ok said) → StopsAt (between only mid after) other second given
+    → MayReply on (reads kind file (λ x. reads other second (next x))) (between only before after) given
 then_stopped on kind other file second next before mid after said given read stops =
     went_on on kind file (λ x. reads other second (next x)) before mid after said given read (inl stops)
 
 -- there was no memory for the job behind two files
-pub then_no_memory : (on : Bool) (kind other : Kind) (file second : List ℕ) (job : Said kind → Said other → Job) (before mid after : Shelf) (said : Said kind) (told : Said other) (given : Reply)
-    → MayRead kind file (record { before = before; after = mid }) (Ok said) → MayRead other second (record { before = mid; after = after }) (Ok told) → given ≡ no_memory
-    → MayReply on (reads kind file (λ x. reads other second (λ y. ends (job x y)))) (record { before = before; after = after }) given
+pub then_no_memory : {only : Type 0} (on : Bool) (kind other : Kind) (file second : List ℕ) (job : Said kind → Said other → Job) (before mid after : Shelf) (said : Said kind) (told : Said other) (given : Reply)
+    → MayRead kind file (between only before mid) (Ok said) → MayRead other second (between only mid after) (Ok told) → given ≡ no_memory
+    → MayReply on (reads kind file (λ x. reads other second (λ y. ends (job x y)))) (between only before after) given
 then_no_memory on kind other file second job before mid after said told given read read_second is =
     went_on on kind file (λ x. reads other second (λ y. ends (job x y))) before mid after said given read
     (went_on on other second (λ y. ends (job said y)) mid after after told given read_second (refl, inl is))
@@ -53,64 +59,82 @@ then_no_memory on kind other file second job before mid after said told given re
 -- ---- what is so at the end of a course
 
 -- what follows of wherever a run came to
-pub wherever : {C : Type 0} (course : Course) (shelf : Shelf) (AtFile : Kind → List ℕ → Shelf → Type 0) (AtJob : Job → Shelf → Type 0) → IsOwedAlong course
+pub wherever : {C : Type 0} (only : Type 0) (course : Course) (shelf : Shelf) (AtFile : Kind → List ℕ → Shelf → Type 0) (AtJob : Job → Shelf → Type 0) → IsOwedAlong course
     → ((kind : Kind) (file : List ℕ) (at : Shelf) → AtFile kind file at → C)
     → ((job : Job) (at : Shelf) → IsSettled job → AtJob job at → C)
-    → CameAlong course shelf AtFile AtJob → C
-wherever (reads kind file next) shelf AtFile AtJob owed f j (inl here) = f kind file shelf here
-wherever (reads kind file next) shelf AtFile AtJob owed f j (inr on) =
-    wherever (next on.said) (after_file kind on.bytes shelf) AtFile AtJob (owed on.said (IsSound-Reads kind on.bytes on.said on.read)) f j on.next
-wherever (ends job) shelf AtFile AtJob owed f j here = j job shelf owed here
+    → CameAlong only course shelf AtFile AtJob → C
+wherever only (reads kind file next) shelf AtFile AtJob owed f j (inl here) = f kind file shelf here
+wherever only (reads kind file next) shelf AtFile AtJob owed f j (inr on) =
+    wherever only (next on.said) on.after AtFile AtJob (owed on.said (IsSound-Reads kind on.bytes on.said on.read)) f j on.next
+wherever only (ends job) shelf AtFile AtJob owed f j here = j job shelf owed here
 
 -- a run came to the same place, where what is so there implies another thing
-pub came_so : (course : Course) (shelf : Shelf) (AtFile AtFile' : Kind → List ℕ → Shelf → Type 0) (AtJob AtJob' : Job → Shelf → Type 0) → IsOwedAlong course
+pub came_so : (only : Type 0) (course : Course) (shelf : Shelf) (AtFile AtFile' : Kind → List ℕ → Shelf → Type 0) (AtJob AtJob' : Job → Shelf → Type 0) → IsOwedAlong course
     → ((kind : Kind) (file : List ℕ) (at : Shelf) → AtFile kind file at → AtFile' kind file at)
     → ((job : Job) (at : Shelf) → IsSettled job → AtJob job at → AtJob' job at)
-    → CameAlong course shelf AtFile AtJob → CameAlong course shelf AtFile' AtJob'
-came_so (reads kind file next) shelf AtFile AtFile' AtJob AtJob' owed f j (inl here) = inl (f kind file shelf here)
-came_so (reads kind file next) shelf AtFile AtFile' AtJob AtJob' owed f j (inr on) = inr (record {
+    → CameAlong only course shelf AtFile AtJob → CameAlong only course shelf AtFile' AtJob'
+came_so only (reads kind file next) shelf AtFile AtFile' AtJob AtJob' owed f j (inl here) = inl (f kind file shelf here)
+came_so only (reads kind file next) shelf AtFile AtFile' AtJob AtJob' owed f j (inr on) = inr (record {
   bytes = on.bytes;
   held = on.held;
   said = on.said;
   read = on.read;
-  next = came_so (next on.said) (after_file kind on.bytes shelf) AtFile AtFile' AtJob AtJob' (owed on.said (IsSound-Reads kind on.bytes on.said on.read)) f j on.next;
+  after = on.after;
+  took = on.took;
+  next = came_so only (next on.said) on.after AtFile AtFile' AtJob AtJob' (owed on.said (IsSound-Reads kind on.bytes on.said on.read)) f j on.next;
 })
-came_so (ends job) shelf AtFile AtFile' AtJob AtJob' owed f j here = j job shelf owed here
+came_so only (ends job) shelf AtFile AtFile' AtJob AtJob' owed f j here = j job shelf owed here
 
 -- ---- where the files are told
 
+-- a count that did not rise since did not rise since later
+not_since : (before mid after : ℕ) → before ≤ mid → (Rose before after → ⊥) → Rose mid after → ⊥
+not_since before mid after stay none rose = none (later before mid after (2 ^ 64 - 1) stay rose)
+  where
+    later : (before mid after most : ℕ) → before ≤ mid → min (mid + 1) most ≤ after → min (before + 1) most ≤ after
+    later before mid after most stay rose = omega (arith, stay, rose)
+
 -- what was seen without a fault is what a told shelf has
-seen_is_told : (before after : Shelf) (files : Files) → before.told ≡ Some files → (Rose before.faults after.faults → ⊥)
-    → (file : List ℕ) (saw : Option (List ℕ)) → SawFile (record { before = before; after = after }) file saw → get files file ≡ saw
-seen_is_told before after files told no_fault file None saw = elim saw [
+seen_is_told : (shelf : ShelfChange) (files : Files) → shelf.before.told ≡ Some files → (Rose shelf.before.faults shelf.after.faults → ⊥)
+    → (file : List ℕ) (saw : Option (List ℕ)) → SawFile shelf file saw → get files file ≡ saw
+seen_is_told shelf files told no_fault file None saw = elim saw [
   | inl fault ↦ absurd (no_fault fault)
   | inr lacks ↦ subst (λ (t : Option Files). Lacks t file) told lacks
 ]
-seen_is_told before after files told no_fault file (Some bytes) saw =
+seen_is_told shelf files told no_fault file (Some bytes) saw =
     subst (λ (t : Option Files). IfSome t (λ fs. get fs file ≡ Some bytes)) told saw
 
+-- a shelf after a file was taken without a fault
+abbrev after_file : Kind → List ℕ → Shelf → Shelf
+after_file kind bytes shelf = record { told = shelf.told; faults = shelf.faults; begins = more shelf.begins 1; taken = taken_of kind bytes }
+
+took_it : {only : Type 0} (kind : Kind) (bytes : List ℕ) (shelf : Shelf) → TookBytes only kind bytes shelf (after_file kind bytes shelf)
+took_it kind bytes shelf = record { told = refl; faults_stay = omega arith; no_fault = λ only. refl; begins = refl; taken = refl }
+
 -- what is given is want of memory, or a reply to the told files
-pub given_as_told : (on : Bool) (course : Course) (before after other : Shelf) (files : Files) (given : Reply) → IsOwedAlong course
+pub given_as_told : (only : Type 0) (on : Bool) (course : Course) (before after other : Shelf) (files : Files) (given : Reply) → IsOwedAlong course
     → before.told ≡ Some files → other.told ≡ Some files → (Rose before.faults after.faults → ⊥)
-    → MayReply on course (record { before = before; after = after }) given
-    → (given ≡ no_memory) ⊎ CameAlong course other (λ kind file at. Stops kind file (get files file) given) (λ job at. Answers on job given × AnswersFirst job given)
-given_as_told on (reads kind file next) before after other files given owed told also no_fault (inl (NoMemory begins is)) = inl is
-given_as_told on (reads kind file next) before after other files given owed told also no_fault (inl (Stopped saw last stops)) =
-    inr (inl (subst (λ (seen : Option (List ℕ)). Stops kind file seen given) (sym (seen_is_told before after files told no_fault file saw last.held)) stops))
-given_as_told on (reads kind file next) before after other files given owed told also no_fault (inr go) =
-    elim (given_as_told on (next go.said) (after_file kind go.bytes before) after (after_file kind go.bytes other) files given
-    (owed go.said (IsSound-Reads kind go.bytes go.said go.read)) told also no_fault go.next) [
+    → MayReply on course (between only before after) given
+    → (given ≡ no_memory) ⊎ CameAlong (Unit {0}) course other (λ kind file at. Stops kind file (get files file) given) (λ job at. Answers on job given × AnswersFirst job given)
+given_as_told only on (reads kind file next) before after other files given owed told also no_fault (inl (NoMemory begins is)) = inl is
+given_as_told only on (reads kind file next) before after other files given owed told also no_fault (inl (Stopped saw last stops)) =
+    inr (inl (subst (λ (seen : Option (List ℕ)). Stops kind file seen given) (sym (seen_is_told (between only before after) files told no_fault file saw last.held)) stops))
+given_as_told only on (reads kind file next) before after other files given owed told also no_fault (inr go) =
+    elim (given_as_told only on (next go.said) go.after after (after_file kind go.bytes other) files given
+    (owed go.said (IsSound-Reads kind go.bytes go.said go.read)) (go.took.told ∙ told) also (not_since before.faults go.after.faults after.faults go.took.faults_stay no_fault) go.next) [
       | inl memory ↦ inl memory
       | inr rest ↦ inr (inr (record {
         bytes = go.bytes;
         held = subst (λ (t : Option Files). IfSome t (λ fs. get fs file ≡ Some go.bytes)) (told ∙ sym also) go.held;
         said = go.said;
         read = go.read;
+        after = after_file kind go.bytes other;
+        took = took_it kind go.bytes other;
         next = rest;
       }))
     ]
-given_as_told on (ends job) before after other files given owed told also no_fault (same, inl memory) = inl memory
-given_as_told on (ends job) before after other files given owed told also no_fault (same, inr answers) =
+given_as_told only on (ends job) before after other files given owed told also no_fault (same, inl memory) = inl memory
+given_as_told only on (ends job) before after other files given owed told also no_fault (same, inr answers) =
     inr (answers, answers_first job owed.apart given answers.1)
 
 -- a file that stops a run with a reply stops it with no other, and is not accepted
@@ -129,21 +153,20 @@ stops_or_read kind file bytes (Some other) r said is p q =
     absurd (reads_or_refuses kind bytes p.line said q (subst (λ (bs : List ℕ). Refuses kind bs p.line) same p.refuses))
 
 -- the told files have one reply along a course
-pub told_once : (on : Bool) (course : Course) (shelf : Shelf) (files : Files) (r s : Reply) → IsOwedAlong course → shelf.told ≡ Some files
-    → CameAlong course shelf (λ kind file at. Stops kind file (get files file) r) (λ job at. Answers on job r × AnswersFirst job r)
-    → CameAlong course shelf (λ kind file at. Stops kind file (get files file) s) (λ job at. Answers on job s × AnswersFirst job s)
+pub told_once : (on : Bool) (course : Course) (shelf other : Shelf) (files : Files) (r s : Reply) → IsOwedAlong course → shelf.told ≡ Some files → other.told ≡ Some files
+    → CameAlong (Unit {0}) course shelf (λ kind file at. Stops kind file (get files file) r) (λ job at. Answers on job r × AnswersFirst job r)
+    → CameAlong (Unit {0}) course other (λ kind file at. Stops kind file (get files file) s) (λ job at. Answers on job s × AnswersFirst job s)
     → r ≡ s
-told_once on (reads kind file next) shelf files r s owed told (inl p) (inl q) = stops_once kind file (get files file) r s p q
-told_once on (reads kind file next) shelf files r s owed told (inl p) (inr q) =
-    stops_or_read kind file q.bytes (get files file) r q.said (subst (λ (t : Option Files). IfSome t (λ fs. get fs file ≡ Some q.bytes)) told q.held) p q.read
-told_once on (reads kind file next) shelf files r s owed told (inr p) (inl q) =
+told_once on (reads kind file next) shelf other files r s owed told also (inl p) (inl q) = stops_once kind file (get files file) r s p q
+told_once on (reads kind file next) shelf other files r s owed told also (inl p) (inr q) =
+    stops_or_read kind file q.bytes (get files file) r q.said (subst (λ (t : Option Files). IfSome t (λ fs. get fs file ≡ Some q.bytes)) also q.held) p q.read
+told_once on (reads kind file next) shelf other files r s owed told also (inr p) (inl q) =
     stops_or_read kind file p.bytes (get files file) s p.said (subst (λ (t : Option Files). IfSome t (λ fs. get fs file ≡ Some p.bytes)) told p.held) q p.read
-told_once on (reads kind file next) shelf files r s owed told (inr p) (inr q) =
+told_once on (reads kind file next) shelf other files r s owed told also (inr p) (inr q) =
     let a : get files file ≡ Some p.bytes = subst (λ (t : Option Files). IfSome t (λ fs. get fs file ≡ Some p.bytes)) told p.held in
-    let b : get files file ≡ Some q.bytes = subst (λ (t : Option Files). IfSome t (λ fs. get fs file ≡ Some q.bytes)) told q.held in
+    let b : get files file ≡ Some q.bytes = subst (λ (t : Option Files). IfSome t (λ fs. get fs file ≡ Some q.bytes)) also q.held in
     let bytes : q.bytes ≡ p.bytes = cc (a, b) in
     let said : q.said ≡ p.said = reads_once kind p.bytes q.said p.said (subst (λ (bs : List ℕ). Reads kind bs q.said) bytes q.read) p.read in
-    let later = subst (λ (bs : List ℕ). CameAlong (next q.said) (after_file kind bs shelf) (λ kind file at. Stops kind file (get files file) s) (λ job at. Answers on job s × AnswersFirst job s)) bytes q.next in
-    told_once on (next p.said) (after_file kind p.bytes shelf) files r s (owed p.said (IsSound-Reads kind p.bytes p.said p.read)) told p.next
-    (subst (λ (x : Said kind). CameAlong (next x) (after_file kind p.bytes shelf) (λ kind file at. Stops kind file (get files file) s) (λ job at. Answers on job s × AnswersFirst job s)) said later)
-told_once on (ends job) shelf files r s owed told p q = answers_once on job owed r s p q
+    told_once on (next p.said) p.after q.after files r s (owed p.said (IsSound-Reads kind p.bytes p.said p.read)) (p.took.told ∙ told) (q.took.told ∙ also) p.next
+    (subst (λ (x : Said kind). CameAlong (Unit {0}) (next x) q.after (λ kind file at. Stops kind file (get files file) s) (λ job at. Answers on job s × AnswersFirst job s)) said q.next)
+told_once on (ends job) shelf other files r s owed told also p q = answers_once on job owed r s p q

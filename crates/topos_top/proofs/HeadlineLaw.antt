@@ -1,9 +1,11 @@
 -- The headline, from what was written by the commands that write rules and descriptions, and by the one that compares rules.
-use Rattle.std.proofs.Common.{◌≡◌, inl, inr, ℕ, List, subst}
+use Rattle.std.proofs.Common.{◌≡◌, inl, inr, ℕ, List, Option, Some, subst}
 use Rattle.audit_core.specs.Rules.{Rules as AuditedRules}
 use Rattle.edge_io.specs.Counts.{more}
+use Rattle.edge_io.specs.Told.{Files}
 use Rattle.net_core.specs.Network.{Network}
-use Rattle.std.specs.Prelude.{codes}
+use Rattle.std.specs.FinMap.{get}
+use Rattle.std.specs.Prelude.{IfSome, codes}
 use Rattle.topos_top.specs.Ask.{Ask, Check, Policy, Rules, Repair, Trace, Sample, Migrate, Audit, Edit, Local}
 use Rattle.topos_top.specs.Audit.{ForwardAlike, OfSides, audit_job, rules_in}
 use Rattle.topos_top.specs.Commands.{course_of}
@@ -46,14 +48,14 @@ by_audit d rules text (inr (inr (inl equal))) = (equal.0.2, equal.1)
 by_audit d rules text (inr (inr (inr none))) = absurd none
 
 kept : (ask : Ask) (shelf : ShelfChange) (out : SinkChange)
-    → CameAlong (course_of ask) shelf.before (λ kind file at. (shelf.after.begins ≡ more at.begins 1) × ⊥) (λ job at. (shelf.after ≡ at) × ((text : List ℕ) × OneEnd (Told Done text) job × Took out text))
+    → CameAlong shelf.only_failures (course_of ask) shelf.before (λ kind file at. (shelf.after.begins ≡ more at.begins 1) × ⊥) (λ job at. (shelf.after ≡ at) × ((text : List ℕ) × OneEnd (Told Done text) job × Took out text))
     → Keeps ask shelf out
 kept (Rules dialect file) shelf out (inl stopped) = absurd stopped.1
 kept (Rules dialect file) shelf out (inr on) =
     let end = by_rules dialect on.said on.next.1.0 on.next.1.1 in
     record {
       wrote = record { bytes = on.bytes; held = on.held; network = on.said; read = on.read; rules = on.next.1.0; written = on.next.1.2; keep = end.1 };
-      listed = λ given. end.1.listed given (end.0 given);
+      listed = λ given. end.1.invariants.listed given (end.0 given);
     }
 kept (Repair dialect file) shelf out (inl stopped) = absurd stopped.1
 kept (Repair dialect file) shelf out (inr on) =
@@ -77,7 +79,7 @@ kept (Audit dialect file rules) shelf out (inr on) = elim on.next [
         network = on.said;
         read = on.read;
         text = second.bytes;
-        text_held = second.held;
+        text_held = subst (λ (t : Option Files). IfSome t (λ files. get files rules ≡ Some second.bytes)) on.took.told second.held;
         said = second.said;
         text_read = second.read;
         alike = end.1;
@@ -95,4 +97,4 @@ headline_law words shelf out err wrote ask asked =
     let own = wrote.asked in
     let same : wrote.ask ≡ ask = cc (own, asked) in
     subst (λ (a : Ask). Keeps a shelf out) same (kept wrote.ask shelf out
-    (came_so (course_of wrote.ask) shelf.before _ _ _ _ (settled wrote.ask) (λ kind file at here. here) (λ job at owed here. (here.0, (here.1.0, here.1.1, here.1.2.0))) wrote.along))
+    (came_so shelf.only_failures (course_of wrote.ask) shelf.before _ _ _ _ (settled wrote.ask) (λ kind file at here. here) (λ job at owed here. (here.0, (here.1.0, here.1.1, here.1.2.0))) wrote.along))

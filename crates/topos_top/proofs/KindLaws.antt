@@ -7,24 +7,24 @@ use Rattle.desc_core.specs.NetworkLaws.{IsNetwork-described}
 use Rattle.desc_form.specs.Refusals.{refused}
 use Rattle.desc_form.specs.declared.refusal.Place.TheVariants.{Document as WholeDocument}
 use Rattle.desc_form.specs.declared.refusal.Why.TheVariants.{TooLong}
-use Rattle.edit_text.specs.OneReadingLaws.{one_reading as one_reading_of_edits, one_fault as one_fault_in_edits, no_reading_with_fault as no_edits_with_fault}
-use Rattle.edit_text.specs.EditsText.{too_long as edits_too_long}
+use Rattle.edit_text.specs.EditFaultLaws.{edits_settled}
+use Rattle.edit_text.specs.EditsText.{edits_text}
 use Rattle.edit_text.specs.declared.fault.EditsWhy.TheVariants.{TooLong as EditsTooLong}
 use Rattle.ipt_read.specs.FaultLaws.{one_fault, no_reading_with_fault}
 use Rattle.ipt_read.specs.AgainLaws.{one_reading}
-use Rattle.ipt_read.specs.TextLines.{too_long as rules_too_long}
 use Rattle.ipt_read.specs.declared.fault.IptWhy.TheVariants.{TooLong as RulesTooLong}
 use Rattle.net_core.specs.Fitting.{IsNetwork}
 use Rattle.net_core.specs.Network.{Network}
 use Rattle.ofp_read.specs.FaultLaws.{one_reading as one_reading_of_flows, reading_is_table, one_fault as one_fault_in_flows, no_reading_with_fault as no_flows_with_fault}
-use Rattle.ofp_read.specs.TextLines.{too_long as flows_too_long}
 use Rattle.ofp_read.specs.declared.fault.OfpWhy.TheVariants.{TooLong as FlowsTooLong}
 use Rattle.ofp_rules.specs.Build.{IsTable}
 use Rattle.pkt_core.specs.Filter.{ArePackets}
 use Rattle.pkt_core.specs.ReadEventLaws.{packets_read}
-use Rattle.pkt_core.specs.EventFaultLaws.{one_reading as one_reading_of_events, one_fault as one_fault_in_events, no_reading_with_fault as no_events_with_fault}
-use Rattle.pkt_core.specs.EventsText.{too_long as events_too_long}
+use Rattle.pkt_core.specs.EventFaultLaws.{events_settled}
+use Rattle.pkt_core.specs.EventsText.{events_text}
 use Rattle.pkt_core.specs.declared.events.EventWhy.TheVariants.{TooLong as EventsTooLong}
+use Rattle.text_core.specs.TextByLines.{too_long}
+use Rattle.text_core.specs.TextByLinesLaws.{one_reading as one_reading_by_lines, one_fault as one_fault_by_lines, no_reading_with_fault as no_reading_with_fault_by_lines}
 use Rattle.toml.specs.Data.{Members}
 use Rattle.desc_core.specs.Document.{document}
 use Rattle.report_core.specs.RefusalLine.{refusal_text}
@@ -68,19 +68,19 @@ pub reads_once : (kind : Kind) (bytes : List ℕ) (a b : Said kind) → Reads ki
 reads_once Description bytes a b p q = same_network bytes a b p q
 reads_once (Rules Iptables) bytes a b p q = one_reading bytes a b p q
 reads_once (Rules OpenFlow) bytes a b p q = one_reading_of_flows bytes a b p q
-reads_once Events bytes a b p q = one_reading_of_events bytes a b p q
+reads_once Events bytes a b p q = one_reading_by_lines events_text events_settled bytes a b p q
 reads_once Document bytes a b p q = migrated_once bytes a b p q
 reads_once Edited bytes a b p q = same_table bytes a b p.0 q.0
-reads_once Edits bytes a b p q = one_reading_of_edits bytes a b p q
+reads_once Edits bytes a b p q = one_reading_by_lines edits_text edits_settled bytes a b p q
 
 pub reads_or_refuses : (kind : Kind) (bytes line : List ℕ) (said : Said kind) → Reads kind bytes said → Refuses kind bytes line → ⊥
 reads_or_refuses Description bytes line said p q = let why = q.refused in cc (p, why)
 reads_or_refuses (Rules Iptables) bytes line said p q = no_reading_with_fault bytes said q.number q.why q.fault p
 reads_or_refuses (Rules OpenFlow) bytes line said p q = no_flows_with_fault bytes said q.number q.why q.fault p
-reads_or_refuses Events bytes line said p q = no_events_with_fault bytes said q.number q.why q.fault p
+reads_or_refuses Events bytes line said p q = no_reading_with_fault_by_lines events_text events_settled bytes said q.number q.why q.fault p
 reads_or_refuses Document bytes line said p q = let accepted = p.accepted in let why = q.refused in cc (accepted, why)
 reads_or_refuses Edited bytes line said p q = let accepted = p.1.1 in let why = q.refused in cc (accepted, why)
-reads_or_refuses Edits bytes line said p q = no_edits_with_fault bytes said q.number q.why q.fault p
+reads_or_refuses Edits bytes line said p q = no_reading_with_fault_by_lines edits_text edits_settled bytes said q.number q.why q.fault p
 
 same_refusal : (bytes l m : List ℕ) → IsNoDescription bytes l → IsNoDescription bytes m → l ≡ m
 same_refusal bytes l m p q =
@@ -100,10 +100,10 @@ pub refuses_once : (kind : Kind) (bytes a b : List ℕ) → Refuses kind bytes a
 refuses_once Description bytes a b p q = same_refusal bytes a b p q
 refuses_once (Rules Iptables) bytes a b p q = same_line _ rules_fault_line (one_fault bytes) a b p q
 refuses_once (Rules OpenFlow) bytes a b p q = same_line _ flows_fault_line (one_fault_in_flows bytes) a b p q
-refuses_once Events bytes a b p q = same_line _ events_fault_line (one_fault_in_events bytes) a b p q
+refuses_once Events bytes a b p q = same_line _ events_fault_line (one_fault_by_lines events_text events_settled bytes) a b p q
 refuses_once Document bytes a b p q = same_refusal bytes a b p q
 refuses_once Edited bytes a b p q = same_refusal bytes a b p q
-refuses_once Edits bytes a b p q = same_line _ edits_fault_line (one_fault_in_edits bytes) a b p q
+refuses_once Edits bytes a b p q = same_line _ edits_fault_line (one_fault_by_lines edits_text edits_settled bytes) a b p q
 
 -- ---- bytes past the limit
 
@@ -120,13 +120,13 @@ pub long_is_not_edited : (bytes : List ℕ) → most_of Edited < length bytes �
 long_is_not_edited bytes long = record { line = refusal_text (refused TooLong WholeDocument); refuses = long_description bytes long; replied = refl }
 
 pub long_rules : (bytes : List ℕ) → most_of (Rules Iptables) < length bytes → IsRefused (Rules Iptables) bytes (error BadText (rules_fault_line 0 RulesTooLong))
-long_rules bytes long = record { line = rules_fault_line 0 RulesTooLong; refuses = record { number = 0; why = RulesTooLong; fault = rules_too_long long; told = refl }; replied = refl }
+long_rules bytes long = record { line = rules_fault_line 0 RulesTooLong; refuses = record { number = 0; why = RulesTooLong; fault = too_long long; told = refl }; replied = refl }
 
 pub long_flows : (bytes : List ℕ) → most_of (Rules OpenFlow) < length bytes → IsRefused (Rules OpenFlow) bytes (error BadText (flows_fault_line 0 FlowsTooLong))
-long_flows bytes long = record { line = flows_fault_line 0 FlowsTooLong; refuses = record { number = 0; why = FlowsTooLong; fault = flows_too_long long; told = refl }; replied = refl }
+long_flows bytes long = record { line = flows_fault_line 0 FlowsTooLong; refuses = record { number = 0; why = FlowsTooLong; fault = too_long long; told = refl }; replied = refl }
 
 pub long_events : (bytes : List ℕ) → most_of Events < length bytes → IsRefused Events bytes (error BadText (events_fault_line 0 EventsTooLong))
-long_events bytes long = record { line = events_fault_line 0 EventsTooLong; refuses = record { number = 0; why = EventsTooLong; fault = events_too_long long; told = refl }; replied = refl }
+long_events bytes long = record { line = events_fault_line 0 EventsTooLong; refuses = record { number = 0; why = EventsTooLong; fault = too_long long; told = refl }; replied = refl }
 
 pub long_edits : (bytes : List ℕ) → most_of Edits < length bytes → IsRefused Edits bytes (error BadText (edits_fault_line 0 EditsTooLong))
-long_edits bytes long = record { line = edits_fault_line 0 EditsTooLong; refuses = record { number = 0; why = EditsTooLong; fault = edits_too_long long; told = refl }; replied = refl }
+long_edits bytes long = record { line = edits_fault_line 0 EditsTooLong; refuses = record { number = 0; why = EditsTooLong; fault = too_long long; told = refl }; replied = refl }

@@ -16,3 +16,4 @@ pub mod Taking
 pub mod PutBlocks
 pub mod Growing
 pub mod Worked
+pub mod RefusedLaws

@@ -10,7 +10,7 @@ use Rattle.host_emit.specs.LocalWritableLaws.{local_short, local_writable}
 use Rattle.host_net.specs.Host.{Host, rest_of}
 use Rattle.host_net.specs.Site.{IsSite}
 use Rattle.ipt_read.specs.AgainLaws.{one_reading, text_read_again}
-use Rattle.ipt_read.specs.Grammar.{IsReading}
+use Rattle.ipt_read.specs.TextLines.{IsReading}
 use Rattle.ipt_rules.specs.Chain.{Chain}
 use Rattle.ipt_rules.specs.Text.{text}
 use Rattle.net_core.specs.Fitting.{IsNetwork}
@@ -21,6 +21,7 @@ use Rattle.topos_top.specs.Local.{IsBarred, NoHost, RestHost, IsLocal, IsSpecifi
 use Rattle.topos_top.specs.Reply.{Reply}
 use Rattle.topos_top.specs.Rules.{ListedHolds}
 use Rattle.topos_top.specs.declared.status.Status.TheVariants.{NotEmittable}
+use Rattle.topos_top.proofs.RulesLaws.{policy_keeps}
 
 some_number : (i j : ℕ) → Some i ≡ Some j → i ≡ j
 some_number i j h = cc
@@ -79,6 +80,7 @@ module _ (d : Network) (host : List ℕ) where
       record {
         policy = is.policy;
         is_policy = is.is_policy;
+        invariants = policy_keeps d is.policy network is.is_policy;
         found = found;
         written = written;
         guards = layout_guards (site_of d) p s found.number network.hosts;

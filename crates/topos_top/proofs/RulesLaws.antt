@@ -7,13 +7,25 @@ use Rattle.flow_set.specs.declared.flow.Flow.{Flow}
 use Rattle.net_core.specs.HeadlineLaws.{IsGreatestPolicy-from_policy, CompliesWithAll-from_policy}
 use Rattle.net_core.specs.Network.{Network, site_of}
 use Rattle.net_core.specs.Fitting.{IsNetwork}
-use Rattle.net_core.specs.Policies.{MeetsAll, Policy}
+use Rattle.net_core.specs.Policies.{IsPolicyOf, MeetsAll, Policy}
 use Rattle.net_core.specs.PolicyLaws.{policy_is_one, IsSubset-stateful, asked_is_permitted}
 use Rattle.pkt_core.specs.Filter.{Enforces, ForwardsExpected}
 use Rattle.pkt_core.specs.FilterLaws.{enforced_expected}
 use Rattle.topos_top.specs.Dialects.{Language, Hindrance, hindrance_line}
-use Rattle.topos_top.specs.Rules.{IsRules, CanBeWritten, IsHindered, TellsHindrance, KeepPolicy, rules_for}
+use Rattle.topos_top.specs.Rules.{IsRules, CanBeWritten, IsHindered, TellsHindrance, KeepInvariants, KeepPolicy, rules_for}
 use Rattle.topos_top.proofs.DialectLaws.{KeepsPolicies}
+
+-- the policy of a network keeps its invariants
+pub policy_keeps : (d : Network) (policy : Policy) → IsNetwork d → IsPolicyOf d policy → KeepInvariants d policy
+policy_keeps d policy network is = record {
+  permitted = is.permitted;
+  meets = is.permitted.holds;
+  left_out = λ f asked absent meets. first_with (MeetsAll d) d.asked.flows policy.permitted.flows f is.permitted asked absent meets;
+  greatest = IsGreatestPolicy-from_policy d policy network is;
+  listed = λ given holds. ap (λ (set : SetOfFlows). set.flows) (asked_is_permitted d policy network holds is);
+  stateful = is.stateful;
+  complies = CompliesWithAll-from_policy d policy network is;
+}
 
 module _ (language : Language) (keeps : KeepsPolicies language) (d : Network) where
   pub rules_are_one : (a b : List ℕ) → IsRules language d a → IsRules language d b → a ≡ b
@@ -53,6 +65,7 @@ module _ (language : Language) (keeps : KeepsPolicies language) (d : Network) wh
       let one : (others : language.Rules) → language.IsReading rules others → others ≡ own = λ others reading. keeps.one_reading rules others own reading read in
       record {
         policy = is.policy;
+        invariants = policy_keeps d is.policy network is.is_policy;
         written = is.written;
         expected = expected;
         read = read;
@@ -60,11 +73,4 @@ module _ (language : Language) (keeps : KeepsPolicies language) (d : Network) wh
         as_read = λ others reading. subst (λ (x : language.Rules). ForwardsExpected (language.filter x) (site_of d) p s) (sym (one others reading)) expected;
         other_frames = λ others reading. subst (λ (x : language.Rules). language.OtherFrames x) (sym (one others reading)) (keeps.other_frames (site_of d) p s known can);
         enforces = enforces;
-        permitted = is.is_policy.permitted;
-        meets = is.is_policy.permitted.holds;
-        left_out = λ f asked absent meets. first_with (MeetsAll d) d.asked.flows p f is.is_policy.permitted asked absent meets;
-        greatest = IsGreatestPolicy-from_policy d is.policy network is.is_policy;
-        listed = λ given holds. ap (λ (set : SetOfFlows). set.flows) (asked_is_permitted d is.policy network holds is.is_policy);
-        stateful = is.is_policy.stateful;
-        complies = CompliesWithAll-from_policy d is.policy network is.is_policy;
       }

@@ -124,7 +124,7 @@ module _ (words : List (List ℕ)) (shelf : ShelfChange) (out err : SinkChange) 
   came_by (Some ask) is may = inr (record {
     ask = ask;
     asked = is;
-    along = came_so (course_of ask) shelf.before _ _ _ _ (settled ask) at_file (λ job at owed here. (here.0, at_job ask job owed here.1)) may;
+    along = came_so shelf.only_failures (course_of ask) shelf.before _ _ _ _ (settled ask) at_file (λ job at owed here. (here.0, at_job ask job owed here.1)) may;
   })
 
   came : ((s ≡ status.Usage) × (ask_of words ≡ None)) ⊎ Came words shelf (AtFile err s) (AtJob out err s)
@@ -144,7 +144,7 @@ module _ (words : List (List ℕ)) (shelf : ShelfChange) (out err : SinkChange) 
   ]
     where
       nowhere : Came words shelf (AtFile err status.Usage) (AtJob out err status.Usage) → ⊥
-      nowhere there = wherever (course_of there.ask) shelf.before _ _ (settled there.ask) (λ kind file at here. here.1) (λ job at owed here. here.1) there.along
+      nowhere there = wherever shelf.only_failures (course_of there.ask) shelf.before _ _ (settled there.ask) (λ kind file at here. here.1) (λ job at owed here. here.1) there.along
 
   -- ---- streams that are as they were
 
@@ -164,7 +164,7 @@ module _ (words : List (List ℕ)) (shelf : ShelfChange) (out err : SinkChange) 
   goes : (asked : Option Ask) → MayGiveBy asked shelf gave.reply → gave.reply.stream ≡ stream_of (reports asked) gave.reply.status
   goes None may = error_goes false _ _ may.0 refl
   goes (Some ask) may =
-      wherever (course_of ask) shelf.before _ _ (settled ask) (file_goes (reports_on_output ask)) (λ job at owed here. job_goes (reports_on_output ask) job here.1) may
+      wherever shelf.only_failures (course_of ask) shelf.before _ _ (settled ask) (file_goes (reports_on_output ask)) (λ job at owed here. job_goes (reports_on_output ask) job here.1) may
 
   -- so it is for the stream of the status in which the run ended, unless it was cut off
   stream_is : (s ≡ status.WriteFault → ⊥) → gave.reply.stream ≡ stream_of (reports (ask_of words)) s

@@ -1,5 +1,5 @@
 -- How a file that was taken off the shelf, or was not, is what the call saw of it.
-use Rattle.std.proofs.Common.{◌≡◌, ℕ, ◌+◌, ◌<◌, ◌≤◌, ◌⊎◌, inl, inr, min, List, length, Option, None, Some, refl, ap, arith, replicate}
+use Rattle.std.proofs.Common.{◌≡◌, ℕ, ◌+◌, ◌<◌, ◌≤◌, ◌⊎◌, inl, inr, min, List, length, Option, None, Some, refl, arith, replicate}
 use Rattle.std.proofs.lemmas.List.{length-replicate}
 use Rattle.std.specs.Prelude.{IfSome, IsSomeAnd}
 use Rattle.std.specs.FinMap.{get}
@@ -9,23 +9,23 @@ use Rattle.topos_top.specs.Kinds.{IsRefused, most_of}
 use Rattle.topos_top.specs.Reads.{TookFile}
 use Rattle.topos_top.specs.Replies.{StopsAt, Stopped}
 use Rattle.topos_top.specs.Reply.{Reply}
-use Rattle.topos_top.specs.Shelf.{Shelf, after_file}
+use Rattle.topos_top.specs.Shelf.{ShelfChange, Holds}
 use Rattle.topos_top.specs.declared.kind.Kind.{Kind}
 
 -- a file that was taken whole
-pub took_whole : {E : Type 0} (kind : Kind) (file bytes : List ℕ) (old new : Shelf) → IfSome old.told (λ files. get files file ≡ Some bytes) → new.told ≡ old.told
-    → E ⊎ (new.faults ≡ old.faults) → (E → ⊥) → new.begins ≡ more old.begins 1 → length bytes ≡ new.taken → length bytes ≤ most_of kind
-    → TookFile (record { before = old; after = new }) kind file bytes
-took_whole kind file bytes old new held told fault none begins taken within = elim fault [
-  | inl e ↦ absurd (none e)
-  | inr faults ↦ record { held = held; after = same faults }
-]
-  where
-    count : new.taken ≡ min (length bytes) (most_of kind + 1)
-    count = omega (arith, taken, within)
-
-    same : new.faults ≡ old.faults → new ≡ after_file kind bytes old
-    same faults = λ i. record { told = told i; faults = faults i; begins = begins i; taken = count i }
+pub took_whole : {E : Type 0} (kind : Kind) (file bytes : List ℕ) (shelf : ShelfChange) → Holds shelf.before file bytes → shelf.after.told ≡ shelf.before.told
+    → shelf.before.faults ≤ shelf.after.faults → (shelf.only_failures → E ⊎ (shelf.after.faults ≡ shelf.before.faults)) → (E → ⊥)
+    → shelf.after.begins ≡ more shelf.before.begins 1 → length bytes ≡ shelf.after.taken → length bytes ≤ most_of kind → TookFile shelf kind file bytes
+took_whole kind file bytes shelf held told faults_stay fault none begins taken within = record {
+  held = held;
+  took = record {
+    told = told;
+    faults_stay = faults_stay;
+    no_fault = λ only. elim (fault only) [ inl e ↦ absurd (none e) | inr same ↦ same ];
+    begins = begins;
+    taken = omega (arith, taken, within);
+  };
+}
 
 -- there are bytes past every limit
 some_longer : (limit : ℕ) → (bytes : List ℕ) × (limit < length bytes)
@@ -45,19 +45,17 @@ too_long_seen limit file None longer = let some = some_longer limit in (some.0, 
 too_long_seen limit file (Some files) longer = told_longer limit (get files file) longer
 
 -- a file of which one byte too many was taken: a told one is longer than the limit, and an untold one may be any that is
-pub took_too_much : (kind : Kind) (file : List ℕ) (old new : Shelf) (given : Reply) → IfSome old.told (λ files. IsSomeAnd (get files file) (λ bytes. most_of kind < length bytes))
-    → new.begins ≡ more old.begins 1 → new.taken ≡ most_of kind + 1 → ((bytes : List ℕ) → most_of kind < length bytes → IsRefused kind bytes given)
-    → StopsAt (record { before = old; after = new }) kind file given
-took_too_much kind file old new given longer begins taken refused =
-    let seen = too_long_seen (most_of kind) file old.told longer in
+pub took_too_much : (kind : Kind) (file : List ℕ) (shelf : ShelfChange) (given : Reply) → IfSome shelf.before.told (λ files. IsSomeAnd (get files file) (λ bytes. most_of kind < length bytes))
+    → shelf.after.begins ≡ more shelf.before.begins 1 → shelf.after.taken ≡ most_of kind + 1 → ((bytes : List ℕ) → most_of kind < length bytes → IsRefused kind bytes given)
+    → StopsAt shelf kind file given
+took_too_much kind file shelf given longer begins taken refused =
+    let seen = too_long_seen (most_of kind) file shelf.before.told longer in
     Stopped (Some seen.0) (record { begins = begins; held = seen.1; taken = counted seen.0 seen.2 }) (refused seen.0 seen.2)
   where
-    counted : (bytes : List ℕ) → most_of kind < length bytes → new.taken ≡ min (length bytes) (most_of kind + 1)
+    counted : (bytes : List ℕ) → most_of kind < length bytes → shelf.after.taken ≡ min (length bytes) (most_of kind + 1)
     counted bytes longer = omega (arith, longer, taken)
 
 -- bytes that are refused
-pub refused_whole : (kind : Kind) (file bytes : List ℕ) (old new : Shelf) (given : Reply) → TookFile (record { before = old; after = new }) kind file bytes → IsRefused kind bytes given
-    → StopsAt (record { before = old; after = new }) kind file given
-refused_whole kind file bytes old new given took refused =
-    let after = took.after in
-    Stopped (Some bytes) (record { begins = ap (λ (shelf : Shelf). shelf.begins) after; held = took.held; taken = ap (λ (shelf : Shelf). shelf.taken) after }) refused
+pub refused_whole : (kind : Kind) (file bytes : List ℕ) (shelf : ShelfChange) (given : Reply) → TookFile shelf kind file bytes → IsRefused kind bytes given → StopsAt shelf kind file given
+refused_whole kind file bytes shelf given took refused =
+    Stopped (Some bytes) (record { begins = took.took.begins; held = took.held; taken = took.took.taken }) refused

@@ -18,7 +18,7 @@ use Rattle.topos_top.proofs.RunLaws.{ends_in_error}
 
 by_is_one : (asked : Option Ask) (told : Files) (r s : Reply) → RepliesBy asked told r → RepliesBy asked told s → r ≡ s
 by_is_one None told r s p q = p ∙ sym q
-by_is_one (Some ask) told r s p q = told_once (reports_on_output ask) (course_of ask) (telling told) told r s (settled ask) refl p q
+by_is_one (Some ask) told r s p q = told_once (reports_on_output ask) (course_of ask) (telling told) (telling told) told r s (settled ask) refl refl p q
 
 reply_to_is_one : (words : List (List ℕ)) (told : Files) (r s : Reply) → RepliesTo words told r → RepliesTo words told s → r ≡ s
 reply_to_is_one words told r s p q = by_is_one (ask_of words) told r s p q
@@ -28,7 +28,7 @@ may_as_told : (asked : Option Ask) (shelf : ShelfChange) (files : Files) (given 
     → MayGiveBy asked shelf given → (given ≡ no_memory) ⊎ RepliesBy asked files given
 may_as_told None shelf files given told no_fault may = inr may.0
 may_as_told (Some ask) shelf files given told no_fault may =
-    given_as_told (reports_on_output ask) (course_of ask) shelf.before shelf.after (telling files) files given (settled ask) told refl no_fault may
+    given_as_told shelf.only_failures (reports_on_output ask) (course_of ask) shelf.before shelf.after (telling files) files given (settled ask) told refl no_fault may
 
 pub complete_law : (words : List (List ℕ)) (shelf : ShelfChange) (out err : SinkChange) (s : Status) → GaveReply words shelf out err s
     → IsComplete words shelf out err s

@@ -9,12 +9,12 @@ use Rattle.emit_core.specs.PortRanges.{HasNoRange, IsFirstRange}
 use Rattle.flow_set.specs.declared.flow.Flow.{Flow}
 use Rattle.host_net.specs.Host.{Host}
 use Rattle.host_net.specs.Site.{Site}
-use Rattle.ipt_read.specs.Grammar.{IsReading as IsReadingOfRules}
+use Rattle.ipt_read.specs.TextLines.{IsReading as IsReadingOfRules}
 use Rattle.ipt_rules.specs.Chain.{Chain}
 use Rattle.ipt_rules.specs.ChainTable.{rule_count}
 use Rattle.ipt_rules.specs.Meaning.{Passes as PassesChains}
 use Rattle.ipt_rules.specs.Text.{text as chains_text}
-use Rattle.ofp_read.specs.Grammar.{IsReading as IsReadingOfFlows}
+use Rattle.ofp_read.specs.TextLines.{IsReading as IsReadingOfFlows}
 use Rattle.ofp_rules.specs.Ambiguity.{most_entries}
 use Rattle.ofp_rules.specs.Meaning.{Passes as PassesTable}
 use Rattle.ofp_rules.specs.Text.{text as table_text}

@@ -8,6 +8,7 @@ pub mod Job
 pub mod Check
 pub mod Policy
 pub mod Rules
+pub mod Refused
 pub mod Repair
 pub mod Local
 pub mod Audit

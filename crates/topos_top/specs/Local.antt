@@ -4,14 +4,14 @@ use Rattle.host_emit.specs.Guarding.{Guards}
 use Rattle.host_emit.specs.LocalEvents.{PassesExpected}
 use Rattle.host_emit.specs.LocalLayout.{is_specific, local_layout}
 use Rattle.host_net.specs.Host.{host_named, rest_of}
-use Rattle.ipt_read.specs.Grammar.{IsReading}
+use Rattle.ipt_read.specs.TextLines.{IsReading}
 use Rattle.ipt_rules.specs.Chain.{Chain}
 use Rattle.ipt_rules.specs.Text.{text}
 use Rattle.net_core.specs.Network.{Network, site_of}
 use Rattle.net_core.specs.Policies.{IsPolicyOf, Policy}
 use Rattle.topos_top.specs.Check.{offences_when}
 use Rattle.topos_top.specs.Job.{End, Job}
-use Rattle.topos_top.specs.Rules.{ListedFails, ListedHolds}
+use Rattle.topos_top.specs.Rules.{KeepInvariants, ListedFails, ListedHolds}
 use Rattle.topos_top.specs.declared.status.Status.TheVariants.{Violated, NotEmittable, Done}
 
 -- The line that there is no host of that name, and the one that it is the rest host, which has no machines of its own (docs/FORMATS.md).
@@ -44,12 +44,13 @@ pub record IsLocal (d : Network) (host rules : List ℕ) : Type 0 where
   pub named : host_named d.hosts host ≡ Some number
   pub written : rules ≡ text (machines_for d policy number)
 
--- What rules for the machines of a host do. They guard it by the policy, which is that of the network. Where every specific host has its own on its
+-- What rules for the machines of a host do. They guard it by the policy, which is that of the network and keeps its invariants. Where every specific host has its own on its
 -- machines, over every list of packets and forgettings, a packet passes exactly where the policy and its answers expect it. The text has these rules
 -- as its reading, and no others.
 pub record KeepLocal (d : Network) (host rules : List ℕ) : Type 0 where
   pub policy : Policy
   pub is_policy : IsPolicyOf d policy
+  pub invariants : KeepInvariants d policy
   pub found : IsSpecific d host
   pub written : rules ≡ text (machines_for d policy found.number)
   pub guards : Guards (machines_for d policy found.number) (site_of d) policy.permitted.flows policy.stateful.flows found.number

@@ -39,7 +39,7 @@ pub record GaveReply (words : List (List ℕ)) (shelf : ShelfChange) (out err : 
 pub record Came (words : List (List ℕ)) (shelf : ShelfChange) (AtFile : ShelfChange → Kind → (file : List ℕ) → Type 0) (AtJob : Ask → Job → Type 0) : Type 0 where
   pub ask : Ask
   pub asked : ask_of words ≡ Some ask
-  pub along : CameAlong (course_of ask) shelf.before
+  pub along : CameAlong shelf.only_failures (course_of ask) shelf.before
       (λ kind file before. (shelf.after.begins ≡ more before.begins 1) × AtFile (since before shelf) kind file)
       (λ job before. (shelf.after ≡ before) × AtJob ask job)
 

@@ -1,15 +1,15 @@
 -- What the code ensures that reads a file. No promise of `run` stands on it.
-use Rattle.std.specs.Prelude.{◌≡◌, ℕ, List, Result, Ok, Err, Some}
+use Rattle.std.specs.Prelude.{ℕ, List, Result, Ok, Err, Some}
 use Rattle.topos_top.specs.Kinds.{Said, Reads}
 use Rattle.topos_top.specs.Replies.{StopsAt}
 use Rattle.topos_top.specs.Reply.{Reply}
-use Rattle.topos_top.specs.Shelf.{ShelfChange, SawFile, after_file}
+use Rattle.topos_top.specs.Shelf.{ShelfChange, SawFile, TookBytes}
 use Rattle.topos_top.specs.declared.kind.Kind.{Kind}
 
--- The bytes of a file were taken without a fault.
+-- The bytes of a file were taken.
 pub record TookFile (shelf : ShelfChange) (kind : Kind) (file bytes : List ℕ) : Type 0 where
   pub held : SawFile shelf file (Some bytes)
-  pub after : shelf.after ≡ after_file kind bytes shelf.before
+  pub took : TookBytes shelf.only_failures kind bytes shelf.before shelf.after
 
 abbrev pub MayTake : Kind → (file : List ℕ) → ShelfChange → Result (List ℕ) Reply → Type 0
 MayTake kind file shelf (Ok bytes) = TookFile shelf kind file bytes

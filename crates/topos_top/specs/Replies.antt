@@ -34,7 +34,7 @@ EndsAt on_output shelf job given = (shelf.after ≡ shelf.before) × ((given ≡
 
 -- Why a command may give a reply: along its course it was stopped by a file, or it came to its job.
 abbrev pub MayReply : (on_output : Bool) → Course → ShelfChange → Reply → Type 0
-MayReply on_output course shelf given = CameAlong course shelf.before
+MayReply on_output course shelf given = CameAlong shelf.only_failures course shelf.before
     (λ kind file before. StopsAt (since before shelf) kind file given)
     (λ job before. EndsAt on_output (since before shelf) job given)
 
@@ -54,7 +54,7 @@ telling told = record { told = Some told; faults = 0; begins = 0; taken = 0 }
 
 -- The reply to a command: for the first file that is missing or refused, or that of its job, by the first end that comes.
 abbrev pub Replies : (on_output : Bool) → Course → Files → Reply → Type 0
-Replies on_output course told given = CameAlong course (telling told)
+Replies on_output course told given = CameAlong (Unit {0}) course (telling told)
     (λ kind file before. Stops kind file (get told file) given)
     (λ job before. Answers on_output job given × AnswersFirst job given)
 

@@ -47,13 +47,24 @@ pub record TellsHindrance (language : Language) (d : Network) (line : List ℕ) 
   pub hindered : IsHindered language d why
   pub told : line ≡ hindrance_line d.hosts why
 
--- What rules of a network do.
+-- What a policy of a network keeps, whatever is written for it.
+-- The permitted flows are the first subset of the asked ones that meets every invariant, and the greatest where all of them judge flows alone. Each asked flow that is left out breaks an invariant beside the permitted flows. A listed policy that meets every invariant is permitted as it is.
+-- The stateful flows are the first whose answers break no strict invariant, and with these answers the policy complies with every invariant.
+pub record KeepInvariants (d : Network) (policy : Policy) : Type 0 where
+  pub permitted : IsPermitted d policy.permitted.flows
+  pub meets : MeetsAll d policy.permitted.flows
+  pub left_out : (f : Flow) → IsTrue (has d.asked.flows f) → IsFalse (has policy.permitted.flows f) → MeetsAll d (with_flow policy.permitted.flows f) → ⊥
+  pub greatest : JudgesFlowsAlone d → IsGreatestPolicy d policy
+  pub listed : IsTrue d.given → AskedHolds d → policy.permitted.flows ≡ d.asked.flows
+  pub stateful : IsStateful d policy.permitted.flows policy.stateful.flows
+  pub complies : CompliesWithAll d policy
+
+-- What rules of a network do. The policy keeps its invariants.
 -- Over every list of packets and forgettings, beginning with no connections, they forward exactly the packets of a permitted flow and those that answer a stateful one.
 -- The text has a reading as rules of the dialect, which is one, and whoever reads it so forwards the same, and does with frames of other kinds what the dialect says.
--- The permitted policy is the first subset of the asked flows that meets every invariant, and the greatest where all of them judge flows alone. Each asked flow that is left out breaks an invariant beside the permitted flows. A listed policy that meets every invariant is permitted as it is.
--- The stateful flows are the first whose answers break no strict invariant, and with these answers the policy complies with every invariant.
 pub record KeepPolicy (language : Language) (d : Network) (rules : List ℕ) : Type 0 where
   pub policy : Policy
+  pub invariants : KeepInvariants d policy
   pub written : rules ≡ language.text (rules_for language d policy)
   pub expected : ForwardsExpected (language.filter (rules_for language d policy)) (site_of d) policy.permitted.flows policy.stateful.flows
   pub read : language.IsReading rules (rules_for language d policy)
@@ -62,13 +73,6 @@ pub record KeepPolicy (language : Language) (d : Network) (rules : List ℕ) : T
       → ForwardsExpected (language.filter others) (site_of d) policy.permitted.flows policy.stateful.flows
   pub other_frames : (others : language.Rules) → language.IsReading rules others → language.OtherFrames others
   pub enforces : Enforces (language.filter (rules_for language d policy)) (site_of d) policy.permitted.flows policy.stateful.flows
-  pub permitted : IsPermitted d policy.permitted.flows
-  pub meets : MeetsAll d policy.permitted.flows
-  pub left_out : (f : Flow) → IsTrue (has d.asked.flows f) → IsFalse (has policy.permitted.flows f) → MeetsAll d (with_flow policy.permitted.flows f) → ⊥
-  pub greatest : JudgesFlowsAlone d → IsGreatestPolicy d policy
-  pub listed : IsTrue d.given → AskedHolds d → policy.permitted.flows ≡ d.asked.flows
-  pub stateful : IsStateful d policy.permitted.flows policy.stateful.flows
-  pub complies : CompliesWithAll d policy
 
 -- the rules, where this holds and they can be written
 abbrev pub rules_when : Type 0 → Language → Network → End

@@ -1,8 +1,10 @@
 -- What one call saw of its shelf.
-use Rattle.std.specs.Prelude.{◌≡◌, ℕ, ◌+◌, ◌⊎◌, List, length, min, Option, None, Some, IfSome}
+use Rattle.std.specs.Prelude.{◌≡◌, ℕ, ◌+◌, ◌≤◌, ◌⊎◌, List, length, min, Option, None, Some, IfSome, Result}
 use Rattle.std.specs.FinMap.{get}
+use Rattle.edge_io.specs.Calls.{ShelfCountsOnlyFailures}
 use Rattle.edge_io.specs.Counts.{more, Rose}
 use Rattle.edge_io.specs.Told.{Files, Lacks}
+use Rattle.edge_io.specs.declared.faults.Failed.{Failed}
 use Rattle.topos_top.specs.Kinds.{most_of}
 use Rattle.topos_top.specs.declared.kind.Kind.{Kind}
 
@@ -13,31 +15,42 @@ pub record Shelf : Type 0 where
   pub begins : ℕ
   pub taken : ℕ
 
--- A shelf before a call and after it.
-pub record ShelfChange : Type 0 where
+-- A shelf before a call and after it, and whether it counts a fault only where a call of it fails.
+pub record ShelfChange : Type 1 where
   pub before : Shelf
   pub after : Shelf
+  pub only_failures : Type 0
 
 -- the change of the shelf since it was like this
 abbrev pub since : Shelf → ShelfChange → ShelfChange
-since shelf change = record { before = shelf; after = change.after }
+since shelf change = record { before = shelf; after = change.after; only_failures = change.only_failures }
 
-abbrev pub shelf_change : {S : Type 0} → (S → Option Files) → (S → ℕ) → (S → ℕ) → (S → ℕ) → S → S → ShelfChange
-shelf_change files faults begins taken old new = record {
+abbrev pub shelf_change : {S : Type 0} → (S → Option Files) → (S → ℕ) → (S → ℕ) → (S → ℕ)
+    → (S → List ℕ → Result (Unit {0}) Failed → S → Type 0) → (S → List ℕ → Result ℕ Failed → S → Type 0) → S → S → ShelfChange
+shelf_change files faults begins taken begin_gives read_gives old new = record {
   before = record { told = files old; faults = faults old; begins = begins old; taken = taken old };
   after = record { told = files new; faults = faults new; begins = begins new; taken = taken new };
+  only_failures = ShelfCountsOnlyFailures faults begin_gives read_gives;
 }
+
+-- The bytes of a file, where the shelf tells its files.
+abbrev pub Holds : Shelf → (name bytes : List ℕ) → Type 0
+Holds shelf name bytes = IfSome shelf.told (λ files. get files name ≡ Some bytes)
 
 -- A file as it was seen. Where the shelf tells its files, bytes that were seen are the told ones.
 -- A file was not to be had only where the count of faults rose, or where a told shelf lacks it.
 abbrev pub SawFile : ShelfChange → (name : List ℕ) → Option (List ℕ) → Type 0
 SawFile shelf name None = Rose shelf.before.faults shelf.after.faults ⊎ Lacks shelf.before.told name
-SawFile shelf name (Some bytes) = IfSome shelf.before.told (λ files. get files name ≡ Some bytes)
+SawFile shelf name (Some bytes) = Holds shelf.before name bytes
 
 -- How many bytes of a file are taken: all, or one more than the limit.
 abbrev pub taken_of : Kind → List ℕ → ℕ
 taken_of kind bytes = min (length bytes) (most_of kind + 1)
 
--- The shelf after a file of these bytes was taken without a fault.
-abbrev pub after_file : Kind → List ℕ → Shelf → Shelf
-after_file kind bytes shelf = record { told = shelf.told; faults = shelf.faults; begins = more shelf.begins 1; taken = taken_of kind bytes }
+-- A file of these bytes was taken. It counted no fault where the shelf counts only calls that fail, and else maybe some that were got over.
+pub record TookBytes (only_failures : Type 0) (kind : Kind) (bytes : List ℕ) (before after : Shelf) : Type 0 where
+  pub told : after.told ≡ before.told
+  pub faults_stay : before.faults ≤ after.faults
+  pub no_fault : only_failures → after.faults ≡ before.faults
+  pub begins : after.begins ≡ more before.begins 1
+  pub taken : after.taken ≡ taken_of kind bytes

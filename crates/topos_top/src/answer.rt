@@ -6,6 +6,7 @@ ghost use Rattle.topos_top.specs.Reply.{Reply, usage, cannot_read, no_memory, re
 ghost use Rattle.topos_top.specs.TextFault.{fault_line};
 ghost use Rattle.topos_top.specs.Views.{reply_view, text_view};
 
+use crate::refused::no_memory;
 use crate::status::{Status, Stream};
 use crate::text::Text;
 use desc_core::Refusal;
@@ -69,7 +70,7 @@ impl<'a> From<AllocError> for Answer<'a> {
     ghost from_gives = { λ _ given. reply_view given ≡ no_memory };
 
     fn from(_: AllocError) -> Self {
-        Answer::error(Status::Memory, Text::NoMemory)
+        no_memory()
     }
 }
 
@@ -81,6 +82,6 @@ impl<'a, T: Drop> From<AllocFailed<T>> for Answer<'a> {
     ghost from_gives = { λ _ given. reply_view given ≡ no_memory };
 
     fn from(_: AllocFailed<T>) -> Self {
-        Answer::error(Status::Memory, Text::NoMemory)
+        no_memory()
     }
 }

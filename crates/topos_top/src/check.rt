@@ -26,7 +26,7 @@ pub fn reply<'a, H: Shelf>(
     ensures same_files { H.files shelf.new ≡ H.files shelf.old }
     ensures faults_stay { H.faults shelf.old ≤ H.faults shelf.new }
     ensures reply { MayReply true (course_of (Check file.now))
-        (shelf_change H.files H.faults H.begins H.taken shelf.old shelf.new) (reply_in result) }
+        (shelf_change H.files H.faults H.begins H.taken H.begin_gives H.read_gives shelf.old shelf.new) (reply_in result) }
 {
     let description = read_description(alloc, file, shelf)?;
     Ok(answer(alloc, &description)?)

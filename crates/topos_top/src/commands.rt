@@ -24,7 +24,7 @@ pub fn reply<'a, H: Shelf>(
     ensures same_files { H.files shelf.new ≡ H.files shelf.old }
     ensures faults_stay { H.faults shelf.old ≤ H.faults shelf.new }
     ensures reply { MayReply (reports_on_output (ask_view ask.entry)) (course_of (ask_view ask.entry))
-        (shelf_change H.files H.faults H.begins H.taken shelf.old shelf.new) (reply_in result) }
+        (shelf_change H.files H.faults H.begins H.taken H.begin_gives H.read_gives shelf.old shelf.new) (reply_in result) }
     ensures no_files { ReadsNothing (course_of (ask_view ask.entry)) → shelf.new ≡ shelf.old }
 {
     match ask {

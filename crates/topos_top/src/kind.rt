@@ -1,17 +1,20 @@
 //! The kinds of files, each with its limit.
 
 ghost use Rattle.std.specs.Prelude.{◌≡◌, ◌≤◌, ◌<◌, ◌^◌, ℕ, List, length};
+ghost use Rattle.desc_form.specs.Refusals.{refused};
+ghost use Rattle.report_core.specs.RefusalLine.{refusal_text};
 ghost use Rattle.topos_top.specs.Kinds.{most_of, IsRefused};
+ghost use Rattle.topos_top.specs.Reply.{error};
 ghost use Rattle.topos_top.specs.Views.{reply_view};
 
 use crate::answer::Answer;
 use crate::dialect::Dialect;
-use crate::refused::{bad_description, bad_edits, bad_events, bad_flows, bad_rules};
-use desc_core::{Place, Refusal, Why};
-use edit_core::{EDITS_BYTE_LIMIT, EditsWhy};
-use ipt_read::IptWhy;
-use ofp_read::OfpWhy;
-use pkt_core::{EVENTS_BYTE_LIMIT, EventWhy};
+use crate::status::Status;
+use desc_core::{DescFault, Place, Refusal, Why};
+use edit_core::{EDITS_BYTE_LIMIT, EditsFault, EditsWhy};
+use ipt_read::{IptFault, IptWhy};
+use ofp_read::{OfpFault, OfpWhy};
+use pkt_core::{EVENTS_BYTE_LIMIT, EventFault, EventWhy};
 
 /// What a file is to hold.
 #[derive(Clone, Copy)]
@@ -50,14 +53,27 @@ impl Kind {
         ensures { (bytes : List ℕ) → most_of self < length bytes → IsRefused self bytes (reply_view result) }
     {
         match self {
-            Kind::Description => bad_description(Refusal::at(Why::TooLong, Place::Document)),
-            Kind::Document => bad_description(Refusal::at(Why::TooLong, Place::Document)),
-            Kind::Edited => bad_description(Refusal::at(Why::TooLong, Place::Document)),
+            Kind::Description => too_long_description(),
+            Kind::Document => too_long_description(),
+            Kind::Edited => too_long_description(),
             Kind::Rules(dialect) => too_long_rules(dialect),
-            Kind::Events => bad_events(0, EventWhy::TooLong),
-            Kind::Edits => bad_edits(0, EditsWhy::TooLong),
+            Kind::Events => Answer::from(EventFault::Refused {
+                line: 0,
+                why: EventWhy::TooLong,
+            }),
+            Kind::Edits => Answer::from(EditsFault::Refused {
+                line: 0,
+                why: EditsWhy::TooLong,
+            }),
         }
     }
+}
+
+/// The answer to a description that is too long.
+fn too_long_description<'a>() -> Answer<'a>
+    ensures { reply_view result ≡ error Status.BadDescription (refusal_text (refused Why.TooLong Place.Document)) }
+{
+    Answer::from(DescFault::Refused(Refusal::at(Why::TooLong, Place::Document)))
 }
 
 /// The answer to rules that are too long.
@@ -65,7 +81,13 @@ fn too_long_rules<'a>(dialect: Dialect) -> Answer<'a>
     ensures { (bytes : List ℕ) → most_of (Kind.Rules dialect) < length bytes → IsRefused (Kind.Rules dialect) bytes (reply_view result) }
 {
     match dialect {
-        Dialect::Iptables => bad_rules(0, IptWhy::TooLong),
-        Dialect::OpenFlow => bad_flows(0, OfpWhy::TooLong),
+        Dialect::Iptables => Answer::from(IptFault::Refused {
+            line: 0,
+            why: IptWhy::TooLong,
+        }),
+        Dialect::OpenFlow => Answer::from(OfpFault::Refused {
+            line: 0,
+            why: OfpWhy::TooLong,
+        }),
     }
 }

@@ -22,7 +22,7 @@ pub fn reply<'a, H: Shelf>(
     ensures same_files { H.files shelf.new ≡ H.files shelf.old }
     ensures faults_stay { H.faults shelf.old ≤ H.faults shelf.new }
     ensures reply { MayReply false (course_of (Migrate file.now))
-        (shelf_change H.files H.faults H.begins H.taken shelf.old shelf.new) (reply_in result) }
+        (shelf_change H.files H.faults H.begins H.taken H.begin_gives H.read_gives shelf.old shelf.new) (reply_in result) }
 {
     let text = read_document(alloc, file, shelf)?;
     Ok(Answer::done(Text::Bytes(text)))

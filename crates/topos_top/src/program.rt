@@ -33,7 +33,7 @@ pub fn run<H: Shelf, O: Sink, E: Sink>(
 
     // The run gives one reply that has its cause: its status, its text in out, its line on err.
     ensures reply { GaveReply (map string_bytes words.now)
-        (shelf_change H.files H.faults H.begins H.taken shelf.old shelf.new)
+        (shelf_change H.files H.faults H.begins H.taken H.begin_gives H.read_gives shelf.old shelf.new)
         (sink_change O.held O.faults out.old out.new) (sink_change E.held E.faults err.old err.new) result }
 
     // What follows from it. Usage is given exactly for words that are no form, and reads nothing.
@@ -43,27 +43,27 @@ pub fn run<H: Shelf, O: Sink, E: Sink>(
 
     // Each other answer has its cause.
     ensures read_fault { result ≡ Status.ReadFault → LacksFile (map string_bytes words.now)
-        (shelf_change H.files H.faults H.begins H.taken shelf.old shelf.new)
+        (shelf_change H.files H.faults H.begins H.taken H.begin_gives H.read_gives shelf.old shelf.new)
         (sink_change E.held E.faults err.old err.new) }
     ensures bad_description { result ≡ Status.BadDescription → HasRefused Status.BadDescription (map string_bytes words.now)
-        (shelf_change H.files H.faults H.begins H.taken shelf.old shelf.new)
+        (shelf_change H.files H.faults H.begins H.taken H.begin_gives H.read_gives shelf.old shelf.new)
         (sink_change E.held E.faults err.old err.new) }
     ensures bad_text { result ≡ Status.BadText → HasBadText (map string_bytes words.now)
-        (shelf_change H.files H.faults H.begins H.taken shelf.old shelf.new)
+        (shelf_change H.files H.faults H.begins H.taken H.begin_gives H.read_gives shelf.old shelf.new)
         (sink_change O.held O.faults out.old out.new) (sink_change E.held E.faults err.old err.new) }
     ensures violated { result ≡ Status.Violated → IsViolated (map string_bytes words.now)
-        (shelf_change H.files H.faults H.begins H.taken shelf.old shelf.new)
+        (shelf_change H.files H.faults H.begins H.taken H.begin_gives H.read_gives shelf.old shelf.new)
         (sink_change O.held O.faults out.old out.new) (sink_change E.held E.faults err.old err.new) }
     ensures not_emittable { result ≡ Status.NotEmittable → CannotWrite (map string_bytes words.now)
-        (shelf_change H.files H.faults H.begins H.taken shelf.old shelf.new)
+        (shelf_change H.files H.faults H.begins H.taken H.begin_gives H.read_gives shelf.old shelf.new)
         (sink_change O.held O.faults out.old out.new) (sink_change E.held E.faults err.old err.new) }
     ensures write_fault { result ≡ Status.WriteFault → WasCutOff (map string_bytes words.now)
-        (shelf_change H.files H.faults H.begins H.taken shelf.old shelf.new)
+        (shelf_change H.files H.faults H.begins H.taken H.begin_gives H.read_gives shelf.old shelf.new)
         (sink_change O.held O.faults out.old out.new) (sink_change E.held E.faults err.old err.new) }
     ensures memory { result ≡ Status.Memory → RanOut (map string_bytes words.now)
-        (shelf_change H.files H.faults H.begins H.taken shelf.old shelf.new) (sink_change E.held E.faults err.old err.new) }
+        (shelf_change H.files H.faults H.begins H.taken H.begin_gives H.read_gives shelf.old shelf.new) (sink_change E.held E.faults err.old err.new) }
     ensures done { result ≡ Status.Done → WroteText (map string_bytes words.now)
-        (shelf_change H.files H.faults H.begins H.taken shelf.old shelf.new)
+        (shelf_change H.files H.faults H.begins H.taken H.begin_gives H.read_gives shelf.old shelf.new)
         (sink_change O.held O.faults out.old out.new) (sink_change E.held E.faults err.old err.new) }
 
     // The headline: rules that are written forward exactly what the policy expects, over every list
@@ -74,7 +74,7 @@ pub fn run<H: Shelf, O: Sink, E: Sink>(
     // policy expects. With the rules of every specific host on its machines, a packet passes between
     // them exactly where the policy expects it.
     ensures headline { result ≡ Status.Done → KeepsPromise (map string_bytes words.now)
-        (shelf_change H.files H.faults H.begins H.taken shelf.old shelf.new) (sink_change O.held O.faults out.old out.new) }
+        (shelf_change H.files H.faults H.begins H.taken H.begin_gives H.read_gives shelf.old shelf.new) (sink_change O.held O.faults out.old out.new) }
 
     // A sample takes nothing off the shelf, and is always written unless the output fails or there is no memory.
     ensures sample { (n : ℕ) → AskForSample (map string_bytes words.now) n
@@ -89,7 +89,7 @@ pub fn run<H: Shelf, O: Sink, E: Sink>(
 
     // The words and the told files decide what is given, and so how the run ends.
     ensures complete { IsComplete (map string_bytes words.now)
-        (shelf_change H.files H.faults H.begins H.taken shelf.old shelf.new)
+        (shelf_change H.files H.faults H.begins H.taken H.begin_gives H.read_gives shelf.old shelf.new)
         (sink_change O.held O.faults out.old out.new) (sink_change E.held E.faults err.old err.new) result }
 {
     let answer = answer_to(alloc, words, shelf);
@@ -101,7 +101,7 @@ fn answer_to<'a, H: Shelf>(alloc: Global, words: &'a [String], shelf: &mut H) ->
     ensures same_files { H.files shelf.new ≡ H.files shelf.old }
     ensures faults_stay { H.faults shelf.old ≤ H.faults shelf.new }
     ensures reply { MayGive (map string_bytes words.now)
-        (shelf_change H.files H.faults H.begins H.taken shelf.old shelf.new) (reply_view result) }
+        (shelf_change H.files H.faults H.begins H.taken H.begin_gives H.read_gives shelf.old shelf.new) (reply_view result) }
     ensures reads_nothing { NamesNoFile (map string_bytes words.now) → shelf.new ≡ shelf.old }
 {
     match ask_of_words(words) {

@@ -1,67 +1,118 @@
-//! The answers to files that are refused.
+//! The answers to files that are refused, and to want of memory for what they say.
 
 ghost use Rattle.std.specs.Prelude.{◌≡◌};
-ghost use Rattle.report_core.specs.RefusalLine.{refusal_text};
-ghost use Rattle.topos_top.specs.Reply.{error};
-ghost use Rattle.topos_top.specs.TextFault.{rules_fault_line, flows_fault_line, events_fault_line, edits_fault_line};
+ghost use Rattle.topos_top.specs.Reply.{error, no_memory};
+ghost use Rattle.topos_top.specs.TextFault.{fault_line};
 ghost use Rattle.topos_top.specs.Views.{reply_view};
 
 use crate::answer::Answer;
 use crate::status::Status;
 use crate::text::Text;
 use crate::text_fault::{edits_reason, events_reason, flows_reason, rules_reason};
-use desc_core::Refusal;
-use edit_core::EditsWhy;
-use ipt_read::IptWhy;
-use ofp_read::OfpWhy;
-use pkt_core::EventWhy;
+use desc_core::DescFault;
+use edit_core::EditsFault;
+use ipt_read::IptFault;
+use ofp_read::OfpFault;
+use pkt_core::EventFault;
 
-/// The answer to bytes that are no description.
-pub fn bad_description<'a>(why: Refusal) -> Answer<'a>
-    ensures { reply_view result ≡ error Status.BadDescription (refusal_text why) }
-{
-    Answer::error(Status::BadDescription, Text::Refusal(why))
+impl<'a> From<DescFault> for Answer<'a> {
+    ghost use Rattle.std.specs.Prelude.{◌≡◌};
+    ghost use Rattle.topos_top.specs.Refused.{description_reply};
+    ghost use Rattle.topos_top.specs.Views.{reply_view};
+
+    ghost from_gives = { λ fault given. reply_view given ≡ description_reply fault };
+
+    fn from(fault: DescFault) -> Self {
+        match fault {
+            DescFault::Refused(why) => { Answer::error(Status::BadDescription, Text::Refusal(why)) }
+            DescFault::Memory => no_memory(),
+        }
+    }
 }
 
-/// The answer to a text of chains, with the number of its faulty line, or 0 for the whole of it.
-pub fn bad_rules<'a>(line: u32, why: IptWhy) -> Answer<'a>
-    ensures { reply_view result ≡ error Status.BadText (rules_fault_line line why) }
-{
-    let reason = rules_reason(why);
-    Answer::error(
-        Status::BadText,
-        Text::Fault(b"topos: rules: line ", line, reason),
-    )
+impl<'a> From<IptFault> for Answer<'a> {
+    ghost use Rattle.std.specs.Prelude.{◌≡◌};
+    ghost use Rattle.topos_top.specs.Refused.{text_reply};
+    ghost use Rattle.topos_top.specs.TextFault.{rules_fault_line};
+    ghost use Rattle.topos_top.specs.Views.{reply_view};
+
+    ghost from_gives = { λ fault given. reply_view given ≡ text_reply rules_fault_line fault };
+
+    fn from(fault: IptFault) -> Self {
+        match fault {
+            IptFault::Refused { line, why } => {
+                bad_text(b"topos: rules: line ", line, rules_reason(why))
+            }
+            IptFault::Memory => no_memory(),
+        }
+    }
 }
 
-/// The answer to a text of flows, with the number of its faulty line, or 0 for the whole of it.
-pub fn bad_flows<'a>(line: u32, why: OfpWhy) -> Answer<'a>
-    ensures { reply_view result ≡ error Status.BadText (flows_fault_line line why) }
-{
-    let reason = flows_reason(why);
-    Answer::error(
-        Status::BadText,
-        Text::Fault(b"topos: rules: line ", line, reason),
-    )
+impl<'a> From<OfpFault> for Answer<'a> {
+    ghost use Rattle.std.specs.Prelude.{◌≡◌};
+    ghost use Rattle.topos_top.specs.Refused.{text_reply};
+    ghost use Rattle.topos_top.specs.TextFault.{flows_fault_line};
+    ghost use Rattle.topos_top.specs.Views.{reply_view};
+
+    ghost from_gives = { λ fault given. reply_view given ≡ text_reply flows_fault_line fault };
+
+    fn from(fault: OfpFault) -> Self {
+        match fault {
+            OfpFault::Refused { line, why } => {
+                bad_text(b"topos: rules: line ", line, flows_reason(why))
+            }
+            OfpFault::Memory => no_memory(),
+        }
+    }
 }
 
-/// The answer to a text of events, with the number of its faulty line, or 0 for the whole of it.
-pub fn bad_events<'a>(line: u32, why: EventWhy) -> Answer<'a>
-    ensures { reply_view result ≡ error Status.BadText (events_fault_line line why) }
-{
-    let reason = events_reason(why);
-    Answer::error(
-        Status::BadText,
-        Text::Fault(b"topos: events: line ", line, reason),
-    )
+impl<'a> From<EventFault> for Answer<'a> {
+    ghost use Rattle.std.specs.Prelude.{◌≡◌};
+    ghost use Rattle.topos_top.specs.Refused.{text_reply};
+    ghost use Rattle.topos_top.specs.TextFault.{events_fault_line};
+    ghost use Rattle.topos_top.specs.Views.{reply_view};
+
+    ghost from_gives = { λ fault given. reply_view given ≡ text_reply events_fault_line fault };
+
+    fn from(fault: EventFault) -> Self {
+        match fault {
+            EventFault::Refused { line, why } => {
+                bad_text(b"topos: events: line ", line, events_reason(why))
+            }
+            EventFault::Memory => no_memory(),
+        }
+    }
 }
 
-pub fn bad_edits<'a>(line: u32, why: EditsWhy) -> Answer<'a>
-    ensures { reply_view result ≡ error Status.BadText (edits_fault_line line why) }
+impl<'a> From<EditsFault> for Answer<'a> {
+    ghost use Rattle.std.specs.Prelude.{◌≡◌};
+    ghost use Rattle.topos_top.specs.Refused.{text_reply};
+    ghost use Rattle.topos_top.specs.TextFault.{edits_fault_line};
+    ghost use Rattle.topos_top.specs.Views.{reply_view};
+
+    ghost from_gives = { λ fault given. reply_view given ≡ text_reply edits_fault_line fault };
+
+    fn from(fault: EditsFault) -> Self {
+        match fault {
+            EditsFault::Refused { line, why } => {
+                bad_text(b"topos: edits: line ", line, edits_reason(why))
+            }
+            EditsFault::Memory => no_memory(),
+        }
+    }
+}
+
+/// The answer to a text that is refused: what it was to hold, the number of its faulty line, or 0
+/// for the whole of it, and why.
+fn bad_text<'a>(text: &'static [u8], line: u32, reason: &'static [u8]) -> Answer<'a>
+    ensures { reply_view result ≡ error Status.BadText (fault_line text.now line reason.now) }
 {
-    let reason = edits_reason(why);
-    Answer::error(
-        Status::BadText,
-        Text::Fault(b"topos: edits: line ", line, reason),
-    )
+    Answer::error(Status::BadText, Text::Fault(text, line, reason))
+}
+
+/// The answer where there is no memory for what a file says.
+pub fn no_memory<'a>() -> Answer<'a>
+    ensures { reply_view result ≡ no_memory }
+{
+    Answer::error(Status::Memory, Text::NoMemory)
 }

@@ -1,7 +1,10 @@
-use Rattle.std.proofs.Common.{List, ℕ, sym, subst}
+use Rattle.std.proofs.Common.{List, ℕ, sym, subst, ap, ◌∙◌, arith}
+use Rattle.std.proofs.Math.Seq.{take_all}
+use Rattle.std.specs.Io.KnownBytes.{append_known}
+use Rattle.edge_io.specs.Calls.{joined}
 use Rattle.edge_io.specs.Told.{TookPrefix}
 use Rattle.edge_io.specs.PutLaws.{TookPrefix-after}
-use Rattle.edge_io.proofs.Pieces.{joined_at}
+use Rattle.edge_io.proofs.Pieces.{joined_at, TookPrefix-all}
 use Rattle.edge_io.proofs.put.put_pieces.Goals as goal
 
 -- a fault stops within a piece, after those that are put
@@ -10,3 +13,9 @@ returns-in_err-put_all-clause-prefix g c =
     subst (λ (bytes : List ℕ). TookPrefix (g.O.Sink.held c.args.sink.now) (g.O.Sink.held c.put_all.new.sink) bytes)
     (sym (joined_at c.args.pieces.now c.loop-piece.piece-index _ c.loop-piece-test.true))
     (TookPrefix-after _ _ _ _ _ _ c.loop-piece.invariant.taken c.in_err-put_all.ensures.prefix)
+
+-- after the last piece all of them are put
+pub returns-clause-prefix : goal.returns-clause-prefix
+returns-clause-prefix g c =
+    TookPrefix-all _ _ _ (c.loop-piece.invariant.taken
+    ∙ ap (λ pieces. append_known (g.O.Sink.held c.args.sink.now) (joined pieces)) (take_all c.loop-piece.piece-index c.args.pieces.now (omega (arith, c.loop-piece-test.false))))

@@ -1,11 +1,12 @@
 -- The pieces before `piece` are put.
 use Rattle.std.proofs.Common.{◌≡◌, ◌≤◌, take}
 use Rattle.std.specs.Io.KnownBytes.{append_known}
-use Rattle.edge_io.specs.Calls.{joined}
+use Rattle.edge_io.specs.Calls.{CountsOnlyFailures, joined}
 use Rattle.edge_io.proofs.put.put_pieces.Given as goal
 
 abbrev pub invariant-loop-piece : goal.invariant-loop-piece
 invariant-loop-piece g l = record {
   taken : g.O.Sink.held l.sink ≡ append_known (g.O.Sink.held l.fn.sink) (joined (take l.piece-index l.pieces));
-  no_fault : g.O.Sink.faults l.sink ≡ g.O.Sink.faults l.fn.sink;
+  faults_stay : g.O.Sink.faults l.fn.sink ≤ g.O.Sink.faults l.sink;
+  no_fault : CountsOnlyFailures g.O.Sink.faults g.O.Sink.write_gives → g.O.Sink.faults l.sink ≡ g.O.Sink.faults l.fn.sink;
 }

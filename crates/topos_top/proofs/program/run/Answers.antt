@@ -13,7 +13,7 @@ use Rattle.topos_top.proofs.program.run.Goals as goal
 
 -- what the answer and its ending say, as one fact from which each clause follows
 gave : (g : given.Over) (c : goal.Joined-answer g) → GaveReply (map string_bytes c.args.words.now)
-    (shelf_change g.H.Shelf.files g.H.Shelf.faults g.H.Shelf.begins g.H.Shelf.taken c.args.shelf.now c.answer_to-answer.new.shelf)
+    (shelf_change g.H.Shelf.files g.H.Shelf.faults g.H.Shelf.begins g.H.Shelf.taken g.H.Shelf.begin_gives g.H.Shelf.read_gives c.args.shelf.now c.answer_to-answer.new.shelf)
     (sink_change g.O.Sink.held g.O.Sink.faults c.args.out.now c.give.new.out) (sink_change g.E.Sink.held g.E.Sink.faults c.args.err.now c.give.new.err) c.give.result
 gave g c = record {
   reply = reply_view c.answer_to-answer.result;

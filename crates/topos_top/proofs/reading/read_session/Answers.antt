@@ -1,10 +1,11 @@
 use Rattle.std.proofs.Common.{refl}
+use Rattle.std.proofs.lemmas.Result.{err_from_is_err_and}
 use Rattle.topos_top.specs.declared.kind.Kind.TheVariants.{Edited}
-use Rattle.topos_top.specs.Views.{reply_view}
-use Rattle.topos_top.proofs.Taking.{refused_whole}
+use Rattle.topos_top.proofs.RefusedLaws.{description_refused}
 use Rattle.topos_top.proofs.reading.read_session.Goals as goal
 
-pub returns-in-Err-Refused-clause-reading : goal.returns-in-Err-Refused-clause-reading
-returns-in-Err-Refused-clause-reading g c =
-    refused_whole Edited c.args.name.now c.in_ok-bytes.bytes.items _ _ (reply_view c.bad_description.result) c.in_ok-bytes.ensures.taken
-    (record { line = _; refuses = record { why = c.in-Err-Refused.why; refused = rw (c.in-Err-Refused.field-0-is, c.deref.ensures.value) at c.in-Err-Refused.ensures; told = refl }; replied = c.bad_description.ensures })
+pub returns-in_err-start-clause-reading : goal.returns-in_err-start-clause-reading
+returns-in_err-start-clause-reading g c =
+    let p = err_from_is_err_and c.from_residual-in_err-start.result c.from_residual-in_err-start.ensures.1 in
+    rw p.1 (description_refused Edited (λ bytes line none. none) refl _ c.args.name.now c.in_ok-bytes.bytes.items c.in_err-start.field-0.0 _ c.in_ok-bytes.ensures.taken
+    (λ why is. rw (is, c.deref.ensures.value) at c.in_err-start.ensures) p.2)

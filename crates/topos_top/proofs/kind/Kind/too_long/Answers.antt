@@ -2,19 +2,19 @@ use Rattle.topos_top.proofs.KindLaws.{long_is_refused, long_is_no_document, long
 use Rattle.topos_top.proofs.kind.Kind.too_long.Goals as goal
 
 pub returns-in-Description : goal.returns-in-Description
-returns-in-Description c = rw (c.in-Description.is, c.bad_description.ensures, c.at.ensures) (λ bytes long. long_is_refused bytes long)
+returns-in-Description c = rw (c.in-Description.is, c.too_long_description.ensures) (λ bytes long. long_is_refused bytes long)
 
 pub returns-in-Document : goal.returns-in-Document
-returns-in-Document c = rw (c.in-Document.is, c.bad_description-in-Document.ensures, c.at-in-Document.ensures) (λ bytes long. long_is_no_document bytes long)
+returns-in-Document c = rw (c.in-Document.is, c.too_long_description-in-Document.ensures) (λ bytes long. long_is_no_document bytes long)
 
 pub returns-in-Rules : goal.returns-in-Rules
 returns-in-Rules c = rw c.in-Rules.is c.too_long_rules.ensures
 
 pub returns-in-Events : goal.returns-in-Events
-returns-in-Events c = rw (c.in-Events.is, c.bad_events.ensures) (λ bytes long. long_events bytes long)
+returns-in-Events c = rw (c.in-Events.is, c.from.ensures) (λ bytes long. long_events bytes long)
 
 pub returns-in-Edited : goal.returns-in-Edited
-returns-in-Edited c = rw (c.in-Edited.is, c.bad_description-in-Edited.ensures, c.at-in-Edited.ensures) (λ bytes long. long_is_not_edited bytes long)
+returns-in-Edited c = rw (c.in-Edited.is, c.too_long_description-in-Edited.ensures) (λ bytes long. long_is_not_edited bytes long)
 
 pub returns-in-Edits : goal.returns-in-Edits
-returns-in-Edits c = rw (c.in-Edits.is, c.bad_edits.ensures) (λ bytes long. long_edits bytes long)
+returns-in-Edits c = rw (c.in-Edits.is, c.from-in-Edits.ensures) (λ bytes long. long_edits bytes long)
