@@ -19,9 +19,10 @@ struct File {
     bytes: Vec<u8>,
 }
 
-/// A case as far as its lines are read.
+/// A case as far as its lines are read, or none, which has no name.
 #[derive(Drop)]
 pub struct Case {
+    name: Option<String>,
     words: Vec<String>,
     files: Vec<File>,
     shelf_fails: Vec<u32>,
@@ -36,8 +37,17 @@ const AMPLE: usize = 1 << 20;
 
 impl Case {
     /// A case without words and files, in which nothing fails.
-    pub fn new(alloc: Global) -> Case {
+    pub fn new(alloc: Global, name: &str) -> Result<Case> {
+        Ok(Case {
+            name: Some(name.to_string(alloc)?),
+            ..Case::none(alloc)
+        })
+    }
+
+    /// No case.
+    pub fn none(alloc: Global) -> Case {
         Case {
+            name: None,
             words: Vec::new(alloc),
             files: Vec::new(alloc),
             shelf_fails: Vec::new(alloc),
@@ -46,6 +56,11 @@ impl Case {
             room: AMPLE,
             grain: AMPLE,
         }
+    }
+
+    /// The name, if it is a case.
+    pub fn name(&self) -> Option<&str> {
+        self.name.as_ref().map(|name| name.as_str())
     }
 
     /// Reads one line of the case.
@@ -60,6 +75,7 @@ impl Case {
         let (key, value) = line.split_once(" ").unwrap_or((line, ""));
         match key {
             "" | "#" => Ok(()),
+            _ if self.name.is_none() => bail!("outside a case: {line}"),
             "word" => Ok(self.words.push(value.to_string(alloc)?)?),
             "file" => self.begin(alloc, value),
             "fill" => self.fill(value, b""),
@@ -135,7 +151,7 @@ impl Case {
         Ok(())
     }
 
-    /// Whether no line has said anything of the case.
+    /// Whether no line has said anything of the case but its name.
     pub fn is_empty(&self) -> bool {
         self.words.is_empty()
             && self.files.is_empty()
@@ -146,12 +162,13 @@ impl Case {
             && self.grain == AMPLE
     }
 
-    /// The same words and files, of which nothing fails.
-    pub fn again(self, alloc: Global) -> Case {
+    /// The case with the words and files of another one, of which nothing fails.
+    pub fn again(self, alloc: Global, before: Case) -> Case {
         Case {
-            words: self.words,
-            files: self.files,
-            ..Case::new(alloc)
+            name: self.name,
+            words: before.words,
+            files: before.files,
+            ..Case::none(alloc)
         }
     }
 
