@@ -4,7 +4,7 @@ import resource
 import subprocess
 from typing import NamedTuple
 
-REPOSITORY = os.path.dirname(os.path.dirname(os.path.abspath(__file__)))
+REPOSITORY = os.path.dirname(os.path.dirname(os.path.dirname(os.path.abspath(__file__))))
 EXAMPLES = os.path.join(REPOSITORY, 'examples')
 TIME_LIMIT = 10.0
 DESCRIPTION_COMMANDS = (['check'], ['policy'], ['rules', 'iptables'], ['rules', 'openflow'],

@@ -231,7 +231,7 @@ def many_entries():
 
 
 def refused():
-    """What `check` refuses: the head of bench/run says for what."""
+    """What `check` refuses: the head of checks/bench/run says for what."""
     some, all_hosts, room = single_hosts(HOSTS // 2), single_hosts(HOSTS), LIMIT - 20000
     every, last = ''.join(short_pairs(HOSTS)), '["h255","h254"],'
     prefixes = ''.join(f'"10.{number // 250}.{number % 250}.0/24",' for number in range(50000))
