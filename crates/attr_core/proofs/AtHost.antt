@@ -2,7 +2,7 @@
 use Rattle.std.proofs.Common.{◌≡◌, ℕ, suc, ◌<◌, length, List, ◌∷◌, Option, Some, None, option_map, option_and_then, slice_index_or, slice_set, map, drop, get_or, ◌+◌, refl, sym, ap, ◌∙◌, arith}
 use Rattle.std.proofs.lemmas.List.{get_or-set_same, set-set}
 use Rattle.std.proofs.Math.Seq.{drop-cons}
-use Rattle.table_core.specs.Listing.{grow}
+use Rattle.table_core.specs.inner.Listing.{grow}
 
 map_again : {A : Type 0} (xs : List A) (i : ℕ) (x : A) (o : Option A) → option_map (slice_set (slice_set xs i x) i) o ≡ option_map (slice_set xs i) o
 map_again xs i x None = refl

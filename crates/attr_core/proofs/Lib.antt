@@ -1,3 +1,9 @@
 pub mod AtHost
-pub mod PeersWalk
+pub mod FirstBadLaws
+pub mod MayHaveLaws
 mod OneOfShapes
+pub mod OwnTablesLaws
+pub mod PeersWalk
+pub mod ShallowLaws
+pub mod TaintedMayHaveLaws
+pub mod TemplatesLaws

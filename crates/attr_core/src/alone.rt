@@ -1,9 +1,9 @@
 //! Templates in which each assign speaks for itself: whether it says an attribute does not depend on
 //! the others, and shows without an invariant.
 ghost use Rattle.std.specs.Prelude.{◌≡◌, List, [], map, is_some};
-ghost use Rattle.attr_core.specs.AssignView.{given_of};
+ghost use Rattle.attr_core.specs.inner.AssignView.{given_of};
 ghost use Rattle.attr_core.specs.Assigns.{Given};
-ghost use Rattle.attr_core.specs.Bad.{first_failing};
+ghost use Rattle.attr_core.specs.inner.Bad.{first_failing};
 ghost use Rattle.attr_core.specs.Forms.{bad_assign, says};
 ghost use Rattle.host_net.specs.Host.{Host};
 

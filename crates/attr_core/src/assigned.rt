@@ -1,13 +1,13 @@
 //! The way from assigns to an invariant, which is the same for all templates: each assign in turn
 //! gives its host an attribute, until one says none.
 ghost use Rattle.std.specs.Prelude.{◌≡◌, ◌<◌, ℕ, map, List, Option, Some, None, IfOk, All, if◌then◌else◌, length};
-ghost use Rattle.attr_core.specs.AssignView.{given_of, Reads};
+ghost use Rattle.attr_core.specs.inner.AssignView.{given_of, Reads};
 ghost use Rattle.attr_core.specs.Assigns.{Given};
 ghost use Rattle.attr_core.specs.Forms.{Form, bad_assign, invariant_by};
 ghost use Rattle.attr_core.specs.Shapes.{has_shape};
 ghost use Rattle.toml.specs.View.{table_view};
-ghost use Rattle.attr_core.specs.Holders.{IsHolder};
-ghost use Rattle.attr_core.specs.Walks.{ended, in_turn, shaped};
+ghost use Rattle.attr_core.specs.inner.Holders.{IsHolder};
+ghost use Rattle.attr_core.specs.inner.Walks.{ended, in_turn, shaped};
 ghost use Rattle.inv_any.specs.declared.any_inv.AnyInv.{AnyInv};
 ghost use Rattle.host_net.specs.Host.{Host};
 
@@ -100,7 +100,7 @@ fn take_all<T: Assigned>(
     Ok(taken)
 }
 
-#[tactic(auto, unfolding(crate::specs::Walks::shaped))]
+#[tactic(auto, unfolding(crate::specs::inner::Walks::shaped))]
 fn take_one<T: Assigned>(
     taken: &mut T,
     alloc: Global,

@@ -22,8 +22,8 @@ const KEYS: [Key; 3] = [
 impl Assigned for Blp {
     ghost use Rattle.std.specs.Prelude.{length, replicate, Some};
     ghost use Rattle.std.proofs.Common.{refl};
-    ghost use Rattle.attr_core.specs.Holders.{plain_holder};
-    ghost use Rattle.attr_core.specs.Walks.{with_attribute};
+    ghost use Rattle.attr_core.specs.inner.Holders.{plain_holder};
+    ghost use Rattle.attr_core.specs.inner.Walks.{with_attribute};
     ghost use Rattle.attr_core.specs.Blp.{blp_attribute, blp_form};
     ghost use Rattle.tmpl_levels.specs.Blp.{blp, unclassified};
     ghost use Rattle.inv_any.specs.declared.any_inv.AnyInv.TheVariants as any;

@@ -17,8 +17,8 @@ const KEYS: [Key; 2] = [HOST, Key::Needed("limit", Kind::Number(65535))];
 impl Assigned for Dependability {
     ghost use Rattle.std.specs.Prelude.{length, replicate, Some};
     ghost use Rattle.std.proofs.Common.{refl};
-    ghost use Rattle.attr_core.specs.Holders.{plain_holder};
-    ghost use Rattle.attr_core.specs.Walks.{with_attribute};
+    ghost use Rattle.attr_core.specs.inner.Holders.{plain_holder};
+    ghost use Rattle.attr_core.specs.inner.Walks.{with_attribute};
     ghost use Rattle.attr_core.specs.Dependability.{dependability_attribute, dependability_form};
     ghost use Rattle.tmpl_reach.specs.Dependability.{dependability};
     ghost use Rattle.inv_any.specs.declared.any_inv.AnyInv.TheVariants as any;

@@ -29,8 +29,8 @@ const KEYS: [Key; 3] = [
 impl Assigned for Domains {
     ghost use Rattle.std.specs.Prelude.{length, replicate};
     ghost use Rattle.std.proofs.Common.{refl};
-    ghost use Rattle.attr_core.specs.Holders.{even_holder};
-    ghost use Rattle.attr_core.specs.Walks.{with_attribute};
+    ghost use Rattle.attr_core.specs.inner.Holders.{even_holder};
+    ghost use Rattle.attr_core.specs.inner.Walks.{with_attribute};
     ghost use Rattle.std.specs.Prelude.{Some, None, option_map};
     ghost use Rattle.attr_core.specs.Domains.{domains_attribute, domains_form};
     ghost use Rattle.tmpl_domains.specs.Domains.{domains};

@@ -32,8 +32,8 @@ const KEYS: [Key; 2] = [
 impl Assigned for Gateway {
     ghost use Rattle.std.specs.Prelude.{length, replicate, Some};
     ghost use Rattle.std.proofs.Common.{refl};
-    ghost use Rattle.attr_core.specs.Holders.{plain_holder};
-    ghost use Rattle.attr_core.specs.Walks.{with_attribute};
+    ghost use Rattle.attr_core.specs.inner.Holders.{plain_holder};
+    ghost use Rattle.attr_core.specs.inner.Walks.{with_attribute};
     ghost use Rattle.attr_core.specs.Gateway.{gateway_attribute, gateway_form};
     ghost use Rattle.tmpl_zones.specs.Gateway.{gateways};
     ghost use Rattle.tmpl_zones.specs.declared.gateway.GateKind.TheVariants.{Unassigned};

@@ -1,11 +1,12 @@
 //! The invariant of a template, made of its assigns.
 ghost use Rattle.std.specs.Prelude.{◌≡◌, ◌<◌, map, length, All, IfOk, IfSome, Some, None};
-ghost use Rattle.attr_core.specs.AssignView.{Reads, given_of};
-ghost use Rattle.attr_core.specs.FirstBad.{SaysNothing, TellsFirstBad};
-ghost use Rattle.attr_core.specs.ReadIn.{read_in};
+ghost use Rattle.attr_core.specs.inner.AssignView.{Reads, given_of};
+ghost use Rattle.attr_core.specs.inner.FirstBad.{SaysNothing, TellsFirstBad};
+ghost use Rattle.attr_core.specs.inner.ReadIn.{read_in};
 ghost use Rattle.attr_core.specs.Templates.{bad_in, form, invariant_in, template_named};
 ghost use Rattle.attr_core.specs.declared.fault.AttrFault.TheVariants.{Memory};
-ghost use Rattle.inv_any.specs.Templates.{HostsMayHave, meaning_of, template_name};
+ghost use Rattle.inv_any.specs.Templates.{meaning_of, template_name};
+ghost use Rattle.inv_any.specs.inner.Templates.{HostsMayHave};
 
 use crate::alone::first_bad;
 use crate::assign::Assign;
@@ -92,7 +93,7 @@ fn memory(fault: AttrFault) -> AllocError
     }
 }
 
-#[tactic(auto, unfolding(crate::specs::ReadIn::read_in))]
+#[tactic(auto, unfolding(crate::specs::inner::ReadIn::read_in))]
 fn by_template(
     alloc: Global,
     hosts: &Hosts,

@@ -3,7 +3,7 @@
 ghost use Rattle.std.specs.Prelude.{◌≡◌, ◌++◌, [], ◌∷◌, Some, length, option_map};
 ghost use Rattle.attr_core.specs.Domains.{domains_form};
 ghost use Rattle.attr_core.specs.Kinds.{kind_of};
-ghost use Rattle.attr_core.specs.MayHave.{SaysWhatHostsMayHave, domains_listed, noreach_listed, partners_listed, sets_listed};
+ghost use Rattle.attr_core.specs.inner.MayHave.{SaysWhatHostsMayHave, domains_listed, noreach_listed, partners_listed, sets_listed};
 ghost use Rattle.attr_core.specs.NoReach.{noreach_form};
 ghost use Rattle.attr_core.specs.OwnTables.{Declared, kind_numbered, table_form};
 ghost use Rattle.attr_core.specs.Partners.{partners_form};

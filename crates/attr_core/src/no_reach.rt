@@ -20,11 +20,11 @@ const KEYS: [Key; 2] = [HOST, Key::Needed("deny", Kind::List)];
 impl Assigned for NoReach {
     ghost use Rattle.std.specs.Prelude.{length, replicate};
     ghost use Rattle.std.proofs.Common.{refl};
-    ghost use Rattle.attr_core.specs.Holders.{alone_holder};
-    ghost use Rattle.attr_core.specs.Walks.{with_attribute};
+    ghost use Rattle.attr_core.specs.inner.Holders.{alone_holder};
+    ghost use Rattle.attr_core.specs.inner.Walks.{with_attribute};
     ghost use Rattle.attr_core.specs.NoReach.{noreach_attribute, noreach_form};
     ghost use Rattle.tmpl_reach.specs.NoReach.{no_reach};
-    ghost use Rattle.tmpl_reach.specs.Resets.{all_others};
+    ghost use Rattle.tmpl_reach.specs.inner.Resets.{all_others};
     ghost use Rattle.inv_any.specs.declared.any_inv.AnyInv.TheVariants as any;
 
     ghost size_of = { λ attributes. length attributes };
@@ -64,7 +64,7 @@ impl Alone for NoReach {
 
     ghost alone = { λ _ _ _. refl };
 
-    #[tactic(auto, using(crate::specs::Bad::is_some_map), unfolding(crate::specs::NoReach::noreach_attribute, crate::specs::NoReach::all_denied))]
+    #[tactic(auto, using(crate::specs::inner::Bad::is_some_map), unfolding(crate::specs::NoReach::noreach_attribute, crate::specs::NoReach::all_denied))]
     fn reads(hosts: &Hosts, assign: &Assign<'_>) -> bool {
         are_peers(hosts, assign.host, listed_at(assign.table, "deny"))
     }

@@ -23,8 +23,8 @@ const KEYS: [Key; 2] = [
 impl Assigned for NonInterference {
     ghost use Rattle.std.specs.Prelude.{length, replicate, Some};
     ghost use Rattle.std.proofs.Common.{refl};
-    ghost use Rattle.attr_core.specs.Holders.{plain_holder};
-    ghost use Rattle.attr_core.specs.Walks.{with_attribute};
+    ghost use Rattle.attr_core.specs.inner.Holders.{plain_holder};
+    ghost use Rattle.attr_core.specs.inner.Walks.{with_attribute};
     ghost use Rattle.attr_core.specs.NonInterference.{interference_attribute, interference_form};
     ghost use Rattle.tmpl_reach.specs.NonInterference.{non_interference};
     ghost use Rattle.tmpl_reach.specs.declared.non_interference.Interference.TheVariants.{Interfering};

@@ -3,12 +3,12 @@
 ghost use Rattle.std.specs.Prelude.{◌≡◌, ◌≤◌, ◌<◌, All, IfSome, List, is_some, length, map, replicate};
 ghost use Rattle.std.specs.List.{position_from};
 ghost use Rattle.std.specs.Str.{bytes_eq};
-ghost use Rattle.attr_core.specs.AssignView.{given_of};
-ghost use Rattle.attr_core.specs.Bad.{first_failing};
+ghost use Rattle.attr_core.specs.inner.AssignView.{given_of};
+ghost use Rattle.attr_core.specs.inner.Bad.{first_failing};
 ghost use Rattle.attr_core.specs.OwnTables.{Declared, kind_numbered, table_form};
-ghost use Rattle.attr_core.specs.OwnTablesWalk.{kind_said, kinds_after};
+ghost use Rattle.attr_core.specs.inner.OwnTablesWalk.{kind_said, kinds_after};
 ghost use Rattle.attr_core.specs.Forms.{bad_assign, invariant_by};
-ghost use Rattle.attr_core.specs.FormLaws.{set_said};
+ghost use Rattle.attr_core.specs.laws.FormLaws.{set_said};
 ghost use Rattle.host_net.specs.Host.{Host};
 ghost use Rattle.toml.specs.View.{table_view};
 
@@ -38,7 +38,7 @@ fn place_of(words: &[&str], word: &str) -> Option<usize>
 }
 
 /// The number of the kind that the table of an assign says.
-#[tactic(auto, unfolding(crate::specs::OwnTablesWalk::kind_said))]
+#[tactic(auto, unfolding(crate::specs::inner::OwnTablesWalk::kind_said))]
 fn kind_said(words: &[&str], table: &Table) -> Option<usize>
     ensures value { result ≡ kind_said (map (λ known. known.now) words.now) (table_view table.now) }
     ensures within { IfSome result (λ kind. kind < length words.now) }

@@ -31,8 +31,8 @@ const MASTER: [Key; 3] = [
 impl Assigned for Partners {
     ghost use Rattle.std.specs.Prelude.{length, replicate};
     ghost use Rattle.std.proofs.Common.{refl};
-    ghost use Rattle.attr_core.specs.Holders.{even_holder};
-    ghost use Rattle.attr_core.specs.Walks.{with_attribute};
+    ghost use Rattle.attr_core.specs.inner.Holders.{even_holder};
+    ghost use Rattle.attr_core.specs.inner.Walks.{with_attribute};
     ghost use Rattle.attr_core.specs.Partners.{partners_attribute, partners_form};
     ghost use Rattle.tmpl_zones.specs.Partners.{DontCare, partners};
     ghost use Rattle.inv_any.specs.declared.any_inv.AnyInv.TheVariants as any;
@@ -94,7 +94,7 @@ impl Alone for Partners {
     }
 }
 
-#[tactic(auto, using(crate::specs::Bad::is_some_map), unfolding(crate::specs::Partners::master_in, crate::specs::Partners::master_of))]
+#[tactic(auto, using(crate::specs::inner::Bad::is_some_map), unfolding(crate::specs::Partners::master_in, crate::specs::Partners::master_of))]
 fn lists_peers(hosts: &Hosts, assign: &Assign<'_>) -> bool
     ensures { result ≡ is_some (master_in hosts.now assign.now.host (table_view assign.now.table.now)) }
 {

@@ -1,7 +1,7 @@
 //! The shapes of an assign's table: which keys it has, and what stands at them.
 ghost use Rattle.std.specs.Prelude.{◌≡◌, map};
 ghost use Rattle.attr_core.specs.Shapes.{of_shape};
-ghost use Rattle.table_core.specs.KeyView.{key_view};
+ghost use Rattle.table_core.specs.inner.KeyView.{key_view};
 ghost use Rattle.toml.specs.View.{table_view};
 
 use table_core::{Key, Kind, all_suit, has_only_keys, lacks_key};

@@ -26,8 +26,8 @@ const UNASSIGNED: [Key; 2] = [HOST, Key::Needed("kind", Kind::OneOf(&["unassigne
 impl Assigned for Subnets {
     ghost use Rattle.std.specs.Prelude.{length, replicate, Some};
     ghost use Rattle.std.proofs.Common.{refl};
-    ghost use Rattle.attr_core.specs.Holders.{plain_holder};
-    ghost use Rattle.attr_core.specs.Walks.{with_attribute};
+    ghost use Rattle.attr_core.specs.inner.Holders.{plain_holder};
+    ghost use Rattle.attr_core.specs.inner.Walks.{with_attribute};
     ghost use Rattle.attr_core.specs.Subnets.{subnets_attribute, subnets_form};
     ghost use Rattle.tmpl_zones.specs.Subnets.{subnets};
     ghost use Rattle.tmpl_zones.specs.declared.subnets.NetKind.TheVariants.{Unassigned};

@@ -1,10 +1,10 @@
 //! Tainting: the labels of a host, and those that it takes off what it sends. A label of an invariant
 //! has a number, by the place where it first stands.
 ghost use Rattle.std.specs.Prelude.{◌≡◌, ◌<◌, ◌≤◌, IsTrue, [], Some, None, if◌then◌else◌, map, option_map, length, IfOk, IfSome};
-ghost use Rattle.attr_core.specs.AssignView.{given_of};
-ghost use Rattle.attr_core.specs.Bad.{first_unlabelled, labels_said};
+ghost use Rattle.attr_core.specs.inner.AssignView.{given_of};
+ghost use Rattle.attr_core.specs.inner.Bad.{first_unlabelled, labels_said};
 ghost use Rattle.attr_core.specs.Forms.{bad_assign};
-ghost use Rattle.attr_core.specs.LabelWalk.{all_labels, and_label, are_among, labelled, labels_at, numbered};
+ghost use Rattle.attr_core.specs.inner.LabelWalk.{all_labels, and_label, are_among, labelled, labels_at, numbered};
 ghost use Rattle.attr_core.specs.Tainting.{label_in, tainting_form};
 ghost use Rattle.host_net.specs.Host.{Host};
 ghost use Rattle.std.specs.List.{position_from};
@@ -39,7 +39,7 @@ pub(crate) struct TaintedHosts {
 
 impl Model for TaintedHosts {
     ghost use Rattle.std.specs.Prelude.{length, ◌≤◌};
-    ghost use Rattle.attr_core.specs.TaintedView.{Tainted};
+    ghost use Rattle.attr_core.specs.inner.TaintedView.{Tainted};
 
     ghost Value = { Tainted };
 
@@ -51,8 +51,8 @@ impl Model for TaintedHosts {
 impl Assigned for TaintedHosts {
     ghost use Rattle.std.specs.Prelude.{length, replicate, []};
     ghost use Rattle.attr_core.specs.Tainting.{labels_of, tainting_form};
-    ghost use Rattle.attr_core.specs.TaintedView.{and_tainted};
-    ghost use Rattle.attr_core.specs.TaintingLaws.{tainting_holder};
+    ghost use Rattle.attr_core.specs.inner.TaintedView.{and_tainted};
+    ghost use Rattle.attr_core.specs.laws.TaintingLaws.{tainting_holder};
     ghost use Rattle.inv_any.specs.declared.any_inv.AnyInv.TheVariants as any;
     ghost use Rattle.tmpl_levels.specs.Tainting.{untainted};
 
@@ -81,7 +81,7 @@ impl Assigned for TaintedHosts {
         })
     }
 
-    #[tactic(auto, unfolding(crate::specs::TaintedView::and_tainted))]
+    #[tactic(auto, unfolding(crate::specs::inner::TaintedView::and_tainted))]
     fn take(&mut self, _: Global, _: &Hosts, assign: &Assign<'_>) -> Result<bool, AllocError> {
         let Some((taints, untaints)) = labelled(&mut self.labels, assign.table)? else {
             return Ok(false);
@@ -130,7 +130,7 @@ fn says_labels(labels: &mut Vec<Name>, assign: &Assign<'_>) -> Result<bool, Allo
 }
 
 // The labels that the table says.
-#[tactic(auto, unfolding(crate::specs::LabelWalk::labelled))]
+#[tactic(auto, unfolding(crate::specs::inner::LabelWalk::labelled))]
 fn labelled(labels: &mut Vec<Name>, table: &Table) -> Result<Option<(u64, u64)>, AllocError>
     requires { length labels.old.items ≤ 64 }
     ensures few { length labels.new.items ≤ 64 }
@@ -160,7 +160,7 @@ fn are_among(untaints: u64, taints: u64) -> bool
 }
 
 // The set of the labels at a key.
-#[tactic(auto, unfolding(crate::specs::LabelWalk::labels_at))]
+#[tactic(auto, unfolding(crate::specs::inner::LabelWalk::labels_at))]
 fn labels_at(labels: &mut Vec<Name>, table: &Table, key: &str) -> Result<Option<u64>, AllocError>
     requires { length labels.old.items ≤ 64 }
     ensures few { length labels.new.items ≤ 64 }
@@ -173,7 +173,7 @@ fn labels_at(labels: &mut Vec<Name>, table: &Table, key: &str) -> Result<Option<
     }
 }
 
-#[tactic(auto, unfolding(crate::specs::LabelWalk::all_labels))]
+#[tactic(auto, unfolding(crate::specs::inner::LabelWalk::all_labels))]
 fn all_labels(labels: &mut Vec<Name>, values: &[Value]) -> Result<Option<u64>, AllocError>
     requires { length labels.old.items ≤ 64 }
     ensures few { length labels.new.items ≤ 64 }
@@ -191,7 +191,7 @@ fn all_labels(labels: &mut Vec<Name>, values: &[Value]) -> Result<Option<u64>, A
 }
 
 // The set with the label of an element.
-#[tactic(auto, unfolding(crate::specs::LabelWalk::and_label))]
+#[tactic(auto, unfolding(crate::specs::inner::LabelWalk::and_label))]
 fn and_label(labels: &mut Vec<Name>, bits: u64, value: &Value) -> Result<Option<u64>, AllocError>
     requires { length labels.old.items ≤ 64 }
     ensures few { length labels.new.items ≤ 64 }
@@ -215,7 +215,7 @@ fn label_in(value: &Value) -> Option<Name>
 }
 
 // The number of the label: that which it has, or the next.
-#[tactic(auto, unfolding(crate::specs::LabelWalk::numbered, crate::specs::LabelWalk::new_label))]
+#[tactic(auto, unfolding(crate::specs::inner::LabelWalk::numbered, crate::specs::inner::LabelWalk::new_label))]
 fn numbered(labels: &mut Vec<Name>, label: Name) -> Result<Option<u32>, AllocError>
     requires { length labels.old.items ≤ 64 }
     ensures few { length labels.new.items ≤ 64 }

@@ -8,25 +8,28 @@ use Rattle.host_net.specs.declared.packet.CtState.TheVariants.{New, Established}
 use Rattle.host_net.specs.Packet.{IsPacket, swap_of}
 use Rattle.flow_set.specs.FlowSet.{IsSubset}
 use Rattle.pkt_core.specs.Firewall.{may_pass}
-use Rattle.pkt_core.specs.FirewallFor.{StatefulArePermitted}
-use Rattle.pkt_core.specs.FilterLaws.{is_of-within}
+use Rattle.pkt_core.specs.inner.FirewallFor.{StatefulArePermitted}
+use Rattle.pkt_core.proofs.FilterLaws.{is_of-within}
 use Rattle.ofp_rules.specs.declared.entry.Entry.{Entry}
 use Rattle.audit_core.specs.declared.kind.Kind.{Kind}
 use Rattle.audit_core.specs.declared.kind.Kind.TheVariants.{Alone, BehindSwap, BehindBoth}
-use Rattle.audit_core.specs.Agreement.{GivesVerdicts, alone, behind_swap}
-use Rattle.audit_core.specs.FindingLaws.{swaps_known}
-use Rattle.audit_core.specs.Cuts.{AreOneClass, cut_addresses, cut_ports, cuts_between, named_protocols, parts_between}
-use Rattle.audit_core.specs.Judging.{Right, is_asked, state_in}
+use Rattle.audit_core.specs.inner.Agreement.{GivesVerdicts, alone, behind_swap}
+use Rattle.audit_core.specs.laws.FindingLaws.{swaps_known}
+use Rattle.audit_core.specs.Cuts.{cut_addresses, cut_ports, cuts_between, named_protocols, parts_between}
+use Rattle.audit_core.specs.inner.Cuts.{AreOneClass}
+use Rattle.audit_core.specs.inner.Judging.{Right, is_asked, state_in}
 use Rattle.audit_core.proofs.OrderLemmas.{contains_cases, contains_later, contains_none, in_order-has}
 use Rattle.audit_core.specs.Parts.{rules_parts, site_parts}
 use Rattle.audit_core.specs.Places.{IsClassPacket, leasts_of}
 use Rattle.audit_core.proofs.LeastProtocols.{protocol_there}
-use Rattle.audit_core.specs.Ranges.{AreTogether}
+use Rattle.audit_core.specs.inner.Ranges.{AreTogether}
 use Rattle.audit_core.proofs.RangeLemmas.{is_in, protocol_of}
-use Rattle.audit_core.specs.Rules.{Rules, Entries, GivesOne, filter_of}
-use Rattle.audit_core.specs.Searching.{AreAlike, IsNoHigher}
-use Rattle.audit_core.specs.ShortLaws.{agree_where_judged, judged_stateless, short_lists_suffice}
-use Rattle.audit_core.specs.Sides.{Agree, AgreeAlways, AgreeShortly, Sides, lets_answer, permits}
+use Rattle.audit_core.specs.Rules.{Rules, Entries, filter_of}
+use Rattle.audit_core.specs.inner.Rules.{GivesOne}
+use Rattle.audit_core.specs.inner.Searching.{AreAlike, IsNoHigher}
+use Rattle.audit_core.proofs.ShortLaws.{agree_where_judged, judged_stateless, short_lists_suffice}
+use Rattle.audit_core.specs.Sides.{Agree, Sides, lets_answer, permits}
+use Rattle.audit_core.specs.inner.Sides.{AgreeAlways, AgreeShortly}
 use Rattle.audit_core.proofs.PartLemmas.{AreAlikeFor, alike_back, alike_for_parts, alike_swapped}
 use Rattle.audit_core.proofs.RulesLemmas.{filter_alike}
 use Rattle.audit_core.proofs.SiteLemmas.{is_of_alike}

@@ -5,22 +5,24 @@ use Rattle.std.specs.List.{flat_map}
 use Rattle.audit_core.specs.declared.named.Found.{Found}
 use Rattle.audit_core.specs.Classes.{in_order, protocol_leasts}
 use Rattle.audit_core.specs.Cuts.{cuts_between, cuts_by, named_protocols, parts_between}
-use Rattle.audit_core.specs.Named.{IsNamedBy, NameSame}
+use Rattle.audit_core.specs.inner.Named.{IsNamedBy, NameSame}
 use Rattle.audit_core.proofs.DistinctLemmas.{leasts_same, thinned_same}
 use Rattle.audit_core.specs.Parts.{Part}
-use Rattle.audit_core.specs.RangeCuts.{address_cuts, port_cuts}
+use Rattle.audit_core.specs.inner.RangeCuts.{address_cuts, port_cuts}
 use Rattle.audit_core.proofs.NamedLemmas.{address_cuts_are, port_cuts_are}
 use Rattle.audit_core.proofs.SearchLemmas.{found_by_search}
-use Rattle.audit_core.specs.Findings.{IsFinding}
+use Rattle.audit_core.specs.inner.Findings.{IsFinding}
 use Rattle.audit_core.specs.declared.finding.Finding.{Finding}
 use Rattle.audit_core.proofs.OrderLemmas.{in_order-has, in_order-rises}
-use Rattle.audit_core.specs.Places.{AreLeasts, Leasts, class_count, class_total, leasts_of}
+use Rattle.audit_core.specs.Places.{Leasts, class_count, class_total, leasts_of}
+use Rattle.audit_core.specs.inner.Places.{AreLeasts}
 use Rattle.audit_core.proofs.LeastProtocols.{protocols_rise, some_protocol}
-use Rattle.audit_core.specs.Rules.{GivesOne, filter_of}
-use Rattle.audit_core.specs.Searching.{ArePacketsAll, IsSearched}
+use Rattle.audit_core.specs.Rules.{filter_of}
+use Rattle.audit_core.specs.inner.Rules.{GivesOne}
+use Rattle.audit_core.specs.inner.Searching.{ArePacketsAll, IsSearched}
 use Rattle.audit_core.specs.Sides.{Sides}
-use Rattle.audit_core.specs.Thinning.{AreThinned}
-use Rattle.audit_core.specs.Treatment.{AreMerged}
+use Rattle.audit_core.specs.inner.Thinning.{AreThinned}
+use Rattle.audit_core.specs.inner.Treatment.{AreMerged}
 use Rattle.audit_core.proofs.MergedLemmas.{merged_classes, merged_represent}
 use Rattle.audit_core.proofs.StandingLemmas.{kept_classes, kept_represent}
 use Rattle.flow_set.specs.FlowSet.{IsSubset}

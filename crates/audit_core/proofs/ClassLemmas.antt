@@ -11,10 +11,11 @@ use Rattle.audit_core.specs.declared.finding.Finding.{Finding}
 use Rattle.audit_core.specs.declared.finding.Finding.TheVariants.{Differ as Differing}
 use Rattle.audit_core.specs.declared.finding.Trace.{Trace}
 use Rattle.audit_core.specs.Findings.{place_of, trace_of}
-use Rattle.audit_core.specs.Judging.{Right, SayOther, SaySame, Wrong}
+use Rattle.audit_core.specs.inner.Judging.{Right, SayOther, SaySame, Wrong}
 use Rattle.audit_core.proofs.PlaceLemmas.{class_at_place, lower_place, place_of_packet, places_within}
-use Rattle.audit_core.specs.Places.{AreLeasts, ComesBefore, IsClassPacket, Leasts, class_total, packet_at}
-use Rattle.audit_core.specs.Searching.{AllRight, AreFaultsBefore, FindMore, FindsMore, IsFirstFault, IsFirstWrong, IsFoundBefore, IsSearched, finding_by}
+use Rattle.audit_core.specs.Places.{ComesBefore, IsClassPacket, Leasts, class_total}
+use Rattle.audit_core.specs.inner.Places.{AreLeasts, packet_at}
+use Rattle.audit_core.specs.inner.Searching.{AllRight, AreFaultsBefore, FindMore, FindsMore, IsFirstFault, IsFirstWrong, IsFoundBefore, IsSearched, finding_by}
 use Rattle.audit_core.specs.Sides.{Sides}
 
 class_here : (l : Leasts) (n : ℕ) (q : Packet) → AreLeasts l → n < class_total l → q ≡ packet_at l n → IsClassPacket l q

@@ -14,10 +14,10 @@ use Rattle.std.proofs.lemmas.Bool.Decides.{Decides-eqb}
 use Rattle.std.proofs.lemmas.List.Elements.{Contains-append_left, Contains-append_right}
 use Rattle.audit_core.specs.declared.named.Found.{Found}
 use Rattle.audit_core.specs.Classes.{in_order, protocol_leasts}
-use Rattle.audit_core.specs.Named.{HaveSame, NameSame}
+use Rattle.audit_core.specs.inner.Named.{HaveSame, NameSame}
 use Rattle.audit_core.specs.Places.{Leasts}
-use Rattle.audit_core.specs.RangeCuts.{address_cuts, cuts_of_addresses, cuts_of_ports, port_cuts}
-use Rattle.audit_core.specs.Thinning.{AreThinned, IsThinned, SameAddresses, SamePorts}
+use Rattle.audit_core.specs.inner.RangeCuts.{address_cuts, cuts_of_addresses, cuts_of_ports, port_cuts}
+use Rattle.audit_core.specs.inner.Thinning.{AreThinned, IsThinned, SameAddresses, SamePorts}
 use Rattle.audit_core.proofs.OrderLemmas.{contains_cases, contains_first, contains_later, contains_none, in_order_same}
 use Rattle.audit_core.proofs.LeastProtocols.{protocol_leasts_same}
 

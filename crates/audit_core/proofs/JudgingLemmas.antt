@@ -8,18 +8,19 @@ use Rattle.host_net.specs.Packet.{swap_of}
 use Rattle.pkt_core.specs.declared.event.Event.{Event}
 use Rattle.pkt_core.specs.declared.event.Event.TheVariants.{Seen}
 use Rattle.pkt_core.specs.Events.{ForgottenAt, SeenAt, WasSeen}
-use Rattle.pkt_core.specs.EventLaws.{WasSeen-none, WasSeen-now}
+use Rattle.pkt_core.specs.laws.EventLaws.{WasSeen-none, WasSeen-now}
 use Rattle.pkt_core.specs.Expected.{AreExpected, Expected}
 use Rattle.pkt_core.specs.Firewall.{Filter, may_pass}
-use Rattle.pkt_core.specs.KeptLaws.{begins_behind_seen}
+use Rattle.pkt_core.specs.laws.KeptLaws.{begins_behind_seen}
 use Rattle.pkt_core.specs.Tracking.{Kept, Runs, after_seen, nothing_kept, state_of}
 use Rattle.audit_core.specs.declared.kind.Kind.{Kind}
 use Rattle.audit_core.specs.declared.kind.Kind.TheVariants.{Alone, BehindSwap, BehindBoth}
-use Rattle.audit_core.specs.Agreement.{AgreeOn, IsJudged, IsWrong}
-use Rattle.audit_core.specs.Judging.{IsRight, IsWrongIn}
-use Rattle.audit_core.specs.ListLaws.{begins_run, differ_more, ends_run, expected_more}
+use Rattle.audit_core.specs.Agreement.{AgreeOn, IsWrong}
+use Rattle.audit_core.specs.inner.Agreement.{IsJudged}
+use Rattle.audit_core.specs.inner.Judging.{IsRight, IsWrongIn}
+use Rattle.audit_core.specs.laws.ListLaws.{begins_run, differ_more, ends_run, expected_more}
 use Rattle.audit_core.specs.Lists.{DifferBehind, front_of, list_of}
-use Rattle.audit_core.specs.ShortLaws.{kept_established, swap_established}
+use Rattle.audit_core.proofs.ShortLaws.{kept_established, swap_established}
 
 -- a stateful packet is permitted
 abbrev pub Within : (permitted stateful : Packet → Bool) → Packet → Type 0

@@ -4,7 +4,8 @@ use Rattle.std.specs.Prelude.{if◌then◌else◌}
 use Rattle.std.specs.List.{Contains, list_any}
 use Rattle.std.proofs.lemmas.Bool.{cases_lt, or_cases, or_left, or_right}
 use Rattle.std.proofs.lemmas.Bool.Decides.{Decides-eqb}
-use Rattle.audit_core.specs.Classes.{Rises, named_and_first, protocol_leasts}
+use Rattle.audit_core.specs.Classes.{named_and_first, protocol_leasts}
+use Rattle.audit_core.specs.inner.Classes.{Rises}
 use Rattle.audit_core.proofs.OrderLemmas.{contains_cases, contains_first, contains_later, contains_none}
 
 has_any : (named : List ℕ) (n : ℕ) → Contains named n → list_any (λ x. x == n) named ≡ true

@@ -3,7 +3,7 @@ use Rattle.std.proofs.Common.{ℕ, ◌*◌, ◌^◌, ◌<◌, ◌≤◌, ◌∙�
 use Rattle.std.specs.List.{Contains}
 use Rattle.std.proofs.Math.Nat.{mul-le-mul}
 use Rattle.std.proofs.lemmas.List.{get_or_default}
-use Rattle.audit_core.specs.Classes.{Rises}
+use Rattle.audit_core.specs.inner.Classes.{Rises}
 use Rattle.audit_core.proofs.OrderLemmas.{rises_short}
 
 -- where each place has a number below a bound, all are below it

@@ -8,7 +8,7 @@ use Rattle.ipt_rules.specs.Chain.{Chain, rules_of}
 use Rattle.ipt_rules.specs.Matching.{address_matches}
 use Rattle.audit_core.specs.declared.end.End.{End}
 use Rattle.audit_core.specs.declared.end.End.TheVariants.{Source, Destination}
-use Rattle.audit_core.specs.Treatment.{AreSameBeside, FitsAt, IsEnough, LeaveSame, TreatSame, left_of, part_at, without_part}
+use Rattle.audit_core.specs.inner.Treatment.{AreSameBeside, FitsAt, IsEnough, LeaveSame, TreatSame, left_of, part_at, without_part}
 use Rattle.audit_core.specs.Rules.{Chains}
 
 -- the rule at a place stands before those behind it

@@ -2,6 +2,7 @@ pub mod AlikeLemmas
 pub mod AuditLemmas
 pub mod ClassLemmas
 pub mod DistinctLemmas
+pub mod ExpectedLaws
 pub mod JudgingLemmas
 pub mod LeastProtocols
 pub mod LeastsLemmas
@@ -13,8 +14,10 @@ pub mod PartLemmas
 pub mod PlaceLemmas
 pub mod ProtocolLemmas
 pub mod RangeLemmas
+pub mod RulesLaws
 pub mod RulesLemmas
 pub mod SearchLemmas
+pub mod ShortLaws
 pub mod SideLemmas
 pub mod SiteLemmas
 pub mod StandingLemmas

@@ -18,14 +18,16 @@ use Rattle.flow_set.specs.FlowSet.{has}
 use Rattle.pkt_core.specs.FlowPolicy.{flow_of_owners, is_of}
 use Rattle.ipt_rules.specs.Chain.{Chain}
 use Rattle.ipt_rules.specs.Meaning.{HasVerdictIn}
-use Rattle.audit_core.specs.Classes.{Rises}
+use Rattle.audit_core.specs.inner.Classes.{Rises}
 use Rattle.audit_core.specs.declared.end.End.TheVariants.{Source, Destination}
-use Rattle.audit_core.specs.Places.{AreLeasts, IsClassPacket, Leasts, class_total}
-use Rattle.audit_core.specs.Rules.{Rules, Chains, Entries, GivesOne, filter_of}
-use Rattle.audit_core.specs.Searching.{AreAlike, IsNoHigher, Represent}
+use Rattle.audit_core.specs.Places.{IsClassPacket, Leasts, class_total}
+use Rattle.audit_core.specs.inner.Places.{AreLeasts}
+use Rattle.audit_core.specs.Rules.{Rules, Chains, Entries, filter_of}
+use Rattle.audit_core.specs.inner.Rules.{GivesOne}
+use Rattle.audit_core.specs.inner.Searching.{AreAlike, IsNoHigher, Represent}
 use Rattle.audit_core.specs.Sides.{Sides, lets_answer, permits}
-use Rattle.audit_core.specs.Thinning.{IsKeptFor, IsThinned}
-use Rattle.audit_core.specs.Treatment.{AreMerged, AreTreatedAlike, TreatSame}
+use Rattle.audit_core.specs.inner.Thinning.{IsKeptFor, IsThinned}
+use Rattle.audit_core.specs.inner.Treatment.{AreMerged, AreTreatedAlike, TreatSame}
 use Rattle.audit_core.proofs.StandingLemmas.{some_kept}
 use Rattle.audit_core.proofs.TreatmentLemmas.{destination_verdict, from_address, source_verdict, to_address}
 

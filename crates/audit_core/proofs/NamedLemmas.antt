@@ -10,9 +10,9 @@ use Rattle.host_net.specs.Hosts.{all_prefixes}
 use Rattle.host_net.specs.PrefixView.{first_address, last_address}
 use Rattle.audit_core.specs.declared.named.Found.{Found}
 use Rattle.audit_core.specs.Cuts.{cut_addresses, cut_ports, named_protocols}
-use Rattle.audit_core.specs.Named.{AreMore, address_ranges, port_ranges}
+use Rattle.audit_core.specs.inner.Named.{AreMore, address_ranges, port_ranges}
 use Rattle.audit_core.specs.Parts.{Part, Addresses, Protocol, Ports}
-use Rattle.audit_core.specs.RangeCuts.{cuts_of_addresses, cuts_of_ports}
+use Rattle.audit_core.specs.inner.RangeCuts.{cuts_of_addresses, cuts_of_ports}
 use Rattle.audit_core.specs.Ranges.{range_cuts}
 
 -- 1. More parts.

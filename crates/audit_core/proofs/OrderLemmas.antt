@@ -5,7 +5,8 @@ use Rattle.std.specs.List.{AllPairs, Contains}
 use Rattle.std.specs.List.Sorted.{IsStrictlyIncreasing}
 use Rattle.std.proofs.lemmas.Bool.Decides.{Decides-eqb, nat_tests}
 use Rattle.std.proofs.lemmas.List.Kept.{AllPairs-from_increasing}
-use Rattle.audit_core.specs.Classes.{Rises, in_order, put_in}
+use Rattle.audit_core.specs.Classes.{in_order, put_in}
+use Rattle.audit_core.specs.inner.Classes.{Rises}
 
 pub contains_cases : {X : Type 0} (x : X) (xs : List X) (d : X) → Contains (x ∷ xs) d → (x ≡ d) ⊎ Contains xs d
 contains_cases x xs d (zero, within, is) = inl is

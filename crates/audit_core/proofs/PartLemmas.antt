@@ -6,12 +6,13 @@ use Rattle.host_net.specs.declared.packet.Packet.{Packet}
 use Rattle.host_net.specs.declared.prefix.Prefix.{Prefix}
 use Rattle.host_net.specs.Packet.{IsPacket, swap_of}
 use Rattle.host_net.specs.Prefix.{covers}
-use Rattle.host_net.specs.PrefixLaws.{covers_between}
+use Rattle.host_net.proofs.PrefixLaws.{covers_between}
 use Rattle.host_net.specs.PrefixView.{first_address, last_address}
-use Rattle.audit_core.specs.Cuts.{AreOneClass, Cuts, cut_addresses, cut_ports, cuts_between, named_protocols, parts_between}
+use Rattle.audit_core.specs.Cuts.{Cuts, cut_addresses, cut_ports, cuts_between, named_protocols, parts_between}
+use Rattle.audit_core.specs.inner.Cuts.{AreOneClass}
 use Rattle.audit_core.proofs.OrderLemmas.{contains_first}
 use Rattle.audit_core.specs.Parts.{Part, Addresses, Protocol, Ports}
-use Rattle.audit_core.specs.Ranges.{AreOneProtocol, AreTogether, within}
+use Rattle.audit_core.specs.inner.Ranges.{AreOneProtocol, AreTogether, within}
 use Rattle.audit_core.proofs.RangeLemmas.{named_alike, same_test, within_alike, within_from, within_parts}
 use Rattle.audit_core.specs.Sides.{Sides}
 

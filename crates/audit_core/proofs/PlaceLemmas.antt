@@ -8,8 +8,9 @@ use Rattle.std.proofs.lemmas.List.{get_or_default}
 use Rattle.std.proofs.lemmas.List.Elements.{Contains-get_or}
 use Rattle.std.proofs.lemmas.Nat.{div-add-mod', div-mul-add, div_below, mod-mul-add, mod_below, mul-add-lt}
 use Rattle.host_net.specs.declared.packet.Packet.{Packet}
-use Rattle.audit_core.specs.Classes.{Rises}
-use Rattle.audit_core.specs.Places.{AreLeasts, ComesBefore, IsClassPacket, Leasts, class_total, comes_first, packet_at, place_of_class}
+use Rattle.audit_core.specs.inner.Classes.{Rises}
+use Rattle.audit_core.specs.Places.{ComesBefore, IsClassPacket, Leasts, class_total, comes_first}
+use Rattle.audit_core.specs.inner.Places.{AreLeasts, packet_at, place_of_class}
 
 -- what stands in a list stands at a place of it
 at_place : (xs : List ℕ) (x : ℕ) → Contains xs x → (i : ℕ) × (i < length xs) × (slice_index xs i ≡ x)

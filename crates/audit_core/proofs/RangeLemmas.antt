@@ -5,7 +5,8 @@ use Rattle.std.specs.List.{Contains}
 use Rattle.std.proofs.lemmas.Bool.Decides.{Decides-eqb, nat_tests}
 use Rattle.std.proofs.lemmas.Bool.{cases_lt, cases_Bool}
 use Rattle.audit_core.proofs.OrderLemmas.{contains_cases, contains_first, contains_later, contains_none}
-use Rattle.audit_core.specs.Ranges.{AreOneProtocol, AreTogether, range_cuts, within}
+use Rattle.audit_core.specs.Ranges.{range_cuts}
+use Rattle.audit_core.specs.inner.Ranges.{AreOneProtocol, AreTogether, within}
 
 pub same_test : (x y : Bool) → (x ≡ true → y ≡ true) → (y ≡ true → x ≡ true) → x ≡ y
 same_test true y to back = sym (to refl)

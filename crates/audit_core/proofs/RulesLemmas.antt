@@ -21,7 +21,7 @@ use Rattle.ofp_rules.specs.declared.entry.FrameKind.TheVariants.{Any, Arp, Ip}
 use Rattle.ofp_rules.specs.Matching.{kind_matches, number_matches, packet_matches, part_matches, matches as entry_matches}
 use Rattle.ofp_rules.specs.Meaning.{HasVerdict, IsOneOf}
 use Rattle.audit_core.specs.Parts.{address_parts, entry_parts, number_parts, one_port_parts, port_parts, prefix_parts, protocol_parts, rule_parts, rules_parts}
-use Rattle.audit_core.specs.Ranges.{within}
+use Rattle.audit_core.specs.inner.Ranges.{within}
 use Rattle.audit_core.specs.Rules.{Rules, Chains, Entries, filter_of}
 use Rattle.audit_core.proofs.PartLemmas.{AreAlikeFor, SameAddress, SamePort, SameProtocol, alike_for_parts, all_parts}
 

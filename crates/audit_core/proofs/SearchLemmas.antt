@@ -12,17 +12,20 @@ use Rattle.audit_core.specs.declared.finding.Finding.TheVariants.{Equal, Differ 
 use Rattle.audit_core.specs.declared.finding.Trace.{Trace}
 use Rattle.audit_core.proofs.AlikeLemmas.{policy_within, right_alike}
 use Rattle.audit_core.specs.Cuts.{cuts_between}
-use Rattle.audit_core.specs.FindingLaws.{swaps_known}
-use Rattle.audit_core.specs.Findings.{AgreeAll, IsFinding, IsFirstClass, IsFirstTrace, place_of, trace_of}
-use Rattle.audit_core.specs.Judging.{Right}
+use Rattle.audit_core.specs.laws.FindingLaws.{swaps_known}
+use Rattle.audit_core.specs.Findings.{AgreeAll, IsFirstClass, IsFirstTrace, place_of, trace_of}
+use Rattle.audit_core.specs.inner.Findings.{IsFinding}
+use Rattle.audit_core.specs.inner.Judging.{Right}
 use Rattle.audit_core.proofs.JudgingLemmas.{agree_alone, agree_behind_both, agree_behind_swap, differ_alone, differ_behind_both, differ_behind_swap, judged_by, right_new}
-use Rattle.audit_core.specs.ListLaws.{differ_on}
+use Rattle.audit_core.specs.laws.ListLaws.{differ_on}
 use Rattle.audit_core.specs.Lists.{front_of, list_of}
 use Rattle.audit_core.specs.Places.{ComesBefore, IsClassPacket, Leasts, comes_first, leasts_of}
-use Rattle.audit_core.specs.Rules.{GivesOne, filter_of}
-use Rattle.audit_core.specs.Searching.{AllRight, ArePacketsAll, IsFirstWrong, IsNoHigher, IsSearched, Represent}
-use Rattle.audit_core.specs.ShortLaws.{agree_where_judged}
-use Rattle.audit_core.specs.Sides.{Agree, AgreeAlways, Differ, DifferThen, Sides, lets_answer, permits}
+use Rattle.audit_core.specs.Rules.{filter_of}
+use Rattle.audit_core.specs.inner.Rules.{GivesOne}
+use Rattle.audit_core.specs.inner.Searching.{AllRight, ArePacketsAll, IsFirstWrong, IsNoHigher, IsSearched, Represent}
+use Rattle.audit_core.proofs.ShortLaws.{agree_where_judged}
+use Rattle.audit_core.specs.Sides.{Agree, Differ, DifferThen, Sides, lets_answer, permits}
+use Rattle.audit_core.specs.inner.Sides.{AgreeAlways}
 
 -- what comes before with lower numbers
 lower_first : (a b c : ℕ) (L M : Type 0) → a ≤ b → (L → M) → comes_first b c L → comes_first a c M

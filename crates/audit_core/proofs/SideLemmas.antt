@@ -9,8 +9,9 @@ use Rattle.host_net.specs.declared.service.Service.{Service}
 use Rattle.host_net.specs.Packet.{IsPacket}
 use Rattle.host_net.specs.Service.{is_served, serves}
 use Rattle.pkt_core.specs.Firewall.{may_pass}
-use Rattle.audit_core.specs.Judging.{SaySame}
-use Rattle.audit_core.specs.Rules.{GivesOne, filter_of}
+use Rattle.audit_core.specs.inner.Judging.{SaySame}
+use Rattle.audit_core.specs.Rules.{filter_of}
+use Rattle.audit_core.specs.inner.Rules.{GivesOne}
 use Rattle.audit_core.specs.Sides.{Sides, lets_answer, permits}
 
 -- rules that say what the policy says say nothing else

@@ -15,7 +15,7 @@ use Rattle.host_net.specs.Services.{services_of}
 use Rattle.host_net.specs.Site.{Site}
 use Rattle.flow_set.specs.declared.flow.Flow.{Flow}
 use Rattle.flow_set.specs.EveryFlow.{every_flow}
-use Rattle.flow_set.specs.EveryFlowLaws.{IsFull-every_flow}
+use Rattle.flow_set.proofs.EveryFlowLaws.{IsFull-every_flow}
 use Rattle.flow_set.specs.Flow.{same_flow}
 use Rattle.flow_set.specs.FlowSet.{has}
 use Rattle.pkt_core.specs.FlowPolicy.{flow_of, flow_of_owners, is_of}

@@ -6,15 +6,16 @@ use Rattle.host_net.specs.declared.packet.Packet.{Packet}
 use Rattle.audit_core.specs.declared.named.AddressRange.{AddressRange}
 use Rattle.audit_core.specs.declared.named.Found.{Found}
 use Rattle.audit_core.specs.declared.named.PortRange.{PortRange}
-use Rattle.audit_core.specs.Classes.{Rises}
+use Rattle.audit_core.specs.inner.Classes.{Rises}
 use Rattle.audit_core.proofs.AlikeLemmas.{alike_by_parts, class_of_packet}
 use Rattle.audit_core.specs.Cuts.{cuts_between, parts_between}
-use Rattle.audit_core.specs.Named.{IsNamedBy, address_ranges, port_ranges}
+use Rattle.audit_core.specs.inner.Named.{IsNamedBy, address_ranges, port_ranges}
 use Rattle.audit_core.specs.Parts.{Part, Addresses, Protocol, Ports}
-use Rattle.audit_core.specs.Places.{AreLeasts, IsClassPacket, Leasts, class_total, leasts_of}
-use Rattle.audit_core.specs.Searching.{Represent}
+use Rattle.audit_core.specs.Places.{IsClassPacket, Leasts, class_total, leasts_of}
+use Rattle.audit_core.specs.inner.Places.{AreLeasts}
+use Rattle.audit_core.specs.inner.Searching.{Represent}
 use Rattle.audit_core.specs.Sides.{Sides}
-use Rattle.audit_core.specs.Thinning.{AreThinned, IsThinned, SameAddresses, SamePorts}
+use Rattle.audit_core.specs.inner.Thinning.{AreThinned, IsThinned, SameAddresses, SamePorts}
 use Rattle.audit_core.proofs.PartLemmas.{AreAlikeFor, SameAddress, SamePort, SameProtocol, alike_through, covers_is, one_class_alike}
 
 -- 1. Kept classes are classes, and no more than all.

@@ -7,10 +7,10 @@ use Rattle.audit_core.specs.declared.named.AddressRange.{AddressRange}
 use Rattle.audit_core.specs.declared.named.PortRange.{PortRange}
 use Rattle.audit_core.specs.declared.likeness.Likeness.{Likeness}
 use Rattle.audit_core.specs.declared.likeness.Likeness.TheVariants.{Addresses, Ports, Treatment}
-use Rattle.audit_core.specs.Classes.{Rises}
-use Rattle.audit_core.specs.Likeness.{are_alike}
+use Rattle.audit_core.specs.inner.Classes.{Rises}
+use Rattle.audit_core.specs.inner.Likeness.{are_alike}
 use Rattle.audit_core.proofs.OrderLemmas.{contains_cases, contains_first, contains_later, contains_none}
-use Rattle.audit_core.specs.Thinning.{IsKeptFor, IsThinned, SameAddresses, SamePorts, Stands}
+use Rattle.audit_core.specs.inner.Thinning.{IsKeptFor, IsThinned, SameAddresses, SamePorts, Stands}
 use Rattle.audit_core.proofs.NamedLemmas.{take_at}
 
 -- a number is the same as itself

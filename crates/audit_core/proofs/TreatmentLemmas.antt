@@ -10,10 +10,10 @@ use Rattle.ipt_rules.specs.declared.rule.Target.{Target}
 use Rattle.ipt_rules.specs.Chain.{Chain, policy_of, rules_of}
 use Rattle.ipt_rules.specs.Matching.{address_matches, matches, port_matches, protocol_matches, state_matches}
 use Rattle.ipt_rules.specs.Meaning.{Gives, GoesOn, Ends, HasVerdictIn, RuleStep, Walks, at_end, comes_back, decides, ends, goes_on, step_of, verdict_by}
-use Rattle.ipt_rules.specs.MeaningLaws.{gives_once}
+use Rattle.ipt_rules.proofs.MeaningLaws.{gives_once}
 use Rattle.audit_core.specs.declared.end.End.{End}
 use Rattle.audit_core.specs.declared.end.End.TheVariants.{Source, Destination}
-use Rattle.audit_core.specs.Treatment.{LeaveSame, left_of, part_at, without_part}
+use Rattle.audit_core.specs.inner.Treatment.{LeaveSame, left_of, part_at, without_part}
 
 -- the chains with what is left of each
 abbrev chains_left : End → ℕ → List Chain → List Chain

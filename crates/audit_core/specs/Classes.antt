@@ -1,6 +1,6 @@
 -- The least numbers of classes, in ascending order.
-use Rattle.std.specs.Prelude.{ℕ, ◌<◌, ◌+◌, nat_lt, ◌==◌, if◌then◌else◌, Bool, true, false, zero, suc, List, [], ◌∷◌}
-use Rattle.std.specs.List.{Contains, list_any}
+use Rattle.std.specs.Prelude.{ℕ, ◌+◌, nat_lt, ◌==◌, if◌then◌else◌, Bool, true, false, zero, suc, List, [], ◌∷◌}
+use Rattle.std.specs.List.{list_any}
 
 -- numbers in ascending order, each once
 abbrev pub put_in : ℕ → List ℕ → List ℕ
@@ -10,11 +10,6 @@ put_in c (x ∷ xs) = if nat_lt c x then c ∷ x ∷ xs else (if c == x then x �
 abbrev pub in_order : List ℕ → List ℕ
 in_order [] = []
 in_order (c ∷ cs) = put_in c (in_order cs)
-
--- each number is below all behind it
-abbrev pub Rises : List ℕ → Type 0
-Rises [] = Unit {0}
-Rises (x ∷ xs) = ((y : ℕ) → Contains xs y → x < y) × Rises xs
 
 -- of k numbers from n on: those that are named and, unless one was found before, the first that is not
 unfoldable pub named_and_first : List ℕ → ℕ → ℕ → Bool → List ℕ

@@ -2,10 +2,9 @@
 -- that is named has all numbers or none (M. de Berg et al., Computational Geometry, "Segment Trees").
 use Rattle.std.specs.Prelude.{ℕ, ◌^◌, List, [], ◌∷◌, ◌++◌}
 use Rattle.std.specs.List.{flat_map}
-use Rattle.host_net.specs.declared.packet.Packet.{Packet}
 use Rattle.host_net.specs.PrefixView.{first_address, last_address}
 use Rattle.audit_core.specs.Parts.{Part, Addresses, Protocol, Ports, rules_parts, site_parts}
-use Rattle.audit_core.specs.Ranges.{AreOneProtocol, AreTogether, range_cuts}
+use Rattle.audit_core.specs.Ranges.{range_cuts}
 use Rattle.audit_core.specs.Sides.{Sides}
 
 -- where a part cuts addresses, which protocols it names, and where it cuts ports
@@ -44,11 +43,3 @@ parts_between sides = site_parts sides.site ++ rules_parts sides.rules
 
 abbrev pub cuts_between : Sides → Cuts
 cuts_between sides = cuts_by (parts_between sides)
-
--- two packets of one class
-pub record AreOneClass (cuts : Cuts) (p q : Packet) : Type 0 where
-  pub src : AreTogether cuts.addresses p.src q.src
-  pub dst : AreTogether cuts.addresses p.dst q.dst
-  pub proto : AreOneProtocol cuts.protocols p.proto q.proto
-  pub sport : AreTogether cuts.ports p.sport q.sport
-  pub dport : AreTogether cuts.ports p.dport q.dport

@@ -2,8 +2,6 @@
 use Rattle.std.specs.Prelude.{ℕ, Bool, true, false, List, [], ◌++◌, Option, Some, None, codes, decimal}
 use Rattle.host_net.specs.declared.packet.Packet.{Packet}
 use Rattle.host_net.specs.Prefix.{address_text}
-use Rattle.audit_core.specs.declared.finding.Finding.{Finding}
-use Rattle.audit_core.specs.declared.finding.Finding.TheVariants.{Equal, Differ as Differing}
 use Rattle.audit_core.specs.declared.finding.Trace.{Trace}
 
 -- the words of a packet: two addresses, the protocol, two ports
@@ -29,10 +27,6 @@ verdict_line false = codes "text drops\n"
 abbrev pub trace_text : Trace → List ℕ
 trace_text trace =
     codes "differ\n" ++ (packet_line trace.first ++ (some_line trace.second ++ (some_line trace.third ++ verdict_line trace.forwards)))
-
-abbrev pub finding_text : Finding → List ℕ
-finding_text Equal = codes "equal\n"
-finding_text (Differing trace) = trace_text trace
 
 -- the line on the error stream where there are so many classes
 abbrev pub classes_line : ℕ → List ℕ

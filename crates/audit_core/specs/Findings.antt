@@ -7,15 +7,10 @@ use Rattle.pkt_core.specs.declared.event.Event.TheVariants.{Seen}
 use Rattle.pkt_core.specs.Filter.{ArePackets}
 use Rattle.audit_core.specs.declared.kind.Kind.{Kind}
 use Rattle.audit_core.specs.declared.kind.Kind.TheVariants.{Alone, BehindSwap, BehindBoth}
-use Rattle.audit_core.specs.declared.finding.Finding.{Finding}
-use Rattle.audit_core.specs.declared.finding.Finding.TheVariants.{Equal, Differ as Differing}
 use Rattle.audit_core.specs.declared.finding.Trace.{Trace}
-use Rattle.audit_core.specs.declared.finding.AuditRefusal.{AuditRefusal}
-use Rattle.audit_core.specs.declared.finding.AuditRefusal.TheVariants.{Memory, TooManyClasses}
-use Rattle.audit_core.specs.Cuts.{cuts_between}
 use Rattle.audit_core.specs.Lists.{front_of, list_of}
-use Rattle.audit_core.specs.Places.{ComesBefore, IsClassPacket, Leasts, leasts_of}
-use Rattle.audit_core.specs.Sides.{Agree, AgreeAlways, Differ, DifferThen, Sides}
+use Rattle.audit_core.specs.Places.{ComesBefore, IsClassPacket, Leasts}
+use Rattle.audit_core.specs.Sides.{Agree, Differ, DifferThen, Sides}
 
 -- the list of that kind at a packet, with what the rules do at its end
 abbrev pub trace_of : Kind → Packet → Bool → Trace
@@ -57,16 +52,6 @@ pub record IsFirstTrace (sides : Sides) (leasts : Leasts) (trace : Trace) : Type
   pub earlier : (k : Kind) → place_of k < place_of kind → AgreeAll sides leasts k
   pub differ : Differ sides (events_of trace)
 
--- what is found: they agree on every list of events, or this is the first short list on which they differ
-abbrev pub IsFinding : Sides → Finding → Type 0
-IsFinding sides Equal = AgreeAlways sides
-IsFinding sides (Differing trace) = IsFirstTrace sides (leasts_of (cuts_between sides)) trace
-
 -- they differ on some list of events of packets
 abbrev pub DifferSomewhere : Sides → Type 0
 DifferSomewhere sides = (events : List Event) × ArePackets events × Differ sides events
-
--- why there is no finding among so many classes: there are too many, or memory ran out
-abbrev pub IsRefused : ℕ → AuditRefusal → Type 0
-IsRefused classes (TooManyClasses count) = (count ≡ classes) × (4000000 < classes)
-IsRefused classes Memory = Unit {0}

@@ -1,19 +1,6 @@
 -- Ranges of numbers below a limit, and where they cut. Prefixes are ranges of addresses, and port parts are ranges of ports.
-use Rattle.std.specs.Prelude.{◌≡◌, ◌↔◌, ℕ, ◌+◌, ◌≤◌, Bool, ◌&&◌, nat_le, nat_lt, if◌then◌else◌, List, [], ◌∷◌}
-use Rattle.std.specs.List.{Contains}
-
--- from the first number to the last
-abbrev pub within : ℕ → ℕ → ℕ → Bool
-within first last a = nat_le first a && nat_le a last
+use Rattle.std.specs.Prelude.{ℕ, ◌+◌, nat_lt, if◌then◌else◌, List, [], ◌∷◌}
 
 -- a range cuts at its first number and, where there is one below the limit, at the number behind its last
 abbrev pub range_cuts : ℕ → ℕ → ℕ → List ℕ
 range_cuts limit first last = first ∷ (if nat_lt (last + 1) limit then (last + 1) ∷ [] else [])
-
--- no cut parts two numbers: each is at most the one exactly where it is at most the other
-abbrev pub AreTogether : List ℕ → ℕ → ℕ → Type 0
-AreTogether cuts a b = (c : ℕ) → Contains cuts c → (c ≤ a) ↔ (c ≤ b)
-
--- two protocols of one class: whatever number is named is both or neither
-abbrev pub AreOneProtocol : List ℕ → ℕ → ℕ → Type 0
-AreOneProtocol named a b = (n : ℕ) → Contains named n → (n ≡ a) ↔ (n ≡ b)

@@ -1,8 +1,5 @@
 -- The two kinds of rules that are audited, as filters.
-use Rattle.std.specs.Prelude.{◌≡◌, Bool, List}
-use Rattle.host_net.specs.declared.packet.Packet.{Packet}
-use Rattle.host_net.specs.declared.packet.CtState.{CtState}
-use Rattle.host_net.specs.Packet.{IsPacket}
+use Rattle.std.specs.Prelude.{List}
 use Rattle.pkt_core.specs.Firewall.{Filter}
 use Rattle.ipt_rules.specs.Chain.{Chain}
 use Rattle.ipt_rules.specs.Meaning.{Passes as PassesChains}
@@ -18,8 +15,3 @@ pub data Rules : Type 0 where
 abbrev pub filter_of : Rules → Filter
 filter_of (Chains chains) = PassesChains chains
 filter_of (Entries entries) = PassesTable entries
-
--- in each state a packet passes or does not, and not both
-abbrev pub GivesOne : Filter → Type 0
-GivesOne filter =
-    (state : CtState) (p : Packet) → IsPacket p → (passes : Bool) × filter state p passes × ((other : Bool) → filter state p other → other ≡ passes)

@@ -4,9 +4,8 @@ use Rattle.host_net.specs.declared.packet.Packet.{Packet}
 use Rattle.host_net.specs.Site.{Site}
 use Rattle.flow_set.specs.declared.flow.Flow.{Flow}
 use Rattle.pkt_core.specs.declared.event.Event.{Event}
-use Rattle.pkt_core.specs.Filter.{ArePackets, ForwardsExpected}
 use Rattle.pkt_core.specs.FlowPolicy.{is_of}
-use Rattle.audit_core.specs.Agreement.{AgreeAt, AgreeOn, DifferOn}
+use Rattle.audit_core.specs.Agreement.{AgreeOn, DifferOn}
 use Rattle.audit_core.specs.Lists.{DifferBehind}
 use Rattle.audit_core.specs.Rules.{Rules, filter_of}
 
@@ -37,15 +36,3 @@ Differ sides = DifferOn (filter_of sides.rules) (permits sides) (lets_answer sid
 -- they differ on one packet more: behind these events it passes, or not, and is not or is expected to
 abbrev pub DifferThen : Sides → List Event → Packet → Bool → Type 0
 DifferThen sides = DifferBehind (filter_of sides.rules) (permits sides) (lets_answer sides)
-
--- they agree on the three short lists at a packet
-abbrev pub AgreeShortly : Sides → Packet → Type 0
-AgreeShortly sides = AgreeAt (filter_of sides.rules) (permits sides) (lets_answer sides)
-
--- they agree on every list of events of packets
-abbrev pub AgreeAlways : Sides → Type 0
-AgreeAlways sides = (events : List Event) → ArePackets events → Agree sides events
-
--- the rules forward what is expected of the policy
-abbrev pub AreAsExpected : Sides → Type 0
-AreAsExpected sides = ForwardsExpected (filter_of sides.rules) sides.site sides.permitted sides.stateful

@@ -4,8 +4,9 @@ ghost use Rattle.std.specs.Prelude.{◌≡◌, None, Some, map, if◌then◌else
 ghost use Rattle.std.specs.Option.{option_or};
 ghost use Rattle.host_net.specs.Host.{owner_of};
 ghost use Rattle.host_net.specs.Packet.{IsPacket};
-ghost use Rattle.audit_core.specs.Places.{AreLeasts, class_total};
-ghost use Rattle.audit_core.specs.Searching.{AreOwners, FindMore, IsSearched, finding_by};
+ghost use Rattle.audit_core.specs.Places.{class_total};
+ghost use Rattle.audit_core.specs.inner.Places.{AreLeasts};
+ghost use Rattle.audit_core.specs.inner.Searching.{AreOwners, FindMore, IsSearched, finding_by};
 ghost use Rattle.audit_core.specs.Sides.{permits};
 
 use crate::finding::{Finding, Trace};

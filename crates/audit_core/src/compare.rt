@@ -3,9 +3,10 @@
 ghost use Rattle.std.specs.Prelude.{◌≡◌, ◌↔◌, ◌≤◌, length, IfOk, IfErr, OnOk};
 ghost use Rattle.host_net.specs.Site.{site_with};
 ghost use Rattle.flow_set.specs.FlowSet.{IsSubset};
-ghost use Rattle.audit_core.specs.Findings.{DifferSomewhere, IsFinding, IsRefused};
+ghost use Rattle.audit_core.specs.Findings.{DifferSomewhere};
+ghost use Rattle.audit_core.specs.inner.Findings.{IsFinding, IsRefused};
 ghost use Rattle.audit_core.specs.Places.{class_count};
-ghost use Rattle.audit_core.specs.RulesView.{rules_of};
+ghost use Rattle.audit_core.specs.inner.RulesView.{rules_of};
 ghost use Rattle.audit_core.specs.Sides.{sides_of};
 
 use crate::finding::{AuditRefusal, Finding};

@@ -2,7 +2,7 @@
 
 ghost use Rattle.std.specs.Prelude.{◌≡◌, ◌++◌, IfOk, OnOk};
 ghost use Rattle.audit_core.specs.Classes.{in_order};
-ghost use Rattle.audit_core.specs.RangeCuts.{address_cuts, cuts_of_addresses, cuts_of_ports, port_cuts};
+ghost use Rattle.audit_core.specs.inner.RangeCuts.{address_cuts, cuts_of_addresses, cuts_of_ports, port_cuts};
 
 use crate::named::{AddressRange, PortRange};
 use std::alloc::{AllocError, Global};

@@ -1,7 +1,7 @@
 //! What is named, each once. Rules name the same again and again, and what is gone through for each
 //! class is short so.
 
-ghost use Rattle.audit_core.specs.Named.{HaveSame, NameSame};
+ghost use Rattle.audit_core.specs.inner.Named.{HaveSame, NameSame};
 
 use crate::named::{AddressRange, Found, PortRange};
 

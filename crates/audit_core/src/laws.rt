@@ -10,12 +10,15 @@ ghost use Rattle.pkt_core.specs.FlowPolicy.{flow_of};
 ghost use Rattle.ofp_rules.specs.declared.entry.Entry.{Entry};
 ghost use Rattle.audit_core.specs.declared.finding.Finding.{Finding};
 ghost use Rattle.audit_core.specs.declared.finding.Finding.TheVariants.{Equal};
-ghost use Rattle.audit_core.specs.Agreement.{alone, behind_swap};
-ghost use Rattle.audit_core.specs.Cuts.{AreOneClass, Cuts, cuts_between};
-ghost use Rattle.audit_core.specs.Findings.{IsFinding};
+ghost use Rattle.audit_core.specs.inner.Agreement.{alone, behind_swap};
+ghost use Rattle.audit_core.specs.Cuts.{Cuts, cuts_between};
+ghost use Rattle.audit_core.specs.inner.Cuts.{AreOneClass};
+ghost use Rattle.audit_core.specs.inner.Findings.{IsFinding};
 ghost use Rattle.audit_core.specs.Places.{IsClassPacket, leasts_of};
-ghost use Rattle.audit_core.specs.Rules.{Entries, GivesOne, filter_of};
-ghost use Rattle.audit_core.specs.Sides.{Agree, AgreeAlways, AgreeShortly, AreAsExpected, Sides, lets_answer, permits};
+ghost use Rattle.audit_core.specs.Rules.{Entries, filter_of};
+ghost use Rattle.audit_core.specs.inner.Rules.{GivesOne};
+ghost use Rattle.audit_core.specs.Sides.{Agree, Sides, lets_answer, permits};
+ghost use Rattle.audit_core.specs.inner.Sides.{AgreeAlways, AgreeShortly, AreAsExpected};
 
 /// Rules that agree with a policy on the three short lists at each packet agree with it on every
 /// list of events. At a flow table, which knows no states, the first two suffice.

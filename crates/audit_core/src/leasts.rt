@@ -4,10 +4,11 @@ ghost use Rattle.std.specs.Prelude.{◌≡◌, ◌<◌, IfOk, List, length, map}
 ghost use Rattle.host_net.specs.Host.{Host, owner_of};
 ghost use Rattle.host_net.specs.Packet.{IsPacket, swap_of};
 ghost use Rattle.audit_core.specs.Classes.{in_order, protocol_leasts};
-ghost use Rattle.audit_core.specs.Places.{AreLeasts, class_total, packet_at};
-ghost use Rattle.audit_core.specs.RangeCuts.{address_cuts, port_cuts};
-ghost use Rattle.audit_core.specs.Searching.{AreOwners, ArePacketsAll};
-ghost use Rattle.audit_core.specs.Thinning.{AreThinned};
+ghost use Rattle.audit_core.specs.Places.{class_total};
+ghost use Rattle.audit_core.specs.inner.Places.{AreLeasts, packet_at};
+ghost use Rattle.audit_core.specs.inner.RangeCuts.{address_cuts, port_cuts};
+ghost use Rattle.audit_core.specs.inner.Searching.{AreOwners, ArePacketsAll};
+ghost use Rattle.audit_core.specs.inner.Thinning.{AreThinned};
 
 use crate::cuts::{least_addresses, least_ports};
 use crate::likeness::Likeness;

@@ -4,7 +4,7 @@
 ghost use Rattle.std.specs.Prelude.{◌≡◌, ◌<◌, ◌≤◌, drop, IsTrue, length};
 ghost use Rattle.ipt_rules.specs.Chain.{rules_of};
 ghost use Rattle.audit_core.specs.Rules.{Chains};
-ghost use Rattle.audit_core.specs.Treatment.{AreSameBeside, FitsAt, IsEnough, LeaveSame, TreatSame, left_of, part_at, without_part};
+ghost use Rattle.audit_core.specs.inner.Treatment.{AreSameBeside, FitsAt, IsEnough, LeaveSame, TreatSame, left_of, part_at, without_part};
 
 use crate::end::End;
 use crate::same_parts::same_rule;

@@ -2,9 +2,9 @@
 //! those that are alike.
 
 ghost use Rattle.std.specs.Prelude.{◌≡◌, ◌<◌, ◌^◌, IsTrue};
-ghost use Rattle.audit_core.specs.Likeness.{are_alike};
-ghost use Rattle.audit_core.specs.Ranges.{within};
-ghost use Rattle.audit_core.specs.Thinning.{SameAddresses, SamePorts};
+ghost use Rattle.audit_core.specs.inner.Likeness.{are_alike};
+ghost use Rattle.audit_core.specs.inner.Ranges.{within};
+ghost use Rattle.audit_core.specs.inner.Thinning.{SameAddresses, SamePorts};
 
 use crate::left::treat_same;
 use crate::named::{AddressRange, PortRange};

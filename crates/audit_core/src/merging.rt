@@ -1,10 +1,10 @@
 //! Addresses that one host owns and that rules treat alike need no list each either.
 
 ghost use Rattle.std.specs.Prelude.{◌≡◌, IfOk};
-ghost use Rattle.audit_core.specs.Classes.{Rises};
-ghost use Rattle.audit_core.specs.Places.{AreLeasts};
-ghost use Rattle.audit_core.specs.Thinning.{IsThinned};
-ghost use Rattle.audit_core.specs.Treatment.{AreMerged, AreTreatedAlike};
+ghost use Rattle.audit_core.specs.inner.Classes.{Rises};
+ghost use Rattle.audit_core.specs.inner.Places.{AreLeasts};
+ghost use Rattle.audit_core.specs.inner.Thinning.{IsThinned};
+ghost use Rattle.audit_core.specs.inner.Treatment.{AreMerged, AreTreatedAlike};
 
 use crate::leasts::Leasts;
 use crate::likeness::Likeness;

@@ -2,7 +2,8 @@
 
 ghost use Rattle.std.specs.Prelude.{◌≡◌, ◌<◌, ◌++◌, IfOk, OnOk, codes, decimal};
 ghost use Rattle.host_net.specs.Prefix.{address_text, octet};
-ghost use Rattle.audit_core.specs.FindingText.{addresses_text, classes_line, finding_text, numbers_text, packet_line, some_line, trace_text, verdict_line};
+ghost use Rattle.audit_core.specs.FindingText.{addresses_text, classes_line, numbers_text, packet_line, some_line, trace_text, verdict_line};
+ghost use Rattle.audit_core.specs.inner.FindingText.{finding_text};
 
 use crate::finding::{Finding, Trace};
 use host_net::Packet;

@@ -8,10 +8,11 @@ ghost use Rattle.host_net.specs.Service.{is_served, serves};
 ghost use Rattle.host_net.specs.Site.{site_with};
 ghost use Rattle.pkt_core.specs.Firewall.{may_pass};
 ghost use Rattle.pkt_core.specs.FlowPolicy.{is_of};
-ghost use Rattle.audit_core.specs.Judging.{SayOther, SaySame};
-ghost use Rattle.audit_core.specs.Rules.{GivesOne, filter_of};
-ghost use Rattle.audit_core.specs.RulesView.{rules_of};
-ghost use Rattle.audit_core.specs.Searching.{AreOwners};
+ghost use Rattle.audit_core.specs.inner.Judging.{SayOther, SaySame};
+ghost use Rattle.audit_core.specs.Rules.{filter_of};
+ghost use Rattle.audit_core.specs.inner.Rules.{GivesOne};
+ghost use Rattle.audit_core.specs.inner.RulesView.{rules_of};
+ghost use Rattle.audit_core.specs.inner.Searching.{AreOwners};
 ghost use Rattle.audit_core.specs.Sides.{lets_answer, permits, sides_of};
 
 use crate::leasts::Class;
@@ -34,8 +35,9 @@ pub(crate) struct Sides<'a> {
 impl<'a> Model for Sides<'a> {
     ghost use Rattle.std.specs.Prelude.{◌≡◌, length};
     ghost use Rattle.host_net.specs.Site.{site_with};
-    ghost use Rattle.audit_core.specs.Rules.{GivesOne, filter_of};
-    ghost use Rattle.audit_core.specs.RulesView.{rules_of};
+    ghost use Rattle.audit_core.specs.Rules.{filter_of};
+    ghost use Rattle.audit_core.specs.inner.Rules.{GivesOne};
+    ghost use Rattle.audit_core.specs.inner.RulesView.{rules_of};
     ghost use Rattle.audit_core.specs.Sides.{Sides, sides_of};
 
     ghost Value = { Sides };

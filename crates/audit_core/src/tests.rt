@@ -3,7 +3,7 @@
 
 ghost use Rattle.std.specs.Prelude.{◌≡◌, length, IfSome, IsTrue};
 ghost use Rattle.flow_set.specs.FlowSet.{IsSubset};
-ghost use Rattle.ipt_rules.specs.RuleParts.{is_rule};
+ghost use Rattle.ipt_rules.specs.inner.RuleParts.{is_rule};
 ghost use Rattle.ofp_rules.specs.Matching.{asks_of_ip};
 
 use crate::{Finding, Text, Trace, audit, classes_line, finding_text};

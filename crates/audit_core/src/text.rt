@@ -2,8 +2,9 @@
 
 ghost use Rattle.std.specs.Prelude.{◌≡◌};
 ghost use Rattle.host_net.specs.Verdict.{verdict_if};
-ghost use Rattle.audit_core.specs.Rules.{GivesOne, filter_of};
-ghost use Rattle.audit_core.specs.RulesView.{rules_of};
+ghost use Rattle.audit_core.specs.Rules.{filter_of};
+ghost use Rattle.audit_core.specs.inner.Rules.{GivesOne};
+ghost use Rattle.audit_core.specs.inner.RulesView.{rules_of};
 
 use host_net::{CtState, Packet, Verdict};
 use ipt_rules::Ruleset;

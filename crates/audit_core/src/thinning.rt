@@ -3,9 +3,9 @@
 
 ghost use Rattle.std.specs.Prelude.{◌≡◌, ◌<◌, ◌^◌, ℕ, IfOk, IsTrue};
 ghost use Rattle.std.specs.List.{Contains};
-ghost use Rattle.audit_core.specs.Classes.{Rises};
-ghost use Rattle.audit_core.specs.Likeness.{are_alike};
-ghost use Rattle.audit_core.specs.Thinning.{IsThinned, SamePorts, Stands};
+ghost use Rattle.audit_core.specs.inner.Classes.{Rises};
+ghost use Rattle.audit_core.specs.inner.Likeness.{are_alike};
+ghost use Rattle.audit_core.specs.inner.Thinning.{IsThinned, SamePorts, Stands};
 
 use crate::likeness::Likeness;
 use crate::marks::Marks;

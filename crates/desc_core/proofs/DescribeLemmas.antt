@@ -2,22 +2,22 @@
 use Rattle.std.proofs.Common.{◌≡◌, ℕ, Bool, true, false, List, ◌++◌, length, Option, Some, None, Result, Ok, Err, refl, ap, ◌∙◌, subst, sym}
 use Rattle.std.specs.Option.{ok_or, option_or}
 use Rattle.std.specs.Prelude.{◌≢◌, if◌then◌else◌, nat_lt, IfOk}
-use Rattle.desc_core.specs.TableFacts.{IsRight}
-use Rattle.desc_core.specs.TableFactsLaws.{IsRight-described, described-IsRight}
+use Rattle.desc_core.specs.inner.TableFacts.{IsRight}
+use Rattle.desc_core.proofs.TableFactsLaws.{IsRight-described, described-IsRight}
 use Rattle.toml.specs.Data.{Members}
-use Rattle.desc_core.specs.AllConditions.{conditions}
+use Rattle.desc_core.specs.inner.AllConditions.{conditions}
 use Rattle.desc_core.specs.Conditions.{byte_limit, table_conditions}
 use Rattle.desc_core.specs.Description.{described, described_by, described_by_table, refused_or}
-use Rattle.desc_core.specs.DescriptionLaws.{first_of-append}
+use Rattle.desc_core.proofs.DescriptionLaws.{first_of-append}
 use Rattle.desc_core.specs.Document.{document}
-use Rattle.desc_core.specs.Reads.{Reads}
+use Rattle.desc_core.specs.inner.Reads.{Reads}
 use Rattle.net_core.specs.Network.{Network}
-use Rattle.desc_core.specs.Order.{IsLeast, NoneHolds}
-use Rattle.desc_core.specs.Parts.{network_or, table_of}
+use Rattle.desc_core.specs.inner.Order.{IsLeast, NoneHolds}
+use Rattle.desc_core.specs.inner.Parts.{network_or, table_of}
 use Rattle.desc_core.specs.UseConditions.{use_conditions}
 use Rattle.desc_core.specs.WrittenNetwork.{network_of}
 use Rattle.desc_core.proofs.OrderLaws.{IsLeast-described, IsLeast-table, NoneHolds-described, NoneHolds-table}
-use Rattle.desc_core.specs.Whole.{IsDescribed, IsDescribedByTable}
+use Rattle.desc_core.specs.inner.Whole.{IsDescribed, IsDescribedByTable}
 use Rattle.desc_core.proofs.WholeLaws.{IsDescribed-described, IsDescribedByTable-described}
 use Rattle.desc_core.specs.declared.fault.DescFault.{DescFault}
 use Rattle.desc_core.specs.declared.fault.DescFault.TheVariants.{Memory, Refused}

@@ -15,8 +15,8 @@ use Rattle.desc_form.specs.WrittenTemplate.{WrittenTemplate}
 use Rattle.desc_core.proofs.ListingLaws.{all_both, all_weaker}
 use Rattle.desc_core.proofs.NamesLaws.{undeclared}
 use Rattle.desc_core.specs.Flows.{flow_of_names}
-use Rattle.desc_core.specs.Parts.{bad_known, ends_of, name_conditions, self_found, twice_found}
-use Rattle.desc_core.specs.UseFactsLaws.{PassesUses, hosts_declared, templates_known}
+use Rattle.desc_core.specs.inner.Parts.{bad_known, ends_of, name_conditions, self_found, twice_found}
+use Rattle.desc_core.proofs.UseFactsLaws.{PassesUses, hosts_declared, templates_known}
 use Rattle.desc_core.specs.UseConditions.{bad_at, bad_attribute, bad_attribute_of, duplicate_flow, is_declared, same_names, self_flow, undeclared_host, unknown_template}
 use Rattle.desc_core.specs.WrittenNetwork.{Known, asked_of, given_by, invariant_of, invariants_of, known_of, made_of}
 use Rattle.desc_form.specs.Refusals.{refused, refused_by}
@@ -31,11 +31,11 @@ use Rattle.flow_set.specs.Flow.{IsFlow, same_flow}
 use Rattle.flow_set.specs.FlowSet.{set_of}
 use Rattle.flow_set.specs.declared.flow.Flow.{Flow}
 use Rattle.host_net.specs.Host.{Host, host_named}
-use Rattle.host_net.specs.NamedLaws.{host_named_within, one_name}
+use Rattle.host_net.proofs.NamedLaws.{host_named_within, one_name}
 use Rattle.table_core.specs.Listing.{each}
-use Rattle.text_core.specs.FirstPairLaws.{told_numbered}
+use Rattle.text_core.proofs.FirstPairLaws.{told_numbered}
 use Rattle.text_core.specs.Firsts.{Numbered, Pair, first_found, first_of, first_pair, numbered, numbered_from}
-use Rattle.text_core.specs.FirstsLaws.{neither, none_mapped}
+use Rattle.text_core.proofs.FirstsLaws.{neither, none_mapped}
 
 -- ---- lists that are read element by element
 

@@ -1,22 +1,22 @@
 -- One name after the other is looked up: what is found so far, and what is left to find.
 use Rattle.std.proofs.Common.{◌≡◌, ℕ, ◌+◌, ◌<◌, List, [], ◌∷◌, ◌++◌, map, drop, drop-cons, add-one, get_or, length, Option, Some, option_map, sym, ap, ◌∙◌}
 use Rattle.std.proofs.lemmas.List.{map-append}
-use Rattle.attr_core.specs.AssignView.{given_of}
+use Rattle.attr_core.specs.inner.AssignView.{given_of}
 use Rattle.attr_core.specs.Assigns.{Given}
 use Rattle.attr_core.specs.declared.assign.Assign as read
-use Rattle.desc_core.specs.KnownView.{known_view}
-use Rattle.desc_core.specs.Parts.{ends_of}
+use Rattle.desc_core.specs.inner.KnownView.{known_view}
+use Rattle.desc_core.specs.inner.Parts.{ends_of}
 use Rattle.desc_core.specs.WrittenNetwork.{Known, given_by, known_of}
 use Rattle.desc_core.specs.declared.known.KnownInvariant.{KnownInvariant}
 use Rattle.desc_form.specs.WrittenTemplate.{WrittenTemplate}
-use Rattle.desc_form.specs.WrittenView.{assign_view, flow_view, invariant_view}
+use Rattle.desc_form.specs.inner.WrittenView.{assign_view, flow_view, invariant_view}
 use Rattle.desc_form.specs.declared.written.WrittenAssign.{WrittenAssign}
 use Rattle.desc_form.specs.declared.written.WrittenFlow.{WrittenFlow}
 use Rattle.desc_form.specs.declared.written.WrittenInvariant.{WrittenInvariant}
 use Rattle.flow_set.specs.declared.flow.Flow.{Flow}
 use Rattle.host_net.specs.Host.{Host}
 use Rattle.table_core.specs.Listing.{each}
-use Rattle.table_core.specs.ListingLaws.{each_more}
+use Rattle.table_core.proofs.ListingLaws.{each_more}
 
 one_more : {W V K : Type 0} (view : W → V) (find : V → Option K) (given : List K) (k : K) (w : W) (ws : List W) (i : ℕ) (whole : Option (List K))
     → i < length ws → w ≡ get_or ws i w → find (view w) ≡ Some k

@@ -5,18 +5,18 @@ use Rattle.std.specs.Option.{option_or}
 use Rattle.std.specs.Prelude.{slice_get}
 use Rattle.toml.specs.Data.{Members}
 use Rattle.desc_core.specs.Description.{described_by_table, refused_or}
-use Rattle.desc_core.specs.DescriptionLaws.{by_groups}
+use Rattle.desc_core.proofs.DescriptionLaws.{by_groups}
 use Rattle.desc_core.specs.WrittenNetwork.{network_of}
 use Rattle.desc_form.specs.Refusals.{refused, refused_item}
 use Rattle.desc_form.specs.Written.{Written, written}
-use Rattle.desc_form.specs.WrittenForm.{IsFormed}
-use Rattle.desc_form.specs.WrittenLaws.{formed}
+use Rattle.desc_form.specs.inner.WrittenForm.{IsFormed}
+use Rattle.desc_form.proofs.WrittenLaws.{formed}
 use Rattle.desc_form.specs.declared.refusal.Place.TheVariants.{Host}
 use Rattle.desc_form.specs.declared.refusal.Refusal.{Refusal}
 use Rattle.desc_form.specs.declared.refusal.Why.TheVariants.{TooMany}
-use Rattle.desc_hosts.specs.FactsLaws.{version_is}
+use Rattle.desc_hosts.proofs.FactsLaws.{version_is}
 use Rattle.desc_hosts.specs.HostConditions.{Entry, all_entries, host_conditions, too_many}
-use Rattle.desc_hosts.specs.SizesLaws.{many_hosts, many_prefixes}
+use Rattle.desc_hosts.proofs.SizesLaws.{many_hosts, many_prefixes}
 use Rattle.host_net.specs.Limits.{host_limit, prefix_limit}
 use Rattle.text_core.specs.Firsts.{first_of}
 

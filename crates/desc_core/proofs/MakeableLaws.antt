@@ -15,11 +15,11 @@ use Rattle.attr_core.specs.declared.template.Template.{Template}
 use Rattle.desc_core.proofs.KnownLaws.{each_zip}
 use Rattle.desc_core.proofs.ListingLaws.{all_weaker}
 use Rattle.desc_core.specs.Choices.{Choice, OneOfTen, OwnTable, chosen, number_of_kind, strategy_said, table_said}
-use Rattle.desc_core.specs.KnownView.{known_view}
-use Rattle.desc_core.specs.Makeable.{CanBeMade, IsMakeable}
-use Rattle.desc_core.specs.Parts.{templates_found}
+use Rattle.desc_core.specs.inner.KnownView.{known_view}
+use Rattle.desc_core.specs.inner.Makeable.{CanBeMade, IsMakeable}
+use Rattle.desc_core.specs.inner.Parts.{templates_found}
 use Rattle.desc_core.specs.TemplateConditions.{bad_template, denies, first_bad, has_kinds, has_own_name, has_partner, has_strategy, is_good, not_lawful, uses_kinds}
-use Rattle.desc_core.specs.UseFactsLaws.{partners_there}
+use Rattle.desc_core.proofs.UseFactsLaws.{partners_there}
 use Rattle.desc_core.specs.WrittenNetwork.{Known, given_by, known_of}
 use Rattle.desc_core.specs.declared.known.KnownInvariant.{KnownInvariant}
 use Rattle.desc_form.specs.Written.{Written, WrittenInvariant}
@@ -27,7 +27,7 @@ use Rattle.desc_form.specs.WrittenTemplate.{WrittenPair, WrittenTemplate}
 use Rattle.host_net.specs.Host.{Host}
 use Rattle.inv_law.specs.declared.strategy.Strategy.TheVariants.{Access, Information}
 use Rattle.table_core.specs.Listing.{each}
-use Rattle.text_core.specs.FirstsLaws.{neither, none_mapped}
+use Rattle.text_core.proofs.FirstsLaws.{neither, none_mapped}
 use Rattle.text_core.specs.Name.{is_name}
 use Rattle.tmpl_table.specs.KindTable.{is_lawful, lists, passes_with, with_kind}
 

@@ -15,10 +15,11 @@ use Rattle.toml.specs.declared.value.Value.{Value}
 use Rattle.desc_core.specs.Conditions.{byte_limit}
 use Rattle.desc_core.specs.Description.{described, described_by_table}
 use Rattle.desc_core.specs.Document.{document}
-use Rattle.desc_core.specs.Migrated.{IsMigrated, Migrates, migrated, with_member}
-use Rattle.desc_core.specs.MigratedLaws.{migrated_prints, text_describes}
-use Rattle.desc_core.specs.Parts.{table_of}
-use Rattle.desc_core.specs.Reads.{Reads}
+use Rattle.desc_core.specs.Migrated.{IsMigrated, migrated, with_member}
+use Rattle.desc_core.specs.inner.Migrated.{Migrates}
+use Rattle.desc_core.proofs.MigratedLaws.{migrated_prints, text_describes}
+use Rattle.desc_core.specs.inner.Parts.{table_of}
+use Rattle.desc_core.specs.inner.Reads.{Reads}
 use Rattle.desc_core.specs.declared.fault.DescFault.{DescFault}
 use Rattle.desc_core.specs.declared.fault.DescFault.TheVariants.{Memory, Refused}
 use Rattle.desc_core.proofs.DescribeLemmas.{table_read}
@@ -28,7 +29,7 @@ use Rattle.desc_form.specs.declared.refusal.Place.TheVariants.{Document}
 use Rattle.desc_form.specs.declared.refusal.Why.TheVariants.{NotToml, TooLong}
 use Rattle.net_core.specs.Network.{Network}
 use Rattle.table_core.specs.Shallow.{IsShallow}
-use Rattle.table_core.specs.SortedLaws.{parse_document-sorted}
+use Rattle.table_core.proofs.SortedLaws.{parse_document-sorted}
 
 -- an insert into the map of a table
 match_members : (o : Ordering) (a b c : List (String Global × Value))

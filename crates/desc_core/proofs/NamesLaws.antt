@@ -11,7 +11,7 @@ use Rattle.desc_form.specs.Refusals.{refused_name}
 use Rattle.desc_form.specs.Written.{Written, WrittenHost}
 use Rattle.desc_form.specs.declared.refusal.Why.TheVariants.{UndeclaredHost}
 use Rattle.desc_hosts.specs.HostConditions.{host_conditions}
-use Rattle.desc_hosts.specs.HostsLaws.{legal_names}
+use Rattle.desc_hosts.proofs.HostsLaws.{legal_names}
 use Rattle.desc_hosts.specs.Mentions.{Mention, all_names, host_name, used_names}
 use Rattle.desc_hosts.specs.WrittenHosts.{network_host, network_hosts}
 use Rattle.host_net.specs.Host.{host_named}

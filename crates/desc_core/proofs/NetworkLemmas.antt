@@ -5,11 +5,11 @@ use Rattle.std.specs.Prelude.{if◌then◌else◌}
 use Rattle.desc_core.proofs.KnownLaws.{asked_is, bad_is, invariants_are, names_known, self_is, twice_is}
 use Rattle.desc_core.proofs.ServicesLemmas.{services_are}
 use Rattle.desc_core.specs.Description.{refused_or}
-use Rattle.desc_core.specs.DescriptionLaws.{first_of-append}
-use Rattle.desc_core.specs.NetworkLaws.{IsNetwork-network_of}
-use Rattle.desc_core.specs.Parts.{bad_known, ends_of, name_conditions, narrowed_among, network_by_uses, network_or, self_found, services_found, templates_found, twice_found}
+use Rattle.desc_core.proofs.DescriptionLaws.{first_of-append}
+use Rattle.desc_core.proofs.NetworkLaws.{IsNetwork-network_of}
+use Rattle.desc_core.specs.inner.Parts.{bad_known, ends_of, name_conditions, narrowed_among, network_by_uses, network_or, self_found, services_found, templates_found, twice_found}
 use Rattle.desc_core.specs.TemplateConditions.{bad_template, not_lawful}
-use Rattle.desc_core.specs.Reads.{Reads}
+use Rattle.desc_core.specs.inner.Reads.{Reads}
 use Rattle.desc_core.specs.declared.fault.DescFault.{DescFault}
 use Rattle.desc_core.specs.declared.fault.DescFault.TheVariants.{Memory, Refused}
 use Rattle.desc_core.specs.UseConditions.{bad_attribute, bad_service, duplicate_assign, duplicate_flow, many_services, self_flow, undeclared_host, unknown_template, use_conditions}
@@ -17,7 +17,7 @@ use Rattle.desc_core.specs.WrittenNetwork.{Known, asked_of, invariants_of, known
 use Rattle.desc_form.specs.Written.{Written}
 use Rattle.desc_form.specs.declared.refusal.Refusal.{Refusal}
 use Rattle.desc_hosts.specs.HostConditions.{host_conditions}
-use Rattle.desc_hosts.specs.HostsLaws.{length-network_hosts}
+use Rattle.desc_hosts.proofs.HostsLaws.{length-network_hosts}
 use Rattle.desc_hosts.specs.WrittenHosts.{network_hosts}
 use Rattle.flow_set.specs.EveryFlow.{every_flow}
 use Rattle.flow_set.specs.FlowSet.{SetOfFlows, set_of}
@@ -25,7 +25,7 @@ use Rattle.flow_set.specs.declared.flow.Flow.{Flow}
 use Rattle.host_net.specs.Host.{Host}
 use Rattle.host_net.specs.Services.{NarrowedFlow}
 use Rattle.inv_any.specs.declared.any_inv.AnyInv.{AnyInv}
-use Rattle.net_core.specs.Fitting.{IsNetwork}
+use Rattle.net_core.specs.inner.Fitting.{IsNetwork}
 use Rattle.net_core.specs.Network.{Network}
 use Rattle.table_core.specs.Listing.{each}
 use Rattle.text_core.specs.Firsts.{first_of}

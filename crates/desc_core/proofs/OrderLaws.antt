@@ -13,13 +13,13 @@ use Rattle.text_core.specs.Firsts.{where_holds, first_of, first_found, Numbered,
 use Rattle.desc_hosts.specs.HostConditions.{Entry, host_conditions, bad_version, too_many, too_many_prefixes, bad_name, duplicate_host, bad_prefix, host_bits, no_address, two_rests, overlap, beyond, all_entries, template_limit}
 use Rattle.host_net.specs.Limits.{invariant_limit, host_limit, prefix_limit}
 use Rattle.desc_core.specs.Description.{described, described_by_table}
-use Rattle.desc_core.specs.DescriptionLaws.{none_of_table, none_told, told, told_of_table}
+use Rattle.desc_core.proofs.DescriptionLaws.{none_of_table, none_told, told, told_of_table}
 use Rattle.desc_core.specs.Document.{document}
 use Rattle.net_core.specs.Network.{Network}
 use Rattle.desc_core.specs.WrittenNetwork.{Known, known_of}
-use Rattle.desc_core.specs.AllConditions.{conditions, not_toml, too_long}
+use Rattle.desc_core.specs.inner.AllConditions.{conditions, not_toml, too_long}
 use Rattle.desc_core.specs.Conditions.{table_conditions}
-use Rattle.desc_core.specs.Order.{IsLeast, NoneHolds}
+use Rattle.desc_core.specs.inner.Order.{IsLeast, NoneHolds}
 use Rattle.desc_hosts.specs.WrittenHosts.{network_hosts}
 use Rattle.desc_form.specs.Places.{unknown_key, missing_key, wrong_type}
 use Rattle.desc_form.specs.Refusals.{number, refused, refused_item}

@@ -4,7 +4,7 @@ use Rattle.std.proofs.lemmas.List.Elements.{All-map}
 use Rattle.std.specs.List.{All, position_from}
 use Rattle.std.specs.Str.{bytes_eq}
 use Rattle.attr_core.specs.OwnTables.{kind_numbered}
-use Rattle.attr_core.specs.OwnTablesLaws.{found_within}
+use Rattle.attr_core.proofs.OwnTablesLaws.{found_within}
 use Rattle.desc_form.specs.WrittenTemplate.{WrittenPair}
 use Rattle.std.specs.Prelude.{if◌then◌else◌, unwrap_or}
 use Rattle.desc_core.specs.Choices.{number_of_kind, strategy_said, table_said}

@@ -4,12 +4,12 @@ use Rattle.std.proofs.lemmas.List.{length-take-le, take_more}
 use Rattle.std.specs.List.{find, fold}
 use Rattle.std.specs.Option.{option_or}
 use Rattle.flow_set.specs.Flow.{same_flow}
-use Rattle.flow_set.specs.FlowLaws.{same_flow_sym}
+use Rattle.flow_set.specs.laws.FlowLaws.{same_flow_sym}
 use Rattle.flow_set.specs.FlowSet.{SetOfFlows, has, with_flow, set_of}
-use Rattle.flow_set.specs.ListedLaws.{has-set_of}
+use Rattle.flow_set.proofs.ListedLaws.{has-set_of}
 use Rattle.flow_set.specs.declared.flow.Flow.{Flow}
 use Rattle.desc_core.specs.Description.{refused_or}
-use Rattle.desc_core.specs.Parts.{twice_found}
+use Rattle.desc_core.specs.inner.Parts.{twice_found}
 use Rattle.desc_form.specs.Refusals.{refused_by}
 use Rattle.desc_form.specs.declared.refusal.Place.TheVariants.{FlowAt}
 use Rattle.desc_form.specs.declared.refusal.Refusal.{Refusal}

@@ -7,7 +7,7 @@ use Rattle.std.specs.List.{AllZip, cons_option, filter_map, list_all}
 use Rattle.std.specs.Prelude.{◌==◌}
 use Rattle.desc_core.proofs.KnownLaws.{all_apart, each_zip, flow_is}
 use Rattle.desc_core.proofs.ListingLaws.{zip_length}
-use Rattle.desc_core.specs.Parts.{ends_of, many_found, narrowed_among, self_found, twice_found, with_services}
+use Rattle.desc_core.specs.inner.Parts.{ends_of, many_found, narrowed_among, self_found, twice_found, with_services}
 use Rattle.desc_core.specs.UseConditions.{has_many_services}
 use Rattle.desc_core.specs.WrittenNetwork.{narrowed_of, narrowed_to, services_in, services_said}
 use Rattle.desc_form.specs.Written.{Written}
@@ -16,12 +16,13 @@ use Rattle.desc_hosts.specs.WrittenHosts.{network_hosts}
 use Rattle.flow_set.specs.Flow.{same_flow}
 use Rattle.flow_set.specs.declared.flow.Flow.{Flow}
 use Rattle.host_net.specs.Host.{Host}
-use Rattle.host_net.specs.Services.{NarrowedFlow, is_between, services_of, with_service}
+use Rattle.host_net.specs.Services.{NarrowedFlow, is_between, services_of}
+use Rattle.host_net.specs.inner.Services.{with_service}
 use Rattle.host_net.specs.declared.service.Service.{Service}
 use Rattle.table_core.specs.Listing.{each}
-use Rattle.text_core.specs.FirstsLaws.{all_numbered, no_pair_numbered, none_barred, none_found, none_mapped}
+use Rattle.text_core.proofs.FirstsLaws.{all_numbered, no_pair_numbered, none_barred, none_found, none_mapped}
 use Rattle.text_core.specs.Firsts.{numbered}
-use Rattle.text_core.specs.Pairs.{no_pair}
+use Rattle.text_core.specs.inner.Pairs.{no_pair}
 
 abbrev narrowed : Flow → List Service → NarrowedFlow
 narrowed e ss = record { from = e.from; to = e.to; services = ss }

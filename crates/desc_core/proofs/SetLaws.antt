@@ -11,12 +11,12 @@ use Rattle.desc_core.specs.UseConditions.{same_names}
 use Rattle.desc_form.specs.WrittenFlow.{WrittenFlow}
 use Rattle.flow_set.specs.declared.flow.Flow.{Flow}
 use Rattle.flow_set.specs.Flow.{same_flow}
-use Rattle.flow_set.specs.FlowLaws.{same_flow-true}
-use Rattle.flow_set.specs.ListedLaws.{absent_from}
-use Rattle.flow_set.specs.Different.{AreDifferent}
+use Rattle.flow_set.specs.laws.FlowLaws.{same_flow-true}
+use Rattle.flow_set.proofs.ListedLaws.{absent_from}
+use Rattle.flow_set.specs.inner.Different.{AreDifferent}
 use Rattle.host_net.specs.Host.{Host, host_named}
-use Rattle.text_core.specs.Pairs.{no_pair}
-use Rattle.host_net.specs.NamedLaws.{one_name}
+use Rattle.text_core.specs.inner.Pairs.{no_pair}
+use Rattle.host_net.proofs.NamedLaws.{one_name}
 
 -- two pairs of names with one flow are the same
 flow_by : (b : Bool) (from to : ℕ) (f : Flow) → (if b then None else Some (record { from = from; to = to })) ≡ Some f → (from ≡ f.from) × (to ≡ f.to)

@@ -8,7 +8,7 @@ use Rattle.std.specs.Str.{is_utf8}
 use Rattle.toml.specs.Data.{Members}
 use Rattle.toml.specs.Parse.{parse_document}
 use Rattle.desc_core.specs.Document.{document}
-use Rattle.desc_core.specs.Parts.{table_of}
+use Rattle.desc_core.specs.inner.Parts.{table_of}
 use Rattle.desc_core.specs.Conditions.{byte_limit}
 use Rattle.desc_form.specs.Refusals.{refused}
 use Rattle.desc_form.specs.declared.refusal.Place.TheVariants.{Document}

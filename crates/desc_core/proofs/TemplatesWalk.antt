@@ -6,7 +6,7 @@ use Rattle.std.specs.Option.{option_or}
 use Rattle.desc_core.specs.TemplateConditions.{first_bad, is_good, unlawful_at}
 use Rattle.desc_form.specs.declared.refusal.Refusal.{Refusal}
 use Rattle.text_core.specs.Firsts.{first_found, numbered_from}
-use Rattle.desc_form.specs.WrittenView.{template_view}
+use Rattle.desc_form.specs.inner.WrittenView.{template_view}
 use Rattle.desc_form.specs.declared.written.WrittenTemplate.{WrittenTemplate}
 
 good_by : (b : Bool) (later : Option ℕ) (k : ℕ) (whole : Option ℕ) → b ≡ true → (if b then later else Some k) ≡ whole → later ≡ whole

@@ -9,14 +9,14 @@ use Rattle.std.specs.Str.{bytes_eq}
 use Rattle.desc_core.proofs.KnownLaws.{is_host}
 use Rattle.desc_core.proofs.ListingLaws.{all_both}
 use Rattle.desc_core.specs.Flows.{flow_of_names}
-use Rattle.desc_core.specs.UseFactsLaws.{PassesUses}
+use Rattle.desc_core.proofs.UseFactsLaws.{PassesUses}
 use Rattle.desc_core.specs.UseConditions.{is_declared}
 use Rattle.desc_form.specs.Written.{Written}
 use Rattle.desc_form.specs.WrittenFlow.{WrittenFlow}
 use Rattle.desc_hosts.specs.WrittenHosts.{network_hosts}
 use Rattle.flow_set.specs.declared.flow.Flow.{Flow}
 use Rattle.host_net.specs.Host.{host_named}
-use Rattle.host_net.specs.NamedLaws.{one_name}
+use Rattle.host_net.proofs.NamedLaws.{one_name}
 
 -- each pair of names is that of two hosts
 same_number : (a b : ℕ) → (a == b) ≡ true → a ≡ b

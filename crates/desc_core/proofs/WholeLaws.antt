@@ -7,11 +7,11 @@ use Rattle.std.specs.List.{AllByRecursion, AllZip, cons_option, filter, filter_m
 use Rattle.std.specs.Option.{option_map_or}
 use Rattle.toml.specs.Data.{Members}
 use Rattle.desc_core.specs.Description.{described, described_by_table}
-use Rattle.desc_core.specs.DescriptionLaws.{accepted, table_of_bytes}
-use Rattle.flow_set.specs.EveryFlowLaws.{IsFull-every_flow}
+use Rattle.desc_core.proofs.DescriptionLaws.{accepted, table_of_bytes}
+use Rattle.flow_set.proofs.EveryFlowLaws.{IsFull-every_flow}
 use Rattle.desc_core.specs.Flows.{flow_of_names}
 use Rattle.flow_set.specs.FlowSet.{set_of}
-use Rattle.flow_set.specs.ListedLaws.{has-set_of, length-set_of}
+use Rattle.flow_set.proofs.ListedLaws.{has-set_of, length-set_of}
 use Rattle.desc_core.proofs.ListingLaws.{all_weaker, zip_length, zip_some, zip_weaker}
 use Rattle.net_core.specs.Network.{Network}
 use Rattle.desc_core.specs.WrittenNetwork.{Known, asked_of, given_by, invariant_of, invariants_of, known_of, made_of, narrowed_of, narrowed_to, network_of, services_in, services_said}
@@ -21,29 +21,30 @@ use Rattle.desc_core.specs.UseConditions.{use_conditions}
 use Rattle.desc_core.proofs.UsesLaws.{all_between}
 use Rattle.desc_core.proofs.KnownLaws.{all_known}
 use Rattle.desc_core.proofs.MakeableLaws.{all_lawful}
-use Rattle.desc_core.specs.UseFacts.{SaysAttributes}
-use Rattle.desc_core.specs.UseFactsLaws.{PassesUses, PassesUses-uses, services_test}
-use Rattle.desc_core.specs.Whole.{IsDescribed, IsDescribedByTable, IsHostOf, IsInvariantOf, IsNarrowedOf, IsSetOf, IsWhole, is_narrowed}
+use Rattle.desc_core.specs.inner.UseFacts.{SaysAttributes}
+use Rattle.desc_core.proofs.UseFactsLaws.{PassesUses, PassesUses-uses, services_test}
+use Rattle.desc_core.specs.inner.Whole.{IsDescribed, IsDescribedByTable, IsHostOf, IsInvariantOf, IsNarrowedOf, IsSetOf, IsWhole, is_narrowed}
 use Rattle.text_core.specs.Firsts.{first_of}
 use Rattle.desc_form.specs.Written.{Written, WrittenHost, WrittenInvariant, written}
 use Rattle.desc_form.specs.WrittenFlow.{WrittenFlow}
-use Rattle.desc_form.specs.WrittenLaws.{written_stands}
-use Rattle.desc_hosts.specs.FactsLaws.{all_say_prefixes, has_hosts}
+use Rattle.desc_form.proofs.WrittenLaws.{written_stands}
+use Rattle.desc_hosts.proofs.FactsLaws.{all_say_prefixes, has_hosts}
 use Rattle.desc_hosts.specs.HostConditions.{host_conditions, is_prefix}
-use Rattle.desc_hosts.specs.HostsLaws.{length-network_hosts}
-use Rattle.desc_hosts.specs.HostFacts.{texts}
+use Rattle.desc_hosts.proofs.HostsLaws.{length-network_hosts}
+use Rattle.desc_hosts.specs.inner.HostFacts.{texts}
 use Rattle.desc_hosts.specs.WrittenHosts.{network_host, network_hosts}
 use Rattle.flow_set.specs.declared.flow.Flow.{Flow}
 use Rattle.host_net.specs.Prefix.{prefix_of}
 use Rattle.host_net.specs.Services.{NarrowedFlow}
-use Rattle.host_net.specs.ServiceText.{IsServiceSpelling, service_of}
-use Rattle.host_net.specs.ServiceTextLaws.{service_of-spelled}
+use Rattle.host_net.specs.ServiceText.{service_of}
+use Rattle.host_net.specs.inner.ServiceText.{IsServiceSpelling}
+use Rattle.host_net.proofs.ServiceTextLaws.{service_of-spelled}
 use Rattle.host_net.specs.declared.service.Service.{Service}
 use Rattle.host_net.specs.declared.prefix.Prefix.{Prefix}
 use Rattle.inv_any.specs.declared.any_inv.AnyInv.{AnyInv}
 use Rattle.std.proofs.lemmas.Option.{option_and_then_some}
 use Rattle.attr_core.specs.Assigns.{Given}
-use Rattle.desc_core.specs.ChoiceLaws.{bad_by_form, made_by_form}
+use Rattle.desc_core.proofs.ChoiceLaws.{bad_by_form, made_by_form}
 use Rattle.desc_core.specs.Choices.{Choice, bad_of, chosen}
 use Rattle.desc_form.specs.WrittenTemplate.{WrittenTemplate}
 use Rattle.host_net.specs.Host.{Host}

@@ -20,7 +20,7 @@ use Rattle.desc_core.specs.WrittenNetwork.{network_of, asked_of, services_in, in
 use Rattle.flow_set.specs.EveryFlow.{every_flow}
 use Rattle.desc_form.specs.Places.{unknown_key, missing_key, wrong_type, has_other_key, lacks_needed, has_unsuited, has_wrong_type, first_place, spots, listed, assigns_of}
 use Rattle.desc_core.specs.UseConditions.{use_conditions, unknown_template, undeclared_host, duplicate_assign, bad_attribute, self_flow, duplicate_flow, bad_service, many_services}
-use Rattle.desc_core.specs.DescriptionLaws.{described-too_long}
+use Rattle.desc_core.proofs.DescriptionLaws.{described-too_long}
 use Rattle.desc_core.specs.Description.{described, described_by_table}
 use Rattle.desc_form.specs.Refusals.{refused, refused_by, refused_item, refused_item_by, refused_name}
 use Rattle.desc_form.specs.declared.refusal.Place.TheVariants.{Assign, Document, FlowAt, Host}

@@ -5,8 +5,8 @@ use Rattle.std.specs.Option.{option_or}
 use Rattle.std.specs.Str.{bytes_eq}
 use Rattle.attr_core.specs.Assigns.{Given}
 use Rattle.attr_core.specs.OwnTables.{Declared, kind_numbered, table_form}
-use Rattle.attr_core.specs.Forms.{Form, bad_assign, invariant_by}
-use Rattle.attr_core.specs.Templates.{bad_in, form, invariant_in, template_named}
+use Rattle.attr_core.specs.Forms.{bad_assign, invariant_by}
+use Rattle.attr_core.specs.Templates.{bad_in, invariant_in, template_named}
 use Rattle.attr_core.specs.declared.template.Template.{Template}
 use Rattle.desc_form.specs.WrittenTemplate.{WrittenTemplate}
 use Rattle.host_net.specs.Host.{Host}
@@ -43,11 +43,6 @@ table_said t = record {
 
 abbrev pub declared_by : WrittenTemplate → Declared
 declared_by t = record { words = t.kinds; table = table_said t }
-
--- how a description writes the attributes of the template
-abbrev pub choice_form : Choice → Form
-choice_form (OneOfTen t) = form t
-choice_form (OwnTable t) = table_form (declared_by t)
 
 -- the first assign that says no attribute
 unfoldable pub bad_of : List Host → Choice → List Given → Option ℕ

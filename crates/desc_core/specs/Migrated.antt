@@ -1,5 +1,5 @@
 -- A description in version 2: what `migrate` writes of one that is accepted (docs/FORMATS.md).
-use Rattle.std.specs.Prelude.{◌≡◌, ◌≤◌, ℕ, pos, false, List, length, codes, Some, Ok, Err, Result}
+use Rattle.std.specs.Prelude.{◌≡◌, ◌≤◌, ℕ, pos, false, List, length, codes, Some, Ok}
 use Rattle.std.specs.Cmp.Lexicographic.{slice_cmp}
 use Rattle.std.specs.Ordering.{match_ordering, nat_cmp}
 use Rattle.toml.specs.Data.{Data, integer, table, Members, no_members, member}
@@ -7,8 +7,6 @@ use Rattle.toml.specs.Text.{IsDocumentText}
 use Rattle.desc_core.specs.Conditions.{byte_limit}
 use Rattle.desc_core.specs.Description.{described}
 use Rattle.desc_core.specs.Document.{document}
-use Rattle.desc_core.specs.declared.fault.DescFault.{DescFault}
-use Rattle.desc_core.specs.declared.fault.DescFault.TheVariants.{Refused, Memory}
 use Rattle.net_core.specs.Network.{Network}
 use Rattle.table_core.specs.Shallow.{IsShallow}
 
@@ -33,9 +31,3 @@ pub record IsMigrated (bytes text : List ℕ) : Type 0 where
   pub written : document text ≡ Some (migrated members)
   pub printed : IsDocumentText false (migrated members) text
   pub same : length text ≤ byte_limit → described text ≡ Ok network
-
--- what is written of the bytes, or what they are refused for; memory may run out instead at any time
-abbrev pub Migrates : List ℕ → Result (List ℕ) DescFault → Type 0
-Migrates bytes (Ok text) = IsMigrated bytes text
-Migrates bytes (Err (Refused refusal)) = described bytes ≡ Err refusal
-Migrates bytes (Err Memory) = Unit {0}

@@ -2,8 +2,8 @@
 ghost use Rattle.std.specs.Prelude.{◌≡◌, option_map, map, find};
 ghost use Rattle.std.specs.Str.{bytes_eq};
 ghost use Rattle.desc_core.specs.Choices.{OwnTable, chosen};
-ghost use Rattle.desc_core.specs.ChoiceView.{choice_view};
-ghost use Rattle.desc_form.specs.WrittenView.{template_view};
+ghost use Rattle.desc_core.specs.inner.ChoiceView.{choice_view};
+ghost use Rattle.desc_form.specs.inner.WrittenView.{template_view};
 
 use attr_core::Template;
 use desc_form::WrittenTemplate;

@@ -1,13 +1,13 @@
 //! The description of a network: its hosts, the flows between them that are asked for, their services,
 //! and its invariants.
 ghost use Rattle.std.specs.Prelude.{◌≡◌, ◌≢◌, IfOk};
-ghost use Rattle.desc_core.specs.AllConditions.{conditions};
+ghost use Rattle.desc_core.specs.inner.AllConditions.{conditions};
 ghost use Rattle.desc_core.specs.Conditions.{table_conditions};
 ghost use Rattle.desc_core.specs.Description.{described, described_by_table};
-ghost use Rattle.desc_core.specs.Reads.{Reads};
-ghost use Rattle.desc_core.specs.Order.{IsLeast, NoneHolds};
-ghost use Rattle.desc_core.specs.TableFacts.{IsRight};
-ghost use Rattle.desc_core.specs.Whole.{IsDescribed, IsDescribedByTable};
+ghost use Rattle.desc_core.specs.inner.Reads.{Reads};
+ghost use Rattle.desc_core.specs.inner.Order.{IsLeast, NoneHolds};
+ghost use Rattle.desc_core.specs.inner.TableFacts.{IsRight};
+ghost use Rattle.desc_core.specs.inner.Whole.{IsDescribed, IsDescribedByTable};
 ghost use Rattle.desc_core.specs.declared.fault.DescFault.TheVariants.{Refused};
 ghost use Rattle.desc_form.specs.declared.refusal.Refusal.{Refusal};
 ghost use Rattle.toml.specs.View.{table_view};

@@ -1,8 +1,8 @@
 //! From the bytes of a description to its TOML table.
 ghost use Rattle.std.specs.Prelude.{◌≡◌};
 ghost use Rattle.std.specs.Result.{result_map_both};
-ghost use Rattle.desc_core.specs.Parts.{table_of};
-ghost use Rattle.desc_core.specs.Reads.{Reads};
+ghost use Rattle.desc_core.specs.inner.Parts.{table_of};
+ghost use Rattle.desc_core.specs.inner.Reads.{Reads};
 ghost use Rattle.desc_core.specs.declared.fault.DescFault.TheVariants.{Refused};
 ghost use Rattle.desc_form.specs.Refusals.{refused};
 ghost use Rattle.desc_form.specs.declared.refusal.Place.TheVariants.{Document};

@@ -2,8 +2,8 @@
 //! asked for.
 ghost use Rattle.std.specs.Prelude.{◌≡◌, ◌≤◌, Some, find, length, All, IsTrue, if◌then◌else◌};
 ghost use Rattle.desc_core.specs.Description.{refused_or};
-ghost use Rattle.desc_core.specs.Parts.{self_found, twice_found};
-ghost use Rattle.desc_core.specs.Reads.{Reads};
+ghost use Rattle.desc_core.specs.inner.Parts.{self_found, twice_found};
+ghost use Rattle.desc_core.specs.inner.Reads.{Reads};
 ghost use Rattle.desc_core.specs.declared.fault.DescFault.TheVariants.{Refused};
 ghost use Rattle.desc_form.specs.Refusals.{refused_by};
 ghost use Rattle.desc_form.specs.declared.refusal.Place.TheVariants.{FlowAt};

@@ -1,14 +1,14 @@
 //! The invariants of a description: the first assign that says no attribute of its template, and the
 //! invariants themselves, each made of its assigns.
 ghost use Rattle.std.specs.Prelude.{◌≡◌, ◌<◌, None, length, map, All, IfOk};
-ghost use Rattle.attr_core.specs.AssignView.{given_of};
+ghost use Rattle.attr_core.specs.inner.AssignView.{given_of};
 ghost use Rattle.attr_core.specs.OwnTables.{table_form};
 ghost use Rattle.attr_core.specs.Forms.{invariant_by};
 ghost use Rattle.desc_core.specs.Choices.{bad_of, declared_by};
-ghost use Rattle.desc_core.specs.Makeable.{CanBeMade, IsMakeable};
-ghost use Rattle.desc_form.specs.WrittenView.{template_view};
-ghost use Rattle.desc_core.specs.KnownView.{known_view};
-ghost use Rattle.desc_core.specs.Parts.{bad_known};
+ghost use Rattle.desc_core.specs.inner.Makeable.{CanBeMade, IsMakeable};
+ghost use Rattle.desc_form.specs.inner.WrittenView.{template_view};
+ghost use Rattle.desc_core.specs.inner.KnownView.{known_view};
+ghost use Rattle.desc_core.specs.inner.Parts.{bad_known};
 ghost use Rattle.desc_core.specs.UseConditions.{bad_at};
 ghost use Rattle.desc_core.specs.WrittenNetwork.{made_of};
 

@@ -1,11 +1,11 @@
 //! The names of a description looked up, once each: the templates, the hosts of the assigns and those
 //! of the flows.
 ghost use Rattle.std.specs.Prelude.{◌≡◌, ◌<◌, length, map, option_map, All, IfOk, IfSome};
-ghost use Rattle.attr_core.specs.AssignView.{given_of};
-ghost use Rattle.desc_core.specs.KnownView.{known_view};
-ghost use Rattle.desc_core.specs.Parts.{ends_of};
+ghost use Rattle.attr_core.specs.inner.AssignView.{given_of};
+ghost use Rattle.desc_core.specs.inner.KnownView.{known_view};
+ghost use Rattle.desc_core.specs.inner.Parts.{ends_of};
 ghost use Rattle.desc_core.specs.WrittenNetwork.{given_by, known_of};
-ghost use Rattle.desc_form.specs.WrittenView.{assign_view, flow_view, invariant_view, template_view};
+ghost use Rattle.desc_form.specs.inner.WrittenView.{assign_view, flow_view, invariant_view, template_view};
 ghost use Rattle.table_core.specs.Listing.{each};
 
 use crate::choice::{Choice, chosen};

@@ -2,7 +2,8 @@
 ghost use Rattle.std.specs.Prelude.{◌≡◌, ◌≤◌, true, false, Some, IfOk, OnOk};
 ghost use Rattle.std.specs.Result.{result_map_both};
 ghost use Rattle.desc_core.specs.Document.{document};
-ghost use Rattle.desc_core.specs.Migrated.{Migrates, migrated};
+ghost use Rattle.desc_core.specs.Migrated.{migrated};
+ghost use Rattle.desc_core.specs.inner.Migrated.{Migrates};
 ghost use Rattle.toml.specs.Data.{members_depth, members_have_valid_dates};
 ghost use Rattle.toml.specs.Text.{IsDocumentText};
 ghost use Rattle.toml.specs.View.{table_view};

@@ -1,14 +1,14 @@
 //! From what is written to the network, once the form is right.
 ghost use Rattle.std.specs.Prelude.{◌≡◌, ◌<◌, None, Some, length, map, All, IfOk};
 ghost use Rattle.std.specs.Option.{option_or};
-ghost use Rattle.desc_core.specs.KnownView.{known_view};
-ghost use Rattle.desc_core.specs.Parts.{bad_known, ends_of, network_by_uses, network_or, self_found};
-ghost use Rattle.desc_core.specs.Reads.{Reads};
+ghost use Rattle.desc_core.specs.inner.KnownView.{known_view};
+ghost use Rattle.desc_core.specs.inner.Parts.{bad_known, ends_of, network_by_uses, network_or, self_found};
+ghost use Rattle.desc_core.specs.inner.Reads.{Reads};
 ghost use Rattle.desc_core.specs.UseConditions.{duplicate_assign};
 ghost use Rattle.desc_core.specs.WrittenNetwork.{known_of};
 ghost use Rattle.table_core.specs.Listing.{each};
 ghost use Rattle.text_core.specs.Firsts.{first_of};
-ghost use Rattle.desc_form.specs.WrittenView.{written_view};
+ghost use Rattle.desc_form.specs.inner.WrittenView.{written_view};
 ghost use Rattle.desc_hosts.specs.HostConditions.{host_conditions};
 ghost use Rattle.desc_hosts.specs.WrittenHosts.{network_hosts};
 

@@ -1,8 +1,8 @@
 //! The rule of a declared template: its kinds by their numbers.
 ghost use Rattle.std.specs.Prelude.{◌≡◌, ◌≤◌, ◌<◌, IfOk, length, map, replicate};
 ghost use Rattle.desc_core.specs.Choices.{number_of_kind, strategy_said, table_said};
-ghost use Rattle.desc_core.specs.Makeable.{IsMakeable};
-ghost use Rattle.desc_form.specs.WrittenView.{pair_view, template_view};
+ghost use Rattle.desc_core.specs.inner.Makeable.{IsMakeable};
+ghost use Rattle.desc_form.specs.inner.WrittenView.{pair_view, template_view};
 
 use attr_core::kind_numbered;
 use desc_form::{WrittenPair, WrittenTemplate};

@@ -1,17 +1,17 @@
 //! The services of flows: the refusals for them, and which flows they narrow.
 ghost use Rattle.std.specs.Prelude.{◌≡◌, ◌≤◌, ◌+◌, [], find, is_none, length, map, option_map, IfOk, IsTrue, OnOk, filter_map, not};
 ghost use Rattle.std.specs.List.{list_all};
-ghost use Rattle.desc_core.specs.Parts.{many_found, narrowed_among, services_found, with_services};
+ghost use Rattle.desc_core.specs.inner.Parts.{many_found, narrowed_among, services_found, with_services};
 ghost use Rattle.desc_core.specs.UseConditions.{bad_service_of, has_many_services};
 ghost use Rattle.desc_form.specs.Refusals.{refused, refused_item};
-ghost use Rattle.desc_form.specs.WrittenView.{flow_view};
+ghost use Rattle.desc_form.specs.inner.WrittenView.{flow_view};
 ghost use Rattle.desc_form.specs.declared.refusal.Place.TheVariants.{FlowAt};
 ghost use Rattle.desc_form.specs.declared.refusal.Why.TheVariants.{BadService};
 ghost use Rattle.flow_set.specs.Flow.{same_flow};
 ghost use Rattle.host_net.specs.Services.{service_limit, services_of};
 ghost use Rattle.host_net.specs.ServiceText.{service_of};
 ghost use Rattle.text_core.specs.Firsts.{first_found, numbered};
-ghost use Rattle.text_core.specs.Pairs.{no_pair};
+ghost use Rattle.text_core.specs.inner.Pairs.{no_pair};
 
 use desc_form::{Place, Refusal, Why, WrittenFlow};
 use flow_set::Flow;

@@ -3,10 +3,10 @@ ghost use Rattle.std.specs.Prelude.{◌≡◌, ◌&&◌, ◌||◌, [], find, is_
 ghost use Rattle.std.specs.List.{list_all, list_any};
 ghost use Rattle.std.specs.Str.{bytes_eq};
 ghost use Rattle.attr_core.specs.Templates.{template_named};
-ghost use Rattle.desc_core.specs.Parts.{templates_found};
+ghost use Rattle.desc_core.specs.inner.Parts.{templates_found};
 ghost use Rattle.desc_core.specs.TemplateConditions.{are_different, denies, first_bad, has_kinds, has_own_name, has_partner, has_strategy, is_good, is_kind, unlawful_at, uses_kinds};
 ghost use Rattle.desc_form.specs.Refusals.{refused, refused_item};
-ghost use Rattle.desc_form.specs.WrittenView.{pair_view, template_view, written_view};
+ghost use Rattle.desc_form.specs.inner.WrittenView.{pair_view, template_view, written_view};
 ghost use Rattle.desc_form.specs.declared.refusal.Place.TheVariants as place;
 ghost use Rattle.desc_form.specs.declared.refusal.Why.TheVariants.{BadTemplate, NotLawful};
 ghost use Rattle.text_core.specs.Firsts.{first_found, numbered};

@@ -9,7 +9,7 @@ use Rattle.desc_form.specs.declared.refusal.Place.{Place}
 use Rattle.desc_form.specs.declared.refusal.Place.TheVariants.{Document, Host, FlowAt, Template}
 use Rattle.desc_form.specs.Keys.{version_said}
 use Rattle.desc_form.specs.Places.{Spot, first_place, has_missing_key, has_unknown_key, has_wrong_type, invariant_spots, listed, spot_in, spots}
-use Rattle.desc_form.specs.Walking.{after, after_all, after_invariants, first_places, nothing_found}
+use Rattle.desc_form.specs.inner.Walking.{after, after_all, after_invariants, first_places, nothing_found}
 
 after_append : (f : Found) (ss ts : List Spot) → after_all f (ss ++ ts) ≡ after_all (after_all f ss) ts
 after_append f [] ts = refl

@@ -5,7 +5,7 @@ ghost use Rattle.std.specs.Option.{option_map_or};
 ghost use Rattle.desc_form.specs.Places.{fits_version};
 ghost use Rattle.desc_form.specs.WrittenFlow.{flow_of_values, flow_written};
 ghost use Rattle.desc_form.specs.WrittenTemplate.{pair_of_flow, pair_written};
-ghost use Rattle.desc_form.specs.WrittenView.{flow_view, pair_view};
+ghost use Rattle.desc_form.specs.inner.WrittenView.{flow_view, pair_view};
 ghost use Rattle.toml.specs.View.{view};
 
 use crate::written::{WrittenFlow, WrittenPair, texts_among};
@@ -79,7 +79,7 @@ fn service_count(value: &Value) -> Option<usize>
 }
 
 /// How many services stand behind two names, if all values are texts.
-#[tactic(auto, using(crate::specs::FlowLaws::no_services))]
+#[tactic(auto, using(crate::proofs::FlowLaws::no_services))]
 fn services_behind(values: &[Value]) -> Option<usize>
     ensures { result ≡ option_map (λ f. length f.services) (flow_of_values (map view values.now)) }
 {

@@ -3,7 +3,7 @@ ghost use Rattle.std.specs.Prelude.{◌≡◌, map};
 ghost use Rattle.desc_form.specs.Keys.{keys_of};
 ghost use Rattle.desc_form.specs.declared.refusal.Place.TheVariants.{Document};
 ghost use Rattle.desc_form.specs.Places.{has_other_key, lacks_needed, has_unsuited};
-ghost use Rattle.table_core.specs.KeyView.{key_view};
+ghost use Rattle.table_core.specs.inner.KeyView.{key_view};
 ghost use Rattle.toml.specs.View.{table_view};
 
 use crate::refusal::Place;

@@ -8,7 +8,7 @@ ghost use Rattle.toml.specs.View.{view, table_view};
 ghost use Rattle.desc_form.specs.Keys.{version_said};
 ghost use Rattle.desc_form.specs.declared.refusal.Place.TheVariants.{Document};
 ghost use Rattle.desc_form.specs.Places.{assigns_of, denies_pairs, has_unsuited, has_missing_key, has_unknown_key, has_wrong_type, invariant_spots, listed, spot_in};
-ghost use Rattle.desc_form.specs.Walking.{after, after_all, after_invariants, first_places, nothing_found, place_in};
+ghost use Rattle.desc_form.specs.inner.Walking.{after, after_all, after_invariants, first_places, nothing_found, place_in};
 ghost use Rattle.text_core.specs.Firsts.{numbered};
 
 use crate::flows::{are_pairs, is_flow};

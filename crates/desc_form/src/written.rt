@@ -5,10 +5,10 @@ ghost use Rattle.desc_form.specs.FormConditions.{form_conditions};
 ghost use Rattle.desc_form.specs.Places.{listed};
 ghost use Rattle.desc_form.specs.WrittenFlow.{flow_written};
 ghost use Rattle.desc_form.specs.WrittenTemplate.{pair_written};
-ghost use Rattle.desc_form.specs.WrittenView.{assign_view, flow_view, host_view, invariant_view, pair_view, template_view, written_view};
+ghost use Rattle.desc_form.specs.inner.WrittenView.{assign_view, flow_view, host_view, invariant_view, pair_view, template_view, written_view};
 ghost use Rattle.desc_form.specs.Written.{assign_written, host_written, invariant_written, template_written, text_in, written};
 ghost use Rattle.desc_form.specs.Written as meant;
-ghost use Rattle.desc_form.specs.WrittenForm.{IsWritten};
+ghost use Rattle.desc_form.specs.inner.WrittenForm.{IsWritten};
 ghost use Rattle.toml.specs.Data.{as_str, as_table};
 ghost use Rattle.toml.specs.View.{view, table_view};
 

@@ -1,7 +1,7 @@
 -- Hosts that are added one after the other from a list.
 use Rattle.std.proofs.Common.{◌≡◌, ℕ, suc, ◌<◌, get_or, drop, drop-cons, List, ◌∷◌, ◌++◌, map, length, sym, ap, subst, ◌∙◌}
 use Rattle.host_net.specs.Host.{Host}
-use Rattle.host_net.specs.Hosts.{IsHosts}
+use Rattle.host_net.specs.inner.Hosts.{IsHosts}
 
 -- the next one stands between those that were added and those that are left
 pub known_here : {A B : Type 0} (f : B → Host) (g : A → B) (hosts : List Host) (xs : List A) (i : ℕ) (x : A) → i < length xs → x ≡ get_or xs i x

@@ -1,13 +1,4 @@
-pub mod EntryView
-pub mod EntriesLaws
-pub mod FactsLaws
 pub mod HostConditions
-pub mod HostFacts
-pub mod HostsLaws
-pub mod MentionView
 pub mod Mentions
-pub mod NamesLaws
-pub mod NoneLaws
-pub mod RowLaws
-pub mod SizesLaws
 pub mod WrittenHosts
+pub mod inner

@@ -4,8 +4,8 @@ ghost use Rattle.desc_form.specs.declared.refusal.Place.TheVariants.{Host};
 ghost use Rattle.text_core.specs.Firsts.{numbered};
 ghost use Rattle.desc_hosts.specs.HostConditions.{bad_prefix, entries_at, entries_of, entry_at, has_host_bits, host_bits, is_prefix, too_many_prefixes};
 ghost use Rattle.desc_form.specs.Refusals.{refused_item};
-ghost use Rattle.desc_form.specs.WrittenView.{host_view};
-ghost use Rattle.desc_hosts.specs.EntryView.{entry_view};
+ghost use Rattle.desc_form.specs.inner.WrittenView.{host_view};
+ghost use Rattle.desc_hosts.specs.inner.EntryView.{entry_view};
 
 use desc_form::{Place, Refusal, Why, WrittenHost};
 use host_net::{PREFIX_LIMIT, Prefix, read_prefix};

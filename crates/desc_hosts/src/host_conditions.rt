@@ -1,10 +1,10 @@
 //! The refusals of a written description for its version, its size and its hosts.
 ghost use Rattle.std.specs.Prelude.{◌≡◌, ◌↔◌, None, map, IfOk};
 ghost use Rattle.text_core.specs.Firsts.{first_of};
-ghost use Rattle.desc_form.specs.WrittenView.{host_view, written_view};
-ghost use Rattle.desc_hosts.specs.EntryView.{entry_view};
+ghost use Rattle.desc_form.specs.inner.WrittenView.{host_view, written_view};
+ghost use Rattle.desc_hosts.specs.inner.EntryView.{entry_view};
 ghost use Rattle.desc_hosts.specs.HostConditions.{address_conditions, all_entries, bad_version, host_conditions, no_address};
-ghost use Rattle.desc_hosts.specs.HostFacts.{HasHosts};
+ghost use Rattle.desc_hosts.specs.inner.HostFacts.{HasHosts};
 ghost use Rattle.host_net.specs.Host.{lacks_address};
 
 use crate::barred::{duplicate_host, overlap, two_rests};

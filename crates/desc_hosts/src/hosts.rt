@@ -2,12 +2,12 @@
 ghost use Rattle.std.specs.Prelude.{◌≡◌, ◌++◌, ◌∷◌, [], None, filter_map, map, IfOk, IsTrue, OnOk};
 ghost use Rattle.std.specs.List.{list_all};
 ghost use Rattle.text_core.specs.Firsts.{first_of};
-ghost use Rattle.desc_form.specs.WrittenView.{host_view, written_view};
+ghost use Rattle.desc_form.specs.inner.WrittenView.{host_view, written_view};
 ghost use Rattle.desc_hosts.specs.HostConditions.{host_conditions};
 ghost use Rattle.desc_hosts.specs.WrittenHosts.{network_host, network_hosts};
-ghost use Rattle.host_net.specs.Hosts.{is_network};
+ghost use Rattle.host_net.specs.inner.Hosts.{is_network};
 ghost use Rattle.host_net.specs.Prefix.{prefix_of};
-ghost use Rattle.host_net.specs.Refusal.{refusal_of};
+ghost use Rattle.host_net.specs.inner.Refusal.{refusal_of};
 
 use desc_form::{Written, WrittenHost};
 use host_net::{HostRefusal, Hosts, Prefix, read_prefix};

@@ -1,8 +1,8 @@
 //! The names that stand for hosts in a description, place by place: in its assigns and in its flows.
 ghost use Rattle.std.specs.Prelude.{◌≡◌, ◌++◌, flat_map, map, IfOk, OnOk};
 ghost use Rattle.text_core.specs.Firsts.{numbered};
-ghost use Rattle.desc_form.specs.WrittenView.{assign_view, flow_view, invariant_view, written_view};
-ghost use Rattle.desc_hosts.specs.MentionView.{mention_view};
+ghost use Rattle.desc_form.specs.inner.WrittenView.{assign_view, flow_view, invariant_view, written_view};
+ghost use Rattle.desc_hosts.specs.inner.MentionView.{mention_view};
 ghost use Rattle.desc_hosts.specs.Mentions.{assign_name, assign_names_of, flow_names_of, used_names};
 
 use desc_form::{Place, Written, WrittenAssign, WrittenFlow, WrittenHost, WrittenInvariant};

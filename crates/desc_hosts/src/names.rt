@@ -1,7 +1,7 @@
 //! The refusal for a text that is no legal name, in the place of a host's name: at hosts, then in
 //! assigns, then in flows. The names are looked at where they stand, and nothing is collected.
 ghost use Rattle.std.specs.Prelude.{◌≡◌, flat_map, map};
-ghost use Rattle.desc_form.specs.WrittenView.{assign_view, flow_view, host_view, invariant_view, written_view};
+ghost use Rattle.desc_form.specs.inner.WrittenView.{assign_view, flow_view, host_view, invariant_view, written_view};
 ghost use Rattle.desc_hosts.specs.HostConditions.{bad_name};
 ghost use Rattle.desc_hosts.specs.Mentions.{all_names, assign_name, assign_names_of, flow_names_of, host_name};
 ghost use Rattle.text_core.specs.Firsts.{first_found, numbered};
@@ -12,7 +12,7 @@ use desc_form::{
 use text_core::is_name;
 
 /// A text in the place of a name is no legal name.
-#[tactic(auto, unfolding(crate::specs::Mentions::all_names, crate::specs::Mentions::used_names, crate::specs::Mentions::assign_names, crate::specs::Mentions::flow_names), using(crate::specs::NamesLaws::bad_name_append, crate::specs::NamesLaws::bad_name_in_turn))]
+#[tactic(auto, unfolding(crate::specs::Mentions::all_names, crate::specs::Mentions::used_names, crate::specs::Mentions::assign_names, crate::specs::Mentions::flow_names), using(crate::proofs::NamesLaws::bad_name_append, crate::proofs::NamesLaws::bad_name_in_turn))]
 pub(crate) fn bad_name(written: &Written<'_>) -> Option<Refusal>
     ensures { result ≡ bad_name (all_names (written_view written.now)) }
 {

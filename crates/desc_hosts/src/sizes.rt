@@ -1,8 +1,8 @@
 //! The refusals for a description with too many hosts, prefixes, invariants or templates.
 ghost use Rattle.std.specs.Prelude.{◌≡◌, length, map};
-ghost use Rattle.desc_form.specs.WrittenView.{host_view, invariant_view, template_view, written_view};
+ghost use Rattle.desc_form.specs.inner.WrittenView.{host_view, invariant_view, template_view, written_view};
 ghost use Rattle.desc_form.specs.declared.refusal.Place.TheVariants.{Host, Invariant, Template};
-ghost use Rattle.desc_hosts.specs.EntryView.{entry_view};
+ghost use Rattle.desc_hosts.specs.inner.EntryView.{entry_view};
 ghost use Rattle.desc_hosts.specs.HostConditions.{beyond, template_limit, too_many};
 ghost use Rattle.host_net.specs.Limits.{invariant_limit, host_limit};
 

@@ -1,3 +1,4 @@
 pub mod Pieces
+pub mod PutLaws
 pub mod Reading
 pub mod Stored

@@ -3,8 +3,8 @@ use Rattle.std.proofs.Common.{◌≡◌, ℕ, ◌+◌, ◌<◌, Option, List, �
 use Rattle.std.proofs.Math.Seq.{take-add, take_all}
 use Rattle.std.proofs.lemmas.Grind.{flat_map-append}
 use Rattle.std.specs.Io.KnownBytes.{append_known}
-use Rattle.edge_io.specs.Calls.{joined}
-use Rattle.edge_io.specs.PutLaws.{append_known-append}
+use Rattle.edge_io.specs.inner.Calls.{joined}
+use Rattle.edge_io.proofs.PutLaws.{append_known-append}
 use Rattle.edge_io.specs.Told.{TookPrefix}
 
 -- the bytes up to i, and then n of the rest

@@ -3,7 +3,7 @@ use Rattle.std.proofs.Common.{◌≡◌, ℕ, ◌+◌, Option, None, Some, List,
 use Rattle.std.proofs.Math.ListN.{drop_of_length-le}
 use Rattle.std.proofs.Math.Seq.{drop-drop}
 use Rattle.std.specs.List.{slice_get}
-use Rattle.edge_io.specs.Begun.{bytes_from, bytes_left}
+use Rattle.edge_io.specs.inner.Begun.{bytes_from, bytes_left}
 use Rattle.edge_io.specs.declared.stored_files.StoredFile.{StoredFile}
 use Rattle.edge_io.specs.declared.begun.Begun.{Begun}
 

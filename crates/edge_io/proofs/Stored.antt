@@ -11,7 +11,7 @@ use Rattle.std.specs.Option.{option_map}
 use Rattle.std.specs.Ordering.{nat_cmp}
 use Rattle.std.specs.Prelude.{slice_set}
 use Rattle.edge_io.specs.Told.{Files}
-use Rattle.edge_io.specs.StoredFiles.{is_named, files_in}
+use Rattle.edge_io.specs.inner.StoredFiles.{is_named, files_in}
 use Rattle.edge_io.specs.declared.stored_files.StoredFile.{StoredFile}
 
 -- the bytes of the first file of that name

@@ -1,11 +1,3 @@
-pub mod Begun
-pub mod Calls
 pub mod Counts
-pub mod FaultPlan
-pub mod MemShelf
-pub mod MemShelfCode
-pub mod MemSink
-pub mod PutLaws
-pub mod StoredFiles
-pub mod Take
 pub mod Told
+pub mod inner

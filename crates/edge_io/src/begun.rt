@@ -1,6 +1,6 @@
 //! Reading the begun file of a shelf in memory from where the last read stopped.
 ghost use Rattle.std.specs.Prelude.{◌≡◌, ◌+◌, ◌<◌, ◌^◌, Some, IsSomeAnd, slice_get, min, take, length};
-ghost use Rattle.edge_io.specs.Begun.{bytes_left, IsWithin};
+ghost use Rattle.edge_io.specs.inner.Begun.{bytes_left, IsWithin};
 
 use crate::stored_files::StoredFile;
 

@@ -2,7 +2,7 @@
 ghost use Rattle.std.specs.Prelude.{◌≡◌, false, None, is_some, refl};
 ghost use Rattle.std.specs.Option.{option_and_then};
 ghost use Rattle.std.specs.Io.KnownBytes.{ReadConsumes};
-ghost use Rattle.edge_io.specs.Calls.{CountsFault, ShelfCountsOnlyFailures};
+ghost use Rattle.edge_io.specs.inner.Calls.{CountsFault, ShelfCountsOnlyFailures};
 
 use crate::{Failed, Shelf};
 use std::fs;

@@ -14,7 +14,7 @@ pub(crate) struct FaultPlan {
 }
 
 impl Model for FaultPlan {
-    ghost use Rattle.edge_io.specs.FaultPlan.{Plan};
+    ghost use Rattle.edge_io.specs.inner.FaultPlan.{Plan};
 
     ghost Value = { Plan };
 
@@ -22,7 +22,7 @@ impl Model for FaultPlan {
 }
 
 impl FaultPlan {
-    ghost use Rattle.edge_io.specs.FaultPlan.{fresh, fails_next, after_call, with_fault};
+    ghost use Rattle.edge_io.specs.inner.FaultPlan.{fresh, fails_next, after_call, with_fault};
 
     /// A plan before the first call, with the numbers of the calls that fail.
     pub(crate) fn new(fails: Vec<u32>) -> FaultPlan

@@ -22,15 +22,15 @@ pub struct MemShelf {
 
 impl Model for MemShelf {
     ghost use Rattle.std.specs.Prelude.{is_some};
-    ghost use Rattle.edge_io.specs.MemShelf.{Shelved};
-    ghost use Rattle.edge_io.specs.MemShelfCode.{shelved_code};
+    ghost use Rattle.edge_io.specs.inner.MemShelf.{Shelved};
+    ghost use Rattle.edge_io.specs.inner.MemShelfCode.{shelved_code};
 
     ghost Value = { Shelved };
 
     ghost coded = { shelved_code };
 
-    ghost use Rattle.edge_io.specs.StoredFiles.{files_in};
-    ghost use Rattle.edge_io.specs.Begun.{bytes_left, IsWithin};
+    ghost use Rattle.edge_io.specs.inner.StoredFiles.{files_in};
+    ghost use Rattle.edge_io.specs.inner.Begun.{bytes_left, IsWithin};
 
     ghost view = { λ s. record {
       files = files_in s.stored.items;
@@ -45,8 +45,8 @@ impl Model for MemShelf {
 }
 
 impl MemShelf {
-    ghost use Rattle.edge_io.specs.Calls.{ShelfCountsOnlyFailures};
-    ghost use Rattle.edge_io.specs.MemShelf.{fresh_shelf, with_file};
+    ghost use Rattle.edge_io.specs.inner.Calls.{ShelfCountsOnlyFailures};
+    ghost use Rattle.edge_io.specs.inner.MemShelf.{fresh_shelf, with_file};
 
     /// A shelf without files. `fails` has the numbers of the calls of `begin` and `read` that fail;
     /// the first call has number 1.
@@ -78,7 +78,7 @@ impl MemShelf {
 
 impl Shelf for MemShelf {
     ghost use Rattle.std.specs.Prelude.{refl};
-    ghost use Rattle.edge_io.specs.MemShelf.{Begins, Reads};
+    ghost use Rattle.edge_io.specs.inner.MemShelf.{Begins, Reads};
 
     ghost files = { λ s. Some s.files };
 

@@ -18,7 +18,7 @@ pub struct MemSink {
 
 impl Model for MemSink {
     ghost use Rattle.std.specs.Prelude.{◌<◌, ◌≤◌, vec_len, vec_capacity};
-    ghost use Rattle.edge_io.specs.MemSink.{Held};
+    ghost use Rattle.edge_io.specs.inner.MemSink.{Held};
 
     ghost Value = { Held };
 
@@ -28,8 +28,8 @@ impl Model for MemSink {
 }
 
 impl MemSink {
-    ghost use Rattle.edge_io.specs.Calls.{CountsOnce, CountsOnlyFailures};
-    ghost use Rattle.edge_io.specs.MemSink.{fresh_sink};
+    ghost use Rattle.edge_io.specs.inner.Calls.{CountsOnce, CountsOnlyFailures};
+    ghost use Rattle.edge_io.specs.inner.MemSink.{fresh_sink};
 
     /// A sink with room for `room` bytes. `fails` has the numbers of the writes that fail; the first
     /// write has number 1.
@@ -61,7 +61,7 @@ impl MemSink {
 }
 
 impl Sink for MemSink {
-    ghost use Rattle.edge_io.specs.MemSink.{Writes};
+    ghost use Rattle.edge_io.specs.inner.MemSink.{Writes};
 
     ghost held = { λ s. Some s.bytes };
 

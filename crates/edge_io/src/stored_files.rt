@@ -2,7 +2,7 @@
 ghost use Rattle.std.specs.Prelude.{◌≡◌, IfSome, IsSomeAnd, IfNone, OnOk, OnErr, slice_get};
 ghost use Rattle.std.specs.List.{position};
 ghost use Rattle.std.specs.FinMap.{get, insert};
-ghost use Rattle.edge_io.specs.StoredFiles.{is_named, files_in};
+ghost use Rattle.edge_io.specs.inner.StoredFiles.{is_named, files_in};
 
 use std::alloc::{AllocError, Global};
 

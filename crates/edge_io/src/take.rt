@@ -2,10 +2,10 @@
 ghost use Rattle.std.specs.Prelude.{◌≡◌, ◌+◌, ◌^◌, ◌≤◌, ◌<◌, ◌↔◌, ◌⊎◌, IsTrue, IfOk, IfSome, IsSomeAnd, OnOk, IsErrOf, length, vec_len};
 ghost use Rattle.std.specs.Io.KnownBytes.{IsAtEnd};
 ghost use Rattle.std.specs.FinMap.{get};
-ghost use Rattle.edge_io.specs.Calls.{ShelfCountsOnlyFailures};
+ghost use Rattle.edge_io.specs.inner.Calls.{ShelfCountsOnlyFailures};
 ghost use Rattle.edge_io.specs.Counts.{more, Rose};
 ghost use Rattle.edge_io.specs.Told.{Lacks};
-ghost use Rattle.edge_io.specs.Take.{answer_for, outcome_of};
+ghost use Rattle.edge_io.specs.inner.Take.{answer_for, outcome_of};
 
 use crate::{Shelf, TakeFault};
 use std::alloc::Global;

@@ -7,7 +7,7 @@ ghost use Rattle.std.specs.Io.KnownBytes.{prepend_known, append_known, IsAtEnd};
 ghost use Rattle.edge_io.specs.declared.faults.Failed.{Failed};
 ghost use Rattle.edge_io.specs.Counts.{more, Rose};
 ghost use Rattle.edge_io.specs.Told.{Files, Lacks};
-ghost use Rattle.edge_io.specs.Calls.{file_told, HasIfTold};
+ghost use Rattle.edge_io.specs.inner.Calls.{file_told, HasIfTold};
 
 use crate::Failed;
 

@@ -13,27 +13,27 @@ use Rattle.toml.specs.Data.{Data, Members, array, string, as_integer, as_str, as
 use Rattle.toml.specs.View.{items_of}
 use Rattle.desc_core.proofs.KnownLaws.{each_is, is_host}
 use Rattle.desc_core.specs.Description.{described_by_table}
-use Rattle.desc_core.specs.DescriptionLaws.{accepted}
-use Rattle.desc_core.specs.MigratedLaws.{get_other, get_with}
+use Rattle.desc_core.proofs.DescriptionLaws.{accepted}
+use Rattle.desc_core.proofs.MigratedLaws.{get_other, get_with}
 use Rattle.desc_core.specs.UseConditions.{is_declared}
 use Rattle.desc_core.specs.WrittenNetwork.{network_of}
-use Rattle.desc_form.specs.FlowLaws.{flow_says, said_version}
+use Rattle.desc_form.proofs.FlowLaws.{flow_says, said_version}
 use Rattle.desc_form.specs.Keys.{says_second, version_said}
 use Rattle.desc_form.specs.Places.{listed}
 use Rattle.desc_form.specs.Written.{Written, host_written, invariant_written, template_written, written}
 use Rattle.desc_form.specs.WrittenFlow.{WrittenFlow, flow_of_values, flow_written}
-use Rattle.desc_form.specs.WrittenForm.{IsFlow, IsWritten}
-use Rattle.desc_hosts.specs.NoneLaws.{all_tested}
+use Rattle.desc_form.specs.inner.WrittenForm.{IsFlow, IsWritten}
+use Rattle.desc_hosts.proofs.NoneLaws.{all_tested}
 use Rattle.desc_hosts.specs.WrittenHosts.{network_hosts}
 use Rattle.edit_core.proofs.FlowLaws.{has_asked, hosts_of}
 use Rattle.edit_core.proofs.FlowLemmas.{AreEnds, AreTwo, flow_said, is_named, named_where}
 use Rattle.edit_core.proofs.FlowTables.{AreRightFlows, IsListing, listed_again, listing, own_flows, with_flows}
 use Rattle.edit_core.specs.Edited.{text_list, with_list}
-use Rattle.edit_core.specs.FlowEdits.{IsRightFlow}
+use Rattle.edit_core.specs.inner.FlowEdits.{IsRightFlow}
 use Rattle.flow_set.specs.FlowSet.{has}
 use Rattle.flow_set.specs.declared.flow.Flow.{Flow}
 use Rattle.host_net.specs.Host.{Host, host_named}
-use Rattle.host_net.specs.NamedLaws.{one_name}
+use Rattle.host_net.proofs.NamedLaws.{one_name}
 use Rattle.host_net.specs.Services.{service_limit}
 use Rattle.host_net.specs.ServiceText.{service_of}
 use Rattle.host_net.specs.declared.service.Service.{Service}

@@ -12,37 +12,37 @@ use Rattle.std.specs.Str.{bytes_eq}
 use Rattle.toml.specs.Data.{Data, Members, get_member}
 use Rattle.desc_core.proofs.KnownLaws.{each_is, is_host}
 use Rattle.desc_core.specs.Description.{described_by_table}
-use Rattle.desc_core.specs.DescriptionLaws.{accepted}
-use Rattle.desc_core.specs.FlowsLaws.{are_between}
-use Rattle.desc_core.specs.NetworkLaws.{IsNetwork-table}
-use Rattle.desc_core.specs.Parts.{with_services}
+use Rattle.desc_core.proofs.DescriptionLaws.{accepted}
+use Rattle.desc_core.proofs.FlowsLaws.{are_between}
+use Rattle.desc_core.proofs.NetworkLaws.{IsNetwork-table}
+use Rattle.desc_core.specs.inner.Parts.{with_services}
 use Rattle.desc_core.specs.UseConditions.{is_declared}
 use Rattle.desc_core.specs.WrittenNetwork.{asked_of, invariants_of, network_of, services_in}
-use Rattle.desc_form.specs.FlowLaws.{flow_read, said_version}
+use Rattle.desc_form.proofs.FlowLaws.{flow_read, said_version}
 use Rattle.desc_form.specs.Keys.{says_second, version_said}
 use Rattle.desc_form.specs.Written.{Written, WrittenHost, written}
 use Rattle.desc_form.specs.WrittenFlow.{WrittenFlow}
-use Rattle.desc_form.specs.WrittenForm.{IsWritten}
+use Rattle.desc_form.specs.inner.WrittenForm.{IsWritten}
 use Rattle.desc_hosts.specs.WrittenHosts.{network_hosts}
-use Rattle.desc_hosts.specs.NoneLaws.{all_tested}
+use Rattle.desc_hosts.proofs.NoneLaws.{all_tested}
 use Rattle.edit_core.proofs.FlowLemmas.{AreEnds, all_apart, any_said, asked_more, flow_said, flows_among, found_where, has_less, is_named, named_where, narrowed_among, one_flow, one_left, other_elements, other_flows, others_zipped, services_less, services_more, services_read, services_whole, zipped_more, IsFound}
 use Rattle.edit_core.proofs.FlowTables.{AreRightFlows, IsListing, described_with, listing, own_flows, with_flows}
 use Rattle.edit_core.specs.Edited.{accepted_as, add_to, after_edit, edited, if_accepted, is_between, remove_from, text_list, with_list}
-use Rattle.edit_core.specs.FlowEdits.{IsAskedFlow, IsRightFlow, asking_less, asking_more, without_services}
+use Rattle.edit_core.specs.inner.FlowEdits.{IsAskedFlow, IsRightFlow, asking_less, asking_more, without_services}
 use Rattle.edit_core.specs.declared.fault.EditFault.TheVariants.{Absent}
 use Rattle.edit_text.specs.Edit.{Add, Remove}
 use Rattle.flow_set.specs.Flow.{IsFlow, same_flow}
-use Rattle.flow_set.specs.FlowLaws.{IsOrdered-without_flow, flows_ext, has-without_flow}
+use Rattle.flow_set.specs.laws.FlowLaws.{IsOrdered-without_flow, flows_ext, has-without_flow}
 use Rattle.flow_set.specs.FlowSet.{IsOrdered, has, set_of, with_flow}
-use Rattle.flow_set.specs.FlowSetView.{without_flow}
-use Rattle.flow_set.specs.ListedLaws.{IsFlowSet-set_of, has-set_of}
+use Rattle.flow_set.specs.inner.FlowSetView.{without_flow}
+use Rattle.flow_set.proofs.ListedLaws.{IsFlowSet-set_of, has-set_of}
 use Rattle.flow_set.specs.declared.flow.Flow.{Flow}
 use Rattle.host_net.specs.Host.{Host, host_named}
-use Rattle.host_net.specs.NamedLaws.{host_named_within}
+use Rattle.host_net.proofs.NamedLaws.{host_named_within}
 use Rattle.host_net.specs.Services.{NarrowedFlow, service_limit, services_of}
 use Rattle.host_net.specs.ServiceText.{service_of}
 use Rattle.host_net.specs.declared.service.Service.{Service}
-use Rattle.net_core.specs.Fitting.{IsNetwork}
+use Rattle.net_core.specs.inner.Fitting.{IsNetwork}
 use Rattle.net_core.specs.Network.{Network}
 use Rattle.net_core.specs.Policies.{IsPolicyOf, IsStatefulBy, Policy}
 use Rattle.table_core.specs.Listing.{each}

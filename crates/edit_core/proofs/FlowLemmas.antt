@@ -12,20 +12,20 @@ use Rattle.std.specs.Str.{bytes_eq}
 use Rattle.toml.specs.Data.{Data, string, as_str}
 use Rattle.desc_core.proofs.ServicesLemmas.{AreLeft, is_new, one_added}
 use Rattle.desc_core.specs.Flows.{flow_of_names}
-use Rattle.desc_core.specs.Parts.{with_services}
+use Rattle.desc_core.specs.inner.Parts.{with_services}
 use Rattle.desc_core.specs.WrittenNetwork.{narrowed_of, narrowed_to, services_said}
-use Rattle.desc_form.specs.FlowLaws.{flow_says}
+use Rattle.desc_form.proofs.FlowLaws.{flow_says}
 use Rattle.desc_form.specs.WrittenFlow.{WrittenFlow, flow_of_texts, flow_of_values, flow_written}
-use Rattle.desc_form.specs.WrittenForm.{IsFlow}
+use Rattle.desc_form.specs.inner.WrittenForm.{IsFlow}
 use Rattle.edit_core.proofs.FlowTables.{listed_again}
 use Rattle.edit_core.specs.Edited.{begins_with, is_between, text_list}
-use Rattle.edit_core.specs.FlowEdits.{without_services}
+use Rattle.edit_core.specs.inner.FlowEdits.{without_services}
 use Rattle.flow_set.specs.Flow.{same_flow}
-use Rattle.flow_set.specs.FlowLaws.{has_first, has_later, has_nothing, same_fact, same_flow-true, same_flow_self, same_flow_sym}
+use Rattle.flow_set.specs.laws.FlowLaws.{has_first, has_later, has_nothing, same_fact, same_flow-true, same_flow_self, same_flow_sym}
 use Rattle.flow_set.specs.FlowSet.{has, set_of, with_flow}
 use Rattle.flow_set.specs.declared.flow.Flow.{Flow}
 use Rattle.host_net.specs.Host.{Host, host_named}
-use Rattle.host_net.specs.NamedLaws.{one_name}
+use Rattle.host_net.proofs.NamedLaws.{one_name}
 use Rattle.host_net.specs.Services.{NarrowedFlow, services_of}
 use Rattle.host_net.specs.ServiceText.{service_of}
 use Rattle.host_net.specs.declared.service.Service.{Service}

@@ -8,23 +8,23 @@ use Rattle.toml.specs.Data.{Data, array, Members, get_member}
 use Rattle.toml.specs.View.{items_of}
 use Rattle.desc_core.proofs.UsesLaws.{all_between}
 use Rattle.desc_core.specs.Description.{described_by_table}
-use Rattle.desc_core.specs.DescriptionLaws.{accepted}
+use Rattle.desc_core.proofs.DescriptionLaws.{accepted}
 use Rattle.desc_core.specs.Flows.{flow_of_names}
 use Rattle.desc_core.specs.Migrated.{with_member}
-use Rattle.desc_core.specs.MigratedLaws.{get_other, get_with, keys_with}
-use Rattle.desc_core.specs.TableFactsLaws.{described-IsRight}
+use Rattle.desc_core.proofs.MigratedLaws.{get_other, get_with, keys_with}
+use Rattle.desc_core.proofs.TableFactsLaws.{described-IsRight}
 use Rattle.desc_core.specs.UseConditions.{is_declared}
-use Rattle.desc_core.specs.UseFacts.{HasUses}
-use Rattle.desc_core.specs.UseFactsLaws.{PassesUses-uses, has_uses}
+use Rattle.desc_core.specs.inner.UseFacts.{HasUses}
+use Rattle.desc_core.proofs.UseFactsLaws.{PassesUses-uses, has_uses}
 use Rattle.desc_core.specs.WrittenNetwork.{network_of}
-use Rattle.desc_form.specs.KeyLaws.{array_zips}
+use Rattle.desc_form.proofs.KeyLaws.{array_zips}
 use Rattle.desc_form.specs.Written.{Written, written}
 use Rattle.desc_form.specs.WrittenFlow.{WrittenFlow}
-use Rattle.desc_form.specs.WrittenForm.{IsAnswers, IsArray, IsFlow, IsHost, IsInteger, IsInvariant, IsTable, IsTemplate, IsWritten, document_names}
-use Rattle.desc_form.specs.WrittenLaws.{written_stands}
-use Rattle.desc_form.specs.WrittenOnceLaws.{written_is}
-use Rattle.desc_hosts.specs.FactsLaws.{has_hosts}
-use Rattle.desc_hosts.specs.HostFacts.{HasHosts}
+use Rattle.desc_form.specs.inner.WrittenForm.{IsAnswers, IsArray, IsFlow, IsHost, IsInteger, IsInvariant, IsTable, IsTemplate, IsWritten, document_names}
+use Rattle.desc_form.proofs.WrittenLaws.{written_stands}
+use Rattle.desc_form.proofs.WrittenOnceLaws.{written_is}
+use Rattle.desc_hosts.proofs.FactsLaws.{has_hosts}
+use Rattle.desc_hosts.specs.inner.HostFacts.{HasHosts}
 use Rattle.desc_hosts.specs.WrittenHosts.{network_hosts}
 use Rattle.edit_core.specs.Edited.{with_list}
 use Rattle.host_net.specs.Services.{service_limit}

@@ -3,14 +3,14 @@ use Rattle.std.proofs.Common.{◌≡◌, [], Ok, sym, ap, ◌∙◌}
 use Rattle.desc_core.specs.Description.{described_by_table}
 use Rattle.edit_core.proofs.FlowLaws.{added, after_added, after_removed, removed, unnarrowed}
 use Rattle.edit_core.specs.Edited.{after_edit}
-use Rattle.edit_core.specs.FlowEdits.{asking_less}
-use Rattle.edit_core.specs.InPlace.{IsDone, IsOfFlow, IsTableAfter, network_after}
+use Rattle.edit_core.specs.inner.FlowEdits.{asking_less}
+use Rattle.edit_core.specs.inner.InPlace.{IsDone, IsOfFlow, IsTableAfter, network_after}
 use Rattle.edit_core.specs.Summaries.{TellsOf}
 use Rattle.edit_core.specs.declared.summary.Summary.{Summary}
 use Rattle.edit_text.specs.Edit.{Change, Add, Remove, Set, Unset}
 use Rattle.flow_set.specs.declared.flow.Flow.{Flow}
 use Rattle.host_net.specs.Services.{services_of}
-use Rattle.net_core.specs.Asking.{not_asking_for}
+use Rattle.net_core.specs.inner.Asking.{not_asking_for}
 use Rattle.net_core.specs.Network.{Network}
 use Rattle.net_core.specs.Policies.{IsPolicyOf, Policy}
 use Rattle.toml.specs.Data.{Members}

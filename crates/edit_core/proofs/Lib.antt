@@ -6,4 +6,5 @@ pub mod FlowTables
 pub mod InPlaceLemmas
 pub mod RunLemmas
 pub mod SessionLemmas
+pub mod SummaryLaws
 pub mod WrittenLemmas

@@ -3,14 +3,15 @@ use Rattle.std.specs.Prelude.{if◌then◌else◌, is_err, is_ok}
 use Rattle.std.proofs.Common.{◌≡◌, ℕ, ◌+◌, ◌<◌, ◌≤◌, Bool, false, List, [], ◌∷◌, ◌++◌, length, get_or, drop, map, append_assoc, append-nil, Result, Ok, Err, sym, ap, subst, ◌∙◌}
 use Rattle.std.proofs.lemmas.List.{drop_all, drop_more}
 use Rattle.edit_core.specs.Edited.{after_edit}
-use Rattle.edit_core.specs.Runs.{AreSummaries, IsCause, after_edits, next_edit}
+use Rattle.edit_core.specs.Runs.{AreSummaries, after_edits, next_edit}
+use Rattle.edit_core.specs.inner.Runs.{IsCause}
 use Rattle.edit_core.specs.Summaries.{IsSummary}
 use Rattle.edit_core.specs.declared.fault.EditFault.{EditFault}
 use Rattle.edit_core.specs.declared.run.EditRefusal.{EditRefusal}
 use Rattle.edit_core.specs.declared.run.EditRefusal.TheVariants as refusal
 use Rattle.edit_core.specs.declared.summary.Summary.{Summary}
 use Rattle.edit_text.specs.Edit as meant
-use Rattle.edit_text.specs.EditView.{edit_view}
+use Rattle.edit_text.specs.inner.EditView.{edit_view}
 use Rattle.edit_text.specs.declared.edit.Edit.{Edit}
 use Rattle.toml.specs.Data.{Members}
 

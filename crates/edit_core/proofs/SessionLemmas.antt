@@ -5,23 +5,25 @@ use Rattle.std.specs.Option.{ok_or}
 use Rattle.std.specs.Prelude.{IfErr, IfOk, OnErr, String, length, nat_lt}
 use Rattle.std.specs.Result.{result_map_both}
 use Rattle.std.specs.declared.alloc.Global.{Global}
-use Rattle.text_core.specs.StepsLaws.{if_parts, ok_or_parts}
+use Rattle.text_core.proofs.StepsLaws.{if_parts, ok_or_parts}
 use Rattle.desc_core.proofs.DescribeLemmas.{table_read, table_refused}
 use Rattle.desc_core.specs.Conditions.{byte_limit}
 use Rattle.desc_core.specs.Description.{described, described_by_table}
 use Rattle.desc_core.specs.Document.{document}
-use Rattle.desc_core.specs.Parts.{table_of as table_of_bytes}
-use Rattle.desc_core.specs.Reads.{Reads}
+use Rattle.desc_core.specs.inner.Parts.{table_of as table_of_bytes}
+use Rattle.desc_core.specs.inner.Reads.{Reads}
 use Rattle.desc_core.specs.declared.fault.DescFault.{DescFault}
 use Rattle.desc_core.specs.declared.fault.DescFault.TheVariants as desc
 use Rattle.desc_form.specs.Refusals.{refused}
 use Rattle.desc_form.specs.declared.refusal.Place.TheVariants.{Document}
 use Rattle.desc_form.specs.declared.refusal.Why.TheVariants.{NotToml, TooLong}
-use Rattle.edit_core.specs.EditFaults.{Gives, edit_fault}
+use Rattle.edit_core.specs.inner.EditFaults.{Gives, edit_fault}
 use Rattle.edit_core.specs.Edited.{accepted_as, after_edit, edited, if_accepted}
-use Rattle.edit_core.specs.InPlace.{IsDone}
-use Rattle.edit_core.specs.Kept.{IsDescription, IsKept, Refuses, entries_of, table_of, table_of-entries_of}
-use Rattle.edit_core.specs.Summaries.{IsApplied, IsStarted, TellsOf}
+use Rattle.edit_core.specs.inner.InPlace.{IsDone}
+use Rattle.edit_core.specs.Kept.{IsKept}
+use Rattle.edit_core.specs.inner.Kept.{IsDescription, Refuses, entries_of, table_of, table_of-entries_of}
+use Rattle.edit_core.specs.Summaries.{IsStarted, TellsOf}
+use Rattle.edit_core.specs.inner.Summaries.{IsApplied}
 use Rattle.edit_core.specs.declared.fault.EditFault.{EditFault}
 use Rattle.edit_core.specs.declared.fault.EditFault.TheVariants.{NoPolicy, Absent, Refused, Memory}
 use Rattle.edit_core.specs.declared.summary.Summary.{Summary}

@@ -12,7 +12,7 @@ use Rattle.std.specs.Ordering.{match_ordering}
 use Rattle.std.specs.Prelude.{option_and_then}
 use Rattle.std.specs.String.{string_cmp}
 use Rattle.desc_core.specs.Migrated.{with_member}
-use Rattle.edit_core.specs.InPlace.{IsListAfter, IsTableAfter, flows_after}
+use Rattle.edit_core.specs.inner.InPlace.{IsListAfter, IsTableAfter, flows_after}
 use Rattle.edit_text.specs.Edit.{Change}
 use Rattle.table_core.specs.Tables.{elements, elements_of, list_at}
 use Rattle.toml.proofs.Views.{view-Array, view-lookup}

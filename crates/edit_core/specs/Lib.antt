@@ -1,8 +1,5 @@
-pub mod EditFaults
 pub mod Edited
-pub mod FlowEdits
-pub mod InPlace
 pub mod Kept
 pub mod Runs
 pub mod Summaries
-pub mod SummaryLaws
+pub mod inner

@@ -3,7 +3,6 @@ use Rattle.std.specs.Prelude.{◌≡◌, ℕ, List, [], ◌∷◌, Result, Ok, E
 use Rattle.edit_core.specs.Edited.{after_edit}
 use Rattle.edit_core.specs.Summaries.{IsSummary}
 use Rattle.edit_core.specs.declared.fault.EditFault.{EditFault}
-use Rattle.edit_core.specs.declared.run.EditRefusal.{EditRefusal}
 use Rattle.edit_core.specs.declared.run.EditRefusal.TheVariants as refusal
 use Rattle.edit_core.specs.declared.summary.Summary.{Summary}
 use Rattle.edit_text.specs.Edit.{Edit}
@@ -25,8 +24,3 @@ AreSummaries [] table [] = Unit {0}
 AreSummaries [] table (s ∷ ss) = ⊥
 AreSummaries (e ∷ es) table [] = ⊥
 AreSummaries (e ∷ es) table (s ∷ ss) = (next : Members) × (after_edit e.change table ≡ Ok next) × IsSummary next s × AreSummaries es next ss
-
--- an edit is refused, with this line and reason; memory may run out instead at any time
-abbrev pub IsCause : {A : Type 0} → Result A (ℕ × EditFault) → EditRefusal → Type 0
-IsCause said (refusal.Refused line fault) = said ≡ Err (line, fault)
-IsCause said refusal.Memory = Unit {0}

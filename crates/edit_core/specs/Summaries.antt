@@ -4,12 +4,9 @@ use Rattle.desc_core.specs.Description.{described, described_by_table}
 use Rattle.desc_core.specs.Document.{document}
 use Rattle.desc_core.specs.declared.fault.DescFault.{DescFault}
 use Rattle.desc_core.specs.declared.fault.DescFault.TheVariants as desc
-use Rattle.edit_core.specs.Edited.{after_edit}
 use Rattle.edit_core.specs.Kept.{IsKept}
-use Rattle.edit_core.specs.declared.fault.EditFault.{EditFault}
 use Rattle.edit_core.specs.declared.fault.EditFault.TheVariants.{Memory}
 use Rattle.edit_core.specs.declared.summary.Summary.{Summary}
-use Rattle.edit_text.specs.Edit.{Change}
 use Rattle.net_core.specs.Network.{Network}
 use Rattle.net_core.specs.Policies.{Policy}
 use Rattle.policy_steps.specs.FailingFlows.{AreFailing}
@@ -23,10 +20,6 @@ pub record TellsOf (d : Network) (policy : Policy) (summary : Summary) : Type 0 
   pub stateful : summary.stateful ≡ length policy.stateful.flows
   pub failing : AreFailing d.invariants d.asked.flows summary.failing
 
--- this is so of the policy of the network that the table describes
-abbrev pub HasPolicy : Members → (Policy → Type 0) → Type 0
-HasPolicy table Is = (d : Network) × (policy : Policy) × IsKept table d policy × Is policy
-
 -- the summary of the description that a table is
 abbrev pub IsSummary : Members → Summary → Type 0
 IsSummary table summary = (d : Network) × (policy : Policy) × IsKept table d policy × TellsOf d policy summary
@@ -36,9 +29,3 @@ abbrev pub IsStarted : List ℕ → Result Members DescFault → Type 0
 IsStarted bytes (Ok table) = (document bytes ≡ Some table) × ((d : Network) × (described bytes ≡ Ok d) × (described_by_table table ≡ Ok d))
 IsStarted bytes (Err (desc.Refused refusal)) = described bytes ≡ Err refusal
 IsStarted bytes (Err desc.Memory) = Unit {0}
-
--- the edit leads from the old table to the new one, of which the summary tells; or it is refused for this, and the table is the old one
-abbrev pub IsApplied : Change → (old new : Members) → Result Summary EditFault → Type 0
-IsApplied change old new (Ok summary) = (after_edit change old ≡ Ok new) × IsSummary new summary
-IsApplied change old new (Err Memory) = new ≡ old
-IsApplied change old new (Err fault) = (after_edit change old ≡ Err fault) × (new ≡ old)

@@ -6,7 +6,7 @@ ghost use Rattle.std.specs.Result.{result_map_both};
 ghost use Rattle.desc_form.specs.Places.{assigns_of, listed};
 ghost use Rattle.desc_form.specs.Written.{text_in};
 ghost use Rattle.edit_core.specs.Edited.{assigned, invariant_at, is_of_host, set_in, unset_in, with_assigns, with_invariant};
-ghost use Rattle.edit_core.specs.EditFaults.{Gives};
+ghost use Rattle.edit_core.specs.inner.EditFaults.{Gives};
 ghost use Rattle.toml.specs.Data.{table};
 ghost use Rattle.toml.specs.View.{table_view, view};
 

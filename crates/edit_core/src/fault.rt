@@ -1,7 +1,7 @@
 //! Why an edit is refused.
 
 ghost use Rattle.std.specs.Prelude.{◌≡◌};
-ghost use Rattle.edit_core.specs.EditFaults.{edit_fault};
+ghost use Rattle.edit_core.specs.inner.EditFaults.{edit_fault};
 ghost use Rattle.edit_core.specs.declared.fault.EditFault.TheVariants.{Memory};
 
 use desc_core::{DescFault, Why};

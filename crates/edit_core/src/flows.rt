@@ -4,7 +4,7 @@ ghost use Rattle.std.specs.Prelude.{◌≡◌, ◌++◌, ◌∷◌, [], codes, m
 ghost use Rattle.std.specs.List.{list_any};
 ghost use Rattle.std.specs.Result.{result_map_both};
 ghost use Rattle.edit_core.specs.Edited.{add_to, is_between, is_text, remove_from};
-ghost use Rattle.edit_core.specs.EditFaults.{Gives};
+ghost use Rattle.edit_core.specs.inner.EditFaults.{Gives};
 ghost use Rattle.table_core.specs.Tables.{list_at};
 ghost use Rattle.toml.specs.View.{table_view, view};
 

@@ -5,13 +5,13 @@
 ghost use Rattle.std.specs.Prelude.{◌≡◌, ◌++◌, ◌∷◌, [], List, Some, filter, map, not, string_bytes, IfNone, IfSome, IsFalse, IsTrue, Ok};
 ghost use Rattle.desc_core.specs.Description.{described_by_table};
 ghost use Rattle.edit_core.specs.Edited.{is_between, text_list};
-ghost use Rattle.edit_core.specs.FlowEdits.{IsAskedFlow, IsRightFlow};
-ghost use Rattle.edit_core.specs.InPlace.{IsDone, IsListAfter, IsOfFlow, IsTableAfter, flows_after, network_after};
-ghost use Rattle.edit_text.specs.EditView.{change_view};
+ghost use Rattle.edit_core.specs.inner.FlowEdits.{IsAskedFlow, IsRightFlow};
+ghost use Rattle.edit_core.specs.inner.InPlace.{IsDone, IsListAfter, IsOfFlow, IsTableAfter, flows_after, network_after};
+ghost use Rattle.edit_text.specs.inner.EditView.{change_view};
 ghost use Rattle.flow_set.specs.Flow.{IsFlow};
 ghost use Rattle.host_net.specs.Host.{host_named};
 ghost use Rattle.host_net.specs.Services.{services_of};
-ghost use Rattle.net_core.specs.Asking.{asking_for, not_asking_for};
+ghost use Rattle.net_core.specs.inner.Asking.{asking_for, not_asking_for};
 ghost use Rattle.toml.specs.Data.{Members};
 ghost use Rattle.toml.specs.View.{table_view, view};
 

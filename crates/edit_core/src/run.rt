@@ -2,10 +2,11 @@
 
 ghost use Rattle.std.specs.Prelude.{◌≡◌, IfErr, IfOk, OnOk, Ok, map};
 ghost use Rattle.edit_core.specs.Edited.{after_edit};
-ghost use Rattle.edit_core.specs.Kept.{table_of};
-ghost use Rattle.edit_core.specs.Runs.{AreSummaries, IsCause, after_edits, next_edit};
+ghost use Rattle.edit_core.specs.inner.Kept.{table_of};
+ghost use Rattle.edit_core.specs.Runs.{AreSummaries, after_edits, next_edit};
+ghost use Rattle.edit_core.specs.inner.Runs.{IsCause};
 ghost use Rattle.edit_core.specs.Summaries.{IsSummary};
-ghost use Rattle.edit_text.specs.EditView.{edit_view};
+ghost use Rattle.edit_text.specs.inner.EditView.{edit_view};
 
 use crate::fault::EditFault;
 use crate::session::Session;

@@ -3,9 +3,10 @@
 ghost use Rattle.std.specs.Prelude.{◌≡◌, IfErr, IfOk, Ok, OnErr};
 ghost use Rattle.std.specs.Result.{result_map_both};
 ghost use Rattle.desc_core.specs.Description.{described_by_table};
-ghost use Rattle.edit_core.specs.Kept.{IsDescription, Refuses, entries_of, table_of};
-ghost use Rattle.edit_core.specs.Summaries.{HasPolicy, IsApplied, IsStarted};
-ghost use Rattle.edit_text.specs.EditView.{change_view, edit_view};
+ghost use Rattle.edit_core.specs.inner.Kept.{IsDescription, Refuses, entries_of, table_of};
+ghost use Rattle.edit_core.specs.Summaries.{IsStarted};
+ghost use Rattle.edit_core.specs.inner.Summaries.{HasPolicy, IsApplied};
+ghost use Rattle.edit_text.specs.inner.EditView.{change_view, edit_view};
 ghost use Rattle.toml.specs.View.{table_view};
 
 use crate::fault::EditFault;
@@ -42,7 +43,7 @@ impl Model for Session {
     ghost use Rattle.std.specs.Prelude.{◌≡◌, Ok};
     ghost use Rattle.toml.specs.View.{table_view};
     ghost use Rattle.desc_core.specs.Description.{described_by_table};
-    ghost use Rattle.edit_core.specs.Kept.{entries_of};
+    ghost use Rattle.edit_core.specs.inner.Kept.{entries_of};
 
     ghost view = { λ s. entries_of s.table };
 

@@ -3,8 +3,8 @@
 ghost use Rattle.std.specs.Prelude.{◌≡◌};
 ghost use Rattle.std.specs.Result.{result_map_both};
 ghost use Rattle.edit_core.specs.Edited.{edited};
-ghost use Rattle.edit_core.specs.EditFaults.{Gives};
-ghost use Rattle.edit_text.specs.EditView.{change_view};
+ghost use Rattle.edit_core.specs.inner.EditFaults.{Gives};
+ghost use Rattle.edit_text.specs.inner.EditView.{change_view};
 ghost use Rattle.toml.specs.View.{table_view};
 
 use crate::assigns::{set_in, unset_in};

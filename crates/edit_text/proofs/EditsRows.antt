@@ -3,7 +3,7 @@ use Rattle.std.proofs.Common.{◌≡◌, refl}
 use Rattle.std.specs.Prelude.{codes, Err}
 use Rattle.text_core.specs.Decimal.{number, bounded_value}
 use Rattle.edit_text.specs.Behind.{behind_word}
-use Rattle.edit_text.specs.ChangeSteps.{change_of}
+use Rattle.edit_text.specs.inner.ChangeSteps.{change_of}
 use Rattle.edit_text.specs.declared.fault.EditsWhy.TheVariants.{BadLine, BadValue}
 
 -- the number of words goes before every value

@@ -15,7 +15,7 @@ use Rattle.toml.specs.Data.{Members, get_member}
 use Rattle.toml.specs.Parse.{parse_document}
 use Rattle.toml.specs.View.{members_view, view}
 use Rattle.toml.specs.declared.value.Value.{Value}
-use Rattle.edit_text.specs.ChangeSteps.{assign_of, text_of, value_in, with_host}
+use Rattle.edit_text.specs.inner.ChangeSteps.{assign_of, text_of, value_in, with_host}
 
 pub text_read : (w : List ℕ) → IsUtf8 w → text_of w ≡ Some w
 text_read w utf8 = rw (is_utf8-from_IsUtf8 w utf8)

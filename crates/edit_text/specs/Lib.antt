@@ -1,9 +1,4 @@
 pub mod Behind
-pub mod ChangeLaws
-pub mod ChangeSteps
 pub mod Edit
-pub mod EditFaultLaws
-pub mod EditView
-pub mod EditsAnswers
 pub mod EditsText
-pub mod EditsTextLaws
+pub mod inner

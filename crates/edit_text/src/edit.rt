@@ -1,7 +1,7 @@
 //! An edit of a description.
 
 ghost use Rattle.std.specs.Prelude.{◌≡◌};
-ghost use Rattle.edit_text.specs.EditView.{change_view, edit_view};
+ghost use Rattle.edit_text.specs.inner.EditView.{change_view, edit_view};
 
 use toml::Table;
 

@@ -2,8 +2,8 @@
 
 ghost use Rattle.std.specs.Prelude.{◌≡◌, ◌++◌, codes, map, option_map, string_bytes};
 ghost use Rattle.std.specs.Result.{result_map_both};
-ghost use Rattle.edit_text.specs.ChangeSteps.{add_of, assign_of, change_of, invariant_said, remove_of, set_of, text_of, unset_of, value_in};
-ghost use Rattle.edit_text.specs.EditsAnswers.{PutsTexts, Says, SaysValue};
+ghost use Rattle.edit_text.specs.inner.ChangeSteps.{add_of, assign_of, change_of, invariant_said, remove_of, set_of, text_of, unset_of, value_in};
+ghost use Rattle.edit_text.specs.inner.EditsAnswers.{PutsTexts, Says, SaysValue};
 ghost use Rattle.toml.specs.Data.{as_table};
 ghost use Rattle.toml.specs.Parse.{parse_document};
 ghost use Rattle.toml.specs.View.{table_view, view};
@@ -20,7 +20,7 @@ use toml::{Table, Value};
 const INVARIANT_LIMIT: u32 = 16;
 
 /// The change that a line tells, or why it tells none.
-#[tactic(auto, unfolding(crate::specs::ChangeSteps::change_of))]
+#[tactic(auto, unfolding(crate::specs::inner::ChangeSteps::change_of))]
 pub(crate) fn read_change(alloc: Global, line: &[u8]) -> Result<Change, LineFault<EditsWhy>>
     ensures { Says (change_of line.now) result }
 {
@@ -149,7 +149,7 @@ fn read_text(alloc: Global, word: &[u8]) -> Result<String, LineFault<EditsWhy>>
 }
 
 /// The table of an assign, which a text says as a TOML value.
-#[tactic(auto, unfolding(crate::specs::ChangeSteps::assign_of))]
+#[tactic(auto, unfolding(crate::specs::inner::ChangeSteps::assign_of))]
 fn read_assign(alloc: Global, text: &[u8]) -> Result<Table, LineFault<EditsWhy>>
     ensures { SaysValue (assign_of text.now) (result_map_both table_view (λ fault. fault) result) }
 {

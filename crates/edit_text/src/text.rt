@@ -2,11 +2,11 @@
 //! `set 1 { host = "web", level = 2 }` or `unset 1 web`.
 
 ghost use Rattle.std.specs.Prelude.{◌≡◌, ℕ, List, map, Ok, Err, IfOk, IfErr, OnOk, MatchResult};
-ghost use Rattle.text_core.specs.TextAnswers.{HasCause, HasReason, IsFault};
+ghost use Rattle.text_core.specs.inner.TextAnswers.{HasCause, HasReason, IsFault};
 ghost use Rattle.edit_text.specs.Edit.{Edit as Meant};
-ghost use Rattle.edit_text.specs.EditView.{change_view, edit_view};
+ghost use Rattle.edit_text.specs.inner.EditView.{change_view, edit_view};
 ghost use Rattle.edit_text.specs.EditsText.{IsReading, IsRefused, edits_text};
-ghost use Rattle.edit_text.specs.ChangeSteps.{with_change};
+ghost use Rattle.edit_text.specs.inner.ChangeSteps.{with_change};
 ghost use Rattle.edit_text.specs.declared.fault.EditsWhy.{EditsWhy};
 
 use crate::edit::{Change, Edit};

@@ -2,18 +2,19 @@
 use Rattle.std.proofs.Common.{◌≡◌, ℕ, zero, suc, ◌+◌, ◌*◌, ◌<◌, ◌≤◌, ◌^◌, List, [], ◌∷◌, ◌++◌, None, length, map, ap, sym, ◌∙◌, arith}
 use Rattle.std.specs.List.{range_with_len}
 use Rattle.std.proofs.lemmas.List.FromFn.{map-range_with_len_more}
-use Rattle.host_net.specs.Site.{Site, IsSite}
+use Rattle.host_net.specs.Site.{Site}
+use Rattle.host_net.specs.inner.Site.{IsSite}
 use Rattle.flow_set.specs.declared.flow.Flow.{Flow}
 use Rattle.ipt_rules.specs.declared.rule.Rule.{Rule}
 use Rattle.ipt_rules.specs.Chain.{Chain}
 use Rattle.ipt_rules.specs.ChainTable.{rule_count}
-use Rattle.ipt_rules.specs.ChainLaws.{rule_count-append}
+use Rattle.ipt_rules.proofs.ChainLaws.{rule_count-append}
 use Rattle.emit_core.specs.declared.side.Side.TheVariants.{Sending}
 use Rattle.emit_core.specs.EmitRefusals.{rule_limit}
 use Rattle.emit_core.specs.Layout.{entry_chains, host_rules, host_chain, host_chain_name, forward_rules}
-use Rattle.emit_core.specs.FewRulesLaws.{few_host_rules}
-use Rattle.emit_core.specs.LayoutLaws.{few_forward_rules}
-use Rattle.emit_core.specs.Filling.{AreCounted, chains_up_to}
+use Rattle.emit_core.proofs.FewRulesLaws.{few_host_rules}
+use Rattle.emit_core.proofs.LayoutLaws.{few_forward_rules}
+use Rattle.emit_core.specs.inner.Filling.{AreCounted, chains_up_to}
 
 -- 1. Few in all chains.
 

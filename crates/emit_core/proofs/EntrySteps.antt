@@ -7,7 +7,7 @@ use Rattle.std.proofs.lemmas.Bool.Decides.{nat_tests}
 use Rattle.host_net.specs.declared.prefix.Prefix.{Prefix}
 use Rattle.ofp_rules.specs.declared.entry.Entry.{Entry}
 use Rattle.ofp_rules.specs.Ambiguity.{most_entries}
-use Rattle.emit_core.specs.KeptEntries.{AreCounted, KeptEntries, no_entries, with_entries, with_entry}
+use Rattle.emit_core.specs.inner.KeptEntries.{AreCounted, KeptEntries, no_entries, with_entries, with_entry}
 
 -- first some, then others
 pub in_parts : (es : KeptEntries) (xs ys : List Entry) → with_entries es (xs ++ ys) ≡ with_entries (with_entries es xs) ys

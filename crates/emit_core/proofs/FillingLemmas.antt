@@ -9,11 +9,11 @@ use Rattle.ipt_rules.specs.declared.rule.Rule.{Rule}
 use Rattle.ipt_rules.specs.declared.rule.Policy.TheVariants.{Drop as Dropping}
 use Rattle.ipt_rules.specs.Chain.{Chain, built_in_chains, with_policy, with_rule, number_of}
 use Rattle.ipt_rules.specs.ChainTable.{rule_count}
-use Rattle.ipt_rules.specs.ChainLaws.{length_with_rule, rule_count_with_rule}
+use Rattle.ipt_rules.proofs.ChainLaws.{length_with_rule, rule_count_with_rule}
 use Rattle.emit_core.specs.Layout.{entry_chains, forward_rules, host_chain_name}
-use Rattle.emit_core.specs.LayoutLaws.{name_unused}
-use Rattle.emit_core.specs.Filling.{with_rules, chains_up_to}
-use Rattle.emit_core.specs.FillingLaws.{with_rules-changed}
+use Rattle.emit_core.proofs.LayoutLaws.{name_unused}
+use Rattle.emit_core.specs.inner.Filling.{with_rules, chains_up_to}
+use Rattle.emit_core.proofs.FillingLaws.{with_rules-changed}
 
 -- some of the rules are added
 pub record IsFilling (c : ℕ) (rules : List Rule) (start now : List Chain) (done : ℕ) : Type 0 where

@@ -9,7 +9,7 @@ use Rattle.ofp_rules.specs.declared.entry.Entry.{Entry}
 use Rattle.emit_core.proofs.Steps.{drop_here}
 use Rattle.flow_set.specs.declared.flow.Flow.{Flow}
 use Rattle.emit_core.specs.FlowTable.{arp_entry, between, flow_entries, for_each_host, other_entry, with_rest}
-use Rattle.emit_core.specs.KeptEntries.{KeptEntries, no_entries, with_entries, with_entry}
+use Rattle.emit_core.specs.inner.KeptEntries.{KeptEntries, no_entries, with_entries, with_entry}
 use Rattle.emit_core.proofs.EntrySteps.{in_parts}
 
 -- after the last host nothing is left

@@ -6,8 +6,8 @@ use Rattle.host_net.specs.Services.{NarrowedFlow}
 use Rattle.flow_set.specs.declared.flow.Flow.{Flow}
 use Rattle.flow_set.specs.Flow.{before, same_flow}
 use Rattle.flow_set.specs.FlowSet.{has, IsOrdered}
-use Rattle.flow_set.specs.FlowLaws.{same_flow_self, before_self, before_not_back, front_before, has-append, same_fact}
-use Rattle.flow_set.specs.WalkLaws.{walk_next, walk_member}
+use Rattle.flow_set.specs.laws.FlowLaws.{same_flow_self, before_self, before_not_back, front_before, has-append, same_fact}
+use Rattle.flow_set.specs.laws.WalkLaws.{walk_next, walk_member}
 use Rattle.emit_core.specs.PortRanges.{IsFirstRange, has_range}
 
 -- none of the flows so far is

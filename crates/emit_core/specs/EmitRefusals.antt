@@ -1,27 +1,6 @@
 -- Why a policy has no chains, or no flow table.
-use Rattle.std.specs.Prelude.{◌≡◌, ◌<◌, ℕ, List, length}
-use Rattle.host_net.specs.Site.{Site}
-use Rattle.flow_set.specs.declared.flow.Flow.{Flow}
-use Rattle.ipt_rules.specs.ChainTable.{rule_count}
-use Rattle.ofp_rules.specs.Ambiguity.{most_entries}
-use Rattle.emit_core.specs.declared.refusal.EmitRefusal.{EmitRefusal}
-use Rattle.emit_core.specs.declared.refusal.EmitRefusal.TheVariants.{RangeOfPorts, TooManyRules, Memory}
-use Rattle.emit_core.specs.FlowTable.{flow_entries}
-use Rattle.emit_core.specs.Layout.{layout}
-use Rattle.emit_core.specs.PortRanges.{HasNoRange, IsFirstRange}
+use Rattle.std.specs.Prelude.{ℕ}
 
 -- how many rules the chains of a layout may have
 abbrev pub rule_limit : ℕ
 rule_limit = 600000
-
--- why there are no chains: they have too many rules, or there is no memory
-abbrev pub HasNoChains : Site → List Flow → List Flow → EmitRefusal → Type 0
-HasNoChains site p s (RangeOfPorts flow) = ⊥
-HasNoChains site p s (TooManyRules count) = (rule_limit < rule_count (layout site p s)) × (count ≡ rule_count (layout site p s))
-HasNoChains site p s Memory = Unit {0}
-
--- why there is no table: a permitted flow has a range of ports; where none has, there are too many entries; or there is no memory
-abbrev pub HasNoTable : Site → List Flow → EmitRefusal → Type 0
-HasNoTable site p (RangeOfPorts flow) = IsFirstRange site.services p flow
-HasNoTable site p (TooManyRules count) = HasNoRange site.services p × (most_entries < length (flow_entries site p)) × (count ≡ length (flow_entries site p))
-HasNoTable site p Memory = Unit {0}

@@ -5,7 +5,7 @@ ghost use Rattle.std.specs.List.{list_all};
 ghost use Rattle.host_net.specs.Service.{is_whole};
 ghost use Rattle.flow_set.specs.Flow.{IsFlow};
 ghost use Rattle.emit_core.specs.FlowTableEvents.{AnswersAreCovered, IsFirstBarred, has_all_of, is_covered};
-ghost use Rattle.emit_core.specs.FlowTableRefusals.{lacks_answer};
+ghost use Rattle.emit_core.specs.inner.FlowTableRefusals.{lacks_answer};
 
 use crate::narrowing::{has_all_ports, is_whole};
 use flow_set::{Flow, FlowSet};

@@ -2,7 +2,7 @@
 //! counted.
 
 ghost use Rattle.std.specs.Prelude.{◌≡◌, OnOk};
-ghost use Rattle.emit_core.specs.KeptEntries.{no_entries, with_entry};
+ghost use Rattle.emit_core.specs.inner.KeptEntries.{no_entries, with_entry};
 
 use ofp_rules::Entry;
 use std::alloc::{AllocError, Global};
@@ -19,7 +19,7 @@ pub(crate) struct Entries {
 }
 
 impl Model for Entries {
-    ghost use Rattle.emit_core.specs.KeptEntries.{KeptEntries};
+    ghost use Rattle.emit_core.specs.inner.KeptEntries.{KeptEntries};
 
     ghost Value = { KeptEntries };
 

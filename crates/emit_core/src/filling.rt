@@ -2,11 +2,11 @@
 
 ghost use Rattle.std.specs.Prelude.{◌≡◌, ◌+◌, ◌<◌, ◌^◌, length, IfOk, OnOk, IsTrue, None};
 ghost use Rattle.std.specs.List.{list_all};
-ghost use Rattle.ipt_rules.specs.Build.{refusal_of};
+ghost use Rattle.ipt_rules.specs.inner.Build.{refusal_of};
 ghost use Rattle.ipt_rules.specs.ChainTable.{rule_count};
 ghost use Rattle.ipt_rules.specs.Loops.{HasNoLoop};
-ghost use Rattle.ipt_rules.specs.RuleParts.{is_rule};
-ghost use Rattle.emit_core.specs.Filling.{with_rules};
+ghost use Rattle.ipt_rules.specs.inner.RuleParts.{is_rule};
+ghost use Rattle.emit_core.specs.inner.Filling.{with_rules};
 
 use ipt_rules::{BuildRefusal, Chains, Rule, Ruleset};
 use std::alloc::{AllocError, Global};

@@ -3,7 +3,7 @@
 ghost use Rattle.std.specs.Prelude.{◌≡◌, OnOk, Some, map};
 ghost use Rattle.host_net.specs.Service.{narrowings};
 ghost use Rattle.emit_core.specs.FlowTable.{arp_entry, ip_entry, other_entry, port_of_service, rest_drop, service_entry};
-ghost use Rattle.emit_core.specs.KeptEntries.{with_entries};
+ghost use Rattle.emit_core.specs.inner.KeptEntries.{with_entries};
 
 use crate::entries::Entries;
 use crate::narrowing::{has_all_ports, is_whole};

@@ -2,8 +2,9 @@
 
 ghost use Rattle.std.specs.Prelude.{◌≡◌, ◌≤◌, ◌<◌, length};
 ghost use Rattle.host_net.specs.Host.{rest_of};
-ghost use Rattle.host_net.specs.Hosts.{IsHosts};
-ghost use Rattle.host_net.specs.Services.{AreServices, service_limit, services_of};
+ghost use Rattle.host_net.specs.inner.Hosts.{IsHosts};
+ghost use Rattle.host_net.specs.Services.{service_limit, services_of};
+ghost use Rattle.host_net.specs.inner.Services.{AreServices};
 ghost use Rattle.emit_core.specs.Sides.{permits};
 
 use crate::permitted::permits;

@@ -2,7 +2,7 @@
 
 ghost use Rattle.std.specs.Prelude.{◌≡◌, length, IfSome, IsTrue};
 ghost use Rattle.std.specs.List.{list_all};
-ghost use Rattle.host_net.specs.Hosts.{is_network};
+ghost use Rattle.host_net.specs.inner.Hosts.{is_network};
 
 use crate::{EmitRefusal, emit_openflow};
 use flow_set::{Flow, FlowSet};

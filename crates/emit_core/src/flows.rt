@@ -4,7 +4,7 @@ ghost use Rattle.std.specs.Prelude.{◌≡◌, ◌<◌, length, OnOk, if◌then�
 ghost use Rattle.host_net.specs.Service.{is_whole};
 ghost use Rattle.host_net.specs.Site.{site_with};
 ghost use Rattle.emit_core.specs.FlowTable.{between, from_host, from_prefix, host_pair, pair_entries, rest_drop};
-ghost use Rattle.emit_core.specs.KeptEntries.{with_entries};
+ghost use Rattle.emit_core.specs.inner.KeptEntries.{with_entries};
 
 use crate::entries::Entries;
 use crate::flow_entry::{push_rest_drop, push_services};

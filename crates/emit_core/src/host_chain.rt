@@ -4,8 +4,9 @@ ghost use Rattle.std.specs.Prelude.{◌≡◌, ◌≤◌, ◌<◌, ◌++◌, len
 ghost use Rattle.std.specs.List.{flat_map};
 ghost use Rattle.std.specs.Option.{ForSome};
 ghost use Rattle.host_net.specs.Host.{rest_of};
-ghost use Rattle.host_net.specs.Hosts.{IsHosts};
-ghost use Rattle.host_net.specs.Services.{AreServices, service_limit};
+ghost use Rattle.host_net.specs.inner.Hosts.{IsHosts};
+ghost use Rattle.host_net.specs.Services.{service_limit};
+ghost use Rattle.host_net.specs.inner.Services.{AreServices};
 ghost use Rattle.host_net.specs.Site.{site_with};
 ghost use Rattle.emit_core.specs.Sides.{links, other_side, services_on};
 ghost use Rattle.emit_core.specs.Layout.{links_whole, is_open, drops, to_prefix, to_rest, for_each_prefix, host_rules};

@@ -3,15 +3,17 @@
 ghost use Rattle.std.specs.Prelude.{◌≡◌, ◌+◌, ◌<◌, ◌≤◌, ◌^◌, ◌∷◌, [], ◌++◌, None, length, IfOk, IfErr, OnOk, IsNone, IsTrue};
 ghost use Rattle.std.specs.List.{list_all};
 ghost use Rattle.flow_set.specs.FlowSet.{IsSubset};
-ghost use Rattle.host_net.specs.Hosts.{IsHosts};
-ghost use Rattle.host_net.specs.Site.{IsSite, site_with};
+ghost use Rattle.host_net.specs.inner.Hosts.{IsHosts};
+ghost use Rattle.host_net.specs.Site.{site_with};
+ghost use Rattle.host_net.specs.inner.Site.{IsSite};
 ghost use Rattle.pkt_core.specs.Filter.{Enforces, ForwardsExpected};
 ghost use Rattle.ipt_rules.specs.Chain.{number_of};
 ghost use Rattle.ipt_rules.specs.ChainTable.{rule_count};
 ghost use Rattle.ipt_rules.specs.Meaning.{Passes};
-ghost use Rattle.ipt_rules.specs.RuleParts.{is_rule};
-ghost use Rattle.emit_core.specs.EmitRefusals.{HasNoChains, rule_limit};
-ghost use Rattle.emit_core.specs.Filling.{AreCounted, chains_up_to};
+ghost use Rattle.ipt_rules.specs.inner.RuleParts.{is_rule};
+ghost use Rattle.emit_core.specs.EmitRefusals.{rule_limit};
+ghost use Rattle.emit_core.specs.inner.EmitRefusals.{HasNoChains};
+ghost use Rattle.emit_core.specs.inner.Filling.{AreCounted, chains_up_to};
 ghost use Rattle.emit_core.specs.Layout.{entry_chains, forward_rules, host_chain_name, layout};
 
 use crate::filling::{build_accepted, fill};

@@ -6,11 +6,11 @@ ghost use Rattle.flow_set.specs.declared.flow.Flow.{Flow};
 ghost use Rattle.pkt_core.specs.Filter.{Enforces, ForwardsExpected};
 ghost use Rattle.ofp_rules.specs.Ambiguity.{most_entries};
 ghost use Rattle.ofp_rules.specs.Meaning.{Passes};
-ghost use Rattle.emit_core.specs.EmitRefusals.{HasNoTable};
+ghost use Rattle.emit_core.specs.inner.EmitRefusals.{HasNoTable};
 ghost use Rattle.emit_core.specs.FlowTable.{flow_entries};
 ghost use Rattle.emit_core.specs.FlowTableEvents.{AnswersAreCovered};
 ghost use Rattle.emit_core.specs.FlowTableForwarding.{ForwardsArpAlone};
-ghost use Rattle.emit_core.specs.KeptEntries.{AreCounted};
+ghost use Rattle.emit_core.specs.inner.KeptEntries.{AreCounted};
 ghost use Rattle.emit_core.specs.PortRanges.{HasNoRange};
 
 use crate::entries::{ENTRY_LIMIT, Entries};

@@ -2,7 +2,7 @@
 
 ghost use Rattle.std.specs.Prelude.{◌≡◌, MatchOption};
 ghost use Rattle.std.specs.List.{list_any};
-ghost use Rattle.host_net.specs.Services.{AreServices};
+ghost use Rattle.host_net.specs.inner.Services.{AreServices};
 ghost use Rattle.emit_core.specs.PortRanges.{HasNoRange, IsFirstRange, has_range, is_range};
 
 use crate::narrowing::has_all_ports;

@@ -4,7 +4,7 @@ ghost use Rattle.std.specs.Prelude.{◌≡◌, ◌<◌, length, OnOk};
 ghost use Rattle.std.specs.Option.{ForSome};
 ghost use Rattle.host_net.specs.Site.{site_with};
 ghost use Rattle.emit_core.specs.FlowTable.{from_rest, from_rest_host, to_rest, to_rest_host, with_rest};
-ghost use Rattle.emit_core.specs.KeptEntries.{with_entries};
+ghost use Rattle.emit_core.specs.inner.KeptEntries.{with_entries};
 
 use crate::entries::Entries;
 use crate::flow_entry::push_services;

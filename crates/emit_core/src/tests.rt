@@ -1,7 +1,7 @@
 //! The rules of small networks, byte by byte, with texts worked out by hand.
 
 ghost use Rattle.std.specs.Prelude.{◌≡◌, length, IfSome, IsTrue};
-ghost use Rattle.host_net.specs.Service.{is_service};
+ghost use Rattle.host_net.specs.inner.Service.{is_service};
 ghost use Rattle.flow_set.specs.FlowSet.{IsSubset};
 
 use crate::emit_iptables;

@@ -5,12 +5,12 @@ use Rattle.std.proofs.lemmas.Bool.{both_ways, false_from_ne_true, or_right}
 use Rattle.flow_set.specs.declared.flow.Flow.{Flow}
 use Rattle.flow_set.specs.Flow.{IsFlow}
 use Rattle.flow_set.specs.FlowSet.{has, IsOrdered, IsSubset, with_flow}
-use Rattle.flow_set.specs.FlowSetView.{IsFlowSet, without_flow}
+use Rattle.flow_set.specs.inner.FlowSetView.{IsFlowSet, without_flow}
 use Rattle.flow_set.specs.Conditions.{IsFirst}
-use Rattle.flow_set.specs.FlowLaws.{before_self, has-append, has_first, front_before, without_flow-with_flow}
-use Rattle.flow_set.specs.SubsetLaws.{IsFlowSet-subset, subset_trans, subset_front}
-use Rattle.flow_set.specs.WalkLaws.{walk_next}
-use Rattle.first_core.specs.Grown.{IsGrown, IsNew}
+use Rattle.flow_set.specs.laws.FlowLaws.{before_self, has-append, has_first, front_before, without_flow-with_flow}
+use Rattle.flow_set.proofs.SubsetLaws.{IsFlowSet-subset, subset_trans, subset_front}
+use Rattle.flow_set.specs.laws.WalkLaws.{walk_next}
+use Rattle.first_core.specs.inner.Grown.{IsGrown, IsNew}
 
 -- the flows so far and f are a set
 pub walked : (n : ℕ) (xs left rest whole : List Flow) (f : Flow) → IsFlowSet n whole → xs ++ left ≡ whole → left ≡ f ∷ rest

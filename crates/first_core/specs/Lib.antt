@@ -1,3 +1,1 @@
-pub mod Grown
-pub mod GrownLaws
-pub mod FirstLaws
+pub mod inner

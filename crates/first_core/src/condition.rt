@@ -2,7 +2,7 @@
 
 ghost use Rattle.std.specs.Prelude.{◌≡◌, ◌↔◌, ℕ, List, IsTrue, IfOk};
 ghost use Rattle.flow_set.specs.declared.flow.Flow.{Flow};
-ghost use Rattle.first_core.specs.Grown.{IsGrown};
+ghost use Rattle.first_core.specs.inner.Grown.{IsGrown};
 
 use flow_set::{Flow, FlowSet};
 use std::alloc::{AllocError, Global};

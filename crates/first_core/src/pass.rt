@@ -2,9 +2,9 @@
 //! subset has to be tried is what its proof shows.
 
 ghost use Rattle.std.specs.Prelude.{◌≡◌, [], IfOk};
-ghost use Rattle.flow_set.specs.FlowSetView.{IsFlowSet};
+ghost use Rattle.flow_set.specs.inner.FlowSetView.{IsFlowSet};
 ghost use Rattle.flow_set.specs.Conditions.{IsFirst};
-ghost use Rattle.flow_set.specs.Downward.{IsDownward};
+ghost use Rattle.flow_set.specs.inner.Downward.{IsDownward};
 
 use crate::condition::Condition;
 use flow_set::FlowSet;

@@ -4,10 +4,10 @@
 ghost use Rattle.std.specs.Prelude.{◌≡◌, ◌↔◌, ℕ, List, [], IsTrue, IfOk, if◌then◌else◌};
 ghost use Rattle.flow_set.specs.declared.flow.Flow.{Flow};
 ghost use Rattle.flow_set.specs.FlowSet.{with_flow};
-ghost use Rattle.flow_set.specs.FlowSetView.{IsFlowSet};
+ghost use Rattle.flow_set.specs.inner.FlowSetView.{IsFlowSet};
 ghost use Rattle.flow_set.specs.Conditions.{IsFirst};
-ghost use Rattle.flow_set.specs.Downward.{IsDownward};
-ghost use Rattle.first_core.specs.Grown.{IsNew};
+ghost use Rattle.flow_set.specs.inner.Downward.{IsDownward};
+ghost use Rattle.first_core.specs.inner.Grown.{IsNew};
 
 use flow_set::{Flow, FlowSet};
 use std::alloc::{AllocError, Global};

@@ -6,7 +6,7 @@ use Rattle.std.proofs.lemmas.Bool.Decides.{nat_tests}
 use Rattle.flow_set.specs.declared.flow.Flow.{Flow}
 use Rattle.flow_set.specs.Flow.{IsFlow, same_flow}
 use Rattle.flow_set.specs.FlowSet.{has, with_flow}
-use Rattle.flow_set.specs.FlowLaws.{has-with_flow, same_fact}
+use Rattle.flow_set.specs.laws.FlowLaws.{has-with_flow, same_fact}
 
 -- fs is old with the flows that begin at `from` and end below `to`
 abbrev pub FilledBelow : ℕ → ℕ → ℕ → List Flow → List Flow → Type 0

@@ -6,14 +6,15 @@ use Rattle.std.proofs.lemmas.Bool.Decides.{nat_tests}
 use Rattle.flow_set.specs.declared.flow.Flow.{Flow}
 use Rattle.flow_set.specs.Flow.{before}
 use Rattle.flow_set.specs.FlowSet.{has, IsOrdered}
-use Rattle.flow_set.specs.FlowSetView.{first_from}
-use Rattle.flow_set.specs.FlowLaws.{same_flow-true, same_flow_from_order, filter_nothing, filter_everything, not_before_from}
-use Rattle.flow_set.specs.WalkLaws.{first_from_member, first_from_late, first_from_least, first_from_none}
+use Rattle.flow_set.specs.inner.FlowSetView.{first_from}
+use Rattle.flow_set.specs.laws.FlowLaws.{same_flow-true, same_flow_from_order, filter_nothing, filter_everything, not_before_from}
+use Rattle.flow_set.specs.laws.WalkLaws.{first_from_member, first_from_late, first_from_least, first_from_none}
 use Rattle.std.specs.FinSet as set
-use Rattle.flow_set.specs.BitRows.{marks, flows_of, AreRows, flows_from, IsAsFar}
+use Rattle.flow_set.specs.inner.BitRows.{marks, flows_of, AreRows, flows_from, IsAsFar}
 use Rattle.flow_set.proofs.BitRows.{marked_flow, has-flows_of, IsOrdered-rows_flows}
-use Rattle.host_set.specs.HostSet.{HostNumbers, row_of}
-use Rattle.host_set.specs.Calls.{HasNone, IsFirstFrom}
+use Rattle.host_set.specs.HostSet.{HostNumbers}
+use Rattle.host_set.specs.inner.HostSet.{row_of}
+use Rattle.host_set.specs.inner.Calls.{HasNone, IsFirstFrom}
 
 -- ---- the first flow from a place on
 

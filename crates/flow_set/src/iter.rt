@@ -3,7 +3,7 @@
 
 ghost use Rattle.std.specs.Prelude.{◌≡◌};
 ghost use Rattle.std.specs.Iterator.{YieldsFirst, item_count};
-ghost use Rattle.flow_set.specs.FlowSetView.{IsFlowSet};
+ghost use Rattle.flow_set.specs.inner.FlowSetView.{IsFlowSet};
 
 use crate::flow::Flow;
 use crate::set::FlowSet;
@@ -20,7 +20,7 @@ pub struct Iter<'a> {
 
 impl<'a> Model for Iter<'a> {
     ghost use Rattle.std.specs.Prelude.{List};
-    ghost use Rattle.flow_set.specs.BitRows.{flows_from};
+    ghost use Rattle.flow_set.specs.inner.BitRows.{flows_from};
     ghost use Rattle.flow_set.specs.declared.flow.Flow.{Flow};
 
     ghost Value = { List Flow };

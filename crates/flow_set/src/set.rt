@@ -5,7 +5,7 @@ ghost use Rattle.std.specs.Prelude.{◌≡◌, ◌<◌, ◌≤◌, ◌⊎◌, �
 ghost use Rattle.flow_set.specs.EveryFlow.{every_flow};
 ghost use Rattle.flow_set.specs.Flow.{IsFlow, back_of};
 ghost use Rattle.flow_set.specs.FlowSet.{IsFull, has, with_flow, with_back};
-ghost use Rattle.flow_set.specs.FlowSetView.{IsFlowSet, without_flow, first_from};
+ghost use Rattle.flow_set.specs.inner.FlowSetView.{IsFlowSet, without_flow, first_from};
 
 use crate::flow::Flow;
 use crate::iter::Iter;
@@ -21,7 +21,7 @@ pub struct FlowSet {
 }
 
 impl Model for FlowSet {
-    ghost use Rattle.flow_set.specs.BitRows.{flows_of, AreRows};
+    ghost use Rattle.flow_set.specs.inner.BitRows.{flows_of, AreRows};
     ghost use Rattle.flow_set.specs.FlowSet.{SetOfFlows};
 
     ghost Value = { SetOfFlows };

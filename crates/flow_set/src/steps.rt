@@ -2,8 +2,8 @@
 
 ghost use Rattle.std.specs.Prelude.{◌≡◌, IsSome, IfOk};
 ghost use Rattle.flow_set.specs.Flow.{IsFlow};
-ghost use Rattle.flow_set.specs.FlowSetView.{IsFlowSet};
-ghost use Rattle.flow_set.specs.Steps.{untried, stepped, taken_back};
+ghost use Rattle.flow_set.specs.inner.FlowSetView.{IsFlowSet};
+ghost use Rattle.flow_set.specs.inner.Steps.{untried, stepped, taken_back};
 
 use crate::flow::Flow;
 use crate::set::FlowSet;
@@ -27,8 +27,8 @@ pub struct FlowSteps {
 }
 
 impl Model for FlowSteps {
-    ghost use Rattle.flow_set.specs.Steps.{TriedFlows};
-    ghost use Rattle.flow_set.specs.LastStep.{seen_as, CanTakeBack};
+    ghost use Rattle.flow_set.specs.inner.Steps.{TriedFlows};
+    ghost use Rattle.flow_set.specs.inner.LastStep.{seen_as, CanTakeBack};
 
     ghost Value = { TriedFlows };
 

@@ -1,12 +1,5 @@
-pub mod FlowEndLaws
 pub mod Guarding
-pub mod GuardingLaws
-pub mod HostFirewalls
 pub mod LocalEvents
-pub mod LocalEventsLaws
-pub mod LocalFilling
 pub mod LocalLayout
-pub mod LocalLayoutLaws
-pub mod LocalWritableLaws
 pub mod Passing
-pub mod PassingLaws
+pub mod inner

@@ -24,11 +24,6 @@ Tables = ℕ → Kept
 abbrev pub empty_tables : Tables
 empty_tables h = nothing_kept
 
--- the host at a side of a flow: its sender, or its receiver
-abbrev pub host_on : Side → Flow → ℕ
-host_on Sending f = f.from
-host_on Receiving f = f.to
-
 -- host h takes a packet: where it enforces the policy by its firewall, in the state of its own table; and else it lets everything pass
 pub record Takes (enforces : ℕ → Bool) (firewalls : Firewalls) (tables : Tables) (h : ℕ) (side : Side) (p : Packet) (passes : Bool) : Type 0 where
   pub by_firewall : IsTrue (enforces h) → firewalls h side (state_of (tables h) p) p passes

@@ -3,10 +3,11 @@
 ghost use Rattle.std.specs.Prelude.{◌≡◌, ◌<◌, ◌++◌, [], length, IfOk, OnOk, IsTrue};
 ghost use Rattle.std.specs.List.{flat_map};
 ghost use Rattle.flow_set.specs.FlowSet.{IsSubset};
-ghost use Rattle.host_net.specs.Site.{site_with, IsSite};
+ghost use Rattle.host_net.specs.Site.{site_with};
+ghost use Rattle.host_net.specs.inner.Site.{IsSite};
 ghost use Rattle.host_emit.specs.Guarding.{Guards};
 ghost use Rattle.host_emit.specs.LocalEvents.{PassesExpected};
-ghost use Rattle.host_emit.specs.LocalFilling.{AreChainRules, dropping_chains};
+ghost use Rattle.host_emit.specs.inner.LocalFilling.{AreChainRules, dropping_chains};
 ghost use Rattle.host_emit.specs.LocalLayout.{chain_for, entry_rules, is_specific, local_layout, loopback, loopback_rule, machine_chains, own_jump};
 
 use emit_core::{Side, at_other, build_accepted, fill, host_rules, in_prefix};

@@ -2,13 +2,11 @@
 
 ghost use Rattle.std.specs.Prelude.{◌≡◌, ◌<◌, length, IfSome, IsTrue};
 ghost use Rattle.flow_set.specs.FlowSet.{IsSubset};
-ghost use Rattle.host_net.specs.Service.{is_service};
+ghost use Rattle.host_net.specs.inner.Service.{is_service};
 
 use crate::{emit_local, is_specific};
 use flow_set::{Flow, FlowSet};
-use host_net::{
-    Hosts, Packet, SERVICE_LIMIT, Service, Services, Verdict, read_prefix, read_service,
-};
+use host_net::{ Hosts, Packet, SERVICE_LIMIT, Service, Services, Verdict, read_prefix, read_service, };
 use ipt_rules::{INPUT, OUTPUT, Ruleset};
 use pkt_core::Track;
 use std::alloc::{AllocError, Global};

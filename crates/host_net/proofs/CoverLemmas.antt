@@ -12,10 +12,10 @@ use Rattle.host_net.specs.declared.cover.Ends.{Ends}
 use Rattle.host_net.specs.declared.cover.Key.{Key}
 use Rattle.host_net.specs.declared.cover.Lengths.{Lengths}
 use Rattle.host_net.specs.declared.prefix.Prefix.{Prefix}
-use Rattle.host_net.specs.Cover.{IsFirstFrom, covers_both, part_covers}
-use Rattle.host_net.specs.CoverView.{AreInOrder, AreIndexOf, Begins, IsFirstKey, IsSmall, SameBits, begins, earlier, key_at, key_of, keys_from, length_of, own_address, rank}
+use Rattle.host_net.specs.inner.Cover.{IsFirstFrom, covers_both, part_covers}
+use Rattle.host_net.specs.inner.CoverView.{AreInOrder, AreIndexOf, Begins, IsFirstKey, IsSmall, SameBits, begins, earlier, key_at, key_of, keys_from, length_of, own_address, rank}
 use Rattle.host_net.specs.Prefix.{front}
-use Rattle.host_net.specs.PrefixLaws.{covers_front, front_covers}
+use Rattle.host_net.proofs.PrefixLaws.{covers_front, front_covers}
 
 -- what a loop reads at a place that is not there
 abbrev pub no_lengths : Lengths

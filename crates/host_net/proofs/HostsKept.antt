@@ -12,19 +12,20 @@ use Rattle.std.proofs.lemmas.List.Folds.{list_all-append}
 use Rattle.std.proofs.lemmas.List.Sums.{sum_by-append}
 use Rattle.indexmap.specs.IndexMap.{insert_entry}
 use Rattle.host_net.proofs.HostsLemmas.{all_parts}
-use Rattle.host_net.specs.AcceptedLaws.{joined_lists}
+use Rattle.host_net.proofs.AcceptedLaws.{joined_lists}
 use Rattle.text_core.specs.Firsts.{first_of, where_holds}
-use Rattle.text_core.specs.Pairs.{no_pair}
-use Rattle.text_core.specs.FirstsLaws.{holds_not, neither, none_mapped}
-use Rattle.host_net.specs.HostsView.{host_view, hosts_view}
+use Rattle.text_core.specs.inner.Pairs.{no_pair}
+use Rattle.text_core.proofs.FirstsLaws.{holds_not, neither, none_mapped}
+use Rattle.host_net.specs.inner.HostsView.{host_view, hosts_view}
 use Rattle.host_net.specs.declared.addresses.Addresses.{Addresses}
 use Rattle.host_net.specs.Host.{Host, host_named, rest_of, lacks_address}
-use Rattle.host_net.specs.Hosts.{all_prefixes, prefix_lists, prefix_count, IsHosts, is_network}
+use Rattle.host_net.specs.Hosts.{all_prefixes}
+use Rattle.host_net.specs.inner.Hosts.{prefix_lists, prefix_count, IsHosts, is_network}
 use Rattle.host_net.specs.Limits.{host_limit, prefix_limit}
 use Rattle.text_core.specs.Name.{is_name}
-use Rattle.text_core.specs.PairLaws.{list_all-push, no_pair-push}
+use Rattle.text_core.proofs.PairLaws.{list_all-push, no_pair-push}
 use Rattle.host_net.specs.Prefix.{meets}
-use Rattle.host_net.specs.Refusal.{bad_name, duplicate, is_full, no_address, meeting, overlap_from, overlap, two_rests, refusal_of}
+use Rattle.host_net.specs.inner.Refusal.{bad_name, duplicate, is_full, no_address, meeting, overlap_from, overlap, two_rests, refusal_of}
 use Rattle.host_net.specs.declared.prefix.Prefix.{Prefix}
 use Rattle.host_net.specs.declared.refusal.HostRefusal.{HostRefusal}
 use Rattle.host_net.specs.declared.refusal.HostRefusal.TheVariants.{TooMany, BadName, Duplicate, NoAddress, TwoRests, Overlap}

@@ -9,7 +9,7 @@ use Rattle.std.specs.Str.{bytes_eq}
 use Rattle.std.specs.Map.{keys_of, values_of}
 use Rattle.std.proofs.lemmas.Iterator.Adapters.{position_from-zero}
 use Rattle.host_net.specs.Host.{Host, host_named}
-use Rattle.host_net.specs.HostsView.{host_view, hosts_view}
+use Rattle.host_net.specs.inner.HostsView.{host_view, hosts_view}
 use Rattle.text_core.specs.Name.{is_name}
 use Rattle.host_net.specs.declared.addresses.Addresses.{Addresses}
 

@@ -6,8 +6,8 @@ use Rattle.std.proofs.lemmas.Iterator.Adapters.{position_from-zero}
 use Rattle.std.proofs.lemmas.List.{length-map, length-take-le, take_more}
 use Rattle.std.proofs.Math.ListN.{drop_of_length-le}
 use Rattle.host_net.proofs.HostsLemmas.{position_from-map}
-use Rattle.host_net.specs.Hosts.{meets_any}
-use Rattle.host_net.specs.Refusal.{meeting, overlap_from}
+use Rattle.host_net.specs.inner.Hosts.{meets_any}
+use Rattle.host_net.specs.inner.Refusal.{meeting, overlap_from}
 use Rattle.host_net.specs.declared.addresses.Addresses.{Addresses}
 use Rattle.host_net.specs.declared.prefix.Prefix.{Prefix}
 use Rattle.host_net.specs.declared.refusal.HostRefusal.TheVariants.{Overlap}

@@ -6,12 +6,12 @@ use Rattle.std.specs.List.{position_from}
 use Rattle.std.specs.Option.{option_map, option_or}
 use Rattle.std.specs.Prelude.{if◌then◌else◌, not}
 use Rattle.text_core.specs.Firsts.{where_holds}
-use Rattle.text_core.specs.FirstsLaws.{some_same}
+use Rattle.text_core.proofs.FirstsLaws.{some_same}
 use Rattle.text_core.specs.Name.{is_name}
 use Rattle.host_net.specs.Host.{Host, host_named, rest_of, lacks_address}
-use Rattle.host_net.specs.Hosts.{meets_any, prefix_lists}
-use Rattle.host_net.specs.Overlaps.{HasPartner, IsFirstOverlap, earlier}
-use Rattle.host_net.specs.Refusal.{is_full, meeting, overlap, overlap_from, refusal_of, two_rests}
+use Rattle.host_net.specs.inner.Hosts.{meets_any, prefix_lists}
+use Rattle.host_net.specs.inner.Overlaps.{HasPartner, IsFirstOverlap, earlier}
+use Rattle.host_net.specs.inner.Refusal.{is_full, meeting, overlap, overlap_from, refusal_of, two_rests}
 use Rattle.host_net.specs.declared.prefix.Prefix.{Prefix}
 use Rattle.host_net.specs.declared.refusal.HostRefusal.{HostRefusal}
 use Rattle.host_net.specs.declared.refusal.HostRefusal.TheVariants.{TooMany, BadName, Duplicate, NoAddress, TwoRests, Overlap}

@@ -2,7 +2,7 @@
 use Rattle.std.proofs.Common.{◌≡◌, ℕ, ◌≤◌, true, List, length, arith}
 use Rattle.std.proofs.lemmas.Bool.Decides.{nat_tests}
 use Rattle.text_core.specs.Name.{is_name}
-use Rattle.text_core.specs.Padded.{IsPadded, padded, padded_text}
+use Rattle.text_core.specs.inner.Padded.{IsPadded, padded, padded_text}
 
 pub padded_name : (text bytes : List ℕ) → bytes ≡ padded 32 text → is_name text ≡ true → IsPadded 32 (length text) bytes
 padded_name text bytes made named =

@@ -1,17 +1,18 @@
 -- The ranges that are kept stay those of the hosts, with one more host that there was no cause to refuse.
 use Rattle.std.proofs.Common.{◌≡◌, ℕ, ◌+◌, Bool, true, false, cond, List, [], ◌∷◌, ◌++◌, length, Option, Some, None, refl, sym, ap, ◌∙◌, arith}
 use Rattle.std.specs.Option.{option_or}
-use Rattle.text_core.specs.Pairs.{no_pair}
-use Rattle.text_core.specs.PairLaws.{no_pair-behind}
+use Rattle.text_core.specs.inner.Pairs.{no_pair}
+use Rattle.text_core.proofs.PairLaws.{no_pair-behind}
 use Rattle.host_net.proofs.HostsKept.{still_apart, welcome}
 use Rattle.host_net.proofs.OverlapLemmas.{position_from-push}
 use Rattle.host_net.proofs.RangesLemmas.{IsHeldWith}
 use Rattle.host_net.specs.Host.{Host, covers_any, holder_of}
-use Rattle.host_net.specs.Hosts.{all_prefixes, IsHosts}
-use Rattle.host_net.specs.OwnerLaws.{not_held, parts_apart}
+use Rattle.host_net.specs.Hosts.{all_prefixes}
+use Rattle.host_net.specs.inner.Hosts.{IsHosts}
+use Rattle.host_net.proofs.OwnerLaws.{not_held, parts_apart}
 use Rattle.host_net.specs.Prefix.{meets}
-use Rattle.host_net.specs.Ranges.{AreRanges, holder_among, is_ordered}
-use Rattle.host_net.specs.Refusal.{refusal_of}
+use Rattle.host_net.specs.inner.Ranges.{AreRanges, holder_among, is_ordered}
+use Rattle.host_net.specs.inner.Refusal.{refusal_of}
 use Rattle.host_net.specs.declared.prefix.Prefix.{Prefix}
 use Rattle.host_net.specs.declared.ranges.Range.{Range}
 

@@ -7,15 +7,15 @@ use Rattle.std.proofs.lemmas.Bool.{and_from, and_parts, cases_lt, or_left, or_ri
 use Rattle.std.proofs.lemmas.Bool.Decides.{nat_tests}
 use Rattle.std.proofs.lemmas.List.Folds.{list_all-append, list_any-append, list_any_more}
 use Rattle.std.proofs.lemmas.List.{take-append-drop}
-use Rattle.text_core.specs.FirstsLaws.{neither}
-use Rattle.text_core.specs.Pairs.{no_pair}
+use Rattle.text_core.proofs.FirstsLaws.{neither}
+use Rattle.text_core.specs.inner.Pairs.{no_pair}
 use Rattle.host_net.specs.Host.{covers_any}
-use Rattle.host_net.specs.OwnerLaws.{parts_apart}
+use Rattle.host_net.proofs.OwnerLaws.{parts_apart}
 use Rattle.host_net.specs.Prefix.{covers, meets}
-use Rattle.host_net.specs.PrefixLaws.{covers_between}
+use Rattle.host_net.proofs.PrefixLaws.{covers_between}
 use Rattle.host_net.specs.PrefixView.{first_address, last_address}
 use Rattle.host_net.specs.declared.prefix.Prefix.{Prefix}
-use Rattle.host_net.specs.Ranges.{holder_among, holds, is_ordered}
+use Rattle.host_net.specs.inner.Ranges.{holder_among, holds, is_ordered}
 use Rattle.host_net.specs.declared.ranges.Range.{Range}
 
 -- what the order says of the first range

@@ -6,10 +6,11 @@ use Rattle.std.specs.Option.{option_map_or}
 use Rattle.std.specs.Global.{Global}
 use Rattle.std.specs.declared.vec.Vec.{Vec}
 use Rattle.indexmap.specs.IndexMap.{insert_entry}
-use Rattle.text_core.specs.StepsLaws.{split_bool}
+use Rattle.text_core.proofs.StepsLaws.{split_bool}
 use Rattle.host_net.specs.declared.service.Service.{Service}
-use Rattle.host_net.specs.Services.{NarrowedFlow, services_of, with_service}
-use Rattle.host_net.specs.ServicesView.{narrowed_view, services_view}
+use Rattle.host_net.specs.Services.{NarrowedFlow, services_of}
+use Rattle.host_net.specs.inner.Services.{with_service}
+use Rattle.host_net.specs.inner.ServicesView.{narrowed_view, services_view}
 
 abbrev pub same_ends : ℕ × ℕ → ℕ × ℕ → Bool
 same_ends k l = (k.0 == l.0) && (k.1 == l.1)

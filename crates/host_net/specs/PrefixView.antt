@@ -1,7 +1,7 @@
 -- The ends of a prefix, the addresses that two have in common, and the texts that stand for one.
-use Rattle.std.specs.Prelude.{◌≡◌, ℕ, ◌+◌, ◌*◌, ◌^◌, ◌-◌, ◌<◌, IsTrue, List, ◌⊎◌}
+use Rattle.std.specs.Prelude.{◌≡◌, ℕ, ◌+◌, ◌*◌, ◌^◌, ◌-◌, List, ◌⊎◌}
 use Rattle.host_net.specs.declared.prefix.Prefix.{Prefix}
-use Rattle.host_net.specs.Prefix.{front, covers, address_text, prefix_text}
+use Rattle.host_net.specs.Prefix.{front, address_text, prefix_text}
 
 -- the first and the last address that a prefix covers: its first `len` bits, and 0 or 1 in all places after them
 unfoldable pub first_address : Prefix → ℕ
@@ -9,10 +9,6 @@ first_address p = front p.len p.addr * 2 ^ (32 - p.len)
 
 unfoldable pub last_address : Prefix → ℕ
 last_address p = front p.len p.addr * 2 ^ (32 - p.len) + (2 ^ (32 - p.len) - 1)
-
--- some address is covered by both
-abbrev pub ShareAddress : Prefix → Prefix → Type 0
-ShareAddress p q = (a : ℕ) × (a < 2 ^ 32) × IsTrue (covers p a) × IsTrue (covers q a)
 
 -- the texts that stand for a prefix: the written one, and the bare address where all bits count
 abbrev pub IsSpelling : List ℕ → Prefix → Type 0

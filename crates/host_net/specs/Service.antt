@@ -30,10 +30,6 @@ has_ports proto = (proto == tcp) || (proto == udp)
 abbrev pub has_all_ports : Service → Bool
 has_all_ports s = (s.low == 0) && (s.high == last_port)
 
--- a service that a flow may be narrowed to: ports of TCP or UDP in order, or all of ICMP
-abbrev pub is_service : Service → Bool
-is_service s = nat_le s.low s.high && (nat_le s.high last_port && (has_ports s.proto || ((s.proto == icmp) && has_all_ports s)))
-
 -- the services of a flow serve the packet: one of them does, or there are none, so that nothing narrows the flow
 abbrev pub is_served : List Service → Packet → Bool
 is_served [] p = true

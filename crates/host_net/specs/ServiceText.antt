@@ -1,35 +1,17 @@
 -- How services are written, and the service that a text says.
-use Rattle.std.specs.Prelude.{◌≡◌, ◌⊎◌, ◌<◌, ℕ, ◌==◌, nat_lt, if◌then◌else◌, IsTrue, List, ◌++◌, decimal, codes, Option, Some, None}
+use Rattle.std.specs.Prelude.{ℕ, ◌==◌, nat_lt, if◌then◌else◌, List, decimal, codes, Option, Some, None}
 use Rattle.std.specs.Str.{bytes_eq}
 use Rattle.text_core.specs.Decimal.{number}
 use Rattle.text_core.specs.Pieces.{split_once}
 use Rattle.text_core.specs.Steps.{◌>>=◌}
 use Rattle.host_net.specs.declared.service.Service.{Service}
-use Rattle.host_net.specs.Service.{icmp, tcp, udp, last_port, has_ports, has_all_ports, is_service}
+use Rattle.host_net.specs.Service.{icmp, tcp, udp, last_port, has_ports}
 
 -- A. The spellings of a service.
 
 -- a protocol by its name, or by its number
 abbrev pub protocol_text : ℕ → List ℕ
 protocol_text proto = if proto == icmp then codes "icmp" else if proto == tcp then codes "tcp" else if proto == udp then codes "udp" else decimal proto
-
--- `tcp`: every packet of the protocol
-abbrev pub SpellsProtocol : List ℕ → Service → Type 0
-SpellsProtocol text s = IsTrue (has_all_ports s) × (text ≡ protocol_text s.proto)
-
--- `tcp/80`: one port
-abbrev pub SpellsPort : List ℕ → Service → Type 0
-SpellsPort text s = IsTrue (has_ports s.proto) × (s.low ≡ s.high) × (text ≡ protocol_text s.proto ++ (codes "/" ++ decimal s.low))
-
--- `tcp/80-90`: the first and the last of several ports
-abbrev pub SpellsPorts : List ℕ → Service → Type 0
-SpellsPorts text s =
-    IsTrue (has_ports s.proto) × (s.low < s.high) × (text ≡ protocol_text s.proto ++ (codes "/" ++ (decimal s.low ++ (codes "-" ++ decimal s.high))))
-
--- the texts that stand for a service
-pub record IsServiceSpelling (text : List ℕ) (s : Service) : Type 0 where
-  pub service : IsTrue (is_service s)
-  pub written : SpellsProtocol text s ⊎ (SpellsPort text s ⊎ SpellsPorts text s)
 
 -- B. The service that a text says.
 

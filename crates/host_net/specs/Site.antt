@@ -1,8 +1,7 @@
 -- The hosts of a network, and the services to which flows between them are narrowed.
-use Rattle.std.specs.Prelude.{List, []}
+use Rattle.std.specs.Prelude.{List}
 use Rattle.host_net.specs.Host.{Host}
-use Rattle.host_net.specs.Hosts.{IsHosts}
-use Rattle.host_net.specs.Services.{NarrowedFlow, AreServices}
+use Rattle.host_net.specs.Services.{NarrowedFlow}
 
 pub record Site : Type 0 where
   pub hosts : List Host
@@ -10,12 +9,3 @@ pub record Site : Type 0 where
 
 abbrev pub site_with : List Host → List NarrowedFlow → Site
 site_with hosts services = record { hosts = hosts; services = services }
-
--- hosts between which no flow is narrowed
-abbrev pub unnarrowed : List Host → Site
-unnarrowed hosts = site_with hosts []
-
--- its hosts are those of a network, and its services are services
-pub record IsSite (site : Site) : Type 0 where
-  pub hosts : IsHosts site.hosts
-  pub services : AreServices site.services

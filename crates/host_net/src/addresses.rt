@@ -1,7 +1,7 @@
 //! What one host owns, and searches over what all of them own.
 
 ghost use Rattle.std.specs.Prelude.{◌≡◌, ◌<◌, ◌^◌, length, position, sum_by};
-ghost use Rattle.host_net.specs.Hosts.{meets_any};
+ghost use Rattle.host_net.specs.inner.Hosts.{meets_any};
 
 use crate::prefix::Prefix;
 

@@ -9,8 +9,8 @@ ghost use Rattle.host_net.specs.declared.cover.Ends.{Ends};
 ghost use Rattle.host_net.specs.declared.cover.Key.{Key};
 ghost use Rattle.host_net.specs.declared.cover.Lengths.{Lengths};
 ghost use Rattle.host_net.specs.Prefix.{front};
-ghost use Rattle.host_net.specs.Cover.{IsFirstFrom};
-ghost use Rattle.host_net.specs.CoverView.{AreInOrder, IsFirstKey, IsIndexOf, IsSmall, SameBits, begins, earlier, key_at, key_of, keys_from, length_of, lengths_of, own_address, rank};
+ghost use Rattle.host_net.specs.inner.Cover.{IsFirstFrom};
+ghost use Rattle.host_net.specs.inner.CoverView.{AreInOrder, IsFirstKey, IsIndexOf, IsSmall, SameBits, begins, earlier, key_at, key_of, keys_from, length_of, lengths_of, own_address, rank};
 
 use crate::prefix::Prefix;
 use std::alloc::{AllocError, Global};
@@ -104,7 +104,7 @@ fn key_of(ends: Ends, place: u32) -> Key
 
 impl Key {
     /// The number by which keys are in order.
-    #[tactic(auto, unfolding(crate::specs::CoverView::rank))]
+    #[tactic(auto, unfolding(crate::specs::inner::CoverView::rank))]
     fn rank(&self) -> u128
         ensures { result ≡ rank self.now }
     {

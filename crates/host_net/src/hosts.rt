@@ -4,9 +4,10 @@ ghost use Rattle.std.specs.Prelude.{◌≡◌, ℕ, ◌≤◌, ◌<◌, ◌^◌,
 ghost use Rattle.std.specs.List.{list_all};
 ghost use Rattle.std.specs.Option.{option_map, ForSome};
 ghost use Rattle.host_net.specs.Host.{Host, covers_any, host_named, owner_of, rest_of};
-ghost use Rattle.host_net.specs.Hosts.{all_prefixes, is_network, IsHosts};
-ghost use Rattle.host_net.specs.Overlaps.{IsFirstOverlap};
-ghost use Rattle.host_net.specs.Refusal.{bad_name, duplicate, is_full, no_address, overlap, refusal_of, two_rests};
+ghost use Rattle.host_net.specs.Hosts.{all_prefixes};
+ghost use Rattle.host_net.specs.inner.Hosts.{is_network, IsHosts};
+ghost use Rattle.host_net.specs.inner.Overlaps.{IsFirstOverlap};
+ghost use Rattle.host_net.specs.inner.Refusal.{bad_name, duplicate, is_full, no_address, overlap, refusal_of, two_rests};
 ghost use Rattle.host_net.specs.declared.refusal.HostRefusal.{HostRefusal};
 
 use crate::addresses::{Addresses, prefix_count, rest_host};
@@ -30,9 +31,9 @@ pub struct Hosts {
 impl Model for Hosts {
     ghost use Rattle.std.specs.Prelude.{List};
     ghost use Rattle.host_net.specs.Host.{Host};
-    ghost use Rattle.host_net.specs.Hosts.{IsHosts};
-    ghost use Rattle.host_net.specs.HostsView.{hosts_view};
-    ghost use Rattle.host_net.specs.Ranges.{AreRanges};
+    ghost use Rattle.host_net.specs.inner.Hosts.{IsHosts};
+    ghost use Rattle.host_net.specs.inner.HostsView.{hosts_view};
+    ghost use Rattle.host_net.specs.inner.Ranges.{AreRanges};
 
     ghost Value = { List Host };
 
@@ -77,7 +78,7 @@ impl Hosts {
     }
 
     /// The first cause to refuse a host.
-    #[tactic(auto, unfolding(crate::specs::Refusal::refusal_of))]
+    #[tactic(auto, unfolding(crate::specs::inner::Refusal::refusal_of))]
     fn refusal(&self, name: &[u8], at: &[Prefix], rest: bool) -> Option<HostRefusal>
         ensures { result ≡ refusal_of self.now name.now at.now rest }
     {

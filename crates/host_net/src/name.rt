@@ -21,7 +21,7 @@ pub struct Name {
 
 impl Model for Name {
     ghost use Rattle.std.specs.Prelude.{ℕ, List, take, length};
-    ghost use Rattle.text_core.specs.Padded.{IsPadded, padded, padded_bytes, padded_len};
+    ghost use Rattle.text_core.specs.inner.Padded.{IsPadded, padded, padded_bytes, padded_len};
 
     ghost Value = { List ℕ };
 

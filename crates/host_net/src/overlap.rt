@@ -1,8 +1,8 @@
 //! The first prefix of a host to be added that has an address in common with an earlier prefix.
 
 ghost use Rattle.std.specs.Prelude.{◌≡◌, ◌≤◌, ◌<◌, ◌^◌, [], length, map, position, IfSome};
-ghost use Rattle.host_net.specs.Hosts.{meets_any};
-ghost use Rattle.host_net.specs.Refusal.{meeting, overlap_from};
+ghost use Rattle.host_net.specs.inner.Hosts.{meets_any};
+ghost use Rattle.host_net.specs.inner.Refusal.{meeting, overlap_from};
 
 use crate::addresses::{Addresses, meets_any};
 use crate::prefix::Prefix;

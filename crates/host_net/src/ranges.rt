@@ -3,10 +3,10 @@
 
 ghost use Rattle.std.specs.Prelude.{◌≡◌, ℕ, ◌≤◌, ◌<◌, IsTrue, IfOk, OnOk, Some, None, length, take, drop, nat_le, nat_lt, if◌then◌else◌};
 ghost use Rattle.std.specs.List.{list_all};
-ghost use Rattle.text_core.specs.Pairs.{no_pair};
+ghost use Rattle.text_core.specs.inner.Pairs.{no_pair};
 ghost use Rattle.host_net.specs.Host.{covers_any};
 ghost use Rattle.host_net.specs.Prefix.{covers, meets};
-ghost use Rattle.host_net.specs.Ranges.{holder_among, holds, is_ordered};
+ghost use Rattle.host_net.specs.inner.Ranges.{holder_among, holds, is_ordered};
 
 use crate::prefix::Prefix;
 use std::alloc::{AllocError, Global};

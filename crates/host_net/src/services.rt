@@ -1,8 +1,9 @@
 //! The services of flows between hosts.
 
 ghost use Rattle.std.specs.Prelude.{◌≡◌, ◌<◌, ◌++◌, ◌∷◌, [], ℕ, ◌⊎◌, ◌≢◌, ◌↔◌, IsTrue, IfOk, OnOk, OnErr, length};
-ghost use Rattle.host_net.specs.Service.{is_service};
-ghost use Rattle.host_net.specs.Services.{AreServices, service_limit, services_of, with_service};
+ghost use Rattle.host_net.specs.inner.Service.{is_service};
+ghost use Rattle.host_net.specs.Services.{service_limit, services_of};
+ghost use Rattle.host_net.specs.inner.Services.{AreServices, with_service};
 
 use crate::service::Service;
 use indexmap::IndexMap;
@@ -21,8 +22,9 @@ pub struct Services {
 
 impl Model for Services {
     ghost use Rattle.std.specs.Prelude.{List};
-    ghost use Rattle.host_net.specs.Services.{NarrowedFlow, AreServices};
-    ghost use Rattle.host_net.specs.ServicesView.{services_view};
+    ghost use Rattle.host_net.specs.Services.{NarrowedFlow};
+    ghost use Rattle.host_net.specs.inner.Services.{AreServices};
+    ghost use Rattle.host_net.specs.inner.ServicesView.{services_view};
 
     ghost Value = { List NarrowedFlow };
 

@@ -7,9 +7,9 @@ use Rattle.std.specs.FinSet as set
 use Rattle.std.specs.Int.{bit_at}
 use lib.Bits.{and_le_l}
 use Rattle.host_set.specs.HostSet.{HostNumbers, hosts_below}
-use Rattle.host_set.specs.Calls.{AreApart}
-use Rattle.host_set.specs.HostBits.{is_marked}
-use Rattle.host_set.specs.HostSetLaws.{contains-hosts_below}
+use Rattle.host_set.specs.inner.Calls.{AreApart}
+use Rattle.host_set.specs.inner.HostBits.{is_marked}
+use Rattle.host_set.specs.laws.HostSetLaws.{contains-hosts_below}
 
 none_common : (a b q : ℕ) → bit_and a b ≡ 0 → nat_eq (bit_at a q) 1 ≡ true → nat_eq (bit_at b q) 1 ≡ true → ⊥
 none_common a b q none p r =

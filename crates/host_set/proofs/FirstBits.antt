@@ -8,8 +8,8 @@ use Rattle.std.proofs.lemmas.Nat.{pow-add}
 use Rattle.std.proofs.lemmas.Nat.Bits.{bit_at-zero, bit_at-trailing_zeros, bit_at_above}
 use Rattle.std.proofs.Math.Nat.{div-div-eq-div-mul}
 use Rattle.host_set.specs.HostSet.{HostNumbers}
-use Rattle.host_set.specs.Calls.{HasNone, IsFirstFrom}
-use Rattle.host_set.specs.HostBits.{is_set, IsFirstBit}
+use Rattle.host_set.specs.inner.Calls.{HasNone, IsFirstFrom}
+use Rattle.host_set.specs.inner.HostBits.{is_set, IsFirstBit}
 use Rattle.host_set.proofs.Apart.{HasBits}
 use Rattle.host_set.proofs.HostSets.{contains-marked}
 

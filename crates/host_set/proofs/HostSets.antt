@@ -11,8 +11,8 @@ use Rattle.std.specs.FinSet as set
 use Rattle.std.specs.Int.{bit_at, bit_not, w128}
 use lib.Count.{ones_cat, ones-ones}
 use Rattle.host_set.specs.HostSet.{hosts_below}
-use Rattle.host_set.specs.HostBits.{is_marked}
-use Rattle.host_set.specs.HostSetLaws.{contains-insert, contains-remove, hosts_ext, below_none, contains-hosts_below, len_more}
+use Rattle.host_set.specs.inner.HostBits.{is_marked}
+use Rattle.host_set.specs.laws.HostSetLaws.{contains-insert, contains-remove, hosts_ext, below_none, contains-hosts_below, len_more}
 
 -- ---- what a change of the test does to the set
 

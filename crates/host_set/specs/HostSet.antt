@@ -1,5 +1,5 @@
 -- Sets of hosts.
-use Rattle.std.specs.Prelude.{ℕ, zero, suc, Bool, if◌then◌else◌, List, slice_index_or}
+use Rattle.std.specs.Prelude.{ℕ, zero, suc, Bool, if◌then◌else◌}
 use Rattle.std.specs.FinSet as set
 use Rattle.std.specs.Ordering.{nat_cmp}
 
@@ -11,7 +11,3 @@ HostNumbers = set.FinSet nat_cmp
 unfoldable pub hosts_below : ℕ → (ℕ → Bool) → HostNumbers
 hosts_below zero test = set.empty
 hosts_below (suc n) test = if test n then set.insert (hosts_below n test) n else hosts_below n test
-
--- the set of one host, of a list that has a set for each
-abbrev pub row_of : List HostNumbers → ℕ → HostNumbers
-row_of rows host = slice_index_or rows host set.empty

@@ -1,4 +1,3 @@
-pub mod Calls
-pub mod HostBits
 pub mod HostSet
-pub mod HostSetLaws
+pub mod inner
+pub mod laws

@@ -3,8 +3,8 @@
 
 ghost use Rattle.std.specs.Prelude.{◌≡◌, ◌<◌, ◌+◌, ◌↔◌, IsTrue, MatchOption};
 ghost use Rattle.std.specs.FinSet as set;
-ghost use Rattle.host_set.specs.Calls.{AreApart, HasNone, IsFirstFrom};
-ghost use Rattle.host_set.specs.HostBits.{is_set, IsFirstBit};
+ghost use Rattle.host_set.specs.inner.Calls.{AreApart, HasNone, IsFirstFrom};
+ghost use Rattle.host_set.specs.inner.HostBits.{is_set, IsFirstBit};
 
 use std::marker::Model;
 
@@ -22,7 +22,7 @@ impl Model for HostSet {
     ghost use Rattle.std.specs.Coded.{coded_ℕ};
     ghost use Rattle.std.specs.FinSet as set;
     ghost use Rattle.host_set.specs.HostSet.{HostNumbers, hosts_below};
-    ghost use Rattle.host_set.specs.HostBits.{is_marked};
+    ghost use Rattle.host_set.specs.inner.HostBits.{is_marked};
 
     ghost Value = { HostNumbers };
 

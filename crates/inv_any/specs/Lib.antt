@@ -1,6 +1,3 @@
 pub mod Templates
-pub mod TemplateLaws
-pub mod AnyTrials
-pub mod Resets
-pub mod OtherDefaults
-pub mod OtherDefaultsLaws
+pub mod inner
+pub mod laws

@@ -3,7 +3,7 @@
 use Rattle.std.specs.Prelude.{ℕ, List}
 use Rattle.inv_any.specs.declared.any_inv.AnyInv.{AnyInv}
 use Rattle.inv_any.specs.declared.any_inv.AnyInv.TheVariants as any
-use Rattle.inv_law.specs.Template.{AllMayHave, Template, Meaning, meaning}
+use Rattle.inv_law.specs.Template.{Template, Meaning, meaning}
 use Rattle.tmpl_domains.specs.Domains.{domains}
 use Rattle.tmpl_levels.specs.Blp.{blp}
 use Rattle.tmpl_levels.specs.Tainting.{tainting}
@@ -34,10 +34,6 @@ by_template say (any.Table rule) = say (declared rule.table) rule.hosts (λ host
 -- what the invariant means
 abbrev pub meaning_of : AnyInv → Meaning
 meaning_of any = by_template (λ t hosts make. meaning t hosts) any
-
--- each host has an attribute that it may have
-abbrev pub HostsMayHave : AnyInv → Type 0
-HostsMayHave any = by_template (λ t hosts make. AllMayHave t hosts) any
 
 -- the name of the template in texts
 abbrev pub template_name : AnyInv → List ℕ

@@ -3,8 +3,8 @@
 
 ghost use Rattle.std.specs.Prelude.{◌≡◌};
 ghost use Rattle.inv_any.specs.Templates.{meaning_of, template_name};
-ghost use Rattle.inv_any.specs.Resets.{with_default};
-ghost use Rattle.inv_any.specs.TemplateLaws.{lawful};
+ghost use Rattle.inv_any.specs.inner.Resets.{with_default};
+ghost use Rattle.inv_any.specs.laws.TemplateLaws.{lawful};
 
 use flow_set::{Flow, FlowSet};
 use inv_law::{EdgeWise, Invariant, Strategy};

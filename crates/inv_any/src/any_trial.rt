@@ -2,7 +2,7 @@
 //! flows, whom hosts reach, or who is joined.
 
 ghost use Rattle.std.specs.Prelude.{◌≡◌};
-ghost use Rattle.inv_any.specs.AnyTrials.{tried_of, FitsAny};
+ghost use Rattle.inv_any.specs.inner.AnyTrials.{tried_of, FitsAny};
 
 use crate::any_inv::AnyInv;
 use flow_set::{Flow, FlowSet};

@@ -1,8 +1,8 @@
 //! Why the templates have their defaults.
 
 ghost use Rattle.std.specs.Prelude.{◌<◌};
-ghost use Rattle.inv_any.specs.OtherDefaults.{OnlyDefaultIsSecure};
-ghost use Rattle.inv_law.specs.Template.{MayHaveDefault};
+ghost use Rattle.inv_any.specs.inner.OtherDefaults.{OnlyDefaultIsSecure};
+ghost use Rattle.inv_law.specs.inner.Template.{MayHaveDefault};
 ghost use Rattle.tmpl_domains.specs.Domains.{domains};
 ghost use Rattle.tmpl_levels.specs.Blp.{blp};
 ghost use Rattle.tmpl_levels.specs.Tainting.{tainting};

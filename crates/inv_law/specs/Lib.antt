@@ -1,8 +1,5 @@
-pub mod Invariants
 pub mod Rules
-pub mod RuleLaws
 pub mod Attributes
-pub mod AttributeLaws
 pub mod Template
-pub mod TemplateLaws
-pub mod Resets
+pub mod inner
+pub mod laws

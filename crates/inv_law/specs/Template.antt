@@ -1,6 +1,6 @@
 -- A template as one record: all that is said of it but how a description writes its attributes.
 -- What an invariant of the template means is derived from the record and the attributes of the hosts.
-use Rattle.std.specs.Prelude.{ℕ, ◌<◌, Bool, true, false, List, length, slice_index_or, slice_set}
+use Rattle.std.specs.Prelude.{ℕ, Bool, true, false, List, length, slice_set}
 use Rattle.flow_set.specs.declared.flow.Flow.{Flow}
 use Rattle.inv_law.specs.Attributes.{PassesBetween}
 use Rattle.inv_law.specs.Rules.{AllFlowsPass}
@@ -30,15 +30,6 @@ pub record Meaning : Type 1 where
 -- the attributes with the default at one host
 abbrev pub reset_at : (t : Template) → List t.Attribute → ℕ → List t.Attribute
 reset_at t hosts host = slice_set hosts host (t.default (length hosts) host)
-
--- each host has an attribute that it may have
-abbrev pub AllMayHave : (t : Template) → List t.Attribute → Type 0
-AllMayHave t hosts =
-    (host : ℕ) → host < length hosts → t.MayHave (length hosts) host (slice_index_or hosts host (t.default (length hosts) host))
-
--- the default is an attribute that each host may have
-abbrev pub MayHaveDefault : Template → Type 0
-MayHaveDefault t = (n host : ℕ) → host < n → t.MayHave n host (t.default n host)
 
 -- no attribute is kept from any host
 abbrev pub Anything : {A : Type 0} → A → Type 0

@@ -4,7 +4,7 @@
 ghost use Rattle.std.specs.Prelude.{◌≡◌, ℕ, ◌<◌, ◌↔◌, ⊤, IsTrue, IfOk};
 ghost use Rattle.flow_set.specs.Flow.{IsFlow};
 ghost use Rattle.flow_set.specs.declared.flow.Flow.{Flow};
-ghost use Rattle.inv_law.specs.Resets.{ResetPassesNoMore};
+ghost use Rattle.inv_law.specs.inner.Resets.{ResetPassesNoMore};
 ghost use Rattle.inv_law.specs.declared.strategy.Strategy.{Strategy};
 
 use crate::strategy::Strategy;

@@ -17,7 +17,7 @@ pub struct EdgeTrial {
 }
 
 impl Model for EdgeTrial {
-    ghost use Rattle.flow_set.specs.Steps.{TriedFlows};
+    ghost use Rattle.flow_set.specs.inner.Steps.{TriedFlows};
 
     ghost Value = { TriedFlows };
 

@@ -3,7 +3,7 @@
 
 ghost use Rattle.std.specs.Prelude.{◌≡◌, ◌↔◌, true, IsTrue};
 ghost use Rattle.inv_law.specs.Rules.{AllFlowsPass};
-ghost use Rattle.inv_law.specs.RuleLaws.{AllFlowsPass-downward, AllFlowsPass-none, AllFlowsPass-edge_wise, AllFlowsPass-reset};
+ghost use Rattle.inv_law.specs.laws.RuleLaws.{AllFlowsPass-downward, AllFlowsPass-none, AllFlowsPass-edge_wise, AllFlowsPass-reset};
 
 use crate::edge_rule::EdgeRule;
 use crate::invariant::Invariant;

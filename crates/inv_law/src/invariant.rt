@@ -2,11 +2,11 @@
 //! nothing of an invariant but this trait, so they serve templates that are not in this workspace.
 
 ghost use Rattle.std.specs.Prelude.{◌≡◌, ℕ, ◌<◌, ◌↔◌, ⊤, Bool, List, [], ◌∷◌, IsTrue, IfOk};
-ghost use Rattle.flow_set.specs.Downward.{IsDownward, IsEdgeWise};
+ghost use Rattle.flow_set.specs.inner.Downward.{IsDownward, IsEdgeWise};
 ghost use Rattle.flow_set.specs.Flow.{IsFlow};
-ghost use Rattle.flow_set.specs.FlowSetView.{IsFlowSet};
+ghost use Rattle.flow_set.specs.inner.FlowSetView.{IsFlowSet};
 ghost use Rattle.flow_set.specs.declared.flow.Flow.{Flow};
-ghost use Rattle.inv_law.specs.Invariants.{ResetMendsNothing};
+ghost use Rattle.inv_law.specs.inner.Invariants.{ResetMendsNothing};
 ghost use Rattle.inv_law.specs.declared.strategy.Strategy.{Strategy};
 
 use crate::strategy::Strategy;

@@ -3,8 +3,8 @@
 
 ghost use Rattle.std.specs.Prelude.{◌≡◌, ◌↔◌, IsTrue, IfOk, IsSome};
 ghost use Rattle.flow_set.specs.Flow.{IsFlow};
-ghost use Rattle.flow_set.specs.FlowSetView.{IsFlowSet};
-ghost use Rattle.flow_set.specs.Steps.{TriedFlows, untried, stepped, taken_back};
+ghost use Rattle.flow_set.specs.inner.FlowSetView.{IsFlowSet};
+ghost use Rattle.flow_set.specs.inner.Steps.{TriedFlows, untried, stepped, taken_back};
 
 use crate::invariant::Invariant;
 use flow_set::{Flow, FlowSet};

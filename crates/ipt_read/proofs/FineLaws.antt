@@ -3,15 +3,15 @@ use Rattle.text_core.specs.Lines.{words}
 use Rattle.std.proofs.Common.{◌≡◌, ℕ, ◌∙◌, sym, refl, subst, List, [], ◌∷◌, ◌++◌, None, length, arith, length-append, length-set}
 use Rattle.std.specs.Prelude.{Ok}
 use Rattle.ipt_rules.specs.Chain.{with_policy, with_rule, user_chain}
-use Rattle.ipt_rules.specs.ChainLaws.{length_with_policy, length_with_rule, rule_count_with_rule, rule_count_with_policy, length_added, rule_count_added}
+use Rattle.ipt_rules.proofs.ChainLaws.{length_with_policy, length_with_rule, rule_count_with_rule, rule_count_with_policy, length_added, rule_count_added}
 use Rattle.ipt_read.specs.Said.{SaidSoFar, nothing_said}
-use Rattle.ipt_read.specs.LineStep.{line_step}
+use Rattle.ipt_read.specs.inner.LineStep.{line_step}
 use Rattle.ipt_read.specs.Grammar.{IsLine, table, built_in, user, rule, commit}
-use Rattle.ipt_read.specs.LineLaws.{line_of_read}
+use Rattle.ipt_read.proofs.LineLaws.{line_of_read}
 use Rattle.ipt_read.proofs.GoesLaws.{each_more, each_added, each_with_policy, each_with_rule, line_goes, not_refused}
-use Rattle.ipt_read.specs.Goes.{EachGoes}
-use Rattle.ipt_rules.specs.Build.{refusal_of}
-use Rattle.ipt_read.specs.State.{IsFine}
+use Rattle.ipt_read.specs.inner.Goes.{EachGoes}
+use Rattle.ipt_rules.specs.inner.Build.{refusal_of}
+use Rattle.ipt_read.specs.inner.State.{IsFine}
 use Rattle.ipt_read.proofs.WithinLaws.{number_of_within}
 
 pub fine_at_first : IsFine nothing_said

@@ -4,13 +4,13 @@ use Rattle.std.specs.Prelude.{codes, bytes_eq, nat_lt}
 use Rattle.std.specs.List.{position_from}
 use Rattle.std.specs.Option.{option_map}
 use Rattle.std.proofs.lemmas.Bool.Decides.{nat_tests}
-use Rattle.text_core.specs.StepsLaws.{if_parts, map_parts}
+use Rattle.text_core.proofs.StepsLaws.{if_parts, map_parts}
 use Rattle.host_net.specs.Prefix.{prefix_of}
 use Rattle.ipt_rules.specs.declared.rule.Policy.{Policy}
 use Rattle.ipt_rules.specs.declared.rule.Rule.{Rule}
 use Rattle.ipt_rules.specs.declared.rule.Target.{Target}
 use Rattle.ipt_rules.specs.declared.rule.Target.TheVariants.{Accept, Drop, Reject, Return, Count, Jump}
-use Rattle.ipt_rules.specs.Build.{jumps_nowhere, first_unknown, refusal_of, RefusedFor, at_once}
+use Rattle.ipt_rules.specs.inner.Build.{jumps_nowhere, first_unknown, refusal_of, RefusedFor, at_once}
 use Rattle.ipt_rules.specs.declared.ruleset.BuildRefusal.TheVariants.{TooMany, UnknownChain}
 use Rattle.ipt_rules.specs.Chain.{Chain, number_of, user_chain, changed_at, with_policy, with_rule}
 use Rattle.ipt_rules.specs.ChainTable.{rule_count}
@@ -19,11 +19,11 @@ use Rattle.ipt_read.specs.declared.option.Opt.{Opt}
 use Rattle.ipt_read.specs.declared.option.Opt.TheVariants.{Source, Destination, Protocol, SourcePort, DestinationPort, Interface, Module, CtState, State, Comment, Jump as JumpOption, RejectWith, LogPrefix, LogLevel}
 use Rattle.ipt_read.specs.declared.option.Place.{Place}
 use Rattle.ipt_read.specs.Options.{is_own_module, with_module, target_of, jump_to, nothing_given, target_by}
-use Rattle.ipt_read.specs.ValueSteps.{with_value, states_of, text_of}
-use Rattle.ipt_read.specs.ServiceSteps.{asked_protocol, asked_ports}
+use Rattle.ipt_read.specs.inner.ValueSteps.{with_value, states_of, text_of}
+use Rattle.ipt_read.specs.inner.ServiceSteps.{asked_protocol, asked_ports}
 use Rattle.ipt_read.specs.Grammar.{IsPiece, plain, turned, ArePieces, none_left, one_more, IsRuleLine}
-use Rattle.ipt_read.specs.GrammarLaws.{IsTaken, taken_word, taken_text, value_taken}
-use Rattle.ipt_read.specs.Goes.{Goes, AllGo, EachGoes}
+use Rattle.ipt_read.proofs.GrammarLaws.{IsTaken, taken_word, taken_text, value_taken}
+use Rattle.ipt_read.specs.inner.Goes.{Goes, AllGo, EachGoes}
 use Rattle.ipt_read.proofs.WithinLaws.{number_of_within}
 
 -- 1. Along changes of the chains.

@@ -10,9 +10,9 @@ use Rattle.ipt_rules.specs.Chain.{Chain, built_in_chains, user_chain}
 use Rattle.ipt_read.specs.declared.fault.IptWhy.{IptWhy}
 use Rattle.ipt_read.specs.declared.fault.IptWhy.TheVariants.{BadLine, UnknownChain, Interface, UnknownOption, BadValue, UnknownTarget}
 use Rattle.ipt_read.specs.Options.{option_of, is_state, target_of, with_module}
-use Rattle.ipt_read.specs.ValueSteps.{text_of, states_of, with_value}
-use Rattle.ipt_read.specs.Counts.{is_count}
-use Rattle.ipt_read.specs.RuleLine.{is_bang, word_step, rule_line_of}
+use Rattle.ipt_read.specs.inner.ValueSteps.{text_of, states_of, with_value}
+use Rattle.ipt_read.specs.inner.Counts.{is_count}
+use Rattle.ipt_read.specs.inner.RuleLine.{is_bang, word_step, rule_line_of}
 
 -- the built-in chains and a chain `x`
 abbrev pub chains : List Chain

@@ -10,10 +10,10 @@ use Rattle.ipt_rules.specs.declared.rule.Target.TheVariants.{Accept, Count}
 use Rattle.ipt_read.specs.declared.fault.IptWhy.{IptWhy}
 use Rattle.ipt_read.specs.declared.fault.IptWhy.TheVariants.{BadLine, UnknownOption, BadValue}
 use Rattle.ipt_read.specs.Options.{option_of, is_state, target_of, with_module}
-use Rattle.ipt_read.specs.ValueSteps.{states_of, with_value}
-use Rattle.ipt_read.specs.ServiceSteps.{asked_protocol, asked_ports}
-use Rattle.ipt_read.specs.Counts.{is_count}
-use Rattle.ipt_read.specs.RuleLine.{is_bang, word_step, rule_line_of}
+use Rattle.ipt_read.specs.inner.ValueSteps.{states_of, with_value}
+use Rattle.ipt_read.specs.inner.ServiceSteps.{asked_protocol, asked_ports}
+use Rattle.ipt_read.specs.inner.Counts.{is_count}
+use Rattle.ipt_read.specs.inner.RuleLine.{is_bang, word_step, rule_line_of}
 use Rattle.ipt_read.proofs.RuleRows.{row}
 
 -- the line of FORWARD with these options

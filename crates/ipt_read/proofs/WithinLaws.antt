@@ -3,19 +3,19 @@ use Rattle.std.proofs.Common.{◌≡◌, ℕ, ◌+◌, ◌<◌, Bool, true, fals
 use Rattle.std.specs.Prelude.{Result, Ok, Err, bytes_eq, codes}
 use Rattle.std.specs.List.{position_from}
 use Rattle.text_core.specs.Lines.{begins_with}
-use Rattle.text_core.specs.StepsLaws.{if_parts}
+use Rattle.text_core.proofs.StepsLaws.{if_parts}
 use Rattle.ipt_rules.specs.declared.rule.Rule.{Rule}
 use Rattle.ipt_rules.specs.Chain.{Chain, number_of}
 use Rattle.ipt_read.specs.declared.fault.IptWhy.{IptWhy}
 use Rattle.ipt_read.specs.declared.fault.IptWhy.TheVariants.{BadLine}
 use Rattle.ipt_read.specs.declared.option.Given.{Given}
 use Rattle.ipt_read.specs.declared.option.Place.TheVariants.{AtOption}
-use Rattle.ipt_rules.specs.RuleParts.{is_rule}
-use Rattle.ipt_read.specs.Counts.{is_count}
-use Rattle.ipt_read.specs.LineLaws.{rule_line_of_read}
+use Rattle.ipt_rules.specs.inner.RuleParts.{is_rule}
+use Rattle.ipt_read.specs.inner.Counts.{is_count}
+use Rattle.ipt_read.proofs.LineLaws.{rule_line_of_read}
 use Rattle.ipt_read.specs.Options.{nothing_given, rule_of}
-use Rattle.ipt_read.specs.PartLaws.{line_is_rule}
-use Rattle.ipt_read.specs.RuleLine.{goes_on, word_by_word, rule_in, append_of, rule_line_of}
+use Rattle.ipt_read.proofs.PartLaws.{line_is_rule}
+use Rattle.ipt_read.specs.inner.RuleLine.{goes_on, word_by_word, rule_in, append_of, rule_line_of}
 
 within_first : (t : Bool) (i c n : ℕ) (r : Option ℕ) → (r ≡ Some c → c < i + 1 + n) → cond t (Some i) r ≡ Some c → c < i + (n + 1)
 within_first true i c n r others h = let e : i ≡ c = cc in omega arith

@@ -5,11 +5,11 @@ ghost use Rattle.std.specs.Option.{option_map};
 ghost use Rattle.text_core.specs.Lines.{words};
 ghost use Rattle.ipt_rules.specs.Chain.{number_of, user_chain};
 ghost use Rattle.ipt_rules.specs.ChainTable.{rule_count};
-ghost use Rattle.ipt_rules.specs.RuleParts.{is_rule};
+ghost use Rattle.ipt_rules.specs.inner.RuleParts.{is_rule};
 ghost use Rattle.ipt_read.specs.Said.{SaidSoFar, nothing_said, line_of};
-ghost use Rattle.ipt_read.specs.LineStep.{table_line_of, policy_word, built_in_policy, with_built_in, declare, declare_by, chain_line_of, with_read_rule, commit_line_of, body_line_of, line_at, line_of_words, line_step};
-ghost use Rattle.ipt_read.specs.RuleLine.{rule_line_of};
-ghost use Rattle.ipt_read.specs.State.{said_of, AnswersTo, IsFine};
+ghost use Rattle.ipt_read.specs.inner.LineStep.{table_line_of, policy_word, built_in_policy, with_built_in, declare, declare_by, chain_line_of, with_read_rule, commit_line_of, body_line_of, line_at, line_of_words, line_step};
+ghost use Rattle.ipt_read.specs.inner.RuleLine.{rule_line_of};
+ghost use Rattle.ipt_read.specs.inner.State.{said_of, AnswersTo, IsFine};
 ghost use Rattle.ipt_read.specs.TextLines.{rules_text};
 
 use crate::fault::{IptWhy, bad};
@@ -164,7 +164,7 @@ fn declare(state: Reader, n: u32, name: &[u8], policy: &[u8]) -> Result<Reader, 
     }
 }
 
-#[tactic(auto, unfolding(crate::specs::LineStep::chain_line_of))]
+#[tactic(auto, unfolding(crate::specs::inner::LineStep::chain_line_of))]
 fn chain_line(state: Reader, n: u32, word: &[u8], rest: Words) -> Result<Reader, LineFault<IptWhy>>
     requires fine { IsFine (said_of state) }
     requires word { 0 < length word.now }
@@ -203,7 +203,7 @@ fn commit_line(mut state: Reader, word: &[u8], mut rest: Words) -> Result<Reader
     Ok(state)
 }
 
-#[tactic(auto, unfolding(crate::specs::LineStep::body_line_of))]
+#[tactic(auto, unfolding(crate::specs::inner::LineStep::body_line_of))]
 fn body_line(state: Reader, n: u32, word: &[u8], rest: Words) -> Result<Reader, LineFault<IptWhy>>
     requires { IsFine (said_of state) }
     ensures { AnswersTo (body_line_of n (said_of state) word.now rest.entry) result }
@@ -217,7 +217,7 @@ fn body_line(state: Reader, n: u32, word: &[u8], rest: Words) -> Result<Reader, 
     commit_line(state, word, rest)
 }
 
-#[tactic(auto, unfolding(crate::specs::LineStep::line_of_words))]
+#[tactic(auto, unfolding(crate::specs::inner::LineStep::line_of_words))]
 fn words_line(state: Reader, n: u32, line: &[u8]) -> Result<Reader, LineFault<IptWhy>>
     requires { IsFine (said_of state) }
     ensures { AnswersTo (line_step n (said_of state) line.now) result }

@@ -5,10 +5,10 @@ ghost use Rattle.std.specs.Char.{is_ascii_digit};
 ghost use Rattle.std.specs.List.{list_all};
 ghost use Rattle.text_core.specs.Pieces.{split_once};
 ghost use Rattle.ipt_read.specs.declared.option.Place.TheVariants.{AtOption};
-ghost use Rattle.ipt_read.specs.Counts.{is_nothing, is_bytes_part, is_packets_part, is_count};
+ghost use Rattle.ipt_read.specs.inner.Counts.{is_nothing, is_bytes_part, is_packets_part, is_count};
 ghost use Rattle.ipt_read.specs.Values.{is_figure};
 ghost use Rattle.ipt_read.specs.Options.{nothing_given, target_by, rule_of};
-ghost use Rattle.ipt_read.specs.RuleLine.{at_option, is_bang, word_step, at_end, word_by_word, append_of, rule_line_of};
+ghost use Rattle.ipt_read.specs.inner.RuleLine.{at_option, is_bang, word_step, at_end, word_by_word, append_of, rule_line_of};
 
 use crate::fault::IptWhy;
 use crate::option::{Given, Opt, Place};
@@ -36,14 +36,14 @@ fn at_option(given: Given, negated: bool, option: Option<Opt>) -> Result<(Given,
     Ok((given, Place::AtValue(option, negated)))
 }
 
-#[tactic(auto, unfolding(crate::specs::RuleLine::is_bang))]
+#[tactic(auto, unfolding(crate::specs::inner::RuleLine::is_bang))]
 fn is_bang(given: Given, word: &[u8]) -> bool
     ensures { result ≡ is_bang given word.now }
 {
     given.target.is_none() && word == b"!".as_slice()
 }
 
-#[tactic(auto, unfolding(crate::specs::RuleLine::word_step))]
+#[tactic(auto, unfolding(crate::specs::inner::RuleLine::word_step))]
 fn word_step(
     chains: &Chains,
     given: Given,
@@ -148,7 +148,7 @@ fn is_bytes_part(text: &[u8]) -> bool
     }
 }
 
-#[tactic(auto, unfolding(crate::specs::Counts::is_count))]
+#[tactic(auto, unfolding(crate::specs::inner::Counts::is_count))]
 pub(crate) fn is_count(word: &[u8]) -> bool
     ensures { result ≡ is_count word.now }
 {
@@ -180,7 +180,7 @@ fn append_of(chains: &Chains, first: &[u8], mut line: Words) -> Result<(u16, Rul
 }
 
 /// The rule of a line of these words, and the number of its chain.
-#[tactic(auto, unfolding(crate::specs::RuleLine::rule_line_of))]
+#[tactic(auto, unfolding(crate::specs::inner::RuleLine::rule_line_of))]
 pub(crate) fn rule_line_of(
     chains: &Chains,
     first: &[u8],

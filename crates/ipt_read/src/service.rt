@@ -3,7 +3,7 @@
 ghost use Rattle.std.specs.Prelude.{◌≡◌, Some, None, if◌then◌else◌, nat_le};
 ghost use Rattle.text_core.specs.Decimal.{number};
 ghost use Rattle.host_net.specs.Service.{last_port};
-ghost use Rattle.ipt_read.specs.ServiceSteps.{asked_ports, asked_protocol, if_positive, named_protocol, port_or, ports_between};
+ghost use Rattle.ipt_read.specs.inner.ServiceSteps.{asked_ports, asked_protocol, if_positive, named_protocol, port_or, ports_between};
 
 use text_core::{read_number, split_once};
 
@@ -11,7 +11,7 @@ use text_core::{read_number, split_once};
 const LAST_PORT: u16 = 65535;
 
 /// A protocol by a name, or by its number from 1 to 255.
-#[tactic(auto, unfolding(crate::specs::ServiceSteps::asked_protocol))]
+#[tactic(auto, unfolding(crate::specs::inner::ServiceSteps::asked_protocol))]
 pub(crate) fn asked_protocol(word: &[u8]) -> Option<u8>
     ensures { result ≡ asked_protocol word.now }
 {
@@ -55,7 +55,7 @@ fn numbered_protocol(word: &[u8]) -> Option<u8>
 }
 
 /// The first port and the last, which are the same where there is no colon.
-#[tactic(auto, unfolding(crate::specs::ServiceSteps::asked_ports))]
+#[tactic(auto, unfolding(crate::specs::inner::ServiceSteps::asked_ports))]
 pub(crate) fn asked_ports(word: &[u8]) -> Option<(u16, u16)>
     ensures { result ≡ asked_ports word.now }
 {

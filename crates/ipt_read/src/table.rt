@@ -4,7 +4,7 @@ ghost use Rattle.std.specs.Prelude.{◌≡◌, ◌<◌, ◌==◌, IfSome, Option
 ghost use Rattle.std.specs.List.{list_all, list_any};
 ghost use Rattle.ipt_rules.specs.Chain.{number_of};
 ghost use Rattle.ipt_read.specs.Options.{option_of, may_stand, is_interface, takes_bang, is_given, is_state, jump_to, target_of, is_own_module, with_module, rejects, value_refusal};
-ghost use Rattle.ipt_read.specs.ValueSteps.{closes, quoted, text_of, listed, states_of, port_match, with_value};
+ghost use Rattle.ipt_read.specs.inner.ValueSteps.{closes, quoted, text_of, listed, states_of, port_match, with_value};
 
 use crate::fault::IptWhy;
 use crate::option::{Given, Opt, Place};
@@ -143,7 +143,7 @@ pub(crate) fn quoted(text: &[u8]) -> Option<Place>
     Some(Place::InText)
 }
 
-#[tactic(auto, unfolding(crate::specs::ValueSteps::text_of))]
+#[tactic(auto, unfolding(crate::specs::inner::ValueSteps::text_of))]
 fn text_of(word: &[u8]) -> Option<Place>
     ensures { result ≡ text_of word.now }
 {
@@ -178,7 +178,7 @@ fn lists(word: &[u8], name: &[u8]) -> bool
     word.split(|b| *b == b',').any(|part| part == name)
 }
 
-#[tactic(auto, unfolding(crate::specs::ValueSteps::states_of))]
+#[tactic(auto, unfolding(crate::specs::inner::ValueSteps::states_of))]
 fn states_of(word: &[u8]) -> Option<(bool, bool)>
     ensures { result ≡ states_of word.now }
 {
@@ -279,7 +279,7 @@ fn port_match(ports: (u16, u16), negated: bool) -> PortMatch
 }
 
 /// What is given after an option's value, and where the next word stands.
-#[tactic(auto, unfolding(crate::specs::ValueSteps::with_value))]
+#[tactic(auto, unfolding(crate::specs::inner::ValueSteps::with_value))]
 pub(crate) fn with_value(
     chains: &Chains,
     given: Given,

@@ -2,14 +2,14 @@
 
 ghost use Rattle.std.specs.Prelude.{◌≡◌, ◌≤◌, ◌^◌, ◌+◌, ℕ, List, Ok, Err, IfOk, IfErr, MatchResult, length};
 ghost use Rattle.text_core.specs.Lines.{lines};
-ghost use Rattle.text_core.specs.TextAnswers.{HasCause, IsFault};
+ghost use Rattle.text_core.specs.inner.TextAnswers.{HasCause, IsFault};
 ghost use Rattle.text_core.specs.TextByLines.{IsReadThrough};
 ghost use Rattle.ipt_rules.specs.Chain.{Chain};
-ghost use Rattle.ipt_rules.specs.OneOutcome.{EachGivesOne};
+ghost use Rattle.ipt_rules.specs.inner.OneOutcome.{EachGivesOne};
 ghost use Rattle.ipt_rules.specs.Text.{text};
-ghost use Rattle.ipt_rules.specs.Writable.{IsWritable};
+ghost use Rattle.ipt_rules.specs.inner.Writable.{IsWritable};
 ghost use Rattle.ipt_read.specs.declared.fault.IptWhy.{IptWhy};
-ghost use Rattle.ipt_read.specs.State.{said_of, IsFine};
+ghost use Rattle.ipt_read.specs.inner.State.{said_of, IsFine};
 ghost use Rattle.ipt_read.specs.Said.{line_of};
 ghost use Rattle.ipt_read.specs.TextLines.{rules_text, HasFault, IsReading};
 

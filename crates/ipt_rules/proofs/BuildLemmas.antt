@@ -11,13 +11,14 @@ use Rattle.ipt_rules.specs.declared.rule.Rule.{Rule}
 use Rattle.ipt_rules.specs.declared.ruleset.BuildRefusal.{BuildRefusal}
 use Rattle.ipt_rules.specs.declared.ruleset.BuildRefusal.TheVariants.{UnknownChain}
 use Rattle.ipt_rules.specs.Chain.{Chain, rules_of}
-use Rattle.ipt_rules.specs.ChainTable.{rule_count, IsChainList}
-use Rattle.ipt_rules.specs.Build.{jumps_nowhere, place_of_unknown, unknown_at, first_unknown, refusal_of}
-use Rattle.ipt_rules.specs.Jumps.{JumpsAreKnown, IsRuleset}
+use Rattle.ipt_rules.specs.ChainTable.{rule_count}
+use Rattle.ipt_rules.specs.inner.ChainTable.{IsChainList}
+use Rattle.ipt_rules.specs.inner.Build.{jumps_nowhere, place_of_unknown, unknown_at, first_unknown, refusal_of}
+use Rattle.ipt_rules.specs.inner.Jumps.{JumpsAreKnown, IsRuleset}
 use Rattle.ipt_rules.specs.Loops.{jumps_from}
-use Rattle.ipt_rules.specs.Next.{AreIndexes}
-use Rattle.ipt_rules.specs.Ranks.{IsRanking}
-use Rattle.ipt_rules.specs.Starts.{starts_from}
+use Rattle.ipt_rules.specs.inner.Next.{AreIndexes}
+use Rattle.ipt_rules.specs.inner.Ranks.{IsRanking}
+use Rattle.ipt_rules.specs.inner.Starts.{starts_from}
 
 pub chains_at : (xs : List Chain) (i : ℕ) (x : Chain) → i < length xs → x ≡ get_or xs i x → drop i xs ≡ x ∷ drop (i + 1) xs
 chains_at xs i x h is = rw (add-one i) (drop-cons xs i x h ∙ ap (λ y. y ∷ drop (suc i) xs) (sym is))

@@ -3,7 +3,7 @@ use Rattle.std.proofs.Common.{◌≡◌, ℕ, ◌<◌, ◌∙◌, sym, ap, List,
 use Rattle.std.specs.Prelude.{slice_get}
 use Rattle.std.proofs.lemmas.Option.{slice_get-get_or}
 use Rattle.ipt_rules.specs.Chain.{Chain, rules_of, name_of, policy_of}
-use Rattle.ipt_rules.specs.ChainTable.{rules_in, name_in, policy_in}
+use Rattle.ipt_rules.specs.inner.ChainTable.{rules_in, name_in, policy_in}
 
 pub chain_read : (xs : List Chain) (c : ℕ) (x : Chain) → c < length xs → x ≡ get_or xs c x → slice_get xs c ≡ Some x
 chain_read xs c x h is = slice_get-get_or xs c x h ∙ ap (λ (y : Chain). Some y) (sym is)

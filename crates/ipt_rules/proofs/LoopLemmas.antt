@@ -4,7 +4,7 @@ use Rattle.std.specs.Prelude.{Contains, is_some}
 use Rattle.std.proofs.lemmas.Bool.{cases_lt}
 use Rattle.std.proofs.lemmas.Option.{same_Some, slice_get_past}
 use Rattle.ipt_rules.specs.Loops.{LeadsAlong, Leads}
-use Rattle.ipt_rules.specs.Ranks.{place_of, row_in, row_of, IsBefore, IsOrder}
+use Rattle.ipt_rules.specs.inner.Ranks.{place_of, row_in, row_of, IsBefore, IsOrder}
 
 along_then : (next : ℕ → List ℕ) (c : ℕ) (xs : List ℕ) (d : ℕ) (ys : List ℕ) (e : ℕ) → LeadsAlong next c xs d → LeadsAlong next d ys e → LeadsAlong next c (xs ++ ys) e
 along_then next c [] d ys e here then = subst (λ (b : ℕ). LeadsAlong next b ys e) (sym here) then

@@ -9,8 +9,8 @@ use Rattle.host_net.specs.declared.packet.Verdict.{Verdict}
 use Rattle.ipt_rules.specs.Chain.{Chain, rules_of}
 use Rattle.ipt_rules.specs.Loops.{jumps_of, jumps_from}
 use Rattle.ipt_rules.specs.Meaning.{RuleStep, Walks, step_of, Gives}
-use Rattle.ipt_rules.specs.Ranks.{place_of, outcome_in, outcome_by, outcome_at, IsBefore, IsOrder, IsRanking, IsSet}
-use Rattle.ipt_rules.specs.Reached.{WalksTo, Marks, IsClosed, IsSettled}
+use Rattle.ipt_rules.specs.inner.Ranks.{place_of, outcome_in, outcome_by, outcome_at, IsBefore, IsOrder, IsRanking, IsSet}
+use Rattle.ipt_rules.specs.inner.Reached.{WalksTo, Marks, IsClosed, IsSettled}
 use Rattle.ipt_rules.proofs.Gets.{get_set_same, get_set_other, get_pushed}
 use Rattle.ipt_rules.proofs.WalkLemmas.{walked_jump, jump_at}
 

@@ -9,8 +9,8 @@ use Rattle.host_net.specs.declared.cover.Ends.{Ends}
 use Rattle.host_net.specs.declared.packet.Packet.{Packet}
 use Rattle.host_net.specs.declared.packet.CtState.{CtState}
 use Rattle.host_net.specs.declared.prefix.Prefix.{Prefix}
-use Rattle.host_net.specs.Cover.{IsFirstFrom, covers_both, part_covers}
-use Rattle.host_net.specs.CoverView.{IsIndexOf, key_of}
+use Rattle.host_net.specs.inner.Cover.{IsFirstFrom, covers_both, part_covers}
+use Rattle.host_net.specs.inner.CoverView.{IsIndexOf, key_of}
 use Rattle.host_net.specs.Prefix.{covers}
 use Rattle.ipt_rules.specs.declared.rule.AddrMatch.{AddrMatch}
 use Rattle.ipt_rules.specs.declared.rule.Rule.{Rule}
@@ -18,8 +18,8 @@ use Rattle.ipt_rules.specs.Chain.{Chain, rules_of}
 use Rattle.ipt_rules.specs.ChainTable.{rule_count}
 use Rattle.ipt_rules.specs.Matching.{address_matches, matches, port_matches, protocol_matches, turned}
 use Rattle.ipt_rules.specs.Meaning.{GoesOn, Walks, step_of}
-use Rattle.ipt_rules.specs.Next.{AreIndexes, IsNext, NoneFits, all_ends, ends_of, part_of}
-use Rattle.ipt_rules.specs.Reached.{Marks}
+use Rattle.ipt_rules.specs.inner.Next.{AreIndexes, IsNext, NoneFits, all_ends, ends_of, part_of}
+use Rattle.ipt_rules.specs.inner.Reached.{Marks}
 use Rattle.ipt_rules.proofs.Gets.{get_pushed}
 use Rattle.ipt_rules.proofs.WalkLemmas.{GivesAlso, goes_on_here}
 

@@ -5,9 +5,9 @@ use Rattle.std.proofs.lemmas.Bool.{cases_lt}
 use Rattle.std.proofs.lemmas.Option.{same_Some, slice_get_past}
 use Rattle.ipt_rules.specs.declared.rule.Rule.{Rule}
 use Rattle.ipt_rules.specs.Chain.{Chain, rules_of}
-use Rattle.ipt_rules.specs.ChainTable.{rules_in}
+use Rattle.ipt_rules.specs.inner.ChainTable.{rules_in}
 use Rattle.ipt_rules.specs.Loops.{jumps_of, jumps_from, LeadsAlong, HasNoLoop}
-use Rattle.ipt_rules.specs.Ranks.{place_of, IsBefore, IsOrder, IsRanking}
+use Rattle.ipt_rules.specs.inner.Ranks.{place_of, IsBefore, IsOrder, IsRanking}
 
 leads_lower : (next : ℕ → List ℕ) (count : ℕ) (order : List ℕ) (places : List (Option ℕ)) → IsOrder next count order places
     → (xs : List ℕ) (c i x d : ℕ) → place_of places c ≡ Some i → LeadsAlong next c (x ∷ xs) d → IsBefore places d i

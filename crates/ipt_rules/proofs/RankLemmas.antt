@@ -6,7 +6,7 @@ use Rattle.std.proofs.lemmas.Option.{slice_get_within, slice_get_read, slice_get
 use Rattle.std.proofs.lemmas.List.{length-replicate}
 use Rattle.std.proofs.lemmas.List.Sums.{sum_by-set}
 use Rattle.std.proofs.lemmas.List.Folds.{sum_by-replicate}
-use Rattle.ipt_rules.specs.Ranks.{row_of, place_in, place_of, IsBefore, IsOrder, IsPartOrder, IsStuck}
+use Rattle.ipt_rules.specs.inner.Ranks.{row_of, place_in, place_of, IsBefore, IsOrder, IsPartOrder, IsStuck}
 use Rattle.ipt_rules.proofs.Gets.{get_set_same, get_set_other, get_front, get_last, get_pushed, contains_get, get_replicate}
 
 none_by : (o : Option ℕ) → is_some o ≡ false → o ≡ None

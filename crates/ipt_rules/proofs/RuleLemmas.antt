@@ -8,7 +8,7 @@ use Rattle.ipt_rules.specs.declared.rule.Rule.{Rule}
 use Rattle.ipt_rules.specs.Chain.{Chain}
 use Rattle.ipt_rules.specs.ChainTable.{rule_count}
 use Rattle.ipt_rules.specs.Rules.{all_rules}
-use Rattle.ipt_rules.specs.Starts.{starts_from}
+use Rattle.ipt_rules.specs.inner.Starts.{starts_from}
 use Rattle.ipt_rules.proofs.BuildLemmas.{chains_at}
 use Rattle.ipt_rules.proofs.StartLemmas.{begins, count_next}
 use Rattle.ipt_rules.proofs.TextLemmas.{slice_get_after, slice_get_in}

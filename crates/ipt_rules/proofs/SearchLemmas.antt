@@ -7,7 +7,7 @@ use Rattle.std.proofs.lemmas.Option.{slice_get_read, same_Some}
 use Rattle.std.proofs.lemmas.List.Elements.{Contains-push_cases, Contains-append_left, Contains-push}
 use Rattle.std.proofs.lemmas.List.Sums.{sum_by-set}
 use Rattle.ipt_rules.specs.Loops.{Leads}
-use Rattle.ipt_rules.specs.Ranks.{IsSet, Visits}
+use Rattle.ipt_rules.specs.inner.Ranks.{IsSet, Visits}
 use Rattle.ipt_rules.proofs.Gets.{get_set_same, get_set_other, get_replicate}
 use Rattle.ipt_rules.proofs.LoopLemmas.{leads_once, leads_then, stays}
 

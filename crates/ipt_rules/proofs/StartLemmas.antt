@@ -6,10 +6,11 @@ use Rattle.std.specs.List.Sorted.{IsNonDecreasingBy}
 use Rattle.std.proofs.lemmas.Grind.{flat_map-append}
 use Rattle.std.proofs.Math.Numerals.{add-one}
 use Rattle.ipt_rules.specs.Chain.{Chain, policy_of}
-use Rattle.ipt_rules.specs.ChainTable.{rule_count, IsTable}
-use Rattle.ipt_rules.specs.Starts.{starts_from}
+use Rattle.ipt_rules.specs.ChainTable.{rule_count}
+use Rattle.ipt_rules.specs.inner.ChainTable.{IsTable}
+use Rattle.ipt_rules.specs.inner.Starts.{starts_from}
 use Rattle.ipt_rules.specs.Text.{rule_lines, commit_line}
-use Rattle.ipt_rules.specs.TextLaws.{rule_line_count}
+use Rattle.ipt_rules.proofs.TextLaws.{rule_line_count}
 use Rattle.ipt_rules.proofs.BuildLemmas.{chains_at}
 use Rattle.ipt_rules.proofs.TextLemmas.{rest_lines, slice_get_after}
 

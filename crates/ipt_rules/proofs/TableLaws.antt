@@ -9,10 +9,10 @@ use Rattle.ipt_rules.specs.declared.rule.Rule.{Rule}
 use Rattle.ipt_rules.specs.declared.rule.Policy.{Policy}
 use Rattle.ipt_rules.specs.Name.{is_user_name}
 use Rattle.ipt_rules.specs.Chain.{Chain, changed_at, with_policy, with_rule, name_of, policy_of, number_of, user_chain}
-use Rattle.ipt_rules.specs.Addresses.{addresses_fit}
-use Rattle.ipt_rules.specs.RuleParts.{is_rule}
-use Rattle.ipt_rules.specs.ChainTable.{name_in, policy_in, IsTable, IsChainList}
-use Rattle.ipt_rules.specs.ChainLaws.{length-changed_at, length_added, length_with_policy, length_with_rule, rule_count_added, rule_count_with_policy, rule_count_with_rule}
+use Rattle.ipt_rules.specs.inner.Addresses.{addresses_fit}
+use Rattle.ipt_rules.specs.inner.RuleParts.{is_rule}
+use Rattle.ipt_rules.specs.inner.ChainTable.{name_in, policy_in, IsTable, IsChainList}
+use Rattle.ipt_rules.proofs.ChainLaws.{length-changed_at, length_added, length_with_policy, length_with_rule, rule_count_added, rule_count_with_policy, rule_count_with_rule}
 
 -- a chain with a policy is there
 pub has_built_in : (xs : List Chain) (c : ℕ) → IsSome (policy_of xs c) → c < length xs

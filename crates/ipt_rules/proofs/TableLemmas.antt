@@ -10,11 +10,11 @@ use mathlib.Core.Path.{fun_ext}
 use Rattle.ipt_rules.specs.declared.rule.Rule.{Rule}
 use Rattle.ipt_rules.specs.declared.rule.Target.{Target}
 use Rattle.ipt_rules.specs.declared.rule.Target.TheVariants.{Accept, Drop, Reject, Return, Count, Jump}
-use Rattle.ipt_rules.specs.Build.{jumps_nowhere}
+use Rattle.ipt_rules.specs.inner.Build.{jumps_nowhere}
 use Rattle.ipt_rules.specs.Chain.{Chain, rules_of}
-use Rattle.ipt_rules.specs.Jumps.{JumpsAreKnown}
+use Rattle.ipt_rules.specs.inner.Jumps.{JumpsAreKnown}
 use Rattle.ipt_rules.specs.Loops.{jump_of, jumps_of, jumps_from, Leads, HasNoLoop, IsLeastLoop}
-use Rattle.ipt_rules.specs.Ranks.{jump_table, row_of, place_of, IsRanking, IsPartOrder, IsStuck}
+use Rattle.ipt_rules.specs.inner.Ranks.{jump_table, row_of, place_of, IsRanking, IsPartOrder, IsStuck}
 use Rattle.ipt_rules.proofs.LoopLemmas.{leads_once, leads_then, some_back}
 use Rattle.ipt_rules.proofs.RankLemmas.{placed, StuckBelow}
 

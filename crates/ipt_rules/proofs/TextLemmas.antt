@@ -14,8 +14,8 @@ use Rattle.ipt_rules.specs.declared.rule.Target.{Target}
 use Rattle.ipt_rules.specs.declared.rule.Target.TheVariants.{Accept, Drop, Reject, Return, Count, Jump}
 use Rattle.ipt_rules.specs.Chain.{Chain, rules_of}
 use Rattle.ipt_rules.specs.ChainTable.{rule_count}
-use Rattle.ipt_rules.specs.Jumps.{JumpsAreKnown, JumpsIn}
-use Rattle.ipt_rules.specs.Build.{jumps_nowhere}
+use Rattle.ipt_rules.specs.inner.Jumps.{JumpsAreKnown, JumpsIn}
+use Rattle.ipt_rules.specs.inner.Build.{jumps_nowhere}
 use Rattle.ipt_rules.specs.Text.{text_lines, commit_line, chain_line, rule_line, rule_lines}
 use Rattle.ipt_rules.proofs.BuildLemmas.{chains_at}
 use Rattle.ipt_rules.proofs.ChainLemmas.{rules_of_read, chain_read}

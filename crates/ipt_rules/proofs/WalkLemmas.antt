@@ -13,12 +13,12 @@ use Rattle.ipt_rules.specs.declared.rule.Target.{Target}
 use Rattle.ipt_rules.specs.declared.rule.Target.TheVariants.{Accept, Drop, Reject, Return, Count, Jump}
 use Rattle.host_net.specs.declared.packet.Verdict.{Verdict}
 use Rattle.ipt_rules.specs.Chain.{Chain, rules_of}
-use Rattle.ipt_rules.specs.ChainTable.{rules_in}
+use Rattle.ipt_rules.specs.inner.ChainTable.{rules_in}
 use Rattle.ipt_rules.specs.Loops.{jump_of, jumps_of, jumps_from}
-use Rattle.ipt_rules.specs.Ranks.{place_of, IsBefore, IsOrder, IsRanking}
-use Rattle.ipt_rules.specs.MeaningLaws.{gives_once}
+use Rattle.ipt_rules.specs.inner.Ranks.{place_of, IsBefore, IsOrder, IsRanking}
+use Rattle.ipt_rules.proofs.MeaningLaws.{gives_once}
 use Rattle.ipt_rules.specs.Meaning.{RuleStep, GoesOn, Ends, Walks, step_of, Gives, at_end, goes_on, ends, decides, comes_back}
-use Rattle.ipt_rules.specs.OneOutcome.{EachGivesOne}
+use Rattle.ipt_rules.specs.inner.OneOutcome.{EachGivesOne}
 
 -- every outcome that the rules that are left give
 pub record GivesAlso (fits : Rule → Bool) (chains : List Chain) (left rules : List Rule) : Type 0 where

@@ -1,43 +1,8 @@
 -- Which chains make a table, and how many rules they have.
-use Rattle.std.specs.Prelude.{◌≡◌, ◌≤◌, ℕ, ◌+◌, ◌<◌, IsSome, IsTrue, List, [], ◌∷◌, Option, Some, None, length, codes}
-use Rattle.std.specs.Option.{option_map_or, option_and_then}
-use Rattle.ipt_rules.specs.Name.{is_user_name}
-use Rattle.ipt_rules.specs.declared.rule.Rule.{Rule}
-use Rattle.ipt_rules.specs.declared.rule.Policy.{Policy}
-use Rattle.ipt_rules.specs.Addresses.{AddressesFit}
-use Rattle.ipt_rules.specs.Chain.{Chain, name_of, number_of, policy_of}
-use Rattle.ipt_rules.specs.RuleParts.{AreRules}
-
--- the parts of a chain that may not be there
-abbrev pub rules_in : Option Chain → List Rule
-rules_in chain = option_map_or (λ x. x.rules) chain []
-
-abbrev pub name_in : Option Chain → List ℕ
-name_in chain = option_map_or (λ x. x.name) chain []
-
-abbrev pub policy_in : Option Chain → Option Policy
-policy_in chain = option_and_then (λ x. x.policy) chain
+use Rattle.std.specs.Prelude.{ℕ, ◌+◌, List, [], ◌∷◌, length}
+use Rattle.ipt_rules.specs.Chain.{Chain}
 
 -- how many rules stand in all chains
 abbrev pub rule_count : List Chain → ℕ
 rule_count [] = 0
 rule_count (x ∷ xs) = length x.rules + rule_count xs
-
--- the chains of a table: the built-in ones first, each with a policy, then user chains, each with a legal name
--- and no policy; and each chain is the one that is found by its name, so that no two have the same
-pub record IsTable (chains : List Chain) : Type 0 where
-  pub input : name_of chains 0 ≡ codes "INPUT"
-  pub forward : name_of chains 1 ≡ codes "FORWARD"
-  pub output : name_of chains 2 ≡ codes "OUTPUT"
-  pub built_in : (c : ℕ) → c < 3 → IsSome (policy_of chains c)
-  pub user : (c : ℕ) → 3 ≤ c → c < length chains → IsTrue (is_user_name (name_of chains c)) × (policy_of chains c ≡ None)
-  pub found : (c : ℕ) → c < length chains → number_of chains (name_of chains c) ≡ Some c
-
--- what holds of chains at all times: they are a table, the numbers fit, the rules are counted, their addresses have 32 bits, and
--- they ask for protocols and ports as rules may
-pub record IsChainList (chains : List Chain) (rules : ℕ) : Type 0 where
-  pub table : IsTable chains
-  pub numbered : length chains ≤ 65536
-  pub counted : rules ≡ rule_count chains
-  pub addresses : AddressesFit chains
-  pub parts : AreRules chains

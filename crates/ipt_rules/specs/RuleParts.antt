@@ -1,30 +1,9 @@
 -- What a rule may ask for beside addresses and states (iptables(8), iptables-extensions(8) on tcp and udp).
-use Rattle.std.specs.Prelude.{◌^◌, Bool, true, false, not, ◌&&◌, nat_lt, nat_le, IsTrue, List, Option, Some, None}
-use Rattle.std.specs.List.{list_all}
-use Rattle.host_net.specs.Service.{has_ports, last_port}
-use Rattle.ipt_rules.specs.declared.rule.PortMatch.{PortMatch}
+use Rattle.std.specs.Prelude.{Bool, false, not, ◌&&◌, Option, Some, None}
+use Rattle.host_net.specs.Service.{has_ports}
 use Rattle.ipt_rules.specs.declared.rule.ProtoMatch.{ProtoMatch}
-use Rattle.ipt_rules.specs.declared.rule.Rule.{Rule}
-use Rattle.ipt_rules.specs.Chain.{Chain}
-
--- a protocol; its number is not 0, by which iptables means any
-abbrev pub is_protocol : Option ProtoMatch → Bool
-is_protocol None = true
-is_protocol (Some part) = nat_lt 0 part.proto && nat_lt part.proto (2 ^ 8)
 
 -- the packets are of one protocol, and that has ports
 abbrev pub names_ports : Option ProtoMatch → Bool
 names_ports None = false
 names_ports (Some part) = not part.negated && has_ports part.proto
-
--- ports in order, beside a protocol that has ports
-abbrev pub are_ports : Bool → Option PortMatch → Bool
-are_ports named None = true
-are_ports named (Some part) = named && (nat_le part.low part.high && nat_le part.high last_port)
-
-abbrev pub is_rule : Rule → Bool
-is_rule rule =
-    is_protocol rule.proto && (are_ports (names_ports rule.proto) rule.sport && are_ports (names_ports rule.proto) rule.dport)
-
-abbrev pub AreRules : List Chain → Type 0
-AreRules chains = IsTrue (list_all (λ x. list_all is_rule x.rules) chains)

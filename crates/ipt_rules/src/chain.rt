@@ -2,8 +2,8 @@
 //! own.
 
 ghost use Rattle.std.specs.Prelude.{◌≡◌, ◌≤◌, ◌∷◌, [], ◌++◌, length, OnOk, OnErr, IsSome, IsTrue, Some};
-ghost use Rattle.ipt_rules.specs.Addresses.{addresses_fit};
-ghost use Rattle.ipt_rules.specs.Head.{head_name, head_policy};
+ghost use Rattle.ipt_rules.specs.inner.Addresses.{addresses_fit};
+ghost use Rattle.ipt_rules.specs.inner.Head.{head_name, head_policy};
 
 use crate::name::ChainName;
 use crate::rule::{Policy, Rule};
@@ -67,7 +67,7 @@ impl Model for Chain {
 
     ghost Value = { Chain };
 
-    ghost use Rattle.ipt_rules.specs.Head.{head_name, head_policy};
+    ghost use Rattle.ipt_rules.specs.inner.Head.{head_name, head_policy};
 
     ghost view = { λ c. record { name = head_name c.head; policy = head_policy c.head; rules = c.rules.items } };
 }

@@ -4,7 +4,7 @@ ghost use Rattle.std.specs.Prelude.{◌≡◌, ◌<◌, ◌≤◌, ◌+◌, ◌^
 ghost use Rattle.std.specs.List.Sorted.{IsSearchInRange};
 ghost use Rattle.ipt_rules.specs.Chain.{built_in_chains, user_chain, with_policy, with_rule, name_of, number_of};
 ghost use Rattle.ipt_rules.specs.ChainTable.{rule_count};
-ghost use Rattle.ipt_rules.specs.RuleParts.{is_rule};
+ghost use Rattle.ipt_rules.specs.inner.RuleParts.{is_rule};
 
 use crate::chain::{Chain, Head};
 use crate::name::ChainName;
@@ -26,7 +26,7 @@ pub struct Chains {
 impl Model for Chains {
     ghost use Rattle.std.specs.Prelude.{List};
     ghost use Rattle.ipt_rules.specs.Chain.{Chain};
-    ghost use Rattle.ipt_rules.specs.ChainTable.{IsChainList};
+    ghost use Rattle.ipt_rules.specs.inner.ChainTable.{IsChainList};
 
     ghost Value = { List Chain };
 

@@ -2,7 +2,7 @@
 
 ghost use Rattle.std.specs.Prelude.{◌≡◌, ◌<◌, length, IfOk};
 ghost use Rattle.ipt_rules.specs.Loops.{jumps_of};
-ghost use Rattle.ipt_rules.specs.Ranks.{jump_table, row_of};
+ghost use Rattle.ipt_rules.specs.inner.Ranks.{jump_table, row_of};
 
 use crate::chain::Chain;
 use crate::rule::{Rule, Target};

@@ -2,9 +2,9 @@
 
 ghost use Rattle.std.specs.Prelude.{◌≡◌, ◌<◌, ◌≤◌, ◌↔◌, ℕ, All, length, IsTrue, IfOk, IfSome, IfNone, None};
 ghost use Rattle.ipt_rules.specs.Loops.{Leads};
-ghost use Rattle.ipt_rules.specs.Build.{refusal_of};
-ghost use Rattle.ipt_rules.specs.Ranked.{IsRanked};
-ghost use Rattle.ipt_rules.specs.Ranks.{row_of, IsOrder, Visits};
+ghost use Rattle.ipt_rules.specs.inner.Build.{refusal_of};
+ghost use Rattle.ipt_rules.specs.inner.Ranked.{IsRanked};
+ghost use Rattle.ipt_rules.specs.inner.Ranks.{row_of, IsOrder, Visits};
 
 use crate::chain::Chain;
 use crate::jumps::JumpTable;

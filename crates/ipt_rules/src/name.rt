@@ -20,7 +20,7 @@ pub struct ChainName {
 impl Model for ChainName {
     ghost use Rattle.std.specs.Prelude.{ℕ, IsTrue, List, length, take};
     ghost use Rattle.ipt_rules.specs.Name.{is_user_name};
-    ghost use Rattle.text_core.specs.Padded.{IsPadded, padded, padded_bytes, padded_len};
+    ghost use Rattle.text_core.specs.inner.Padded.{IsPadded, padded, padded_bytes, padded_len};
 
     ghost Value = { List ℕ };
 

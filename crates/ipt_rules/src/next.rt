@@ -2,12 +2,12 @@
 //! rules of each chain ask for.
 
 ghost use Rattle.std.specs.Prelude.{◌≡◌, ◌<◌, ◌≤◌, ◌^◌, List, length, IfOk};
-ghost use Rattle.host_net.specs.CoverView.{IsIndexOf};
+ghost use Rattle.host_net.specs.inner.CoverView.{IsIndexOf};
 ghost use Rattle.host_net.specs.declared.packet.CtState.{CtState};
 ghost use Rattle.ipt_rules.specs.declared.rule.Rule.{Rule};
 ghost use Rattle.ipt_rules.specs.ChainTable.{rule_count};
 ghost use Rattle.ipt_rules.specs.Matching.{matches};
-ghost use Rattle.ipt_rules.specs.Next.{AreIndexes, IsNext, all_ends, ends_of, part_of};
+ghost use Rattle.ipt_rules.specs.inner.Next.{AreIndexes, IsNext, all_ends, ends_of, part_of};
 
 use crate::chain::Chain;
 use crate::rule::{AddrMatch, Rule};

@@ -2,8 +2,8 @@
 //! holds.
 
 ghost use Rattle.std.specs.Prelude.{◌≡◌, ◌<◌, ◌≤◌, ◌++◌, length, take};
-ghost use Rattle.text_core.specs.Line.{cut};
-ghost use Rattle.ipt_rules.specs.Jumps.{JumpsIn};
+ghost use Rattle.text_core.specs.inner.Line.{cut};
+ghost use Rattle.ipt_rules.specs.inner.Jumps.{JumpsIn};
 ghost use Rattle.ipt_rules.specs.Chain.{name_of};
 ghost use Rattle.ipt_rules.specs.Text.{negation_text, address_text, state_text, states_text, target_text, policy_text};
 

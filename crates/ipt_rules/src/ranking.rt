@@ -4,7 +4,7 @@
 //! jumps were found to do so, and so no jump is passed twice.
 
 ghost use Rattle.std.specs.Prelude.{◌≡◌, ◌+◌, ◌<◌, ◌≤◌, ◌⊎◌, ℕ, length, replicate, IfOk, None, Some, slice_get, Contains, false, true};
-ghost use Rattle.ipt_rules.specs.Ranks.{row_of, place_of, IsBefore, IsPartOrder, IsStuck};
+ghost use Rattle.ipt_rules.specs.inner.Ranks.{row_of, place_of, IsBefore, IsPartOrder, IsStuck};
 
 use crate::jumps::JumpTable;
 use std::alloc::{AllocError, Global};

@@ -2,9 +2,9 @@
 
 ghost use Rattle.std.specs.Prelude.{◌≡◌, ◌<◌, ◌≤◌, length, slice_get, Some};
 ghost use Rattle.ipt_rules.specs.Chain.{rules_of};
-ghost use Rattle.ipt_rules.specs.OneOutcome.{EachGivesOne};
+ghost use Rattle.ipt_rules.specs.inner.OneOutcome.{EachGivesOne};
 ghost use Rattle.ipt_rules.specs.Rules.{all_rules};
-ghost use Rattle.ipt_rules.specs.Starts.{starts_from};
+ghost use Rattle.ipt_rules.specs.inner.Starts.{starts_from};
 
 use crate::chain::Chain;
 use crate::rule::Rule;

@@ -3,11 +3,12 @@
 
 ghost use Rattle.std.specs.Prelude.{◌≡◌, ◌<◌, ◌≤◌, ◌⊎◌, length, IfOk, IfErr, OnOk, IsNone, IfSome, Some};
 ghost use Rattle.ipt_rules.specs.Chain.{Chain};
-ghost use Rattle.ipt_rules.specs.ChainTable.{IsTable, rule_count};
-ghost use Rattle.ipt_rules.specs.Build.{refusal_of, RefusedFor, first_unknown, jumps_nowhere, place_of_unknown};
+ghost use Rattle.ipt_rules.specs.ChainTable.{rule_count};
+ghost use Rattle.ipt_rules.specs.inner.ChainTable.{IsTable};
+ghost use Rattle.ipt_rules.specs.inner.Build.{refusal_of, RefusedFor, first_unknown, jumps_nowhere, place_of_unknown};
 ghost use Rattle.ipt_rules.specs.Loops.{HasNoLoop};
 ghost use Rattle.ipt_rules.specs.Meaning.{HasVerdictIn};
-ghost use Rattle.ipt_rules.specs.OneOutcome.{HasVerdict, EachGivesOne};
+ghost use Rattle.ipt_rules.specs.inner.OneOutcome.{HasVerdict, EachGivesOne};
 
 use crate::chain::Chain;
 use crate::chains::Chains;
@@ -60,7 +61,7 @@ impl Model for Ruleset {
 
     ghost Value = { List Chain };
 
-    ghost use Rattle.ipt_rules.specs.Jumps.{IsRuleset};
+    ghost use Rattle.ipt_rules.specs.inner.Jumps.{IsRuleset};
 
     ghost view = { λ r. r.chains.items };
 
@@ -128,7 +129,7 @@ impl Ruleset {
     }
 }
 
-#[tactic(auto, unfolding(crate::specs::Build::refusal_of))]
+#[tactic(auto, unfolding(crate::specs::inner::Build::refusal_of))]
 fn refusal(chains: &[Chain], rules: u32) -> Option<BuildRefusal>
     requires counted { rules ≡ rule_count chains.now }
     requires numbered { length chains.now ≤ 65536 }

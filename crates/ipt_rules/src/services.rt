@@ -1,7 +1,7 @@
 //! The pieces of a rule's line on protocols and ports, each put after what the buffer holds.
 
 ghost use Rattle.std.specs.Prelude.{◌≡◌, ◌≤◌, ◌++◌, ◌||◌, take, is_some, codes, decimal, if◌then◌else◌, nat_lt, []};
-ghost use Rattle.text_core.specs.Line.{cut};
+ghost use Rattle.text_core.specs.inner.Line.{cut};
 ghost use Rattle.host_net.specs.ServiceText.{protocol_text};
 ghost use Rattle.ipt_rules.specs.Text.{module_text, port_text, ports_text, protocol_part_text, service_text};
 

@@ -4,7 +4,7 @@
 ghost use Rattle.std.specs.Prelude.{◌≡◌, ◌+◌, ◌<◌, ◌≤◌, length, slice_index_or, IfOk};
 ghost use Rattle.std.specs.List.Sorted.{IsNonDecreasingBy};
 ghost use Rattle.ipt_rules.specs.ChainTable.{rule_count};
-ghost use Rattle.ipt_rules.specs.Starts.{starts_from};
+ghost use Rattle.ipt_rules.specs.inner.Starts.{starts_from};
 
 use crate::chain::Chain;
 use std::alloc::{AllocError, Global};

@@ -3,18 +3,15 @@
 ghost use Rattle.std.specs.Prelude.{◌≡◌, ◌+◌, ◌<◌, ◌≤◌, None, length, IsTrue};
 ghost use Rattle.host_net.specs.Service.{has_ports};
 ghost use Rattle.ipt_rules.specs.ChainTable.{rule_count};
-ghost use Rattle.ipt_rules.specs.RuleParts.{is_rule};
+ghost use Rattle.ipt_rules.specs.inner.RuleParts.{is_rule};
 
-use crate::{
-    AddrMatch, BuildRefusal, ChainName, Chains, Policy, PortMatch, ProtoMatch, Rule, Ruleset,
-    StateMatch, Target, Verdict,
-};
+use crate::{ AddrMatch, BuildRefusal, ChainName, Chains, Policy, PortMatch, ProtoMatch, Rule, Ruleset, StateMatch, Target, Verdict, };
 use host_net::{CtState, Packet, Prefix};
 use std::alloc::Global;
 use std::process::Abort;
 
 /// The three built-in chains, of which FORWARD drops.
-#[tactic(auto, using(crate::specs::ChainLaws::length_with_policy, crate::specs::ChainLaws::rule_count_with_policy))]
+#[tactic(auto, using(crate::proofs::ChainLaws::length_with_policy, crate::proofs::ChainLaws::rule_count_with_policy))]
 fn dropping(alloc: Global, rt: &impl Abort) -> Chains
     ensures length { length result ≡ 3 }
     ensures rules { rule_count result ≡ 0 }
@@ -24,7 +21,7 @@ fn dropping(alloc: Global, rt: &impl Abort) -> Chains
     chains
 }
 
-#[tactic(auto, using(crate::specs::ChainLaws::length_added, crate::specs::ChainLaws::rule_count_added))]
+#[tactic(auto, using(crate::proofs::ChainLaws::length_added, crate::proofs::ChainLaws::rule_count_added))]
 fn add(rt: &impl Abort, chains: &mut Chains, text: &[u8])
     requires { length chains.old < 100 }
     ensures length { length chains.new ≡ length chains.old + 1 }
@@ -36,7 +33,7 @@ fn add(rt: &impl Abort, chains: &mut Chains, text: &[u8])
     assert!(rt; chains.find(text).is_some());
 }
 
-#[tactic(auto, using(crate::specs::ChainLaws::length_with_rule, crate::specs::ChainLaws::rule_count_with_rule))]
+#[tactic(auto, using(crate::proofs::ChainLaws::length_with_rule, crate::proofs::ChainLaws::rule_count_with_rule))]
 fn push(rt: &impl Abort, chains: &mut Chains, chain: u16, rule: Rule)
     requires there { chain < length chains.old }
     requires room { rule_count chains.old < 100 }

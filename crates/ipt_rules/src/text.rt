@@ -2,14 +2,15 @@
 
 ghost use Rattle.std.specs.Prelude.{◌≡◌, ◌<◌, ◌≤◌, ◌++◌, ◌∷◌, [], length, take, slice_get, IsNone, IsTrue, Some};
 ghost use Rattle.std.specs.List.{flat_map};
-ghost use Rattle.ipt_rules.specs.Build.{refusal_of};
+ghost use Rattle.ipt_rules.specs.inner.Build.{refusal_of};
 ghost use Rattle.ipt_rules.specs.Loops.{HasNoLoop};
-ghost use Rattle.ipt_rules.specs.OneOutcome.{EachGivesOne};
-ghost use Rattle.ipt_rules.specs.Jumps.{JumpsIn, JumpsAreKnown};
-ghost use Rattle.ipt_rules.specs.ChainTable.{IsTable, rule_count};
-ghost use Rattle.ipt_rules.specs.RuleParts.{AreRules, is_rule};
-ghost use Rattle.ipt_rules.specs.Starts.{starts_from};
-ghost use Rattle.ipt_rules.specs.Writable.{IsWritable};
+ghost use Rattle.ipt_rules.specs.inner.OneOutcome.{EachGivesOne};
+ghost use Rattle.ipt_rules.specs.inner.Jumps.{JumpsIn, JumpsAreKnown};
+ghost use Rattle.ipt_rules.specs.ChainTable.{rule_count};
+ghost use Rattle.ipt_rules.specs.inner.ChainTable.{IsTable};
+ghost use Rattle.ipt_rules.specs.inner.RuleParts.{AreRules, is_rule};
+ghost use Rattle.ipt_rules.specs.inner.Starts.{starts_from};
+ghost use Rattle.ipt_rules.specs.inner.Writable.{IsWritable};
 ghost use Rattle.ipt_rules.specs.Text.{text_lines, table_line, commit_line, chain_line, rule_line, rule_lines};
 
 use crate::chain::Chain;

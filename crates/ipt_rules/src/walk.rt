@@ -9,11 +9,11 @@ ghost use Rattle.ipt_rules.specs.Matching.{matches};
 ghost use Rattle.ipt_rules.specs.Chain.{rules_of, policy_of};
 ghost use Rattle.ipt_rules.specs.Loops.{jumps_of, jumps_from};
 ghost use Rattle.ipt_rules.specs.Meaning.{step_of, Gives, policy_verdict};
-ghost use Rattle.ipt_rules.specs.WalkView.{step_view};
-ghost use Rattle.ipt_rules.specs.Ranks.{place_of, outcome_at, IsBefore, IsRanking, IsSet};
-ghost use Rattle.ipt_rules.specs.Reached.{WalksTo, Marks, IsClosed, IsSettled};
-ghost use Rattle.ipt_rules.specs.Next.{AreIndexes, all_ends};
-ghost use Rattle.host_net.specs.CoverView.{IsIndexOf};
+ghost use Rattle.ipt_rules.specs.inner.WalkView.{step_view};
+ghost use Rattle.ipt_rules.specs.inner.Ranks.{place_of, outcome_at, IsBefore, IsRanking, IsSet};
+ghost use Rattle.ipt_rules.specs.inner.Reached.{WalksTo, Marks, IsClosed, IsSettled};
+ghost use Rattle.ipt_rules.specs.inner.Next.{AreIndexes, all_ends};
+ghost use Rattle.host_net.specs.inner.CoverView.{IsIndexOf};
 
 use crate::chain::Chain;
 use crate::next::next_rule;

@@ -1,7 +1,3 @@
-pub mod Asking
-pub mod AskingLaws
-pub mod Fitting
-pub mod HeadlineLaws
 pub mod Network
 pub mod Policies
-pub mod PolicyLaws
+pub mod inner

@@ -2,13 +2,13 @@
 //! invariants.
 ghost use Rattle.std.specs.Prelude.{◌≡◌, ◌≤◌, All, length};
 ghost use Rattle.flow_set.specs.Flow.{IsFlow};
-ghost use Rattle.flow_set.specs.FlowSetView.{IsFlowSet};
-ghost use Rattle.host_net.specs.Hosts.{IsHosts};
+ghost use Rattle.flow_set.specs.inner.FlowSetView.{IsFlowSet};
+ghost use Rattle.host_net.specs.inner.Hosts.{IsHosts};
 ghost use Rattle.host_net.specs.Limits.{invariant_limit};
-ghost use Rattle.host_net.specs.Services.{AreServices};
+ghost use Rattle.host_net.specs.inner.Services.{AreServices};
 ghost use Rattle.inv_any.specs.Templates.{meaning_of};
-ghost use Rattle.net_core.specs.Asking.{asking_for, not_asking_for};
-ghost use Rattle.net_core.specs.Fitting.{IsNetwork};
+ghost use Rattle.net_core.specs.inner.Asking.{asking_for, not_asking_for};
+ghost use Rattle.net_core.specs.inner.Fitting.{IsNetwork};
 
 use flow_set::{Flow, FlowSet};
 use host_net::{Hosts, Services};
@@ -29,7 +29,7 @@ pub struct Description {
 impl Model for Description {
     ghost use Rattle.std.specs.Coded.{codes};
     ghost use Rattle.net_core.specs.Network.{Network};
-    ghost use Rattle.net_core.specs.Fitting.{IsNetwork};
+    ghost use Rattle.net_core.specs.inner.Fitting.{IsNetwork};
     ghost use Rattle.inv_any.specs.contracts.any_inv.AnyInv as any;
 
     ghost Value = { Network };

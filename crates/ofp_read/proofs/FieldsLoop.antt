@@ -4,8 +4,8 @@ use Rattle.std.specs.Prelude.{Ok, Err}
 use Rattle.std.proofs.lemmas.List.{drop_more}
 use Rattle.ofp_read.specs.declared.fault.OfpWhy.{OfpWhy}
 use Rattle.ofp_read.specs.declared.given.Given.{Given}
-use Rattle.ofp_read.specs.FieldTable.{with_field}
-use Rattle.ofp_read.specs.FlowLine.{goes_on, with_fields}
+use Rattle.ofp_read.specs.inner.FieldTable.{with_field}
+use Rattle.ofp_read.specs.inner.FlowLine.{goes_on, with_fields}
 
 -- the field at a place, and those after it
 next_field : (given : Given) (texts : List (List ℕ)) (k : ℕ) (text : List ℕ) → k < length texts → text ≡ get_or texts k text

@@ -1,2 +1,17 @@
+pub mod AgainLaws
+pub mod ApartLaws
+pub mod CutLaws
+pub mod FaultLaws
+pub mod FieldLaws
+pub mod FieldsLaws
 pub mod FieldsLoop
+pub mod KeyLaws
+pub mod LineLaws
 pub mod LineRows
+pub mod NamedLaws
+pub mod PartLaws
+pub mod PieceLaws
+pub mod RangeLaws
+pub mod TextLaws
+pub mod UnwrittenLaws
+pub mod WrittenLaws

@@ -8,8 +8,8 @@ use Rattle.ofp_rules.specs.declared.entry.FrameKind.TheVariants.{Any, Ip}
 use Rattle.ofp_rules.specs.declared.entry.Action.TheVariants.{Normal, Drop}
 use Rattle.ofp_read.specs.declared.fault.OfpWhy.{OfpWhy}
 use Rattle.ofp_read.specs.declared.fault.OfpWhy.TheVariants.{BadLine, UnknownField, BadValue, NeedsIp, UnknownAction}
-use Rattle.ofp_read.specs.FieldTable.{key_with_value, key_alone, key_of, frame_type, with_value}
-use Rattle.ofp_read.specs.FlowLine.{flow_of}
+use Rattle.ofp_read.specs.inner.FieldTable.{key_with_value, key_alone, key_of, frame_type, with_value}
+use Rattle.ofp_read.specs.inner.FlowLine.{flow_of}
 
 -- commas and blanks at the beginning are passed over; blanks behind the action are no part of it
 row_plain : flow_of (codes ", table=0,,actions=drop  ") ≡ Ok (record { priority = 32768; kind = Any; src = None; dst = None; proto = None; tp_src = None; tp_dst = None; action = Drop })

@@ -2,7 +2,7 @@
 
 ghost use Rattle.std.specs.Prelude.{◌≡◌};
 ghost use Rattle.std.specs.Option.{option_map};
-ghost use Rattle.ofp_read.specs.FieldTable.{frame_type, is_given, key_alone, key_of, key_with_value, of_protocol, with_field, with_table, with_key, with_value};
+ghost use Rattle.ofp_read.specs.inner.FieldTable.{frame_type, is_given, key_alone, key_of, key_with_value, of_protocol, with_field, with_table, with_key, with_value};
 
 use crate::fault::OfpWhy;
 use crate::given::{Given, Key};
@@ -10,7 +10,7 @@ use host_net::read_prefix;
 use ofp_rules::FrameKind;
 use text_core::{read_number, split_once};
 
-#[tactic(auto, unfolding(crate::specs::FieldTable::key_with_value))]
+#[tactic(auto, unfolding(crate::specs::inner::FieldTable::key_with_value))]
 fn key_with_value(name: &[u8]) -> Option<Key>
     ensures { result ≡ key_with_value name.now }
 {
@@ -41,7 +41,7 @@ fn key_with_value(name: &[u8]) -> Option<Key>
     None
 }
 
-#[tactic(auto, unfolding(crate::specs::FieldTable::key_alone))]
+#[tactic(auto, unfolding(crate::specs::inner::FieldTable::key_alone))]
 fn key_alone(name: &[u8]) -> Option<Key>
     ensures { result ≡ key_alone name.now }
 {
@@ -64,7 +64,7 @@ fn key_alone(name: &[u8]) -> Option<Key>
 }
 
 /// The key of a field, and its value where it has one.
-#[tactic(auto, unfolding(crate::specs::FieldTable::key_of))]
+#[tactic(auto, unfolding(crate::specs::inner::FieldTable::key_of))]
 fn key_of(text: &[u8]) -> Option<(Key, &[u8])>
     ensures { option_map (λ field. (field.0, field.1.now)) result ≡ key_of text.now }
 {
@@ -90,7 +90,7 @@ fn is_given(given: Given, key: Key) -> bool
     }
 }
 
-#[tactic(auto, unfolding(crate::specs::FieldTable::frame_type))]
+#[tactic(auto, unfolding(crate::specs::inner::FieldTable::frame_type))]
 fn frame_type(value: &[u8]) -> Option<FrameKind>
     ensures { result ≡ frame_type value.now }
 {
@@ -137,7 +137,7 @@ fn of_protocol(given: Given, proto: u8) -> Given
 }
 
 /// What is given with the value of a field, or None where it is none of its values.
-#[tactic(auto, unfolding(crate::specs::FieldTable::with_value))]
+#[tactic(auto, unfolding(crate::specs::inner::FieldTable::with_value))]
 fn with_value(given: Given, key: Key, value: &[u8]) -> Option<Given>
     ensures { result ≡ with_value given key value.now }
 {

@@ -5,8 +5,8 @@ ghost use Rattle.std.specs.Option.{option_map};
 ghost use Rattle.text_core.specs.Lines.{words, is_blank};
 ghost use Rattle.ofp_rules.specs.Matching.{asks_of_ip, ports_asked};
 ghost use Rattle.ofp_read.specs.Grammar.{fields, has_bytes, is_separator};
-ghost use Rattle.ofp_read.specs.FlowLine.{action_of, entry_of, flow_by, flow_of, nothing_given, with_action, with_fields};
-ghost use Rattle.ofp_read.specs.Cut.{begins_action, cut_action};
+ghost use Rattle.ofp_read.specs.inner.FlowLine.{action_of, entry_of, flow_by, flow_of, nothing_given, with_action, with_fields};
+ghost use Rattle.ofp_read.specs.inner.Cut.{begins_action, cut_action};
 
 use crate::fault::OfpWhy;
 use crate::field::with_field;
@@ -139,7 +139,7 @@ fn has_ports(proto: Option<u8>) -> bool
 }
 
 /// The entry that a line writes. Its fields are checked from left to right, then its action.
-#[tactic(auto, unfolding(crate::specs::FlowLine::flow_of))]
+#[tactic(auto, unfolding(crate::specs::inner::FlowLine::flow_of))]
 pub(crate) fn read_flow(line: &[u8]) -> Result<Entry, OfpWhy>
     ensures { result ≡ flow_of line.now }
 {

@@ -1,14 +1,14 @@
 //! Reading a text as a flow table.
 
 ghost use Rattle.std.specs.Prelude.{◌≡◌, ◌<◌, ◌+◌, ◌∷◌, [], ◌++◌, ℕ, List, Ok, Err, IfOk, IfErr, MatchResult, length, IsTrue};
-ghost use Rattle.text_core.specs.TextAnswers.{HasCause, HasReason, IsFault};
+ghost use Rattle.text_core.specs.inner.TextAnswers.{HasCause, HasReason, IsFault};
 ghost use Rattle.ofp_rules.specs.declared.entry.Entry.{Entry};
 ghost use Rattle.ofp_rules.specs.Ambiguity.{ContradictsNone, most_entries};
 ghost use Rattle.ofp_rules.specs.Matching.{asks_of_ip};
-ghost use Rattle.ofp_rules.specs.Build.{IsTable};
+ghost use Rattle.ofp_rules.specs.inner.Build.{IsTable};
 ghost use Rattle.ofp_rules.specs.Text.{text};
 ghost use Rattle.ofp_read.specs.declared.fault.OfpWhy.{OfpWhy};
-ghost use Rattle.ofp_read.specs.State.{IsLeftOut};
+ghost use Rattle.ofp_read.specs.inner.State.{IsLeftOut};
 ghost use Rattle.ofp_read.specs.TextLines.{flows_text, HasFault, IsReading};
 
 use crate::fault::{OfpFault, OfpWhy};
@@ -66,7 +66,7 @@ impl LineReader for FlowReader {
         (BYTE_LIMIT, OfpWhy::TooLong)
     }
 
-    #[tactic(auto, using(crate::specs::TextLaws::asks_of_flow, crate::specs::TextLaws::line_added, crate::specs::TextLaws::entry_told, crate::specs::TextLaws::line_told))]
+    #[tactic(auto, using(crate::proofs::TextLaws::asks_of_flow, crate::proofs::TextLaws::line_added, crate::proofs::TextLaws::entry_told, crate::proofs::TextLaws::line_told))]
     fn read_line(self, number: u32, line: &[u8]) -> Result<FlowReader, LineFault<OfpWhy>> {
         match read_flow(line) {
             Ok(entry) => with_entry(self.table, entry),

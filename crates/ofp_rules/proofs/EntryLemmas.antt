@@ -5,9 +5,9 @@ use Rattle.std.proofs.lemmas.Option.{slice_get_read, slice_get_within}
 use Rattle.ofp_rules.specs.declared.entry.Entry.{Entry}
 use Rattle.ofp_rules.specs.declared.table.TableRefusal.{TableRefusal}
 use Rattle.ofp_rules.specs.declared.table.TableRefusal.TheVariants.{TooMany, Ambiguous, Memory}
-use Rattle.ofp_rules.specs.AddingLaws.{some_is}
+use Rattle.ofp_rules.proofs.AddingLaws.{some_is}
 use Rattle.ofp_rules.specs.Ambiguity.{Contradict, most_entries}
-use Rattle.ofp_rules.specs.Build.{AreAmbiguous, IsFirstAgainst, IsFirstAmbiguity, IsNotAdded, IsRefused, IsUnambiguous}
+use Rattle.ofp_rules.specs.inner.Build.{AreAmbiguous, IsFirstAgainst, IsFirstAmbiguity, IsNotAdded, IsRefused, IsUnambiguous}
 
 pub get_front : (n : ℕ) (xs : List Entry) (i : ℕ) → i < n → slice_get (take n xs) i ≡ slice_get xs i
 get_front zero xs i h = absurd (omega arith)

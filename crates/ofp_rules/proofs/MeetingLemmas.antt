@@ -5,7 +5,7 @@ use Rattle.std.proofs.lemmas.Bool.Decides.{nat_tests}
 use Rattle.host_net.specs.declared.prefix.Prefix.{Prefix}
 use Rattle.host_net.specs.declared.packet.Packet.{Packet}
 use Rattle.host_net.specs.Packet.{IsPacket}
-use Rattle.host_net.specs.PrefixLaws.{covers_own, covered_by_both, share_where_meets}
+use Rattle.host_net.proofs.PrefixLaws.{covers_own, covered_by_both, share_where_meets}
 use Rattle.ofp_rules.specs.declared.entry.Action.TheVariants.{Drop}
 use Rattle.ofp_rules.specs.declared.entry.Frame.{Frame}
 use Rattle.ofp_rules.specs.declared.entry.Frame.TheVariants.{Arp, Ipv4, Other}
@@ -14,9 +14,9 @@ use Rattle.ofp_rules.specs.declared.entry.FrameKind.TheVariants.{Any as OfAny, A
 use Rattle.ofp_rules.specs.declared.entry.Entry.{Entry}
 use Rattle.ofp_rules.specs.Ambiguity.{IsFrame, MatchOneFrame}
 use Rattle.ofp_rules.specs.Matching.{part_matches, number_matches, packet_matches, kind_matches}
-use Rattle.ofp_rules.specs.Meeting.{parts_meet, numbers_meet, packets_meet, kinds_meet, entries_meet}
-use Rattle.ofp_rules.specs.Ranges.{address_fits, in_range, number_fits}
-use Rattle.ofp_rules.specs.RangesLaws.{HasRoom, in_range_parts}
+use Rattle.ofp_rules.specs.inner.Meeting.{parts_meet, numbers_meet, packets_meet, kinds_meet, entries_meet}
+use Rattle.ofp_rules.specs.inner.Ranges.{address_fits, in_range, number_fits}
+use Rattle.ofp_rules.proofs.RangesLaws.{HasRoom, in_range_parts}
 
 -- five tests at once
 record AllHold (a b c d e : Bool) : Type 0 where

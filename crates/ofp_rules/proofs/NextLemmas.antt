@@ -5,17 +5,17 @@ use Rattle.std.proofs.lemmas.List.{take_more}
 use Rattle.std.proofs.lemmas.Option.{same_Some, slice_get_within, slice_get_cases}
 use Rattle.host_net.specs.declared.cover.Covers.{Covers}
 use Rattle.host_net.specs.declared.prefix.Prefix.{Prefix}
-use Rattle.host_net.specs.Cover.{IsFirstFrom, covers_both, part_covers}
-use Rattle.host_net.specs.CoverView.{IsIndexOf, key_of}
+use Rattle.host_net.specs.inner.Cover.{IsFirstFrom, covers_both, part_covers}
+use Rattle.host_net.specs.inner.CoverView.{IsIndexOf, key_of}
 use Rattle.ofp_rules.specs.declared.entry.Frame.{Frame}
 use Rattle.ofp_rules.specs.declared.entry.Frame.TheVariants.{Arp, Ipv4, Other}
 use Rattle.ofp_rules.specs.declared.entry.FrameKind.{FrameKind}
 use Rattle.ofp_rules.specs.declared.entry.FrameKind.TheVariants.{Any as OfAny, Arp as OfArp, Ip as OfIp}
 use Rattle.ofp_rules.specs.declared.entry.Entry.{Entry}
-use Rattle.ofp_rules.specs.Highest.{IsFound, higher}
-use Rattle.ofp_rules.specs.HighestLaws.{found_more, skipped, with_last}
+use Rattle.ofp_rules.specs.inner.Highest.{IsFound, higher}
+use Rattle.ofp_rules.proofs.HighestLaws.{found_more, skipped, with_last}
 use Rattle.ofp_rules.specs.Matching.{kind_matches, matches, number_matches, packet_matches, part_matches}
-use Rattle.ofp_rules.specs.Next.{IsNext, NoneMatches, all_ends, destination_of, ends_of, kind_ends, source_of}
+use Rattle.ofp_rules.specs.inner.Next.{IsNext, NoneMatches, all_ends, destination_of, ends_of, kind_ends, source_of}
 
 by_test : (b : Bool) → (b ≡ true → ⊥) → b ≡ false
 by_test true fails = absurd (fails refl)

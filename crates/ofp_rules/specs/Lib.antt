@@ -1,14 +1,5 @@
-pub mod AddingLaws
 pub mod Ambiguity
-pub mod Build
-pub mod Highest
-pub mod HighestLaws
-pub mod LineLaws
 pub mod Matching
-pub mod Meeting
 pub mod Meaning
-pub mod Next
-pub mod Ranges
-pub mod RangesLaws
-pub mod TableLaws
 pub mod Text
+pub mod inner

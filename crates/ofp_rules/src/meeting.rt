@@ -2,8 +2,8 @@
 
 ghost use Rattle.std.specs.Prelude.{◌≡◌, ◌↔◌, IsTrue};
 ghost use Rattle.ofp_rules.specs.Ambiguity.{Contradict, MatchOneFrame};
-ghost use Rattle.ofp_rules.specs.Meeting.{entries_meet, kinds_meet, numbers_meet, packets_meet, parts_meet};
-ghost use Rattle.ofp_rules.specs.Ranges.{in_range};
+ghost use Rattle.ofp_rules.specs.inner.Meeting.{entries_meet, kinds_meet, numbers_meet, packets_meet, parts_meet};
+ghost use Rattle.ofp_rules.specs.inner.Ranges.{in_range};
 
 use crate::entry::{Entry, FrameKind};
 use host_net::Prefix;

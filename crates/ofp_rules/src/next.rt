@@ -1,10 +1,10 @@
 //! Which entry is the next that may match a frame, by an index of the addresses that entries ask for.
 
 ghost use Rattle.std.specs.Prelude.{◌≡◌, List};
-ghost use Rattle.host_net.specs.CoverView.{IsIndexOf};
+ghost use Rattle.host_net.specs.inner.CoverView.{IsIndexOf};
 ghost use Rattle.ofp_rules.specs.declared.entry.Entry.{Entry};
 ghost use Rattle.ofp_rules.specs.Matching.{matches};
-ghost use Rattle.ofp_rules.specs.Next.{IsNext, all_ends, destination_of, ends_of, source_of};
+ghost use Rattle.ofp_rules.specs.inner.Next.{IsNext, all_ends, destination_of, ends_of, source_of};
 
 use crate::entry::{Entry, Frame, FrameKind};
 use host_net::{Covers, Ends};

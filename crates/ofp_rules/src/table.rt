@@ -6,11 +6,11 @@ ghost use Rattle.std.specs.Option.{option_copied};
 ghost use Rattle.ofp_rules.specs.declared.entry.Entry.{Entry};
 ghost use Rattle.ofp_rules.specs.Matching.{asks_of_ip};
 ghost use Rattle.ofp_rules.specs.Ambiguity.{Contradict};
-ghost use Rattle.ofp_rules.specs.Build.{IsNotAdded, IsRefused, IsTable};
+ghost use Rattle.ofp_rules.specs.inner.Build.{IsNotAdded, IsRefused, IsTable};
 ghost use Rattle.ofp_rules.specs.Meaning.{HasVerdict, verdict_of};
-ghost use Rattle.ofp_rules.specs.Highest.{IsFound, higher, is_above, verdict_by};
-ghost use Rattle.ofp_rules.specs.Next.{all_ends};
-ghost use Rattle.host_net.specs.CoverView.{IsIndexOf};
+ghost use Rattle.ofp_rules.specs.inner.Highest.{IsFound, higher, is_above, verdict_by};
+ghost use Rattle.ofp_rules.specs.inner.Next.{all_ends};
+ghost use Rattle.host_net.specs.inner.CoverView.{IsIndexOf};
 
 use crate::entry::{Action, Entry, Frame};
 use crate::next::next_entry;
@@ -59,9 +59,9 @@ impl Model for Table {
 
     ghost Value = { List Entry };
 
-    ghost use Rattle.ofp_rules.specs.Build.{IsTable};
-    ghost use Rattle.ofp_rules.specs.Next.{all_ends};
-    ghost use Rattle.host_net.specs.CoverView.{IsIndexOf};
+    ghost use Rattle.ofp_rules.specs.inner.Build.{IsTable};
+    ghost use Rattle.ofp_rules.specs.inner.Next.{all_ends};
+    ghost use Rattle.host_net.specs.inner.CoverView.{IsIndexOf};
 
     ghost view = { λ t. t.entries.items };
 

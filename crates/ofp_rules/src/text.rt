@@ -1,8 +1,8 @@
 //! The text of a table, written line by line into a buffer and without memory.
 
 ghost use Rattle.std.specs.Prelude.{◌≡◌, ◌<◌, ◌≤◌, ◌++◌, length, take, slice_get, Some, codes, decimal};
-ghost use Rattle.text_core.specs.Line.{cut};
-ghost use Rattle.ofp_rules.specs.Build.{IsTable};
+ghost use Rattle.text_core.specs.inner.Line.{cut};
+ghost use Rattle.ofp_rules.specs.inner.Build.{IsTable};
 ghost use Rattle.ofp_rules.specs.Text.{action_text, entry_line, kind_text, part_text, port_text, protocol_text, text_lines};
 
 use crate::entry::{Action, Entry, FrameKind};

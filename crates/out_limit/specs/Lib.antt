@@ -1,2 +1,2 @@
-pub mod OutLimit
-pub mod OutLimitLaws
+pub mod laws
+pub mod inner

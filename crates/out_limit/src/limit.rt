@@ -3,8 +3,8 @@
 ghost use Rattle.std.specs.Prelude.{◌≡◌, ◌<◌, ◌↔◌, false, IsTrue, IfOk, length, replicate, slice_index_or, slice_set};
 ghost use Rattle.std.proofs.lemmas.Bool.{false≢true};
 ghost use Rattle.inv_law.specs.declared.strategy.Strategy.TheVariants.{Access};
-ghost use Rattle.out_limit.specs.OutLimit.{sent_by, KeepsLimits};
-ghost use Rattle.out_limit.specs.OutLimitLaws.{KeepsLimits-downward, KeepsLimits-nothing, KeepsLimits-reset};
+ghost use Rattle.out_limit.specs.inner.OutLimit.{sent_by, KeepsLimits};
+ghost use Rattle.out_limit.specs.laws.OutLimitLaws.{KeepsLimits-downward, KeepsLimits-nothing, KeepsLimits-reset};
 
 use flow_set::{Flow, FlowSet};
 use inv_law::{Invariant, Strategy};

@@ -1,2 +1,3 @@
-pub mod Turning
 pub mod Found
+pub mod PolicyLaws
+pub mod Turning

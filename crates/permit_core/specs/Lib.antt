@@ -1,3 +1,2 @@
-pub mod Denied
 pub mod Policy
-pub mod PolicyLaws
+pub mod inner

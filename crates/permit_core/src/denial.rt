@@ -4,7 +4,7 @@ ghost use Rattle.std.specs.Prelude.{◌≡◌, ◌≤◌, All, length, IfOk, IsS
 ghost use Rattle.flow_set.specs.Flow.{IsFlow};
 ghost use Rattle.flow_set.specs.FlowSet.{with_flow};
 ghost use Rattle.permit_core.specs.Policy.{AllHold, IsFirstFailing};
-ghost use Rattle.permit_core.specs.Denied.{IsDenied};
+ghost use Rattle.permit_core.specs.inner.Denied.{IsDenied};
 
 use flow_set::{Flow, FlowSet};
 use inv_law::Invariant;

@@ -4,8 +4,8 @@ ghost use Rattle.std.specs.Prelude.{◌≡◌, ◌≤◌, All, length, true, IsS
 ghost use Rattle.flow_set.specs.Flow.{IsFlow};
 ghost use Rattle.flow_set.specs.FlowSet.{with_flow};
 ghost use Rattle.permit_core.specs.Policy.{AllHold, IsFirstFailing};
-ghost use Rattle.permit_core.specs.Denied.{IsDenied};
-ghost use Rattle.trial_core.specs.Trials.{AreTried};
+ghost use Rattle.permit_core.specs.inner.Denied.{IsDenied};
+ghost use Rattle.trial_core.specs.inner.Trials.{AreTried};
 
 use flow_set::{Flow, FlowSet};
 use inv_law::Stepwise;

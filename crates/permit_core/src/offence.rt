@@ -3,7 +3,7 @@
 ghost use Rattle.std.specs.Prelude.{◌≡◌, List, IfOk, IfSome, IsNone, ◌↔◌};
 ghost use Rattle.flow_set.specs.declared.flow.Flow.{Flow};
 ghost use Rattle.flow_set.specs.FlowSet.{without};
-ghost use Rattle.flow_set.specs.FlowSetView.{IsFlowSet};
+ghost use Rattle.flow_set.specs.inner.FlowSetView.{IsFlowSet};
 ghost use Rattle.flow_set.specs.Conditions.{IsFirst, IsMinimalOffending};
 
 use first_core::{Condition, first_subset};

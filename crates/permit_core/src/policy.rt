@@ -1,7 +1,7 @@
 //! The permitted policy.
 
 ghost use Rattle.std.specs.Prelude.{◌≡◌, All, IsTrue, IfOk};
-ghost use Rattle.flow_set.specs.FlowSetView.{IsFlowSet};
+ghost use Rattle.flow_set.specs.inner.FlowSetView.{IsFlowSet};
 ghost use Rattle.flow_set.specs.Conditions.{IsFirst, IsGreatest};
 ghost use Rattle.permit_core.specs.Policy.{AllHold};
 

@@ -1,10 +1,10 @@
 //! The permitted policy by trials: no invariant is asked about the whole set again.
 
 ghost use Rattle.std.specs.Prelude.{◌≡◌, All, true, IsTrue, IfOk};
-ghost use Rattle.flow_set.specs.FlowSetView.{IsFlowSet};
+ghost use Rattle.flow_set.specs.inner.FlowSetView.{IsFlowSet};
 ghost use Rattle.flow_set.specs.Conditions.{IsFirst, IsGreatest};
 ghost use Rattle.permit_core.specs.Policy.{AllHold};
-ghost use Rattle.trial_core.specs.Trials.{AreTried};
+ghost use Rattle.trial_core.specs.inner.Trials.{AreTried};
 
 use first_core::{SteppedCondition, first_subset_by_steps};
 use flow_set::{Flow, FlowSet};

@@ -7,17 +7,18 @@ use Rattle.host_net.specs.Packet.{swap_of}
 use Rattle.pkt_core.specs.declared.event.Event.{Event}
 use Rattle.pkt_core.specs.declared.event.Event.TheVariants.{Seen, Forget}
 use Rattle.pkt_core.specs.Events.{SeenAt}
-use Rattle.pkt_core.specs.EventLaws.{get_back, get_before, get_last, seen_behind_forget}
+use Rattle.pkt_core.specs.laws.EventLaws.{get_back, get_before, get_last, seen_behind_forget}
 use Rattle.pkt_core.specs.Tracking.{Kept, Runs, after_forget, after_seen, nothing_kept, same_packet, state_of, with_kept}
-use Rattle.pkt_core.specs.Kept.{kept_after}
-use Rattle.pkt_core.specs.TrackingLaws.{same_packet-is, same_packet-not, same_packet-self, same_packet-swap}
-use Rattle.pkt_core.specs.Connections.{IsFirstPacket, KeepsConnections, WasAnswered}
+use Rattle.pkt_core.specs.inner.Kept.{kept_after}
+use Rattle.pkt_core.specs.laws.TrackingLaws.{same_packet-is, same_packet-not, same_packet-self, same_packet-swap}
+use Rattle.pkt_core.specs.Connections.{IsFirstPacket}
+use Rattle.pkt_core.specs.inner.Connections.{KeepsConnections, WasAnswered}
 use Rattle.pkt_core.specs.Firewall.{Filter, may_pass}
-use Rattle.pkt_core.specs.FirewallFor.{AllKnown, IsFirewallFor, StatefulArePermitted}
-use Rattle.pkt_core.specs.PolicyRuns.{TracksAsExpected}
-use Rattle.pkt_core.specs.ExpectedLaws.{runs_as_expected, some_run}
-use Rattle.pkt_core.specs.KeptLaws.{Fits, Fits-forget, Fits-seen, Fits-start, kept_behind_forget}
-use Rattle.pkt_core.specs.FirstPacketLaws.{IsFirstPacket-stays, IsNew, IsFirstPacket-behind_seen, IsFirstPacket-kept, IsFirstPacket-behind_forget, none_at, KeepsFirst-seen, KeepsFirst-forget, KeepsFirst-start}
+use Rattle.pkt_core.specs.inner.FirewallFor.{AllKnown, IsFirewallFor, StatefulArePermitted}
+use Rattle.pkt_core.specs.inner.PolicyRuns.{TracksAsExpected}
+use Rattle.pkt_core.proofs.ExpectedLaws.{runs_as_expected, some_run}
+use Rattle.pkt_core.specs.laws.KeptLaws.{Fits, Fits-forget, Fits-seen, Fits-start, kept_behind_forget}
+use Rattle.pkt_core.proofs.FirstPacketLaws.{IsFirstPacket-stays, IsNew, IsFirstPacket-behind_seen, IsFirstPacket-kept, IsFirstPacket-behind_forget, none_at, KeepsFirst-seen, KeepsFirst-forget, KeepsFirst-start}
 
 some_true : (o : Option Bool) → o ≡ Some true → is_some o ≡ true
 some_true o h = ap is_some h

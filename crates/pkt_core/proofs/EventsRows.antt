@@ -6,7 +6,7 @@ use Rattle.text_core.specs.Lines.{words}
 use Rattle.host_net.specs.Prefix.{address_of}
 use Rattle.pkt_core.specs.declared.event.Event.TheVariants.{Seen, Forget}
 use Rattle.pkt_core.specs.declared.events.EventWhy.TheVariants.{BadLine, BadValue}
-use Rattle.pkt_core.specs.EventSteps.{event_of, event_by, packet_of}
+use Rattle.pkt_core.specs.inner.EventSteps.{event_of, event_by, packet_of}
 
 -- a packet with a named protocol; ports stand as they are, also of `icmp`
 row_packet : event_of (words (codes "packet 8.8.8.8 10.1.0.10 icmp 3333 443")) ≡ Ok (Seen record { src = 134744072; dst = 167837706; proto = 1; sport = 3333; dport = 443 })

@@ -1,3 +1,9 @@
-pub mod PacketOrder
-pub mod EventsRows
 pub mod ConnectionLaws
+pub mod EventFaultLaws
+pub mod EventsRows
+pub mod EventsTextLaws
+pub mod ExpectedLaws
+pub mod FilterLaws
+pub mod FirstPacketLaws
+pub mod PacketOrder
+pub mod ReadEventLaws

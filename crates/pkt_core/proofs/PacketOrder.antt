@@ -7,7 +7,7 @@ use Rattle.std.specs.Ordering.{is_eq, nat_cmp, ordering_then}
 use Rattle.std.proofs.lemmas.Bool.Decides.{nat_tests}
 use Rattle.host_net.specs.declared.packet.Packet.{Packet}
 use Rattle.host_net.specs.contracts.packet.PacketOrd.TheImpl as order
-use Rattle.pkt_core.specs.Kept.{kept_in}
+use Rattle.pkt_core.specs.inner.Kept.{kept_in}
 use Rattle.pkt_core.specs.Tracking.{same_packet, with_kept}
 
 below_is_other : (a b : ℕ) → nat_lt a b ≡ true → (a == b) ≡ true → ⊥

@@ -1,5 +1,5 @@
 -- Connections, said over the events alone, and that tracking keeps just these.
-use Rattle.std.specs.Prelude.{◌≡◌, ◌↔◌, ℕ, ◌<◌, Bool, true, IsTrue, List, take, Some, is_some}
+use Rattle.std.specs.Prelude.{◌↔◌, ℕ, Bool, IsTrue, List, take, is_some}
 use Rattle.host_net.specs.declared.packet.Packet.{Packet}
 use Rattle.host_net.specs.Packet.{swap_of}
 use Rattle.pkt_core.specs.declared.event.Event.{Event}
@@ -15,16 +15,6 @@ pub record IsFirstPacket (permitted : Packet → Bool) (past : List Event) (plac
   pub begins : WasSeen (take place past) q → ⊥
   pub answers_none : IsTrue (permitted (swap_of q)) → WasSeen (take place past) (swap_of q) → ⊥
 
--- q began a connection, and its swap was seen after it
-abbrev pub WasAnswered : (Packet → Bool) → List Event → Packet → Type 0
-WasAnswered permitted past q =
-    (place : ℕ) × IsFirstPacket permitted past place q × ((later : ℕ) × (place < later) × SeenAt past later (swap_of q))
-
 -- exactly the first packets are kept
 abbrev pub KeepsFirst : (Packet → Bool) → List Event → Kept → Type 0
 KeepsFirst permitted past kept = (q : Packet) → IsTrue (is_some (kept q)) ↔ ((place : ℕ) × IsFirstPacket permitted past place q)
-
--- and as answered where they were answered
-pub record KeepsConnections (permitted : Packet → Bool) (past : List Event) (kept : Kept) : Type 0 where
-  pub first : KeepsFirst permitted past kept
-  pub answered : (q : Packet) → (kept q ≡ Some true) ↔ WasAnswered permitted past q

@@ -3,11 +3,11 @@
 
 ghost use Rattle.std.specs.Prelude.{◌≡◌, ℕ, List, Ok, Err, IfOk, IfErr, OnOk, MatchResult};
 ghost use Rattle.text_core.specs.Lines.{words};
-ghost use Rattle.text_core.specs.TextAnswers.{HasCause, HasReason, IsFault};
+ghost use Rattle.text_core.specs.inner.TextAnswers.{HasCause, HasReason, IsFault};
 ghost use Rattle.pkt_core.specs.declared.event.Event.{Event};
 ghost use Rattle.pkt_core.specs.declared.events.EventWhy.{EventWhy};
 ghost use Rattle.pkt_core.specs.EventsText.{IsReading, IsRefused, events_text};
-ghost use Rattle.pkt_core.specs.EventSteps.{with_event, event_of, event_by, packet_of, protocol_of};
+ghost use Rattle.pkt_core.specs.inner.EventSteps.{with_event, event_of, event_by, packet_of, protocol_of};
 ghost use Rattle.pkt_core.specs.Filter.{ArePackets};
 
 use crate::event::Event;
@@ -106,7 +106,7 @@ fn add_event(events: &mut Vec<Event>, line: &[u8]) -> Result<(), LineFault<Event
     Ok(())
 }
 
-#[tactic(auto, unfolding(crate::specs::EventSteps::event_of))]
+#[tactic(auto, unfolding(crate::specs::inner::EventSteps::event_of))]
 fn read_event(line: &[u8]) -> Result<Event, EventWhy>
     ensures { result ≡ event_of (words line.now) }
 {
@@ -135,7 +135,7 @@ fn read_event(line: &[u8]) -> Result<Event, EventWhy>
     event_by(verb, read_packet(src, dst, protocol, sport, dport))
 }
 
-#[tactic(auto, unfolding(crate::specs::EventSteps::event_by))]
+#[tactic(auto, unfolding(crate::specs::inner::EventSteps::event_by))]
 fn event_by(verb: &[u8], packet: Option<Packet>) -> Result<Event, EventWhy>
     ensures { result ≡ event_by verb.now packet }
 {
@@ -154,7 +154,7 @@ fn event_by(verb: &[u8], packet: Option<Packet>) -> Result<Event, EventWhy>
     Err(EventWhy::BadLine)
 }
 
-#[tactic(auto, unfolding(crate::specs::EventSteps::packet_of))]
+#[tactic(auto, unfolding(crate::specs::inner::EventSteps::packet_of))]
 fn read_packet(
     src: &[u8],
     dst: &[u8],

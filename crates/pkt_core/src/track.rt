@@ -2,8 +2,8 @@
 //! that is set once a packet the other way was seen.
 
 ghost use Rattle.std.specs.Prelude.{◌≡◌, [], Some, None, OnOk, OnErr};
-ghost use Rattle.pkt_core.specs.Kept.{kept_in, Begins};
-ghost use Rattle.pkt_core.specs.PolicyRuns.{TracksAsExpected};
+ghost use Rattle.pkt_core.specs.inner.Kept.{kept_in, Begins};
+ghost use Rattle.pkt_core.specs.inner.PolicyRuns.{TracksAsExpected};
 ghost use Rattle.pkt_core.specs.Tracking.{after_forget, after_seen, state_of, with_kept};
 
 use host_net::{CtState, Packet};

@@ -3,12 +3,12 @@
 use Rattle.std.proofs.Common.{◌≡◌, Bool, true, false, not, ap, sym, subst, ◌∙◌}
 use Rattle.std.proofs.lemmas.Bool.{false≢true}
 use Rattle.std.specs.Prelude.{IsFalse, IsTrue}
-use Rattle.flow_set.specs.FlowLaws.{with_flow-without_flow, with_flow_there, without_flow-with_flow, without_flow_absent}
+use Rattle.flow_set.specs.laws.FlowLaws.{with_flow-without_flow, with_flow_there, without_flow-with_flow, without_flow_absent}
 use Rattle.flow_set.specs.FlowSet.{IsOrdered, has}
 use Rattle.flow_set.specs.declared.flow.Flow.{Flow}
-use Rattle.net_core.specs.Asking.{asking, asking_for, not_asking_for}
+use Rattle.net_core.specs.inner.Asking.{asking, asking_for, not_asking_for}
 use Rattle.net_core.specs.Network.{Network}
-use Rattle.policy_steps.specs.Policed.{IsJudged, Policed, policy_in}
+use Rattle.policy_steps.specs.inner.Policed.{IsJudged, Policed, policy_in}
 use Rattle.policy_steps.specs.declared.judged.Judged.{Judged}
 
 pub asked_already : (d : Network) (f : Flow) → IsOrdered d.asked.flows → IsTrue (has d.asked.flows f) → d ≡ asking_for d f

@@ -1,10 +1,9 @@
 -- How many invariants fail on flows; and on which of them each fails, where they judge flows alone.
-use Rattle.std.specs.Prelude.{◌≡◌, ◌↔◌, ℕ, ◌<◌, Bool, List, [], ◌∷◌, length, IsTrue, IsFalse, slice_index_or}
+use Rattle.std.specs.Prelude.{◌≡◌, ◌↔◌, ℕ, Bool, List, [], ◌∷◌, length, IsTrue, IsFalse}
 use Rattle.std.specs.List.{AllZip, filter}
 use Rattle.flow_set.specs.FlowSet.{SetOfFlows, has, IsSubset}
 use Rattle.flow_set.specs.declared.flow.Flow.{Flow}
 use Rattle.inv_any.specs.declared.any_inv.AnyInv.{AnyInv}
-use Rattle.net_core.specs.Network.{Network}
 use Rattle.net_core.specs.Policies.{holds_on}
 
 -- so many of the invariants fail on the flows: each has a mark, which is false exactly where it holds
@@ -22,9 +21,3 @@ pub record FailsOn (inv : AnyInv) (all failing : List Flow) : Type 0 where
 pub record FailsIn (n : ℕ) (all : List Flow) (inv : AnyInv) (failing : SetOfFlows) : Type 0 where
   pub size : failing.size ≡ n
   pub flows : FailsOn inv all failing.flows
-
--- a set for each invariant: the asked flows on which it fails
-pub record AreFailingFlows (d : Network) (failing : List SetOfFlows) : Type 0 where
-  pub counted : length failing ≡ length d.invariants
-  pub each : (k : ℕ) (inv : AnyInv) (set : SetOfFlows) → k < length d.invariants
-      → FailsIn d.asked.size d.asked.flows (slice_index_or d.invariants k inv) (slice_index_or failing k set)

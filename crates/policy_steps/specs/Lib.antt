@@ -1,7 +1,2 @@
-pub mod EdgePolicies
-pub mod EdgePolicyLaws
 pub mod FailingFlows
-pub mod FailingLaws
-pub mod MarkedLaws
-pub mod Policed
-pub mod UnpermittedLaws
+pub mod inner

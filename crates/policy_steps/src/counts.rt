@@ -1,13 +1,14 @@
 //! How many invariants fail on the asked flows.
 
 ghost use Rattle.std.specs.Prelude.{◌≡◌, ◌≤◌, ℕ, List, [], ◌∷◌, IfOk};
-ghost use Rattle.flow_set.specs.Downward.{IsEdgeWise};
-ghost use Rattle.flow_set.specs.FlowSetView.{IsFlowSet};
+ghost use Rattle.flow_set.specs.inner.Downward.{IsEdgeWise};
+ghost use Rattle.flow_set.specs.inner.FlowSetView.{IsFlowSet};
 ghost use Rattle.flow_set.specs.declared.flow.Flow.{Flow as Meant};
 ghost use Rattle.inv_any.specs.Templates.{meaning_of};
-ghost use Rattle.net_core.specs.Fitting.{IsNetwork};
+ghost use Rattle.net_core.specs.inner.Fitting.{IsNetwork};
 ghost use Rattle.net_core.specs.Policies.{JudgesFlowsAlone, holds_on};
-ghost use Rattle.policy_steps.specs.FailingFlows.{AreFailing, AreFailingFlows, FailsOn};
+ghost use Rattle.policy_steps.specs.FailingFlows.{AreFailing, FailsOn};
+ghost use Rattle.policy_steps.specs.inner.FailingFlows.{AreFailingFlows};
 
 use flow_set::FlowSet;
 use inv_any::AnyInv;

@@ -5,9 +5,10 @@ ghost use Rattle.flow_set.specs.Flow.{IsFlow};
 ghost use Rattle.flow_set.specs.FlowSet.{has, with_flow};
 ghost use Rattle.flow_set.specs.declared.flow.Flow.{Flow as Meant};
 ghost use Rattle.inv_any.specs.Templates.{meaning_of};
-ghost use Rattle.net_core.specs.Asking.{asking_for, not_asking_for};
+ghost use Rattle.net_core.specs.inner.Asking.{asking_for, not_asking_for};
 ghost use Rattle.net_core.specs.Policies.{JudgesFlowsAlone, edge_mark};
-ghost use Rattle.policy_steps.specs.FailingFlows.{AreFailingFlows, FailsIn, FailsOn};
+ghost use Rattle.policy_steps.specs.FailingFlows.{FailsIn, FailsOn};
+ghost use Rattle.policy_steps.specs.inner.FailingFlows.{AreFailingFlows};
 
 use flow_set::{Flow, FlowSet};
 use inv_any::AnyInv;

@@ -1,10 +1,10 @@
 //! The policy of a network, found anew.
 
 ghost use Rattle.std.specs.Prelude.{◌≡◌, IfOk, IsTrue, OnErr, OnOk};
-ghost use Rattle.net_core.specs.Fitting.{IsNetwork};
+ghost use Rattle.net_core.specs.inner.Fitting.{IsNetwork};
 ghost use Rattle.net_core.specs.Policies.{IsPolicyOf, JudgesFlowsAlone};
-ghost use Rattle.policy_steps.specs.FailingFlows.{AreFailingFlows};
-ghost use Rattle.policy_steps.specs.Policed.{IsJudged, policy_in};
+ghost use Rattle.policy_steps.specs.inner.FailingFlows.{AreFailingFlows};
+ghost use Rattle.policy_steps.specs.inner.Policed.{IsJudged, policy_in};
 
 use crate::counts::count_failed;
 use crate::failing::failing_flows;

@@ -3,8 +3,8 @@
 ghost use Rattle.std.specs.Prelude.{◌≡◌, ◌↔◌, IfOk, IsFalse, IsTrue, OnErr, OnOk};
 ghost use Rattle.flow_set.specs.Flow.{IsFlow};
 ghost use Rattle.flow_set.specs.FlowSet.{has};
-ghost use Rattle.flow_set.specs.FlowSetView.{IsFlowSet};
-ghost use Rattle.net_core.specs.Asking.{asking_for, not_asking_for};
+ghost use Rattle.flow_set.specs.inner.FlowSetView.{IsFlowSet};
+ghost use Rattle.net_core.specs.inner.Asking.{asking_for, not_asking_for};
 ghost use Rattle.net_core.specs.Policies.{IsPolicyOf, JudgesFlowsAlone};
 ghost use Rattle.policy_steps.specs.FailingFlows.{AreFailing};
 
@@ -27,7 +27,7 @@ pub struct PolicedNetwork {
 impl Model for PolicedNetwork {
     ghost use Rattle.std.specs.Coded.{codes};
     ghost use Rattle.inv_any.specs.contracts.any_inv.AnyInv as any;
-    ghost use Rattle.policy_steps.specs.Policed.{IsJudged, Policed, policy_in};
+    ghost use Rattle.policy_steps.specs.inner.Policed.{IsJudged, Policed, policy_in};
 
     ghost Value = { Policed };
 

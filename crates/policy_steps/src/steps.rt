@@ -3,11 +3,11 @@
 ghost use Rattle.std.specs.Prelude.{◌≡◌, ◌↔◌, [], ◌∷◌, IsFalse, IsTrue};
 ghost use Rattle.flow_set.specs.Flow.{IsFlow};
 ghost use Rattle.flow_set.specs.FlowSet.{has};
-ghost use Rattle.net_core.specs.Asking.{asking_for, not_asking_for};
-ghost use Rattle.net_core.specs.Fitting.{IsNetwork};
+ghost use Rattle.net_core.specs.inner.Asking.{asking_for, not_asking_for};
+ghost use Rattle.net_core.specs.inner.Fitting.{IsNetwork};
 ghost use Rattle.inv_any.specs.Templates.{meaning_of};
 ghost use Rattle.net_core.specs.Policies.{IsPolicyOf, JudgesFlowsAlone, edge_mark, holds_on, strategy_of};
-ghost use Rattle.policy_steps.specs.EdgePolicies.{IsAdmitted, IsAnswered};
+ghost use Rattle.policy_steps.specs.inner.EdgePolicies.{IsAdmitted, IsAnswered};
 ghost use Rattle.state_core.specs.Stateful.{is_strict};
 
 use flow_set::{Flow, FlowSet};

@@ -10,8 +10,8 @@ use Rattle.std.proofs.lemmas.List.Elements.{All-nil, All-cons, All-head, All-tai
 use Rattle.flow_set.specs.declared.flow.Flow.{Flow}
 use Rattle.host_set.specs.HostSet.{HostNumbers}
 use Rattle.reach_core.specs.Walks.{Reaches}
-use Rattle.reach_core.specs.Counting.{ReachesExactly}
-use Rattle.host_set.specs.HostSetLaws.{hosts_ext, contains-remove}
+use Rattle.reach_core.specs.inner.Counting.{ReachesExactly}
+use Rattle.host_set.specs.laws.HostSetLaws.{hosts_ext, contains-remove}
 
 -- ---- members, one by one
 

@@ -8,16 +8,17 @@ use Rattle.std.proofs.lemmas.List.{length-replicate}
 use Rattle.flow_set.specs.declared.flow.Flow.{Flow}
 use Rattle.flow_set.specs.Flow.{IsFlow, same_flow}
 use Rattle.flow_set.specs.FlowSet.{has, with_flow}
-use Rattle.flow_set.specs.FlowLaws.{has-with_flow}
-use Rattle.flow_set.specs.FlowSetView.{IsFlowSet}
-use Rattle.flow_set.specs.Steps.{TriedFlows, stepped, taken_back, flows_before_step}
-use Rattle.flow_set.specs.SubsetLaws.{IsFlowSet-nothing, IsFlowSet-with_flow}
-use Rattle.host_set.specs.HostSet.{HostNumbers, row_of}
-use Rattle.host_set.specs.HostSetLaws.{contains-insert}
+use Rattle.flow_set.specs.laws.FlowLaws.{has-with_flow}
+use Rattle.flow_set.specs.inner.FlowSetView.{IsFlowSet}
+use Rattle.flow_set.specs.inner.Steps.{TriedFlows, stepped, taken_back, flows_before_step}
+use Rattle.flow_set.proofs.SubsetLaws.{IsFlowSet-nothing, IsFlowSet-with_flow}
+use Rattle.host_set.specs.HostSet.{HostNumbers}
+use Rattle.host_set.specs.inner.HostSet.{row_of}
+use Rattle.host_set.specs.laws.HostSetLaws.{contains-insert}
 use Rattle.reach_core.specs.Walks.{Joined, has_either}
-use Rattle.reach_core.specs.WalkLaws.{HasPath, cases_path, path_of_walk}
-use Rattle.reach_core.specs.ReachLaws.{Joined-within, Joined-back, Joined-nothing_new, Joined-below, Joined-with_flow, Touches}
-use Rattle.reach_core.specs.Rows.{ShowsJoin, AreBelow, IsWidened, IsBack, HasJoinRows, row_now, row_before}
+use Rattle.reach_core.specs.laws.WalkLaws.{HasPath, cases_path, path_of_walk}
+use Rattle.reach_core.specs.laws.ReachLaws.{Joined-within, Joined-back, Joined-nothing_new, Joined-below, Joined-with_flow, Touches}
+use Rattle.reach_core.specs.inner.Rows.{ShowsJoin, AreBelow, IsWidened, IsBack, HasJoinRows, row_now, row_before}
 use Rattle.reach_core.specs.declared.stepped.SteppedRows.{SteppedRows}
 use Rattle.reach_core.proofs.Closes.{tells_as, tells_bool, tells_nothing}
 use Rattle.reach_core.proofs.Widened.{contains-widened, before-widened, before-kept, fits_same, fits_widened}

@@ -4,7 +4,7 @@ use Rattle.std.proofs.lemmas.Bool.{cond-true, cond-false}
 use Rattle.flow_set.specs.declared.flow.Flow.{Flow}
 use Rattle.flow_set.specs.Flow.{before}
 use Rattle.flow_set.specs.FlowSet.{IsOrdered, with_flow}
-use Rattle.flow_set.specs.FlowLaws.{before_not_back, has-append, has_first}
+use Rattle.flow_set.specs.laws.FlowLaws.{before_not_back, has-append, has_first}
 use Rattle.std.specs.Prelude.{IsTrue}
 use Rattle.std.proofs.lemmas.Bool.{or_left, or_right}
 

@@ -7,14 +7,15 @@ use Rattle.std.proofs.lemmas.List.{length-replicate}
 use Rattle.flow_set.specs.declared.flow.Flow.{Flow}
 use Rattle.flow_set.specs.Flow.{IsFlow, same_flow}
 use Rattle.flow_set.specs.FlowSet.{has, with_flow}
-use Rattle.flow_set.specs.FlowLaws.{has-with_flow}
-use Rattle.flow_set.specs.Steps.{TriedFlows, stepped, taken_back, flows_before_step}
-use Rattle.flow_set.specs.SubsetLaws.{IsFlowSet-nothing, IsFlowSet-with_flow}
-use Rattle.host_set.specs.HostSet.{HostNumbers, row_of}
+use Rattle.flow_set.specs.laws.FlowLaws.{has-with_flow}
+use Rattle.flow_set.specs.inner.Steps.{TriedFlows, stepped, taken_back, flows_before_step}
+use Rattle.flow_set.proofs.SubsetLaws.{IsFlowSet-nothing, IsFlowSet-with_flow}
+use Rattle.host_set.specs.HostSet.{HostNumbers}
+use Rattle.host_set.specs.inner.HostSet.{row_of}
 use Rattle.reach_core.specs.Walks.{Reaches}
-use Rattle.reach_core.specs.WalkLaws.{HasPath, cases_path}
-use Rattle.reach_core.specs.ReachLaws.{Reaches-within, Reaches-nothing_new, Reaches-below}
-use Rattle.reach_core.specs.Rows.{ShowsReach, AreBelow, IsWidened, IsBack, FitsRows, HasReachRows, row_now, row_before}
+use Rattle.reach_core.specs.laws.WalkLaws.{HasPath, cases_path}
+use Rattle.reach_core.specs.laws.ReachLaws.{Reaches-within, Reaches-nothing_new, Reaches-below}
+use Rattle.reach_core.specs.inner.Rows.{ShowsReach, AreBelow, IsWidened, IsBack, FitsRows, HasReachRows, row_now, row_before}
 use Rattle.reach_core.specs.declared.stepped.SteppedRows.{SteppedRows}
 use Rattle.reach_core.proofs.Closes.{path_to, path_from, tells_step, tells_same, tells_as, tells_nothing}
 use Rattle.reach_core.proofs.Widened.{contains-widened, before-widened, before-kept, fits_same, fits_widened}

@@ -2,9 +2,10 @@
 use Rattle.std.proofs.Common.{◌≡◌, ℕ, ◌<◌, ◌↔◌, sym, ap, subst, arith}
 use Rattle.std.specs.Prelude.{IsTrue}
 use Rattle.std.specs.FinSet as set
-use Rattle.flow_set.specs.Steps.{TriedFlows}
-use Rattle.host_set.specs.HostSet.{HostNumbers, row_of}
-use Rattle.reach_core.specs.Rows.{HasReachRows, HasJoinRows}
+use Rattle.flow_set.specs.inner.Steps.{TriedFlows}
+use Rattle.host_set.specs.HostSet.{HostNumbers}
+use Rattle.host_set.specs.inner.HostSet.{row_of}
+use Rattle.reach_core.specs.inner.Rows.{HasReachRows, HasJoinRows}
 use Rattle.reach_core.specs.Walks.{Reaches, Joined}
 use Rattle.reach_core.specs.declared.stepped.SteppedRows.{SteppedRows}
 

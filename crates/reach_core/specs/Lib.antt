@@ -1,5 +1,3 @@
-pub mod Counting
-pub mod ReachLaws
-pub mod Rows
-pub mod WalkLaws
 pub mod Walks
+pub mod laws
+pub mod inner

@@ -3,10 +3,10 @@
 ghost use Rattle.std.specs.Prelude.{◌≡◌, ℕ, ◌<◌, ◌↔◌, IsTrue, IfOk, IsSome};
 ghost use Rattle.std.specs.FinSet as set;
 ghost use Rattle.flow_set.specs.Flow.{IsFlow};
-ghost use Rattle.flow_set.specs.FlowSetView.{IsFlowSet};
-ghost use Rattle.flow_set.specs.Steps.{untried, stepped, taken_back};
+ghost use Rattle.flow_set.specs.inner.FlowSetView.{IsFlowSet};
+ghost use Rattle.flow_set.specs.inner.Steps.{untried, stepped, taken_back};
 ghost use Rattle.reach_core.specs.Walks.{Reaches, Joined};
-ghost use Rattle.reach_core.specs.Counting.{ReachesExactly};
+ghost use Rattle.reach_core.specs.inner.Counting.{ReachesExactly};
 
 use crate::join_closure::JoinClosure;
 use crate::reach_closure::ReachClosure;
@@ -25,7 +25,7 @@ pub struct Closure {
 
 impl Model for Closure {
     ghost use Rattle.std.specs.Prelude.{◌≡◌};
-    ghost use Rattle.flow_set.specs.Steps.{TriedFlows};
+    ghost use Rattle.flow_set.specs.inner.Steps.{TriedFlows};
 
     ghost Value = { TriedFlows };
 

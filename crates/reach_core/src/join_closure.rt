@@ -4,8 +4,8 @@
 ghost use Rattle.std.specs.Prelude.{◌≡◌, ℕ, ◌<◌, ◌≤◌, ◌↔◌, List, [], IsTrue, IfOk, IsSome};
 ghost use Rattle.std.specs.FinSet as set;
 ghost use Rattle.flow_set.specs.Flow.{IsFlow};
-ghost use Rattle.flow_set.specs.FlowSetView.{IsFlowSet};
-ghost use Rattle.flow_set.specs.Steps.{untried, stepped, taken_back};
+ghost use Rattle.flow_set.specs.inner.FlowSetView.{IsFlowSet};
+ghost use Rattle.flow_set.specs.inner.Steps.{untried, stepped, taken_back};
 ghost use Rattle.reach_core.specs.Walks.{Joined};
 
 use crate::stepped::SteppedRows;
@@ -22,8 +22,8 @@ pub struct JoinClosure {
 }
 
 impl Model for JoinClosure {
-    ghost use Rattle.flow_set.specs.Steps.{TriedFlows};
-    ghost use Rattle.reach_core.specs.Rows.{HasJoinRows};
+    ghost use Rattle.flow_set.specs.inner.Steps.{TriedFlows};
+    ghost use Rattle.reach_core.specs.inner.Rows.{HasJoinRows};
 
     ghost Value = { TriedFlows };
 

@@ -4,10 +4,10 @@
 ghost use Rattle.std.specs.Prelude.{◌≡◌, ℕ, ◌<◌, ◌≤◌, ◌↔◌, List, [], IsTrue, IfOk, IsSome};
 ghost use Rattle.std.specs.FinSet as set;
 ghost use Rattle.flow_set.specs.Flow.{IsFlow};
-ghost use Rattle.flow_set.specs.FlowSetView.{IsFlowSet};
-ghost use Rattle.flow_set.specs.Steps.{untried, stepped, taken_back};
+ghost use Rattle.flow_set.specs.inner.FlowSetView.{IsFlowSet};
+ghost use Rattle.flow_set.specs.inner.Steps.{untried, stepped, taken_back};
 ghost use Rattle.reach_core.specs.Walks.{Reaches};
-ghost use Rattle.reach_core.specs.Counting.{ReachesExactly};
+ghost use Rattle.reach_core.specs.inner.Counting.{ReachesExactly};
 
 use crate::stepped::SteppedRows;
 use flow_set::{Flow, FlowSet, FlowSteps};
@@ -24,8 +24,8 @@ pub struct ReachClosure {
 }
 
 impl Model for ReachClosure {
-    ghost use Rattle.flow_set.specs.Steps.{TriedFlows};
-    ghost use Rattle.reach_core.specs.Rows.{HasReachRows};
+    ghost use Rattle.flow_set.specs.inner.Steps.{TriedFlows};
+    ghost use Rattle.reach_core.specs.inner.Rows.{HasReachRows};
 
     ghost Value = { TriedFlows };
 

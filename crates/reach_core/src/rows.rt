@@ -2,7 +2,7 @@
 
 ghost use Rattle.std.specs.Prelude.{◌≡◌, ◌<◌, length, replicate, slice_set, IfOk};
 ghost use Rattle.std.specs.FinSet as set;
-ghost use Rattle.host_set.specs.HostSet.{row_of};
+ghost use Rattle.host_set.specs.inner.HostSet.{row_of};
 
 use host_set::HostSet;
 use std::alloc::{AllocError, Global};

@@ -3,8 +3,8 @@
 
 ghost use Rattle.std.specs.Prelude.{◌≡◌, ◌<◌, ◌≤◌, length, replicate, IfOk};
 ghost use Rattle.std.specs.FinSet as set;
-ghost use Rattle.host_set.specs.HostSet.{row_of};
-ghost use Rattle.reach_core.specs.Rows.{AreBelow, FitsRows, IsWidened, IsBack};
+ghost use Rattle.host_set.specs.inner.HostSet.{row_of};
+ghost use Rattle.reach_core.specs.inner.Rows.{AreBelow, FitsRows, IsWidened, IsBack};
 
 use crate::rows::Rows;
 use host_set::HostSet;

@@ -5,13 +5,13 @@ use Rattle.net_core.specs.Network.{Network}
 use Rattle.flow_set.specs.Flow.{IsFlow}
 use Rattle.flow_set.specs.FlowSet.{SetOfFlows, has}
 use Rattle.flow_set.specs.declared.flow.Flow.{Flow}
-use Rattle.inv_any.specs.AnyTrials.{FitsAny, tried_of}
+use Rattle.inv_any.specs.inner.AnyTrials.{FitsAny, tried_of}
 use Rattle.inv_any.specs.declared.any_inv.AnyInv.{AnyInv}
 use Rattle.inv_any.specs.declared.any_trial.AnyTrial.{AnyTrial}
 use Rattle.permit_core.specs.Policy.{AllHold}
-use Rattle.permit_core.specs.Denied.{IsDenied}
-use Rattle.report_core.specs.Trying.{AreTriedOn}
-use Rattle.trial_core.specs.Trials.{AreTried}
+use Rattle.permit_core.specs.inner.Denied.{IsDenied}
+use Rattle.report_core.specs.inner.Trying.{AreTriedOn}
+use Rattle.trial_core.specs.inner.Trials.{AreTried}
 use Rattle.net_core.specs.Policies.{Policy, IsPolicyOf, MeetsAll, holds_on}
 
 -- a flow between the hosts is one in a set that was read

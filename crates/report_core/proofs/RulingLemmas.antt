@@ -7,9 +7,9 @@ use Rattle.net_core.specs.Network.{Network}
 use Rattle.flow_set.specs.EveryFlow.{flow_or_none}
 use Rattle.flow_set.specs.declared.flow.Flow.{Flow}
 use Rattle.net_core.specs.Policies.{Policy}
-use Rattle.report_core.specs.Growing.{Grows}
+use Rattle.report_core.specs.inner.Growing.{Grows}
 use Rattle.report_core.specs.PolicyReport.{IsRuling, AreRulings, ruling_line, policy_text, TellsRulings, Ruling, Answered, Allowed, NotAsked, Denied}
-use Rattle.report_core.specs.RulingView.{IsWithin}
+use Rattle.report_core.specs.inner.RulingView.{IsWithin}
 
 -- a ruling by an invariant names one that is there
 pub is_within : (d : Network) (policy : Policy) (f : Flow) (r : Ruling) → IsRuling d policy f r → IsWithin (length d.invariants) r

@@ -1,10 +1,6 @@
 pub mod CheckReport
-pub mod Growing
 pub mod Names
 pub mod PolicyReport
 pub mod RefusalLine
-pub mod RulingView
-pub mod Trying
-pub mod ReportLaws
 pub mod ReportPromises
-pub mod ReportPromisesLaws
+pub mod inner

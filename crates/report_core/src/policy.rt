@@ -4,11 +4,11 @@ ghost use Rattle.std.specs.List.{flat_map, range_with_len};
 ghost use Rattle.flow_set.specs.EveryFlow.{every_flow, flow_or_none};
 ghost use Rattle.flow_set.specs.Flow.{IsFlow};
 ghost use Rattle.net_core.specs.Policies.{IsPolicyOf};
-ghost use Rattle.report_core.specs.Growing.{Grows};
+ghost use Rattle.report_core.specs.inner.Growing.{Grows};
 ghost use Rattle.report_core.specs.PolicyReport.{IsPolicyReport, IsRuling, TellsRulings, ruling_line, ruling_text};
 ghost use Rattle.report_core.specs.PolicyReport as meant;
-ghost use Rattle.report_core.specs.RulingView.{IsWithin, ruling_view};
-ghost use Rattle.report_core.specs.Trying.{AreTriedOn};
+ghost use Rattle.report_core.specs.inner.RulingView.{IsWithin, ruling_view};
+ghost use Rattle.report_core.specs.inner.Trying.{AreTriedOn};
 
 use crate::names::{push_flow, push_invariant};
 use crate::report::Report;

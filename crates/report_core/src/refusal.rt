@@ -1,7 +1,7 @@
 //! The line of a refusal, written into a buffer and without memory.
 ghost use Rattle.std.specs.Prelude.{◌≡◌, ◌≤◌, ◌++◌, ◌+◌, length, take, decimal};
 ghost use Rattle.report_core.specs.RefusalLine.{cause_text, if_named, if_told, place_text, refusal_text};
-ghost use Rattle.text_core.specs.Line.{cut};
+ghost use Rattle.text_core.specs.inner.Line.{cut};
 
 use desc_form::{Place, Refusal, Why};
 use host_net::Name;

@@ -6,7 +6,7 @@ use Rattle.std.proofs.lemmas.List.Elements.{filter-append}
 use Rattle.std.specs.BTreeMap.{insert_entry}
 use Rattle.std.specs.Ordering.{match_ordering}
 use Rattle.std.specs.String.{string_cmp}
-use Rattle.sample_core.specs.MembersView.{put_member, table_value}
+use Rattle.sample_core.specs.inner.MembersView.{put_member, table_value}
 use Rattle.sample_core.specs.SampleTable.{hosts_in_care, is_in_care, sample_hosts}
 use Rattle.toml.specs.Data.{Data, Members, member, table}
 use Rattle.toml.specs.View.{members_view, view}

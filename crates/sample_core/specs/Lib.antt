@@ -1,13 +1,4 @@
 pub mod SampleTable
-pub mod MembersView
 pub mod Sample
-pub mod CountsView
-pub mod SampleLaws
-pub mod SampleWritten
-pub mod WrittenLaws
-pub mod NumberLaws
-pub mod HostLaws
-pub mod UseLaws
-pub mod AcceptedLaws
 pub mod SamplePromises
-pub mod SamplePromisesLaws
+pub mod inner

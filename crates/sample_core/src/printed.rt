@@ -5,7 +5,7 @@ ghost use Rattle.desc_core.specs.Description.{described_by_table};
 ghost use Rattle.net_core.specs.Policies.{IsPolicyOf};
 ghost use Rattle.sample_core.specs.SampleTable.{sample_table};
 ghost use Rattle.host_net.specs.Limits.{host_limit};
-ghost use Rattle.sample_core.specs.CountsView.{counts_view};
+ghost use Rattle.sample_core.specs.inner.CountsView.{counts_view};
 ghost use Rattle.sample_core.specs.Sample.{AreCounts, IsSample, asked_text, count_line, counts_text, offending_lines, policy_text, run_text, table_line};
 
 use crate::counts::{TableLines, offending, table_lines};

@@ -5,7 +5,7 @@ ghost use Rattle.host_net.specs.Limits.{host_limit};
 ghost use Rattle.host_net.specs.Site.{site_with};
 ghost use Rattle.host_net.specs.Verdict.{verdict_if};
 ghost use Rattle.ipt_rules.specs.Meaning.{Passes};
-ghost use Rattle.pkt_core.specs.Kept.{kept_in};
+ghost use Rattle.pkt_core.specs.inner.Kept.{kept_in};
 ghost use Rattle.pkt_core.specs.Tracking.{Runs};
 ghost use Rattle.pkt_core.specs.declared.event.Event.{Event};
 ghost use Rattle.pkt_core.specs.declared.event.Event.TheVariants.{Seen};

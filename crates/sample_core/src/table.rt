@@ -2,7 +2,7 @@
 
 ghost use Rattle.std.specs.Prelude.{◌≡◌, ◌++◌, ◌∷◌, [], if◌then◌else◌, IfOk, OnOk, codes, map, pos, ◌%◌, string_bytes};
 ghost use Rattle.sample_core.specs.SampleTable.{care_table, host_table, hosts_in_care, invariant_tables, is_in_care, level_table, sample_hosts, sample_name, sample_prefix, sample_table};
-ghost use Rattle.sample_core.specs.MembersView.{put_member, table_value};
+ghost use Rattle.sample_core.specs.inner.MembersView.{put_member, table_value};
 ghost use Rattle.toml.specs.Data.{array, string, integer, table, no_members};
 ghost use Rattle.toml.specs.View.{items_view, table_view, view};
 

@@ -5,17 +5,17 @@ use Rattle.std.specs.Prelude.{IsTrue, IsFalse, All, IfOk}
 use Rattle.std.proofs.lemmas.Bool.{or_from}
 use Rattle.flow_set.specs.declared.flow.Flow.{Flow}
 use Rattle.flow_set.specs.Flow.{same_flow, back_of}
-use Rattle.first_core.specs.Grown.{IsGrown}
+use Rattle.first_core.specs.inner.Grown.{IsGrown}
 use Rattle.flow_set.specs.FlowSet.{SetOfFlows, has, IsOrdered, with_flow, with_back}
-use Rattle.flow_set.specs.FlowSetView.{IsFlowSet}
+use Rattle.flow_set.specs.inner.FlowSetView.{IsFlowSet}
 use Rattle.flow_set.specs.Conditions.{IsFirst}
-use Rattle.flow_set.specs.Downward.{IsDownward, IsEdgeWise}
-use Rattle.flow_set.specs.FlowLaws.{same_fact, same_flow_back, has-with_flow, has-with_back, flows_ext, IsOrdered-with_flow, IsOrdered-with_back}
-use Rattle.flow_set.specs.SubsetLaws.{IsFlow-back_of, IsFlowSet-subset, IsFlowSet-with_back}
-use Rattle.flow_set.specs.ConditionLaws.{IsDownward-with_back}
+use Rattle.flow_set.specs.inner.Downward.{IsDownward, IsEdgeWise}
+use Rattle.flow_set.specs.laws.FlowLaws.{same_fact, same_flow_back, has-with_flow, has-with_back, flows_ext, IsOrdered-with_flow, IsOrdered-with_back}
+use Rattle.flow_set.proofs.SubsetLaws.{IsFlow-back_of, IsFlowSet-subset, IsFlowSet-with_back}
+use Rattle.flow_set.proofs.ConditionLaws.{IsDownward-with_back}
 use Rattle.inv_law.specs.declared.strategy.Strategy.{Strategy}
 use Rattle.state_core.specs.Stateful.{StrictHold, CompliesWithEach}
-use Rattle.state_core.specs.StatefulLaws.{Complies-from_strict}
+use Rattle.state_core.proofs.StatefulLaws.{Complies-from_strict}
 
 -- an answer that is a flow of the policy itself adds nothing
 pub permitted_answer : (p s : List Flow) (f : Flow) → IsOrdered p → IsTrue (has p (back_of f)) → with_back p (with_flow s f) ≡ with_back p s

@@ -1,2 +1,1 @@
 pub mod Stateful
-pub mod StatefulLaws

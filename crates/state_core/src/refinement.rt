@@ -2,7 +2,7 @@
 
 ghost use Rattle.std.specs.Prelude.{◌≡◌, All, IfOk};
 ghost use Rattle.flow_set.specs.FlowSet.{with_back};
-ghost use Rattle.flow_set.specs.FlowSetView.{IsFlowSet};
+ghost use Rattle.flow_set.specs.inner.FlowSetView.{IsFlowSet};
 ghost use Rattle.flow_set.specs.Conditions.{IsFirst};
 ghost use Rattle.state_core.specs.Stateful.{is_strict, StrictHold, CompliesWithEach};
 

@@ -2,10 +2,10 @@
 
 ghost use Rattle.std.specs.Prelude.{◌≡◌, All, IfOk};
 ghost use Rattle.flow_set.specs.FlowSet.{with_back};
-ghost use Rattle.flow_set.specs.FlowSetView.{IsFlowSet};
+ghost use Rattle.flow_set.specs.inner.FlowSetView.{IsFlowSet};
 ghost use Rattle.flow_set.specs.Conditions.{IsFirst};
 ghost use Rattle.state_core.specs.Stateful.{is_strict, StrictHold, CompliesWithEach};
-ghost use Rattle.trial_core.specs.Trials.{AreTried};
+ghost use Rattle.trial_core.specs.inner.Trials.{AreTried};
 
 use crate::refinement::Strict;
 use first_core::{SteppedCondition, first_subset_by_steps};

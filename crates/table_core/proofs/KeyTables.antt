@@ -5,11 +5,11 @@ use Rattle.std.specs.List.{list_all, list_any}
 use Rattle.std.specs.Map as maps
 use Rattle.std.specs.Str.{bytes_eq}
 use Rattle.table_core.specs.declared.keys.Key.{Key}
-use Rattle.table_core.specs.KeyView.{key_view}
+use Rattle.table_core.specs.inner.KeyView.{key_view}
 use Rattle.table_core.specs.Keys.{has_only_keys}
 use Rattle.table_core.specs.Keys as meant
 use Rattle.table_core.specs.Tables.{has_only, keys_in}
-use Rattle.table_core.specs.TablesLaws.{all_keys_view}
+use Rattle.table_core.proofs.TablesLaws.{all_keys_view}
 use Rattle.toml.specs.View.{members_view}
 use Rattle.toml.specs.declared.value.Value.{Value}
 

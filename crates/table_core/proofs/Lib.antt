@@ -1,2 +1,7 @@
 pub mod KeyTables
+pub mod ListingLaws
+pub mod PrintedLaws
+pub mod ShallowLaws
+pub mod SortedLaws
+pub mod TablesLaws
 pub mod Views

@@ -1,10 +1,5 @@
-pub mod KeyView
 pub mod Keys
 pub mod Listing
-pub mod ListingLaws
-pub mod PrintedLaws
 pub mod Shallow
-pub mod ShallowLaws
-pub mod SortedLaws
 pub mod Tables
-pub mod TablesLaws
+pub mod inner

@@ -3,7 +3,7 @@ ghost use Rattle.std.specs.Prelude.{◌≡◌, ◌&&◌, not, map};
 ghost use Rattle.std.specs.List.{list_all, list_any};
 ghost use Rattle.std.specs.Str.{bytes_eq};
 ghost use Rattle.table_core.specs.Keys.{all_suit, has_only_keys, lacks_key, suits_in};
-ghost use Rattle.table_core.specs.KeyView.{key_view};
+ghost use Rattle.table_core.specs.inner.KeyView.{key_view};
 ghost use Rattle.table_core.specs.Tables.{has_key};
 ghost use Rattle.toml.specs.View.{table_view};
 

@@ -4,7 +4,7 @@ ghost use Rattle.std.specs.List.{list_all, list_any};
 ghost use Rattle.std.specs.Str.{bytes_eq};
 ghost use Rattle.std.specs.Option.{option_map_or};
 ghost use Rattle.table_core.specs.Keys.{is_one_of, is_text, stands_at};
-ghost use Rattle.table_core.specs.KeyView.{kind_view};
+ghost use Rattle.table_core.specs.inner.KeyView.{kind_view};
 ghost use Rattle.table_core.specs.declared.kinds.Kind.TheVariants.{Texts};
 ghost use Rattle.table_core.specs.Tables.{text_at};
 ghost use Rattle.toml.specs.View.{view, table_view};

@@ -2,11 +2,11 @@
 use Rattle.std.proofs.Common.{◌≡◌, ℕ, ◌+◌, ◌-◌, ◌/◌, ◌%◌, ◌^◌, ◌≤◌, ◌<◌, min, List, [], ◌∷◌, ◌++◌, take, length, ap, sym, ◌∙◌, arith, length-take, append_assoc}
 use Rattle.std.specs.Fmt.{decimal}
 use Rattle.std.proofs.lemmas.Fmt.{decimal_step}
-use Rattle.text_core.specs.LineLaws.{cut_cut}
+use Rattle.text_core.proofs.LineLaws.{cut_cut}
 use Rattle.std.proofs.lemmas.List.{take_min, length-take-le}
 use Rattle.std.proofs.lemmas.Slice.{take-put_mid}
 use Rattle.std.proofs.Math.Seq.{take-append-add}
-use Rattle.text_core.specs.Line.{cut}
+use Rattle.text_core.specs.inner.Line.{cut}
 use borrow.Rule.Slice.PartMut.{put_mid}
 
 -- a piece goes in as far as there is room after what stands already

@@ -2,10 +2,10 @@
 use Rattle.std.proofs.Common.{◌≡◌, ◌≤◌, ◌<◌, ℕ, ◌+◌, List, [], ◌∷◌, ◌++◌, length, length-append, append_assoc, append-nil, refl, sym, ap, subst, ◌∙◌, arith}
 use Rattle.std.proofs.lemmas.List.{length_push}
 use Rattle.text_core.specs.Lines.{lines}
-use Rattle.text_core.specs.LinesLaws.{length-lines}
+use Rattle.text_core.proofs.LinesLaws.{length-lines}
 use Rattle.text_core.specs.TextByLines.{TextByLines, AreLines, IsReadThrough, HasFault, too_long, at_line}
-use Rattle.text_core.specs.TextAnswers.{HasCause, Passes, Stops}
-use Rattle.text_core.specs.TextByLinesLaws.{lines_more}
+use Rattle.text_core.specs.inner.TextAnswers.{HasCause, Passes, Stops}
+use Rattle.text_core.proofs.TextByLinesLaws.{lines_more}
 use Rattle.text_core.specs.declared.faults.TextFault.{TextFault}
 use Rattle.text_core.specs.declared.faults.TextFault.TheVariants.{Refused, Memory}
 

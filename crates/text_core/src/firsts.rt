@@ -1,8 +1,8 @@
 //! The first element of a list that an earlier one bars, as one that has its name.
 ghost use Rattle.std.specs.Prelude.{◌≡◌, Bool, IfSome, IsTrue, None, find, option_map};
 ghost use Rattle.text_core.specs.Firsts.{first_pair, numbered};
-ghost use Rattle.text_core.specs.Pairs.{no_pair, IsFirstPair};
-ghost use Rattle.text_core.specs.FirstsView.{numbered_seen, pair_seen, Tests};
+ghost use Rattle.text_core.specs.inner.Pairs.{no_pair, IsFirstPair};
+ghost use Rattle.text_core.specs.inner.FirstsView.{numbered_seen, pair_seen, Tests};
 
 /// An element of a list and its number there, from 1.
 #[derive(Drop)]

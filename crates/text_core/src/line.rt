@@ -2,7 +2,7 @@
 //! does not fit is left out, so a writer whose lines are short enough has them whole.
 
 ghost use Rattle.std.specs.Prelude.{◌≡◌, ◌≤◌, ◌++◌, take, decimal};
-ghost use Rattle.text_core.specs.Line.{cut};
+ghost use Rattle.text_core.specs.inner.Line.{cut};
 
 /// Puts a piece after the first `at` bytes, and answers where the text now ends. What the buffer
 /// holds after that place is left open.

@@ -41,7 +41,7 @@ impl<'a> Lines<'a> {
     }
 }
 
-#[tactic(auto, using(crate::specs::LinesLaws::lines_none, crate::specs::LinesLaws::lines_cut, crate::specs::LinesLaws::lines_whole))]
+#[tactic(auto, using(crate::proofs::LinesLaws::lines_none, crate::proofs::LinesLaws::lines_cut, crate::proofs::LinesLaws::lines_whole))]
 fn first_line(text: &[u8]) -> Option<(&[u8], &[u8])>
     ensures some { IfSome result (λ parts. lines text.now ≡ parts.0.now ∷ lines parts.1.now) }
     ensures none { IfNone result (lines text.now ≡ []) }
@@ -88,7 +88,7 @@ impl<'a> Words<'a> {
     }
 }
 
-#[tactic(auto, using(crate::specs::LinesLaws::words_past, crate::specs::LinesLaws::word_begins, crate::specs::LinesLaws::words_past_none))]
+#[tactic(auto, using(crate::proofs::LinesLaws::words_past, crate::proofs::LinesLaws::word_begins, crate::proofs::LinesLaws::words_past_none))]
 fn first_word(line: &[u8]) -> Option<(&[u8], &[u8])>
     ensures some { IfSome result (λ parts. words line.now ≡ parts.0.now ∷ words parts.1.now) }
     ensures none { IfNone result (words line.now ≡ []) }
@@ -102,7 +102,7 @@ fn first_word(line: &[u8]) -> Option<(&[u8], &[u8])>
     }
 }
 
-#[tactic(auto, using(crate::specs::LinesLaws::words_first, crate::specs::LinesLaws::words_only))]
+#[tactic(auto, using(crate::proofs::LinesLaws::words_first, crate::proofs::LinesLaws::words_only))]
 fn cut_word(text: &[u8]) -> (&[u8], &[u8])
     requires some { 0 < length text.now }
     requires word { is_blank (slice_index_or text.now 0 0) ≡ false }

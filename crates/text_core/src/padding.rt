@@ -1,7 +1,7 @@
 //! A short text kept in an array of fixed size, so that it is copied without memory.
 
 ghost use Rattle.std.specs.Prelude.{◌≡◌, ◌≤◌, ◌++◌, drop, length};
-ghost use Rattle.text_core.specs.Padded.{padded};
+ghost use Rattle.text_core.specs.inner.Padded.{padded};
 
 /// The bytes of a text, and zeros after them.
 pub fn padded<const N: usize>(text: &[u8]) -> [u8; N]

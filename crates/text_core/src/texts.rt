@@ -3,7 +3,7 @@
 
 ghost use Rattle.std.specs.Prelude.{◌≡◌, ◌<◌, ◌^◌, ℕ, List, Ok, Err, IfOk, IfErr};
 ghost use Rattle.text_core.specs.TextByLines.{TextByLines, IsReadThrough};
-ghost use Rattle.text_core.specs.TextAnswers.{HasCause, HasReason, Passes, Stops};
+ghost use Rattle.text_core.specs.inner.TextAnswers.{HasCause, HasReason, Passes, Stops};
 
 use crate::faults::{LineFault, TextFault};
 use crate::lines::{Lines, is_comment};

@@ -10,7 +10,7 @@ use Rattle.std.proofs.Math.Seq.{take-append_seam}
 use Rattle.std.proofs.lemmas.Bool.{and_parts, and_from, false≢true}
 use Rattle.std.proofs.lemmas.List.{take-append-drop, take-map, length-map}
 use Rattle.std.proofs.lemmas.Slice.Eq.{bytes_eq-Decides}
-use Rattle.tmpl_domains.specs.DomainView.{segment_bytes}
+use Rattle.tmpl_domains.specs.inner.DomainView.{segment_bytes}
 use Rattle.tmpl_domains.specs.Domains.{trusted_path}
 use Rattle.tmpl_domains.specs.Path.{IsPrefix}
 

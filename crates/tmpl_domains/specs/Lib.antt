@@ -1,4 +1,4 @@
 pub mod Domains
-pub mod DomainsLaws
 pub mod Path
-pub mod DomainView
+pub mod laws
+pub mod inner

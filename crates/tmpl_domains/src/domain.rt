@@ -3,7 +3,7 @@
 ghost use Rattle.std.specs.Prelude.{◌≡◌, ◌↔◌, IsTrue, IfOk};
 ghost use Rattle.tmpl_domains.specs.Domains.{IsPlace, Place, trusted_path};
 ghost use Rattle.tmpl_domains.specs.Path.{segments, IsPrefix};
-ghost use Rattle.tmpl_domains.specs.DomainView.{segment_bytes};
+ghost use Rattle.tmpl_domains.specs.inner.DomainView.{segment_bytes};
 
 use std::alloc::{AllocError, Global};
 use std::marker::Model;
@@ -17,7 +17,7 @@ pub(crate) struct Domain {
 
 impl Model for Domain {
     ghost use Rattle.tmpl_domains.specs.Domains.{IsPlace, Place};
-    ghost use Rattle.tmpl_domains.specs.DomainView.{segment_bytes};
+    ghost use Rattle.tmpl_domains.specs.inner.DomainView.{segment_bytes};
 
     ghost Value = { Place };
 

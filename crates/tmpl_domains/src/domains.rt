@@ -2,11 +2,11 @@
 
 ghost use Rattle.std.specs.Prelude.{◌≡◌, ◌<◌, IfOk, Some, OnOk, OnErr, length, replicate, slice_set};
 ghost use Rattle.inv_law.specs.Attributes.{PassesBetween};
-ghost use Rattle.inv_law.specs.Resets.{PassesAfterReset};
-ghost use Rattle.inv_law.specs.AttributeLaws.{ResetPassesNoMore-attributes};
+ghost use Rattle.inv_law.specs.inner.Resets.{PassesAfterReset};
+ghost use Rattle.inv_law.specs.laws.AttributeLaws.{ResetPassesNoMore-attributes};
 ghost use Rattle.inv_law.specs.declared.strategy.Strategy.TheVariants.{Access};
 ghost use Rattle.tmpl_domains.specs.Domains.{DomainsPass, domains};
-ghost use Rattle.tmpl_domains.specs.DomainsLaws.{domains_secure};
+ghost use Rattle.tmpl_domains.specs.laws.DomainsLaws.{domains_secure};
 ghost use Rattle.tmpl_domains.specs.Path.{segments};
 
 use crate::domain::Domain;
@@ -23,7 +23,7 @@ pub struct Domains {
 
 impl Model for Domains {
     ghost use Rattle.std.specs.Prelude.{List, Option};
-    ghost use Rattle.tmpl_domains.specs.DomainView.{ArePlaced};
+    ghost use Rattle.tmpl_domains.specs.inner.DomainView.{ArePlaced};
     ghost use Rattle.tmpl_domains.specs.Domains.{Place};
 
     ghost Value = { List (Option Place) };

@@ -1,5 +1,4 @@
 pub mod Blp
-pub mod BlpLaws
 pub mod Tainting
-pub mod TaintingLaws
-pub mod TaintingView
+pub mod laws
+pub mod inner

@@ -3,11 +3,11 @@
 
 ghost use Rattle.std.specs.Prelude.{◌≡◌, ◌<◌, IfOk, length, replicate, slice_set};
 ghost use Rattle.inv_law.specs.Attributes.{PassesBetween};
-ghost use Rattle.inv_law.specs.Resets.{PassesAfterReset};
-ghost use Rattle.inv_law.specs.AttributeLaws.{ResetPassesNoMore-attributes};
+ghost use Rattle.inv_law.specs.inner.Resets.{PassesAfterReset};
+ghost use Rattle.inv_law.specs.laws.AttributeLaws.{ResetPassesNoMore-attributes};
 ghost use Rattle.inv_law.specs.declared.strategy.Strategy.TheVariants.{Information};
 ghost use Rattle.tmpl_levels.specs.Blp.{unclassified, BlpPasses};
-ghost use Rattle.tmpl_levels.specs.BlpLaws.{blp_secure};
+ghost use Rattle.tmpl_levels.specs.laws.BlpLaws.{blp_secure};
 
 use inv_law::{EdgeRule, Strategy};
 use std::alloc::{AllocError, Global};

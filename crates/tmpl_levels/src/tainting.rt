@@ -2,11 +2,11 @@
 
 ghost use Rattle.std.specs.Prelude.{◌≡◌, ◌<◌, ◌↔◌, IsTrue, IfOk, length, replicate, slice_set};
 ghost use Rattle.inv_law.specs.Attributes.{PassesBetween};
-ghost use Rattle.inv_law.specs.Resets.{PassesAfterReset};
-ghost use Rattle.inv_law.specs.AttributeLaws.{ResetPassesNoMore-attributes};
+ghost use Rattle.inv_law.specs.inner.Resets.{PassesAfterReset};
+ghost use Rattle.inv_law.specs.laws.AttributeLaws.{ResetPassesNoMore-attributes};
 ghost use Rattle.inv_law.specs.declared.strategy.Strategy.TheVariants.{Information};
 ghost use Rattle.tmpl_levels.specs.Tainting.{tainting, untainted, TaintsPass};
-ghost use Rattle.tmpl_levels.specs.TaintingLaws.{tainting_secure};
+ghost use Rattle.tmpl_levels.specs.laws.TaintingLaws.{tainting_secure};
 
 use inv_law::{EdgeRule, Strategy};
 use std::alloc::{AllocError, Global};
@@ -42,7 +42,7 @@ pub struct Tainting {
 
 impl Model for Tainting {
     ghost use Rattle.std.specs.Prelude.{List};
-    ghost use Rattle.tmpl_levels.specs.TaintingView.{AreLabelled};
+    ghost use Rattle.tmpl_levels.specs.inner.TaintingView.{AreLabelled};
     ghost use Rattle.tmpl_levels.specs.declared.tainting.Labels.{Labels};
 
     ghost Value = { List Labels };

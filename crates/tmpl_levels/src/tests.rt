@@ -59,7 +59,7 @@ fn levels(rt: HostRuntime) -> Result<(), Fail> {
 
 // That memory suffices, worked answers, and the template through its bounds.
 #[test]
-#[tactic(auto, using(crate::specs::TaintingLaws::own_by_mask))]
+#[tactic(auto, using(crate::specs::laws::TaintingLaws::own_by_mask))]
 fn labels(rt: HostRuntime) -> Result<(), Fail> {
     let mut rule = Tainting::new(rt.alloc(), 3)?;
     rule.set(0, 3, 1);

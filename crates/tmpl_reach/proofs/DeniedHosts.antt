@@ -4,11 +4,11 @@ use Rattle.std.specs.FinSet as fin
 use Rattle.std.proofs.lemmas.List.FromFn.{get_or-map-range_with_len, length-map-range_with_len}
 use Rattle.std.proofs.lemmas.Option.{get_or_from_slice_get, slice_get-get_or}
 use Rattle.host_set.specs.HostSet.{HostNumbers}
-use Rattle.inv_law.specs.Template.{AllMayHave}
-use Rattle.inv_law.specs.TemplateLaws.{AllMayHave-set}
+use Rattle.inv_law.specs.inner.Template.{AllMayHave}
+use Rattle.inv_law.specs.laws.TemplateLaws.{AllMayHave-set}
 use Rattle.tmpl_reach.specs.NoReach.{AreOthers, no_reach, others}
-use Rattle.tmpl_reach.specs.NoReachView.{DenyOthers}
-use Rattle.tmpl_reach.specs.Resets.{all_others}
+use Rattle.tmpl_reach.specs.inner.NoReachView.{DenyOthers}
+use Rattle.tmpl_reach.specs.inner.Resets.{all_others}
 
 pub AllMayHave-all_others : (n : ℕ) → AllMayHave no_reach (all_others n)
 AllMayHave-all_others n host within =

@@ -6,13 +6,15 @@ use Rattle.std.proofs.lemmas.Bool.{both_ways, cases_Bool, cases_eq, cases_lt}
 use Rattle.flow_set.specs.declared.flow.Flow.{Flow}
 use Rattle.host_set.specs.HostSet.{HostNumbers}
 use Rattle.reach_core.specs.Walks.{Reaches, Joined, has_either, ReachesAtMost}
-use Rattle.reach_core.specs.WalkLaws.{HasWalk-append}
-use Rattle.reach_core.specs.ReachLaws.{Joined-back}
-use Rattle.tmpl_reach.specs.Dependability.{IsDependable, StaysWithin}
-use Rattle.tmpl_reach.specs.EachOf.{EachOf}
-use Rattle.tmpl_reach.specs.Interferences.{HasOneAtMost, IsNextInterfering, NoneInterferes, StaysApart}
+use Rattle.reach_core.specs.laws.WalkLaws.{HasWalk-append}
+use Rattle.reach_core.specs.laws.ReachLaws.{Joined-back}
+use Rattle.tmpl_reach.specs.Dependability.{IsDependable}
+use Rattle.tmpl_reach.specs.inner.Dependability.{StaysWithin}
+use Rattle.tmpl_reach.specs.inner.EachOf.{EachOf}
+use Rattle.tmpl_reach.specs.inner.Interferences.{HasOneAtMost, IsNextInterfering, NoneInterferes, StaysApart}
 use Rattle.tmpl_reach.specs.NonInterference.{IsInterfering, IsNonInterfering}
-use Rattle.tmpl_reach.specs.NoReach.{denied_by, ReachesNone, ReachesNoDenied, StaysClear}
+use Rattle.tmpl_reach.specs.NoReach.{denied_by, ReachesNone, ReachesNoDenied}
+use Rattle.tmpl_reach.specs.inner.NoReach.{StaysClear}
 use Rattle.tmpl_reach.specs.declared.non_interference.Interference.{Interference}
 use Rattle.tmpl_reach.proofs.EachHost.{everywhere}
 

@@ -1,10 +1,5 @@
 pub mod Dependability
-pub mod DependabilityLaws
-pub mod EachOf
-pub mod Interferences
 pub mod NonInterference
-pub mod NonInterferenceLaws
 pub mod NoReach
-pub mod NoReachLaws
-pub mod NoReachView
-pub mod Resets
+pub mod inner
+pub mod laws

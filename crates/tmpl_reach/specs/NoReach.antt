@@ -28,9 +28,5 @@ ReachesNone hosts e i = (j : ℕ) → i ≢ j → IsTrue (set.contains hosts j) 
 abbrev pub ReachesNoDenied : List HostNumbers → List Flow → Type 0
 ReachesNoDenied denied e = (i : ℕ) → ReachesNone (denied_by denied i) e i
 
--- the host keeps clear where it neither is this sender nor comes to it
-abbrev pub StaysClear : List HostNumbers → List Flow → ℕ → ℕ → Type 0
-StaysClear denied e from host = host ≢ from → (Reaches e host from → ⊥) → ReachesNone (denied_by denied host) e host
-
 abbrev pub no_reach : Template
 no_reach = walk_template (codes "noreach") Access AreOthers others ReachesNoDenied

@@ -5,10 +5,11 @@ ghost use Rattle.std.specs.Prelude.{◌≡◌, ℕ, ◌<◌, ◌↔◌, IfOk, Is
 ghost use Rattle.std.proofs.lemmas.Bool.{false≢true};
 ghost use Rattle.inv_law.specs.declared.strategy.Strategy.TheVariants.{Access};
 ghost use Rattle.reach_core.specs.Walks.{ReachesAtMost};
-ghost use Rattle.tmpl_reach.specs.Dependability.{IsDependable, StaysWithin};
-ghost use Rattle.tmpl_reach.specs.EachOf.{EachOf};
-ghost use Rattle.tmpl_reach.specs.Resets.{IsDependableAfterReset};
-ghost use Rattle.tmpl_reach.specs.DependabilityLaws.{IsDependable-downward, IsDependable-none, IsDependable-reset};
+ghost use Rattle.tmpl_reach.specs.Dependability.{IsDependable};
+ghost use Rattle.tmpl_reach.specs.inner.Dependability.{StaysWithin};
+ghost use Rattle.tmpl_reach.specs.inner.EachOf.{EachOf};
+ghost use Rattle.tmpl_reach.specs.inner.Resets.{IsDependableAfterReset};
+ghost use Rattle.tmpl_reach.specs.laws.DependabilityLaws.{IsDependable-downward, IsDependable-none, IsDependable-reset};
 
 use crate::trial::ReachTrial;
 use flow_set::{Flow, FlowSet};

@@ -4,11 +4,12 @@ ghost use Rattle.std.specs.Prelude.{◌≡◌, ◌≢◌, ℕ, ◌<◌, ◌≤�
 ghost use Rattle.std.specs.FinSet as set;
 ghost use Rattle.std.proofs.lemmas.Bool.{false≢true};
 ghost use Rattle.inv_law.specs.declared.strategy.Strategy.TheVariants.{Access};
-ghost use Rattle.tmpl_reach.specs.EachOf.{EachOf};
-ghost use Rattle.tmpl_reach.specs.NoReach.{others, denied_by, ReachesNoDenied, ReachesNone, StaysClear};
-ghost use Rattle.tmpl_reach.specs.Resets.{all_others};
-ghost use Rattle.tmpl_reach.specs.Resets.{ReachesNoDeniedAfterReset};
-ghost use Rattle.tmpl_reach.specs.NoReachLaws.{ReachesNoDenied-downward, ReachesNoDenied-none, ReachesNoDenied-reset};
+ghost use Rattle.tmpl_reach.specs.inner.EachOf.{EachOf};
+ghost use Rattle.tmpl_reach.specs.NoReach.{others, denied_by, ReachesNoDenied, ReachesNone};
+ghost use Rattle.tmpl_reach.specs.inner.NoReach.{StaysClear};
+ghost use Rattle.tmpl_reach.specs.inner.Resets.{all_others};
+ghost use Rattle.tmpl_reach.specs.inner.Resets.{ReachesNoDeniedAfterReset};
+ghost use Rattle.tmpl_reach.specs.laws.NoReachLaws.{ReachesNoDenied-downward, ReachesNoDenied-none, ReachesNoDenied-reset};
 
 use crate::trial::ReachTrial;
 use flow_set::{Flow, FlowSet};
@@ -28,7 +29,7 @@ impl Model for NoReach {
     ghost use Rattle.std.specs.Coded.{coded_list, coded_ℕ};
     ghost use Rattle.std.specs.FinSet as set;
     ghost use Rattle.host_set.specs.HostSet.{HostNumbers};
-    ghost use Rattle.tmpl_reach.specs.NoReachView.{DenyOthers};
+    ghost use Rattle.tmpl_reach.specs.inner.NoReachView.{DenyOthers};
 
     ghost Value = { List HostNumbers };
 

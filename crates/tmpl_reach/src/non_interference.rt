@@ -6,11 +6,11 @@ ghost use Rattle.std.specs.FinSet as set;
 ghost use Rattle.std.proofs.lemmas.Bool.{false≢true};
 ghost use Rattle.inv_law.specs.declared.strategy.Strategy.TheVariants.{Information};
 ghost use Rattle.reach_core.specs.Walks.{Joined};
-ghost use Rattle.tmpl_reach.specs.EachOf.{EachOf};
-ghost use Rattle.tmpl_reach.specs.Interferences.{HasOneAtMost, NoneInterferes, IsNextInterfering, StaysApart};
+ghost use Rattle.tmpl_reach.specs.inner.EachOf.{EachOf};
+ghost use Rattle.tmpl_reach.specs.inner.Interferences.{HasOneAtMost, NoneInterferes, IsNextInterfering, StaysApart};
 ghost use Rattle.tmpl_reach.specs.NonInterference.{IsInterfering, IsApart, IsNonInterfering};
-ghost use Rattle.tmpl_reach.specs.Resets.{IsNonInterferingAfterReset};
-ghost use Rattle.tmpl_reach.specs.NonInterferenceLaws.{IsNonInterfering-downward, IsNonInterfering-none, IsNonInterfering-reset};
+ghost use Rattle.tmpl_reach.specs.inner.Resets.{IsNonInterferingAfterReset};
+ghost use Rattle.tmpl_reach.specs.laws.NonInterferenceLaws.{IsNonInterfering-downward, IsNonInterfering-none, IsNonInterfering-reset};
 ghost use Rattle.tmpl_reach.specs.declared.non_interference.Interference.TheVariants.{Interfering, Unrelated};
 
 use crate::trial::JoinTrial;

@@ -3,7 +3,7 @@
 ghost use Rattle.std.specs.Prelude.{◌≡◌, ◌↔◌, IfOk, IsSome, IsTrue};
 ghost use Rattle.flow_set.specs.Flow.{IsFlow};
 ghost use Rattle.reach_core.specs.Walks.{Reaches, Joined};
-ghost use Rattle.flow_set.specs.Steps.{untried, stepped, taken_back};
+ghost use Rattle.flow_set.specs.inner.Steps.{untried, stepped, taken_back};
 
 use flow_set::{Flow, FlowSet};
 use inv_law::Trial;
@@ -18,7 +18,7 @@ pub struct ReachTrial {
 }
 
 impl Model for ReachTrial {
-    ghost use Rattle.flow_set.specs.Steps.{TriedFlows};
+    ghost use Rattle.flow_set.specs.inner.Steps.{TriedFlows};
 
     ghost Value = { TriedFlows };
 
@@ -78,7 +78,7 @@ pub struct JoinTrial {
 }
 
 impl Model for JoinTrial {
-    ghost use Rattle.flow_set.specs.Steps.{TriedFlows};
+    ghost use Rattle.flow_set.specs.inner.Steps.{TriedFlows};
 
     ghost Value = { TriedFlows };
 

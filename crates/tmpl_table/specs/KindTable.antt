@@ -1,9 +1,7 @@
 -- Templates that are declared as tables: each host has a kind, and some pairs of kinds are denied, of a sender and a receiver
 -- (the description's format, docs/FORMATS.md).
-use Rattle.std.specs.Prelude.{◌≤◌, ◌<◌, ℕ, Bool, not, ◌&&◌, ◌==◌, List, length, find, Option, IsTrue}
-use Rattle.std.specs.List.{All, list_all, list_any}
-use Rattle.inv_law.specs.Attributes.{PassesBetween}
-use Rattle.inv_law.specs.Resets.{PassesAfterReset, ResetPassesNoMore}
+use Rattle.std.specs.Prelude.{◌<◌, ℕ, Bool, not, ◌&&◌, ◌==◌, List, IsTrue}
+use Rattle.std.specs.List.{list_all, list_any}
 use Rattle.inv_law.specs.Template.{Template, edge_template}
 use Rattle.inv_law.specs.declared.strategy.Strategy.{Strategy}
 use Rattle.inv_law.specs.declared.strategy.Strategy.TheVariants.{Access, Information}
@@ -20,10 +18,6 @@ pub record KindTable : Type 0 where
 abbrev pub lists : List (ℕ × ℕ) → ℕ × ℕ → Bool
 lists pairs pair = list_any (λ other. (other.0 == pair.0) && (other.1 == pair.1)) pairs
 
--- a flow passes from one kind to another where their pair is not denied
-abbrev pub PairPasses : List (ℕ × ℕ) → ℕ → ℕ → Type 0
-PairPasses denied sender receiver = IsTrue (not (lists denied (sender, receiver)))
-
 -- the pair with this kind at the host that is blamed
 abbrev pub with_kind : Strategy → ℕ → ℕ × ℕ → ℕ × ℕ
 with_kind Access kind pair = (kind, pair.1)
@@ -36,17 +30,6 @@ passes_with strategy denied kind pair = not (lists denied (with_kind strategy ki
 -- each denied pair has its partner, which is denied too: the same with the default at the host that is blamed
 abbrev pub is_lawful : KindTable → Bool
 is_lawful table = list_all (λ pair. not (passes_with table.strategy table.denied table.default pair)) table.denied
-
--- the default hides no fault: whatever kinds the hosts of a network have, a flow that does not pass still does not once the host that
--- it is blamed on has the default
-abbrev pub HidesNoFault : KindTable → Type 0
-HidesNoFault table =
-    (hosts : List ℕ) → 2 ≤ length hosts → All (λ kind. kind < table.kinds) hosts
-    → ResetPassesNoMore (length hosts) table.strategy (PassesBetween table.default (PairPasses table.denied) hosts) (PassesAfterReset table.default (PairPasses table.denied) hosts)
-
--- the first denied pair that passes once its blamed host is given this kind
-abbrev pub first_weaker : KindTable → ℕ → Option (ℕ × ℕ)
-first_weaker table kind = find (passes_with table.strategy table.denied kind) table.denied
 
 -- a flow passes between two kinds of the table. A table that is not lawful is refused: here it denies nothing
 abbrev pub TablePasses : KindTable → ℕ → ℕ → Type 0

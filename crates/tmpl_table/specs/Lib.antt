@@ -1,4 +1,3 @@
 pub mod KindTable
-pub mod KindTableLaws
-pub mod TableFaults
-pub mod TableView
+pub mod inner
+pub mod laws

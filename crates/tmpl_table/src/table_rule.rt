@@ -1,12 +1,13 @@
 //! The rule of a declared table: a flow passes where the pair of the kinds of its two hosts is not denied.
 
 ghost use Rattle.std.specs.Prelude.{◌≡◌, ◌≤◌, ◌<◌, ◌↔◌, All, IfOk, IfErr, IsTrue, None, length, replicate, slice_index, slice_set};
-ghost use Rattle.inv_law.specs.AttributeLaws.{ResetPassesNoMore-attributes};
+ghost use Rattle.inv_law.specs.laws.AttributeLaws.{ResetPassesNoMore-attributes};
 ghost use Rattle.inv_law.specs.Attributes.{PassesBetween};
-ghost use Rattle.inv_law.specs.Resets.{PassesAfterReset};
-ghost use Rattle.tmpl_table.specs.KindTable.{HidesNoFault, PairPasses, TablePasses, declared, first_weaker, is_lawful};
-ghost use Rattle.tmpl_table.specs.KindTableLaws.{table_secure};
-ghost use Rattle.tmpl_table.specs.TableFaults.{IsRefused};
+ghost use Rattle.inv_law.specs.inner.Resets.{PassesAfterReset};
+ghost use Rattle.tmpl_table.specs.KindTable.{TablePasses, declared, is_lawful};
+ghost use Rattle.tmpl_table.specs.inner.KindTable.{HidesNoFault, PairPasses, first_weaker};
+ghost use Rattle.tmpl_table.specs.laws.KindTableLaws.{table_secure};
+ghost use Rattle.tmpl_table.specs.inner.TableFaults.{IsRefused};
 
 use crate::fault::TableFault;
 use crate::pairs::{Pair, first_pair, first_place, lists};
@@ -28,7 +29,7 @@ pub struct TableRule {
 
 impl Model for TableRule {
     ghost use Rattle.tmpl_table.specs.KindTable.{TableHosts};
-    ghost use Rattle.tmpl_table.specs.TableView.{IsTableRule};
+    ghost use Rattle.tmpl_table.specs.inner.TableView.{IsTableRule};
 
     ghost Value = { TableHosts };
 

@@ -4,7 +4,7 @@ use Rattle.std.specs.Prelude.{◌⊎◌, ◌↔◌, IsTrue}
 use Rattle.std.proofs.lemmas.Bool.{false≢true, cases_eq}
 use Rattle.std.proofs.lemmas.List.{get_or-set_same, get_or-replicate, length-replicate}
 use Rattle.tmpl_zones.specs.Partners.{Partner, DontCare, Care, Master, PartnersPass, TakesFromOthers, partners_passes, with_sender}
-use Rattle.tmpl_zones.specs.PartnersView.{IsMaster}
+use Rattle.tmpl_zones.specs.inner.PartnersView.{IsMaster}
 
 -- a mark for each host
 abbrev pub marks_of : Partner → List Bool

@@ -3,13 +3,13 @@ use Rattle.std.proofs.Common.{◌≡◌, ℕ, ◌+◌, ◌<◌, Bool, true, List
 use Rattle.std.proofs.lemmas.List.{map-set, get_or-map, length-map, map_push, take_more}
 use Rattle.std.proofs.lemmas.List.Elements.{All-get_or, All-set}
 use Rattle.std.specs.Prelude.{All}
-use Rattle.inv_law.specs.Template.{AllMayHave}
-use Rattle.inv_law.specs.TemplateLaws.{AllMayHave-set}
+use Rattle.inv_law.specs.inner.Template.{AllMayHave}
+use Rattle.inv_law.specs.laws.TemplateLaws.{AllMayHave-set}
 use Rattle.tmpl_zones.specs.Partners.{Partner, DontCare, TakesFromOthers, with_sender}
 use Rattle.tmpl_zones.specs.Partners as template
-use Rattle.tmpl_zones.specs.PartnersView.{IsMaster}
+use Rattle.tmpl_zones.specs.inner.PartnersView.{IsMaster}
 use Rattle.tmpl_zones.proofs.Masters.{marks_of}
-use Rattle.tmpl_zones.specs.PartnersView.{partner_of, attribute_by, HasRooms}
+use Rattle.tmpl_zones.specs.inner.PartnersView.{partner_of, attribute_by, HasRooms}
 use Rattle.tmpl_zones.specs.declared.partners.Receiver.{Receiver}
 use Rattle.tmpl_zones.specs.declared.partners.Taking.{Taking}
 use Rattle.tmpl_zones.specs.declared.partners.Taking.TheVariants as taking

@@ -1,11 +1,7 @@
 pub mod Gateway
-pub mod GatewayLaws
 pub mod Kinds
 pub mod Partners
-pub mod PartnersLaws
-pub mod PartnersView
 pub mod Sink
-pub mod SinkLaws
 pub mod Subnets
-pub mod SubnetsLaws
-pub mod Resets
+pub mod laws
+pub mod inner

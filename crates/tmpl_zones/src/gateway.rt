@@ -26,7 +26,7 @@ pub type Gateway = KindRule<GateKind>;
 impl Kind for GateKind {
     ghost use Rattle.inv_law.specs.declared.strategy.Strategy.TheVariants.{Access};
     ghost use Rattle.tmpl_zones.specs.Gateway.{gateway_passes};
-    ghost use Rattle.tmpl_zones.specs.GatewayLaws.{gateway_secure};
+    ghost use Rattle.tmpl_zones.specs.laws.GatewayLaws.{gateway_secure};
     ghost use Rattle.tmpl_zones.specs.declared.gateway.GateKind.TheVariants.{Unassigned};
 
     ghost default_kind = { Unassigned };

@@ -2,8 +2,8 @@
 
 ghost use Rattle.std.specs.Prelude.{◌≡◌, ◌<◌, Bool, IfOk, length, replicate, slice_set};
 ghost use Rattle.inv_law.specs.Attributes.{PassesBetween};
-ghost use Rattle.inv_law.specs.Resets.{PassesAfterReset, IsSecureDefault};
-ghost use Rattle.inv_law.specs.AttributeLaws.{ResetPassesNoMore-attributes};
+ghost use Rattle.inv_law.specs.inner.Resets.{PassesAfterReset, IsSecureDefault};
+ghost use Rattle.inv_law.specs.laws.AttributeLaws.{ResetPassesNoMore-attributes};
 ghost use Rattle.inv_law.specs.declared.strategy.Strategy.{Strategy};
 ghost use Rattle.tmpl_zones.specs.Kinds.{TablePasses};
 

@@ -4,9 +4,9 @@
 ghost use Rattle.std.specs.Prelude.{◌≡◌, ◌≢◌, ◌<◌, ◌↔◌, ◌⊎◌, ℕ, true, false, IsTrue, IfOk, length, replicate, slice_index_or, slice_set};
 ghost use Rattle.inv_law.specs.declared.strategy.Strategy.TheVariants.{Access};
 ghost use Rattle.tmpl_zones.specs.Partners.{Partner, DontCare, Care, Master, PartnersPass, with_sender};
-ghost use Rattle.tmpl_zones.specs.PartnersView.{IsMaster};
-ghost use Rattle.tmpl_zones.specs.Resets.{PartnersPassAfterReset};
-ghost use Rattle.tmpl_zones.specs.PartnersLaws.{partners_reset};
+ghost use Rattle.tmpl_zones.specs.inner.PartnersView.{IsMaster};
+ghost use Rattle.tmpl_zones.specs.inner.Resets.{PartnersPassAfterReset};
+ghost use Rattle.tmpl_zones.specs.laws.PartnersLaws.{partners_reset};
 
 use inv_law::{EdgeRule, Strategy};
 use std::alloc::{AllocError, Global};
@@ -37,7 +37,7 @@ pub struct Partners {
 impl Model for Partners {
     ghost use Rattle.std.specs.Prelude.{List, map};
     ghost use Rattle.tmpl_zones.specs.Partners.{Partner};
-    ghost use Rattle.tmpl_zones.specs.PartnersView.{partner_of, HasRooms};
+    ghost use Rattle.tmpl_zones.specs.inner.PartnersView.{partner_of, HasRooms};
 
     ghost Value = { List Partner };
 

@@ -20,7 +20,7 @@ pub type SinkRule = KindRule<SinkKind>;
 impl Kind for SinkKind {
     ghost use Rattle.inv_law.specs.declared.strategy.Strategy.TheVariants.{Information};
     ghost use Rattle.tmpl_zones.specs.Sink.{sink_passes};
-    ghost use Rattle.tmpl_zones.specs.SinkLaws.{sink_secure};
+    ghost use Rattle.tmpl_zones.specs.laws.SinkLaws.{sink_secure};
     ghost use Rattle.tmpl_zones.specs.declared.sink.SinkKind.TheVariants.{Unassigned};
 
     ghost default_kind = { Unassigned };

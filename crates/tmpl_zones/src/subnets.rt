@@ -21,7 +21,7 @@ pub type Subnets = KindRule<NetKind>;
 impl Kind for NetKind {
     ghost use Rattle.inv_law.specs.declared.strategy.Strategy.TheVariants.{Access};
     ghost use Rattle.tmpl_zones.specs.Subnets.{subnets_passes};
-    ghost use Rattle.tmpl_zones.specs.SubnetsLaws.{subnets_secure};
+    ghost use Rattle.tmpl_zones.specs.laws.SubnetsLaws.{subnets_secure};
     ghost use Rattle.tmpl_zones.specs.declared.subnets.NetKind.TheVariants.{Unassigned};
 
     ghost default_kind = { Unassigned };

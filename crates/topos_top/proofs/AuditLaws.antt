@@ -1,27 +1,31 @@
 -- What an audit gives is one, its three ends are apart, and rules that were written for a network audit as equal to it.
 use Rattle.std.proofs.Common.{◌≡◌, ◌↔◌, inl, inr, ℕ, zero, suc, List, [], ◌∷◌, ◌++◌, Option, Some, None, Bool, true, refl, sym, subst, ◌∙◌, ap, arith}
-use Rattle.audit_core.specs.FindingLaws.{trace_packets}
-use Rattle.audit_core.specs.FindingOnce.{finding_once}
-use Rattle.audit_core.specs.Findings.{DifferSomewhere, IsFinding, IsRefused, events_of, trace_of}
-use Rattle.audit_core.specs.FindingText.{classes_line, finding_text}
-use Rattle.audit_core.specs.ListLaws.{agree_not_differ}
+use Rattle.audit_core.specs.laws.FindingLaws.{trace_packets}
+use Rattle.audit_core.specs.inner.FindingOnce.{finding_once}
+use Rattle.audit_core.specs.Findings.{DifferSomewhere, events_of, trace_of}
+use Rattle.audit_core.specs.inner.Findings.{IsFinding, IsRefused}
+use Rattle.audit_core.specs.FindingText.{classes_line}
+use Rattle.audit_core.specs.inner.FindingText.{finding_text}
+use Rattle.audit_core.specs.laws.ListLaws.{agree_not_differ}
 use Rattle.audit_core.specs.Lists.{front_of}
 use Rattle.audit_core.specs.Places.{class_count}
-use Rattle.audit_core.specs.Rules.{GivesOne, Rules, filter_of}
-use Rattle.audit_core.specs.Sides.{AgreeAlways, Sides, lets_answer, permits}
+use Rattle.audit_core.specs.Rules.{Rules, filter_of}
+use Rattle.audit_core.specs.inner.Rules.{GivesOne}
+use Rattle.audit_core.specs.Sides.{Sides, lets_answer, permits}
+use Rattle.audit_core.specs.inner.Sides.{AgreeAlways}
 use Rattle.audit_core.specs.declared.finding.AuditRefusal.TheVariants.{TooManyClasses}
 use Rattle.audit_core.specs.declared.finding.Finding.TheVariants.{Equal, Differ as Differing}
 use Rattle.audit_core.specs.declared.finding.Trace.{Trace}
 use Rattle.audit_core.specs.declared.kind.Kind.{Kind}
 use Rattle.audit_core.specs.declared.kind.Kind.TheVariants.{Alone, BehindSwap, BehindBoth}
 use Rattle.host_net.specs.declared.packet.Packet.{Packet}
-use Rattle.net_core.specs.Fitting.{IsNetwork}
+use Rattle.net_core.specs.inner.Fitting.{IsNetwork}
 use Rattle.net_core.specs.Network.{Network}
 use Rattle.net_core.specs.Policies.{IsPolicyOf, Policy}
-use Rattle.net_core.specs.PolicyLaws.{policy_is_one}
+use Rattle.net_core.proofs.PolicyLaws.{policy_is_one}
 use Rattle.pkt_core.specs.declared.event.Event.{Event}
 use Rattle.pkt_core.specs.declared.event.Event.TheVariants.{Forget, Seen}
-use Rattle.pkt_core.specs.ExpectedLaws.{expected_once}
+use Rattle.pkt_core.proofs.ExpectedLaws.{expected_once}
 use Rattle.pkt_core.specs.Filter.{ArePackets}
 use Rattle.pkt_core.specs.Firewall.{Filter}
 use Rattle.pkt_core.specs.Tracking.{Kept, Runs, after_forget, after_seen, nothing_kept, state_of}

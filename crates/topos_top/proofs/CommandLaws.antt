@@ -3,15 +3,15 @@ use Rattle.std.proofs.Common.{◌≡◌, List, true, refl, sym, ◌∙◌}
 use Rattle.audit_core.specs.Findings.{DifferSomewhere}
 use Rattle.audit_core.specs.Rules.{Rules as AuditedRules}
 use Rattle.ipt_rules.specs.Meaning.{Passes as PassesChains}
-use Rattle.net_core.specs.Fitting.{IsNetwork}
+use Rattle.net_core.specs.inner.Fitting.{IsNetwork}
 use Rattle.net_core.specs.Network.{Network}
 use Rattle.ofp_rules.specs.Meaning.{Passes as PassesTable}
 use Rattle.pkt_core.specs.declared.event.Event.{Event}
-use Rattle.report_core.specs.ReportLaws.{check_report_is_one, policy_report_is_one}
-use Rattle.report_core.specs.ReportPromisesLaws.{tells_offences, tells_policy}
-use Rattle.sample_core.specs.SampleLaws.{sample_is_one}
-use Rattle.sample_core.specs.SamplePromisesLaws.{tells_sample}
-use Rattle.trace_core.specs.TraceLaws.{any_known, chains_answer_once, table_answers_once, trace_is_one, tells_run}
+use Rattle.report_core.proofs.ReportLaws.{check_report_is_one, policy_report_is_one}
+use Rattle.report_core.proofs.ReportPromisesLaws.{tells_offences, tells_policy}
+use Rattle.sample_core.proofs.SampleLaws.{sample_is_one}
+use Rattle.sample_core.proofs.SamplePromisesLaws.{tells_sample}
+use Rattle.trace_core.proofs.TraceLaws.{any_known, chains_answer_once, table_answers_once, trace_is_one, tells_run}
 use Rattle.topos_top.specs.Ask.{Ask, Check, Policy, Rules, Repair, Trace, Sample, Migrate, Audit, Edit, Local}
 use Rattle.topos_top.specs.Audit.{ForwardAlike, audit_job, rules_in}
 use Rattle.topos_top.specs.Check.{offences_when}

@@ -7,7 +7,7 @@ use Rattle.edge_io.specs.Told.{Files, Lacks}
 use Rattle.topos_top.specs.Course.{Course, reads, ends, CameAlong}
 use Rattle.topos_top.specs.Job.{Job, Answers, AnswersFirst}
 use Rattle.topos_top.specs.Kinds.{Said, Reads, Refuses}
-use Rattle.topos_top.specs.Reads.{MayRead}
+use Rattle.topos_top.specs.inner.Reads.{MayRead}
 use Rattle.topos_top.specs.Replies.{Stops, StopsAt, NoMemory, Stopped, MayReply}
 use Rattle.topos_top.specs.Reply.{Reply, no_memory}
 use Rattle.topos_top.specs.Shelf.{Shelf, ShelfChange, SawFile, TookBytes, taken_of}

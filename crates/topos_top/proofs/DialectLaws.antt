@@ -1,14 +1,15 @@
 -- What is true of each dialect, so that the rules of a policy keep it.
 use Rattle.std.proofs.Common.{◌≡◌, ℕ, List, ap, sym, ◌∙◌, arith}
 use Rattle.emit_core.specs.FlowTable.{flow_entries}
-use Rattle.emit_core.specs.ForwardingLaws.{layout_enforces}
-use Rattle.emit_core.specs.TableLaws.{first_barred_once, first_range_once, flow_entries_arp, flow_entries_enforce, flow_entries_table, none_barred, none_ranging}
-use Rattle.emit_core.specs.WritableLaws.{layout_short, layout_writable}
+use Rattle.emit_core.proofs.ForwardingLaws.{layout_enforces}
+use Rattle.emit_core.proofs.TableLaws.{first_barred_once, first_range_once, flow_entries_arp, flow_entries_enforce, flow_entries_table, none_barred, none_ranging}
+use Rattle.emit_core.proofs.WritableLaws.{layout_short, layout_writable}
 use Rattle.flow_set.specs.declared.flow.Flow.{Flow}
-use Rattle.host_net.specs.Site.{Site, IsSite}
-use Rattle.ipt_read.specs.AgainLaws.{one_reading, text_read_again}
-use Rattle.ofp_read.specs.AgainLaws.{text_read_again as flows_read_again}
-use Rattle.ofp_read.specs.FaultLaws.{one_reading as one_reading_of_flows}
+use Rattle.host_net.specs.Site.{Site}
+use Rattle.host_net.specs.inner.Site.{IsSite}
+use Rattle.ipt_read.proofs.AgainLaws.{one_reading, text_read_again}
+use Rattle.ofp_read.proofs.AgainLaws.{text_read_again as flows_read_again}
+use Rattle.ofp_read.proofs.FaultLaws.{one_reading as one_reading_of_flows}
 use Rattle.pkt_core.specs.Filter.{Enforces}
 use Rattle.topos_top.specs.Dialects.{Language, Hindrance, NeedsState, RangeOfPorts, TooManyFlows, TooManyRules, iptables, openflow, language_of, BarsChains, BarsTable, FitsChains, FitsTable}
 use Rattle.topos_top.specs.declared.dialect.Dialect.{Dialect}

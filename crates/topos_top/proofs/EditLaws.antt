@@ -1,16 +1,16 @@
 -- What edits give is one, and their two ends are apart.
 use Rattle.std.proofs.Common.{◌≡◌, ℕ, ◌+◌, List, [], ◌∷◌, ◌++◌, Ok, Err, inl, inr, false, refl, sym, subst, ◌∙◌, ap, append_assoc, append-nil}
-use Rattle.desc_core.specs.NetworkLaws.{IsNetwork-table}
+use Rattle.desc_core.proofs.NetworkLaws.{IsNetwork-table}
 use Rattle.edit_core.specs.Runs.{AreSummaries, after_edits}
-use Rattle.edit_core.specs.SummaryLaws.{summaries_are_one}
+use Rattle.edit_core.proofs.SummaryLaws.{summaries_are_one}
 use Rattle.edit_core.specs.declared.fault.EditFault.{EditFault}
 use Rattle.edit_core.specs.declared.summary.Summary.{Summary}
 use Rattle.edit_text.specs.Edit.{Edit}
 use Rattle.net_core.specs.Network.{Network}
 use Rattle.report_core.specs.PolicyReport.{IsPolicyReport}
-use Rattle.report_core.specs.ReportLaws.{policy_report_is_one}
+use Rattle.report_core.proofs.ReportLaws.{policy_report_is_one}
 use Rattle.report_core.specs.ReportPromises.{TellsPolicy}
-use Rattle.report_core.specs.ReportPromisesLaws.{tells_policy}
+use Rattle.report_core.proofs.ReportPromisesLaws.{tells_policy}
 use Rattle.toml.specs.Data.{Members}
 use Rattle.topos_top.specs.Edit.{SaysEdits, SaysRefusal, SaysTable, edit_job, summary_line, summary_lines}
 use Rattle.topos_top.specs.Job.{Answers}

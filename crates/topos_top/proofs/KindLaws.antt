@@ -1,30 +1,30 @@
 -- What is read of a file of each kind: one reading or one fault, and of a sort that is known.
 use Rattle.std.proofs.Common.{◌≡◌, ◌<◌, ℕ, List, length, Some, Ok, refl, ap, sym, ◌∙◌}
 use Rattle.desc_core.specs.Description.{described}
-use Rattle.desc_core.specs.DescriptionLaws.{described-too_long}
-use Rattle.desc_core.specs.MigratedOnceLaws.{migrated_once}
-use Rattle.desc_core.specs.NetworkLaws.{IsNetwork-described}
+use Rattle.desc_core.proofs.DescriptionLaws.{described-too_long}
+use Rattle.desc_core.proofs.MigratedOnceLaws.{migrated_once}
+use Rattle.desc_core.proofs.NetworkLaws.{IsNetwork-described}
 use Rattle.desc_form.specs.Refusals.{refused}
 use Rattle.desc_form.specs.declared.refusal.Place.TheVariants.{Document as WholeDocument}
 use Rattle.desc_form.specs.declared.refusal.Why.TheVariants.{TooLong}
-use Rattle.edit_text.specs.EditFaultLaws.{edits_settled}
+use Rattle.edit_text.proofs.EditFaultLaws.{edits_settled}
 use Rattle.edit_text.specs.EditsText.{edits_text}
 use Rattle.edit_text.specs.declared.fault.EditsWhy.TheVariants.{TooLong as EditsTooLong}
-use Rattle.ipt_read.specs.FaultLaws.{one_fault, no_reading_with_fault}
-use Rattle.ipt_read.specs.AgainLaws.{one_reading}
+use Rattle.ipt_read.proofs.FaultLaws.{one_fault, no_reading_with_fault}
+use Rattle.ipt_read.proofs.AgainLaws.{one_reading}
 use Rattle.ipt_read.specs.declared.fault.IptWhy.TheVariants.{TooLong as RulesTooLong}
-use Rattle.net_core.specs.Fitting.{IsNetwork}
+use Rattle.net_core.specs.inner.Fitting.{IsNetwork}
 use Rattle.net_core.specs.Network.{Network}
-use Rattle.ofp_read.specs.FaultLaws.{one_reading as one_reading_of_flows, reading_is_table, one_fault as one_fault_in_flows, no_reading_with_fault as no_flows_with_fault}
+use Rattle.ofp_read.proofs.FaultLaws.{one_reading as one_reading_of_flows, reading_is_table, one_fault as one_fault_in_flows, no_reading_with_fault as no_flows_with_fault}
 use Rattle.ofp_read.specs.declared.fault.OfpWhy.TheVariants.{TooLong as FlowsTooLong}
-use Rattle.ofp_rules.specs.Build.{IsTable}
+use Rattle.ofp_rules.specs.inner.Build.{IsTable}
 use Rattle.pkt_core.specs.Filter.{ArePackets}
-use Rattle.pkt_core.specs.ReadEventLaws.{packets_read}
-use Rattle.pkt_core.specs.EventFaultLaws.{events_settled}
+use Rattle.pkt_core.proofs.ReadEventLaws.{packets_read}
+use Rattle.pkt_core.proofs.EventFaultLaws.{events_settled}
 use Rattle.pkt_core.specs.EventsText.{events_text}
 use Rattle.pkt_core.specs.declared.events.EventWhy.TheVariants.{TooLong as EventsTooLong}
 use Rattle.text_core.specs.TextByLines.{too_long}
-use Rattle.text_core.specs.TextByLinesLaws.{one_reading as one_reading_by_lines, one_fault as one_fault_by_lines, no_reading_with_fault as no_reading_with_fault_by_lines}
+use Rattle.text_core.proofs.TextByLinesLaws.{one_reading as one_reading_by_lines, one_fault as one_fault_by_lines, no_reading_with_fault as no_reading_with_fault_by_lines}
 use Rattle.toml.specs.Data.{Members}
 use Rattle.desc_core.specs.Document.{document}
 use Rattle.report_core.specs.RefusalLine.{refusal_text}

@@ -3,21 +3,22 @@ use Rattle.std.proofs.Common.{◌≡◌, inl, inr, ℕ, true, false, not, ◌==�
 use Rattle.std.specs.Prelude.{◌↔◌, Option}
 use Rattle.std.specs.Option.{option_map_or}
 use Rattle.std.proofs.lemmas.Bool.Decides.{nat_tests}
-use Rattle.host_emit.specs.GuardingLaws.{layout_guards}
-use Rattle.host_emit.specs.LocalEventsLaws.{layouts_expected}
+use Rattle.host_emit.proofs.GuardingLaws.{layout_guards}
+use Rattle.host_emit.proofs.LocalEventsLaws.{layouts_expected}
 use Rattle.host_emit.specs.LocalLayout.{is_specific}
-use Rattle.host_emit.specs.LocalWritableLaws.{local_short, local_writable}
+use Rattle.host_emit.proofs.LocalWritableLaws.{local_short, local_writable}
 use Rattle.host_net.specs.Host.{Host, rest_of}
-use Rattle.host_net.specs.Site.{IsSite}
-use Rattle.ipt_read.specs.AgainLaws.{one_reading, text_read_again}
+use Rattle.host_net.specs.inner.Site.{IsSite}
+use Rattle.ipt_read.proofs.AgainLaws.{one_reading, text_read_again}
 use Rattle.ipt_read.specs.TextLines.{IsReading}
 use Rattle.ipt_rules.specs.Chain.{Chain}
 use Rattle.ipt_rules.specs.Text.{text}
-use Rattle.net_core.specs.Fitting.{IsNetwork}
+use Rattle.net_core.specs.inner.Fitting.{IsNetwork}
 use Rattle.net_core.specs.Network.{Network, site_of}
-use Rattle.net_core.specs.PolicyLaws.{IsSubset-stateful, policy_is_one}
+use Rattle.net_core.proofs.PolicyLaws.{IsSubset-stateful, policy_is_one}
 use Rattle.topos_top.specs.Job.{Answers}
-use Rattle.topos_top.specs.Local.{IsBarred, NoHost, RestHost, IsLocal, IsSpecific, KeepLocal, local_job, machines_for, machines_job}
+use Rattle.topos_top.specs.Local.{IsBarred, NoHost, RestHost, IsLocal, IsSpecific, KeepLocal, local_job, machines_for}
+use Rattle.topos_top.specs.inner.Local.{machines_job}
 use Rattle.topos_top.specs.Reply.{Reply}
 use Rattle.topos_top.specs.Rules.{ListedHolds}
 use Rattle.topos_top.specs.declared.status.Status.TheVariants.{NotEmittable}

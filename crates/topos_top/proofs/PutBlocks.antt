@@ -6,10 +6,10 @@ use Rattle.std.specs.Prelude.{slice_get}
 use Rattle.std.specs.List.{concat}
 use Rattle.std.specs.Io.KnownBytes.{append_known}
 use Rattle.edge_io.specs.Told.{TookPrefix}
-use Rattle.text_core.specs.Line.{cut}
-use Rattle.text_core.specs.LineLaws.{cut_whole}
-use Rattle.topos_top.specs.Blocks.{HasRoom}
-use Rattle.edge_io.specs.PutLaws.{append_known-append, TookPrefix-after}
+use Rattle.text_core.specs.inner.Line.{cut}
+use Rattle.text_core.proofs.LineLaws.{cut_whole}
+use Rattle.topos_top.specs.inner.Blocks.{HasRoom}
+use Rattle.edge_io.proofs.PutLaws.{append_known-append, TookPrefix-after}
 
 pub concat-take_suc : (lines : List (List ℕ)) (i : ℕ) (line : List ℕ) → slice_get lines i ≡ Some line
     → concat (take (suc i) lines) ≡ concat (take i lines) ++ line

@@ -13,12 +13,12 @@ use Rattle.ofp_read.specs.declared.fault.OfpWhy.{OfpWhy}
 use Rattle.pkt_core.specs.EventsText.{events_text}
 use Rattle.pkt_core.specs.declared.events.EventWhy.{EventWhy}
 use Rattle.report_core.specs.RefusalLine.{refusal_text}
-use Rattle.text_core.specs.TextAnswers.{HasCause}
+use Rattle.text_core.specs.inner.TextAnswers.{HasCause}
 use Rattle.text_core.specs.declared.faults.TextFault.{TextFault}
 use Rattle.text_core.specs.declared.faults.TextFault.TheVariants as text
 use Rattle.topos_top.specs.Kinds.{IsNoDescription, Refuses, refused_as}
-use Rattle.topos_top.specs.Reads.{TookFile}
-use Rattle.topos_top.specs.Refused.{description_reply, text_reply}
+use Rattle.topos_top.specs.inner.Reads.{TookFile}
+use Rattle.topos_top.specs.inner.Refused.{description_reply, text_reply}
 use Rattle.topos_top.specs.Replies.{StopsAt, NoMemory}
 use Rattle.topos_top.specs.Reply.{Reply, error}
 use Rattle.topos_top.specs.Shelf.{ShelfChange}

@@ -1,16 +1,16 @@
 -- The rules of a network are one text, and do what is promised of them; so is the line that says why there are none.
 use Rattle.std.proofs.Common.{◌≡◌, ℕ, List, sym, subst, ◌∙◌, ap}
-use Rattle.host_net.specs.Site.{IsSite}
-use Rattle.first_core.specs.FirstLaws.{first_with}
+use Rattle.host_net.specs.inner.Site.{IsSite}
+use Rattle.first_core.proofs.FirstLaws.{first_with}
 use Rattle.flow_set.specs.FlowSet.{SetOfFlows}
 use Rattle.flow_set.specs.declared.flow.Flow.{Flow}
-use Rattle.net_core.specs.HeadlineLaws.{IsGreatestPolicy-from_policy, CompliesWithAll-from_policy}
+use Rattle.net_core.proofs.HeadlineLaws.{IsGreatestPolicy-from_policy, CompliesWithAll-from_policy}
 use Rattle.net_core.specs.Network.{Network, site_of}
-use Rattle.net_core.specs.Fitting.{IsNetwork}
+use Rattle.net_core.specs.inner.Fitting.{IsNetwork}
 use Rattle.net_core.specs.Policies.{IsPolicyOf, MeetsAll, Policy}
-use Rattle.net_core.specs.PolicyLaws.{policy_is_one, IsSubset-stateful, asked_is_permitted}
+use Rattle.net_core.proofs.PolicyLaws.{policy_is_one, IsSubset-stateful, asked_is_permitted}
 use Rattle.pkt_core.specs.Filter.{Enforces, ForwardsExpected}
-use Rattle.pkt_core.specs.FilterLaws.{enforced_expected}
+use Rattle.pkt_core.proofs.FilterLaws.{enforced_expected}
 use Rattle.topos_top.specs.Dialects.{Language, Hindrance, hindrance_line}
 use Rattle.topos_top.specs.Rules.{IsRules, CanBeWritten, IsHindered, TellsHindrance, KeepInvariants, KeepPolicy, rules_for}
 use Rattle.topos_top.proofs.DialectLaws.{KeepsPolicies}

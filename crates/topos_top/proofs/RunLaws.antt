@@ -2,7 +2,8 @@
 use Rattle.std.proofs.Common.{◌≡◌, ◌⊎◌, inl, inr, ℕ, List, Option, None, Some, Bool, true, false, refl, ap, sym, subst, ◌∙◌}
 use Rattle.std.specs.Prelude.{◌↔◌}
 use Rattle.edge_io.specs.Counts.{more}
-use Rattle.topos_top.specs.Ask.{Ask, ask_of, reports_on_output, AsksToReport}
+use Rattle.topos_top.specs.Ask.{Ask, ask_of, reports_on_output}
+use Rattle.topos_top.specs.inner.Ask.{AsksToReport}
 use Rattle.topos_top.specs.Commands.{course_of}
 use Rattle.topos_top.specs.Job.{Job, Answers, stream_of}
 use Rattle.topos_top.specs.Kinds.{refused_as}

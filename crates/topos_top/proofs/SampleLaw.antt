@@ -1,11 +1,12 @@
 -- The sample names no file, so that its run is its job alone.
 use Rattle.std.proofs.Common.{◌≡◌, ◌≤◌, ◌<◌, inl, inr, ℕ, false, List, Option, Some, arith, decimal, refl, ap, subst, ◌∙◌}
 use Rattle.host_net.specs.Limits.{host_limit}
-use Rattle.sample_core.specs.SamplePromisesLaws.{tells_sample}
-use Rattle.text_core.specs.DecimalLaws.{number-decimal}
+use Rattle.sample_core.proofs.SamplePromisesLaws.{tells_sample}
+use Rattle.text_core.proofs.DecimalLaws.{number-decimal}
 use Rattle.topos_top.specs.Ask.{Ask, Sample, ask_of, hosts_said, some_hosts}
-use Rattle.topos_top.specs.Commands.{NamesNoFile, course_of}
-use Rattle.topos_top.specs.Course.{ReadsNothing}
+use Rattle.topos_top.specs.Commands.{course_of}
+use Rattle.topos_top.specs.inner.Commands.{NamesNoFile}
+use Rattle.topos_top.specs.inner.Course.{ReadsNothing}
 use Rattle.topos_top.specs.Job.{Answers, stream_of}
 use Rattle.topos_top.specs.Promises.{AskForSample, CutOff, EndsAsSample, GaveReply, NoMemory, Written}
 use Rattle.topos_top.specs.Replies.{MayGiveBy}

@@ -6,7 +6,7 @@ use Rattle.std.specs.FinMap.{get}
 use Rattle.edge_io.specs.Counts.{more}
 use Rattle.edge_io.specs.Told.{Files}
 use Rattle.topos_top.specs.Kinds.{IsRefused, most_of}
-use Rattle.topos_top.specs.Reads.{TookFile}
+use Rattle.topos_top.specs.inner.Reads.{TookFile}
 use Rattle.topos_top.specs.Replies.{StopsAt, Stopped}
 use Rattle.topos_top.specs.Reply.{Reply}
 use Rattle.topos_top.specs.Shelf.{ShelfChange, Holds}

@@ -1,5 +1,5 @@
 -- What the words of a command line ask for (docs/GUIDE.md): a constructor for each form, with all that its words say.
-use Rattle.std.specs.Prelude.{◌≡◌, ℕ, ◌==◌, List, [], ◌∷◌, ◌++◌, Option, None, Some, option_map, Bool, true, false, IsTrue, codes, if◌then◌else◌}
+use Rattle.std.specs.Prelude.{ℕ, ◌==◌, List, [], ◌∷◌, ◌++◌, Option, None, Some, option_map, Bool, true, false, codes, if◌then◌else◌}
 use Rattle.std.specs.Option.{option_and_then}
 use Rattle.std.specs.Str.{bytes_eq}
 use Rattle.host_net.specs.Limits.{host_limit}
@@ -101,6 +101,3 @@ abbrev pub reports_on_output : Ask → Bool
 reports_on_output (Check file) = true
 reports_on_output (Audit dialect file rules) = true
 reports_on_output _ = false
-
-abbrev pub AsksToReport : List (List ℕ) → Type 0
-AsksToReport words = (ask : Ask) × (ask_of words ≡ Some ask) × IsTrue (reports_on_output ask)

@@ -9,10 +9,6 @@ pub data Course : Type 1 where
   reads : (kind : Kind) (file : List ℕ) → (Said kind → Course) → Course
   ends : Job → Course
 
-abbrev pub ReadsNothing : Course → Type 0
-ReadsNothing (reads kind file next) = ⊥
-ReadsNothing (ends job) = Unit {0}
-
 -- A file was accepted with this reading, and what comes next is so with the shelf after it.
 pub record Accepted (only_failures : Type 0) (shelf : Shelf) (kind : Kind) (file : List ℕ) (Next : Said kind → Shelf → Type 0) : Type 0 where
   pub bytes : List ℕ

@@ -1,5 +1,4 @@
 pub mod Ask
-pub mod StatusNumber
 pub mod TextFault
 pub mod Reply
 pub mod Dialects
@@ -8,7 +7,6 @@ pub mod Job
 pub mod Check
 pub mod Policy
 pub mod Rules
-pub mod Refused
 pub mod Repair
 pub mod Local
 pub mod Audit
@@ -22,6 +20,4 @@ pub mod Commands
 pub mod Replies
 pub mod Taken
 pub mod Promises
-pub mod Reads
-pub mod Blocks
-pub mod Views
+pub mod inner

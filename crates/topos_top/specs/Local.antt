@@ -66,10 +66,6 @@ machines_when holds d host = record { status = Done; when = holds × IsSpecific 
 abbrev pub bar_when : Type 0 → Network → (host : List ℕ) → End
 bar_when holds d host = record { status = NotEmittable; when = holds × (line : List ℕ) × IsBarred d host line; is = IsBarred d host; tells = IsBarred d host }
 
--- The rules or the line, whatever was listed.
-abbrev pub machines_job : Network → (host : List ℕ) → Job
-machines_job d host = bar_when (Unit {0}) d host ∷ (machines_when (Unit {0}) d host ∷ [])
-
 -- The same, or the report of `check` where a listed policy breaks an invariant.
 abbrev pub local_job : Network → (host : List ℕ) → Job
 local_job d host =

@@ -1,10 +1,8 @@
 -- What one call saw of its shelf.
-use Rattle.std.specs.Prelude.{◌≡◌, ℕ, ◌+◌, ◌≤◌, ◌⊎◌, List, length, min, Option, None, Some, IfSome, Result}
+use Rattle.std.specs.Prelude.{◌≡◌, ℕ, ◌+◌, ◌≤◌, ◌⊎◌, List, length, min, Option, None, Some, IfSome}
 use Rattle.std.specs.FinMap.{get}
-use Rattle.edge_io.specs.Calls.{ShelfCountsOnlyFailures}
 use Rattle.edge_io.specs.Counts.{more, Rose}
 use Rattle.edge_io.specs.Told.{Files, Lacks}
-use Rattle.edge_io.specs.declared.faults.Failed.{Failed}
 use Rattle.topos_top.specs.Kinds.{most_of}
 use Rattle.topos_top.specs.declared.kind.Kind.{Kind}
 
@@ -24,14 +22,6 @@ pub record ShelfChange : Type 1 where
 -- the change of the shelf since it was like this
 abbrev pub since : Shelf → ShelfChange → ShelfChange
 since shelf change = record { before = shelf; after = change.after; only_failures = change.only_failures }
-
-abbrev pub shelf_change : {S : Type 0} → (S → Option Files) → (S → ℕ) → (S → ℕ) → (S → ℕ)
-    → (S → List ℕ → Result (Unit {0}) Failed → S → Type 0) → (S → List ℕ → Result ℕ Failed → S → Type 0) → S → S → ShelfChange
-shelf_change files faults begins taken begin_gives read_gives old new = record {
-  before = record { told = files old; faults = faults old; begins = begins old; taken = taken old };
-  after = record { told = files new; faults = faults new; begins = begins new; taken = taken new };
-  only_failures = ShelfCountsOnlyFailures faults begin_gives read_gives;
-}
 
 -- The bytes of a file, where the shelf tells its files.
 abbrev pub Holds : Shelf → (name bytes : List ℕ) → Type 0

@@ -16,14 +16,6 @@ pub record SinkChange : Type 0 where
   pub faults_before : ℕ
   pub faults_after : ℕ
 
-abbrev pub sink_change : {S : Type 0} → (S → Option (List ℕ)) → (S → ℕ) → S → S → SinkChange
-sink_change held faults old new = record {
-  held_before = held old;
-  held_after = held new;
-  faults_before = faults old;
-  faults_after = faults new;
-}
-
 -- the sink took these bytes whole
 abbrev pub Took : SinkChange → List ℕ → Type 0
 Took sink bytes = sink.held_after ≡ append_known sink.held_before bytes

@@ -4,7 +4,7 @@ ghost use Rattle.std.specs.Prelude.{◌≡◌};
 ghost use Rattle.report_core.specs.RefusalLine.{refusal_text};
 ghost use Rattle.topos_top.specs.Reply.{Reply, usage, cannot_read, no_memory, reply_on, error};
 ghost use Rattle.topos_top.specs.TextFault.{fault_line};
-ghost use Rattle.topos_top.specs.Views.{reply_view, text_view};
+ghost use Rattle.topos_top.specs.inner.Views.{reply_view, text_view};
 
 use crate::refused::no_memory;
 use crate::status::{Status, Stream};
@@ -65,7 +65,7 @@ impl<'a> Answer<'a> {
 impl<'a> From<AllocError> for Answer<'a> {
     ghost use Rattle.std.specs.Prelude.{◌≡◌};
     ghost use Rattle.topos_top.specs.Reply.{no_memory};
-    ghost use Rattle.topos_top.specs.Views.{reply_view};
+    ghost use Rattle.topos_top.specs.inner.Views.{reply_view};
 
     ghost from_gives = { λ _ given. reply_view given ≡ no_memory };
 
@@ -77,7 +77,7 @@ impl<'a> From<AllocError> for Answer<'a> {
 impl<'a, T: Drop> From<AllocFailed<T>> for Answer<'a> {
     ghost use Rattle.std.specs.Prelude.{◌≡◌};
     ghost use Rattle.topos_top.specs.Reply.{no_memory};
-    ghost use Rattle.topos_top.specs.Views.{reply_view};
+    ghost use Rattle.topos_top.specs.inner.Views.{reply_view};
 
     ghost from_gives = { λ _ given. reply_view given ≡ no_memory };
 

@@ -3,7 +3,7 @@
 ghost use Rattle.std.specs.Prelude.{◌≡◌, ◌≤◌, map, string_bytes, option_map, IfSome};
 ghost use Rattle.host_net.specs.Limits.{host_limit};
 ghost use Rattle.topos_top.specs.Ask.{ask_of, hosts_said, among, forms, one_word, two_words, three_words};
-ghost use Rattle.topos_top.specs.Views.{ask_view, HasFewHosts};
+ghost use Rattle.topos_top.specs.inner.Views.{ask_view, HasFewHosts};
 
 use crate::dialect::Dialect;
 use host_net::HOST_LIMIT;

@@ -1,15 +1,16 @@
 //! `audit iptables|openflow FILE RULES`: whether rules do what the policy of a network says.
 
 ghost use Rattle.std.specs.Prelude.{◌≡◌, ◌≤◌, IfOk, true};
-ghost use Rattle.audit_core.specs.Rules.{GivesOne, filter_of};
-ghost use Rattle.audit_core.specs.RulesView.{rules_of};
+ghost use Rattle.audit_core.specs.Rules.{filter_of};
+ghost use Rattle.audit_core.specs.inner.Rules.{GivesOne};
+ghost use Rattle.audit_core.specs.inner.RulesView.{rules_of};
 ghost use Rattle.topos_top.specs.Ask.{Audit};
 ghost use Rattle.topos_top.specs.Audit.{audit_job};
 ghost use Rattle.topos_top.specs.Commands.{course_of};
 ghost use Rattle.topos_top.specs.Job.{Answers};
 ghost use Rattle.topos_top.specs.Replies.{MayReply};
-ghost use Rattle.topos_top.specs.Shelf.{shelf_change};
-ghost use Rattle.topos_top.specs.Views.{reply_view, reply_in};
+ghost use Rattle.topos_top.specs.inner.Shelf.{shelf_change};
+ghost use Rattle.topos_top.specs.inner.Views.{reply_view, reply_in};
 ghost use Rattle.topos_top.specs.declared.dialect.Dialect.TheVariants.{Iptables, OpenFlow};
 
 use crate::answer::Answer;

@@ -6,8 +6,8 @@ ghost use Rattle.topos_top.specs.Check.{check_job};
 ghost use Rattle.topos_top.specs.Commands.{course_of};
 ghost use Rattle.topos_top.specs.Job.{Answers};
 ghost use Rattle.topos_top.specs.Replies.{MayReply};
-ghost use Rattle.topos_top.specs.Shelf.{shelf_change};
-ghost use Rattle.topos_top.specs.Views.{reply_view, reply_in};
+ghost use Rattle.topos_top.specs.inner.Shelf.{shelf_change};
+ghost use Rattle.topos_top.specs.inner.Views.{reply_view, reply_in};
 
 use crate::answer::Answer;
 use crate::reading::read_description;

@@ -3,10 +3,10 @@
 ghost use Rattle.std.specs.Prelude.{◌≡◌, ◌≤◌};
 ghost use Rattle.topos_top.specs.Ask.{reports_on_output};
 ghost use Rattle.topos_top.specs.Commands.{course_of};
-ghost use Rattle.topos_top.specs.Course.{ReadsNothing};
+ghost use Rattle.topos_top.specs.inner.Course.{ReadsNothing};
 ghost use Rattle.topos_top.specs.Replies.{MayReply};
-ghost use Rattle.topos_top.specs.Shelf.{shelf_change};
-ghost use Rattle.topos_top.specs.Views.{ask_view, reply_in, HasFewHosts};
+ghost use Rattle.topos_top.specs.inner.Shelf.{shelf_change};
+ghost use Rattle.topos_top.specs.inner.Views.{ask_view, reply_in, HasFewHosts};
 
 use crate::answer::Answer;
 use crate::ask::Ask;

@@ -2,16 +2,16 @@
 //! end.
 
 ghost use Rattle.std.specs.Prelude.{◌≡◌, ◌≤◌, ◌++◌, OnOk, IfOk, decimal, false, map};
-ghost use Rattle.edit_core.specs.Kept.{table_of};
-ghost use Rattle.edit_text.specs.EditView.{edit_view};
+ghost use Rattle.edit_core.specs.inner.Kept.{table_of};
+ghost use Rattle.edit_text.specs.inner.EditView.{edit_view};
 ghost use Rattle.report_core.specs.PolicyReport.{IsPolicyReport};
 ghost use Rattle.topos_top.specs.Ask.{Edit};
 ghost use Rattle.topos_top.specs.Commands.{course_of};
 ghost use Rattle.topos_top.specs.Edit.{SaysTable, edit_job, summary_line, summary_lines};
 ghost use Rattle.topos_top.specs.Job.{Answers};
 ghost use Rattle.topos_top.specs.Replies.{MayReply};
-ghost use Rattle.topos_top.specs.Shelf.{shelf_change};
-ghost use Rattle.topos_top.specs.Views.{reply_view, reply_in};
+ghost use Rattle.topos_top.specs.inner.Shelf.{shelf_change};
+ghost use Rattle.topos_top.specs.inner.Views.{reply_view, reply_in};
 
 use crate::answer::Answer;
 use crate::reading::{read_edits, read_session};

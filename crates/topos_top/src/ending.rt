@@ -1,8 +1,9 @@
 //! How an answer ends the run: its text goes to the stream that it is for.
 
 ghost use Rattle.std.specs.Prelude.{◌≡◌, ◌≢◌, ◌≤◌};
-ghost use Rattle.topos_top.specs.Taken.{sink_change, IsGiven};
-ghost use Rattle.topos_top.specs.Views.{reply_view};
+ghost use Rattle.topos_top.specs.Taken.{IsGiven};
+ghost use Rattle.topos_top.specs.inner.Taken.{sink_change};
+ghost use Rattle.topos_top.specs.inner.Views.{reply_view};
 
 use crate::answer::Answer;
 use crate::status::{Status, Stream};

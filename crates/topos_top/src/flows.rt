@@ -2,7 +2,7 @@
 
 ghost use Rattle.std.specs.Prelude.{◌≡◌, IfOk, false, length};
 ghost use Rattle.net_core.specs.Policies.{IsPolicyOf};
-ghost use Rattle.topos_top.specs.Views.{reply_view};
+ghost use Rattle.topos_top.specs.inner.Views.{reply_view};
 ghost use Rattle.topos_top.specs.Job.{Answers};
 ghost use Rattle.topos_top.specs.Repair.{repair_job};
 ghost use Rattle.topos_top.specs.declared.dialect.Dialect.TheVariants.{OpenFlow};

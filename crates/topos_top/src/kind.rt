@@ -5,7 +5,7 @@ ghost use Rattle.desc_form.specs.Refusals.{refused};
 ghost use Rattle.report_core.specs.RefusalLine.{refusal_text};
 ghost use Rattle.topos_top.specs.Kinds.{most_of, IsRefused};
 ghost use Rattle.topos_top.specs.Reply.{error};
-ghost use Rattle.topos_top.specs.Views.{reply_view};
+ghost use Rattle.topos_top.specs.inner.Views.{reply_view};
 
 use crate::answer::Answer;
 use crate::dialect::Dialect;

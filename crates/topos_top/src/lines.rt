@@ -6,7 +6,7 @@ ghost use Rattle.std.specs.List.{concat};
 ghost use Rattle.std.specs.Io.KnownBytes.{append_known};
 ghost use Rattle.edge_io.specs.Counts.{Rose};
 ghost use Rattle.edge_io.specs.Told.{TookPrefix};
-ghost use Rattle.topos_top.specs.Blocks.{HasRoom};
+ghost use Rattle.topos_top.specs.inner.Blocks.{HasRoom};
 
 use edge_io::{Sink, WriteFault, put_all};
 use ipt_rules::Ruleset;

@@ -7,10 +7,11 @@ ghost use Rattle.host_net.specs.Host.{host_named};
 ghost use Rattle.topos_top.specs.Ask.{Local};
 ghost use Rattle.topos_top.specs.Commands.{course_of};
 ghost use Rattle.topos_top.specs.Job.{Answers};
-ghost use Rattle.topos_top.specs.Local.{local_job, machines_job, no_host_line, rest_host_line};
+ghost use Rattle.topos_top.specs.Local.{local_job, no_host_line, rest_host_line};
+ghost use Rattle.topos_top.specs.inner.Local.{machines_job};
 ghost use Rattle.topos_top.specs.Replies.{MayReply};
-ghost use Rattle.topos_top.specs.Shelf.{shelf_change};
-ghost use Rattle.topos_top.specs.Views.{reply_view, reply_in};
+ghost use Rattle.topos_top.specs.inner.Shelf.{shelf_change};
+ghost use Rattle.topos_top.specs.inner.Views.{reply_view, reply_in};
 
 use crate::answer::Answer;
 use crate::listed::listed_offences;

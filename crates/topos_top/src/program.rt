@@ -1,13 +1,14 @@
 //! The whole program, over any shelf of files and any two sinks.
 
 ghost use Rattle.std.specs.Prelude.{◌≡◌, ◌≢◌, ℕ, ◌≤◌, ◌↔◌, ◌⊎◌, None, map, string_bytes};
-ghost use Rattle.topos_top.specs.Ask.{ask_of, AsksToReport};
-ghost use Rattle.topos_top.specs.Commands.{NamesNoFile};
+ghost use Rattle.topos_top.specs.Ask.{ask_of};
+ghost use Rattle.topos_top.specs.inner.Ask.{AsksToReport};
+ghost use Rattle.topos_top.specs.inner.Commands.{NamesNoFile};
 ghost use Rattle.topos_top.specs.Promises.{GaveReply, LacksFile, HasRefused, HasBadText, IsViolated, CannotWrite, WroteText, WasCutOff, RanOut, KeepsPromise, AskForSample, EndsAsSample, IsComplete};
 ghost use Rattle.topos_top.specs.Replies.{MayGive};
-ghost use Rattle.topos_top.specs.Shelf.{shelf_change};
-ghost use Rattle.topos_top.specs.Taken.{sink_change};
-ghost use Rattle.topos_top.specs.Views.{reply_view};
+ghost use Rattle.topos_top.specs.inner.Shelf.{shelf_change};
+ghost use Rattle.topos_top.specs.inner.Taken.{sink_change};
+ghost use Rattle.topos_top.specs.inner.Views.{reply_view};
 
 use crate::answer::Answer;
 use crate::ask::ask_of_words;

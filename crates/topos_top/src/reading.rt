@@ -1,11 +1,11 @@
 //! Reading a file of each kind. What is not accepted ends the run with its answer.
 
 ghost use Rattle.std.specs.Prelude.{◌≡◌, ◌≤◌, IfOk};
-ghost use Rattle.ipt_rules.specs.OneOutcome.{EachGivesOne};
-ghost use Rattle.ofp_rules.specs.Build.{IsTable};
-ghost use Rattle.topos_top.specs.Reads.{MayTake, MayRead};
-ghost use Rattle.topos_top.specs.Shelf.{shelf_change};
-ghost use Rattle.topos_top.specs.Views.{outcome_view, items_view, session_view, edits_view};
+ghost use Rattle.ipt_rules.specs.inner.OneOutcome.{EachGivesOne};
+ghost use Rattle.ofp_rules.specs.inner.Build.{IsTable};
+ghost use Rattle.topos_top.specs.inner.Reads.{MayTake, MayRead};
+ghost use Rattle.topos_top.specs.inner.Shelf.{shelf_change};
+ghost use Rattle.topos_top.specs.inner.Views.{outcome_view, items_view, session_view, edits_view};
 ghost use Rattle.topos_top.specs.declared.dialect.Dialect.TheVariants.{Iptables, OpenFlow};
 
 use crate::answer::Answer;

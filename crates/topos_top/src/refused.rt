@@ -3,7 +3,7 @@
 ghost use Rattle.std.specs.Prelude.{◌≡◌};
 ghost use Rattle.topos_top.specs.Reply.{error, no_memory};
 ghost use Rattle.topos_top.specs.TextFault.{fault_line};
-ghost use Rattle.topos_top.specs.Views.{reply_view};
+ghost use Rattle.topos_top.specs.inner.Views.{reply_view};
 
 use crate::answer::Answer;
 use crate::status::Status;
@@ -17,8 +17,8 @@ use pkt_core::EventFault;
 
 impl<'a> From<DescFault> for Answer<'a> {
     ghost use Rattle.std.specs.Prelude.{◌≡◌};
-    ghost use Rattle.topos_top.specs.Refused.{description_reply};
-    ghost use Rattle.topos_top.specs.Views.{reply_view};
+    ghost use Rattle.topos_top.specs.inner.Refused.{description_reply};
+    ghost use Rattle.topos_top.specs.inner.Views.{reply_view};
 
     ghost from_gives = { λ fault given. reply_view given ≡ description_reply fault };
 
@@ -32,9 +32,9 @@ impl<'a> From<DescFault> for Answer<'a> {
 
 impl<'a> From<IptFault> for Answer<'a> {
     ghost use Rattle.std.specs.Prelude.{◌≡◌};
-    ghost use Rattle.topos_top.specs.Refused.{text_reply};
+    ghost use Rattle.topos_top.specs.inner.Refused.{text_reply};
     ghost use Rattle.topos_top.specs.TextFault.{rules_fault_line};
-    ghost use Rattle.topos_top.specs.Views.{reply_view};
+    ghost use Rattle.topos_top.specs.inner.Views.{reply_view};
 
     ghost from_gives = { λ fault given. reply_view given ≡ text_reply rules_fault_line fault };
 
@@ -50,9 +50,9 @@ impl<'a> From<IptFault> for Answer<'a> {
 
 impl<'a> From<OfpFault> for Answer<'a> {
     ghost use Rattle.std.specs.Prelude.{◌≡◌};
-    ghost use Rattle.topos_top.specs.Refused.{text_reply};
+    ghost use Rattle.topos_top.specs.inner.Refused.{text_reply};
     ghost use Rattle.topos_top.specs.TextFault.{flows_fault_line};
-    ghost use Rattle.topos_top.specs.Views.{reply_view};
+    ghost use Rattle.topos_top.specs.inner.Views.{reply_view};
 
     ghost from_gives = { λ fault given. reply_view given ≡ text_reply flows_fault_line fault };
 
@@ -68,9 +68,9 @@ impl<'a> From<OfpFault> for Answer<'a> {
 
 impl<'a> From<EventFault> for Answer<'a> {
     ghost use Rattle.std.specs.Prelude.{◌≡◌};
-    ghost use Rattle.topos_top.specs.Refused.{text_reply};
+    ghost use Rattle.topos_top.specs.inner.Refused.{text_reply};
     ghost use Rattle.topos_top.specs.TextFault.{events_fault_line};
-    ghost use Rattle.topos_top.specs.Views.{reply_view};
+    ghost use Rattle.topos_top.specs.inner.Views.{reply_view};
 
     ghost from_gives = { λ fault given. reply_view given ≡ text_reply events_fault_line fault };
 
@@ -86,9 +86,9 @@ impl<'a> From<EventFault> for Answer<'a> {
 
 impl<'a> From<EditsFault> for Answer<'a> {
     ghost use Rattle.std.specs.Prelude.{◌≡◌};
-    ghost use Rattle.topos_top.specs.Refused.{text_reply};
+    ghost use Rattle.topos_top.specs.inner.Refused.{text_reply};
     ghost use Rattle.topos_top.specs.TextFault.{edits_fault_line};
-    ghost use Rattle.topos_top.specs.Views.{reply_view};
+    ghost use Rattle.topos_top.specs.inner.Views.{reply_view};
 
     ghost from_gives = { λ fault given. reply_view given ≡ text_reply edits_fault_line fault };
 

@@ -4,8 +4,8 @@ ghost use Rattle.std.specs.Prelude.{◌≡◌, ◌≤◌, false};
 ghost use Rattle.topos_top.specs.Ask.{Repair};
 ghost use Rattle.topos_top.specs.Commands.{course_of};
 ghost use Rattle.topos_top.specs.Replies.{MayReply};
-ghost use Rattle.topos_top.specs.Shelf.{shelf_change};
-ghost use Rattle.topos_top.specs.Views.{reply_in};
+ghost use Rattle.topos_top.specs.inner.Shelf.{shelf_change};
+ghost use Rattle.topos_top.specs.inner.Views.{reply_in};
 
 use crate::answer::Answer;
 use crate::dialect::Dialect;

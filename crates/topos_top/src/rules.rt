@@ -8,8 +8,8 @@ ghost use Rattle.topos_top.specs.Job.{Answers};
 ghost use Rattle.topos_top.specs.Repair.{repair_job};
 ghost use Rattle.topos_top.specs.Replies.{MayReply};
 ghost use Rattle.topos_top.specs.Rules.{rules_job};
-ghost use Rattle.topos_top.specs.Shelf.{shelf_change};
-ghost use Rattle.topos_top.specs.Views.{reply_view, reply_in};
+ghost use Rattle.topos_top.specs.inner.Shelf.{shelf_change};
+ghost use Rattle.topos_top.specs.inner.Views.{reply_view, reply_in};
 
 use crate::answer::Answer;
 use crate::dialect::Dialect;

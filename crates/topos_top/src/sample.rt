@@ -4,7 +4,7 @@ ghost use Rattle.std.specs.Prelude.{◌≤◌, IfOk, false};
 ghost use Rattle.host_net.specs.Limits.{host_limit};
 ghost use Rattle.topos_top.specs.Job.{Answers};
 ghost use Rattle.topos_top.specs.Sample.{sample_job};
-ghost use Rattle.topos_top.specs.Views.{reply_view};
+ghost use Rattle.topos_top.specs.inner.Views.{reply_view};
 
 use crate::answer::Answer;
 use crate::text::Text;

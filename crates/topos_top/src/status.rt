@@ -1,7 +1,7 @@
 //! How a run ends, as an exit status, and the streams that it writes.
 
 ghost use Rattle.std.specs.Prelude.{◌≡◌};
-ghost use Rattle.topos_top.specs.StatusNumber.{number_of};
+ghost use Rattle.topos_top.specs.inner.StatusNumber.{number_of};
 
 /// The end of a run. Its number is the exit status of the program.
 #[derive(Clone, Copy, Debug, PartialEq, Eq)]

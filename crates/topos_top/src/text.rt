@@ -7,7 +7,7 @@ ghost use Rattle.edge_io.specs.Told.{TookPrefix};
 ghost use Rattle.report_core.specs.RefusalLine.{refusal_text};
 ghost use Rattle.topos_top.specs.Ask.{usage_text};
 ghost use Rattle.topos_top.specs.TextFault.{fault_line, edit_fault_line};
-ghost use Rattle.topos_top.specs.Views.{text_view};
+ghost use Rattle.topos_top.specs.inner.Views.{text_view};
 
 use crate::lines::put_lines;
 use crate::text_fault::edit_reason;

@@ -5,7 +5,7 @@ ghost use Rattle.host_net.specs.Verdict.{verdict_if};
 ghost use Rattle.ipt_rules.specs.Meaning.{Passes};
 ghost use Rattle.ofp_rules.specs.Meaning.{Passes as TablePasses};
 ghost use Rattle.pkt_core.specs.declared.event.Event.{Event as EventOf};
-ghost use Rattle.pkt_core.specs.Kept.{kept_in};
+ghost use Rattle.pkt_core.specs.inner.Kept.{kept_in};
 ghost use Rattle.pkt_core.specs.Tracking.{Runs, nothing_kept};
 ghost use Rattle.trace_core.specs.Trace.{IsTrace};
 

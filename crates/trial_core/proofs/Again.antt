@@ -1,7 +1,7 @@
 -- The flows of a trial that took a step and gave it back, and a trial that took none.
 use Rattle.std.proofs.Common.{◌≡◌, ℕ, ◌<◌, List, length, sym, ◌∙◌, ap, arith}
 use Rattle.flow_set.specs.declared.flow.Flow.{Flow}
-use Rattle.flow_set.specs.Steps.{TriedFlows, stepped, taken_back}
+use Rattle.flow_set.specs.inner.Steps.{TriedFlows, stepped, taken_back}
 use Rattle.std.proofs.Common.{◌≢◌, ◌+◌, ◌≤◌, set, get_or, inl, inr}
 use Rattle.std.proofs.lemmas.Bool.{cases_lt, cases_eq}
 use Rattle.std.proofs.lemmas.List.{get_or-set_same, get_or-set_other, get_or_read}

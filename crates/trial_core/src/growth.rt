@@ -2,8 +2,8 @@
 //! about the new flow alone, so that a pass does not go over the whole set for each flow.
 
 ghost use Rattle.std.specs.Prelude.{◌≡◌, ◌↔◌, All, IsTrue, IfOk};
-ghost use Rattle.first_core.specs.Grown.{IsGrown};
-ghost use Rattle.trial_core.specs.Trials.{ChosenHold};
+ghost use Rattle.first_core.specs.inner.Grown.{IsGrown};
+ghost use Rattle.trial_core.specs.inner.Trials.{ChosenHold};
 
 use crate::choice::Choice;
 use flow_set::{Flow, FlowSet};

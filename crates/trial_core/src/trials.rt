@@ -3,8 +3,8 @@
 ghost use Rattle.std.specs.Prelude.{◌≡◌, ◌↔◌, ℕ, ◌<◌, ◌≤◌, All, length, slice_index_or, IsTrue, IsFalse, IfOk, IsSome, true, if◌then◌else◌};
 ghost use Rattle.flow_set.specs.Flow.{IsFlow};
 ghost use Rattle.flow_set.specs.FlowSet.{with_flow};
-ghost use Rattle.flow_set.specs.Steps.{untried, taken_back};
-ghost use Rattle.trial_core.specs.Trials.{EachPair, AreTried};
+ghost use Rattle.flow_set.specs.inner.Steps.{untried, taken_back};
+ghost use Rattle.trial_core.specs.inner.Trials.{EachPair, AreTried};
 
 use crate::choice::Choice;
 use flow_set::{Flow, FlowSet};

@@ -2,7 +2,8 @@
 
 ghost use Rattle.std.specs.Prelude.{◌≡◌, ◌-◌, ◌^◌, ◌≤◌, ◌↔◌, IsTrue, IsSome, IfSome};
 ghost use Rattle.host_net.specs.Prefix.{front, covers, is_exact, meets};
-ghost use Rattle.host_net.specs.PrefixView.{first_address, last_address, ShareAddress};
+ghost use Rattle.host_net.specs.PrefixView.{first_address, last_address};
+ghost use Rattle.host_net.specs.inner.PrefixView.{ShareAddress};
 
 use crate::prefix::Prefix;
 
@@ -42,7 +43,7 @@ impl Prefix {
     }
 
     /// Whether the address agrees with the prefix in the bits that count.
-    #[tactic(auto, using(crate::specs::PrefixLaws::covers_between), unfolding(crate::specs::Prefix::covers))]
+    #[tactic(auto, using(crate::proofs::PrefixLaws::covers_between), unfolding(crate::specs::Prefix::covers))]
     pub fn covers(&self, addr: u32) -> bool
         ensures exact { result ≡ covers self.now addr }
         ensures between { IsTrue result ↔ ((first_address self.now ≤ addr) × (addr ≤ last_address self.now)) }
@@ -59,7 +60,7 @@ impl Prefix {
     }
 
     /// The last address that the prefix covers.
-    #[tactic(auto, using(crate::specs::PrefixLaws::last_address_fits), unfolding(crate::specs::PrefixView::first_address, crate::specs::PrefixView::last_address))]
+    #[tactic(auto, using(crate::proofs::PrefixLaws::last_address_fits), unfolding(crate::specs::PrefixView::first_address, crate::specs::PrefixView::last_address))]
     pub fn last(&self) -> u32
         ensures { result ≡ last_address self.now }
     {

@@ -1,7 +1,7 @@
 //! The text of a prefix, put into a line: every text of rules spells prefixes by these calls.
 
 ghost use Rattle.std.specs.Prelude.{◌≡◌, ◌<◌, ◌≤◌, ◌++◌, take};
-ghost use Rattle.text_core.specs.Line.{cut};
+ghost use Rattle.text_core.specs.inner.Line.{cut};
 ghost use Rattle.host_net.specs.Prefix as spelled;
 
 use crate::prefix::Prefix;

@@ -3,7 +3,8 @@
 ghost use Rattle.std.specs.Prelude.{◌≡◌, ◌↔◌, Some, None, IfSome, IsNone, if◌then◌else◌, nat_lt};
 ghost use Rattle.text_core.specs.Decimal.{number};
 ghost use Rattle.host_net.specs.Service.{last_port};
-ghost use Rattle.host_net.specs.ServiceText.{IsServiceSpelling, ports_of, protocol_of, service_of, with_ports};
+ghost use Rattle.host_net.specs.ServiceText.{ports_of, protocol_of, service_of, with_ports};
+ghost use Rattle.host_net.specs.inner.ServiceText.{IsServiceSpelling};
 ghost use Rattle.host_net.specs.declared.service.Service.{Service};
 
 use crate::service::Service;

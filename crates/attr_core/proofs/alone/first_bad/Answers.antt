@@ -1,6 +1,6 @@
 use Rattle.std.proofs.Common.{[], map, refl, sym, ◌∙◌}
-use Rattle.attr_core.specs.AssignView.{given_of}
-use Rattle.attr_core.specs.Bad.{bad_alone, shaped_alone}
+use Rattle.attr_core.specs.inner.AssignView.{given_of}
+use Rattle.attr_core.specs.inner.Bad.{bad_alone, shaped_alone}
 use Rattle.attr_core.specs.Forms.{says}
 use Rattle.attr_core.proofs.alone.first_bad.Goals as goal
 

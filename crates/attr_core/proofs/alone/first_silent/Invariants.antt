@@ -1,6 +1,6 @@
 use Rattle.std.proofs.Common.{◌≡◌, [], map, drop, is_some}
-use Rattle.attr_core.specs.AssignView.{given_of}
-use Rattle.attr_core.specs.Bad.{first_failing}
+use Rattle.attr_core.specs.inner.AssignView.{given_of}
+use Rattle.attr_core.specs.inner.Bad.{first_failing}
 use Rattle.attr_core.specs.Forms.{says}
 use Rattle.attr_core.proofs.alone.first_silent.Given as goal
 

@@ -1,6 +1,6 @@
 use Rattle.std.proofs.Common.{map, sym, ◌∙◌, ap, Ok}
-use Rattle.attr_core.specs.AssignView.{given_of}
-use Rattle.attr_core.specs.Holders.{gave_fault, gave_made}
+use Rattle.attr_core.specs.inner.AssignView.{given_of}
+use Rattle.attr_core.specs.inner.Holders.{gave_fault, gave_made}
 use Rattle.attr_core.proofs.assigned.read.Goals as goal
 
 pub returns-in-Ok : goal.returns-in-Ok

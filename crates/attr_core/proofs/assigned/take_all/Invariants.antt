@@ -1,6 +1,6 @@
 use Rattle.std.proofs.Common.{◌≡◌, length, map, drop}
-use Rattle.attr_core.specs.AssignView.{given_of}
-use Rattle.attr_core.specs.Walks.{in_turn, shaped}
+use Rattle.attr_core.specs.inner.AssignView.{given_of}
+use Rattle.attr_core.specs.inner.Walks.{in_turn, shaped}
 use Rattle.attr_core.proofs.assigned.take_all.Given as goal
 
 abbrev pub invariant-loop-place : goal.invariant-loop-place

@@ -2,14 +2,14 @@ use Rattle.std.proofs.Common.{◌≡◌, ◌<◌, ℕ, List, Option, Some, None,
 use Rattle.std.proofs.lemmas.List.{length-map}
 use Rattle.std.proofs.lemmas.Result.{IfOk-weaker}
 use Rattle.std.specs.Prelude.{IfSome}
-use Rattle.attr_core.specs.AssignView.{given_of}
+use Rattle.attr_core.specs.inner.AssignView.{given_of}
 use Rattle.host_net.specs.Host.{Host}
 use Rattle.attr_core.specs.Assigns.{Given}
-use Rattle.attr_core.specs.FirstBad.{SaysNothing, TellsFirstBad}
-use Rattle.attr_core.specs.FirstBadLaws.{first_told}
+use Rattle.attr_core.specs.inner.FirstBad.{SaysNothing, TellsFirstBad}
+use Rattle.attr_core.proofs.FirstBadLaws.{first_told}
 use Rattle.attr_core.specs.Forms.{Form, bad_assign, says}
 use Rattle.attr_core.specs.Templates.{form}
-use Rattle.attr_core.specs.TemplatesLaws.{bad_given, bad_is}
+use Rattle.attr_core.proofs.TemplatesLaws.{bad_given, bad_is}
 use Rattle.attr_core.proofs.invariant.bad_attribute.Goals as goal
 
 some_within : (bad said : Option ℕ) (n : ℕ) → bad ≡ said → ((k : ℕ) → said ≡ Some k → k < n) → IfSome bad (λ k. k < n)

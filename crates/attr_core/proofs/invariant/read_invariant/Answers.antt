@@ -1,10 +1,11 @@
 use Rattle.std.proofs.Common.{◌≡◌, Some, map, length, sym, subst}
-use Rattle.inv_any.specs.Templates.{HostsMayHave, meaning_of, template_name}
+use Rattle.inv_any.specs.Templates.{meaning_of, template_name}
+use Rattle.inv_any.specs.inner.Templates.{HostsMayHave}
 use Rattle.inv_any.specs.declared.any_inv.AnyInv.{AnyInv}
-use Rattle.attr_core.specs.AssignView.{given_of}
-use Rattle.attr_core.specs.MayHaveLaws.{hosts_may_have}
+use Rattle.attr_core.specs.inner.AssignView.{given_of}
+use Rattle.attr_core.proofs.MayHaveLaws.{hosts_may_have}
 use Rattle.attr_core.specs.Templates.{template_named}
-use Rattle.attr_core.specs.TemplatesLaws.{invariant_named, invariant_sized, made_is, made_of_all}
+use Rattle.attr_core.proofs.TemplatesLaws.{invariant_named, invariant_sized, made_is, made_of_all}
 use Rattle.attr_core.proofs.invariant.read_invariant.Goals as goal
 
 pub memory-requires : goal.memory-requires

@@ -1,5 +1,5 @@
-use Rattle.attr_core.specs.MayHaveLaws.{domains_may_have, kinds_may_have, noreach_may_have, partners_may_have}
-use Rattle.attr_core.specs.TaintedMayHaveLaws.{tainting_may_have}
+use Rattle.attr_core.proofs.MayHaveLaws.{domains_may_have, kinds_may_have, noreach_may_have, partners_may_have}
+use Rattle.attr_core.proofs.TaintedMayHaveLaws.{tainting_may_have}
 use Rattle.attr_core.proofs.may_have.says_what_hosts_may_have.Goals as goal
 
 pub returns : goal.returns

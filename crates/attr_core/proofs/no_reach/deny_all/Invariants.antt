@@ -2,7 +2,7 @@ use Rattle.std.proofs.Common.{◌≡◌, length, map, option_map, slice_set, dro
 use Rattle.std.specs.FinSet as set
 use Rattle.toml.specs.View.{view}
 use Rattle.tmpl_reach.specs.NoReach.{denied_by}
-use Rattle.table_core.specs.Listing.{grow}
+use Rattle.table_core.specs.inner.Listing.{grow}
 use Rattle.attr_core.proofs.PeersWalk.{with_peer}
 use Rattle.attr_core.specs.NoReach.{all_denied}
 use Rattle.attr_core.proofs.no_reach.deny_all.Given as goal

@@ -1,9 +1,9 @@
 use Rattle.std.proofs.Common.{List, ℕ, map, is_some, sym, ap, ◌∙◌}
-use Rattle.attr_core.specs.AssignView.{given_of}
+use Rattle.attr_core.specs.inner.AssignView.{given_of}
 use Rattle.attr_core.specs.Assigns.{Given}
-use Rattle.attr_core.specs.Bad.{first_failing}
-use Rattle.attr_core.specs.OwnTablesLaws.{bad_kinds}
-use Rattle.attr_core.specs.OwnTablesWalk.{kind_said}
+use Rattle.attr_core.specs.inner.Bad.{first_failing}
+use Rattle.attr_core.proofs.OwnTablesLaws.{bad_kinds}
+use Rattle.attr_core.specs.inner.OwnTablesWalk.{kind_said}
 use Rattle.attr_core.proofs.own_table.bad_kind.Goals as goal
 
 pub returns : goal.returns

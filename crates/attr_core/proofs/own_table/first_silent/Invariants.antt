@@ -1,8 +1,8 @@
 use Rattle.std.proofs.Common.{◌≡◌, Bor, List, ℕ, map, drop, is_some}
-use Rattle.attr_core.specs.AssignView.{given_of}
+use Rattle.attr_core.specs.inner.AssignView.{given_of}
 use Rattle.attr_core.specs.Assigns.{Given}
-use Rattle.attr_core.specs.Bad.{first_failing}
-use Rattle.attr_core.specs.OwnTablesWalk.{kind_said}
+use Rattle.attr_core.specs.inner.Bad.{first_failing}
+use Rattle.attr_core.specs.inner.OwnTablesWalk.{kind_said}
 use Rattle.attr_core.proofs.own_table.first_silent.Given as goal
 
 abbrev pub invariant-loop-place : goal.invariant-loop-place

@@ -1,6 +1,6 @@
 use Rattle.std.proofs.Common.{Bor, List, ℕ, ◌∙◌}
 use Rattle.std.specs.Str.{bytes_eq}
-use Rattle.attr_core.specs.OwnTablesLaws.{position_from-map, some_within}
+use Rattle.attr_core.proofs.OwnTablesLaws.{position_from-map, some_within}
 use Rattle.attr_core.proofs.own_table.kind_numbered.Goals as goal
 
 pub returns-clause-value : goal.returns-clause-value

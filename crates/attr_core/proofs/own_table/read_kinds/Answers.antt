@@ -1,9 +1,9 @@
 use Rattle.std.proofs.Common.{◌≡◌, Bor, List, ℕ, map, length, replicate, sym, ap, ◌∙◌}
 use Rattle.inv_any.specs.declared.any_inv.AnyInv.TheVariants as any
-use Rattle.attr_core.specs.AssignView.{given_of}
+use Rattle.attr_core.specs.inner.AssignView.{given_of}
 use Rattle.attr_core.specs.OwnTables.{Declared}
-use Rattle.attr_core.specs.OwnTablesLaws.{made_of_kinds}
-use Rattle.attr_core.specs.OwnTablesWalk.{kinds_after}
+use Rattle.attr_core.proofs.OwnTablesLaws.{made_of_kinds}
+use Rattle.attr_core.specs.inner.OwnTablesWalk.{kinds_after}
 use Rattle.attr_core.proofs.own_table.read_kinds.Goals as goal
 
 pub returns : goal.returns

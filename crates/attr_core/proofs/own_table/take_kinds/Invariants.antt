@@ -1,6 +1,6 @@
 use Rattle.std.proofs.Common.{◌≡◌, Bor, List, ℕ, map, drop, length}
-use Rattle.attr_core.specs.AssignView.{given_of}
-use Rattle.attr_core.specs.OwnTablesWalk.{kinds_after}
+use Rattle.attr_core.specs.inner.AssignView.{given_of}
+use Rattle.attr_core.specs.inner.OwnTablesWalk.{kinds_after}
 use Rattle.attr_core.proofs.own_table.take_kinds.Given as goal
 
 abbrev pub invariant-loop-assign : goal.invariant-loop-assign

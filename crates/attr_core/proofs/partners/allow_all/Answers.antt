@@ -2,10 +2,10 @@ use Rattle.std.proofs.Common.{◌≡◌, ◌<◌, ℕ, false, List, replicate, l
 use Rattle.std.proofs.lemmas.List.{get_or-set_same}
 use Rattle.toml.specs.Data.{Data}
 use Rattle.toml.specs.View.{view}
-use Rattle.table_core.specs.Listing.{grow}
-use Rattle.table_core.specs.ListingLaws.{grow_each}
+use Rattle.table_core.specs.inner.Listing.{grow}
+use Rattle.table_core.proofs.ListingLaws.{grow_each}
 use Rattle.tmpl_zones.specs.Partners.{Partner, DontCare, Care, Master, with_sender}
-use Rattle.tmpl_zones.specs.PartnersView.{IsMaster}
+use Rattle.tmpl_zones.specs.inner.PartnersView.{IsMaster}
 use Rattle.attr_core.specs.Partners.{master_of}
 use Rattle.attr_core.specs.Peers.{peer}
 use Rattle.attr_core.proofs.AtHost.{begun_at, grown_at, rest_from}

@@ -1,8 +1,8 @@
 use Rattle.std.proofs.Common.{◌≡◌, length, map, option_map, slice_set, slice_index_or, drop}
 use Rattle.toml.specs.View.{view}
 use Rattle.tmpl_zones.specs.Partners.{DontCare, with_sender}
-use Rattle.tmpl_zones.specs.PartnersView.{IsMaster}
-use Rattle.table_core.specs.Listing.{grow}
+use Rattle.tmpl_zones.specs.inner.PartnersView.{IsMaster}
+use Rattle.table_core.specs.inner.Listing.{grow}
 use Rattle.attr_core.proofs.PeersWalk.{with_peer}
 use Rattle.attr_core.specs.Partners.{master_of}
 use Rattle.attr_core.proofs.partners.allow_all.Given as goal

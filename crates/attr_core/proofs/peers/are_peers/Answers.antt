@@ -1,7 +1,7 @@
 use Rattle.std.proofs.Common.{is_some, map, sym, ◌∙◌}
 use Rattle.std.proofs.lemmas.List.Folds.{list_all-map}
 use Rattle.toml.specs.View.{view}
-use Rattle.attr_core.specs.Bad.{is_some-each}
+use Rattle.attr_core.specs.inner.Bad.{is_some-each}
 use Rattle.attr_core.specs.Peers.{peer}
 use Rattle.attr_core.proofs.peers.are_peers.Goals as goal
 

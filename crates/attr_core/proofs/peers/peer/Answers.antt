@@ -1,5 +1,5 @@
 use Rattle.std.proofs.Common.{sym}
-use Rattle.host_net.specs.NamedLaws.{host_named_within}
+use Rattle.host_net.proofs.NamedLaws.{host_named_within}
 use Rattle.attr_core.proofs.peers.peer.Goals as goal
 
 pub returns-else-other-host-clause-other : goal.returns-else-other-host-clause-other

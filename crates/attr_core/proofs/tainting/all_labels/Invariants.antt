@@ -1,7 +1,7 @@
 use Rattle.std.proofs.Common.{◌≡◌, ◌≤◌, length, map, drop}
 use Rattle.toml.specs.View.{view}
-use Rattle.table_core.specs.Listing.{grow}
-use Rattle.attr_core.specs.LabelWalk.{all_labels, and_label}
+use Rattle.table_core.specs.inner.Listing.{grow}
+use Rattle.attr_core.specs.inner.LabelWalk.{all_labels, and_label}
 use Rattle.attr_core.proofs.tainting.all_labels.Given as goal
 
 abbrev pub invariant-loop-value : goal.invariant-loop-value

@@ -1,7 +1,7 @@
 use Rattle.std.proofs.Common.{[], map, refl, sym, ◌∙◌, arith}
 use Rattle.std.proofs.lemmas.Result.{IfOk-weaker}
-use Rattle.attr_core.specs.AssignView.{given_of}
-use Rattle.attr_core.specs.Bad.{bad_labels}
+use Rattle.attr_core.specs.inner.AssignView.{given_of}
+use Rattle.attr_core.specs.inner.Bad.{bad_labels}
 use Rattle.attr_core.proofs.tainting.first_bad.Goals as goal
 
 pub returns : goal.returns

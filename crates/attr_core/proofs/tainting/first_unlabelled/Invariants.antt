@@ -1,6 +1,6 @@
 use Rattle.std.proofs.Common.{◌≡◌, ◌≤◌, [], length, map, drop}
-use Rattle.attr_core.specs.AssignView.{given_of}
-use Rattle.attr_core.specs.Bad.{first_unlabelled}
+use Rattle.attr_core.specs.inner.AssignView.{given_of}
+use Rattle.attr_core.specs.inner.Bad.{first_unlabelled}
 use Rattle.attr_core.proofs.tainting.first_unlabelled.Given as goal
 
 abbrev pub invariant-loop-place : goal.invariant-loop-place

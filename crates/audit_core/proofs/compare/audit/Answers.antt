@@ -1,12 +1,12 @@
 use Rattle.std.proofs.Common.{◌≡◌, arith, subst}
 use Rattle.host_net.specs.Site.{site_with}
 use Rattle.audit_core.specs.Cuts.{parts_between}
-use Rattle.audit_core.specs.FindingLaws.{equal_exactly}
+use Rattle.audit_core.specs.laws.FindingLaws.{equal_exactly}
 use Rattle.audit_core.specs.Places.{class_count}
-use Rattle.audit_core.specs.RulesView.{rules_of}
-use Rattle.audit_core.specs.Searching.{IsSearched}
+use Rattle.audit_core.specs.inner.RulesView.{rules_of}
+use Rattle.audit_core.specs.inner.Searching.{IsSearched}
 use Rattle.audit_core.specs.Sides.{Sides, sides_of}
-use Rattle.audit_core.specs.Treatment.{AreMerged}
+use Rattle.audit_core.specs.inner.Treatment.{AreMerged}
 use Rattle.audit_core.proofs.MergedLemmas.{merged_fewer, merged_leasts}
 use Rattle.audit_core.proofs.StandingLemmas.{kept_fewer, kept_leasts}
 use Rattle.audit_core.proofs.AuditLemmas.{are_leasts, count_is, found_by_kept, leasts_distinct}

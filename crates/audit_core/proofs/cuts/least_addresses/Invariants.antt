@@ -1,5 +1,5 @@
 use Rattle.std.proofs.Common.{◌≡◌, take}
-use Rattle.audit_core.specs.RangeCuts.{address_cuts}
+use Rattle.audit_core.specs.inner.RangeCuts.{address_cuts}
 use Rattle.audit_core.proofs.cuts.least_addresses.Given as goal
 
 abbrev pub invariant-loop-range : goal.invariant-loop-range

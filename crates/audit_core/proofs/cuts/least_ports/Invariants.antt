@@ -1,5 +1,5 @@
 use Rattle.std.proofs.Common.{◌≡◌, take}
-use Rattle.audit_core.specs.RangeCuts.{port_cuts}
+use Rattle.audit_core.specs.inner.RangeCuts.{port_cuts}
 use Rattle.audit_core.proofs.cuts.least_ports.Given as goal
 
 abbrev pub invariant-loop-range : goal.invariant-loop-range

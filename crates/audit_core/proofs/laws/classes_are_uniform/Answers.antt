@@ -1,7 +1,8 @@
 use Rattle.host_net.specs.declared.packet.Packet.{Packet}
 use Rattle.host_net.specs.Packet.{IsPacket}
 use Rattle.audit_core.proofs.AlikeLemmas.{class_of_packet}
-use Rattle.audit_core.specs.Cuts.{AreOneClass, cuts_between}
+use Rattle.audit_core.specs.Cuts.{cuts_between}
+use Rattle.audit_core.specs.inner.Cuts.{AreOneClass}
 use Rattle.audit_core.specs.Parts.{rules_parts, site_parts}
 use Rattle.audit_core.specs.Sides.{Sides}
 use Rattle.audit_core.proofs.PartLemmas.{AreAlikeFor, alike_for_parts, one_class_alike, swaps_alike}

@@ -1,4 +1,4 @@
-use Rattle.audit_core.specs.ExpectedLaws.{equal_where_expected, expected_where_agree}
+use Rattle.audit_core.proofs.ExpectedLaws.{equal_where_expected, expected_where_agree}
 use Rattle.audit_core.proofs.laws.equal_is_expected.Goals as goal
 
 pub returns : goal.returns

@@ -1,5 +1,5 @@
 use Rattle.std.proofs.Common.{◌≤◌, ◌-◌, length}
-use Rattle.audit_core.specs.Treatment.{IsEnough}
+use Rattle.audit_core.specs.inner.Treatment.{IsEnough}
 use Rattle.audit_core.proofs.left.first_telling.Given as goal
 
 abbrev pub decreases-loop-at : goal.decreases-loop-at

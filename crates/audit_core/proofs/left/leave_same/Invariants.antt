@@ -1,5 +1,5 @@
 use Rattle.std.proofs.Common.{◌≤◌, ◌-◌, length}
-use Rattle.audit_core.specs.Treatment.{FitsAt, IsEnough}
+use Rattle.audit_core.specs.inner.Treatment.{FitsAt, IsEnough}
 use Rattle.audit_core.proofs.left.leave_same.Given as goal
 
 abbrev pub decreases-loop-first : goal.decreases-loop-first

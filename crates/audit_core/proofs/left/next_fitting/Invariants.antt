@@ -1,5 +1,5 @@
 use Rattle.std.proofs.Common.{◌≡◌, ◌≤◌, ◌-◌, length, drop}
-use Rattle.audit_core.specs.Treatment.{left_of}
+use Rattle.audit_core.specs.inner.Treatment.{left_of}
 use Rattle.audit_core.proofs.left.next_fitting.Given as goal
 
 abbrev pub decreases-loop-at : goal.decreases-loop-at

@@ -1,5 +1,5 @@
 use Rattle.std.proofs.Common.{take}
-use Rattle.audit_core.specs.Thinning.{SamePorts}
+use Rattle.audit_core.specs.inner.Thinning.{SamePorts}
 use Rattle.audit_core.proofs.likeness.same_ports.Given as goal
 
 abbrev pub invariant-loop-range : goal.invariant-loop-range

@@ -1,6 +1,6 @@
 use Rattle.std.proofs.Common.{take}
 use Rattle.std.specs.List.{flat_map}
-use Rattle.audit_core.specs.Named.{AreMore}
+use Rattle.audit_core.specs.inner.Named.{AreMore}
 use Rattle.audit_core.specs.Parts.{entry_parts}
 use Rattle.audit_core.proofs.named.push_entries.Given as goal
 

@@ -1,6 +1,6 @@
 use Rattle.std.proofs.Common.{map, take}
 use Rattle.host_net.specs.Hosts.{all_prefixes}
-use Rattle.audit_core.specs.Named.{AreMore}
+use Rattle.audit_core.specs.inner.Named.{AreMore}
 use Rattle.audit_core.specs.Parts.{Addresses}
 use Rattle.audit_core.proofs.named.push_hosts.Given as goal
 

@@ -1,5 +1,5 @@
 use Rattle.std.proofs.Common.{map, take}
-use Rattle.audit_core.specs.Named.{AreMore}
+use Rattle.audit_core.specs.inner.Named.{AreMore}
 use Rattle.audit_core.specs.Parts.{Addresses}
 use Rattle.audit_core.proofs.named.push_prefixes.Given as goal
 

@@ -1,7 +1,7 @@
 use Rattle.std.proofs.Common.{◌≡◌, ◌++◌}
 use Rattle.std.specs.List.{flat_map}
 use Rattle.host_net.specs.Services.{services_of}
-use Rattle.audit_core.specs.Named.{AreMore}
+use Rattle.audit_core.specs.inner.Named.{AreMore}
 use Rattle.audit_core.specs.Parts.{service_parts}
 use Rattle.audit_core.proofs.named.push_services_of.Given as goal
 

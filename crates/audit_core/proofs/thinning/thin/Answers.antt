@@ -1,7 +1,7 @@
 use Rattle.std.proofs.Common.{ℕ, List, get_or, sym, subst, ◌∙◌, take, ◌+◌}
 use Rattle.std.proofs.lemmas.List.{get_or_default}
-use Rattle.audit_core.specs.Likeness.{are_alike}
-use Rattle.audit_core.specs.Thinning.{IsThinned, Stands}
+use Rattle.audit_core.specs.inner.Likeness.{are_alike}
+use Rattle.audit_core.specs.inner.Thinning.{IsThinned, Stands}
 use Rattle.audit_core.proofs.ThinningLemmas.{alike_itself, kept_more, stood_for}
 use Rattle.audit_core.proofs.thinning.thin.Goals.{then-not-stands+in_ok-push+in_ok-push-2, else-not-stands}
 use Rattle.audit_core.proofs.thinning.thin.Goals as goal

@@ -1,6 +1,6 @@
 use Rattle.std.proofs.Common.{take}
-use Rattle.audit_core.specs.Likeness.{are_alike}
-use Rattle.audit_core.specs.Thinning.{IsThinned}
+use Rattle.audit_core.specs.inner.Likeness.{are_alike}
+use Rattle.audit_core.specs.inner.Thinning.{IsThinned}
 use Rattle.audit_core.proofs.thinning.thin.Given as goal
 
 -- those that are kept stand for the numbers so far

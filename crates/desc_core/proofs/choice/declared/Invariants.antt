@@ -3,7 +3,7 @@ use Rattle.std.specs.Prelude.{find}
 use Rattle.std.specs.Str.{bytes_eq}
 use Rattle.desc_core.specs.Choices.{OwnTable}
 use Rattle.desc_form.specs.WrittenTemplate.{WrittenTemplate}
-use Rattle.desc_form.specs.WrittenView.{template_view}
+use Rattle.desc_form.specs.inner.WrittenView.{template_view}
 use Rattle.desc_core.proofs.choice.declared.Given as goal
 
 abbrev pub invariant-loop-template : goal.invariant-loop-template

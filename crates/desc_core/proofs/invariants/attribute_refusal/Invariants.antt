@@ -1,5 +1,5 @@
 use Rattle.std.proofs.Common.{◌≡◌, ◌+◌, map, drop}
-use Rattle.desc_core.specs.KnownView.{known_view}
+use Rattle.desc_core.specs.inner.KnownView.{known_view}
 use Rattle.desc_core.specs.UseConditions.{bad_at}
 use Rattle.desc_core.specs.WrittenNetwork.{Known}
 use Rattle.text_core.specs.Firsts.{Numbered, first_found, numbered_from}

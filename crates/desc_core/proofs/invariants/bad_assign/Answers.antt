@@ -1,10 +1,10 @@
 use Rattle.std.proofs.Common.{Bor, List, ℕ, map, sym, ap, ◌∙◌}
-use Rattle.attr_core.specs.AssignView.{given_of}
+use Rattle.attr_core.specs.inner.AssignView.{given_of}
 use Rattle.attr_core.specs.Forms.{bad_assign}
 use Rattle.attr_core.specs.OwnTables.{table_form}
 use Rattle.attr_core.specs.declared.assign.Assign.{Assign}
 use Rattle.desc_core.specs.Choices.{bad_of, declared_by}
-use Rattle.desc_form.specs.WrittenView.{template_view}
+use Rattle.desc_form.specs.inner.WrittenView.{template_view}
 use Rattle.desc_core.proofs.invariants.bad_assign.Goals as goal
 
 pub returns-in-OwnTable : goal.returns-in-OwnTable

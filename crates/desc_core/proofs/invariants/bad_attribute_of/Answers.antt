@@ -1,8 +1,8 @@
 use Rattle.std.proofs.Common.{◌<◌, length, map, arith, sym, ◌∙◌}
 use Rattle.std.proofs.lemmas.List.{length-map}
-use Rattle.attr_core.specs.AssignView.{given_of}
-use Rattle.desc_core.specs.ChoiceLaws.{bad_of_within}
-use Rattle.desc_core.specs.ChoiceView.{choice_view}
+use Rattle.attr_core.specs.inner.AssignView.{given_of}
+use Rattle.desc_core.proofs.ChoiceLaws.{bad_of_within}
+use Rattle.desc_core.specs.inner.ChoiceView.{choice_view}
 use Rattle.desc_core.proofs.invariants.bad_attribute_of.Goals as goal
 
 pub overflow_add-place : goal.overflow_add-place

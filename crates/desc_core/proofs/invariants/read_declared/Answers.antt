@@ -1,10 +1,10 @@
 use Rattle.std.proofs.Common.{◌≡◌, Bor, List, ℕ, length, map, sym, ap, ◌∙◌}
 use Rattle.std.proofs.lemmas.List.{length-replicate}
-use Rattle.attr_core.specs.AssignView.{given_of}
+use Rattle.attr_core.specs.inner.AssignView.{given_of}
 use Rattle.attr_core.specs.Forms.{invariant_by}
 use Rattle.attr_core.specs.OwnTables.{table_form}
 use Rattle.desc_core.specs.Choices.{table_said}
-use Rattle.desc_form.specs.WrittenView.{template_view}
+use Rattle.desc_form.specs.inner.WrittenView.{template_view}
 use Rattle.tmpl_table.specs.KindTable.{TableHosts}
 use Rattle.desc_core.proofs.invariants.read_declared.Goals as goal
 

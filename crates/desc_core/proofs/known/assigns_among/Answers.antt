@@ -3,7 +3,7 @@ use Rattle.std.proofs.lemmas.List.Elements.{All-push}
 use Rattle.attr_core.specs.Assigns.{Given}
 use Rattle.toml.specs.View.{table_view}
 use Rattle.attr_core.specs.declared.assign.Assign.{Assign}
-use Rattle.host_net.specs.NamedLaws.{host_named_within}
+use Rattle.host_net.proofs.NamedLaws.{host_named_within}
 use Rattle.desc_core.proofs.KnownLemmas.{assigns_more}
 use Rattle.desc_core.proofs.known.assigns_among.Goals as goal
 

@@ -1,12 +1,12 @@
 use Rattle.std.proofs.Common.{rules, option_map, ◌∙◌}
 use Rattle.std.specs.Str.{bytes_eq}
 use Rattle.desc_form.specs.Refusals.{refused_by}
-use Rattle.desc_form.specs.WrittenView.{assign_view}
+use Rattle.desc_form.specs.inner.WrittenView.{assign_view}
 use Rattle.desc_form.specs.Written.{WrittenAssign}
 use Rattle.desc_form.specs.declared.refusal.Place.TheVariants.{Assign}
 use Rattle.desc_form.specs.declared.refusal.Why.TheVariants.{DuplicateAssign}
-use Rattle.text_core.specs.FirstPairLaws.{told_numbered}
-use Rattle.text_core.specs.FirstsView.{pair_seen}
+use Rattle.text_core.proofs.FirstPairLaws.{told_numbered}
+use Rattle.text_core.specs.inner.FirstsView.{pair_seen}
 use Rattle.desc_core.proofs.names.duplicate_in.Goals as goal
 
 pub returns : goal.returns

@@ -3,7 +3,7 @@ use Rattle.std.specs.List.{list_all}
 use Rattle.std.specs.Prelude.{find, is_none, IsTrue}
 use Rattle.desc_form.specs.Refusals.{refused_name}
 use Rattle.desc_form.specs.declared.refusal.Why.TheVariants.{UndeclaredHost}
-use Rattle.desc_hosts.specs.MentionView.{mention_view}
+use Rattle.desc_hosts.specs.inner.MentionView.{mention_view}
 use Rattle.desc_hosts.specs.Mentions.{Mention}
 use Rattle.host_net.specs.Host.{host_named}
 use Rattle.text_core.specs.Name.{is_name}

@@ -1,6 +1,6 @@
 use Rattle.std.proofs.Common.{◌∙◌}
 use Rattle.desc_core.proofs.NamesLaws.{are_names, undeclared_is}
-use Rattle.desc_form.specs.WrittenView.{written_view}
+use Rattle.desc_form.specs.inner.WrittenView.{written_view}
 use Rattle.desc_core.proofs.names.undeclared_host.Goals as goal
 
 pub first_undeclared-requires : goal.first_undeclared-requires

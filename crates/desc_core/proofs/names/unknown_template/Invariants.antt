@@ -3,7 +3,7 @@ use Rattle.std.specs.Prelude.{find, is_none}
 use Rattle.desc_core.specs.Choices.{chosen}
 use Rattle.text_core.specs.Firsts.{Numbered, numbered_from}
 use Rattle.desc_form.specs.Refusals.{refused}
-use Rattle.desc_form.specs.WrittenView.{invariant_view, template_view}
+use Rattle.desc_form.specs.inner.WrittenView.{invariant_view, template_view}
 use Rattle.desc_form.specs.Written.{WrittenInvariant}
 use Rattle.desc_form.specs.declared.refusal.Place.TheVariants.{Invariant}
 use Rattle.desc_form.specs.declared.refusal.Why.TheVariants.{UnknownTemplate}

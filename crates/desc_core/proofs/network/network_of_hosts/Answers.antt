@@ -1,7 +1,7 @@
 use Rattle.std.proofs.Common.{sym}
 use Rattle.desc_core.proofs.KnownLaws.{unknown_end, unknown_invariant}
 use Rattle.desc_core.proofs.NetworkLemmas.{refused_for_name}
-use Rattle.desc_form.specs.WrittenView.{written_view}
+use Rattle.desc_form.specs.inner.WrittenView.{written_view}
 use Rattle.desc_core.proofs.network.network_of_hosts.Goals as goal
 
 pub unknown_name-requires-clause-unknown : goal.unknown_name-requires-clause-unknown

@@ -6,12 +6,12 @@ use Rattle.desc_core.proofs.MakeableLaws.{known_makeable}
 use Rattle.desc_core.proofs.NetworkLemmas.{asked_fails, asked_made, network_read, none_before, refused_before, refused_services, refused_templates}
 use Rattle.desc_core.proofs.ServicesLemmas.{all_different, all_few}
 use Rattle.desc_core.proofs.ServicesWalk.{as_many_written}
-use Rattle.desc_core.specs.KnownView.{known_view}
-use Rattle.desc_core.specs.Parts.{bad_known, self_found}
+use Rattle.desc_core.specs.inner.KnownView.{known_view}
+use Rattle.desc_core.specs.inner.Parts.{bad_known, self_found}
 use Rattle.desc_core.specs.UseConditions.{duplicate_assign}
-use Rattle.desc_form.specs.WrittenView.{written_view}
+use Rattle.desc_form.specs.inner.WrittenView.{written_view}
 use Rattle.flow_set.specs.Flow.{IsFlow}
-use Rattle.text_core.specs.FirstsLaws.{neither}
+use Rattle.text_core.proofs.FirstsLaws.{neither}
 use Rattle.desc_core.proofs.network.network_of_known.Goals as goal
 
 pub returns-in-Some : goal.returns-in-Some

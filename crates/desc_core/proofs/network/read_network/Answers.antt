@@ -1,6 +1,6 @@
 use Rattle.std.proofs.Common.{sym, ◌∙◌}
 use Rattle.desc_core.proofs.NetworkLemmas.{hosts_refused, hosts_unrefused}
-use Rattle.desc_form.specs.WrittenView.{written_view}
+use Rattle.desc_form.specs.inner.WrittenView.{written_view}
 use Rattle.desc_core.proofs.network.read_network.Goals as goal
 
 pub returns-in-Some : goal.returns-in-Some

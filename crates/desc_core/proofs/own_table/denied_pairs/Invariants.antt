@@ -1,7 +1,7 @@
 use Rattle.std.proofs.Common.{◌≡◌, ◌++◌, map, drop, ℕ}
 use Rattle.desc_core.specs.Choices.{number_of_kind}
 use Rattle.desc_form.specs.WrittenTemplate.{WrittenPair}
-use Rattle.desc_form.specs.WrittenView.{pair_view, template_view}
+use Rattle.desc_form.specs.inner.WrittenView.{pair_view, template_view}
 use Rattle.desc_core.proofs.own_table.denied_pairs.Given as goal
 
 abbrev pub invariant-loop-pair : goal.invariant-loop-pair

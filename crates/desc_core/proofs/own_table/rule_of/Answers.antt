@@ -4,10 +4,10 @@ use Rattle.std.proofs.lemmas.List.{length-map}
 use Rattle.std.specs.List.{All}
 use Rattle.desc_core.proofs.OwnTableLemmas.{name_kept, numbers_within, table_is, table_with}
 use Rattle.desc_core.specs.Choices.{table_said}
-use Rattle.desc_form.specs.WrittenView.{template_view}
+use Rattle.desc_form.specs.inner.WrittenView.{template_view}
 use Rattle.text_core.specs.Name.{is_name}
 use Rattle.tmpl_table.specs.KindTable.{KindTable, is_lawful}
-use Rattle.tmpl_table.specs.KindTableLaws.{HidesNoFault-lawful}
+use Rattle.tmpl_table.specs.laws.KindTableLaws.{HidesNoFault-lawful}
 use Rattle.desc_core.proofs.own_table.rule_of.Goals as goal
 
 pub new-requires-2-clause-pairs : goal.new-requires-2-clause-pairs

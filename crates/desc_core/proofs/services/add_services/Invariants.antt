@@ -1,6 +1,6 @@
 use Rattle.std.proofs.Common.{◌≡◌, ◌≤◌, ◌+◌, map, drop, length}
 use Rattle.std.specs.List.{filter_map}
-use Rattle.desc_core.specs.Parts.{with_services}
+use Rattle.desc_core.specs.inner.Parts.{with_services}
 use Rattle.host_net.specs.Services.{service_limit, services_of}
 use Rattle.host_net.specs.ServiceText.{service_of}
 use Rattle.desc_core.proofs.services.add_services.Given as goal

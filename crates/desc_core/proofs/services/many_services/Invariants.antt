@@ -3,7 +3,7 @@ use Rattle.std.specs.Prelude.{find}
 use Rattle.desc_core.specs.UseConditions.{has_many_services}
 use Rattle.desc_form.specs.Refusals.{refused}
 use Rattle.desc_form.specs.WrittenFlow.{WrittenFlow}
-use Rattle.desc_form.specs.WrittenView.{flow_view}
+use Rattle.desc_form.specs.inner.WrittenView.{flow_view}
 use Rattle.desc_form.specs.declared.refusal.Place.TheVariants.{FlowAt}
 use Rattle.desc_form.specs.declared.refusal.Why.TheVariants.{ManyServices}
 use Rattle.text_core.specs.Firsts.{Numbered, numbered_from}

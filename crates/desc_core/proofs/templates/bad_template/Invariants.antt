@@ -3,7 +3,7 @@ use Rattle.std.specs.Prelude.{find}
 use Rattle.std.specs.List.{list_all, list_any}
 use Rattle.std.specs.Str.{bytes_eq}
 use Rattle.desc_form.specs.WrittenTemplate.{WrittenPair, WrittenTemplate}
-use Rattle.desc_form.specs.WrittenView.{pair_view, template_view}
+use Rattle.desc_form.specs.inner.WrittenView.{pair_view, template_view}
 use Rattle.desc_core.specs.TemplateConditions.{are_different, first_bad, has_partner, unlawful_at}
 use Rattle.desc_core.proofs.templates.bad_template.Given as goal
 

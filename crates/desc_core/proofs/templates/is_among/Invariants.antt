@@ -3,7 +3,7 @@ use Rattle.std.specs.Prelude.{find}
 use Rattle.std.specs.List.{list_all, list_any}
 use Rattle.std.specs.Str.{bytes_eq}
 use Rattle.desc_form.specs.WrittenTemplate.{WrittenPair, WrittenTemplate}
-use Rattle.desc_form.specs.WrittenView.{pair_view, template_view}
+use Rattle.desc_form.specs.inner.WrittenView.{pair_view, template_view}
 use Rattle.desc_core.proofs.templates.is_among.Given as goal
 
 abbrev pub invariant-loop-other : goal.invariant-loop-other

@@ -1,7 +1,7 @@
 use Rattle.std.proofs.Common.{◌≡◌, ℕ, ◌≤◌, ◌-◌, List, [], ◌∷◌, length, map, get_or, take, drop, Option, Some, arith, ap, ◌∙◌, sym, refl}
 use Rattle.std.proofs.lemmas.List.{length-map}
 use Rattle.toml.specs.View.{view}
-use Rattle.desc_form.specs.FlowLaws.{values_say, values_short, values_no_texts}
+use Rattle.desc_form.proofs.FlowLaws.{values_say, values_short, values_no_texts}
 use Rattle.desc_form.specs.WrittenFlow.{WrittenFlow, flow_of_values}
 use Rattle.desc_form.proofs.flows.flow_of.Goals as goal
 

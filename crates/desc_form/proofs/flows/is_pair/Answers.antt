@@ -1,6 +1,6 @@
 use Rattle.std.proofs.Common.{sym, ◌∙◌}
 use Rattle.toml.specs.View.{view}
-use Rattle.desc_form.specs.PairLaws.{counted, uncounted}
+use Rattle.desc_form.proofs.PairLaws.{counted, uncounted}
 use Rattle.desc_form.specs.WrittenFlow.{flow_written}
 use Rattle.desc_form.specs.WrittenTemplate.{pair_written}
 use Rattle.desc_form.proofs.flows.is_pair.Goals as goal

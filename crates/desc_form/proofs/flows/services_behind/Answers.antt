@@ -1,7 +1,7 @@
 use Rattle.std.proofs.Common.{map, sym}
 use Rattle.std.proofs.lemmas.List.{length-map}
 use Rattle.toml.specs.View.{view}
-use Rattle.desc_form.specs.FlowLaws.{services_left}
+use Rattle.desc_form.proofs.FlowLaws.{services_left}
 use Rattle.desc_form.proofs.flows.services_behind.Goals as goal
 
 pub returns : goal.returns

@@ -2,7 +2,7 @@ use Rattle.std.proofs.Common.{◌≡◌, ◌++◌, map, drop}
 use Rattle.std.specs.Prelude.{filter_map}
 use Rattle.toml.specs.Data.{as_table}
 use Rattle.toml.specs.View.{view}
-use Rattle.desc_form.specs.WrittenView.{invariant_view}
+use Rattle.desc_form.specs.inner.WrittenView.{invariant_view}
 use Rattle.desc_form.specs.Written.{invariant_written}
 use Rattle.desc_form.proofs.written.invariants_among.Given as goal
 

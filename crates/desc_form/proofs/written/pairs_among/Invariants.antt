@@ -2,7 +2,7 @@ use Rattle.std.proofs.Common.{◌≡◌, ◌++◌, map, drop}
 use Rattle.std.specs.Prelude.{filter_map}
 use Rattle.toml.specs.View.{view}
 use Rattle.desc_form.specs.WrittenTemplate.{pair_written}
-use Rattle.desc_form.specs.WrittenView.{pair_view}
+use Rattle.desc_form.specs.inner.WrittenView.{pair_view}
 use Rattle.desc_form.proofs.written.pairs_among.Given as goal
 
 abbrev pub invariant-loop-value : goal.invariant-loop-value

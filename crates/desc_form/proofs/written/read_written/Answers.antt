@@ -5,12 +5,12 @@ use Rattle.toml.specs.View.{table_view}
 use Rattle.desc_form.specs.declared.written.Written.{Written}
 use Rattle.text_core.specs.Firsts.{first_of}
 use Rattle.desc_form.specs.FormConditions.{form_conditions}
-use Rattle.desc_form.specs.WrittenView.{written_view}
+use Rattle.desc_form.specs.inner.WrittenView.{written_view}
 use Rattle.desc_form.specs.Written as meant
 use Rattle.desc_form.specs.Written.{written}
-use Rattle.desc_form.specs.WrittenForm.{IsWritten}
-use Rattle.desc_form.specs.WrittenLaws.{written_stands}
-use Rattle.desc_form.specs.WrittenOnceLaws.{written_is}
+use Rattle.desc_form.specs.inner.WrittenForm.{IsWritten}
+use Rattle.desc_form.proofs.WrittenLaws.{written_stands}
+use Rattle.desc_form.proofs.WrittenOnceLaws.{written_is}
 use Rattle.desc_form.proofs.written.read_written.Goals as goal
 
 whole : (ms : Members)

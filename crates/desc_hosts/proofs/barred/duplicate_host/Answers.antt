@@ -1,13 +1,13 @@
 use Rattle.std.proofs.Common.{rules, option_map, ◌∙◌}
 use Rattle.std.specs.Str.{bytes_eq}
 use Rattle.desc_form.specs.Refusals.{refused_by}
-use Rattle.desc_form.specs.WrittenView.{host_view}
+use Rattle.desc_form.specs.inner.WrittenView.{host_view}
 use Rattle.desc_form.specs.Written as meant
 use Rattle.desc_form.specs.declared.refusal.Place.TheVariants.{Host}
 use Rattle.desc_form.specs.declared.refusal.Why.TheVariants.{DuplicateHost}
-use Rattle.text_core.specs.FirstPairLaws.{told_numbered}
+use Rattle.text_core.proofs.FirstPairLaws.{told_numbered}
 use Rattle.desc_hosts.specs.HostConditions.{duplicate_host}
-use Rattle.text_core.specs.FirstsView.{pair_seen}
+use Rattle.text_core.specs.inner.FirstsView.{pair_seen}
 use Rattle.desc_hosts.proofs.barred.duplicate_host.Goals as goal
 
 pub returns : goal.returns

@@ -2,11 +2,11 @@ use Rattle.std.proofs.Common.{rules, option_map, ◌∙◌}
 use Rattle.desc_form.specs.Refusals.{refused_item_by}
 use Rattle.desc_form.specs.declared.refusal.Place.TheVariants.{Host}
 use Rattle.desc_form.specs.declared.refusal.Why.TheVariants.{Overlap}
-use Rattle.desc_hosts.specs.EntryView.{entry_view}
-use Rattle.text_core.specs.FirstPairLaws.{told}
+use Rattle.desc_hosts.specs.inner.EntryView.{entry_view}
+use Rattle.text_core.proofs.FirstPairLaws.{told}
 use Rattle.desc_hosts.specs.HostConditions as meant
 use Rattle.desc_hosts.specs.HostConditions.{overlap, entries_meet}
-use Rattle.text_core.specs.FirstsView.{pair_seen}
+use Rattle.text_core.specs.inner.FirstsView.{pair_seen}
 use Rattle.desc_hosts.proofs.barred.overlap.Goals as goal
 
 pub returns : goal.returns

@@ -1,12 +1,12 @@
 use Rattle.std.proofs.Common.{rules, ◌&&◌, option_map, ◌∙◌}
 use Rattle.desc_form.specs.Refusals.{refused_by}
-use Rattle.desc_form.specs.WrittenView.{host_view}
+use Rattle.desc_form.specs.inner.WrittenView.{host_view}
 use Rattle.desc_form.specs.Written as meant
 use Rattle.desc_form.specs.declared.refusal.Place.TheVariants.{Host}
 use Rattle.desc_form.specs.declared.refusal.Why.TheVariants.{TwoRests}
-use Rattle.text_core.specs.FirstPairLaws.{told_numbered}
+use Rattle.text_core.proofs.FirstPairLaws.{told_numbered}
 use Rattle.desc_hosts.specs.HostConditions.{two_rests}
-use Rattle.text_core.specs.FirstsView.{pair_seen}
+use Rattle.text_core.specs.inner.FirstsView.{pair_seen}
 use Rattle.desc_hosts.proofs.barred.two_rests.Goals as goal
 
 pub returns : goal.returns

@@ -2,8 +2,8 @@ use Rattle.std.proofs.Common.{◌≡◌, ◌+◌, ◌++◌, map, drop}
 use Rattle.std.specs.Prelude.{flat_map}
 use Rattle.text_core.specs.Firsts.{numbered_from}
 use Rattle.desc_hosts.specs.HostConditions.{entries_of}
-use Rattle.desc_form.specs.WrittenView.{host_view}
-use Rattle.desc_hosts.specs.EntryView.{entry_view}
+use Rattle.desc_form.specs.inner.WrittenView.{host_view}
+use Rattle.desc_hosts.specs.inner.EntryView.{entry_view}
 use Rattle.desc_hosts.proofs.entries.all_entries.Given as goal
 
 abbrev pub invariant-loop-index : goal.invariant-loop-index

@@ -2,7 +2,7 @@ use Rattle.std.proofs.Common.{◌≡◌, map, drop, find, option_map, not}
 use Rattle.desc_form.specs.Refusals.{refused_item}
 use Rattle.desc_form.specs.declared.refusal.Place.TheVariants.{Host}
 use Rattle.desc_form.specs.declared.refusal.Why.TheVariants.{BadPrefix}
-use Rattle.desc_hosts.specs.EntryView.{entry_view}
+use Rattle.desc_hosts.specs.inner.EntryView.{entry_view}
 use Rattle.desc_hosts.specs.HostConditions.{Entry, is_prefix}
 use Rattle.desc_hosts.proofs.entries.bad_prefix.Given as goal
 

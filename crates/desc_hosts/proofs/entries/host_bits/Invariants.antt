@@ -2,7 +2,7 @@ use Rattle.std.proofs.Common.{◌≡◌, map, drop, find, option_map}
 use Rattle.desc_form.specs.Refusals.{refused_item}
 use Rattle.desc_form.specs.declared.refusal.Place.TheVariants.{Host}
 use Rattle.desc_form.specs.declared.refusal.Why.TheVariants.{HostBits}
-use Rattle.desc_hosts.specs.EntryView.{entry_view}
+use Rattle.desc_hosts.specs.inner.EntryView.{entry_view}
 use Rattle.desc_hosts.specs.HostConditions.{Entry, has_host_bits}
 use Rattle.desc_hosts.proofs.entries.host_bits.Given as goal
 

@@ -1,7 +1,7 @@
 use Rattle.std.proofs.Common.{◌≡◌, ◌+◌, ◌++◌, map, drop, Bor, List, ℕ}
 use Rattle.text_core.specs.Firsts.{numbered_from}
 use Rattle.desc_hosts.specs.HostConditions.{entries_at, entry_at}
-use Rattle.desc_hosts.specs.EntryView.{entry_view}
+use Rattle.desc_hosts.specs.inner.EntryView.{entry_view}
 use Rattle.desc_hosts.proofs.entries.push_entries.Given as goal
 
 abbrev pub invariant-loop-index : goal.invariant-loop-index

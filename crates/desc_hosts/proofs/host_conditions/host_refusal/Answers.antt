@@ -2,11 +2,11 @@ use Rattle.std.proofs.Common.{◌≡◌, ◌↔◌, None, IfOk, Ok, Err, Option,
 use Rattle.std.specs.declared.alloc.AllocError.{AllocError}
 use Rattle.text_core.specs.Firsts.{first_of}
 use Rattle.desc_form.specs.Written.{Written}
-use Rattle.desc_form.specs.WrittenView.{written_view}
+use Rattle.desc_form.specs.inner.WrittenView.{written_view}
 use Rattle.desc_form.specs.declared.refusal.Refusal.{Refusal}
-use Rattle.desc_hosts.specs.FactsLaws.{has_hosts}
+use Rattle.desc_hosts.proofs.FactsLaws.{has_hosts}
 use Rattle.desc_hosts.specs.HostConditions.{host_conditions}
-use Rattle.desc_hosts.specs.HostFacts.{HasHosts}
+use Rattle.desc_hosts.specs.inner.HostFacts.{HasHosts}
 use Rattle.desc_hosts.proofs.host_conditions.host_refusal.Goals as goal
 
 none_where_so : (w : Written) (r : Result (Option Refusal) AllocError) → IfOk r (λ refused. refused ≡ first_of (host_conditions w)) → IfOk r (λ refused. (refused ≡ None) ↔ HasHosts w)

@@ -5,7 +5,7 @@ use Rattle.desc_form.specs.declared.refusal.Why.TheVariants.{NoAddress}
 use Rattle.text_core.specs.Firsts.{Numbered, numbered_from}
 use Rattle.host_net.specs.Host.{lacks_address}
 use Rattle.desc_form.specs.Refusals.{refused}
-use Rattle.desc_form.specs.WrittenView.{host_view}
+use Rattle.desc_form.specs.inner.WrittenView.{host_view}
 use Rattle.desc_form.specs.Written.{WrittenHost}
 use Rattle.desc_hosts.proofs.host_conditions.no_address.Given as goal
 

@@ -1,16 +1,16 @@
 use Rattle.std.proofs.Common.{◌≡◌, ◌<◌, ◌++◌, ◌∷◌, ℕ, suc, None, append-nil, get_or, length, List, map, drop, sym, ap, subst, ◌∙◌}
 use Rattle.std.proofs.Math.ListN.{drop_of_length-le}
 use Rattle.text_core.specs.Firsts.{first_of}
-use Rattle.desc_form.specs.WrittenView.{host_view, written_view}
+use Rattle.desc_form.specs.inner.WrittenView.{host_view, written_view}
 use Rattle.desc_form.specs.declared.written.Written.{Written}
 use Rattle.desc_form.specs.declared.written.WrittenHost.{WrittenHost}
 use Rattle.host_net.specs.Host.{Host}
-use Rattle.host_net.specs.Hosts.{IsHosts}
+use Rattle.host_net.specs.inner.Hosts.{IsHosts}
 use Rattle.desc_hosts.specs.HostConditions.{host_conditions}
-use Rattle.desc_hosts.specs.HostsLaws.{IsHosts-network_hosts}
+use Rattle.desc_hosts.proofs.HostsLaws.{IsHosts-network_hosts}
 use Rattle.desc_hosts.specs.WrittenHosts.{network_host, network_hosts}
 use Rattle.desc_hosts.proofs.AddingLemmas.{known_here}
-use Rattle.host_net.specs.AcceptedLaws.{accepted, networks_of}
+use Rattle.host_net.proofs.AcceptedLaws.{accepted, networks_of}
 use Rattle.desc_hosts.proofs.hosts.read_hosts.Goals as goal
 
 -- the hosts that were added, the next one and those that are left

@@ -1,5 +1,5 @@
 use Rattle.std.proofs.Common.{◌≡◌, ◌++◌, map, drop}
-use Rattle.desc_form.specs.WrittenView.{host_view}
+use Rattle.desc_form.specs.inner.WrittenView.{host_view}
 use Rattle.desc_hosts.specs.WrittenHosts.{network_host}
 use Rattle.desc_hosts.proofs.hosts.read_hosts.Given as goal
 

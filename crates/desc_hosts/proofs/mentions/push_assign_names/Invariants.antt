@@ -1,8 +1,8 @@
 use Rattle.std.proofs.Common.{◌≡◌, ◌+◌, ◌++◌, map, drop}
 use Rattle.std.specs.List.{flat_map}
 use Rattle.text_core.specs.Firsts.{numbered_from}
-use Rattle.desc_form.specs.WrittenView.{invariant_view}
-use Rattle.desc_hosts.specs.MentionView.{mention_view}
+use Rattle.desc_form.specs.inner.WrittenView.{invariant_view}
+use Rattle.desc_hosts.specs.inner.MentionView.{mention_view}
 use Rattle.desc_hosts.specs.Mentions.{assign_names_of}
 use Rattle.desc_hosts.proofs.mentions.push_assign_names.Given as goal
 

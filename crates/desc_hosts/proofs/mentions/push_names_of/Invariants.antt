@@ -1,7 +1,7 @@
 use Rattle.std.proofs.Common.{◌≡◌, ◌+◌, ◌++◌, map, drop}
 use Rattle.text_core.specs.Firsts.{numbered_from}
-use Rattle.desc_form.specs.WrittenView.{assign_view}
-use Rattle.desc_hosts.specs.MentionView.{mention_view}
+use Rattle.desc_form.specs.inner.WrittenView.{assign_view}
+use Rattle.desc_hosts.specs.inner.MentionView.{mention_view}
 use Rattle.desc_hosts.specs.Mentions.{assign_name}
 use Rattle.desc_hosts.proofs.mentions.push_names_of.Given as goal
 

@@ -1,7 +1,7 @@
 use Rattle.std.proofs.Common.{◌≡◌, ◌+◌, map, drop}
 use Rattle.text_core.specs.Firsts.{Numbered, first_found, numbered_from}
 use Rattle.desc_form.specs.Written.{WrittenInvariant}
-use Rattle.desc_form.specs.WrittenView.{invariant_view}
+use Rattle.desc_form.specs.inner.WrittenView.{invariant_view}
 use Rattle.desc_hosts.specs.HostConditions.{bad_name}
 use Rattle.desc_hosts.specs.Mentions.{assign_names_of}
 use Rattle.desc_hosts.proofs.names.bad_assign_name.Given as goal

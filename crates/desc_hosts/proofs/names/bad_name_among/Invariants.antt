@@ -1,6 +1,6 @@
 use Rattle.std.proofs.Common.{◌≡◌, ◌+◌, map, drop}
 use Rattle.text_core.specs.Firsts.{numbered_from}
-use Rattle.desc_form.specs.WrittenView.{assign_view}
+use Rattle.desc_form.specs.inner.WrittenView.{assign_view}
 use Rattle.desc_hosts.specs.HostConditions.{bad_name}
 use Rattle.desc_hosts.specs.Mentions.{assign_name}
 use Rattle.desc_hosts.proofs.names.bad_name_among.Given as goal

@@ -1,9 +1,9 @@
 use Rattle.std.proofs.Common.{List, ℕ, sym, subst, ap, ◌∙◌, arith}
 use Rattle.std.proofs.Math.Seq.{take_all}
 use Rattle.std.specs.Io.KnownBytes.{append_known}
-use Rattle.edge_io.specs.Calls.{joined}
+use Rattle.edge_io.specs.inner.Calls.{joined}
 use Rattle.edge_io.specs.Told.{TookPrefix}
-use Rattle.edge_io.specs.PutLaws.{TookPrefix-after}
+use Rattle.edge_io.proofs.PutLaws.{TookPrefix-after}
 use Rattle.edge_io.proofs.Pieces.{joined_at, TookPrefix-all}
 use Rattle.edge_io.proofs.put.put_pieces.Goals as goal
 

@@ -1,7 +1,7 @@
 -- What was taken so far stands in `bytes`, in front of what is left, and fits the limit.
 use Rattle.std.proofs.Common.{◌≡◌, ◌≤◌, ◌-◌, IsTrue, vec_len}
 use Rattle.std.specs.Io.KnownBytes.{prepend_known}
-use Rattle.edge_io.specs.Calls.{ShelfCountsOnlyFailures}
+use Rattle.edge_io.specs.inner.Calls.{ShelfCountsOnlyFailures}
 use Rattle.edge_io.proofs.take.take_rest.Given as goal
 
 abbrev pub invariant-loop-bytes : goal.invariant-loop-bytes

@@ -1,5 +1,5 @@
 use Rattle.std.proofs.Common.{◌≡◌, ℕ, ◌<◌, length, ap, sym, subst, ◌∙◌}
-use Rattle.host_net.specs.NamedLaws.{host_named_within}
+use Rattle.host_net.proofs.NamedLaws.{host_named_within}
 use Rattle.edit_core.proofs.in_place.flow_between.Goals as goal
 
 pub returns-clause-flow : goal.returns-clause-flow

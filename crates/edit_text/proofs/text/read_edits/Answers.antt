@@ -1,9 +1,9 @@
 use Rattle.std.proofs.Common.{ℕ, List, Ok, Err, map}
 use Rattle.text_core.specs.TextByLines.{IsReadThrough}
-use Rattle.text_core.specs.TextByLinesLaws.{told_reading, told_fault}
+use Rattle.text_core.proofs.TextByLinesLaws.{told_reading, told_fault}
 use Rattle.edit_text.specs.Edit.{Edit}
-use Rattle.edit_text.specs.EditFaultLaws.{edits_settled}
-use Rattle.edit_text.specs.EditView.{edit_view}
+use Rattle.edit_text.proofs.EditFaultLaws.{edits_settled}
+use Rattle.edit_text.specs.inner.EditView.{edit_view}
 use Rattle.edit_text.specs.EditsText.{IsReading, edits_text}
 use Rattle.edit_text.proofs.text.read_edits.Goals as goal
 

@@ -1,6 +1,6 @@
 use Rattle.std.proofs.Common.{◌≡◌, ◌⊎◌, ◌<◌, false}
 use Rattle.flow_set.specs.declared.flow.Flow.{Flow}
-use Rattle.emit_core.specs.FlowTableRefusals.{lacks_answer}
+use Rattle.emit_core.specs.inner.FlowTableRefusals.{lacks_answer}
 use Rattle.emit_core.proofs.answers.needs_state.Given as goal
 
 abbrev pub invariant-loop-from : goal.invariant-loop-from

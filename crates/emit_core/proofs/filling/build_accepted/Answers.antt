@@ -1,7 +1,7 @@
 use Rattle.std.proofs.Common.{◌≡◌, List, None, refl}
 use Rattle.ipt_rules.specs.declared.ruleset.BuildRefusal.{BuildRefusal}
 use Rattle.ipt_rules.specs.declared.ruleset.BuildRefusal.TheVariants.{Memory}
-use Rattle.ipt_rules.specs.Build.{refusal_of, RefusedFor, at_once, loops, no_memory}
+use Rattle.ipt_rules.specs.inner.Build.{refusal_of, RefusedFor, at_once, loops, no_memory}
 use Rattle.ipt_rules.specs.Chain.{Chain}
 use Rattle.ipt_rules.specs.Loops.{HasNoLoop}
 use Rattle.emit_core.proofs.filling.build_accepted.Goals as goal

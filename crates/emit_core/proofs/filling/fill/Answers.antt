@@ -1,5 +1,5 @@
-use Rattle.ipt_rules.specs.RuleParts.{is_rule}
-use Rattle.emit_core.specs.LayoutRulesLaws.{passes_at}
+use Rattle.ipt_rules.specs.inner.RuleParts.{is_rule}
+use Rattle.emit_core.proofs.LayoutRulesLaws.{passes_at}
 use Rattle.emit_core.proofs.FillingLemmas.{filling_more}
 use Rattle.emit_core.proofs.filling.fill.Goals as goal
 

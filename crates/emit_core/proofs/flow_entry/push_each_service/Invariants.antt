@@ -2,7 +2,7 @@ use Rattle.std.proofs.Common.{◌≡◌, drop, Some}
 use Rattle.std.specs.Prelude.{map}
 use Rattle.host_net.specs.declared.service.Service.{Service}
 use Rattle.emit_core.specs.FlowTable.{service_entry}
-use Rattle.emit_core.specs.KeptEntries.{with_entries}
+use Rattle.emit_core.specs.inner.KeptEntries.{with_entries}
 use Rattle.emit_core.proofs.flow_entry.push_each_service.Given as goal
 
 abbrev pub invariant-loop-service : goal.invariant-loop-service

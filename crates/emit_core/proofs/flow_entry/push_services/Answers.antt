@@ -2,7 +2,7 @@ use Rattle.std.proofs.Common.{◌≡◌, ◌∙◌, List, sym, subst}
 use Rattle.std.specs.Prelude.{OnOk}
 use Rattle.ofp_rules.specs.declared.entry.Entry.{Entry}
 use Rattle.emit_core.specs.FlowTable.{service_entry}
-use Rattle.emit_core.specs.KeptEntries.{with_entries}
+use Rattle.emit_core.specs.inner.KeptEntries.{with_entries}
 use Rattle.emit_core.proofs.NarrowedSteps.{narrowed_each}
 use Rattle.emit_core.proofs.flow_entry.push_services.Goals as goal
 

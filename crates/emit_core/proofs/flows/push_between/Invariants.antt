@@ -1,7 +1,7 @@
 use Rattle.std.proofs.Common.{◌≡◌, drop}
 use Rattle.host_net.specs.Site.{site_with}
 use Rattle.emit_core.specs.FlowTable.{for_each_host, from_host}
-use Rattle.emit_core.specs.KeptEntries.{with_entries}
+use Rattle.emit_core.specs.inner.KeptEntries.{with_entries}
 use Rattle.emit_core.proofs.flows.push_between.Given as goal
 
 abbrev pub invariant-loop-from : goal.invariant-loop-from

@@ -1,7 +1,7 @@
 use Rattle.std.proofs.Common.{◌≡◌, drop}
 use Rattle.std.specs.List.{flat_map}
 use Rattle.emit_core.specs.FlowTable.{pair_entries}
-use Rattle.emit_core.specs.KeptEntries.{with_entries}
+use Rattle.emit_core.specs.inner.KeptEntries.{with_entries}
 use Rattle.emit_core.proofs.flows.push_from_prefix.Given as goal
 
 abbrev pub invariant-loop-destination : goal.invariant-loop-destination

@@ -1,7 +1,7 @@
 use Rattle.std.proofs.Common.{◌≡◌, drop}
 use Rattle.std.specs.List.{flat_map}
 use Rattle.emit_core.specs.FlowTable.{from_prefix}
-use Rattle.emit_core.specs.KeptEntries.{with_entries}
+use Rattle.emit_core.specs.inner.KeptEntries.{with_entries}
 use Rattle.emit_core.proofs.flows.push_host_pair.Given as goal
 
 abbrev pub invariant-loop-source : goal.invariant-loop-source

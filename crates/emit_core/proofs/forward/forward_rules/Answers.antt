@@ -1,5 +1,5 @@
 use Rattle.std.proofs.Common.{arith, sym, ◌∙◌}
-use Rattle.emit_core.specs.OwnerLaws.{rest_below}
+use Rattle.emit_core.proofs.OwnerLaws.{rest_below}
 use Rattle.emit_core.proofs.forward.forward_rules.Goals as goal
 
 pub chain_of-requires : goal.chain_of-requires

@@ -1,8 +1,8 @@
 use Rattle.std.proofs.Common.{◌∙◌, List, ◌++◌, ◌∷◌, [], None, ℕ, ap, arith}
 use Rattle.ipt_rules.specs.Chain.{Chain, user_chain}
-use Rattle.ipt_rules.specs.ChainLaws.{rule_count-append}
+use Rattle.ipt_rules.proofs.ChainLaws.{rule_count-append}
 use Rattle.ipt_rules.specs.ChainTable.{rule_count}
-use Rattle.emit_core.specs.Filling.{with_rules}
+use Rattle.emit_core.specs.inner.Filling.{with_rules}
 use Rattle.emit_core.proofs.FillingLemmas.{with_rules-last}
 use Rattle.emit_core.proofs.iptables.add_chain.Goals as goal
 

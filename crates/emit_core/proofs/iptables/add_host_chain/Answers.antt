@@ -1,11 +1,11 @@
 use Rattle.std.proofs.Common.{◌∙◌, ap, arith, length}
 use Rattle.std.specs.List.{list_all}
 use Rattle.host_net.specs.Site.{site_with}
-use Rattle.ipt_rules.specs.RuleParts.{is_rule}
+use Rattle.ipt_rules.specs.inner.RuleParts.{is_rule}
 use Rattle.emit_core.specs.declared.side.Side.TheVariants.{Sending}
-use Rattle.emit_core.specs.FewRulesLaws.{few_host_rules}
-use Rattle.emit_core.specs.LayoutLaws.{length-chains_up_to}
-use Rattle.emit_core.specs.LayoutRulesLaws.{host_rules_are}
+use Rattle.emit_core.proofs.FewRulesLaws.{few_host_rules}
+use Rattle.emit_core.proofs.LayoutLaws.{length-chains_up_to}
+use Rattle.emit_core.proofs.LayoutRulesLaws.{host_rules_are}
 use Rattle.emit_core.proofs.CountLemmas.{chain_kept, next_fits, too_many_kept}
 use Rattle.emit_core.proofs.FillingLemmas.{unused}
 use Rattle.emit_core.proofs.iptables.add_host_chain.Goals as goal

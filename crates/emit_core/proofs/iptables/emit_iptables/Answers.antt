@@ -1,11 +1,11 @@
 use Rattle.std.proofs.Common.{◌∙◌, sym, ap, subst, arith}
 use Rattle.host_net.specs.Site.{site_with}
 use Rattle.pkt_core.specs.Filter.{Enforces, ForwardsExpected}
-use Rattle.ipt_rules.specs.Build.{refusal_of}
+use Rattle.ipt_rules.specs.inner.Build.{refusal_of}
 use Rattle.ipt_rules.specs.Loops.{HasNoLoop}
 use Rattle.ipt_rules.specs.Meaning.{Passes}
-use Rattle.emit_core.specs.ForwardingLaws.{layout_enforces, layout_expected}
-use Rattle.emit_core.specs.LayoutLaws.{layout_accepted, layout_no_loop}
+use Rattle.emit_core.proofs.ForwardingLaws.{layout_enforces, layout_expected}
+use Rattle.emit_core.proofs.LayoutLaws.{layout_accepted, layout_no_loop}
 use Rattle.emit_core.proofs.iptables.emit_iptables.Goals as goal
 
 pub build_accepted-requires-clause-accepted : goal.build_accepted-requires-clause-accepted

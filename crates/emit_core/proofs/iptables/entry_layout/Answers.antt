@@ -2,9 +2,9 @@ use Rattle.std.proofs.Common.{◌∙◌, List, arith, ap, length}
 use Rattle.ipt_rules.specs.declared.rule.Policy.TheVariants.{Drop as Dropping}
 use Rattle.std.specs.List.{list_all}
 use Rattle.ipt_rules.specs.Chain.{Chain, with_policy}
-use Rattle.ipt_rules.specs.RuleParts.{is_rule}
-use Rattle.emit_core.specs.LayoutRulesLaws.{forward_rules_are}
-use Rattle.emit_core.specs.LayoutLaws.{few_forward_rules}
+use Rattle.ipt_rules.specs.inner.RuleParts.{is_rule}
+use Rattle.emit_core.proofs.LayoutRulesLaws.{forward_rules_are}
+use Rattle.emit_core.proofs.LayoutLaws.{few_forward_rules}
 use Rattle.emit_core.proofs.FillingLemmas.{no_rules_yet, forward_filled}
 use Rattle.emit_core.proofs.iptables.entry_layout.Goals as goal
 

@@ -1,6 +1,6 @@
 use Rattle.std.proofs.Common.{sym, ◌∙◌, subst, IsTrue, List, ℕ}
 use Rattle.ipt_rules.specs.Name.{is_user_name}
-use Rattle.emit_core.specs.LayoutLaws.{host_chain_name_legal}
+use Rattle.emit_core.proofs.LayoutLaws.{host_chain_name_legal}
 use Rattle.emit_core.proofs.iptables.host_chain_name.Goals as goal
 
 pub unwrap-requires : goal.unwrap-requires

@@ -1,5 +1,5 @@
 use Rattle.host_net.specs.Site.{site_with}
-use Rattle.emit_core.specs.Filling.{AreCounted, chains_up_to}
+use Rattle.emit_core.specs.inner.Filling.{AreCounted, chains_up_to}
 use Rattle.emit_core.proofs.iptables.layout_of.Given as goal
 
 abbrev pub invariant-loop-host : goal.invariant-loop-host

@@ -1,17 +1,18 @@
 use Rattle.std.proofs.Common.{◌≡◌, ℕ, ◌≤◌, ◌∙◌, refl, sym, ap, subst, List, length, arith}
 use Rattle.std.specs.List.{list_all}
-use Rattle.host_net.specs.Site.{Site, IsSite, site_with}
+use Rattle.host_net.specs.Site.{Site, site_with}
+use Rattle.host_net.specs.inner.Site.{IsSite}
 use Rattle.flow_set.specs.declared.flow.Flow.{Flow}
 use Rattle.ofp_rules.specs.declared.entry.Entry.{Entry}
 use Rattle.ofp_rules.specs.declared.table.TableRefusal.{TableRefusal}
 use Rattle.ofp_rules.specs.declared.table.TableRefusal.TheVariants.{TooMany, Ambiguous, Memory}
-use Rattle.ofp_rules.specs.Build.{IsRefused}
+use Rattle.ofp_rules.specs.inner.Build.{IsRefused}
 use Rattle.ofp_rules.specs.Matching.{asks_of_ip}
 use Rattle.emit_core.specs.FlowTable.{flow_entries}
-use Rattle.emit_core.specs.FlowTableEventsLaws.{arp_alone, flows_enforced, flows_expected}
-use Rattle.emit_core.specs.FlowTableLaws.{ForwardsFlows, unambiguous}
-use Rattle.emit_core.specs.FlowTableRangeLaws.{all_ask}
-use Rattle.emit_core.specs.FlowTableVerdictLaws.{forwards_flows}
+use Rattle.emit_core.proofs.FlowTableEventsLaws.{arp_alone, flows_enforced, flows_expected}
+use Rattle.emit_core.proofs.FlowTableLaws.{ForwardsFlows, unambiguous}
+use Rattle.emit_core.proofs.FlowTableRangeLaws.{all_ask}
+use Rattle.emit_core.proofs.FlowTableVerdictLaws.{forwards_flows}
 use Rattle.emit_core.specs.PortRanges.{HasNoRange}
 use Rattle.emit_core.proofs.openflow.emit_openflow.Goals as goal
 

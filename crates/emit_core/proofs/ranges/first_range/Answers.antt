@@ -1,5 +1,5 @@
 use Rattle.std.proofs.Common.{subst, sym, ◌∙◌}
-use Rattle.flow_set.specs.WalkLaws.{walk_next, walk_end}
+use Rattle.flow_set.specs.laws.WalkLaws.{walk_next, walk_end}
 use Rattle.emit_core.proofs.RangeSteps.{NoneRanges, none_yet, none_more, first_ranging}
 use Rattle.emit_core.proofs.ranges.first_range.Goals as goal
 

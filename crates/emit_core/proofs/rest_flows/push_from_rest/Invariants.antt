@@ -3,7 +3,7 @@ use Rattle.host_net.specs.declared.prefix.Prefix.{Prefix}
 use Rattle.host_net.specs.Services.{services_of}
 use Rattle.emit_core.specs.Sides.{permits}
 use Rattle.emit_core.specs.FlowTable.{for_each_host, from_rest_host}
-use Rattle.emit_core.specs.KeptEntries.{with_entries}
+use Rattle.emit_core.specs.inner.KeptEntries.{with_entries}
 use Rattle.emit_core.proofs.rest_flows.push_from_rest.Given as goal
 
 abbrev pub invariant-loop-to : goal.invariant-loop-to

@@ -4,7 +4,7 @@ use Rattle.std.specs.List.{flat_map}
 use Rattle.host_net.specs.declared.prefix.Prefix.{Prefix}
 use Rattle.host_net.specs.Service.{narrowings}
 use Rattle.emit_core.specs.FlowTable.{service_entry}
-use Rattle.emit_core.specs.KeptEntries.{with_entries}
+use Rattle.emit_core.specs.inner.KeptEntries.{with_entries}
 use Rattle.emit_core.proofs.rest_flows.push_sources.Given as goal
 
 abbrev pub invariant-loop-prefix : goal.invariant-loop-prefix

@@ -3,7 +3,7 @@ use Rattle.host_net.specs.declared.service.Service.{Service}
 use Rattle.host_net.specs.Services.{services_of}
 use Rattle.emit_core.specs.Sides.{permits}
 use Rattle.emit_core.specs.FlowTable.{to_rest_host}
-use Rattle.emit_core.specs.KeptEntries.{with_entries}
+use Rattle.emit_core.specs.inner.KeptEntries.{with_entries}
 use Rattle.emit_core.proofs.HostSteps.{grow_host}
 use Rattle.emit_core.proofs.rest_flows.push_to_rest.Goals as goal
 

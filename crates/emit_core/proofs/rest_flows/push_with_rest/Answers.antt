@@ -1,5 +1,5 @@
 use Rattle.std.proofs.Common.{◌∙◌, sym}
-use Rattle.emit_core.specs.OwnerLaws.{rest_below}
+use Rattle.emit_core.proofs.OwnerLaws.{rest_below}
 use Rattle.emit_core.proofs.rest_flows.push_with_rest.Goals as goal
 
 pub push_to_rest-requires : goal.push_to_rest-requires

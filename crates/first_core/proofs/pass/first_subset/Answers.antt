@@ -3,10 +3,10 @@ use Rattle.std.proofs.lemmas.Bool.{both_ways}
 use Rattle.flow_set.specs.declared.flow.Flow.{Flow}
 use Rattle.flow_set.specs.Flow.{IsFlow}
 use Rattle.flow_set.specs.FlowSet.{SetOfFlows, with_flow}
-use Rattle.flow_set.specs.FlowSetView.{IsFlowSet}
+use Rattle.flow_set.specs.inner.FlowSetView.{IsFlowSet}
 use Rattle.flow_set.specs.Conditions.{IsFirst}
-use Rattle.flow_set.specs.WalkLaws.{walk_next}
-use Rattle.first_core.specs.FirstLaws.{first_of_nothing, first_kept, first_left}
+use Rattle.flow_set.specs.laws.WalkLaws.{walk_next}
+use Rattle.first_core.proofs.FirstLaws.{first_of_nothing, first_kept, first_left}
 use Rattle.first_core.proofs.Step.{walked, flow_walked, kept_grown, kept_again}
 use Rattle.first_core.proofs.pass.first_subset.Goals as goal
 

@@ -3,11 +3,11 @@ use Rattle.std.proofs.lemmas.Bool.{false≢true}
 use Rattle.flow_set.specs.declared.flow.Flow.{Flow}
 use Rattle.flow_set.specs.Flow.{IsFlow}
 use Rattle.flow_set.specs.FlowSet.{SetOfFlows, with_flow}
-use Rattle.flow_set.specs.FlowSetView.{IsFlowSet}
+use Rattle.flow_set.specs.inner.FlowSetView.{IsFlowSet}
 use Rattle.flow_set.specs.Conditions.{IsFirst}
-use Rattle.flow_set.specs.WalkLaws.{walk_next}
-use Rattle.first_core.specs.Grown.{IsNew}
-use Rattle.first_core.specs.FirstLaws.{first_of_nothing, first_kept, first_left}
+use Rattle.flow_set.specs.laws.WalkLaws.{walk_next}
+use Rattle.first_core.specs.inner.Grown.{IsNew}
+use Rattle.first_core.proofs.FirstLaws.{first_of_nothing, first_kept, first_left}
 use Rattle.first_core.proofs.Step.{walked, flow_walked, kept_new}
 use Rattle.first_core.proofs.steps.first_subset_by_steps.Goals as goal
 

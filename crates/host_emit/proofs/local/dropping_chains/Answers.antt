@@ -1,7 +1,7 @@
 use Rattle.std.proofs.Common.{◌∙◌, List, ap}
 use Rattle.ipt_rules.specs.Chain.{Chain, with_policy}
 use Rattle.ipt_rules.specs.declared.rule.Policy.TheVariants.{Drop as Dropping}
-use Rattle.host_emit.specs.LocalLayoutLaws.{all_dropping}
+use Rattle.host_emit.proofs.LocalLayoutLaws.{all_dropping}
 use Rattle.host_emit.proofs.local.dropping_chains.Goals as goal
 
 pub returns : goal.returns

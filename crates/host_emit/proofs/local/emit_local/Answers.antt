@@ -1,12 +1,12 @@
 use Rattle.std.proofs.Common.{◌∙◌, sym, ap, subst}
 use Rattle.std.proofs.lemmas.Result.{IfOk-weaker}
 use Rattle.host_net.specs.Site.{site_with}
-use Rattle.ipt_rules.specs.Build.{refusal_of}
+use Rattle.ipt_rules.specs.inner.Build.{refusal_of}
 use Rattle.ipt_rules.specs.Loops.{HasNoLoop}
 use Rattle.host_emit.specs.Guarding.{Guards}
-use Rattle.host_emit.specs.GuardingLaws.{layout_guards}
-use Rattle.host_emit.specs.LocalEventsLaws.{layouts_expected}
-use Rattle.host_emit.specs.LocalLayoutLaws.{local_accepted, local_no_loop}
+use Rattle.host_emit.proofs.GuardingLaws.{layout_guards}
+use Rattle.host_emit.proofs.LocalEventsLaws.{layouts_expected}
+use Rattle.host_emit.proofs.LocalLayoutLaws.{local_accepted, local_no_loop}
 use Rattle.host_emit.proofs.local.emit_local.Goals as goal
 
 pub build_accepted-requires-clause-accepted : goal.build_accepted-requires-clause-accepted

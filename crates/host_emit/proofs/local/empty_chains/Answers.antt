@@ -1,4 +1,4 @@
-use Rattle.host_emit.specs.LocalLayoutLaws.{incoming_legal, outgoing_legal}
+use Rattle.host_emit.proofs.LocalLayoutLaws.{incoming_legal, outgoing_legal}
 use Rattle.host_emit.proofs.local.empty_chains.Goals as goal
 
 pub unwrap-requires : goal.unwrap-requires

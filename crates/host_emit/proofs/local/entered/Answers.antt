@@ -1,6 +1,6 @@
 use Rattle.std.proofs.Common.{◌∙◌, [], ap, arith}
 use Rattle.ipt_rules.specs.ChainTable.{rule_count}
-use Rattle.host_emit.specs.LocalLayoutLaws.{input_filled, machine_rule_count, output_filled}
+use Rattle.host_emit.proofs.LocalLayoutLaws.{input_filled, machine_rule_count, output_filled}
 use Rattle.host_emit.proofs.local.entered.Goals as goal
 
 pub fill-requires-clause-room : goal.fill-requires-clause-room

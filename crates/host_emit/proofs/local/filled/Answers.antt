@@ -1,6 +1,6 @@
 use Rattle.std.proofs.Common.{◌∙◌, [], ap, arith, length}
 use Rattle.ipt_rules.specs.ChainTable.{rule_count}
-use Rattle.host_emit.specs.LocalLayoutLaws.{incoming_filled, machine_rule_count, outgoing_filled}
+use Rattle.host_emit.proofs.LocalLayoutLaws.{incoming_filled, machine_rule_count, outgoing_filled}
 use Rattle.host_emit.proofs.local.filled.Goals as goal
 
 pub fill-requires-clause-there : goal.fill-requires-clause-there

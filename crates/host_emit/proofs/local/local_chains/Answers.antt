@@ -1,10 +1,11 @@
 use Rattle.std.proofs.Common.{◌∙◌, sym, ap, subst}
-use Rattle.host_net.specs.Site.{site_with, IsSite}
+use Rattle.host_net.specs.Site.{site_with}
+use Rattle.host_net.specs.inner.Site.{IsSite}
 use Rattle.emit_core.specs.declared.side.Side.TheVariants.{Sending, Receiving}
-use Rattle.host_emit.specs.LocalFilling.{AreChainRules}
+use Rattle.host_emit.specs.inner.LocalFilling.{AreChainRules}
 use Rattle.host_emit.specs.LocalLayout.{entry_rules}
-use Rattle.host_emit.specs.LocalLayoutLaws.{prefixes_read}
-use Rattle.host_emit.specs.LocalWritableLaws.{entries_few, users_few}
+use Rattle.host_emit.proofs.LocalLayoutLaws.{prefixes_read}
+use Rattle.host_emit.proofs.LocalWritableLaws.{entries_few, users_few}
 use Rattle.host_emit.proofs.local.local_chains.Goals as goal
 
 pub filled-requires-clause-input : goal.filled-requires-clause-input

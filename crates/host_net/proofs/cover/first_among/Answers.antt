@@ -2,7 +2,7 @@ use Rattle.std.proofs.Common.{◌+◌, List, ℕ, Option, slice_index_or, sym, s
 use Rattle.std.proofs.lemmas.List.{take_all}
 use Rattle.host_net.specs.declared.cover.Key.{Key}
 use Rattle.host_net.specs.declared.cover.Lengths.{Lengths}
-use Rattle.host_net.specs.CoverView.{IsFirstKey, SameBits, begins}
+use Rattle.host_net.specs.inner.CoverView.{IsFirstKey, SameBits, begins}
 use Rattle.host_net.proofs.CoverLemmas.{first_more, no_lengths}
 use Rattle.host_net.proofs.cover.first_among.Goals as goal
 

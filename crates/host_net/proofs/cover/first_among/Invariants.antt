@@ -1,5 +1,5 @@
 use Rattle.std.proofs.Common.{take}
-use Rattle.host_net.specs.CoverView.{AreInOrder, IsFirstKey, begins}
+use Rattle.host_net.specs.inner.CoverView.{AreInOrder, IsFirstKey, begins}
 use Rattle.host_net.proofs.cover.first_among.Given as goal
 
 abbrev pub invariant-loop-lengths : goal.invariant-loop-lengths

@@ -1,7 +1,7 @@
 use Rattle.std.proofs.Common.{◌≡◌, ◌++◌, drop}
 use Rattle.std.specs.Prelude.{Contains}
 use Rattle.host_net.specs.declared.cover.Key.{Key}
-use Rattle.host_net.specs.CoverView.{IsSmall, keys_from}
+use Rattle.host_net.specs.inner.CoverView.{IsSmall, keys_from}
 use Rattle.host_net.proofs.cover.keys_of.Given as goal
 
 abbrev pub invariant-loop-place : goal.invariant-loop-place

@@ -2,7 +2,7 @@ use Rattle.std.proofs.Common.{◌≡◌, ◌≤◌, ◌<◌, ℕ, List, refl, So
 use Rattle.std.specs.List.Sorted.{IsNonDecreasingBy, IsPartitionPoint}
 use Rattle.std.proofs.lemmas.Option.{slice_get-get_or}
 use Rattle.host_net.specs.declared.cover.Key.{Key}
-use Rattle.host_net.specs.CoverView.{AreInOrder, SameBits, rank}
+use Rattle.host_net.specs.inner.CoverView.{AreInOrder, SameBits, rank}
 use Rattle.host_net.proofs.CoverLemmas.{no_key, next_found, next_none, next_other}
 use Rattle.host_net.proofs.cover.next_of.Goals as goal
 

@@ -1,5 +1,5 @@
 use Rattle.std.proofs.Common.{◌≡◌, [], map, take, drop}
-use Rattle.host_net.specs.Refusal.{overlap_from}
+use Rattle.host_net.specs.inner.Refusal.{overlap_from}
 use Rattle.host_net.proofs.overlap.overlap.Given as goal
 
 abbrev pub invariant-loop-item : goal.invariant-loop-item

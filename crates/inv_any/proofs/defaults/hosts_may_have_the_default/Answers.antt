@@ -1,14 +1,14 @@
-use Rattle.tmpl_domains.specs.DomainsLaws.{domains_default}
-use Rattle.tmpl_levels.specs.BlpLaws.{blp_default}
-use Rattle.tmpl_levels.specs.TaintingLaws.{tainting_default}
-use Rattle.tmpl_reach.specs.DependabilityLaws.{dependability_default}
-use Rattle.tmpl_reach.specs.NonInterferenceLaws.{non_interference_default}
-use Rattle.tmpl_reach.specs.NoReachLaws.{no_reach_default}
-use Rattle.tmpl_table.specs.KindTableLaws.{declared_default}
-use Rattle.tmpl_zones.specs.GatewayLaws.{gateways_default}
-use Rattle.tmpl_zones.specs.PartnersLaws.{partners_default}
-use Rattle.tmpl_zones.specs.SinkLaws.{sinks_default}
-use Rattle.tmpl_zones.specs.SubnetsLaws.{subnets_default}
+use Rattle.tmpl_domains.specs.laws.DomainsLaws.{domains_default}
+use Rattle.tmpl_levels.specs.laws.BlpLaws.{blp_default}
+use Rattle.tmpl_levels.specs.laws.TaintingLaws.{tainting_default}
+use Rattle.tmpl_reach.specs.laws.DependabilityLaws.{dependability_default}
+use Rattle.tmpl_reach.specs.laws.NonInterferenceLaws.{non_interference_default}
+use Rattle.tmpl_reach.specs.laws.NoReachLaws.{no_reach_default}
+use Rattle.tmpl_table.specs.laws.KindTableLaws.{declared_default}
+use Rattle.tmpl_zones.specs.laws.GatewayLaws.{gateways_default}
+use Rattle.tmpl_zones.specs.laws.PartnersLaws.{partners_default}
+use Rattle.tmpl_zones.specs.laws.SinkLaws.{sinks_default}
+use Rattle.tmpl_zones.specs.laws.SubnetsLaws.{subnets_default}
 use Rattle.inv_any.proofs.defaults.hosts_may_have_the_default.Goals as goal
 
 pub returns : goal.returns

@@ -1,4 +1,4 @@
-use Rattle.inv_any.specs.OtherDefaultsLaws as law
+use Rattle.inv_any.proofs.OtherDefaultsLaws as law
 use Rattle.inv_any.proofs.defaults.only_default_is_secure.Goals as goal
 
 pub returns : goal.returns

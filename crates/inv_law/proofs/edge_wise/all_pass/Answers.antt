@@ -1,9 +1,9 @@
 use Rattle.std.proofs.Common.{refl, subst}
 use Rattle.std.proofs.lemmas.Bool.{false≢true}
 use Rattle.flow_set.specs.Flow.{IsFlow}
-use Rattle.flow_set.specs.WalkLaws.{walk_next, walk_member, walk_end}
+use Rattle.flow_set.specs.laws.WalkLaws.{walk_next, walk_member, walk_end}
 use Rattle.inv_law.specs.Rules.{AllFlowsPass}
-use Rattle.inv_law.specs.RuleLaws.{AllFlowsPass-push}
+use Rattle.inv_law.specs.laws.RuleLaws.{AllFlowsPass-push}
 use Rattle.inv_law.proofs.edge_wise.all_pass.Goals as goal
 
 pub passes-requires : goal.passes-requires

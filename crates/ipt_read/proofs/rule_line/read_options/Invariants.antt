@@ -1,7 +1,7 @@
 use Rattle.std.proofs.Common.{◌≡◌, length}
 use Rattle.ipt_read.specs.declared.option.Place.TheVariants.{AtOption}
 use Rattle.ipt_read.specs.Options.{nothing_given}
-use Rattle.ipt_read.specs.RuleLine.{word_by_word}
+use Rattle.ipt_read.specs.inner.RuleLine.{word_by_word}
 use Rattle.ipt_read.proofs.rule_line.read_options.Given as goal
 
 abbrev pub invariant-loop-word : goal.invariant-loop-word

@@ -1,5 +1,5 @@
 use Rattle.std.proofs.Common.{◌≡◌, false, drop}
-use Rattle.ipt_read.specs.ValueSteps.{quoted}
+use Rattle.ipt_read.specs.inner.ValueSteps.{quoted}
 use Rattle.ipt_read.proofs.table.quoted.Given as goal
 
 abbrev pub invariant-loop-i : goal.invariant-loop-i

@@ -1,10 +1,10 @@
 use Rattle.std.proofs.Common.{◌≡◌, ℕ, List, ◌∙◌, ap, subst}
-use Rattle.ipt_rules.specs.Build.{RefusedFor}
+use Rattle.ipt_rules.specs.inner.Build.{RefusedFor}
 use Rattle.ipt_read.specs.Said.{line_of}
 use Rattle.ipt_read.proofs.FineLaws.{fine_not_refused}
 use Rattle.ipt_read.proofs.GoesLaws.{not_many, not_unknown}
-use Rattle.ipt_read.specs.State.{said_of}
-use Rattle.ipt_read.specs.TextLaws.{refused_loop, reading_of_lines, ends_in_loop}
+use Rattle.ipt_read.specs.inner.State.{said_of}
+use Rattle.ipt_read.proofs.TextLaws.{refused_loop, reading_of_lines, ends_in_loop}
 use Rattle.ipt_read.proofs.whole.build.Goals as goal
 
 line_same : (line : ℕ) (ls items : List ℕ) (c : ℕ) → line ≡ line_of ls c → ls ≡ items → line ≡ line_of items c

@@ -1,6 +1,6 @@
 use Rattle.std.proofs.Common.{◌≡◌, rules, tests}
-use Rattle.ipt_read.specs.State.{said_of}
-use Rattle.ipt_read.specs.TextLaws.{ends_early}
+use Rattle.ipt_read.specs.inner.State.{said_of}
+use Rattle.ipt_read.proofs.TextLaws.{ends_early}
 use Rattle.ipt_read.proofs.whole.end.Goals as goal
 
 pub returns-in-Front : goal.returns-in-Front

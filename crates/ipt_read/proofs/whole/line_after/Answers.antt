@@ -1,5 +1,5 @@
 use Rattle.std.proofs.Common.{ap, arith, length}
-use Rattle.text_core.specs.LinesLaws.{length-lines}
+use Rattle.text_core.proofs.LinesLaws.{length-lines}
 use Rattle.ipt_read.proofs.whole.line_after.Goals as goal
 
 pub overflow_add-count : goal.overflow_add-count

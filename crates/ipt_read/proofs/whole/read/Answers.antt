@@ -1,16 +1,16 @@
 use Rattle.std.proofs.Common.{◌≡◌, ◌≤◌, ℕ, length, List, sym, subst, refl}
 use Rattle.std.specs.Prelude.{Result, Ok, Err, IfOk, IfErr, MatchResult}
-use Rattle.text_core.specs.TextAnswers.{HasCause, IsFault}
+use Rattle.text_core.specs.inner.TextAnswers.{HasCause, IsFault}
 use Rattle.text_core.specs.declared.faults.TextFault.{TextFault}
 use Rattle.text_core.specs.declared.faults.TextFault.TheVariants.{Refused, Memory}
 use Rattle.ipt_rules.specs.Chain.{Chain}
 use Rattle.ipt_rules.specs.Text.{text}
-use Rattle.ipt_rules.specs.Writable.{IsWritable}
+use Rattle.ipt_rules.specs.inner.Writable.{IsWritable}
 use Rattle.ipt_read.specs.declared.fault.IptWhy.{IptWhy}
-use Rattle.ipt_read.specs.AgainLaws.{text_read_again}
-use Rattle.ipt_read.specs.FaultLaws.{one_reading, one_fault, no_reading_with_fault}
+use Rattle.ipt_read.proofs.AgainLaws.{text_read_again}
+use Rattle.ipt_read.proofs.FaultLaws.{one_reading, one_fault, no_reading_with_fault}
 use Rattle.ipt_read.specs.TextLines.{rules_text, HasFault, IsReading}
-use Rattle.ipt_read.specs.State.{IsFine}
+use Rattle.ipt_read.specs.inner.State.{IsFine}
 use Rattle.ipt_read.proofs.FineLaws.{fine_at_first}
 use Rattle.ipt_read.proofs.whole.read.Goals as goal
 

@@ -1,5 +1,5 @@
 use Rattle.std.proofs.Common.{length}
-use Rattle.ipt_rules.specs.Ranks.{row_of}
+use Rattle.ipt_rules.specs.inner.Ranks.{row_of}
 use Rattle.ipt_rules.proofs.LoopLemmas.{placed_not_back}
 use Rattle.ipt_rules.proofs.loops.comes_back.Goals as goal
 

@@ -2,7 +2,7 @@ use Rattle.std.proofs.Common.{◌≡◌, ◌∙◌, ◌<◌, ℕ, List, length, 
 use Rattle.std.proofs.lemmas.List.{length-replicate}
 use Rattle.std.proofs.lemmas.List.Elements.{Contains-push}
 use Rattle.std.proofs.lemmas.Option.{slice_get_within}
-use Rattle.ipt_rules.specs.Ranks.{row_of, Visits, IsSet}
+use Rattle.ipt_rules.specs.inner.Ranks.{row_of, Visits, IsSet}
 use Rattle.ipt_rules.proofs.SearchLemmas.{IsSearch, search_first, search_more, search_says, no_items}
 use Rattle.ipt_rules.proofs.loops.leads_back.Goals as goal
 

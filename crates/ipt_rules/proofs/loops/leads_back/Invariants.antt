@@ -1,6 +1,6 @@
 use Rattle.std.proofs.Common.{◌≡◌, ◌+◌, length, not}
 use Rattle.std.specs.Prelude.{count_by}
-use Rattle.ipt_rules.specs.Ranks.{row_of}
+use Rattle.ipt_rules.specs.inner.Ranks.{row_of}
 use Rattle.ipt_rules.proofs.SearchLemmas.{IsSearch}
 use Rattle.ipt_rules.proofs.loops.leads_back.Given as goal
 

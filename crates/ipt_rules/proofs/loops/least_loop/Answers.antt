@@ -1,5 +1,5 @@
 use Rattle.std.proofs.Common.{◌≤◌, arith}
-use Rattle.ipt_rules.specs.Ranks.{row_of}
+use Rattle.ipt_rules.specs.inner.Ranks.{row_of}
 use Rattle.ipt_rules.proofs.LoopLemmas.{none_more, least_from, none_past}
 use Rattle.ipt_rules.proofs.loops.least_loop.Goals as goal
 

@@ -1,6 +1,6 @@
 use Rattle.std.proofs.Common.{◌<◌, ℕ}
 use Rattle.ipt_rules.specs.Loops.{Leads}
-use Rattle.ipt_rules.specs.Ranks.{row_of}
+use Rattle.ipt_rules.specs.inner.Ranks.{row_of}
 use Rattle.ipt_rules.proofs.loops.least_loop.Given as goal
 
 abbrev pub invariant-loop-chain : goal.invariant-loop-chain

@@ -1,7 +1,7 @@
 use Rattle.std.proofs.Common.{◌≡◌, ◌≤◌, ℕ, Option, length, subst, arith}
 use Rattle.std.specs.Prelude.{IfSome, IfNone}
 use Rattle.ipt_rules.specs.Loops.{Leads}
-use Rattle.ipt_rules.specs.Ranks.{row_of}
+use Rattle.ipt_rules.specs.inner.Ranks.{row_of}
 use Rattle.ipt_rules.proofs.BuildLemmas.{few_of, known_of}
 use Rattle.ipt_rules.proofs.TableLemmas.{long_table, rows_inside, ranking_made, loop_found}
 use Rattle.ipt_rules.proofs.loops.rank_chains.Goals as goal

@@ -1,5 +1,5 @@
 use Rattle.std.proofs.Common.{take}
-use Rattle.ipt_rules.specs.Ranks.{Visits}
+use Rattle.ipt_rules.specs.inner.Ranks.{Visits}
 use Rattle.ipt_rules.proofs.loops.visit.Given as goal
 
 abbrev pub invariant-loop-chain : goal.invariant-loop-chain

@@ -1,5 +1,5 @@
 use Rattle.std.proofs.Common.{◌≡◌, ◌++◌, drop}
-use Rattle.ipt_rules.specs.Next.{all_ends}
+use Rattle.ipt_rules.specs.inner.Next.{all_ends}
 use Rattle.ipt_rules.proofs.next.all_ends.Given as goal
 
 abbrev pub invariant-loop-rule : goal.invariant-loop-rule

@@ -1,8 +1,8 @@
 use Rattle.std.proofs.Common.{◌≡◌, ℕ, length, Some, slice_get}
 use Rattle.host_net.specs.declared.cover.Covers.{Covers}
-use Rattle.host_net.specs.CoverView.{IsIndexOf}
+use Rattle.host_net.specs.inner.CoverView.{IsIndexOf}
 use Rattle.ipt_rules.specs.Chain.{rules_of}
-use Rattle.ipt_rules.specs.Next.{all_ends}
+use Rattle.ipt_rules.specs.inner.Next.{all_ends}
 use Rattle.ipt_rules.proofs.next.indexes_of.Given as goal
 
 abbrev pub invariant-loop-chain : goal.invariant-loop-chain

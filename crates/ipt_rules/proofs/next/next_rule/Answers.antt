@@ -1,4 +1,4 @@
-use Rattle.ipt_rules.specs.Next.{all_ends}
+use Rattle.ipt_rules.specs.inner.Next.{all_ends}
 use Rattle.ipt_rules.proofs.NextLemmas.{next_is}
 use Rattle.ipt_rules.proofs.next.next_rule.Goals as goal
 

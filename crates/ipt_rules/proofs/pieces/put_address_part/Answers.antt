@@ -1,5 +1,5 @@
 use Rattle.std.proofs.Common.{append_assoc}
-use Rattle.text_core.specs.LineLaws.{cut_cut}
+use Rattle.text_core.proofs.LineLaws.{cut_cut}
 use Rattle.ipt_rules.proofs.pieces.put_address_part.Goals as goal
 
 pub returns-in-Some-clause-text : goal.returns-in-Some-clause-text

@@ -1,5 +1,5 @@
 use Rattle.std.proofs.Common.{append_assoc}
-use Rattle.text_core.specs.LineLaws.{cut_cut}
+use Rattle.text_core.proofs.LineLaws.{cut_cut}
 use Rattle.ipt_rules.proofs.pieces.put_target.Goals as goal
 
 pub returns-in-Jump-clause-text : goal.returns-in-Jump-clause-text

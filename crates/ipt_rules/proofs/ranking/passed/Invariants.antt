@@ -1,6 +1,6 @@
 use Rattle.std.proofs.Common.{◌≡◌, ◌≤◌, ◌<◌, ◌-◌, ℕ, length, Some, None}
 use Rattle.std.specs.Prelude.{slice_get}
-use Rattle.ipt_rules.specs.Ranks.{place_of}
+use Rattle.ipt_rules.specs.inner.Ranks.{place_of}
 use Rattle.ipt_rules.proofs.ranking.passed.Given as goal
 
 abbrev pub decreases-loop-at : goal.decreases-loop-at

@@ -1,5 +1,5 @@
 use Rattle.std.proofs.Common.{◌-◌, length}
-use Rattle.ipt_rules.specs.Ranks.{IsPartOrder}
+use Rattle.ipt_rules.specs.inner.Ranks.{IsPartOrder}
 use Rattle.ipt_rules.proofs.ranking.ranking_of.Given as goal
 
 abbrev pub decreases-loop-ranking : goal.decreases-loop-ranking

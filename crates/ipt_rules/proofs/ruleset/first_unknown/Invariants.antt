@@ -1,6 +1,6 @@
 use Rattle.std.proofs.Common.{◌≡◌, ◌≤◌, length, drop}
 use Rattle.ipt_rules.specs.ChainTable.{rule_count}
-use Rattle.ipt_rules.specs.Build.{first_unknown}
+use Rattle.ipt_rules.specs.inner.Build.{first_unknown}
 use Rattle.ipt_rules.proofs.ruleset.first_unknown.Given as goal
 
 abbrev pub invariant-loop-number : goal.invariant-loop-number

@@ -1,5 +1,5 @@
 use Rattle.std.proofs.Common.{append_assoc}
-use Rattle.text_core.specs.LineLaws.{cut_cut}
+use Rattle.text_core.proofs.LineLaws.{cut_cut}
 use Rattle.ipt_rules.proofs.services.put_service.Goals as goal
 
 pub returns-clause-text : goal.returns-clause-text

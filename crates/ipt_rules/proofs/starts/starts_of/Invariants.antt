@@ -1,6 +1,6 @@
 use Rattle.std.proofs.Common.{◌≡◌, ◌+◌, ◌++◌, drop}
 use Rattle.ipt_rules.specs.ChainTable.{rule_count}
-use Rattle.ipt_rules.specs.Starts.{starts_from}
+use Rattle.ipt_rules.specs.inner.Starts.{starts_from}
 use Rattle.ipt_rules.proofs.starts.starts_of.Given as goal
 
 abbrev pub invariant-loop-chain : goal.invariant-loop-chain

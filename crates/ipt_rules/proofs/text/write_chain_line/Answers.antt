@@ -1,8 +1,8 @@
 use Rattle.std.proofs.Common.{◌≡◌, take, append_assoc, arith}
-use Rattle.text_core.specs.Line.{cut}
+use Rattle.text_core.specs.inner.Line.{cut}
 use Rattle.ipt_rules.specs.Text.{chain_line}
-use Rattle.text_core.specs.LineLaws.{IsWhole, cut_cut, put_whole}
-use Rattle.ipt_rules.specs.TextLaws.{chain_line_short}
+use Rattle.text_core.proofs.LineLaws.{IsWhole, cut_cut, put_whole}
+use Rattle.ipt_rules.proofs.TextLaws.{chain_line_short}
 use Rattle.ipt_rules.proofs.text.write_chain_line.Goals as goal
 
 put_all : (c : goal.After-put) → take c.put.result c.put.new.buffer ≡ cut 320 (chain_line c.args.chain.now)

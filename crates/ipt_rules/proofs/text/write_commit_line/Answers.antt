@@ -1,6 +1,6 @@
 use Rattle.std.proofs.Common.{arith}
 use Rattle.ipt_rules.specs.Text.{commit_line}
-use Rattle.text_core.specs.LineLaws.{IsWhole, put_whole}
+use Rattle.text_core.proofs.LineLaws.{IsWhole, put_whole}
 use Rattle.ipt_rules.proofs.text.write_commit_line.Goals as goal
 
 done : (c : goal.After-put) → IsWhole 283 c.put.new.buffer commit_line c.put.result

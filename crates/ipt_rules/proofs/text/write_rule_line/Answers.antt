@@ -1,8 +1,8 @@
 use Rattle.std.proofs.Common.{◌≡◌, take, append_assoc, arith}
-use Rattle.text_core.specs.Line.{cut}
+use Rattle.text_core.specs.inner.Line.{cut}
 use Rattle.ipt_rules.specs.Text.{rule_line}
-use Rattle.text_core.specs.LineLaws.{IsWhole, cut_cut, put_whole}
-use Rattle.ipt_rules.specs.TextLaws.{rule_line_short}
+use Rattle.text_core.proofs.LineLaws.{IsWhole, cut_cut, put_whole}
+use Rattle.ipt_rules.proofs.TextLaws.{rule_line_short}
 use Rattle.ipt_rules.proofs.text.write_rule_line.Goals as goal
 
 put_all : (c : goal.After-put) → take c.put.result c.put.new.buffer ≡ cut 320 (rule_line c.args.chains.now c.args.name.now c.args.rule)

@@ -2,7 +2,7 @@ use Rattle.std.proofs.Common.{◌≡◌, ◌+◌, ◌-◌, ◌<◌, ◌≤◌, s
 use Rattle.std.specs.List.Sorted.{IsNonDecreasingBy}
 use Rattle.std.proofs.lemmas.Bool.{cases_lt}
 use Rattle.ipt_rules.specs.ChainTable.{rule_count}
-use Rattle.ipt_rules.specs.RuleParts.{is_rule}
+use Rattle.ipt_rules.specs.inner.RuleParts.{is_rule}
 use Rattle.ipt_rules.specs.Text.{rule_line}
 use Rattle.ipt_rules.proofs.TextLemmas.{rule_there, rule_later, commit_there, jump_in, rest_lines, rule_in}
 use Rattle.ipt_rules.proofs.BuildLemmas.{rules_left}

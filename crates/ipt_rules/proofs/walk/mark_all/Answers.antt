@@ -5,8 +5,8 @@ use Rattle.ipt_rules.specs.declared.rule.Rule.{Rule}
 use Rattle.ipt_rules.specs.Chain.{rules_of}
 use Rattle.ipt_rules.specs.Loops.{jumps_of}
 use Rattle.ipt_rules.specs.Matching.{matches}
-use Rattle.ipt_rules.specs.Ranks.{IsBefore}
-use Rattle.ipt_rules.specs.Reached.{Marks}
+use Rattle.ipt_rules.specs.inner.Ranks.{IsBefore}
+use Rattle.ipt_rules.specs.inner.Reached.{Marks}
 use Rattle.ipt_rules.proofs.MarkLemmas.{closed_more, closed_unmarked}
 use Rattle.ipt_rules.proofs.NextLemmas.{index_there}
 use Rattle.ipt_rules.proofs.walk.mark_all.Goals as goal

@@ -1,7 +1,7 @@
 use Rattle.std.proofs.Common.{◌≤◌, ℕ, length}
 use Rattle.ipt_rules.specs.Matching.{matches}
-use Rattle.ipt_rules.specs.Ranks.{IsSet}
-use Rattle.ipt_rules.specs.Reached.{IsClosed}
+use Rattle.ipt_rules.specs.inner.Ranks.{IsSet}
+use Rattle.ipt_rules.specs.inner.Reached.{IsClosed}
 use Rattle.ipt_rules.proofs.walk.mark_all.Given as goal
 
 abbrev pub decreases-loop-at : goal.decreases-loop-at

@@ -1,6 +1,6 @@
 use Rattle.std.proofs.Common.{◌≡◌, ◌∙◌, ◌<◌, ℕ, Some, true, length, sym, ap, subst, arith}
 use Rattle.std.proofs.lemmas.Option.{same_Some}
-use Rattle.ipt_rules.specs.Ranks.{place_of, IsBefore, IsSet}
+use Rattle.ipt_rules.specs.inner.Ranks.{place_of, IsBefore, IsSet}
 use Rattle.ipt_rules.proofs.Gets.{get_set_same}
 use Rattle.ipt_rules.proofs.walk.mark_from.Goals as goal
 

@@ -4,10 +4,10 @@ use Rattle.ipt_rules.specs.declared.rule.Rule.{Rule}
 use Rattle.ipt_rules.specs.declared.walk.Step.{Step}
 use Rattle.ipt_rules.specs.declared.walk.Step.TheVariants as code
 use Rattle.ipt_rules.specs.Meaning.{RuleStep, Walks}
-use Rattle.ipt_rules.specs.WalkView.{step_view}
+use Rattle.ipt_rules.specs.inner.WalkView.{step_view}
 use Rattle.ipt_rules.specs.Matching.{matches}
-use Rattle.ipt_rules.specs.Ranks.{place_of}
-use Rattle.ipt_rules.specs.Reached.{Marks}
+use Rattle.ipt_rules.specs.inner.Ranks.{place_of}
+use Rattle.ipt_rules.specs.inner.Reached.{Marks}
 use Rattle.ipt_rules.proofs.MarkLemmas.{place_before, marks_same, marks_place}
 use Rattle.ipt_rules.proofs.NextLemmas.{at_small, marks_passed}
 use Rattle.ipt_rules.proofs.walk.mark_jumps.Goals as goal

@@ -1,6 +1,6 @@
 use Rattle.std.proofs.Common.{◌≤◌, ◌-◌, length, take}
 use Rattle.ipt_rules.specs.Matching.{matches}
-use Rattle.ipt_rules.specs.Reached.{Marks}
+use Rattle.ipt_rules.specs.inner.Reached.{Marks}
 use Rattle.ipt_rules.proofs.walk.mark_jumps.Given as goal
 
 abbrev pub decreases-loop-at : goal.decreases-loop-at

@@ -1,6 +1,6 @@
 use Rattle.std.proofs.Common.{◌∙◌, ap}
 use Rattle.ipt_rules.specs.Matching.{matches}
-use Rattle.ipt_rules.specs.Ranks.{outcome_at}
+use Rattle.ipt_rules.specs.inner.Ranks.{outcome_at}
 use Rattle.ipt_rules.proofs.MarkLemmas.{outcome_there}
 use Rattle.ipt_rules.proofs.walk.outcome.Goals as goal
 

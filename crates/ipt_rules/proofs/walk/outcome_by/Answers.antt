@@ -1,14 +1,14 @@
 use Rattle.std.proofs.Common.{◌≡◌, ◌<◌, ℕ, Bool, List, Option, length, get_or, refl, sym, subst, arith}
 use Rattle.std.proofs.lemmas.Option.{slice_get_read}
-use Rattle.host_net.specs.CoverView.{IsIndexOf}
+use Rattle.host_net.specs.inner.CoverView.{IsIndexOf}
 use Rattle.host_net.specs.declared.packet.Verdict.{Verdict}
 use Rattle.ipt_rules.specs.declared.rule.Rule.{Rule}
 use Rattle.ipt_rules.specs.Chain.{Chain, rules_of}
 use Rattle.ipt_rules.specs.Meaning.{Walks, step_of, Gives}
 use Rattle.ipt_rules.specs.Matching.{matches}
-use Rattle.ipt_rules.specs.Next.{all_ends}
-use Rattle.ipt_rules.specs.Ranks.{outcome_at}
-use Rattle.ipt_rules.specs.Reached.{WalksTo}
+use Rattle.ipt_rules.specs.inner.Next.{all_ends}
+use Rattle.ipt_rules.specs.inner.Ranks.{outcome_at}
+use Rattle.ipt_rules.specs.inner.Reached.{WalksTo}
 use Rattle.ipt_rules.proofs.NextLemmas.{at_small, gives_passed}
 use Rattle.ipt_rules.proofs.WalkLemmas.{end_gives, ends_here, decides_here, goes_on_here, comes_back_here}
 use Rattle.ipt_rules.proofs.walk.outcome_by.Goals as goal

@@ -4,7 +4,7 @@ use Rattle.std.proofs.lemmas.Option.{slice_get-get_or}
 use Rattle.ipt_rules.specs.Chain.{rules_of}
 use Rattle.ipt_rules.specs.Matching.{matches}
 use Rattle.ipt_rules.specs.Meaning.{Gives}
-use Rattle.ipt_rules.specs.Ranks.{outcome_at}
+use Rattle.ipt_rules.specs.inner.Ranks.{outcome_at}
 use Rattle.ipt_rules.proofs.MarkLemmas.{is_on, settled_known, settled_more, settled_unmarked}
 use Rattle.ipt_rules.proofs.NextLemmas.{index_there}
 use Rattle.ipt_rules.proofs.walk.settle_all.Goals as goal

@@ -1,5 +1,5 @@
 use Rattle.ipt_rules.specs.Matching.{matches}
-use Rattle.ipt_rules.specs.Reached.{IsSettled}
+use Rattle.ipt_rules.specs.inner.Reached.{IsSettled}
 use Rattle.ipt_rules.proofs.walk.settle_all.Given as goal
 
 abbrev pub invariant-loop-at : goal.invariant-loop-at

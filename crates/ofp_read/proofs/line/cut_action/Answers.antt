@@ -1,6 +1,6 @@
 use Rattle.std.proofs.Common.{false, ◌&&◌, ◌≡◌, ◌∙◌, ap, sym, rules, tests}
-use Rattle.ofp_read.specs.Cut.{begins_action}
-use Rattle.ofp_read.specs.CutLaws.{cut_next}
+use Rattle.ofp_read.specs.inner.Cut.{begins_action}
+use Rattle.ofp_read.proofs.CutLaws.{cut_next}
 use Rattle.ofp_read.proofs.line.cut_action.Goals as goal
 
 pub loop-place-preserved : goal.loop-place-preserved

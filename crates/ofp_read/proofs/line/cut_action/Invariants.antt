@@ -1,6 +1,6 @@
 use Rattle.std.proofs.Common.{◌≡◌, true, take, drop}
-use Rattle.ofp_read.specs.Cut.{cut_action}
-use Rattle.ofp_read.specs.CutLaws.{shifted}
+use Rattle.ofp_read.specs.inner.Cut.{cut_action}
+use Rattle.ofp_read.proofs.CutLaws.{shifted}
 use Rattle.ofp_read.proofs.line.cut_action.Given as goal
 
 abbrev pub invariant-loop-place : goal.invariant-loop-place

@@ -4,8 +4,8 @@ use Rattle.std.proofs.lemmas.Iterator.Splits.{YieldsList-from_slice_split}
 use Rattle.ofp_read.specs.Grammar.{fields, has_bytes, is_separator}
 use Rattle.std.specs.Prelude.{Ok, Err}
 use Rattle.std.proofs.lemmas.List.{length_push}
-use Rattle.ofp_read.specs.FieldTable.{with_field}
-use Rattle.ofp_read.specs.FlowLine.{with_fields}
+use Rattle.ofp_read.specs.inner.FieldTable.{with_field}
+use Rattle.ofp_read.specs.inner.FlowLine.{with_fields}
 use Rattle.ofp_read.proofs.FieldsLoop.{field_read, field_refused, none_left}
 use Rattle.ofp_read.proofs.line.read_fields.Goals as goal
 

@@ -1,6 +1,6 @@
 use Rattle.std.proofs.Common.{◌≡◌, length, drop}
 use Rattle.ofp_read.specs.Grammar.{fields}
-use Rattle.ofp_read.specs.FlowLine.{nothing_given, with_fields}
+use Rattle.ofp_read.specs.inner.FlowLine.{nothing_given, with_fields}
 use Rattle.ofp_read.proofs.line.read_fields.Given as goal
 
 abbrev pub invariant-loop-field : goal.invariant-loop-field

@@ -1,16 +1,16 @@
 use Rattle.std.proofs.Common.{◌≡◌, ℕ, List, sym, subst}
 use Rattle.std.specs.Prelude.{Result, Ok, Err, IfOk, IfErr, MatchResult}
 use Rattle.text_core.specs.TextByLines.{IsReadThrough}
-use Rattle.text_core.specs.TextByLinesLaws.{told_reading, told_fault}
-use Rattle.text_core.specs.TextAnswers.{HasCause, IsFault}
+use Rattle.text_core.proofs.TextByLinesLaws.{told_reading, told_fault}
+use Rattle.text_core.specs.inner.TextAnswers.{HasCause, IsFault}
 use Rattle.text_core.specs.declared.faults.TextFault.{TextFault}
 use Rattle.text_core.specs.declared.faults.TextFault.TheVariants.{Memory}
 use Rattle.ofp_rules.specs.declared.entry.Entry.{Entry}
-use Rattle.ofp_rules.specs.Build.{IsTable}
+use Rattle.ofp_rules.specs.inner.Build.{IsTable}
 use Rattle.ofp_rules.specs.Text.{text}
 use Rattle.ofp_read.specs.declared.fault.OfpWhy.{OfpWhy}
-use Rattle.ofp_read.specs.AgainLaws.{text_read_again}
-use Rattle.ofp_read.specs.FaultLaws.{flows_settled}
+use Rattle.ofp_read.proofs.AgainLaws.{text_read_again}
+use Rattle.ofp_read.proofs.FaultLaws.{flows_settled}
 use Rattle.ofp_read.specs.TextLines.{flows_text, HasFault, IsReading}
 use Rattle.ofp_read.proofs.whole.read.Goals as goal
 

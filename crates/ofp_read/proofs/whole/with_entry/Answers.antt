@@ -1,6 +1,6 @@
 use Rattle.std.proofs.Common.{subst}
-use Rattle.ofp_rules.specs.AddingLaws.{contradicts_none}
-use Rattle.ofp_rules.specs.Build.{IsTable}
+use Rattle.ofp_rules.proofs.AddingLaws.{contradicts_none}
+use Rattle.ofp_rules.specs.inner.Build.{IsTable}
 use Rattle.ofp_read.proofs.whole.with_entry.Goals as goal
 
 pub returns-in-Ok-clause-clear : goal.returns-in-Ok-clause-clear

@@ -1,6 +1,6 @@
 use Rattle.std.proofs.Common.{ℕ, subst}
-use Rattle.host_net.specs.Cover.{IsFirstFrom}
-use Rattle.ofp_rules.specs.Next.{all_ends, source_of}
+use Rattle.host_net.specs.inner.Cover.{IsFirstFrom}
+use Rattle.ofp_rules.specs.inner.Next.{all_ends, source_of}
 use Rattle.ofp_rules.proofs.NextLemmas.{next_is}
 use Rattle.ofp_rules.proofs.next.next_entry.Goals as goal
 

@@ -2,7 +2,7 @@ use Rattle.std.proofs.Common.{List, subst, length, arith}
 use Rattle.std.proofs.lemmas.List.{take_all}
 use Rattle.std.specs.Option.{option_copied}
 use Rattle.ofp_rules.specs.declared.entry.Entry.{Entry}
-use Rattle.ofp_rules.specs.Highest.{IsFound}
+use Rattle.ofp_rules.specs.inner.Highest.{IsFound}
 use Rattle.ofp_rules.proofs.NextLemmas.{at_small, found_next, found_passed}
 use Rattle.ofp_rules.proofs.table.highest.Goals as goal
 

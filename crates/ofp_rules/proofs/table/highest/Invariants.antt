@@ -1,6 +1,6 @@
 use Rattle.std.proofs.Common.{◌≤◌, ◌-◌, length, take}
 use Rattle.std.specs.Option.{option_copied}
-use Rattle.ofp_rules.specs.Highest.{IsFound}
+use Rattle.ofp_rules.specs.inner.Highest.{IsFound}
 use Rattle.ofp_rules.proofs.table.highest.Given as goal
 
 abbrev pub decreases-loop-at : goal.decreases-loop-at

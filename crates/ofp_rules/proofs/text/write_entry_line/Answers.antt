@@ -1,9 +1,9 @@
 use Rattle.std.proofs.Common.{◌≡◌, take, append_assoc, arith}
 use Rattle.std.proofs.lemmas.Bool.Decides.{nat_tests}
-use Rattle.text_core.specs.Line.{cut}
+use Rattle.text_core.specs.inner.Line.{cut}
 use Rattle.ofp_rules.specs.Text.{entry_line}
-use Rattle.text_core.specs.LineLaws.{IsWhole, cut_cut, put_whole}
-use Rattle.ofp_rules.specs.LineLaws.{entry_line_short}
+use Rattle.text_core.proofs.LineLaws.{IsWhole, cut_cut, put_whole}
+use Rattle.ofp_rules.proofs.LineLaws.{entry_line_short}
 use Rattle.ofp_rules.proofs.text.write_entry_line.Goals as goal
 
 put_all : (c : goal.After-put) → take c.put.result c.put.new.buffer ≡ cut 256 (entry_line c.args.entry)

@@ -1,5 +1,5 @@
 use Rattle.std.proofs.Common.{ℕ, ◌<◌, ◌≤◌, length, slice_index_or}
-use Rattle.out_limit.specs.OutLimit.{sent_by}
+use Rattle.out_limit.specs.inner.OutLimit.{sent_by}
 use Rattle.out_limit.proofs.limit.keeps.Given as goal
 
 -- the hosts so far keep their limits

@@ -1,7 +1,7 @@
 use Rattle.std.proofs.Common.{◌≡◌, ◌≤◌, ◌*◌, List, length, inl, ◌∙◌, ap, arith}
 use Rattle.std.proofs.Math.Nat.{mul-le-mul_right}
 use Rattle.flow_set.specs.declared.flow.Flow.{Flow}
-use Rattle.flow_set.specs.WalkLaws.{length-IsFlowSet}
+use Rattle.flow_set.specs.laws.WalkLaws.{length-IsFlowSet}
 use Rattle.out_limit.proofs.limit.sent.Goals as goal
 
 pub count-requires-clause-fits : goal.count-requires-clause-fits

@@ -1,7 +1,7 @@
 use Rattle.std.proofs.Common.{◌≡◌, ◌∙◌, ap, subst}
 use Rattle.flow_set.specs.FlowSet.{SetOfFlows, with_flow}
 use Rattle.permit_core.specs.Policy.{AllHold}
-use Rattle.permit_core.specs.PolicyLaws.{denied_fails}
+use Rattle.permit_core.proofs.PolicyLaws.{denied_fails}
 use Rattle.permit_core.proofs.denial.blame.Goals as goal
 
 -- not all of them hold of the policy with a denied flow

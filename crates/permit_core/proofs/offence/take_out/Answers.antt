@@ -1,9 +1,9 @@
 use Rattle.std.proofs.Common.{refl, sym, ◌∙◌, ap, subst}
 use Rattle.flow_set.specs.Flow.{IsFlow}
 use Rattle.flow_set.specs.FlowSet.{SetOfFlows}
-use Rattle.flow_set.specs.FlowSetView.{without_flow}
-use Rattle.flow_set.specs.WalkLaws.{walk_next, walk_member}
-use Rattle.flow_set.specs.FlowLaws.{without_nothing, without-push}
+use Rattle.flow_set.specs.inner.FlowSetView.{without_flow}
+use Rattle.flow_set.specs.laws.WalkLaws.{walk_next, walk_member}
+use Rattle.flow_set.specs.laws.FlowLaws.{without_nothing, without-push}
 use Rattle.permit_core.proofs.offence.take_out.Goals as goal
 
 pub loop-f-init : goal.loop-f-init

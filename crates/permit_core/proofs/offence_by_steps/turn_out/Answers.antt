@@ -3,9 +3,9 @@ use Rattle.std.specs.Prelude.{IsFalse}
 use Rattle.flow_set.specs.declared.flow.Flow.{Flow}
 use Rattle.flow_set.specs.Flow.{IsFlow}
 use Rattle.flow_set.specs.FlowSet.{SetOfFlows, has, IsOrdered, with_flow}
-use Rattle.flow_set.specs.FlowSetView.{without_flow}
-use Rattle.flow_set.specs.FlowLaws.{set_ext, IsOrdered-with_flow, IsOrdered-without_flow}
-use Rattle.flow_set.specs.WalkLaws.{walk_next, walk_member, walk_end}
+use Rattle.flow_set.specs.inner.FlowSetView.{without_flow}
+use Rattle.flow_set.specs.laws.FlowLaws.{set_ext, IsOrdered-with_flow, IsOrdered-without_flow}
+use Rattle.flow_set.specs.laws.WalkLaws.{walk_next, walk_member, walk_end}
 use Rattle.permit_core.proofs.Turning.{is_next, turned_out, turned_in, turned_whole}
 use Rattle.permit_core.proofs.offence_by_steps.turn_out.Goals as goal
 

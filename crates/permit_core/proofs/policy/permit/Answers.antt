@@ -1,7 +1,7 @@
 use Rattle.std.proofs.Common.{get_or, subst}
-use Rattle.flow_set.specs.Downward.{IsEdgeWise}
+use Rattle.flow_set.specs.inner.Downward.{IsEdgeWise}
 use Rattle.permit_core.specs.Policy.{AllHold}
-use Rattle.permit_core.specs.PolicyLaws.{AllHold-edge_wise}
+use Rattle.permit_core.proofs.PolicyLaws.{AllHold-edge_wise}
 use Rattle.permit_core.proofs.Found.{greatest_found}
 use Rattle.permit_core.proofs.policy.permit.Goals as goal
 

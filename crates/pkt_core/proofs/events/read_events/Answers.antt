@@ -1,10 +1,10 @@
 use Rattle.std.proofs.Common.{ℕ, List, Ok, Err}
 use Rattle.text_core.specs.TextByLines.{IsReadThrough}
-use Rattle.text_core.specs.TextByLinesLaws.{told_reading, told_fault}
+use Rattle.text_core.proofs.TextByLinesLaws.{told_reading, told_fault}
 use Rattle.pkt_core.specs.declared.event.Event.{Event}
-use Rattle.pkt_core.specs.EventFaultLaws.{events_settled}
+use Rattle.pkt_core.proofs.EventFaultLaws.{events_settled}
 use Rattle.pkt_core.specs.EventsText.{IsReading, events_text}
-use Rattle.pkt_core.specs.ReadEventLaws.{packets_read}
+use Rattle.pkt_core.proofs.ReadEventLaws.{packets_read}
 use Rattle.pkt_core.proofs.events.read_events.Goals as goal
 
 whole : (bytes : List ℕ) (events : List Event) → IsReadThrough events_text bytes events → IsReading bytes events

@@ -1,11 +1,11 @@
 use Rattle.std.proofs.Common.{◌≡◌, ◌+◌, refl, ◌∷◌, [], List, suc, drop, add-one, add-zero, add_assoc, drop-cons, sym, ap, subst, ◌∙◌, arith}
 use Rattle.std.proofs.lemmas.List.{drop_all}
-use Rattle.flow_set.specs.Downward.{IsEdgeWise}
+use Rattle.flow_set.specs.inner.Downward.{IsEdgeWise}
 use Rattle.inv_any.specs.declared.any_inv.AnyInv.{AnyInv}
 use Rattle.net_core.specs.Policies.{holds_on}
 use Rattle.policy_steps.proofs.CountLemmas.{failing_more, none_failing}
 use Rattle.policy_steps.proofs.FailingLemmas.{past_in, read_in, set_here, within_in}
-use Rattle.policy_steps.specs.EdgePolicyLaws.{each_edge_wise}
+use Rattle.policy_steps.proofs.EdgePolicyLaws.{each_edge_wise}
 use Rattle.policy_steps.specs.FailingFlows.{AreFailing, FailsIn}
 use Rattle.policy_steps.proofs.counts.count_failing.Goals as goal
 

@@ -1,6 +1,6 @@
 use Rattle.std.proofs.Common.{sym, ◌∙◌}
 use Rattle.std.proofs.lemmas.Bool.{false≢true}
-use Rattle.policy_steps.specs.FailingLaws.{none_fails}
+use Rattle.policy_steps.proofs.FailingLaws.{none_fails}
 use Rattle.policy_steps.proofs.CountLemmas.{one_fails, one_holds}
 use Rattle.policy_steps.proofs.counts.fails.Goals as goal
 

@@ -2,7 +2,7 @@ use Rattle.std.proofs.Common.{sym, subst}
 use Rattle.std.proofs.lemmas.Bool.{both_ways}
 use Rattle.flow_set.specs.FlowSet.{SetOfFlows, with_flow}
 use Rattle.policy_steps.specs.FailingFlows.{FailsOn}
-use Rattle.policy_steps.specs.FailingLaws.{fails_more, holds_more}
+use Rattle.policy_steps.proofs.FailingLaws.{fails_more, holds_more}
 use Rattle.policy_steps.proofs.failing.add_where_failing.Goals as goal
 
 pub returns-then-not-admits-clause-flows : goal.returns-then-not-admits-clause-flows

@@ -1,10 +1,10 @@
 use Rattle.std.proofs.Common.{List, sym, subst}
-use Rattle.flow_set.specs.Downward.{IsEdgeWise}
+use Rattle.flow_set.specs.inner.Downward.{IsEdgeWise}
 use Rattle.flow_set.specs.declared.flow.Flow.{Flow}
-use Rattle.inv_any.specs.TemplateLaws.{lawful}
+use Rattle.inv_any.specs.laws.TemplateLaws.{lawful}
 use Rattle.net_core.specs.Policies.{holds_on}
 use Rattle.policy_steps.specs.FailingFlows.{FailsOn}
-use Rattle.policy_steps.specs.FailingLaws.{fails_outside}
+use Rattle.policy_steps.proofs.FailingLaws.{fails_outside}
 use Rattle.policy_steps.proofs.failing.failing_on.Goals as goal
 
 pub returns-in-Some : goal.returns-in-Some

@@ -1,9 +1,9 @@
 use Rattle.std.proofs.Common.{sym, subst, length-set, arith}
 use Rattle.flow_set.specs.Flow.{IsFlow}
 use Rattle.flow_set.specs.FlowSet.{SetOfFlows}
-use Rattle.flow_set.specs.FlowSetView.{without_flow}
+use Rattle.flow_set.specs.inner.FlowSetView.{without_flow}
 use Rattle.policy_steps.specs.FailingFlows.{FailsIn}
-use Rattle.policy_steps.specs.FailingLaws.{fails_less}
+use Rattle.policy_steps.proofs.FailingLaws.{fails_less}
 use Rattle.policy_steps.proofs.FailingLemmas.{fail_next, past_in, read_in, same_next, set_here, within_in}
 use Rattle.policy_steps.proofs.failing.remove_failing.Goals as goal
 

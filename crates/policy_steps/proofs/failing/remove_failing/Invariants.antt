@@ -1,5 +1,5 @@
 use Rattle.std.proofs.Common.{◌≡◌, length}
-use Rattle.flow_set.specs.FlowSetView.{without_flow}
+use Rattle.flow_set.specs.inner.FlowSetView.{without_flow}
 use Rattle.policy_steps.proofs.FailingLemmas.{FailUpTo, SameFrom}
 use Rattle.policy_steps.proofs.failing.remove_failing.Given as goal
 

@@ -2,10 +2,10 @@ use Rattle.std.proofs.Common.{sym, subst}
 use Rattle.std.proofs.lemmas.Bool.{both_ways}
 use Rattle.flow_set.specs.Flow.{IsFlow}
 use Rattle.flow_set.specs.FlowSet.{SetOfFlows, with_flow}
-use Rattle.net_core.specs.Asking.{asking_for}
+use Rattle.net_core.specs.inner.Asking.{asking_for}
 use Rattle.net_core.specs.Policies.{IsPolicyOf}
-use Rattle.policy_steps.specs.EdgePolicyLaws.{policy_answered, policy_unanswered}
-use Rattle.policy_steps.specs.UnpermittedLaws.{policy_denied}
+use Rattle.policy_steps.proofs.EdgePolicyLaws.{policy_answered, policy_unanswered}
+use Rattle.policy_steps.proofs.UnpermittedLaws.{policy_denied}
 use Rattle.policy_steps.proofs.steps.add_flow.Goals as goal
 
 pub insert-requires : goal.insert-requires

@@ -1,10 +1,10 @@
 use Rattle.std.proofs.Common.{sym, subst}
 use Rattle.flow_set.specs.Flow.{IsFlow}
 use Rattle.flow_set.specs.FlowSet.{SetOfFlows}
-use Rattle.flow_set.specs.FlowSetView.{without_flow}
+use Rattle.flow_set.specs.inner.FlowSetView.{without_flow}
 use Rattle.net_core.specs.Policies.{IsPolicyOf}
-use Rattle.net_core.specs.Asking.{not_asking_for}
-use Rattle.policy_steps.specs.EdgePolicyLaws.{policy_less}
+use Rattle.net_core.specs.inner.Asking.{not_asking_for}
+use Rattle.policy_steps.proofs.EdgePolicyLaws.{policy_less}
 use Rattle.policy_steps.proofs.steps.remove_flow.Goals as goal
 
 pub remove-requires : goal.remove-requires

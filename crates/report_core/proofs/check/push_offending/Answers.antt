@@ -1,7 +1,7 @@
 use Rattle.std.proofs.Common.{arith, sym, ◌∙◌, ap, append-nil, ◌++◌}
 use Rattle.std.proofs.lemmas.List.{flat_map_more}
 use Rattle.flow_set.specs.Flow.{IsFlow}
-use Rattle.flow_set.specs.WalkLaws.{walk_next, walk_member}
+use Rattle.flow_set.specs.laws.WalkLaws.{walk_next, walk_member}
 use Rattle.report_core.specs.CheckReport.{offending_line}
 use Rattle.report_core.proofs.check.push_offending.Goals as goal
 

@@ -1,10 +1,10 @@
 use Rattle.std.proofs.Common.{List, sym, subst}
 use Rattle.std.proofs.lemmas.Result.{on_ok_weaker}
 use Rattle.flow_set.specs.declared.flow.Flow.{Flow}
-use Rattle.report_core.specs.Growing.{Grows}
+use Rattle.report_core.specs.inner.Growing.{Grows}
 use Rattle.report_core.specs.PolicyReport.{TellsRulings}
 use Rattle.report_core.proofs.RulingLemmas.{one_flow, grows_by_one, is_within}
-use Rattle.report_core.specs.RulingView.{ruling_view}
+use Rattle.report_core.specs.inner.RulingView.{ruling_view}
 use Rattle.report_core.proofs.policy.push_ruling_between.Goals as goal
 
 pub push_ruling_line-requires-clause-ruling : goal.push_ruling_line-requires-clause-ruling

@@ -1,5 +1,5 @@
 use Rattle.std.proofs.Common.{◌≡◌, ℕ, List, length, true, false, ◌==◌, sym, ◌∙◌, subst, append_assoc}
-use Rattle.text_core.specs.LineLaws.{cut_cut, nothing_put}
+use Rattle.text_core.proofs.LineLaws.{cut_cut, nothing_put}
 use Rattle.report_core.proofs.LineLemmas.{named, unnamed}
 use Rattle.report_core.proofs.refusal.put_name.Goals as goal
 

@@ -1,5 +1,5 @@
 use Rattle.std.proofs.Common.{arith, append_assoc, length-append}
-use Rattle.text_core.specs.LineLaws.{cut_cut}
+use Rattle.text_core.proofs.LineLaws.{cut_cut}
 use Rattle.report_core.specs.RefusalLine.{place_text}
 use Rattle.report_core.proofs.refusal.put_place.Goals as goal
 

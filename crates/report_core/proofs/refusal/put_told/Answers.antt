@@ -1,4 +1,4 @@
-use Rattle.text_core.specs.LineLaws.{nothing_put}
+use Rattle.text_core.proofs.LineLaws.{nothing_put}
 use Rattle.report_core.proofs.LineLemmas.{told_short}
 use Rattle.report_core.proofs.refusal.put_told.Goals as goal
 

@@ -1,6 +1,6 @@
 use Rattle.std.proofs.Common.{◌≡◌, ◌∙◌, take, append_assoc}
-use Rattle.text_core.specs.Line.{cut}
-use Rattle.text_core.specs.LineLaws.{cut_cut, cut_whole}
+use Rattle.text_core.specs.inner.Line.{cut}
+use Rattle.text_core.proofs.LineLaws.{cut_cut, cut_whole}
 use Rattle.report_core.specs.RefusalLine.{refusal_text}
 use Rattle.report_core.proofs.LineLemmas.{refusal_short}
 use Rattle.report_core.proofs.refusal.refusal_line.Goals as goal

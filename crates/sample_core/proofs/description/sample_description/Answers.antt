@@ -1,7 +1,7 @@
 use Rattle.std.proofs.Common.{◌≡◌, Ok, Err, ap, subst, sym, ◌∙◌}
 use Rattle.desc_core.specs.Description.{described_by_table}
-use Rattle.desc_core.specs.TableFacts.{IsRight}
-use Rattle.sample_core.specs.AcceptedLaws.{hosts_counted, sample_is_right, sample_is_whole}
+use Rattle.desc_core.specs.inner.TableFacts.{IsRight}
+use Rattle.sample_core.proofs.AcceptedLaws.{hosts_counted, sample_is_right, sample_is_whole}
 use Rattle.toml.specs.Data.{Members}
 use Rattle.sample_core.proofs.description.sample_description.Goals as goal
 

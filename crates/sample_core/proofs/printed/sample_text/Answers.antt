@@ -1,5 +1,5 @@
 use Rattle.sample_core.proofs.LineLemmas.{where_ok}
-use Rattle.sample_core.specs.CountsView.{counts_view}
+use Rattle.sample_core.specs.inner.CountsView.{counts_view}
 use Rattle.sample_core.proofs.printed.sample_text.Goals as goal
 
 pub returns : goal.returns

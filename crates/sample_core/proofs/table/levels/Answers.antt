@@ -1,7 +1,7 @@
 use Rattle.std.proofs.Common.{ap, codes, map, ◌∙◌}
 use Rattle.sample_core.specs.SampleTable.{level_table, sample_name}
 use Rattle.sample_core.proofs.TableLemmas.{made_more}
-use Rattle.sample_core.specs.MembersView.{put_member}
+use Rattle.sample_core.specs.inner.MembersView.{put_member}
 use Rattle.toml.specs.Data.{member, no_members, string, table}
 use Rattle.toml.specs.View.{view}
 use Rattle.sample_core.proofs.table.levels.Goals as goal

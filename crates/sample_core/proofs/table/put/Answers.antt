@@ -1,5 +1,5 @@
 use Rattle.std.proofs.Common.{ℕ, List, ap, ◌∙◌}
-use Rattle.sample_core.specs.MembersView.{put_member}
+use Rattle.sample_core.specs.inner.MembersView.{put_member}
 use Rattle.sample_core.proofs.TableLemmas.{put_view}
 use Rattle.toml.specs.View.{members_view, table_view, view}
 use Rattle.sample_core.proofs.table.put.Goals as goal

@@ -1,5 +1,5 @@
 use Rattle.std.proofs.Common.{get_or, subst}
-use Rattle.flow_set.specs.Downward.{IsDownward, IsEdgeWise}
+use Rattle.flow_set.specs.inner.Downward.{IsDownward, IsEdgeWise}
 use Rattle.state_core.proofs.Refining.{StrictHold-downward, complies_found}
 use Rattle.state_core.proofs.refinement_by_steps.refine_by_steps.Goals as goal
 

@@ -4,7 +4,7 @@ use Rattle.std.proofs.lemmas.Iterator.Search.{all_from_yields_List}
 use Rattle.std.specs.List.{list_any}
 use Rattle.std.specs.Map as maps
 use Rattle.std.specs.Str.{bytes_eq}
-use Rattle.table_core.specs.KeyView.{key_view}
+use Rattle.table_core.specs.inner.KeyView.{key_view}
 use Rattle.table_core.proofs.KeyTables.{only_keys}
 use Rattle.table_core.proofs.keys.has_only_keys.Goals as goal
 

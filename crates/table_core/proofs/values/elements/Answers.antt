@@ -1,5 +1,5 @@
 use Rattle.table_core.specs.Tables.{elements_of}
-use Rattle.table_core.specs.TablesLaws.{elements_view}
+use Rattle.table_core.proofs.TablesLaws.{elements_view}
 use Rattle.table_core.proofs.values.elements.Goals as goal
 
 pub returns : goal.returns

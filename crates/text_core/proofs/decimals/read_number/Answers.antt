@@ -1,5 +1,5 @@
 use Rattle.std.proofs.Common.{None, ◌∙◌, sym, arith}
-use Rattle.text_core.specs.DecimalLaws.{number_said, number_read}
+use Rattle.text_core.proofs.DecimalLaws.{number_said, number_read}
 use Rattle.text_core.proofs.DecimalLemmas.{number_padded, number_plain}
 use Rattle.text_core.proofs.decimals.read_number.Goals as goal
 

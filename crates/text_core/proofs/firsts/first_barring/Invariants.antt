@@ -1,6 +1,6 @@
 use Rattle.std.proofs.Common.{◌≡◌, ◌+◌, Bool, drop, find}
 use Rattle.text_core.specs.Firsts.{Numbered, numbered_from}
-use Rattle.text_core.specs.FirstsView.{Tests}
+use Rattle.text_core.specs.inner.FirstsView.{Tests}
 use Rattle.text_core.proofs.firsts.first_barring.Given as goal
 
 abbrev pub invariant-loop-index : goal.invariant-loop-index

@@ -1,6 +1,6 @@
 use Rattle.text_core.specs.Firsts.{Numbered, numbered}
-use Rattle.text_core.specs.FirstPairLaws.{IfSome-first_pair, none_paired}
-use Rattle.text_core.specs.FirstsView.{pair_seen}
+use Rattle.text_core.proofs.FirstPairLaws.{IfSome-first_pair, none_paired}
+use Rattle.text_core.specs.inner.FirstsView.{pair_seen}
 use Rattle.text_core.proofs.firsts.first_pair.Goals as goal
 
 pub returns-clause-first : goal.returns-clause-first

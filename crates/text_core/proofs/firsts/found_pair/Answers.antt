@@ -1,5 +1,5 @@
 use Rattle.std.proofs.Common.{option_map, sym, ap, ◌∙◌}
-use Rattle.text_core.specs.FirstsView.{numbered_seen}
+use Rattle.text_core.specs.inner.FirstsView.{numbered_seen}
 use Rattle.text_core.proofs.FirstsLemmas.{pair_here, pair_passed, no_pair_left}
 use Rattle.text_core.specs.Firsts.{Numbered}
 use Rattle.text_core.proofs.firsts.found_pair.Goals as goal

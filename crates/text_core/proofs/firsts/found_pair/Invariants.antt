@@ -1,6 +1,6 @@
 use Rattle.std.proofs.Common.{◌≡◌, ◌+◌, Bool, take, drop}
 use Rattle.text_core.specs.Firsts.{Numbered, first_pair, first_pair_behind, numbered, numbered_from}
-use Rattle.text_core.specs.FirstsView.{Tests}
+use Rattle.text_core.specs.inner.FirstsView.{Tests}
 use Rattle.text_core.proofs.firsts.found_pair.Given as goal
 
 abbrev pub invariant-loop-index : goal.invariant-loop-index

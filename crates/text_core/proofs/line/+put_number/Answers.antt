@@ -1,6 +1,6 @@
 use Rattle.std.proofs.Common.{◌∙◌, sym, ap, ◌++◌, take, arith}
 use Rattle.std.proofs.lemmas.Fmt.{decimal_digit}
-use Rattle.text_core.specs.Line.{cut}
+use Rattle.text_core.specs.inner.Line.{cut}
 use Rattle.text_core.proofs.LineLemmas.{last_digit}
 use Rattle.text_core.proofs.line.+put_number.Goals as goal
 

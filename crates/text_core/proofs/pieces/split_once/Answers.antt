@@ -1,5 +1,5 @@
 use Rattle.std.proofs.Common.{◌∙◌, sym}
-use Rattle.text_core.specs.PiecesLaws.{lacks_all, split_once_front, split_once_joined, split_once_none}
+use Rattle.text_core.proofs.PiecesLaws.{lacks_all, split_once_front, split_once_joined, split_once_none}
 use Rattle.text_core.proofs.PiecesLemmas.{split_somewhere, nowhere_lacks}
 use Rattle.text_core.proofs.pieces.split_once.Goals as goal
 

@@ -1,5 +1,5 @@
 use Rattle.std.proofs.Common.{◌≡◌, map}
-use Rattle.tmpl_domains.specs.DomainView.{segment_bytes}
+use Rattle.tmpl_domains.specs.inner.DomainView.{segment_bytes}
 use Rattle.tmpl_domains.proofs.domain.cut.Given as goal
 
 abbrev pub invariant-loop-segment : goal.invariant-loop-segment

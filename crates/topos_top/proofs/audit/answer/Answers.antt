@@ -1,5 +1,5 @@
 use Rattle.std.proofs.Common.{ℕ, List, ◌∙◌, ap}
-use Rattle.audit_core.specs.RulesView.{rules_of}
+use Rattle.audit_core.specs.inner.RulesView.{rules_of}
 use Rattle.topos_top.specs.Reply.{reply_on}
 use Rattle.topos_top.specs.declared.status.Status.TheVariants.{Violated, Done}
 use Rattle.topos_top.specs.declared.status.Stream.TheVariants.{Output}

@@ -2,8 +2,8 @@ use Rattle.std.proofs.Common.{sym, subst, true}
 use Rattle.topos_top.specs.Ask.{Audit}
 use Rattle.topos_top.specs.Commands.{course_of}
 use Rattle.topos_top.specs.Replies.{MayReply}
-use Rattle.topos_top.specs.Shelf.{shelf_change}
-use Rattle.topos_top.specs.Views.{reply_in}
+use Rattle.topos_top.specs.inner.Shelf.{shelf_change}
+use Rattle.topos_top.specs.inner.Views.{reply_in}
 use Rattle.topos_top.specs.declared.dialect.Dialect.{Dialect}
 use Rattle.topos_top.proofs.audit.reply.Goals as goal
 

@@ -1,9 +1,9 @@
 use Rattle.std.proofs.Common.{inl, inr, refl, true, ap, ◌∙◌}
 use Rattle.std.proofs.lemmas.Result.{err_from_is_err_and}
-use Rattle.audit_core.specs.RulesLaws.{table_gives}
+use Rattle.audit_core.proofs.RulesLaws.{table_gives}
 use Rattle.topos_top.specs.Audit.{audit_job, rules_in}
 use Rattle.topos_top.specs.Course.{reads, ends}
-use Rattle.topos_top.specs.Views.{reply_in, reply_view}
+use Rattle.topos_top.specs.inner.Views.{reply_in, reply_view}
 use Rattle.topos_top.specs.declared.dialect.Dialect.TheVariants.{OpenFlow}
 use Rattle.topos_top.specs.declared.kind.Kind.TheVariants.{Description, Rules}
 use Rattle.topos_top.proofs.CourseLaws.{then_no_memory, then_stopped, went_on}

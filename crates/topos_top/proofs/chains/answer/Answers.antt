@@ -3,7 +3,7 @@ use Rattle.topos_top.specs.Job.{Answers}
 use Rattle.topos_top.specs.Repair.{repair_job}
 use Rattle.topos_top.specs.Reply.{Reply}
 use Rattle.topos_top.specs.declared.dialect.Dialect.TheVariants.{Iptables}
-use Rattle.emit_core.specs.EmitRefusals.{HasNoChains}
+use Rattle.emit_core.specs.inner.EmitRefusals.{HasNoChains}
 use Rattle.emit_core.specs.declared.refusal.EmitRefusal.TheVariants as refusal
 use Rattle.net_core.specs.Network.{site_of}
 use Rattle.topos_top.specs.Dialects.{TooManyRules, iptables}

@@ -1,10 +1,10 @@
 use Rattle.std.proofs.Common.{inl, inr, refl, false, map, ap, ◌∙◌}
 use Rattle.std.proofs.lemmas.Result.{err_from_is_err_and}
-use Rattle.edit_core.specs.Kept.{table_of}
-use Rattle.edit_text.specs.EditView.{edit_view}
+use Rattle.edit_core.specs.inner.Kept.{table_of}
+use Rattle.edit_text.specs.inner.EditView.{edit_view}
 use Rattle.topos_top.specs.Course.{reads, ends}
 use Rattle.topos_top.specs.Edit.{edit_job}
-use Rattle.topos_top.specs.Views.{reply_in, reply_view}
+use Rattle.topos_top.specs.inner.Views.{reply_in, reply_view}
 use Rattle.topos_top.specs.declared.kind.Kind.TheVariants.{Edited, Edits}
 use Rattle.topos_top.proofs.CourseLaws.{then_no_memory, then_stopped, went_on}
 use Rattle.topos_top.proofs.edit.reply.Goals as goal

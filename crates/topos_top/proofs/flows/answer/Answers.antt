@@ -5,7 +5,7 @@ use Rattle.topos_top.specs.Reply.{Reply}
 use Rattle.topos_top.specs.declared.dialect.Dialect.TheVariants.{OpenFlow}
 use Rattle.ofp_rules.specs.Text.{text as table_text}
 use Rattle.ofp_rules.specs.declared.entry.Entry.{Entry}
-use Rattle.emit_core.specs.EmitRefusals.{HasNoTable}
+use Rattle.emit_core.specs.inner.EmitRefusals.{HasNoTable}
 use Rattle.emit_core.specs.declared.refusal.EmitRefusal.TheVariants as refusal
 use Rattle.net_core.specs.Network.{site_of}
 use Rattle.topos_top.specs.Dialects.{NeedsState, RangeOfPorts, TooManyFlows, openflow}

@@ -1,9 +1,10 @@
 use Rattle.std.proofs.Common.{Err, Ok, Result, false}
 use Rattle.std.specs.Prelude.{IfOk}
 use Rattle.topos_top.specs.Job.{Answers}
-use Rattle.topos_top.specs.Local.{local_job, machines_job}
+use Rattle.topos_top.specs.Local.{local_job}
+use Rattle.topos_top.specs.inner.Local.{machines_job}
 use Rattle.topos_top.specs.Rules.{ListedHolds}
-use Rattle.topos_top.specs.Views.{reply_view}
+use Rattle.topos_top.specs.inner.Views.{reply_view}
 use Rattle.topos_top.specs.declared.answer.Answer.{Answer}
 use Rattle.topos_top.proofs.LocalLaws.{answers_listed}
 use Rattle.topos_top.proofs.local.answer.Goals as goal

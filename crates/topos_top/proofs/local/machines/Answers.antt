@@ -2,7 +2,8 @@ use Rattle.std.proofs.Common.{◌≡◌, ◌∙◌, false, Some, List, sym, ap, 
 use Rattle.host_net.specs.Host.{Host, host_named}
 use Rattle.host_emit.specs.LocalLayout.{is_specific}
 use Rattle.topos_top.specs.Job.{Answers}
-use Rattle.topos_top.specs.Local.{IsBarred, RestHost, machines_job}
+use Rattle.topos_top.specs.Local.{IsBarred, RestHost}
+use Rattle.topos_top.specs.inner.Local.{machines_job}
 use Rattle.topos_top.specs.Reply.{Reply}
 use Rattle.topos_top.proofs.LocalLaws.{is_rest}
 use Rattle.topos_top.proofs.local.machines.Goals as goal

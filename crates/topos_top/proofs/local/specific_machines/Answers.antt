@@ -1,6 +1,6 @@
 use Rattle.std.proofs.Common.{◌<◌, List, length, sym, subst}
 use Rattle.host_net.specs.Host.{Host}
-use Rattle.host_net.specs.NamedLaws.{host_named_within}
+use Rattle.host_net.proofs.NamedLaws.{host_named_within}
 use Rattle.topos_top.proofs.local.specific_machines.Goals as goal
 
 pub emit_local-requires-clause-there : goal.emit_local-requires-clause-there

@@ -1,8 +1,8 @@
 use Rattle.std.proofs.Common.{map, string_bytes}
 use Rattle.topos_top.specs.Promises.{GaveReply}
-use Rattle.topos_top.specs.Shelf.{shelf_change}
-use Rattle.topos_top.specs.Taken.{sink_change}
-use Rattle.topos_top.specs.Views.{reply_view}
+use Rattle.topos_top.specs.inner.Shelf.{shelf_change}
+use Rattle.topos_top.specs.inner.Taken.{sink_change}
+use Rattle.topos_top.specs.inner.Views.{reply_view}
 use Rattle.topos_top.specs.declared.status.Status.TheVariants as status
 use Rattle.topos_top.proofs.HeadlineLaw.{headline_law}
 use Rattle.topos_top.proofs.RunLaws.{usage_law, caused, no_fault, nothing_to_write, something_to_write}

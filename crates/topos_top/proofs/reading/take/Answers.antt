@@ -1,6 +1,6 @@
 use Rattle.std.proofs.Common.{Err, None, ap, arith, refl}
 use Rattle.topos_top.specs.Replies.{Stopped}
-use Rattle.topos_top.specs.Views.{reply_view}
+use Rattle.topos_top.specs.inner.Views.{reply_view}
 use Rattle.topos_top.proofs.Taking.{took_whole, took_too_much}
 use Rattle.topos_top.proofs.reading.take.Goals as goal
 

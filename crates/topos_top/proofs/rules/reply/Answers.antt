@@ -2,7 +2,7 @@ use Rattle.std.proofs.Common.{inl, inr, refl, false}
 use Rattle.std.proofs.lemmas.Result.{err_from_is_err_and}
 use Rattle.topos_top.specs.Rules.{rules_job}
 use Rattle.topos_top.specs.Course.{ends}
-use Rattle.topos_top.specs.Views.{reply_view}
+use Rattle.topos_top.specs.inner.Views.{reply_view}
 use Rattle.topos_top.specs.declared.kind.Kind.TheVariants.{Description}
 use Rattle.topos_top.proofs.CourseLaws.{went_on}
 use Rattle.topos_top.proofs.rules.reply.Goals as goal

@@ -2,7 +2,7 @@ use Rattle.std.proofs.Common.{◌+◌, arith, add-one}
 use Rattle.std.proofs.Math.Seq.{drop-cons}
 use Rattle.std.proofs.lemmas.List.{drop_all}
 use Rattle.ipt_rules.specs.Meaning.{Passes}
-use Rattle.pkt_core.specs.Kept.{kept_in}
+use Rattle.pkt_core.specs.inner.Kept.{kept_in}
 use Rattle.trace_core.proofs.Steps.{leaves_next, leaves_none}
 use Rattle.trace_core.proofs.run.trace_rules.Goals as goal
 

@@ -1,7 +1,7 @@
 -- Whatever run is left over the events from here on, the text and its lines are those of the whole run.
 use Rattle.std.proofs.Common.{◌+◌, drop}
 use Rattle.ipt_rules.specs.Meaning.{Passes}
-use Rattle.pkt_core.specs.Kept.{kept_in}
+use Rattle.pkt_core.specs.inner.Kept.{kept_in}
 use Rattle.trace_core.proofs.Steps.{Leaves}
 use Rattle.trace_core.proofs.run.trace_rules.Given as goal
 

@@ -3,7 +3,7 @@ use Rattle.std.specs.Prelude.{IsTrue}
 use Rattle.std.proofs.lemmas.Bool.{both_ways}
 use Rattle.std.proofs.lemmas.List.{take_all}
 use Rattle.std.proofs.lemmas.List.Elements.{All-more}
-use Rattle.trial_core.specs.Trials.{ChosenHold}
+use Rattle.trial_core.specs.inner.Trials.{ChosenHold}
 use Rattle.trial_core.proofs.growth.chosen_still_hold.Goals as goal
 use Rattle.trial_core.proofs.growth.chosen_still_hold.Goals.{then-chooses+in_ok-still_holds+else-not-branch, else-chooses}
 

@@ -1,5 +1,5 @@
 use Rattle.std.proofs.Common.{take}
-use Rattle.trial_core.specs.Trials.{ChosenHold}
+use Rattle.trial_core.specs.inner.Trials.{ChosenHold}
 use Rattle.trial_core.proofs.growth.chosen_still_hold.Given as goal
 
 -- the chosen invariants so far hold

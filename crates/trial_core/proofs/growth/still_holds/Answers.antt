@@ -1,5 +1,5 @@
 use Rattle.std.proofs.Common.{sym, ◌∙◌}
-use Rattle.first_core.specs.GrownLaws.{edge_wise-IsGrown}
+use Rattle.first_core.proofs.GrownLaws.{edge_wise-IsGrown}
 use Rattle.trial_core.proofs.growth.still_holds.Goals as goal
 
 -- an invariant that judges flows alone holds of the set as it does of the new flow

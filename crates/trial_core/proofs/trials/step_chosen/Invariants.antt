@@ -1,8 +1,8 @@
 use Rattle.std.proofs.Common.{◌≡◌, ℕ, ◌<◌, ◌≤◌, length, slice_index_or}
 use Rattle.std.specs.Prelude.{IsTrue, IsFalse}
 use Rattle.flow_set.specs.FlowSet.{with_flow}
-use Rattle.flow_set.specs.Steps.{stepped}
-use Rattle.trial_core.specs.Trials.{EachPair}
+use Rattle.flow_set.specs.inner.Steps.{stepped}
+use Rattle.trial_core.specs.inner.Trials.{EachPair}
 use Rattle.trial_core.proofs.trials.step_chosen.Given as goal
 
 -- the chosen trials so far have taken the step, and their invariants hold with it

@@ -1,7 +1,7 @@
 use Rattle.std.proofs.Common.{◌≡◌, ℕ, ◌<◌, ◌≤◌, length, slice_index_or}
 use Rattle.std.specs.Prelude.{IsTrue, IsFalse}
-use Rattle.flow_set.specs.Steps.{taken_back}
-use Rattle.trial_core.specs.Trials.{EachPair}
+use Rattle.flow_set.specs.inner.Steps.{taken_back}
+use Rattle.trial_core.specs.inner.Trials.{EachPair}
 use Rattle.trial_core.proofs.trials.take_back.Given as goal
 
 -- the last step of the trials so far is taken back

@@ -1,5 +1,5 @@
 use Rattle.std.proofs.Common.{◌≡◌, ℕ, ◌<◌, length, slice_index_or}
-use Rattle.flow_set.specs.Steps.{untried}
+use Rattle.flow_set.specs.inner.Steps.{untried}
 use Rattle.trial_core.proofs.trials.trials_of.Given as goal
 
 -- the invariants so far have trials

@@ -1,5 +1,5 @@
 use Rattle.std.proofs.Common.{subst, ◌∙◌}
-use Rattle.audit_core.specs.Searching.{ArePacketsAll}
+use Rattle.audit_core.specs.inner.Searching.{ArePacketsAll}
 use Rattle.audit_core.proofs.leasts.Leasts.total.Goals as goal
 
 pub returns-clause-packets : goal.returns-clause-packets

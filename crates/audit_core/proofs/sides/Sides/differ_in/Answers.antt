@@ -1,5 +1,6 @@
 use Rattle.std.proofs.Common.{subst}
-use Rattle.audit_core.specs.Rules.{GivesOne, filter_of}
+use Rattle.audit_core.specs.Rules.{filter_of}
+use Rattle.audit_core.specs.inner.Rules.{GivesOne}
 use Rattle.audit_core.specs.Sides.{Sides}
 use Rattle.audit_core.proofs.SideLemmas.{say_same}
 use Rattle.audit_core.proofs.sides.Sides.differ_in.Goals as goal

@@ -1,6 +1,6 @@
 use Rattle.std.proofs.Common.{ap, ◌∙◌, sym}
 use Rattle.std.proofs.lemmas.Result.{IfOk-weaker}
-use Rattle.audit_core.specs.RulesView.{rules_of}
+use Rattle.audit_core.specs.inner.RulesView.{rules_of}
 use Rattle.audit_core.proofs.MergedLemmas.{thinned_sides}
 use Rattle.audit_core.proofs.sides.Sides.merged_addresses.Goals as goal
 

@@ -2,7 +2,7 @@ use Rattle.std.proofs.Common.{◌≡◌, ◌+◌, map, drop}
 use Rattle.toml.specs.View.{view}
 use Rattle.text_core.specs.Firsts.{numbered, numbered_from}
 use Rattle.desc_form.specs.Places.{spot_in}
-use Rattle.desc_form.specs.Walking.{after_all, place_in}
+use Rattle.desc_form.specs.inner.Walking.{after_all, place_in}
 use Rattle.desc_form.proofs.places.Found.go_through.Given as goal
 
 abbrev pub invariant-loop-index : goal.invariant-loop-index

@@ -1,6 +1,6 @@
 use Rattle.std.proofs.Common.{◌≡◌, ◌+◌, map, drop}
 use Rattle.toml.specs.View.{view}
-use Rattle.desc_form.specs.Walking.{after_invariants}
+use Rattle.desc_form.specs.inner.Walking.{after_invariants}
 use Rattle.desc_form.proofs.places.Found.go_through_invariants.Given as goal
 
 abbrev pub invariant-loop-index : goal.invariant-loop-index

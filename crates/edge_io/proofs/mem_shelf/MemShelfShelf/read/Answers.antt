@@ -1,5 +1,5 @@
 use Rattle.std.proofs.Common.{Some, sym, ap}
-use Rattle.edge_io.specs.MemShelf.{Shelved}
+use Rattle.edge_io.specs.inner.MemShelf.{Shelved}
 use Rattle.edge_io.proofs.Reading.{front_moved}
 use Rattle.edge_io.proofs.mem_shelf.MemShelfShelf.read.Goals as goal
 

@@ -1,6 +1,6 @@
 use Rattle.std.proofs.Common.{ap, ◌∙◌}
 use Rattle.desc_core.specs.Description.{described_by_table}
-use Rattle.edit_core.specs.Kept.{table_of-entries_of}
+use Rattle.edit_core.specs.inner.Kept.{table_of-entries_of}
 use Rattle.edit_core.proofs.session.Session.of_table.Goals as goal
 
 pub returns-clause-described : goal.returns-clause-described

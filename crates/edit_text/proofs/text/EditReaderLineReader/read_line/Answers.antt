@@ -1,13 +1,13 @@
 use Rattle.std.proofs.Common.{◌≡◌, ℕ, List, Ok, Err, map, ap, ◌∙◌, rules, tests}
-use Rattle.text_core.specs.TextAnswers.{HasReason}
+use Rattle.text_core.specs.inner.TextAnswers.{HasReason}
 use Rattle.text_core.specs.declared.faults.LineFault.{LineFault}
 use Rattle.text_core.specs.declared.faults.LineFault.TheVariants.{Bad, Memory}
-use Rattle.edit_text.specs.ChangeSteps.{change_of, edit_step, with_change}
+use Rattle.edit_text.specs.inner.ChangeSteps.{change_of, edit_step, with_change}
 use Rattle.edit_text.specs.Edit.{Change, Edit}
-use Rattle.edit_text.specs.EditFaultLaws.{has_reason}
-use Rattle.edit_text.specs.EditView.{change_view, edit_view}
-use Rattle.edit_text.specs.EditsAnswers.{Says}
-use Rattle.edit_text.specs.EditsTextLaws.{step_adds}
+use Rattle.edit_text.proofs.EditFaultLaws.{has_reason}
+use Rattle.edit_text.specs.inner.EditView.{change_view, edit_view}
+use Rattle.edit_text.specs.inner.EditsAnswers.{Says}
+use Rattle.edit_text.proofs.EditsTextLaws.{step_adds}
 use Rattle.edit_text.specs.declared.fault.EditsWhy.{EditsWhy}
 use Rattle.edit_text.proofs.text.EditReaderLineReader.read_line.Goals as goal
 

@@ -1,4 +1,4 @@
-use Rattle.emit_core.specs.OwnerLaws.{rest_below}
+use Rattle.emit_core.proofs.OwnerLaws.{rest_below}
 use Rattle.std.proofs.Common.{◌∙◌, sym}
 use Rattle.emit_core.proofs.host_chain.HostChain.new.Goals as goal
 

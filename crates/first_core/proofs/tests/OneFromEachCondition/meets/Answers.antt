@@ -4,8 +4,8 @@ use Rattle.std.proofs.lemmas.Bool.{false≢true, or_cases, or_left, cases_eq}
 use Rattle.flow_set.specs.declared.flow.Flow.{Flow}
 use Rattle.flow_set.specs.Flow.{same_flow}
 use Rattle.flow_set.specs.FlowSet.{has}
-use Rattle.flow_set.specs.FlowLaws.{has-append, has-with_flow, same_fact, same_flow-true, same_flow_self}
-use Rattle.flow_set.specs.WalkLaws.{walk_next, walk_member, walk_end}
+use Rattle.flow_set.specs.laws.FlowLaws.{has-append, has-with_flow, same_fact, same_flow-true, same_flow_self}
+use Rattle.flow_set.specs.laws.WalkLaws.{walk_next, walk_member, walk_end}
 use Rattle.first_core.proofs.tests.OneFromEachCondition.meets.Goals as goal
 use Rattle.first_core.proofs.tests.OneFromEachCondition.meets.Goals.{else-f-added-via-then-f-added+else-f-added-2, else-f-added-via-else-f-added}
 

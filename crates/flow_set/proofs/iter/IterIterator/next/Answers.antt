@@ -3,8 +3,8 @@ use Rattle.std.specs.Prelude.{Some}
 use Rattle.std.specs.Iterator.{MakesProgress, item_count}
 use Rattle.flow_set.specs.declared.flow.Flow.{Flow}
 use Rattle.flow_set.specs.Flow.{IsFlow}
-use Rattle.flow_set.specs.WalkLaws.{first_from_member}
-use Rattle.flow_set.specs.BitRows.{flows_from}
+use Rattle.flow_set.specs.laws.WalkLaws.{first_from_member}
+use Rattle.flow_set.specs.inner.BitRows.{flows_from}
 use Rattle.flow_set.proofs.Onward.{flows_from-end, flows_from-next}
 use Rattle.flow_set.proofs.iter.IterIterator.next.Goals as goal
 

@@ -2,8 +2,8 @@ use Rattle.std.proofs.Common.{◌≡◌, ◌+◌, sym, ◌∙◌, subst, arith}
 use Rattle.flow_set.specs.declared.flow.Flow.{Flow}
 use Rattle.flow_set.specs.Flow.{IsFlow}
 use Rattle.flow_set.specs.FlowSet.{SetOfFlows}
-use Rattle.flow_set.specs.FlowSetView.{IsFlowSet}
-use Rattle.flow_set.specs.SubsetLaws.{IsFlowSet-with_flow}
+use Rattle.flow_set.specs.inner.FlowSetView.{IsFlowSet}
+use Rattle.flow_set.proofs.SubsetLaws.{IsFlowSet-with_flow}
 use Rattle.flow_set.proofs.Filling.{FilledBelow, filled_more, filled_skip}
 use Rattle.flow_set.proofs.set.FlowSet.add_from.Goals as goal
 use Rattle.flow_set.proofs.set.FlowSet.add_from.Goals.{then-to-from, else-to-from}

@@ -1,5 +1,5 @@
 use Rattle.std.proofs.Common.{◌≡◌}
-use Rattle.flow_set.specs.FlowSetView.{IsFlowSet}
+use Rattle.flow_set.specs.inner.FlowSetView.{IsFlowSet}
 use Rattle.flow_set.proofs.Filling.{FilledBelow}
 use Rattle.flow_set.proofs.set.FlowSet.add_from.Given as goal
 

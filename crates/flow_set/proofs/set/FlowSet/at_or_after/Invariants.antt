@@ -1,4 +1,4 @@
-use Rattle.flow_set.specs.BitRows.{IsAsFar}
+use Rattle.flow_set.specs.inner.BitRows.{IsAsFar}
 use Rattle.flow_set.proofs.set.FlowSet.at_or_after.Given as goal
 
 -- the flows before the place asked for are those before this place

@@ -1,11 +1,11 @@
 use Rattle.std.proofs.Common.{◌≡◌, ℕ, ◌<◌, ◌≤◌, arith}
 use Rattle.std.specs.Prelude.{IsTrue, ◌↔◌}
 use Rattle.flow_set.specs.EveryFlow.{every_flow}
-use Rattle.flow_set.specs.EveryFlowLaws.{every_flow_is}
+use Rattle.flow_set.proofs.EveryFlowLaws.{every_flow_is}
 use Rattle.flow_set.specs.Flow.{IsFlow}
-use Rattle.flow_set.specs.FlowLaws.{set_ext}
+use Rattle.flow_set.specs.laws.FlowLaws.{set_ext}
 use Rattle.flow_set.specs.FlowSet.{SetOfFlows, has}
-use Rattle.flow_set.specs.FlowSetView.{IsFlowSet}
+use Rattle.flow_set.specs.inner.FlowSetView.{IsFlowSet}
 use Rattle.flow_set.specs.declared.flow.Flow.{Flow}
 use Rattle.flow_set.proofs.set.FlowSet.full.Goals as goal
 

@@ -1,8 +1,9 @@
 use Rattle.std.proofs.Common.{◌≡◌, ◌+◌, length, suc, sym, ◌∙◌, ap, subst, add-one, arith}
 use Rattle.std.specs.FinSet as set
-use Rattle.flow_set.specs.BitRows.{AreRows, rows_flows}
+use Rattle.flow_set.specs.inner.BitRows.{AreRows, rows_flows}
 use Rattle.flow_set.specs.FlowSet.{SetOfFlows}
-use Rattle.host_set.specs.HostSet.{HostNumbers, row_of}
+use Rattle.host_set.specs.HostSet.{HostNumbers}
+use Rattle.host_set.specs.inner.HostSet.{row_of}
 use Rattle.flow_set.proofs.BitRows.{length-rows_more, length-rows_none, row_read}
 use Rattle.flow_set.proofs.set.FlowSet.len.Goals as goal
 

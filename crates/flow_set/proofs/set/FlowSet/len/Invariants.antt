@@ -1,5 +1,5 @@
 use Rattle.std.proofs.Common.{◌≡◌, ◌≤◌, ◌*◌, length}
-use Rattle.flow_set.specs.BitRows.{rows_flows}
+use Rattle.flow_set.specs.inner.BitRows.{rows_flows}
 use Rattle.flow_set.proofs.set.FlowSet.len.Given as goal
 
 -- the flows of the rows so far

@@ -1,6 +1,6 @@
 use Rattle.std.proofs.Common.{subst}
 use Rattle.flow_set.specs.FlowSet.{SetOfFlows}
-use Rattle.flow_set.specs.FlowSetView.{IsFlowSet}
+use Rattle.flow_set.specs.inner.FlowSetView.{IsFlowSet}
 use Rattle.flow_set.proofs.BitRows.{IsFlowSet-flows_of}
 use Rattle.flow_set.proofs.set.FlowSet.size.Goals as goal
 

@@ -3,9 +3,9 @@ use Rattle.std.specs.Prelude.{IsTrue, ◌↔◌, ◌⊎◌}
 use Rattle.flow_set.specs.declared.flow.Flow.{Flow}
 use Rattle.flow_set.specs.Flow.{IsFlow, back_of}
 use Rattle.flow_set.specs.FlowSet.{SetOfFlows, has, with_flow, with_back}
-use Rattle.flow_set.specs.FlowLaws.{with_back-push}
-use Rattle.flow_set.specs.SubsetLaws.{IsFlow-back_of, with_back_members}
-use Rattle.flow_set.specs.WalkLaws.{walk_next, walk_member, walk_end}
+use Rattle.flow_set.specs.laws.FlowLaws.{with_back-push}
+use Rattle.flow_set.proofs.SubsetLaws.{IsFlow-back_of, with_back_members}
+use Rattle.flow_set.specs.laws.WalkLaws.{walk_next, walk_member, walk_end}
 use Rattle.flow_set.proofs.set.FlowSet.with_back.Goals as goal
 
 pub insert-requires : goal.insert-requires

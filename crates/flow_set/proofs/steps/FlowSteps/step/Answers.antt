@@ -3,9 +3,9 @@ use Rattle.std.specs.Prelude.{Some, IsTrue, IsFalse}
 use Rattle.std.proofs.lemmas.Bool.{not-true, not-false}
 use Rattle.flow_set.specs.declared.flow.Flow.{Flow}
 use Rattle.flow_set.specs.FlowSet.{SetOfFlows, IsOrdered, has, with_flow}
-use Rattle.flow_set.specs.FlowLaws.{with_flow_there, without_flow-with_flow}
-use Rattle.flow_set.specs.Steps.{stepped}
-use Rattle.flow_set.specs.LastStep.{seen_as}
+use Rattle.flow_set.specs.laws.FlowLaws.{with_flow_there, without_flow-with_flow}
+use Rattle.flow_set.specs.inner.Steps.{stepped}
+use Rattle.flow_set.specs.inner.LastStep.{seen_as}
 use Rattle.flow_set.specs.declared.steps.LastStep.{LastStep}
 use Rattle.flow_set.specs.declared.steps.LastStep.TheVariants.{Nothing, Added}
 use Rattle.flow_set.proofs.steps.FlowSteps.step.Goals as goal

@@ -1,7 +1,7 @@
 use Rattle.std.proofs.Common.{◌≡◌, ◌≤◌, ◌<◌, ◌++◌, ◌∷◌, [], ◌∙◌, ℕ, List, length, sym, ap, subst, arith}
 use Rattle.std.specs.List.Sorted.{IsNonDecreasingBy, IsPartitionPoint}
 use Rattle.host_net.specs.declared.cover.Key.{Key}
-use Rattle.host_net.specs.CoverView.{AreIndexOf, key_of, rank}
+use Rattle.host_net.specs.inner.CoverView.{AreIndexOf, key_of, rank}
 use Rattle.host_net.proofs.CoverLemmas.{always, index_kept, index_more}
 use Rattle.host_net.proofs.cover.Covers.add.Goals as goal
 

@@ -1,7 +1,7 @@
 use Rattle.std.proofs.Common.{List, subst, arith}
 use Rattle.host_net.specs.declared.cover.Key.{Key}
 use Rattle.host_net.specs.declared.cover.Lengths.{Lengths}
-use Rattle.host_net.specs.CoverView.{AreInOrder, IsFirstKey, begins}
+use Rattle.host_net.specs.inner.CoverView.{AreInOrder, IsFirstKey, begins}
 use Rattle.host_net.proofs.CoverLemmas.{index_first, none_so_late}
 use Rattle.host_net.proofs.cover.Covers.first.Goals as goal
 

@@ -2,7 +2,7 @@ use Rattle.std.proofs.Common.{List, rules, subst}
 use Rattle.std.specs.Prelude.{Contains}
 use Rattle.std.proofs.lemmas.List.Sorted.{IsNonDecreasingBy-from_sort_by_key}
 use Rattle.host_net.specs.declared.cover.Key.{Key}
-use Rattle.host_net.specs.CoverView.{rank}
+use Rattle.host_net.specs.inner.CoverView.{rank}
 use Rattle.host_net.proofs.CoverLemmas.{index_made}
 use Rattle.host_net.proofs.cover.Covers.of.Goals as goal
 

@@ -1,5 +1,5 @@
 use Rattle.std.proofs.Common.{◌≡◌, sym, ◌∙◌}
-use Rattle.host_net.specs.HostsView.{hosts_view}
+use Rattle.host_net.specs.inner.HostsView.{hosts_view}
 use Rattle.host_net.proofs.HostsLemmas.{key_place, name_given, name_missing, unnamed}
 use Rattle.host_net.proofs.hosts.Hosts.find.Goals as goal
 

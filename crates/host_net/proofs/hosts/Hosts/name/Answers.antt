@@ -1,6 +1,6 @@
 use Rattle.std.proofs.Common.{◌≡◌, get_or, ap, ◌∙◌, length, ◌<◌}
 use Rattle.std.specs.Map.{keys_of}
-use Rattle.host_net.specs.HostsView.{hosts_view}
+use Rattle.host_net.specs.inner.HostsView.{hosts_view}
 use Rattle.host_net.proofs.HostsLemmas.{key_at}
 use Rattle.host_net.proofs.hosts.Hosts.name.Goals as goal
 

@@ -1,6 +1,6 @@
 use Rattle.std.proofs.Common.{[], ◌∙◌, ap}
-use Rattle.host_net.specs.Hosts.{prefix_lists}
-use Rattle.host_net.specs.Refusal.{overlap_from}
+use Rattle.host_net.specs.inner.Hosts.{prefix_lists}
+use Rattle.host_net.specs.inner.Refusal.{overlap_from}
 use Rattle.host_net.proofs.HostsKept.{values_lists}
 use Rattle.host_net.proofs.hosts.Hosts.overlap.Goals as goal
 

@@ -1,8 +1,8 @@
 use Rattle.std.proofs.Common.{◌≡◌, ◌∙◌}
 use Rattle.std.specs.Option.{option_or}
 use Rattle.host_net.specs.Host.{holder_of, owner_of}
-use Rattle.host_net.specs.Hosts.{IsHosts}
-use Rattle.host_net.specs.OwnerLaws.{owner_of_covered, owner_of_uncovered}
+use Rattle.host_net.specs.inner.Hosts.{IsHosts}
+use Rattle.host_net.proofs.OwnerLaws.{owner_of_covered, owner_of_uncovered}
 use Rattle.host_net.proofs.hosts.Hosts.owner.Goals as goal
 
 pub returns : goal.returns

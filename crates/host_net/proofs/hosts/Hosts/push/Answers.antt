@@ -1,8 +1,8 @@
 use Rattle.std.proofs.Common.{refl}
 use Rattle.host_net.proofs.HostsKept.{pushed, still_hosts}
 use Rattle.host_net.proofs.RangesKept.{new_apart, ranges_kept, ranges_free}
-use Rattle.host_net.specs.Hosts.{IsHosts}
-use Rattle.host_net.specs.Ranges.{AreRanges}
+use Rattle.host_net.specs.inner.Hosts.{IsHosts}
+use Rattle.host_net.specs.inner.Ranges.{AreRanges}
 use Rattle.host_net.proofs.hosts.Hosts.push.Goals as goal
 
 pub with_host-requires-clause-ordered : goal.with_host-requires-clause-ordered

@@ -1,6 +1,6 @@
 use Rattle.std.proofs.Common.{◌<◌, ◌^◌, arith}
 use Rattle.host_net.specs.Prefix.{meets}
-use Rattle.host_net.specs.PrefixLaws.{meets_ShareAddress}
+use Rattle.host_net.proofs.PrefixLaws.{meets_ShareAddress}
 use Rattle.host_net.proofs.prefix.Prefix.meets.Goals as goal
 
 pub returns-clause-shared : goal.returns-clause-shared

@@ -1,4 +1,4 @@
-use Rattle.host_net.specs.PrefixTextLaws.{address_said, address_read}
+use Rattle.host_net.proofs.PrefixTextLaws.{address_said, address_read}
 use Rattle.host_net.proofs.prefix.spelling.read_address.Goals as goal
 
 pub returns-clause-said : goal.returns-clause-said

@@ -1,5 +1,5 @@
 use Rattle.std.proofs.Common.{◌∙◌}
-use Rattle.host_net.specs.PrefixTextLaws.{prefix_of-IfSome, prefix_of-read}
+use Rattle.host_net.proofs.PrefixTextLaws.{prefix_of-IfSome, prefix_of-read}
 use Rattle.host_net.proofs.prefix.spelling.read_prefix.Goals as goal
 
 pub returns-clause-spelled : goal.returns-clause-spelled

@@ -1,6 +1,6 @@
 use Rattle.std.proofs.Common.{append_assoc}
 use Rattle.host_net.specs.Prefix.{prefix_text}
-use Rattle.text_core.specs.LineLaws.{cut_cut}
+use Rattle.text_core.proofs.LineLaws.{cut_cut}
 use Rattle.host_net.proofs.prefix.writing.put_prefix.Goals as goal
 
 pub returns-clause-text : goal.returns-clause-text

@@ -1,5 +1,5 @@
 use Rattle.std.proofs.Common.{◌∙◌}
-use Rattle.host_net.specs.ServiceTextLaws.{service_of-read, service_spelled, service_none}
+use Rattle.host_net.proofs.ServiceTextLaws.{service_of-read, service_spelled, service_none}
 use Rattle.host_net.proofs.service.spelling.read_service.Goals as goal
 
 pub returns-clause-spelled : goal.returns-clause-spelled

@@ -1,7 +1,8 @@
 use Rattle.std.proofs.Common.{ap, ◌∙◌}
 use Rattle.host_net.proofs.ServicesLemmas.{services_added}
-use Rattle.host_net.specs.Services.{AreServices, services_of}
-use Rattle.host_net.specs.ServicesLaws.{services_of-with_service, services_of-others, still_services}
+use Rattle.host_net.specs.Services.{services_of}
+use Rattle.host_net.specs.inner.Services.{AreServices}
+use Rattle.host_net.proofs.ServicesLaws.{services_of-with_service, services_of-others, still_services}
 use Rattle.host_net.proofs.services.Services.add.Goals as goal
 
 pub returns-clause-added : goal.returns-clause-added

@@ -1,7 +1,7 @@
 use Rattle.std.proofs.Common.{ℕ, ◌+◌, Option, Some, None}
 use Rattle.std.specs.Prelude.{MatchOption}
 use Rattle.std.specs.FinSet as set
-use Rattle.host_set.specs.Calls.{HasNone, IsFirstFrom}
+use Rattle.host_set.specs.inner.Calls.{HasNone, IsFirstFrom}
 use Rattle.host_set.proofs.Apart.{HasBits}
 use Rattle.host_set.proofs.FirstBits.{first_lower_place, first_after_lower, none_at_all}
 use Rattle.host_set.proofs.host_set.HostSet.first_from.Goals as goal

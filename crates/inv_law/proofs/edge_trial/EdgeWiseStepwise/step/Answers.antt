@@ -1,8 +1,8 @@
 use Rattle.std.proofs.Common.{◌≡◌, ap, sym, subst, ◌∙◌}
 use Rattle.flow_set.specs.FlowSet.{with_flow}
-use Rattle.flow_set.specs.Steps.{TriedFlows, stepped}
+use Rattle.flow_set.specs.inner.Steps.{TriedFlows, stepped}
 use Rattle.inv_law.specs.Rules.{AllFlowsPass}
-use Rattle.inv_law.specs.RuleLaws.{AllFlowsPass-with_flow}
+use Rattle.inv_law.specs.laws.RuleLaws.{AllFlowsPass-with_flow}
 use Rattle.inv_law.proofs.edge_trial.EdgeWiseStepwise.step.Goals as goal
 
 pub returns-clause-answer : goal.returns-clause-answer

@@ -1,18 +1,18 @@
 use Rattle.std.proofs.Common.{ℕ, List}
 use Rattle.std.specs.Prelude.{Result, Ok, Err, IfOk, IfErr}
 use Rattle.text_core.specs.Lines.{words}
-use Rattle.text_core.specs.TextAnswers.{HasReason}
+use Rattle.text_core.specs.inner.TextAnswers.{HasReason}
 use Rattle.text_core.specs.declared.faults.LineFault.{LineFault}
 use Rattle.text_core.specs.declared.faults.LineFault.TheVariants.{Bad, Memory}
 use Rattle.ipt_read.specs.declared.fault.IptWhy.{IptWhy}
 use Rattle.ipt_read.specs.declared.reader.Reader.{Reader}
 use Rattle.ipt_read.specs.Grammar.{IsTextLine}
 use Rattle.ipt_read.specs.LineFault.{IsBadLine}
-use Rattle.ipt_read.specs.LineFaultLaws.{bad_line_of_step}
-use Rattle.ipt_read.specs.LineLaws.{line_of_read}
-use Rattle.ipt_read.specs.LineStep.{line_step}
+use Rattle.ipt_read.proofs.LineFaultLaws.{bad_line_of_step}
+use Rattle.ipt_read.proofs.LineLaws.{line_of_read}
+use Rattle.ipt_read.specs.inner.LineStep.{line_step}
 use Rattle.ipt_read.specs.Said.{SaidSoFar}
-use Rattle.ipt_read.specs.State.{AnswersTo, IsFine, said_of}
+use Rattle.ipt_read.specs.inner.State.{AnswersTo, IsFine, said_of}
 use Rattle.ipt_read.proofs.FineLaws.{fine_kept}
 use Rattle.ipt_read.proofs.reader.ReaderLineReader.read_line.Goals as goal
 

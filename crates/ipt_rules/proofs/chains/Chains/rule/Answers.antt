@@ -1,7 +1,7 @@
 use Rattle.std.proofs.Common.{◌≡◌, true, ◌<◌, ◌∷◌, [], ◌++◌, length, slice_set}
-use Rattle.ipt_rules.specs.Addresses.{addresses_fit}
+use Rattle.ipt_rules.specs.inner.Addresses.{addresses_fit}
 use Rattle.ipt_rules.specs.Chain.{with_rule}
-use Rattle.ipt_rules.specs.ChainLaws.{set_changed}
+use Rattle.ipt_rules.proofs.ChainLaws.{set_changed}
 use Rattle.ipt_rules.proofs.TableLaws.{IsChainList-with_rule}
 use Rattle.ipt_rules.proofs.chains.Chains.rule.Goals as goal
 

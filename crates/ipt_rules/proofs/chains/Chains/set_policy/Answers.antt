@@ -1,6 +1,6 @@
 use Rattle.std.proofs.Common.{◌≡◌, slice_set, Some}
 use Rattle.ipt_rules.specs.Chain.{with_policy}
-use Rattle.ipt_rules.specs.ChainLaws.{set_changed}
+use Rattle.ipt_rules.proofs.ChainLaws.{set_changed}
 use Rattle.ipt_rules.proofs.TableLaws.{has_built_in, IsChainList-with_policy}
 use Rattle.ipt_rules.proofs.chains.Chains.set_policy.Goals as goal
 

@@ -1,5 +1,5 @@
 use Rattle.std.proofs.Common.{◌≡◌, take, map}
-use Rattle.ipt_rules.specs.Ranks.{jump_table}
+use Rattle.ipt_rules.specs.inner.Ranks.{jump_table}
 use Rattle.ipt_rules.proofs.jumps.JumpTable.of.Given as goal
 
 abbrev pub invariant-loop-chain : goal.invariant-loop-chain

@@ -1,7 +1,7 @@
 use Rattle.std.proofs.Common.{◌≡◌, ◌∙◌, ◌<◌, ◌≤◌, ℕ, List, Option, Some, None, length, get_or, set, sym, subst, arith}
 use Rattle.std.specs.Prelude.{slice_get, Contains}
 use Rattle.std.proofs.lemmas.Option.{slice_get-get_or}
-use Rattle.ipt_rules.specs.Ranks.{row_of, place_of, IsPartOrder, IsStuck}
+use Rattle.ipt_rules.specs.inner.Ranks.{row_of, place_of, IsPartOrder, IsStuck}
 use Rattle.ipt_rules.proofs.Gets.{get_contains}
 use Rattle.ipt_rules.proofs.RankLemmas.{unplaced_at, looked_at, put_at}
 use Rattle.ipt_rules.proofs.ranking.Ranking.put.Goals as goal

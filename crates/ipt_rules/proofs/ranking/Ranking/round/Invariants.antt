@@ -1,5 +1,5 @@
 use Rattle.std.proofs.Common.{◌≡◌, ◌≤◌, ◌<◌, length, true, false}
-use Rattle.ipt_rules.specs.Ranks.{IsPartOrder}
+use Rattle.ipt_rules.specs.inner.Ranks.{IsPartOrder}
 use Rattle.ipt_rules.proofs.RankLemmas.{StuckBelow}
 use Rattle.ipt_rules.proofs.ranking.Ranking.round.Given as goal
 

@@ -1,14 +1,14 @@
 use Rattle.std.proofs.Common.{◌≡◌, ◌∙◌, List, sym, ap, subst, arith}
 use Rattle.ipt_rules.specs.declared.loops.Ranked.{Ranked}
 use Rattle.ipt_rules.specs.declared.loops.Ranked.TheVariants.{Order}
-use Rattle.ipt_rules.specs.Build.{refusal_of, at_once, loops, no_memory}
+use Rattle.ipt_rules.specs.inner.Build.{refusal_of, at_once, loops, no_memory}
 use Rattle.ipt_rules.specs.Chain.{Chain}
 use Rattle.ipt_rules.specs.ChainTable.{rule_count}
 use Rattle.ipt_rules.specs.Loops.{IsLeastLoop}
-use Rattle.ipt_rules.specs.Next.{AreIndexes}
-use Rattle.ipt_rules.specs.Starts.{starts_from}
+use Rattle.ipt_rules.specs.inner.Next.{AreIndexes}
+use Rattle.ipt_rules.specs.inner.Starts.{starts_from}
 use Rattle.ipt_rules.specs.declared.ranking.Ranking.{Ranking}
-use Rattle.ipt_rules.specs.Ranked.{IsRanked}
+use Rattle.ipt_rules.specs.inner.Ranked.{IsRanked}
 use Rattle.ipt_rules.proofs.BuildLemmas.{built, few_rules_of}
 use Rattle.ipt_rules.proofs.WalkLemmas.{each_gives_one}
 use Rattle.ipt_rules.proofs.ruleset.Ruleset.build.Goals as goal

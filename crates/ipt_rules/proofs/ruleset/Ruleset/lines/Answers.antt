@@ -2,10 +2,10 @@ use Rattle.std.proofs.Common.{◌≡◌, arith, subst, refl, Option, Some, None}
 use Rattle.std.specs.Prelude.{IsNone}
 use Rattle.ipt_rules.specs.declared.ruleset.BuildRefusal.{BuildRefusal}
 use Rattle.ipt_rules.specs.Loops.{HasNoLoop}
-use Rattle.ipt_rules.specs.Writable.{IsWritable}
+use Rattle.ipt_rules.specs.inner.Writable.{IsWritable}
 use Rattle.ipt_rules.proofs.NoLoopLemmas.{no_loop_in_order}
 use Rattle.ipt_rules.proofs.WalkLemmas.{each_gives_one}
-use Rattle.ipt_rules.specs.TextLaws.{length-text_lines}
+use Rattle.ipt_rules.proofs.TextLaws.{length-text_lines}
 use Rattle.ipt_rules.proofs.ruleset.Ruleset.lines.Goals as goal
 
 pub returns-clause-count : goal.returns-clause-count

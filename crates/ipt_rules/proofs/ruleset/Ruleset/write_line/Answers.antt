@@ -2,7 +2,7 @@ use Rattle.std.proofs.Common.{◌≡◌, ◌+◌, ◌-◌, ◌<◌, sym, ap, sub
 use Rattle.std.specs.Prelude.{slice_get}
 use Rattle.ipt_rules.specs.Chain.{Chain}
 use Rattle.ipt_rules.specs.Text.{text_lines}
-use Rattle.ipt_rules.specs.TextLaws.{length-text_lines}
+use Rattle.ipt_rules.proofs.TextLaws.{length-text_lines}
 use Rattle.ipt_rules.proofs.TextLemmas.{chain_there, rest_there, rest_lines}
 use Rattle.ipt_rules.proofs.ruleset.Ruleset.write_line.Goals as goal
 

@@ -1,8 +1,8 @@
 use Rattle.std.proofs.Common.{sym, subst}
 use Rattle.flow_set.specs.Flow.{IsFlow}
 use Rattle.flow_set.specs.FlowSet.{SetOfFlows}
-use Rattle.net_core.specs.AskingLaws.{network_more}
-use Rattle.net_core.specs.Fitting.{IsNetwork}
+use Rattle.net_core.proofs.AskingLaws.{network_more}
+use Rattle.net_core.specs.inner.Fitting.{IsNetwork}
 use Rattle.net_core.specs.Network.{Network}
 use Rattle.net_core.proofs.description.Description.ask_for.Goals as goal
 

@@ -2,8 +2,8 @@ use Rattle.std.proofs.Common.{◌≡◌, ◌∙◌, ap, subst, arith, List, leng
 use Rattle.std.proofs.lemmas.Bool.Decides.{nat_tests}
 use Rattle.ofp_rules.specs.declared.entry.Entry.{Entry}
 use Rattle.ofp_rules.specs.Ambiguity.{ContradictsNone}
-use Rattle.ofp_rules.specs.Build.{IsFirstAgainst, IsTable}
-use Rattle.ofp_rules.specs.TableLaws.{table_more}
+use Rattle.ofp_rules.specs.inner.Build.{IsFirstAgainst, IsTable}
+use Rattle.ofp_rules.proofs.TableLaws.{table_more}
 use Rattle.ofp_rules.proofs.EntryLemmas.{first_against_is}
 use Rattle.ofp_rules.proofs.table.Table.add.Goals as goal
 

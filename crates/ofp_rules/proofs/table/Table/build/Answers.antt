@@ -1,7 +1,7 @@
 use Rattle.std.proofs.Common.{◌≡◌, sym, subst, arith, List, Result, Ok, Err, IfErr}
 use Rattle.std.specs.Result.{IsErrAnd}
 use Rattle.ofp_rules.specs.declared.entry.Entry.{Entry}
-use Rattle.ofp_rules.specs.Build.{IsNotAdded, IsRefused, IsUnambiguous}
+use Rattle.ofp_rules.specs.inner.Build.{IsNotAdded, IsRefused, IsUnambiguous}
 use Rattle.ofp_rules.proofs.EntryLemmas.{refused_by}
 use Rattle.ofp_rules.proofs.table.Table.build.Goals as goal
 

@@ -1,5 +1,5 @@
 use Rattle.std.proofs.Common.{◌≡◌, take}
-use Rattle.ofp_rules.specs.Build.{IsTable}
+use Rattle.ofp_rules.specs.inner.Build.{IsTable}
 use Rattle.ofp_rules.proofs.table.Table.build.Given as goal
 
 abbrev pub invariant-loop-entry : goal.invariant-loop-entry

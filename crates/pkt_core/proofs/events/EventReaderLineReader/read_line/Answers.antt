@@ -1,6 +1,6 @@
 use Rattle.std.proofs.Common.{◌≡◌, Err, rules, tests}
-use Rattle.pkt_core.specs.EventFaultLaws.{has_reason}
-use Rattle.pkt_core.specs.EventsTextLaws.{step_adds}
+use Rattle.pkt_core.proofs.EventFaultLaws.{has_reason}
+use Rattle.pkt_core.proofs.EventsTextLaws.{step_adds}
 use Rattle.pkt_core.proofs.events.EventReaderLineReader.read_line.Goals as goal
 
 pub returns-clause-ok : goal.returns-clause-ok

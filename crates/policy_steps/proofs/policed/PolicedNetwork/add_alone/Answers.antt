@@ -1,11 +1,11 @@
 use Rattle.std.proofs.Common.{sym, subst}
 use Rattle.flow_set.specs.Flow.{IsFlow}
-use Rattle.net_core.specs.AskingLaws.{network_more}
-use Rattle.net_core.specs.Fitting.{IsNetwork}
+use Rattle.net_core.proofs.AskingLaws.{network_more}
+use Rattle.net_core.specs.inner.Fitting.{IsNetwork}
 use Rattle.net_core.specs.Network.{Network}
 use Rattle.net_core.specs.Policies.{IsPolicyOf}
-use Rattle.policy_steps.specs.FailingFlows.{AreFailingFlows}
-use Rattle.policy_steps.specs.Policed.{Policed}
+use Rattle.policy_steps.specs.inner.FailingFlows.{AreFailingFlows}
+use Rattle.policy_steps.specs.inner.Policed.{Policed}
 use Rattle.policy_steps.proofs.policed.PolicedNetwork.add_alone.Goals as goal
 
 pub count_failing-self-inside-requires-clause-network : goal.count_failing-self-inside-requires-clause-network

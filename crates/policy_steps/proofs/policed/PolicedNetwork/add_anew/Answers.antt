@@ -2,14 +2,14 @@ use Rattle.std.proofs.Common.{sym, subst}
 use Rattle.std.specs.Prelude.{IsFalse}
 use Rattle.flow_set.specs.Flow.{IsFlow}
 use Rattle.flow_set.specs.FlowSet.{has}
-use Rattle.net_core.specs.AskingLaws.{network_more}
-use Rattle.net_core.specs.Fitting.{IsNetwork}
+use Rattle.net_core.proofs.AskingLaws.{network_more}
+use Rattle.net_core.specs.inner.Fitting.{IsNetwork}
 use Rattle.net_core.specs.Network.{Network}
 use Rattle.net_core.specs.Policies.{IsPolicyOf, JudgesFlowsAlone}
 use Rattle.policy_steps.proofs.AskedLemmas.{asked_and_not, denied_so, judged_again, policed_again}
-use Rattle.policy_steps.specs.EdgePolicies.{IsAdmitted}
-use Rattle.policy_steps.specs.Policed.{Policed, policy_in}
-use Rattle.policy_steps.specs.UnpermittedLaws.{policy_denied}
+use Rattle.policy_steps.specs.inner.EdgePolicies.{IsAdmitted}
+use Rattle.policy_steps.specs.inner.Policed.{Policed, policy_in}
+use Rattle.policy_steps.proofs.UnpermittedLaws.{policy_denied}
 use Rattle.policy_steps.proofs.policed.PolicedNetwork.add_anew.Goals as goal
 
 pub judge_again-requires-clause-network : goal.judge_again-requires-clause-network

@@ -1,5 +1,5 @@
 use Rattle.std.proofs.Common.{subst}
-use Rattle.net_core.specs.Fitting.{IsNetwork}
+use Rattle.net_core.specs.inner.Fitting.{IsNetwork}
 use Rattle.policy_steps.proofs.policed.PolicedNetwork.new.Goals as goal
 
 pub judge-requires : goal.judge-requires

@@ -1,9 +1,9 @@
 use Rattle.std.proofs.Common.{sym, subst}
-use Rattle.net_core.specs.AskingLaws.{network_less}
-use Rattle.net_core.specs.Fitting.{IsNetwork}
+use Rattle.net_core.proofs.AskingLaws.{network_less}
+use Rattle.net_core.specs.inner.Fitting.{IsNetwork}
 use Rattle.net_core.specs.Network.{Network}
 use Rattle.net_core.specs.Policies.{IsPolicyOf}
-use Rattle.policy_steps.specs.FailingFlows.{AreFailingFlows}
+use Rattle.policy_steps.specs.inner.FailingFlows.{AreFailingFlows}
 use Rattle.policy_steps.proofs.policed.PolicedNetwork.remove_alone.Goals as goal
 
 pub count_failing-self-inside-requires-clause-network : goal.count_failing-self-inside-requires-clause-network

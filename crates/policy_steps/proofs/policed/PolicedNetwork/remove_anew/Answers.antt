@@ -2,13 +2,13 @@ use Rattle.std.proofs.Common.{sym, subst}
 use Rattle.std.specs.Prelude.{IsTrue}
 use Rattle.flow_set.specs.Flow.{IsFlow}
 use Rattle.flow_set.specs.FlowSet.{has}
-use Rattle.net_core.specs.AskingLaws.{network_less}
-use Rattle.net_core.specs.Fitting.{IsNetwork}
+use Rattle.net_core.proofs.AskingLaws.{network_less}
+use Rattle.net_core.specs.inner.Fitting.{IsNetwork}
 use Rattle.net_core.specs.Network.{Network}
 use Rattle.net_core.specs.Policies.{IsPolicyOf, JudgesFlowsAlone}
 use Rattle.policy_steps.proofs.AskedLemmas.{absent_so, judged_again, not_and_asked, policed_again}
-use Rattle.policy_steps.specs.Policed.{Policed, policy_in}
-use Rattle.policy_steps.specs.UnpermittedLaws.{policy_unpermitted}
+use Rattle.policy_steps.specs.inner.Policed.{Policed, policy_in}
+use Rattle.policy_steps.proofs.UnpermittedLaws.{policy_unpermitted}
 use Rattle.policy_steps.proofs.policed.PolicedNetwork.remove_anew.Goals as goal
 
 pub has-is_denied-requires : goal.has-is_denied-requires

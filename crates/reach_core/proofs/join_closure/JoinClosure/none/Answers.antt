@@ -1,6 +1,6 @@
 use Rattle.std.proofs.Common.{◌∙◌, ap}
 use Rattle.flow_set.specs.FlowSet.{SetOfFlows}
-use Rattle.flow_set.specs.Steps.{untried}
+use Rattle.flow_set.specs.inner.Steps.{untried}
 use Rattle.reach_core.proofs.JoinRows.{HasJoinRows-nothing}
 use Rattle.reach_core.proofs.join_closure.JoinClosure.none.Goals as goal
 

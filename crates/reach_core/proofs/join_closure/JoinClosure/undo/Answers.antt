@@ -1,7 +1,7 @@
 use Rattle.std.proofs.Common.{sym, subst}
 use Rattle.std.specs.Prelude.{IsSome}
-use Rattle.flow_set.specs.Steps.{TriedFlows}
-use Rattle.reach_core.specs.Rows.{HasJoinRows}
+use Rattle.flow_set.specs.inner.Steps.{TriedFlows}
+use Rattle.reach_core.specs.inner.Rows.{HasJoinRows}
 use Rattle.reach_core.proofs.JoinRows.{HasJoinRows-back}
 use Rattle.reach_core.proofs.join_closure.JoinClosure.undo.Goals as goal
 

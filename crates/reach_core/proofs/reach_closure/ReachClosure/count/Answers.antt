@@ -1,5 +1,5 @@
 use Rattle.std.proofs.Common.{◌-◌, sym, ◌∙◌, subst, arith}
-use Rattle.reach_core.specs.Counting.{ReachesExactly}
+use Rattle.reach_core.specs.inner.Counting.{ReachesExactly}
 use Rattle.reach_core.proofs.Counts.{has_some, exactly_without, exactly_all}
 use Rattle.reach_core.proofs.reach_closure.ReachClosure.count.Goals as goal
 

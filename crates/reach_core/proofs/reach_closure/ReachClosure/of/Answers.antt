@@ -2,8 +2,8 @@ use Rattle.std.proofs.Common.{List, ◌∙◌, ap, sym, subst}
 use Rattle.flow_set.specs.declared.flow.Flow.{Flow}
 use Rattle.flow_set.specs.Flow.{IsFlow}
 use Rattle.flow_set.specs.FlowSet.{IsOrdered, with_flow}
-use Rattle.flow_set.specs.Steps.{TriedFlows}
-use Rattle.flow_set.specs.WalkLaws.{walk_next, walk_member}
+use Rattle.flow_set.specs.inner.Steps.{TriedFlows}
+use Rattle.flow_set.specs.laws.WalkLaws.{walk_next, walk_member}
 use Rattle.reach_core.proofs.Lasts.{with_flow-last}
 use Rattle.reach_core.proofs.reach_closure.ReachClosure.of.Goals as goal
 

@@ -1,7 +1,7 @@
 use Rattle.std.proofs.Common.{sym, subst}
 use Rattle.std.specs.Prelude.{IsSome}
-use Rattle.flow_set.specs.Steps.{TriedFlows}
-use Rattle.reach_core.specs.Rows.{HasReachRows}
+use Rattle.flow_set.specs.inner.Steps.{TriedFlows}
+use Rattle.reach_core.specs.inner.Rows.{HasReachRows}
 use Rattle.reach_core.proofs.ReachRows.{HasReachRows-back}
 use Rattle.reach_core.proofs.reach_closure.ReachClosure.undo.Goals as goal
 

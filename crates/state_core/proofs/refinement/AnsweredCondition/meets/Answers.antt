@@ -1,10 +1,10 @@
 use Rattle.std.proofs.Common.{◌≡◌, ℕ, List, refl, sym, ◌∙◌, ap, subst}
 use Rattle.std.specs.Prelude.{IsTrue, IsFalse}
-use Rattle.first_core.specs.Grown.{IsGrown}
+use Rattle.first_core.specs.inner.Grown.{IsGrown}
 use Rattle.flow_set.specs.declared.flow.Flow.{Flow}
 use Rattle.flow_set.specs.Flow.{back_of}
 use Rattle.flow_set.specs.FlowSet.{has, with_back}
-use Rattle.flow_set.specs.FlowSetView.{IsFlowSet}
+use Rattle.flow_set.specs.inner.FlowSetView.{IsFlowSet}
 use Rattle.state_core.specs.Stateful.{StrictHold}
 use Rattle.state_core.proofs.Refining.{answers-IsGrown, permitted_answer}
 use Rattle.state_core.proofs.refinement.AnsweredCondition.meets.Goals as goal

@@ -1,6 +1,6 @@
 use Rattle.std.proofs.Common.{◌≡◌, ◌-◌, length, ap, ◌∙◌, arith}
 use Rattle.tmpl_domains.specs.Domains.{Place, trusted_path}
-use Rattle.tmpl_domains.specs.DomainView.{segment_bytes}
+use Rattle.tmpl_domains.specs.inner.DomainView.{segment_bytes}
 use Rattle.tmpl_domains.proofs.Prefixes.{segment_bytes-take, IsPrefix-same}
 use Rattle.tmpl_domains.proofs.domain.Domain.sends_to.Goals as goal
 

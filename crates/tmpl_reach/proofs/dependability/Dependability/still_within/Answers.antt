@@ -1,6 +1,6 @@
 use Rattle.std.proofs.Common.{◌<◌, arith}
 use Rattle.std.proofs.lemmas.Bool.{both_ways}
-use Rattle.reach_core.specs.ReachLaws.{Reaches-below}
+use Rattle.reach_core.specs.laws.ReachLaws.{Reaches-below}
 use Rattle.tmpl_reach.proofs.Still.{still_dependable}
 use Rattle.tmpl_reach.proofs.dependability.Dependability.still_within.Goals as goal
 

@@ -2,7 +2,7 @@ use Rattle.std.proofs.Common.{◌≡◌, ℕ, List, ◌<◌, length, ◌∙◌, 
 use Rattle.std.specs.Prelude.{slice_index}
 use Rattle.std.proofs.lemmas.Bool.{ltb-true, lt-ltb}
 use Rattle.std.proofs.lemmas.List.{get_or_read}
-use Rattle.tmpl_reach.specs.DependabilityLaws.{IsDependable-one}
+use Rattle.tmpl_reach.specs.laws.DependabilityLaws.{IsDependable-one}
 use Rattle.tmpl_reach.proofs.dependability.DependabilityInvariant.admits.Goals as goal
 
 pub returns : goal.returns

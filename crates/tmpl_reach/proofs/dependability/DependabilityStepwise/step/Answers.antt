@@ -1,7 +1,8 @@
 use Rattle.std.proofs.Common.{sym, ◌∙◌, subst}
-use Rattle.flow_set.specs.Steps.{TriedFlows}
-use Rattle.tmpl_reach.specs.Dependability.{IsDependable, StaysWithin}
-use Rattle.tmpl_reach.specs.DependabilityLaws.{IsDependable-nothing_new, StaysWithin-with_flow}
+use Rattle.flow_set.specs.inner.Steps.{TriedFlows}
+use Rattle.tmpl_reach.specs.Dependability.{IsDependable}
+use Rattle.tmpl_reach.specs.inner.Dependability.{StaysWithin}
+use Rattle.tmpl_reach.specs.laws.DependabilityLaws.{IsDependable-nothing_new, StaysWithin-with_flow}
 use Rattle.tmpl_reach.proofs.dependability.DependabilityStepwise.step.Goals as goal
 
 pub returns-then-nothing_new-clause-answer : goal.returns-then-nothing_new-clause-answer

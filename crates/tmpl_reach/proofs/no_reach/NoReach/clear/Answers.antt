@@ -1,6 +1,6 @@
 use Rattle.std.proofs.Common.{length, subst, sym}
 use Rattle.tmpl_reach.specs.NoReach.{AreOthers}
-use Rattle.tmpl_reach.specs.NoReachLaws.{AreOthers-none}
+use Rattle.tmpl_reach.specs.laws.NoReachLaws.{AreOthers-none}
 use Rattle.tmpl_reach.proofs.DeniedHosts.{DenyOthers-set}
 use Rattle.tmpl_reach.proofs.no_reach.NoReach.clear.Goals as goal
 

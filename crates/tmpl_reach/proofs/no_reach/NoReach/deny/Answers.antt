@@ -1,6 +1,6 @@
 use Rattle.std.proofs.Common.{◌≡◌, ◌<◌, length, ap, subst, sym, arith}
 use Rattle.tmpl_reach.specs.NoReach.{AreOthers}
-use Rattle.tmpl_reach.specs.NoReachLaws.{AreOthers-insert}
+use Rattle.tmpl_reach.specs.laws.NoReachLaws.{AreOthers-insert}
 use Rattle.tmpl_reach.proofs.DeniedHosts.{AreOthers-row, DenyOthers-set}
 use Rattle.tmpl_reach.proofs.no_reach.NoReach.deny.Goals as goal
 

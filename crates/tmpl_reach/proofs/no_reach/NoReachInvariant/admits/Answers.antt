@@ -1,6 +1,6 @@
 use Rattle.std.proofs.Common.{◌∙◌, sym}
 use Rattle.std.proofs.lemmas.Bool.{both_ways, not-true, not_from_false, false_from_ne_true}
-use Rattle.tmpl_reach.specs.NoReachLaws.{ReachesNoDenied-one}
+use Rattle.tmpl_reach.specs.laws.NoReachLaws.{ReachesNoDenied-one}
 use Rattle.tmpl_reach.proofs.no_reach.NoReachInvariant.admits.Goals as goal
 
 pub returns : goal.returns

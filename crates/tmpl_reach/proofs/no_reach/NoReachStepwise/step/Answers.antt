@@ -1,7 +1,8 @@
 use Rattle.std.proofs.Common.{sym, ◌∙◌, subst}
-use Rattle.flow_set.specs.Steps.{TriedFlows}
-use Rattle.tmpl_reach.specs.NoReach.{ReachesNoDenied, StaysClear}
-use Rattle.tmpl_reach.specs.NoReachLaws.{ReachesNoDenied-nothing_new, StaysClear-with_flow}
+use Rattle.flow_set.specs.inner.Steps.{TriedFlows}
+use Rattle.tmpl_reach.specs.NoReach.{ReachesNoDenied}
+use Rattle.tmpl_reach.specs.inner.NoReach.{StaysClear}
+use Rattle.tmpl_reach.specs.laws.NoReachLaws.{ReachesNoDenied-nothing_new, StaysClear-with_flow}
 use Rattle.tmpl_reach.proofs.no_reach.NoReachStepwise.step.Goals as goal
 
 pub returns-then-nothing_new-clause-answer : goal.returns-then-nothing_new-clause-answer

@@ -1,5 +1,5 @@
 use Rattle.std.proofs.Common.{◌-◌, ◌≤◌}
-use Rattle.tmpl_reach.specs.Interferences.{NoneInterferes}
+use Rattle.tmpl_reach.specs.inner.Interferences.{NoneInterferes}
 use Rattle.tmpl_reach.proofs.non_interference.NonInterference.next_interfering.Given as goal
 
 abbrev pub invariant-loop-host : goal.invariant-loop-host

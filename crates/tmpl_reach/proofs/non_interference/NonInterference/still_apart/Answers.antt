@@ -1,5 +1,5 @@
 use Rattle.std.proofs.Common.{◌<◌, arith}
-use Rattle.reach_core.specs.ReachLaws.{Joined-below}
+use Rattle.reach_core.specs.laws.ReachLaws.{Joined-below}
 use Rattle.tmpl_reach.proofs.Still.{still_apart}
 use Rattle.tmpl_reach.proofs.non_interference.NonInterference.still_apart.Goals as goal
 

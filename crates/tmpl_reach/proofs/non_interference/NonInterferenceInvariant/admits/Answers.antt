@@ -2,7 +2,7 @@ use Rattle.std.proofs.Common.{Bool, not, ◌∙◌, sym}
 use Rattle.std.specs.Prelude.{IsTrue, ◌↔◌}
 use Rattle.std.proofs.lemmas.Bool.{both_ways, not-true, not_from_false, false_from_ne_true}
 use Rattle.tmpl_reach.specs.NonInterference.{IsInterfering}
-use Rattle.tmpl_reach.specs.NonInterferenceLaws.{IsNonInterfering-one}
+use Rattle.tmpl_reach.specs.laws.NonInterferenceLaws.{IsNonInterfering-one}
 use Rattle.tmpl_reach.proofs.non_interference.NonInterferenceInvariant.admits.Goals as goal
 use Rattle.tmpl_reach.proofs.non_interference.NonInterferenceInvariant.admits.Goals.{then-interferes, else-interferes}
 

@@ -1,8 +1,8 @@
 use Rattle.std.proofs.Common.{sym, ◌∙◌, subst}
-use Rattle.flow_set.specs.Steps.{TriedFlows}
-use Rattle.tmpl_reach.specs.Interferences.{StaysApart}
+use Rattle.flow_set.specs.inner.Steps.{TriedFlows}
+use Rattle.tmpl_reach.specs.inner.Interferences.{StaysApart}
 use Rattle.tmpl_reach.specs.NonInterference.{IsNonInterfering}
-use Rattle.tmpl_reach.specs.NonInterferenceLaws.{IsNonInterfering-nothing_new, StaysApart-with_flow}
+use Rattle.tmpl_reach.specs.laws.NonInterferenceLaws.{IsNonInterfering-nothing_new, StaysApart-with_flow}
 use Rattle.tmpl_reach.proofs.non_interference.NonInterferenceStepwise.step.Goals as goal
 
 pub returns-then-nothing_new-clause-answer : goal.returns-then-nothing_new-clause-answer

@@ -2,8 +2,9 @@ use Rattle.std.proofs.Common.{◌≡◌, ℕ, List, sym, ◌∙◌, subst, arith
 use Rattle.std.proofs.lemmas.List.{length-replicate}
 use Rattle.std.proofs.lemmas.List.Elements.{All-replicate}
 use Rattle.std.specs.Prelude.{IsTrue, ◌<◌}
-use Rattle.tmpl_table.specs.KindTable.{HidesNoFault, KindTable, is_lawful}
-use Rattle.tmpl_table.specs.KindTableLaws.{accepted, refused}
+use Rattle.tmpl_table.specs.KindTable.{KindTable, is_lawful}
+use Rattle.tmpl_table.specs.inner.KindTable.{HidesNoFault}
+use Rattle.tmpl_table.specs.laws.KindTableLaws.{accepted, refused}
 use Rattle.tmpl_table.proofs.table_rule.TableRule.new.Goals as goal
 
 pub returns-in-Some-clause-refused : goal.returns-in-Some-clause-refused

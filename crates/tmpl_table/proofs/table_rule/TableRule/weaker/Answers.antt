@@ -1,7 +1,8 @@
 use Rattle.std.proofs.Common.{◌≡◌, List, ℕ, sym, ◌∙◌, ap}
 use Rattle.std.specs.Prelude.{find}
-use Rattle.tmpl_table.specs.KindTable.{KindTable, TableHosts, first_weaker, passes_with}
-use Rattle.tmpl_table.specs.KindTableLaws.{default_weakens_nothing}
+use Rattle.tmpl_table.specs.KindTable.{KindTable, TableHosts, passes_with}
+use Rattle.tmpl_table.specs.inner.KindTable.{first_weaker}
+use Rattle.tmpl_table.specs.laws.KindTableLaws.{default_weakens_nothing}
 use Rattle.tmpl_table.proofs.table_rule.TableRule.weaker.Goals as goal
 
 pub returns-clause-default : goal.returns-clause-default

@@ -1,7 +1,7 @@
 use Rattle.std.proofs.Common.{◌≡◌, ◌<◌, true, List, length, length-set, ap, sym, ◌∙◌, subst, arith}
 use Rattle.std.specs.Prelude.{◌⊎◌, ◌↔◌}
 use Rattle.tmpl_zones.specs.Partners.{Partner, PartnersPass, TakesFromOthers, with_sender}
-use Rattle.tmpl_zones.specs.PartnersView.{partner_of}
+use Rattle.tmpl_zones.specs.inner.PartnersView.{partner_of}
 use Rattle.tmpl_zones.proofs.Masters.{PartnersPass-with_sender, TakesFromOthers-with_sender}
 use Rattle.tmpl_zones.proofs.Receivers.{HasRooms-set, may_have_row, map-partner_of-set, partner_of_row, attribute_by-set, has_mark, length_row, length_seen}
 use Rattle.tmpl_zones.proofs.partners.Partners.allow.Goals as goal

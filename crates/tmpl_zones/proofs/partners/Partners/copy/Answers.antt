@@ -1,6 +1,6 @@
 use Rattle.std.proofs.Common.{◌≡◌, length, ap, ◌∙◌, sym, subst}
 use Rattle.std.proofs.lemmas.List.Elements.{All-push}
-use Rattle.tmpl_zones.specs.PartnersView.{attribute_by, HasRooms}
+use Rattle.tmpl_zones.specs.inner.PartnersView.{attribute_by, HasRooms}
 use Rattle.tmpl_zones.specs.declared.partners.Receiver.{Receiver}
 use Rattle.tmpl_zones.proofs.Receivers.{map-partner_of-copied, length_row}
 use Rattle.tmpl_zones.proofs.partners.Partners.copy.Goals as goal

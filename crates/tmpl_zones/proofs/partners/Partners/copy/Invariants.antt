@@ -1,6 +1,6 @@
 use Rattle.std.proofs.Common.{◌≡◌, length, take}
 use Rattle.std.specs.Prelude.{All, map}
-use Rattle.tmpl_zones.specs.PartnersView.{partner_of}
+use Rattle.tmpl_zones.specs.inner.PartnersView.{partner_of}
 use Rattle.tmpl_zones.proofs.partners.Partners.copy.Given as goal
 
 abbrev pub invariant-loop-receiver : goal.invariant-loop-receiver

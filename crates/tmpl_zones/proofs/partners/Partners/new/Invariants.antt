@@ -1,7 +1,7 @@
 use Rattle.std.proofs.Common.{◌≡◌, replicate, length}
 use Rattle.std.specs.Prelude.{All, map}
 use Rattle.tmpl_zones.specs.Partners.{DontCare}
-use Rattle.tmpl_zones.specs.PartnersView.{partner_of}
+use Rattle.tmpl_zones.specs.inner.PartnersView.{partner_of}
 use Rattle.tmpl_zones.proofs.partners.Partners.new.Given as goal
 
 abbrev pub invariant-loop : goal.invariant-loop

@@ -1,0 +1,218 @@
+-- The table of an assign that says an attribute of its template is shallow: its keys ask for texts, whole numbers, truth values and
+-- arrays, and where a template takes an array, it takes texts in it.
+use Rattle.std.proofs.Common.{◌≡◌, ℕ, ◌&&◌, ◌||◌, Bool, true, false, List, [], ◌∷◌, ◌++◌, Option, Some, None, option_map, option_and_then, is_some, refl, ap, ◌∙◌, sym, subst, ◌⊎◌, inl, inr}
+use Rattle.std.proofs.lemmas.Bool.{and_parts, false≢true, not-false, or_parts}
+use Rattle.std.proofs.lemmas.Slice.Eq.{bytes_eq-Decides}
+use Rattle.std.specs.List.{AllByRecursion, list_all}
+use Rattle.std.specs.Option.{option_map_or}
+use Rattle.std.specs.Prelude.{codes, not, unwrap_or, if◌then◌else◌}
+use Rattle.std.specs.Str.{bytes_eq}
+use Rattle.host_net.specs.Host.{Host}
+use Rattle.toml.specs.Data.{Data, string, table, Members, members_are_sorted}
+use Rattle.attr_core.specs.Assigns.{Given}
+use Rattle.attr_core.specs.OwnTables.{Declared, table_form}
+use Rattle.attr_core.specs.Forms.{Form, bad_assign, bad_from, says}
+use Rattle.attr_core.specs.Kinds.{kind_key, kind_of}
+use Rattle.attr_core.specs.NoReach.{all_denied, noreach_attribute, noreach_form, noreach_keys}
+use Rattle.attr_core.specs.Partners.{listless_keys, master_in, master_keys, master_of, partner_kind, partners_attribute, partners_form}
+use Rattle.attr_core.specs.Peers.{peer}
+use Rattle.attr_core.specs.Shapes.{has_shape, host_key, of_shape}
+use Rattle.attr_core.specs.Templates.{form}
+use Rattle.attr_core.specs.declared.template.Template.{Template}
+use Rattle.attr_core.specs.declared.template.Template.TheVariants.{Partners, NoReach}
+use Rattle.table_core.specs.Keys.{Key, Kind, Array, all_suit, has_only_keys, is_one_of, is_text, lacks_key, suits_in}
+use Rattle.table_core.specs.Listing.{each}
+use Rattle.table_core.specs.Shallow.{IsShallow}
+use Rattle.table_core.proofs.ShallowLaws.{ListsTexts, keys_shallow}
+use Rattle.table_core.specs.Tables.{has_key, list_at, text_at}
+
+-- the table of the assign has two levels at most
+abbrev pub IsShallowGiven : Given → Type 0
+IsShallowGiven a = members_are_sorted a.table ≡ true → IsShallow 2 (table a.table)
+
+-- ---- shapes
+
+shape_shallow : (keys : List Key) (ms : Members) → of_shape ms keys ≡ true → AllByRecursion (ListsTexts ms) keys → members_are_sorted ms ≡ true
+    → IsShallow 2 (table ms)
+unfolding of_shape
+shape_shallow keys ms shaped lists sorted =
+    let (front, suits) = and_parts (has_only_keys keys ms && not (lacks_key keys ms)) (all_suit keys ms) shaped in
+    let (only, _) = and_parts (has_only_keys keys ms) (not (lacks_key keys ms)) front in
+    keys_shallow keys ms sorted only suits lists
+
+-- a shape without an array
+abbrev asks_no_array : Kind → Bool
+asks_no_array Array = false
+asks_no_array _ = true
+
+abbrev has_no_arrays : List Key → Bool
+has_no_arrays keys = list_all (λ key. asks_no_array key.kind) keys
+
+no_lists : (keys : List Key) (ms : Members) → has_no_arrays keys ≡ true → AllByRecursion (ListsTexts ms) keys
+no_lists [] ms none = tt
+no_lists (key ∷ keys) ms none =
+    let (here, behind) = and_parts (asks_no_array key.kind) (has_no_arrays keys) none in
+    (λ array stands. absurd (false≢true (sym (ap asks_no_array array) ∙ here)), no_lists keys ms behind)
+
+either_by : (b others : Bool) → (b || others) ≡ true → (b ≡ true) ⊎ (others ≡ true)
+either_by true others one = inl refl
+either_by false others one = inr one
+
+plain_shallow : (shapes : List (List Key)) (ms : Members) → list_all has_no_arrays shapes ≡ true → has_shape shapes ms ≡ true
+    → members_are_sorted ms ≡ true → IsShallow 2 (table ms)
+plain_shallow [] ms none one sorted = absurd (false≢true one)
+plain_shallow (keys ∷ shapes) ms none one sorted =
+    let (here, behind) = and_parts (has_no_arrays keys) (list_all has_no_arrays shapes) none in
+    elim (either_by (of_shape ms keys) (has_shape shapes ms) one) [
+      | inl shaped ↦ shape_shallow keys ms shaped (no_lists keys ms here) sorted
+      | inr other ↦ plain_shallow shapes ms behind other sorted
+    ]
+
+-- ---- what a template says of a table
+
+said_by : {A : Type 0} (b : Bool) (o : Option A) (x : A) → (if b then o else None) ≡ Some x → (b ≡ true) × (o ≡ Some x)
+said_by true o x said = (refl, said)
+said_by false o x said = cc
+
+without_arrays : (f : Form) → list_all has_no_arrays f.shapes ≡ true → (hosts : List Host) (earlier : List Given) (a : Given)
+    (x : f.template.Attribute) → says f hosts earlier a ≡ Some x → IsShallowGiven a
+without_arrays f none hosts earlier a x said sorted =
+    let (shaped, _) = said_by (has_shape f.shapes a.table) (f.reads hosts earlier a) x said in plain_shallow f.shapes a.table none shaped sorted
+
+-- a list of other hosts is a list of texts
+peers_by : (o : Option ℕ) (rest : Option (List ℕ)) (xs : List ℕ) → option_and_then (λ y. option_map (λ ys. y ∷ ys) rest) o ≡ Some xs
+    → (is_some o ≡ true) × (is_some rest ≡ true)
+peers_by None rest xs read = cc
+peers_by (Some y) None xs read = cc
+peers_by (Some y) (Some ys) xs read = (refl, refl)
+
+peer_text : (hosts : List Host) (host : ℕ) (d : Data) → is_some (peer hosts host d) ≡ true → is_text d ≡ true
+unfolding peer
+peer_text hosts host (string s) named = refl
+peer_text hosts host _ named = cc
+
+some_of : {A : Type 0} (o : Option A) → is_some o ≡ true → (x : A) × (o ≡ Some x)
+some_of None there = absurd (false≢true there)
+some_of (Some x) there = (x, refl)
+
+peers_are_texts : (hosts : List Host) (host : ℕ) (ds : List Data) (xs : List ℕ) → each (peer hosts host) ds ≡ Some xs
+    → list_all is_text ds ≡ true
+peers_are_texts hosts host [] xs read = refl
+peers_are_texts hosts host (d ∷ ds) xs read =
+    let (here, behind) = peers_by (peer hosts host d) (each (peer hosts host) ds) xs read in
+    let (others, is) = some_of (each (peer hosts host) ds) behind in
+    rw (peer_text hosts host d here) (peers_are_texts hosts host ds others is)
+
+listed_texts : (o : Option (List Data)) → is_some o ≡ true → list_all is_text (unwrap_or o []) ≡ true → option_map_or (list_all is_text) o false ≡ true
+listed_texts None there all = cc
+listed_texts (Some ds) there all = all
+
+mapped : {A B : Type 0} (f : A → B) (o : Option A) (y : B) → option_map f o ≡ Some y → (x : A) × (o ≡ Some x)
+mapped f None y is = cc
+mapped f (Some x) y is = (x, refl)
+
+noreach_shallow : (hosts : List Host) (earlier : List Given) (a : Given) (x : noreach_form.template.Attribute)
+    → says noreach_form hosts earlier a ≡ Some x → IsShallowGiven a
+unfolding noreach_attribute all_denied
+noreach_shallow hosts earlier a x said sorted =
+    let (shaped, read) = said_by (has_shape noreach_form.shapes a.table) (noreach_attribute hosts a.host a.table) x said in
+    let ds = unwrap_or (list_at (codes "deny") a.table) [] in
+    let (others, peers) = mapped _ (each (peer hosts a.host) ds) x read in
+    let texts = peers_are_texts hosts a.host ds others peers in
+    elim (either_by (of_shape a.table noreach_keys) false shaped) [
+      | inl one ↦
+          shape_shallow noreach_keys a.table one
+          (λ array stands. cc, (λ array stands. listed_texts (list_at (codes "deny") a.table) stands texts, tt)) sorted
+      | inr none ↦ absurd (false≢true none)
+    ]
+
+-- ---- partners: the kind of a master is the one that its shape has
+
+not_so : (b : Bool) → not b ≡ true → b ≡ false
+not_so true h = cc
+not_so false h = refl
+
+present : (there stands : Bool) → there ≡ true → (not there || stands) ≡ true → stands ≡ true
+present true stands there suits = suits
+present false stands there suits = cc
+
+one_word : (word : List ℕ) → (bytes_eq word (codes "master") || false) ≡ true → word ≡ codes "master"
+one_word word one = (bytes_eq-Decides word (codes "master")).0 (first_of (bytes_eq word (codes "master")) one)
+  where
+    first_of : (b : Bool) → (b || false) ≡ true → b ≡ true
+    first_of true h = refl
+    first_of false h = h
+
+kind_word : (o : Option (List ℕ)) → option_map_or (is_one_of (codes "master" ∷ [])) o false ≡ true → unwrap_or o [] ≡ codes "master"
+kind_word None one = cc
+kind_word (Some word) one = one_word word one
+
+master_word : (ms : Members) → of_shape ms master_keys ≡ true → kind_of ms ≡ codes "master"
+unfolding of_shape lacks_key all_suit kind_of
+master_word ms shaped =
+    let (front, suits) = and_parts (has_only_keys master_keys ms && not (lacks_key master_keys ms)) (all_suit master_keys ms) shaped in
+    let (_, lacks) = and_parts (has_only_keys master_keys ms) (not (lacks_key master_keys ms)) front in
+    let (_, later) = or_parts _ _ (not_so (lacks_key master_keys ms) lacks) in
+    let (no_kind, _) = or_parts _ _ later in
+    let (_, suits_behind) = and_parts (suits_in ms host_key) _ suits in
+    let (suits_kind, _) = and_parts (suits_in ms (kind_key (codes "master" ∷ []))) _ suits_behind in
+    kind_word (text_at (codes "kind") ms) (present (has_key (codes "kind") ms) _ (not-false _ no_kind) suits_kind)
+
+master_shallow : (hosts : List Host) (a : Given) (x : partners_form.template.Attribute) → of_shape a.table master_keys ≡ true
+    → partners_attribute hosts a.host a.table ≡ Some x → IsShallowGiven a
+unfolding partners_attribute partner_kind master_in master_of
+master_shallow hosts a x shaped read sorted =
+    let ds = unwrap_or (list_at (codes "from") a.table) [] in
+    let said = subst (λ (word : List ℕ). partner_kind hosts a.host a.table word ≡ Some x) (master_word a.table shaped) read in
+    let (others, peers) = mapped _ (each (peer hosts a.host) ds) x said in
+    let texts = peers_are_texts hosts a.host ds others peers in
+    shape_shallow master_keys a.table shaped
+    (λ array stands. cc, (λ array stands. cc, (λ array stands. listed_texts (list_at (codes "from") a.table) stands texts, tt))) sorted
+
+partners_shallow : (hosts : List Host) (earlier : List Given) (a : Given) (x : partners_form.template.Attribute)
+    → says partners_form hosts earlier a ≡ Some x → IsShallowGiven a
+partners_shallow hosts earlier a x said sorted =
+    let (shaped, read) = said_by (has_shape partners_form.shapes a.table) (partners_attribute hosts a.host a.table) x said in
+    elim (either_by (of_shape a.table listless_keys) _ shaped) [
+      | inl listless ↦ shape_shallow listless_keys a.table listless (no_lists listless_keys a.table refl) sorted
+      | inr other ↦ elim (either_by (of_shape a.table master_keys) false other) [
+        | inl master ↦ master_shallow hosts a x master read sorted
+        | inr none ↦ absurd (false≢true none)
+      ]
+    ]
+
+-- ---- all templates
+
+says_shallow : (t : Template) (hosts : List Host) (earlier : List Given) (a : Given) (x : (form t).template.Attribute)
+    → says (form t) hosts earlier a ≡ Some x → IsShallowGiven a
+says_shallow NoReach hosts earlier a x said = noreach_shallow hosts earlier a x said
+says_shallow Partners hosts earlier a x said = partners_shallow hosts earlier a x said
+says_shallow t hosts earlier a x said = without_arrays (form t) refl hosts earlier a x said
+
+good_step : {A : Type 0} (o : Option A) (later : Option ℕ) (n : ℕ) → (if is_some o then later else Some n) ≡ None
+    → (is_some o ≡ true) × (later ≡ None)
+good_step None later n none = cc
+good_step (Some x) later n none = (refl, none)
+
+-- where what says an attribute is shallow
+abbrev AreSaidShallow : Form → List Host → Type 0
+AreSaidShallow f hosts = (earlier : List Given) (a : Given) (x : f.template.Attribute) → says f hosts earlier a ≡ Some x → IsShallowGiven a
+
+each_shallow : (f : Form) (hosts : List Host) → AreSaidShallow f hosts → (earlier rest : List Given) → bad_from (says f hosts) earlier rest ≡ None
+    → AllByRecursion IsShallowGiven rest
+each_shallow f hosts said_shallow earlier [] none = tt
+each_shallow f hosts said_shallow earlier (a ∷ rest) none =
+    let (here, behind) = good_step (says f hosts earlier a) _ _ none in
+    let (x, said) = some_of (says f hosts earlier a) here in
+    (said_shallow earlier a x said, each_shallow f hosts said_shallow (earlier ++ a ∷ []) rest behind)
+
+-- where none of the assigns is bad, the table of each is shallow
+pub assigns_shallow : (hosts : List Host) (t : Template) (assigns : List Given) → bad_assign (form t) hosts assigns ≡ None
+    → AllByRecursion IsShallowGiven assigns
+assigns_shallow hosts t assigns none = each_shallow (form t) hosts (λ earlier a x said. says_shallow t hosts earlier a x said) [] assigns none
+
+-- the same of a declared template
+pub kinds_shallow : (hosts : List Host) (d : Declared) (assigns : List Given) → bad_assign (table_form d) hosts assigns ≡ None
+    → AllByRecursion IsShallowGiven assigns
+kinds_shallow hosts d assigns none =
+    each_shallow (table_form d) hosts (λ earlier a x said. without_arrays (table_form d) refl hosts earlier a x said) [] assigns none

@@ -1,0 +1,11 @@
+pub mod AssignView
+pub mod Bad
+pub mod FirstBad
+pub mod Holders
+pub mod InterferenceView
+pub mod LabelWalk
+pub mod MayHave
+pub mod OwnTablesWalk
+pub mod ReadIn
+pub mod TaintedView
+pub mod Walks

@@ -1,0 +1,5 @@
+pub mod FormLaws
+pub mod LabelBitsLaws
+pub mod LabelWalkLaws
+pub mod LabelsLaws
+pub mod TaintingLaws

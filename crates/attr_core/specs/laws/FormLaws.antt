@@ -1,0 +1,142 @@
+-- A walk through the assigns that keeps what the earlier ones said and the attributes so far ends with the attributes that are assigned,
+-- or at the first assign that says none.
+use Rattle.std.proofs.Common.{◌≡◌, ◌≢◌, ℕ, suc, ◌+◌, ◌<◌, ◌==◌, Bool, true, false, not, List, [], ◌∷◌, ◌++◌, append_assoc, append-nil, length, length-set, get_or, map, Option, Some, None, option_map, is_some, Ok, Err, refl, sym, ap, ◌∙◌, arith}
+use Rattle.std.proofs.lemmas.Bool.{and_parts}
+use Rattle.std.proofs.lemmas.Bool.Decides.{nat_tests}
+use Rattle.std.proofs.lemmas.List.{ext_get_or, get_or-set_same, length-append}
+use Rattle.std.proofs.Common.{get_or-set_other}
+use Rattle.std.proofs.lemmas.List.FromFn.{get_or-map-range_with_len, length-map-range_with_len}
+use Rattle.std.specs.List.{list_all, range_with_len}
+use Rattle.std.specs.Option.{option_or}
+use Rattle.std.specs.Prelude.{if◌then◌else◌, slice_set, unwrap_or}
+use Rattle.attr_core.specs.Assigns.{Given}
+use Rattle.attr_core.specs.Forms.{assigned, bad_from, last_said}
+use Rattle.attr_core.specs.inner.Walks.{after, ended, in_turn}
+
+abbrev pub set_said : {A : Type 0} → List A → ℕ → Option A → List A
+set_said xs host None = xs
+set_said xs host (Some x) = slice_set xs host x
+
+abbrev pub set_all : {A : Type 0} → (List Given → Given → Option A) → List Given → List A → List Given → List A
+set_all says earlier xs [] = xs
+set_all says earlier xs (a ∷ rest) = set_all says (earlier ++ a ∷ []) (set_said xs a.host (says earlier a)) rest
+
+-- the walk
+one_more : {A S : Type 0} (says : List Given → Given → Option A) (holding : List Given → List A → S) (step : S → Given → Option S)
+    (k : ℕ) (earlier : List Given) (xs : List A) (a : Given) (rest : List Given) (o : Option A) → k ≡ length earlier
+    → ((ys : List A) → in_turn step (k + 1) (holding (earlier ++ a ∷ []) ys) rest ≡ ended (bad_from says (earlier ++ a ∷ []) rest) (holding ((earlier ++ a ∷ []) ++ rest) (set_all says (earlier ++ a ∷ []) ys rest)))
+    → after k (λ t. in_turn step (k + 1) t rest) (option_map (λ x. holding (earlier ++ a ∷ []) (slice_set xs a.host x)) o)
+    ≡ ended (if is_some o then bad_from says (earlier ++ a ∷ []) rest else Some (length earlier)) (holding (earlier ++ (a ∷ rest)) (set_all says (earlier ++ a ∷ []) (set_said xs a.host o) rest))
+one_more says holding step k earlier xs a rest None place behind = ap Err place
+one_more says holding step k earlier xs a rest (Some x) place behind =
+    behind (slice_set xs a.host x)
+    ∙ ap (λ all. ended (bad_from says (earlier ++ a ∷ []) rest) (holding all (set_all says (earlier ++ a ∷ []) (slice_set xs a.host x) rest))) (append_assoc earlier (a ∷ []) rest)
+
+pub in_turn_ended : {A S : Type 0} (says : List Given → Given → Option A) (holding : List Given → List A → S) (step : S → Given → Option S)
+    → ((earlier : List Given) (xs : List A) (a : Given) → step (holding earlier xs) a ≡ option_map (λ x. holding (earlier ++ a ∷ []) (slice_set xs a.host x)) (says earlier a))
+    → (k : ℕ) (earlier : List Given) (xs : List A) (rest : List Given) → k ≡ length earlier
+    → in_turn step k (holding earlier xs) rest ≡ ended (bad_from says earlier rest) (holding (earlier ++ rest) (set_all says earlier xs rest))
+in_turn_ended says holding step steps k earlier xs [] place = ap (λ all. Ok (holding all xs)) (sym (append-nil earlier))
+in_turn_ended says holding step steps k earlier xs (a ∷ rest) place =
+    let next : k + 1 ≡ length (earlier ++ a ∷ []) = omega (arith, place, length-append earlier (a ∷ [])) in
+    ap (after k (λ t. in_turn step (k + 1) t rest)) (steps earlier xs a)
+    ∙ one_more says holding step k earlier xs a rest (says earlier a) place (λ ys. in_turn_ended says holding step steps (k + 1) (earlier ++ a ∷ []) ys rest next)
+
+-- the attributes that it ends with
+length-set_said : {A : Type 0} (xs : List A) (host : ℕ) (o : Option A) → length (set_said xs host o) ≡ length xs
+length-set_said xs host None = refl
+length-set_said xs host (Some x) = length-set xs host x
+
+pub length-set_all : {A : Type 0} (says : List Given → Given → Option A) (earlier : List Given) (xs : List A) (rest : List Given)
+    → length (set_all says earlier xs rest) ≡ length xs
+length-set_all says earlier xs [] = refl
+length-set_all says earlier xs (a ∷ rest) = length-set_all says (earlier ++ a ∷ []) (set_said xs a.host (says earlier a)) rest ∙ length-set_said xs a.host (says earlier a)
+
+same_host : (i j : ℕ) → (i == j) ≡ true → i ≡ j
+same_host i j h = grind (arith, nat_tests)
+
+other_host : (i j : ℕ) → (i == j) ≡ false → i ≢ j
+other_host i j h same = grind (arith, nat_tests)
+
+last_by : {A : Type 0} (xs : List A) (i host : ℕ) (d : A) (later here : Option A) (b : Bool) → (i == host) ≡ b → host < length xs
+    → unwrap_or later (get_or (set_said xs i here) host d) ≡ unwrap_or (option_or later (if b then here else None)) (get_or xs host d)
+last_by xs i host d (Some y) here b is within = refl
+last_by xs i host d None None true is within = refl
+last_by xs i host d None None false is within = refl
+last_by xs i host d None (Some x) true is within =
+    let same : i ≡ host = same_host i host is in
+    ap (λ j. get_or (slice_set xs j x) host d) same ∙ get_or-set_same xs host x d within
+last_by xs i host d None (Some x) false is within = get_or-set_other xs i host x d (λ same. other_host i host is (sym same))
+
+pub get_or-set_all : {A : Type 0} (says : List Given → Given → Option A) (earlier : List Given) (xs : List A) (rest : List Given)
+    (host : ℕ) (d : A) → host < length xs
+    → get_or (set_all says earlier xs rest) host d ≡ unwrap_or (last_said says earlier host rest) (get_or xs host d)
+get_or-set_all says earlier xs [] host d within = refl
+get_or-set_all says earlier xs (a ∷ rest) host d within =
+    let still : host < length (set_said xs a.host (says earlier a)) = rw (length-set_said xs a.host (says earlier a)) within in
+    get_or-set_all says (earlier ++ a ∷ []) (set_said xs a.host (says earlier a)) rest host d still
+    ∙ last_by xs a.host host d (last_said says (earlier ++ a ∷ []) host rest) (says earlier a) (a.host == host) refl within
+
+pub set_all_assigned : {A : Type 0} (says : List Given → Given → Option A) (default : ℕ → A) (n : ℕ) (assigns : List Given)
+    → set_all says [] (map default (range_with_len 0 n)) assigns ≡ assigned says default n assigns
+set_all_assigned says default n assigns =
+    let sized : length (map default (range_with_len 0 n)) ≡ n = length-map-range_with_len default 0 n in
+    let whole : length (set_all says [] (map default (range_with_len 0 n)) assigns) ≡ n = length-set_all says [] (map default (range_with_len 0 n)) assigns ∙ sized in
+    ext_get_or (default 0) (set_all says [] (map default (range_with_len 0 n)) assigns) (assigned says default n assigns)
+    (whole ∙ sym (length-map-range_with_len (λ host. unwrap_or (last_said says [] host assigns) (default host)) 0 n))
+    (λ host within.
+    let below : host < n = rw whole at within in
+    get_or-set_all says [] (map default (range_with_len 0 n)) assigns host (default 0) (rw sized below)
+    ∙ ap (unwrap_or (last_said says [] host assigns)) (get_or-map-range_with_len default 0 n host host (default 0) below (omega arith))
+    ∙ sym (get_or-map-range_with_len (λ i. unwrap_or (last_said says [] i assigns) (default i)) 0 n host host (default 0) below (omega arith)))
+
+-- the whole walk
+pub walked : {A S : Type 0} (says : List Given → Given → Option A) (holding : List Given → List A → S) (step : S → Given → Option S)
+    → ((earlier : List Given) (xs : List A) (a : Given) → step (holding earlier xs) a ≡ option_map (λ x. holding (earlier ++ a ∷ []) (slice_set xs a.host x)) (says earlier a))
+    → (default : ℕ → A) (n : ℕ) (assigns : List Given)
+    → in_turn step 0 (holding [] (map default (range_with_len 0 n))) assigns ≡ ended (bad_from says [] assigns) (holding assigns (assigned says default n assigns))
+walked says holding step steps default n assigns =
+    in_turn_ended says holding step steps 0 [] (map default (range_with_len 0 n)) assigns refl
+    ∙ ap (λ xs. ended (bad_from says [] assigns) (holding assigns xs)) (set_all_assigned says default n assigns)
+
+-- the assign that is bad is one of those that are given
+within_by : {A : Type 0} (o : Option A) (n m k : ℕ) (later : Option ℕ) → (later ≡ Some k → k < n + 1 + m)
+    → (if is_some o then later else Some n) ≡ Some k → k < n + suc m
+within_by None n m k later behind is = let same : n ≡ k = cc in omega (arith, same)
+within_by (Some x) n m k later behind is = omega (arith, behind is)
+
+pub bad_within : {A : Type 0} (says : List Given → Given → Option A) (earlier rest : List Given) (k : ℕ)
+    → bad_from says earlier rest ≡ Some k → k < length earlier + length rest
+bad_within says earlier [] k is = cc
+bad_within says earlier (a ∷ rest) k is =
+    within_by (says earlier a) (length earlier) (length rest) k (bad_from says (earlier ++ a ∷ []) rest)
+    (λ later. rw (length-append earlier (a ∷ [])) at (bad_within says (earlier ++ a ∷ []) rest k later)) is
+
+-- host by host
+pub attribute_at : {A : Type 0} (says : List Given → Given → Option A) (default : ℕ → A) (n : ℕ) (assigns : List Given) (host : ℕ)
+    (d : A) → host < n
+    → get_or (assigned says default n assigns) host d ≡ unwrap_or (last_said says [] host assigns) (default host)
+attribute_at says default n assigns host d within = get_or-map-range_with_len (λ i. unwrap_or (last_said says [] i assigns) (default i)) 0 n host host d within (omega arith)
+
+-- a host that no assign names has its default; one that one assign names last has what that says
+pub said_none : {A : Type 0} (says : List Given → Given → Option A) (earlier : List Given) (host : ℕ) (rest : List Given)
+    → list_all (λ a. not (a.host == host)) rest ≡ true → last_said says earlier host rest ≡ None
+said_none says earlier host [] none = refl
+said_none says earlier host (a ∷ rest) none =
+    let (here, behind) = and_parts (not (a.host == host)) _ none in
+    ap (λ o. option_or o (if a.host == host then says earlier a else None)) (said_none says (earlier ++ a ∷ []) host rest behind) ∙ not_here (a.host == host) (says earlier a) here
+  where
+    not_here : {A : Type 0} (b : Bool) (o : Option A) → not b ≡ true → option_or None (if b then o else None) ≡ None
+    not_here true o h = cc
+    not_here false o h = refl
+
+pub said_last : {A : Type 0} (says : List Given → Given → Option A) (earlier : List Given) (host : ℕ) (before : List Given) (a : Given)
+    (rest : List Given) (x : A)
+    → (a.host == host) ≡ true → list_all (λ b. not (b.host == host)) rest ≡ true → says (earlier ++ before) a ≡ Some x
+    → last_said says earlier host (before ++ a ∷ rest) ≡ Some x
+said_last says earlier host [] a rest x here none is =
+    let said : says earlier a ≡ Some x = ap (λ all. says all a) (sym (append-nil earlier)) ∙ is in
+    rw (said_none says (earlier ++ a ∷ []) host rest none, here, said) refl
+said_last says earlier host (b ∷ before) a rest x here none is =
+    let later = said_last says (earlier ++ b ∷ []) host before a rest x here none (ap (λ all. says all a) (append_assoc earlier (b ∷ []) before) ∙ is) in
+    rw later refl

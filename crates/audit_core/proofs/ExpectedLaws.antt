@@ -1,0 +1,57 @@
+-- Rules agree with a policy on every list of events exactly where they forward what is expected of it. So whatever is written to forward
+-- what is expected of a policy is found equal to it.
+use Rattle.std.proofs.Common.{◌≡◌, ◌↔◌, Bool, List, [], ◌∷◌, Option, Some, None, suc, refl}
+use Rattle.pkt_core.specs.declared.event.Event.{Event}
+use Rattle.pkt_core.specs.declared.event.Event.TheVariants.{Seen, Forget}
+use Rattle.pkt_core.proofs.ExpectedLaws.{expected_once}
+use Rattle.pkt_core.specs.Filter.{ArePackets}
+use Rattle.pkt_core.specs.Firewall.{Filter}
+use Rattle.pkt_core.specs.Tracking.{Kept, Runs, after_forget, after_seen, nothing_kept, state_of}
+use Rattle.audit_core.specs.declared.finding.Finding.{Finding}
+use Rattle.audit_core.specs.declared.finding.Finding.TheVariants.{Equal}
+use Rattle.audit_core.specs.laws.FindingLaws.{equal_exactly}
+use Rattle.audit_core.specs.Findings.{DifferSomewhere}
+use Rattle.audit_core.specs.inner.Findings.{IsFinding}
+use Rattle.audit_core.specs.laws.ListLaws.{agree_not_differ}
+use Rattle.audit_core.specs.Rules.{filter_of}
+use Rattle.audit_core.specs.inner.Rules.{GivesOne}
+use Rattle.audit_core.specs.Sides.{Sides, lets_answer, permits}
+use Rattle.audit_core.specs.inner.Sides.{AgreeAlways, AreAsExpected}
+
+-- from each state of its connections a filter that answers every packet has a run over packets
+some_run : (filter : Filter) → GivesOne filter → (kept : Kept) (events : List Event) → ArePackets events
+    → (answers : List (Option Bool)) × Runs filter kept events answers
+some_run filter gives kept [] packets = ([], tt)
+some_run filter gives kept (Seen p ∷ events) packets =
+    let first = gives (state_of kept p) p (packets 0 p refl) in
+    let rest = some_run filter gives (after_seen kept p first.0) events (λ k q there. packets (suc k) q there) in
+    (Some first.0 ∷ rest.0, (first.1, rest.1))
+some_run filter gives kept (Forget p ∷ events) packets =
+    let rest = some_run filter gives (after_forget kept p) events (λ k q there. packets (suc k) q there) in
+    (None ∷ rest.0, rest.1)
+
+-- what forwards as expected agrees on every list of events
+pub agree_where_expected : (sides : Sides) → AreAsExpected sides → AgreeAlways sides
+agree_where_expected sides are events packets answers run = are.expected events answers packets run
+
+-- what agrees on every list of events forwards as expected, since it has one run over each
+pub expected_where_agree : (sides : Sides) → GivesOne (filter_of sides.rules) → AgreeAlways sides → AreAsExpected sides
+expected_where_agree sides gives agree = record {
+  expected = λ events answers packets run. agree events packets answers run;
+  some = λ events packets. some_run (filter_of sides.rules) gives nothing_kept events packets;
+  one = λ events answers others packets run other.
+      expected_once (permits sides) (lets_answer sides) events answers others (agree events packets answers run) (agree events packets others other);
+}
+
+-- so they are the same
+pub agree_always_is_expected : (sides : Sides) → GivesOne (filter_of sides.rules) → AgreeAlways sides ↔ AreAsExpected sides
+agree_always_is_expected sides gives = (expected_where_agree sides gives, agree_where_expected sides)
+
+-- rules that forward what is expected differ from the policy on no list of events
+pub no_difference_where_expected : (sides : Sides) → AreAsExpected sides → DifferSomewhere sides → ⊥
+no_difference_where_expected sides are differ =
+    agree_not_differ (filter_of sides.rules) (permits sides) (lets_answer sides) differ.0 (agree_where_expected sides are differ.0 differ.1) differ.2
+
+-- and whatever an audit finds of them is that they are equal
+pub equal_where_expected : (sides : Sides) (finding : Finding) → AreAsExpected sides → IsFinding sides finding → finding ≡ Equal
+equal_where_expected sides finding are found = (equal_exactly sides finding found).1 (no_difference_where_expected sides are)

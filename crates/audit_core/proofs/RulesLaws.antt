@@ -1,0 +1,37 @@
+-- Rule sets and flow tables give every packet one answer in each state.
+use Rattle.std.proofs.Common.{◌≡◌, Bool, true, false, List, refl, sym, subst, ◌∙◌}
+use Rattle.host_net.specs.declared.packet.Verdict.{Verdict}
+use Rattle.host_net.specs.declared.packet.Verdict.TheVariants.{Forward as Forwarded, Drop as Dropped}
+use Rattle.host_net.specs.Verdict.{verdict_if}
+use Rattle.host_net.proofs.VerdictLaws.{verdict_if-injective}
+use Rattle.ipt_rules.specs.Chain.{Chain, policy_of}
+use Rattle.ipt_rules.specs.Matching.{matches}
+use Rattle.ipt_rules.specs.Meaning.{verdict_by}
+use Rattle.ipt_rules.proofs.MeaningLaws.{verdict_once}
+use Rattle.ipt_rules.specs.inner.OneOutcome.{EachGivesOne}
+use Rattle.ofp_rules.specs.declared.entry.Entry.{Entry}
+use Rattle.ofp_rules.specs.declared.entry.Frame.TheVariants.{Ipv4}
+use Rattle.ofp_rules.specs.inner.Build.{IsTable}
+use Rattle.ofp_rules.specs.Meaning.{HasVerdict}
+use Rattle.audit_core.specs.Rules.{Chains, Entries, filter_of}
+use Rattle.audit_core.specs.inner.Rules.{GivesOne}
+
+-- every verdict says that the packet passes, or that it does not
+said_by : (v : Verdict) → (b : Bool) × (v ≡ verdict_if b)
+said_by Forwarded = (true, refl)
+said_by Dropped = (false, refl)
+
+-- chains of which each gives one outcome
+pub chains_give : (chains : List Chain) → EachGivesOne chains → GivesOne (filter_of (Chains chains))
+chains_give chains each state p is =
+    let one = each (matches p state) 1 0 in
+    let said = said_by (verdict_by (policy_of chains 1) one.outcome) in
+    let passes : filter_of (Chains chains) state p said.0 = record { outcome = one.outcome; gives = one.gives; verdict = sym said.1 } in
+    (said.0, passes, (λ other h. verdict_if-injective other said.0 (verdict_once h passes)))
+
+-- entries of which no two contradict each other
+pub table_gives : (entries : List Entry) → IsTable entries → GivesOne (filter_of (Entries entries))
+table_gives entries table state p is =
+    let one = table.one_verdict (Ipv4 p) is in
+    let said = said_by one.verdict in
+    (said.0, subst (λ (v : Verdict). HasVerdict entries (Ipv4 p) v) said.1 one.has, (λ other h. verdict_if-injective other said.0 (one.only (verdict_if other) h ∙ said.1)))

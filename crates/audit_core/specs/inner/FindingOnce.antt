@@ -1,0 +1,131 @@
+-- There is one finding of two sides.
+use Rattle.std.proofs.Common.{◌≡◌, ◌⊎◌, inl, inr, ℕ, ◌<◌, ◌≤◌, Bool, true, false, refl, sym, ap, subst, ◌∙◌, arith, true≢false}
+use Rattle.std.proofs.lemmas.Bool.{cases_lt}
+use Rattle.host_net.specs.declared.packet.Packet.{Packet}
+use Rattle.pkt_core.specs.Filter.{ArePackets}
+use Rattle.audit_core.specs.declared.kind.Kind.{Kind}
+use Rattle.audit_core.specs.declared.kind.Kind.TheVariants.{Alone, BehindSwap, BehindBoth}
+use Rattle.audit_core.specs.declared.finding.Finding.{Finding}
+use Rattle.audit_core.specs.declared.finding.Finding.TheVariants.{Equal, Differ as Differing}
+use Rattle.audit_core.specs.declared.finding.Trace.{Trace}
+use Rattle.pkt_core.specs.Expected.{Expected}
+use Rattle.audit_core.specs.Agreement.{IsWrong}
+use Rattle.audit_core.specs.Cuts.{cuts_between}
+use Rattle.audit_core.specs.Findings.{IsFirstClass, IsFirstTrace, events_of, place_of, trace_of}
+use Rattle.audit_core.specs.inner.Findings.{IsFinding}
+use Rattle.audit_core.specs.laws.FindingLaws.{trace_packets}
+use Rattle.audit_core.specs.laws.ListLaws.{agree_not_differ, differ_on}
+use Rattle.audit_core.specs.Lists.{front_of, list_of}
+use Rattle.audit_core.specs.Places.{ComesBefore, IsClassPacket, Leasts, comes_first, leasts_of}
+use Rattle.audit_core.specs.Rules.{filter_of}
+use Rattle.audit_core.specs.Sides.{Agree, Sides, lets_answer, permits}
+
+-- 1. Of two packets one comes before the other, or they are the same.
+
+abbrev Apart : ℕ → ℕ → Type 0 → Type 0 → Type 0 → Type 0
+Apart a b L M E = comes_first a b L ⊎ (comes_first b a M ⊎ ((a ≡ b) × E))
+
+by_first : (a b : ℕ) (L M E : Type 0) → L ⊎ (M ⊎ E) → Apart a b L M E
+by_first a b L M E later = elim (cases_lt a b) [
+  | inl less ↦ inl (inl less)
+  | inr more ↦ elim (cases_lt b a) [
+    | inl above ↦ inr (inl (inl above))
+    | inr equal ↦
+        let is : a ≡ b = omega arith in
+        elim later [ inl l ↦ inl (inr (is, l)) | inr rest ↦ elim rest [ inl m ↦ inr (inl (inr (sym is, m))) | inr e ↦ inr (inr (is, e)) ] ]
+  ]
+]
+
+by_last : (a b : ℕ) → (a < b) ⊎ ((b < a) ⊎ (a ≡ b))
+by_last a b = elim (cases_lt a b) [
+  | inl less ↦ inl less
+  | inr more ↦ elim (cases_lt b a) [ inl above ↦ inr (inl above) | inr equal ↦ inr (inr (omega arith)) ]
+]
+
+ordered : (p q : Packet) → ComesBefore p q ⊎ (ComesBefore q p ⊎ (p ≡ q))
+ordered p q =
+    elim (by_first p.src q.src _ _ _ (by_first p.dst q.dst _ _ _ (by_first p.proto q.proto _ _ _ (by_first p.sport q.sport _ _ _ (by_last p.dport q.dport))))) [
+      | inl before ↦ inl before
+      | inr rest ↦ elim rest [
+        | inl after ↦ inr (inl after)
+        | inr same ↦ inr (inr (λ i. record { src = same.0 i; dst = same.1.0 i; proto = same.1.1.0 i; sport = same.1.1.1.0 i; dport = same.1.1.1.1 i }))
+      ]
+    ]
+
+-- 2. What is wrong is wrong in one way.
+
+one_wrong : (b c : Bool) (E : Type 0) → IsWrong b E → IsWrong c E → b ≡ c
+one_wrong true true E first second = refl
+one_wrong false false E first second = refl
+one_wrong true false E first second = elim first [
+  | inl f ↦ elim second [ inl s ↦ absurd (true≢false (sym s.0)) | inr s ↦ absurd (f.1 s.1) ]
+  | inr f ↦ absurd (true≢false f.0)
+]
+one_wrong false true E first second = elim first [
+  | inl f ↦ absurd (true≢false (sym f.0))
+  | inr f ↦ elim second [ inl s ↦ absurd (s.1 f.1) | inr s ↦ absurd (true≢false s.0) ]
+]
+
+module _ (sides : Sides) (leasts : Leasts) where
+  -- where they differ they do not agree
+  not_agreed : (kind : Kind) (p : Packet) (b : Bool) → IsFirstClass sides leasts kind p b → Agree sides (list_of kind p) → ⊥
+  not_agreed kind p b first agree =
+      agree_not_differ (filter_of sides.rules) (permits sides) (lets_answer sides) (list_of kind p) agree
+      (differ_on (filter_of sides.rules) (permits sides) (lets_answer sides) (front_of kind p) p b first.differ)
+
+  -- the packet of one kind and what the rules do there are one
+  one_class : (kind : Kind) (p q : Packet) (b c : Bool) → IsFirstClass sides leasts kind p b → IsFirstClass sides leasts kind q c → (p ≡ q) × (b ≡ c)
+  one_class kind p q b c first second = elim (ordered p q) [
+    | inl before ↦ absurd (not_agreed kind p b first (second.first p first.is_class before))
+    | inr rest ↦ elim rest [
+      | inl after ↦ absurd (not_agreed kind q c second (first.first q second.is_class after))
+      | inr same ↦ (same, wrong_alike same)
+    ]
+  ]
+    where
+      wrong_alike : p ≡ q → b ≡ c
+      wrong_alike same = one_wrong b c _ (subst (λ (r : Packet). IsWrong b (Expected (permits sides) (lets_answer sides) (front_of kind r) r)) same first.differ.wrong) second.differ.wrong
+
+  -- and so is the kind
+  one_kind : (k l : Kind) (p q : Packet) (b c : Bool) → IsFirstClass sides leasts k p b → IsFirstClass sides leasts l q c
+      → ((m : Kind) → place_of m < place_of k → (r : Packet) → IsClassPacket leasts r → Agree sides (list_of m r))
+      → ((m : Kind) → place_of m < place_of l → (r : Packet) → IsClassPacket leasts r → Agree sides (list_of m r)) → k ≡ l
+  one_kind k l p q b c first second before_first before_second = by_places (cases_lt (place_of k) (place_of l)) (cases_lt (place_of l) (place_of k))
+    where
+      same_place : (k l : Kind) → place_of k ≡ place_of l → k ≡ l
+      same_place Alone Alone is = refl
+      same_place BehindSwap BehindSwap is = refl
+      same_place BehindBoth BehindBoth is = refl
+      same_place Alone BehindSwap is = absurd (omega (arith, is))
+      same_place Alone BehindBoth is = absurd (omega (arith, is))
+      same_place BehindSwap Alone is = absurd (omega (arith, is))
+      same_place BehindSwap BehindBoth is = absurd (omega (arith, is))
+      same_place BehindBoth Alone is = absurd (omega (arith, is))
+      same_place BehindBoth BehindSwap is = absurd (omega (arith, is))
+
+      by_places : (place_of k < place_of l) ⊎ (place_of l ≤ place_of k) → (place_of l < place_of k) ⊎ (place_of k ≤ place_of l) → k ≡ l
+      by_places (inl less) other = absurd (not_agreed k p b first (before_second k less p first.is_class))
+      by_places (inr more) (inl less) = absurd (not_agreed l q c second (before_first l less q second.is_class))
+      by_places (inr more) (inr same) = same_place k l (omega arith)
+
+  one_trace : (s t : Trace) → IsFirstTrace sides leasts s → IsFirstTrace sides leasts t → s ≡ t
+  one_trace s t first second =
+      let kinds = one_kind first.kind second.kind first.packet second.packet s.forwards t.forwards first.first second.first first.earlier second.earlier in
+      let same =
+      one_class second.kind first.packet second.packet s.forwards t.forwards
+      (subst (λ (k : Kind). IsFirstClass sides leasts k first.packet s.forwards) kinds first.first) second.first in
+      first.is ∙ (λ i. trace_of (kinds i) (same.0 i) (same.1 i)) ∙ sym second.is
+
+equal_not_differ : (sides : Sides) (t : Trace) → IsFinding sides Equal → IsFinding sides (Differing t) → ⊥
+equal_not_differ sides t agree found =
+    agree_not_differ (filter_of sides.rules) (permits sides) (lets_answer sides) (events_of t)
+    (agree (events_of t) (subst (λ (u : Trace). ArePackets (events_of u)) (sym found.is) (trace_packets found.kind found.packet t.forwards found.first.packet)))
+    found.differ
+
+-- what is found of two sides is one
+pub finding_once : (sides : Sides) (f g : Finding) → IsFinding sides f → IsFinding sides g → f ≡ g
+finding_once sides Equal Equal first second = refl
+finding_once sides Equal (Differing t) first second = absurd (equal_not_differ sides t first second)
+finding_once sides (Differing s) Equal first second = absurd (equal_not_differ sides s second first)
+finding_once sides (Differing s) (Differing t) first second =
+    ap (λ (u : Trace). Differing u) (one_trace sides (leasts_of (cuts_between sides)) s t first second)

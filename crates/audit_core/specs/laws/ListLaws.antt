@@ -1,0 +1,124 @@
+-- Laws of one more packet behind a list of events.
+use Rattle.std.proofs.Common.{◌≡◌, ◌↔◌, inl, inr, ℕ, suc, ◌+◌, ◌<◌, ◌≤◌, Bool, IsTrue, List, [], ◌∷◌, ◌++◌, Option, Some, None, length, take, slice_get, refl, sym, ap, subst, ◌∙◌, arith, true≢false, length-append}
+use Rattle.std.proofs.lemmas.List.{take-append-le}
+use Rattle.std.proofs.Math.Seq.{take-append_seam}
+use Rattle.std.proofs.lemmas.Option.{slice_get_within}
+use Rattle.host_net.specs.declared.packet.Packet.{Packet}
+use Rattle.pkt_core.specs.declared.event.Event.{Event}
+use Rattle.pkt_core.specs.declared.event.Event.TheVariants.{Seen, Forget}
+use Rattle.pkt_core.specs.laws.EventLaws.{get_back, get_before, get_last}
+use Rattle.pkt_core.specs.Expected.{AreExpected, Expected}
+use Rattle.pkt_core.specs.Firewall.{Filter}
+use Rattle.pkt_core.specs.inner.Kept.{kept_after}
+use Rattle.pkt_core.specs.Tracking.{Kept, Runs, after_forget, after_seen, nothing_kept, state_of}
+use Rattle.audit_core.specs.Agreement.{AgreeOn, DifferOn, IsWrong}
+use Rattle.audit_core.specs.Lists.{DifferBehind}
+
+-- the answers of a run are the answer to its first packet and those of a run over the rest
+pub record BeginsRun (filter : Filter) (kept : Kept) (p : Packet) (events : List Event) (answers : List (Option Bool)) : Type 0 where
+  pub passes : Bool
+  pub others : List (Option Bool)
+  pub are : answers ≡ Some passes ∷ others
+  pub first : filter (state_of kept p) p passes
+  pub rest : Runs filter (after_seen kept p passes) events others
+
+module _ (filter : Filter) where
+  pub begins_run : (kept : Kept) (p : Packet) (events : List Event) (answers : List (Option Bool)) → Runs filter kept (Seen p ∷ events) answers
+      → BeginsRun filter kept p events answers
+  begins_run kept p events [] run = absurd run
+  begins_run kept p events (None ∷ answers) run = absurd run
+  begins_run kept p events (Some passes ∷ answers) run = record { passes = passes; others = answers; are = refl; first = run.0; rest = run.1 }
+
+  pub ends_run : (kept : Kept) (answers : List (Option Bool)) → Runs filter kept [] answers → answers ≡ []
+  ends_run kept [] run = refl
+  ends_run kept (answer ∷ answers) run = absurd run
+
+  pub run_more : (kept : Kept) (past : List Event) (answers : List (Option Bool)) → Runs filter kept past answers → (p : Packet) (b : Bool) → filter (state_of (kept_after kept past answers) p) p b →
+      Runs filter kept (past ++ Seen p ∷ []) (answers ++ Some b ∷ [])
+  run_more kept [] [] run p b h = (h, tt)
+  run_more kept [] (x ∷ xs) run p b h = absurd run
+  run_more kept (Seen q ∷ past) [] run p b h = absurd run
+  run_more kept (Forget q ∷ past) [] run p b h = absurd run
+  run_more kept (Seen q ∷ past) (None ∷ xs) run p b h = absurd run
+  run_more kept (Seen q ∷ past) (Some a ∷ xs) run p b h = (run.0, run_more (after_seen kept q a) past xs run.1 p b h)
+  run_more kept (Forget q ∷ past) (Some a ∷ xs) run p b h = absurd run
+  run_more kept (Forget q ∷ past) (None ∷ xs) run p b h = run_more (after_forget kept q) past xs run p b h
+
+  pub run_long : (kept : Kept) (past : List Event) (answers : List (Option Bool)) → Runs filter kept past answers → length answers ≡ length past
+  run_long kept [] [] run = refl
+  run_long kept [] (x ∷ xs) run = absurd run
+  run_long kept (Seen q ∷ past) [] run = absurd run
+  run_long kept (Forget q ∷ past) [] run = absurd run
+  run_long kept (Seen q ∷ past) (None ∷ xs) run = absurd run
+  run_long kept (Seen q ∷ past) (Some a ∷ xs) run = ap suc (run_long (after_seen kept q a) past xs run.1)
+  run_long kept (Forget q ∷ past) (Some a ∷ xs) run = absurd run
+  run_long kept (Forget q ∷ past) (None ∷ xs) run = ap suc (run_long (after_forget kept q) past xs run)
+
+  module _ (permitted stateful : Packet → Bool) where
+    pub expected_more : (past : List Event) (answers : List (Option Bool)) (p : Packet) (b : Bool) → AreExpected permitted stateful past answers → (IsTrue b ↔ Expected permitted stateful past p) →
+        AreExpected permitted stateful (past ++ Seen p ∷ []) (answers ++ Some b ∷ [])
+    expected_more past answers p b old is = record {
+      as_many = length-append answers (Some b ∷ []) ∙ ap (λ (n : ℕ). n + 1) old.as_many ∙ sym (length-append past (Seen p ∷ []));
+      seen = λ k q there. elim (get_back past (Seen p) (Seen q) k there) [
+        | inl h ↦
+            let at = old.seen k q h in (
+              at.0,
+              get_before answers (Some b ∷ []) k (Some at.0) at.1,
+              subst (λ (es : List Event). IsTrue at.0 ↔ Expected permitted stateful es q) (sym (take-append-le k past (Seen p ∷ []) (small k (slice_get_within past k (Seen q) h)))) at.2,
+            )
+        | inr h ↦ (
+          b,
+          ap (slice_get (answers ++ Some b ∷ [])) (h.0 ∙ sym old.as_many) ∙ get_last answers (Some b),
+          subst (λ (r : Packet). IsTrue b ↔ Expected permitted stateful (take k (past ++ Seen p ∷ [])) r) (same p q h.1)
+              (subst (λ (es : List Event). IsTrue b ↔ Expected permitted stateful es p) (sym (ap (λ (n : ℕ). take n (past ++ Seen p ∷ [])) h.0 ∙ take-append_seam past (Seen p ∷ []))) is),
+        )
+      ];
+      forgotten = λ k q there. elim (get_back past (Seen p) (Forget q) k there) [
+        | inl h ↦ get_before answers (Some b ∷ []) k None (old.forgotten k q h)
+        | inr h ↦ absurd (apart p q h.1)
+      ];
+    }
+      where
+        small : (k : ℕ) → k < length past → k ≤ length past
+        small k h = omega arith
+
+        same : (p q : Packet) → Seen p ≡ Seen q → p ≡ q
+        same p q h = cc
+
+        apart : (p q : Packet) → Seen p ≡ Forget q → ⊥
+        apart p q h = cc
+
+    -- they differ on one more that is not answered as expected
+    pub differ_more : (past : List Event) (answers : List (Option Bool)) → Runs filter nothing_kept past answers → (p : Packet) (b : Bool)
+        → filter (state_of (kept_after nothing_kept past answers) p) p b → IsWrong b (Expected permitted stateful past p)
+        → DifferBehind filter permitted stateful past p b
+    differ_more past answers run p b h wrong = record {
+      answers = answers;
+      run = run_more nothing_kept past answers run p b h;
+      many = run_long nothing_kept past answers run;
+      wrong = wrong;
+    }
+
+    -- what differs behind a list differs on the list with the packet
+    pub differ_on : (past : List Event) (p : Packet) (b : Bool) → DifferBehind filter permitted stateful past p b → DifferOn filter permitted stateful (past ++ Seen p ∷ [])
+    differ_on past p b behind = record {
+      answers = behind.answers ++ Some b ∷ [];
+      run = behind.run;
+      place = length past;
+      packet = p;
+      seen = get_last past (Seen p);
+      passes = b;
+      answer = ap (slice_get (behind.answers ++ Some b ∷ [])) (sym behind.many) ∙ get_last behind.answers (Some b);
+      wrong = subst (λ (es : List Event). IsWrong b (Expected permitted stateful es p)) (sym (take-append_seam past (Seen p ∷ []))) behind.wrong;
+    }
+
+    -- what agrees does not differ
+    pub agree_not_differ : (events : List Event) → AgreeOn filter permitted stateful events → DifferOn filter permitted stateful events → ⊥
+    agree_not_differ events agree differ =
+        let at = (agree differ.answers differ.run).seen differ.place differ.packet differ.seen in
+        let same : at.0 ≡ differ.passes = only at.0 differ.passes (sym at.1 ∙ differ.answer) in
+        let is = subst (λ (b : Bool). IsTrue b ↔ Expected permitted stateful (take differ.place events) differ.packet) same at.2 in
+        elim differ.wrong [ inl h ↦ h.1 (is.0 h.0) | inr h ↦ true≢false (sym (is.1 h.1) ∙ h.0) ]
+      where
+        only : (b c : Bool) → Some (Some b) ≡ Some (Some c) → b ≡ c
+        only b c h = cc

@@ -1,0 +1,43 @@
+-- A table describes the network that is written in it exactly where the facts of TableFacts hold of it.
+use Rattle.std.proofs.Common.{◌≡◌, Option, None, Ok, refl, subst}
+use Rattle.std.specs.Option.{option_or}
+use Rattle.std.specs.Prelude.{◌↔◌}
+use Rattle.toml.specs.Data.{Members}
+use Rattle.desc_core.specs.Description.{described_by_table, refused_or}
+use Rattle.desc_core.proofs.DescriptionLaws.{accepted, by_groups}
+use Rattle.desc_core.specs.inner.TableFacts.{IsRight}
+use Rattle.desc_core.specs.inner.UseFacts.{HasUses}
+use Rattle.desc_core.proofs.UseFactsLaws.{has_uses}
+use Rattle.desc_core.specs.WrittenNetwork.{network_of}
+use Rattle.desc_form.specs.Written.{written}
+use Rattle.desc_form.proofs.WrittenLaws.{formed_where_written, written_stands}
+use Rattle.desc_form.proofs.WrittenOnceLaws.{written_is}
+use Rattle.desc_form.specs.declared.refusal.Refusal.{Refusal}
+use Rattle.desc_hosts.proofs.FactsLaws.{has_hosts}
+use Rattle.desc_hosts.specs.inner.HostFacts.{HasHosts}
+use Rattle.net_core.specs.Network.{Network}
+
+pub IsRight-described : (table : Members) (d : Network) → described_by_table table ≡ Ok d → IsRight table
+IsRight-described table d said =
+    let none = accepted table d said in
+    record {
+      w = written table;
+      written = written_stands table none.form;
+      hosts = (has_hosts (written table)).0 none.hosts;
+      uses = (has_uses (written table)).0 none.uses;
+    }
+
+pub unrefused : {A : Type 0} (o a b c : Option Refusal) (x : A) → o ≡ option_or a (option_or b c) → a ≡ None → b ≡ None → c ≡ None
+    → refused_or o x ≡ Ok x
+unrefused o a b c x groups first second third = rw (groups, first, second, third) refl
+
+-- what is right is accepted
+pub described-IsRight : (table : Members) → IsRight table → described_by_table table ≡ Ok (network_of (written table))
+unfolding described_by_table
+described-IsRight table right =
+    let same = written_is table right.w right.written in
+    unrefused _ _ _ _ (network_of (written table)) (by_groups table) (formed_where_written table right.w right.written)
+    ((has_hosts (written table)).1 (subst HasHosts same right.hosts)) ((has_uses (written table)).1 (subst HasUses same right.uses))
+
+pub is_right : (table : Members) → (described_by_table table ≡ Ok (network_of (written table))) ↔ IsRight table
+is_right table = (IsRight-described table (network_of (written table)), described-IsRight table)

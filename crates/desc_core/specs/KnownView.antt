@@ -1,9 +1,0 @@
--- What the code's invariant with known names stands for.
-use Rattle.std.specs.Prelude.{map}
-use Rattle.attr_core.specs.AssignView.{given_of}
-use Rattle.desc_core.specs.ChoiceView.{choice_view}
-use Rattle.desc_core.specs.WrittenNetwork as meant
-use Rattle.desc_core.specs.declared.known.KnownInvariant.{KnownInvariant}
-
-abbrev pub known_view : KnownInvariant → meant.Known
-known_view k = record { template = choice_view k.template; assigns = map given_of k.assigns.items }

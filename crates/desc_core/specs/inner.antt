@@ -1,0 +1,13 @@
+pub mod AllConditions
+pub mod ChoiceView
+pub mod Choices
+pub mod KnownView
+pub mod Makeable
+pub mod Migrated
+pub mod Order
+pub mod Parts
+pub mod Reads
+pub mod TableFacts
+pub mod TemplateFacts
+pub mod UseFacts
+pub mod Whole

@@ -1,0 +1,90 @@
+-- What the private functions give on the way to a network: the table of the bytes, and the refusals in groups, by the hosts that
+-- were found. Their contracts cite it; the laws tie it to `described`, and nothing here has to be believed.
+use Rattle.std.specs.Prelude.{ℕ, ◌==◌, List, [], ◌∷◌, ◌++◌, length, nat_lt, find, Option, Some, option_map, Err, Result, if◌then◌else◌}
+use Rattle.std.specs.List.{cons_option}
+use Rattle.std.specs.Option.{ok_or, option_or}
+use Rattle.toml.specs.Data.{Members}
+use Rattle.desc_core.specs.Conditions.{byte_limit}
+use Rattle.desc_core.specs.Description.{refused_or}
+use Rattle.desc_core.specs.Document.{document}
+use Rattle.net_core.specs.Network.{Network}
+use Rattle.desc_core.specs.WrittenNetwork.{Known, narrowed_to, network_of, services_said}
+use Rattle.desc_core.specs.TemplateConditions.{bad_template, not_lawful}
+use Rattle.desc_core.specs.UseConditions.{bad_at, bad_service_of, has_many_services, undeclared_host, unknown_template, use_conditions}
+use Rattle.desc_form.specs.Refusals.{refused, refused_by}
+use Rattle.desc_form.specs.WrittenFlow.{WrittenFlow}
+use Rattle.desc_form.specs.declared.refusal.Place.TheVariants.{Document, FlowAt}
+use Rattle.desc_form.specs.declared.refusal.Why.TheVariants.{DuplicateFlow, ManyServices, NotToml, SelfFlow, TooLong}
+use Rattle.text_core.specs.Firsts.{first_found, first_pair, numbered}
+use Rattle.text_core.specs.Steps.{◌>>=◌}
+use Rattle.desc_form.specs.Written.{Written}
+use Rattle.desc_hosts.specs.HostConditions.{host_conditions}
+use Rattle.desc_form.specs.declared.refusal.Refusal.{Refusal}
+use Rattle.flow_set.specs.Flow.{same_flow}
+use Rattle.flow_set.specs.declared.flow.Flow.{Flow}
+use Rattle.host_net.specs.Host.{Host, host_named}
+use Rattle.host_net.specs.Services.{NarrowedFlow}
+use Rattle.host_net.specs.inner.Services.{with_service}
+use Rattle.host_net.specs.declared.service.Service.{Service}
+use Rattle.text_core.specs.Firsts.{first_of}
+
+-- the table of the bytes, or 1 or 2
+unfoldable pub table_of : List ℕ → Result Members Refusal
+table_of bytes =
+    if nat_lt byte_limit (length bytes) then Err (refused TooLong Document) else ok_or (document bytes) (refused NotToml Document)
+
+-- the network, or the first of 6 to 22
+unfoldable pub network_or : Written → Result Network Refusal
+network_or w = refused_or (first_of (host_conditions w ++ use_conditions w)) (network_of w)
+
+-- the network, or the first of 15 to 22
+abbrev pub network_by_uses : Written → Result Network Refusal
+network_by_uses w = refused_or (first_of (use_conditions w)) (network_of w)
+
+-- 15 and 16
+abbrev pub name_conditions : Written → List (Option Refusal)
+name_conditions w = unknown_template w ∷ undeclared_host w ∷ []
+
+-- the hosts that the names of a flow stand for; they may be one
+abbrev pub ends_of : List Host → WrittenFlow → Option Flow
+ends_of hosts f = do
+  from ← host_named hosts f.from
+  to ← host_named hosts f.to
+  Some (record { from = from; to = to })
+
+-- 18, of invariants whose names are known
+abbrev pub bad_known : List Host → List Known → Option Refusal
+bad_known hosts ks = first_found (λ k. bad_at hosts k.number k.what) (numbered ks)
+
+-- 19, of flows by their hosts
+abbrev pub self_found : List Flow → Option Refusal
+self_found fs = option_map (λ f. refused SelfFlow (FlowAt f.number)) (find (λ f. f.what.from == f.what.to) (numbered fs))
+
+-- 20, of flows by their hosts
+abbrev pub twice_found : List Flow → Option Refusal
+twice_found fs =
+    option_map (λ p. refused_by DuplicateFlow (FlowAt p.later.number) p.earlier.number)
+    (first_pair (λ f g. same_flow f.what g.what) (numbered fs))
+
+-- 22, of flows as they are written
+abbrev pub many_found : List WrittenFlow → Option Refusal
+many_found ws = option_map (λ f. refused ManyServices (FlowAt f.number)) (find (λ f. has_many_services f.what) (numbered ws))
+
+-- 21 and 22
+abbrev pub services_found : List WrittenFlow → Option Refusal
+services_found ws = option_or (first_found bad_service_of (numbered ws)) (many_found ws)
+
+-- 23 and 24
+abbrev pub templates_found : Written → Option Refusal
+templates_found w = option_or (bad_template w) (not_lawful w)
+
+-- the flows that are narrowed, of flows by their hosts and as they are written
+abbrev pub narrowed_among : List Flow → List WrittenFlow → List NarrowedFlow
+narrowed_among [] ws = []
+narrowed_among (e ∷ es) [] = []
+narrowed_among (e ∷ es) (w ∷ ws) = cons_option (narrowed_to e (services_said w)) (narrowed_among es ws)
+
+-- the services of a flow are added one by one
+abbrev pub with_services : List NarrowedFlow → Flow → List Service → List NarrowedFlow
+with_services ns flow [] = ns
+with_services ns flow (s ∷ ss) = with_services (with_service ns flow.from flow.to s) flow ss

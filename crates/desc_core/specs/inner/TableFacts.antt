@@ -1,0 +1,13 @@
+-- What is true of the tables that describe a network, and of no other, in plain words: something is written in the table, and its hosts
+-- and the uses of their names are as they should be.
+use Rattle.toml.specs.Data.{Members}
+use Rattle.desc_core.specs.inner.UseFacts.{HasUses}
+use Rattle.desc_form.specs.Written.{Written}
+use Rattle.desc_form.specs.inner.WrittenForm.{IsWritten}
+use Rattle.desc_hosts.specs.inner.HostFacts.{HasHosts}
+
+pub record IsRight (table : Members) : Type 0 where
+  pub w : Written
+  pub written : IsWritten table w
+  pub hosts : HasHosts w
+  pub uses : HasUses w

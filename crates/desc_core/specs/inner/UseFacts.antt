@@ -1,0 +1,33 @@
+-- What is true of a written description that none of the conditions 15 to 24 refuses, in plain words: its templates, the hosts of
+-- its assigns and of its flows, the attributes, the services of its flows, and the templates that it declares (the description's
+-- format, docs/FORMATS.md).
+use Rattle.std.specs.Prelude.{◌≡◌, ◌≢◌, ◌≤◌, List, length, Some, None, is_some, IsTrue}
+use Rattle.std.specs.List.{All, AllPairs}
+use Rattle.desc_core.specs.Choices.{bad_of, chosen}
+use Rattle.desc_core.specs.inner.TemplateFacts.{HasPartner, IsTemplate}
+use Rattle.desc_form.specs.WrittenTemplate.{WrittenTemplate}
+use Rattle.desc_core.specs.UseConditions.{is_declared}
+use Rattle.desc_core.specs.WrittenNetwork.{Known, known_of}
+use Rattle.desc_form.specs.Written.{Written, WrittenInvariant}
+use Rattle.desc_hosts.specs.WrittenHosts.{network_hosts}
+use Rattle.host_net.specs.Host.{Host}
+use Rattle.host_net.specs.Services.{service_limit}
+use Rattle.host_net.specs.ServiceText.{service_of}
+
+-- each assign of the invariant says an attribute of its template
+abbrev pub SaysAttributes : List WrittenTemplate → List Host → WrittenInvariant → Type 0
+SaysAttributes templates hosts i = (k : Known) → known_of templates hosts i ≡ Some k → bad_of hosts k.template k.assigns ≡ None
+
+pub record HasUses (w : Written) : Type 0 where
+  pub templates : All (λ i. IsTrue (is_some (chosen w.templates i.template))) w.invariants
+  pub assigned : All (λ i. All (λ a. IsTrue (is_declared w a.host)) i.assigns) w.invariants
+  pub joined : All (λ f. IsTrue (is_declared w f.from) × IsTrue (is_declared w f.to)) w.flows
+  pub once : All (λ i. AllPairs (λ a b. a.host ≢ b.host) i.assigns) w.invariants
+  pub attributes : All (SaysAttributes w.templates (network_hosts w)) w.invariants
+  pub apart : All (λ f. f.from ≢ f.to) w.flows
+  pub different : AllPairs (λ f g. f.from ≡ g.from → f.to ≡ g.to → ⊥) w.flows
+  pub services : All (λ f. All (λ text. IsTrue (is_some (service_of text))) f.services) w.flows
+  pub few : All (λ f. length f.services ≤ service_limit) w.flows
+  pub declared : All IsTemplate w.templates
+  pub distinct : AllPairs (λ t u. t.name ≢ u.name) w.templates
+  pub lawful : All (λ t. All (HasPartner t) t.deny) w.templates

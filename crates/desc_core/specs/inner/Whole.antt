@@ -1,0 +1,83 @@
+-- That nothing of a description is passed over: its hosts, its invariants, its flows and their services stand in the network, one
+-- for one.
+use Rattle.std.specs.Prelude.{◌≡◌, ◌==◌, ℕ, Bool, true, false, not, List, length, Some, None, IsTrue}
+use Rattle.std.specs.List.{All, AllZip, filter}
+use Rattle.toml.specs.Data.{Members}
+use Rattle.desc_core.specs.Document.{document}
+use Rattle.desc_core.specs.Flows.{flow_of_names}
+use Rattle.net_core.specs.Network.{Network}
+use Rattle.attr_core.specs.Assigns.{Given}
+use Rattle.attr_core.specs.Forms.{attributes_in, bad_assign}
+use Rattle.desc_core.specs.Choices.{Choice, chosen, table_said}
+use Rattle.desc_core.specs.inner.Choices.{choice_form}
+use Rattle.tmpl_table.specs.KindTable.{is_lawful}
+use Rattle.desc_form.specs.WrittenTemplate.{WrittenTemplate}
+use Rattle.desc_core.specs.WrittenNetwork.{given_by}
+use Rattle.inv_any.specs.declared.any_inv.AnyInv.{AnyInv}
+use Rattle.table_core.specs.Listing.{each}
+use Rattle.desc_form.specs.Written.{Written, WrittenHost, WrittenInvariant}
+use Rattle.desc_form.specs.WrittenFlow.{WrittenFlow}
+use Rattle.desc_form.specs.inner.WrittenForm.{IsWritten}
+use Rattle.flow_set.specs.FlowSet.{has, IsFull}
+use Rattle.flow_set.specs.declared.flow.Flow.{Flow}
+use Rattle.host_net.specs.Host.{Host}
+use Rattle.host_net.specs.Prefix.{prefix_of}
+use Rattle.host_net.specs.Services.{NarrowedFlow}
+use Rattle.host_net.specs.inner.ServiceText.{IsServiceSpelling}
+
+-- the host is the written one, and each of its entries is a prefix
+pub record IsHostOf (h : WrittenHost) (host : Host) : Type 0 where
+  pub name : host.name ≡ h.name
+  pub prefixes : AllZip (λ text prefix. prefix_of text ≡ Some prefix) h.at host.prefixes
+  pub rest : host.rest ≡ h.rest
+
+-- the set has one flow for each pair of names, from the host of the first to the host of the second, and no other
+pub record IsSetOf (hosts : List Host) (pairs : List WrittenFlow) (asked : List Flow) : Type 0 where
+  pub flows : List Flow
+  pub each : AllZip (λ names flow. flow_of_names hosts names ≡ Some flow) pairs flows
+  pub same : (f : Flow) → has asked f ≡ has flows f
+  pub count : length asked ≡ length pairs
+
+-- services are written behind the names of the flow
+abbrev pub is_narrowed : WrittenFlow → Bool
+is_narrowed f = not (length f.services == 0)
+
+-- the flow between the hosts of the names is narrowed to the services that its texts say, one for one
+pub record IsNarrowedOf (hosts : List Host) (f : WrittenFlow) (narrowed : NarrowedFlow) : Type 0 where
+  pub flow : flow_of_names hosts f ≡ Some (record { from = narrowed.from; to = narrowed.to })
+  pub services : AllZip IsServiceSpelling f.services narrowed.services
+
+-- the invariant is of the written template, one of the ten or a declared one, each of its assigns is of a declared host and says an
+-- attribute, and each host has the attribute that the last assign of it says, or the default
+pub record IsInvariantOf (templates : List WrittenTemplate) (hosts : List Host) (i : WrittenInvariant) (invariant : AnyInv) : Type 0 where
+  pub template : Choice
+  pub named : chosen templates i.template ≡ Some template
+  pub assigns : List Given
+  pub given : each (given_by hosts) i.assigns ≡ Some assigns
+  pub good : bad_assign (choice_form template) hosts assigns ≡ None
+  pub made : invariant ≡ (choice_form template).make (attributes_in (choice_form template) hosts assigns)
+
+-- the network has what is written, in the same order; where the key `flow` is absent, every flow is asked for. The flows with
+-- services are narrowed, and no others. The declared templates are lawful, so each denies the pairs that it lists
+pub record IsWhole (w : Written) (d : Network) : Type 0 where
+  pub hosts : AllZip IsHostOf w.hosts d.hosts
+  pub invariants : AllZip (IsInvariantOf w.templates d.hosts) w.invariants d.invariants
+  pub given : d.given ≡ w.given
+  pub answers : d.answers ≡ w.answers
+  pub sized : d.asked.size ≡ length d.hosts
+  pub listed : w.given ≡ true → IsSetOf d.hosts w.flows d.asked.flows
+  pub every : w.given ≡ false → IsFull (length d.hosts) d.asked.flows
+  pub services : AllZip (IsNarrowedOf d.hosts) (filter is_narrowed w.flows) d.services
+  pub lawful : All (λ t. IsTrue (is_lawful (table_said t))) w.templates
+
+-- w is all that is written in the table, and the network has all of w
+pub record IsDescribedByTable (table : Members) (d : Network) : Type 0 where
+  pub w : Written
+  pub written : IsWritten table w
+  pub whole : IsWhole w d
+
+-- the bytes are a document, and its table describes the network
+pub record IsDescribed (bytes : List ℕ) (d : Network) : Type 0 where
+  pub table : Members
+  pub document : document bytes ≡ Some table
+  pub described : IsDescribedByTable table d

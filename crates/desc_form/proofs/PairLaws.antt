@@ -1,0 +1,80 @@
+-- A pair is read from a value exactly where the value is the array of its two texts.
+use Rattle.std.proofs.Common.{◌≡◌, ℕ, suc, Bool, true, false, ◌==◌, List, [], ◌∷◌, length, Option, Some, None, option_map, refl, ap, ◌∙◌, sym, subst, arith}
+use Rattle.std.proofs.lemmas.Bool.{and_parts}
+use Rattle.std.proofs.lemmas.Bool.Decides.{nat_tests}
+use Rattle.std.specs.List.{AllZip, cons_option, list_all}
+use Rattle.std.specs.Prelude.{filter_map, if◌then◌else◌, is_some}
+use Rattle.toml.specs.Data.{Data}
+use Rattle.desc_form.proofs.FlowLaws.{flow_read, flow_says}
+use Rattle.desc_form.specs.WrittenFlow.{WrittenFlow, flow_written}
+use Rattle.desc_form.specs.inner.WrittenForm.{IsPair}
+use Rattle.desc_form.specs.WrittenTemplate.{WrittenPair, pair_of_flow, pair_written}
+use Rattle.text_core.specs.Steps.{◌>>=◌}
+use Rattle.text_core.proofs.StepsLaws.{bind_some}
+
+some_long : (n : ℕ) → (suc n == 0) ≡ true → ⊥
+some_long n is = grind (arith, nat_tests)
+
+none_behind : {A : Type 0} (xs : List A) → (length xs == 0) ≡ true → xs ≡ []
+none_behind [] is = refl
+none_behind (x ∷ xs) is = absurd (some_long (length xs) is)
+
+-- the flow of a pair has nothing behind its two texts
+pair_by : (from to : List ℕ) (services : List (List ℕ)) (b : Bool) (p : WrittenPair) → (length services == 0) ≡ b
+    → (if b then Some (record { sender = from; receiver = to }) else None) ≡ Some p → from ∷ to ∷ services ≡ p.sender ∷ p.receiver ∷ []
+pair_by from to services true p is said =
+    let none = none_behind services is in
+    let sender : from ≡ p.sender = cc in
+    let receiver : to ≡ p.receiver = cc in
+    λ i. sender i ∷ receiver i ∷ none i
+pair_by from to services false p is said = cc
+
+-- what is read of a value is the pair that it is
+pub pair_read : (d : Data) (p : WrittenPair) → pair_written d ≡ Some p → IsPair d p
+unfolding pair_written
+pair_read d p read =
+    let (f, flow, said) = bind_some (flow_written d) pair_of_flow p read in
+    let (ds, is_array, zipped) = flow_read d f flow in
+    (ds, is_array, subst (AllZip _ _) (pair_by f.from f.to f.services (length f.services == 0) p refl said) zipped)
+
+pub pair_says : (d : Data) (p : WrittenPair) → IsPair d p → pair_written d ≡ Some p
+unfolding pair_written
+pair_says d p is =
+    let said : flow_written d ≡ Some (record { from = p.sender; to = p.receiver; services = [] }) =
+    flow_says d (record { from = p.sender; to = p.receiver; services = [] }) is in
+    rw said refl
+
+pair_first : (d : Data) (ds : List Data) (o : Option WrittenPair) → pair_written d ≡ o → is_some o ≡ true
+    → AllZip IsPair ds (filter_map pair_written ds) → AllZip IsPair (d ∷ ds) (cons_option o (filter_map pair_written ds))
+pair_first d ds None read there zipped = cc
+pair_first d ds (Some p) read there zipped = (pair_read d p read, zipped)
+
+-- where each element is a pair, each is read
+pub pairs_read : (ds : List Data) → list_all (λ d. is_some (pair_written d)) ds ≡ true → AllZip IsPair ds (filter_map pair_written ds)
+pairs_read [] all = tt
+pairs_read (d ∷ ds) all =
+    let (here, behind) = and_parts (is_some (pair_written d)) (list_all (λ e. is_some (pair_written e)) ds) all in
+    pair_first d ds (pair_written d) refl here (pairs_read ds behind)
+
+pub pairs_say : (ds : List Data) (ps : List WrittenPair) → AllZip IsPair ds ps → list_all (λ d. is_some (pair_written d)) ds ≡ true
+pairs_say [] ps zipped = refl
+pairs_say (d ∷ ds) [] zipped = absurd zipped
+pairs_say (d ∷ ds) (p ∷ ps) (is, zipped) = rw (pair_says d p is, pairs_say ds ps zipped) refl
+
+-- a value is a pair where it is a flow without services
+abbrev paired : List ℕ → List ℕ → Bool → Option WrittenPair
+paired from to b = if b then Some (record { sender = from; receiver = to }) else None
+
+counted_by : (from to : List ℕ) (n : ℕ) (b : Bool) → (n == 0) ≡ b → (n == 0) ≡ is_some (paired from to b)
+counted_by from to n true is = is
+counted_by from to n false is = is
+
+pub counted : (o : Option WrittenFlow) (n : ℕ) → option_map (λ (f : WrittenFlow). length f.services) o ≡ Some n → (n == 0) ≡ is_some (o >>= pair_of_flow)
+counted None n is = cc
+counted (Some f) n is =
+    let same : length f.services ≡ n = cc in
+    ap (λ k. k == 0) (sym same) ∙ counted_by f.from f.to (length f.services) (length f.services == 0) refl
+
+pub uncounted : (o : Option WrittenFlow) → option_map (λ (f : WrittenFlow). length f.services) o ≡ None → false ≡ is_some (o >>= pair_of_flow)
+uncounted None is = refl
+uncounted (Some f) is = cc

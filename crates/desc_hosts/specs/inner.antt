@@ -1,0 +1,3 @@
+pub mod EntryView
+pub mod HostFacts
+pub mod MentionView

@@ -1,0 +1,23 @@
+-- What is told of a description after an edit, and what a session answers.
+use Rattle.std.specs.Prelude.{◌≡◌, Result, Ok, Err}
+use Rattle.desc_core.specs.declared.fault.DescFault.TheVariants as desc
+use Rattle.edit_core.specs.Edited.{after_edit}
+use Rattle.edit_core.specs.Kept.{IsKept}
+use Rattle.edit_core.specs.declared.fault.EditFault.{EditFault}
+use Rattle.edit_core.specs.declared.fault.EditFault.TheVariants.{Memory}
+use Rattle.edit_core.specs.declared.summary.Summary.{Summary}
+use Rattle.edit_text.specs.Edit.{Change}
+use Rattle.net_core.specs.Network.{Network}
+use Rattle.net_core.specs.Policies.{Policy}
+use Rattle.toml.specs.Data.{Members}
+use Rattle.edit_core.specs.Summaries.{IsSummary}
+
+-- this is so of the policy of the network that the table describes
+abbrev pub HasPolicy : Members → (Policy → Type 0) → Type 0
+HasPolicy table Is = (d : Network) × (policy : Policy) × IsKept table d policy × Is policy
+
+-- the edit leads from the old table to the new one, of which the summary tells; or it is refused for this, and the table is the old one
+abbrev pub IsApplied : Change → (old new : Members) → Result Summary EditFault → Type 0
+IsApplied change old new (Ok summary) = (after_edit change old ≡ Ok new) × IsSummary new summary
+IsApplied change old new (Err Memory) = new ≡ old
+IsApplied change old new (Err fault) = (after_edit change old ≡ Err fault) × (new ≡ old)

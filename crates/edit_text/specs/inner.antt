@@ -1,0 +1,3 @@
+pub mod ChangeSteps
+pub mod EditView
+pub mod EditsAnswers

@@ -1,0 +1,77 @@
+-- How many rules the chain of a host has at most: at each prefix one for each service, as many for answers, and a drop.
+use Rattle.std.proofs.Common.{ℕ, ◌*◌, ◌≤◌, Bool, true, false, not, ◌&&◌, List, [], ◌∷◌, ◌++◌, Option, Some, None, length, map, arith, length-append}
+use Rattle.std.specs.Prelude.{if◌then◌else◌}
+use Rattle.std.proofs.lemmas.List.{length-map}
+use Rattle.host_net.specs.declared.prefix.Prefix.{Prefix}
+use Rattle.host_net.specs.declared.service.Service.{Service}
+use Rattle.host_net.specs.Host.{rest_of}
+use Rattle.host_net.specs.Service.{narrowings}
+use Rattle.host_net.specs.Services.{service_limit}
+use Rattle.host_net.specs.inner.Services.{AreServices}
+use Rattle.host_net.specs.Site.{Site}
+use Rattle.host_net.specs.inner.Site.{IsSite}
+use Rattle.flow_set.specs.declared.flow.Flow.{Flow}
+use Rattle.ipt_rules.specs.declared.rule.Rule.{Rule}
+use Rattle.ipt_rules.specs.declared.rule.Target.TheVariants.{Drop}
+use Rattle.emit_core.specs.declared.side.Side.{Side}
+use Rattle.emit_core.specs.Sides.{links, other_side, services_on, flow_on}
+use Rattle.emit_core.specs.Layout.{for_each_prefix, at_other, to_service, from_service, links_whole, accepts_flow, accepts_answers, accepts, drops, is_open, to_prefix, to_rest, host_rules}
+use Rattle.emit_core.proofs.LayoutLaws.{few_for_all}
+
+few_narrowings : (ss : List Service) → length ss ≤ service_limit → length (narrowings ss) ≤ service_limit
+few_narrowings [] few = omega arith
+few_narrowings (s ∷ ss) few = omega (arith, length-map (s ∷ ss) (λ t. Some t))
+
+few_if : (b : Bool) (rules : List Rule) (most : ℕ) → length rules ≤ most → length (if b then rules else []) ≤ most
+few_if true rules most few = few
+few_if false rules most few = omega arith
+
+few_services : (side : Side) (site : Site) (i j : ℕ) (rule : Option Service → Rule) → AreServices site.services
+    → length (map rule (narrowings (services_on side site.services i j))) ≤ service_limit
+few_services side site i j rule are =
+    let ss = services_on side site.services i j in
+    omega (arith, length-map (narrowings ss) rule, few_narrowings ss (are.few (flow_on side i j).from (flow_on side i j).to))
+
+few_accepts : (side : Side) (site : Site) (p s : List Flow) (i j : ℕ) (q : Option Prefix) → AreServices site.services
+    → length (accepts side site p s i j q) ≤ 2 * service_limit
+few_accepts side site p s i j q are =
+    omega (
+      arith,
+      few_if (links side p i j) (map (to_service side q) (narrowings (services_on side site.services i j))) service_limit
+          (few_services side site i j (to_service side q) are),
+      few_if (links (other_side side) s i j && not (links_whole side site p i j)) (map (from_service side q) (narrowings (services_on (other_side side) site.services i j)))
+          service_limit (few_services (other_side side) site i j (from_service side q) are),
+      length-append (accepts_flow side site p i j q) (accepts_answers side site p s i j q),
+    )
+
+few_to_prefix : (side : Side) (site : Site) (p s : List Flow) (i : ℕ) (rest : Option ℕ) → AreServices site.services
+    → (j : ℕ) (q : Prefix) → length (to_prefix side site p s i rest j q) ≤ 33
+few_to_prefix side site p s i rest are j q =
+    omega (
+      arith,
+      few_accepts side site p s i j (Some q) are,
+      few_if (is_open side p s i rest && not (links_whole side site p i j)) (at_other side (Some q) None Drop ∷ []) 1 (omega arith),
+      length-append (accepts side site p s i j (Some q)) (drops side site p s i rest j q),
+    )
+
+few_to_rest : (side : Side) (site : Site) (p s : List Flow) (i : ℕ) (rest : Option ℕ) → AreServices site.services
+    → length (to_rest side site p s i rest) ≤ 32
+few_to_rest side site p s i None are = omega arith
+few_to_rest side site p s i (Some r) are = few_accepts side site p s i r None are
+
+pub few_to_hosts : (side : Side) (site : Site) (p s : List Flow) (i : ℕ) (rest : Option ℕ) → IsSite site
+    → length (for_each_prefix (to_prefix side site p s i rest) 0 site.hosts) ≤ 33 * 1024
+few_to_hosts side site p s i rest is =
+    let few = is.hosts.few_prefixes in
+    omega (arith, few, few_for_all 33 (to_prefix side site p s i rest) (few_to_prefix side site p s i rest is.services) 0 site.hosts)
+
+-- the chain of a host for what it sends, or for what it receives
+pub few_host_rules : (side : Side) (site : Site) (p s : List Flow) (i : ℕ) → IsSite site → length (host_rules side site p s i) ≤ 33825
+few_host_rules side site p s i is =
+    omega (
+      arith,
+      few_to_hosts side site p s i (rest_of site.hosts) is,
+      few_to_rest side site p s i (rest_of site.hosts) is.services,
+      length-append (for_each_prefix (to_prefix side site p s i (rest_of site.hosts)) 0 site.hosts) (to_rest side site p s i (rest_of site.hosts) ++ at_other side None None Drop ∷ []),
+      length-append (to_rest side site p s i (rest_of site.hosts)) (at_other side None None Drop ∷ []),
+    )

@@ -1,0 +1,117 @@
+-- What answers a packet of a stateful flow is of a permitted flow, where answers are covered: so a policy expects the same as one without stateful flows.
+use Rattle.std.proofs.Common.{◌≡◌, inl, inr, ℕ, ◌<◌, ◌^◌, ◌==◌, ◌&&◌, ◌||◌, not, Bool, true, false, List, [], ◌∷◌, Option, Some, None, take, sym, subst, refl, arith, true≢false}
+use Rattle.std.specs.Prelude.{if◌then◌else◌, nat_le}
+use Rattle.std.specs.List.{list_all, list_any}
+use Rattle.std.proofs.lemmas.Bool.{and_parts, and_from, or_left, or_right}
+use Rattle.std.proofs.lemmas.Bool.Decides.{nat_tests}
+use Rattle.host_net.specs.declared.packet.Packet.{Packet}
+use Rattle.host_net.specs.declared.service.Service.{Service}
+use Rattle.host_net.specs.Packet.{swap_of, IsPacket}
+use Rattle.host_net.specs.Host.{owner_of}
+use Rattle.host_net.specs.Service.{has_all_ports, is_served, serves, is_whole}
+use Rattle.host_net.specs.Services.{NarrowedFlow, services_of}
+use Rattle.host_net.specs.Site.{Site}
+use Rattle.flow_set.specs.declared.flow.Flow.{Flow}
+use Rattle.flow_set.specs.FlowSet.{has}
+use Rattle.pkt_core.specs.declared.event.Event.{Event}
+use Rattle.pkt_core.specs.Expected.{AreExpected, Expected}
+use Rattle.pkt_core.specs.Filter.{ArePackets}
+use Rattle.pkt_core.specs.FlowPolicy.{flow_of_owners, is_of}
+use Rattle.emit_core.specs.FlowTableEvents.{AnswersAreCovered, has_all_of}
+use Rattle.emit_core.proofs.FlowTableLaws.{belongs}
+use Rattle.emit_core.proofs.NarrowingLaws.{all_ports}
+
+-- a service of all ports serves every packet of its protocol
+serves_all : (u : Service) (packet : Packet) → packet.dport < 2 ^ 16 → (u.proto == packet.proto) ≡ true → has_all_ports u ≡ true → serves u packet ≡ true
+serves_all u packet fits same all = and_from (u.proto == packet.proto) (nat_le u.low packet.dport && nat_le packet.dport u.high) same (all_ports u packet.dport fits all)
+
+same_protocol : (a b c : ℕ) → (a == b) ≡ true → (a == c) ≡ true → (b == c) ≡ true
+same_protocol a b c first second = grind (arith, nat_tests)
+
+served_all : (bs : List Service) (t : Service) (packet : Packet) → packet.dport < 2 ^ 16 → has_all_of bs t ≡ true → (t.proto == packet.proto) ≡ true
+    → list_any (λ u. serves u packet) bs ≡ true
+served_all [] t packet fits all same = all
+served_all (u ∷ bs) t packet fits all same = by ((t.proto == u.proto) && has_all_ports u) refl (λ h. served_all bs t packet fits h same) all
+  where
+    by : (b : Bool) → ((t.proto == u.proto) && has_all_ports u) ≡ b → (has_all_of bs t ≡ true → list_any (λ v. serves v packet) bs ≡ true)
+        → (b || has_all_of bs t) ≡ true → (serves u packet || list_any (λ v. serves v packet) bs) ≡ true
+    by true holds later h =
+        let parts = and_parts (t.proto == u.proto) (has_all_ports u) holds in
+        or_left (serves u packet) (list_any (λ v. serves v packet) bs)
+        (serves_all u packet fits (same_protocol t.proto u.proto packet.proto parts.0 same) parts.1)
+    by false holds later h = or_right (serves u packet) (list_any (λ v. serves v packet) bs) (later h)
+
+answered_by : (ss bs : List Service) (packet : Packet) → packet.dport < 2 ^ 16 → list_all (has_all_of bs) ss ≡ true
+    → list_any (λ t. serves t (swap_of packet)) ss ≡ true → list_any (λ u. serves u packet) bs ≡ true
+answered_by [] bs packet fits all served = cc
+answered_by (t ∷ ss) bs packet fits all served =
+    by (serves t (swap_of packet)) refl (answered_by ss bs packet fits (and_parts (has_all_of bs t) (list_all (has_all_of bs) ss) all).1) served
+  where
+    by : (b : Bool) → serves t (swap_of packet) ≡ b → (list_any (λ u. serves u (swap_of packet)) ss ≡ true → list_any (λ u. serves u packet) bs ≡ true)
+        → (b || list_any (λ u. serves u (swap_of packet)) ss) ≡ true → list_any (λ u. serves u packet) bs ≡ true
+    by true holds later h =
+        served_all bs t packet fits (and_parts (has_all_of bs t) (list_all (has_all_of bs) ss) all).0
+        (and_parts (t.proto == packet.proto) (nat_le t.low packet.sport && nat_le packet.sport t.high) holds).0
+    by false holds later h = later h
+
+-- what answers a packet of some services is of the reverse flow's, where these are covered
+back_served : (ss bs : List Service) (packet : Packet) → packet.dport < 2 ^ 16
+    → (is_whole bs || (not (is_whole ss) && list_all (has_all_of bs) ss)) ≡ true → is_served ss (swap_of packet) ≡ true → is_served bs packet ≡ true
+back_served ss [] packet fits covered served = refl
+back_served [] (b ∷ bs) packet fits covered served = cc
+back_served (s ∷ ss) (b ∷ bs) packet fits covered served = answered_by (s ∷ ss) (b ∷ bs) packet fits covered served
+
+equal_back : (i j : ℕ) → (j == i) ≡ (i == j)
+equal_back i j = grind (arith, nat_tests)
+
+answer_by : (same : Bool) (services : List NarrowedFlow) (p s : List Flow) (i j : ℕ) (packet : Packet) → packet.dport < 2 ^ 16 → AnswersAreCovered services p s
+    → belongs services s (swap_of packet) (if same then None else Some (record { from = j; to = i })) ≡ true
+    → belongs services p packet (if same then None else Some (record { from = i; to = j })) ≡ true
+answer_by true services p s i j packet fits covered h = h
+answer_by false services p s i j packet fits covered h =
+    let f : Flow = record { from = j; to = i } in
+    let g : Flow = record { from = i; to = j } in
+    let there = services_of services j i in
+    let back = services_of services i j in
+    let parts = and_parts (has s f) (is_served there (swap_of packet)) h in
+    let cover = and_parts (has p g) (is_whole back || (not (is_whole there) && list_all (has_all_of back) there)) (covered f parts.0) in
+    and_from (has p g) (is_served back packet) cover.0 (back_served there back packet fits cover.1 parts.1)
+
+-- what answers a packet of a stateful flow is of a permitted flow
+pub answer_is : (services : List NarrowedFlow) (p s : List Flow) (from to : Option ℕ) (packet : Packet) → packet.dport < 2 ^ 16 → AnswersAreCovered services p s
+    → belongs services s (swap_of packet) (flow_of_owners to from) ≡ true
+    → belongs services p packet (flow_of_owners from to) ≡ true
+answer_is services p s None None packet fits covered h = h
+answer_is services p s None (Some j) packet fits covered h = h
+answer_is services p s (Some i) None packet fits covered h = h
+answer_is services p s (Some i) (Some j) packet fits covered h =
+    answer_by (i == j) services p s i j packet fits covered
+    (subst (λ (b : Bool). belongs services s (swap_of packet) (if b then None else Some (record { from = j; to = i })) ≡ true)
+    (equal_back i j) h)
+
+-- a policy whose answers are covered expects no packet but the permitted ones
+expected_is : (site : Site) (p s : List Flow) (past : List Event) (packet : Packet) → IsPacket packet → AnswersAreCovered site.services p s
+    → Expected (is_of site p) (is_of site s) past packet → is_of site p packet ≡ true
+expected_is site p s past packet is covered (inl permitted) = permitted
+expected_is site p s past packet is covered (inr answer) =
+    answer_is site.services p s (owner_of site.hosts packet.src) (owner_of site.hosts packet.dst) packet is.4 covered answer.0
+
+none_covered : (services : List NarrowedFlow) (p : List Flow) → AnswersAreCovered services p []
+none_covered services p = λ f none. absurd (true≢false (sym none))
+
+-- so it expects the same as one without stateful flows
+pub same_expected : (site : Site) (p s : List Flow) (events : List Event) (answers : List (Option Bool)) → ArePackets events → AnswersAreCovered site.services p s
+    → AreExpected (is_of site p) (is_of site []) events answers → AreExpected (is_of site p) (is_of site s) events answers
+same_expected site p s events answers packets covered all = record {
+  as_many = all.as_many;
+  seen = λ k packet there.
+      let now = all.seen k packet there in (
+        now.0,
+        now.1,
+        (
+          λ passed. inl (expected_is site p [] (take k events) packet (packets k packet there) (none_covered site.services p) (now.2.0 passed)),
+          λ expected. now.2.1 (inl (expected_is site p s (take k events) packet (packets k packet there) covered expected)),
+        ),
+      );
+  forgotten = all.forgotten;
+}

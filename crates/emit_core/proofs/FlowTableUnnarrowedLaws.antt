@@ -1,0 +1,75 @@
+-- Where no flow is narrowed, services change nothing: between two prefixes stands one entry, or none, and answers are covered where they are permitted.
+use Rattle.std.proofs.Common.{◌≡◌, ◌↔◌, ℕ, Bool, true, false, List, [], ◌∷◌, ◌++◌, Option, Some, None, map, refl, sym, ap, ◌∙◌}
+use Rattle.std.specs.Prelude.{IsTrue, if◌then◌else◌}
+use Rattle.std.specs.List.{flat_map}
+use Rattle.std.proofs.Math.Bool.{and-true}
+use Rattle.host_net.specs.declared.prefix.Prefix.{Prefix}
+use Rattle.host_net.specs.Host.{Host, rest_of}
+use Rattle.host_net.specs.inner.Site.{unnarrowed}
+use Rattle.flow_set.specs.declared.flow.Flow.{Flow}
+use Rattle.flow_set.specs.Flow.{back_of}
+use Rattle.flow_set.specs.FlowSet.{has}
+use Rattle.ofp_rules.specs.declared.entry.Action.TheVariants.{Normal}
+use Rattle.ofp_rules.specs.declared.entry.Entry.{Entry}
+use Rattle.emit_core.specs.FlowTable.{ip_entry, for_each_host, rest_drop, pair_entries, between, to_rest_host, from_rest_host, with_rest, arp_entry, other_entry, flow_entries}
+use Rattle.emit_core.specs.FlowTableEvents.{is_covered, AnswersAreCovered}
+use Rattle.emit_core.specs.Sides.{permits}
+
+-- the entry from the prefix q to the prefix t: a permitted flow is forwarded; where there is a rest host, another is dropped
+abbrev pub whole_pair : Bool → Option ℕ → Prefix → Prefix → List Entry
+whole_pair true rest q t = ip_entry 40 (Some q) (Some t) Normal ∷ []
+whole_pair false rest q t = rest_drop rest 40 q t
+
+abbrev pub whole_between : List Host → List Flow → Option ℕ → List Entry
+whole_between hosts p rest =
+    for_each_host (λ i qs. for_each_host (λ j ts. flat_map (λ q. flat_map (whole_pair (permits p i j) rest q) ts) qs) 0 hosts) 0 hosts
+
+-- from the prefixes of a host to the rest host, and from there to them
+abbrev pub whole_to_rest : Bool → List Prefix → List Entry
+whole_to_rest permitted qs = if permitted then map (λ q. ip_entry 30 (Some q) None Normal) qs else []
+
+abbrev pub whole_from_rest : Bool → List Prefix → List Entry
+whole_from_rest permitted qs = if permitted then map (λ q. ip_entry 30 None (Some q) Normal) qs else []
+
+abbrev pub whole_with_rest : List Host → List Flow → Option ℕ → List Entry
+whole_with_rest hosts p None = []
+whole_with_rest hosts p (Some r) =
+    for_each_host (λ i qs. whole_to_rest (permits p i r) qs) 0 hosts ++ for_each_host (λ i qs. whole_from_rest (permits p r i) qs) 0 hosts
+
+pair_same : (permitted : Bool) (rest : Option ℕ) (q t : Prefix) → pair_entries permitted [] rest q t ≡ whole_pair permitted rest q t
+pair_same true rest q t = refl
+pair_same false rest q t = refl
+
+between_same : (hosts : List Host) (p : List Flow) (rest : Option ℕ) → between (unnarrowed hosts) p rest ≡ whole_between hosts p rest
+between_same hosts p rest =
+    λ k. for_each_host (λ i qs. for_each_host (λ j ts. flat_map (λ q. flat_map (λ t. pair_same (permits p i j) rest q t k) ts) qs) 0 hosts) 0 hosts
+
+each_one : (f : Prefix → Entry) (qs : List Prefix) → flat_map (λ q. f q ∷ []) qs ≡ map f qs
+each_one f [] = refl
+each_one f (q ∷ qs) = ap (λ es. f q ∷ es) (each_one f qs)
+
+to_rest_same : (permitted : Bool) (qs : List Prefix) → to_rest_host permitted [] qs ≡ whole_to_rest permitted qs
+to_rest_same true qs = each_one (λ q. ip_entry 30 (Some q) None Normal) qs
+to_rest_same false qs = refl
+
+from_rest_same : (permitted : Bool) (qs : List Prefix) → from_rest_host permitted [] qs ≡ whole_from_rest permitted qs
+from_rest_same true qs = each_one (λ q. ip_entry 30 None (Some q) Normal) qs
+from_rest_same false qs = refl
+
+with_rest_same : (hosts : List Host) (p : List Flow) (rest : Option ℕ) → with_rest (unnarrowed hosts) p rest ≡ whole_with_rest hosts p rest
+with_rest_same hosts p None = refl
+with_rest_same hosts p (Some r) =
+    λ k. for_each_host (λ i qs. to_rest_same (permits p i r) qs k) 0 hosts ++ for_each_host (λ i qs. from_rest_same (permits p r i) qs k) 0 hosts
+
+-- the table has these entries, one for ARP, and a last one that drops the rest
+pub flow_entries-unnarrowed : (hosts : List Host) (p : List Flow)
+    → flow_entries (unnarrowed hosts) p ≡ whole_between hosts p (rest_of hosts) ++ (whole_with_rest hosts p (rest_of hosts) ++ arp_entry ∷ other_entry ∷ [])
+unfolding flow_entries
+flow_entries-unnarrowed hosts p = λ k. between_same hosts p (rest_of hosts) k ++ (with_rest_same hosts p (rest_of hosts) k ++ arp_entry ∷ other_entry ∷ [])
+
+covered_same : (p : List Flow) (f : Flow) → is_covered [] p f ≡ has p (back_of f)
+covered_same p f = and-true (has p (back_of f))
+
+-- the reverse of each stateful flow is permitted itself
+pub AnswersAreCovered-unnarrowed : (p s : List Flow) → AnswersAreCovered [] p s ↔ ((f : Flow) → IsTrue (has s f) → IsTrue (has p (back_of f)))
+AnswersAreCovered-unnarrowed p s = (λ covered f stateful. sym (covered_same p f) ∙ covered f stateful, λ permitted f stateful. covered_same p f ∙ permitted f stateful)

@@ -1,0 +1,191 @@
+-- The layout of a policy enforces it.
+use Rattle.std.proofs.Common.{◌≡◌, ℕ, ◌+◌, ◌<◌, zero, suc, Bool, true, false, not, ◌&&◌, ◌||◌, ◌==◌, List, [], ◌∷◌, Option, Some, None, length, refl, sym, ap, subst, ◌∙◌, arith, add-zero}
+use Rattle.std.specs.Prelude.{if◌then◌else◌, slice_get, option_map, map}
+use Rattle.std.specs.List.{range_with_len}
+use Rattle.std.specs.Option.{option_or, option_and_then, option_map_or}
+use Rattle.host_net.specs.declared.packet.Packet.{Packet}
+use Rattle.host_net.specs.declared.packet.CtState.{CtState}
+use Rattle.host_net.specs.declared.packet.Verdict.{Verdict}
+use Rattle.host_net.specs.declared.prefix.Prefix.{Prefix}
+use Rattle.host_net.specs.Host.{owner_of, holder_of, rest_of}
+use Rattle.host_net.specs.inner.Hosts.{IsHosts}
+use Rattle.host_net.specs.Packet.{IsPacket, swap_of}
+use Rattle.host_net.specs.Service.{is_served}
+use Rattle.host_net.specs.Services.{NarrowedFlow, services_of}
+use Rattle.host_net.specs.Site.{Site}
+use Rattle.host_net.specs.Verdict.{verdict_if}
+use Rattle.host_net.proofs.VerdictLaws.{verdict_if-injective}
+use Rattle.flow_set.specs.declared.flow.Flow.{Flow}
+use Rattle.flow_set.specs.FlowSet.{has, IsSubset}
+use Rattle.ipt_rules.specs.declared.rule.Rule.{Rule}
+use Rattle.ipt_rules.specs.declared.rule.Target.TheVariants.{Jump}
+use Rattle.ipt_rules.specs.declared.rule.Policy.TheVariants.{Drop as Dropping}
+use Rattle.ipt_rules.specs.Chain.{rules_of}
+use Rattle.ipt_rules.specs.inner.ChainTable.{rules_in}
+use Rattle.ipt_rules.specs.Matching.{matches}
+use Rattle.ipt_rules.specs.Meaning.{Gives, Passes, verdict_by}
+use Rattle.ipt_rules.proofs.MeaningLaws.{verdict_once}
+use Rattle.ipt_rules.specs.inner.OneOutcome.{HasVerdict}
+use Rattle.ipt_rules.specs.inner.Saying.{Says}
+use Rattle.ipt_rules.proofs.SayingLaws.{says_none, says_append, says_jump, gives_said, verdict_said}
+use Rattle.pkt_core.specs.Filter.{Enforces, ForwardsExpected}
+use Rattle.pkt_core.proofs.FilterLaws.{enforced_expected}
+use Rattle.pkt_core.specs.Firewall.{is_established}
+use Rattle.pkt_core.specs.FlowPolicy.{flow_of_owners, lets_pass}
+use Rattle.emit_core.specs.declared.side.Side.TheVariants.{Sending, Receiving}
+use Rattle.emit_core.proofs.HostChainLaws.{says_for_each, may_link_owner, said_by, host_says}
+use Rattle.emit_core.specs.Layout.{for_each_prefix, host_rules, forward_rules, rest_jump, jump_from, from_source, chain_of, layout, host_chain}
+use Rattle.emit_core.proofs.OwnerLaws.{IsHeldOnce, hosts_hold_once, rest_below}
+use Rattle.emit_core.proofs.RuleFitsLaws.{lies_in, source_fits}
+use Rattle.emit_core.specs.Sides.{permits}
+
+-- 1. FORWARD.
+
+-- the chain of host i stands in the layout at its number
+host_chain_at : (site : Site) (p s : List Flow) (k n i : ℕ) → i < n
+    → slice_get (map (host_chain site p s) (range_with_len k n)) i ≡ Some (host_chain site p s (k + i))
+host_chain_at site p s k zero i below = absurd (omega arith)
+host_chain_at site p s k (suc n) zero below = rw add-zero refl
+host_chain_at site p s k (suc n) (suc i) below =
+    let later : i < n = omega arith in
+    let moved : k + 1 + i ≡ k + suc i = omega arith in
+    rw (← moved) (host_chain_at site p s (k + 1) n i later)
+
+chain_rules : (site : Site) (p s : List Flow) (i : ℕ) → i < length site.hosts
+    → rules_of (layout site p s) (chain_of i) ≡ host_rules Sending site p s i
+chain_rules site p s i below =
+    let three : i + 3 ≡ suc (suc (suc i)) = omega arith in
+    let start : 0 + i ≡ i = omega arith in
+    rw three (ap rules_in (host_chain_at site p s 0 (length site.hosts) i below) ∙ ap (host_rules Sending site p s) start)
+
+jump_says : (site : Site) (p s : List Flow) (packet : Packet) (state : CtState) (i : ℕ) → IsPacket packet → i < length site.hosts
+    → IsHeldOnce packet.dst site.hosts → (q : Option Prefix)
+    → Says (matches packet state) (layout site p s) (from_source q (Jump (chain_of i)) ∷ [])
+    (if lies_in q packet.src then Some (said_by Sending site p s packet state i) else None)
+jump_says site p s packet state i is below once q =
+    let fits = matches packet state in
+    let chains = layout site p s in
+    let v = said_by Sending site p s packet state i in
+    subst (λ (x : Bool). Says fits chains (from_source q (Jump (chain_of i)) ∷ []) (if x then Some v else None))
+    (source_fits q (Jump (chain_of i)) packet state)
+    (says_jump fits chains (from_source q (Jump (chain_of i))) (chain_of i) (Some v) refl
+    (subst (λ (x : List Rule). Gives fits chains x (Some v)) (sym (chain_rules site p s i below))
+    (gives_said fits chains (host_rules Sending site p s i) (Some v) (host_says Sending chains site p s packet state i is once))))
+
+rest_jump_says : (site : Site) (p s : List Flow) (packet : Packet) (state : CtState) (rest : Option ℕ) → IsPacket packet
+    → ((r : ℕ) → rest ≡ Some r → r < length site.hosts) → IsHeldOnce packet.dst site.hosts
+    → Says (matches packet state) (layout site p s) (rest_jump rest) (option_map (said_by Sending site p s packet state) rest)
+rest_jump_says site p s packet state None is below once = says_none (matches packet state) (layout site p s)
+rest_jump_says site p s packet state (Some r) is below once = jump_says site p s packet state r is (below r refl) once None
+
+by_owner : (said : ℕ → Verdict) (owner rest : Option ℕ)
+    → option_or (option_and_then (λ i. Some (said i)) owner) (option_map said rest) ≡ option_map said (option_or owner rest)
+by_owner said None rest = refl
+by_owner said (Some i) rest = refl
+
+-- FORWARD says of a packet what the chain of the host says that owns its source
+forward_says : (site : Site) (p s : List Flow) (packet : Packet) (state : CtState) → IsPacket packet
+    → IsHeldOnce packet.src site.hosts → IsHeldOnce packet.dst site.hosts
+    → Says (matches packet state) (layout site p s) (forward_rules site.hosts) (option_map (said_by Sending site p s packet state) (owner_of site.hosts packet.src))
+unfolding owner_of
+forward_says site p s packet state is source destination =
+    let fits = matches packet state in
+    let chains = layout site p s in
+    let said = said_by Sending site p s packet state in
+    let own = holder_of site.hosts packet.src in
+    subst (λ (x : Option Verdict). Says fits chains (forward_rules site.hosts) x) (by_owner said own (rest_of site.hosts))
+    (says_append fits chains (for_each_prefix jump_from 0 site.hosts) (rest_jump (rest_of site.hosts)) _ _
+    (says_for_each fits chains packet.src (length site.hosts) (λ i. Some (said i)) jump_from
+    (λ i below q. jump_says site p s packet state i is below destination (Some q)) 0 site.hosts (omega arith) source)
+    (rest_jump_says site p s packet state (rest_of site.hosts) is (rest_below site.hosts) destination))
+
+-- 2. The policy.
+
+in_set : (flows : List Flow) (f : Flow) (same served : Bool)
+    → ((not same && has flows f) && served) ≡ option_map_or (λ g. has flows g && served) (if same then None else Some f) false
+in_set flows f true served = refl
+in_set flows f false served = refl
+
+answered : (flows : List Flow) (f : Flow) (same served established : Bool)
+    → ((not same && has flows f) && (served && established)) ≡ (option_map_or (λ g. has flows g && served) (if same then None else Some f) false && established)
+answered flows f true served established = refl
+answered flows f false served established = together (has flows f) served established
+  where
+    together : (a b c : Bool) → (a && (b && c)) ≡ ((a && b) && c)
+    together true b c = refl
+    together false b c = refl
+
+-- the flow that is found is the one that was asked for, with its services
+of_found : (services : List NarrowedFlow) (flows : List Flow) (f : Flow) (packet : Packet) (same : Bool)
+    → option_map_or (λ g. has flows g && is_served (services_of services f.from f.to) packet) (if same then None else Some f) false
+    ≡ option_map_or (λ g. has flows g && is_served (services_of services g.from g.to) packet) (if same then None else Some f) false
+of_found services flows f packet true = refl
+of_found services flows f packet false = refl
+
+-- the flow between two owners is one of these and serves the packet
+to_one : (site : Site) (p : List Flow) (packet : Packet) (i j : ℕ)
+    → (permits p i j && is_served (services_of site.services i j) packet)
+    ≡ option_map_or (λ f. has p f && is_served (services_of site.services f.from f.to) packet) (flow_of_owners (Some i) (Some j)) false
+to_one site p packet i j =
+    let f : Flow = record { from = i; to = j } in
+    in_set p f (i == j) (is_served (services_of site.services i j) packet) ∙ of_found site.services p f packet (i == j)
+
+back_to_one : (site : Site) (s : List Flow) (packet : Packet) (established : Bool) (i j : ℕ)
+    → (permits s j i && (is_served (services_of site.services j i) (swap_of packet) && established))
+    ≡ (option_map_or (λ f. has s f && is_served (services_of site.services f.from f.to) (swap_of packet)) (flow_of_owners (Some j) (Some i)) false && established)
+back_to_one site s packet established i j =
+    let f : Flow = record { from = j; to = i } in
+    answered s f (j == i) (is_served (services_of site.services j i) (swap_of packet)) established
+    ∙ ap (λ b. b && established) (of_found site.services s f (swap_of packet) (j == i))
+
+-- a policy lets a packet pass where the owner of its source may send to the owner of its destination
+pub owners_send : (site : Site) (p s : List Flow) (packet : Packet) (established : Bool) (from to : Option ℕ)
+    → option_map_or (λ i. may_link_owner Sending site p s packet established i to) from false
+    ≡ (option_map_or (λ f. has p f && is_served (services_of site.services f.from f.to) packet) (flow_of_owners from to) false
+    || (option_map_or (λ f. has s f && is_served (services_of site.services f.from f.to) (swap_of packet)) (flow_of_owners to from) false && established))
+owners_send site p s packet established None None = refl
+owners_send site p s packet established None (Some j) = refl
+owners_send site p s packet established (Some i) None = refl
+owners_send site p s packet established (Some i) (Some j) = λ k. to_one site p packet i j k || back_to_one site s packet established i j k
+
+-- and where the owner of its destination may receive from the owner of its source
+pub owners_receive : (site : Site) (p s : List Flow) (packet : Packet) (established : Bool) (from to : Option ℕ)
+    → option_map_or (λ j. may_link_owner Receiving site p s packet established j from) to false
+    ≡ (option_map_or (λ f. has p f && is_served (services_of site.services f.from f.to) packet) (flow_of_owners from to) false
+    || (option_map_or (λ f. has s f && is_served (services_of site.services f.from f.to) (swap_of packet)) (flow_of_owners to from) false && established))
+owners_receive site p s packet established None None = refl
+owners_receive site p s packet established None (Some j) = refl
+owners_receive site p s packet established (Some i) None = refl
+owners_receive site p s packet established (Some i) (Some j) = λ k. to_one site p packet i j k || back_to_one site s packet established i j k
+
+-- a chain that drops what no rule decides
+by_default : (sends : ℕ → Bool) (owner : Option ℕ)
+    → verdict_if (option_map_or sends owner false) ≡ verdict_by (Some Dropping) (option_map (λ i. verdict_if (sends i)) owner)
+by_default sends None = refl
+by_default sends (Some i) = refl
+
+-- each packet has the verdict that the policy asks for
+layout_verdict : (site : Site) (p s : List Flow) (packet : Packet) (state : CtState) → IsPacket packet
+    → IsHeldOnce packet.src site.hosts → IsHeldOnce packet.dst site.hosts
+    → HasVerdict (layout site p s) packet state (verdict_if (lets_pass site p s packet state))
+layout_verdict site p s packet state is source destination =
+    let owner = owner_of site.hosts packet.src in
+    let to = owner_of site.hosts packet.dst in
+    let said = option_map (said_by Sending site p s packet state) owner in
+    let same : verdict_by (Some Dropping) said ≡ verdict_if (lets_pass site p s packet state) =
+    sym (by_default (λ i. may_link_owner Sending site p s packet (is_established state) i to) owner) ∙ ap verdict_if (owners_send site p s packet (is_established state) owner to) in
+    subst (HasVerdict (layout site p s) packet state) same
+    (verdict_said (layout site p s) 1 packet state said (forward_says site p s packet state is source destination))
+
+-- in every state the chains let exactly the packets pass that the policy lets pass
+pub layout_enforces : (site : Site) (p s : List Flow) → IsHosts site.hosts → Enforces (Passes (layout site p s)) site p s
+layout_enforces site p s known =
+    let once = hosts_hold_once site.hosts known in
+    record {
+      given = λ packet state is. layout_verdict site p s packet state is (once packet.src) (once packet.dst);
+      only = λ packet state passes is has. verdict_if-injective passes _ (verdict_once has (layout_verdict site p s packet state is (once packet.src) (once packet.dst)));
+    }
+
+-- so they forward what is expected of it
+pub layout_expected : (site : Site) (p s : List Flow) → IsHosts site.hosts → IsSubset s p → ForwardsExpected (Passes (layout site p s)) site p s
+layout_expected site p s known subset = enforced_expected (Passes (layout site p s)) site p s subset (layout_enforces site p s known)

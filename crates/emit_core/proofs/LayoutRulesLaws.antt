@@ -1,0 +1,199 @@
+-- What is true of every rule of the forms that a layout has is true of each of its rules.
+use Rattle.std.proofs.Common.{◌≡◌, ℕ, ◌+◌, ◌<◌, zero, suc, Bool, true, false, not, ◌&&◌, ◌||◌, ◌==◌, IsTrue, List, [], ◌∷◌, ◌++◌, Option, Some, None, length, map, get_or, refl, ap, ◌∙◌, arith}
+use Rattle.std.specs.Prelude.{if◌then◌else◌, nat_le}
+use Rattle.std.specs.List.{flat_map, list_all, range_with_len}
+use Rattle.std.specs.Option.{option_map_or}
+use Rattle.std.proofs.lemmas.Bool.{and_from, and_parts}
+use Rattle.std.proofs.lemmas.Bool.Decides.{nat_tests}
+use Rattle.std.proofs.lemmas.List.Folds.{list_all-append}
+use Rattle.host_net.specs.declared.prefix.Prefix.{Prefix}
+use Rattle.host_net.specs.declared.service.Service.{Service}
+use Rattle.host_net.specs.Host.{Host, rest_of}
+use Rattle.host_net.specs.Hosts.{all_prefixes}
+use Rattle.host_net.specs.Service.{narrowings, has_ports, has_all_ports, icmp, last_port}
+use Rattle.host_net.specs.inner.Service.{is_service}
+use Rattle.host_net.specs.inner.Services.{AreServices}
+use Rattle.host_net.specs.Site.{Site}
+use Rattle.flow_set.specs.declared.flow.Flow.{Flow}
+use Rattle.ipt_rules.specs.declared.rule.Rule.{Rule}
+use Rattle.ipt_rules.specs.declared.rule.Target.{Target}
+use Rattle.ipt_rules.specs.declared.rule.Target.TheVariants.{Drop, Jump}
+use Rattle.ipt_rules.specs.RuleParts.{names_ports}
+use Rattle.ipt_rules.specs.inner.RuleParts.{is_protocol, are_ports, is_rule, AreRules}
+use Rattle.emit_core.specs.declared.side.Side.{Side}
+use Rattle.emit_core.specs.declared.side.Side.TheVariants.{Sending, Receiving}
+use Rattle.emit_core.specs.Layout.{for_each_prefix, at_other, protocol_part, port_part, to_service, from_service, links_whole, accepts_flow, accepts_answers, accepts, drops, is_open, to_prefix, to_rest, host_rules, forward_rules, rest_jump, jump_from, from_source, chain_of, layout, host_chain}
+use Rattle.emit_core.specs.Sides.{links, other_side, services_on, flow_on}
+
+-- a rule of a list that passes whole
+pub passes_at : (test : Rule → Bool) (rules : List Rule) (i : ℕ) (r : Rule) → list_all test rules ≡ true → i < length rules → r ≡ get_or rules i r
+    → test r ≡ true
+passes_at test [] i r all below is = absurd (omega arith)
+passes_at test (x ∷ xs) zero r all below is = ap test is ∙ (and_parts (test x) (list_all test xs) all).0
+passes_at test (x ∷ xs) (suc i) r all below is = passes_at test xs i r (and_parts (test x) (list_all test xs) all).1 (omega arith) is
+
+-- a service, or none
+abbrev pub is_narrowing : Option Service → Bool
+is_narrowing n = option_map_or is_service n true
+
+-- every rule of the three forms passes the test, where its prefix, if it has one, fits, and its service, if it has one, is one
+pub record PassForms (test : Rule → Bool) (fits : Prefix → Bool) : Type 0 where
+  pub plain : (side : Side) (q : Option Prefix) (target : Target) → option_map_or fits q true ≡ true → test (at_other side q None target) ≡ true
+  pub flow : (side : Side) (q : Option Prefix) (n : Option Service) → option_map_or fits q true ≡ true → is_narrowing n ≡ true → test (to_service side q n) ≡ true
+  pub answer : (side : Side) (q : Option Prefix) (n : Option Service) → option_map_or fits q true ≡ true → is_narrowing n ≡ true → test (from_service side q n) ≡ true
+
+-- 1. Lists of rules, by parts.
+
+some_pass : (ss : List Service) → list_all is_service ss ≡ true → list_all is_narrowing (map (λ t. Some t) ss) ≡ true
+some_pass [] all = refl
+some_pass (s ∷ ss) all = let parts = and_parts (is_service s) (list_all is_service ss) all in and_from _ _ parts.0 (some_pass ss parts.1)
+
+narrowings_pass : (ss : List Service) → list_all is_service ss ≡ true → list_all is_narrowing (narrowings ss) ≡ true
+narrowings_pass [] all = refl
+narrowings_pass (s ∷ ss) all = some_pass (s ∷ ss) all
+
+map_pass : (test : Rule → Bool) (rule : Option Service → Rule) → ((n : Option Service) → is_narrowing n ≡ true → test (rule n) ≡ true)
+    → (ns : List (Option Service)) → list_all is_narrowing ns ≡ true → list_all test (map rule ns) ≡ true
+map_pass test rule each [] all = refl
+map_pass test rule each (n ∷ ns) all =
+    let parts = and_parts (is_narrowing n) (list_all is_narrowing ns) all in and_from _ _ (each n parts.0) (map_pass test rule each ns parts.1)
+
+if_pass : (test : Rule → Bool) (b : Bool) (rules : List Rule) → list_all test rules ≡ true → list_all test (if b then rules else []) ≡ true
+if_pass test true rules all = all
+if_pass test false rules all = refl
+
+flat_pass : (test : Rule → Bool) (fits : Prefix → Bool) (written : Prefix → List Rule) → ((q : Prefix) → fits q ≡ true → list_all test (written q) ≡ true)
+    → (qs : List Prefix) → list_all fits qs ≡ true → list_all test (flat_map written qs) ≡ true
+flat_pass test fits written each [] all = refl
+flat_pass test fits written each (q ∷ qs) all =
+    let parts = and_parts (fits q) (list_all fits qs) all in
+    list_all-append test (written q) (flat_map written qs) ∙ and_from _ _ (each q parts.0) (flat_pass test fits written each qs parts.1)
+
+each_pass : (test : Rule → Bool) (fits : Prefix → Bool) (written : ℕ → Prefix → List Rule)
+    → ((j : ℕ) (q : Prefix) → fits q ≡ true → list_all test (written j q) ≡ true)
+    → (k : ℕ) (hs : List Host) → list_all fits (all_prefixes hs) ≡ true → list_all test (for_each_prefix written k hs) ≡ true
+each_pass test fits written each k [] all = refl
+each_pass test fits written each k (h ∷ hs) all =
+    let parts = and_parts (list_all fits h.prefixes) (list_all fits (all_prefixes hs)) (list_all-apart fits h.prefixes (all_prefixes hs) all) in
+    list_all-append test (flat_map (written k) h.prefixes) (for_each_prefix written (k + 1) hs)
+    ∙ and_from _ _ (flat_pass test fits (written k) (each k) h.prefixes parts.0) (each_pass test fits written each (k + 1) hs parts.1)
+  where
+    list_all-apart : (f : Prefix → Bool) (xs ys : List Prefix) → list_all f (xs ++ ys) ≡ true → (list_all f xs && list_all f ys) ≡ true
+    list_all-apart f xs ys h = rw (← list_all-append f xs ys) h
+
+-- 2. The rules of a layout.
+
+rest_jump_pass : (test : Rule → Bool) (fits : Prefix → Bool)
+    → ((q : Option Prefix) (target : Target) → option_map_or fits q true ≡ true → test (from_source q target) ≡ true) → (rest : Option ℕ)
+    → list_all test (rest_jump rest) ≡ true
+rest_jump_pass test fits form None = refl
+rest_jump_pass test fits form (Some r) = and_from _ _ (form None (Jump (chain_of r)) refl) refl
+
+pub forward_rules_pass : (test : Rule → Bool) (fits : Prefix → Bool)
+    → ((q : Option Prefix) (target : Target) → option_map_or fits q true ≡ true → test (from_source q target) ≡ true) → (hosts : List Host)
+    → list_all fits (all_prefixes hosts) ≡ true → list_all test (forward_rules hosts) ≡ true
+forward_rules_pass test fits form hosts all =
+    list_all-append test (for_each_prefix jump_from 0 hosts) (rest_jump (rest_of hosts))
+    ∙ and_from _ _
+    (each_pass test fits jump_from (λ i q at. and_from _ _ (form (Some q) (Jump (chain_of i)) at) refl) 0 hosts all)
+    (rest_jump_pass test fits form (rest_of hosts))
+
+module _ (test : Rule → Bool) (fits : Prefix → Bool) (forms : PassForms test fits) where
+  accepts_pass : (side : Side) (site : Site) (p s : List Flow) (i j : ℕ) (q : Option Prefix) → AreServices site.services → option_map_or fits q true ≡ true
+      → list_all test (accepts side site p s i j q) ≡ true
+  accepts_pass side site p s i j q are at =
+      let there = services_on side site.services i j in
+      let back = services_on (other_side side) site.services i j in
+      let flows : list_all is_narrowing (narrowings there) ≡ true = narrowings_pass there (are.valid (flow_on side i j).from (flow_on side i j).to) in
+      let answers : list_all is_narrowing (narrowings back) ≡ true =
+      narrowings_pass back (are.valid (flow_on (other_side side) i j).from (flow_on (other_side side) i j).to) in
+      list_all-append test (accepts_flow side site p i j q) (accepts_answers side site p s i j q)
+      ∙ and_from _ _
+      (if_pass test (links side p i j) (map (to_service side q) (narrowings there))
+      (map_pass test (to_service side q) (λ n is. forms.flow side q n at is) (narrowings there) flows))
+      (if_pass test (links (other_side side) s i j && not (links_whole side site p i j)) (map (from_service side q) (narrowings back))
+      (map_pass test (from_service side q) (λ n is. forms.answer side q n at is) (narrowings back) answers))
+
+  to_prefix_pass : (side : Side) (site : Site) (p s : List Flow) (i : ℕ) (rest : Option ℕ) → AreServices site.services → (j : ℕ) (q : Prefix) → fits q ≡ true
+      → list_all test (to_prefix side site p s i rest j q) ≡ true
+  to_prefix_pass side site p s i rest are j q at =
+      list_all-append test (accepts side site p s i j (Some q)) (drops side site p s i rest j q)
+      ∙ and_from _ _ (accepts_pass side site p s i j (Some q) are at)
+      (if_pass test (is_open side p s i rest && not (links_whole side site p i j)) (at_other side (Some q) None Drop ∷ [])
+      (and_from _ _ (forms.plain side (Some q) Drop at) refl))
+
+  to_rest_pass : (side : Side) (site : Site) (p s : List Flow) (i : ℕ) (rest : Option ℕ) → AreServices site.services
+      → list_all test (to_rest side site p s i rest) ≡ true
+  to_rest_pass side site p s i None are = refl
+  to_rest_pass side site p s i (Some r) are = accepts_pass side site p s i r None are refl
+
+  pub host_rules_pass : (side : Side) (site : Site) (p s : List Flow) (i : ℕ) → AreServices site.services → list_all fits (all_prefixes site.hosts) ≡ true
+      → list_all test (host_rules side site p s i) ≡ true
+  host_rules_pass side site p s i are all =
+      let rest = rest_of site.hosts in
+      list_all-append test (for_each_prefix (to_prefix side site p s i rest) 0 site.hosts) (to_rest side site p s i rest ++ at_other side None None Drop ∷ [])
+      ∙ and_from _ _ (each_pass test fits (to_prefix side site p s i rest) (to_prefix_pass side site p s i rest are) 0 site.hosts all)
+      (list_all-append test (to_rest side site p s i rest) (at_other side None None Drop ∷ [])
+      ∙ and_from _ _ (to_rest_pass side site p s i rest are) (and_from _ _ (forms.plain side None Drop refl) refl))
+
+  chains_pass : (site : Site) (p s : List Flow) (k n : ℕ) → AreServices site.services → list_all fits (all_prefixes site.hosts) ≡ true
+      → list_all (λ x. list_all test x.rules) (map (host_chain site p s) (range_with_len k n)) ≡ true
+  chains_pass site p s k zero are all = refl
+  chains_pass site p s k (suc n) are all = and_from _ _ (host_rules_pass Sending site p s k are all) (chains_pass site p s (k + 1) n are all)
+
+  pub layout_passes : (site : Site) (p s : List Flow) → AreServices site.services → list_all fits (all_prefixes site.hosts) ≡ true
+      → IsTrue (list_all (λ x. list_all test x.rules) (layout site p s))
+  layout_passes site p s are all = and_from _ _ (forward_rules_pass test fits (λ q target at. forms.plain Receiving q target at) site.hosts all) (chains_pass site p s 0 (length site.hosts) are all)
+
+-- 3. They ask for protocols and ports as rules may, at every prefix.
+
+abbrev pub anywhere : Prefix → Bool
+anywhere q = true
+
+pub all_anywhere : (qs : List Prefix) → list_all anywhere qs ≡ true
+all_anywhere [] = refl
+all_anywhere (q ∷ qs) = all_anywhere qs
+
+-- a service has a protocol, and ports in order where it does not have all
+pub record IsAsked (s : Service) : Type 0 where
+  pub protocol : is_protocol (protocol_part (Some s)) ≡ true
+  pub ports : are_ports (names_ports (protocol_part (Some s))) (port_part (Some s)) ≡ true
+
+protocol_asked : (proto : ℕ) (all : Bool) → (has_ports proto || ((proto == icmp) && all)) ≡ true → is_protocol (Some (record { proto = proto; negated = false })) ≡ true
+protocol_asked proto all is = grind (arith, nat_tests)
+
+ports_asked : (low high : ℕ) (named all : Bool) (icmp_only : Bool) → nat_le low high ≡ true → nat_le high last_port ≡ true → (named || (icmp_only && all)) ≡ true
+    → are_ports named (if all then None else Some (record { low = low; high = high; negated = false })) ≡ true
+ports_asked low high named true only order last is = refl
+ports_asked low high true false only order last is = and_from _ _ order last
+ports_asked low high false false true order last is = cc
+ports_asked low high false false false order last is = cc
+
+pub service_asked : (s : Service) → is_service s ≡ true → IsAsked s
+service_asked s is =
+    let parts = and_parts (nat_le s.low s.high) (nat_le s.high last_port && (has_ports s.proto || ((s.proto == icmp) && has_all_ports s))) is in
+    let later = and_parts (nat_le s.high last_port) (has_ports s.proto || ((s.proto == icmp) && has_all_ports s)) parts.1 in
+    record {
+      protocol = protocol_asked s.proto (has_all_ports s) later.1;
+      ports = ports_asked s.low s.high (has_ports s.proto) (has_all_ports s) (s.proto == icmp) parts.0 later.0 later.1;
+    }
+
+flow_is_rule : (side : Side) (q : Option Prefix) (n : Option Service) → option_map_or anywhere q true ≡ true → is_narrowing n ≡ true → is_rule (to_service side q n) ≡ true
+flow_is_rule side q None at is = refl
+flow_is_rule side q (Some s) at is = let asked = service_asked s is in and_from _ _ asked.protocol (and_from _ _ refl asked.ports)
+
+answer_is_rule : (side : Side) (q : Option Prefix) (n : Option Service) → option_map_or anywhere q true ≡ true → is_narrowing n ≡ true → is_rule (from_service side q n) ≡ true
+answer_is_rule side q None at is = refl
+answer_is_rule side q (Some s) at is = let asked = service_asked s is in and_from _ _ asked.protocol (and_from _ _ asked.ports refl)
+
+forms_are_rules : PassForms is_rule anywhere
+forms_are_rules = record { plain = λ side q target at. refl; flow = flow_is_rule; answer = answer_is_rule }
+
+pub host_rules_are : (side : Side) (site : Site) (p s : List Flow) (i : ℕ) → AreServices site.services → list_all is_rule (host_rules side site p s i) ≡ true
+host_rules_are side site p s i are = host_rules_pass is_rule anywhere forms_are_rules side site p s i are (all_anywhere (all_prefixes site.hosts))
+
+pub forward_rules_are : (hosts : List Host) → list_all is_rule (forward_rules hosts) ≡ true
+forward_rules_are hosts = forward_rules_pass is_rule anywhere (λ q target at. refl) hosts (all_anywhere (all_prefixes hosts))
+
+pub layout_rules_are : (site : Site) (p s : List Flow) → AreServices site.services → AreRules (layout site p s)
+layout_rules_are site p s are = layout_passes is_rule anywhere forms_are_rules site p s are (all_anywhere (all_prefixes site.hosts))

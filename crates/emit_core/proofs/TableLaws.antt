@@ -1,0 +1,101 @@
+-- What a flow table of a policy is and does, where it has no range of ports, no more entries than a table may have, and where answers are covered.
+use Rattle.std.proofs.Common.{◌≡◌, ◌≤◌, ◌&&◌, ◌||◌, Bool, true, false, List, length, refl, subst, ◌∙◌, arith}
+use Rattle.std.specs.Prelude.{IsTrue, IsFalse}
+use Rattle.std.proofs.lemmas.Bool.Decides.{nat_tests}
+use Rattle.host_net.specs.declared.packet.Packet.{Packet}
+use Rattle.host_net.specs.declared.packet.CtState.{CtState}
+use Rattle.host_net.specs.Packet.{IsPacket, swap_of}
+use Rattle.host_net.specs.Host.{owner_of}
+use Rattle.host_net.specs.Services.{NarrowedFlow}
+use Rattle.host_net.specs.Verdict.{verdict_if}
+use Rattle.host_net.proofs.VerdictLaws.{verdict_if-injective}
+use Rattle.host_net.specs.Site.{Site}
+use Rattle.host_net.specs.inner.Site.{IsSite}
+use Rattle.flow_set.specs.declared.flow.Flow.{Flow}
+use Rattle.flow_set.specs.Flow.{before}
+use Rattle.pkt_core.specs.Firewall.{is_established}
+use Rattle.pkt_core.specs.Filter.{Enforces}
+use Rattle.pkt_core.specs.FlowPolicy.{is_of, lets_pass}
+use Rattle.ofp_rules.specs.declared.entry.Frame.TheVariants.{Ipv4}
+use Rattle.ofp_rules.specs.inner.Build.{IsTable}
+use Rattle.ofp_rules.specs.Meaning.{Passes}
+use Rattle.emit_core.specs.FlowTable.{flow_entries}
+use Rattle.emit_core.proofs.FlowTableAnswerLaws.{answer_is}
+use Rattle.emit_core.specs.FlowTableEvents.{AnswersAreCovered, IsFirstBarred, is_covered}
+use Rattle.emit_core.proofs.FlowTableEventsLaws.{arp_alone}
+use Rattle.emit_core.specs.FlowTableForwarding.{ForwardsArpAlone}
+use Rattle.emit_core.proofs.FlowTableLaws.{ForwardsFlows, passes, unambiguous}
+use Rattle.emit_core.proofs.FlowTableRangeLaws.{all_ask, flow_entries_in_range}
+use Rattle.emit_core.proofs.FlowTableVerdictLaws.{forwards_flows}
+use Rattle.emit_core.specs.PortRanges.{HasNoRange, IsFirstRange, has_range}
+
+-- the entries of a policy are a table
+pub flow_entries_table : (site : Site) (p : List Flow) → IsSite site → HasNoRange site.services p
+    → length (flow_entries site p) ≤ 8192 → IsTable (flow_entries site p)
+flow_entries_table site p known plain few =
+    let forwards : ForwardsFlows (flow_entries site p) site p = forwards_flows site p known plain in
+    record {
+      accepted = (few, unambiguous site p known plain);
+      in_range = flow_entries_in_range site p known;
+      asks = all_ask site p known.services;
+      one_verdict = λ frame is. record { verdict = verdict_if (passes site p frame); has = forwards.given frame is; only = λ v has. forwards.only frame v is has };
+    }
+
+answered_by : (permitted stateful established : Bool) → (stateful ≡ true → permitted ≡ true) → permitted ≡ (permitted || (stateful && established))
+answered_by true stateful established answered = refl
+answered_by false true established answered = let now : false ≡ true = answered refl in cc
+answered_by false false established answered = refl
+
+-- where answers are covered, a policy lets the packets of its permitted flows pass, and no others
+lets_pass_answered : (site : Site) (p s : List Flow) (packet : Packet) (state : CtState) → IsPacket packet → AnswersAreCovered site.services p s
+    → is_of site p packet ≡ lets_pass site p s packet state
+lets_pass_answered site p s packet state is covered =
+    answered_by (is_of site p packet) (is_of site s (swap_of packet)) (is_established state)
+    (answer_is site.services p s (owner_of site.hosts packet.src) (owner_of site.hosts packet.dst) packet is.4 covered)
+
+-- and so the entries of its permitted flows enforce it
+pub flow_entries_enforce : (site : Site) (p s : List Flow) → IsSite site → HasNoRange site.services p
+    → AnswersAreCovered site.services p s → Enforces (Passes (flow_entries site p)) site p s
+flow_entries_enforce site p s known plain covered =
+    let forwards : ForwardsFlows (flow_entries site p) site p = forwards_flows site p known plain in
+    record {
+      given = λ packet state is.
+          subst (λ (b : Bool). Passes (flow_entries site p) state packet b) (lets_pass_answered site p s packet state is covered) (forwards.given (Ipv4 packet) is);
+      only = λ packet state passes is has.
+          verdict_if-injective passes _ (forwards.only (Ipv4 packet) (verdict_if passes) is has) ∙ lets_pass_answered site p s packet state is covered;
+    }
+
+-- of other frames they forward ARP alone
+pub flow_entries_arp : (site : Site) (p : List Flow) → IsSite site → HasNoRange site.services p
+    → ForwardsArpAlone (flow_entries site p)
+flow_entries_arp site p known plain = arp_alone (flow_entries site p) site p (forwards_flows site p known plain)
+
+-- of two flows one is the earlier, or they are the same
+before_or_same : (f g : Flow) (b c : Bool) → before f g ≡ b → before g f ≡ c → (b ≡ true → ⊥) → (c ≡ true → ⊥) → f ≡ g
+before_or_same f g true c is_before is_behind not_before not_behind = absurd (not_before refl)
+before_or_same f g false true is_before is_behind not_before not_behind = absurd (not_behind refl)
+before_or_same f g false false is_before is_behind not_before not_behind =
+    let from : f.from ≡ g.from = grind (arith, nat_tests) in
+    let to : f.to ≡ g.to = grind (arith, nat_tests) in
+    λ i. record { from = from i; to = to i }
+
+-- where answers are covered, there is no first flow whose answers are not
+pub none_barred : (services : List NarrowedFlow) (p s : List Flow) (f : Flow) → AnswersAreCovered services p s → IsFirstBarred services p s f → ⊥
+none_barred services p s f covered barred = let answered : IsTrue (is_covered services p f) = covered f barred.stateful in let off = barred.barred in cc
+
+-- there is one at most
+pub first_barred_once : (services : List NarrowedFlow) (p s : List Flow) (f g : Flow) → IsFirstBarred services p s f → IsFirstBarred services p s g → f ≡ g
+first_barred_once services p s f g is other =
+    before_or_same f g (before f g) (before g f) refl refl
+    (λ earlier. let answered : IsTrue (is_covered services p f) = other.first f earlier is.stateful in let off = is.barred in cc)
+    (λ later. let answered : IsTrue (is_covered services p g) = is.first g later other.stateful in let off = other.barred in cc)
+
+-- likewise the first flow with a range of ports
+pub none_ranging : (services : List NarrowedFlow) (p : List Flow) (f : Flow) → HasNoRange services p → IsFirstRange services p f → ⊥
+none_ranging services p f plain ranging = let off : IsFalse (has_range services f) = plain f ranging.permitted in let on = ranging.range in cc
+
+pub first_range_once : (services : List NarrowedFlow) (p : List Flow) (f g : Flow) → IsFirstRange services p f → IsFirstRange services p g → f ≡ g
+first_range_once services p f g is other =
+    before_or_same f g (before f g) (before g f) refl refl
+    (λ earlier. let off : IsFalse (has_range services f) = other.first f earlier is.permitted in let on = is.range in cc)
+    (λ later. let off : IsFalse (has_range services g) = is.first g later other.permitted in let on = other.range in cc)

@@ -1,0 +1,76 @@
+-- Where no flow is narrowed, services change nothing: a packet is of a flow by its hosts alone, and a chain lets everything pass to a host
+-- by one rule, answers alone by one, or nothing.
+use Rattle.std.proofs.Common.{◌≡◌, ℕ, Bool, true, false, not, ◌&&◌, List, [], ◌∷◌, ◌++◌, Option, Some, None, refl, ap}
+use Rattle.std.specs.Prelude.{if◌then◌else◌}
+use Rattle.std.specs.Option.{option_map_or}
+use Rattle.std.proofs.Math.Bool.{and-true}
+use Rattle.std.proofs.lemmas.List.{append-nil}
+use Rattle.host_net.specs.declared.packet.Packet.{Packet}
+use Rattle.host_net.specs.declared.prefix.Prefix.{Prefix}
+use Rattle.host_net.specs.Host.{Host, rest_of}
+use Rattle.host_net.specs.Service.{is_served}
+use Rattle.host_net.specs.inner.Site.{unnarrowed}
+use Rattle.flow_set.specs.declared.flow.Flow.{Flow}
+use Rattle.flow_set.specs.FlowSet.{has}
+use Rattle.ipt_rules.specs.declared.rule.Rule.{Rule}
+use Rattle.ipt_rules.specs.declared.rule.Target.TheVariants.{Accept, Drop}
+use Rattle.pkt_core.specs.FlowPolicy.{flow_of, is_of}
+use Rattle.emit_core.specs.declared.side.Side.{Side}
+use Rattle.emit_core.specs.Layout.{for_each_prefix, at_other, answering, accepts, is_open, drops, to_rest, host_rules}
+use Rattle.emit_core.specs.Sides.{links, other_side}
+
+of_flow : (flows : List Flow) (o : Option Flow) (packet : Packet)
+    → option_map_or (λ f. has flows f && is_served [] packet) o false ≡ option_map_or (λ f. has flows f) o false
+of_flow flows None packet = refl
+of_flow flows (Some f) packet = and-true (has flows f)
+
+-- a packet is of a flow by its hosts alone
+pub is_of-unnarrowed : (hosts : List Host) (flows : List Flow) (packet : Packet)
+    → is_of (unnarrowed hosts) flows packet ≡ option_map_or (λ f. has flows f) (flow_of hosts packet) false
+is_of-unnarrowed hosts flows packet = of_flow flows (flow_of hosts packet) packet
+
+-- the rules for whole flows at the prefix q of host j: all packets of host i, answers alone, or none
+abbrev pub whole_accepts : Side → List Flow → List Flow → ℕ → ℕ → Option Prefix → List Rule
+whole_accepts side p s i j q =
+    if links side p i j then at_other side q None Accept ∷ []
+    else (if links (other_side side) s i j then at_other side q answering Accept ∷ [] else [])
+
+-- and what an open chain drops there
+abbrev pub whole_drops : Side → List Flow → List Flow → ℕ → Option ℕ → ℕ → Prefix → List Rule
+whole_drops side p s i rest j q =
+    if is_open side p s i rest && not (links side p i j) then at_other side (Some q) None Drop ∷ [] else []
+
+abbrev pub whole_to_rest : Side → List Flow → List Flow → ℕ → Option ℕ → List Rule
+whole_to_rest side p s i None = []
+whole_to_rest side p s i (Some r) = whole_accepts side p s i r None
+
+accepted : (flow answer : List Rule) (b c : Bool) → (if b then flow else []) ++ (if c && not (b && true) then answer else [])
+    ≡ (if b then flow else (if c then answer else []))
+accepted flow answer true true = append-nil flow
+accepted flow answer true false = append-nil flow
+accepted flow answer false true = refl
+accepted flow answer false false = refl
+
+pub accepts-unnarrowed : (side : Side) (hosts : List Host) (p s : List Flow) (i j : ℕ) (q : Option Prefix)
+    → accepts side (unnarrowed hosts) p s i j q ≡ whole_accepts side p s i j q
+accepts-unnarrowed side hosts p s i j q =
+    accepted (at_other side q None Accept ∷ []) (at_other side q answering Accept ∷ []) (links side p i j) (links (other_side side) s i j)
+
+pub drops-unnarrowed : (side : Side) (hosts : List Host) (p s : List Flow) (i : ℕ) (rest : Option ℕ) (j : ℕ) (q : Prefix)
+    → drops side (unnarrowed hosts) p s i rest j q ≡ whole_drops side p s i rest j q
+drops-unnarrowed side hosts p s i rest j q =
+    ap (λ b. if is_open side p s i rest && not b then at_other side (Some q) None Drop ∷ [] else []) (and-true (links side p i j))
+
+rest_same : (side : Side) (hosts : List Host) (p s : List Flow) (i : ℕ) (rest : Option ℕ)
+    → to_rest side (unnarrowed hosts) p s i rest ≡ whole_to_rest side p s i rest
+rest_same side hosts p s i None = refl
+rest_same side hosts p s i (Some r) = accepts-unnarrowed side hosts p s i r None
+
+-- the chain of a host has these rules, and a last one that drops the rest
+pub host_rules-unnarrowed : (side : Side) (hosts : List Host) (p s : List Flow) (i : ℕ)
+    → host_rules side (unnarrowed hosts) p s i
+    ≡ for_each_prefix (λ j q. whole_accepts side p s i j (Some q) ++ whole_drops side p s i (rest_of hosts) j q) 0 hosts
+    ++ (whole_to_rest side p s i (rest_of hosts) ++ at_other side None None Drop ∷ [])
+host_rules-unnarrowed side hosts p s i =
+    λ k. for_each_prefix (λ j q. accepts-unnarrowed side hosts p s i j (Some q) k ++ drops-unnarrowed side hosts p s i (rest_of hosts) j q k) 0 hosts
+    ++ (rest_same side hosts p s i (rest_of hosts) k ++ at_other side None None Drop ∷ [])

@@ -1,0 +1,257 @@
+-- The layout of a policy that has no more rules than it may is a rule set that is read again, and its text is short enough for it.
+use Rattle.std.proofs.Common.{◌≡◌, ℕ, zero, suc, ◌+◌, ◌^◌, ◌<◌, ◌≤◌, ◌∙◌, ap, sym, subst, refl, inl, inr, Bool, true, false, ◌&&◌, ◌||◌, ◌==◌, IsTrue, List, [], ◌∷◌, ◌++◌, Option, Some, None, length, map, arith, length-append}
+use Rattle.std.specs.Prelude.{if◌then◌else◌, codes, decimal, IsSome, nat_le, nat_lt, slice_get, bytes_eq}
+use Rattle.std.specs.List.{list_all, range_with_len, position_from}
+use Rattle.std.specs.Option.{option_map_or}
+use Rattle.std.proofs.lemmas.Bool.{and_from, and_parts, cases_lt}
+use Rattle.std.proofs.lemmas.Bool.Decides.{nat_tests}
+use Rattle.std.proofs.lemmas.Fmt.{length-decimal-le}
+use Rattle.std.proofs.lemmas.Slice.Eq.{bytes_eq-Decides}
+use Rattle.host_net.specs.declared.prefix.Prefix.{Prefix}
+use Rattle.host_net.specs.declared.service.Service.{Service}
+use Rattle.host_net.specs.Prefix.{is_exact}
+use Rattle.host_net.proofs.PrefixTextLaws.{prefix_short}
+use Rattle.host_net.specs.Hosts.{all_prefixes}
+use Rattle.host_net.specs.inner.Hosts.{is_network}
+use Rattle.host_net.specs.Service.{has_ports, has_all_ports, icmp, last_port}
+use Rattle.host_net.specs.inner.Service.{is_service}
+use Rattle.host_net.specs.inner.Services.{AreServices}
+use Rattle.host_net.specs.Site.{Site}
+use Rattle.host_net.specs.inner.Site.{IsSite}
+use Rattle.flow_set.specs.declared.flow.Flow.{Flow}
+use Rattle.ipt_rules.specs.declared.rule.Rule.{Rule}
+use Rattle.ipt_rules.specs.declared.rule.Target.{Target}
+use Rattle.ipt_rules.specs.Chain.{name_of, policy_of, number_of}
+use Rattle.ipt_rules.specs.ChainTable.{rule_count}
+use Rattle.ipt_rules.specs.inner.ChainTable.{IsTable, name_in, policy_in}
+use Rattle.ipt_rules.specs.Name.{is_user_name}
+use Rattle.ipt_rules.specs.Text.{address_text, service_text, text}
+use Rattle.ipt_rules.proofs.TextLaws.{HasNames, TakeAtMost, asked, at_most, counted_short, no_name, ports_short, protocol_short, takes_at_most, text_short_by}
+use Rattle.ipt_rules.specs.inner.Addresses.{address_fits, addresses_fit, AddressesFit}
+use Rattle.ipt_rules.specs.inner.Writable.{IsWritable}
+use Rattle.emit_core.specs.declared.side.Side.{Side}
+use Rattle.emit_core.specs.declared.side.Side.TheVariants.{Sending, Receiving}
+use Rattle.emit_core.specs.EmitRefusals.{rule_limit}
+use Rattle.emit_core.specs.Layout.{at_other, destination_part, forward_rules, from_service, host_chain, host_chain_name, host_rules, in_prefix, layout, port_part, protocol_part, source_part, to_service}
+use Rattle.emit_core.proofs.LayoutRulesLaws.{PassForms, all_anywhere, anywhere, forward_rules_pass, host_rules_pass, is_narrowing, layout_passes, layout_rules_are, service_asked}
+use Rattle.emit_core.proofs.LayoutLaws.{layout_accepted, layout_no_loop, length-chains_up_to, host_chain_name_legal, other_name}
+
+-- 1. The chains are a table.
+
+chain_at : (site : Site) (p s : List Flow) (k n i j : ℕ) → k + i ≡ j → i < n
+    → slice_get (map (host_chain site p s) (range_with_len k n)) i ≡ Some (host_chain site p s j)
+chain_at site p s k zero i j place below = absurd (omega arith)
+chain_at site p s k (suc n) zero j place below =
+    let same : k ≡ j = omega (arith, place) in
+    ap (λ (m : ℕ). Some (host_chain site p s m)) same
+chain_at site p s k (suc n) (suc i) j place below = chain_at site p s (k + 1) n i j (omega (arith, place)) (omega arith)
+
+-- a host's chain is the one that is found by its name
+chain_found : (site : Site) (p s : List Flow) (at k n i j m : ℕ) → k + i ≡ j → at + i ≡ m → i < n → j < 2 ^ 16
+    → position_from (λ x. bytes_eq x.name (host_chain_name j)) at (map (host_chain site p s) (range_with_len k n)) ≡ Some m
+chain_found site p s at k zero i j m place number below fits = absurd (omega arith)
+chain_found site p s at k (suc n) zero j m place number below fits =
+    let same : k ≡ j = omega (arith, place) in
+    let here : bytes_eq (host_chain_name k) (host_chain_name j) ≡ true = (bytes_eq-Decides (host_chain_name k) (host_chain_name j)).1 (ap host_chain_name same) in
+    let found : at ≡ m = omega (arith, number) in
+    rw here (ap (λ (c : ℕ). Some c) found)
+chain_found site p s at k (suc n) (suc i) j m place number below fits =
+    rw (other_name k j (omega (arith, place)) fits) (chain_found site p s (at + 1) (k + 1) n i j m (omega (arith, place)) (omega (arith, number)) (omega arith) fits)
+
+layout_built_in : (site : Site) (p s : List Flow) (c : ℕ) → c < 3 → IsSome (policy_of (layout site p s) c)
+layout_built_in site p s zero low = refl
+layout_built_in site p s (suc zero) low = refl
+layout_built_in site p s (suc (suc zero)) low = refl
+layout_built_in site p s (suc (suc (suc c))) low = absurd (omega arith)
+
+host_below : (site : Site) (p s : List Flow) (i : ℕ) → suc (suc (suc i)) < length (layout site p s) → i < length site.hosts
+host_below site p s i within = omega (arith, length-chains_up_to site p s (length site.hosts))
+
+layout_user : (site : Site) (p s : List Flow) (c : ℕ) → length site.hosts ≤ 256 → 3 ≤ c → c < length (layout site p s)
+    → IsTrue (is_user_name (name_of (layout site p s) c)) × (policy_of (layout site p s) c ≡ None)
+layout_user site p s zero few high within = absurd (omega arith)
+layout_user site p s (suc zero) few high within = absurd (omega arith)
+layout_user site p s (suc (suc zero)) few high within = absurd (omega arith)
+layout_user site p s (suc (suc (suc i))) few high within =
+    let below = host_below site p s i within in
+    let there = chain_at site p s 0 (length site.hosts) i i (omega arith) below in
+    (subst (λ (n : List ℕ). IsTrue (is_user_name n)) (sym (ap name_in there)) (host_chain_name_legal i (omega arith)), ap policy_in there)
+
+layout_found : (site : Site) (p s : List Flow) (c : ℕ) → length site.hosts ≤ 256 → c < length (layout site p s)
+    → number_of (layout site p s) (name_of (layout site p s) c) ≡ Some c
+layout_found site p s zero few within = refl
+layout_found site p s (suc zero) few within = refl
+layout_found site p s (suc (suc zero)) few within = refl
+layout_found site p s (suc (suc (suc i))) few within =
+    let below = host_below site p s i within in
+    let there = chain_at site p s 0 (length site.hosts) i i (omega arith) below in
+    ap (λ (n : List ℕ). number_of (layout site p s) n) (ap name_in there)
+    ∙ chain_found site p s 3 0 (length site.hosts) i i (suc (suc (suc i))) (omega arith) (omega arith) below (omega arith)
+
+layout_table : (site : Site) (p s : List Flow) → length site.hosts ≤ 256 → IsTable (layout site p s)
+layout_table site p s few = record {
+  input = refl;
+  forward = refl;
+  output = refl;
+  built_in = λ c low. layout_built_in site p s c low;
+  user = λ c high within. layout_user site p s c few high within;
+  found = λ c within. layout_found site p s c few within;
+}
+
+-- 2. Its addresses have 32 bits, since those of the hosts' prefixes have.
+
+abbrev pub prefix_fits : Prefix → Bool
+prefix_fits q = nat_lt q.addr (2 ^ 32)
+
+pub network_fits : (qs : List Prefix) → list_all is_network qs ≡ true → list_all prefix_fits qs ≡ true
+network_fits [] all = refl
+network_fits (q ∷ qs) all =
+    let parts = and_parts (is_network q) (list_all is_network qs) all in
+    let here = and_parts (prefix_fits q) (is_exact q && nat_le 1 q.len) parts.0 in
+    and_from (prefix_fits q) (list_all prefix_fits qs) here.0 (network_fits qs parts.1)
+
+prefix_part_fits : (q : Option Prefix) → option_map_or prefix_fits q true ≡ true → address_fits (in_prefix q) ≡ true
+prefix_part_fits None fits = refl
+prefix_part_fits (Some q) fits = fits
+
+parts_fit : (side : Side) (q : Option Prefix) → option_map_or prefix_fits q true ≡ true
+    → (address_fits (source_part side (in_prefix q)) && address_fits (destination_part side (in_prefix q))) ≡ true
+parts_fit Sending q fits = prefix_part_fits q fits
+parts_fit Receiving q fits = and_from _ _ (prefix_part_fits q fits) refl
+
+forms_fit : PassForms addresses_fit prefix_fits
+forms_fit = record {
+  plain = λ side q target fits. parts_fit side q fits;
+  flow = λ side q n fits is. parts_fit side q fits;
+  answer = λ side q n fits is. parts_fit side q fits;
+}
+
+layout_addresses : (site : Site) (p s : List Flow) → IsSite site → AddressesFit (layout site p s)
+layout_addresses site p s is =
+    layout_passes addresses_fit prefix_fits forms_fit site p s is.services (network_fits (all_prefixes site.hosts) is.hosts.networks)
+
+-- and so have those in the chain of a host, for what it sends or for what it receives
+pub host_rules_addresses : (side : Side) (site : Site) (p s : List Flow) (i : ℕ) → IsSite site → list_all addresses_fit (host_rules side site p s i) ≡ true
+host_rules_addresses side site p s i is =
+    host_rules_pass addresses_fit prefix_fits forms_fit side site p s i is.services (network_fits (all_prefixes site.hosts) is.hosts.networks)
+
+-- 3. What is written of it is read again.
+
+pub layout_writable : (site : Site) (p s : List Flow) → IsSite site → rule_count (layout site p s) ≤ rule_limit → IsWritable (layout site p s)
+layout_writable site p s is few =
+    let hosts : length site.hosts ≤ 256 = is.hosts.few in
+    record {
+      table = layout_table site p s hosts;
+      accepted = layout_accepted site p s hosts (omega (arith, few));
+      no_loop = layout_no_loop site p s;
+      addresses = layout_addresses site p s is;
+      parts = layout_rules_are site p s is.services;
+    }
+
+-- 4. Its text is short enough to be read: its chains have short names, and its rules ask for one address, one service and one state.
+
+layout_name_short : (site : Site) (p s : List Flow) (c : ℕ) → length site.hosts ≤ 256 → length (name_of (layout site p s) c) ≤ 7
+layout_name_short site p s zero few = omega arith
+layout_name_short site p s (suc zero) few = omega arith
+layout_name_short site p s (suc (suc zero)) few = omega arith
+layout_name_short site p s (suc (suc (suc i))) few = elim (cases_lt (suc (suc (suc i))) (length (layout site p s))) [
+  | inl within ↦
+      let below = host_below site p s i within in
+      let there = chain_at site p s 0 (length site.hosts) i i (omega arith) below in
+      let short : length (decimal i) ≤ 5 = length-decimal-le 5 i (omega arith) (omega arith) (omega arith) in
+      omega (arith, ap length (ap name_in there), short)
+  | inr past ↦ omega (arith, ap length (no_name (layout site p s) (suc (suc (suc i))) past))
+]
+
+abbrev asks_at_most : ℕ → Rule → Bool
+asks_at_most most rule = nat_le (asked rule) most
+
+address_short : (side : Side) (q : Option Prefix)
+    → length (address_text (codes " -s ") (source_part side (in_prefix q))) + length (address_text (codes " -d ") (destination_part side (in_prefix q))) ≤ 22
+address_short Sending None = omega arith
+address_short Sending (Some q) = omega (arith, prefix_short q)
+address_short Receiving None = omega arith
+address_short Receiving (Some q) = omega (arith, prefix_short q)
+
+-- a service that has not all ports is one of a protocol that has ports
+chooses_ports : (named only : Bool) → (named || (only && false)) ≡ true → named ≡ true
+chooses_ports true only is = refl
+chooses_ports false true is = cc
+chooses_ports false false is = cc
+
+-- what a rule asks of the service of a packet, or of an answer
+service_parts_short : (proto low high : ℕ) (all : Bool) → proto < 2 ^ 8 → nat_le low high ≡ true → nat_le high last_port ≡ true
+    → (has_ports proto || ((proto == icmp) && all)) ≡ true
+    → (length (service_text (Some (record { proto = proto; negated = false })) None (if all then None else Some (record { low = low; high = high; negated = false }))) ≤ 34)
+    × (length (service_text (Some (record { proto = proto; negated = false })) (if all then None else Some (record { low = low; high = high; negated = false })) None) ≤ 34)
+service_parts_short proto low high true small order fits is =
+    (simp length-append (omega (arith, protocol_short proto small)), simp length-append (omega (arith, protocol_short proto small)))
+service_parts_short proto low high false small order fits is =
+    let name = counted_short proto (chooses_ports (has_ports proto) (proto == icmp) is) in
+    let parts = length-append (decimal low) (if nat_lt low high then codes ":" ++ decimal high else []) in
+    let ports = ports_short low high order fits in
+    (simp length-append (omega (arith, name, ports, parts)), simp length-append (omega (arith, name, ports, parts)))
+
+service_short : (s : Service) → is_service s ≡ true
+    → (length (service_text (protocol_part (Some s)) None (port_part (Some s))) ≤ 34) × (length (service_text (protocol_part (Some s)) (port_part (Some s)) None) ≤ 34)
+service_short s is =
+    let parts = and_parts (nat_le s.low s.high) (nat_le s.high last_port && (has_ports s.proto || ((s.proto == icmp) && has_all_ports s))) is in
+    let later = and_parts (nat_le s.high last_port) (has_ports s.proto || ((s.proto == icmp) && has_all_ports s)) parts.1 in
+    service_parts_short s.proto s.low s.high (has_all_ports s) (below_256 s.proto (service_asked s is).protocol) parts.0 later.0 later.1
+  where
+    below_256 : (n : ℕ) → (nat_lt 0 n && nat_lt n (2 ^ 8)) ≡ true → n < 2 ^ 8
+    below_256 n h = grind (arith, nat_tests)
+
+flow_asks : (side : Side) (q : Option Prefix) (n : Option Service) → is_narrowing n ≡ true → asks_at_most 91 (to_service side q n) ≡ true
+flow_asks side q None is = at_most (asked (to_service side q None)) 91 (omega (arith, address_short side q))
+flow_asks side q (Some s) is = at_most (asked (to_service side q (Some s))) 91 (omega (arith, address_short side q, (service_short s is).0))
+
+answer_asks : (side : Side) (q : Option Prefix) (n : Option Service) → is_narrowing n ≡ true → asks_at_most 91 (from_service side q n) ≡ true
+answer_asks side q None is = at_most (asked (from_service side q None)) 91 (omega (arith, address_short side q))
+answer_asks side q (Some s) is = at_most (asked (from_service side q (Some s))) 91 (omega (arith, address_short side q, (service_short s is).1))
+
+plain_asks : (most : ℕ) → 22 ≤ most → (side : Side) (q : Option Prefix) (target : Target) → asks_at_most most (at_other side q None target) ≡ true
+plain_asks most room side q target = at_most (asked (at_other side q None target)) most (omega (arith, room, address_short side q))
+
+forms_ask : PassForms (asks_at_most 91) anywhere
+forms_ask = record {
+  plain = λ side q target at. plain_asks 91 (omega arith) side q target;
+  flow = λ side q n at is. flow_asks side q n is;
+  answer = λ side q n at is. answer_asks side q n is;
+}
+
+-- beside a short name
+takes : (take ask : ℕ) (name : List ℕ) (rules : List Rule) → length name + ask ≤ take → list_all (asks_at_most ask) rules ≡ true
+    → list_all (takes_at_most take name) rules ≡ true
+takes take ask name [] room all = refl
+takes take ask name (r ∷ rs) room all =
+    let parts = and_parts (asks_at_most ask r) (list_all (asks_at_most ask) rs) all in
+    and_from _ _ (more (asked r) parts.0) (takes take ask name rs room parts.1)
+  where
+    more : (n : ℕ) → nat_le n ask ≡ true → nat_le (length name + n) take ≡ true
+    more n h = grind (arith, nat_tests, room)
+
+chains_take : (site : Site) (p s : List Flow) (k n : ℕ) → AreServices site.services → k + n ≤ 256
+    → list_all (λ x. list_all (takes_at_most 95 x.name) x.rules) (map (host_chain site p s) (range_with_len k n)) ≡ true
+chains_take site p s k zero are few = refl
+chains_take site p s k (suc n) are few =
+    let short : length (decimal k) ≤ 3 = length-decimal-le 3 k (omega arith) (omega arith) (omega arith) in
+    and_from _ _
+    (takes 95 91 (host_chain_name k) (host_rules Sending site p s k) (omega (arith, short))
+    (host_rules_pass (asks_at_most 91) anywhere forms_ask Sending site p s k are (all_anywhere (all_prefixes site.hosts))))
+    (chains_take site p s (k + 1) n are (omega (arith, few)))
+
+layout_takes : (site : Site) (p s : List Flow) → IsSite site → TakeAtMost 95 (layout site p s)
+layout_takes site p s is =
+    and_from _ _
+    (takes 95 22 (codes "FORWARD") (forward_rules site.hosts) (omega arith)
+    (forward_rules_pass (asks_at_most 22) anywhere (λ q target at. plain_asks 22 (omega arith) Receiving q target) site.hosts (all_anywhere (all_prefixes site.hosts))))
+    (chains_take site p s 0 (length site.hosts) is.services (let few : length site.hosts ≤ 256 = is.hosts.few in omega (arith, few)))
+
+-- the text has at most the bytes that a text may have which is read: at most 110 a line
+pub layout_short : (site : Site) (p s : List Flow) → IsSite site → rule_count (layout site p s) ≤ rule_limit → length (text (layout site p s)) ≤ 67108864
+layout_short site p s is few =
+    let hosts : length site.hosts ≤ 256 = is.hosts.few in
+    let chains : length (layout site p s) ≤ 259 = omega (arith, length-chains_up_to site p s (length site.hosts), hosts) in
+    let names : HasNames 7 (layout site p s) = record { built_in = omega arith; names = λ c. layout_name_short site p s c hosts } in
+    omega (arith, text_short_by 95 7 (layout site p s) (omega arith) names (layout_takes site p s is), few, chains)

@@ -1,0 +1,4 @@
+pub mod EmitRefusals
+pub mod Filling
+pub mod FlowTableRefusals
+pub mod KeptEntries

@@ -1,0 +1,6 @@
+pub mod BitRows
+pub mod Different
+pub mod Downward
+pub mod FlowSetView
+pub mod LastStep
+pub mod Steps

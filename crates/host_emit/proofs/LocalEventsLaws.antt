@@ -1,0 +1,126 @@
+-- Where hosts are guarded by the policy, exactly what is expected passes, and what goes between two hosts that are not.
+use Rattle.std.proofs.Common.{◌≡◌, ℕ, Bool, true, false, ◌==◌, ◌&&◌, List, Option, Some, None, refl, sym, ap, subst, ◌∙◌, true≢false}
+use Rattle.std.specs.Prelude.{if◌then◌else◌, IsSome}
+use Rattle.std.specs.Option.{option_map_or}
+use Rattle.host_net.specs.declared.packet.Packet.{Packet}
+use Rattle.host_net.specs.Host.{Host, owner_of}
+use Rattle.host_net.specs.inner.Hosts.{IsHosts}
+use Rattle.host_net.specs.Service.{is_served}
+use Rattle.host_net.specs.Services.{services_of}
+use Rattle.host_net.specs.Site.{Site}
+use Rattle.flow_set.specs.declared.flow.Flow.{Flow}
+use Rattle.flow_set.specs.FlowSet.{has, IsSubset}
+use Rattle.ipt_rules.specs.Chain.{Chain}
+use Rattle.ipt_rules.specs.Meaning.{Passes}
+use Rattle.pkt_core.specs.declared.event.Event.{Event}
+use Rattle.pkt_core.specs.Expected.{AreExpected}
+use Rattle.pkt_core.proofs.ExpectedLaws.{expected_once}
+use Rattle.pkt_core.specs.Filter.{RunsFromNothing}
+use Rattle.pkt_core.proofs.FilterLaws.{is_of-within}
+use Rattle.pkt_core.specs.FlowPolicy.{flow_of, flow_of_owners, is_of, lets_pass}
+use Rattle.emit_core.specs.declared.side.Side.{Side}
+use Rattle.emit_core.specs.declared.side.Side.TheVariants.{Sending, Receiving}
+use Rattle.emit_core.proofs.ForwardingLaws.{layout_expected}
+use Rattle.emit_core.specs.Layout.{layout}
+use Rattle.emit_core.specs.OtherAddress.{other_address}
+use Rattle.emit_core.specs.Sides.{other_side}
+use Rattle.host_emit.specs.Guarding.{Guards, IsExternal, PassesOn, is_own}
+use Rattle.host_emit.proofs.GuardingLaws.{layout_guards, owned_covered}
+use Rattle.host_emit.specs.inner.HostFirewalls.{AreFirewallsFor}
+use Rattle.host_emit.specs.LocalEvents.{AreExternal, AreSpecific, LocalRuns, PassesExpected, RunsWith}
+use Rattle.host_emit.specs.LocalLayout.{is_specific, local_layout}
+use Rattle.host_emit.specs.Passing.{empty_tables, or_unguarded}
+use Rattle.host_emit.specs.inner.Passing.{host_on}
+use Rattle.host_emit.proofs.PassingLaws.{all_guarded, pass_as_expected, pass_keeps_first, some_pass_run}
+
+abbrev unless : Bool → Flow → Option Flow
+unless b g = if b then None else Some g
+
+same_flow : (g f : Flow) → Some g ≡ Some f → g ≡ f
+same_flow g f h = cc
+
+-- the ends of a flow own the addresses
+between_ends : (from to : Option ℕ) (f : Flow) → flow_of_owners from to ≡ Some f → (from ≡ Some f.from) × (to ≡ Some f.to)
+between_ends None to f is = cc
+between_ends (Some i) None f is = cc
+between_ends (Some i) (Some j) f is = by_test (i == j) is
+  where
+    by_test : (b : Bool) → unless b (record { from = i; to = j }) ≡ Some f → (Some i ≡ Some f.from) × (Some j ≡ Some f.to)
+    by_test true is = cc
+    by_test false is = let it = same_flow (record { from = i; to = j }) f is in (ap (λ (g : Flow). Some g.from) it, ap (λ (g : Flow). Some g.to) it)
+
+own_end : (hosts : List Host) (packet : Packet) (f : Flow) (side : Side) → flow_of hosts packet ≡ Some f
+    → owner_of hosts (other_address (other_side side) packet) ≡ Some (host_on side f)
+own_end hosts packet f Sending is = (between_ends (owner_of hosts packet.src) (owner_of hosts packet.dst) f is).0
+own_end hosts packet f Receiving is = (between_ends (owner_of hosts packet.src) (owner_of hosts packet.dst) f is).1
+
+-- a packet of some flows has a flow
+of_some : (site : Site) (packet : Packet) (flows : List Flow) (o : Option Flow)
+    → option_map_or (λ f. has flows f && is_served (services_of site.services f.from f.to) packet) o false ≡ true → IsSome o
+of_some site packet flows None is = absurd (true≢false (sym is))
+of_some site packet flows (Some f) is = refl
+
+-- at its side of a flow the packet is a specific host's own
+own_decides : (hosts : List Host) (side : Side) (packet : Packet) (f : Flow) → flow_of hosts packet ≡ Some f → is_specific hosts (host_on side f) ≡ true
+    → (b : Bool) → (is_own side hosts (host_on side f) packet && b) ≡ b
+own_decides hosts side packet f is specific b =
+    ap (λ (own : Bool). own && b) (owned_covered hosts (other_address (other_side side) packet) (host_on side f) specific (own_end hosts packet f side is))
+
+module _ (chains : ℕ → List Chain) (site : Site) (p s : List Flow) (subset : IsSubset s p)
+    (guarded : (h : ℕ) → is_specific site.hosts h ≡ true → Guards (chains h) site p s h) where
+  -- a host that is guarded by the policy decides as the policy does at its side of a flow
+  guards_are_firewalls : (enforces : ℕ → Bool) → AreSpecific site.hosts enforces
+      → AreFirewallsFor site.hosts enforces (λ h. PassesOn (chains h)) IsExternal (is_of site p) (is_of site s)
+  guards_are_firewalls enforces are_specific = record {
+    given = λ side state packet f known is enforcing.
+        let specific = are_specific (host_on side f) enforcing in
+        subst (PassesOn (chains (host_on side f)) side state packet) (own_decides site.hosts side packet f is specific (lets_pass site p s packet state))
+        ((guarded (host_on side f) specific).given side state packet known);
+    only = λ side state packet f passes known is enforcing has.
+        let specific = are_specific (host_on side f) enforcing in
+        (guarded (host_on side f) specific).only side state packet passes known has ∙ own_decides site.hosts side packet f is specific (lets_pass site p s packet state);
+    policy = λ packet known stateful. is_of-within site s p packet subset stateful;
+    flows = λ packet permitted. of_some site packet p (flow_of site.hosts packet) permitted;
+  }
+
+  partly_expected : (enforces : ℕ → Bool) → AreSpecific site.hosts enforces → (events : List Event) (answers : List (Option Bool)) → AreExternal events
+      → RunsWith enforces chains site.hosts events answers → AreExpected (or_unguarded site.hosts enforces (is_of site p)) (is_of site s) events answers
+  partly_expected enforces are_specific events answers known run =
+      pass_as_expected site.hosts enforces (λ h. PassesOn (chains h)) IsExternal (is_of site p) (is_of site s) (guards_are_firewalls enforces are_specific) events known answers run
+
+  all_are_specific : AreSpecific site.hosts (is_specific site.hosts)
+  all_are_specific h specific = specific
+
+  all_expected : (events : List Event) (answers : List (Option Bool)) → AreExternal events → LocalRuns chains site.hosts events answers
+      → AreExpected (is_of site p) (is_of site s) events answers
+  all_expected events answers known run =
+      subst (λ (permitted : Packet → Bool). AreExpected permitted (is_of site s) events answers) (λ i packet. all_guarded site.hosts (is_of site p) packet i)
+      (partly_expected (is_specific site.hosts) all_are_specific events answers known run)
+
+  firewalls : AreFirewallsFor site.hosts (is_specific site.hosts) (λ h. PassesOn (chains h)) IsExternal (is_of site p) (is_of site s)
+  firewalls = guards_are_firewalls (is_specific site.hosts) all_are_specific
+
+  -- exactly what is expected passes
+  pub guards_expected : PassesExpected chains site p s
+  guards_expected = record {
+    expected = all_expected;
+    partly = partly_expected;
+    first = λ events answers behind known run.
+        pass_keeps_first site.hosts (is_specific site.hosts) (λ h. PassesOn (chains h)) IsExternal (is_of site p) (is_of site s) firewalls events known answers behind run;
+    some = λ events known. some_pass_run site.hosts (is_specific site.hosts) (λ h. PassesOn (chains h)) IsExternal (is_of site p) (is_of site s) firewalls empty_tables events known;
+    one = λ events answers others known run other.
+        expected_once (is_of site p) (is_of site s) events answers others (all_expected events answers known run) (all_expected events others known other);
+  }
+
+-- the layouts of all hosts let exactly what is expected pass
+pub layouts_expected : (site : Site) (p s : List Flow) → IsHosts site.hosts → IsSubset s p → PassesExpected (local_layout site p s) site p s
+layouts_expected site p s known subset = guards_expected (local_layout site p s) site p s subset (λ h specific. layout_guards site p s h known)
+
+-- and a packet passes between the hosts exactly where the chains of a box for the whole network forward it
+pub passes_as_forwarded : (site : Site) (p s : List Flow) → IsHosts site.hosts → IsSubset s p → (events : List Event) → AreExternal events
+    → (passes forwards : List (Option Bool)) → LocalRuns (local_layout site p s) site.hosts events passes
+    → RunsFromNothing (Passes (layout site p s)) events forwards → passes ≡ forwards
+passes_as_forwarded site p s known subset events external passes forwards local whole =
+    expected_once (is_of site p) (is_of site s) events passes forwards
+    ((layouts_expected site p s known subset).expected events passes external local)
+    ((layout_expected site p s known subset).expected events forwards (λ k packet there. (external k packet there).0) whole)

@@ -1,0 +1,170 @@
+-- Laws of the layout for a host's machines: how its chains are filled, how many rules they have, and that they make a rule set.
+use Rattle.std.proofs.Common.{◌≡◌, ℕ, ◌+◌, ◌<◌, ◌≤◌, zero, suc, Bool, true, false, ◌&&◌, List, [], ◌∷◌, Option, Some, None, length, refl, sym, ap, subst, ◌∙◌, arith}
+use Rattle.std.specs.Prelude.{nat_le, nat_lt, IsTrue, slice_get, codes, option_map}
+use Rattle.std.specs.List.{flat_map, list_all}
+use Rattle.std.specs.Option.{option_map_or}
+use Rattle.std.proofs.lemmas.Bool.{and_from}
+use Rattle.std.proofs.lemmas.Bool.Decides.{nat_tests}
+use Rattle.std.proofs.lemmas.List.Sums.{sum_by-cons}
+use Rattle.host_net.specs.declared.prefix.Prefix.{Prefix}
+use Rattle.host_net.specs.Host.{Host}
+use Rattle.host_net.specs.inner.Hosts.{prefix_count}
+use Rattle.host_net.specs.Site.{Site}
+use Rattle.host_net.specs.inner.Site.{IsSite}
+use Rattle.flow_set.specs.declared.flow.Flow.{Flow}
+use Rattle.ipt_rules.specs.declared.rule.Rule.{Rule}
+use Rattle.ipt_rules.specs.declared.rule.Target.{Target}
+use Rattle.ipt_rules.specs.declared.rule.Target.TheVariants.{Accept, Drop, Reject, Return, Count, Jump}
+use Rattle.ipt_rules.specs.declared.rule.Policy.TheVariants.{Drop as Dropping}
+use Rattle.ipt_rules.specs.inner.Build.{jumps_nowhere, refusal_of}
+use Rattle.ipt_rules.specs.Chain.{Chain, built_in_chains, with_policy}
+use Rattle.ipt_rules.specs.ChainTable.{rule_count}
+use Rattle.ipt_rules.specs.Loops.{HasNoLoop}
+use Rattle.ipt_rules.proofs.LoopLaws.{goes_up, no_loop_upward}
+use Rattle.ipt_rules.specs.Name.{is_reserved, is_user_name}
+use Rattle.emit_core.specs.declared.side.Side.{Side}
+use Rattle.emit_core.specs.declared.side.Side.TheVariants.{Sending, Receiving}
+use Rattle.emit_core.proofs.FewRulesLaws.{few_host_rules}
+use Rattle.emit_core.specs.inner.Filling.{with_rules}
+use Rattle.emit_core.proofs.FillingLaws.{with_rules-changed}
+use Rattle.emit_core.specs.Layout.{host_rules}
+use Rattle.emit_core.proofs.LayoutLaws.{all_from, decides, decides_somewhere, decides_up, host_rules_decide, none_nowhere}
+use Rattle.host_emit.specs.inner.LocalFilling.{dropping_chains}
+use Rattle.host_emit.specs.LocalLayout.{entry_rules, local_layout, machine_chains, own_jump, prefixes_of}
+
+-- 1. How the chains are filled.
+
+pub all_dropping : with_policy (with_policy (with_policy built_in_chains 0 Dropping) 1 Dropping) 2 Dropping ≡ dropping_chains
+unfolding with_policy
+all_dropping = refl
+
+pub incoming_legal : IsTrue (is_user_name (codes "IN"))
+unfolding is_user_name is_reserved
+incoming_legal = refl
+
+pub outgoing_legal : IsTrue (is_user_name (codes "OUT"))
+unfolding is_user_name is_reserved
+outgoing_legal = refl
+
+-- each chain of a machine is filled once
+pub input_filled : (chains : List Chain) (rules : List Rule) → chains ≡ machine_chains [] [] [] [] → with_rules chains 0 rules ≡ machine_chains rules [] [] []
+input_filled chains rules is = ap (λ (x : List Chain). with_rules x 0 rules) is ∙ with_rules-changed (machine_chains [] [] [] []) 0 rules
+
+pub output_filled : (chains : List Chain) (input rules : List Rule) → chains ≡ machine_chains input [] [] []
+    → with_rules chains 2 rules ≡ machine_chains input rules [] []
+output_filled chains input rules is = ap (λ (x : List Chain). with_rules x 2 rules) is ∙ with_rules-changed (machine_chains input [] [] []) 2 rules
+
+pub incoming_filled : (chains : List Chain) (c : ℕ) (input output rules : List Rule) → chains ≡ machine_chains input output [] [] → c ≡ 3
+    → with_rules chains c rules ≡ machine_chains input output rules []
+incoming_filled chains c input output rules is number =
+    ap (λ (x : List Chain). with_rules x c rules) is ∙ ap (λ (n : ℕ). with_rules (machine_chains input output [] []) n rules) number
+    ∙ with_rules-changed (machine_chains input output [] []) 3 rules
+
+pub outgoing_filled : (chains : List Chain) (c : ℕ) (input output incoming rules : List Rule) → chains ≡ machine_chains input output incoming [] → c ≡ 4
+    → with_rules chains c rules ≡ machine_chains input output incoming rules
+outgoing_filled chains c input output incoming rules is number =
+    ap (λ (x : List Chain). with_rules x c rules) is ∙ ap (λ (n : ℕ). with_rules (machine_chains input output incoming []) n rules) number
+    ∙ with_rules-changed (machine_chains input output incoming []) 4 rules
+
+-- 2. How many rules there are.
+
+pub machine_rule_count : (input output incoming outgoing : List Rule)
+    → rule_count (machine_chains input output incoming outgoing) ≡ length input + length output + length incoming + length outgoing
+machine_rule_count input output incoming outgoing = omega arith
+
+few_entries : (side : Side) (qs : List Prefix) → length (flat_map (own_jump side) qs) ≡ length qs
+few_entries side [] = refl
+few_entries side (q ∷ qs) = omega (arith, few_entries side qs)
+
+length-entry_rules : (side : Side) (qs : List Prefix) → length (entry_rules side qs) ≡ length qs + 1
+length-entry_rules side qs = omega (arith, few_entries side qs)
+
+-- a host has no more prefixes than all hosts have
+few_prefixes : (hosts : List Host) (h : ℕ) → length (prefixes_of hosts h) ≤ prefix_count hosts
+few_prefixes [] h = omega arith
+few_prefixes (x ∷ xs) zero =
+    subst (λ (n : ℕ). length x.prefixes ≤ n) (sym (sum_by-cons (λ (y : Host). length y.prefixes) x xs)) (omega arith)
+few_prefixes (x ∷ xs) (suc h) =
+    let rest = few_prefixes xs h in
+    subst (λ (n : ℕ). length (prefixes_of xs h) ≤ n) (sym (sum_by-cons (λ (y : Host). length y.prefixes) x xs)) (omega arith)
+
+-- INPUT or OUTPUT of a host has few rules
+pub few_entry_rules : (side : Side) (hosts : List Host) (h : ℕ) → prefix_count hosts ≤ 1024 → length (entry_rules side (prefixes_of hosts h)) ≤ 1025
+few_entry_rules side hosts h few = omega (arith, length-entry_rules side (prefixes_of hosts h), few_prefixes hosts h)
+
+-- the prefixes that are read at a host are its prefixes
+pub prefixes_read : (hosts : List Host) (h : ℕ) (qs : List Prefix) → option_map (λ x. x.prefixes) (slice_get hosts h) ≡ Some qs → qs ≡ prefixes_of hosts h
+prefixes_read hosts h qs read = by_host (slice_get hosts h) read
+  where
+    by_host : (o : Option Host) → option_map (λ x. x.prefixes) o ≡ Some qs → qs ≡ option_map_or (λ x. x.prefixes) o []
+    by_host None is = cc
+    by_host (Some x) is = cc
+
+-- far fewer than a rule set may have, whatever the hosts and the services of flows are
+pub few_local_rules : (site : Site) (p s : List Flow) (h : ℕ) → IsSite site → rule_count (local_layout site p s h) ≤ 69700
+few_local_rules site p s h is =
+    let few = is.hosts.few_prefixes in
+    omega (
+      arith,
+      machine_rule_count (entry_rules Receiving (prefixes_of site.hosts h)) (entry_rules Sending (prefixes_of site.hosts h)) (host_rules Receiving site p s h) (host_rules Sending site p s h),
+      few_entry_rules Receiving site.hosts h few,
+      few_entry_rules Sending site.hosts h few,
+      few_host_rules Receiving site p s h is,
+      few_host_rules Sending site p s h is,
+    )
+
+-- 3. They make a rule set.
+
+-- a rule of INPUT or OUTPUT accepts, or jumps to one of the two user chains
+abbrev enters : Target → Bool
+enters Accept = true
+enters (Jump c) = nat_le 3 c && nat_lt c 5
+enters _ = false
+
+jumps_enter : (side : Side) (qs : List Prefix) → list_all (λ r. enters r.target) (flat_map (own_jump side) qs) ≡ true
+jumps_enter side [] = refl
+jumps_enter Sending (q ∷ qs) = jumps_enter Sending qs
+jumps_enter Receiving (q ∷ qs) = jumps_enter Receiving qs
+
+entries_enter : (side : Side) (qs : List Prefix) → list_all (λ r. enters r.target) (entry_rules side qs) ≡ true
+entries_enter side qs = jumps_enter side qs
+
+enters_somewhere : (t : Target) → enters t ≡ true → jumps_nowhere 5 t ≡ false
+enters_somewhere Accept is = refl
+enters_somewhere Drop is = refl
+enters_somewhere Reject is = refl
+enters_somewhere Return is = refl
+enters_somewhere Count is = refl
+enters_somewhere (Jump c) is = grind (arith, nat_tests)
+
+enters_up : (c : ℕ) → c < 3 → (t : Target) → enters t ≡ true → goes_up c t ≡ true
+enters_up c low Accept is = refl
+enters_up c low Drop is = refl
+enters_up c low Reject is = refl
+enters_up c low Return is = refl
+enters_up c low Count is = refl
+enters_up c low (Jump d) is = grind (arith, nat_tests)
+
+-- jumps lead from INPUT and OUTPUT to the user chains, and from there nowhere
+pub local_no_loop : (site : Site) (p s : List Flow) (h : ℕ) → HasNoLoop (local_layout site p s h)
+local_no_loop site p s h =
+    let own = prefixes_of site.hosts h in
+    no_loop_upward (local_layout site p s h)
+    (and_from _ _ (all_from enters (goes_up 0) (enters_up 0 (omega arith)) (entry_rules Receiving own) (entries_enter Receiving own))
+    (and_from _ _ (all_from enters (goes_up 2) (enters_up 2 (omega arith)) (entry_rules Sending own) (entries_enter Sending own))
+    (and_from _ _ (all_from decides (goes_up 3) (decides_up 3) (host_rules Receiving site p s h) (host_rules_decide Receiving site p s h))
+    (and_from _ _ (all_from decides (goes_up 4) (decides_up 4) (host_rules Sending site p s h) (host_rules_decide Sending site p s h)) refl))))
+
+-- no cause is there to refuse them
+pub local_accepted : (site : Site) (p s : List Flow) (h : ℕ) → IsSite site → refusal_of (local_layout site p s h) ≡ None
+unfolding refusal_of
+local_accepted site p s h is =
+    let own = prefixes_of site.hosts h in
+    let rules : nat_lt 1000000 (rule_count (local_layout site p s h)) ≡ false = grind (arith, nat_tests, few_local_rules site p s h is) in
+    rw (
+      rules,
+      none_nowhere 5 enters enters_somewhere 0 (entry_rules Receiving own) (entries_enter Receiving own),
+      none_nowhere 5 enters enters_somewhere 0 (entry_rules Sending own) (entries_enter Sending own),
+      none_nowhere 5 decides (decides_somewhere 5) 0 (host_rules Receiving site p s h) (host_rules_decide Receiving site p s h),
+      none_nowhere 5 decides (decides_somewhere 5) 0 (host_rules Sending site p s h) (host_rules_decide Sending site p s h),
+    ) refl

@@ -1,0 +1,143 @@
+-- The layout for a host's machines is a rule set that is read again, and its text is short enough for it.
+use Rattle.std.proofs.Common.{◌≡◌, ℕ, zero, suc, ◌<◌, ◌≤◌, ◌∙◌, Bool, true, IsTrue, List, [], ◌∷◌, Some, None, length, refl, sym, arith}
+use Rattle.std.specs.Prelude.{IsSome}
+use Rattle.std.specs.List.{flat_map, list_all}
+use Rattle.std.proofs.lemmas.Bool.{and_from, and_parts}
+use Rattle.std.proofs.lemmas.List.Folds.{list_all-append}
+use Rattle.host_net.specs.declared.prefix.Prefix.{Prefix}
+use Rattle.host_net.specs.Host.{Host}
+use Rattle.host_net.specs.Hosts.{all_prefixes}
+use Rattle.host_net.specs.Site.{Site}
+use Rattle.host_net.specs.inner.Site.{IsSite}
+use Rattle.flow_set.specs.declared.flow.Flow.{Flow}
+use Rattle.ipt_rules.specs.declared.rule.Rule.{Rule}
+use Rattle.ipt_rules.specs.inner.Addresses.{addresses_fit, AddressesFit}
+use Rattle.ipt_rules.specs.Chain.{name_of, number_of, policy_of}
+use Rattle.ipt_rules.specs.inner.ChainTable.{IsTable}
+use Rattle.ipt_rules.specs.Name.{is_user_name}
+use Rattle.ipt_rules.specs.inner.RuleParts.{is_rule, AreRules}
+use Rattle.ipt_rules.specs.Text.{text}
+use Rattle.ipt_rules.proofs.TextLaws.{text_short}
+use Rattle.ipt_rules.specs.inner.Writable.{IsWritable}
+use Rattle.emit_core.specs.declared.side.Side.{Side}
+use Rattle.emit_core.specs.declared.side.Side.TheVariants.{Sending, Receiving}
+use Rattle.emit_core.proofs.FewRulesLaws.{few_host_rules}
+use Rattle.emit_core.specs.Layout.{host_rules}
+use Rattle.emit_core.proofs.LayoutRulesLaws.{host_rules_are}
+use Rattle.emit_core.proofs.WritableLaws.{host_rules_addresses, network_fits, prefix_fits}
+use Rattle.host_emit.specs.inner.LocalFilling.{AreChainRules}
+use Rattle.host_emit.specs.LocalLayout.{entry_rules, local_layout, machine_chains, own_jump, prefixes_of}
+use Rattle.host_emit.proofs.LocalLayoutLaws.{few_entry_rules, few_local_rules, incoming_legal, local_accepted, local_no_loop, outgoing_legal}
+
+-- 1. The chains are a table.
+
+machine_built_in : (input output incoming outgoing : List Rule) (c : ℕ) → c < 3 → IsSome (policy_of (machine_chains input output incoming outgoing) c)
+machine_built_in input output incoming outgoing zero low = refl
+machine_built_in input output incoming outgoing (suc zero) low = refl
+machine_built_in input output incoming outgoing (suc (suc zero)) low = refl
+machine_built_in input output incoming outgoing (suc (suc (suc c))) low = absurd (omega arith)
+
+machine_user : (input output incoming outgoing : List Rule) (c : ℕ) → 3 ≤ c → c < 5
+    → IsTrue (is_user_name (name_of (machine_chains input output incoming outgoing) c)) × (policy_of (machine_chains input output incoming outgoing) c ≡ None)
+machine_user input output incoming outgoing zero high within = absurd (omega arith)
+machine_user input output incoming outgoing (suc zero) high within = absurd (omega arith)
+machine_user input output incoming outgoing (suc (suc zero)) high within = absurd (omega arith)
+machine_user input output incoming outgoing (suc (suc (suc zero))) high within = (incoming_legal, refl)
+machine_user input output incoming outgoing (suc (suc (suc (suc zero)))) high within = (outgoing_legal, refl)
+machine_user input output incoming outgoing (suc (suc (suc (suc (suc c))))) high within = absurd (omega arith)
+
+machine_found : (input output incoming outgoing : List Rule) (c : ℕ) → c < 5
+    → number_of (machine_chains input output incoming outgoing) (name_of (machine_chains input output incoming outgoing) c) ≡ Some c
+machine_found input output incoming outgoing zero within = refl
+machine_found input output incoming outgoing (suc zero) within = refl
+machine_found input output incoming outgoing (suc (suc zero)) within = refl
+machine_found input output incoming outgoing (suc (suc (suc zero))) within = refl
+machine_found input output incoming outgoing (suc (suc (suc (suc zero)))) within = refl
+machine_found input output incoming outgoing (suc (suc (suc (suc (suc c))))) within = absurd (omega arith)
+
+machine_table : (input output incoming outgoing : List Rule) → IsTable (machine_chains input output incoming outgoing)
+machine_table input output incoming outgoing = record {
+  input = refl;
+  forward = refl;
+  output = refl;
+  built_in = λ c low. machine_built_in input output incoming outgoing c low;
+  user = λ c high within. machine_user input output incoming outgoing c high within;
+  found = λ c within. machine_found input output incoming outgoing c within;
+}
+
+-- 2. What its rules ask for.
+
+-- a test that the rules of all chains pass
+machine_passes : (test : Rule → Bool) (input output incoming outgoing : List Rule)
+    → list_all test input ≡ true → list_all test output ≡ true → list_all test incoming ≡ true → list_all test outgoing ≡ true
+    → list_all (λ x. list_all test x.rules) (machine_chains input output incoming outgoing) ≡ true
+machine_passes test input output incoming outgoing first second third fourth =
+    and_from _ _ first (and_from _ _ second (and_from _ _ third (and_from _ _ fourth refl)))
+
+-- the jumps ask for addresses alone
+jumps_are : (side : Side) (qs : List Prefix) → list_all is_rule (flat_map (own_jump side) qs) ≡ true
+jumps_are side [] = refl
+jumps_are side (q ∷ qs) = jumps_are side qs
+
+entries_are : (side : Side) (qs : List Prefix) → list_all is_rule (entry_rules side qs) ≡ true
+entries_are side qs = jumps_are side qs
+
+-- each chain has few, and they ask for what rules may
+pub entries_few : (side : Side) (site : Site) (h : ℕ) → IsSite site → AreChainRules (entry_rules side (prefixes_of site.hosts h))
+entries_few side site h is =
+    let few = few_entry_rules side site.hosts h is.hosts.few_prefixes in
+    record { few = omega (arith, few); parts = entries_are side (prefixes_of site.hosts h) }
+
+pub users_few : (side : Side) (site : Site) (p s : List Flow) (h : ℕ) → IsSite site → AreChainRules (host_rules side site p s h)
+users_few side site p s h is = record { few = few_host_rules side site p s h is; parts = host_rules_are side site p s h is.services }
+
+pub local_rules_are : (site : Site) (p s : List Flow) (h : ℕ) → IsSite site → AreRules (local_layout site p s h)
+local_rules_are site p s h is =
+    let own = prefixes_of site.hosts h in
+    machine_passes is_rule (entry_rules Receiving own) (entry_rules Sending own) (host_rules Receiving site p s h) (host_rules Sending site p s h)
+    (entries_are Receiving own) (entries_are Sending own) (host_rules_are Receiving site p s h is.services) (host_rules_are Sending site p s h is.services)
+
+-- those of a host's own have 32 bits, since they are among those of all hosts
+own_fit : (hosts : List Host) (h : ℕ) → list_all prefix_fits (all_prefixes hosts) ≡ true → list_all prefix_fits (prefixes_of hosts h) ≡ true
+own_fit [] h all = refl
+own_fit (x ∷ xs) zero all = (and_parts (list_all prefix_fits x.prefixes) (list_all prefix_fits (all_prefixes xs)) (sym (list_all-append prefix_fits x.prefixes (all_prefixes xs)) ∙ all)).0
+own_fit (x ∷ xs) (suc h) all = own_fit xs h (and_parts (list_all prefix_fits x.prefixes) (list_all prefix_fits (all_prefixes xs)) (sym (list_all-append prefix_fits x.prefixes (all_prefixes xs)) ∙ all)).1
+
+jumps_fit : (side : Side) (qs : List Prefix) → list_all prefix_fits qs ≡ true → list_all addresses_fit (flat_map (own_jump side) qs) ≡ true
+jumps_fit side [] all = refl
+jumps_fit Sending (q ∷ qs) all =
+    let parts = and_parts (prefix_fits q) (list_all prefix_fits qs) all in
+    and_from _ _ (and_from _ _ parts.0 refl) (jumps_fit Sending qs parts.1)
+jumps_fit Receiving (q ∷ qs) all =
+    let parts = and_parts (prefix_fits q) (list_all prefix_fits qs) all in
+    and_from _ _ parts.0 (jumps_fit Receiving qs parts.1)
+
+entries_fit : (side : Side) (qs : List Prefix) → list_all prefix_fits qs ≡ true → list_all addresses_fit (entry_rules side qs) ≡ true
+entries_fit side qs all = jumps_fit side qs all
+
+local_addresses : (site : Site) (p s : List Flow) (h : ℕ) → IsSite site → AddressesFit (local_layout site p s h)
+local_addresses site p s h is =
+    let own = prefixes_of site.hosts h in
+    let all = own_fit site.hosts h (network_fits (all_prefixes site.hosts) is.hosts.networks) in
+    machine_passes addresses_fit (entry_rules Receiving own) (entry_rules Sending own) (host_rules Receiving site p s h) (host_rules Sending site p s h)
+    (entries_fit Receiving own all) (entries_fit Sending own all) (host_rules_addresses Receiving site p s h is) (host_rules_addresses Sending site p s h is)
+
+-- 3. What is written of it is read again, and it is short enough to be read.
+
+local_table : (site : Site) (p s : List Flow) (h : ℕ) → IsTable (local_layout site p s h)
+local_table site p s h =
+    let own = prefixes_of site.hosts h in
+    machine_table (entry_rules Receiving own) (entry_rules Sending own) (host_rules Receiving site p s h) (host_rules Sending site p s h)
+
+pub local_writable : (site : Site) (p s : List Flow) (h : ℕ) → IsSite site → IsWritable (local_layout site p s h)
+local_writable site p s h is = record {
+  table = local_table site p s h;
+  accepted = local_accepted site p s h is;
+  no_loop = local_no_loop site p s h;
+  addresses = local_addresses site p s h is;
+  parts = local_rules_are site p s h is;
+}
+
+pub local_short : (site : Site) (p s : List Flow) (h : ℕ) → IsSite site → length (text (local_layout site p s h)) ≤ 67108864
+local_short site p s h is =
+    omega (arith, text_short (local_layout site p s h) (local_table site p s h) (local_rules_are site p s h is), few_local_rules site p s h is)

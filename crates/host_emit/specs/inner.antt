@@ -1,0 +1,3 @@
+pub mod HostFirewalls
+pub mod LocalFilling
+pub mod Passing

@@ -1,0 +1,13 @@
+pub mod Cover
+pub mod CoverView
+pub mod Hosts
+pub mod HostsView
+pub mod Overlaps
+pub mod PrefixView
+pub mod Ranges
+pub mod Refusal
+pub mod Service
+pub mod ServiceText
+pub mod Services
+pub mod ServicesView
+pub mod Site

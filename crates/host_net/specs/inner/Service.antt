@@ -1,0 +1,8 @@
+-- Services, to which flows may be narrowed: a protocol and the ports that it counts its packets to (TCP: RFC 9293, section 3.1; UDP: RFC 768).
+use Rattle.std.specs.Prelude.{Bool, ◌&&◌, ◌||◌, ◌==◌, nat_le}
+use Rattle.host_net.specs.declared.service.Service.{Service}
+use Rattle.host_net.specs.Service.{has_all_ports, has_ports, icmp, last_port}
+
+-- a service that a flow may be narrowed to: ports of TCP or UDP in order, or all of ICMP
+abbrev pub is_service : Service → Bool
+is_service s = nat_le s.low s.high && (nat_le s.high last_port && (has_ports s.proto || ((s.proto == icmp) && has_all_ports s)))

@@ -1,0 +1,4 @@
+pub mod AnyTrials
+pub mod OtherDefaults
+pub mod Resets
+pub mod Templates

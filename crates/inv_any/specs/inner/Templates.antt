@@ -1,0 +1,10 @@
+-- An invariant of one of the ten templates, or of a template that is declared as a table: what it means, and its name, by the record of
+-- its template.
+use Rattle.inv_any.specs.declared.any_inv.AnyInv.{AnyInv}
+use Rattle.inv_any.specs.declared.any_inv.AnyInv.TheVariants as any
+use Rattle.inv_law.specs.inner.Template.{AllMayHave}
+use Rattle.inv_any.specs.Templates.{by_template}
+
+-- each host has an attribute that it may have
+abbrev pub HostsMayHave : AnyInv → Type 0
+HostsMayHave any = by_template (λ t hosts make. AllMayHave t hosts) any

@@ -1,0 +1,13 @@
+-- A template as one record: all that is said of it but how a description writes its attributes.
+-- What an invariant of the template means is derived from the record and the attributes of the hosts.
+use Rattle.std.specs.Prelude.{ℕ, ◌<◌, List, length, slice_index_or}
+use Rattle.inv_law.specs.Template.{Template}
+
+-- each host has an attribute that it may have
+abbrev pub AllMayHave : (t : Template) → List t.Attribute → Type 0
+AllMayHave t hosts =
+    (host : ℕ) → host < length hosts → t.MayHave (length hosts) host (slice_index_or hosts host (t.default (length hosts) host))
+
+-- the default is an attribute that each host may have
+abbrev pub MayHaveDefault : Template → Type 0
+MayHaveDefault t = (n host : ℕ) → host < n → t.MayHave n host (t.default n host)

@@ -1,0 +1,3 @@
+pub mod AttributeLaws
+pub mod RuleLaws
+pub mod TemplateLaws

@@ -1,0 +1,71 @@
+-- A rule line, word by word: what each word gives, or why it cannot stand there. The first such word refuses the line.
+-- Callers see none of it; they have `Grammar` and `LineFault`.
+use Rattle.std.specs.Prelude.{ℕ, Bool, true, false, ◌&&◌, ◌||◌, not, if◌then◌else◌, List, [], ◌∷◌, Option, Some, None, Result, Ok, Err, is_some, codes, bytes_eq}
+use Rattle.std.specs.Option.{option_map, ok_or}
+use Rattle.text_core.specs.Lines.{begins_with}
+use Rattle.ipt_rules.specs.declared.rule.Rule.{Rule}
+use Rattle.ipt_rules.specs.Chain.{Chain, number_of}
+use Rattle.ipt_read.specs.declared.fault.IptWhy.{IptWhy}
+use Rattle.ipt_read.specs.declared.fault.IptWhy.TheVariants.{BadLine, UnknownChain, Interface as AnInterface, UnknownOption, BadValue}
+use Rattle.ipt_read.specs.declared.option.Opt.{Opt}
+use Rattle.ipt_read.specs.declared.option.Given.{Given}
+use Rattle.ipt_read.specs.declared.option.Place.{Place}
+use Rattle.ipt_read.specs.declared.option.Place.TheVariants.{AtOption, AfterBang, AtValue, InText}
+use Rattle.ipt_read.specs.inner.Counts.{is_count}
+use Rattle.ipt_read.specs.Options.{option_of, may_stand, is_interface, takes_bang, is_given, nothing_given, rule_of, value_refusal}
+use Rattle.ipt_read.specs.inner.ValueSteps.{quoted, with_value}
+
+-- a word in the place of an option, with `!` before it or not
+abbrev pub at_option : Given → Bool → Option Opt → Result (Given × Place) IptWhy
+at_option given negated None = Err UnknownOption
+at_option given negated (Some o) =
+    if not (may_stand given o) then Err UnknownOption
+    else if is_interface o then Err AnInterface
+    else if (negated && not (takes_bang o)) || is_given given o then Err BadLine
+    else Ok (given, AtValue o negated)
+
+-- `!` may stand in front of the target
+unfoldable pub is_bang : Given → List ℕ → Bool
+is_bang given word = not (is_some given.target) && bytes_eq word (codes "!")
+
+-- one word
+unfoldable pub word_step : List Chain → Given → Place → List ℕ → Result (Given × Place) IptWhy
+word_step chains given AtOption word =
+    if is_bang given word then Ok (given, AfterBang) else at_option given false (option_of word)
+word_step chains given AfterBang word = at_option given true (option_of word)
+word_step chains given (AtValue o negated) word = ok_or (with_value chains given o negated word) (value_refusal o)
+word_step chains given InText word = ok_or (option_map (λ place. (given, place)) (quoted false word)) BadValue
+
+-- the end of the line
+abbrev pub at_end : Given → Place → Result Given IptWhy
+at_end given AtOption = Ok given
+at_end given AfterBang = Err BadLine
+at_end given (AtValue o negated) = Err BadValue
+at_end given InText = Err BadValue
+
+-- a step, and what follows where it gave something
+abbrev pub goes_on : {A B : Type 0} → Result A IptWhy → (A → Result B IptWhy) → Result B IptWhy
+goes_on (Ok x) f = f x
+goes_on (Err why) f = Err why
+
+-- the words that are left
+abbrev pub word_by_word : List Chain → Given → Place → List (List ℕ) → Result Given IptWhy
+word_by_word chains given place [] = at_end given place
+word_by_word chains given place (w ∷ ws) = goes_on (word_step chains given place w) (λ t. word_by_word chains t.0 t.1 ws)
+
+-- the chain of that number, and the rule of the options that are left
+abbrev pub rule_in : List Chain → Option ℕ → List (List ℕ) → Result (ℕ × Rule) IptWhy
+rule_in chains None ws = Err UnknownChain
+rule_in chains (Some c) ws =
+    goes_on (word_by_word chains nothing_given AtOption ws) (λ given. Ok (c, rule_of given))
+
+-- `-A`, a chain, and options
+abbrev pub append_of : List Chain → List (List ℕ) → Result (ℕ × Rule) IptWhy
+append_of chains (a ∷ name ∷ ws) = if bytes_eq a (codes "-A") then rule_in chains (number_of chains name) ws else Err BadLine
+append_of chains _ = Err BadLine
+
+-- a rule line: the same after a count of packets and bytes, where there is one
+unfoldable pub rule_line_of : List Chain → List (List ℕ) → Result (ℕ × Rule) IptWhy
+rule_line_of chains [] = Err BadLine
+rule_line_of chains (w ∷ ws) =
+    if begins_with 91 w then (if is_count w then append_of chains ws else Err BadLine) else append_of chains (w ∷ ws)

@@ -1,0 +1,50 @@
+-- What the values of `-p`, `--sport` and `--dport` say, as the reader reads them. Callers see none of it; they have `ServiceValues`.
+use Rattle.std.specs.Prelude.{ℕ, ◌&&◌, ◌==◌, nat_le, if◌then◌else◌, List, [], ◌∷◌, Option, Some, None, codes, bytes_eq}
+use Rattle.text_core.specs.Decimal.{number}
+use Rattle.text_core.specs.Pieces.{split_once}
+use Rattle.text_core.specs.Steps.{◌>>=◌}
+use Rattle.host_net.specs.Service.{last_port}
+use Rattle.host_net.specs.ServiceText.{protocol_of}
+use Rattle.ipt_read.specs.inner.Counts.{is_nothing}
+
+-- the protocol of that name
+abbrev pub named_protocol : List ℕ → Option ℕ
+named_protocol word =
+    if bytes_eq word (codes "esp") then Some 50
+    else if bytes_eq word (codes "ah") then Some 51
+    else if bytes_eq word (codes "sctp") then Some 132
+    else protocol_of word
+
+abbrev pub if_positive : Option ℕ → Option ℕ
+if_positive None = None
+if_positive (Some n) = if n == 0 then None else Some n
+
+-- the protocol of a name, or else of a number
+abbrev pub named_or_numbered : Option ℕ → List ℕ → Option ℕ
+named_or_numbered (Some proto) word = Some proto
+named_or_numbered None word = if_positive (number 255 word)
+
+unfoldable pub asked_protocol : List ℕ → Option ℕ
+asked_protocol word = named_or_numbered (named_protocol word) word
+
+-- a port, or where none is written another
+abbrev pub port_or : ℕ → List ℕ → Option ℕ
+port_or other [] = Some other
+port_or other (b ∷ bs) = number last_port (b ∷ bs)
+
+-- the ports from one to another, where they are in order
+abbrev pub ports_between : List ℕ → List ℕ → Option (ℕ × ℕ)
+ports_between first last = do
+  low ← port_or 0 first
+  high ← port_or last_port last
+  if nat_le low high then Some (low, high) else None
+
+-- the ports of a word, given what stands before and behind a colon, or else one port
+abbrev pub ports_of_parts : List ℕ → Option (List ℕ × List ℕ) → Option (ℕ × ℕ)
+ports_of_parts word None = do
+  port ← number last_port word
+  Some (port, port)
+ports_of_parts word (Some parts) = if is_nothing parts.0 && is_nothing parts.1 then None else ports_between parts.0 parts.1
+
+unfoldable pub asked_ports : List ℕ → Option (ℕ × ℕ)
+asked_ports word = ports_of_parts word (split_once 58 word)

@@ -1,0 +1,24 @@
+-- What the reader holds between two lines, as contracts of its private steps say it. Callers see none of it.
+use Rattle.std.specs.Prelude.{◌≡◌, ◌≤◌, Result, Ok, Err, MatchResult, length}
+use Rattle.text_core.specs.inner.TextAnswers.{HasReason}
+use Rattle.text_core.specs.declared.faults.LineFault.{LineFault}
+use Rattle.ipt_rules.specs.ChainTable.{rule_count}
+use Rattle.ipt_read.specs.declared.fault.IptWhy.{IptWhy}
+use Rattle.ipt_read.specs.declared.reader.Reader.{Reader}
+use Rattle.ipt_read.specs.Said.{SaidSoFar}
+use Rattle.ipt_read.specs.inner.Goes.{EachGoes}
+
+abbrev pub said_of : Reader → SaidSoFar
+said_of r = record { stage = r.stage; chains = r.chains; declared = r.declared.items; rules = r.rules }
+
+-- an answer to a line against what its step says
+abbrev pub AnswersTo : Result SaidSoFar IptWhy → Result Reader (LineFault IptWhy) → Type 0
+AnswersTo said r = MatchResult r (λ t. said ≡ Ok (said_of t)) (HasReason (λ why. said ≡ Err why))
+
+-- what holds between two lines
+pub record IsFine (s : SaidSoFar) : Type 0 where
+  pub few_chains : length s.chains ≤ 4096
+  pub few_rules : s.rules ≤ 1000000
+  pub counted : s.rules ≡ rule_count s.chains
+  pub numbered : length s.declared ≡ length s.chains
+  pub goes : EachGoes (length s.chains) s.chains

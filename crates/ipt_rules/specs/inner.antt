@@ -1,0 +1,15 @@
+pub mod Addresses
+pub mod Build
+pub mod ChainTable
+pub mod Head
+pub mod Jumps
+pub mod Next
+pub mod OneOutcome
+pub mod Ranked
+pub mod Ranks
+pub mod Reached
+pub mod RuleParts
+pub mod Saying
+pub mod Starts
+pub mod WalkView
+pub mod Writable

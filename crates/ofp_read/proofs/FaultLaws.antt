@@ -1,0 +1,80 @@
+-- A text has one reading at most and one first fault at most, and not both; and its reading is a table.
+use Rattle.std.proofs.Common.{◌≡◌, inl, inr, ℕ, ◌+◌, List, [], ◌∷◌, ◌++◌, refl, sym, ap, subst, ◌∙◌, arith}
+use Rattle.std.specs.Prelude.{Result, Ok, Err}
+use Rattle.text_core.specs.Lines.{lines}
+use Rattle.text_core.specs.Reading.{Follows}
+use Rattle.text_core.proofs.TextByLinesLaws.{IsSettled, one_reading as reading_once, one_fault as fault_once, no_reading_with_fault as reading_or_fault_alone}
+use Rattle.ofp_rules.specs.declared.entry.Entry.{Entry}
+use Rattle.ofp_rules.specs.Ambiguity.{Contradict}
+use Rattle.ofp_rules.specs.inner.Build.{IsTable}
+use Rattle.ofp_rules.proofs.TableLaws.{table_more, empty_table}
+use Rattle.ofp_read.specs.declared.fault.OfpWhy.{OfpWhy}
+use Rattle.ofp_read.specs.inner.FlowLine.{flow_of}
+use Rattle.ofp_read.specs.Grammar.{Writes, AddsEntry}
+use Rattle.ofp_read.proofs.LineLaws.{flow_of_written}
+use Rattle.ofp_read.proofs.RangeLaws.{written_in_range}
+use Rattle.ofp_read.proofs.UnwrittenLaws.{refused_by_steps}
+use Rattle.ofp_read.specs.TextLines.{IsBad, unwritten, too_many, ambiguous, flows_text, IsReading, HasFault}
+
+-- 1. One line.
+
+one_entry : (line : List ℕ) (e f : Entry) → Writes line e → Writes line f → e ≡ f
+one_entry line e f a b =
+    let ok : ◌≡◌ {A = Result Entry OfpWhy} (Ok e) (Ok f) = sym (flow_of_written line e a) ∙ flow_of_written line f b in cc
+
+adds_one : (n : ℕ) (before now other : List Entry) (l : List ℕ) → AddsEntry n before l now → AddsEntry n before l other → now ≡ other
+adds_one n before now other l a b =
+    a.added ∙ ap (λ e. before ++ e ∷ []) (one_entry l a.entry b.entry a.written b.written) ∙ sym b.added
+
+written_or_not : (line : List ℕ) (e : Entry) (why : OfpWhy) → flow_of line ≡ Err why → Writes line e → ⊥
+written_or_not line e why refused writes = let read = flow_of_written line e writes in cc
+
+adds_not_bad : (n : ℕ) (before now : List Entry) (l : List ℕ) (why : OfpWhy) → AddsEntry n before l now → IsBad before l why → ⊥
+adds_not_bad n before now l why a (unwritten refused) = written_or_not l a.entry why (refused_by_steps l why refused) a.written
+adds_not_bad n before now l why a (too_many e writes many) = let few = a.few in omega arith
+adds_not_bad n before now l why a (ambiguous e f place writes few there clash) =
+    a.clear place f there (subst (Contradict f) (one_entry l e a.entry writes a.written) clash)
+
+same_why : (w v : OfpWhy) → ◌≡◌ {A = Result Entry OfpWhy} (Err w) (Err v) → w ≡ v
+same_why w v h = cc
+
+one_why : (before : List Entry) (l : List ℕ) (w v : OfpWhy) → IsBad before l w → IsBad before l v → w ≡ v
+one_why before l w v (unwritten a) (unwritten b) = same_why w v (sym (refused_by_steps l w a) ∙ refused_by_steps l v b)
+one_why before l w v (unwritten a) (too_many e writes many) = absurd (written_or_not l e w (refused_by_steps l w a) writes)
+one_why before l w v (unwritten a) (ambiguous e f place writes few there clash) = absurd (written_or_not l e w (refused_by_steps l w a) writes)
+one_why before l w v (too_many e writes many) (unwritten b) = absurd (written_or_not l e v (refused_by_steps l v b) writes)
+one_why before l w v (too_many e writes many) (too_many f other more) = refl
+one_why before l w v (too_many e writes many) (ambiguous d f place other few there clash) = absurd (omega (arith, many, few))
+one_why before l w v (ambiguous d f place other few there clash) (unwritten b) = absurd (written_or_not l d v (refused_by_steps l v b) other)
+one_why before l w v (ambiguous d f place other few there clash) (too_many e writes many) = absurd (omega (arith, many, few))
+one_why before l w v (ambiguous d f place other few there clash) (ambiguous e g k writes less at_k contra) = refl
+
+-- 2. Texts.
+
+pub flows_settled : IsSettled flows_text
+flows_settled = record {
+  one_next = λ n s l t u p q. adds_one n s t u l p q;
+  one_reason = λ n s l w v p q. one_why s l w v p q;
+  good_or_bad = λ n s l t w p q. adds_not_bad n s t l w p q;
+  one_end = λ n s l m w v p q. absurd p;
+  ends_or_not = λ n s l w p q. q;
+}
+
+pub one_reading : (bytes : List ℕ) (a b : List Entry) → IsReading bytes a → IsReading bytes b → a ≡ b
+one_reading = reading_once flows_text flows_settled
+
+pub one_fault : (bytes : List ℕ) (l m : ℕ) (w v : OfpWhy) → HasFault bytes l w → HasFault bytes m v → (l ≡ m) × (w ≡ v)
+one_fault = fault_once flows_text flows_settled
+
+pub no_reading_with_fault : (bytes : List ℕ) (entries : List Entry) (l : ℕ) (w : OfpWhy) → HasFault bytes l w → IsReading bytes entries → ⊥
+no_reading_with_fault = reading_or_fault_alone flows_text flows_settled
+
+table_told : (ls : List (List ℕ)) (n : ℕ) (s all : List Entry) → IsTable s → Follows AddsEntry n s ls all → IsTable all
+table_told [] n s all table told = subst IsTable told table
+table_told (x ∷ xs) n s all table (inl comment) = table_told xs (n + 1) s all table comment.1
+table_told (x ∷ xs) n s all table (inr adds) =
+    table_told xs (n + 1) adds.0 all (subst IsTable (sym adds.2.added)
+    (table_more s adds.2.entry table adds.2.few adds.2.clear (written_in_range x adds.2.entry adds.2.written) adds.2.written.asks)) adds.3
+
+pub reading_is_table : (bytes : List ℕ) (entries : List Entry) → IsReading bytes entries → IsTable entries
+reading_is_table bytes entries reading = table_told (lines bytes) 1 [] entries empty_table reading.told

@@ -1,0 +1,92 @@
+-- The numbers of an entry that a line writes have room in a frame.
+use Rattle.std.proofs.Common.{◌≡◌, ◌<◌, ◌^◌, ◌⊎◌, inl, inr, ℕ, true, List, [], ◌∷◌, Option, Some, None, sym, ap, subst, ◌∙◌, arith}
+use Rattle.std.specs.Prelude.{nat_lt, IsTrue}
+use Rattle.std.proofs.lemmas.Bool.{and_from}
+use Rattle.std.proofs.lemmas.Bool.Decides.{nat_tests}
+use Rattle.host_net.specs.declared.prefix.Prefix.{Prefix}
+use Rattle.ofp_rules.specs.declared.entry.FrameKind.{FrameKind}
+use Rattle.ofp_rules.specs.declared.entry.FrameKind.TheVariants as frames
+use Rattle.ofp_rules.specs.declared.entry.Entry.{Entry}
+use Rattle.ofp_rules.specs.inner.Ranges.{address_fits, in_range, number_fits}
+use Rattle.ofp_read.specs.Grammar.{Part, priority, table, kind, source, destination, protocol, source_port, destination_port, Says, EachSays, no_field, one_part, two_parts, IsNoneOf, IsUnsaid, IsAddressText, IsNumberText, IsProtocolText, AreFieldsOf, Writes}
+use Rattle.ofp_read.proofs.PartLaws.{one_or_not}
+
+-- what the entry has of this part has room
+abbrev Fits : Part → Entry → Type 0
+Fits priority e = nat_lt e.priority (2 ^ 16) ≡ true
+Fits table e = Unit {0}
+Fits kind e = Unit {0}
+Fits source e = address_fits e.src ≡ true
+Fits destination e = address_fits e.dst ≡ true
+Fits protocol e = number_fits (2 ^ 8) e.proto ≡ true
+Fits source_port e = number_fits (2 ^ 16) e.tp_src ≡ true
+Fits destination_port e = number_fits (2 ^ 16) e.tp_dst ≡ true
+
+below : (n limit : ℕ) → n < limit → nat_lt n limit ≡ true
+below n limit h = grind (arith, nat_tests)
+
+address_said : (name : List ℕ) (given : Option Prefix) (text : List ℕ) → IsAddressText name given text → address_fits given ≡ true
+address_said name given text said = ap address_fits said.is_given ∙ below said.prefix.addr (2 ^ 32) said.address
+
+number_said : (name : List ℕ) (limit : ℕ) (given : Option ℕ) (text : List ℕ) → IsNumberText name limit given text
+    → number_fits limit given ≡ true
+number_said name limit given text said = ap (number_fits limit) said.is_given ∙ below said.number limit said.below
+
+protocol_said : (k : FrameKind) (o : Option ℕ) (text : List ℕ) → IsProtocolText k o text → number_fits (2 ^ 8) o ≡ true
+protocol_said frames.Any o text said = absurd said
+protocol_said frames.Arp o text said = absurd said
+protocol_said frames.Ip None text said = absurd said
+protocol_said frames.Ip (Some n) text (inl (is, e)) = ap (λ m. nat_lt m (2 ^ 8)) is
+protocol_said frames.Ip (Some n) text (inr (inl (is, e))) = ap (λ m. nat_lt m (2 ^ 8)) is
+protocol_said frames.Ip (Some n) text (inr (inr (is, e))) = ap (λ m. nat_lt m (2 ^ 8)) is
+
+-- of a part of which something is said, or nothing
+said_fits : (p : Part) (e : Entry) (text : List ℕ) → Says p e text → Fits p e
+said_fits priority e text said = number_said _ (2 ^ 16) (Some e.priority) text said
+said_fits table e text said = tt
+said_fits kind e text said = tt
+said_fits source e text said = address_said _ e.src text said
+said_fits destination e text said = address_said _ e.dst text said
+said_fits protocol e text said = number_said _ (2 ^ 8) e.proto text said
+said_fits source_port e text said = number_said _ (2 ^ 16) e.tp_src text said
+said_fits destination_port e text said = number_said _ (2 ^ 16) e.tp_dst text said
+
+unsaid_fits : (p : Part) (e : Entry) → IsUnsaid p e → Fits p e
+unsaid_fits priority e unsaid = ap (λ n. nat_lt n (2 ^ 16)) unsaid
+unsaid_fits table e unsaid = tt
+unsaid_fits kind e unsaid = tt
+unsaid_fits source e unsaid = ap address_fits unsaid
+unsaid_fits destination e unsaid = ap address_fits unsaid
+unsaid_fits protocol e unsaid = ap (number_fits (2 ^ 8)) unsaid
+unsaid_fits source_port e unsaid = ap (number_fits (2 ^ 16)) unsaid
+unsaid_fits destination_port e unsaid = ap (number_fits (2 ^ 16)) unsaid
+
+one_more : (p q : Part) (e : Entry) (ps : List Part) → Fits q e → Fits p e ⊎ IsNoneOf p ps → Fits p e ⊎ IsNoneOf p (q ∷ ps)
+one_more p q e ps fits (inl own) = inl own
+one_more p q e ps fits (inr none) = elim (one_or_not p q) [
+  | inl is ↦ inl (subst (λ (x : Part). Fits x e) (sym is) fits)
+  | inr apart ↦ inr (apart, none)
+]
+
+fits_or_none : (p : Part) (e : Entry) (parts : List Part) (texts : List (List ℕ)) → EachSays e parts texts → Fits p e ⊎ IsNoneOf p parts
+fits_or_none p e [] [] no_field = inr tt
+fits_or_none p e [] (text ∷ texts) says = elim says [ ]
+fits_or_none p e (q ∷ ps) [] says = elim says [ ]
+fits_or_none p e (q ∷ ps) (text ∷ texts) (one_part says rest) =
+    one_more p q e ps (said_fits q e text says) (fits_or_none p e ps texts rest)
+fits_or_none p e (kind ∷ protocol ∷ ps) (text ∷ texts) (two_parts says rest) =
+    one_more p kind e (protocol ∷ ps) tt
+    (one_more p protocol e ps (protocol_said e.kind e.proto text says) (fits_or_none p e ps texts rest))
+
+fields_fit : (e : Entry) (texts : List (List ℕ)) → AreFieldsOf e texts → (p : Part) → Fits p e
+fields_fit e texts fields p = elim (fits_or_none p e fields.parts texts fields.each) [
+  | inl fits ↦ fits
+  | inr none ↦ unsaid_fits p e (fields.others p none)
+]
+
+pub written_in_range : (line : List ℕ) (e : Entry) → Writes line e → IsTrue (in_range e)
+written_in_range line e writes =
+    let fits = fields_fit e _ writes.of_fields in
+    and_from _ _ (fits priority)
+    (and_from _ _ (fits protocol)
+    (and_from _ _ (fits source_port) (and_from _ _ (fits destination_port) (and_from _ _ (fits source) (fits destination)))))

@@ -1,0 +1,4 @@
+pub mod Cut
+pub mod FieldTable
+pub mod FlowLine
+pub mod State

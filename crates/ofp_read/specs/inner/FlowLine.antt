@@ -1,0 +1,73 @@
+-- A flow line as the reader goes through it, from left to right: the entry that it writes, or why it writes none. Callers see none
+-- of it; they have `Grammar` and `Unwritten`.
+use Rattle.std.specs.Prelude.{ℕ, true, false, if◌then◌else◌, List, [], ◌∷◌, Option, Some, None, Result, Ok, Err, codes}
+use Rattle.text_core.specs.Lines.{words}
+use Rattle.ofp_rules.specs.declared.entry.FrameKind.{FrameKind}
+use Rattle.ofp_rules.specs.declared.entry.FrameKind.TheVariants.{Any}
+use Rattle.ofp_rules.specs.declared.entry.Action.{Action}
+use Rattle.ofp_rules.specs.declared.entry.Action.TheVariants.{Normal, Drop}
+use Rattle.ofp_rules.specs.declared.entry.Entry.{Entry}
+use Rattle.ofp_rules.specs.Matching.{asks_of_ip}
+use Rattle.ofp_read.specs.declared.fault.OfpWhy.{OfpWhy}
+use Rattle.ofp_read.specs.declared.fault.OfpWhy.TheVariants.{BadLine, NeedsIp, UnknownAction}
+use Rattle.ofp_read.specs.declared.given.Given.{Given}
+use Rattle.ofp_read.specs.inner.FieldTable.{named, with_field}
+use Rattle.ofp_read.specs.inner.Cut.{cut_action}
+use Rattle.ofp_read.specs.Grammar.{fields}
+
+-- a step, and what follows where it gave something
+abbrev pub goes_on : {A B : Type 0} → Result A OfpWhy → (A → Result B OfpWhy) → Result B OfpWhy
+goes_on (Ok x) f = f x
+goes_on (Err why) f = Err why
+
+abbrev pub nothing_given : Given
+nothing_given = record { priority = None; table = false; kind = None; src = None; dst = None; proto = None; tp_src = None; tp_dst = None }
+
+-- the fields from left to right
+abbrev pub with_fields : Given → List (List ℕ) → Result Given OfpWhy
+with_fields given [] = Ok given
+with_fields given (text ∷ texts) = goes_on (with_field given text) (λ now. with_fields now texts)
+
+abbrev pub actions : List (List ℕ × Action)
+actions = (codes "actions=NORMAL", Normal) ∷ (codes "actions=normal", Normal) ∷ (codes "actions=drop", Drop) ∷ []
+
+-- the action: one word, with nothing but blanks behind it
+abbrev pub action_of : List (List ℕ) → Option Action
+action_of (word ∷ []) = named word actions
+action_of _ = None
+
+-- the priority of an entry, 32768 where no field gives one
+abbrev pub priority_of : Option ℕ → ℕ
+priority_of None = 32768
+priority_of (Some n) = n
+
+-- the kind of an entry, any frame where no field gives one
+abbrev pub kind_of : Option FrameKind → FrameKind
+kind_of None = Any
+kind_of (Some kind) = kind
+
+abbrev pub entry_of : Given → Action → Entry
+entry_of given action =
+    record {
+      priority = priority_of given.priority;
+      kind = kind_of given.kind;
+      src = given.src;
+      dst = given.dst;
+      proto = given.proto;
+      tp_src = given.tp_src;
+      tp_dst = given.tp_dst;
+      action = action;
+    }
+
+abbrev pub with_action : Given → Option Action → Result Entry OfpWhy
+with_action given None = Err UnknownAction
+with_action given (Some action) = if asks_of_ip (entry_of given action) then Ok (entry_of given action) else Err NeedsIp
+
+abbrev pub flow_by : List ℕ → Option (List ℕ × List ℕ) → Result Entry OfpWhy
+flow_by line None = goes_on (with_fields nothing_given (fields line)) (λ given. Err BadLine)
+flow_by line (Some parts) =
+    goes_on (with_fields nothing_given (fields parts.0)) (λ given. with_action given (action_of (words parts.1)))
+
+-- the fields, then the action, then whether what is asked of frames is what they all have
+unfoldable pub flow_of : List ℕ → Result Entry OfpWhy
+flow_of line = flow_by line (cut_action true line)

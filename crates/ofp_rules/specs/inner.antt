@@ -1,0 +1,5 @@
+pub mod Build
+pub mod Highest
+pub mod Meeting
+pub mod Next
+pub mod Ranges

@@ -1,0 +1,27 @@
+-- Laws of lists of invariants: all together are a condition that subsets keep, that nothing breaks, and that is on
+-- single flows where each is; a denied flow breaks one of them.
+use Rattle.std.proofs.Common.{ℕ, List, []}
+use Rattle.std.specs.Prelude.{All}
+use Rattle.flow_set.specs.declared.flow.Flow.{Flow}
+use Rattle.flow_set.specs.FlowSet.{with_flow}
+use Rattle.flow_set.specs.inner.Downward.{IsDownward, IsEdgeWise}
+use Rattle.first_core.proofs.FirstLaws.{first_with}
+use Rattle.permit_core.specs.Policy.{AllHold}
+use Rattle.permit_core.specs.inner.Denied.{IsDenied}
+
+pub AllHold-downward : {X : Type 0} (n : ℕ) (HoldsOn : X → List Flow → Type 0) (invs : List X)
+    → All (λ inv. IsDownward n (HoldsOn inv)) invs → IsDownward n (AllHold HoldsOn invs)
+AllHold-downward n HoldsOn invs downward e s set sub hold = λ k d within. downward k d within e s set sub (hold k d within)
+
+pub AllHold-nothing : {X : Type 0} (HoldsOn : X → List Flow → Type 0) (invs : List X) → ((inv : X) → HoldsOn inv [])
+    → AllHold HoldsOn invs []
+AllHold-nothing HoldsOn invs nothing = λ k d within. nothing _
+
+pub AllHold-edge_wise : {X : Type 0} (n : ℕ) (HoldsOn : X → List Flow → Type 0) (invs : List X)
+    → All (λ inv. IsEdgeWise n (HoldsOn inv)) invs → IsEdgeWise n (AllHold HoldsOn invs)
+AllHold-edge_wise n HoldsOn invs edge_wise e set =
+    (λ hold f there k d within. (edge_wise k d within e set).0 (hold k d within) f there, λ each k d within. (edge_wise k d within e set).1 (λ f there. each f there k d within))
+
+-- a flow that the permitted policy left out breaks an invariant as soon as it is added
+pub denied_fails : (Holds : List Flow → Type 0) (p : List Flow) (f : Flow) → IsDenied Holds p f → Holds (with_flow p f) → ⊥
+denied_fails Holds p f d = first_with Holds d.asked p f d.permitted d.wanted d.left_out

@@ -1,0 +1,141 @@
+-- Laws of the texts of events: a line is read as an event exactly where it tells it.
+use Rattle.std.proofs.Common.{◌≡◌, ℕ, ◌<◌, ◌^◌, false, List, [], ◌∷◌, ◌++◌, Some, ◌⊎◌, inl, inr, refl, sym, ap, ◌∙◌, arith, length, subst}
+use Rattle.std.specs.Prelude.{codes, decimal, Result, Ok, Err, bytes_eq, nat_lt}
+use Rattle.std.specs.Option.{option_map}
+use Rattle.std.specs.Str.{all_ascii_digits}
+use Rattle.std.proofs.lemmas.Bool.Decides.{nat_tests}
+use Rattle.text_core.specs.Decimal.{number}
+use Rattle.text_core.proofs.DecimalLaws.{number-decimal, decimal_of_number, decimal_digits}
+use Rattle.text_core.specs.Lines.{words}
+use Rattle.text_core.proofs.StepsLaws.{bind_some, if_parts, ok_or_parts, map_parts, bytes_same, bytes_apart}
+use Rattle.host_net.specs.declared.packet.Packet.{Packet}
+use Rattle.host_net.specs.Prefix.{address_of, address_text}
+use Rattle.host_net.proofs.PrefixTextLaws.{address_of-address_text, address_text-address_of}
+use Rattle.pkt_core.specs.declared.event.Event.{Event}
+use Rattle.pkt_core.specs.declared.event.Event.TheVariants.{Seen, Forget}
+use Rattle.pkt_core.specs.declared.events.EventWhy.{EventWhy}
+use Rattle.pkt_core.specs.declared.events.EventWhy.TheVariants.{BadValue, TooMany}
+use Rattle.pkt_core.specs.EventsText.{IsProtocolName, TellsPacket, TellsEvent, AddsEvent}
+use Rattle.pkt_core.specs.inner.EventSteps.{protocol_of, packet_of, event_by, event_of, with_event, event_step}
+
+-- the word of a protocol
+protocol_told : (word : List ℕ) (n : ℕ) → protocol_of word ≡ Some n → ((word ≡ decimal n) ⊎ IsProtocolName word n) × (n < 2 ^ 8)
+protocol_told word n read = elim (if_parts (bytes_eq word (codes "icmp")) (Some 1) _ (Some n) read) [
+  | inl icmp ↦ (inr (inl (bytes_same word (codes "icmp") icmp.0, cc)), let e : 1 ≡ n = cc in omega arith)
+  | inr rest ↦ elim (if_parts (bytes_eq word (codes "tcp")) (Some 6) _ (Some n) rest.1) [
+    | inl tcp ↦ (inr (inr (inl (bytes_same word (codes "tcp") tcp.0, cc))), let e : 6 ≡ n = cc in omega arith)
+    | inr more ↦ elim (if_parts (bytes_eq word (codes "udp")) (Some 17) _ (Some n) more.1) [
+      | inl udp ↦ (inr (inr (inr (bytes_same word (codes "udp") udp.0, cc))), let e : 17 ≡ n = cc in omega arith)
+      | inr last ↦ let said = decimal_of_number 255 word n (omega arith) last.1 in (inl said.0, omega (arith, said.1))
+    ]
+  ]
+]
+
+packet_told : (verb src dst protocol sport dport : List ℕ) (p : Packet) → packet_of src dst protocol sport dport ≡ Some p
+    → TellsPacket verb (verb ∷ src ∷ dst ∷ protocol ∷ sport ∷ dport ∷ []) p
+unfolding packet_of
+packet_told verb src dst protocol sport dport p read =
+    let a = bind_some (address_of src) _ p read in
+    let b = bind_some (address_of dst) _ p a.2 in
+    let n = bind_some (protocol_of protocol) _ p b.2 in
+    let x = bind_some (number 65535 sport) _ p n.2 in
+    let y = bind_some (number 65535 dport) _ p x.2 in
+    let from = address_text-address_of src a.0 a.1 in
+    let to = address_text-address_of dst b.0 b.1 in
+    let named = protocol_told protocol n.0 n.1 in
+    let source = decimal_of_number 65535 sport x.0 (omega arith) x.1 in
+    let target = decimal_of_number 65535 dport y.0 (omega arith) y.1 in
+    let whole : ◌≡◌ {A = Packet} (record { src = a.0; dst = b.0; proto = n.0; sport = x.0; dport = y.0 }) p = cc in
+    subst (λ (q : Packet). TellsPacket verb (verb ∷ src ∷ dst ∷ protocol ∷ sport ∷ dport ∷ []) q) whole
+    (record {
+      protocol = protocol;
+      named = named.0;
+      written = cc;
+      addresses = (from.1, to.1);
+      numbers = (named.1, omega (arith, source.1), omega (arith, target.1));
+    })
+
+told_by : (verb src dst protocol sport dport : List ℕ) (e : Event) → event_by verb (packet_of src dst protocol sport dport) ≡ Ok e
+    → TellsEvent (verb ∷ src ∷ dst ∷ protocol ∷ sport ∷ dport ∷ []) e
+unfolding event_by
+told_by verb src dst protocol sport dport e read = elim (if_parts (bytes_eq verb (codes "packet")) _ _ (Ok e) read) [
+  | inl seen ↦
+      let p = map_parts Seen (packet_of src dst protocol sport dport) e (ok_or_parts (option_map Seen (packet_of src dst protocol sport dport)) BadValue e seen.1) in
+      subst (TellsEvent (verb ∷ src ∷ dst ∷ protocol ∷ sport ∷ dport ∷ [])) p.2
+      (subst (λ (v : List ℕ). TellsPacket v (verb ∷ src ∷ dst ∷ protocol ∷ sport ∷ dport ∷ []) p.0) (bytes_same verb (codes "packet") seen.0)
+      (packet_told verb src dst protocol sport dport p.0 p.1))
+  | inr rest ↦ elim (if_parts (bytes_eq verb (codes "forget")) _ _ (Ok e) rest.1) [
+    | inl forgotten ↦
+        let p = map_parts Forget (packet_of src dst protocol sport dport) e (ok_or_parts (option_map Forget (packet_of src dst protocol sport dport)) BadValue e forgotten.1) in
+        subst (TellsEvent (verb ∷ src ∷ dst ∷ protocol ∷ sport ∷ dport ∷ [])) p.2
+        (subst (λ (v : List ℕ). TellsPacket v (verb ∷ src ∷ dst ∷ protocol ∷ sport ∷ dport ∷ []) p.0) (bytes_same verb (codes "forget") forgotten.0)
+        (packet_told verb src dst protocol sport dport p.0 p.1))
+    | inr bad ↦ cc
+  ]
+]
+
+pub event_told : (ws : List (List ℕ)) (e : Event) → event_of ws ≡ Ok e → TellsEvent ws e
+unfolding event_of
+event_told [] e read = cc
+event_told (a ∷ []) e read = cc
+event_told (a ∷ b ∷ []) e read = cc
+event_told (a ∷ b ∷ c ∷ []) e read = cc
+event_told (a ∷ b ∷ c ∷ d ∷ []) e read = cc
+event_told (a ∷ b ∷ c ∷ d ∷ x ∷ []) e read = cc
+event_told (a ∷ b ∷ c ∷ d ∷ x ∷ y ∷ []) e read = told_by a b c d x y e read
+event_told (a ∷ b ∷ c ∷ d ∷ x ∷ y ∷ z ∷ ws) e read = cc
+
+protocol_read : (word : List ℕ) (n : ℕ) → (word ≡ decimal n) ⊎ IsProtocolName word n → n < 2 ^ 8 → protocol_of word ≡ Some n
+protocol_read word n (inl number_text) fits =
+    let digits = ap all_ascii_digits number_text ∙ decimal_digits n (omega arith) in
+    rw (bytes_apart word (codes "icmp") all_ascii_digits digits refl, bytes_apart word (codes "tcp") all_ascii_digits digits refl, bytes_apart word (codes "udp") all_ascii_digits digits refl, number_text)
+    (number-decimal 255 n (omega arith) (omega arith))
+protocol_read word n (inr (inl icmp)) fits = ap protocol_of icmp.0 ∙ ap (λ k. Some k) (sym icmp.1)
+protocol_read word n (inr (inr (inl tcp))) fits = ap protocol_of tcp.0 ∙ ap (λ k. Some k) (sym tcp.1)
+protocol_read word n (inr (inr (inr udp))) fits = ap protocol_of udp.0 ∙ ap (λ k. Some k) (sym udp.1)
+
+packet_read : (verb : List ℕ) (ws : List (List ℕ)) (p : Packet) → TellsPacket verb ws p
+    → (src : List ℕ) × (dst : List ℕ) × (protocol : List ℕ) × (sport : List ℕ) ×
+    (dport : List ℕ) × (ws ≡ verb ∷ src ∷ dst ∷ protocol ∷ sport ∷ dport ∷ []) × (packet_of src dst protocol sport dport ≡ Some p)
+unfolding packet_of
+packet_read verb ws p told = (
+  address_text p.src,
+  address_text p.dst,
+  told.protocol,
+  decimal p.sport,
+  decimal p.dport,
+  told.written,
+  rw (address_of-address_text p.src told.addresses.0, address_of-address_text p.dst told.addresses.1, protocol_read told.protocol p.proto told.named told.numbers.0, number-decimal 65535 p.sport (omega (arith, told.numbers.1)) (omega (arith, told.numbers.1)), number-decimal 65535 p.dport (omega (arith, told.numbers.2)) (omega (arith, told.numbers.2))) refl,
+)
+
+pub told_event : (ws : List (List ℕ)) (e : Event) → TellsEvent ws e → event_of ws ≡ Ok e
+unfolding event_of event_by
+told_event ws (Seen p) told =
+    let parts = packet_read (codes "packet") ws p told in
+    ap event_of parts.5 ∙ rw parts.6 refl
+told_event ws (Forget p) told =
+    let parts = packet_read (codes "forget") ws p told in
+    ap event_of parts.5 ∙ rw parts.6 refl
+
+small : (n : ℕ) → n < 1000000 → nat_lt 999999 n ≡ false
+small n h = grind (arith, nat_tests)
+
+-- a line adds an event exactly where it tells one
+adds_told : (n : ℕ) (es : List Event) (line : List ℕ) (now : List Event) (r : Result Event EventWhy) → event_of (words line) ≡ r
+    → with_event es r ≡ Ok now → AddsEvent n es line now
+adds_told n es line now (Err why) read h = cc
+adds_told n es line now (Ok e) read h = elim (if_parts (nat_lt 999999 (length es)) (Err TooMany) _ (Ok now) h) [
+  | inl many ↦ cc
+  | inr few ↦
+      let same : es ++ e ∷ [] ≡ now = cc in
+      let room : length es < 1000000 = grind (arith, nat_tests, few.0) in
+      record { event = e; told = event_told (words line) e read; added = sym same; few = room }
+]
+
+pub step_adds : (n : ℕ) (es now : List Event) (line : List ℕ) → event_step n es line ≡ Ok now → AddsEvent n es line now
+step_adds n es now line h = adds_told n es line now (event_of (words line)) refl h
+
+pub adds_step : (n : ℕ) (es now : List Event) (line : List ℕ) → AddsEvent n es line now → event_step n es line ≡ Ok now
+adds_step n es now line adds =
+    let room : nat_lt 999999 (length es) ≡ false = small (length es) adds.few in
+    rw (told_event (words line) adds.event adds.told, room) (ap (λ xs. Ok xs) (sym adds.added))

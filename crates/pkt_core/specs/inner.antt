@@ -1,0 +1,5 @@
+pub mod Connections
+pub mod EventSteps
+pub mod FirewallFor
+pub mod Kept
+pub mod PolicyRuns

@@ -1,0 +1,18 @@
+-- Connections, said over the events alone, and that tracking keeps just these.
+use Rattle.std.specs.Prelude.{◌≡◌, ◌↔◌, ℕ, ◌<◌, Bool, true, List, Some}
+use Rattle.host_net.specs.declared.packet.Packet.{Packet}
+use Rattle.host_net.specs.Packet.{swap_of}
+use Rattle.pkt_core.specs.declared.event.Event.{Event}
+use Rattle.pkt_core.specs.Events.{SeenAt}
+use Rattle.pkt_core.specs.Tracking.{Kept}
+use Rattle.pkt_core.specs.Connections.{IsFirstPacket, KeepsFirst}
+
+-- q began a connection, and its swap was seen after it
+abbrev pub WasAnswered : (Packet → Bool) → List Event → Packet → Type 0
+WasAnswered permitted past q =
+    (place : ℕ) × IsFirstPacket permitted past place q × ((later : ℕ) × (place < later) × SeenAt past later (swap_of q))
+
+-- and as answered where they were answered
+pub record KeepsConnections (permitted : Packet → Bool) (past : List Event) (kept : Kept) : Type 0 where
+  pub first : KeepsFirst permitted past kept
+  pub answered : (q : Packet) → (kept q ≡ Some true) ↔ WasAnswered permitted past q

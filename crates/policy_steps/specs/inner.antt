@@ -1,0 +1,3 @@
+pub mod EdgePolicies
+pub mod FailingFlows
+pub mod Policed

@@ -1,0 +1,72 @@
+-- The report of the sample tells what is promised of it.
+use Rattle.std.proofs.Common.{◌≡◌, ℕ, zero, suc, ◌≤◌, IsTrue, List, [], ◌∷◌, length, map, subst, ◌∙◌, arith}
+use Rattle.desc_core.proofs.NetworkLaws.{IsNetwork-table}
+use Rattle.emit_core.proofs.ForwardingLaws.{layout_expected}
+use Rattle.emit_core.specs.Layout.{layout}
+use Rattle.flow_set.specs.EveryFlow.{every_flow}
+use Rattle.flow_set.proofs.EveryFlowLaws.{IsFlowSet-every_flow}
+use Rattle.flow_set.specs.Flow.{IsFlow}
+use Rattle.flow_set.specs.laws.FlowLaws.{has_first, has_later}
+use Rattle.flow_set.specs.FlowSet.{has}
+use Rattle.flow_set.specs.declared.flow.Flow.{Flow}
+use Rattle.host_net.specs.Limits.{host_limit}
+use Rattle.host_net.specs.Packet.{IsPacket}
+use Rattle.ipt_rules.specs.Meaning.{Passes}
+use Rattle.net_core.specs.inner.Fitting.{IsNetwork}
+use Rattle.net_core.proofs.HeadlineLaws.{CompliesWithAll-from_policy}
+use Rattle.net_core.specs.Network.{Network, site_of}
+use Rattle.net_core.proofs.PolicyLaws.{IsSubset-stateful}
+use Rattle.pkt_core.specs.Filter.{ArePackets, ForwardsExpected}
+use Rattle.pkt_core.specs.declared.event.Event.TheVariants.{Seen}
+use Rattle.sample_core.proofs.AcceptedLaws.{hosts_counted, sample_is_small}
+use Rattle.sample_core.specs.Sample.{AreCounts, IsSample, packet_between, sample_events}
+use Rattle.sample_core.specs.SamplePromises.{TellsSample}
+use Rattle.sample_core.specs.SampleTable.{sample_table}
+
+-- ---- the packets of the sample
+
+shown : (n : ℕ) (f : Flow) → n ≤ host_limit → IsFlow n f → IsPacket (packet_between f)
+shown n f few (from, to, apart) = (omega (arith, few, from), omega (arith, few, to), omega arith, omega arith, omega arith)
+
+all_shown : (n : ℕ) → n ≤ host_limit → (fs : List Flow) → ((f : Flow) → IsTrue (has fs f) → IsFlow n f) → ArePackets (map Seen (map packet_between fs))
+all_shown n few [] flows k p seen = cc seen
+all_shown n few (f ∷ fs) flows zero p seen =
+    let same : packet_between f ≡ p = cc seen in
+    subst IsPacket same (shown n f few (flows f (has_first f fs)))
+all_shown n few (f ∷ fs) flows (suc k) p seen = all_shown n few fs (λ g within. flows g (has_later f fs g within)) k p seen
+
+sample_packets_are : (n : ℕ) → n ≤ host_limit → ArePackets (sample_events n)
+sample_packets_are n few = all_shown n few (every_flow n) (IsFlowSet-every_flow n (omega (arith, few))).flows
+
+-- ---- the report
+
+pub tells_sample : (n : ℕ) (report : List ℕ) → IsSample n report → TellsSample n report
+tells_sample n report is =
+    let a : AreCounts n is.counts = is.are in
+    let d : Network = a.network in
+    let p : List Flow = a.policy.permitted.flows in
+    let s : List Flow = a.policy.stateful.flows in
+    let network : IsNetwork d = IsNetwork-table (sample_table n) d a.described in
+    let few : n ≤ host_limit = sample_is_small n d a.described in
+    let count : length d.hosts ≡ n = hosts_counted n d few a.described in
+    let forwards : ForwardsExpected (Passes (layout (site_of d) p s)) (site_of d) p s = layout_expected (site_of d) p s network.hosts (IsSubset-stateful d p s a.is_policy.stateful) in
+    record {
+      counts = is.counts;
+      written = is.written;
+      network = d;
+      described = a.described;
+      hosts = count;
+      hosts_told = a.hosts ∙ count;
+      asked_told = a.asked;
+      policy = a.policy;
+      permitted = a.is_policy.permitted;
+      permitted_told = a.permitted;
+      meets = a.is_policy.permitted.holds;
+      stateful = a.is_policy.stateful;
+      stateful_told = a.stateful;
+      complies = CompliesWithAll-from_policy d a.policy network a.is_policy;
+      events_told = a.run.all;
+      answers = a.run.passed.answers;
+      expected = forwards.expected (sample_events n) a.run.passed.answers (sample_packets_are n few) a.run.passed.run;
+      forwarded_told = a.run.passed.counted;
+    }

@@ -1,0 +1,3 @@
+pub mod CountsView
+pub mod MembersView
+pub mod SampleWritten

@@ -1,0 +1,2 @@
+pub mod KeyView
+pub mod Listing

@@ -1,0 +1,112 @@
+-- Texts that are put together from words and lines are read as these words and lines.
+use Rattle.std.proofs.Common.{◌≡◌, ℕ, Bool, true, false, ◌&&◌, List, [], ◌∷◌, ◌++◌, append_assoc, refl, sym, ap, ◌∙◌, arith, nat_eq}
+use Rattle.std.specs.Prelude.{nat_lt}
+use Rattle.std.specs.List.{list_all}
+use Rattle.std.proofs.lemmas.Bool.Decides.{nat_tests}
+use Rattle.text_core.proofs.PiecesLaws.{lacks, lacks-append}
+use Rattle.text_core.specs.Lines.{lines, words, is_blank, ends_word}
+use Rattle.text_core.proofs.LinesLaws.{has_no_blank, words_of_word, lines_ended}
+
+-- words after a word: a blank (32) in front of each
+abbrev pub behind : List (List ℕ) → List ℕ
+behind [] = []
+behind (w ∷ ws) = 32 ∷ (w ++ behind ws)
+
+-- words with one blank between two
+abbrev pub spaced : List (List ℕ) → List ℕ
+spaced [] = []
+spaced (w ∷ ws) = w ++ behind ws
+
+-- a word: not empty, and without blanks
+abbrev pub is_word : List ℕ → Bool
+is_word [] = false
+is_word (b ∷ bs) = has_no_blank (b ∷ bs)
+
+behind_ends : (ws : List (List ℕ)) → ends_word (behind ws) ≡ true
+behind_ends [] = refl
+behind_ends (w ∷ ws) = refl
+
+both : (a b : Bool) → (a && b) ≡ true → (a ≡ true) × (b ≡ true)
+both true true h = (refl, refl)
+both true false h = cc
+both false b h = cc
+
+word_then : (w rest : List ℕ) → is_word w ≡ true → ends_word rest ≡ true → words (w ++ rest) ≡ w ∷ words rest
+word_then [] rest h ends = cc
+word_then (b ∷ w) rest h ends = words_of_word b w rest h ends
+
+words_behind : (ws : List (List ℕ)) → list_all is_word ws ≡ true → words (behind ws) ≡ ws
+words_behind [] h = refl
+words_behind (w ∷ ws) h =
+    let parts = both (is_word w) (list_all is_word ws) h in
+    word_then w (behind ws) parts.0 (behind_ends ws) ∙ ap (λ vs. w ∷ vs) (words_behind ws parts.1)
+
+-- spaced words are read as these words
+pub words_spaced : (ws : List (List ℕ)) → list_all is_word ws ≡ true → words (spaced ws) ≡ ws
+words_spaced [] h = refl
+words_spaced (w ∷ ws) h =
+    let parts = both (is_word w) (list_all is_word ws) h in
+    word_then w (behind ws) parts.0 (behind_ends ws) ∙ ap (λ vs. w ∷ vs) (words_behind ws parts.1)
+
+pub behind-append : (xs ys : List (List ℕ)) → behind (xs ++ ys) ≡ behind xs ++ behind ys
+behind-append [] ys = refl
+behind-append (x ∷ xs) ys =
+    ap (λ bs. 32 ∷ bs) (ap (λ bs. x ++ bs) (behind-append xs ys) ∙ sym (append_assoc x (behind xs) (behind ys)))
+
+pub list_all-append : (p : List ℕ → Bool) (xs ys : List (List ℕ)) → list_all p xs ≡ true → list_all p ys ≡ true → list_all p (xs ++ ys) ≡ true
+list_all-append p [] ys f g = g
+list_all-append p (x ∷ xs) ys f g =
+    let parts = both (p x) (list_all p xs) f in
+    rw (parts.0, list_all-append p xs ys parts.1 g) refl
+
+-- lines, each with its end
+abbrev pub ended_lines : List (List ℕ) → List ℕ
+ended_lines [] = []
+ended_lines (l ∷ ls) = l ++ (10 ∷ ended_lines ls)
+
+-- ended lines are read as these lines
+pub lines_of_ended : (ls : List (List ℕ)) → list_all (lacks 10) ls ≡ true → lines (ended_lines ls) ≡ ls
+lines_of_ended [] h = refl
+lines_of_ended (l ∷ ls) h =
+    let parts = both (lacks 10 l) (list_all (lacks 10) ls) h in
+    lines_ended l (ended_lines ls) parts.0 ∙ ap (λ xs. l ∷ xs) (lines_of_ended ls parts.1)
+
+-- spaced words without byte 10 are a line
+lacks_behind : (ws : List (List ℕ)) → list_all (lacks 10) ws ≡ true → lacks 10 (behind ws) ≡ true
+lacks_behind [] h = refl
+lacks_behind (w ∷ ws) h =
+    let parts = both (lacks 10 w) (list_all (lacks 10) ws) h in
+    lacks-append 10 w (behind ws) parts.0 (lacks_behind ws parts.1)
+
+pub lacks_spaced : (ws : List (List ℕ)) → list_all (lacks 10) ws ≡ true → lacks 10 (spaced ws) ≡ true
+lacks_spaced [] h = refl
+lacks_spaced (w ∷ ws) h =
+    let parts = both (lacks 10 w) (list_all (lacks 10) ws) h in
+    lacks-append 10 w (behind ws) parts.0 (lacks_behind ws parts.1)
+
+-- a text of printing bytes alone is a word, and no line ends in it
+abbrev pub prints : ℕ → Bool
+prints b = nat_lt 32 b
+
+no_blank : (b : ℕ) → prints b ≡ true → is_blank b ≡ false
+no_blank b h = grind (arith, nat_tests)
+
+no_end : (b : ℕ) → prints b ≡ true → nat_eq b 10 ≡ false
+no_end b h = grind (arith, nat_tests)
+
+print_parts : (b : ℕ) (bs : List ℕ) → list_all prints (b ∷ bs) ≡ true → (is_blank b ≡ false) × (nat_eq b 10 ≡ false) × (list_all prints bs ≡ true)
+print_parts b bs h =
+    let parts = both (prints b) (list_all prints bs) h in
+    (no_blank b parts.0, no_end b parts.0, parts.1)
+
+pub prints_no_blank : (bs : List ℕ) → list_all prints bs ≡ true → has_no_blank bs ≡ true
+prints_no_blank [] h = refl
+prints_no_blank (b ∷ bs) h =
+    let parts = print_parts b bs h in
+    rw (parts.0, prints_no_blank bs parts.2) refl
+
+pub prints_lacks : (bs : List ℕ) → list_all prints bs ≡ true → lacks 10 bs ≡ true
+prints_lacks [] h = refl
+prints_lacks (b ∷ bs) h =
+    let parts = print_parts b bs h in
+    rw (parts.1, prints_lacks bs parts.2) refl

@@ -1,0 +1,280 @@
+-- Laws of texts by lines: a text has one reading or one first fault, and not both, where each of its lines does so.
+use Rattle.std.proofs.Common.{◌≡◌, ℕ, ◌+◌, Bool, true, false, List, [], ◌∷◌, ◌++◌, length, append_assoc, append-nil, refl, sym, subst, ◌∙◌, arith, ◌⊎◌, inl, inr}
+use Rattle.std.proofs.lemmas.Bool.{cases_lt}
+use Rattle.std.specs.Prelude.{Result, Ok, Err, IfOk, IfErr, MatchResult, IsTrue, IsFalse}
+use Rattle.text_core.specs.Lines.{lines, is_comment}
+use Rattle.text_core.specs.Reading.{Follows}
+use Rattle.text_core.specs.TextByLines.{TextByLines, AreLines, IsReading, IsFirstBad, HasFault, too_long, at_line, at_end}
+use Rattle.text_core.specs.inner.TextAnswers.{HasCause, IsFault, Passes}
+use Rattle.text_core.specs.declared.faults.TextFault.{TextFault}
+use Rattle.text_core.specs.declared.faults.TextFault.TheVariants.{Refused, Memory}
+
+-- 1. What is asked of a format: a line has one next state or one reason, and the end is good or has one reason.
+
+pub record IsSettled {S W : Type 0} (text : TextByLines S W) : Type 0 where
+  pub one_next : (n : ℕ) (s : S) (l : List ℕ) (t u : S) → text.IsLine n s l t → text.IsLine n s l u → t ≡ u
+  pub one_reason : (n : ℕ) (s : S) (l : List ℕ) (w v : W) → text.IsBadLine n s l w → text.IsBadLine n s l v → w ≡ v
+  pub good_or_bad : (n : ℕ) (s : S) (l : List ℕ) (t : S) (w : W) → text.IsLine n s l t → text.IsBadLine n s l w → ⊥
+  pub one_end : (n : ℕ) (s : S) (l m : ℕ) (w v : W) → text.EndsBadly n s l w → text.EndsBadly n s m v → (l ≡ m) × (w ≡ v)
+  pub ends_or_not : (n : ℕ) (s : S) (l : ℕ) (w : W) → text.MayEnd s → text.EndsBadly n s l w → ⊥
+
+pub record IsTotal {S W : Type 0} (text : TextByLines S W) : Type 0 where
+  pub line : (n : ℕ) (s : S) (l : List ℕ) → ((t : S) × text.IsLine n s l t) ⊎ ((w : W) × text.IsBadLine n s l w)
+  pub end : (n : ℕ) (s : S) → text.MayEnd s ⊎ ((l : ℕ) × (w : W) × text.EndsBadly n s l w)
+
+-- a step that answers what the format says of a line
+pub record IsStep {S W : Type 0} (text : TextByLines S W) (step : ℕ → S → List ℕ → Result S W) : Type 0 where
+  pub reads : (n : ℕ) (s t : S) (l : List ℕ) → step n s l ≡ Ok t → text.IsLine n s l t
+  pub read : (n : ℕ) (s t : S) (l : List ℕ) → text.IsLine n s l t → step n s l ≡ Ok t
+  pub refuses : (n : ℕ) (s : S) (l : List ℕ) (w : W) → step n s l ≡ Err w → text.IsBadLine n s l w
+  pub refused : (n : ℕ) (s : S) (l : List ℕ) (w : W) → text.IsBadLine n s l w → step n s l ≡ Err w
+
+-- a format whose texts may end with every line
+pub record EndsAnywhere {S W : Type 0} (text : TextByLines S W) : Type 0 where
+  pub ends : (s : S) → text.MayEnd s
+  pub never_badly : (n : ℕ) (s : S) (l : ℕ) (w : W) → text.EndsBadly n s l w → ⊥
+
+same_ok : {S W : Type 0} (r : Result S W) (t u : S) → r ≡ Ok t → r ≡ Ok u → t ≡ u
+same_ok r t u p q = cc (p, q)
+
+same_err : {S W : Type 0} (r : Result S W) (w v : W) → r ≡ Err w → r ≡ Err v → w ≡ v
+same_err r w v p q = cc (p, q)
+
+ok_or_err : {S W : Type 0} (r : Result S W) (t : S) (w : W) → r ≡ Ok t → r ≡ Err w → ⊥
+ok_or_err r t w p q = cc (p, q)
+
+pub settled_by_step : {S W : Type 0} (text : TextByLines S W) (step : ℕ → S → List ℕ → Result S W) → IsStep text step → EndsAnywhere text
+    → IsSettled text
+settled_by_step text step is ends = record {
+  one_next = λ n s l t u p q. same_ok (step n s l) t u (is.read n s t l p) (is.read n s u l q);
+  one_reason = λ n s l w v p q. same_err (step n s l) w v (is.refused n s l w p) (is.refused n s l v q);
+  good_or_bad = λ n s l t w p q. ok_or_err (step n s l) t w (is.read n s t l p) (is.refused n s l w q);
+  one_end = λ n s l m w v p q. absurd (ends.never_badly n s l w p);
+  ends_or_not = λ n s l w p q. ends.never_badly n s l w q;
+}
+
+by_answer : {S W : Type 0} (text : TextByLines S W) (step : ℕ → S → List ℕ → Result S W) → IsStep text step → (n : ℕ) (s : S) (l : List ℕ)
+    → (r : Result S W) → step n s l ≡ r → ((t : S) × text.IsLine n s l t) ⊎ ((w : W) × text.IsBadLine n s l w)
+by_answer text step is n s l (Ok t) said = inl (t, is.reads n s t l said)
+by_answer text step is n s l (Err w) said = inr (w, is.refuses n s l w said)
+
+pub total_by_step : {S W : Type 0} (text : TextByLines S W) (step : ℕ → S → List ℕ → Result S W) → IsStep text step → EndsAnywhere text
+    → IsTotal text
+total_by_step text step is ends = record {
+  line = λ n s l. by_answer text step is n s l (step n s l) refl;
+  end = λ n s. inl (ends.ends s);
+}
+
+-- 2. One line more.
+
+-- the step of one line behind others, as a number of a line
+next_number : {S : Type 0} (IsLine : ℕ → S → List ℕ → S → Type 0) (n m : ℕ) (s t : S) (l : List ℕ) → n ≡ m
+    → (IsTrue (is_comment l) × (s ≡ t)) ⊎ (IsFalse (is_comment l) × IsLine n s l t)
+    → (IsTrue (is_comment l) × (s ≡ t)) ⊎ (IsFalse (is_comment l) × IsLine m s l t)
+next_number IsLine n m s t l same (inl comment) = inl comment
+next_number IsLine n m s t l same (inr line) = inr (line.0, subst (λ (k : ℕ). IsLine k s l t) same line.1)
+
+one_line : {S : Type 0} (IsLine : ℕ → S → List ℕ → S → Type 0) (n : ℕ) (s t : S) (l : List ℕ)
+    → (IsTrue (is_comment l) × (s ≡ t)) ⊎ (IsFalse (is_comment l) × IsLine n s l t) → Follows IsLine n s (l ∷ []) t
+one_line IsLine n s t l (inl comment) = inl comment
+one_line IsLine n s t l (inr line) = inr (t, line.0, line.1, refl)
+
+follows_more : {S : Type 0} (IsLine : ℕ → S → List ℕ → S → Type 0) (n : ℕ) (s t u : S) (ls : List (List ℕ)) (l : List ℕ) → Follows IsLine n s ls t
+    → (IsTrue (is_comment l) × (t ≡ u)) ⊎ (IsFalse (is_comment l) × IsLine (n + length ls) t l u) → Follows IsLine n s (ls ++ l ∷ []) u
+follows_more {S = S} IsLine n s t u [] l told passes =
+    subst (λ (x : S). Follows IsLine n x (l ∷ []) u) (sym told) (one_line IsLine n t u l (next_number IsLine (n + 0) n t u l (omega arith) passes))
+follows_more IsLine n s t u (k ∷ ls) l (inl comment) passes =
+    inl (comment.0, follows_more IsLine (n + 1) s t u ls l comment.1 (next_number IsLine (n + length (k ∷ ls)) (n + 1 + length ls) t u l (omega arith) passes))
+follows_more IsLine n s t u (k ∷ ls) l (inr more) passes =
+    inr (more.0, more.1, more.2, follows_more IsLine (n + 1) more.0 t u ls l more.3 (next_number IsLine (n + length (k ∷ ls)) (n + 1 + length ls) t u l (omega arith) passes))
+
+pub lines_more : {S W : Type 0} (text : TextByLines S W) (front : List (List ℕ)) (s t : S) (l : List ℕ) → AreLines text front s
+    → Passes text (1 + length front) s l t → AreLines text (front ++ l ∷ []) t
+lines_more text front s t l told passes = follows_more text.IsLine 1 text.start s t front l told passes
+
+-- 3. Lines say one thing, or have one first bad one.
+
+passes_once : {S W : Type 0} (text : TextByLines S W) → IsSettled text → (n : ℕ) (s t u : S) (l : List ℕ) → Passes text n s l t → Passes text n s l u → t ≡ u
+passes_once text once n s t u l (inl a) (inl b) = sym a.1 ∙ b.1
+passes_once text once n s t u l (inl a) (inr b) = let is = a.0 in let other = b.0 in cc
+passes_once text once n s t u l (inr a) (inl b) = let other = a.0 in let is = b.0 in cc
+passes_once text once n s t u l (inr a) (inr b) = once.one_next n s l t u a.1 b.1
+
+past_first : {S W : Type 0} (text : TextByLines S W) (n : ℕ) (s t : S) (l : List ℕ) (ls : List (List ℕ)) → Follows text.IsLine n s (l ∷ ls) t
+    → (x : S) × Passes text n s l x × Follows text.IsLine (n + 1) x ls t
+past_first text n s t l ls (inl comment) = (s, inl (comment.0, refl), comment.1)
+past_first text n s t l ls (inr line) = (line.0, inr (line.1, line.2), line.3)
+
+-- two lists of lines with the same first line go on alike
+both_past : {S W : Type 0} (text : TextByLines S W) → IsSettled text → (n : ℕ) (s t u : S) (l : List ℕ) (ls ks : List (List ℕ))
+    → Follows text.IsLine n s (l ∷ ls) t → Follows text.IsLine n s (l ∷ ks) u
+    → (x : S) × Follows text.IsLine (n + 1) x ls t × Follows text.IsLine (n + 1) x ks u
+both_past {S = S} text once n s t u l ls ks p q =
+    let (x, here, behind) = past_first text n s t l ls p in
+    let (y, again, rest) = past_first text n s u l ks q in
+    (x, behind, subst (λ (z : S). Follows text.IsLine (n + 1) z ks u) (passes_once text once n s y x l again here) rest)
+
+next_same : {S W : Type 0} (text : TextByLines S W) → IsSettled text → (n : ℕ) (s t u : S) (ls : List (List ℕ))
+    → Follows text.IsLine n s ls t → Follows text.IsLine n s ls u → t ≡ u
+next_same text once n s t u [] p q = sym p ∙ q
+next_same text once n s t u (l ∷ ls) p q =
+    let (x, a, b) = both_past text once n s t u l ls ls p q in
+    next_same text once (n + 1) x t u ls a b
+
+-- line n is no comment, and bad
+abbrev IsBadAt : {S W : Type 0} → TextByLines S W → ℕ → S → List ℕ → W → Type 0
+IsBadAt text n s l why = IsFalse (is_comment l) × text.IsBadLine n s l why
+
+bad_first : {S W : Type 0} (text : TextByLines S W) → IsSettled text → (n m : ℕ) (s t u : S) (l : List ℕ) (ls : List (List ℕ)) (why : W)
+    → Follows text.IsLine n s (l ∷ ls) t → s ≡ u → n ≡ m → IsBadAt text m u l why → ⊥
+bad_first text once n m s t u l ls why (inl comment) same number bad = let is = comment.0 in let other = bad.0 in cc
+bad_first {S = S} text once n m s t u l ls why (inr line) same number bad =
+    once.good_or_bad n s l line.0 why line.2 (subst (λ (x : S). text.IsBadLine n x l why) (sym same) (subst (λ (k : ℕ). text.IsBadLine k u l why) (sym number) bad.1))
+
+none_bad : {S W : Type 0} (text : TextByLines S W) → IsSettled text → (n m : ℕ) (s t u : S) (front : List (List ℕ)) (here : List ℕ) (behind : List (List ℕ)) (why : W)
+    → Follows text.IsLine n s (front ++ here ∷ behind) t → Follows text.IsLine n s front u → m ≡ n + length front → IsBadAt text m u here why → ⊥
+none_bad text once n m s t u [] here behind why p q number bad = bad_first text once n m s t u here behind why p q (omega (arith, number)) bad
+none_bad text once n m s t u (l ∷ front) here behind why p q number bad =
+    let (x, a, b) = both_past text once n s t u l (front ++ here ∷ behind) front p q in
+    none_bad text once (n + 1) m x t u front here behind why a b (omega (arith, number)) bad
+
+same_head : {A : Type 0} (x y : A) (xs ys : List A) → x ∷ xs ≡ y ∷ ys → (x ≡ y) × (xs ≡ ys)
+same_head x y xs ys h = (cc, cc)
+
+reason_same : {S W : Type 0} (text : TextByLines S W) → IsSettled text → (n m : ℕ) (s t : S) (k l : List ℕ) (w v : W) → n ≡ m → s ≡ t → k ≡ l
+    → IsBadAt text n s k w → IsBadAt text m t l v → w ≡ v
+reason_same {S = S} text once n m s t k l w v number state line bad worse =
+    once.one_reason m t l w v
+    (subst (λ (i : ℕ). text.IsBadLine i t l w) number (subst (λ (x : S). text.IsBadLine n x l w) state (subst (λ (x : List ℕ). text.IsBadLine n s x w) line bad.1)))
+    worse.1
+
+bad_once : {S W : Type 0} (text : TextByLines S W) → IsSettled text → (n i j : ℕ) (s t u : S) (f g : List (List ℕ)) (k l : List ℕ) (b c : List (List ℕ)) (w v : W)
+    → f ++ k ∷ b ≡ g ++ l ∷ c → Follows text.IsLine n s f t → Follows text.IsLine n s g u → i ≡ n + length f → j ≡ n + length g
+    → IsBadAt text i t k w → IsBadAt text j u l v → (i ≡ j) × (w ≡ v)
+bad_once text once n i j s t u [] [] k l b c w v same p q first second bad worse =
+    let number : i ≡ j = omega (arith, first, second) in
+    (number, reason_same text once i j t u k l w v number (sym p ∙ q) (same_head k l b c same).0 bad worse)
+bad_once {S = S} text once n i j s t u [] (y ∷ g) k l b c w v same p q first second bad worse =
+    let (here, _) = same_head k y b (g ++ l ∷ c) same in
+    absurd (bad_first text once n i s u t k g w (subst (λ (x : List ℕ). Follows text.IsLine n s (x ∷ g) u) (sym here) q) p (omega (arith, first)) bad)
+bad_once {S = S} text once n i j s t u (x ∷ f) [] k l b c w v same p q first second bad worse =
+    let (here, _) = same_head x l (f ++ k ∷ b) c same in
+    absurd (bad_first text once n j s t u l f v (subst (λ (y : List ℕ). Follows text.IsLine n s (y ∷ f) t) here p) q (omega (arith, second)) worse)
+bad_once {S = S} text once n i j s t u (x ∷ f) (y ∷ g) k l b c w v same p q first second bad worse =
+    let (here, behind) = same_head x y (f ++ k ∷ b) (g ++ l ∷ c) same in
+    let (z, a, d) = both_past text once n s t u y f g (subst (λ (h : List ℕ). Follows text.IsLine n s (h ∷ f) t) here p) q in
+    bad_once text once (n + 1) i j z t u f g k l b c w v behind a d (omega (arith, first)) (omega (arith, second)) bad worse
+
+-- 4. Texts have one reading at most, one first fault at most, and not both.
+
+pub one_reading : {S W : Type 0} (text : TextByLines S W) → IsSettled text → (bytes : List ℕ) (s t : S) → IsReading text bytes s → IsReading text bytes t → s ≡ t
+one_reading text once bytes s t p q = next_same text once 1 text.start s t (lines bytes) p.told q.told
+
+told_first : {S W : Type 0} (text : TextByLines S W) → IsSettled text → (ls : List (List ℕ)) (line : ℕ) (why : W) (s : S) → IsFirstBad text ls line why
+    → AreLines text ls s → ⊥
+told_first {S = S} text once ls line why s first told =
+    none_bad text once 1 line text.start s first.before first.front first.here first.behind why
+    (subst (λ (xs : List (List ℕ)). AreLines text xs s) first.parts told) first.read_before first.number (first.is_line, first.bad)
+
+first_once : {S W : Type 0} (text : TextByLines S W) → IsSettled text → (ls : List (List ℕ)) (l m : ℕ) (w v : W) → IsFirstBad text ls l w → IsFirstBad text ls m v
+    → (l ≡ m) × (w ≡ v)
+first_once text once ls l m w v p q =
+    bad_once text once 1 l m text.start p.before q.before p.front q.front p.here q.here p.behind q.behind w v
+    (sym p.parts ∙ q.parts) p.read_before q.read_before p.number q.number (p.is_line, p.bad) (q.is_line, q.bad)
+
+end_once : {S W : Type 0} (text : TextByLines S W) → IsSettled text → (n : ℕ) (s t : S) (l m : ℕ) (w v : W) → s ≡ t → text.EndsBadly n s l w
+    → text.EndsBadly n t m v → (l ≡ m) × (w ≡ v)
+end_once {S = S} text once n s t l m w v same p q = once.one_end n t l m w v (subst (λ (x : S). text.EndsBadly n x l w) same p) q
+
+pub one_fault : {S W : Type 0} (text : TextByLines S W) → IsSettled text → (bytes : List ℕ) (l m : ℕ) (w v : W) → HasFault text bytes l w → HasFault text bytes m v
+    → (l ≡ m) × (w ≡ v)
+one_fault text once bytes l m w v (too_long long) (too_long other) = (refl, refl)
+one_fault text once bytes l m w v (too_long long) (at_line short first) = absurd (omega (arith, long, short))
+one_fault text once bytes l m w v (too_long long) (at_end s read bad) = absurd (omega (arith, long, read.short))
+one_fault text once bytes l m w v (at_line short first) (too_long long) = absurd (omega (arith, long, short))
+one_fault text once bytes l m w v (at_line short first) (at_line fits other) = first_once text once (lines bytes) l m w v first other
+one_fault text once bytes l m w v (at_line short first) (at_end s read bad) = absurd (told_first text once (lines bytes) l w s first read.told)
+one_fault text once bytes l m w v (at_end s read bad) (too_long long) = absurd (omega (arith, long, read.short))
+one_fault text once bytes l m w v (at_end s read bad) (at_line short first) = absurd (told_first text once (lines bytes) m v s first read.told)
+one_fault text once bytes l m w v (at_end s read bad) (at_end t through worse) =
+    end_once text once (1 + length (lines bytes)) s t l m w v (next_same text once 1 text.start s t (lines bytes) read.told through.told) bad worse
+
+ends_same : {S W : Type 0} (text : TextByLines S W) → IsSettled text → (n : ℕ) (s t : S) (l : ℕ) (w : W) → s ≡ t → text.MayEnd s
+    → text.EndsBadly n t l w → ⊥
+ends_same {S = S} text once n s t l w same ends bad = once.ends_or_not n t l w (subst (λ (x : S). text.MayEnd x) same ends) bad
+
+pub no_reading_with_fault : {S W : Type 0} (text : TextByLines S W) → IsSettled text → (bytes : List ℕ) (s : S) (line : ℕ) (why : W) → HasFault text bytes line why
+    → IsReading text bytes s → ⊥
+no_reading_with_fault text once bytes s line why (too_long long) reading = absurd (omega (arith, long, reading.short))
+no_reading_with_fault text once bytes s line why (at_line short first) reading = told_first text once (lines bytes) line why s first reading.told
+no_reading_with_fault text once bytes s line why (at_end t through bad) reading =
+    ends_same text once (1 + length (lines bytes)) s t line why (next_same text once 1 text.start s t (lines bytes) reading.told through.told) reading.ends bad
+
+-- 5. A text has a reading or a fault.
+
+-- lines that were read are followed by one that may stand there, or by the first that is bad
+next_or_bad : {S W : Type 0} (text : TextByLines S W) → IsTotal text → (front : List (List ℕ)) (l : List ℕ) (left : List (List ℕ)) (s : S) (b : Bool)
+    → AreLines text front s → is_comment l ≡ b
+    → ((t : S) × Passes text (1 + length front) s l t) ⊎ ((why : W) × IsFirstBad text (front ++ l ∷ left) (1 + length front) why)
+next_or_bad text total front l left s true told is = inl (s, inl (is, refl))
+next_or_bad text total front l left s false told is = elim (total.line (1 + length front) s l) [
+  | inl next ↦ inl (next.0, inr (is, next.1))
+  | inr bad ↦ inr (
+    bad.0,
+    record {
+      front = front;
+      here = l;
+      behind = left;
+      before = s;
+      parts = refl;
+      read_before = told;
+      number = refl;
+      is_line = is;
+      bad = bad.1;
+    },
+  )
+]
+
+abbrev AreReadOrBad : {S W : Type 0} → TextByLines S W → List (List ℕ) → Type 0
+AreReadOrBad {S = S} {W = W} text ls = ((s : S) × AreLines text ls s) ⊎ ((line : ℕ) × (why : W) × IsFirstBad text ls line why)
+
+read_or_bad : {S W : Type 0} (text : TextByLines S W) → IsTotal text → (front left : List (List ℕ)) (s : S) → AreLines text front s
+    → AreReadOrBad text (front ++ left)
+read_or_bad {S = S} text total front [] s told = inl (s, subst (λ (ls : List (List ℕ)). AreLines text ls s) (sym (append-nil front)) told)
+read_or_bad text total front (l ∷ left) s told = elim (next_or_bad text total front l left s (is_comment l) told refl) [
+  | inr bad ↦ inr (1 + length front, bad.0, bad.1)
+  | inl next ↦
+      subst (AreReadOrBad text) (append_assoc front (l ∷ []) left)
+      (read_or_bad text total (front ++ l ∷ []) left next.0 (lines_more text front s next.0 l told next.1))
+]
+
+pub reading_or_fault : {S W : Type 0} (text : TextByLines S W) → IsTotal text → (bytes : List ℕ)
+    → ((s : S) × IsReading text bytes s) ⊎ ((line : ℕ) × (why : W) × HasFault text bytes line why)
+reading_or_fault text total bytes = elim (cases_lt text.byte_limit (length bytes)) [
+  | inl long ↦ inr (0, text.when_longer, too_long long)
+  | inr short ↦ elim (read_or_bad text total [] (lines bytes) text.start refl) [
+    | inr bad ↦ inr (bad.0, bad.1, at_line short bad.2)
+    | inl read ↦ elim (total.end (1 + length (lines bytes)) read.0) [
+      | inl ends ↦ inl (read.0, record { short = short; told = read.1; ends = ends })
+      | inr badly ↦ inr (badly.0, badly.1, at_end read.0 (record { short = short; told = read.1 }) badly.2)
+    ]
+  ]
+]
+
+-- 6. What a reader answers.
+
+-- a text with a reading is not refused, and read as this
+pub told_reading : {V S W : Type 0} (text : TextByLines S W) → IsSettled text → (view : V → S) (bytes : List ℕ) (r : Result V (TextFault W)) (s : S)
+    → IfOk r (λ v. IsReading text bytes (view v)) → IfErr r (HasCause text bytes) → IsReading text bytes s
+    → MatchResult r (λ v. view v ≡ s) (λ fault. fault ≡ Memory)
+told_reading text once view bytes (Ok v) s found cause reading = one_reading text once bytes (view v) s found reading
+told_reading text once view bytes (Err (Refused line why)) s found cause reading = absurd (no_reading_with_fault text once bytes s line why cause reading)
+told_reading text once view bytes (Err Memory) s found cause reading = refl
+
+-- a text with a fault is not read, and refused with this
+pub told_fault : {V S W : Type 0} (text : TextByLines S W) → IsSettled text → (view : V → S) (bytes : List ℕ) (r : Result V (TextFault W)) (line : ℕ) (why : W)
+    → IfOk r (λ v. IsReading text bytes (view v)) → IfErr r (HasCause text bytes) → HasFault text bytes line why
+    → MatchResult r (λ v. ⊥) (IsFault line why)
+told_fault text once view bytes (Ok v) line why found cause fault = no_reading_with_fault text once bytes (view v) line why fault found
+told_fault text once view bytes (Err (Refused told reason)) line why found cause fault = one_fault text once bytes told line reason why cause fault
+told_fault text once view bytes (Err Memory) line why found cause fault = tt

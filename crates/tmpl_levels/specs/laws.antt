@@ -1,0 +1,2 @@
+pub mod BlpLaws
+pub mod TaintingLaws

@@ -1,0 +1,40 @@
+-- The default of the tainting template hides no fault.
+use Rattle.std.proofs.Common.{◌≡◌, ℕ, min, bit_and, inl, inr, sym, ap, ◌∙◌, arith}
+use Rattle.std.proofs.lemmas.Bool.{cases_eq}
+use Rattle.std.proofs.lemmas.Nat.Bits.{bit_at-lt, bit_at-zero, bit_at_and, same_from_bits}
+use Rattle.std.specs.Int.{bit_at}
+use Rattle.inv_law.specs.inner.Resets.{IsSecureDefault}
+use Rattle.inv_law.specs.inner.Template.{MayHaveDefault}
+use Rattle.inv_law.specs.laws.TemplateLaws.{IsLawfulTemplate, lawful_edge}
+use Rattle.inv_law.specs.declared.strategy.Strategy.TheVariants.{Information}
+use Rattle.tmpl_levels.specs.Tainting.{TakesOffItsOwn, tainting, untainted, TaintsPass}
+
+-- what passes to an untainted receiver has no label left, and passes to every receiver
+pub tainting_secure : IsSecureDefault Information untainted TaintsPass
+tainting_secure sender receiver passes label has keeps =
+    nothing_has (bit_at 0 label) (bit_at-zero label) (passes label has keeps)
+  where
+    nothing_has : {C : Type 0} (bit : ℕ) → bit ≡ 0 → bit ≡ 1 → C
+    nothing_has bit none one = absurd (omega arith)
+
+pub tainting_lawful : IsLawfulTemplate tainting
+tainting_lawful = lawful_edge tainting.name tainting.strategy TakesOffItsOwn untainted TaintsPass tainting_secure
+
+pub tainting_default : MayHaveDefault tainting
+tainting_default n host within label off = off
+
+-- a host takes off only its own labels exactly where its mask keeps all that it takes off
+pub own_by_mask : (taints untaints : ℕ) → bit_and untaints taints ≡ untaints
+    → TakesOffItsOwn (record { taints = taints; untaints = untaints })
+own_by_mask taints untaints same label off =
+    let masked : min (bit_at untaints label) (bit_at taints label) ≡ bit_at untaints label =
+    sym (bit_at_and untaints taints label) ∙ ap (λ n. bit_at n label) same in
+    omega (arith, off, masked, bit_at-lt taints label)
+
+pub mask_by_own : (taints untaints : ℕ) → TakesOffItsOwn (record { taints = taints; untaints = untaints })
+    → bit_and untaints taints ≡ untaints
+mask_by_own taints untaints own =
+    same_from_bits (bit_and untaints taints) untaints (λ i. bit_at_and untaints taints i ∙ elim (cases_eq (bit_at untaints i) 1) [
+      | inl off ↦ let has = own i off in omega (arith, off, has)
+      | inr none ↦ omega (arith, none, bit_at-lt untaints i)
+    ])

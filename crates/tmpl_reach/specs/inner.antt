@@ -1,0 +1,6 @@
+pub mod Dependability
+pub mod EachOf
+pub mod Interferences
+pub mod NoReach
+pub mod NoReachView
+pub mod Resets

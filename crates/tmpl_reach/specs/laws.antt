@@ -1,0 +1,3 @@
+pub mod DependabilityLaws
+pub mod NoReachLaws
+pub mod NonInterferenceLaws

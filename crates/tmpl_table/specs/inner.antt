@@ -1,0 +1,3 @@
+pub mod KindTable
+pub mod TableFaults
+pub mod TableView

@@ -1,0 +1,2 @@
+pub mod PartnersView
+pub mod Resets

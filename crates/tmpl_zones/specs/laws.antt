@@ -1,0 +1,4 @@
+pub mod GatewayLaws
+pub mod PartnersLaws
+pub mod SinkLaws
+pub mod SubnetsLaws

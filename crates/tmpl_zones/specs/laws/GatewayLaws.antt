@@ -1,0 +1,23 @@
+-- The default of the security gateway template hides no fault.
+use Rattle.std.specs.Prelude.{refl}
+use Rattle.inv_law.specs.inner.Resets.{IsSecureDefault}
+use Rattle.inv_law.specs.Template.{Anything}
+use Rattle.inv_law.specs.inner.Template.{MayHaveDefault}
+use Rattle.inv_law.specs.laws.TemplateLaws.{IsLawfulTemplate, lawful_edge}
+use Rattle.inv_law.specs.declared.strategy.Strategy.TheVariants.{Access}
+use Rattle.tmpl_zones.specs.Kinds.{TablePasses}
+use Rattle.tmpl_zones.specs.Gateway.{gateways, gateway_passes}
+use Rattle.tmpl_zones.specs.declared.gateway.GateKind.TheVariants.{Member, Accessible, Unassigned}
+
+-- whom an unassigned sender reaches, every sender reaches
+pub gateway_secure : IsSecureDefault Access Unassigned (TablePasses gateway_passes)
+gateway_secure Member Member passes = passes
+gateway_secure Accessible Member passes = passes
+gateway_secure Unassigned receiver passes = passes
+gateway_secure sender receiver passes = refl
+
+pub gateways_lawful : IsLawfulTemplate gateways
+gateways_lawful = lawful_edge gateways.name gateways.strategy Anything Unassigned (TablePasses gateway_passes) gateway_secure
+
+pub gateways_default : MayHaveDefault gateways
+gateways_default n host within = tt

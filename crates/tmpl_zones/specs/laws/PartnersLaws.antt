@@ -1,0 +1,35 @@
+-- The default of the partners template hides no fault.
+use Rattle.std.proofs.Common.{ℕ, List, length, refl}
+use Rattle.std.proofs.lemmas.Bool.{false≢true}
+use Rattle.inv_law.specs.laws.AttributeLaws.{ResetPassesNoMore-attributes}
+use Rattle.inv_law.specs.inner.Resets.{IsSecureDefault}
+use Rattle.inv_law.specs.laws.RuleLaws.{AllFlowsPass-downward, AllFlowsPass-none, AllFlowsPass-edge_wise, AllFlowsPass-reset}
+use Rattle.inv_law.specs.inner.Resets.{ResetPassesNoMore}
+use Rattle.inv_law.specs.inner.Template.{MayHaveDefault}
+use Rattle.inv_law.specs.laws.TemplateLaws.{IsLawfulTemplate}
+use Rattle.inv_law.specs.declared.strategy.Strategy.TheVariants.{Access}
+use Rattle.tmpl_zones.specs.Kinds.{TablePasses}
+use Rattle.tmpl_zones.specs.Partners.{Partner, DontCare, Care, Master, PartnersPass, partners, partners_passes}
+use Rattle.tmpl_zones.specs.inner.Resets.{PartnersPassAfterReset}
+
+-- whom a sender that does not care reaches, every sender of its number reaches
+pub partners_secure : (from : ℕ) → IsSecureDefault Access DontCare (TablePasses (partners_passes from))
+partners_secure from sender DontCare passes = refl
+partners_secure from sender Care passes = absurd (false≢true passes)
+partners_secure from sender (Master takes_from) passes = passes
+
+pub partners_reset : (n : ℕ) (partners : List Partner)
+    → ResetPassesNoMore n Access (PartnersPass partners) (PartnersPassAfterReset partners)
+partners_reset n partners f =
+    ResetPassesNoMore-attributes Access DontCare (TablePasses (partners_passes f.from)) (partners_secure f.from) n partners f
+
+pub partners_lawful : IsLawfulTemplate partners
+partners_lawful hosts = record {
+  downward = AllFlowsPass-downward (length hosts) (PartnersPass hosts);
+  holds_on_none = AllFlowsPass-none (PartnersPass hosts);
+  reset_mends_nothing = AllFlowsPass-reset (length hosts) Access (PartnersPass hosts) (PartnersPassAfterReset hosts) (partners_reset (length hosts) hosts);
+  mark_is_right = λ marked. AllFlowsPass-edge_wise (length hosts) (PartnersPass hosts);
+}
+
+pub partners_default : MayHaveDefault partners
+partners_default n host within = tt

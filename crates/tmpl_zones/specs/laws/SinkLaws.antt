@@ -1,0 +1,23 @@
+-- The default of the sink template hides no fault.
+use Rattle.std.specs.Prelude.{refl}
+use Rattle.std.proofs.lemmas.Bool.{false≢true}
+use Rattle.inv_law.specs.inner.Resets.{IsSecureDefault}
+use Rattle.inv_law.specs.Template.{Anything}
+use Rattle.inv_law.specs.inner.Template.{MayHaveDefault}
+use Rattle.inv_law.specs.laws.TemplateLaws.{IsLawfulTemplate, lawful_edge}
+use Rattle.inv_law.specs.declared.strategy.Strategy.TheVariants.{Information}
+use Rattle.tmpl_zones.specs.Kinds.{TablePasses}
+use Rattle.tmpl_zones.specs.Sink.{sinks, sink_passes}
+use Rattle.tmpl_zones.specs.declared.sink.SinkKind.TheVariants.{Sink, Pool, Unassigned}
+
+-- only unassigned senders reach an unassigned receiver, and they reach all
+pub sink_secure : IsSecureDefault Information Unassigned (TablePasses sink_passes)
+sink_secure Sink receiver passes = passes
+sink_secure Pool receiver passes = absurd (false≢true passes)
+sink_secure Unassigned receiver passes = refl
+
+pub sinks_lawful : IsLawfulTemplate sinks
+sinks_lawful = lawful_edge sinks.name sinks.strategy Anything Unassigned (TablePasses sink_passes) sink_secure
+
+pub sinks_default : MayHaveDefault sinks
+sinks_default n host within = tt

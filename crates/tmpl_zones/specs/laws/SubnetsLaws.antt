@@ -1,0 +1,25 @@
+-- The default of the subnets template hides no fault.
+use Rattle.std.specs.Prelude.{refl}
+use Rattle.std.proofs.lemmas.Bool.{false≢true}
+use Rattle.inv_law.specs.inner.Resets.{IsSecureDefault}
+use Rattle.inv_law.specs.Template.{Anything}
+use Rattle.inv_law.specs.inner.Template.{MayHaveDefault}
+use Rattle.inv_law.specs.laws.TemplateLaws.{IsLawfulTemplate, lawful_edge}
+use Rattle.inv_law.specs.declared.strategy.Strategy.TheVariants.{Access}
+use Rattle.tmpl_zones.specs.Kinds.{TablePasses}
+use Rattle.tmpl_zones.specs.Subnets.{subnets, subnets_passes}
+use Rattle.tmpl_zones.specs.declared.subnets.NetKind.TheVariants.{Subnet, Border, Unassigned}
+
+-- an unassigned sender reaches unassigned receivers alone, whom all senders reach
+pub subnets_secure : IsSecureDefault Access Unassigned (TablePasses subnets_passes)
+subnets_secure sender (Subnet b) passes = absurd (false≢true passes)
+subnets_secure sender (Border b) passes = absurd (false≢true passes)
+subnets_secure (Subnet a) Unassigned passes = refl
+subnets_secure (Border a) Unassigned passes = refl
+subnets_secure Unassigned Unassigned passes = refl
+
+pub subnets_lawful : IsLawfulTemplate subnets
+subnets_lawful = lawful_edge subnets.name subnets.strategy Anything Unassigned (TablePasses subnets_passes) subnets_secure
+
+pub subnets_default : MayHaveDefault subnets
+subnets_default n host within = tt

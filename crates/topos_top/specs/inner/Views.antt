@@ -1,0 +1,75 @@
+-- What the code asks and answers, as the definitions have it. No promise of `run` stands on it.
+use Rattle.std.specs.Prelude.{◌≤◌, ℕ, List, Result, Ok, Err, map}
+use Rattle.std.specs.Result.{result_map_both}
+use Rattle.std.specs.Global.{Global}
+use Rattle.std.specs.declared.vec.Vec.{Vec}
+use Rattle.edit_core.specs.inner.Kept.{table_of}
+use Rattle.edit_text.specs.Edit as meant
+use Rattle.edit_text.specs.inner.EditView.{edit_view}
+use Rattle.edit_text.specs.declared.edit.Edit.{Edit as CodeEdit}
+use Rattle.host_net.specs.Limits.{host_limit}
+use Rattle.ipt_rules.specs.Text.{text as rules_text}
+use Rattle.ofp_rules.specs.Text.{text as table_text}
+use Rattle.report_core.specs.RefusalLine.{refusal_text}
+use Rattle.toml.specs.Data.{Members}
+use Rattle.toml.specs.declared.value.Value.{Value}
+use Rattle.topos_top.specs.Ask.{Ask, Check, Policy, Rules, Repair, Trace, Sample, Migrate, Audit, Edit, Local, usage_text}
+use Rattle.topos_top.specs.Reply.{Reply, reply_on, cannot_read_line, memory_line}
+use Rattle.topos_top.specs.TextFault.{fault_line, edit_fault_line}
+use Rattle.topos_top.specs.declared.answer.Answer.{Answer}
+use Rattle.topos_top.specs.declared.ask.Ask.{Ask as CodeAsk}
+use Rattle.topos_top.specs.declared.ask.Ask.TheVariants as ask
+use Rattle.topos_top.specs.declared.text.Text.{Text}
+use Rattle.topos_top.specs.declared.text.Text.TheVariants as text
+
+abbrev pub ask_view : CodeAsk → Ask
+ask_view (ask.Check file) = Check file.now
+ask_view (ask.Policy file) = Policy file.now
+ask_view (ask.Rules dialect file) = Rules dialect file.now
+ask_view (ask.Repair dialect file) = Repair dialect file.now
+ask_view (ask.Trace dialect rules events) = Trace dialect rules.now events.now
+ask_view (ask.Sample hosts) = Sample hosts
+ask_view (ask.Migrate file) = Migrate file.now
+ask_view (ask.Audit dialect file rules) = Audit dialect file.now rules.now
+ask_view (ask.Edit file edits) = Edit file.now edits.now
+ask_view (ask.Local file host) = Local file.now host.now
+
+-- a sample has no more hosts than there may be
+abbrev pub HasFewHosts : Ask → Type 0
+HasFewHosts (Sample hosts) = hosts ≤ host_limit
+HasFewHosts _ = Unit {0}
+
+-- the bytes of a text
+abbrev pub text_view : Text → List ℕ
+text_view text.Usage = usage_text
+text_view (text.CannotRead file) = cannot_read_line file.now
+text_view (text.Refusal why) = refusal_text why
+text_view (text.Fault of line reason) = fault_line of.now line reason.now
+text_view (text.RefusedEdit line fault) = edit_fault_line line fault
+text_view text.NoMemory = memory_line
+text_view (text.Report report) = report
+text_view (text.Bytes bytes) = bytes.items
+text_view (text.Rules rules) = rules_text rules
+text_view (text.Table table) = table_text table
+
+abbrev pub reply_view : Answer → Reply
+reply_view answer = reply_on answer.status answer.stream (text_view answer.text)
+
+-- the reply of an outcome, whether it ended the run early or not
+abbrev pub reply_in : Result Answer Answer → Reply
+reply_in (Ok given) = reply_view given
+reply_in (Err given) = reply_view given
+
+-- what was read of a file, and of one whose reading is a vector
+abbrev pub outcome_view : {A : Type 0} → Result A Answer → Result A Reply
+outcome_view outcome = result_map_both (λ x. x) reply_view outcome
+
+abbrev pub items_view : {A : Type 0} → Result (Vec A Global) Answer → Result (List A) Reply
+items_view outcome = result_map_both (λ xs. xs.items) reply_view outcome
+
+-- a description that is edited, as its table; and a list of edits, as what they stand for
+abbrev pub session_view : Result (List (List ℕ × Value)) Answer → Result Members Reply
+session_view outcome = result_map_both table_of reply_view outcome
+
+abbrev pub edits_view : Result (Vec CodeEdit Global) Answer → Result (List meant.Edit) Reply
+edits_view outcome = result_map_both (λ edits. map edit_view edits.items) reply_view outcome

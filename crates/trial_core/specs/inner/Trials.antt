@@ -1,0 +1,18 @@
+-- Lists of invariants with a trial of each. Two lists stand side by side: what has one number belongs together.
+use Rattle.std.specs.Prelude.{◌≡◌, ℕ, ◌<◌, Bool, List, All, length, slice_index_or, IsTrue}
+use Rattle.flow_set.specs.declared.flow.Flow.{Flow}
+use Rattle.flow_set.specs.inner.Steps.{TriedFlows}
+
+-- the relation holds of the two elements at each place of the first list
+abbrev pub EachPair : {X T : Type 0} → (X → T → Type 0) → List X → List T → Type 0
+EachPair R xs ts = (k : ℕ) (x : _) (t : _) → k < length xs → R (slice_index_or xs k x) (slice_index_or ts k t)
+
+-- each invariant has a trial that fits it, and those of the chosen ones have come to the flows e
+pub record AreTried {X T : Type 0} (Fits : X → T → Type 0) (tried : T → TriedFlows) (chosen : X → Bool) (invs : List X) (trials : List T) (e : List Flow) : Type 0 where
+  pub counted : length trials ≡ length invs
+  pub fits : EachPair Fits invs trials
+  pub flows : EachPair (λ inv t. IsTrue (chosen inv) → (tried t).flows ≡ e) invs trials
+
+-- the chosen invariants hold of the flows e
+abbrev pub ChosenHold : {X : Type 0} → (X → Bool) → (X → List Flow → Type 0) → List X → List Flow → Type 0
+ChosenHold chosen HoldsOn invs e = All (λ inv. IsTrue (chosen inv) → HoldsOn inv e) invs
