@@ -7,7 +7,7 @@ use Rattle.std.specs.List.{fold}
 use Rattle.std.specs.Ordering.{nat_cmp}
 use Rattle.toml.specs.Data.{Data}
 use Rattle.host_net.specs.Host.{Host}
-use Rattle.host_set.specs.HostSet.{HostNumbers}
+use Rattle.flow_set.specs.HostSet.{HostNumbers}
 use Rattle.table_core.specs.Listing.{each}
 use Rattle.table_core.specs.inner.Listing.{grow}
 use Rattle.table_core.proofs.ListingLaws.{grow_each}

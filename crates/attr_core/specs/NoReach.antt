@@ -3,7 +3,7 @@
 use Rattle.std.specs.Prelude.{ℕ, List, [], ◌∷◌, Option, option_map, codes, unwrap_or}
 use Rattle.std.specs.FinSet as set
 use Rattle.host_net.specs.Host.{Host}
-use Rattle.host_set.specs.HostSet.{HostNumbers}
+use Rattle.flow_set.specs.HostSet.{HostNumbers}
 use Rattle.inv_any.specs.declared.any_inv.AnyInv.TheVariants as any
 use Rattle.table_core.specs.Listing.{each}
 use Rattle.table_core.specs.Tables.{list_at}

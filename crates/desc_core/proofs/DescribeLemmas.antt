@@ -28,7 +28,7 @@ use Rattle.desc_form.specs.Written.{written}
 use Rattle.desc_form.specs.declared.refusal.Place.TheVariants.{Document}
 use Rattle.desc_form.specs.declared.refusal.Refusal.{Refusal}
 use Rattle.desc_form.specs.declared.refusal.Why.TheVariants.{TooLong, NotToml}
-use Rattle.desc_hosts.specs.HostConditions.{host_conditions}
+use Rattle.desc_form.specs.HostConditions.{host_conditions}
 
 form_first : (table : Members) → first_of (table_conditions table) ≡ option_or (first_of (form_conditions table)) (first_of (host_conditions (written table) ++ use_conditions (written table)))
 unfolding table_conditions

@@ -19,7 +19,7 @@ use Rattle.desc_form.specs.Written.{written}
 use Rattle.desc_form.specs.declared.refusal.Place.TheVariants.{Document}
 use Rattle.desc_form.specs.declared.refusal.Refusal.{Refusal}
 use Rattle.desc_form.specs.declared.refusal.Why.TheVariants.{NotToml, TooLong}
-use Rattle.desc_hosts.specs.HostConditions.{host_conditions}
+use Rattle.desc_form.specs.HostConditions.{host_conditions}
 
 -- no condition holds of the table, and d is its network
 pub record IsAccepted (table : Members) (d : Network) : Type 0 where

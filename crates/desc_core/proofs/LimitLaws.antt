@@ -14,9 +14,9 @@ use Rattle.desc_form.proofs.WrittenLaws.{formed}
 use Rattle.desc_form.specs.declared.refusal.Place.TheVariants.{Host}
 use Rattle.desc_form.specs.declared.refusal.Refusal.{Refusal}
 use Rattle.desc_form.specs.declared.refusal.Why.TheVariants.{TooMany}
-use Rattle.desc_hosts.proofs.FactsLaws.{version_is}
-use Rattle.desc_hosts.specs.HostConditions.{Entry, all_entries, host_conditions, too_many}
-use Rattle.desc_hosts.proofs.SizesLaws.{many_hosts, many_prefixes}
+use Rattle.desc_form.proofs.FactsLaws.{version_is}
+use Rattle.desc_form.specs.HostConditions.{Entry, all_entries, host_conditions, too_many}
+use Rattle.desc_form.proofs.SizesLaws.{many_hosts, many_prefixes}
 use Rattle.host_net.specs.Limits.{host_limit, prefix_limit}
 use Rattle.text_core.specs.Firsts.{first_of}
 

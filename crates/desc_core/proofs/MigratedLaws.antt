@@ -24,9 +24,9 @@ use Rattle.desc_form.specs.inner.WrittenForm.{IsAnswers, IsArray, IsFlow, IsHost
 use Rattle.desc_form.proofs.WrittenLaws.{formed_where_written, written_stands}
 use Rattle.desc_form.proofs.WrittenOnceLaws.{written_is}
 use Rattle.desc_form.specs.declared.refusal.Refusal.{Refusal}
-use Rattle.desc_hosts.specs.HostConditions.{all_entries, bad_version, host_conditions}
-use Rattle.desc_hosts.specs.Mentions.{all_names, assign_names, flow_names, used_names}
-use Rattle.desc_hosts.specs.WrittenHosts.{network_hosts}
+use Rattle.desc_form.specs.HostConditions.{all_entries, bad_version, host_conditions}
+use Rattle.desc_form.specs.Mentions.{all_names, assign_names, flow_names, used_names}
+use Rattle.desc_form.specs.WrittenHosts.{network_hosts}
 use Rattle.net_core.specs.Network.{Network}
 use Rattle.table_core.specs.Shallow.{IsShallow, is_plain, items_are_plain, members_are_plain}
 use Rattle.table_core.specs.Tables.{all_keys, has_only}

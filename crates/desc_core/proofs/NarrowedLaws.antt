@@ -10,8 +10,8 @@ use Rattle.desc_core.proofs.UseFactsLaws.{PassesUses}
 use Rattle.desc_core.specs.WrittenNetwork.{narrowed_of, narrowed_to, services_in, services_said}
 use Rattle.desc_form.specs.Written.{Written}
 use Rattle.desc_form.specs.WrittenFlow.{WrittenFlow}
-use Rattle.desc_hosts.proofs.EntriesLaws.{no_longer}
-use Rattle.desc_hosts.specs.WrittenHosts.{network_hosts}
+use Rattle.desc_form.proofs.EntriesLaws.{no_longer}
+use Rattle.desc_form.specs.WrittenHosts.{network_hosts}
 use Rattle.flow_set.specs.declared.flow.Flow.{Flow}
 use Rattle.host_net.specs.Host.{Host}
 use Rattle.host_net.specs.inner.Service.{is_service}

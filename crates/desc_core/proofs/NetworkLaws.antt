@@ -22,11 +22,11 @@ use Rattle.desc_core.proofs.ChoiceLaws.{made_sized}
 use Rattle.desc_form.specs.WrittenTemplate.{WrittenTemplate}
 use Rattle.text_core.specs.Firsts.{first_of}
 use Rattle.desc_form.specs.Written.{Written, WrittenInvariant, written}
-use Rattle.desc_hosts.proofs.EntriesLaws.{no_longer}
-use Rattle.desc_hosts.specs.HostConditions.{host_conditions}
-use Rattle.desc_hosts.proofs.FactsLaws.{has_hosts}
-use Rattle.desc_hosts.proofs.HostsLaws.{IsHosts-network_hosts, length-network_hosts}
-use Rattle.desc_hosts.specs.WrittenHosts.{network_hosts}
+use Rattle.desc_form.proofs.EntriesLaws.{no_longer}
+use Rattle.desc_form.specs.HostConditions.{host_conditions}
+use Rattle.desc_form.proofs.FactsLaws.{has_hosts}
+use Rattle.desc_form.proofs.HostsLaws.{IsHosts-network_hosts, length-network_hosts}
+use Rattle.desc_form.specs.WrittenHosts.{network_hosts}
 use Rattle.host_net.specs.Host.{Host}
 use Rattle.flow_set.specs.inner.FlowSetView.{IsFlowSet}
 use Rattle.inv_any.specs.Templates.{meaning_of}

@@ -16,9 +16,9 @@ use Rattle.desc_core.specs.UseConditions.{bad_attribute, bad_service, duplicate_
 use Rattle.desc_core.specs.WrittenNetwork.{Known, asked_of, invariants_of, known_of, made_of, network_of, services_in}
 use Rattle.desc_form.specs.Written.{Written}
 use Rattle.desc_form.specs.declared.refusal.Refusal.{Refusal}
-use Rattle.desc_hosts.specs.HostConditions.{host_conditions}
-use Rattle.desc_hosts.proofs.HostsLaws.{length-network_hosts}
-use Rattle.desc_hosts.specs.WrittenHosts.{network_hosts}
+use Rattle.desc_form.specs.HostConditions.{host_conditions}
+use Rattle.desc_form.proofs.HostsLaws.{length-network_hosts}
+use Rattle.desc_form.specs.WrittenHosts.{network_hosts}
 use Rattle.flow_set.specs.EveryFlow.{every_flow}
 use Rattle.flow_set.specs.FlowSet.{SetOfFlows, set_of}
 use Rattle.flow_set.specs.declared.flow.Flow.{Flow}

@@ -12,7 +12,7 @@ use Rattle.desc_core.specs.UseConditions.{has_many_services}
 use Rattle.desc_core.specs.WrittenNetwork.{narrowed_of, narrowed_to, services_in, services_said}
 use Rattle.desc_form.specs.Written.{Written}
 use Rattle.desc_form.specs.WrittenFlow.{WrittenFlow}
-use Rattle.desc_hosts.specs.WrittenHosts.{network_hosts}
+use Rattle.desc_form.specs.WrittenHosts.{network_hosts}
 use Rattle.flow_set.specs.Flow.{same_flow}
 use Rattle.flow_set.specs.declared.flow.Flow.{Flow}
 use Rattle.host_net.specs.Host.{Host}

@@ -8,8 +8,8 @@ use Rattle.desc_core.specs.Choices.{bad_of, made_by}
 use Rattle.desc_core.specs.TemplateConditions.{bad_template, not_lawful}
 use Rattle.desc_core.proofs.Examples.{list, texts, host_with, host_at, rest_host, flow, level, invariant, host_a, host_b, a_to_b, described_as, of_hosts, of_flows, of_invariants}
 use Rattle.desc_form.specs.WrittenFlow.{flow_written}
-use Rattle.desc_hosts.specs.HostConditions.{bad_version, too_many, bad_name, duplicate_host, bad_prefix, host_bits, no_address, two_rests, overlap, all_entries, host_conditions}
-use Rattle.desc_hosts.specs.Mentions.{assign_names, flow_names, used_names, all_names}
+use Rattle.desc_form.specs.HostConditions.{bad_version, too_many, bad_name, duplicate_host, bad_prefix, host_bits, no_address, two_rests, overlap, all_entries, host_conditions}
+use Rattle.desc_form.specs.Mentions.{assign_names, flow_names, used_names, all_names}
 use Rattle.desc_core.specs.WrittenNetwork.{network_of, asked_of, services_in, invariants_of, known_of}
 use Rattle.flow_set.specs.EveryFlow.{every_flow}
 use Rattle.desc_form.specs.Places.{unknown_key, missing_key, wrong_type, has_other_key, lacks_needed, has_unsuited, has_wrong_type, first_place, spots, listed, assigns_of}
@@ -21,7 +21,7 @@ use Rattle.desc_form.specs.declared.refusal.Place.TheVariants.{Assign, Document,
 use Rattle.desc_form.specs.declared.refusal.Why.TheVariants.{BadName, BadPrefix, DuplicateAssign, MissingKey, NoAddress, Overlap, TooMany, TwoRests, UndeclaredHost, UnknownTemplate, WrongType}
 use Rattle.desc_form.specs.FormConditions.{form_conditions}
 use Rattle.desc_form.specs.Written.{written, host_written, invariant_written, assign_written}
-use Rattle.desc_hosts.specs.WrittenHosts.{network_hosts}
+use Rattle.desc_form.specs.WrittenHosts.{network_hosts}
 use Rattle.host_net.specs.Prefix.{prefix_of, address_of, is_exact, meets}
 use Rattle.table_core.specs.Keys.{all_suit, has_only_keys, lacks_key}
 use Rattle.table_core.specs.Tables.{has_only, has_key, text_at, integer_at, boolean_at, number_at, elements_of, list_at}

@@ -13,8 +13,8 @@ use Rattle.desc_form.specs.Written.{written}
 use Rattle.desc_form.proofs.WrittenLaws.{formed_where_written, written_stands}
 use Rattle.desc_form.proofs.WrittenOnceLaws.{written_is}
 use Rattle.desc_form.specs.declared.refusal.Refusal.{Refusal}
-use Rattle.desc_hosts.proofs.FactsLaws.{has_hosts}
-use Rattle.desc_hosts.specs.inner.HostFacts.{HasHosts}
+use Rattle.desc_form.proofs.FactsLaws.{has_hosts}
+use Rattle.desc_form.specs.inner.HostFacts.{HasHosts}
 use Rattle.net_core.specs.Network.{Network}
 
 pub IsRight-described : (table : Members) (d : Network) → described_by_table table ≡ Ok d → IsRight table

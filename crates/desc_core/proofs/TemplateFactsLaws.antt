@@ -15,8 +15,8 @@ use Rattle.desc_form.specs.Written.{Written}
 use Rattle.desc_form.specs.WrittenTemplate.{WrittenPair, WrittenTemplate}
 use Rattle.desc_form.specs.declared.refusal.Place.TheVariants.{Template}
 use Rattle.desc_form.specs.declared.refusal.Why.TheVariants.{BadTemplate}
-use Rattle.desc_hosts.proofs.NoneLaws.{all_tested}
-use Rattle.desc_hosts.proofs.RowLaws.{and_words, differ_words, each_says, pairs_say, same_test, then_words, unequal_words}
+use Rattle.desc_form.proofs.NoneLaws.{all_tested}
+use Rattle.desc_form.proofs.RowLaws.{and_words, differ_words, each_says, pairs_say, same_test, then_words, unequal_words}
 use Rattle.text_core.proofs.FirstsLaws.{none_mapped}
 use Rattle.text_core.specs.Name.{is_name}
 use Rattle.text_core.specs.inner.Pairs.{no_pair}

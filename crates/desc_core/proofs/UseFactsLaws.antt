@@ -2,9 +2,9 @@
 use Rattle.std.proofs.Common.{◌≡◌, ℕ, ◌≤◌, ◌+◌, Bool, true, false, not, ◌&&◌, List, length, Option, Some, None, option_map, option_and_then, is_none, is_some, refl, sym, ap, ◌∙◌}
 use Rattle.std.proofs.lemmas.List.Elements.{All-from_recursion, recursion_from_All}
 use Rattle.std.proofs.lemmas.Slice.Eq.{bytes_eq-Decides}
-use Rattle.desc_hosts.proofs.NamesLaws.{used_tested}
-use Rattle.desc_hosts.proofs.NoneLaws.{all_tested}
-use Rattle.desc_hosts.proofs.RowLaws.{all_twice, and_words, as_it_is, differ_words, each_says, few_words, found_row, in_turn, never_words, none_says, nth, numbered_pairs_row, numbered_row, pairs_say, passed_row, same_test, tested_row, then_words, unequal_words}
+use Rattle.desc_form.proofs.NamesLaws.{used_tested}
+use Rattle.desc_form.proofs.NoneLaws.{all_tested}
+use Rattle.desc_form.proofs.RowLaws.{all_twice, and_words, as_it_is, differ_words, each_says, few_words, found_row, in_turn, never_words, none_says, nth, numbered_pairs_row, numbered_row, pairs_say, passed_row, same_test, tested_row, then_words, unequal_words}
 use Rattle.std.specs.List.{All, AllByRecursion, AllPairs, list_all}
 use Rattle.std.specs.Prelude.{◌↔◌, ◌≢◌, IsTrue}
 use Rattle.std.specs.Str.{bytes_eq}
@@ -21,8 +21,8 @@ use Rattle.desc_form.specs.Written.{Written, WrittenAssign, WrittenInvariant}
 use Rattle.desc_form.specs.WrittenFlow.{WrittenFlow}
 use Rattle.desc_form.specs.declared.refusal.Place.TheVariants.{Assign}
 use Rattle.desc_form.specs.declared.refusal.Why.TheVariants.{BadAttribute}
-use Rattle.desc_hosts.specs.Mentions.{Mention, used_names}
-use Rattle.desc_hosts.specs.WrittenHosts.{network_hosts}
+use Rattle.desc_form.specs.Mentions.{Mention, used_names}
+use Rattle.desc_form.specs.WrittenHosts.{network_hosts}
 use Rattle.host_net.specs.Host.{Host}
 use Rattle.host_net.specs.Services.{service_limit}
 use Rattle.host_net.specs.ServiceText.{service_of}

@@ -13,7 +13,7 @@ use Rattle.desc_core.proofs.UseFactsLaws.{PassesUses}
 use Rattle.desc_core.specs.UseConditions.{is_declared}
 use Rattle.desc_form.specs.Written.{Written}
 use Rattle.desc_form.specs.WrittenFlow.{WrittenFlow}
-use Rattle.desc_hosts.specs.WrittenHosts.{network_hosts}
+use Rattle.desc_form.specs.WrittenHosts.{network_hosts}
 use Rattle.flow_set.specs.declared.flow.Flow.{Flow}
 use Rattle.host_net.specs.Host.{host_named}
 use Rattle.host_net.proofs.NamedLaws.{one_name}

@@ -28,11 +28,11 @@ use Rattle.text_core.specs.Firsts.{first_of}
 use Rattle.desc_form.specs.Written.{Written, WrittenHost, WrittenInvariant, written}
 use Rattle.desc_form.specs.WrittenFlow.{WrittenFlow}
 use Rattle.desc_form.proofs.WrittenLaws.{written_stands}
-use Rattle.desc_hosts.proofs.FactsLaws.{all_say_prefixes, has_hosts}
-use Rattle.desc_hosts.specs.HostConditions.{host_conditions, is_prefix}
-use Rattle.desc_hosts.proofs.HostsLaws.{length-network_hosts}
-use Rattle.desc_hosts.specs.inner.HostFacts.{texts}
-use Rattle.desc_hosts.specs.WrittenHosts.{network_host, network_hosts}
+use Rattle.desc_form.proofs.FactsLaws.{all_say_prefixes, has_hosts}
+use Rattle.desc_form.specs.HostConditions.{host_conditions, is_prefix}
+use Rattle.desc_form.proofs.HostsLaws.{length-network_hosts}
+use Rattle.desc_form.specs.inner.HostFacts.{texts}
+use Rattle.desc_form.specs.WrittenHosts.{network_host, network_hosts}
 use Rattle.flow_set.specs.declared.flow.Flow.{Flow}
 use Rattle.host_net.specs.Prefix.{prefix_of}
 use Rattle.host_net.specs.Services.{NarrowedFlow}

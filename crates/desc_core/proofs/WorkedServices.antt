@@ -19,9 +19,9 @@ use Rattle.desc_form.specs.Written.{written, host_written, invariant_written, as
 use Rattle.desc_form.specs.WrittenFlow.{flow_written}
 use Rattle.desc_form.specs.declared.refusal.Place.TheVariants.{Document, FlowAt}
 use Rattle.desc_form.specs.declared.refusal.Why.TheVariants.{BadService, BadVersion, DuplicateFlow, ManyServices, WrongType}
-use Rattle.desc_hosts.specs.HostConditions.{bad_version, too_many, bad_name, duplicate_host, bad_prefix, host_bits, no_address, two_rests, overlap, all_entries, host_conditions}
-use Rattle.desc_hosts.specs.Mentions.{assign_names, flow_names, used_names, all_names}
-use Rattle.desc_hosts.specs.WrittenHosts.{network_hosts}
+use Rattle.desc_form.specs.HostConditions.{bad_version, too_many, bad_name, duplicate_host, bad_prefix, host_bits, no_address, two_rests, overlap, all_entries, host_conditions}
+use Rattle.desc_form.specs.Mentions.{assign_names, flow_names, used_names, all_names}
+use Rattle.desc_form.specs.WrittenHosts.{network_hosts}
 use Rattle.flow_set.specs.EveryFlow.{every_flow}
 use Rattle.flow_set.specs.FlowSet.{set_of}
 use Rattle.host_net.specs.Prefix.{prefix_of, prefix_with, address_of, is_exact, meets}

@@ -6,7 +6,7 @@ use Rattle.desc_core.specs.UseConditions.{use_conditions}
 use Rattle.desc_form.specs.FormConditions.{form_conditions}
 use Rattle.desc_form.specs.Written.{written}
 use Rattle.desc_form.specs.declared.refusal.Refusal.{Refusal}
-use Rattle.desc_hosts.specs.HostConditions.{host_conditions}
+use Rattle.desc_form.specs.HostConditions.{host_conditions}
 
 -- how many bytes there may be
 abbrev pub byte_limit : ℕ

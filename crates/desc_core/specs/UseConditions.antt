@@ -10,9 +10,9 @@ use Rattle.desc_form.specs.declared.refusal.Place.TheVariants.{Invariant, Assign
 use Rattle.desc_form.specs.declared.refusal.Refusal.{Refusal}
 use Rattle.desc_form.specs.declared.refusal.Why.TheVariants.{UnknownTemplate, UndeclaredHost, DuplicateAssign, BadAttribute, SelfFlow, DuplicateFlow, BadService, ManyServices}
 use Rattle.text_core.specs.Firsts.{first_found, numbered, Numbered, first_pair}
-use Rattle.desc_hosts.specs.Mentions.{used_names}
+use Rattle.desc_form.specs.Mentions.{used_names}
 use Rattle.desc_core.specs.WrittenNetwork.{Known, known_of}
-use Rattle.desc_hosts.specs.WrittenHosts.{network_hosts}
+use Rattle.desc_form.specs.WrittenHosts.{network_hosts}
 use Rattle.desc_form.specs.Refusals.{refused, refused_by, refused_item, refused_name}
 use Rattle.desc_form.specs.Written.{Written, WrittenInvariant}
 use Rattle.desc_form.specs.WrittenFlow.{WrittenFlow}

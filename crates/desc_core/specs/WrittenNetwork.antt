@@ -9,7 +9,7 @@ use Rattle.flow_set.specs.FlowSet.{set_of}
 use Rattle.desc_form.specs.Written.{Written, WrittenAssign, WrittenInvariant}
 use Rattle.desc_form.specs.WrittenFlow.{WrittenFlow}
 use Rattle.desc_form.specs.WrittenTemplate.{WrittenTemplate}
-use Rattle.desc_hosts.specs.WrittenHosts.{network_hosts}
+use Rattle.desc_form.specs.WrittenHosts.{network_hosts}
 use Rattle.flow_set.specs.EveryFlow.{every_flow}
 use Rattle.flow_set.specs.declared.flow.Flow.{Flow}
 use Rattle.host_net.specs.Host.{Host, host_named}

@@ -12,15 +12,17 @@ ghost use Rattle.desc_form.specs.Refusals.{refused, refused_by, refused_name};
 ghost use Rattle.desc_form.specs.inner.WrittenView.{assign_view, invariant_view, template_view, written_view};
 ghost use Rattle.desc_form.specs.declared.refusal.Place.TheVariants.{Assign, Invariant};
 ghost use Rattle.desc_form.specs.declared.refusal.Why.TheVariants.{DuplicateAssign, UndeclaredHost, UnknownTemplate};
-ghost use Rattle.desc_hosts.specs.HostConditions.{host_conditions};
-ghost use Rattle.desc_hosts.specs.inner.MentionView.{mention_view};
-ghost use Rattle.desc_hosts.specs.WrittenHosts.{network_hosts};
+ghost use Rattle.desc_form.specs.HostConditions.{host_conditions};
+ghost use Rattle.desc_form.specs.inner.MentionView.{mention_view};
+ghost use Rattle.desc_form.specs.WrittenHosts.{network_hosts};
 ghost use Rattle.host_net.specs.Host.{host_named};
 ghost use Rattle.text_core.specs.Name.{is_name};
 
 use crate::choice::chosen;
-use desc_form::{Place, Refusal, Why, Written, WrittenAssign, WrittenInvariant, WrittenTemplate};
-use desc_hosts::{Mention, used_names};
+use desc_form::{
+    Mention, Place, Refusal, Why, Written, WrittenAssign, WrittenInvariant, WrittenTemplate,
+    used_names,
+};
 use host_net::{Hosts, Name};
 use std::alloc::{AllocError, Global};
 use text_core::{Pair, first_pair};

@@ -1,8 +1,11 @@
 pub mod FormConditions
+pub mod HostConditions
 pub mod Keys
+pub mod Mentions
 pub mod Places
 pub mod Refusals
 pub mod Written
 pub mod WrittenFlow
+pub mod WrittenHosts
 pub mod WrittenTemplate
 pub mod inner

@@ -1,3 +1,6 @@
+pub mod EntryView
+pub mod HostFacts
+pub mod MentionView
 pub mod Walking
 pub mod WrittenForm
 pub mod WrittenView

@@ -3,18 +3,31 @@
 //! since their order begins with the form.
 #![tactic(auto)]
 
+mod barred;
+mod entries;
 mod flows;
+mod host_conditions;
+mod hosts;
 mod keys;
+mod mentions;
+mod names;
 mod places;
 mod refusal;
-#[cfg(test)]
-mod tests;
+mod sizes;
 mod well_formed;
 mod written;
 
+pub use host_conditions::host_refusal;
+pub use hosts::read_hosts;
+pub use mentions::{Mention, used_names};
 pub use refusal::{Place, Refusal, Why};
 pub use well_formed::form_refusal;
 pub use written::{
     Written, WrittenAssign, WrittenFlow, WrittenHost, WrittenInvariant, WrittenPair,
     WrittenTemplate, read_written,
 };
+
+#[cfg(test)]
+mod desc_hosts_tests;
+#[cfg(test)]
+mod tests;

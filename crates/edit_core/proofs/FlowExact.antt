@@ -23,8 +23,8 @@ use Rattle.desc_form.specs.Places.{listed}
 use Rattle.desc_form.specs.Written.{Written, host_written, invariant_written, template_written, written}
 use Rattle.desc_form.specs.WrittenFlow.{WrittenFlow, flow_of_values, flow_written}
 use Rattle.desc_form.specs.inner.WrittenForm.{IsFlow, IsWritten}
-use Rattle.desc_hosts.proofs.NoneLaws.{all_tested}
-use Rattle.desc_hosts.specs.WrittenHosts.{network_hosts}
+use Rattle.desc_form.proofs.NoneLaws.{all_tested}
+use Rattle.desc_form.specs.WrittenHosts.{network_hosts}
 use Rattle.edit_core.proofs.FlowLaws.{has_asked, hosts_of}
 use Rattle.edit_core.proofs.FlowLemmas.{AreEnds, AreTwo, flow_said, is_named, named_where}
 use Rattle.edit_core.proofs.FlowTables.{AreRightFlows, IsListing, listed_again, listing, own_flows, with_flows}

@@ -23,14 +23,14 @@ use Rattle.desc_form.specs.Keys.{says_second, version_said}
 use Rattle.desc_form.specs.Written.{Written, WrittenHost, written}
 use Rattle.desc_form.specs.WrittenFlow.{WrittenFlow}
 use Rattle.desc_form.specs.inner.WrittenForm.{IsWritten}
-use Rattle.desc_hosts.specs.WrittenHosts.{network_hosts}
-use Rattle.desc_hosts.proofs.NoneLaws.{all_tested}
+use Rattle.desc_form.specs.WrittenHosts.{network_hosts}
+use Rattle.desc_form.proofs.NoneLaws.{all_tested}
 use Rattle.edit_core.proofs.FlowLemmas.{AreEnds, all_apart, any_said, asked_more, flow_said, flows_among, found_where, has_less, is_named, named_where, narrowed_among, one_flow, one_left, other_elements, other_flows, others_zipped, services_less, services_more, services_read, services_whole, zipped_more, IsFound}
 use Rattle.edit_core.proofs.FlowTables.{AreRightFlows, IsListing, described_with, listing, own_flows, with_flows}
 use Rattle.edit_core.specs.Edited.{accepted_as, add_to, after_edit, edited, if_accepted, is_between, remove_from, text_list, with_list}
 use Rattle.edit_core.specs.inner.FlowEdits.{IsAskedFlow, IsRightFlow, asking_less, asking_more, without_services}
 use Rattle.edit_core.specs.declared.fault.EditFault.TheVariants.{Absent}
-use Rattle.edit_text.specs.Edit.{Add, Remove}
+use Rattle.edit_core.specs.Edit.{Add, Remove}
 use Rattle.flow_set.specs.Flow.{IsFlow, same_flow}
 use Rattle.flow_set.specs.laws.FlowLaws.{IsOrdered-without_flow, flows_ext, has-without_flow}
 use Rattle.flow_set.specs.FlowSet.{IsOrdered, has, set_of, with_flow}

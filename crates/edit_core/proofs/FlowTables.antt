@@ -23,9 +23,9 @@ use Rattle.desc_form.specs.WrittenFlow.{WrittenFlow}
 use Rattle.desc_form.specs.inner.WrittenForm.{IsAnswers, IsArray, IsFlow, IsHost, IsInteger, IsInvariant, IsTable, IsTemplate, IsWritten, document_names}
 use Rattle.desc_form.proofs.WrittenLaws.{written_stands}
 use Rattle.desc_form.proofs.WrittenOnceLaws.{written_is}
-use Rattle.desc_hosts.proofs.FactsLaws.{has_hosts}
-use Rattle.desc_hosts.specs.inner.HostFacts.{HasHosts}
-use Rattle.desc_hosts.specs.WrittenHosts.{network_hosts}
+use Rattle.desc_form.proofs.FactsLaws.{has_hosts}
+use Rattle.desc_form.specs.inner.HostFacts.{HasHosts}
+use Rattle.desc_form.specs.WrittenHosts.{network_hosts}
 use Rattle.edit_core.specs.Edited.{with_list}
 use Rattle.host_net.specs.Services.{service_limit}
 use Rattle.host_net.specs.ServiceText.{service_of}

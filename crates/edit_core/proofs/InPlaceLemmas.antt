@@ -7,7 +7,7 @@ use Rattle.edit_core.specs.inner.FlowEdits.{asking_less}
 use Rattle.edit_core.specs.inner.InPlace.{IsDone, IsOfFlow, IsTableAfter, network_after}
 use Rattle.edit_core.specs.Summaries.{TellsOf}
 use Rattle.edit_core.specs.declared.summary.Summary.{Summary}
-use Rattle.edit_text.specs.Edit.{Change, Add, Remove, Set, Unset}
+use Rattle.edit_core.specs.Edit.{Change, Add, Remove, Set, Unset}
 use Rattle.flow_set.specs.declared.flow.Flow.{Flow}
 use Rattle.host_net.specs.Services.{services_of}
 use Rattle.net_core.specs.inner.Asking.{not_asking_for}

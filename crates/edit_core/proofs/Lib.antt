@@ -1,4 +1,9 @@
+pub mod BehindLaws
+pub mod ChangeLaws
 pub mod CopyLemmas
+pub mod EditFaultLaws
+pub mod EditsRows
+pub mod EditsTextLaws
 pub mod FlowExact
 pub mod FlowLaws
 pub mod FlowLemmas
@@ -7,4 +12,5 @@ pub mod InPlaceLemmas
 pub mod RunLemmas
 pub mod SessionLemmas
 pub mod SummaryLaws
+pub mod TextLemmas
 pub mod WrittenLemmas

@@ -10,9 +10,9 @@ use Rattle.edit_core.specs.declared.fault.EditFault.{EditFault}
 use Rattle.edit_core.specs.declared.run.EditRefusal.{EditRefusal}
 use Rattle.edit_core.specs.declared.run.EditRefusal.TheVariants as refusal
 use Rattle.edit_core.specs.declared.summary.Summary.{Summary}
-use Rattle.edit_text.specs.Edit as meant
-use Rattle.edit_text.specs.inner.EditView.{edit_view}
-use Rattle.edit_text.specs.declared.edit.Edit.{Edit}
+use Rattle.edit_core.specs.Edit as meant
+use Rattle.edit_core.specs.inner.EditView.{edit_view}
+use Rattle.edit_core.specs.declared.edit.Edit.{Edit}
 use Rattle.toml.specs.Data.{Members}
 
 -- the edits that are left, one by one

@@ -27,7 +27,7 @@ use Rattle.edit_core.specs.inner.Summaries.{IsApplied}
 use Rattle.edit_core.specs.declared.fault.EditFault.{EditFault}
 use Rattle.edit_core.specs.declared.fault.EditFault.TheVariants.{NoPolicy, Absent, Refused, Memory}
 use Rattle.edit_core.specs.declared.summary.Summary.{Summary}
-use Rattle.edit_text.specs.Edit.{Change}
+use Rattle.edit_core.specs.Edit.{Change}
 use Rattle.net_core.specs.Network.{Network}
 use Rattle.net_core.specs.Policies.{Policy}
 use Rattle.toml.specs.Data.{Members}

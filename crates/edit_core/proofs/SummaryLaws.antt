@@ -5,13 +5,13 @@ use Rattle.std.specs.List.{AllZip}
 use Rattle.edit_core.specs.Runs.{AreSummaries}
 use Rattle.edit_core.specs.Summaries.{IsSummary, TellsOf}
 use Rattle.edit_core.specs.declared.summary.Summary.{Summary}
-use Rattle.edit_text.specs.Edit.{Edit}
+use Rattle.edit_core.specs.Edit.{Edit}
 use Rattle.flow_set.specs.declared.flow.Flow.{Flow}
 use Rattle.inv_any.specs.declared.any_inv.AnyInv.{AnyInv}
 use Rattle.net_core.specs.Network.{Network}
 use Rattle.net_core.specs.Policies.{IsPolicyOf, Policy, holds_on}
 use Rattle.net_core.proofs.PolicyLaws.{policy_is_one}
-use Rattle.policy_steps.specs.FailingFlows.{AreFailing}
+use Rattle.net_core.specs.FailingFlows.{AreFailing}
 use Rattle.toml.specs.Data.{Members}
 
 -- ---- how many invariants fail

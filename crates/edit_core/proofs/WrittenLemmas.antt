@@ -13,7 +13,7 @@ use Rattle.std.specs.Prelude.{option_and_then}
 use Rattle.std.specs.String.{string_cmp}
 use Rattle.desc_core.specs.Migrated.{with_member}
 use Rattle.edit_core.specs.inner.InPlace.{IsListAfter, IsTableAfter, flows_after}
-use Rattle.edit_text.specs.Edit.{Change}
+use Rattle.edit_core.specs.Edit.{Change}
 use Rattle.table_core.specs.Tables.{elements, elements_of, list_at}
 use Rattle.toml.proofs.Views.{view-Array, view-lookup}
 use Rattle.toml.specs.Data.{Data, array, as_array, member}

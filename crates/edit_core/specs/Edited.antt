@@ -11,7 +11,7 @@ use Rattle.desc_form.specs.Written.{text_in}
 use Rattle.desc_form.specs.declared.refusal.Refusal.{Refusal}
 use Rattle.edit_core.specs.declared.fault.EditFault.{EditFault}
 use Rattle.edit_core.specs.declared.fault.EditFault.TheVariants.{NoPolicy, Absent, Refused}
-use Rattle.edit_text.specs.Edit.{Change, Add, Remove, Set, Unset}
+use Rattle.edit_core.specs.Edit.{Change, Add, Remove, Set, Unset}
 use Rattle.net_core.specs.Network.{Network}
 use Rattle.table_core.specs.Tables.{elements_of, list_at, text_at}
 use Rattle.toml.specs.Data.{Data, string, array, table, Members, as_str, as_table}

@@ -1,4 +1,7 @@
+pub mod Behind
+pub mod Edit
 pub mod Edited
+pub mod EditsText
 pub mod Kept
 pub mod Runs
 pub mod Summaries

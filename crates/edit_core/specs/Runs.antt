@@ -5,7 +5,7 @@ use Rattle.edit_core.specs.Summaries.{IsSummary}
 use Rattle.edit_core.specs.declared.fault.EditFault.{EditFault}
 use Rattle.edit_core.specs.declared.run.EditRefusal.TheVariants as refusal
 use Rattle.edit_core.specs.declared.summary.Summary.{Summary}
-use Rattle.edit_text.specs.Edit.{Edit}
+use Rattle.edit_core.specs.Edit.{Edit}
 use Rattle.toml.specs.Data.{Members}
 
 -- an edit that stands on a line, and then the others

@@ -9,7 +9,7 @@ use Rattle.edit_core.specs.declared.fault.EditFault.TheVariants.{Memory}
 use Rattle.edit_core.specs.declared.summary.Summary.{Summary}
 use Rattle.net_core.specs.Network.{Network}
 use Rattle.net_core.specs.Policies.{Policy}
-use Rattle.policy_steps.specs.FailingFlows.{AreFailing}
+use Rattle.net_core.specs.FailingFlows.{AreFailing}
 use Rattle.toml.specs.Data.{Members}
 
 -- how many flows the network asks for, how many its policy permits and lets be answered, and how many of its invariants fail on the

@@ -1,4 +1,7 @@
+pub mod ChangeSteps
 pub mod EditFaults
+pub mod EditView
+pub mod EditsAnswers
 pub mod FlowEdits
 pub mod InPlace
 pub mod Kept

@@ -3,19 +3,29 @@
 #![tactic(auto)]
 
 mod assigns;
+mod behind;
+mod edit;
 mod fault;
 mod flows;
 mod in_place;
+mod line;
 mod run;
 mod session;
 mod summary;
 mod table;
-#[cfg(test)]
-mod tests;
+mod text;
+mod text_fault;
 mod values;
 
-pub use edit_text::{Change, EDITS_BYTE_LIMIT, Edit, EditsFault, EditsWhy, read_edits};
+pub use edit::{Change, Edit};
 pub use fault::EditFault;
 pub use run::EditRefusal;
 pub use session::Session;
 pub use summary::Summary;
+pub use text::{EDITS_BYTE_LIMIT, read_edits};
+pub use text_fault::{EditsFault, EditsWhy};
+
+#[cfg(test)]
+mod edit_text_tests;
+#[cfg(test)]
+mod tests;

@@ -6,12 +6,12 @@ ghost use Rattle.edit_core.specs.inner.Kept.{table_of};
 ghost use Rattle.edit_core.specs.Runs.{AreSummaries, after_edits, next_edit};
 ghost use Rattle.edit_core.specs.inner.Runs.{IsCause};
 ghost use Rattle.edit_core.specs.Summaries.{IsSummary};
-ghost use Rattle.edit_text.specs.inner.EditView.{edit_view};
+ghost use Rattle.edit_core.specs.inner.EditView.{edit_view};
 
+use crate::edit::Edit;
 use crate::fault::EditFault;
 use crate::session::Session;
 use crate::summary::Summary;
-use edit_text::Edit;
 use std::alloc::Global;
 
 /// The first edit that is refused, by its line, and why.

@@ -3,7 +3,7 @@
 ghost use Rattle.edit_core.specs.Summaries.{TellsOf};
 ghost use Rattle.net_core.specs.Policies.{IsPolicyOf};
 
-use policy_steps::PolicedNetwork;
+use net_core::PolicedNetwork;
 
 /// How many flows are asked for, permitted and stateful, and how many invariants fail on the asked
 /// flows.

@@ -4,13 +4,13 @@ ghost use Rattle.std.specs.Prelude.{◌≡◌};
 ghost use Rattle.std.specs.Result.{result_map_both};
 ghost use Rattle.edit_core.specs.Edited.{edited};
 ghost use Rattle.edit_core.specs.inner.EditFaults.{Gives};
-ghost use Rattle.edit_text.specs.inner.EditView.{change_view};
+ghost use Rattle.edit_core.specs.inner.EditView.{change_view};
 ghost use Rattle.toml.specs.View.{table_view};
 
 use crate::assigns::{set_in, unset_in};
+use crate::edit::Change;
 use crate::fault::EditFault;
 use crate::flows::{add_to, remove_from};
-use edit_text::Change;
 use std::alloc::Global;
 use toml::Table;
 

@@ -12,9 +12,9 @@ use Rattle.flow_set.specs.FlowSet.{has, IsOrdered, with_flow}
 use Rattle.flow_set.specs.inner.FlowSetView.{IsFlowSet, without_flow}
 use Rattle.flow_set.specs.laws.FlowLaws.{has_nothing, has-append, has-with_flow, has-without_flow, flows_ext, IsOrdered-append, IsOrdered-with_flow, IsOrdered-without_flow}
 use Rattle.flow_set.specs.inner.BitRows.{marks, where_so, row_flows, rows_flows, flows_of, AreRows}
-use Rattle.host_set.specs.HostSet.{HostNumbers, hosts_below}
-use Rattle.host_set.specs.inner.HostSet.{row_of}
-use Rattle.host_set.specs.laws.HostSetLaws.{contains-insert, contains-remove, contains-hosts_below, hosts_ext, len_more}
+use Rattle.flow_set.specs.HostSet.{HostNumbers, hosts_below}
+use Rattle.flow_set.specs.inner.HostSet.{row_of}
+use Rattle.flow_set.specs.laws.HostSetLaws.{contains-insert, contains-remove, contains-hosts_below, hosts_ext, len_more}
 
 -- ---- which flows
 

@@ -1,7 +1,10 @@
+pub mod Apart
 pub mod BitRows
 pub mod ConditionLaws
 pub mod EveryFlowLaws
 pub mod Filling
+pub mod FirstBits
+pub mod HostSets
 pub mod ListedLaws
 pub mod Onward
 pub mod SubsetLaws

@@ -12,9 +12,9 @@ use Rattle.flow_set.specs.laws.WalkLaws.{first_from_member, first_from_late, fir
 use Rattle.std.specs.FinSet as set
 use Rattle.flow_set.specs.inner.BitRows.{marks, flows_of, AreRows, flows_from, IsAsFar}
 use Rattle.flow_set.proofs.BitRows.{marked_flow, has-flows_of, IsOrdered-rows_flows}
-use Rattle.host_set.specs.HostSet.{HostNumbers}
-use Rattle.host_set.specs.inner.HostSet.{row_of}
-use Rattle.host_set.specs.inner.Calls.{HasNone, IsFirstFrom}
+use Rattle.flow_set.specs.HostSet.{HostNumbers}
+use Rattle.flow_set.specs.inner.HostSet.{row_of}
+use Rattle.flow_set.specs.inner.Calls.{HasNone, IsFirstFrom}
 
 -- ---- the first flow from a place on
 

@@ -2,5 +2,6 @@ pub mod Conditions
 pub mod EveryFlow
 pub mod Flow
 pub mod FlowSet
-pub mod laws
+pub mod HostSet
 pub mod inner
+pub mod laws

@@ -1,6 +1,9 @@
 pub mod BitRows
+pub mod Calls
 pub mod Different
 pub mod Downward
 pub mod FlowSetView
+pub mod HostBits
+pub mod HostSet
 pub mod LastStep
 pub mod Steps

@@ -3,10 +3,12 @@
 #![tactic(auto)]
 
 mod flow;
+mod host_set;
 mod iter;
 mod set;
 mod steps;
 
+pub use crate::host_set::HostSet;
 pub use flow::Flow;
 pub use iter::Iter;
 pub use set::FlowSet;

@@ -8,8 +8,8 @@ ghost use Rattle.flow_set.specs.FlowSet.{IsFull, has, with_flow, with_back};
 ghost use Rattle.flow_set.specs.inner.FlowSetView.{IsFlowSet, without_flow, first_from};
 
 use crate::flow::Flow;
+use crate::host_set::HostSet;
 use crate::iter::Iter;
-use host_set::HostSet;
 use std::alloc::{AllocError, Global};
 use std::marker::Model;
 

@@ -6,7 +6,9 @@ ghost use Rattle.host_net.specs.inner.Service.{is_service};
 
 use crate::{emit_local, is_specific};
 use flow_set::{Flow, FlowSet};
-use host_net::{ Hosts, Packet, SERVICE_LIMIT, Service, Services, Verdict, read_prefix, read_service, };
+use host_net::{
+    Hosts, Packet, SERVICE_LIMIT, Service, Services, Verdict, read_prefix, read_service,
+};
 use ipt_rules::{INPUT, OUTPUT, Ruleset};
 use pkt_core::Track;
 use std::alloc::{AllocError, Global};

@@ -5,7 +5,9 @@ ghost use Rattle.std.specs.Prelude.{◌≤◌, ◌<◌, IsTrue};
 ghost use Rattle.std.specs.List.{list_all};
 ghost use Rattle.host_net.specs.inner.Hosts.{is_network};
 
-use crate::{ HOST_LIMIT, HostRefusal, Hosts, Name, PREFIX_LIMIT, Packet, Prefix, put_prefix, read_prefix, };
+use crate::{
+    HOST_LIMIT, HostRefusal, Hosts, Name, PREFIX_LIMIT, Packet, Prefix, put_prefix, read_prefix,
+};
 use std::alloc::Global;
 use std::process::Abort;
 

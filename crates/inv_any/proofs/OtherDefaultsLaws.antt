@@ -11,8 +11,8 @@ use Rattle.flow_set.specs.Flow.{IsFlow, same_flow}
 use Rattle.flow_set.specs.laws.FlowLaws.{filter_nothing, has_first, same_fact, same_flow-true, has-append}
 use Rattle.flow_set.specs.FlowSet.{has, with_flow, without}
 use Rattle.flow_set.specs.declared.flow.Flow.{Flow}
-use Rattle.host_set.specs.HostSet.{HostNumbers}
-use Rattle.host_set.specs.laws.HostSetLaws.{hosts_ext}
+use Rattle.flow_set.specs.HostSet.{HostNumbers}
+use Rattle.flow_set.specs.laws.HostSetLaws.{hosts_ext}
 use Rattle.inv_any.specs.inner.OtherDefaults.{LetsOff, OnlyDefaultIsSecure}
 use Rattle.inv_law.specs.Attributes.{PassesBetween}
 use Rattle.inv_law.specs.inner.Invariants.{IsOffendingHost, blamed_host}

@@ -5,7 +5,10 @@ ghost use Rattle.host_net.specs.Service.{has_ports};
 ghost use Rattle.ipt_rules.specs.ChainTable.{rule_count};
 ghost use Rattle.ipt_rules.specs.inner.RuleParts.{is_rule};
 
-use crate::{ AddrMatch, BuildRefusal, ChainName, Chains, Policy, PortMatch, ProtoMatch, Rule, Ruleset, StateMatch, Target, Verdict, };
+use crate::{
+    AddrMatch, BuildRefusal, ChainName, Chains, Policy, PortMatch, ProtoMatch, Rule, Ruleset,
+    StateMatch, Target, Verdict,
+};
 use host_net::{CtState, Packet, Prefix};
 use std::alloc::Global;
 use std::process::Abort;

@@ -4,7 +4,7 @@ use Rattle.std.proofs.Common.{◌≡◌, ℕ, Bool, true, false, List, sym, ◌�
 use Rattle.std.specs.Prelude.{IsTrue}
 use Rattle.net_core.specs.Network.{Network}
 use Rattle.net_core.specs.inner.Fitting.{IsNetwork}
-use Rattle.first_core.proofs.FirstLaws.{first_greatest}
+use Rattle.permit_core.proofs.FirstLaws.{first_greatest}
 use Rattle.flow_set.specs.inner.Downward.{IsEdgeWise}
 use Rattle.flow_set.specs.FlowSet.{IsSubset, with_back}
 use Rattle.flow_set.specs.inner.FlowSetView.{IsFlowSet}

@@ -1,3 +1,11 @@
+pub mod AdmittedLemmas
+pub mod AskedLemmas
 pub mod AskingLaws
+pub mod CountLemmas
+pub mod EdgePolicyLaws
+pub mod FailingLaws
+pub mod FailingLemmas
 pub mod HeadlineLaws
+pub mod MarkedLaws
 pub mod PolicyLaws
+pub mod UnpermittedLaws

@@ -3,7 +3,7 @@
 use Rattle.std.proofs.Common.{◌≡◌, Bool, true, false, List, sym, ◌∙◌, subst}
 use Rattle.net_core.specs.Network.{Network}
 use Rattle.net_core.specs.inner.Fitting.{IsNetwork}
-use Rattle.first_core.proofs.FirstLaws.{first_unique, first_whole}
+use Rattle.permit_core.proofs.FirstLaws.{first_unique, first_whole}
 use Rattle.flow_set.specs.laws.FlowLaws.{set_ext}
 use Rattle.flow_set.specs.FlowSet.{IsSubset, with_back}
 use Rattle.flow_set.proofs.SubsetLaws.{nothing_within}

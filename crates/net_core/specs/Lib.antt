@@ -1,3 +1,4 @@
+pub mod FailingFlows
 pub mod Network
 pub mod Policies
 pub mod inner

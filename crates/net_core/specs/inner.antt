@@ -1,2 +1,5 @@
 pub mod Asking
+pub mod EdgePolicies
+pub mod FailingFlows
 pub mod Fitting
+pub mod Policed

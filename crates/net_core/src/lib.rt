@@ -2,8 +2,14 @@
 //! permit, and those among them whose answers may pass.
 #![tactic(auto)]
 
+mod counts;
 mod description;
+mod failing;
+mod judged;
+mod policed;
 mod policy;
+mod steps;
 
 pub use description::Description;
+pub use policed::PolicedNetwork;
 pub use policy::{Policy, policy_of};

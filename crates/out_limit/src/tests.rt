@@ -7,12 +7,13 @@ use crate::OutLimit;
 use crate::steps_only::StepsOnly;
 use flow_set::{Flow, FlowSet};
 use inv_law::{Invariant, Stepwise};
-use permit_core::{blame, blame_by_steps, offending, offending_by_steps, permit, permit_by_steps};
+use permit_core::{
+    blame, blame_by_steps, offending, offending_by_steps, permit, permit_by_steps, trials_of,
+};
 use state_core::{refine, refine_by_steps, with_answers};
 use std::alloc::{AllocError, Global};
 use std::test::Fail;
 use tmpl_reach::Dependability;
-use trial_core::trials_of;
 
 const FIRST: Flow = Flow { from: 0, to: 1 };
 

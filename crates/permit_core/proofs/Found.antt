@@ -6,7 +6,7 @@ use Rattle.flow_set.specs.FlowSet.{SetOfFlows}
 use Rattle.flow_set.specs.inner.FlowSetView.{IsFlowSet}
 use Rattle.flow_set.specs.Conditions.{IsFirst, IsGreatest}
 use Rattle.flow_set.specs.inner.Downward.{IsEdgeWise}
-use Rattle.first_core.proofs.FirstLaws.{first_greatest}
+use Rattle.permit_core.proofs.FirstLaws.{first_greatest}
 
 pub greatest_found : {E : Type 0} (n : ℕ) (Holds : List Flow → Type 0) (all : List Flow) (found : Result SetOfFlows E) → IsFlowSet n all
     → IsEdgeWise n Holds → IfOk found (λ p. IsFirst Holds all p.flows) → IfOk found (λ p. IsGreatest Holds all p.flows)

@@ -1,3 +1,8 @@
+pub mod Again
+pub mod FirstLaws
 pub mod Found
+pub mod GrownLaws
 pub mod PolicyLaws
+pub mod Step
+pub mod TrialLaws
 pub mod Turning

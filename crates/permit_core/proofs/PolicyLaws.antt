@@ -5,7 +5,7 @@ use Rattle.std.specs.Prelude.{All}
 use Rattle.flow_set.specs.declared.flow.Flow.{Flow}
 use Rattle.flow_set.specs.FlowSet.{with_flow}
 use Rattle.flow_set.specs.inner.Downward.{IsDownward, IsEdgeWise}
-use Rattle.first_core.proofs.FirstLaws.{first_with}
+use Rattle.permit_core.proofs.FirstLaws.{first_with}
 use Rattle.permit_core.specs.Policy.{AllHold}
 use Rattle.permit_core.specs.inner.Denied.{IsDenied}
 

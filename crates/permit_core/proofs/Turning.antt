@@ -10,7 +10,7 @@ use Rattle.flow_set.specs.inner.FlowSetView.{without_flow}
 use Rattle.flow_set.specs.Conditions.{IsFirst}
 use Rattle.flow_set.specs.laws.FlowLaws.{before_self, has-append, has_first, has-with_flow, has-without_flow, has-without, flows_ext, filter_nothing, front_before, same_test, IsOrdered-without}
 use Rattle.flow_set.proofs.SubsetLaws.{subset_both}
-use Rattle.first_core.proofs.FirstLaws.{first_whole}
+use Rattle.permit_core.proofs.FirstLaws.{first_whole}
 
 -- whether a flow is in the set that is being turned: reached by the pass or not, and in the old set or not
 abbrev pub turned : Bool → Bool → Bool

@@ -1,1 +1,3 @@
 pub mod Denied
+pub mod Grown
+pub mod Trials

@@ -5,11 +5,11 @@ ghost use Rattle.flow_set.specs.Flow.{IsFlow};
 ghost use Rattle.flow_set.specs.FlowSet.{with_flow};
 ghost use Rattle.permit_core.specs.Policy.{AllHold, IsFirstFailing};
 ghost use Rattle.permit_core.specs.inner.Denied.{IsDenied};
-ghost use Rattle.trial_core.specs.inner.Trials.{AreTried};
+ghost use Rattle.permit_core.specs.inner.Trials.{AreTried};
 
+use crate::asking::holds_with;
 use flow_set::{Flow, FlowSet};
 use inv_law::Stepwise;
-use trial_core::holds_with;
 
 /// What `blame` answers of a permitted set, from trials with its flows. They have these flows again
 /// afterwards, so that they serve for every flow of a report. The set is not read: it stands here for the

@@ -3,16 +3,33 @@
 //! it stands over any lawful invariants, and knows no template.
 #![tactic(auto)]
 
+mod asking;
+mod choice;
+mod condition;
 mod denial;
 mod denial_by_steps;
+mod growth;
 mod offence;
 mod offence_by_steps;
+mod pass;
 mod policy;
 mod policy_by_steps;
+mod steps;
+mod trials;
 
+pub use asking::holds_with;
+pub use choice::{Choice, Every};
+pub use condition::Condition;
 pub use denial::blame;
 pub use denial_by_steps::blame_by_steps;
+pub use growth::{chosen_still_hold, still_holds};
 pub use offence::offending;
 pub use offence_by_steps::offending_by_steps;
+pub use pass::first_subset;
 pub use policy::permit;
 pub use policy_by_steps::permit_by_steps;
+pub use steps::{SteppedCondition, first_subset_by_steps};
+pub use trials::{step_chosen, trials_of};
+
+#[cfg(test)]
+mod tests;

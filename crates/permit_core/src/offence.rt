@@ -6,11 +6,12 @@ ghost use Rattle.flow_set.specs.FlowSet.{without};
 ghost use Rattle.flow_set.specs.inner.FlowSetView.{IsFlowSet};
 ghost use Rattle.flow_set.specs.Conditions.{IsFirst, IsMinimalOffending};
 
-use first_core::{Condition, first_subset};
+use crate::condition::Condition;
+use crate::growth::still_holds;
+use crate::pass::first_subset;
 use flow_set::{Flow, FlowSet};
 use inv_law::Invariant;
 use std::alloc::{AllocError, Global};
-use trial_core::still_holds;
 
 /// Flows of `e` without which the invariant holds, none of which can stay. They are those outside
 /// the first subset of `e` on which it holds. `None` where it holds of `e`.

@@ -6,7 +6,7 @@ ghost use Rattle.flow_set.specs.FlowSet.{IsSubset, without};
 ghost use Rattle.flow_set.specs.inner.FlowSetView.{IsFlowSet};
 ghost use Rattle.flow_set.specs.Conditions.{IsFirst, IsMinimalOffending};
 
-use first_core::{SteppedCondition, first_subset_by_steps};
+use crate::steps::{SteppedCondition, first_subset_by_steps};
 use flow_set::{Flow, FlowSet};
 use inv_law::{Stepwise, Trial};
 use std::alloc::{AllocError, Global};

@@ -5,11 +5,13 @@ ghost use Rattle.flow_set.specs.inner.FlowSetView.{IsFlowSet};
 ghost use Rattle.flow_set.specs.Conditions.{IsFirst, IsGreatest};
 ghost use Rattle.permit_core.specs.Policy.{AllHold};
 
-use first_core::{Condition, first_subset};
+use crate::choice::Every;
+use crate::condition::Condition;
+use crate::growth::chosen_still_hold;
+use crate::pass::first_subset;
 use flow_set::{Flow, FlowSet};
 use inv_law::Invariant;
 use std::alloc::{AllocError, Global};
-use trial_core::{Every, chosen_still_hold};
 
 /// The first subset of the asked flows on which every invariant holds. Where each invariant judges
 /// flows alone, it contains every other such subset.

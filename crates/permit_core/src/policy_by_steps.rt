@@ -4,13 +4,14 @@ ghost use Rattle.std.specs.Prelude.{◌≡◌, All, true, IsTrue, IfOk};
 ghost use Rattle.flow_set.specs.inner.FlowSetView.{IsFlowSet};
 ghost use Rattle.flow_set.specs.Conditions.{IsFirst, IsGreatest};
 ghost use Rattle.permit_core.specs.Policy.{AllHold};
-ghost use Rattle.trial_core.specs.inner.Trials.{AreTried};
+ghost use Rattle.permit_core.specs.inner.Trials.{AreTried};
 
-use first_core::{SteppedCondition, first_subset_by_steps};
+use crate::choice::Every;
+use crate::steps::{SteppedCondition, first_subset_by_steps};
+use crate::trials::{step_chosen, trials_of};
 use flow_set::{Flow, FlowSet};
 use inv_law::Stepwise;
 use std::alloc::{AllocError, Global};
-use trial_core::{Every, step_chosen, trials_of};
 
 /// What `permit` answers, from one trial of each invariant. They are made first, and after them only
 /// the answer takes memory.

@@ -7,9 +7,9 @@ use Rattle.std.proofs.lemmas.List.{get_or-replicate}
 use Rattle.flow_set.specs.declared.flow.Flow.{Flow}
 use Rattle.flow_set.specs.Flow.{same_flow}
 use Rattle.flow_set.specs.laws.FlowLaws.{same_flow_self}
-use Rattle.host_set.specs.HostSet.{HostNumbers}
-use Rattle.host_set.specs.inner.HostSet.{row_of}
-use Rattle.host_set.specs.laws.HostSetLaws.{contains-insert}
+use Rattle.flow_set.specs.HostSet.{HostNumbers}
+use Rattle.flow_set.specs.inner.HostSet.{row_of}
+use Rattle.flow_set.specs.laws.HostSetLaws.{contains-insert}
 use Rattle.reach_core.specs.Walks.{HasWalk}
 use Rattle.reach_core.specs.laws.WalkLaws.{HasPath, HasWalk-weaker, HasPath-weaker, path_of_walk, cases_path, walk_over, walk_cut}
 

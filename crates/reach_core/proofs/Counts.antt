@@ -8,10 +8,10 @@ use Rattle.std.specs.Cmp.{nat_cmp_total, unsigned_tied}
 use Rattle.std.proofs.lemmas.Bool.{and_parts, and_from, or_left, eqb-false, eq-eqb, ne_eqb, not-true, not_from_false, cases_eq, cond-true, cond-false, false≢true}
 use Rattle.std.proofs.lemmas.List.Elements.{All-nil, All-cons, All-head, All-tail}
 use Rattle.flow_set.specs.declared.flow.Flow.{Flow}
-use Rattle.host_set.specs.HostSet.{HostNumbers}
+use Rattle.flow_set.specs.HostSet.{HostNumbers}
 use Rattle.reach_core.specs.Walks.{Reaches}
 use Rattle.reach_core.specs.inner.Counting.{ReachesExactly}
-use Rattle.host_set.specs.laws.HostSetLaws.{hosts_ext, contains-remove}
+use Rattle.flow_set.specs.laws.HostSetLaws.{hosts_ext, contains-remove}
 
 -- ---- members, one by one
 

@@ -12,9 +12,9 @@ use Rattle.flow_set.specs.laws.FlowLaws.{has-with_flow}
 use Rattle.flow_set.specs.inner.FlowSetView.{IsFlowSet}
 use Rattle.flow_set.specs.inner.Steps.{TriedFlows, stepped, taken_back, flows_before_step}
 use Rattle.flow_set.proofs.SubsetLaws.{IsFlowSet-nothing, IsFlowSet-with_flow}
-use Rattle.host_set.specs.HostSet.{HostNumbers}
-use Rattle.host_set.specs.inner.HostSet.{row_of}
-use Rattle.host_set.specs.laws.HostSetLaws.{contains-insert}
+use Rattle.flow_set.specs.HostSet.{HostNumbers}
+use Rattle.flow_set.specs.inner.HostSet.{row_of}
+use Rattle.flow_set.specs.laws.HostSetLaws.{contains-insert}
 use Rattle.reach_core.specs.Walks.{Joined, has_either}
 use Rattle.reach_core.specs.laws.WalkLaws.{HasPath, cases_path, path_of_walk}
 use Rattle.reach_core.specs.laws.ReachLaws.{Joined-within, Joined-back, Joined-nothing_new, Joined-below, Joined-with_flow, Touches}

@@ -10,8 +10,8 @@ use Rattle.flow_set.specs.FlowSet.{has, with_flow}
 use Rattle.flow_set.specs.laws.FlowLaws.{has-with_flow}
 use Rattle.flow_set.specs.inner.Steps.{TriedFlows, stepped, taken_back, flows_before_step}
 use Rattle.flow_set.proofs.SubsetLaws.{IsFlowSet-nothing, IsFlowSet-with_flow}
-use Rattle.host_set.specs.HostSet.{HostNumbers}
-use Rattle.host_set.specs.inner.HostSet.{row_of}
+use Rattle.flow_set.specs.HostSet.{HostNumbers}
+use Rattle.flow_set.specs.inner.HostSet.{row_of}
 use Rattle.reach_core.specs.Walks.{Reaches}
 use Rattle.reach_core.specs.laws.WalkLaws.{HasPath, cases_path}
 use Rattle.reach_core.specs.laws.ReachLaws.{Reaches-within, Reaches-nothing_new, Reaches-below}

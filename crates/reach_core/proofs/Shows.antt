@@ -3,8 +3,8 @@ use Rattle.std.proofs.Common.{◌≡◌, ℕ, ◌<◌, ◌↔◌, sym, ap, subst
 use Rattle.std.specs.Prelude.{IsTrue}
 use Rattle.std.specs.FinSet as set
 use Rattle.flow_set.specs.inner.Steps.{TriedFlows}
-use Rattle.host_set.specs.HostSet.{HostNumbers}
-use Rattle.host_set.specs.inner.HostSet.{row_of}
+use Rattle.flow_set.specs.HostSet.{HostNumbers}
+use Rattle.flow_set.specs.inner.HostSet.{row_of}
 use Rattle.reach_core.specs.inner.Rows.{HasReachRows, HasJoinRows}
 use Rattle.reach_core.specs.Walks.{Reaches, Joined}
 use Rattle.reach_core.specs.declared.stepped.SteppedRows.{SteppedRows}

@@ -5,9 +5,9 @@ use Rattle.std.specs.FinSet as fin
 use Rattle.std.specs.Cmp.{nat_cmp_total}
 use Rattle.std.proofs.lemmas.Bool.{cond_both, cond-false, cases_eq, cases_lt, both_ways}
 use Rattle.std.proofs.lemmas.List.{get_or-set_same, get_or-set_other}
-use Rattle.host_set.specs.HostSet.{HostNumbers}
-use Rattle.host_set.specs.inner.HostSet.{row_of}
-use Rattle.host_set.specs.inner.Calls.{HasNone, IsFirstFrom}
+use Rattle.flow_set.specs.HostSet.{HostNumbers}
+use Rattle.flow_set.specs.inner.HostSet.{row_of}
+use Rattle.flow_set.specs.inner.Calls.{HasNone, IsFirstFrom}
 use Rattle.reach_core.specs.inner.Rows.{AreBelow, IsWidened, FitsRows, row_before}
 use Rattle.reach_core.specs.declared.stepped.SteppedRows.{SteppedRows}
 

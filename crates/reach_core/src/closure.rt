@@ -10,8 +10,7 @@ ghost use Rattle.reach_core.specs.inner.Counting.{ReachesExactly};
 
 use crate::join_closure::JoinClosure;
 use crate::reach_closure::ReachClosure;
-use flow_set::{Flow, FlowSet};
-use host_set::HostSet;
+use flow_set::{Flow, FlowSet, HostSet};
 use std::alloc::{AllocError, Global};
 use std::marker::Model;
 

@@ -9,8 +9,7 @@ ghost use Rattle.flow_set.specs.inner.Steps.{untried, stepped, taken_back};
 ghost use Rattle.reach_core.specs.Walks.{Joined};
 
 use crate::stepped::SteppedRows;
-use flow_set::{Flow, FlowSet, FlowSteps};
-use host_set::HostSet;
+use flow_set::{Flow, FlowSet, FlowSteps, HostSet};
 use std::alloc::{AllocError, Global};
 use std::marker::Model;
 

@@ -11,6 +11,6 @@ mod stepped;
 mod tests;
 
 pub use closure::Closure;
-pub use host_set::HostSet;
+pub use flow_set::HostSet;
 pub use join_closure::JoinClosure;
 pub use reach_closure::ReachClosure;

@@ -10,8 +10,7 @@ ghost use Rattle.reach_core.specs.Walks.{Reaches};
 ghost use Rattle.reach_core.specs.inner.Counting.{ReachesExactly};
 
 use crate::stepped::SteppedRows;
-use flow_set::{Flow, FlowSet, FlowSteps};
-use host_set::HostSet;
+use flow_set::{Flow, FlowSet, FlowSteps, HostSet};
 use std::alloc::{AllocError, Global};
 use std::marker::Model;
 

@@ -2,9 +2,9 @@
 
 ghost use Rattle.std.specs.Prelude.{◌≡◌, ◌<◌, length, replicate, slice_set, IfOk};
 ghost use Rattle.std.specs.FinSet as set;
-ghost use Rattle.host_set.specs.inner.HostSet.{row_of};
+ghost use Rattle.flow_set.specs.inner.HostSet.{row_of};
 
-use host_set::HostSet;
+use flow_set::HostSet;
 use std::alloc::{AllocError, Global};
 use std::marker::Model;
 
@@ -18,7 +18,7 @@ impl Model for Rows {
     ghost use Rattle.std.specs.Prelude.{List};
     ghost use Rattle.std.specs.Coded.{coded_list, coded_ℕ};
     ghost use Rattle.std.specs.FinSet as set;
-    ghost use Rattle.host_set.specs.HostSet.{HostNumbers};
+    ghost use Rattle.flow_set.specs.HostSet.{HostNumbers};
 
     ghost Value = { List HostNumbers };
 

@@ -3,11 +3,11 @@
 
 ghost use Rattle.std.specs.Prelude.{◌≡◌, ◌<◌, ◌≤◌, length, replicate, IfOk};
 ghost use Rattle.std.specs.FinSet as set;
-ghost use Rattle.host_set.specs.inner.HostSet.{row_of};
+ghost use Rattle.flow_set.specs.inner.HostSet.{row_of};
 ghost use Rattle.reach_core.specs.inner.Rows.{AreBelow, FitsRows, IsWidened, IsBack};
 
 use crate::rows::Rows;
-use host_set::HostSet;
+use flow_set::HostSet;
 use std::alloc::{AllocError, Global};
 
 // The rows of a closure that grows in steps.

@@ -11,7 +11,7 @@ use Rattle.inv_any.specs.declared.any_trial.AnyTrial.{AnyTrial}
 use Rattle.permit_core.specs.Policy.{AllHold}
 use Rattle.permit_core.specs.inner.Denied.{IsDenied}
 use Rattle.report_core.specs.inner.Trying.{AreTriedOn}
-use Rattle.trial_core.specs.inner.Trials.{AreTried}
+use Rattle.permit_core.specs.inner.Trials.{AreTried}
 use Rattle.net_core.specs.Policies.{Policy, IsPolicyOf, MeetsAll, holds_on}
 
 -- a flow between the hosts is one in a set that was read

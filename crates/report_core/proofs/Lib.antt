@@ -5,4 +5,6 @@ mod Pushing
 pub mod ReportLaws
 pub mod ReportPromisesLaws
 mod RulingLemmas
+mod Steps
+pub mod TraceLaws
 mod Worked

@@ -6,7 +6,7 @@ use Rattle.std.proofs.lemmas.Bool.{both_ways, cases_lt}
 use Rattle.std.proofs.lemmas.Option.{get_or_from_slice_get, slice_get_within}
 use Rattle.net_core.specs.Network.{Network}
 use Rattle.flow_set.specs.EveryFlow.{every_flow}
-use Rattle.first_core.proofs.FirstLaws.{first_unique, first_offending}
+use Rattle.permit_core.proofs.FirstLaws.{first_unique, first_offending}
 use Rattle.flow_set.specs.Conditions.{IsMinimalOffending}
 use Rattle.flow_set.specs.FlowSet.{has, IsOrdered, without, with_flow}
 use Rattle.flow_set.specs.declared.flow.Flow.{Flow}

@@ -3,4 +3,5 @@ pub mod Names
 pub mod PolicyReport
 pub mod RefusalLine
 pub mod ReportPromises
+pub mod Trace
 pub mod inner

@@ -3,14 +3,17 @@
 #![tactic(auto)]
 
 mod check;
+mod line;
 mod names;
 mod policy;
 mod refusal;
 mod report;
 mod ruling;
+mod run;
 
 pub use check::check_report;
 pub use names::push_flow;
 pub use policy::policy_report;
 pub use refusal::refusal_line;
 pub use report::Report;
+pub use run::{trace_rules, trace_table};

@@ -16,9 +16,8 @@ use crate::ruling::Ruling;
 use flow_set::Flow;
 use inv_any::{AnyInv, AnyTrial};
 use net_core::{Description, Policy, policy_of};
-use permit_core::blame_by_steps;
+use permit_core::{blame_by_steps, trials_of};
 use std::alloc::{AllocError, Global};
-use trial_core::trials_of;
 
 /// For each flow between two hosts what becomes of it, and why.
 pub fn policy_report(alloc: Global, description: &Description) -> Result<Report, AllocError>

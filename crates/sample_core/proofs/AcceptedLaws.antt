@@ -1,14 +1,14 @@
 -- The table of the sample describes a network of n hosts, for every n up to the limit.
 use Rattle.std.proofs.Common.{◌≡◌, ℕ, suc, ◌≤◌, List, [], ◌∷◌, length, map, Ok, refl, sym, ap, subst, ◌∙◌, arith}
 use Rattle.desc_core.specs.WrittenNetwork.{network_of, services_in}
-use Rattle.desc_hosts.specs.WrittenHosts.{network_host, network_hosts}
+use Rattle.desc_form.specs.WrittenHosts.{network_host, network_hosts}
 use Rattle.desc_core.specs.Description.{described_by_table}
 use Rattle.desc_core.proofs.TableFactsLaws.{IsRight-described, described-IsRight}
 use Rattle.net_core.specs.Network.{Network}
 use Rattle.desc_core.specs.inner.TableFacts.{IsRight}
 use Rattle.desc_form.specs.Written.{Written, WrittenHost}
 use Rattle.desc_form.proofs.WrittenOnceLaws as once
-use Rattle.desc_hosts.specs.inner.HostFacts.{HasHosts}
+use Rattle.desc_form.specs.inner.HostFacts.{HasHosts}
 use Rattle.host_net.specs.Limits.{host_limit}
 use Rattle.sample_core.specs.SampleTable.{sample_hosts, sample_table}
 use Rattle.sample_core.specs.inner.SampleWritten.{sample_host, sample_written}

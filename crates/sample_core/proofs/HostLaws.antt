@@ -4,7 +4,7 @@ use Rattle.std.proofs.lemmas.List.Elements.{All-nil, All-from_recursion}
 use Rattle.std.specs.List.{list_all}
 use Rattle.desc_form.specs.Written.{WrittenInvariant}
 use Rattle.desc_form.specs.WrittenFlow.{WrittenFlow}
-use Rattle.desc_hosts.specs.inner.HostFacts.{AreApart, HasAddress, HasHosts, SaysExact, SaysPrefix, texts}
+use Rattle.desc_form.specs.inner.HostFacts.{AreApart, HasAddress, HasHosts, SaysExact, SaysPrefix, texts}
 use Rattle.host_net.specs.Limits.{host_limit}
 use Rattle.host_net.specs.Prefix.{address_text, covers, is_exact, octet, prefix_of, prefix_text, prefix_with}
 use Rattle.host_net.proofs.PrefixTextLaws.{prefix_of-read}

@@ -16,7 +16,7 @@ use Rattle.sample_core.specs.Sample.{AreCounts, AreForwarded, AreOffending, Coun
 use Rattle.sample_core.specs.SampleTable.{sample_table}
 use Rattle.sample_core.specs.declared.counts.TableLines.{TableLines}
 use Rattle.sample_core.specs.declared.counts.TableLines.TheVariants.{Lines, NeedsState, TooMany}
-use Rattle.trace_core.proofs.TraceLaws.{AnyPacket, any_known, chains_answer_once, runs_once}
+use Rattle.report_core.proofs.TraceLaws.{AnyPacket, any_known, chains_answer_once, runs_once}
 
 abbrev value_or : {A R : Type 0} → A → Result A R → A
 value_or d (Ok x) = x

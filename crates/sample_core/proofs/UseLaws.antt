@@ -17,7 +17,7 @@ use Rattle.attr_core.specs.declared.template.Template.TheVariants.{Blp, Partners
 use Rattle.desc_core.specs.UseConditions.{is_declared}
 use Rattle.desc_core.specs.inner.UseFacts.{HasUses, SaysAttributes}
 use Rattle.desc_core.specs.WrittenNetwork.{Known, given_by, known_of}
-use Rattle.desc_hosts.specs.WrittenHosts.{network_hosts}
+use Rattle.desc_form.specs.WrittenHosts.{network_hosts}
 use Rattle.host_net.specs.Host.{Host, host_named}
 use Rattle.host_net.specs.ServiceText.{service_of}
 use Rattle.host_net.specs.Services.{service_limit}

@@ -5,7 +5,7 @@ use Rattle.std.specs.Prelude.{IsTrue, IsFalse, All, IfOk}
 use Rattle.std.proofs.lemmas.Bool.{or_from}
 use Rattle.flow_set.specs.declared.flow.Flow.{Flow}
 use Rattle.flow_set.specs.Flow.{same_flow, back_of}
-use Rattle.first_core.specs.inner.Grown.{IsGrown}
+use Rattle.permit_core.specs.inner.Grown.{IsGrown}
 use Rattle.flow_set.specs.FlowSet.{SetOfFlows, has, IsOrdered, with_flow, with_back}
 use Rattle.flow_set.specs.inner.FlowSetView.{IsFlowSet}
 use Rattle.flow_set.specs.Conditions.{IsFirst}

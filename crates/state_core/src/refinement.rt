@@ -7,11 +7,10 @@ ghost use Rattle.flow_set.specs.Conditions.{IsFirst};
 ghost use Rattle.state_core.specs.Stateful.{is_strict, StrictHold, CompliesWithEach};
 
 use crate::answers::with_answers;
-use first_core::{Condition, first_subset};
 use flow_set::{Flow, FlowSet};
 use inv_law::{Invariant, Strategy};
+use permit_core::{Choice, Condition, chosen_still_hold, first_subset};
 use std::alloc::{AllocError, Global};
-use trial_core::{Choice, chosen_still_hold};
 
 /// The first flows of `p` whose answers break no strict invariant. Every invariant has to hold of
 /// `p`; then `p` with these answers complies with all of them.

@@ -5,14 +5,13 @@ ghost use Rattle.flow_set.specs.FlowSet.{with_back};
 ghost use Rattle.flow_set.specs.inner.FlowSetView.{IsFlowSet};
 ghost use Rattle.flow_set.specs.Conditions.{IsFirst};
 ghost use Rattle.state_core.specs.Stateful.{is_strict, StrictHold, CompliesWithEach};
-ghost use Rattle.trial_core.specs.inner.Trials.{AreTried};
+ghost use Rattle.permit_core.specs.inner.Trials.{AreTried};
 
 use crate::refinement::Strict;
-use first_core::{SteppedCondition, first_subset_by_steps};
 use flow_set::{Flow, FlowSet};
 use inv_law::Stepwise;
+use permit_core::{SteppedCondition, first_subset_by_steps, step_chosen, trials_of};
 use std::alloc::{AllocError, Global};
-use trial_core::{step_chosen, trials_of};
 
 /// What `refine` answers, from one trial of each invariant. They are made first, and after them only
 /// the answer takes memory.

@@ -3,7 +3,7 @@ use Rattle.std.proofs.Common.{◌≡◌, ℕ, ◌<◌, List, length, length-set,
 use Rattle.std.specs.FinSet as fin
 use Rattle.std.proofs.lemmas.List.FromFn.{get_or-map-range_with_len, length-map-range_with_len}
 use Rattle.std.proofs.lemmas.Option.{get_or_from_slice_get, slice_get-get_or}
-use Rattle.host_set.specs.HostSet.{HostNumbers}
+use Rattle.flow_set.specs.HostSet.{HostNumbers}
 use Rattle.inv_law.specs.inner.Template.{AllMayHave}
 use Rattle.inv_law.specs.laws.TemplateLaws.{AllMayHave-set}
 use Rattle.tmpl_reach.specs.NoReach.{AreOthers, no_reach, others}

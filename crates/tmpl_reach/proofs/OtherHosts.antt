@@ -3,9 +3,9 @@ use Rattle.std.proofs.Common.{◌≡◌, ◌≢◌, ℕ, not, nat_eq, ◌↔◌,
 use Rattle.std.specs.Prelude.{IsTrue}
 use Rattle.std.specs.FinSet as set
 use Rattle.std.proofs.lemmas.Bool.{and_from, and_parts, both_ways, eq-eqb, ne_eqb, not-true, not_from_false}
-use Rattle.host_set.specs.HostSet.{HostNumbers}
-use Rattle.host_set.specs.inner.Calls.{AreApart}
-use Rattle.host_set.specs.laws.HostSetLaws.{contains-remove}
+use Rattle.flow_set.specs.HostSet.{HostNumbers}
+use Rattle.flow_set.specs.inner.Calls.{AreApart}
+use Rattle.flow_set.specs.laws.HostSetLaws.{contains-remove}
 
 -- the row without its host is apart from the others exactly where none of them stands in it, the host apart
 pub apart_but : (row rest hosts : HostNumbers) (host : ℕ) (Stands : ℕ → Type 0) → ((j : ℕ) → IsTrue (set.contains row j) ↔ Stands j)

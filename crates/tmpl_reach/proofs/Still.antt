@@ -4,7 +4,7 @@ use Rattle.std.specs.Prelude.{IsTrue, slice_index}
 use Rattle.std.specs.FinSet as set
 use Rattle.std.proofs.lemmas.Bool.{both_ways, cases_Bool, cases_eq, cases_lt}
 use Rattle.flow_set.specs.declared.flow.Flow.{Flow}
-use Rattle.host_set.specs.HostSet.{HostNumbers}
+use Rattle.flow_set.specs.HostSet.{HostNumbers}
 use Rattle.reach_core.specs.Walks.{Reaches, Joined, has_either, ReachesAtMost}
 use Rattle.reach_core.specs.laws.WalkLaws.{HasWalk-append}
 use Rattle.reach_core.specs.laws.ReachLaws.{Joined-back}

@@ -3,7 +3,7 @@
 use Rattle.std.specs.Prelude.{◌≢◌, ℕ, not, ◌==◌, List, slice_index_or, IsTrue, codes}
 use Rattle.std.specs.FinSet as set
 use Rattle.flow_set.specs.declared.flow.Flow.{Flow}
-use Rattle.host_set.specs.HostSet.{HostNumbers, hosts_below}
+use Rattle.flow_set.specs.HostSet.{HostNumbers, hosts_below}
 use Rattle.inv_law.specs.Template.{Template, walk_template}
 use Rattle.inv_law.specs.declared.strategy.Strategy.TheVariants.{Access}
 use Rattle.reach_core.specs.Walks.{Reaches}

@@ -28,7 +28,7 @@ impl Model for NoReach {
     ghost use Rattle.std.specs.Prelude.{List};
     ghost use Rattle.std.specs.Coded.{coded_list, coded_ℕ};
     ghost use Rattle.std.specs.FinSet as set;
-    ghost use Rattle.host_set.specs.HostSet.{HostNumbers};
+    ghost use Rattle.flow_set.specs.HostSet.{HostNumbers};
     ghost use Rattle.tmpl_reach.specs.inner.NoReachView.{DenyOthers};
 
     ghost Value = { List HostNumbers };

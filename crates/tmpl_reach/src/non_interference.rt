@@ -14,8 +14,7 @@ ghost use Rattle.tmpl_reach.specs.laws.NonInterferenceLaws.{IsNonInterfering-dow
 ghost use Rattle.tmpl_reach.specs.declared.non_interference.Interference.TheVariants.{Interfering, Unrelated};
 
 use crate::trial::JoinTrial;
-use flow_set::{Flow, FlowSet};
-use host_set::HostSet;
+use flow_set::{Flow, FlowSet, HostSet};
 use inv_law::{Invariant, Stepwise, Strategy};
 use reach_core::JoinClosure;
 use std::alloc::{AllocError, Global};

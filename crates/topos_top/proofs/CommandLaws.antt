@@ -11,7 +11,7 @@ use Rattle.report_core.proofs.ReportLaws.{check_report_is_one, policy_report_is_
 use Rattle.report_core.proofs.ReportPromisesLaws.{tells_offences, tells_policy}
 use Rattle.sample_core.proofs.SampleLaws.{sample_is_one}
 use Rattle.sample_core.proofs.SamplePromisesLaws.{tells_sample}
-use Rattle.trace_core.proofs.TraceLaws.{any_known, chains_answer_once, table_answers_once, trace_is_one, tells_run}
+use Rattle.report_core.proofs.TraceLaws.{any_known, chains_answer_once, table_answers_once, trace_is_one, tells_run}
 use Rattle.topos_top.specs.Ask.{Ask, Check, Policy, Rules, Repair, Trace, Sample, Migrate, Audit, Edit, Local}
 use Rattle.topos_top.specs.Audit.{ForwardAlike, audit_job, rules_in}
 use Rattle.topos_top.specs.Check.{offences_when}
@@ -33,7 +33,7 @@ use Rattle.topos_top.proofs.JobLaws.{is_end, IsOwed, IsSettled, settled_writes}
 use Rattle.topos_top.proofs.KindLaws.{IsSound}
 use Rattle.topos_top.proofs.LocalLaws.{bar_is_one, local_is_one, local_keeps, specific_or_barred}
 use Rattle.topos_top.proofs.RulesLaws.{rules_are_one, never_both, hindrance_is_one, rules_keep}
-use Rattle.edit_text.specs.Edit.{Edit as Change}
+use Rattle.edit_core.specs.Edit.{Edit as Change}
 use Rattle.toml.specs.Data.{Members}
 
 -- what is owed of a course, with whatever is read along it

@@ -7,9 +7,9 @@ use Rattle.desc_core.proofs.NetworkLaws.{IsNetwork-described}
 use Rattle.desc_form.specs.Refusals.{refused}
 use Rattle.desc_form.specs.declared.refusal.Place.TheVariants.{Document as WholeDocument}
 use Rattle.desc_form.specs.declared.refusal.Why.TheVariants.{TooLong}
-use Rattle.edit_text.proofs.EditFaultLaws.{edits_settled}
-use Rattle.edit_text.specs.EditsText.{edits_text}
-use Rattle.edit_text.specs.declared.fault.EditsWhy.TheVariants.{TooLong as EditsTooLong}
+use Rattle.edit_core.proofs.EditFaultLaws.{edits_settled}
+use Rattle.edit_core.specs.EditsText.{edits_text}
+use Rattle.edit_core.specs.declared.text_fault.EditsWhy.TheVariants.{TooLong as EditsTooLong}
 use Rattle.ipt_read.proofs.FaultLaws.{one_fault, no_reading_with_fault}
 use Rattle.ipt_read.proofs.AgainLaws.{one_reading}
 use Rattle.ipt_read.specs.declared.fault.IptWhy.TheVariants.{TooLong as RulesTooLong}

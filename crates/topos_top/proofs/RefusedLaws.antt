@@ -4,8 +4,8 @@ use Rattle.desc_core.specs.Description.{described}
 use Rattle.desc_core.specs.declared.fault.DescFault.{DescFault}
 use Rattle.desc_core.specs.declared.fault.DescFault.TheVariants as desc
 use Rattle.desc_form.specs.declared.refusal.Refusal.{Refusal}
-use Rattle.edit_text.specs.EditsText.{edits_text}
-use Rattle.edit_text.specs.declared.fault.EditsWhy.{EditsWhy}
+use Rattle.edit_core.specs.EditsText.{edits_text}
+use Rattle.edit_core.specs.declared.text_fault.EditsWhy.{EditsWhy}
 use Rattle.ipt_read.specs.TextLines.{rules_text}
 use Rattle.ipt_read.specs.declared.fault.IptWhy.{IptWhy}
 use Rattle.ofp_read.specs.TextLines.{flows_text}

@@ -1,7 +1,7 @@
 -- The rules of a network are one text, and do what is promised of them; so is the line that says why there are none.
 use Rattle.std.proofs.Common.{◌≡◌, ℕ, List, sym, subst, ◌∙◌, ap}
 use Rattle.host_net.specs.inner.Site.{IsSite}
-use Rattle.first_core.proofs.FirstLaws.{first_with}
+use Rattle.permit_core.proofs.FirstLaws.{first_with}
 use Rattle.flow_set.specs.FlowSet.{SetOfFlows}
 use Rattle.flow_set.specs.declared.flow.Flow.{Flow}
 use Rattle.net_core.proofs.HeadlineLaws.{IsGreatestPolicy-from_policy, CompliesWithAll-from_policy}

@@ -4,7 +4,7 @@ use Rattle.desc_core.specs.Description.{described_by_table}
 use Rattle.edit_core.specs.Runs.{AreSummaries, after_edits}
 use Rattle.edit_core.specs.declared.fault.EditFault.{EditFault}
 use Rattle.edit_core.specs.declared.summary.Summary.{Summary}
-use Rattle.edit_text.specs.Edit.{Edit}
+use Rattle.edit_core.specs.Edit.{Edit}
 use Rattle.net_core.specs.Network.{Network}
 use Rattle.report_core.specs.PolicyReport.{IsPolicyReport}
 use Rattle.report_core.specs.ReportPromises.{TellsPolicy}

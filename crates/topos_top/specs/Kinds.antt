@@ -5,8 +5,8 @@ use Rattle.desc_core.specs.Migrated.{IsMigrated}
 use Rattle.desc_core.specs.declared.fault.TheConstants.{BYTE_LIMIT}
 use Rattle.desc_form.specs.declared.refusal.Refusal.{Refusal}
 use Rattle.edit_core.specs.Summaries.{IsStarted}
-use Rattle.edit_text.specs.Edit.{Edit}
-use Rattle.edit_text.specs.EditsText.{IsReading as IsReadingOfEdits, IsRefused as IsRefusedInEdits}
+use Rattle.edit_core.specs.Edit.{Edit}
+use Rattle.edit_core.specs.EditsText.{IsReading as IsReadingOfEdits, IsRefused as IsRefusedInEdits}
 use Rattle.ipt_read.specs.TextLines.{HasFault as HasFaultInRules}
 use Rattle.net_core.specs.Network.{Network}
 use Rattle.ofp_read.specs.TextLines.{HasFault as HasFaultInFlows}

@@ -3,8 +3,8 @@ use Rattle.std.specs.Prelude.{ℕ, List, ◌++◌, codes, decimal}
 use Rattle.desc_form.specs.Refusals.{name}
 use Rattle.edit_core.specs.declared.fault.EditFault.{EditFault}
 use Rattle.edit_core.specs.declared.fault.EditFault.TheVariants as edit
-use Rattle.edit_text.specs.declared.fault.EditsWhy.{EditsWhy}
-use Rattle.edit_text.specs.declared.fault.EditsWhy.TheVariants as edits
+use Rattle.edit_core.specs.declared.text_fault.EditsWhy.{EditsWhy}
+use Rattle.edit_core.specs.declared.text_fault.EditsWhy.TheVariants as edits
 use Rattle.ipt_read.specs.declared.fault.IptWhy.{IptWhy}
 use Rattle.ipt_read.specs.declared.fault.IptWhy.TheVariants as rules
 use Rattle.ofp_read.specs.declared.fault.OfpWhy.{OfpWhy}

@@ -3,7 +3,7 @@
 
 ghost use Rattle.std.specs.Prelude.{◌≡◌, ◌≤◌, ◌++◌, OnOk, IfOk, decimal, false, map};
 ghost use Rattle.edit_core.specs.inner.Kept.{table_of};
-ghost use Rattle.edit_text.specs.inner.EditView.{edit_view};
+ghost use Rattle.edit_core.specs.inner.EditView.{edit_view};
 ghost use Rattle.report_core.specs.PolicyReport.{IsPolicyReport};
 ghost use Rattle.topos_top.specs.Ask.{Edit};
 ghost use Rattle.topos_top.specs.Commands.{course_of};

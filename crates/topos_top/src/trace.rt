@@ -13,8 +13,8 @@ use crate::dialect::Dialect;
 use crate::reading::{read_events, read_rules, read_table};
 use crate::text::Text;
 use edge_io::Shelf;
+use report_core::{trace_rules, trace_table};
 use std::alloc::Global;
-use trace_core::{trace_rules, trace_table};
 
 /// The answer to the files of those names.
 pub fn reply<'a, H: Shelf>(

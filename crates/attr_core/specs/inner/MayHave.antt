@@ -5,7 +5,7 @@ use Rattle.std.specs.FinSet as set
 use Rattle.std.specs.List.{fold}
 use Rattle.std.specs.Str.{bytes_eq}
 use Rattle.host_net.specs.Host.{Host, host_named}
-use Rattle.host_set.specs.HostSet.{HostNumbers}
+use Rattle.flow_set.specs.HostSet.{HostNumbers}
 use Rattle.table_core.specs.Listing.{each}
 use Rattle.table_core.specs.Tables.{list_at, number_at, text_at}
 use Rattle.text_core.specs.Steps.{◌>>=◌}

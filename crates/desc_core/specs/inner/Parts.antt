@@ -18,7 +18,7 @@ use Rattle.desc_form.specs.declared.refusal.Why.TheVariants.{DuplicateFlow, Many
 use Rattle.text_core.specs.Firsts.{first_found, first_pair, numbered}
 use Rattle.text_core.specs.Steps.{◌>>=◌}
 use Rattle.desc_form.specs.Written.{Written}
-use Rattle.desc_hosts.specs.HostConditions.{host_conditions}
+use Rattle.desc_form.specs.HostConditions.{host_conditions}
 use Rattle.desc_form.specs.declared.refusal.Refusal.{Refusal}
 use Rattle.flow_set.specs.Flow.{same_flow}
 use Rattle.flow_set.specs.declared.flow.Flow.{Flow}

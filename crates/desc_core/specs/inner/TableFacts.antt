@@ -4,7 +4,7 @@ use Rattle.toml.specs.Data.{Members}
 use Rattle.desc_core.specs.inner.UseFacts.{HasUses}
 use Rattle.desc_form.specs.Written.{Written}
 use Rattle.desc_form.specs.inner.WrittenForm.{IsWritten}
-use Rattle.desc_hosts.specs.inner.HostFacts.{HasHosts}
+use Rattle.desc_form.specs.inner.HostFacts.{HasHosts}
 
 pub record IsRight (table : Members) : Type 0 where
   pub w : Written

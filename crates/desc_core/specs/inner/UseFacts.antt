@@ -9,7 +9,7 @@ use Rattle.desc_form.specs.WrittenTemplate.{WrittenTemplate}
 use Rattle.desc_core.specs.UseConditions.{is_declared}
 use Rattle.desc_core.specs.WrittenNetwork.{Known, known_of}
 use Rattle.desc_form.specs.Written.{Written, WrittenInvariant}
-use Rattle.desc_hosts.specs.WrittenHosts.{network_hosts}
+use Rattle.desc_form.specs.WrittenHosts.{network_hosts}
 use Rattle.host_net.specs.Host.{Host}
 use Rattle.host_net.specs.Services.{service_limit}
 use Rattle.host_net.specs.ServiceText.{service_of}

@@ -4,7 +4,7 @@ use Rattle.edit_core.specs.Edited.{after_edit, is_between, text_list, with_list}
 use Rattle.edit_core.specs.inner.FlowEdits.{IsAskedFlow, IsRightFlow}
 use Rattle.edit_core.specs.Summaries.{IsSummary}
 use Rattle.edit_core.specs.declared.summary.Summary.{Summary}
-use Rattle.edit_text.specs.Edit.{Change, Add, Remove}
+use Rattle.edit_core.specs.Edit.{Change, Add, Remove}
 use Rattle.flow_set.specs.declared.flow.Flow.{Flow}
 use Rattle.host_net.specs.Services.{services_of}
 use Rattle.net_core.specs.inner.Asking.{asking_for, not_asking_for}

@@ -6,8 +6,8 @@ use Rattle.flow_set.specs.declared.flow.Flow.{Flow}
 use Rattle.flow_set.specs.FlowSet.{has}
 use Rattle.flow_set.specs.inner.FlowSetView.{IsFlowSet}
 use Rattle.flow_set.specs.inner.Steps.{TriedFlows}
-use Rattle.host_set.specs.HostSet.{HostNumbers}
-use Rattle.host_set.specs.inner.HostSet.{row_of}
+use Rattle.flow_set.specs.HostSet.{HostNumbers}
+use Rattle.flow_set.specs.inner.HostSet.{row_of}
 use Rattle.reach_core.specs.declared.stepped.SteppedRows.{SteppedRows}
 use Rattle.reach_core.specs.Walks.{HasWalk, has_either}
 

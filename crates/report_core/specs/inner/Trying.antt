@@ -4,7 +4,7 @@ use Rattle.flow_set.specs.declared.flow.Flow.{Flow}
 use Rattle.inv_any.specs.inner.AnyTrials.{FitsAny, tried_of}
 use Rattle.inv_any.specs.declared.any_trial.AnyTrial.{AnyTrial}
 use Rattle.net_core.specs.Network.{Network}
-use Rattle.trial_core.specs.inner.Trials.{AreTried}
+use Rattle.permit_core.specs.inner.Trials.{AreTried}
 
 -- each invariant of the network has a trial, with these flows
 abbrev pub AreTriedOn : Network → List Flow → List AnyTrial → Type 0

@@ -1,7 +1,7 @@
 -- What is said of each host of a set. No clause of a public call speaks of it.
 use Rattle.std.specs.Prelude.{ℕ, IsTrue}
 use Rattle.std.specs.FinSet as set
-use Rattle.host_set.specs.HostSet.{HostNumbers}
+use Rattle.flow_set.specs.HostSet.{HostNumbers}
 
 abbrev pub EachOf : HostNumbers → (ℕ → Type 0) → Type 0
 EachOf hosts P = (host : ℕ) → IsTrue (set.contains hosts host) → P host

@@ -2,7 +2,7 @@
 use Rattle.std.specs.Prelude.{ℕ, ◌≢◌, ◌<◌, ◌≤◌, List, IsTrue}
 use Rattle.std.specs.FinSet as set
 use Rattle.flow_set.specs.declared.flow.Flow.{Flow}
-use Rattle.host_set.specs.HostSet.{HostNumbers}
+use Rattle.flow_set.specs.HostSet.{HostNumbers}
 use Rattle.reach_core.specs.Walks.{Joined}
 use Rattle.tmpl_reach.specs.NonInterference.{IsInterfering, IsApart}
 use Rattle.tmpl_reach.specs.declared.non_interference.Interference.{Interference}

@@ -3,7 +3,7 @@
 use Rattle.std.specs.Prelude.{◌≢◌, ℕ, List}
 use Rattle.std.specs.FinSet as set
 use Rattle.flow_set.specs.declared.flow.Flow.{Flow}
-use Rattle.host_set.specs.HostSet.{HostNumbers}
+use Rattle.flow_set.specs.HostSet.{HostNumbers}
 use Rattle.reach_core.specs.Walks.{Reaches}
 use Rattle.tmpl_reach.specs.NoReach.{ReachesNone, denied_by}
 

@@ -1,6 +1,6 @@
 -- How the denied hosts are kept: there are at most 256 hosts, and each denies others alone.
 use Rattle.std.specs.Prelude.{◌≤◌, List, length}
-use Rattle.host_set.specs.HostSet.{HostNumbers}
+use Rattle.flow_set.specs.HostSet.{HostNumbers}
 use Rattle.inv_law.specs.inner.Template.{AllMayHave}
 use Rattle.tmpl_reach.specs.NoReach.{no_reach}
 

@@ -2,7 +2,7 @@
 use Rattle.std.specs.List.{range_with_len}
 use Rattle.std.specs.Prelude.{ℕ, List, slice_set, length, map}
 use Rattle.flow_set.specs.declared.flow.Flow.{Flow}
-use Rattle.host_set.specs.HostSet.{HostNumbers}
+use Rattle.flow_set.specs.HostSet.{HostNumbers}
 use Rattle.tmpl_reach.specs.Dependability.{IsDependable}
 use Rattle.tmpl_reach.specs.NoReach.{others, ReachesNoDenied}
 use Rattle.tmpl_reach.specs.NonInterference.{IsNonInterfering}

@@ -14,8 +14,8 @@ use Rattle.inv_law.specs.inner.Invariants.{ResetMendsNothing}
 use Rattle.inv_law.specs.inner.Template.{MayHaveDefault}
 use Rattle.inv_law.specs.laws.TemplateLaws.{IsLawfulTemplate, lawful_walk}
 use Rattle.inv_law.specs.declared.strategy.Strategy.TheVariants.{Access}
-use Rattle.host_set.specs.HostSet.{HostNumbers}
-use Rattle.host_set.specs.laws.HostSetLaws.{contains-hosts_below, contains-insert, hosts_ext}
+use Rattle.flow_set.specs.HostSet.{HostNumbers}
+use Rattle.flow_set.specs.laws.HostSetLaws.{contains-hosts_below, contains-insert, hosts_ext}
 use Rattle.reach_core.specs.Walks.{Reaches}
 use Rattle.reach_core.specs.laws.ReachLaws.{Reaches-nothing_new, Reaches-elsewhere, Reaches-within, Reaches-none, Reaches-one, reaches_over}
 use Rattle.tmpl_reach.specs.NoReach.{AreOthers, no_reach, others, denied_by, ReachesNoDenied}

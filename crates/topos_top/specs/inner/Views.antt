@@ -4,9 +4,9 @@ use Rattle.std.specs.Result.{result_map_both}
 use Rattle.std.specs.Global.{Global}
 use Rattle.std.specs.declared.vec.Vec.{Vec}
 use Rattle.edit_core.specs.inner.Kept.{table_of}
-use Rattle.edit_text.specs.Edit as meant
-use Rattle.edit_text.specs.inner.EditView.{edit_view}
-use Rattle.edit_text.specs.declared.edit.Edit.{Edit as CodeEdit}
+use Rattle.edit_core.specs.Edit as meant
+use Rattle.edit_core.specs.inner.EditView.{edit_view}
+use Rattle.edit_core.specs.declared.edit.Edit.{Edit as CodeEdit}
 use Rattle.host_net.specs.Limits.{host_limit}
 use Rattle.ipt_rules.specs.Text.{text as rules_text}
 use Rattle.ofp_rules.specs.Text.{text as table_text}

@@ -2,7 +2,7 @@ use Rattle.std.proofs.Common.{◌<◌, List, length, map, drop, ◌+◌, option_
 use Rattle.std.specs.FinSet as set
 use Rattle.toml.specs.Data.{Data}
 use Rattle.toml.specs.View.{view}
-use Rattle.host_set.specs.HostSet.{HostNumbers}
+use Rattle.flow_set.specs.HostSet.{HostNumbers}
 use Rattle.table_core.specs.inner.Listing.{grow}
 use Rattle.tmpl_reach.specs.NoReach.{denied_by}
 use Rattle.attr_core.proofs.AtHost.{begun_at, grown_at, rest_from}

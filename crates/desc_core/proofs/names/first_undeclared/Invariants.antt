@@ -3,8 +3,8 @@ use Rattle.std.specs.List.{list_all}
 use Rattle.std.specs.Prelude.{find, is_none, IsTrue}
 use Rattle.desc_form.specs.Refusals.{refused_name}
 use Rattle.desc_form.specs.declared.refusal.Why.TheVariants.{UndeclaredHost}
-use Rattle.desc_hosts.specs.inner.MentionView.{mention_view}
-use Rattle.desc_hosts.specs.Mentions.{Mention}
+use Rattle.desc_form.specs.inner.MentionView.{mention_view}
+use Rattle.desc_form.specs.Mentions.{Mention}
 use Rattle.host_net.specs.Host.{host_named}
 use Rattle.text_core.specs.Name.{is_name}
 use Rattle.desc_core.proofs.names.first_undeclared.Given as goal

@@ -1,7 +1,7 @@
 use Rattle.std.proofs.Common.{subst}
 use Rattle.edit_core.proofs.InPlaceLemmas.{described_after, done_after}
 use Rattle.edit_core.specs.inner.InPlace.{IsOfFlow}
-use Rattle.edit_text.specs.inner.EditView.{change_view}
+use Rattle.edit_core.specs.inner.EditView.{change_view}
 use Rattle.net_core.specs.Network.{Network}
 use Rattle.toml.specs.View.{table_view}
 use Rattle.edit_core.proofs.in_place.edit_in_place.Goals as goal

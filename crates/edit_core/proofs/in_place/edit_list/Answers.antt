@@ -1,4 +1,4 @@
-use Rattle.edit_text.specs.inner.EditView.{change_view}
+use Rattle.edit_core.specs.inner.EditView.{change_view}
 use Rattle.edit_core.proofs.WrittenLemmas.{array_after}
 use Rattle.edit_core.proofs.in_place.edit_list.Goals as goal
 

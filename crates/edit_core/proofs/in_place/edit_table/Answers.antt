@@ -1,5 +1,5 @@
 use Rattle.std.proofs.Common.{codes, refl, ◌∙◌}
-use Rattle.edit_text.specs.inner.EditView.{change_view}
+use Rattle.edit_core.specs.inner.EditView.{change_view}
 use Rattle.edit_core.proofs.WrittenLemmas.{edited_in, found_here, written_same}
 use Rattle.edit_core.proofs.in_place.edit_table.Goals as goal
 

@@ -7,7 +7,7 @@ use Rattle.flow_set.specs.FlowSet.{with_flow}
 use Rattle.flow_set.specs.inner.Steps.{TriedFlows}
 use Rattle.permit_core.specs.Policy.{AllHold}
 use Rattle.permit_core.proofs.PolicyLaws.{denied_fails}
-use Rattle.trial_core.proofs.TrialLaws.{AreTried-asked}
+use Rattle.permit_core.proofs.TrialLaws.{AreTried-asked}
 use Rattle.permit_core.proofs.denial_by_steps.blame_by_steps.Goals as goal
 
 pub returns-then-not-holds_with-clause-least : goal.returns-then-not-holds_with-clause-least

@@ -1,7 +1,7 @@
 use Rattle.std.proofs.Common.{true, take}
 use Rattle.flow_set.specs.FlowSet.{with_flow}
 use Rattle.permit_core.specs.Policy.{AllHold}
-use Rattle.trial_core.specs.inner.Trials.{AreTried}
+use Rattle.permit_core.specs.inner.Trials.{AreTried}
 use Rattle.permit_core.proofs.denial_by_steps.blame_by_steps.Given as goal
 
 -- the invariants so far hold with the flow, and all trials have the flows of the policy

@@ -2,7 +2,7 @@ use Rattle.std.proofs.Common.{◌≡◌, sym, ◌∙◌, ap, subst}
 use Rattle.std.proofs.lemmas.Bool.{both_ways}
 use Rattle.flow_set.specs.FlowSet.{SetOfFlows, without}
 use Rattle.flow_set.specs.Conditions.{IsMinimalOffending}
-use Rattle.first_core.proofs.FirstLaws.{first_offending}
+use Rattle.permit_core.proofs.FirstLaws.{first_offending}
 use Rattle.permit_core.proofs.offence.offending.Goals as goal
 
 pub returns-clause-minimal : goal.returns-clause-minimal

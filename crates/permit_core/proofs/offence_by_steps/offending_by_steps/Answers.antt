@@ -2,7 +2,7 @@ use Rattle.std.proofs.Common.{◌≡◌, sym, ◌∙◌, ap, subst, refl}
 use Rattle.std.proofs.lemmas.Bool.{both_ways, false≢true}
 use Rattle.flow_set.specs.FlowSet.{SetOfFlows, without}
 use Rattle.flow_set.specs.Conditions.{IsMinimalOffending}
-use Rattle.first_core.proofs.FirstLaws.{first_offending}
+use Rattle.permit_core.proofs.FirstLaws.{first_offending}
 use Rattle.permit_core.proofs.Turning.{leaves_nothing, nothing_left}
 use Rattle.permit_core.proofs.offence_by_steps.offending_by_steps.Goals as goal
 

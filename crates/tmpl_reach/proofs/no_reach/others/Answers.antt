@@ -1,7 +1,7 @@
 use Rattle.std.proofs.Common.{◌≡◌, sym, ◌∙◌, ap, add-one, not, nat_eq, Bool, ℕ, suc, ◌+◌}
 use Rattle.std.specs.FinSet as set
 use Rattle.std.proofs.lemmas.Bool.{cond-true, cond-false, not_from_false, not_from_true, ne_eqb, eq-eqb}
-use Rattle.host_set.specs.HostSet.{HostNumbers, hosts_below}
+use Rattle.flow_set.specs.HostSet.{HostNumbers, hosts_below}
 use Rattle.tmpl_reach.proofs.no_reach.others.Goals as goal
 use Rattle.tmpl_reach.proofs.no_reach.others.Goals.{then-other-host, else-other-host}
 

@@ -1,5 +1,5 @@
 use Rattle.std.proofs.Common.{◌≡◌, not, nat_eq}
-use Rattle.host_set.specs.HostSet.{hosts_below}
+use Rattle.flow_set.specs.HostSet.{hosts_below}
 use Rattle.tmpl_reach.proofs.no_reach.others.Given as goal
 
 abbrev pub invariant-loop-other : goal.invariant-loop-other

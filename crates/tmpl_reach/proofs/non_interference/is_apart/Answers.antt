@@ -1,6 +1,6 @@
 use Rattle.std.proofs.Common.{ap, ◌∙◌}
 use Rattle.std.specs.FinSet as set
-use Rattle.host_set.specs.HostSet.{HostNumbers}
+use Rattle.flow_set.specs.HostSet.{HostNumbers}
 use Rattle.reach_core.specs.Walks.{Joined}
 use Rattle.tmpl_reach.proofs.OtherHosts.{apart_but}
 use Rattle.tmpl_reach.proofs.non_interference.is_apart.Goals as goal

@@ -1,6 +1,6 @@
 use Rattle.std.proofs.Common.{map}
 use Rattle.edit_core.specs.inner.Kept.{table_of}
-use Rattle.edit_text.specs.inner.EditView.{edit_view}
+use Rattle.edit_core.specs.inner.EditView.{edit_view}
 use Rattle.topos_top.proofs.EditLaws.{ends_refused}
 use Rattle.topos_top.proofs.edit.answer.Goals as goal
 

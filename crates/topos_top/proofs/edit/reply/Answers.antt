@@ -1,7 +1,7 @@
 use Rattle.std.proofs.Common.{inl, inr, refl, false, map, ap, ◌∙◌}
 use Rattle.std.proofs.lemmas.Result.{err_from_is_err_and}
 use Rattle.edit_core.specs.inner.Kept.{table_of}
-use Rattle.edit_text.specs.inner.EditView.{edit_view}
+use Rattle.edit_core.specs.inner.EditView.{edit_view}
 use Rattle.topos_top.specs.Course.{reads, ends}
 use Rattle.topos_top.specs.Edit.{edit_job}
 use Rattle.topos_top.specs.inner.Views.{reply_in, reply_view}

@@ -1,4 +1,4 @@
-use Rattle.edit_text.specs.inner.EditView.{change_view}
+use Rattle.edit_core.specs.inner.EditView.{change_view}
 use Rattle.edit_core.proofs.SessionLemmas.{done_now}
 use Rattle.edit_core.proofs.session.Session.apply.Goals as goal
 

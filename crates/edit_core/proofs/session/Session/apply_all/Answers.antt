@@ -1,5 +1,5 @@
 use Rattle.std.proofs.lemmas.Result.{err_from_is_err_and}
-use Rattle.edit_text.specs.inner.EditView.{edit_view}
+use Rattle.edit_core.specs.inner.EditView.{edit_view}
 use Rattle.std.proofs.Common.{map}
 use Rattle.edit_core.proofs.RunLemmas.{all_told, cause_now, pushed_one, rest_next, told_next}
 use Rattle.edit_core.specs.inner.Kept.{table_of}

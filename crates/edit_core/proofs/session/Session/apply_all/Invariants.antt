@@ -2,7 +2,7 @@ use Rattle.std.proofs.Common.{◌≡◌, ◌++◌, List, drop, map}
 use Rattle.edit_core.specs.inner.Kept.{table_of}
 use Rattle.edit_core.specs.Runs.{AreSummaries, after_edits}
 use Rattle.edit_core.specs.declared.summary.Summary.{Summary}
-use Rattle.edit_text.specs.inner.EditView.{edit_view}
+use Rattle.edit_core.specs.inner.EditView.{edit_view}
 use Rattle.edit_core.proofs.session.Session.apply_all.Given as goal
 
 -- what is left leads from here to where all lead from the start, and what is told of it goes behind what was told

@@ -1,5 +1,5 @@
 use Rattle.std.proofs.lemmas.Result.{err_from_is_err_and}
-use Rattle.edit_text.specs.inner.EditView.{change_view}
+use Rattle.edit_core.specs.inner.EditView.{change_view}
 use Rattle.edit_core.proofs.SessionLemmas.{applied_now, not_described_now, not_edited_now}
 use Rattle.edit_core.proofs.session.Session.apply_anew.Goals as goal
 

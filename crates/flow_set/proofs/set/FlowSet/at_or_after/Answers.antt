@@ -4,9 +4,9 @@ use Rattle.flow_set.specs.declared.flow.Flow.{Flow}
 use Rattle.flow_set.specs.FlowSet.{SetOfFlows}
 use Rattle.flow_set.specs.inner.FlowSetView.{first_from}
 use Rattle.flow_set.specs.inner.BitRows.{flows_of, IsAsFar}
-use Rattle.host_set.specs.HostSet.{HostNumbers}
-use Rattle.host_set.specs.inner.HostSet.{row_of}
-use Rattle.host_set.specs.inner.Calls.{HasNone, IsFirstFrom}
+use Rattle.flow_set.specs.HostSet.{HostNumbers}
+use Rattle.flow_set.specs.inner.HostSet.{row_of}
+use Rattle.flow_set.specs.inner.Calls.{HasNone, IsFirstFrom}
 use Rattle.flow_set.proofs.BitRows.{row_read}
 use Rattle.flow_set.proofs.Onward.{found_in_row, as_far_more, none_in_rows}
 use Rattle.flow_set.proofs.set.FlowSet.at_or_after.Goals as goal

@@ -2,7 +2,7 @@ use Rattle.std.proofs.Common.{◌≡◌, List, replicate, [], refl, sym, ◌∙�
 use Rattle.std.specs.FinSet as set
 use Rattle.flow_set.specs.inner.BitRows.{AreRows, flows_of}
 use Rattle.flow_set.specs.laws.FlowLaws.{set_ext}
-use Rattle.host_set.specs.HostSet.{HostNumbers}
+use Rattle.flow_set.specs.HostSet.{HostNumbers}
 use Rattle.flow_set.proofs.BitRows.{AreRows-nothing, flows_of-nothing}
 use Rattle.flow_set.proofs.set.FlowSet.empty.Goals as goal
 

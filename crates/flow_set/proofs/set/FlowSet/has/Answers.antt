@@ -2,7 +2,7 @@ use Rattle.std.proofs.Common.{◌<◌, length, sym, ◌∙◌, ap, arith}
 use Rattle.std.specs.FinSet as set
 use Rattle.std.proofs.lemmas.List.{get_or_read}
 use Rattle.flow_set.specs.FlowSet.{SetOfFlows, has}
-use Rattle.host_set.specs.HostSet.{HostNumbers}
+use Rattle.flow_set.specs.HostSet.{HostNumbers}
 use Rattle.flow_set.proofs.BitRows.{has-flows_of}
 use Rattle.flow_set.proofs.set.FlowSet.has.Goals as goal
 

@@ -6,8 +6,8 @@ use Rattle.flow_set.specs.FlowSet.{SetOfFlows, with_flow}
 use Rattle.flow_set.specs.inner.FlowSetView.{IsFlowSet}
 use Rattle.flow_set.specs.laws.FlowLaws.{set_ext, with_flow_there}
 use Rattle.flow_set.specs.inner.BitRows.{flows_of, AreRows}
-use Rattle.host_set.specs.HostSet.{HostNumbers}
-use Rattle.host_set.specs.inner.HostSet.{row_of}
+use Rattle.flow_set.specs.HostSet.{HostNumbers}
+use Rattle.flow_set.specs.inner.HostSet.{row_of}
 use Rattle.flow_set.proofs.BitRows.{IsFlowSet-flows_of, AreRows-insert, flows_of-insert, row_read}
 use Rattle.flow_set.proofs.set.FlowSet.insert.Goals as goal
 

@@ -2,8 +2,8 @@ use Rattle.std.proofs.Common.{◌≡◌, ◌+◌, length, suc, sym, ◌∙◌, a
 use Rattle.std.specs.FinSet as set
 use Rattle.flow_set.specs.inner.BitRows.{AreRows, rows_flows}
 use Rattle.flow_set.specs.FlowSet.{SetOfFlows}
-use Rattle.host_set.specs.HostSet.{HostNumbers}
-use Rattle.host_set.specs.inner.HostSet.{row_of}
+use Rattle.flow_set.specs.HostSet.{HostNumbers}
+use Rattle.flow_set.specs.inner.HostSet.{row_of}
 use Rattle.flow_set.proofs.BitRows.{length-rows_more, length-rows_none, row_read}
 use Rattle.flow_set.proofs.set.FlowSet.len.Goals as goal
 

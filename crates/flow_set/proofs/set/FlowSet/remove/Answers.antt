@@ -6,8 +6,8 @@ use Rattle.flow_set.specs.FlowSet.{SetOfFlows}
 use Rattle.flow_set.specs.inner.FlowSetView.{without_flow}
 use Rattle.flow_set.specs.laws.FlowLaws.{set_ext, without_flow_absent}
 use Rattle.flow_set.specs.inner.BitRows.{flows_of, AreRows}
-use Rattle.host_set.specs.HostSet.{HostNumbers}
-use Rattle.host_set.specs.inner.HostSet.{row_of}
+use Rattle.flow_set.specs.HostSet.{HostNumbers}
+use Rattle.flow_set.specs.inner.HostSet.{row_of}
 use Rattle.flow_set.proofs.BitRows.{AreRows-remove, flows_of-remove, row_read}
 use Rattle.flow_set.proofs.set.FlowSet.remove.Goals as goal
 

@@ -1,5 +1,5 @@
 use Rattle.std.proofs.Common.{true, refl}
-use Rattle.trial_core.proofs.TrialLaws.{ChosenHold-tried, AreTried-step}
+use Rattle.permit_core.proofs.TrialLaws.{ChosenHold-tried, AreTried-step}
 use Rattle.permit_core.proofs.policy_by_steps.TogetherSteppedCondition.goes_on.Goals as goal
 
 pub returns-clause-answer : goal.returns-clause-answer

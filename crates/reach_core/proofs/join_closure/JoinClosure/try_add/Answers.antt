@@ -1,7 +1,7 @@
 use Rattle.std.proofs.Common.{◌<◌, ◌∙◌, sym, subst, arith}
 use Rattle.flow_set.specs.Flow.{IsFlow}
 use Rattle.flow_set.specs.inner.Steps.{TriedFlows}
-use Rattle.host_set.specs.inner.HostSet.{row_of}
+use Rattle.flow_set.specs.inner.HostSet.{row_of}
 use Rattle.reach_core.proofs.JoinRows.{touched, touched_below, joined_by_is, joined_already, HasJoinRows-as, HasJoinRows-kept, HasJoinRows-widened}
 use Rattle.reach_core.proofs.join_closure.JoinClosure.try_add.Goals as goal
 use Rattle.reach_core.proofs.join_closure.JoinClosure.try_add.Goals.{then-has, else-has}

@@ -1,7 +1,7 @@
 use Rattle.std.proofs.Common.{◌<◌, sym, subst, arith}
 use Rattle.flow_set.specs.Flow.{IsFlow}
 use Rattle.flow_set.specs.inner.Steps.{TriedFlows}
-use Rattle.host_set.specs.inner.HostSet.{row_of}
+use Rattle.flow_set.specs.inner.HostSet.{row_of}
 use Rattle.reach_core.proofs.ReachRows.{ends, senders_below, beyond_below, with_host, reached_already, HasReachRows-as, HasReachRows-kept, HasReachRows-widened}
 use Rattle.reach_core.proofs.reach_closure.ReachClosure.try_add.Goals as goal
 use Rattle.reach_core.proofs.reach_closure.ReachClosure.try_add.Goals.{then-has, else-has}

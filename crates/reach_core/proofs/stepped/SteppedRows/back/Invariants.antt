@@ -1,5 +1,5 @@
 use Rattle.std.proofs.Common.{◌≡◌, ◌-◌}
-use Rattle.host_set.specs.inner.HostSet.{row_of}
+use Rattle.flow_set.specs.inner.HostSet.{row_of}
 use Rattle.reach_core.proofs.Widened.{AreDone}
 use Rattle.reach_core.proofs.stepped.SteppedRows.back.Given as goal
 

@@ -1,6 +1,6 @@
 use Rattle.std.proofs.Common.{◌-◌}
 use Rattle.std.specs.FinSet as set
-use Rattle.host_set.specs.inner.HostSet.{row_of}
+use Rattle.flow_set.specs.inner.HostSet.{row_of}
 use Rattle.reach_core.proofs.Widened.{AreDone}
 use Rattle.reach_core.proofs.stepped.SteppedRows.widen.Given as goal
 

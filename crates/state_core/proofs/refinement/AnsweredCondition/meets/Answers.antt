@@ -1,6 +1,6 @@
 use Rattle.std.proofs.Common.{◌≡◌, ℕ, List, refl, sym, ◌∙◌, ap, subst}
 use Rattle.std.specs.Prelude.{IsTrue, IsFalse}
-use Rattle.first_core.specs.inner.Grown.{IsGrown}
+use Rattle.permit_core.specs.inner.Grown.{IsGrown}
 use Rattle.flow_set.specs.declared.flow.Flow.{Flow}
 use Rattle.flow_set.specs.Flow.{back_of}
 use Rattle.flow_set.specs.FlowSet.{has, with_back}

@@ -1,8 +1,8 @@
 use Rattle.std.proofs.Common.{◌≡◌, Bool, List, cond, ◌∙◌, ap, sym, subst}
 use Rattle.flow_set.specs.declared.flow.Flow.{Flow}
 use Rattle.flow_set.specs.FlowSet.{with_flow, with_back}
-use Rattle.trial_core.specs.inner.Trials.{AreTried, ChosenHold}
-use Rattle.trial_core.proofs.TrialLaws.{ChosenHold-tried, AreTried-step}
+use Rattle.permit_core.specs.inner.Trials.{AreTried, ChosenHold}
+use Rattle.permit_core.proofs.TrialLaws.{ChosenHold-tried, AreTried-step}
 use Rattle.state_core.specs.Stateful.{is_strict}
 use Rattle.state_core.proofs.Refining.{answer_of_more, answers_after}
 use Rattle.state_core.proofs.refinement_by_steps.AnsweredSteppedCondition.goes_on.Goals as goal

@@ -1,7 +1,7 @@
 use Rattle.std.proofs.Common.{◌≡◌, List, map, subst, ◌∷◌, [], ◌++◌, ap, sym, ◌∙◌, arith, zero-add, length}
 use Rattle.std.proofs.lemmas.List.FromFn.{map-range_with_len_more, length-map-range_with_len}
 use Rattle.std.specs.List.{range_with_len}
-use Rattle.host_set.specs.HostSet.{HostNumbers}
+use Rattle.flow_set.specs.HostSet.{HostNumbers}
 use Rattle.inv_law.specs.inner.Template.{AllMayHave}
 use Rattle.tmpl_reach.specs.NoReach.{no_reach, others}
 use Rattle.tmpl_reach.proofs.DeniedHosts.{AllMayHave-all_others}

@@ -1,8 +1,8 @@
 use Rattle.std.proofs.Common.{◌≡◌, ◌<◌, List, length, ◌∙◌, sym, ap, arith, subst}
 use Rattle.std.proofs.lemmas.List.{get_or_read}
 use Rattle.std.specs.FinSet as set
-use Rattle.host_set.specs.HostSet.{HostNumbers}
-use Rattle.host_set.specs.inner.Calls.{AreApart}
+use Rattle.flow_set.specs.HostSet.{HostNumbers}
+use Rattle.flow_set.specs.inner.Calls.{AreApart}
 use Rattle.reach_core.specs.Walks.{Reaches}
 use Rattle.tmpl_reach.specs.NoReach.{denied_by}
 use Rattle.tmpl_reach.proofs.OtherHosts.{apart_but}

@@ -2,8 +2,8 @@ use Rattle.std.proofs.Common.{◌≡◌, ℕ, nat_cmp, nat_eq, ◌||◌, ◌+◌
 use Rattle.std.specs.Prelude.{IsTrue}
 use Rattle.std.proofs.lemmas.Bool.{both_ways, cases_eq, eq-eqb, eqb-true, false≢true, or_cases, or_left, or_right}
 use Rattle.std.specs.FinSet as set
-use Rattle.host_set.specs.HostSet.{HostNumbers}
-use Rattle.host_set.specs.laws.HostSetLaws.{contains-insert}
+use Rattle.flow_set.specs.HostSet.{HostNumbers}
+use Rattle.flow_set.specs.laws.HostSetLaws.{contains-insert}
 use Rattle.tmpl_reach.specs.NonInterference.{IsInterfering}
 use Rattle.tmpl_reach.proofs.non_interference.NonInterference.interfering.Goals as goal
 use Rattle.tmpl_reach.proofs.non_interference.NonInterference.interfering.Goals.{then-interferes, else-interferes}

@@ -1,0 +1,28 @@
+-- What a list that is longer than its limit is refused for, whatever the limit and whatever else stands in the description.
+use Rattle.std.proofs.Common.{◌≡◌, ℕ, ◌+◌, ◌<◌, ◌≤◌, List, length, Some, refl}
+use Rattle.std.proofs.lemmas.Bool.{lt-ltb, le-ltb}
+use Rattle.std.specs.Prelude.{slice_get}
+use Rattle.desc_form.specs.Refusals.{refused, refused_item}
+use Rattle.desc_form.specs.Written.{WrittenHost, WrittenInvariant}
+use Rattle.desc_form.specs.WrittenTemplate.{WrittenTemplate}
+use Rattle.desc_form.specs.declared.refusal.Place.{Place}
+use Rattle.desc_form.specs.declared.refusal.Place.TheVariants.{Host}
+use Rattle.desc_form.specs.declared.refusal.Why.TheVariants.{TooMany}
+use Rattle.desc_form.specs.HostConditions.{Entry, beyond, too_many}
+use Rattle.host_net.specs.Limits.{host_limit, prefix_limit}
+
+-- a longer list is refused at the first element beyond the limit
+pub beyond_longer : {A : Type 0} (limit : ℕ) (at_place : ℕ → Place) (xs : List A)
+    → limit < length xs → beyond limit at_place xs ≡ Some (refused TooMany (at_place (limit + 1)))
+beyond_longer limit at_place xs longer = let above = lt-ltb _ _ longer in rw above refl
+
+pub many_hosts : (hs : List WrittenHost) (es : List Entry) (is : List WrittenInvariant) (ts : List WrittenTemplate)
+    → host_limit < length hs → too_many hs es is ts ≡ Some (refused TooMany (Host (host_limit + 1)))
+unfolding too_many
+many_hosts hs es is ts longer = let above = lt-ltb _ _ longer in rw above refl
+
+-- with no host too many, it is the entry behind the last that there may be
+pub many_prefixes : (hs : List WrittenHost) (es : List Entry) (is : List WrittenInvariant) (ts : List WrittenTemplate) (e : Entry)
+    → length hs ≤ host_limit → slice_get es prefix_limit ≡ Some e → too_many hs es is ts ≡ Some (refused_item TooMany (Host e.host) e.item)
+unfolding too_many
+many_prefixes hs es is ts e few there = let within = le-ltb host_limit (length hs) few in rw (within, there) refl

@@ -1,0 +1,128 @@
+-- The refusals 6 to 14 of a description: its version, its size, its names, its hosts and their prefixes (the
+-- description's format, docs/FORMATS.md).
+use Rattle.std.specs.Prelude.{ℕ, ◌+◌, ℤ, pos, Bool, false, not, ◌&&◌, ◌||◌, nat_lt, List, [], ◌∷◌, length, map, flat_map, find, slice_get, Option, option_map}
+use Rattle.std.specs.Option.{option_map_or}
+use Rattle.std.specs.Ordering.{int_eq}
+use Rattle.std.specs.Str.{bytes_eq}
+use Rattle.desc_form.specs.declared.refusal.Place.{Place}
+use Rattle.desc_form.specs.declared.refusal.Place.TheVariants.{Document, Host, Invariant, Template}
+use Rattle.desc_form.specs.declared.refusal.Refusal.{Refusal}
+use Rattle.desc_form.specs.declared.refusal.Why.TheVariants.{BadVersion, TooMany, BadName, DuplicateHost, BadPrefix, HostBits, NoAddress, TwoRests, Overlap}
+use Rattle.text_core.specs.Firsts.{where_holds, first_of, numbered, Numbered, first_pair}
+use Rattle.desc_form.specs.Mentions.{Mention, all_names}
+use Rattle.desc_form.specs.Refusals.{refused, refused_item, refused_by, refused_item_by}
+use Rattle.desc_form.specs.Written.{Written, WrittenHost, WrittenInvariant}
+use Rattle.desc_form.specs.WrittenTemplate.{WrittenTemplate}
+use Rattle.text_core.specs.Name.{is_name}
+use Rattle.host_net.specs.Host.{lacks_address}
+use Rattle.host_net.specs.Limits.{host_limit, prefix_limit, invariant_limit}
+use Rattle.host_net.specs.Prefix.{is_exact, meets, prefix_of}
+use Rattle.host_net.specs.declared.prefix.Prefix.{Prefix}
+
+-- an entry of the list of prefixes of a host: its number there, and the prefix that it says, if it says one
+pub record Entry : Type 0 where
+  pub host : ℕ
+  pub item : ℕ
+  pub prefix : Option Prefix
+
+abbrev pub entry_at : ℕ → Numbered (List ℕ) → Entry
+entry_at host e = record { host = host; item = e.number; prefix = prefix_of e.what }
+
+abbrev pub entries_at : ℕ → List (List ℕ) → List Entry
+entries_at host texts = map (entry_at host) (numbered texts)
+
+abbrev pub entries_of : Numbered WrittenHost → List Entry
+entries_of h = entries_at h.number h.what.at
+
+-- the entries of all hosts, by host and item
+unfoldable pub all_entries : Written → List Entry
+all_entries w = flat_map entries_of (numbered w.hosts)
+
+-- the versions that there are
+abbrev pub is_version : ℤ → Bool
+is_version version = int_eq version (pos 1) || int_eq version (pos 2)
+
+-- 6: the version is neither 1 nor 2
+unfoldable pub bad_version : ℤ → Option Refusal
+bad_version version = where_holds (not (is_version version)) (refused BadVersion Document)
+
+-- how many templates may be declared
+abbrev pub template_limit : ℕ
+template_limit = 16
+
+-- a list has more elements than a limit: the first beyond it
+abbrev pub beyond : {A : Type 0} → ℕ → (ℕ → Place) → List A → Option Refusal
+beyond limit place xs = where_holds (nat_lt limit (length xs)) (refused TooMany (place (limit + 1)))
+
+-- all hosts together have more prefixes than a limit: the first beyond it
+abbrev pub too_many_prefixes : List Entry → Option Refusal
+too_many_prefixes es = option_map (λ e. refused_item TooMany (Host e.host) e.item) (slice_get es prefix_limit)
+
+-- 7: there are too many hosts, then too many prefixes, then too many invariants, then too many templates
+unfoldable pub too_many : List WrittenHost → List Entry → List WrittenInvariant → List WrittenTemplate → Option Refusal
+too_many hs es invariants templates =
+    first_of
+    (beyond host_limit Host hs
+    ∷ too_many_prefixes es
+    ∷ beyond invariant_limit Invariant invariants
+    ∷ beyond template_limit Template templates
+    ∷ [])
+
+-- 8: a text in the place of a name is no legal name
+unfoldable pub bad_name : List Mention → Option Refusal
+bad_name names = option_map (λ m. refused_item BadName m.place m.item) (find (λ m. not (is_name m.name)) names)
+
+-- 9: a host has the name of an earlier one
+unfoldable pub duplicate_host : List WrittenHost → Option Refusal
+duplicate_host hs =
+    option_map (λ p. refused_by DuplicateHost (Host p.later.number) p.earlier.number)
+    (first_pair (λ h g. bytes_eq h.what.name g.what.name) (numbered hs))
+
+-- the entry is a prefix of at least one bit
+abbrev pub is_prefix : Option Prefix → Bool
+is_prefix said = option_map_or (λ p. nat_lt 0 p.len) said false
+
+-- 10: an entry is no prefix, or one of length 0
+unfoldable pub bad_prefix : List Entry → Option Refusal
+bad_prefix es = option_map (λ e. refused_item BadPrefix (Host e.host) e.item) (find (λ e. not (is_prefix e.prefix)) es)
+
+-- bits after the length of the entry's prefix are set
+abbrev pub has_host_bits : Option Prefix → Bool
+has_host_bits said = option_map_or (λ p. not (is_exact p)) said false
+
+-- 11: an entry has bits after the length
+unfoldable pub host_bits : List Entry → Option Refusal
+host_bits es = option_map (λ e. refused_item HostBits (Host e.host) e.item) (find (λ e. has_host_bits e.prefix) es)
+
+-- 12: a host has neither a prefix nor the rest mark, or it has both
+unfoldable pub no_address : List WrittenHost → Option Refusal
+no_address hs = option_map (λ h. refused NoAddress (Host h.number)) (find (λ h. lacks_address h.what.at h.what.rest) (numbered hs))
+
+-- 13: a second host has the rest mark
+unfoldable pub two_rests : List WrittenHost → Option Refusal
+two_rests hs =
+    option_map (λ p. refused_by TwoRests (Host p.later.number) p.earlier.number)
+    (first_pair (λ h g. h.what.rest && g.what.rest) (numbered hs))
+
+-- the prefixes that two entries say have an address in common
+abbrev pub entries_meet : Option Prefix → Option Prefix → Bool
+entries_meet said other = option_map_or (λ p. option_map_or (meets p) other false) said false
+
+-- 14: a prefix has an address in common with an earlier one, by host and item
+unfoldable pub overlap : List Entry → Option Refusal
+overlap es =
+    option_map (λ p. refused_item_by Overlap (Host p.later.host) p.later.item p.earlier.host)
+    (first_pair (λ e f. entries_meet e.prefix f.prefix) es)
+
+-- 10 to 14
+abbrev pub address_conditions : List WrittenHost → List Entry → List (Option Refusal)
+address_conditions hs es = bad_prefix es ∷ host_bits es ∷ no_address hs ∷ two_rests hs ∷ overlap es ∷ []
+
+-- the conditions in the order of their numbers, 6 to 14
+unfoldable pub host_conditions : Written → List (Option Refusal)
+host_conditions w =
+    bad_version w.version
+    ∷ too_many w.hosts (all_entries w) w.invariants w.templates
+    ∷ bad_name (all_names w)
+    ∷ duplicate_host w.hosts
+    ∷ address_conditions w.hosts (all_entries w)

@@ -1,0 +1,72 @@
+//! The refusals for a host or a prefix that an earlier one bars.
+ghost use Rattle.std.specs.Prelude.{◌≡◌, map, option_map};
+ghost use Rattle.desc_form.specs.declared.refusal.Place.TheVariants.{Host};
+ghost use Rattle.desc_form.specs.declared.refusal.Why.TheVariants.{Overlap};
+ghost use Rattle.desc_form.specs.Refusals.{refused_by, refused_item_by};
+ghost use Rattle.text_core.specs.inner.FirstsView.{pair_seen};
+ghost use Rattle.desc_form.specs.inner.WrittenView.{host_view};
+ghost use Rattle.desc_form.specs.inner.EntryView.{entry_view};
+ghost use Rattle.desc_form.specs.HostConditions.{duplicate_host, entries_meet, overlap, two_rests};
+
+use crate::entries::Entry;
+use crate::refusal::{Place, Refusal, Why};
+use crate::written::WrittenHost;
+use host_net::Prefix;
+use text_core::{Pair, first_pair};
+
+/// A host has the name of an earlier one.
+pub(crate) fn duplicate_host(hosts: &[WrittenHost<'_>]) -> Option<Refusal>
+    ensures { result ≡ duplicate_host (map host_view hosts.now) }
+{
+    let pair = first_pair(hosts, |later, earlier| later.name == earlier.name);
+    barred_host(Why::DuplicateHost, pair)
+}
+
+/// A second host has the rest mark.
+pub(crate) fn two_rests(hosts: &[WrittenHost<'_>]) -> Option<Refusal>
+    ensures { result ≡ two_rests (map host_view hosts.now) }
+{
+    let pair = first_pair(hosts, |later, earlier| later.rest && earlier.rest);
+    barred_host(Why::TwoRests, pair)
+}
+
+/// The refusal for a host that an earlier one bars.
+fn barred_host(why: Why, pair: Option<Pair<'_, WrittenHost<'_>>>) -> Option<Refusal>
+    ensures { result ≡ option_map (λ p. refused_by why (Host p.later.number) p.earlier.number) (option_map pair_seen pair.entry) }
+{
+    let pair = pair?;
+    let refusal = Refusal::at(why, Place::Host(pair.later.number));
+    Some(refusal.with_other(pair.earlier.number))
+}
+
+/// A prefix has an address in common with an earlier one.
+pub(crate) fn overlap(entries: &[Entry]) -> Option<Refusal>
+    ensures { result ≡ overlap (map entry_view entries.now) }
+{
+    let pair = first_pair(
+        entries,
+        |later, earlier| entries_meet(later.prefix, earlier.prefix),
+    );
+    met_entry(pair)
+}
+
+/// The refusal for a prefix that an earlier one meets.
+fn met_entry(pair: Option<Pair<'_, Entry>>) -> Option<Refusal>
+    ensures { result ≡ option_map (λ p. refused_item_by Overlap (Host p.later.what.host) p.later.what.item p.earlier.what.host)
+        (option_map pair_seen pair.entry) }
+{
+    let pair = pair?;
+    let (later, earlier) = (pair.later.what, pair.earlier.what);
+    let refusal = Refusal::at(Why::Overlap, Place::Host(later.host));
+    Some(refusal.with_item(later.item).with_other(earlier.host))
+}
+
+/// Whether the prefixes that two entries say have an address in common.
+fn entries_meet(said: Option<Prefix>, other: Option<Prefix>) -> bool
+    ensures { result ≡ entries_meet said other }
+{
+    match (said, other) {
+        (Some(prefix), Some(other)) => prefix.meets(&other),
+        _ => false,
+    }
+}

@@ -1,0 +1,119 @@
+//! The entries of the lists of prefixes, by host and item, and the refusals that look at them alone.
+ghost use Rattle.std.specs.Prelude.{◌≡◌, ◌++◌, flat_map, map, IfOk, OnOk};
+ghost use Rattle.desc_form.specs.declared.refusal.Place.TheVariants.{Host};
+ghost use Rattle.text_core.specs.Firsts.{numbered};
+ghost use Rattle.desc_form.specs.HostConditions.{bad_prefix, entries_at, entries_of, entry_at, has_host_bits, host_bits, is_prefix, too_many_prefixes};
+ghost use Rattle.desc_form.specs.Refusals.{refused_item};
+ghost use Rattle.desc_form.specs.inner.WrittenView.{host_view};
+ghost use Rattle.desc_form.specs.inner.EntryView.{entry_view};
+
+use crate::refusal::{Place, Refusal, Why};
+use crate::written::WrittenHost;
+use host_net::{PREFIX_LIMIT, Prefix, read_prefix};
+use std::alloc::{AllocError, Global};
+
+/// An entry of the list of prefixes of a host, by the number of the host and its own there, from 1,
+/// and the prefix that it says. It is read once, and each condition looks at what was read.
+#[derive(Clone, Copy)]
+pub(crate) struct Entry {
+    pub(crate) host: u64,
+    pub(crate) item: u64,
+    pub(crate) prefix: Option<Prefix>,
+}
+
+impl Entry {
+    /// The refusal that tells the entry.
+    fn refused(&self, why: Why) -> Refusal
+        ensures { result ≡ refused_item why (Host self.now.host) self.now.item }
+    {
+        Refusal::at(why, Place::Host(self.host)).with_item(self.item)
+    }
+}
+
+/// The entries of all hosts, by host and item.
+pub(crate) fn all_entries(
+    alloc: Global,
+    hosts: &[WrittenHost<'_>],
+) -> Result<Vec<Entry>, AllocError>
+    ensures { IfOk result (λ entries. map entry_view entries.items ≡ flat_map entries_of (numbered (map host_view hosts.now))) }
+{
+    let mut entries = Vec::new(alloc);
+    for (index, host) in hosts.iter().enumerate() {
+        push_entries(&mut entries, index as u64 + 1, &host.at)?;
+    }
+    Ok(entries)
+}
+
+fn push_entries(entries: &mut Vec<Entry>, host: u64, texts: &[&str]) -> Result<(), AllocError>
+    ensures { OnOk result (map entry_view entries.new.items ≡ map entry_view entries.old.items
+        ++ entries_at host (map (λ text. text.now) texts.now)) }
+{
+    for (index, text) in texts.iter().enumerate() {
+        entries.push(read_entry(host, index as u64 + 1, text))?;
+    }
+    Ok(())
+}
+
+fn read_entry(host: u64, item: u64, text: &str) -> Entry
+    ensures { entry_view result ≡ entry_at host (record { number = item; what = text.now }) }
+{
+    Entry {
+        host,
+        item,
+        prefix: read_prefix(text.as_bytes()),
+    }
+}
+
+/// All hosts together have more prefixes than they may have.
+pub(crate) fn too_many_prefixes(entries: &[Entry]) -> Option<Refusal>
+    ensures { result ≡ too_many_prefixes (map entry_view entries.now) }
+{
+    let entry = entries.get(PREFIX_LIMIT)?;
+    Some(entry.refused(Why::TooMany))
+}
+
+/// An entry is no prefix, or one of length 0.
+#[tactic(auto, unfolding(crate::specs::HostConditions::bad_prefix))]
+pub(crate) fn bad_prefix(entries: &[Entry]) -> Option<Refusal>
+    ensures { result ≡ bad_prefix (map entry_view entries.now) }
+{
+    for entry in entries {
+        if !is_prefix(entry.prefix) {
+            return Some(entry.refused(Why::BadPrefix));
+        }
+    }
+    None
+}
+
+/// An entry has bits after its length.
+#[tactic(auto, unfolding(crate::specs::HostConditions::host_bits))]
+pub(crate) fn host_bits(entries: &[Entry]) -> Option<Refusal>
+    ensures { result ≡ host_bits (map entry_view entries.now) }
+{
+    for entry in entries {
+        if has_host_bits(entry.prefix) {
+            return Some(entry.refused(Why::HostBits));
+        }
+    }
+    None
+}
+
+/// Whether the entry is a prefix of at least one bit.
+fn is_prefix(said: Option<Prefix>) -> bool
+    ensures { result ≡ is_prefix said }
+{
+    match said {
+        Some(prefix) => prefix.len() > 0,
+        None => false,
+    }
+}
+
+/// Whether the entry is a prefix with bits after its length.
+fn has_host_bits(said: Option<Prefix>) -> bool
+    ensures { result ≡ has_host_bits said }
+{
+    match said {
+        Some(prefix) => !prefix.exact(),
+        None => false,
+    }
+}

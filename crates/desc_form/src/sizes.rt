@@ -1,0 +1,60 @@
+//! The refusals for a description with too many hosts, prefixes, invariants or templates.
+ghost use Rattle.std.specs.Prelude.{◌≡◌, length, map};
+ghost use Rattle.desc_form.specs.inner.WrittenView.{host_view, invariant_view, template_view, written_view};
+ghost use Rattle.desc_form.specs.declared.refusal.Place.TheVariants.{Host, Invariant, Template};
+ghost use Rattle.desc_form.specs.inner.EntryView.{entry_view};
+ghost use Rattle.desc_form.specs.HostConditions.{beyond, template_limit, too_many};
+ghost use Rattle.host_net.specs.Limits.{invariant_limit, host_limit};
+
+use crate::entries::{Entry, too_many_prefixes};
+use crate::refusal::{Place, Refusal, Why};
+use crate::written::{Written, WrittenHost, WrittenInvariant, WrittenTemplate};
+use host_net::HOST_LIMIT;
+
+/// How many invariants there may be.
+const INVARIANT_LIMIT: usize = 16;
+
+/// How many templates may be declared.
+const TEMPLATE_LIMIT: usize = 16;
+
+/// There are too many hosts, then too many prefixes, then too many invariants, then too many templates.
+#[tactic(auto, unfolding(crate::specs::HostConditions::too_many))]
+pub(crate) fn too_many(written: &Written<'_>, entries: &[Entry]) -> Option<Refusal>
+    ensures { result ≡ too_many (written_view written.now).hosts (map entry_view entries.now)
+        (written_view written.now).invariants (written_view written.now).templates }
+{
+    too_many_hosts(&written.hosts)
+        .or(too_many_prefixes(entries))
+        .or(too_many_invariants(&written.invariants))
+        .or(too_many_templates(&written.templates))
+}
+
+/// There are more hosts than there may be.
+fn too_many_hosts(hosts: &[WrittenHost<'_>]) -> Option<Refusal>
+    ensures { result ≡ beyond host_limit Host (map host_view hosts.now) }
+{
+    if hosts.len() <= HOST_LIMIT {
+        return None;
+    }
+    Some(Refusal::at(Why::TooMany, Place::Host(HOST_LIMIT as u64 + 1)))
+}
+
+/// There are more invariants than there may be.
+fn too_many_invariants(invariants: &[WrittenInvariant<'_>]) -> Option<Refusal>
+    ensures { result ≡ beyond invariant_limit Invariant (map invariant_view invariants.now) }
+{
+    if invariants.len() <= INVARIANT_LIMIT {
+        return None;
+    }
+    Some(Refusal::at(Why::TooMany, Place::Invariant(INVARIANT_LIMIT as u64 + 1)))
+}
+
+/// There are more templates than there may be.
+fn too_many_templates(templates: &[WrittenTemplate<'_>]) -> Option<Refusal>
+    ensures { result ≡ beyond template_limit Template (map template_view templates.now) }
+{
+    if templates.len() <= TEMPLATE_LIMIT {
+        return None;
+    }
+    Some(Refusal::at(Why::TooMany, Place::Template(TEMPLATE_LIMIT as u64 + 1)))
+}

@@ -1,4 +1,0 @@
-pub mod HostConditions
-pub mod Mentions
-pub mod WrittenHosts
-pub mod inner

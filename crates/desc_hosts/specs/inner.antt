@@ -1,3 +1,0 @@
-pub mod EntryView
-pub mod HostFacts
-pub mod MentionView

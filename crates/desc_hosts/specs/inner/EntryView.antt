@@ -1,6 +1,0 @@
--- What the private type of an entry stands for.
-use Rattle.desc_hosts.specs.HostConditions as condition
-use Rattle.desc_hosts.specs.declared.entries.Entry.{Entry}
-
-abbrev pub entry_view : Entry → condition.Entry
-entry_view e = record { host = e.host; item = e.item; prefix = e.prefix }

@@ -1,0 +1,90 @@
+-- A line of edits as the reader goes through it, step by step. Callers see none of it; they have the grammar and the reasons.
+use Rattle.std.specs.Prelude.{ℕ, ◌==◌, ◌++◌, nat_lt, if◌then◌else◌, List, [], ◌∷◌, Option, Some, None, Result, Ok, Err, codes, is_some, bytes_eq, length}
+use Rattle.std.specs.List.{list_all}
+use Rattle.std.specs.Option.{option_map, ok_or}
+use Rattle.std.specs.Str.{is_utf8}
+use Rattle.text_core.specs.Decimal.{number}
+use Rattle.text_core.specs.Lines.{words}
+use Rattle.text_core.specs.Steps.{◌>>=◌}
+use Rattle.host_net.specs.Limits.{invariant_limit}
+use Rattle.table_core.specs.Tables.{text_at}
+use Rattle.toml.specs.Data.{Members, as_table, get_member}
+use Rattle.toml.specs.Parse.{parse_document}
+use Rattle.edit_core.specs.Behind.{behind_word}
+use Rattle.edit_core.specs.Edit.{Change, Add, Remove, Set, Unset, Edit}
+use Rattle.edit_core.specs.declared.text_fault.EditsWhy.{EditsWhy}
+use Rattle.edit_core.specs.declared.text_fault.EditsWhy.TheVariants.{BadLine, BadValue, TooMany}
+
+-- words that are UTF-8
+abbrev pub texts_of : List (List ℕ) → Option (List (List ℕ))
+texts_of ws = if list_all is_utf8 ws then Some ws else None
+
+abbrev pub text_of : List ℕ → Option (List ℕ)
+text_of w = if is_utf8 w then Some w else None
+
+-- the number of an invariant: a decimal number from 1 to as many as there may be
+abbrev pub from_one : ℕ → Option ℕ
+from_one n = if n == 0 then None else Some n
+
+abbrev pub invariant_said : List ℕ → Option ℕ
+invariant_said word = number invariant_limit word >>= from_one
+
+-- the table that is written in a line, with a text at `host`
+abbrev pub with_host : Members → Option Members
+with_host assign = if is_some (text_at (codes "host") assign) then Some assign else None
+
+abbrev pub value_in : Members → Option Members
+value_in document = get_member (codes "v") document >>= as_table
+
+unfoldable pub assign_of : List ℕ → Option Members
+assign_of text = if is_utf8 text then (parse_document (codes "v = " ++ text) >>= value_in) >>= with_host else None
+
+-- by the words behind the first, and the text behind the number
+abbrev pub add_of : List (List ℕ) → Result Change EditsWhy
+add_of (from ∷ to ∷ services) = ok_or (option_map Add (texts_of (from ∷ to ∷ services))) BadValue
+add_of _ = Err BadLine
+
+abbrev pub removed : List ℕ → List ℕ → Option Change
+removed from to = text_of from >>= λ f. option_map (Remove f) (text_of to)
+
+abbrev pub remove_of : List (List ℕ) → Result Change EditsWhy
+remove_of (from ∷ to ∷ []) = ok_or (removed from to) BadValue
+remove_of _ = Err BadLine
+
+abbrev pub assigned : List ℕ → List ℕ → Option Change
+assigned number text = invariant_said number >>= λ k. option_map (Set k) (assign_of text)
+
+abbrev pub set_of : List ℕ → List (List ℕ) → Result Change EditsWhy
+set_of text (number ∷ word ∷ rest) = ok_or (assigned number text) BadValue
+set_of text _ = Err BadLine
+
+abbrev pub unassigned : List ℕ → List ℕ → Option Change
+unassigned number host = invariant_said number >>= λ k. option_map (Unset k) (text_of host)
+
+abbrev pub unset_of : List (List ℕ) → Result Change EditsWhy
+unset_of (number ∷ host ∷ []) = ok_or (unassigned number host) BadValue
+unset_of _ = Err BadLine
+
+-- by the first word
+abbrev pub change_by : List ℕ → List (List ℕ) → List ℕ → Result Change EditsWhy
+change_by verb rest text =
+    if bytes_eq verb (codes "add") then add_of rest
+    else if bytes_eq verb (codes "remove") then remove_of rest
+    else if bytes_eq verb (codes "set") then set_of text rest
+    else if bytes_eq verb (codes "unset") then unset_of rest
+    else Err BadLine
+
+abbrev pub change_of_words : List (List ℕ) → List ℕ → Result Change EditsWhy
+change_of_words [] text = Err BadLine
+change_of_words (verb ∷ rest) text = change_by verb rest text
+
+unfoldable pub change_of : List ℕ → Result Change EditsWhy
+change_of line = change_of_words (words line) (behind_word (behind_word line))
+
+-- the edits with one more, of 10,000 at most
+abbrev pub with_change : ℕ → List Edit → Result Change EditsWhy → Result (List Edit) EditsWhy
+with_change n edits (Ok change) = if nat_lt 9999 (length edits) then Err TooMany else Ok (edits ++ record { line = n; change = change } ∷ [])
+with_change n edits (Err why) = Err why
+
+abbrev pub edit_step : ℕ → List Edit → List ℕ → Result (List Edit) EditsWhy
+edit_step n edits line = with_change n edits (change_of line)

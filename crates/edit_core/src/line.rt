@@ -1,0 +1,201 @@
+//! One line of a text of edits: the change that it tells.
+
+ghost use Rattle.std.specs.Prelude.{◌≡◌, ◌++◌, codes, map, option_map, string_bytes};
+ghost use Rattle.std.specs.Result.{result_map_both};
+ghost use Rattle.edit_core.specs.inner.ChangeSteps.{add_of, assign_of, change_of, invariant_said, remove_of, set_of, text_of, unset_of, value_in};
+ghost use Rattle.edit_core.specs.inner.EditsAnswers.{PutsTexts, Says, SaysValue};
+ghost use Rattle.toml.specs.Data.{as_table};
+ghost use Rattle.toml.specs.Parse.{parse_document};
+ghost use Rattle.toml.specs.View.{table_view, view};
+
+use crate::behind::behind_word;
+use crate::edit::Change;
+use crate::text_fault::EditsWhy;
+use std::alloc::Global;
+use std::str;
+use table_core::text_at;
+use text_core::{LineFault, Words, read_number};
+use toml::{Table, Value};
+
+const INVARIANT_LIMIT: u32 = 16;
+
+/// The change that a line tells, or why it tells none.
+#[tactic(auto, unfolding(crate::specs::inner::ChangeSteps::change_of))]
+pub(crate) fn read_change(alloc: Global, line: &[u8]) -> Result<Change, LineFault<EditsWhy>>
+    ensures { Says (change_of line.now) result }
+{
+    let mut words = Words::new(line);
+    let Some(verb) = words.next_word() else {
+        return Err(LineFault::Bad(EditsWhy::BadLine));
+    };
+    if verb == b"add".as_slice() {
+        return read_add(alloc, words);
+    }
+    if verb == b"remove".as_slice() {
+        return read_remove(alloc, words);
+    }
+    if verb == b"set".as_slice() {
+        return read_set(alloc, words, behind_word(behind_word(line)));
+    }
+    if verb == b"unset".as_slice() {
+        return read_unset(alloc, words);
+    }
+    Err(LineFault::Bad(EditsWhy::BadLine))
+}
+
+/// A flow that is listed, by the words behind `add`.
+fn read_add(alloc: Global, mut words: Words<'_>) -> Result<Change, LineFault<EditsWhy>>
+    ensures { Says (add_of words.entry) result }
+{
+    let Some(from) = words.next_word() else {
+        return Err(LineFault::Bad(EditsWhy::BadLine));
+    };
+    let Some(to) = words.next_word() else {
+        return Err(LineFault::Bad(EditsWhy::BadLine));
+    };
+    let mut texts = Vec::new(alloc);
+    texts.push(read_text(alloc, from)?)?;
+    texts.push(read_text(alloc, to)?)?;
+    read_texts(alloc, &mut texts, words)?;
+    Ok(Change::Add(texts))
+}
+
+/// Puts the words behind the texts.
+fn read_texts(
+    alloc: Global,
+    texts: &mut Vec<String>,
+    mut words: Words<'_>,
+) -> Result<(), LineFault<EditsWhy>>
+    ensures { PutsTexts words.entry (map string_bytes texts.old.items) (map string_bytes texts.new.items) result }
+{
+    while let Some(word) = words.next_word() {
+        texts.push(read_text(alloc, word)?)?;
+    }
+    Ok(())
+}
+
+/// A flow that is taken out, by the words behind `remove`.
+fn read_remove(alloc: Global, mut words: Words<'_>) -> Result<Change, LineFault<EditsWhy>>
+    ensures { Says (remove_of words.entry) result }
+{
+    let Some(from) = words.next_word() else {
+        return Err(LineFault::Bad(EditsWhy::BadLine));
+    };
+    let Some(to) = words.next_word() else {
+        return Err(LineFault::Bad(EditsWhy::BadLine));
+    };
+    if words.next_word().is_some() {
+        return Err(LineFault::Bad(EditsWhy::BadLine));
+    }
+    let from = read_text(alloc, from)?;
+    let to = read_text(alloc, to)?;
+    Ok(Change::Remove(from, to))
+}
+
+/// An assign, by the words behind `set` and the text behind the first of them.
+fn read_set(alloc: Global, mut words: Words<'_>, text: &[u8]) -> Result<Change, LineFault<EditsWhy>>
+    ensures { Says (set_of text.now words.entry) result }
+{
+    let Some(number) = words.next_word() else {
+        return Err(LineFault::Bad(EditsWhy::BadLine));
+    };
+    if words.next_word().is_none() {
+        return Err(LineFault::Bad(EditsWhy::BadLine));
+    }
+    let Some(number) = invariant_said(number) else {
+        return Err(LineFault::Bad(EditsWhy::BadValue));
+    };
+    Ok(Change::Set(number, read_assign(alloc, text)?))
+}
+
+/// What an invariant assigns to a host is taken out, by the words behind `unset`.
+fn read_unset(alloc: Global, mut words: Words<'_>) -> Result<Change, LineFault<EditsWhy>>
+    ensures { Says (unset_of words.entry) result }
+{
+    let Some(number) = words.next_word() else {
+        return Err(LineFault::Bad(EditsWhy::BadLine));
+    };
+    let Some(host) = words.next_word() else {
+        return Err(LineFault::Bad(EditsWhy::BadLine));
+    };
+    if words.next_word().is_some() {
+        return Err(LineFault::Bad(EditsWhy::BadLine));
+    }
+    let Some(number) = invariant_said(number) else {
+        return Err(LineFault::Bad(EditsWhy::BadValue));
+    };
+    Ok(Change::Unset(number, read_text(alloc, host)?))
+}
+
+/// The number of an invariant, from 1.
+fn invariant_said(word: &[u8]) -> Option<u8>
+    ensures { result ≡ invariant_said word.now }
+{
+    let number = read_number(INVARIANT_LIMIT, word)?;
+    if number == 0 {
+        return None;
+    }
+    Some(number as u8)
+}
+
+/// A word as a text.
+fn read_text(alloc: Global, word: &[u8]) -> Result<String, LineFault<EditsWhy>>
+    ensures { SaysValue (text_of word.now) (result_map_both string_bytes (λ fault. fault) result) }
+{
+    match str::from_utf8(word) {
+        Ok(text) => Ok(String::from_str(alloc, text)?),
+        Err(_) => Err(LineFault::Bad(EditsWhy::BadValue)),
+    }
+}
+
+/// The table of an assign, which a text says as a TOML value.
+#[tactic(auto, unfolding(crate::specs::inner::ChangeSteps::assign_of))]
+fn read_assign(alloc: Global, text: &[u8]) -> Result<Table, LineFault<EditsWhy>>
+    ensures { SaysValue (assign_of text.now) (result_map_both table_view (λ fault. fault) result) }
+{
+    let Ok(text) = str::from_utf8(text) else {
+        return Err(LineFault::Bad(EditsWhy::BadValue));
+    };
+    let document = read_document(alloc, text)?;
+    let Some(assign) = value_in(document) else {
+        return Err(LineFault::Bad(EditsWhy::BadValue));
+    };
+    if text_at(&assign, "host").is_none() {
+        return Err(LineFault::Bad(EditsWhy::BadValue));
+    }
+    Ok(assign)
+}
+
+/// The document `v = ` and a text.
+fn read_document(alloc: Global, text: &str) -> Result<Table, LineFault<EditsWhy>>
+    ensures { SaysValue (parse_document (codes "v = " ++ text.now)) (result_map_both table_view (λ fault. fault) result) }
+{
+    let mut line = String::from_str(alloc, "v = ")?;
+    line.push_str(text)?;
+    match toml::table_from_str(alloc, line.as_str()) {
+        Ok(document) => Ok(document),
+        Err(error) => Err(if error.is_memory() {
+            LineFault::Memory
+        } else {
+            LineFault::Bad(EditsWhy::BadValue)
+        }),
+    }
+}
+
+/// The table at `v`.
+fn value_in(mut document: Table) -> Option<Table>
+    ensures { option_map table_view result ≡ value_in (table_view document) }
+{
+    let value = document.remove("v")?;
+    table_in(value)
+}
+
+/// The table, if the value is one.
+fn table_in(value: Value) -> Option<Table>
+    ensures { option_map table_view result ≡ as_table (view value) }
+{
+    match value {
+        Value::Table(table) => Some(table),
+        _ => None,
+    }
+}

@@ -1,6 +1,0 @@
-pub mod BehindLaws
-pub mod ChangeLaws
-pub mod EditFaultLaws
-pub mod EditsRows
-pub mod EditsTextLaws
-pub mod TextLemmas

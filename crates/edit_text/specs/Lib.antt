@@ -1,4 +1,0 @@
-pub mod Behind
-pub mod Edit
-pub mod EditsText
-pub mod inner

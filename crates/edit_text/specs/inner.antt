@@ -1,3 +1,0 @@
-pub mod ChangeSteps
-pub mod EditView
-pub mod EditsAnswers

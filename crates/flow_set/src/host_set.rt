@@ -1,0 +1,144 @@
+//! A set of hosts, one bit for each number below 256. A row of a closure is such
+//! a set, and so is a list of hosts that must not be reached.
+
+ghost use Rattle.std.specs.Prelude.{◌≡◌, ◌<◌, ◌+◌, ◌↔◌, IsTrue, MatchOption};
+ghost use Rattle.std.specs.FinSet as set;
+ghost use Rattle.flow_set.specs.inner.Calls.{AreApart, HasNone, IsFirstFrom};
+ghost use Rattle.flow_set.specs.inner.HostBits.{is_set, IsFirstBit};
+
+use std::marker::Model;
+
+// How many hosts each of the two numbers has a bit for.
+const HALF: u16 = 128;
+
+/// A set of hosts with numbers below 256.
+#[derive(Drop)]
+pub struct HostSet {
+    low: u128,
+    high: u128,
+}
+
+impl Model for HostSet {
+    ghost use Rattle.std.specs.Coded.{coded_ℕ};
+    ghost use Rattle.std.specs.FinSet as set;
+    ghost use Rattle.flow_set.specs.HostSet.{HostNumbers, hosts_below};
+    ghost use Rattle.flow_set.specs.inner.HostBits.{is_marked};
+
+    ghost Value = { HostNumbers };
+
+    ghost coded = { set.code coded_ℕ };
+
+    ghost view = { λ s. hosts_below 256 (is_marked s.low s.high) };
+}
+
+impl HostSet {
+    pub fn empty() -> HostSet
+        ensures { result ≡ set.empty }
+    {
+        HostSet { low: 0, high: 0 }
+    }
+
+    pub fn has(&self, host: u16) -> bool
+        requires { host < 256 }
+        ensures { result ≡ set.contains self.now host }
+    {
+        if host < HALF {
+            (self.low >> host) & 1 == 1
+        } else {
+            (self.high >> (host - HALF)) & 1 == 1
+        }
+    }
+
+    pub fn insert(&mut self, host: u16)
+        requires { host < 256 }
+        ensures { self.new ≡ set.insert self.old host }
+    {
+        if host < HALF {
+            self.low |= 1 << host;
+        } else {
+            self.high |= 1 << (host - HALF);
+        }
+    }
+
+    pub fn remove(&mut self, host: u16)
+        requires { host < 256 }
+        ensures { self.new ≡ set.remove self.old host }
+    {
+        if host < HALF {
+            self.low &= !(1 << host);
+        } else {
+            self.high &= !(1 << (host - HALF));
+        }
+    }
+
+    /// The first host of the set from this one on.
+    pub fn first_from(&self, from: u16) -> Option<u16>
+        ensures { MatchOption result (HasNone (set.contains self.now) from 256) (IsFirstFrom (set.contains self.now) from) }
+    {
+        if from >= HALF {
+            return self.first_upper(from - HALF);
+        }
+        match first_bit(self.low, from) {
+            Some(host) => Some(host),
+            None => self.first_upper(0),
+        }
+    }
+
+    // The first host from the one at this place of the upper half on.
+    fn first_upper(&self, from: u16) -> Option<u16>
+        ensures { MatchOption result
+            (HasNone (set.contains self.now) (128 + from) 256)
+            (IsFirstFrom (set.contains self.now) (128 + from)) }
+    {
+        if from >= HALF {
+            return None;
+        }
+        match first_bit(self.high, from) {
+            Some(place) => Some(HALF + place),
+            None => None,
+        }
+    }
+
+    /// Whether no host is in both sets.
+    pub fn is_apart(&self, other: &HostSet) -> bool
+        ensures { IsTrue result ↔ AreApart self.now other.now }
+    {
+        self.low & other.low == 0 && self.high & other.high == 0
+    }
+
+    /// Puts in every host of the other set.
+    pub fn insert_all(&mut self, other: &HostSet)
+        ensures { self.new ≡ set.union self.old other.now }
+    {
+        self.low |= other.low;
+        self.high |= other.high;
+    }
+
+    pub fn copy(&self) -> HostSet
+        ensures { result ≡ self.now }
+    {
+        HostSet {
+            low: self.low,
+            high: self.high,
+        }
+    }
+
+    /// The number of hosts in the set.
+    pub fn len(&self) -> u16
+        ensures { result ≡ set.len self.now }
+    {
+        (self.low.count_ones() + self.high.count_ones()) as u16
+    }
+}
+
+// The place of the first bit that is set, from this place on.
+fn first_bit(bits: u128, from: u16) -> Option<u16>
+    requires { from < 128 }
+    ensures { MatchOption result (HasNone (is_set bits) from 128) (IsFirstBit bits from) }
+{
+    let left = bits >> from;
+    if left == 0 {
+        return None;
+    }
+    Some(from + left.trailing_zeros() as u16)
+}

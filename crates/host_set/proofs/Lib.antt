@@ -1,3 +1,0 @@
-pub mod HostSets
-pub mod Apart
-pub mod FirstBits

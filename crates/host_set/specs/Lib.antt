@@ -1,3 +1,0 @@
-pub mod HostSet
-pub mod inner
-pub mod laws

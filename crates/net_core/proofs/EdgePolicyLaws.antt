@@ -1,0 +1,235 @@
+-- Laws of policies that are told flow by flow: they are the policies of networks whose invariants judge flows alone, and one flow more or
+-- less changes them by that flow alone.
+use Rattle.std.proofs.Common.{◌≡◌, ℕ, inl, inr, Bool, true, false, List, [], ◌∷◌, refl, sym, ◌∙◌, ap, subst, All}
+use Rattle.std.specs.Prelude.{◌↔◌, IsTrue, IsFalse}
+use Rattle.std.proofs.lemmas.Bool.{both_ways, false≢true, or_cases, or_left, or_right, cases_Bool}
+use Rattle.flow_set.specs.inner.Downward.{IsEdgeWise}
+use Rattle.flow_set.specs.Flow.{IsFlow, back_of, same_flow}
+use Rattle.flow_set.specs.FlowSet.{has, IsSubset, with_back, with_flow}
+use Rattle.flow_set.specs.inner.FlowSetView.{IsFlowSet, without_flow}
+use Rattle.flow_set.specs.laws.FlowLaws.{has_first, has-with_back, same_fact}
+use Rattle.flow_set.proofs.SubsetLaws.{IsFlowSet-nothing, IsFlowSet-subset, IsFlowSet-with_back, IsFlowSet-with_flow}
+use Rattle.flow_set.specs.declared.flow.Flow.{Flow}
+use Rattle.inv_any.specs.laws.TemplateLaws.{lawful}
+use Rattle.inv_any.specs.Templates.{meaning_of}
+use Rattle.inv_any.specs.declared.any_inv.AnyInv.{AnyInv}
+use Rattle.net_core.specs.inner.Asking.{asking_for, not_asking_for}
+use Rattle.net_core.proofs.AskingLaws.{network_less, network_more}
+use Rattle.net_core.specs.inner.Fitting.{IsNetwork}
+use Rattle.net_core.specs.Network.{Network}
+use Rattle.net_core.specs.Policies.{holds_on, edge_mark, IsPolicyOf, IsStatefulBy, JudgesFlowsAlone, MeetsAll, MeetsStrict, Policy}
+use Rattle.net_core.proofs.PolicyLaws.{IsSubset-stateful}
+use Rattle.permit_core.proofs.PolicyLaws.{AllHold-edge_wise}
+use Rattle.net_core.specs.inner.EdgePolicies.{AreAnswered, AreMarked, IsAdmitted, IsAnswered, IsEdgePolicy}
+use Rattle.net_core.proofs.MarkedLaws.{first_marked, marked_first, marked_kept, marked_left, marked_out, within_both, within_less, within_more}
+
+edge_wise_at : (n : ℕ) (inv : AnyInv) → (meaning_of inv).size ≡ n → IsTrue (edge_mark inv) → IsEdgeWise n (holds_on inv)
+edge_wise_at n inv sized marked = subst (λ m. IsEdgeWise m (holds_on inv)) sized ((lawful inv).mark_is_right marked)
+
+all_edge_wise : (d : Network) → IsNetwork d → JudgesFlowsAlone d → IsEdgeWise d.asked.size (MeetsAll d)
+all_edge_wise d network alone =
+    AllHold-edge_wise d.asked.size holds_on d.invariants (λ k e within. edge_wise_at d.asked.size _ (network.invariants k e within ∙ sym network.sized) (alone k e within))
+
+pub each_edge_wise : (d : Network) → IsNetwork d → JudgesFlowsAlone d → All (λ inv. IsEdgeWise d.asked.size (holds_on inv)) d.invariants
+each_edge_wise d network alone k e within = edge_wise_at d.asked.size _ (network.invariants k e within ∙ sym network.sized) (alone k e within)
+
+strict_edge_wise : (d : Network) → IsNetwork d → JudgesFlowsAlone d → IsEdgeWise d.asked.size (MeetsStrict d)
+strict_edge_wise d network alone e set =
+    (λ hold f there k x within strict. (each_edge_wise d network alone k x within e set).0 (hold k x within strict) f there, λ single k x within strict. (each_edge_wise d network alone k x within e set).1 (λ f there. single f there k x within strict))
+
+strict_of_all : (d : Network) (e : List Flow) → MeetsAll d e → MeetsStrict d e
+strict_of_all d e meets = λ k x within strict. meets k x within
+
+-- ---- answers, one by one
+
+-- a flow of the policy with answers is permitted or an answer
+back_back : (f : Flow) → back_of (back_of f) ≡ f
+back_back f = refl
+
+one_flow : (n : ℕ) (p : List Flow) (f : Flow) → IsFlowSet n p → IsFlow n f → IsFlowSet n (f ∷ [])
+one_flow n p f p_set flow = IsFlowSet-with_flow n [] f (IsFlowSet-nothing n p_set.small) flow
+
+grown : (p e : List Flow) (f g : Flow) → IsTrue (has e f) → IsTrue (has (with_back p (f ∷ [])) g) → IsTrue (has (with_back p e) g)
+grown p e f g there member = has-with_back p e g ∙ elim (or_cases (has p g) (has (f ∷ []) (back_of g)) (sym (has-with_back p (f ∷ []) g) ∙ member)) [
+  | inl old ↦ or_left _ _ old
+  | inr answer ↦ or_right _ _ (elim (or_cases (same_flow f (back_of g)) false answer) [
+    | inl same ↦ same_fact (λ h. IsTrue (has e h)) f (back_of g) same there
+    | inr impossible ↦ absurd (false≢true impossible)
+  ])
+]
+
+-- the answer of a flow is one of the policy with answers
+answer_there : (p : List Flow) (g : Flow) → IsTrue (has (with_back p (back_of g ∷ [])) g)
+answer_there p g = has-with_back p (back_of g ∷ []) g ∙ or_right _ _ (has_first (back_of g) [])
+
+answered_edge_wise : (n : ℕ) (Strict : List Flow → Type 0) (p : List Flow) → IsEdgeWise n Strict → IsFlowSet n p → Strict p
+    → IsEdgeWise n (λ s. Strict (with_back p s))
+answered_edge_wise n Strict p edge_wise p_set holds e set =
+    let whole_set : IsFlowSet n (with_back p e) = IsFlowSet-with_back n p e p_set set in
+    let set_of_one : (f : Flow) → IsTrue (has e f) → IsFlowSet n (with_back p (f ∷ [])) =
+    λ f there. IsFlowSet-with_back n p (f ∷ []) p_set (one_flow n p f p_set (set.flows f there)) in (
+      λ whole f there. (edge_wise (with_back p (f ∷ [])) (set_of_one f there)).1 (λ g member. (edge_wise (with_back p e) whole_set).0 whole g (grown p e f g there member)),
+      λ single. (edge_wise (with_back p e) whole_set).1 (λ g member. elim (or_cases (has p g) (has e (back_of g)) (sym (has-with_back p e g) ∙ member)) [
+        | inl old ↦ (edge_wise p p_set).0 holds g old
+        | inr answer ↦ (edge_wise (with_back p (back_of g ∷ [])) (set_of_one (back_of g) answer)).0 (single (back_of g) answer) g (answer_there p g)
+      ]),
+    )
+
+-- one answer beside the policy is that answer alone
+answer_alone : (n : ℕ) (Strict : List Flow → Type 0) (p : List Flow) (f : Flow) → IsEdgeWise n Strict → IsFlowSet n p → Strict p → IsFlow n f
+    → Strict (with_back p (f ∷ [])) ↔ Strict (back_of f ∷ [])
+answer_alone n Strict p f edge_wise p_set holds flow =
+    let set : IsFlowSet n (with_back p (f ∷ [])) = IsFlowSet-with_back n p (f ∷ []) p_set (one_flow n p f p_set flow) in (
+      λ whole. (edge_wise (with_back p (f ∷ [])) set).0 whole (back_of f) (has-with_back p (f ∷ []) (back_of f) ∙ or_right _ _ (has_first f [])),
+      λ answer. (edge_wise (with_back p (f ∷ [])) set).1 (λ g member. elim (or_cases (has p g) (has (f ∷ []) (back_of g)) (sym (has-with_back p (f ∷ []) g) ∙ member)) [
+        | inl old ↦ (edge_wise p p_set).0 holds g old
+        | inr is ↦ elim (or_cases (same_flow f (back_of g)) false is) [
+          | inl same ↦ same_fact (λ h. Strict (back_of h ∷ [])) f (back_of g) same answer
+          | inr impossible ↦ absurd (false≢true impossible)
+        ]
+      ]),
+    )
+
+-- ---- the policy, both ways
+
+flow_back : (n : ℕ) (p : List Flow) (f : Flow) → IsFlowSet n p → IsTrue (has p f) → IsFlow n f
+flow_back n p f set there = set.flows f there
+
+-- which of the permitted flows have answers that may pass, by the first subset
+answered_by : (answers : Bool) (d : Network) (p s : List Flow) → IsEdgeWise d.asked.size (MeetsStrict d) → IsFlowSet d.asked.size p → MeetsStrict d p
+    → IsStatefulBy answers d p s → AreAnswered answers (IsAnswered d) p s
+answered_by false d p s edge_wise set holds is = is
+answered_by true d p s edge_wise set holds is = λ f there.
+    let marked = first_marked d.asked.size (λ t. MeetsStrict d (with_back p t)) p s set (answered_edge_wise d.asked.size (MeetsStrict d) p edge_wise set holds) is f there in
+    let same = answer_alone d.asked.size (MeetsStrict d) p f edge_wise set holds (set.flows f there) in
+    (λ here. same.0 (marked.0 here), λ answer. marked.1 (same.1 answer))
+
+marked_so : (d : Network) (p s : List Flow) → IsEdgeWise d.asked.size (MeetsStrict d) → IsFlowSet d.asked.size p → MeetsStrict d p
+    → AreMarked (IsAnswered d) p s → AreMarked (λ f. MeetsStrict d (with_back p (f ∷ []))) p s
+marked_so d p s edge_wise set holds are f there =
+    let same = answer_alone d.asked.size (MeetsStrict d) p f edge_wise set holds (set.flows f there) in
+    (λ here. same.1 ((are f there).0 here), λ answer. (are f there).1 (same.0 answer))
+
+stateful_by : (answers : Bool) (d : Network) (p s : List Flow) → IsEdgeWise d.asked.size (MeetsStrict d) → IsFlowSet d.asked.size p → MeetsStrict d p
+    → IsSubset s p → AreAnswered answers (IsAnswered d) p s → IsStatefulBy answers d p s
+stateful_by false d p s edge_wise set holds sub are = are
+stateful_by true d p s edge_wise set holds sub are =
+    marked_first d.asked.size (λ t. MeetsStrict d (with_back p t)) p s set (answered_edge_wise d.asked.size (MeetsStrict d) p edge_wise set holds) sub (marked_so d p s edge_wise set holds are)
+
+pub IsEdgePolicy-policy : (d : Network) (policy : Policy) → IsNetwork d → JudgesFlowsAlone d → IsPolicyOf d policy → IsEdgePolicy d policy
+IsEdgePolicy-policy d policy network alone is =
+    let p_set = IsFlowSet-subset d.asked.size policy.permitted.flows d.asked.flows network.asked is.permitted.within in
+    record {
+      permitted_size = is.permitted_size;
+      stateful_size = is.stateful_size;
+      permitted_within = is.permitted.within;
+      stateful_within = IsSubset-stateful d policy.permitted.flows policy.stateful.flows is.stateful;
+      permitted = first_marked d.asked.size (MeetsAll d) d.asked.flows policy.permitted.flows network.asked (all_edge_wise d network alone) is.permitted;
+      stateful =
+          answered_by d.answers d policy.permitted.flows policy.stateful.flows (strict_edge_wise d network alone) p_set
+          (strict_of_all d policy.permitted.flows is.permitted.holds) is.stateful;
+    }
+
+pub policy-IsEdgePolicy : (d : Network) (policy : Policy) → IsNetwork d → JudgesFlowsAlone d → IsEdgePolicy d policy → IsPolicyOf d policy
+policy-IsEdgePolicy d policy network alone is =
+    let p_set = IsFlowSet-subset d.asked.size policy.permitted.flows d.asked.flows network.asked is.permitted_within in
+    let permitted = marked_first d.asked.size (MeetsAll d) d.asked.flows policy.permitted.flows network.asked (all_edge_wise d network alone) is.permitted_within is.permitted in
+    record {
+      permitted_size = is.permitted_size;
+      stateful_size = is.stateful_size;
+      permitted = permitted;
+      stateful =
+          stateful_by d.answers d policy.permitted.flows policy.stateful.flows (strict_edge_wise d network alone) p_set
+          (strict_of_all d policy.permitted.flows permitted.holds) is.stateful_within is.stateful;
+    }
+
+-- ---- one flow more, and one less
+
+-- the invariants are those of the network, so what is admitted and answered stays
+abbrev pub WithFlows : List Flow → List Flow → Policy → Policy
+WithFlows permitted stateful policy = record {
+  permitted = record { size = policy.permitted.size; flows = permitted };
+  stateful = record { size = policy.stateful.size; flows = stateful };
+}
+
+absent_from : (all xs : List Flow) (f : Flow) → IsSubset xs all → IsFalse (has all f) → IsFalse (has xs f)
+absent_from all xs f sub absent = elim (cases_Bool (has xs f)) [ inl there ↦ absurd (both_ways _ absent (sub.within f there)) | inr none ↦ none ]
+
+not_there : (d : Network) (policy : Policy) (f : Flow) → IsFalse (has d.asked.flows f) → IsEdgePolicy d policy → IsFalse (has policy.permitted.flows f)
+not_there d policy f fresh is = absent_from d.asked.flows policy.permitted.flows f is.permitted_within fresh
+
+-- one that is admitted is permitted; its answers may pass where they are admitted
+pub admitted_more : (d : Network) (policy : Policy) (f : Flow) (s : List Flow) → IsFalse (has d.asked.flows f) → IsAdmitted d f → IsEdgePolicy d policy
+    → IsSubset s (with_flow policy.permitted.flows f) → AreAnswered d.answers (IsAnswered d) (with_flow policy.permitted.flows f) s
+    → IsEdgePolicy (asking_for d f) (WithFlows (with_flow policy.permitted.flows f) s policy)
+admitted_more d policy f s fresh admitted is within answered = record {
+  permitted_size = is.permitted_size;
+  stateful_size = is.stateful_size;
+  permitted_within = within_both policy.permitted.flows d.asked.flows f is.permitted_within;
+  stateful_within = within;
+  permitted = marked_kept (IsAdmitted d) d.asked.flows policy.permitted.flows f admitted is.permitted;
+  stateful = answered;
+}
+
+pub answered_more : (answers : Bool) (Passes : Flow → Type 0) (p s : List Flow) (f : Flow) → IsTrue answers → Passes f → AreAnswered answers Passes p s
+    → AreAnswered answers Passes (with_flow p f) (with_flow s f)
+answered_more true Passes p s f on passes are = marked_kept Passes p s f passes are
+answered_more false Passes p s f on passes are = absurd (false≢true on)
+
+pub unanswered_more : (answers : Bool) (Passes : Flow → Type 0) (p s : List Flow) (f : Flow) → (IsTrue answers → Passes f → ⊥) → IsFalse (has s f)
+    → AreAnswered answers Passes p s → AreAnswered answers Passes (with_flow p f) s
+unanswered_more true Passes p s f fails absent are = marked_left Passes p s f (fails refl) absent are
+unanswered_more false Passes p s f fails absent are = are
+
+out_of_nothing : (s : List Flow) (f : Flow) → s ≡ [] → without_flow s f ≡ []
+out_of_nothing s f none = ap (λ t. without_flow t f) none
+
+answered_less : (answers : Bool) (Passes : Flow → Type 0) (p s : List Flow) (f : Flow) → AreAnswered answers Passes p s
+    → AreAnswered answers Passes (without_flow p f) (without_flow s f)
+answered_less true Passes p s f are = marked_out Passes p s f are
+answered_less false Passes p s f are = out_of_nothing s f are
+
+pub one_less : (d : Network) (policy : Policy) (f : Flow) → IsEdgePolicy d policy
+    → IsEdgePolicy (not_asking_for d f) (WithFlows (without_flow policy.permitted.flows f) (without_flow policy.stateful.flows f) policy)
+one_less d policy f is = record {
+  permitted_size = is.permitted_size;
+  stateful_size = is.stateful_size;
+  permitted_within = within_less policy.permitted.flows d.asked.flows f is.permitted_within;
+  stateful_within = within_less policy.stateful.flows policy.permitted.flows f is.stateful_within;
+  permitted = marked_out (IsAdmitted d) d.asked.flows policy.permitted.flows f is.permitted;
+  stateful = answered_less d.answers (IsAnswered d) policy.permitted.flows policy.stateful.flows f is.stateful;
+}
+
+-- ---- of the policies themselves
+
+-- a flow that is asked for no more
+pub policy_less : (d : Network) (policy : Policy) (f : Flow) → IsNetwork d → JudgesFlowsAlone d → IsPolicyOf d policy
+    → IsPolicyOf (not_asking_for d f) (WithFlows (without_flow policy.permitted.flows f) (without_flow policy.stateful.flows f) policy)
+policy_less d policy f network alone is =
+    policy-IsEdgePolicy (not_asking_for d f) (WithFlows (without_flow policy.permitted.flows f) (without_flow policy.stateful.flows f) policy)
+    (network_less d f network) alone (one_less d policy f (IsEdgePolicy-policy d policy network alone is))
+
+-- a flow that is asked for and admitted, with its answers
+pub policy_answered : (d : Network) (policy : Policy) (f : Flow) → IsNetwork d → JudgesFlowsAlone d → IsFlow d.asked.size f → IsFalse (has d.asked.flows f)
+    → IsAdmitted d f → IsTrue d.answers → IsAnswered d f → IsPolicyOf d policy
+    → IsPolicyOf (asking_for d f) (WithFlows (with_flow policy.permitted.flows f) (with_flow policy.stateful.flows f) policy)
+policy_answered d policy f network alone flow fresh admitted on answered is =
+    let edge = IsEdgePolicy-policy d policy network alone is in
+    policy-IsEdgePolicy (asking_for d f) (WithFlows (with_flow policy.permitted.flows f) (with_flow policy.stateful.flows f) policy)
+    (network_more d f flow network) alone
+    (admitted_more d policy f (with_flow policy.stateful.flows f) fresh admitted edge
+    (within_both policy.stateful.flows policy.permitted.flows f edge.stateful_within)
+    (answered_more d.answers (IsAnswered d) policy.permitted.flows policy.stateful.flows f on answered edge.stateful))
+
+-- and without them
+pub policy_unanswered : (d : Network) (policy : Policy) (f : Flow) → IsNetwork d → JudgesFlowsAlone d → IsFlow d.asked.size f → IsFalse (has d.asked.flows f)
+    → IsAdmitted d f → (IsTrue d.answers → IsAnswered d f → ⊥) → IsPolicyOf d policy
+    → IsPolicyOf (asking_for d f) (WithFlows (with_flow policy.permitted.flows f) policy.stateful.flows policy)
+policy_unanswered d policy f network alone flow fresh admitted unanswered is =
+    let edge = IsEdgePolicy-policy d policy network alone is in
+    let absent = absent_from policy.permitted.flows policy.stateful.flows f edge.stateful_within (not_there d policy f fresh edge) in
+    policy-IsEdgePolicy (asking_for d f) (WithFlows (with_flow policy.permitted.flows f) policy.stateful.flows policy)
+    (network_more d f flow network) alone
+    (admitted_more d policy f policy.stateful.flows fresh admitted edge
+    (within_more policy.stateful.flows policy.permitted.flows f edge.stateful_within)
+    (unanswered_more d.answers (IsAnswered d) policy.permitted.flows policy.stateful.flows f unanswered absent edge.stateful))

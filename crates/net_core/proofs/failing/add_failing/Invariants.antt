@@ -1,0 +1,12 @@
+use Rattle.std.proofs.Common.{◌≡◌, length}
+use Rattle.flow_set.specs.FlowSet.{with_flow}
+use Rattle.net_core.proofs.FailingLemmas.{FailUpTo, SameFrom}
+use Rattle.net_core.proofs.failing.add_failing.Given as goal
+
+-- the sets so far are those of the new flows, and the others are as they were
+abbrev pub invariant-loop-place : goal.invariant-loop-place
+invariant-loop-place l = record {
+  counted : length l.failing.items ≡ length l.description.invariants;
+  done : FailUpTo l.description.asked.size (with_flow l.description.asked.flows l.flow) l.description.invariants l.failing.items l.place;
+  rest : SameFrom l.failing.items l.fn.failing.items l.place;
+}

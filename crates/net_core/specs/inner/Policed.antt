@@ -1,0 +1,22 @@
+-- A network with its policy, and what is kept beside them.
+use Rattle.net_core.specs.inner.Fitting.{IsNetwork}
+use Rattle.net_core.specs.Network.{Network}
+use Rattle.net_core.specs.Policies.{IsPolicyOf, JudgesFlowsAlone, Policy}
+use Rattle.net_core.specs.FailingFlows.{AreFailing}
+use Rattle.net_core.specs.inner.FailingFlows.{AreFailingFlows}
+use Rattle.net_core.specs.declared.judged.Judged.{Judged}
+
+pub record Policed : Type 0 where
+  pub network : Network
+  pub policy : Policy
+
+abbrev pub policy_in : Judged → Policy
+policy_in j = record { permitted = j.permitted; stateful = j.stateful }
+
+-- the policy is that of the network, so many of its invariants fail on the asked flows; and each on these flows, where all judge
+-- flows alone
+pub record IsJudged (d : Network) (j : Judged) : Type 0 where
+  pub network : IsNetwork d
+  pub is_policy : IsPolicyOf d (policy_in j)
+  pub failed : AreFailing d.invariants d.asked.flows j.failed
+  pub failing : JudgesFlowsAlone d → AreFailingFlows d j.failing.items

@@ -1,0 +1,204 @@
+//! A network with its policy, kept as flows come and go.
+
+ghost use Rattle.std.specs.Prelude.{◌≡◌, ◌↔◌, IfOk, IsFalse, IsTrue, OnErr, OnOk};
+ghost use Rattle.flow_set.specs.Flow.{IsFlow};
+ghost use Rattle.flow_set.specs.FlowSet.{has};
+ghost use Rattle.flow_set.specs.inner.FlowSetView.{IsFlowSet};
+ghost use Rattle.net_core.specs.inner.Asking.{asking_for, not_asking_for};
+ghost use Rattle.net_core.specs.Policies.{IsPolicyOf, JudgesFlowsAlone};
+ghost use Rattle.net_core.specs.FailingFlows.{AreFailing};
+
+use crate::counts::count_failing;
+use crate::description::Description;
+use crate::failing::{add_failing, remove_failing};
+use crate::judged::{Judged, judge, judge_again};
+use crate::steps::{add_flow, is_admitted, judges_flows_alone, remove_flow};
+use flow_set::{Flow, FlowSet};
+use std::alloc::{AllocError, Global};
+use std::marker::Model;
+
+/// A network with its policy. It is seen as both.
+#[derive(Drop)]
+pub struct PolicedNetwork {
+    description: Description,
+    judged: Judged,
+}
+
+impl Model for PolicedNetwork {
+    ghost use Rattle.std.specs.Coded.{codes};
+    ghost use Rattle.inv_any.specs.contracts.any_inv.AnyInv as any;
+    ghost use Rattle.net_core.specs.inner.Policed.{IsJudged, Policed, policy_in};
+
+    ghost Value = { Policed };
+
+    ghost coded = { Prim.hlevel (codes, any.the_row.coded) };
+
+    ghost view = { λ p. record { network = p.description; policy = policy_in p.judged } };
+
+    ghost invariant = { λ p. IsJudged p.description p.judged };
+}
+
+impl PolicedNetwork {
+    /// The network with its policy.
+    pub fn new(alloc: Global, description: Description) -> Result<PolicedNetwork, AllocError>
+        ensures { IfOk result (λ policed. policed.network ≡ description) }
+    {
+        let judged = judge(alloc, &description)?;
+        Ok(PolicedNetwork {
+            description,
+            judged,
+        })
+    }
+
+    /// The network.
+    pub fn description(&self) -> &Description
+        ensures { result.now ≡ self.now.network }
+    {
+        &self.description
+    }
+
+    /// The flows that may be opened.
+    pub fn permitted(&self) -> &FlowSet
+        ensures value { result.now ≡ self.now.policy.permitted }
+        ensures policy { IsPolicyOf self.now.network self.now.policy }
+    {
+        &self.judged.permitted
+    }
+
+    /// The permitted flows whose answers may pass.
+    pub fn stateful(&self) -> &FlowSet
+        ensures value { result.now ≡ self.now.policy.stateful }
+        ensures policy { IsPolicyOf self.now.network self.now.policy }
+    {
+        &self.judged.stateful
+    }
+
+    /// How many invariants fail on the asked flows.
+    pub fn failed(&self) -> u16
+        ensures { AreFailing self.now.network.invariants self.now.network.asked.flows result }
+    {
+        self.judged.failed
+    }
+
+    /// Asks for one flow more. Where an invariant looks at walks, the policy is found anew, for which
+    /// there may be no memory.
+    pub fn ask_for(&mut self, alloc: Global, flow: Flow) -> Result<(), AllocError>
+        requires { IsFlow self.old.network.asked.size flow }
+        ensures asked { OnOk result (self.new.network ≡ asking_for self.old.network flow) }
+        ensures unchanged { OnErr result (self.new ≡ self.old) }
+    {
+        if self.asks_for(flow) {
+            Ok(())
+        } else if self.judges_flows_alone() {
+            self.add_alone(flow);
+            Ok(())
+        } else {
+            self.add_anew(alloc, flow)
+        }
+    }
+
+    /// Asks for one flow less, likewise.
+    pub fn ask_no_more_for(&mut self, alloc: Global, flow: Flow) -> Result<(), AllocError>
+        requires { IsFlow self.old.network.asked.size flow }
+        ensures asked { OnOk result (self.new.network ≡ not_asking_for self.old.network flow) }
+        ensures unchanged { OnErr result (self.new ≡ self.old) }
+    {
+        if !self.asks_for(flow) {
+            Ok(())
+        } else if self.judges_flows_alone() {
+            self.remove_alone(flow);
+            Ok(())
+        } else {
+            self.remove_anew(alloc, flow)
+        }
+    }
+
+    fn asks_for(&self, flow: Flow) -> bool
+        requires { IsFlow self.now.network.asked.size flow }
+        ensures value { result ≡ has self.now.network.asked.flows flow }
+        ensures set { IsFlowSet self.now.network.asked.size self.now.network.asked.flows }
+    {
+        self.description.asked().has(flow)
+    }
+
+    /// Whether every invariant judges flows alone, so that flows may come and go one by one.
+    fn judges_flows_alone(&self) -> bool
+        ensures { IsTrue result ↔ JudgesFlowsAlone self.now.network }
+    {
+        judges_flows_alone(&self.description)
+    }
+
+    /// Asks for one flow more, which changes the policy by itself.
+    fn add_alone(&mut self, flow: Flow)
+        requires alone { JudgesFlowsAlone self.old.network }
+        requires flow { IsFlow self.old.network.asked.size flow }
+        requires fresh { IsFalse (has self.old.network.asked.flows flow) }
+        ensures { self.new.network ≡ asking_for self.old.network flow }
+    {
+        add_flow(
+            &self.description,
+            &mut self.judged.permitted,
+            &mut self.judged.stateful,
+            flow,
+        );
+        add_failing(&self.description, &mut self.judged.failing, flow);
+        self.description.ask_for(flow);
+        self.judged.failed = count_failing(&self.description, &self.judged.failing);
+    }
+
+    /// Asks for one flow less, likewise.
+    fn remove_alone(&mut self, flow: Flow)
+        requires alone { JudgesFlowsAlone self.old.network }
+        requires flow { IsFlow self.old.network.asked.size flow }
+        ensures { self.new.network ≡ not_asking_for self.old.network flow }
+    {
+        remove_flow(
+            &self.description,
+            &mut self.judged.permitted,
+            &mut self.judged.stateful,
+            flow,
+        );
+        remove_failing(&self.description, &mut self.judged.failing, flow);
+        self.description.ask_no_more_for(flow);
+        self.judged.failed = count_failing(&self.description, &self.judged.failing);
+    }
+
+    /// Asks for one flow more, where an invariant looks at walks. The policy stays as it is where an
+    /// invariant denies the flow by itself.
+    fn add_anew(&mut self, alloc: Global, flow: Flow) -> Result<(), AllocError>
+        requires walks { JudgesFlowsAlone self.old.network → ⊥ }
+        requires flow { IsFlow self.old.network.asked.size flow }
+        requires fresh { IsFalse (has self.old.network.asked.flows flow) }
+        ensures asked { OnOk result (self.new.network ≡ asking_for self.old.network flow) }
+        ensures unchanged { OnErr result (self.new ≡ self.old) }
+    {
+        let is_denied = !is_admitted(&self.description, flow);
+        self.description.ask_for(flow);
+        match judge_again(alloc, &self.description, &mut self.judged, is_denied) {
+            Ok(()) => Ok(()),
+            Err(error) => {
+                self.description.ask_no_more_for(flow);
+                Err(error)
+            }
+        }
+    }
+
+    /// Asks for one flow less, likewise. The policy stays as it is where the flow is not permitted.
+    fn remove_anew(&mut self, alloc: Global, flow: Flow) -> Result<(), AllocError>
+        requires walks { JudgesFlowsAlone self.old.network → ⊥ }
+        requires flow { IsFlow self.old.network.asked.size flow }
+        requires asked { IsTrue (has self.old.network.asked.flows flow) }
+        ensures asked { OnOk result (self.new.network ≡ not_asking_for self.old.network flow) }
+        ensures unchanged { OnErr result (self.new ≡ self.old) }
+    {
+        let is_denied = !self.judged.permitted.has(flow);
+        self.description.ask_no_more_for(flow);
+        match judge_again(alloc, &self.description, &mut self.judged, is_denied) {
+            Ok(()) => Ok(()),
+            Err(error) => {
+                self.description.ask_for(flow);
+                Err(error)
+            }
+        }
+    }
+}

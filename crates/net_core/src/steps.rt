@@ -1,0 +1,126 @@
+//! One flow more or less, without memory.
+
+ghost use Rattle.std.specs.Prelude.{◌≡◌, ◌↔◌, [], ◌∷◌, IsFalse, IsTrue};
+ghost use Rattle.flow_set.specs.Flow.{IsFlow};
+ghost use Rattle.flow_set.specs.FlowSet.{has};
+ghost use Rattle.net_core.specs.inner.Asking.{asking_for, not_asking_for};
+ghost use Rattle.net_core.specs.inner.Fitting.{IsNetwork};
+ghost use Rattle.inv_any.specs.Templates.{meaning_of};
+ghost use Rattle.net_core.specs.Policies.{IsPolicyOf, JudgesFlowsAlone, edge_mark, holds_on, strategy_of};
+ghost use Rattle.net_core.specs.inner.EdgePolicies.{IsAdmitted, IsAnswered};
+ghost use Rattle.state_core.specs.Stateful.{is_strict};
+
+use crate::description::Description;
+use flow_set::{Flow, FlowSet};
+use inv_any::AnyInv;
+use inv_law::{Invariant, Strategy};
+
+/// Puts a flow in that is asked for from now on: it is permitted where every invariant admits it, and
+/// its answers may pass where they are admitted as well.
+pub(crate) fn add_flow(
+    description: &Description,
+    permitted: &mut FlowSet,
+    stateful: &mut FlowSet,
+    flow: Flow,
+)
+    requires network { IsNetwork description.now }
+    requires alone { JudgesFlowsAlone description.now }
+    requires flow { IsFlow description.now.asked.size flow }
+    requires fresh { IsFalse (has description.now.asked.flows flow) }
+    requires policy { IsPolicyOf description.now (record { permitted = permitted.old; stateful = stateful.old }) }
+    ensures { IsPolicyOf (asking_for description.now flow) (record { permitted = permitted.new; stateful = stateful.new }) }
+{
+    if !is_admitted(description, flow) {
+        return;
+    }
+    permitted.insert(flow);
+    if !has_answers(description, flow) {
+        return;
+    }
+    stateful.insert(flow);
+}
+
+/// Takes a flow out that is asked for no more.
+pub(crate) fn remove_flow(
+    description: &Description,
+    permitted: &mut FlowSet,
+    stateful: &mut FlowSet,
+    flow: Flow,
+)
+    requires network { IsNetwork description.now }
+    requires alone { JudgesFlowsAlone description.now }
+    requires flow { IsFlow description.now.asked.size flow }
+    requires policy { IsPolicyOf description.now (record { permitted = permitted.old; stateful = stateful.old }) }
+    ensures { IsPolicyOf (not_asking_for description.now flow) (record { permitted = permitted.new; stateful = stateful.new }) }
+{
+    let _asked = description.asked();
+    permitted.remove(flow);
+    stateful.remove(flow);
+}
+
+/// Whether every invariant judges flows alone.
+pub(crate) fn judges_flows_alone(description: &Description) -> bool
+    ensures { IsTrue result ↔ JudgesFlowsAlone description.now }
+{
+    for invariant in description.invariants() {
+        if !invariant.edge_wise() {
+            return false;
+        }
+    }
+    true
+}
+
+/// Whether every invariant admits the flow.
+pub(crate) fn is_admitted(description: &Description, flow: Flow) -> bool
+    requires flow { IsFlow description.now.asked.size flow }
+    ensures { IsTrue result ↔ IsAdmitted description.now flow }
+{
+    let _asked = description.asked();
+    for invariant in description.invariants() {
+        if !invariant.admits(flow) {
+            return false;
+        }
+    }
+    true
+}
+
+/// Whether flows may have answers, and every strict invariant admits those of the flow.
+fn has_answers(description: &Description, flow: Flow) -> bool
+    requires flow { IsFlow description.now.asked.size flow }
+    ensures { IsTrue result ↔ (IsTrue description.now.answers × IsAnswered description.now flow) }
+{
+    description.answers() && is_answered(description, flow)
+}
+
+/// Whether every strict invariant admits the answers of the flow.
+fn is_answered(description: &Description, flow: Flow) -> bool
+    requires flow { IsFlow description.now.asked.size flow }
+    ensures { IsTrue result ↔ IsAnswered description.now flow }
+{
+    let _asked = description.asked();
+    let answer = flow.back();
+    for invariant in description.invariants() {
+        if !admits_answer(invariant, answer) {
+            return false;
+        }
+    }
+    true
+}
+
+/// Whether the invariant admits an answer, if it is strict.
+fn admits_answer(invariant: &AnyInv, answer: Flow) -> bool
+    requires flow { IsFlow (meaning_of invariant.now).size answer }
+    ensures { IsTrue result ↔ (IsTrue (is_strict (strategy_of invariant.now) (edge_mark invariant.now)) → holds_on invariant.now (answer ∷ [])) }
+{
+    if is_strict(invariant) {
+        invariant.admits(answer)
+    } else {
+        true
+    }
+}
+
+fn is_strict(invariant: &AnyInv) -> bool
+    ensures { result ≡ is_strict (strategy_of invariant.now) (edge_mark invariant.now) }
+{
+    matches!(invariant.strategy(), Strategy::Information) || !invariant.edge_wise()
+}

@@ -1,0 +1,14 @@
+-- Laws of sets that grew by one flow, for bodies of `meets`: what the old set met, and when it is enough to look at the new flow.
+use Rattle.std.proofs.Common.{ℕ, List, [], ◌∷◌, sym, subst}
+use Rattle.std.specs.Prelude.{◌↔◌}
+use Rattle.flow_set.specs.declared.flow.Flow.{Flow}
+use Rattle.flow_set.specs.inner.Downward.{IsEdgeWise}
+use Rattle.flow_set.proofs.ConditionLaws.{edge_wise-with_flow}
+use Rattle.permit_core.specs.inner.Grown.{IsGrown}
+
+-- a condition on single flows holds of the set exactly where it holds of the new flow alone
+pub edge_wise-IsGrown : (n : ℕ) (Holds : List Flow → Type 0) (fs : List Flow) (added : Flow) → IsEdgeWise n Holds
+    → IsGrown n Holds fs added → Holds (added ∷ []) ↔ Holds fs
+edge_wise-IsGrown n Holds fs added edge_wise grown =
+    subst (λ (e : List Flow). Holds (added ∷ []) ↔ Holds e) (sym grown.grown)
+    (edge_wise-with_flow n Holds grown.old added edge_wise grown.set grown.flow grown.held)

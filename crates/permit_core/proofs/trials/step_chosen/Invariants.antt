@@ -1,0 +1,20 @@
+use Rattle.std.proofs.Common.{◌≡◌, ℕ, ◌<◌, ◌≤◌, length, slice_index_or}
+use Rattle.std.specs.Prelude.{IsTrue, IsFalse}
+use Rattle.flow_set.specs.FlowSet.{with_flow}
+use Rattle.flow_set.specs.inner.Steps.{stepped}
+use Rattle.permit_core.specs.inner.Trials.{EachPair}
+use Rattle.permit_core.proofs.trials.step_chosen.Given as goal
+
+-- the chosen trials so far have taken the step, and their invariants hold with it
+abbrev pub invariant-loop-i : goal.invariant-loop-i
+invariant-loop-i g l =
+    let tried = g.I.Tried.Trial.tried in
+    record {
+      counted : length l.trials.items ≡ length l.invs;
+      fits : EachPair g.I.Stepwise.fits l.invs l.trials.items;
+      stepped : (k : ℕ) (x : _) (t : _) → k < l.i → IsTrue (g.C.Choice.chosen l.choice (slice_index_or l.invs k x)) → tried (slice_index_or l.trials.items k t) ≡ stepped (tried (slice_index_or l.fn.trials.items k t)) l.f;
+      others : (k : ℕ) (x : _) (t : _) → k < l.i → IsFalse (g.C.Choice.chosen l.choice (slice_index_or l.invs k x))
+          → slice_index_or l.trials.items k t ≡ slice_index_or l.fn.trials.items k t;
+      rest : (k : ℕ) (t : _) → l.i ≤ k → slice_index_or l.trials.items k t ≡ slice_index_or l.fn.trials.items k t;
+      hold : (k : ℕ) (x : _) (t : _) → k < l.i → IsTrue (g.C.Choice.chosen l.choice (slice_index_or l.invs k x)) → g.I.Invariant.holds_on (slice_index_or l.invs k x) (with_flow (tried (slice_index_or l.fn.trials.items k t)).flows l.f);
+    }

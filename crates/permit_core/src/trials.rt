@@ -1,0 +1,98 @@
+//! One trial of each invariant, in the order of the invariants.
+
+ghost use Rattle.std.specs.Prelude.{◌≡◌, ◌↔◌, ℕ, ◌<◌, ◌≤◌, All, length, slice_index_or, IsTrue, IsFalse, IfOk, IsSome, true, if◌then◌else◌};
+ghost use Rattle.flow_set.specs.Flow.{IsFlow};
+ghost use Rattle.flow_set.specs.FlowSet.{with_flow};
+ghost use Rattle.flow_set.specs.inner.Steps.{untried, taken_back};
+ghost use Rattle.permit_core.specs.inner.Trials.{EachPair, AreTried};
+
+use crate::choice::Choice;
+use flow_set::{Flow, FlowSet};
+use inv_law::Stepwise;
+use std::alloc::{AllocError, Global};
+
+/// A trial of each invariant, with the flows of `e`.
+pub fn trials_of<I: Stepwise>(
+    alloc: Global,
+    invs: &[I],
+    e: &FlowSet,
+) -> Result<Vec<I::Tried>, AllocError>
+    requires { All (λ inv. I.size_of inv ≡ e.now.size) invs.now }
+    ensures tried { IfOk result (λ trials. AreTried I.fits I.Tried.tried (λ _. true) invs.now trials.items e.now.flows) }
+    ensures begun { IfOk result (λ trials. EachPair (λ inv t. I.Tried.tried t ≡ untried e.now) invs.now trials.items) }
+{
+    let mut trials = Vec::with_capacity(alloc, invs.len())?;
+    for inv in invs {
+        trials.push(inv.trial(alloc, e)?)?;
+    }
+    Ok(trials)
+}
+
+/// Puts the flow into the trials of the chosen invariants where all of these hold with it, and answers
+/// whether they do. Where one does not, the trials have the flows that they had. The trials of the other
+/// invariants stay as they are.
+pub fn step_chosen<I: Stepwise, C: Choice<I>>(
+    choice: &C,
+    invs: &[I],
+    trials: &mut Vec<I::Tried>,
+    f: Flow,
+) -> bool
+    requires counted { length trials.old.items ≡ length invs.now }
+    requires fits { EachPair I.fits invs.now trials.old.items }
+    requires flow { All (λ inv. IsFlow (I.size_of inv) f) invs.now }
+    requires held { EachPair (λ inv t. IsTrue (C.chosen choice.now inv)
+        → I.holds_on inv (I.Tried.tried t).flows) invs.now trials.old.items }
+    ensures counted { length trials.new.items ≡ length trials.old.items }
+    ensures fits { EachPair I.fits invs.now trials.new.items }
+    ensures answer { IsTrue result ↔ EachPair (λ inv t. IsTrue (C.chosen choice.now inv)
+        → I.holds_on inv (with_flow (I.Tried.tried t).flows f)) invs.now trials.old.items }
+    ensures flows { (k : ℕ) (x : I) (t : I.Tried) → k < length invs.now
+        → IsTrue (C.chosen choice.now (slice_index_or invs.now k x))
+        → let before = (I.Tried.tried (slice_index_or trials.old.items k t)).flows in
+        (I.Tried.tried (slice_index_or trials.new.items k t)).flows ≡ (if result then with_flow before f else before) }
+    ensures others { (k : ℕ) (x : I) (t : I.Tried) → k < length invs.now
+        → IsFalse (C.chosen choice.now (slice_index_or invs.now k x))
+        → slice_index_or trials.new.items k t ≡ slice_index_or trials.old.items k t }
+{
+    for i in 0..invs.len() {
+        if choice.chooses(&invs[i]) {
+            if !invs[i].step(&mut trials[i], f) {
+                take_back(choice, invs, trials, i + 1);
+                return false;
+            }
+        }
+    }
+    true
+}
+
+// Takes the last step of the chosen ones among the first `count` trials back.
+fn take_back<I: Stepwise, C: Choice<I>>(
+    choice: &C,
+    invs: &[I],
+    trials: &mut Vec<I::Tried>,
+    count: usize,
+)
+    requires counted { length trials.old.items ≡ length invs.now }
+    requires within { count ≤ length invs.now }
+    requires fits { EachPair I.fits invs.now trials.old.items }
+    requires stepped { (k : ℕ) (x : I) (t : I.Tried) → k < count
+        → IsTrue (C.chosen choice.now (slice_index_or invs.now k x))
+        → IsSome (I.Tried.tried (slice_index_or trials.old.items k t)).before_step }
+    ensures counted { length trials.new.items ≡ length trials.old.items }
+    ensures fits { EachPair I.fits invs.now trials.new.items }
+    ensures back { (k : ℕ) (x : I) (t : I.Tried) → k < count
+        → IsTrue (C.chosen choice.now (slice_index_or invs.now k x))
+        → I.Tried.tried (slice_index_or trials.new.items k t)
+        ≡ taken_back (I.Tried.tried (slice_index_or trials.old.items k t)) }
+    ensures others { (k : ℕ) (x : I) (t : I.Tried) → k < count
+        → IsFalse (C.chosen choice.now (slice_index_or invs.now k x))
+        → slice_index_or trials.new.items k t ≡ slice_index_or trials.old.items k t }
+    ensures rest { (k : ℕ) (t : I.Tried) → count ≤ k
+        → slice_index_or trials.new.items k t ≡ slice_index_or trials.old.items k t }
+{
+    for i in 0..count {
+        if choice.chooses(&invs[i]) {
+            invs[i].back(&mut trials[i]);
+        }
+    }
+}

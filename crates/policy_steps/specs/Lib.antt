@@ -1,2 +1,0 @@
-pub mod FailingFlows
-pub mod inner

@@ -1,3 +1,0 @@
-pub mod EdgePolicies
-pub mod FailingFlows
-pub mod Policed

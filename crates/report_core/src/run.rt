@@ -1,0 +1,84 @@
+//! The runs of a rule set and of a flow table over a list of events, beginning with no connections.
+
+ghost use Rattle.std.specs.Prelude.{◌≡◌, ◌∷◌, List, Option, Bool, IfOk};
+ghost use Rattle.host_net.specs.Verdict.{verdict_if};
+ghost use Rattle.ipt_rules.specs.Meaning.{Passes};
+ghost use Rattle.ofp_rules.specs.Meaning.{Passes as TablePasses};
+ghost use Rattle.pkt_core.specs.declared.event.Event.{Event as EventOf};
+ghost use Rattle.pkt_core.specs.inner.Kept.{kept_in};
+ghost use Rattle.pkt_core.specs.Tracking.{Runs, nothing_kept};
+ghost use Rattle.report_core.specs.Trace.{IsTrace};
+
+use crate::line::push_answer;
+use host_net::Verdict;
+use ipt_rules::Ruleset;
+use ofp_rules::{Frame, Table};
+use pkt_core::{Event, Track};
+use std::alloc::{AllocError, Global};
+
+/// What the rules do with each event, one line each. A packet meets them in the state that the
+/// events before it gave its connection.
+pub fn trace_rules(alloc: Global, rules: &Ruleset, events: &[Event]) -> Result<Vec<u8>, AllocError>
+    ensures { IfOk result (λ text. IsTrace (Passes rules.now) events.now text.items) }
+{
+    let mut track = Track::new(alloc);
+    let mut text = Vec::new(alloc);
+    for (place, event) in events.iter().enumerate() {
+        let answer = answer(rules, &mut track, *event)?;
+        push_answer(&mut text, place + 1, answer)?;
+    }
+    Ok(text)
+}
+
+/// What the entries do with each event, one line each. A packet meets them as an IPv4 frame, and
+/// whatever came before makes no difference to it.
+pub fn trace_table(alloc: Global, table: &Table, events: &[Event]) -> Result<Vec<u8>, AllocError>
+    ensures { IfOk result (λ text. IsTrace (TablePasses table.now) events.now text.items) }
+{
+    let mut text = Vec::new(alloc);
+    for (place, event) in events.iter().enumerate() {
+        push_answer(&mut text, place + 1, table_answer(table, *event))?;
+    }
+    Ok(text)
+}
+
+/// The answer to one event, which is tracked: a run over what follows is one over this event and what
+/// follows.
+fn answer(rules: &Ruleset, track: &mut Track, event: Event) -> Result<Option<bool>, AllocError>
+    ensures { IfOk result (λ answer. (events : List EventOf) (answers : List (Option Bool))
+        → Runs (Passes rules.now) (kept_in track.new) events answers
+        → Runs (Passes rules.now) (kept_in track.old) (event ∷ events) (answer ∷ answers)) }
+{
+    match event {
+        Event::Seen(packet) => {
+            let passes = is_forward(rules.verdict(&packet, track.state_of(&packet)));
+            track.step(&packet, passes)?;
+            Ok(Some(passes))
+        }
+        Event::Forget(packet) => {
+            track.forget(&packet);
+            Ok(None)
+        }
+    }
+}
+
+/// The answer to one event. Since it keeps no connections, a table runs from none at each event.
+fn table_answer(table: &Table, event: Event) -> Option<bool>
+    ensures { (events : List EventOf) (answers : List (Option Bool))
+        → Runs (TablePasses table.now) nothing_kept events answers
+        → Runs (TablePasses table.now) nothing_kept (event ∷ events) (result ∷ answers) }
+{
+    match event {
+        Event::Seen(packet) => Some(is_forward(table.verdict(&Frame::Ipv4(packet)))),
+        Event::Forget(_) => None,
+    }
+}
+
+fn is_forward(verdict: Verdict) -> bool
+    ensures { verdict ≡ verdict_if result }
+{
+    match verdict {
+        Verdict::Forward => true,
+        Verdict::Drop => false,
+    }
+}

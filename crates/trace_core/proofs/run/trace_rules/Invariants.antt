@@ -1,9 +1,0 @@
--- Whatever run is left over the events from here on, the text and its lines are those of the whole run.
-use Rattle.std.proofs.Common.{◌+◌, drop}
-use Rattle.ipt_rules.specs.Meaning.{Passes}
-use Rattle.pkt_core.specs.inner.Kept.{kept_in}
-use Rattle.trace_core.proofs.Steps.{Leaves}
-use Rattle.trace_core.proofs.run.trace_rules.Given as goal
-
-abbrev pub invariant-loop-place : goal.invariant-loop-place
-invariant-loop-place l = Leaves (Passes l.rules) l.events (kept_in l.track) (drop l.place l.events) (l.place + 1) l.text.items
