@@ -151,7 +151,7 @@ fn labelled(labels: &mut Vec<Name>, table: &Table) -> Result<Option<(u64, u64)>,
     }
 }
 
-#[tactic(auto, using(tmpl_levels::specs::TaintingLaws::own_by_mask))]
+#[tactic(auto, using(tmpl_levels::specs::laws::TaintingLaws::own_by_mask))]
 fn are_among(untaints: u64, taints: u64) -> bool
     ensures said { result ≡ are_among untaints taints }
     ensures own { IsTrue result → TakesOffItsOwn (record { taints = taints; untaints = untaints }) }

@@ -44,7 +44,7 @@ fn same_address(one: Option<AddrMatch>, other: Option<AddrMatch>) -> bool
     }
 }
 
-#[tactic(auto, using(host_net::specs::PrefixTextLaws::prefix_same))]
+#[tactic(auto, using(host_net::proofs::PrefixTextLaws::prefix_same))]
 fn same_prefix(one: Prefix, other: Prefix) -> bool
     ensures { IsTrue result → one ≡ other }
 {

@@ -100,7 +100,7 @@ fn answering() -> Option<StateMatch> {
 
 // FORWARD drops, but for packets from a to b and, where answers pass, from b to a on connections
 // that stand.
-#[tactic(auto, using(ipt_rules::specs::ChainLaws::length_with_policy, ipt_rules::specs::ChainLaws::rule_count_with_policy, ipt_rules::specs::ChainLaws::length_with_rule, ipt_rules::specs::ChainLaws::rule_count_with_rule))]
+#[tactic(auto, using(ipt_rules::proofs::ChainLaws::length_with_policy, ipt_rules::proofs::ChainLaws::rule_count_with_policy, ipt_rules::proofs::ChainLaws::length_with_rule, ipt_rules::proofs::ChainLaws::rule_count_with_rule))]
 fn chains(alloc: Global, answers: bool) -> Option<Ruleset> {
     let mut chains = Chains::new(alloc).ok()?;
     chains.set_policy(1, Policy::Drop);

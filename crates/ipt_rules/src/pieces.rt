@@ -20,7 +20,7 @@ pub(crate) fn put_negation(buffer: &mut [u8; 320], at: usize, negated: bool) -> 
     put(buffer, at, if negated { b" !" } else { b"" })
 }
 
-#[tactic(auto, using(text_core::specs::LineLaws::nothing_put))]
+#[tactic(auto, using(text_core::proofs::LineLaws::nothing_put))]
 pub(crate) fn put_address_part(
     buffer: &mut [u8; 320],
     at: usize,
@@ -41,7 +41,7 @@ pub(crate) fn put_address_part(
     }
 }
 
-#[tactic(auto, using(text_core::specs::LineLaws::nothing_put))]
+#[tactic(auto, using(text_core::proofs::LineLaws::nothing_put))]
 pub(crate) fn put_state_part(buffer: &mut [u8; 320], at: usize, part: Option<StateMatch>) -> usize
     requires { at ≤ 320 }
     ensures text { take result buffer.new ≡ cut 320 (take at buffer.old ++ state_text part) }
@@ -71,7 +71,7 @@ fn put_states(buffer: &mut [u8; 320], at: usize, new: bool, established: bool) -
     }
 }
 
-#[tactic(auto, using(text_core::specs::LineLaws::nothing_put))]
+#[tactic(auto, using(text_core::proofs::LineLaws::nothing_put))]
 pub(crate) fn put_target(
     buffer: &mut [u8; 320],
     at: usize,

@@ -27,7 +27,7 @@ fn asks_for_ports(rule: Rule) -> bool
     rule.sport.is_some() || rule.dport.is_some()
 }
 
-#[tactic(auto, using(text_core::specs::LineLaws::nothing_put))]
+#[tactic(auto, using(text_core::proofs::LineLaws::nothing_put))]
 fn put_protocol_part(buffer: &mut [u8; 320], at: usize, part: Option<ProtoMatch>) -> usize
     requires { at ≤ 320 }
     ensures text { take result buffer.new ≡ cut 320 (take at buffer.old ++ protocol_part_text part) }
@@ -43,7 +43,7 @@ fn put_protocol_part(buffer: &mut [u8; 320], at: usize, part: Option<ProtoMatch>
     }
 }
 
-#[tactic(auto, using(text_core::specs::LineLaws::nothing_put))]
+#[tactic(auto, using(text_core::proofs::LineLaws::nothing_put))]
 fn put_module(buffer: &mut [u8; 320], at: usize, part: Option<ProtoMatch>, ports: bool) -> usize
     requires { at ≤ 320 }
     ensures text { take result buffer.new ≡ cut 320 (take at buffer.old ++ module_text part ports) }
@@ -71,7 +71,7 @@ fn put_protocol(buffer: &mut [u8; 320], at: usize, proto: u8) -> usize
     }
 }
 
-#[tactic(auto, using(text_core::specs::LineLaws::nothing_put))]
+#[tactic(auto, using(text_core::proofs::LineLaws::nothing_put))]
 fn put_port_part(buffer: &mut [u8; 320], at: usize, option: &[u8], part: Option<PortMatch>) -> usize
     requires { at ≤ 320 }
     ensures text { take result buffer.new ≡ cut 320 (take at buffer.old ++ port_text option.now part) }
@@ -96,7 +96,7 @@ fn put_ports(buffer: &mut [u8; 320], at: usize, low: u16, high: u16) -> usize
     put_last_port(buffer, first, low, high)
 }
 
-#[tactic(auto, using(text_core::specs::LineLaws::nothing_put))]
+#[tactic(auto, using(text_core::proofs::LineLaws::nothing_put))]
 fn put_last_port(buffer: &mut [u8; 320], at: usize, low: u16, high: u16) -> usize
     requires { at ≤ 320 }
     ensures text { take result buffer.new ≡ cut 320 (take at buffer.old ++ (if nat_lt low high then codes ":" ++ decimal high else [])) }

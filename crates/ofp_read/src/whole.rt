@@ -76,7 +76,7 @@ impl LineReader for FlowReader {
 }
 
 /// The entries with one more.
-#[tactic(auto, using(ofp_rules::specs::AddingLaws::contradicts_none, ofp_rules::specs::AddingLaws::fewer_than_most))]
+#[tactic(auto, using(ofp_rules::proofs::AddingLaws::contradicts_none, ofp_rules::proofs::AddingLaws::fewer_than_most))]
 fn with_entry(mut table: Table, entry: Entry) -> Result<FlowReader, LineFault<OfpWhy>>
     requires { IsTrue (asks_of_ip entry) }
     ensures added { IfOk result (λ now. now.table ≡ table ++ entry ∷ []) }

@@ -54,7 +54,7 @@ fn write_entry_line(entry: Entry, buffer: &mut [u8; 256]) -> usize
     put(buffer, action, b"\n")
 }
 
-#[tactic(auto, using(text_core::specs::LineLaws::nothing_put))]
+#[tactic(auto, using(text_core::proofs::LineLaws::nothing_put))]
 fn put_kind(buffer: &mut [u8; 256], at: usize, kind: FrameKind, proto: Option<u8>) -> usize
     requires { at ≤ 256 }
     ensures text { take result buffer.new ≡ cut 256 (take at buffer.old ++ kind_text kind proto) }
@@ -91,7 +91,7 @@ fn put_other_protocol(buffer: &mut [u8; 256], at: usize, proto: u8) -> usize
     put(buffer, number, b",")
 }
 
-#[tactic(auto, using(text_core::specs::LineLaws::nothing_put))]
+#[tactic(auto, using(text_core::proofs::LineLaws::nothing_put))]
 fn put_part(buffer: &mut [u8; 256], at: usize, name: &[u8], part: Option<Prefix>) -> usize
     requires { at ≤ 256 }
     ensures text { take result buffer.new ≡ cut 256 (take at buffer.old ++ part_text name.now part) }
@@ -107,7 +107,7 @@ fn put_part(buffer: &mut [u8; 256], at: usize, name: &[u8], part: Option<Prefix>
     }
 }
 
-#[tactic(auto, using(text_core::specs::LineLaws::nothing_put))]
+#[tactic(auto, using(text_core::proofs::LineLaws::nothing_put))]
 fn put_port(buffer: &mut [u8; 256], at: usize, name: &[u8], port: Option<u16>) -> usize
     requires { at ≤ 256 }
     ensures text { take result buffer.new ≡ cut 256 (take at buffer.old ++ port_text name.now port) }
