@@ -1,4 +1,4 @@
--- What is true of the hosts of a network, however they were added (the description's format, docs/FORMATS.md).
+-- The prefixes of hosts, of all together.
 use Rattle.std.specs.Prelude.{List}
 use Rattle.std.specs.List.{flat_map}
 use Rattle.host_net.specs.Host.{Host}

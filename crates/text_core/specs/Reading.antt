@@ -1,4 +1,4 @@
--- Reading a text line by line: each line is a step from one state to the next, or refused for a reason. The first line that is refused ends the reading, with its number. A comment is passed over.
+-- A grammar by lines: what a text says, line by line. Comments are passed over.
 use Rattle.std.specs.Prelude.{◌≡◌, ℕ, ◌+◌, List, [], ◌∷◌, IsTrue, IsFalse, ◌⊎◌}
 use Rattle.text_core.specs.Lines.{is_comment}
 
