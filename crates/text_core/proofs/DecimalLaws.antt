@@ -1,67 +1,50 @@
 -- Laws of decimal numbers: a text is read as a number exactly where it is the number's decimal text.
-use Rattle.std.proofs.Common.{◌≡◌, ℕ, ◌≤◌, ◌<◌, ◌^◌, true, false, nat_eq, Option, IfSome, List, [], ◌∷◌, Some, None, length, get_or, refl, sym, ◌∙◌, ap, inl, inr, arith, rules}
+use Rattle.std.proofs.Common.{◌≡◌, ℕ, ◌≤◌, ◌<◌, ◌^◌, true, false, ◌&&◌, nat_eq, nat_le, Option, IfSome, List, [], ◌∷◌, Some, None, refl, sym, ◌∙◌, ap, arith, rules}
+use Rattle.std.specs.Prelude.{bytes_eq}
 use Rattle.std.specs.Fmt.{decimal}
 use Rattle.std.specs.Char.{is_ascii_digit}
 use Rattle.std.specs.Str.{all_ascii_digits}
-use Rattle.text_core.proofs.PiecesLaws.{lacks}
-use Rattle.std.proofs.lemmas.Bool.{cases_lt}
+use Rattle.std.specs.Str.Parse.{digits_value}
+use Rattle.std.proofs.lemmas.Bool.{and_parts}
 use Rattle.std.proofs.lemmas.Bool.Decides.{nat_tests}
-use Rattle.std.proofs.lemmas.Fmt.{decimal_digit, decimal_nonempty, first_decimal, digits_decimal, digits_value-decimal, decimal-digits_value}
+use Rattle.std.proofs.lemmas.Fmt.{decimal_is_IsNumeral, digits_decimal}
 use Rattle.std.proofs.lemmas.Str.Parse.{IsNumeralModel, numerals_by_fold}
-use Rattle.text_core.specs.Decimal.{value_from, bounded_value, is_empty_or_padded, number}
+use Rattle.text_core.specs.Decimal.{number}
+use Rattle.text_core.specs.Firsts.{where_holds}
+use Rattle.text_core.specs.inner.DecimalSteps.{value_from}
+use Rattle.text_core.proofs.FirstsLaws.{where_parts}
+use Rattle.text_core.proofs.PiecesLaws.{lacks}
+use Rattle.text_core.proofs.StepsLaws.{bytes_same, bytes_own}
 
-own : IsNumeralModel (λ ds. all_ascii_digits ds ≡ true) (value_from 0)
+-- digits in the words of the reader
+pub own : IsNumeralModel (λ ds. all_ascii_digits ds ≡ true) (value_from 0)
 own = numerals_by_fold _ (search rules) value_from (search rules)
 
-not_padded : (bs : List ℕ) → 0 < length bs → 48 < get_or bs 0 0 → is_empty_or_padded bs ≡ false
-not_padded [] h high = absurd (omega arith)
-not_padded (b ∷ []) h high = refl
-not_padded (b ∷ c ∷ bs) h high = grind (arith, nat_tests)
+-- a number, where a text is its decimal
+abbrev told : ℕ → List ℕ → ℕ → Option ℕ
+told most text n = where_holds (bytes_eq text (decimal n) && nat_le n most) n
 
--- a decimal text has no zero in front of more
-decimal_front : (n : ℕ) → n < 2 ^ 64 → is_empty_or_padded (decimal n) ≡ false
-decimal_front n fits = elim (cases_lt n 10) [
-  | inl short ↦ rw (decimal_digit n short) refl
-  | inr long ↦ not_padded (decimal n) (decimal_nonempty n fits) (first_decimal n (omega arith) fits)
-]
-
-bounded_gives : (most n : ℕ) (bs : List ℕ) → all_ascii_digits bs ≡ true → value_from 0 bs ≡ n → n ≤ most → bounded_value most 0 bs ≡ Some n
-unfolding bounded_value
-bounded_gives most n bs digits value h = grind (arith, nat_tests)
+told_own : (most n : ℕ) → n ≤ most → told most (decimal n) n ≡ Some n
+told_own most n h =
+    let small : nat_le n most ≡ true = grind (arith, nat_tests) in
+    rw (bytes_own (decimal n), small) refl
 
 -- what is written is read
 pub number-decimal : (most n : ℕ) → n ≤ most → n < 2 ^ 64 → number most (decimal n) ≡ Some n
 unfolding number
-number-decimal most n h fits =
-    rw (decimal_front n fits) (bounded_gives most n (decimal n) (digits_decimal own n fits) (digits_value-decimal own n fits) h)
+number-decimal most n h fits = ap (told most (decimal n)) (decimal_is_IsNumeral n fits).1 ∙ told_own most n h
 
--- what a number that was read says of its text
-record IsRead (most : ℕ) (bs : List ℕ) (n : ℕ) : Type 0 where
-  front : is_empty_or_padded bs ≡ false
-  digits : all_ascii_digits bs ≡ true
-  value : value_from 0 bs ≡ n
-  bounded : n ≤ most
-
-read_parts : (most : ℕ) (bs : List ℕ) (n : ℕ) → number most bs ≡ Some n → IsRead most bs n
-unfolding number bounded_value
-read_parts most bs n read = grind (arith, nat_tests)
-
-single_zero : (bs : List ℕ) → is_empty_or_padded bs ≡ false → get_or bs 0 0 ≡ 48 → length bs ≡ 1
-single_zero [] front zero = cc
-single_zero (b ∷ []) front zero = refl
-single_zero (b ∷ c ∷ bs) front zero = grind (arith, nat_tests)
-
-nonempty : (bs : List ℕ) → is_empty_or_padded bs ≡ false → 0 < length bs
-nonempty [] front = cc
-nonempty (b ∷ bs) front = omega arith
+within : (n most : ℕ) → nat_le n most ≡ true → n ≤ most
+within n most h = grind (arith, nat_tests)
 
 -- what is read was written
 pub decimal_of_number : (most : ℕ) (bs : List ℕ) (n : ℕ) → most < 2 ^ 64 → number most bs ≡ Some n → (bs ≡ decimal n) × (n ≤ most)
+unfolding number
 decimal_of_number most bs n small read =
-    let parts = read_parts most bs n read in
-    let fits : value_from 0 bs < 2 ^ 64 = omega (arith, parts.value, parts.bounded) in
-    let written = decimal-digits_value own bs parts.digits (nonempty bs parts.front) (single_zero bs parts.front) fits in
-    (sym written ∙ ap decimal parts.value, parts.bounded)
+    let m : ℕ = digits_value 10 bs in
+    let parts = where_parts (bytes_eq bs (decimal m) && nat_le m most) m n read in
+    let (same, bounded) = and_parts (bytes_eq bs (decimal m)) (nat_le m most) parts.0 in
+    (bytes_same bs (decimal m) same ∙ ap decimal parts.1, within n most (ap (λ k. nat_le k most) (sym parts.1) ∙ bounded))
 
 -- a decimal text has digits alone
 pub decimal_digits : (n : ℕ) → n < 2 ^ 64 → all_ascii_digits (decimal n) ≡ true

@@ -23,6 +23,11 @@ holds_not false x h = refl
 pub some_same : {A : Type 0} (x y : A) → Some x ≡ Some y → x ≡ y
 some_same x y h = cc
 
+-- the condition holds, and the answer is this one
+pub where_parts : {A : Type 0} (holds : Bool) (x y : A) → where_holds holds x ≡ Some y → (holds ≡ true) × (x ≡ y)
+where_parts true x y h = (refl, some_same x y h)
+where_parts false x y h = cc
+
 missed : {A : Type 0} (t : Bool) (x : A) (o : Option A) → cond t (Some x) o ≡ None → (not t ≡ true) × (o ≡ None)
 missed true x o h = cc
 missed false x o h = (refl, h)

@@ -7,7 +7,7 @@ use Rattle.std.proofs.lemmas.List.{take_all}
 use Rattle.std.proofs.lemmas.List.Quantifiers.{position-Some}
 use Rattle.std.proofs.lemmas.List.Sums.{fails_before_first}
 use lib.ListN.{take-append-drop}
-use Rattle.text_core.specs.Pieces.{split_once}
+use Rattle.text_core.specs.inner.Pieces.{split_once}
 use Rattle.text_core.proofs.PiecesLaws.{lacks, lacks_parts, split_once_joined, split_once_front}
 use Rattle.text_core.specs.Lines.{lines, is_blank, ends_word, words}
 

@@ -4,7 +4,7 @@ use Rattle.std.proofs.lemmas.Bool.Decides.{nat_tests}
 use Rattle.std.specs.List.{position, position_or_len}
 use Rattle.std.proofs.lemmas.List.{take_all}
 use Rattle.std.proofs.lemmas.List.Quantifiers.{position-Some}
-use Rattle.text_core.specs.Pieces.{split_once}
+use Rattle.text_core.specs.inner.Pieces.{split_once}
 use Rattle.text_core.proofs.PiecesLaws.{lacks}
 
 pub split_at_place : (mark i : ℕ) (bs : List ℕ) → i < length bs → nat_eq (get_or bs i 0) mark ≡ true → ((k : ℕ) → k < i → nat_eq (get_or bs k 0) mark ≡ false) → split_once mark bs ≡ Some (take i bs, drop (suc i) bs)

@@ -35,6 +35,11 @@ all_read {S = S} text bytes left s number short end so_far =
     let whole : lines bytes ≡ so_far.front = so_far.parts ∙ ap (λ xs. so_far.front ++ xs) end ∙ append-nil so_far.front in
     record { short = short; told = subst (λ (ls : List (List ℕ)). AreLines text ls s) (sym whole) so_far.told }
 
+pub all_counted : {S W : Type 0} (text : TextByLines S W) (bytes : List ℕ) (left : List (List ℕ)) (s : S) (number : ℕ) → left ≡ []
+    → IsSoFar text (lines bytes) left s number → number ≡ length (lines bytes)
+all_counted text bytes left s number end so_far =
+    so_far.count ∙ sym (ap length (so_far.parts ∙ ap (λ xs. so_far.front ++ xs) end ∙ append-nil so_far.front))
+
 pub one_bad : {S W : Type 0} (text : TextByLines S W) (bytes : List ℕ) (left rest : List (List ℕ)) (s : S) (number : ℕ) (l : List ℕ) (fault : TextFault W)
     → length bytes ≤ text.byte_limit → left ≡ l ∷ rest → IsSoFar text (lines bytes) left s number → Stops text (number + 1) s l fault
     → HasCause text bytes fault

@@ -1,5 +1,5 @@
 -- Laws of steps.
-use Rattle.std.proofs.Common.{◌≡◌, ℕ, Bool, true, false, List, Option, Some, None, ◌⊎◌, inl, inr, refl, ap}
+use Rattle.std.proofs.Common.{◌≡◌, ℕ, Bool, true, false, List, Option, Some, None, ◌⊎◌, inl, inr, refl, sym, ap}
 use Rattle.std.specs.Prelude.{if◌then◌else◌, bytes_eq, Ok}
 use Rattle.std.specs.Option.{ok_or, option_map}
 use Rattle.std.proofs.lemmas.Slice.Eq.{bytes_eq-Decides}
@@ -38,3 +38,9 @@ split_bool false f g = g refl
 -- texts that a test tells apart are not found equal
 pub bytes_apart : (a b : List ℕ) (p : List ℕ → Bool) → p a ≡ true → p b ≡ false → bytes_eq a b ≡ false
 bytes_apart a b p holds fails = split_bool (bytes_eq a b) (λ same. let e = ap p (bytes_same a b same) in cc) (λ other. other)
+
+-- two answers are one where each gives what the other does
+pub same_options : {A : Type 0} (o p : Option A) → ((x : A) → o ≡ Some x → p ≡ Some x) → ((x : A) → p ≡ Some x → o ≡ Some x) → o ≡ p
+same_options (Some x) p gives given = sym (gives x refl)
+same_options None (Some x) gives given = given x refl
+same_options None None gives given = refl

@@ -1,22 +1,14 @@
 -- Decimal numbers in texts: digits alone, no sign, no leading zero.
-use Rattle.std.specs.Prelude.{ℕ, ◌+◌, ◌*◌, ◌-◌, Bool, true, false, ◌&&◌, ◌==◌, nat_le, if◌then◌else◌, List, [], ◌∷◌, Option, Some, None}
-use Rattle.std.specs.Str.{all_ascii_digits}
+use Rattle.std.specs.Prelude.{ℕ, not, ◌&&◌, nat_lt, nat_le, List, length, map, filter, Option, decimal, bytes_eq}
+use Rattle.std.specs.Char.{is_ascii_digit}
+use Rattle.std.specs.List.{slice_split}
+use Rattle.std.specs.Str.Parse.{digits_value}
+use Rattle.text_core.specs.Firsts.{where_holds}
 
--- the number that digits say, read on from the number that the digits before them said
-abbrev pub value_from : ℕ → List ℕ → ℕ
-value_from n [] = n
-value_from n (b ∷ bs) = value_from (10 * n + (b - 48)) bs
-
--- that number, where there are digits alone and it is at most `most`
-unfoldable pub bounded_value : ℕ → ℕ → List ℕ → Option ℕ
-bounded_value most n bs = if all_ascii_digits bs && nat_le (value_from n bs) most then Some (value_from n bs) else None
-
--- no text at all, or a zero in front of more
-abbrev pub is_empty_or_padded : List ℕ → Bool
-is_empty_or_padded [] = true
-is_empty_or_padded (b ∷ []) = false
-is_empty_or_padded (b ∷ c ∷ bs) = b == 48
-
--- the number, at most `most`, that a text says
+-- the number, at most `most`, whose decimal the text is
 unfoldable pub number : ℕ → List ℕ → Option ℕ
-number most bs = if is_empty_or_padded bs then None else bounded_value most 0 bs
+number most text = let n = digits_value 10 text in where_holds (bytes_eq text (decimal n) && nat_le n most) n
+
+-- the numbers that stand in a text: one for each run of digits
+abbrev pub numbers_in : List ℕ → List ℕ
+numbers_in text = map (digits_value 10) (filter (λ run. nat_lt 0 (length run)) (slice_split (λ b. not (is_ascii_digit b)) text))

@@ -2,7 +2,6 @@ pub mod Decimal
 pub mod Firsts
 pub mod Lines
 pub mod Name
-pub mod Pieces
 pub mod Reading
 pub mod Steps
 pub mod TextByLines

@@ -1,6 +1,8 @@
+pub mod DecimalSteps
 pub mod FirstsView
 pub mod Line
 pub mod Padded
 pub mod Pairs
+pub mod Pieces
 pub mod Reading
 pub mod TextAnswers

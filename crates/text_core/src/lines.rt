@@ -24,6 +24,7 @@ impl<'a> Model for Lines<'a> {
 }
 
 impl<'a> Lines<'a> {
+    /// The lines of a text, of which none is taken off yet.
     pub fn new(text: &'a [u8]) -> Lines<'a>
         ensures { result ≡ lines text.now }
     {
@@ -71,6 +72,7 @@ impl<'a> Model for Words<'a> {
 }
 
 impl<'a> Words<'a> {
+    /// The words of a line, of which none is taken off yet.
     pub fn new(line: &'a [u8]) -> Words<'a>
         ensures { result ≡ words line.now }
     {
@@ -126,7 +128,8 @@ fn place_of_blank(line: &[u8]) -> Option<usize>
     line.iter().position(|byte| is_blank(*byte))
 }
 
-fn is_blank(byte: u8) -> bool
+/// Whether the byte parts words: a space or a tab.
+pub fn is_blank(byte: u8) -> bool
     ensures { result ≡ is_blank byte }
 {
     byte == b' ' || byte == b'\t'
@@ -143,6 +146,7 @@ pub fn is_comment(line: &[u8]) -> bool
     }
 }
 
+/// Whether the first byte of the text is the mark.
 pub fn begins_with(text: &[u8], mark: u8) -> bool
     ensures { result ≡ begins_with mark text.now }
 {

@@ -2,7 +2,7 @@
 
 ghost use Rattle.std.specs.Prelude.{◌≡◌, ◌≢◌, ◌==◌, ◌∷◌, ◌++◌, All, IfNone, IfSome, position};
 ghost use Rattle.std.specs.Option.{option_map};
-ghost use Rattle.text_core.specs.Pieces.{split_once};
+ghost use Rattle.text_core.specs.inner.Pieces.{split_once};
 
 /// The text before the first `mark` and the text after it, or None where no `mark` stands in it.
 pub fn split_once(text: &[u8], mark: u8) -> Option<(&[u8], &[u8])>

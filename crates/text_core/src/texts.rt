@@ -1,7 +1,8 @@
 //! Reading a text line by line: one loop for all readers. A reader says what a line adds, or why it
 //! cannot stand where it stands; the first line that cannot ends the reading.
 
-ghost use Rattle.std.specs.Prelude.{◌≡◌, ◌<◌, ◌^◌, ℕ, List, Ok, Err, IfOk, IfErr};
+ghost use Rattle.std.specs.Prelude.{◌≡◌, ◌<◌, ◌^◌, ℕ, List, length, Ok, Err, IfOk, IfErr, IsFalse};
+ghost use Rattle.text_core.specs.Lines.{lines, is_comment};
 ghost use Rattle.text_core.specs.TextByLines.{TextByLines, IsReadThrough};
 ghost use Rattle.text_core.specs.inner.TextAnswers.{HasCause, HasReason, Passes, Stops};
 
@@ -30,7 +31,8 @@ pub trait LineReader: Sized + Drop {
 
     /// Reads one line more, which is no comment.
     fn read_line(self, number: u32, line: &[u8]) -> Result<Self, LineFault<Self::Why>>
-        requires { holds self }
+        requires holds { holds self }
+        requires not_comment { IsFalse (is_comment line.now) }
         ensures holds { IfOk result holds }
         ensures ok { IfOk result (λ next. text.IsLine number (said self) line.now (said next)) }
         ensures err { IfErr result (HasReason (text.IsBadLine number (said self) line.now)) };
@@ -44,6 +46,24 @@ pub fn read_lines<R: LineReader>(start: R, bytes: &[u8]) -> Result<R, TextFault<
     ensures read { IfOk result (λ reader. IsReadThrough R.text bytes.now (R.said reader)) }
     ensures refused { IfErr result (HasCause R.text bytes.now) }
 {
+    match read_counted_lines(start, bytes) {
+        Ok((reader, _)) => Ok(reader),
+        Err(fault) => Err(fault),
+    }
+}
+
+/// Reads a text to its last line, as `read_lines` does, and answers how many lines it has beside.
+pub fn read_counted_lines<R: LineReader>(
+    start: R,
+    bytes: &[u8],
+) -> Result<(R, u32), TextFault<R::Why>>
+    requires holds { R.holds start }
+    requires start { R.said start ≡ R.text.start }
+    ensures holds { IfOk result (λ read. R.holds read.0) }
+    ensures read { IfOk result (λ read. IsReadThrough R.text bytes.now (R.said read.0)) }
+    ensures counted { IfOk result (λ read. read.1 ≡ length (lines bytes.now)) }
+    ensures refused { IfErr result (HasCause R.text bytes.now) }
+{
     let (limit, why) = start.limit();
     if bytes.len() > limit {
         return Err(TextFault::Refused { line: 0, why });
@@ -55,7 +75,7 @@ pub fn read_lines<R: LineReader>(start: R, bytes: &[u8]) -> Result<R, TextFault<
         number += 1;
         reader = read_one(reader, number, line)?;
     }
-    Ok(reader)
+    Ok((reader, number))
 }
 
 /// One line more, or a comment.

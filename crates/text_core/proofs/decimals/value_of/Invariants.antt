@@ -1,5 +1,5 @@
 use Rattle.std.proofs.Common.{◌≡◌, ◌≤◌, drop}
-use Rattle.text_core.specs.Decimal.{bounded_value}
+use Rattle.text_core.specs.inner.DecimalSteps.{bounded_value}
 use Rattle.text_core.proofs.decimals.value_of.Given as goal
 
 abbrev pub invariant-loop-byte : goal.invariant-loop-byte

@@ -1,7 +1,7 @@
 use Rattle.std.proofs.Common.{◌≡◌, Err, arith, rules, tests}
 use Rattle.text_core.specs.Lines.{lines}
-use Rattle.text_core.proofs.SoFar.{nothing_read, one_more, all_read, one_bad, count_within, longer, not_longer}
-use Rattle.text_core.proofs.texts.read_lines.Goals as goal
+use Rattle.text_core.proofs.SoFar.{nothing_read, one_more, all_read, all_counted, one_bad, count_within, longer, not_longer}
+use Rattle.text_core.proofs.texts.read_counted_lines.Goals as goal
 
 pub returns-then-bytes-limit-clause-refused : goal.returns-then-bytes-limit-clause-refused
 returns-then-bytes-limit-clause-refused g c =
@@ -44,3 +44,7 @@ returns-clause-read g c =
     all_read g.R.LineReader.text c.args.bytes.now c.loop-line.lines (g.R.LineReader.said c.loop-line.reader) c.loop-line.number
     (not_longer g.R.LineReader.text c.args.bytes.now c.limit-limit.result c.limit-limit.ensures.limit c.if-bytes-limit.false)
     c.in_default.ensures.next c.loop-line.invariant.so_far
+
+pub returns-clause-counted : goal.returns-clause-counted
+returns-clause-counted g c =
+    all_counted g.R.LineReader.text c.args.bytes.now c.loop-line.lines (g.R.LineReader.said c.loop-line.reader) c.loop-line.number c.in_default.ensures.next c.loop-line.invariant.so_far

@@ -1,7 +1,7 @@
 use Rattle.std.proofs.Common.{length}
 use Rattle.text_core.specs.Lines.{lines}
 use Rattle.text_core.proofs.SoFar.{IsSoFar}
-use Rattle.text_core.proofs.texts.read_lines.Given as goal
+use Rattle.text_core.proofs.texts.read_counted_lines.Given as goal
 
 abbrev pub invariant-loop-line : goal.invariant-loop-line
 invariant-loop-line g l = record {
