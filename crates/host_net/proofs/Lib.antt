@@ -8,9 +8,11 @@ pub mod OverlapWords
 pub mod OwnerLaws
 pub mod PaddedLemmas
 pub mod PrefixLaws
+pub mod PrefixStepsLemmas
 pub mod PrefixTextLaws
 pub mod RangesKept
 pub mod RangesLemmas
+pub mod ServiceStepsLemmas
 pub mod ServiceTextLaws
 pub mod ServicesLaws
 pub mod ServicesLemmas

@@ -1,20 +1,25 @@
 -- Laws of the texts of prefixes: a text is read as a prefix exactly where it is a spelling of it.
-use Rattle.std.proofs.Common.{◌≡◌, ℕ, ◌+◌, ◌*◌, ◌/◌, ◌%◌, ◌^◌, ◌≤◌, ◌<◌, length, length-append, min, nat_eq, true, false, List, ◌∷◌, ◌++◌, Option, Some, None, inl, inr, refl, sym, ap, ◌∙◌, arith, subst}
+use Rattle.std.proofs.Common.{◌≡◌, ℕ, ◌+◌, ◌*◌, ◌/◌, ◌%◌, ◌^◌, ◌≤◌, ◌<◌, length, length-append, min, nat_eq, ◌==◌, Bool, true, false, ◌&&◌, ◌||◌, List, [], ◌∷◌, ◌++◌, take, slice_index_or, Option, Some, None, inl, inr, refl, sym, ap, ap₂, ◌∙◌, arith, subst, append_assoc, append-nil}
 use Rattle.std.proofs.Math.Bridge.{le_prop}
 use Rattle.std.specs.Char.{is_ascii_digit}
 use Rattle.std.specs.Fmt.{decimal}
-use Rattle.std.specs.Prelude.{IfSome}
+use Rattle.std.specs.Prelude.{IfSome, bytes_eq}
+use Rattle.std.proofs.lemmas.Bool.{and_parts, or_cases}
+use Rattle.std.proofs.lemmas.Bool.Decides.{nat_tests}
 use Rattle.std.proofs.lemmas.Nat.{shr-shr}
 use Rattle.std.proofs.lemmas.Fmt.{length-decimal-le}
-use Rattle.text_core.specs.Decimal.{number}
+use Rattle.text_core.specs.Decimal.{number, numbers_in}
 use Rattle.text_core.proofs.DecimalLaws.{number-decimal, decimal_of_number, decimal_lacks}
-use Rattle.text_core.specs.Pieces.{split_once}
-use Rattle.text_core.proofs.PiecesLaws.{lacks, lacks-append, split_once-append, split_once_none, split_once_joined}
-use Rattle.text_core.proofs.StepsLaws.{bind_some}
-use Rattle.text_core.proofs.FirstsLaws.{some_same}
+use Rattle.text_core.proofs.NumbersLaws.{numbers_in-decimal, numbers_in-append}
+use Rattle.text_core.specs.Firsts.{where_holds}
+use Rattle.text_core.proofs.FirstsLaws.{some_same, where_parts}
+use Rattle.text_core.specs.inner.Pieces.{split_once}
+use Rattle.text_core.proofs.PiecesLaws.{lacks, lacks-append, split_once-append, split_once_joined}
+use Rattle.text_core.proofs.StepsLaws.{bind_some, bytes_same, bytes_own}
 use Rattle.host_net.specs.declared.prefix.Prefix.{Prefix}
-use Rattle.host_net.specs.Prefix.{octet, address_text, address_of, prefix_text, prefix_with, prefix_of, prefix_of_parts}
+use Rattle.host_net.specs.Prefix.{octet, address_text, address_with, prefix_text, prefix_with, prefix_of, spells}
 use Rattle.host_net.specs.PrefixView.{IsSpelling}
+use Rattle.host_net.specs.inner.PrefixSteps.{address_of}
 
 -- a prefix is its address and its length
 pub prefix_same : (p q : Prefix) → p.addr ≡ q.addr → p.len ≡ q.len → p ≡ q
@@ -75,39 +80,13 @@ dotted_lacks mark a place rest other no_dot h =
     let behind : lacks mark (46 ∷ rest) ≡ true = rw (no_dot, h) refl in
     lacks-append mark (decimal (octet a place)) (46 ∷ rest) (octet_lacks mark a place other) behind
 
-address_lacks : (mark a : ℕ) → is_ascii_digit mark ≡ false → nat_eq 46 mark ≡ false → lacks mark (address_text a) ≡ true
+pub address_lacks : (mark a : ℕ) → is_ascii_digit mark ≡ false → nat_eq 46 mark ≡ false → lacks mark (address_text a) ≡ true
 unfolding address_text
 address_lacks mark a other no_dot =
     let last = octet_lacks mark a 0 other in
     let two = dotted_lacks mark a 8 (decimal (octet a 0)) other no_dot last in
     let three = dotted_lacks mark a 16 (decimal (octet a 8) ++ (46 ∷ decimal (octet a 0))) other no_dot two in
     dotted_lacks mark a 24 (decimal (octet a 16) ++ (46 ∷ (decimal (octet a 8) ++ (46 ∷ decimal (octet a 0))))) other no_dot three
-
--- every spelling is read
-read_with_length : (p : Prefix) → p.addr < 2 ^ 32 → prefix_of (prefix_text p) ≡ Some p
-unfolding prefix_of prefix_text
-read_with_length p fits =
-    rw (
-      split_once-append 47 (address_text p.addr) (decimal p.len) (address_lacks 47 p.addr refl refl),
-      address_of-address_text p.addr fits,
-      number-decimal 32 p.len p.fits (omega (arith, p.fits)),
-    )
-    (ap (λ q. Some q) (prefix_with_own p))
-
-read_alone : (p : Prefix) → p.addr < 2 ^ 32 → p.len ≡ 32 → prefix_of (address_text p.addr) ≡ Some p
-unfolding prefix_of
-read_alone p fits whole =
-    rw (
-      split_once_none 47 (address_text p.addr) (address_lacks 47 p.addr refl refl),
-      address_of-address_text p.addr fits,
-    )
-    (ap (λ q. Some q) (prefix_same (prefix_with p.addr 32) p refl (sym whole)))
-
-pub prefix_of-read : (text : List ℕ) (p : Prefix) → p.addr < 2 ^ 32 → IsSpelling text p → prefix_of text ≡ Some p
-prefix_of-read text p fits spelling = elim spelling [
-  | inl written ↦ ap prefix_of written ∙ read_with_length p fits
-  | inr alone ↦ ap prefix_of alone.1 ∙ read_alone p fits alone.0
-]
 
 -- the text of the address of four octets
 address_text-joined : (a b c d : ℕ) → a ≤ 255 → b ≤ 255 → c ≤ 255 → d ≤ 255
@@ -144,51 +123,120 @@ address_text-address_of text a read =
     one.0 ∙ ap (λ bs. decimal first.0 ++ (46 ∷ bs)) (two.0 ∙ ap (λ bs. decimal second.0 ++ (46 ∷ bs)) (three.0 ∙ ap (λ bs. decimal third.0 ++ (46 ∷ bs)) four.0)) in
     (whole ∙ sym (address_text-joined first.0 second.0 third.0 fourth.0 one.1 two.1 three.1 four.1) ∙ ap address_text sum, omega (arith, sum, one.1, two.1, three.1, four.1))
 
-spelled_parts : (text : List ℕ) (o : Option (List ℕ × List ℕ)) (p : Prefix) → split_once 47 text ≡ o → prefix_of_parts text o ≡ Some p
-    → IsSpelling text p
+-- the numbers in a text that begins with an address
+octet_small : (a place : ℕ) → octet a place < 2 ^ 64
+octet_small a place = omega (arith, octet_fits a place)
+
+abbrev octets : ℕ → List ℕ → List ℕ
+octets a behind = octet a 24 ∷ octet a 16 ∷ octet a 8 ∷ octet a 0 ∷ behind
+
+octets_in : (a : ℕ) (rest behind : List ℕ) → numbers_in (decimal (octet a 0) ++ rest) ≡ octet a 0 ∷ behind
+    → numbers_in (address_text a ++ rest) ≡ octets a behind
+unfolding address_text
+octets_in a rest behind last =
+    let fourth : List ℕ = decimal (octet a 0) in
+    let third : List ℕ = decimal (octet a 8) in
+    let second : List ℕ = decimal (octet a 16) in
+    let first : List ℕ = decimal (octet a 24) in
+    let whole : address_text a ++ rest ≡ first ++ (46 ∷ (second ++ (46 ∷ (third ++ (46 ∷ (fourth ++ rest)))))) =
+    append_assoc first (46 ∷ (second ++ (46 ∷ (third ++ (46 ∷ fourth))))) rest
+    ∙ ap (λ bs. first ++ (46 ∷ bs))
+    (append_assoc second (46 ∷ (third ++ (46 ∷ fourth))) rest ∙ ap (λ bs. second ++ (46 ∷ bs)) (append_assoc third (46 ∷ fourth) rest)) in
+    ap numbers_in whole
+    ∙ numbers_in-append (octet a 24) 46 (second ++ (46 ∷ (third ++ (46 ∷ (fourth ++ rest))))) (octet_small a 24) refl
+    ∙ ap (λ ns. octet a 24 ∷ ns)
+    (numbers_in-append (octet a 16) 46 (third ++ (46 ∷ (fourth ++ rest))) (octet_small a 16) refl
+    ∙ ap (λ ns. octet a 16 ∷ ns)
+    (numbers_in-append (octet a 8) 46 (fourth ++ rest) (octet_small a 8) refl ∙ ap (λ ns. octet a 8 ∷ ns) last))
+
+numbers_in_address : (a : ℕ) → numbers_in (address_text a) ≡ octets a []
+numbers_in_address a =
+    ap numbers_in (sym (append-nil (address_text a)))
+    ∙ octets_in a [] [] (ap numbers_in (append-nil (decimal (octet a 0))) ∙ numbers_in-decimal (octet a 0) (octet_small a 0))
+
+numbers_in_prefix : (p : Prefix) → numbers_in (prefix_text p) ≡ octets p.addr (p.len ∷ [])
 unfolding prefix_text
-spelled_parts text None p cut read =
-    let address = bind_some (address_of text) _ p read in
-    let same : prefix_with address.0 32 ≡ p = cc in
-    let written = address_text-address_of text address.0 address.1 in
-    inr (sym (ap (λ q. q.len) same), written.0 ∙ ap (λ q. address_text q.addr) same)
-spelled_parts text (Some parts) p cut read =
-    let address = bind_some (address_of parts.0) _ p read in
-    let len = bind_some (number 32 parts.1) _ p address.2 in
-    let same : prefix_with address.0 len.0 ≡ p = cc in
-    let written = address_text-address_of parts.0 address.0 address.1 in
-    let said = decimal_of_number 32 parts.1 len.0 (omega arith) len.1 in
-    let capped : min len.0 32 ≡ len.0 = omega (arith, said.1) in
-    inl (split_once_joined 47 text parts.0 parts.1 cut
-    ∙ ap (λ front. front ++ (47 ∷ parts.1)) (written.0 ∙ ap (λ q. address_text q.addr) same)
-    ∙ ap (λ rest. address_text p.addr ++ (47 ∷ rest)) (said.0 ∙ ap decimal (sym capped ∙ ap (λ q. q.len) same)))
+numbers_in_prefix p =
+    octets_in p.addr (47 ∷ decimal p.len) (p.len ∷ [])
+    (numbers_in-append (octet p.addr 0) 47 (decimal p.len) (octet_small p.addr 0) refl
+    ∙ ap (λ ns. octet p.addr 0 ∷ ns) (numbers_in-decimal p.len (omega (arith, p.fits))))
+
+-- the one prefix that a text may stand for, by its numbers
+abbrev prefix_in : List ℕ → Prefix
+prefix_in ns = prefix_with (address_with (take 4 ns)) (slice_index_or ns 4 32)
+
+prefix_in_is : (p : Prefix) (ns : List ℕ) → address_with (take 4 ns) ≡ p.addr → slice_index_or ns 4 32 ≡ p.len → prefix_in ns ≡ p
+prefix_in_is p ns addr len = ap₂ prefix_with addr len ∙ prefix_with_own p
+
+octets_with : (a : ℕ) (behind : List ℕ) → a < 2 ^ 32 → address_with (take 4 (octets a behind)) ≡ a
+octets_with a behind fits = omega (arith, octets_joined a fits)
+
+-- every spelling is read
+found : (text : List ℕ) (p : Prefix) → prefix_in (numbers_in text) ≡ p → spells text p ≡ true → prefix_of text ≡ Some p
+unfolding prefix_of
+found text p is holds = ap (λ q. where_holds (spells text q) q) is ∙ rw holds refl
+
+read_with_length : (p : Prefix) → p.addr < 2 ^ 32 → prefix_of (prefix_text p) ≡ Some p
+read_with_length p fits =
+    found (prefix_text p) p
+    (ap prefix_in (numbers_in_prefix p) ∙ prefix_in_is p (octets p.addr (p.len ∷ [])) (octets_with p.addr (p.len ∷ []) fits) refl)
+    (rw (bytes_own (prefix_text p)) refl)
+
+read_alone : (p : Prefix) → p.addr < 2 ^ 32 → p.len ≡ 32 → prefix_of (address_text p.addr) ≡ Some p
+read_alone p fits whole =
+    found (address_text p.addr) p
+    (ap prefix_in (numbers_in_address p.addr) ∙ prefix_in_is p (octets p.addr []) (octets_with p.addr [] fits) (sym whole))
+    (alone_spells (bytes_eq (address_text p.addr) (prefix_text p)) p whole)
+  where
+    alone_spells : (b : Bool) (p : Prefix) → p.len ≡ 32 → (b || ((p.len == 32) && bytes_eq (address_text p.addr) (address_text p.addr))) ≡ true
+    alone_spells true p whole = refl
+    alone_spells false p whole = rw (bytes_own (address_text p.addr), whole) refl
+
+pub prefix_of-read : (text : List ℕ) (p : Prefix) → p.addr < 2 ^ 32 → IsSpelling text p → prefix_of text ≡ Some p
+prefix_of-read text p fits spelling = elim spelling [
+  | inl written ↦ ap prefix_of written ∙ read_with_length p fits
+  | inr alone ↦ ap prefix_of alone.1 ∙ read_alone p fits alone.0
+]
 
 -- only spellings are read
-pub prefix_of-spelled : (text : List ℕ) (p : Prefix) → prefix_of text ≡ Some p → IsSpelling text p
+is_whole : (n : ℕ) → (n == 32) ≡ true → n ≡ 32
+is_whole n h = grind (arith, nat_tests)
+
+spelling_told : (text : List ℕ) (p : Prefix) → spells text p ≡ true → IsSpelling text p
+spelling_told text p holds = elim (or_cases (bytes_eq text (prefix_text p)) ((p.len == 32) && bytes_eq text (address_text p.addr)) holds) [
+  | inl written ↦ inl (bytes_same text (prefix_text p) written)
+  | inr alone ↦
+      let (whole, address) = and_parts (p.len == 32) (bytes_eq text (address_text p.addr)) alone in
+      inr (is_whole p.len whole, bytes_same text (address_text p.addr) address)
+]
+
+read_is : (text : List ℕ) (p : Prefix) → prefix_of text ≡ Some p → (spells text p ≡ true) × (prefix_in (numbers_in text) ≡ p)
 unfolding prefix_of
-prefix_of-spelled text p read = spelled_parts text (split_once 47 text) p refl read
+read_is text p read =
+    let parts = where_parts (spells text (prefix_in (numbers_in text))) (prefix_in (numbers_in text)) p read in
+    (ap (spells text) (sym parts.1) ∙ parts.0, parts.1)
+
+pub prefix_of-spelled : (text : List ℕ) (p : Prefix) → prefix_of text ≡ Some p → IsSpelling text p
+prefix_of-spelled text p read = spelling_told text p (read_is text p read).0
 
 pub prefix_of-IfSome : (text : List ℕ) (r : Option Prefix) → r ≡ prefix_of text → IfSome r (IsSpelling text)
 prefix_of-IfSome text None e = tt
 prefix_of-IfSome text (Some p) e = prefix_of-spelled text p (sym e)
 
 -- and the address that is read has 32 bits
-parts_fit : (text : List ℕ) (o : Option (List ℕ × List ℕ)) (p : Prefix) → prefix_of_parts text o ≡ Some p → p.addr < 2 ^ 32
-parts_fit text None p read =
-    let address = bind_some (address_of text) _ p read in
-    let same : prefix_with address.0 32 ≡ p = cc in
-    let written = address_text-address_of text address.0 address.1 in
-    subst (λ (q : Prefix). q.addr < 2 ^ 32) same written.1
-parts_fit text (Some parts) p read =
-    let address = bind_some (address_of parts.0) _ p read in
-    let len = bind_some (number 32 parts.1) _ p address.2 in
-    let same : prefix_with address.0 len.0 ≡ p = cc in
-    let written = address_text-address_of parts.0 address.0 address.1 in
-    subst (λ (q : Prefix). q.addr < 2 ^ 32) same written.1
+octets_fit : (a : ℕ) (behind : List ℕ) → address_with (take 4 (octets a behind)) < 2 ^ 32
+octets_fit a behind = omega (arith, octet_fits a 24, octet_fits a 16, octet_fits a 8, octet_fits a 0)
+
+spelling_fits : (text : List ℕ) (p : Prefix) → IsSpelling text p → (prefix_in (numbers_in text)).addr < 2 ^ 32
+spelling_fits text p (inl written) =
+    subst (λ (ns : List ℕ). address_with (take 4 ns) < 2 ^ 32) (sym (ap numbers_in written ∙ numbers_in_prefix p)) (octets_fit p.addr (p.len ∷ []))
+spelling_fits text p (inr alone) =
+    subst (λ (ns : List ℕ). address_with (take 4 ns) < 2 ^ 32) (sym (ap numbers_in alone.1 ∙ numbers_in_address p.addr)) (octets_fit p.addr [])
 
 pub prefix_of-fits : (text : List ℕ) (p : Prefix) → prefix_of text ≡ Some p → p.addr < 2 ^ 32
-unfolding prefix_of
-prefix_of-fits text p read = parts_fit text (split_once 47 text) p read
+prefix_of-fits text p read =
+    let is = read_is text p read in
+    subst (λ (q : Prefix). q.addr < 2 ^ 32) is.1 (spelling_fits text p (spelling_told text p is.0))
 
 -- the two directions for an answer that is the address of a text
 pub address_said : (text : List ℕ) (r : Option ℕ) → r ≡ address_of text → IfSome r (λ a. text ≡ address_text a)

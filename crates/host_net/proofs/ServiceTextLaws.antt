@@ -1,180 +1,182 @@
 -- Laws of the texts of services: a text is read as a service exactly where it is a spelling of it.
-use Rattle.std.proofs.Common.{◌≡◌, ℕ, ◌≤◌, ◌<◌, true, nat_lt, nat_le, List, ◌∷◌, ◌++◌, Option, Some, None, ◌⊎◌, ◌↔◌, inl, inr, refl, sym, ap, ◌∙◌, arith, subst}
-use Rattle.std.specs.Prelude.{IsTrue, IsNone, IfSome, codes, decimal, bytes_eq}
+use Rattle.std.proofs.Common.{◌≡◌, ℕ, ◌<◌, Bool, true, false, cond, nat_le, ◌==◌, ◌&&◌, ◌||◌, List, [], ◌∷◌, ◌++◌, find, Option, Some, None, ◌⊎◌, ◌↔◌, inl, inr, refl, sym, ap, ◌∙◌, arith, subst}
+use Rattle.std.specs.Prelude.{IsTrue, IsNone, IfSome, decimal, bytes_eq}
+use Rattle.std.proofs.lemmas.Bool.{and_parts, or_cases}
 use Rattle.std.proofs.lemmas.Bool.Decides.{nat_tests}
-use Rattle.text_core.specs.Decimal.{number}
-use Rattle.text_core.proofs.DecimalLaws.{number-decimal, decimal_of_number, decimal_lacks}
+use Rattle.text_core.specs.Decimal.{numbers_in}
 use Rattle.text_core.proofs.FirstsLaws.{some_same}
-use Rattle.text_core.specs.Pieces.{split_once}
-use Rattle.text_core.proofs.PiecesLaws.{split_once-append, split_once_none, split_once_joined}
-use Rattle.text_core.specs.Steps.{◌>>=◌}
-use Rattle.text_core.proofs.StepsLaws.{bind_some, if_parts, bytes_same}
+use Rattle.text_core.proofs.NumbersLaws.{numbers_in-decimal, numbers_in-append}
+use Rattle.text_core.proofs.StepsLaws.{bytes_same, bytes_own, same_options}
 use Rattle.host_net.specs.declared.service.Service.{Service}
 use Rattle.host_net.specs.Service.{icmp, tcp, udp, last_port, has_ports, has_all_ports}
 use Rattle.host_net.specs.inner.Service.{is_service}
-use Rattle.host_net.specs.ServiceText.{protocol_text, protocol_of, ports_of, ports_of_parts, with_ports, service_of, service_of_parts}
+use Rattle.host_net.specs.ServiceText.{protocol_text, ports_text, service_of, service_with, spells_service}
+use Rattle.host_net.specs.inner.ServiceSteps.{service_by_parts}
 use Rattle.host_net.specs.inner.ServiceText.{IsServiceSpelling}
+use Rattle.host_net.proofs.ServiceStepsLemmas.{service_same, service_bounds, service_protocol, with_ports_of, all_ports, by_parts_read, by_parts_spelled}
 
-service_same : (s t : Service) → s.proto ≡ t.proto → s.low ≡ t.low → s.high ≡ t.high → s ≡ t
-service_same s t proto low high = λ i. record { proto = proto i; low = low i; high = high i }
+abbrev IsNamed : Service → Type 0
+IsNamed s = (s.proto ≡ icmp) ⊎ ((s.proto ≡ tcp) ⊎ (s.proto ≡ udp))
 
--- what a service is, in facts
-pub service_bounds : (s : Service) → IsTrue (is_service s) → (s.low ≤ s.high) × (s.high ≤ last_port)
-service_bounds s valid = grind (arith, nat_tests)
+-- 1. The test says what a spelling is.
 
-pub service_protocol : (s : Service) → IsTrue (is_service s) → (s.proto ≡ icmp) ⊎ ((s.proto ≡ tcp) ⊎ (s.proto ≡ udp))
-service_protocol s valid = grind (arith, nat_tests)
+or_right : (x y : Bool) → y ≡ true → (x || y) ≡ true
+or_right true y h = refl
+or_right false y h = h
 
-with_ports_of : (proto : ℕ) → IsTrue (has_ports proto) → (proto ≡ tcp) ⊎ (proto ≡ udp)
-with_ports_of proto counts = grind (arith, nat_tests)
+ports_one : (low high : ℕ) → low ≡ high → ports_text low high ≡ decimal low
+ports_one low high same =
+    let is : (low == high) ≡ true = grind (arith, nat_tests) in
+    rw is refl
 
-all_ports : (s : Service) → IsTrue (has_all_ports s) → (s.low ≡ 0) × (s.high ≡ last_port)
-all_ports s all = grind (arith, nat_tests)
+ports_more : (low high : ℕ) → low < high → ports_text low high ≡ decimal low ++ (45 ∷ decimal high)
+ports_more low high less =
+    let other : (low == high) ≡ false = grind (arith, nat_tests) in
+    rw other refl
 
--- every spelling is read: a protocol
-protocol_read : (proto : ℕ) → (proto ≡ icmp) ⊎ ((proto ≡ tcp) ⊎ (proto ≡ udp))
-    → service_of (protocol_text proto) ≡ Some (record { proto = proto; low = 0; high = last_port })
-unfolding service_of
-protocol_read proto (inl one) = subst (λ (n : ℕ). service_of (protocol_text n) ≡ Some (record { proto = n; low = 0; high = last_port })) (sym one) refl
-protocol_read proto (inr (inl six)) = subst (λ (n : ℕ). service_of (protocol_text n) ≡ Some (record { proto = n; low = 0; high = last_port })) (sym six) refl
-protocol_read proto (inr (inr other)) = subst (λ (n : ℕ). service_of (protocol_text n) ≡ Some (record { proto = n; low = 0; high = last_port })) (sym other) refl
+with_ports_spells : (text : List ℕ) (s : Service) → IsTrue (is_service s) → IsTrue (has_ports s.proto)
+    → text ≡ protocol_text s.proto ++ (47 ∷ ports_text s.low s.high) → spells_service text s ≡ true
+with_ports_spells text s valid counts written =
+    let bounds = service_bounds s valid in
+    let order : nat_le s.low s.high ≡ true = grind (arith, nat_tests) in
+    let fits : nat_le s.high last_port ≡ true = grind (arith, nat_tests) in
+    let same : bytes_eq text (protocol_text s.proto ++ (47 ∷ ports_text s.low s.high)) ≡ true =
+    ap (bytes_eq text) (sym written) ∙ bytes_own text in
+    or_right (has_all_ports s && bytes_eq text (protocol_text s.proto)) _ (rw (counts, order, fits) same)
 
--- behind the protocol and a slash come the ports
-abbrev IsCut : List ℕ → ℕ → Type 0
-IsCut rest proto = service_of (protocol_text proto ++ (47 ∷ rest)) ≡ (ports_of rest >>= with_ports proto)
-
-cut_there : (proto : ℕ) (rest : List ℕ) → IsTrue (has_ports proto) → IsCut rest proto
-unfolding service_of
-cut_there proto rest counts = elim (with_ports_of proto counts) [
-  | inl six ↦ subst (IsCut rest) (sym six) refl
-  | inr other ↦ subst (IsCut rest) (sym other) refl
+spelling_tested : (text : List ℕ) (s : Service) → IsServiceSpelling text s → spells_service text s ≡ true
+spelling_tested text s spelling = elim spelling.written [
+  | inl protocol ↦
+      let same : bytes_eq text (protocol_text s.proto) ≡ true = ap (bytes_eq text) (sym protocol.1) ∙ bytes_own text in
+      rw (protocol.0, same) refl
+  | inr (inl port) ↦
+      with_ports_spells text s spelling.service port.0
+      (port.2 ∙ ap (λ ports. protocol_text s.proto ++ (47 ∷ ports)) (sym (ports_one s.low s.high port.1)))
+  | inr (inr ports) ↦
+      with_ports_spells text s spelling.service ports.0
+      (ports.2 ∙ ap (λ behind. protocol_text s.proto ++ (47 ∷ behind)) (sym (ports_more s.low s.high ports.1)))
 ]
 
-port_read : (port : ℕ) → port ≤ last_port → ports_of (decimal port) ≡ Some (port, port)
-unfolding ports_of
-port_read port fits =
-    rw (split_once_none 45 (decimal port) (decimal_lacks 45 port refl (omega arith)), number-decimal last_port port fits (omega arith)) refl
+whole_is_service : (s : Service) → IsNamed s → has_all_ports s ≡ true → is_service s ≡ true
+whole_is_service s named all = grind (arith, nat_tests)
 
-ports_read : (low high : ℕ) → low < high → high ≤ last_port → ports_of (decimal low ++ (45 ∷ decimal high)) ≡ Some (low, high)
-unfolding ports_of
-ports_read low high less fits =
-    let in_order : nat_lt low high ≡ true = grind (arith, nat_tests) in
-    rw (
-      split_once-append 45 (decimal low) (decimal high) (decimal_lacks 45 low refl (omega arith)),
-      number-decimal last_port low (omega arith) (omega arith),
-      number-decimal last_port high fits (omega arith),
-      in_order,
-    )
-    refl
+some_is_service : (s : Service) → has_ports s.proto ≡ true → nat_le s.low s.high ≡ true → nat_le s.high last_port ≡ true → is_service s ≡ true
+some_is_service s counts order fits = rw (order, fits, counts) refl
 
-read_behind : (s : Service) (rest : List ℕ) → IsTrue (has_ports s.proto) → ports_of rest ≡ Some (s.low, s.high)
-    → service_of (protocol_text s.proto ++ (47 ∷ rest)) ≡ Some s
-read_behind s rest counts ports = cut_there s.proto rest counts ∙ rw (ports, counts) refl
+in_order : (low high : ℕ) → nat_le low high ≡ true → (low ≡ high) ⊎ (low < high)
+in_order low high h = grind (arith, nat_tests)
 
-pub service_of-read : (text : List ℕ) (s : Service) → IsServiceSpelling text s → service_of text ≡ Some s
-service_of-read text s spelling = elim spelling.written [
+test_told : (text : List ℕ) (s : Service) → IsNamed s → spells_service text s ≡ true → IsServiceSpelling text s
+test_told text s named holds = elim (or_cases (has_all_ports s && bytes_eq text (protocol_text s.proto)) _ holds) [
+  | inl whole ↦
+      let (all, same) = and_parts (has_all_ports s) (bytes_eq text (protocol_text s.proto)) whole in
+      record { service = whole_is_service s named all; written = inl (all, bytes_same text (protocol_text s.proto) same) }
+  | inr behind ↦
+      let (counts, behind) = and_parts (has_ports s.proto) _ behind in
+      let (order, behind) = and_parts (nat_le s.low s.high) _ behind in
+      let (fits, same) = and_parts (nat_le s.high last_port) _ behind in
+      let written = bytes_same text (protocol_text s.proto ++ (47 ∷ ports_text s.low s.high)) same in
+      let valid = some_is_service s counts order fits in
+      elim (in_order s.low s.high order) [
+        | inl one ↦ record {
+          service = valid;
+          written = inr (inl (counts, one, written ∙ ap (λ ports. protocol_text s.proto ++ (47 ∷ ports)) (ports_one s.low s.high one)));
+        }
+        | inr more ↦ record {
+          service = valid;
+          written = inr (inr (counts, more, written ∙ ap (λ ports. protocol_text s.proto ++ (47 ∷ ports)) (ports_more s.low s.high more)));
+        }
+      ]
+]
+
+-- 2. The numbers in a spelling are those of its service.
+
+no_numbers : (s : Service) → IsNamed s → numbers_in (protocol_text s.proto) ≡ []
+no_numbers s (inl one) = subst (λ (n : ℕ). numbers_in (protocol_text n) ≡ []) (sym one) refl
+no_numbers s (inr (inl six)) = subst (λ (n : ℕ). numbers_in (protocol_text n) ≡ []) (sym six) refl
+no_numbers s (inr (inr other)) = subst (λ (n : ℕ). numbers_in (protocol_text n) ≡ []) (sym other) refl
+
+numbers_behind : (proto : ℕ) (rest : List ℕ) → IsTrue (has_ports proto) → numbers_in (protocol_text proto ++ (47 ∷ rest)) ≡ numbers_in rest
+numbers_behind proto rest counts = elim (with_ports_of proto counts) [
+  | inl six ↦ subst (λ (n : ℕ). numbers_in (protocol_text n ++ (47 ∷ rest)) ≡ numbers_in rest) (sym six) refl
+  | inr other ↦ subst (λ (n : ℕ). numbers_in (protocol_text n ++ (47 ∷ rest)) ≡ numbers_in rest) (sym other) refl
+]
+
+own_numbers : (text : List ℕ) (s : Service) → IsServiceSpelling text s → service_with (numbers_in text) s.proto ≡ s
+own_numbers text s spelling = let bounds = service_bounds s spelling.service in elim spelling.written [
   | inl protocol ↦
       let all = all_ports s protocol.0 in
-      ap service_of protocol.1
-      ∙ protocol_read s.proto (service_protocol s spelling.service)
-      ∙ ap (λ t. Some t) (service_same (record { proto = s.proto; low = 0; high = last_port }) s refl (sym all.0) (sym all.1))
+      ap (λ ns. service_with ns s.proto) (ap numbers_in protocol.1 ∙ no_numbers s (service_protocol s spelling.service))
+      ∙ service_same (service_with [] s.proto) s refl (sym all.0) (sym all.1)
   | inr (inl port) ↦
-      let fits : s.low ≤ last_port = omega (arith, service_bounds s spelling.service) in
-      ap service_of port.2
-      ∙ read_behind s (decimal s.low) port.0 (port_read s.low fits ∙ ap (λ high. Some (s.low, high)) port.1)
+      ap (λ ns. service_with ns s.proto) (ap numbers_in port.2 ∙ numbers_behind s.proto (decimal s.low) port.0 ∙ numbers_in-decimal s.low (omega (arith, bounds)))
+      ∙ service_same (service_with (s.low ∷ []) s.proto) s refl refl port.1
   | inr (inr ports) ↦
-      ap service_of ports.2
-      ∙ read_behind s (decimal s.low ++ (45 ∷ decimal s.high)) ports.0 (ports_read s.low s.high ports.1 (service_bounds s spelling.service).1)
+      ap (λ ns. service_with ns s.proto) (ap numbers_in ports.2
+      ∙ numbers_behind s.proto (decimal s.low ++ (45 ∷ decimal s.high)) ports.0
+      ∙ numbers_in-append s.low 45 (decimal s.high) (omega (arith, bounds)) refl
+      ∙ ap (λ ns. s.low ∷ ns) (numbers_in-decimal s.high (omega (arith, bounds))))
+      ∙ service_same (service_with (s.low ∷ s.high ∷ []) s.proto) s refl refl refl
 ]
 
--- only spellings are read: what a protocol's name says
-abbrev IsNameOf : List ℕ → ℕ → Type 0
-IsNameOf name proto = (name ≡ protocol_text proto) × ((proto ≡ icmp) ⊎ IsTrue (has_ports proto))
+-- 3. So the first of the candidates that passes is the only one.
 
-protocol_told : (name : List ℕ) (proto : ℕ) → protocol_of name ≡ Some proto → IsNameOf name proto
-protocol_told name proto read = elim (if_parts (bytes_eq name (codes "icmp")) (Some icmp) _ (Some proto) read) [
-  | inl one ↦ subst (IsNameOf name) (some_same icmp proto one.1) (bytes_same name (codes "icmp") one.0, inl refl)
-  | inr rest ↦ elim (if_parts (bytes_eq name (codes "tcp")) (Some tcp) _ (Some proto) rest.1) [
-    | inl six ↦ subst (IsNameOf name) (some_same tcp proto six.1) (bytes_same name (codes "tcp") six.0, inr refl)
-    | inr more ↦ elim (if_parts (bytes_eq name (codes "udp")) (Some udp) _ (Some proto) more.1) [
-      | inl other ↦ subst (IsNameOf name) (some_same udp proto other.1) (bytes_same name (codes "udp") other.0, inr refl)
-      | inr none ↦ cc
-    ]
-  ]
-]
+some_one : (text : List ℕ) (s t : Service) → IsServiceSpelling text s → IsServiceSpelling text t → t ≡ s
+some_one text s t spelling other = some_same t s (sym (by_parts_read text t other) ∙ by_parts_read text s spelling)
 
--- and what its ports say
-abbrev TellsPorts : List ℕ → ℕ × ℕ → Type 0
-TellsPorts text ports =
-    (ports.1 ≤ last_port) × (((ports.0 ≡ ports.1) × (text ≡ decimal ports.0)) ⊎ ((ports.0 < ports.1) × (text ≡ decimal ports.0 ++ (45 ∷ decimal ports.1))))
+find_by : {A : Type 0} (p : A → Bool) (x s : A) (rest : Option A) (b : Bool) → p x ≡ b → p s ≡ true → (p x ≡ true → x ≡ s)
+    → (x ≡ s) ⊎ (rest ≡ Some s) → cond b (Some x) rest ≡ Some s
+find_by p x s rest true is holds only where_it_is = ap (λ y. Some y) (only is)
+find_by p x s rest false is holds only (inl same) = let e = ap p same in cc
+find_by p x s rest false is holds only (inr behind) = behind
 
-ports_told_by : (text : List ℕ) (o : Option (List ℕ × List ℕ)) (ports : ℕ × ℕ) → split_once 45 text ≡ o → ports_of_parts text o ≡ Some ports → TellsPorts text ports
-ports_told_by text None ports cut read =
-    let port = bind_some (number last_port text) _ ports read in
-    let said = decimal_of_number last_port text port.0 (omega arith) port.1 in
-    subst (TellsPorts text) (some_same (port.0, port.0) ports port.2) (said.1, inl (refl, said.0))
-ports_told_by text (Some parts) ports cut read =
-    let low = bind_some (number last_port parts.0) _ ports read in
-    let high = bind_some (number last_port parts.1) _ ports low.2 in
-    let first = decimal_of_number last_port parts.0 low.0 (omega arith) low.1 in
-    let last = decimal_of_number last_port parts.1 high.0 (omega arith) high.1 in
-    let whole : text ≡ decimal low.0 ++ (45 ∷ decimal high.0) =
-    split_once_joined 45 text parts.0 parts.1 cut ∙ ap (λ front. front ++ (45 ∷ parts.1)) first.0 ∙ ap (λ rest. decimal low.0 ++ (45 ∷ rest)) last.0 in
-    elim (if_parts (nat_lt low.0 high.0) (Some (low.0, high.0)) None (Some ports) high.2) [
-      | inl less ↦
-          let below : low.0 < high.0 = let is : nat_lt low.0 high.0 ≡ true = less.0 in grind (arith, nat_tests) in
-          subst (TellsPorts text) (some_same (low.0, high.0) ports less.1) (last.1, inr (below, whole))
-      | inr other ↦ cc
-    ]
+find_only : {A : Type 0} (p : A → Bool) (x : A) (xs : List A) (s : A) → p s ≡ true → (p x ≡ true → x ≡ s)
+    → (x ≡ s) ⊎ (find p xs ≡ Some s) → find p (x ∷ xs) ≡ Some s
+find_only p x xs s holds only where_it_is = find_by p x s (find p xs) (p x) refl holds only where_it_is
 
-ports_told : (text : List ℕ) (ports : ℕ × ℕ) → ports_of text ≡ Some ports → TellsPorts text ports
-unfolding ports_of
-ports_told text ports read = ports_told_by text (split_once 45 text) ports refl read
+pub service_of-read : (text : List ℕ) (s : Service) → IsServiceSpelling text s → service_of text ≡ Some s
+unfolding service_of
+service_of-read text s spelling =
+    let own : ℕ → Service = service_with (numbers_in text) in
+    let holds = spelling_tested text s spelling in
+    let same : (proto : ℕ) → s.proto ≡ proto → own proto ≡ s = λ proto is. ap own (sym is) ∙ own_numbers text s spelling in
+    let only : (proto : ℕ) → IsNamed (own proto) → spells_service text (own proto) ≡ true → own proto ≡ s =
+    λ proto named passes. some_one text s (own proto) spelling (test_told text (own proto) named passes) in
+    find_only (spells_service text) (own icmp) (own tcp ∷ own udp ∷ []) s holds (only icmp (inl refl)) (elim (service_protocol s spelling.service) [
+      | inl one ↦ inl (same icmp one)
+      | inr counted ↦ inr (find_only (spells_service text) (own tcp) (own udp ∷ []) s holds (only tcp (inr (inl refl))) (elim counted [
+        | inl six ↦ inl (same tcp six)
+        | inr other ↦ inr (find_only (spells_service text) (own udp) [] s holds (only udp (inr (inr refl))) (inl (same udp other)))
+      ]))
+    ])
 
-all_are_services : (proto : ℕ) → (proto ≡ icmp) ⊎ IsTrue (has_ports proto) → IsTrue (is_service (record { proto = proto; low = 0; high = last_port }))
-all_are_services proto (inl one) = subst (λ (n : ℕ). IsTrue (is_service (record { proto = n; low = 0; high = last_port }))) (sym one) refl
-all_are_services proto (inr counts) = rw counts refl
+found_by : {A : Type 0} (p : A → Bool) (Q : A → Type 0) (x s : A) (rest : Option A) (b : Bool) → p x ≡ b → Q x
+    → (rest ≡ Some s → (p s ≡ true) × Q s) → cond b (Some x) rest ≡ Some s → (p s ≡ true) × Q s
+found_by p Q x s rest true is this behind found = let same = some_same x s found in (ap p (sym same) ∙ is, subst Q same this)
+found_by p Q x s rest false is this behind found = behind found
 
-some_are_services : (proto low high : ℕ) → IsTrue (has_ports proto) → low ≤ high → high ≤ last_port → IsTrue (is_service (record { proto = proto; low = low; high = high }))
-some_are_services proto low high counts order fits =
-    let first : nat_le low high ≡ true = grind (arith, nat_tests) in
-    let last : nat_le high last_port ≡ true = grind (arith, nat_tests) in
-    rw (first, last, counts) refl
-
--- a protocol whose ports are told
-behind_spelled : (text name rest : List ℕ) (proto : ℕ) (ports : ℕ × ℕ) → text ≡ name ++ (47 ∷ rest) → name ≡ protocol_text proto → IsTrue (has_ports proto) → TellsPorts rest ports
-    → IsServiceSpelling text (record { proto = proto; low = ports.0; high = ports.1 })
-behind_spelled text name rest proto ports whole named counts told = elim told.1 [
-  | inl one ↦ record {
-    service = some_are_services proto ports.0 ports.1 counts (omega (arith, one.0)) told.0;
-    written = inr (inl (counts, one.0, whole ∙ ap (λ front. front ++ (47 ∷ rest)) named ∙ ap (λ behind. protocol_text proto ++ (47 ∷ behind)) one.1));
-  }
-  | inr two ↦ record {
-    service = some_are_services proto ports.0 ports.1 counts (omega (arith, two.0)) told.0;
-    written = inr (inr (counts, two.0, whole ∙ ap (λ front. front ++ (47 ∷ rest)) named ∙ ap (λ behind. protocol_text proto ++ (47 ∷ behind)) two.1));
-  }
-]
-
-spelled_parts : (text : List ℕ) (o : Option (List ℕ × List ℕ)) (s : Service) → split_once 47 text ≡ o → service_of_parts text o ≡ Some s → IsServiceSpelling text s
-spelled_parts text None s cut read =
-    let proto = bind_some (protocol_of text) _ s read in
-    let told = protocol_told text proto.0 proto.1 in
-    subst (IsServiceSpelling text) (some_same (record { proto = proto.0; low = 0; high = last_port }) s proto.2)
-    (record { service = all_are_services proto.0 told.1; written = inl (refl, told.0) })
-spelled_parts text (Some parts) s cut read =
-    let proto = bind_some (protocol_of parts.0) _ s read in
-    let ports = bind_some (ports_of parts.1) _ s proto.2 in
-    elim (if_parts (has_ports proto.0) (Some (record { proto = proto.0; low = ports.0.0; high = ports.0.1 })) None (Some s) ports.2) [
-      | inl counts ↦
-          subst (IsServiceSpelling text) (some_same (record { proto = proto.0; low = ports.0.0; high = ports.0.1 }) s counts.1)
-          (behind_spelled text parts.0 parts.1 proto.0 ports.0 (split_once_joined 47 text parts.0 parts.1 cut)
-          (protocol_told parts.0 proto.0 proto.1).0 counts.0 (ports_told parts.1 ports.0 ports.1))
-      | inr other ↦ cc
-    ]
+found_in : {A : Type 0} (p : A → Bool) (Q : A → Type 0) (x : A) (xs : List A) (s : A) → Q x
+    → (find p xs ≡ Some s → (p s ≡ true) × Q s) → find p (x ∷ xs) ≡ Some s → (p s ≡ true) × Q s
+found_in p Q x xs s this behind found = found_by p Q x s (find p xs) (p x) refl this behind found
 
 pub service_of-spelled : (text : List ℕ) (s : Service) → service_of text ≡ Some s → IsServiceSpelling text s
 unfolding service_of
-service_of-spelled text s read = spelled_parts text (split_once 47 text) s refl read
+service_of-spelled text s read =
+    let p : Service → Bool = spells_service text in
+    let own : ℕ → Service = service_with (numbers_in text) in
+    let (holds, named) =
+    found_in p IsNamed (own icmp) (own tcp ∷ own udp ∷ []) s (inl refl)
+    (found_in p IsNamed (own tcp) (own udp ∷ []) s (inr (inl refl))
+    (found_in p IsNamed (own udp) [] s (inr (inr refl)) (λ none. cc)))
+    read in
+    test_told text s named holds
+
+-- what is read piece by piece is the service that the text stands for
+pub by_parts_same : (text : List ℕ) → service_by_parts text ≡ service_of text
+by_parts_same text =
+    same_options (service_by_parts text) (service_of text)
+    (λ s read. service_of-read text s (by_parts_spelled text s read))
+    (λ s said. by_parts_read text s (service_of-spelled text s said))
 
 -- the same for an answer that is the service of a text
 pub service_spelled : (text : List ℕ) (r : Option Service) → r ≡ service_of text → IfSome r (IsServiceSpelling text)

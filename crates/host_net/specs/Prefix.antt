@@ -1,9 +1,8 @@
 -- IPv4 prefixes: which addresses they cover, and how they are written (RFC 4632, section 3.1).
-use Rattle.std.specs.Prelude.{ℕ, ◌+◌, ◌*◌, ◌/◌, ◌%◌, ◌^◌, ◌-◌, min, Bool, ◌==◌, List, ◌++◌, decimal, codes, Option, Some, None}
+use Rattle.std.specs.Prelude.{ℕ, ◌+◌, ◌*◌, ◌/◌, ◌%◌, ◌^◌, ◌-◌, min, Bool, ◌==◌, ◌&&◌, ◌||◌, List, ◌++◌, take, slice_index_or, fold, decimal, codes, bytes_eq, Option}
 use Rattle.std.proofs.Math.Nat.{min-le_right}
-use Rattle.text_core.specs.Decimal.{number}
-use Rattle.text_core.specs.Pieces.{split_once}
-use Rattle.text_core.specs.Steps.{◌>>=◌}
+use Rattle.text_core.specs.Decimal.{numbers_in}
+use Rattle.text_core.specs.Firsts.{where_holds}
 use Rattle.host_net.specs.declared.prefix.Prefix.{Prefix}
 
 -- the first `len` bits of an address
@@ -39,28 +38,17 @@ prefix_text p = address_text p.addr ++ (codes "/" ++ decimal p.len)
 abbrev pub prefix_with : ℕ → ℕ → Prefix
 prefix_with a len = record { addr = a; len = min len 32; fits = min-le_right len 32 }
 
--- the address that four numbers between dots (46) say, each at most 255
-unfoldable pub address_of : List ℕ → Option ℕ
-address_of text = do
-  first ← split_once 46 text
-  second ← split_once 46 first.1
-  third ← split_once 46 second.1
-  a ← number 255 first.0
-  b ← number 255 second.0
-  c ← number 255 third.0
-  d ← number 255 third.1
-  Some (a * 2 ^ 24 + b * 2 ^ 16 + c * 2 ^ 8 + d)
+-- the text stands for the prefix: it is the written one, or the bare address where all bits count
+abbrev pub spells : List ℕ → Prefix → Bool
+spells text p = bytes_eq text (prefix_text p) || ((p.len == 32) && bytes_eq text (address_text p.addr))
 
--- the prefix that a text says, given its address and its length where a slash cuts it
-abbrev pub prefix_of_parts : List ℕ → Option (List ℕ × List ℕ) → Option Prefix
-prefix_of_parts text None = do
-  a ← address_of text
-  Some (prefix_with a 32)
-prefix_of_parts text (Some parts) = do
-  a ← address_of parts.0
-  len ← number 32 parts.1
-  Some (prefix_with a len)
+-- the address of four octets
+abbrev pub address_with : List ℕ → ℕ
+address_with octets = fold (λ a octet. a * 256 + octet) 0 octets
 
--- the prefix that a text says: an address, a slash (47) and a length, or an address, of which all bits count
+-- the prefix that a text stands for; no other is of the numbers in it
 unfoldable pub prefix_of : List ℕ → Option Prefix
-prefix_of text = prefix_of_parts text (split_once 47 text)
+prefix_of text =
+    let ns = numbers_in text in
+    let p = prefix_with (address_with (take 4 ns)) (slice_index_or ns 4 32) in
+    where_holds (spells text p) p

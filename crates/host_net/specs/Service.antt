@@ -26,6 +26,10 @@ serves s p = (s.proto == p.proto) && (nat_le s.low p.dport && nat_le p.dport s.h
 abbrev pub has_ports : ℕ → Bool
 has_ports proto = (proto == tcp) || (proto == udp)
 
+-- the protocol has a name
+abbrev pub has_name : ℕ → Bool
+has_name proto = (proto == icmp) || has_ports proto
+
 -- every packet of the protocol is served
 abbrev pub has_all_ports : Service → Bool
 has_all_ports s = (s.low == 0) && (s.high == last_port)

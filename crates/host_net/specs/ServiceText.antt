@@ -1,52 +1,28 @@
--- How services are written, and the service that a text says.
-use Rattle.std.specs.Prelude.{ℕ, ◌==◌, nat_lt, if◌then◌else◌, List, decimal, codes, Option, Some, None}
-use Rattle.std.specs.Str.{bytes_eq}
-use Rattle.text_core.specs.Decimal.{number}
-use Rattle.text_core.specs.Pieces.{split_once}
-use Rattle.text_core.specs.Steps.{◌>>=◌}
+-- How services are written, and the service that a text stands for.
+use Rattle.std.specs.Prelude.{ℕ, Bool, ◌&&◌, ◌||◌, ◌==◌, nat_le, if◌then◌else◌, List, [], ◌∷◌, ◌++◌, map, find, slice_index_or, decimal, codes, bytes_eq, Option}
+use Rattle.text_core.specs.Decimal.{numbers_in}
 use Rattle.host_net.specs.declared.service.Service.{Service}
-use Rattle.host_net.specs.Service.{icmp, tcp, udp, last_port, has_ports}
-
--- A. The spellings of a service.
+use Rattle.host_net.specs.Service.{icmp, tcp, udp, last_port, has_ports, has_all_ports}
 
 -- a protocol by its name, or by its number
 abbrev pub protocol_text : ℕ → List ℕ
 protocol_text proto = if proto == icmp then codes "icmp" else if proto == tcp then codes "tcp" else if proto == udp then codes "udp" else decimal proto
 
--- B. The service that a text says.
+-- one port, or the first and the last of several
+abbrev pub ports_text : ℕ → ℕ → List ℕ
+ports_text low high = if low == high then decimal low else decimal low ++ (codes "-" ++ decimal high)
 
-abbrev pub protocol_of : List ℕ → Option ℕ
-protocol_of name =
-    if bytes_eq name (codes "icmp") then Some icmp else if bytes_eq name (codes "tcp") then Some tcp else if bytes_eq name (codes "udp") then Some udp else None
+-- the text stands for the service: for every packet of a protocol (`tcp`), or for some ports of one that has them (`tcp/80`, `tcp/80-90`)
+abbrev pub spells_service : List ℕ → Service → Bool
+spells_service text s =
+    (has_all_ports s && bytes_eq text (protocol_text s.proto))
+    || (has_ports s.proto && (nat_le s.low s.high && (nat_le s.high last_port
+    && bytes_eq text (protocol_text s.proto ++ (codes "/" ++ ports_text s.low s.high)))))
 
--- the ports of a text, given the two that a dash separates, or else one alone
-abbrev pub ports_of_parts : List ℕ → Option (List ℕ × List ℕ) → Option (ℕ × ℕ)
-ports_of_parts text None = do
-  port ← number last_port text
-  Some (port, port)
-ports_of_parts text (Some parts) = do
-  low ← number last_port parts.0
-  high ← number last_port parts.1
-  if nat_lt low high then Some (low, high) else None
+-- a protocol with the ports that numbers say: all, or one, or from the first to the second
+abbrev pub service_with : List ℕ → ℕ → Service
+service_with ns proto = record { proto = proto; low = slice_index_or ns 0 0; high = slice_index_or ns 1 (slice_index_or ns 0 last_port) }
 
--- a port, or two with a dash (45) between them of which the first is the lesser
-unfoldable pub ports_of : List ℕ → Option (ℕ × ℕ)
-ports_of text = ports_of_parts text (split_once 45 text)
-
--- the service of a protocol with these ports
-abbrev pub with_ports : ℕ → ℕ × ℕ → Option Service
-with_ports proto ports = if has_ports proto then Some (record { proto = proto; low = ports.0; high = ports.1 }) else None
-
--- the service of a text, given the protocol and the ports that a slash separates, or else a protocol alone
-abbrev pub service_of_parts : List ℕ → Option (List ℕ × List ℕ) → Option Service
-service_of_parts text None = do
-  proto ← protocol_of text
-  Some (record { proto = proto; low = 0; high = last_port })
-service_of_parts text (Some parts) = do
-  proto ← protocol_of parts.0
-  ports ← ports_of parts.1
-  with_ports proto ports
-
--- the service that a text says: a protocol, or a protocol, a slash (47) and its ports
+-- the service that a text stands for; no other is of the numbers in it
 unfoldable pub service_of : List ℕ → Option Service
-service_of text = service_of_parts text (split_once 47 text)
+service_of text = find (spells_service text) (map (service_with (numbers_in text)) (icmp ∷ tcp ∷ udp ∷ []))

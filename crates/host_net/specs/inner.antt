@@ -3,10 +3,12 @@ pub mod CoverView
 pub mod Hosts
 pub mod HostsView
 pub mod Overlaps
+pub mod PrefixSteps
 pub mod PrefixView
 pub mod Ranges
 pub mod Refusal
 pub mod Service
+pub mod ServiceSteps
 pub mod ServiceText
 pub mod Services
 pub mod ServicesView

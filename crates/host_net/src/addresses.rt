@@ -19,6 +19,7 @@ pub fn rest_host(hosts: &[Addresses]) -> Option<usize>
     hosts.iter().position(|host| host.rest)
 }
 
+/// Whether one of the prefixes has an address in common with this one.
 pub fn meets_any(prefixes: &[Prefix], prefix: &Prefix) -> bool
     ensures { result ≡ meets_any prefixes.now prefix.now }
 {

@@ -10,7 +10,7 @@ ghost use Rattle.host_net.specs.declared.cover.Key.{Key};
 ghost use Rattle.host_net.specs.declared.cover.Lengths.{Lengths};
 ghost use Rattle.host_net.specs.Prefix.{front};
 ghost use Rattle.host_net.specs.inner.Cover.{IsFirstFrom};
-ghost use Rattle.host_net.specs.inner.CoverView.{AreInOrder, IsFirstKey, IsIndexOf, IsSmall, SameBits, begins, earlier, key_at, key_of, keys_from, length_of, lengths_of, own_address, rank};
+ghost use Rattle.host_net.specs.inner.CoverView.{AreInOrder, IsFirstKey, IsIndexOf, IsSmall, SameBits, begins, count_in, earlier, key_at, key_of, keys_from, length_of, lengths_of, own_address, rank};
 
 use crate::prefix::Prefix;
 use std::alloc::{AllocError, Global};
@@ -180,7 +180,7 @@ impl Covers {
 
     /// Puts one more behind the others.
     pub fn add(&mut self, ends: Ends) -> Result<(), AllocError>
-        requires { length self.old.keys.items + 1 < 2 ^ 32 }
+        requires { count_in self.old + 1 < 2 ^ 32 }
         ensures added { OnOk result ((all : List Ends) → IsIndexOf all self.old → IsIndexOf (all ++ ends ∷ []) self.new) }
         ensures kept { OnErr result ((all : List Ends) → IsIndexOf all self.old → IsIndexOf all self.new) }
     {

@@ -43,6 +43,7 @@ impl Model for Hosts {
 }
 
 impl Hosts {
+    /// No hosts.
     pub fn new(alloc: Global) -> Hosts
         ensures { result ≡ [] }
     {
@@ -124,7 +125,8 @@ impl Hosts {
         overlap(self.known.values().as_slice(), at)
     }
 
-    fn push(&mut self, name: Name, at: &[Prefix], rest: bool) -> Result<(), AllocError>
+    /// Adds a host that nothing speaks against, as `add` does.
+    pub fn push(&mut self, name: Name, at: &[Prefix], rest: bool) -> Result<(), AllocError>
         requires cause { refusal_of self.old name at.now rest ≡ None }
         requires networks { IsTrue (list_all is_network at.now) }
         ensures added { OnOk result (self.new ≡ self.old ++ record { name = name; prefixes = at.now; rest = rest } ∷ []) }
@@ -147,6 +149,7 @@ impl Hosts {
         self.known.len() as u16
     }
 
+    /// The name of the host with this number.
     pub fn name(&self, host: u16) -> Name
         requires { host < length self.now }
         ensures { option_map (λ h. h.name) (slice_get self.now host) ≡ Some result }
@@ -154,6 +157,7 @@ impl Hosts {
         self.known.keys().as_slice()[host as usize]
     }
 
+    /// The prefixes of the host with this number.
     pub fn prefixes(&self, host: u16) -> &[Prefix]
         requires { host < length self.now }
         ensures { option_map (λ h. h.prefixes) (slice_get self.now host) ≡ Some result.now }

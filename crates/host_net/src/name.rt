@@ -48,7 +48,7 @@ impl Name {
     }
 
     /// A text that was tested, as a name.
-    pub(crate) fn of(text: &[u8]) -> Name
+    pub fn of(text: &[u8]) -> Name
         requires { IsTrue (is_name text.now) }
         ensures { result ≡ text.now }
     {
@@ -68,6 +68,7 @@ impl Name {
         }
     }
 
+    /// The text.
     pub fn bytes(&self) -> &[u8]
         ensures value { result.now ≡ self.now }
         ensures short { length result.now ≤ 32 }

@@ -88,6 +88,10 @@ pub record AreIndexOf (all : List Ends) (keys : List Key) (lengths : List Length
   pub only : (k : Key) → Contains keys k → (e : Ends) × (slice_get all k.place ≡ Some e) × (k ≡ key_of e k.place)
   pub listed : (k : Key) → Contains keys k → Contains lengths k.lengths
 
+-- how many `Ends` are in the index
+abbrev pub count_in : Covers → ℕ
+count_in index = length index.keys.items
+
 -- the index is that of the list
 abbrev pub IsIndexOf : List Ends → Covers → Type 0
 IsIndexOf all index = AreIndexOf all index.keys.items index.lengths.items

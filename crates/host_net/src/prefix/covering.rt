@@ -21,12 +21,14 @@ impl Prefix {
         }
     }
 
+    /// The address, with the bits after the length as they were given.
     pub fn addr(&self) -> u32
         ensures { result ≡ self.now.addr }
     {
         self.addr
     }
 
+    /// How many bits count.
     pub fn len(&self) -> u8
         ensures value { result ≡ self.now.len }
         ensures fits { result ≤ 32 }

@@ -1,8 +1,9 @@
 //! Reading the text of a prefix, `a.b.c.d/len`.
 
 ghost use Rattle.std.specs.Prelude.{◌≡◌, ℕ, ◌<◌, ◌≤◌, ◌+◌, ◌*◌, ◌^◌, Some, IfSome};
-ghost use Rattle.host_net.specs.Prefix.{address_of, address_text, prefix_of, prefix_with};
+ghost use Rattle.host_net.specs.Prefix.{address_text, prefix_of, prefix_with};
 ghost use Rattle.host_net.specs.PrefixView.{IsSpelling};
+ghost use Rattle.host_net.specs.inner.PrefixSteps.{address_of, prefix_by_parts};
 ghost use Rattle.host_net.specs.declared.prefix.Prefix.{Prefix};
 
 use crate::prefix::Prefix;
@@ -18,9 +19,9 @@ pub fn read_prefix(text: &[u8]) -> Option<Prefix>
     read_parts(text)
 }
 
-#[tactic(auto, unfolding(crate::specs::Prefix::prefix_of))]
+#[tactic(auto, unfolding(crate::specs::inner::PrefixSteps::prefix_by_parts))]
 fn read_parts(text: &[u8]) -> Option<Prefix>
-    ensures { result ≡ prefix_of text.now }
+    ensures { result ≡ prefix_by_parts text.now }
 {
     match split_once(text, b'/') {
         None => Some(prefix_with(read_address(text)?, 32)),
@@ -37,7 +38,7 @@ pub fn read_address(text: &[u8]) -> Option<u32>
     read_octets(text)
 }
 
-#[tactic(auto, unfolding(crate::specs::Prefix::address_of))]
+#[tactic(auto, unfolding(crate::specs::inner::PrefixSteps::address_of))]
 fn read_octets(text: &[u8]) -> Option<u32>
     ensures { result ≡ address_of text.now }
 {

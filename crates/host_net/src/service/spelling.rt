@@ -3,7 +3,8 @@
 ghost use Rattle.std.specs.Prelude.{◌≡◌, ◌↔◌, Some, None, IfSome, IsNone, if◌then◌else◌, nat_lt};
 ghost use Rattle.text_core.specs.Decimal.{number};
 ghost use Rattle.host_net.specs.Service.{last_port};
-ghost use Rattle.host_net.specs.ServiceText.{ports_of, protocol_of, service_of, with_ports};
+ghost use Rattle.host_net.specs.ServiceText.{service_of};
+ghost use Rattle.host_net.specs.inner.ServiceSteps.{ports_of, protocol_of, service_by_parts, with_ports};
 ghost use Rattle.host_net.specs.inner.ServiceText.{IsServiceSpelling};
 ghost use Rattle.host_net.specs.declared.service.Service.{Service};
 
@@ -33,9 +34,9 @@ pub fn read_service(text: &[u8]) -> Option<Service>
     read_parts(text)
 }
 
-#[tactic(auto, unfolding(crate::specs::ServiceText::service_of))]
+#[tactic(auto, unfolding(crate::specs::inner::ServiceSteps::service_by_parts))]
 fn read_parts(text: &[u8]) -> Option<Service>
-    ensures { result ≡ service_of text.now }
+    ensures { result ≡ service_by_parts text.now }
 {
     match split_once(text, b'/') {
         None => Some(whole(read_protocol(text)?)),
@@ -58,7 +59,7 @@ fn read_protocol(name: &[u8]) -> Option<u8>
     None
 }
 
-#[tactic(auto, unfolding(crate::specs::ServiceText::ports_of))]
+#[tactic(auto, unfolding(crate::specs::inner::ServiceSteps::ports_of))]
 fn read_ports(text: &[u8]) -> Option<(u16, u16)>
     ensures { result ≡ ports_of text.now }
 {
