@@ -16,4 +16,5 @@ pub mod ServiceStepsLemmas
 pub mod ServiceTextLaws
 pub mod ServicesLaws
 pub mod ServicesLemmas
+pub mod TextRows
 pub mod VerdictLaws
