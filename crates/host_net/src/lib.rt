@@ -23,5 +23,5 @@ pub use name::Name;
 pub use packet::{CtState, Packet, Verdict};
 pub use prefix::{Prefix, put_prefix, read_address, read_prefix};
 pub use refusal::{HOST_LIMIT, HostRefusal, PREFIX_LIMIT};
-pub use service::{Service, read_service};
+pub use service::{Service, read_protocol, read_service};
 pub use services::{SERVICE_LIMIT, Services};

@@ -8,7 +8,7 @@ mod spelling;
 mod tests;
 
 use crate::packet::Packet;
-pub use spelling::read_service;
+pub use spelling::{read_protocol, read_service};
 
 /// A protocol by its number, and the destination ports from `low` to `high`, both included.
 #[derive(Clone, Copy, Debug, PartialEq, Eq)]

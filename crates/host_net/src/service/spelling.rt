@@ -44,7 +44,8 @@ fn read_parts(text: &[u8]) -> Option<Service>
     }
 }
 
-fn read_protocol(name: &[u8]) -> Option<u8>
+/// The number of the protocol with this name, of the three that have one: `icmp`, `tcp` and `udp`.
+pub fn read_protocol(name: &[u8]) -> Option<u8>
     ensures { result ≡ protocol_of name.now }
 {
     if name == b"icmp".as_slice() {
