@@ -1,6 +1,6 @@
 -- A line of events is bad, in the format's words, exactly where its step refuses it; so a text has one reading or one first fault.
 use Rattle.std.proofs.Common.{◌≡◌, ◌≢◌, ℕ, ◌≤◌, true, false, List, [], ◌∷◌, Option, Some, None, ◌⊎◌, inl, inr, refl, sym, ap, ◌∙◌, arith, length, subst}
-use Rattle.std.specs.Prelude.{codes, Result, Ok, Err, bytes_eq, nat_lt}
+use Rattle.std.specs.Prelude.{codes, Result, Ok, Err, bytes_eq, nat_lt, slice_get}
 use Rattle.std.specs.Option.{option_map, ok_or}
 use Rattle.std.proofs.lemmas.Bool.Decides.{nat_tests}
 use Rattle.text_core.specs.Lines.{words}
@@ -14,20 +14,18 @@ use Rattle.pkt_core.specs.declared.event.Event.{Event}
 use Rattle.pkt_core.specs.declared.event.Event.TheVariants.{Seen, Forget}
 use Rattle.pkt_core.specs.declared.events.EventWhy.{EventWhy}
 use Rattle.pkt_core.specs.declared.events.EventWhy.TheVariants.{BadLine, BadValue, TooMany}
-use Rattle.pkt_core.specs.EventsText.{TellsEvent, IsVerbAndFive, IsBad, bad_line, bad_value, too_many, events_text}
+use Rattle.pkt_core.specs.EventsText.{TellsEvent, AreVerbAndFive, IsBad, bad_line, bad_value, too_many, events_text}
 use Rattle.pkt_core.specs.inner.EventSteps.{packet_of, event_by, event_of, with_event, event_step}
 use Rattle.pkt_core.proofs.EventsTextLaws.{event_told, told_event, step_adds, adds_step}
 
 -- 1. Why words tell no event.
 
 -- another number of words
-not_six : (ws : List (List ℕ)) → length ws ≢ 6 → IsVerbAndFive ws → ⊥
-not_six ws other form =
-    let count : length ws ≡ length (form.verb ∷ form.values) = ap length form.written in
-    other (omega (arith, count, form.five))
+not_six : (ws : List (List ℕ)) → length ws ≢ 6 → AreVerbAndFive ws → ⊥
+not_six ws other form = other form.0
 
 abbrev Explains : List (List ℕ) → EventWhy → Type 0
-Explains ws why = ((why ≡ BadLine) × (IsVerbAndFive ws → ⊥)) ⊎ ((why ≡ BadValue) × IsVerbAndFive ws)
+Explains ws why = ((why ≡ BadLine) × (AreVerbAndFive ws → ⊥)) ⊎ ((why ≡ BadValue) × AreVerbAndFive ws)
 
 bad_count : (ws : List (List ℕ)) (why : EventWhy) → length ws ≢ 6 → ◌≡◌ {A = Result Event EventWhy} (Err BadLine) (Err why) → Explains ws why
 bad_count ws why other h = let e : BadLine ≡ why = cc in inl (sym e, not_six ws other)
@@ -37,23 +35,25 @@ value_missing f None why h = let e : BadValue ≡ why = cc in sym e
 value_missing f (Some p) why h = cc
 
 no_verb : (verb : List ℕ) (values : List (List ℕ)) → bytes_eq verb (codes "packet") ≡ false → bytes_eq verb (codes "forget") ≡ false
-    → IsVerbAndFive (verb ∷ values) → ⊥
-no_verb verb values packet forget form =
-    let same : verb ≡ form.verb = cc (form.written) in
-    elim form.is_verb [
-      | inl is ↦ let own = ap (λ v. bytes_eq v (codes "packet")) (same ∙ is) in cc
-      | inr is ↦ let own = ap (λ v. bytes_eq v (codes "forget")) (same ∙ is) in cc
-    ]
+    → AreVerbAndFive (verb ∷ values) → ⊥
+no_verb verb values packet forget form = elim form.1 [
+  | inl is ↦
+      let same : verb ≡ codes "packet" = cc in
+      let own = ap (λ v. bytes_eq v (codes "packet")) same in cc
+  | inr is ↦
+      let same : verb ≡ codes "forget" = cc in
+      let own = ap (λ v. bytes_eq v (codes "forget")) same in cc
+]
 
 explained_by : (verb a b c d x : List ℕ) (p : Option Packet) (why : EventWhy) → event_by verb p ≡ Err why
     → Explains (verb ∷ a ∷ b ∷ c ∷ d ∷ x ∷ []) why
 unfolding event_by
 explained_by verb a b c d x p why h = elim (if_parts (bytes_eq verb (codes "packet")) _ _ (Err why) h) [
   | inl seen ↦
-      inr (value_missing Seen p why seen.1, record { verb = verb; values = a ∷ b ∷ c ∷ d ∷ x ∷ []; written = refl; five = refl; is_verb = inl (bytes_same verb (codes "packet") seen.0) })
+      inr (value_missing Seen p why seen.1, (refl, inl (ap (λ v. Some v) (bytes_same verb (codes "packet") seen.0))))
   | inr rest ↦ elim (if_parts (bytes_eq verb (codes "forget")) _ _ (Err why) rest.1) [
     | inl forgotten ↦
-        inr (value_missing Forget p why forgotten.1, record { verb = verb; values = a ∷ b ∷ c ∷ d ∷ x ∷ []; written = refl; five = refl; is_verb = inr (bytes_same verb (codes "forget") forgotten.0) })
+        inr (value_missing Forget p why forgotten.1, (refl, inr (ap (λ v. Some v) (bytes_same verb (codes "forget") forgotten.0))))
     | inr bad ↦
         let same : ◌≡◌ {A = Result Event EventWhy} (Err BadLine) (Err why) = bad.1 in
         let e : BadLine ≡ why = cc in
@@ -101,15 +101,15 @@ full_step before e full =
     let many : nat_lt 999999 (length before) ≡ true = grind (arith, nat_tests) in
     rw many refl
 
-line_refused : (before : List Event) (ws : List (List ℕ)) (r : Result Event EventWhy) → event_of ws ≡ r → (IsVerbAndFive ws → ⊥)
-    → ((e : Event) → TellsEvent ws e → IsVerbAndFive ws) → with_event before r ≡ Err BadLine
+line_refused : (before : List Event) (ws : List (List ℕ)) (r : Result Event EventWhy) → event_of ws ≡ r → (AreVerbAndFive ws → ⊥)
+    → ((e : Event) → TellsEvent ws e → AreVerbAndFive ws) → with_event before r ≡ Err BadLine
 line_refused before ws (Ok e) read other form = absurd (other (form e (event_told ws e read)))
 line_refused before ws (Err why) read other form = elim (explained ws why read) [
   | inl line ↦ ap (λ w. Err w) line.0
   | inr value ↦ absurd (other value.1)
 ]
 
-value_refused : (before : List Event) (ws : List (List ℕ)) (r : Result Event EventWhy) → event_of ws ≡ r → IsVerbAndFive ws
+value_refused : (before : List Event) (ws : List (List ℕ)) (r : Result Event EventWhy) → event_of ws ≡ r → AreVerbAndFive ws
     → ((e : Event) → TellsEvent ws e → ⊥) → with_event before r ≡ Err BadValue
 value_refused before ws (Ok e) read form untold_event = absurd (untold_event e (event_told ws e read))
 value_refused before ws (Err why) read form untold_event = elim (explained ws why read) [
@@ -118,9 +118,9 @@ value_refused before ws (Err why) read form untold_event = elim (explained ws wh
 ]
 
 -- what tells an event has its verb and five words
-told_form : (ws : List (List ℕ)) (e : Event) → TellsEvent ws e → IsVerbAndFive ws
-told_form ws (Seen p) told = record { verb = codes "packet"; values = _; written = told.written; five = refl; is_verb = inl refl }
-told_form ws (Forget p) told = record { verb = codes "forget"; values = _; written = told.written; five = refl; is_verb = inr refl }
+told_form : (ws : List (List ℕ)) (e : Event) → TellsEvent ws e → AreVerbAndFive ws
+told_form ws (Seen p) told = (ap length told.written, inl (ap (λ (xs : List (List ℕ)). slice_get xs 0) told.written))
+told_form ws (Forget p) told = (ap length told.written, inr (ap (λ (xs : List (List ℕ)). slice_get xs 0) told.written))
 
 bad_step : (before : List Event) (ws : List (List ℕ)) (why : EventWhy) → IsBad before ws why → with_event before (event_of ws) ≡ Err why
 bad_step before ws why (bad_line other) = line_refused before ws (event_of ws) refl other (told_form ws)

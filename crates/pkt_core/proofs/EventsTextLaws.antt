@@ -1,8 +1,9 @@
 -- Laws of the texts of events: a line is read as an event exactly where it tells it.
-use Rattle.std.proofs.Common.{◌≡◌, ℕ, ◌<◌, ◌^◌, false, List, [], ◌∷◌, ◌++◌, Some, ◌⊎◌, inl, inr, refl, sym, ap, ◌∙◌, arith, length, subst}
+use Rattle.std.proofs.Common.{◌≡◌, ℕ, ◌==◌, ◌<◌, ◌^◌, false, List, [], ◌∷◌, ◌++◌, Some, ◌⊎◌, inl, inr, refl, sym, ap, ◌∙◌, arith, length, subst}
 use Rattle.std.specs.Prelude.{codes, decimal, Result, Ok, Err, bytes_eq, nat_lt}
 use Rattle.std.specs.Option.{option_map}
 use Rattle.std.specs.Str.{all_ascii_digits}
+use Rattle.std.proofs.lemmas.Bool.{eqb-true}
 use Rattle.std.proofs.lemmas.Bool.Decides.{nat_tests}
 use Rattle.text_core.specs.Decimal.{number}
 use Rattle.text_core.proofs.DecimalLaws.{number-decimal, decimal_of_number, decimal_digits}
@@ -10,23 +11,24 @@ use Rattle.text_core.specs.Lines.{words}
 use Rattle.text_core.proofs.StepsLaws.{bind_some, if_parts, ok_or_parts, map_parts, bytes_same, bytes_apart}
 use Rattle.host_net.specs.declared.packet.Packet.{Packet}
 use Rattle.host_net.specs.Prefix.{address_of, address_text}
+use Rattle.host_net.specs.ServiceText.{protocol_text}
 use Rattle.host_net.proofs.PrefixTextLaws.{address_of-address_text, address_text-address_of}
 use Rattle.pkt_core.specs.declared.event.Event.{Event}
 use Rattle.pkt_core.specs.declared.event.Event.TheVariants.{Seen, Forget}
 use Rattle.pkt_core.specs.declared.events.EventWhy.{EventWhy}
 use Rattle.pkt_core.specs.declared.events.EventWhy.TheVariants.{BadValue, TooMany}
-use Rattle.pkt_core.specs.EventsText.{IsProtocolName, TellsPacket, TellsEvent, AddsEvent}
+use Rattle.pkt_core.specs.EventsText.{TellsPacket, TellsEvent, AddsEvent}
 use Rattle.pkt_core.specs.inner.EventSteps.{protocol_of, packet_of, event_by, event_of, with_event, event_step}
 
 -- the word of a protocol
-protocol_told : (word : List ℕ) (n : ℕ) → protocol_of word ≡ Some n → ((word ≡ decimal n) ⊎ IsProtocolName word n) × (n < 2 ^ 8)
+protocol_told : (word : List ℕ) (n : ℕ) → protocol_of word ≡ Some n → ((word ≡ protocol_text n) ⊎ (word ≡ decimal n)) × (n < 2 ^ 8)
 protocol_told word n read = elim (if_parts (bytes_eq word (codes "icmp")) (Some 1) _ (Some n) read) [
-  | inl icmp ↦ (inr (inl (bytes_same word (codes "icmp") icmp.0, cc)), let e : 1 ≡ n = cc in omega arith)
+  | inl icmp ↦ let e : 1 ≡ n = cc in (inl (bytes_same word (codes "icmp") icmp.0 ∙ ap protocol_text e), omega arith)
   | inr rest ↦ elim (if_parts (bytes_eq word (codes "tcp")) (Some 6) _ (Some n) rest.1) [
-    | inl tcp ↦ (inr (inr (inl (bytes_same word (codes "tcp") tcp.0, cc))), let e : 6 ≡ n = cc in omega arith)
+    | inl tcp ↦ let e : 6 ≡ n = cc in (inl (bytes_same word (codes "tcp") tcp.0 ∙ ap protocol_text e), omega arith)
     | inr more ↦ elim (if_parts (bytes_eq word (codes "udp")) (Some 17) _ (Some n) more.1) [
-      | inl udp ↦ (inr (inr (inr (bytes_same word (codes "udp") udp.0, cc))), let e : 17 ≡ n = cc in omega arith)
-      | inr last ↦ let said = decimal_of_number 255 word n (omega arith) last.1 in (inl said.0, omega (arith, said.1))
+      | inl udp ↦ let e : 17 ≡ n = cc in (inl (bytes_same word (codes "udp") udp.0 ∙ ap protocol_text e), omega arith)
+      | inr last ↦ let said = decimal_of_number 255 word n (omega arith) last.1 in (inr said.0, omega (arith, said.1))
     ]
   ]
 ]
@@ -51,8 +53,7 @@ packet_told verb src dst protocol sport dport p read =
       protocol = protocol;
       named = named.0;
       written = cc;
-      addresses = (from.1, to.1);
-      numbers = (named.1, omega (arith, source.1), omega (arith, target.1));
+      is_packet = (from.1, to.1, named.1, omega (arith, source.1), omega (arith, target.1));
     })
 
 told_by : (verb src dst protocol sport dport : List ℕ) (e : Event) → event_by verb (packet_of src dst protocol sport dport) ≡ Ok e
@@ -85,14 +86,27 @@ event_told (a ∷ b ∷ c ∷ d ∷ x ∷ []) e read = cc
 event_told (a ∷ b ∷ c ∷ d ∷ x ∷ y ∷ []) e read = told_by a b c d x y e read
 event_told (a ∷ b ∷ c ∷ d ∷ x ∷ y ∷ z ∷ ws) e read = cc
 
-protocol_read : (word : List ℕ) (n : ℕ) → (word ≡ decimal n) ⊎ IsProtocolName word n → n < 2 ^ 8 → protocol_of word ≡ Some n
-protocol_read word n (inl number_text) fits =
+number_read : (word : List ℕ) (n : ℕ) → word ≡ decimal n → n < 2 ^ 8 → protocol_of word ≡ Some n
+number_read word n number_text fits =
     let digits = ap all_ascii_digits number_text ∙ decimal_digits n (omega arith) in
     rw (bytes_apart word (codes "icmp") all_ascii_digits digits refl, bytes_apart word (codes "tcp") all_ascii_digits digits refl, bytes_apart word (codes "udp") all_ascii_digits digits refl, number_text)
     (number-decimal 255 n (omega arith) (omega arith))
-protocol_read word n (inr (inl icmp)) fits = ap protocol_of icmp.0 ∙ ap (λ k. Some k) (sym icmp.1)
-protocol_read word n (inr (inr (inl tcp))) fits = ap protocol_of tcp.0 ∙ ap (λ k. Some k) (sym tcp.1)
-protocol_read word n (inr (inr (inr udp))) fits = ap protocol_of udp.0 ∙ ap (λ k. Some k) (sym udp.1)
+
+name_read : (word : List ℕ) (n : ℕ) → protocol_text n ≡ word → n < 2 ^ 8 → protocol_of word ≡ Some n
+name_read word n name fits = elim (if_parts (n == 1) (codes "icmp") _ word name) [
+  | inl icmp ↦ ap protocol_of (sym icmp.1) ∙ ap (λ k. Some k) (sym (eqb-true n 1 icmp.0))
+  | inr rest ↦ elim (if_parts (n == 6) (codes "tcp") _ word rest.1) [
+    | inl tcp ↦ ap protocol_of (sym tcp.1) ∙ ap (λ k. Some k) (sym (eqb-true n 6 tcp.0))
+    | inr more ↦ elim (if_parts (n == 17) (codes "udp") _ word more.1) [
+      | inl udp ↦ ap protocol_of (sym udp.1) ∙ ap (λ k. Some k) (sym (eqb-true n 17 udp.0))
+      | inr last ↦ number_read word n (sym last.1) fits
+    ]
+  ]
+]
+
+protocol_read : (word : List ℕ) (n : ℕ) → (word ≡ protocol_text n) ⊎ (word ≡ decimal n) → n < 2 ^ 8 → protocol_of word ≡ Some n
+protocol_read word n (inl name) fits = name_read word n (sym name) fits
+protocol_read word n (inr number_text) fits = number_read word n number_text fits
 
 packet_read : (verb : List ℕ) (ws : List (List ℕ)) (p : Packet) → TellsPacket verb ws p
     → (src : List ℕ) × (dst : List ℕ) × (protocol : List ℕ) × (sport : List ℕ) ×
@@ -105,7 +119,7 @@ packet_read verb ws p told = (
   decimal p.sport,
   decimal p.dport,
   told.written,
-  rw (address_of-address_text p.src told.addresses.0, address_of-address_text p.dst told.addresses.1, protocol_read told.protocol p.proto told.named told.numbers.0, number-decimal 65535 p.sport (omega (arith, told.numbers.1)) (omega (arith, told.numbers.1)), number-decimal 65535 p.dport (omega (arith, told.numbers.2)) (omega (arith, told.numbers.2))) refl,
+  rw (address_of-address_text p.src told.is_packet.0, address_of-address_text p.dst told.is_packet.1, protocol_read told.protocol p.proto told.named told.is_packet.2, number-decimal 65535 p.sport (omega (arith, told.is_packet.3)) (omega (arith, told.is_packet.3)), number-decimal 65535 p.dport (omega (arith, told.is_packet.4)) (omega (arith, told.is_packet.4))) refl,
 )
 
 pub told_event : (ws : List (List ℕ)) (e : Event) → TellsEvent ws e → event_of ws ≡ Ok e

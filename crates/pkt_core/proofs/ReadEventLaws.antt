@@ -12,7 +12,7 @@ use Rattle.pkt_core.specs.Filter.{ArePackets}
 
 -- an event that is told of a packet seen
 seen_told : (ws : List (List ℕ)) (event : Event) (p : Packet) → TellsEvent ws event → event ≡ Seen p → IsPacket p
-seen_told ws (Seen q) p told same = subst IsPacket (only q p same) (told.addresses.0, told.addresses.1, told.numbers.0, told.numbers.1, told.numbers.2)
+seen_told ws (Seen q) p told same = subst IsPacket (only q p same) told.is_packet
   where
     only : (q p : Packet) → Seen q ≡ Seen p → q ≡ p
     only q p h = cc

@@ -1,4 +1,4 @@
--- Connections, said over the events alone, and that tracking keeps just these.
+-- The first packets of connections, said over the events alone, and that just these are kept.
 use Rattle.std.specs.Prelude.{◌↔◌, ℕ, Bool, IsTrue, List, take, is_some}
 use Rattle.host_net.specs.declared.packet.Packet.{Packet}
 use Rattle.host_net.specs.Packet.{swap_of}

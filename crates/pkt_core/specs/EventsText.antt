@@ -1,9 +1,11 @@
 -- The text of a list of events: one line each, a verb and five words of a packet.
-use Rattle.std.specs.Prelude.{◌≡◌, ℕ, ◌<◌, ◌^◌, ◌≤◌, List, [], ◌∷◌, ◌++◌, length, ◌⊎◌, codes, decimal}
+use Rattle.std.specs.Prelude.{◌≡◌, ℕ, ◌<◌, ◌≤◌, List, [], ◌∷◌, ◌++◌, length, slice_get, Some, ◌⊎◌, codes, decimal}
 use Rattle.text_core.specs.Lines.{words}
 use Rattle.text_core.specs.TextByLines.{TextByLines, HasFault, IsReading as IsReadingOf}
 use Rattle.host_net.specs.declared.packet.Packet.{Packet}
+use Rattle.host_net.specs.Packet.{IsPacket}
 use Rattle.host_net.specs.Prefix.{address_text}
+use Rattle.host_net.specs.ServiceText.{protocol_text}
 use Rattle.pkt_core.specs.declared.event.Event.{Event}
 use Rattle.pkt_core.specs.declared.event.Event.TheVariants.{Seen, Forget}
 use Rattle.pkt_core.specs.declared.events.EventWhy.{EventWhy}
@@ -11,17 +13,12 @@ use Rattle.pkt_core.specs.declared.events.EventWhy.TheVariants.{TooLong, BadLine
 
 -- A. The grammar: which events a text tells.
 
--- the names that three protocols have beside their numbers
-abbrev pub IsProtocolName : List ℕ → ℕ → Type 0
-IsProtocolName word n = ((word ≡ codes "icmp") × (n ≡ 1)) ⊎ (((word ≡ codes "tcp") × (n ≡ 6)) ⊎ ((word ≡ codes "udp") × (n ≡ 17)))
-
--- a verb and the words of a packet: two addresses, the protocol, two ports
+-- a verb and the words of a packet: two addresses, the protocol by its name or its number, two ports
 pub record TellsPacket (verb : List ℕ) (ws : List (List ℕ)) (p : Packet) : Type 0 where
   pub protocol : List ℕ
-  pub named : (protocol ≡ decimal p.proto) ⊎ IsProtocolName protocol p.proto
+  pub named : (protocol ≡ protocol_text p.proto) ⊎ (protocol ≡ decimal p.proto)
   pub written : ws ≡ verb ∷ address_text p.src ∷ address_text p.dst ∷ protocol ∷ decimal p.sport ∷ decimal p.dport ∷ []
-  pub addresses : (p.src < 2 ^ 32) × (p.dst < 2 ^ 32)
-  pub numbers : (p.proto < 2 ^ 8) × (p.sport < 2 ^ 16) × (p.dport < 2 ^ 16)
+  pub is_packet : IsPacket p
 
 -- the words of a line tell an event
 abbrev pub TellsEvent : List (List ℕ) → Event → Type 0
@@ -37,19 +34,15 @@ pub record AddsEvent (n : ℕ) (before : List Event) (line : List ℕ) (now : Li
 
 -- B. Why a line tells none.
 
--- a verb and five words more
-pub record IsVerbAndFive (ws : List (List ℕ)) : Type 0 where
-  pub verb : List ℕ
-  pub values : List (List ℕ)
-  pub written : ws ≡ verb ∷ values
-  pub five : length values ≡ 5
-  pub is_verb : (verb ≡ codes "packet") ⊎ (verb ≡ codes "forget")
+-- six words, the first of which is a verb
+abbrev pub AreVerbAndFive : List (List ℕ) → Type 0
+AreVerbAndFive ws = (length ws ≡ 6) × ((slice_get ws 0 ≡ Some (codes "packet")) ⊎ (slice_get ws 0 ≡ Some (codes "forget")))
 
 -- why a line adds no event to those before it: its words are not a verb and five more; or they are, and tell no event; or they
 -- tell one, and 1,000,000 stand before it
 pub data IsBad (before : List Event) (ws : List (List ℕ)) : EventWhy → Type 0 where
-  bad_line : (IsVerbAndFive ws → ⊥) → IsBad before ws BadLine
-  bad_value : IsVerbAndFive ws → ((event : Event) → TellsEvent ws event → ⊥) → IsBad before ws BadValue
+  bad_line : (AreVerbAndFive ws → ⊥) → IsBad before ws BadLine
+  bad_value : AreVerbAndFive ws → ((event : Event) → TellsEvent ws event → ⊥) → IsBad before ws BadValue
   too_many : (event : Event) → TellsEvent ws event → 1000000 ≤ length before → IsBad before ws TooMany
 
 -- C. The text: its lines are events, and it may end behind each of them.

@@ -24,12 +24,9 @@ same_packet p q = (p.src == q.src) && ((p.dst == q.dst) && ((p.proto == q.proto)
 abbrev pub with_kept : Kept → Packet → Option Bool → Kept
 with_kept kept p now q = if same_packet p q then now else kept q
 
--- p answers a connection, or is of one that was answered
-abbrev pub is_two_way : Kept → Packet → Bool
-is_two_way kept p = is_some (kept (swap_of p)) || unwrap_or (kept p) false
-
+-- established where p answers a connection, or is of one that was answered
 abbrev pub state_of : Kept → Packet → CtState
-state_of kept p = if is_two_way kept p then Established else New
+state_of kept p = if is_some (kept (swap_of p)) || unwrap_or (kept p) false then Established else New
 
 -- after a packet: the connection that it answers is answered; else it begins one, where it passes and is of none
 abbrev pub after_seen : Kept → Packet → Bool → Kept

@@ -1,4 +1,4 @@
--- Connections, said over the events alone, and that tracking keeps just these.
+-- Answered connections, said over the events alone, and that tracking marks just these.
 use Rattle.std.specs.Prelude.{◌≡◌, ◌↔◌, ℕ, ◌<◌, Bool, true, List, Some}
 use Rattle.host_net.specs.declared.packet.Packet.{Packet}
 use Rattle.host_net.specs.Packet.{swap_of}
@@ -12,7 +12,7 @@ abbrev pub WasAnswered : (Packet → Bool) → List Event → Packet → Type 0
 WasAnswered permitted past q =
     (place : ℕ) × IsFirstPacket permitted past place q × ((later : ℕ) × (place < later) × SeenAt past later (swap_of q))
 
--- and as answered where they were answered
+-- exactly the first packets are kept, and as answered where they were answered
 pub record KeepsConnections (permitted : Packet → Bool) (past : List Event) (kept : Kept) : Type 0 where
   pub first : KeepsFirst permitted past kept
   pub answered : (q : Packet) → (kept q ≡ Some true) ↔ WasAnswered permitted past q
