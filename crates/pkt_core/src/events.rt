@@ -111,24 +111,12 @@ fn read_event(line: &[u8]) -> Result<Event, EventWhy>
     ensures { result ≡ event_of (words line.now) }
 {
     let mut words = Words::new(line);
-    let Some(verb) = words.next_word() else {
-        return Err(EventWhy::BadLine);
-    };
-    let Some(src) = words.next_word() else {
-        return Err(EventWhy::BadLine);
-    };
-    let Some(dst) = words.next_word() else {
-        return Err(EventWhy::BadLine);
-    };
-    let Some(protocol) = words.next_word() else {
-        return Err(EventWhy::BadLine);
-    };
-    let Some(sport) = words.next_word() else {
-        return Err(EventWhy::BadLine);
-    };
-    let Some(dport) = words.next_word() else {
-        return Err(EventWhy::BadLine);
-    };
+    let verb = words.next_word().ok_or(EventWhy::BadLine)?;
+    let src = words.next_word().ok_or(EventWhy::BadLine)?;
+    let dst = words.next_word().ok_or(EventWhy::BadLine)?;
+    let protocol = words.next_word().ok_or(EventWhy::BadLine)?;
+    let sport = words.next_word().ok_or(EventWhy::BadLine)?;
+    let dport = words.next_word().ok_or(EventWhy::BadLine)?;
     if words.next_word().is_some() {
         return Err(EventWhy::BadLine);
     }
