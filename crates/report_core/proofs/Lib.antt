@@ -8,3 +8,4 @@ mod RulingLemmas
 mod Steps
 pub mod TraceLaws
 mod Worked
+mod ZipLaws

@@ -1,29 +1,36 @@
 -- The report of the invariants, told so far.
-use Rattle.std.proofs.Common.{◌≡◌, ℕ, suc, ◌+◌, ◌<◌, ◌≤◌, Bool, not, ◌&&◌, List, [], ◌∷◌, ◌++◌, Option, None, Some, length, take, drop, get_or, refl, sym, ◌∙◌, ap, subst, append_assoc, append-nil, add-one, drop-cons}
-use Rattle.std.specs.Prelude.{◌↔◌, IsTrue, IsNone, IfSome, is_some, option_map}
-use Rattle.std.proofs.lemmas.Bool.{false≢true, and_parts, and_from, not-false}
+use Rattle.std.proofs.Common.{◌≡◌, ℕ, suc, ◌+◌, ◌<◌, ◌≤◌, Bool, not, ◌&&◌, List, [], ◌∷◌, ◌++◌, Option, length, take, drop, get_or, refl, sym, ◌∙◌, ap, subst, append_assoc, append-nil, add-one, drop-cons}
+use Rattle.std.specs.List.{flat_map, zip}
+use Rattle.std.specs.Prelude.{◌↔◌, IsTrue, IsNone, is_some}
+use Rattle.std.proofs.lemmas.Bool.{and_parts, and_from, not-false}
 use Rattle.std.proofs.lemmas.List.{take_all}
 use Rattle.std.proofs.lemmas.List.Elements.{All-more}
+use Rattle.text_core.specs.Firsts.{Numbered, numbered_from}
+use Rattle.host_net.specs.Host.{Host}
 use Rattle.net_core.specs.Network.{Network}
-use Rattle.flow_set.specs.Conditions.{IsFirst}
-use Rattle.flow_set.specs.FlowSet.{SetOfFlows, without}
+use Rattle.flow_set.specs.FlowSet.{SetOfFlows}
 use Rattle.flow_set.specs.declared.flow.Flow.{Flow}
 use Rattle.inv_any.specs.declared.any_inv.AnyInv.{AnyInv}
 use Rattle.permit_core.specs.Policy.{AllHold}
 use Rattle.net_core.specs.Policies.{holds_on}
-use Rattle.report_core.specs.CheckReport.{IsOffence, AreOffences, offence_text, check_text, IsCheckReport}
+use Rattle.report_core.specs.CheckReport.{IsOffence, AreOffences, offence_text, IsCheckReport}
+
+-- what is told of invariants, the first of which has this number
+abbrev pub text_from : List Host → ℕ → List AnyInv → List (Option (List Flow)) → List ℕ
+text_from hosts number invs offences =
+    flat_map (λ (told : Numbered AnyInv × Option (List Flow)). offence_text hosts told.0.number told.0.what told.1) (zip (numbered_from number invs) offences)
 
 -- with what is told of the invariants that are left, from a number on, the text is the report
 abbrev pub GoesOn : Network → List ℕ → ℕ → List AnyInv → Type 0
-GoesOn d text number left = (rest : List (Option (List Flow))) → AreOffences left d.asked.flows rest → IsCheckReport d (text ++ check_text d.hosts number left rest)
+GoesOn d text number left = (rest : List (Option (List Flow))) → AreOffences left d.asked.flows rest → IsCheckReport d (text ++ text_from d.hosts number left rest)
 
 pub goes_start : (d : Network) (text : List ℕ) → text ≡ [] → GoesOn d text 1 d.invariants
 goes_start d text empty rest found =
-    subst (λ (bs : List ℕ). IsCheckReport d (bs ++ check_text d.hosts 1 d.invariants rest)) (sym empty) (record { offences = rest; found = found; written = refl })
+    subst (λ (bs : List ℕ). IsCheckReport d (bs ++ text_from d.hosts 1 d.invariants rest)) (sym empty) (record { offences = rest; found = found; written = refl })
 
 pub goes_next : (d : Network) (text new : List ℕ) (invs : List AnyInv) (i : ℕ) (inv : AnyInv) (o : Option (List Flow)) → i < length invs → inv ≡ get_or invs i inv → GoesOn d text (i + 1) (drop i invs) → IsOffence (holds_on inv) d.asked.flows o → new ≡ text ++ offence_text d.hosts (i + 1) inv o → GoesOn d new (i + 1 + 1) (drop (i + 1) invs)
 goes_next d text new invs i inv o within is so_far offence written rest found =
-    let later : List ℕ = check_text d.hosts (i + 1 + 1) (drop (i + 1) invs) rest in
+    let later : List ℕ = text_from d.hosts (i + 1 + 1) (drop (i + 1) invs) rest in
     let line : List ℕ = offence_text d.hosts (i + 1) inv o in
     let left : drop i invs ≡ inv ∷ drop (i + 1) invs = rw (add-one i) (drop-cons invs i inv within ∙ ap (λ x. x ∷ drop (suc i) invs) (sym is)) in
     let on : GoesOn d text (i + 1) (inv ∷ drop (i + 1) invs) = subst (GoesOn d text (i + 1)) left so_far in
@@ -34,15 +41,6 @@ pub goes_end : (d : Network) (text : List ℕ) (number : ℕ) (left : List AnyIn
 goes_end d text number left done so_far =
     let on : GoesOn d text number [] = subst (GoesOn d text number) done so_far in
     subst (IsCheckReport d) (append-nil text) (on [] tt)
-
-found_by_cases : (Holds : List Flow → Type 0) (asked : List Flow) (found : Option SetOfFlows) → (IsNone found ↔ Holds asked) → IfSome found (λ f. (first : List Flow) × IsFirst Holds asked first × (f.flows ≡ without asked first)) → IsOffence Holds asked (option_map (λ set. set.flows) found)
-found_by_cases Holds asked None holds rest = holds.0 refl
-found_by_cases Holds asked (Some f) holds rest = (λ met. absurd (false≢true (sym (holds.1 met))), rest)
-
--- what was found of an invariant on the flows that were read is what is told of it on the asked flows
-pub offence_found : (Holds : List Flow → Type 0) (asked read : SetOfFlows) (found : Option SetOfFlows) → read ≡ asked → (IsNone found ↔ Holds read.flows) → IfSome found (λ f. (first : List Flow) × IsFirst Holds read.flows first × (f.flows ≡ without read.flows first)) → IsOffence Holds asked.flows (option_map (λ set. set.flows) found)
-offence_found Holds asked read found same holds rest =
-    subst (λ (s : SetOfFlows). IsOffence Holds s.flows (option_map (λ set. set.flows) found)) same (found_by_cases Holds read.flows found holds rest)
 
 -- ---- whether every invariant holds
 

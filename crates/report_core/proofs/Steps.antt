@@ -1,6 +1,8 @@
 -- One event more of a text that tells a run.
 use Rattle.std.proofs.Common.{◌≡◌, ℕ, ◌+◌, Bool, List, [], ◌∷◌, ◌++◌, Option, Some, None, sym, ap, subst, ◌∙◌, append_assoc}
 use Rattle.std.proofs.lemmas.List.{append-nil}
+use Rattle.std.specs.List.{flat_map}
+use Rattle.text_core.specs.Firsts.{Numbered, numbered_from}
 use Rattle.host_net.specs.declared.packet.CtState.{CtState}
 use Rattle.host_net.specs.declared.packet.Packet.{Packet}
 use Rattle.host_net.specs.Verdict.{verdict_if}
@@ -11,11 +13,15 @@ use Rattle.pkt_core.specs.declared.event.Event.{Event}
 use Rattle.pkt_core.specs.declared.event.Event.TheVariants.{Seen, Forget}
 use Rattle.pkt_core.specs.Firewall.{Filter}
 use Rattle.pkt_core.specs.Tracking.{Kept, Runs, after_forget, after_seen, nothing_kept, state_of}
-use Rattle.report_core.specs.Trace.{IsTrace, answer_line, answer_lines}
+use Rattle.report_core.specs.Trace.{IsTrace, answer_line}
+
+-- the lines of answers, the first of which is that of event k
+abbrev lines_from : ℕ → List (Option Bool) → List ℕ
+lines_from k answers = flat_map (λ (told : Numbered (Option Bool)). answer_line told.number told.what) (numbered_from k answers)
 
 -- whatever run is left over these events, the text and its lines, from that of event k on, are those of the whole run
 abbrev pub Leaves : Filter → List Event → Kept → List Event → ℕ → List ℕ → Type 0
-Leaves filter all kept events k text = (rest : List (Option Bool)) → Runs filter kept events rest → IsTrace filter all (text ++ answer_lines k rest)
+Leaves filter all kept events k text = (rest : List (Option Bool)) → Runs filter kept events rest → IsTrace filter all (text ++ lines_from k rest)
 
 pub leaves_next : (filter : Filter) (all : List Event) (kept now : Kept) (events : List Event) (event : Event) (later : List Event) (k : ℕ) (answer : Option Bool) (old new : List ℕ)
     → events ≡ event ∷ later
@@ -23,7 +29,7 @@ pub leaves_next : (filter : Filter) (all : List Event) (kept now : Kept) (events
     → new ≡ old ++ answer_line k answer → Leaves filter all kept events k old → Leaves filter all now later (k + 1) new
 leaves_next filter all kept now events event later k answer old new here steps pushed left rest run =
     let line : List ℕ = answer_line k answer in
-    let more : List ℕ = answer_lines (k + 1) rest in
+    let more : List ℕ = lines_from (k + 1) rest in
     let same : old ++ (line ++ more) ≡ new ++ more = sym (ap (λ (text : List ℕ). text ++ more) pushed ∙ append_assoc old line more) in
     subst (IsTrace filter all) same
     (left (answer ∷ rest) (subst (λ (es : List Event). Runs filter kept es (answer ∷ rest)) (sym here) (steps later rest run)))

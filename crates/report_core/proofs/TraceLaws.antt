@@ -73,13 +73,11 @@ module _ (Known : Packet → Type 0) (filter : Filter) (once : AnswersOnce Known
   pub trace_is_one : (events : List Event) → AllKnown Known events → (a b : List ℕ) → IsTrace filter events a
       → IsTrace filter events b → a ≡ b
   trace_is_one events known a b p q =
-      p.written ∙ ap (answer_lines 1) (runs_once nothing_kept events known p.answers q.answers p.run q.run) ∙ sym q.written
+      p.written ∙ ap answer_lines (runs_once nothing_kept events known p.answers q.answers p.run q.run) ∙ sym q.written
 
   -- and so it says the one run
   pub tells_run : (events : List Event) → AllKnown Known events → (text : List ℕ) → IsTrace filter events text → TellsRun filter events text
   tells_run events known text is = record {
-    answers = is.answers;
-    run = is.run;
-    one = λ others run. runs_once nothing_kept events known others is.answers run is.run;
-    written = is.written;
+    is = is;
+    one = λ answers run. runs_once nothing_kept events known answers is.answers run is.run;
   }

@@ -63,12 +63,12 @@ abbrev flow : ℕ → ℕ → Flow
 flow from to = record { from = from; to = to }
 
 -- two invariants, each of which one flow offends
-offences_are_told : check_text (named (codes "a" ∷ codes "b" ∷ codes "c" ∷ [])) 1 (Dependability [] ∷ NoReach [] ∷ []) (Some (flow 1 2 ∷ []) ∷ Some (flow 0 1 ∷ []) ∷ []) ≡ codes "invariant 1 dependability fails\n  b -> c\ninvariant 2 noreach fails\n  a -> b\n"
+offences_are_told : check_text (named (codes "a" ∷ codes "b" ∷ codes "c" ∷ [])) (Dependability [] ∷ NoReach [] ∷ []) (Some (flow 1 2 ∷ []) ∷ Some (flow 0 1 ∷ []) ∷ []) ≡ codes "invariant 1 dependability fails\n  b -> c\ninvariant 2 noreach fails\n  a -> b\n"
 unfolding digits invariant_text flow_text offending_line
 offences_are_told = refl
 
 -- an invariant that two flows offend, after one that holds
-some_offences_are_told : check_text (named (codes "a" ∷ codes "b" ∷ codes "c" ∷ codes "u" ∷ [])) 1 (Sink [] ∷ NonInterference [] ∷ []) (None ∷ Some (flow 1 3 ∷ flow 3 2 ∷ []) ∷ []) ≡ codes "invariant 1 sink ok\ninvariant 2 noninterference fails\n  b -> u\n  u -> c\n"
+some_offences_are_told : check_text (named (codes "a" ∷ codes "b" ∷ codes "c" ∷ codes "u" ∷ [])) (Sink [] ∷ NonInterference [] ∷ []) (None ∷ Some (flow 1 3 ∷ flow 3 2 ∷ []) ∷ []) ≡ codes "invariant 1 sink ok\ninvariant 2 noninterference fails\n  b -> u\n  u -> c\n"
 unfolding digits invariant_text flow_text offending_line
 some_offences_are_told = refl
 

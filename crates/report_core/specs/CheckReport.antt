@@ -1,5 +1,7 @@
 -- The report of `check` (docs/FORMATS.md): for each invariant whether it holds on the asked flows, and if not, which flows offend it.
-use Rattle.std.specs.Prelude.{◌≡◌, ℕ, ◌+◌, List, [], ◌∷◌, ◌++◌, flat_map, Option, None, Some, codes}
+use Rattle.std.specs.Prelude.{◌≡◌, ℕ, List, ◌++◌, flat_map, Option, None, Some, codes}
+use Rattle.std.specs.List.{AllZip, zip}
+use Rattle.text_core.specs.Firsts.{Numbered, numbered}
 use Rattle.net_core.specs.Network.{Network}
 use Rattle.flow_set.specs.Conditions.{IsFirst}
 use Rattle.flow_set.specs.FlowSet.{without}
@@ -17,10 +19,7 @@ IsOffence Holds asked (Some offending) =
 
 -- for each invariant in turn
 abbrev pub AreOffences : List AnyInv → List Flow → List (Option (List Flow)) → Type 0
-AreOffences [] asked [] = Unit {0}
-AreOffences [] asked (o ∷ os) = ⊥
-AreOffences (inv ∷ invs) asked [] = ⊥
-AreOffences (inv ∷ invs) asked (o ∷ os) = IsOffence (holds_on inv) asked o × AreOffences invs asked os
+AreOffences invs asked = AllZip (λ inv. IsOffence (holds_on inv) asked) invs
 
 -- a flow on a line of its own
 unfoldable pub offending_line : List Host → Flow → List ℕ
@@ -32,14 +31,13 @@ offence_text hosts number inv None = codes "invariant " ++ (invariant_text numbe
 offence_text hosts number inv (Some offending) =
     codes "invariant " ++ (invariant_text number inv ++ (codes " fails\n" ++ flat_map (offending_line hosts) offending))
 
--- of all invariants, from a number on
-abbrev pub check_text : List Host → ℕ → List AnyInv → List (Option (List Flow)) → List ℕ
-check_text hosts number [] os = []
-check_text hosts number (inv ∷ invs) [] = []
-check_text hosts number (inv ∷ invs) (o ∷ os) = offence_text hosts number inv o ++ check_text hosts (number + 1) invs os
+-- of all invariants, by their numbers
+abbrev pub check_text : List Host → List AnyInv → List (Option (List Flow)) → List ℕ
+check_text hosts invs offences =
+    flat_map (λ (told : Numbered AnyInv × Option (List Flow)). offence_text hosts told.0.number told.0.what told.1) (zip (numbered invs) offences)
 
 -- the text is the report of the network
 pub record IsCheckReport (d : Network) (text : List ℕ) : Type 0 where
   pub offences : List (Option (List Flow))
   pub found : AreOffences d.invariants d.asked.flows offences
-  pub written : text ≡ check_text d.hosts 1 d.invariants offences
+  pub written : text ≡ check_text d.hosts d.invariants offences

@@ -1,3 +1,4 @@
 pub mod Growing
 pub mod RulingView
+pub mod Rulings
 pub mod Trying

@@ -1,5 +1,5 @@
 //! What is printed of a description: the report of its invariants, the report of its policy, and the
-//! line of a refusal.
+//! line of a refusal; and what is printed of a run of rules over a list of events.
 #![tactic(auto)]
 
 mod check;

@@ -5,9 +5,10 @@ ghost use Rattle.flow_set.specs.EveryFlow.{every_flow, flow_or_none};
 ghost use Rattle.flow_set.specs.Flow.{IsFlow};
 ghost use Rattle.net_core.specs.Policies.{IsPolicyOf};
 ghost use Rattle.report_core.specs.inner.Growing.{Grows};
-ghost use Rattle.report_core.specs.PolicyReport.{IsPolicyReport, IsRuling, TellsRulings, ruling_line, ruling_text};
+ghost use Rattle.report_core.specs.PolicyReport.{IsPolicyReport, ruling_line, ruling_text};
 ghost use Rattle.report_core.specs.PolicyReport as meant;
 ghost use Rattle.report_core.specs.inner.RulingView.{IsWithin, ruling_view};
+ghost use Rattle.report_core.specs.inner.Rulings.{IsFound, TellsRulings};
 ghost use Rattle.report_core.specs.inner.Trying.{AreTriedOn};
 
 use crate::names::{push_flow, push_invariant};
@@ -20,6 +21,7 @@ use permit_core::{blame_by_steps, trials_of};
 use std::alloc::{AllocError, Global};
 
 /// For each flow between two hosts what becomes of it, and why.
+#[tactic(auto, using(crate::proofs::RulingLemmas::is_report))]
 pub fn policy_report(alloc: Global, description: &Description) -> Result<Report, AllocError>
     ensures report { IfOk result (λ made. IsPolicyReport description.now made) }
 {
@@ -102,7 +104,7 @@ fn ruling_of(
     requires policy { IsPolicyOf description.now policy.now }
     requires tried { AreTriedOn description.now policy.now.permitted.flows trials.old.items }
     requires flow { IsFlow (length description.now.hosts) flow }
-    ensures ruling { IsRuling description.now policy.now flow (ruling_view result) }
+    ensures ruling { IsFound description.now policy.now flow (ruling_view result) }
     ensures tried { AreTriedOn description.now policy.now.permitted.flows trials.new.items }
 {
     let asked = description.asked();

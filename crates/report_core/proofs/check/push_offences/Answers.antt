@@ -7,7 +7,8 @@ use Rattle.inv_any.specs.declared.any_inv.AnyInv.{AnyInv}
 use Rattle.permit_core.specs.Policy.{AllHold}
 use Rattle.net_core.specs.Policies.{holds_on}
 use Rattle.report_core.specs.CheckReport.{offence_text}
-use Rattle.report_core.proofs.OffenceLemmas.{goes_next, goes_end, offence_found, held_next, all_next, all_at_end}
+use Rattle.report_core.proofs.OffenceLemmas.{goes_next, goes_end, held_next, all_next, all_at_end}
+use Rattle.report_core.proofs.ReportLaws.{offence_found}
 use Rattle.report_core.proofs.check.push_offences.Goals as goal
 
 pub loop-place-preserved : goal.loop-place-preserved

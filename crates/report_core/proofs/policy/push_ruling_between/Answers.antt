@@ -2,8 +2,8 @@ use Rattle.std.proofs.Common.{List, sym, subst}
 use Rattle.std.proofs.lemmas.Result.{on_ok_weaker}
 use Rattle.flow_set.specs.declared.flow.Flow.{Flow}
 use Rattle.report_core.specs.inner.Growing.{Grows}
-use Rattle.report_core.specs.PolicyReport.{TellsRulings}
-use Rattle.report_core.proofs.RulingLemmas.{one_flow, grows_by_one, is_within}
+use Rattle.report_core.specs.inner.Rulings.{TellsRulings}
+use Rattle.report_core.proofs.RulingLemmas.{one_flow, grows_by_one, is_within, ruling_found}
 use Rattle.report_core.specs.inner.RulingView.{ruling_view}
 use Rattle.report_core.proofs.policy.push_ruling_between.Goals as goal
 
@@ -18,7 +18,9 @@ returns-clause-told c =
     let flow = c.args.flow in
     let old = c.args.text.now.items in
     let new = c.push_ruling_line.new.text.items in
+    let ruling = ruling_view c.ruling_of-ruling.result in
+    let is_ruling = ruling_found d policy flow ruling c.requires.policy c.ruling_of-ruling.ensures.ruling in
     on_ok_weaker c.push_ruling_line.result
     (λ written. subst (λ (flows : List Flow). Grows (TellsRulings d policy flows) old new) (sym (one_flow flow.from flow.to c.if-flow.false))
-    (grows_by_one d policy flow (ruling_view c.ruling_of-ruling.result) old new c.ruling_of-ruling.ensures.ruling written))
+    (grows_by_one d policy flow ruling old new is_ruling written))
     c.push_ruling_line.ensures

@@ -1,7 +1,7 @@
 use Rattle.std.specs.List.{flat_map, range_with_len}
 use Rattle.flow_set.specs.EveryFlow.{flow_or_none}
 use Rattle.report_core.specs.inner.Growing.{Grows}
-use Rattle.report_core.specs.PolicyReport.{TellsRulings}
+use Rattle.report_core.specs.inner.Rulings.{TellsRulings}
 use Rattle.report_core.specs.inner.Trying.{AreTriedOn}
 use Rattle.report_core.proofs.policy.push_rulings_from.Given as goal
 
