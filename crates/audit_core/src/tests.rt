@@ -9,7 +9,7 @@ ghost use Rattle.ofp_rules.specs.Matching.{asks_of_ip};
 use crate::{Finding, Text, Trace, audit, classes_line, finding_text};
 use flow_set::{Flow, FlowSet};
 use host_net::{Hosts, Packet, Services, read_prefix, read_service};
-use ipt_rules::{AddrMatch, Chains, Policy, Rule, Ruleset, StateMatch, Target};
+use ipt_rules::{AddrMatch, Chains, Filter, Policy, Rule, Ruleset, StateMatch, Target};
 use ofp_rules::{Action, Entry, FrameKind, Table};
 use std::alloc::Global;
 
@@ -157,7 +157,8 @@ fn found(
     let p = one_flow(alloc, &hosts)?;
     let s = stateful(alloc, &p, answers)?;
     let rules = chains(alloc, rules_answer)?;
-    audit(alloc, &hosts, &services, &p, &s, &Text::Ipt(&rules)).ok()
+    let filter = Filter::of(alloc, &rules).ok()?;
+    audit(alloc, &hosts, &services, &p, &s, &Text::Ipt(&filter)).ok()
 }
 
 fn found_in_table(alloc: Global, answers: bool) -> Option<Finding> {

@@ -7,14 +7,14 @@ ghost use Rattle.audit_core.specs.inner.Rules.{GivesOne};
 ghost use Rattle.audit_core.specs.inner.RulesView.{rules_of};
 
 use host_net::{CtState, Packet, Verdict};
-use ipt_rules::Ruleset;
+use ipt_rules::Filter;
 use ofp_rules::{Frame, Table};
 
 /// A rules text, as what it says.
 #[derive(Clone, Copy)]
 pub enum Text<'a> {
     /// Chains of iptables. Packets that are forwarded run through FORWARD.
-    Ipt(&'a Ruleset),
+    Ipt(&'a Filter<'a>),
     /// A flow table of OpenFlow. It looks at no connections.
     Ofp(&'a Table),
 }
@@ -25,7 +25,7 @@ impl<'a> Text<'a> {
         ensures { filter_of (rules_of self.now) state packet.now result }
     {
         match self {
-            Text::Ipt(rules) => is_forwarded(rules.verdict(packet, state)),
+            Text::Ipt(filter) => is_forwarded(filter.verdict(packet, state)),
             Text::Ofp(table) => is_forwarded(table.verdict(&Frame::Ipv4(*packet))),
         }
     }
@@ -35,7 +35,7 @@ impl<'a> Text<'a> {
         ensures gives { GivesOne (filter_of (rules_of self.now)) }
     {
         match self {
-            Text::Ipt(rules) => rules.rules(),
+            Text::Ipt(filter) => filter.rules().rules(),
             Text::Ofp(table) => table.len(),
         }
     }

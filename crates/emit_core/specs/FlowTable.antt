@@ -31,16 +31,8 @@ port_of_service s = if has_all_ports s then None else Some s.low
 
 -- an entry that forwards packets of a service
 abbrev pub service_entry : ℕ → Option Prefix → Option Prefix → Option Service → Entry
-service_entry priority q t n = record {
-  priority = priority;
-  kind = Ip;
-  src = q;
-  dst = t;
-  proto = option_map (λ s. s.proto) n;
-  tp_src = None;
-  tp_dst = option_and_then port_of_service n;
-  action = Normal;
-}
+service_entry priority q t n =
+    record (ip_entry priority q t Normal) { proto = option_map (λ s. s.proto) n; tp_dst = option_and_then port_of_service n }
 
 -- what is dropped between two hosts where there is a rest host, lest it pass as if from or to that host
 abbrev pub rest_drop : Option ℕ → ℕ → Prefix → Prefix → List Entry

@@ -89,27 +89,11 @@ port_part n = option_and_then ports_of_service n
 
 -- a packet of the flow goes to the ports of its service
 abbrev pub to_service : Side → Option Prefix → Option Service → Rule
-to_service side q n = record {
-  src = source_part side (in_prefix q);
-  dst = destination_part side (in_prefix q);
-  proto = protocol_part n;
-  sport = None;
-  dport = port_part n;
-  state = None;
-  target = Accept;
-}
+to_service side q n = record (at_other side q None Accept) { proto = protocol_part n; dport = port_part n }
 
 -- and what answers it comes from them
 abbrev pub from_service : Side → Option Prefix → Option Service → Rule
-from_service side q n = record {
-  src = source_part side (in_prefix q);
-  dst = destination_part side (in_prefix q);
-  proto = protocol_part n;
-  sport = port_part n;
-  dport = None;
-  state = answering;
-  target = Accept;
-}
+from_service side q n = record (at_other side q answering Accept) { proto = protocol_part n; sport = port_part n }
 
 -- the flow that host i has with host j on a side is one of these, and nothing narrows it
 abbrev pub links_whole : Side → Site → List Flow → ℕ → ℕ → Bool

@@ -9,7 +9,7 @@ use flow_set::{Flow, FlowSet};
 use host_net::{
     Hosts, Packet, SERVICE_LIMIT, Service, Services, Verdict, read_prefix, read_service,
 };
-use ipt_rules::{INPUT, OUTPUT, Ruleset};
+use ipt_rules::{Filter, INPUT, OUTPUT, Ruleset};
 use pkt_core::Track;
 use std::alloc::{AllocError, Global};
 
@@ -165,6 +165,7 @@ fn rules_of_hosts(rt: HostRuntime) {
 /// The machine of a host: its rules and its connections.
 #[derive(Drop)]
 struct Machine {
+    alloc: Global,
     rules: Ruleset,
     track: Track,
 }
@@ -175,6 +176,7 @@ impl Machine {
     fn of(alloc: Global, texts: &[&[u8]], host: u16) -> Option<Machine> {
         let pair: [(&[u8], &[u8]); 2] = [(b"a", b"10.0.0.1/32"), (b"b", b"10.0.0.2/32")];
         Some(Machine {
+            alloc,
             rules: rules_of(alloc, &pair, Flow { from: 0, to: 1 }, texts, host)?,
             track: Track::new(alloc),
         })
@@ -184,7 +186,8 @@ impl Machine {
         requires { chain < 3 }
     {
         let state = self.track.state_of(packet);
-        let passes = self.rules.verdict_in(chain, packet, state) == Verdict::Forward;
+        let filter = Filter::of(self.alloc, &self.rules)?;
+        let passes = filter.verdict_in(chain, packet, state) == Verdict::Forward;
         self.track.step(packet, passes)?;
         Ok(passes)
     }

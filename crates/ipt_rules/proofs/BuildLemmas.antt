@@ -6,7 +6,6 @@ use Rattle.std.proofs.lemmas.Bool.{and_from}
 use Rattle.std.proofs.lemmas.Bool.Decides.{nat_tests}
 use Rattle.std.specs.Prelude.{is_some}
 use Rattle.std.specs.List.{position_from, list_all}
-use Rattle.host_net.specs.declared.cover.Covers.{Covers}
 use Rattle.ipt_rules.specs.declared.rule.Rule.{Rule}
 use Rattle.ipt_rules.specs.declared.ruleset.BuildRefusal.{BuildRefusal}
 use Rattle.ipt_rules.specs.declared.ruleset.BuildRefusal.TheVariants.{UnknownChain}
@@ -16,7 +15,6 @@ use Rattle.ipt_rules.specs.inner.ChainTable.{IsChainList}
 use Rattle.ipt_rules.specs.inner.Build.{jumps_nowhere, place_of_unknown, unknown_at, first_unknown, refusal_of}
 use Rattle.ipt_rules.specs.inner.Jumps.{JumpsAreKnown, IsRuleset}
 use Rattle.ipt_rules.specs.Loops.{jumps_from}
-use Rattle.ipt_rules.specs.inner.Next.{AreIndexes}
 use Rattle.ipt_rules.specs.inner.Ranks.{IsRanking}
 use Rattle.ipt_rules.specs.inner.Starts.{starts_from}
 
@@ -82,10 +80,10 @@ pub few_rules_of : (xs : List Chain) → refusal_of xs ≡ None → rule_count x
 unfolding fine_parts
 few_rules_of xs fine = (fine_parts xs fine).few_rules
 
-pub built : (xs : List Chain) (n : ℕ) (starts order : List ℕ) (places : List (Option ℕ)) (indexes : List Covers) → IsChainList xs n → refusal_of xs ≡ None → starts ≡ starts_from 0 xs
-    → IsRanking (jumps_from xs) (length xs) order places → AreIndexes indexes xs → IsRuleset xs n starts order places indexes
+pub built : (xs : List Chain) (n : ℕ) (starts order : List ℕ) (places : List (Option ℕ)) → IsChainList xs n → refusal_of xs ≡ None → starts ≡ starts_from 0 xs
+    → IsRanking (jumps_from xs) (length xs) order places → IsRuleset xs n starts order places
 unfolding fine_parts
-built xs n starts order places indexes chains fine begin ranking are =
+built xs n starts order places chains fine begin ranking =
     let parts = fine_parts xs fine in
     record {
       list = chains;
@@ -95,5 +93,4 @@ built xs n starts order places indexes chains fine begin ranking are =
       jumps = known_of xs fine;
       starts_are = begin;
       ranking = ranking;
-      indexes_are = are;
     }

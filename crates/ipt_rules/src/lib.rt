@@ -5,6 +5,7 @@
 
 mod chain;
 mod chains;
+mod filter;
 mod jumps;
 mod loops;
 mod name;
@@ -20,6 +21,7 @@ mod text;
 mod walk;
 
 pub use chains::Chains;
+pub use filter::Filter;
 pub use host_net::Verdict;
 pub use name::ChainName;
 pub use rule::{

@@ -7,18 +7,14 @@ ghost use Rattle.ipt_rules.specs.ChainTable.{rule_count};
 ghost use Rattle.ipt_rules.specs.inner.ChainTable.{IsTable};
 ghost use Rattle.ipt_rules.specs.inner.Build.{refusal_of, RefusedFor, first_unknown, jumps_nowhere, place_of_unknown};
 ghost use Rattle.ipt_rules.specs.Loops.{HasNoLoop};
-ghost use Rattle.ipt_rules.specs.Meaning.{HasVerdictIn};
-ghost use Rattle.ipt_rules.specs.inner.OneOutcome.{HasVerdict, EachGivesOne};
+ghost use Rattle.ipt_rules.specs.inner.OneOutcome.{EachGivesOne};
 
 use crate::chain::Chain;
 use crate::chains::Chains;
 use crate::loops::{Ranked, rank_chains};
-use crate::next::indexes_of;
 use crate::ranking::{CHAIN_LIMIT, Ranking};
 use crate::rule::{Rule, Target};
 use crate::starts::starts_of;
-use crate::walk::{outcome, policy_of, policy_verdict};
-use host_net::{Covers, CtState, Packet, Verdict};
 use std::alloc::Global;
 use std::marker::Model;
 
@@ -51,8 +47,7 @@ pub struct Ruleset {
     pub(crate) rules: u32,
     /// The number of each chain's first rule among the rules of all chains.
     pub(crate) starts: Vec<u32>,
-    ranking: Ranking,
-    indexes: Vec<Covers>,
+    pub(crate) ranking: Ranking,
 }
 
 impl Model for Ruleset {
@@ -65,7 +60,7 @@ impl Model for Ruleset {
 
     ghost view = { λ r. r.chains.items };
 
-    ghost invariant = { λ r. IsRuleset r.chains.items r.rules r.starts.items r.ranking.order.items r.ranking.places.items r.indexes.items };
+    ghost invariant = { λ r. IsRuleset r.chains.items r.rules r.starts.items r.ranking.order.items r.ranking.places.items };
 }
 
 impl Ruleset {
@@ -85,46 +80,16 @@ impl Ruleset {
         }
         match rank_chains(alloc, &chains.chains) {
             Ok(Ranked::Order(ranking)) => match starts_of(alloc, &chains.chains) {
-                Ok(starts) => match indexes_of(alloc, &chains.chains) {
-                    Ok(indexes) => Ok(Ruleset {
-                        chains: chains.chains,
-                        rules: chains.rules,
-                        starts,
-                        ranking,
-                        indexes,
-                    }),
-                    Err(_) => Err(BuildRefusal::Memory),
-                },
+                Ok(starts) => Ok(Ruleset {
+                    chains: chains.chains,
+                    rules: chains.rules,
+                    starts,
+                    ranking,
+                }),
                 Err(_) => Err(BuildRefusal::Memory),
             },
             Ok(Ranked::Loop(chain)) => Err(BuildRefusal::Loop { chain }),
             Err(_) => Err(BuildRefusal::Memory),
-        }
-    }
-
-    /// What becomes of a packet that runs through FORWARD in that state.
-    pub fn verdict(&self, packet: &Packet, state: CtState) -> Verdict
-        ensures { HasVerdict self.now packet.now state result }
-    {
-        self.verdict_in(FORWARD, packet, state)
-    }
-
-    /// What becomes of a packet that runs through a built-in chain in that state: `INPUT`, `FORWARD`
-    /// or `OUTPUT`.
-    pub fn verdict_in(&self, chain: u16, packet: &Packet, state: CtState) -> Verdict
-        requires { chain < 3 }
-        ensures { HasVerdictIn self.now chain packet.now state result }
-    {
-        match outcome(
-            &self.chains,
-            &self.indexes,
-            &self.ranking,
-            chain,
-            packet,
-            state,
-        ) {
-            Some(verdict) => verdict,
-            None => policy_verdict(policy_of(&self.chains, chain)),
         }
     }
 }

@@ -6,7 +6,7 @@ ghost use Rattle.ipt_rules.specs.ChainTable.{rule_count};
 ghost use Rattle.ipt_rules.specs.inner.RuleParts.{is_rule};
 
 use crate::{
-    AddrMatch, BuildRefusal, ChainName, Chains, Policy, PortMatch, ProtoMatch, Rule, Ruleset,
+    AddrMatch, BuildRefusal, ChainName, Chains, Filter, Policy, PortMatch, ProtoMatch, Rule, Ruleset,
     StateMatch, Target, Verdict,
 };
 use host_net::{CtState, Packet, Prefix};
@@ -173,21 +173,22 @@ fn judges_packets(rt: HostRuntime) {
         rule(None, outside, None, Target::Accept),
     );
     let rules = Ruleset::build(rt.alloc(), chains).expect(&rt, "a rule set");
+    let filter = Filter::of(rt.alloc(), &rules).expect(&rt, "memory");
     let (inside, outside) = (0xc0a8_0105, 0x5db8_d822);
     assert_eq!(rt;
-        rules.verdict(&packet(inside, outside), CtState::New),
+        filter.verdict(&packet(inside, outside), CtState::New),
         Verdict::Forward
     );
     assert_eq!(rt;
-        rules.verdict(&packet(outside, inside), CtState::Established),
+        filter.verdict(&packet(outside, inside), CtState::Established),
         Verdict::Forward
     );
     assert_eq!(rt;
-        rules.verdict(&packet(inside, 0x0a09_0101), CtState::New),
+        filter.verdict(&packet(inside, 0x0a09_0101), CtState::New),
         Verdict::Drop
     );
     assert_eq!(rt;
-        rules.verdict(&packet(outside, inside), CtState::New),
+        filter.verdict(&packet(outside, inside), CtState::New),
         Verdict::Drop
     );
 }
@@ -201,8 +202,9 @@ fn returns_and_refuses(rt: HostRuntime) {
     push(&rt, &mut chains, 1, rule(None, None, None, Target::Jump(3)));
     push(&rt, &mut chains, 1, rule(None, None, None, Target::Accept));
     let rules = Ruleset::build(rt.alloc(), chains).expect(&rt, "a rule set");
+    let filter = Filter::of(rt.alloc(), &rules).expect(&rt, "memory");
     assert_eq!(rt;
-        rules.verdict(&packet(1, 2), CtState::New),
+        filter.verdict(&packet(1, 2), CtState::New),
         Verdict::Forward
     );
 
@@ -254,8 +256,9 @@ fn goes_through_the_chains_by_their_order(rt: HostRuntime) {
     push(&rt, &mut chains, 3, rule(None, None, None, Target::Return));
     push(&rt, &mut chains, 4, rule(None, None, None, Target::Accept));
     let rules = Ruleset::build(rt.alloc(), chains).expect(&rt, "a rule set");
+    let filter = Filter::of(rt.alloc(), &rules).expect(&rt, "memory");
     assert_eq!(rt;
-        rules.verdict(&packet(1, 2), CtState::New),
+        filter.verdict(&packet(1, 2), CtState::New),
         Verdict::Forward
     );
 }
@@ -295,6 +298,7 @@ fn writes_services(rt: HostRuntime) {
     push(&rt, &mut chains, 1, other);
     push(&rt, &mut chains, 1, tunnel);
     let rules = Ruleset::build(rt.alloc(), chains).expect(&rt, "a rule set");
+    let filter = Filter::of(rt.alloc(), &rules).expect(&rt, "memory");
     assert_eq!(rt; rules.lines(), 9);
     let mut buffer = [0; 320];
     for i in 0..rules.lines() {
@@ -306,17 +310,17 @@ fn writes_services(rt: HostRuntime) {
         );
     }
     let web = packet(1, 2);
-    assert_eq!(rt; rules.verdict(&web, CtState::New), Verdict::Forward);
+    assert_eq!(rt; filter.verdict(&web, CtState::New), Verdict::Forward);
     assert_eq!(rt;
-        rules.verdict(&Packet { dport: 80, ..web }, CtState::New),
+        filter.verdict(&Packet { dport: 80, ..web }, CtState::New),
         Verdict::Drop
     );
     assert_eq!(rt;
-        rules.verdict(&Packet { proto: 17, ..web }, CtState::New),
+        filter.verdict(&Packet { proto: 17, ..web }, CtState::New),
         Verdict::Drop
     );
     assert_eq!(rt;
-        rules.verdict(&Packet { proto: 1, ..web }, CtState::New),
+        filter.verdict(&Packet { proto: 1, ..web }, CtState::New),
         Verdict::Drop
     );
 }

@@ -11,7 +11,7 @@ ghost use Rattle.report_core.specs.Trace.{IsTrace};
 
 use crate::line::push_answer;
 use host_net::Verdict;
-use ipt_rules::Ruleset;
+use ipt_rules::{Filter, Ruleset};
 use ofp_rules::{Frame, Table};
 use pkt_core::{Event, Track};
 use std::alloc::{AllocError, Global};
@@ -21,10 +21,21 @@ use std::alloc::{AllocError, Global};
 pub fn trace_rules(alloc: Global, rules: &Ruleset, events: &[Event]) -> Result<Vec<u8>, AllocError>
     ensures { IfOk result (λ text. IsTrace (Passes rules.now) events.now text.items) }
 {
+    let filter = Filter::of(alloc, rules)?;
+    trace_filter(alloc, &filter, events)
+}
+
+fn trace_filter(
+    alloc: Global,
+    filter: &Filter<'_>,
+    events: &[Event],
+) -> Result<Vec<u8>, AllocError>
+    ensures { IfOk result (λ text. IsTrace (Passes filter.now) events.now text.items) }
+{
     let mut track = Track::new(alloc);
     let mut text = Vec::new(alloc);
     for (place, event) in events.iter().enumerate() {
-        let answer = answer(rules, &mut track, *event)?;
+        let answer = answer(filter, &mut track, *event)?;
         push_answer(&mut text, place + 1, answer)?;
     }
     Ok(text)
@@ -44,14 +55,14 @@ pub fn trace_table(alloc: Global, table: &Table, events: &[Event]) -> Result<Vec
 
 /// The answer to one event, which is tracked: a run over what follows is one over this event and what
 /// follows.
-fn answer(rules: &Ruleset, track: &mut Track, event: Event) -> Result<Option<bool>, AllocError>
+fn answer(filter: &Filter<'_>, track: &mut Track, event: Event) -> Result<Option<bool>, AllocError>
     ensures { IfOk result (λ answer. (events : List EventOf) (answers : List (Option Bool))
-        → Runs (Passes rules.now) (kept_in track.new) events answers
-        → Runs (Passes rules.now) (kept_in track.old) (event ∷ events) (answer ∷ answers)) }
+        → Runs (Passes filter.now) (kept_in track.new) events answers
+        → Runs (Passes filter.now) (kept_in track.old) (event ∷ events) (answer ∷ answers)) }
 {
     match event {
         Event::Seen(packet) => {
-            let passes = is_forward(rules.verdict(&packet, track.state_of(&packet)));
+            let passes = is_forward(filter.verdict(&packet, track.state_of(&packet)));
             track.step(&packet, passes)?;
             Ok(Some(passes))
         }

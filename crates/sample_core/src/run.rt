@@ -15,7 +15,7 @@ ghost use Rattle.emit_core.specs.Layout.{layout};
 use crate::packets::sample_packets;
 use emit_core::{EmitRefusal, emit_iptables};
 use host_net::{Hosts, Packet, Services, Verdict};
-use ipt_rules::Ruleset;
+use ipt_rules::{Filter, Ruleset};
 use net_core::Policy;
 use pkt_core::Track;
 use std::alloc::{AllocError, Global};
@@ -44,7 +44,8 @@ pub(crate) fn run_counts(
 {
     let rules = rules_of(alloc, hosts, services, policy)?;
     let packets = sample_packets(alloc, count)?;
-    let forwarded = forwarded(alloc, &rules, &packets)?;
+    let filter = Filter::of(alloc, &rules)?;
+    let forwarded = forwarded(alloc, &filter, &packets)?;
     Ok(RunCounts {
         rules: rules.lines(),
         events: packets.len(),
@@ -80,13 +81,17 @@ fn rules_of(
 }
 
 /// How many of the packets are forwarded.
-fn forwarded(alloc: Global, rules: &Ruleset, packets: &[Packet]) -> Result<usize, AllocError>
-    ensures { IfOk result (AreForwarded (Passes rules.now) (map Seen packets.now)) }
+fn forwarded(
+    alloc: Global,
+    filter: &Filter<'_>,
+    packets: &[Packet],
+) -> Result<usize, AllocError>
+    ensures { IfOk result (AreForwarded (Passes filter.now) (map Seen packets.now)) }
 {
     let mut track = Track::new(alloc);
     let mut count = 0;
     for (place, packet) in packets.iter().enumerate() {
-        let passes = is_forwarded(rules, &mut track, packet)?;
+        let passes = is_forwarded(filter, &mut track, packet)?;
         count += one_if(passes);
     }
     Ok(count)
@@ -94,12 +99,16 @@ fn forwarded(alloc: Global, rules: &Ruleset, packets: &[Packet]) -> Result<usize
 
 /// Whether the rules forward a packet, which is tracked: a run over what follows is one over this packet
 /// and what follows.
-fn is_forwarded(rules: &Ruleset, track: &mut Track, packet: &Packet) -> Result<bool, AllocError>
+fn is_forwarded(
+    filter: &Filter<'_>,
+    track: &mut Track,
+    packet: &Packet,
+) -> Result<bool, AllocError>
     ensures { IfOk result (λ passes. (events : List Event) (answers : List (Option Bool))
-        → Runs (Passes rules.now) (kept_in track.new) events answers
-        → Runs (Passes rules.now) (kept_in track.old) (Seen packet.now ∷ events) (Some passes ∷ answers)) }
+        → Runs (Passes filter.now) (kept_in track.new) events answers
+        → Runs (Passes filter.now) (kept_in track.old) (Seen packet.now ∷ events) (Some passes ∷ answers)) }
 {
-    let passes = passes(rules.verdict(packet, track.state_of(packet)));
+    let passes = passes(filter.verdict(packet, track.state_of(packet)));
     track.step(packet, passes)?;
     Ok(passes)
 }

@@ -1,7 +1,8 @@
 //! `audit iptables|openflow FILE RULES`: whether rules do what the policy of a network says.
 
 ghost use Rattle.std.specs.Prelude.{◌≡◌, ◌≤◌, IfOk, true};
-ghost use Rattle.audit_core.specs.Rules.{filter_of};
+ghost use Rattle.ipt_rules.specs.inner.OneOutcome.{EachGivesOne};
+ghost use Rattle.audit_core.specs.Rules.{Chains, filter_of};
 ghost use Rattle.audit_core.specs.inner.Rules.{GivesOne};
 ghost use Rattle.audit_core.specs.inner.RulesView.{rules_of};
 ghost use Rattle.topos_top.specs.Ask.{Audit};
@@ -20,6 +21,7 @@ use crate::text::Text;
 use audit_core::{AuditRefusal, Finding, classes_line, finding_text};
 use desc_core::Description;
 use edge_io::Shelf;
+use ipt_rules::{Filter, Ruleset};
 use net_core::policy_of;
 use std::alloc::{AllocError, Global};
 
@@ -56,7 +58,7 @@ fn reply_by_rules<'a, H: Shelf>(
 {
     let description = read_description(alloc, file, shelf)?;
     let rules = read_rules(alloc, rules, shelf)?;
-    Ok(answer(alloc, &description, audit_core::Text::Ipt(&rules))?)
+    Ok(answer_by_rules(alloc, &description, &rules)?)
 }
 
 /// The answer, where the second file has a flow table of OpenFlow.
@@ -74,6 +76,19 @@ fn reply_by_table<'a, H: Shelf>(
     let description = read_description(alloc, file, shelf)?;
     let table = read_table(alloc, rules, shelf)?;
     Ok(answer(alloc, &description, audit_core::Text::Ofp(&table))?)
+}
+
+/// What an audit of these rules finds.
+fn answer_by_rules<'a>(
+    alloc: Global,
+    description: &Description,
+    rules: &Ruleset,
+) -> Result<Answer<'a>, AllocError>
+    requires { EachGivesOne rules.now }
+    ensures { IfOk result (λ answer. Answers true (audit_job description.now (Chains rules.now)) (reply_view answer)) }
+{
+    let filter = Filter::of(alloc, rules)?;
+    answer(alloc, description, audit_core::Text::Ipt(&filter))
 }
 
 /// What an audit finds, or that there are too many classes of packets. The rules have one verdict

@@ -4,7 +4,7 @@ use crate::networks::PAIR;
 use desc_core::{DescFault, describe};
 use emit_core::emit_iptables;
 use host_net::Packet;
-use ipt_rules::{Ruleset, Verdict};
+use ipt_rules::{Filter, Ruleset, Verdict};
 use net_core::policy_of;
 use pkt_core::{Event, Track};
 use std::alloc::{AllocError, Global};
@@ -95,16 +95,17 @@ fn trace(
     rules: &Ruleset,
     events: &[Event],
 ) -> Result<Vec<Option<bool>>, AllocError> {
+    let filter = Filter::of(alloc, rules)?;
     let mut track = Track::new(alloc);
     let mut answers = Vec::new(alloc);
     for event in events {
-        answers.push(answer(rules, &mut track, event)?)?;
+        answers.push(answer(&filter, &mut track, event)?)?;
     }
     Ok(answers)
 }
 
 /// The answer to one event.
-fn answer(rules: &Ruleset, track: &mut Track, event: &Event) -> Result<Option<bool>, AllocError> {
+fn answer(filter: &Filter<'_>, track: &mut Track, event: &Event) -> Result<Option<bool>, AllocError> {
     match event {
         Event::Forget(packet) => {
             track.forget(packet);
@@ -112,7 +113,7 @@ fn answer(rules: &Ruleset, track: &mut Track, event: &Event) -> Result<Option<bo
         }
         Event::Seen(packet) => {
             let forwards = matches!(
-                rules.verdict(packet, track.state_of(packet)),
+                filter.verdict(packet, track.state_of(packet)),
                 Verdict::Forward
             );
             track.step(packet, forwards)?;

@@ -9,5 +9,5 @@ invariant-loop-place l = record {
   -- at most each packet was forwarded
   few : l.count ≤ l.place;
   -- what is forwarded of those that are left is added
-  left : Leaves (Passes l.rules) l.packets (kept_in l.track) (drop l.place l.packets) l.count;
+  left : Leaves (Passes l.filter) l.packets (kept_in l.track) (drop l.place l.packets) l.count;
 }

@@ -1,6 +1,5 @@
 use Rattle.std.proofs.Common.{inl, inr, refl, true, ap, ◌∙◌}
 use Rattle.std.proofs.lemmas.Result.{err_from_is_err_and}
-use Rattle.audit_core.proofs.RulesLaws.{chains_give}
 use Rattle.topos_top.specs.Audit.{audit_job, rules_in}
 use Rattle.topos_top.specs.Course.{reads, ends}
 use Rattle.topos_top.specs.inner.Views.{reply_in, reply_view}
@@ -8,9 +7,6 @@ use Rattle.topos_top.specs.declared.dialect.Dialect.TheVariants.{Iptables}
 use Rattle.topos_top.specs.declared.kind.Kind.TheVariants.{Description, Rules}
 use Rattle.topos_top.proofs.CourseLaws.{then_no_memory, then_stopped, went_on}
 use Rattle.topos_top.proofs.audit.reply_by_rules.Goals as goal
-
-pub answer-requires : goal.answer-requires
-answer-requires g c = chains_give c.in_ok-rules.rules c.in_ok-rules.ensures.one_outcome
 
 pub returns-in_err-description-clause-reply : goal.returns-in_err-description-clause-reply
 returns-in_err-description-clause-reply g c =
@@ -22,14 +18,14 @@ returns-in_err-rules-clause-reply g c =
     let p = err_from_is_err_and c.from_residual-in_err-rules.result c.from_residual-in_err-rules.ensures.1 in
     rw (p.1, p.2) (then_stopped true _ _ _ _ (λ d said. ends (audit_job d (rules_in Iptables said))) _ _ _ _ _ c.in_ok-description.ensures.reading c.in_err-rules.ensures.reading)
 
-pub returns-in_err-answer-clause-reply : goal.returns-in_err-answer-clause-reply
-returns-in_err-answer-clause-reply g c =
-    let p = err_from_is_err_and c.from_residual-in_err-answer.result c.from_residual-in_err-answer.ensures.1 in
-    then_no_memory true Description (Rules Iptables) c.args.file.now c.args.rules.now (λ d said. audit_job d (rules_in Iptables said)) _ _ _ c.in_ok-description.description c.in_ok-rules.rules (reply_in c.from_residual-in_err-answer.result)
+pub returns-in_err-answer_by_rules-clause-reply : goal.returns-in_err-answer_by_rules-clause-reply
+returns-in_err-answer_by_rules-clause-reply g c =
+    let p = err_from_is_err_and c.from_residual-in_err-answer_by_rules.result c.from_residual-in_err-answer_by_rules.ensures.1 in
+    then_no_memory true Description (Rules Iptables) c.args.file.now c.args.rules.now (λ d said. audit_job d (rules_in Iptables said)) _ _ _ c.in_ok-description.description c.in_ok-rules.rules (reply_in c.from_residual-in_err-answer_by_rules.result)
     c.in_ok-description.ensures.reading c.in_ok-rules.ensures.reading (ap reply_in p.1 ∙ p.2)
 
 pub returns-clause-reply : goal.returns-clause-reply
 returns-clause-reply g c =
     let d = c.in_ok-description.description in
-    went_on true Description c.args.file.now (λ x. reads (Rules Iptables) c.args.rules.now (λ said. ends (audit_job x (rules_in Iptables said)))) _ _ _ d (reply_view c.in_ok-answer.field-0) c.in_ok-description.ensures.reading
-    (went_on true (Rules Iptables) c.args.rules.now (λ said. ends (audit_job d (rules_in Iptables said))) _ _ _ c.in_ok-rules.rules (reply_view c.in_ok-answer.field-0) c.in_ok-rules.ensures.reading (refl, inr c.in_ok-answer.ensures))
+    went_on true Description c.args.file.now (λ x. reads (Rules Iptables) c.args.rules.now (λ said. ends (audit_job x (rules_in Iptables said)))) _ _ _ d (reply_view c.in_ok-answer_by_rules.field-0) c.in_ok-description.ensures.reading
+    (went_on true (Rules Iptables) c.args.rules.now (λ said. ends (audit_job d (rules_in Iptables said))) _ _ _ c.in_ok-rules.rules (reply_view c.in_ok-answer_by_rules.field-0) c.in_ok-rules.ensures.reading (refl, inr c.in_ok-answer_by_rules.ensures))

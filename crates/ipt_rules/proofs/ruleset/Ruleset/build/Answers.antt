@@ -5,7 +5,6 @@ use Rattle.ipt_rules.specs.inner.Build.{refusal_of, at_once, loops, no_memory}
 use Rattle.ipt_rules.specs.Chain.{Chain}
 use Rattle.ipt_rules.specs.ChainTable.{rule_count}
 use Rattle.ipt_rules.specs.Loops.{IsLeastLoop}
-use Rattle.ipt_rules.specs.inner.Next.{AreIndexes}
 use Rattle.ipt_rules.specs.inner.Starts.{starts_from}
 use Rattle.ipt_rules.specs.declared.ranking.Ranking.{Ranking}
 use Rattle.ipt_rules.specs.inner.Ranked.{IsRanked}
@@ -28,26 +27,19 @@ starts_of-requires c =
     let few = few_rules_of c.chains.inside.chains.items fine in
     omega (arith, few, ap rule_count c.deref-in-Ok-Order.ensures.value)
 
-pub indexes_of-requires : goal.indexes_of-requires
-indexes_of-requires c =
-    let fine = sym (c.in_default.ensures ∙ ap refusal_of c.deref.ensures.value) in
-    let few = few_rules_of c.chains.inside.chains.items fine in
-    omega (arith, few, ap rule_count c.deref-in-Ok.ensures.value)
-
 pub invariant_of-result : goal.invariant_of-result
 invariant_of-result c =
     let order = in_order c.chains.inside.chains.items c.deref-2.result.now _ c.in-Ok-Order.ranking c.deref-2.ensures.value c.in-Ok-Order.field-0-is c.in-Ok-Order.ensures in
-    built c.chains.inside.chains.items c.chains.inside.rules c.in-Ok.starts.items c.in-Ok-Order.ranking.order.items c.in-Ok-Order.ranking.places.items c.in-Ok-indexes_of.indexes.items c.chains.invariant
+    built c.chains.inside.chains.items c.chains.inside.rules c.in-Ok.starts.items c.in-Ok-Order.ranking.order.items c.in-Ok-Order.ranking.places.items c.chains.invariant
     (sym (c.in_default.ensures ∙ ap refusal_of c.deref.ensures.value)) (c.in-Ok.ensures ∙ ap (starts_from 0) c.deref-in-Ok-Order.ensures.value) order.0
-    (subst (AreIndexes c.in-Ok-indexes_of.indexes.items) c.deref-in-Ok.ensures.value c.in-Ok-indexes_of.ensures)
 
-pub returns-in-Ok-indexes_of-clause-one_outcome : goal.returns-in-Ok-indexes_of-clause-one_outcome
-returns-in-Ok-indexes_of-clause-one_outcome c =
+pub returns-in-Ok-starts_of-clause-one_outcome : goal.returns-in-Ok-starts_of-clause-one_outcome
+returns-in-Ok-starts_of-clause-one_outcome c =
     let order = in_order c.chains.inside.chains.items c.deref-2.result.now _ c.in-Ok-Order.ranking c.deref-2.ensures.value c.in-Ok-Order.field-0-is c.in-Ok-Order.ensures in
     each_gives_one c.chains.inside.chains.items c.in-Ok-Order.ranking.order.items c.in-Ok-Order.ranking.places.items order.0
 
-pub returns-in-Ok-indexes_of-clause-no_loop : goal.returns-in-Ok-indexes_of-clause-no_loop
-returns-in-Ok-indexes_of-clause-no_loop c =
+pub returns-in-Ok-starts_of-clause-no_loop : goal.returns-in-Ok-starts_of-clause-no_loop
+returns-in-Ok-starts_of-clause-no_loop c =
     (in_order c.chains.inside.chains.items c.deref-2.result.now _ c.in-Ok-Order.ranking c.deref-2.ensures.value c.in-Ok-Order.field-0-is c.in-Ok-Order.ensures).1
 
 pub returns-in-Err-starts_of-clause-refused : goal.returns-in-Err-starts_of-clause-refused
@@ -61,6 +53,3 @@ returns-in-Ok-Loop-clause-refused c =
 
 pub returns-in-Err-clause-refused : goal.returns-in-Err-clause-refused
 returns-in-Err-clause-refused c = no_memory
-
-pub returns-in-Err-indexes_of-clause-refused : goal.returns-in-Err-indexes_of-clause-refused
-returns-in-Err-indexes_of-clause-refused c = no_memory

@@ -1,0 +1,77 @@
+//! A rule set that packets run through: what becomes of each of them.
+
+ghost use Rattle.std.specs.Prelude.{◌≡◌, ◌<◌, ◌≤◌, IfOk, Some, None};
+ghost use Rattle.ipt_rules.specs.Meaning.{HasVerdictIn};
+ghost use Rattle.ipt_rules.specs.inner.OneOutcome.{HasVerdict};
+
+use crate::next::indexes_of;
+use crate::ruleset::{FORWARD, Ruleset};
+use crate::walk::{outcome, policy_of, policy_verdict};
+use host_net::{Covers, CtState, Packet, Verdict};
+use std::alloc::{AllocError, Global};
+use std::marker::Model;
+
+/// A rule set with an index of the addresses that the rules of each chain ask for. It is made once,
+/// and then packets are run through the rules.
+#[derive(Drop)]
+pub struct Filter<'a> {
+    rules: &'a Ruleset,
+    indexes: Vec<Covers>,
+}
+
+impl<'a> Model for Filter<'a> {
+    ghost use Rattle.std.specs.Prelude.{List};
+    ghost use Rattle.ipt_rules.specs.Chain.{Chain};
+    ghost use Rattle.ipt_rules.specs.inner.Next.{AreIndexes};
+
+    ghost Value = { List Chain };
+
+    ghost view = { λ f. f.rules.now };
+
+    ghost invariant = { λ f. AreIndexes f.indexes.items f.rules.now };
+}
+
+impl<'a> Filter<'a> {
+    /// The filter of these rules.
+    pub fn of(alloc: Global, rules: &'a Ruleset) -> Result<Filter<'a>, AllocError>
+        ensures { IfOk result (λ filter. filter ≡ rules.now) }
+    {
+        let indexes = indexes_of(alloc, &rules.chains)?;
+        Ok(Filter { rules, indexes })
+    }
+
+    /// Its rules.
+    pub fn rules(&self) -> &'a Ruleset
+        ensures { result.now ≡ self.now }
+    {
+        self.rules
+    }
+
+    /// What becomes of a packet that runs through FORWARD in that state.
+    pub fn verdict(&self, packet: &Packet, state: CtState) -> Verdict
+        ensures { HasVerdict self.now packet.now state result }
+    {
+        self.verdict_in(FORWARD, packet, state)
+    }
+
+    /// What becomes of a packet that runs through a built-in chain in that state: `INPUT`, `FORWARD`
+    /// or `OUTPUT`.
+    pub fn verdict_in(&self, chain: u16, packet: &Packet, state: CtState) -> Verdict
+        requires { chain < 3 }
+        ensures { HasVerdictIn self.now chain packet.now state result }
+    {
+        let rules: &Ruleset = self.rules;
+        let chains = &rules.chains;
+        match outcome(
+            chains,
+            &self.indexes,
+            &rules.ranking,
+            chain,
+            packet,
+            state,
+        ) {
+            Some(verdict) => verdict,
+            None => policy_verdict(policy_of(chains, chain)),
+        }
+    }
+}
