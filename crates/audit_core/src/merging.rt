@@ -31,7 +31,11 @@ impl<'a> Sides<'a> {
         ensures { IfOk result (λ kept. IsThinned (AreTreatedAlike self.now) addresses.now kept.items) }
     {
         match self.text {
-            Text::Ipt(filter) => thin(alloc, addresses, Likeness::Treatment(self.hosts, filter.rules())),
+            Text::Ipt(filter) => thin(
+                alloc,
+                addresses,
+                Likeness::Treatment(self.hosts, filter.rules()),
+            ),
             Text::Ofp(_) => Vec::from_slice(alloc, addresses),
         }
     }

@@ -157,7 +157,7 @@ fn found(
     let p = one_flow(alloc, &hosts)?;
     let s = stateful(alloc, &p, answers)?;
     let rules = chains(alloc, rules_answer)?;
-    let filter = Filter::of(alloc, &rules).ok()?;
+    let filter = Filter::of(alloc, &rules, 1).ok()?;
     audit(alloc, &hosts, &services, &p, &s, &Text::Ipt(&filter)).ok()
 }
 

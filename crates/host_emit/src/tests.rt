@@ -186,7 +186,7 @@ impl Machine {
         requires { chain < 3 }
     {
         let state = self.track.state_of(packet);
-        let filter = Filter::of(self.alloc, &self.rules)?;
+        let filter = Filter::of(self.alloc, &self.rules, 1)?;
         let passes = filter.verdict_in(chain, packet, state) == Verdict::Forward;
         self.track.step(packet, passes)?;
         Ok(passes)

@@ -14,8 +14,7 @@ use Rattle.ipt_rules.specs.ChainTable.{rule_count}
 use Rattle.ipt_rules.specs.inner.ChainTable.{IsChainList}
 use Rattle.ipt_rules.specs.inner.Build.{jumps_nowhere, place_of_unknown, unknown_at, first_unknown, refusal_of}
 use Rattle.ipt_rules.specs.inner.Jumps.{JumpsAreKnown, IsRuleset}
-use Rattle.ipt_rules.specs.Loops.{jumps_from}
-use Rattle.ipt_rules.specs.inner.Ranks.{IsRanking}
+use Rattle.ipt_rules.specs.inner.Ranks.{HasRanking}
 use Rattle.ipt_rules.specs.inner.Starts.{starts_from}
 
 pub chains_at : (xs : List Chain) (i : ℕ) (x : Chain) → i < length xs → x ≡ get_or xs i x → drop i xs ≡ x ∷ drop (i + 1) xs
@@ -80,10 +79,10 @@ pub few_rules_of : (xs : List Chain) → refusal_of xs ≡ None → rule_count x
 unfolding fine_parts
 few_rules_of xs fine = (fine_parts xs fine).few_rules
 
-pub built : (xs : List Chain) (n : ℕ) (starts order : List ℕ) (places : List (Option ℕ)) → IsChainList xs n → refusal_of xs ≡ None → starts ≡ starts_from 0 xs
-    → IsRanking (jumps_from xs) (length xs) order places → IsRuleset xs n starts order places
+pub built : (xs : List Chain) (n : ℕ) (starts : List ℕ) → IsChainList xs n → refusal_of xs ≡ None → starts ≡ starts_from 0 xs
+    → HasRanking xs → IsRuleset xs n starts
 unfolding fine_parts
-built xs n starts order places chains fine begin ranking =
+built xs n starts chains fine begin ranking =
     let parts = fine_parts xs fine in
     record {
       list = chains;

@@ -4,7 +4,6 @@ pub mod ChainLemmas
 pub mod Gets
 pub mod LoopLaws
 pub mod LoopLemmas
-pub mod MarkLemmas
 pub mod MeaningLaws
 pub mod NameLemmas
 pub mod NextLemmas
@@ -19,3 +18,4 @@ pub mod TableLemmas
 pub mod TextLaws
 pub mod TextLemmas
 pub mod WalkLemmas
+pub mod WalkingLemmas

@@ -1,7 +1,8 @@
 -- Rules that are passed over do not fit, and change nothing.
-use Rattle.std.proofs.Common.{◌≡◌, ℕ, zero, suc, ◌+◌, ◌-◌, ◌≤◌, ◌<◌, ◌^◌, ◌∙◌, inl, inr, sym, ap, refl, subst, arith, Bool, true, false, cond, List, [], ◌∷◌, ◌++◌, Option, Some, None, length, append_assoc, get_or, take, drop, slice_get}
-use Rattle.std.proofs.lemmas.Bool.{and_from, and_parts, cases_lt}
+use Rattle.std.proofs.Common.{◌≡◌, ℕ, zero, suc, ◌+◌, ◌-◌, ◌≤◌, ◌<◌, ◌^◌, ◌∙◌, inl, inr, sym, ap, refl, subst, arith, Bool, true, false, cond, List, [], ◌∷◌, ◌++◌, Option, Some, None, length, append_assoc, get_or, drop, slice_get}
+use Rattle.std.proofs.lemmas.Bool.{and_from, and_parts}
 use Rattle.std.proofs.lemmas.List.{drop_more}
+use Rattle.std.specs.Prelude.{IfSome}
 use Rattle.std.proofs.lemmas.Option.{same_Some, slice_get_within, slice_get_cases, slice_get_read}
 use Rattle.std.specs.Option.{option_map_or}
 use Rattle.host_net.specs.declared.cover.Covers.{Covers}
@@ -10,18 +11,18 @@ use Rattle.host_net.specs.declared.packet.Packet.{Packet}
 use Rattle.host_net.specs.declared.packet.CtState.{CtState}
 use Rattle.host_net.specs.declared.prefix.Prefix.{Prefix}
 use Rattle.host_net.specs.inner.Cover.{IsFirstFrom, covers_both, part_covers}
-use Rattle.host_net.specs.inner.CoverView.{IsIndexOf, key_of}
+use Rattle.host_net.specs.inner.CoverView.{IsIndexOf}
 use Rattle.host_net.specs.Prefix.{covers}
 use Rattle.ipt_rules.specs.declared.rule.AddrMatch.{AddrMatch}
 use Rattle.ipt_rules.specs.declared.rule.Rule.{Rule}
 use Rattle.ipt_rules.specs.Chain.{Chain, rules_of}
 use Rattle.ipt_rules.specs.ChainTable.{rule_count}
 use Rattle.ipt_rules.specs.Matching.{address_matches, matches, port_matches, protocol_matches, turned}
-use Rattle.ipt_rules.specs.Meaning.{GoesOn, Walks, step_of}
+use Rattle.ipt_rules.specs.Meaning.{GoesOn, step_of}
 use Rattle.ipt_rules.specs.inner.Next.{AreIndexes, IsNext, NoneFits, all_ends, ends_of, part_of}
-use Rattle.ipt_rules.specs.inner.Reached.{Marks}
+use Rattle.ipt_rules.specs.inner.Walking.{GivesAlso}
 use Rattle.ipt_rules.proofs.Gets.{get_pushed}
-use Rattle.ipt_rules.proofs.WalkLemmas.{GivesAlso, goes_on_here}
+use Rattle.ipt_rules.proofs.WalkLemmas.{goes_on_here}
 
 by_test : (b : Bool) → (b ≡ true → ⊥) → b ≡ false
 by_test true fails = absurd (fails refl)
@@ -67,42 +68,14 @@ next_is rules packet state from (Some at) first = record {
   passed = λ i r low high there. not_covered packet state r (first.first i (ends_of r) low high (ends_at rules i r there));
 }
 
+pub next_small : (rules : List Rule) (from src dst : ℕ) (found : Option ℕ) → length rules < 2 ^ 32 → IsFirstFrom (all_ends rules) from src dst found → IfSome found (λ at. at < 2 ^ 32)
+next_small rules from src dst None few none = tt
+next_small rules from src dst (Some at) few first =
+    let all = length_ends rules in
+    let low = slice_get_within (all_ends rules) at first.ends first.there in
+    omega (arith, all, low, few)
+
 -- ---- what is passed over changes nothing
-
-get_taken : (n : ℕ) (rules : List Rule) (i : ℕ) (r : Rule) → slice_get (take n rules) i ≡ Some r → slice_get rules i ≡ Some r
-get_taken zero rules i r there = cc
-get_taken (suc n) [] i r there = cc
-get_taken (suc n) (x ∷ rules) zero r there = there
-get_taken (suc n) (x ∷ rules) (suc i) r there = get_taken n rules i r there
-
-taken_before : (n : ℕ) (rules : List Rule) (i : ℕ) (r : Rule) → slice_get (take n rules) i ≡ Some r → i < n
-taken_before zero rules i r there = cc
-taken_before (suc n) [] i r there = cc
-taken_before (suc n) (x ∷ rules) zero r there = omega arith
-taken_before (suc n) (x ∷ rules) (suc i) r there = let before = taken_before n rules i r there in omega (arith, before)
-
-take_get : (n : ℕ) (rules : List Rule) (i : ℕ) (r : Rule) → i < n → slice_get rules i ≡ Some r → slice_get (take n rules) i ≡ Some r
-take_get zero rules i r before there = absurd (omega (arith, before))
-take_get (suc n) [] i r before there = cc
-take_get (suc n) (x ∷ rules) zero r before there = there
-take_get (suc n) (x ∷ rules) (suc i) r before there = take_get n rules i r (omega (arith, before)) there
-
-no_walk : (fits : Rule → Bool) (r : Rule) (d : ℕ) → fits r ≡ false → step_of (fits r) r.target ≡ Walks d → ⊥
-no_walk fits r d off step = let on : step_of false r.target ≡ Walks d = ap (λ (b : Bool). step_of b r.target) (sym off) ∙ step in cc
-
-pub marks_passed : (fits : Rule → Bool) (rules : List Rule) (places : List (Option ℕ)) (own from at : ℕ) (marked now : List Bool) → NoneFits fits rules from at
-    → Marks fits (take from rules) places own marked now → Marks fits (take at rules) places own marked now
-marks_passed fits rules places own from at marked now none is = record {
-  grows = is.grows;
-  keeps = is.keeps;
-  marks = λ d j w place.
-      let there = get_taken at rules w.at w.rule w.there in
-      elim (cases_lt w.at from) [
-        | inl low ↦ is.marks d j (record { at = w.at; rule = w.rule; there = take_get from rules w.at w.rule low there; step = w.step }) place
-        | inr high ↦
-            absurd (no_walk fits w.rule d (none w.at w.rule high (taken_before at rules w.at w.rule w.there) there) w.step)
-      ];
-}
 
 passes : (fits : Rule → Bool) (r : Rule) → fits r ≡ false → GoesOn ≡ step_of (fits r) r.target
 passes fits r off = sym (ap (λ (b : Bool). step_of b r.target) off)
@@ -155,14 +128,13 @@ indexes_more chains indexes now i x rules index low is same counted so_far new m
           subst (λ (y : Covers). IsIndexOf (all_ends (rules_of chains c)) y) last (subst (λ (rs : List Rule). IsIndexOf (all_ends rs) index) own_rules new)
     ]
 
--- a rule that an index has stands at a place of 32 bits
-pub at_small : (rules : List Rule) (index : Covers) → IsIndexOf (all_ends rules) index → (at : ℕ) → at < length rules → at < 2 ^ 32
-at_small rules index is at within = elim (slice_get_cases rules at).1 [
-  | inl (r, low, there, same) ↦ (is.order.small (key_of (ends_of r) at) (is.every at (ends_of r) (ends_at rules at r there))).place
-  | inr (past, there) ↦ absurd (omega (arith, past, within))
-]
+-- a chain has no more rules than all have, also one that is not there
+pub chain_few : (chains : List Chain) (c : ℕ) → length (rules_of chains c) ≤ rule_count chains
+chain_few [] c = omega arith
+chain_few (x ∷ chains) zero = omega arith
+chain_few (x ∷ chains) (suc c) = let rest = chain_few chains c in omega (arith, rest)
 
-pub index_there : (indexes : List Covers) (chains : List Chain) → AreIndexes indexes chains → (number : ℕ) (index : Covers) (rules : List Rule) → number < length indexes → index ≡ get_or indexes number index → rules ≡ rules_of chains number
-    → IsIndexOf (all_ends rules) index
-index_there indexes chains are number index rules low is same =
-    subst (λ (rs : List Rule). IsIndexOf (all_ends rs) index) (sym same) (are.each number index (slice_get_read indexes (length indexes) number index refl low is))
+-- without an index for any chain
+pub no_indexes : (indexes : List Covers) (chains : List Chain) → indexes ≡ [] → AreIndexes indexes chains
+no_indexes [] chains none = λ c index there. cc
+no_indexes (index ∷ indexes) chains none = cc

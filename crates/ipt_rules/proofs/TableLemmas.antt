@@ -1,6 +1,6 @@
 -- From the table of jumps to the chains: what the search finds of the one holds of the other.
-use Rattle.std.proofs.Common.{◌≡◌, ℕ, zero, suc, ◌<◌, ◌≤◌, ◌∙◌, sym, ap, refl, true, not, List, [], ◌∷◌, Option, None, length, arith, subst}
-use Rattle.std.specs.Prelude.{All}
+use Rattle.std.proofs.Common.{◌≡◌, ℕ, zero, suc, ◌<◌, ◌≤◌, ◌∙◌, sym, ap, refl, true, not, List, [], ◌∷◌, Option, None, Some, length, arith, subst}
+use Rattle.std.specs.Prelude.{All, IfSome, IfNone}
 use Rattle.std.specs.List.{list_all, cons_option}
 use Rattle.std.proofs.lemmas.Bool.{and_parts}
 use Rattle.std.proofs.lemmas.Bool.Decides.{nat_tests}
@@ -14,7 +14,8 @@ use Rattle.ipt_rules.specs.inner.Build.{jumps_nowhere}
 use Rattle.ipt_rules.specs.Chain.{Chain, rules_of}
 use Rattle.ipt_rules.specs.inner.Jumps.{JumpsAreKnown}
 use Rattle.ipt_rules.specs.Loops.{jump_of, jumps_of, jumps_from, Leads, HasNoLoop, IsLeastLoop}
-use Rattle.ipt_rules.specs.inner.Ranks.{jump_table, row_of, place_of, IsRanking, IsPartOrder, IsStuck}
+use Rattle.ipt_rules.specs.inner.Ranks.{jump_table, row_of, place_of, IsRanking, HasRanking, IsPartOrder, IsStuck}
+use Rattle.ipt_rules.specs.inner.Ranked.{IsRanked}
 use Rattle.ipt_rules.proofs.LoopLemmas.{leads_once, leads_then, some_back}
 use Rattle.ipt_rules.proofs.RankLemmas.{placed, StuckBelow}
 
@@ -63,14 +64,18 @@ no_stuck table places inside stuck none c low placeless =
     c (low, placeless)
 
 pub ranking_made : (chains : List Chain) (table : List (List ℕ)) (order : List ℕ) (places : List (Option ℕ)) (looked : List ℕ) → table ≡ jump_table chains → JumpsAreKnown chains → IsPartOrder table order places looked → StuckBelow table places (length table) → ((d : ℕ) → Leads (row_of table) d d → ⊥)
-    → IsRanking (jumps_from chains) (length chains) order places × HasNoLoop chains
+    → HasRanking chains × HasNoLoop chains
 ranking_made chains table order places looked is known part stuck none =
     let made : IsRanking (row_of table) (length table) order places = record {
       ordered = part.ordered;
       short = omega (arith, part.counted);
       every = λ c low. placed (row_of table) (length table) order places part.ordered c (λ placeless. no_stuck table places (rows_inside chains table is known) stuck none c low placeless);
     } in (
-      subst (λ (n : ℕ). IsRanking (jumps_from chains) n order places) (long_table chains table is) (subst (λ (rows : ℕ → List ℕ). IsRanking rows (length table) order places) (rows_are chains table is) made),
+      record {
+        order = order;
+        places = places;
+        is = subst (λ (n : ℕ). IsRanking (jumps_from chains) n order places) (long_table chains table is) (subst (λ (rows : ℕ → List ℕ). IsRanking rows (length table) order places) (rows_are chains table is) made);
+      },
       subst (λ (rows : ℕ → List ℕ). (d : ℕ) → Leads rows d d → ⊥) (rows_are chains table is) none,
     )
 
@@ -79,3 +84,10 @@ loop_found chains table c is back least = record {
   back = subst (λ (rows : ℕ → List ℕ). Leads rows c c) (rows_are chains table is) back;
   least = subst (λ (rows : ℕ → List ℕ). (d : ℕ) → Leads rows d d → c ≤ d) (rows_are chains table is) least;
 }
+
+-- an order of the chains, or the least to which jumps lead back
+pub loop_said : (chains : List Chain) (table : List (List ℕ)) (order : List ℕ) (places : List (Option ℕ)) (looked : List ℕ) (found : Option ℕ) → table ≡ jump_table chains → JumpsAreKnown chains → IsPartOrder table order places looked → StuckBelow table places (length table)
+    → IfSome found (λ c. Leads (row_of table) c c) → IfSome found (λ c. (d : ℕ) → Leads (row_of table) d d → c ≤ d) → IfNone found ((d : ℕ) → Leads (row_of table) d d → ⊥) → IsRanked chains found
+loop_said chains table order places looked None is known part stuck back least none =
+    ranking_made chains table order places looked is known part stuck none
+loop_said chains table order places looked (Some c) is known part stuck back least none = loop_found chains table c is back least

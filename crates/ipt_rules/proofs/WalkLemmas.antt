@@ -15,14 +15,11 @@ use Rattle.host_net.specs.declared.packet.Verdict.{Verdict}
 use Rattle.ipt_rules.specs.Chain.{Chain, rules_of}
 use Rattle.ipt_rules.specs.inner.ChainTable.{rules_in}
 use Rattle.ipt_rules.specs.Loops.{jump_of, jumps_of, jumps_from}
-use Rattle.ipt_rules.specs.inner.Ranks.{place_of, IsBefore, IsOrder, IsRanking}
+use Rattle.ipt_rules.specs.inner.Ranks.{place_of, IsBefore, IsOrder, HasRanking}
 use Rattle.ipt_rules.proofs.MeaningLaws.{gives_once}
 use Rattle.ipt_rules.specs.Meaning.{RuleStep, GoesOn, Ends, Walks, step_of, Gives, at_end, goes_on, ends, decides, comes_back}
 use Rattle.ipt_rules.specs.inner.OneOutcome.{EachGivesOne}
-
--- every outcome that the rules that are left give
-pub record GivesAlso (fits : Rule → Bool) (chains : List Chain) (left rules : List Rule) : Type 0 where
-  pub gives : (o : Option Verdict) → Gives fits chains left o → Gives fits chains rules o
+use Rattle.ipt_rules.specs.inner.Walking.{GivesAlso}
 
 rules_at : (rules : List Rule) (i : ℕ) (r : Rule) → i < length rules → r ≡ get_or rules i r → drop i rules ≡ r ∷ drop (i + 1) rules
 rules_at rules i r h is = rw (add-one i) (drop-cons rules i r h ∙ ap (λ y. y ∷ drop (suc i) rules) (sym is))
@@ -126,8 +123,8 @@ placed_gives fits chains count order places is (suc n) c i low at =
     let b : IsBefore places d i = is.back i c d (is.there c i at) jump in
     placed_gives fits chains count order places is n d b.place (omega (arith, low, b.before)) b.placed)
 
-pub each_gives_one : (chains : List Chain) (order : List ℕ) (places : List (Option ℕ)) → IsRanking (jumps_from chains) (length chains) order places → EachGivesOne chains
-each_gives_one chains order places is fits c k =
+pub each_gives_one : (chains : List Chain) → HasRanking chains → EachGivesOne chains
+each_gives_one chains ranking fits c k =
     let some : GivesSome fits chains (drop k (rules_of chains c)) = rules_give fits chains (drop k (rules_of chains c)) (λ d jump. chain_gives d (dropped_jump k (rules_of chains c) d jump)) in
     record { outcome = some.outcome; gives = some.gives; only = λ o g. gives_once g some.gives }
   where
@@ -140,8 +137,8 @@ each_gives_one chains order places is fits c k =
     chain_gives : (d : ℕ) → Contains (jumps_from chains c) d → GivesSome fits chains (rules_of chains d)
     chain_gives d jump = elim (cases_lt c (length chains)) [
       | inl low ↦
-          let own : IsBefore places c (length order) = is.every c low in
-          let b : IsBefore places d own.place = is.ordered.back own.place c d (is.ordered.there c own.place own.placed) jump in
-          placed_gives fits chains (length chains) order places is.ordered own.place d b.place b.before b.placed
+          let own : IsBefore ranking.places c (length ranking.order) = ranking.is.every c low in
+          let b : IsBefore ranking.places d own.place = ranking.is.ordered.back own.place c d (ranking.is.ordered.there c own.place own.placed) jump in
+          placed_gives fits chains (length chains) ranking.order ranking.places ranking.is.ordered own.place d b.place b.before b.placed
       | inr past ↦ absurd (no_jump d past jump)
     ]

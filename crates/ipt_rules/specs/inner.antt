@@ -7,9 +7,9 @@ pub mod Next
 pub mod OneOutcome
 pub mod Ranked
 pub mod Ranks
-pub mod Reached
 pub mod RuleParts
 pub mod Saying
 pub mod Starts
 pub mod WalkView
+pub mod Walking
 pub mod Writable

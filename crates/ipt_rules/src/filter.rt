@@ -11,11 +11,14 @@ use host_net::{Covers, CtState, Packet, Verdict};
 use std::alloc::{AllocError, Global};
 use std::marker::Model;
 
-/// A rule set with an index of the addresses that the rules of each chain ask for. It is made once,
-/// and then packets are run through the rules.
+/// So many packets are run through before an index of the rules has paid.
+const FEW_PACKETS: usize = 64;
+
+/// A rule set that packets are run through.
 #[derive(Drop)]
 pub struct Filter<'a> {
     rules: &'a Ruleset,
+    /// An index of the addresses that the rules of each chain ask for; or none at all.
     indexes: Vec<Covers>,
 }
 
@@ -32,11 +35,15 @@ impl<'a> Model for Filter<'a> {
 }
 
 impl<'a> Filter<'a> {
-    /// The filter of these rules.
-    pub fn of(alloc: Global, rules: &'a Ruleset) -> Result<Filter<'a>, AllocError>
+    /// The filter of these rules, for about so many packets.
+    pub fn of(alloc: Global, rules: &'a Ruleset, packets: usize) -> Result<Filter<'a>, AllocError>
         ensures { IfOk result (λ filter. filter ≡ rules.now) }
     {
-        let indexes = indexes_of(alloc, &rules.chains)?;
+        let indexes = if packets > FEW_PACKETS {
+            indexes_of(alloc, &rules.chains)?
+        } else {
+            Vec::new(alloc)
+        };
         Ok(Filter { rules, indexes })
     }
 
@@ -61,15 +68,8 @@ impl<'a> Filter<'a> {
         ensures { HasVerdictIn self.now chain packet.now state result }
     {
         let rules: &Ruleset = self.rules;
-        let chains = &rules.chains;
-        match outcome(
-            chains,
-            &self.indexes,
-            &rules.ranking,
-            chain,
-            packet,
-            state,
-        ) {
+        let chains = rules.chains.as_slice();
+        match outcome(chains, &self.indexes, chain, packet, state) {
             Some(verdict) => verdict,
             None => policy_verdict(policy_of(chains, chain)),
         }

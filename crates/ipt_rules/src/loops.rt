@@ -11,13 +11,6 @@ use crate::jumps::JumpTable;
 use crate::ranking::{Ranking, place_of, ranking_of};
 use std::alloc::{AllocError, Global};
 
-/// An order of the chains in which each jump goes back; or the least chain to which jumps lead back.
-#[derive(Drop)]
-pub(crate) enum Ranked {
-    Order(Ranking),
-    Loop(u16),
-}
-
 /// Marks the chains that were not, and keeps them to be gone on from.
 fn visit(row: &[u16], seen: &mut Vec<bool>, left: &mut Vec<u16>) -> Result<(), AllocError>
     requires inside { All (λ d. d < length seen.old.items) row.now }
@@ -87,15 +80,14 @@ fn least_loop(
     Ok(None)
 }
 
-/// An order of the chains, which there is where no jumps lead back.
-pub(crate) fn rank_chains(alloc: Global, chains: &[Chain]) -> Result<Ranked, AllocError>
+/// The least chain to which jumps lead back. Where there is none, the chains have an order in which
+/// each jump goes back.
+pub(crate) fn loop_among(alloc: Global, chains: &[Chain]) -> Result<Option<u16>, AllocError>
     requires { refusal_of chains.now ≡ None }
-    ensures { IfOk result (λ ranked. IsRanked chains.now ranked) }
+    ensures { IfOk result (IsRanked chains.now) }
 {
     let table = JumpTable::of(alloc, chains)?;
     let ranking = ranking_of(alloc, &table)?;
-    match least_loop(alloc, &table, &ranking)? {
-        Some(chain) => Ok(Ranked::Loop(chain)),
-        None => Ok(Ranked::Order(ranking)),
-    }
+    let found = least_loop(alloc, &table, &ranking)?;
+    Ok(found)
 }

@@ -1,7 +1,7 @@
 //! Which rule of a chain is the next that may fit a packet, by an index of the addresses that the
 //! rules of each chain ask for.
 
-ghost use Rattle.std.specs.Prelude.{◌≡◌, ◌<◌, ◌≤◌, ◌^◌, List, length, IfOk};
+ghost use Rattle.std.specs.Prelude.{◌≡◌, ◌<◌, ◌≤◌, ◌^◌, length, slice_get, IfOk, IfSome, Some};
 ghost use Rattle.host_net.specs.inner.CoverView.{IsIndexOf};
 ghost use Rattle.host_net.specs.declared.packet.CtState.{CtState};
 ghost use Rattle.ipt_rules.specs.declared.rule.Rule.{Rule};
@@ -70,10 +70,29 @@ pub(crate) fn indexes_of(alloc: Global, chains: &[Chain]) -> Result<Vec<Covers>,
     Ok(indexes)
 }
 
-/// The place of the next rule, from one on, whose prefixes cover the addresses of the packet. Those
-/// that are passed over do not fit it.
-pub(crate) fn next_rule(index: &Covers, from: usize, packet: &Packet) -> Option<usize>
-    ensures { (rules : List Rule) (state : CtState) → IsIndexOf (all_ends rules) index.now → IsNext (matches packet.now state) rules from result }
+/// The index of the chain of that number, where chains have indexes.
+pub(crate) fn index_at(indexes: &[Covers], number: u16) -> Option<&Covers>
+    ensures { IfSome result (λ index. slice_get indexes.now number ≡ Some index.now) }
 {
-    index.first(from, packet.src, packet.dst)
+    indexes.get(number as usize)
+}
+
+/// The place of the next rule, from one on, that may fit the packet: by an index that whose prefixes
+/// cover its addresses, and without one each. Those that are passed over do not fit it.
+pub(crate) fn next_rule(
+    index: Option<&Covers>,
+    rules: &[Rule],
+    from: usize,
+    packet: &Packet,
+) -> Option<usize>
+    requires few { length rules.now < 2 ^ 32 }
+    requires index { IfSome index (λ index. IsIndexOf (all_ends rules.now) index.now) }
+    ensures next { (state : CtState) → IsNext (matches packet.now state) rules.now from result }
+    ensures small { IfSome result (λ at. at < 2 ^ 32) }
+{
+    match index {
+        Some(index) => index.first(from, packet.src, packet.dst),
+        None if from < rules.len() => Some(from),
+        None => None,
+    }
 }

@@ -11,8 +11,8 @@ ghost use Rattle.ipt_rules.specs.inner.OneOutcome.{EachGivesOne};
 
 use crate::chain::Chain;
 use crate::chains::Chains;
-use crate::loops::{Ranked, rank_chains};
-use crate::ranking::{CHAIN_LIMIT, Ranking};
+use crate::loops::loop_among;
+use crate::ranking::CHAIN_LIMIT;
 use crate::rule::{Rule, Target};
 use crate::starts::starts_of;
 use std::alloc::Global;
@@ -47,7 +47,6 @@ pub struct Ruleset {
     pub(crate) rules: u32,
     /// The number of each chain's first rule among the rules of all chains.
     pub(crate) starts: Vec<u32>,
-    pub(crate) ranking: Ranking,
 }
 
 impl Model for Ruleset {
@@ -60,7 +59,7 @@ impl Model for Ruleset {
 
     ghost view = { λ r. r.chains.items };
 
-    ghost invariant = { λ r. IsRuleset r.chains.items r.rules r.starts.items r.ranking.order.items r.ranking.places.items };
+    ghost invariant = { λ r. IsRuleset r.chains.items r.rules r.starts.items };
 }
 
 impl Ruleset {
@@ -78,19 +77,20 @@ impl Ruleset {
         if let Some(why) = refusal(&chains.chains, chains.rules) {
             return Err(why);
         }
-        match rank_chains(alloc, &chains.chains) {
-            Ok(Ranked::Order(ranking)) => match starts_of(alloc, &chains.chains) {
-                Ok(starts) => Ok(Ruleset {
-                    chains: chains.chains,
-                    rules: chains.rules,
-                    starts,
-                    ranking,
-                }),
-                Err(_) => Err(BuildRefusal::Memory),
-            },
-            Ok(Ranked::Loop(chain)) => Err(BuildRefusal::Loop { chain }),
-            Err(_) => Err(BuildRefusal::Memory),
+        let Ok(found) = loop_among(alloc, &chains.chains) else {
+            return Err(BuildRefusal::Memory);
+        };
+        if let Some(chain) = found {
+            return Err(BuildRefusal::Loop { chain });
         }
+        let Ok(starts) = starts_of(alloc, &chains.chains) else {
+            return Err(BuildRefusal::Memory);
+        };
+        Ok(Ruleset {
+            chains: chains.chains,
+            rules: chains.rules,
+            starts,
+        })
     }
 }
 

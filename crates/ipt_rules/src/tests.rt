@@ -6,8 +6,8 @@ ghost use Rattle.ipt_rules.specs.ChainTable.{rule_count};
 ghost use Rattle.ipt_rules.specs.inner.RuleParts.{is_rule};
 
 use crate::{
-    AddrMatch, BuildRefusal, ChainName, Chains, Filter, Policy, PortMatch, ProtoMatch, Rule, Ruleset,
-    StateMatch, Target, Verdict,
+    AddrMatch, BuildRefusal, ChainName, Chains, Filter, Policy, PortMatch, ProtoMatch, Rule,
+    Ruleset, StateMatch, Target, Verdict,
 };
 use host_net::{CtState, Packet, Prefix};
 use std::alloc::Global;
@@ -173,7 +173,7 @@ fn judges_packets(rt: HostRuntime) {
         rule(None, outside, None, Target::Accept),
     );
     let rules = Ruleset::build(rt.alloc(), chains).expect(&rt, "a rule set");
-    let filter = Filter::of(rt.alloc(), &rules).expect(&rt, "memory");
+    let filter = Filter::of(rt.alloc(), &rules, 100).expect(&rt, "memory");
     let (inside, outside) = (0xc0a8_0105, 0x5db8_d822);
     assert_eq!(rt;
         filter.verdict(&packet(inside, outside), CtState::New),
@@ -202,7 +202,7 @@ fn returns_and_refuses(rt: HostRuntime) {
     push(&rt, &mut chains, 1, rule(None, None, None, Target::Jump(3)));
     push(&rt, &mut chains, 1, rule(None, None, None, Target::Accept));
     let rules = Ruleset::build(rt.alloc(), chains).expect(&rt, "a rule set");
-    let filter = Filter::of(rt.alloc(), &rules).expect(&rt, "memory");
+    let filter = Filter::of(rt.alloc(), &rules, 1).expect(&rt, "memory");
     assert_eq!(rt;
         filter.verdict(&packet(1, 2), CtState::New),
         Verdict::Forward
@@ -256,7 +256,7 @@ fn goes_through_the_chains_by_their_order(rt: HostRuntime) {
     push(&rt, &mut chains, 3, rule(None, None, None, Target::Return));
     push(&rt, &mut chains, 4, rule(None, None, None, Target::Accept));
     let rules = Ruleset::build(rt.alloc(), chains).expect(&rt, "a rule set");
-    let filter = Filter::of(rt.alloc(), &rules).expect(&rt, "memory");
+    let filter = Filter::of(rt.alloc(), &rules, 1).expect(&rt, "memory");
     assert_eq!(rt;
         filter.verdict(&packet(1, 2), CtState::New),
         Verdict::Forward
@@ -298,7 +298,7 @@ fn writes_services(rt: HostRuntime) {
     push(&rt, &mut chains, 1, other);
     push(&rt, &mut chains, 1, tunnel);
     let rules = Ruleset::build(rt.alloc(), chains).expect(&rt, "a rule set");
-    let filter = Filter::of(rt.alloc(), &rules).expect(&rt, "memory");
+    let filter = Filter::of(rt.alloc(), &rules, 100).expect(&rt, "memory");
     assert_eq!(rt; rules.lines(), 9);
     let mut buffer = [0; 320];
     for i in 0..rules.lines() {

@@ -21,15 +21,11 @@ use std::alloc::{AllocError, Global};
 pub fn trace_rules(alloc: Global, rules: &Ruleset, events: &[Event]) -> Result<Vec<u8>, AllocError>
     ensures { IfOk result (λ text. IsTrace (Passes rules.now) events.now text.items) }
 {
-    let filter = Filter::of(alloc, rules)?;
+    let filter = Filter::of(alloc, rules, events.len())?;
     trace_filter(alloc, &filter, events)
 }
 
-fn trace_filter(
-    alloc: Global,
-    filter: &Filter<'_>,
-    events: &[Event],
-) -> Result<Vec<u8>, AllocError>
+fn trace_filter(alloc: Global, filter: &Filter<'_>, events: &[Event]) -> Result<Vec<u8>, AllocError>
     ensures { IfOk result (λ text. IsTrace (Passes filter.now) events.now text.items) }
 {
     let mut track = Track::new(alloc);

@@ -44,7 +44,7 @@ pub(crate) fn run_counts(
 {
     let rules = rules_of(alloc, hosts, services, policy)?;
     let packets = sample_packets(alloc, count)?;
-    let filter = Filter::of(alloc, &rules)?;
+    let filter = Filter::of(alloc, &rules, packets.len())?;
     let forwarded = forwarded(alloc, &filter, &packets)?;
     Ok(RunCounts {
         rules: rules.lines(),
@@ -81,11 +81,7 @@ fn rules_of(
 }
 
 /// How many of the packets are forwarded.
-fn forwarded(
-    alloc: Global,
-    filter: &Filter<'_>,
-    packets: &[Packet],
-) -> Result<usize, AllocError>
+fn forwarded(alloc: Global, filter: &Filter<'_>, packets: &[Packet]) -> Result<usize, AllocError>
     ensures { IfOk result (AreForwarded (Passes filter.now) (map Seen packets.now)) }
 {
     let mut track = Track::new(alloc);
@@ -99,11 +95,7 @@ fn forwarded(
 
 /// Whether the rules forward a packet, which is tracked: a run over what follows is one over this packet
 /// and what follows.
-fn is_forwarded(
-    filter: &Filter<'_>,
-    track: &mut Track,
-    packet: &Packet,
-) -> Result<bool, AllocError>
+fn is_forwarded(filter: &Filter<'_>, track: &mut Track, packet: &Packet) -> Result<bool, AllocError>
     ensures { IfOk result (λ passes. (events : List Event) (answers : List (Option Bool))
         → Runs (Passes filter.now) (kept_in track.new) events answers
         → Runs (Passes filter.now) (kept_in track.old) (Seen packet.now ∷ events) (Some passes ∷ answers)) }

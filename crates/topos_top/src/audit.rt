@@ -87,7 +87,7 @@ fn answer_by_rules<'a>(
     requires { EachGivesOne rules.now }
     ensures { IfOk result (λ answer. Answers true (audit_job description.now (Chains rules.now)) (reply_view answer)) }
 {
-    let filter = Filter::of(alloc, rules)?;
+    let filter = Filter::of(alloc, rules, usize::MAX)?;
     answer(alloc, description, audit_core::Text::Ipt(&filter))
 }
 

@@ -95,7 +95,7 @@ fn trace(
     rules: &Ruleset,
     events: &[Event],
 ) -> Result<Vec<Option<bool>>, AllocError> {
-    let filter = Filter::of(alloc, rules)?;
+    let filter = Filter::of(alloc, rules, events.len())?;
     let mut track = Track::new(alloc);
     let mut answers = Vec::new(alloc);
     for event in events {
@@ -105,7 +105,11 @@ fn trace(
 }
 
 /// The answer to one event.
-fn answer(filter: &Filter<'_>, track: &mut Track, event: &Event) -> Result<Option<bool>, AllocError> {
+fn answer(
+    filter: &Filter<'_>,
+    track: &mut Track,
+    event: &Event,
+) -> Result<Option<bool>, AllocError> {
     match event {
         Event::Forget(packet) => {
             track.forget(packet);

@@ -33,7 +33,6 @@ abbrev pub IsNext : (Rule → Bool) → List Rule → ℕ → Option ℕ → Typ
 IsNext fits rules from None = NoneFits fits rules from (length rules)
 IsNext fits rules from (Some at) = IsNextAt fits rules from at
 
--- each chain has an index of its rules
-pub record AreIndexes (indexes : List Covers) (chains : List Chain) : Type 0 where
-  pub all : length indexes ≡ length chains
-  pub each : (c : ℕ) (index : Covers) → slice_get indexes c ≡ Some index → IsIndexOf (all_ends (rules_of chains c)) index
+-- each chain has an index of its rules, or none has
+abbrev pub AreIndexes : List Covers → List Chain → Type 0
+AreIndexes indexes chains = (c : ℕ) (index : Covers) → slice_get indexes c ≡ Some index → IsIndexOf (all_ends (rules_of chains c)) index

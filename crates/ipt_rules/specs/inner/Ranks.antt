@@ -1,9 +1,8 @@
 -- The order in which the chains of a rule set are gone through: each jump goes back in it. Callers see none of
 -- it; they have what `build` ensures.
 use Rattle.std.specs.Prelude.{◌≡◌, ℕ, ◌+◌, ◌<◌, ◌≤◌, List, [], Bool, true, Option, Some, None, length, slice_get, Contains, is_none, count_by, map, not, ◌⊎◌}
-use Rattle.host_net.specs.declared.packet.Verdict.{Verdict}
 use Rattle.ipt_rules.specs.Chain.{Chain}
-use Rattle.ipt_rules.specs.Loops.{jumps_of}
+use Rattle.ipt_rules.specs.Loops.{jumps_of, jumps_from}
 
 -- for each chain the chains that it jumps to
 abbrev pub jump_table : List Chain → List (List ℕ)
@@ -44,21 +43,15 @@ pub record IsRanking (next : ℕ → List ℕ) (count : ℕ) (order : List ℕ) 
   pub short : length order ≤ count
   pub every : (c : ℕ) → c < count → IsBefore places c (length order)
 
+-- the chains have an order that has all of them
+pub record HasRanking (chains : List Chain) : Type 0 where
+  pub order : List ℕ
+  pub places : List (Option ℕ)
+  pub is : IsRanking (jumps_from chains) (length chains) order places
+
 -- a mark is set at i
 abbrev pub IsSet : List Bool → ℕ → Type 0
 IsSet marks i = slice_get marks i ≡ Some true
-
-abbrev pub outcome_in : Option (Option Verdict) → Option Verdict
-outcome_in None = None
-outcome_in (Some outcome) = outcome
-
-abbrev pub outcome_by : List (Option Verdict) → Option ℕ → Option Verdict
-outcome_by outcomes None = None
-outcome_by outcomes (Some place) = outcome_in (slice_get outcomes place)
-
--- the outcome that stands at the place of chain c
-abbrev pub outcome_at : List (Option ℕ) → List (Option Verdict) → ℕ → Option Verdict
-outcome_at places outcomes c = outcome_by outcomes (place_of places c)
 
 -- what holds while an order is put together: it is one, of the first jumps of each row, as many as were looked at, all go
 -- to chains that have places, and each chain is in the order once

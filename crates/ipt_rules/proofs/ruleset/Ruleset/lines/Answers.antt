@@ -21,11 +21,11 @@ returns-clause-accepted c = rw (← c.self.view_is) c.self.invariant.accepted
 pub returns-clause-no_loop : goal.returns-clause-no_loop
 returns-clause-no_loop c =
     subst HasNoLoop c.self.view_is
-    (no_loop_in_order c.self.inside.chains.items c.self.inside.ranking.order.items c.self.inside.ranking.places.items c.self.invariant.ranking)
+    (no_loop_in_order c.self.inside.chains.items c.self.invariant.ranking.order c.self.invariant.ranking.places c.self.invariant.ranking.is)
 
 pub returns-clause-one_outcome : goal.returns-clause-one_outcome
 returns-clause-one_outcome c =
-    rw (← c.self.view_is) (each_gives_one c.self.inside.chains.items c.self.inside.ranking.order.items c.self.inside.ranking.places.items c.self.invariant.ranking)
+    rw (← c.self.view_is) (each_gives_one c.self.inside.chains.items c.self.invariant.ranking)
 
 none_is : (o : Option BuildRefusal) → IsNone o → o ≡ None
 none_is None h = refl
@@ -35,7 +35,7 @@ pub returns-clause-writable : goal.returns-clause-writable
 returns-clause-writable c = subst IsWritable c.self.view_is (record {
   table = c.self.invariant.list.table;
   accepted = none_is _ c.self.invariant.accepted;
-  no_loop = no_loop_in_order c.self.inside.chains.items c.self.inside.ranking.order.items c.self.inside.ranking.places.items c.self.invariant.ranking;
+  no_loop = no_loop_in_order c.self.inside.chains.items c.self.invariant.ranking.order c.self.invariant.ranking.places c.self.invariant.ranking.is;
   addresses = c.self.invariant.list.addresses;
   parts = c.self.invariant.list.parts;
 })

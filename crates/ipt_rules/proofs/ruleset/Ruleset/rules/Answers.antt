@@ -9,4 +9,4 @@ returns-clause-count c =
 
 pub returns-clause-one_outcome : goal.returns-clause-one_outcome
 returns-clause-one_outcome c =
-    rw (← c.self.view_is) (each_gives_one c.self.inside.chains.items c.self.inside.ranking.order.items c.self.inside.ranking.places.items c.self.invariant.ranking)
+    rw (← c.self.view_is) (each_gives_one c.self.inside.chains.items c.self.invariant.ranking)

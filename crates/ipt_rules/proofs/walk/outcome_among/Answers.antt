@@ -1,0 +1,160 @@
+use Rattle.std.proofs.Common.{◌≡◌, ◌+◌, ◌-◌, ◌*◌, ◌<◌, ◌≤◌, ◌∙◌, ℕ, Bool, List, [], ◌∷◌, ◌++◌, Option, Some, None, length, length-append, replicate, set, sym, ap, subst, arith}
+use Rattle.std.specs.Prelude.{count_by, is_none, IfSome, slice_get}
+use Rattle.std.proofs.lemmas.List.{length-replicate, length-set}
+use prog.Memory.{up}
+use Rattle.host_net.specs.declared.cover.Covers.{Covers}
+use Rattle.host_net.specs.declared.packet.Verdict.{Verdict}
+use Rattle.host_net.specs.inner.CoverView.{IsIndexOf}
+use Rattle.ipt_rules.specs.declared.rule.Rule.{Rule}
+use Rattle.ipt_rules.specs.declared.walk.Walk.{Walk}
+use Rattle.ipt_rules.specs.Chain.{Chain, rules_of}
+use Rattle.ipt_rules.specs.Matching.{matches}
+use Rattle.ipt_rules.specs.inner.Next.{AreIndexes, all_ends}
+use Rattle.ipt_rules.specs.inner.Walking.{known_at}
+use Rattle.ipt_rules.proofs.WalkingLemmas.{Waiting, fewer_unknown, waiting_first, last_walk, last_unknown, last_room, waiting_ended, asked_room, waiting_asked}
+use Rattle.ipt_rules.proofs.walk.outcome_among.Goals as goal
+
+-- ---- the room that the walks take
+
+small_room : (n : ℕ) → n ≤ 4096 → up 8 (up 1 (up 8 (0 + up 8 (0 + n * 16)) + 8) + 0) < 9223372036854775808
+small_room n few = omega (arith, few)
+
+empty_room : (n count number : ℕ) (walks : List Walk) → walks ≡ [] → number < count → count ≤ n → length walks < n
+empty_room n count number walks none there few = let e = ap length none in omega (arith, e, there, few)
+
+pub new-walks-requires : goal.new-walks-requires
+new-walks-requires g c = small_room g.row.N c.requires.small
+
+pub push-requires : goal.push-requires
+push-requires g c = (small_room g.row.N c.requires.small, empty_room g.row.N (length c.args.chains.now) c.args.number c.new-walks.result.items c.new-walks.ensures c.requires.there c.requires.few_chains)
+
+pub pop-requires : goal.pop-requires
+pop-requires g c = small_room g.row.N c.requires.small
+
+pub shared_whole_as_slice-walk_on : goal.shared_whole_as_slice-walk_on
+shared_whole_as_slice-walk_on g c = omega (arith, c.requires.small)
+
+pub shared_whole_as_slice-known_at : goal.shared_whole_as_slice-known_at
+shared_whole_as_slice-known_at g c = omega (arith, c.requires.small)
+
+-- ---- the first walk
+
+pub loop-walk-init : goal.loop-walk-init
+loop-walk-init g c = record {
+  long = length-replicate g.row.N None;
+  waiting =
+      subst (λ (walks : List Walk). Waiting (matches c.args.packet.now c.args.state) c.args.chains.now c.args.number (replicate g.row.N None) walks)
+      (sym (c.push.ensures.items ∙ ap (λ (walks : List Walk). walks ++ record { chain = c.args.number; from = 0 } ∷ []) c.new-walks.ensures))
+      (waiting_first (matches c.args.packet.now c.args.state) c.args.chains.now c.args.number g.row.N c.requires.ranking c.requires.there);
+}
+
+-- ---- a walk goes on
+
+waiting_at : (fits : Rule → Bool) (chains : List Chain) (number : ℕ) (known : List (Option (Option Verdict))) (walks rest : List Walk) (w : Walk) → walks ≡ rest ++ w ∷ [] → Waiting fits chains number known walks → Waiting fits chains number known (rest ++ w ∷ [])
+waiting_at fits chains number known walks rest w same is = subst (λ (ws : List Walk). Waiting fits chains number known ws) same is
+
+index_known : {X : Type 0} (now : X → Covers) (indexes : List Covers) (chains : List Chain) (number : ℕ) (o : Option X) → AreIndexes indexes chains → IfSome o (λ x. slice_get indexes number ≡ Some (now x)) → IfSome o (λ x. IsIndexOf (all_ends (rules_of chains number)) (now x))
+index_known now indexes chains number None are there = tt
+index_known now indexes chains number (Some x) are there = are number (now x) there
+
+pub walk_on-requires-clause-walk : goal.walk_on-requires-clause-walk
+walk_on-requires-clause-walk g c =
+    let fits = matches c.args.packet.now c.args.state in
+    let is = waiting_at fits c.args.chains.now c.args.number c.loop-walk.known c.loop-walk.walks.items c.pop.new.self.items c.in-Some.walk c.in-Some.ensures.items c.loop-walk.invariant.waiting in
+    last_walk fits c.args.chains.now c.args.number c.loop-walk.known c.pop.new.self.items c.in-Some.walk is
+
+pub walk_on-requires-clause-index : goal.walk_on-requires-clause-index
+walk_on-requires-clause-index g c =
+    index_known (λ x. x.now) c.args.indexes.now c.args.chains.now c.in-Some.walk.chain c.index_at-index.result c.requires.indexes c.index_at-index.ensures
+
+chain_low : (n count chain : ℕ) → chain < count → count ≤ n → chain < n
+chain_low n count chain there few = omega (arith, there, few)
+
+pub bounds-known-walk : goal.bounds-known-walk
+bounds-known-walk g c =
+    let fits = matches c.args.packet.now c.args.state in
+    let is = waiting_at fits c.args.chains.now c.args.number c.loop-walk.known c.loop-walk.walks.items c.pop.new.self.items c.in-Some.walk c.in-Some.ensures.items c.loop-walk.invariant.waiting in
+    let walk = last_walk fits c.args.chains.now c.args.number c.loop-walk.known c.pop.new.self.items c.in-Some.walk is in
+    chain_low g.row.N (length c.args.chains.now) c.in-Some.walk.chain walk.there c.requires.few_chains
+
+-- ---- a chain ends
+
+smaller_ended : (n : ℕ) (known : List (Option (Option Verdict))) (walks rest : List Walk) (w : Walk) (o : Option Verdict) → walks ≡ rest ++ w ∷ [] → w.chain < length known → known_at known w.chain ≡ None
+    → 2 * count_by is_none (set known w.chain (Some o)) + (n - length rest) < 2 * count_by is_none known + (n - length walks)
+smaller_ended n known walks rest w o same low none =
+    let fewer = fewer_unknown known w.chain o low none in
+    let long = ap length same ∙ length-append rest (w ∷ []) in
+    omega (arith, fewer, long)
+
+pub loop-walk-smaller-in-Ended : goal.loop-walk-smaller-in-Ended
+loop-walk-smaller-in-Ended g c =
+    let fits = matches c.args.packet.now c.args.state in
+    let is = waiting_at fits c.args.chains.now c.args.number c.loop-walk.known c.loop-walk.walks.items c.pop.new.self.items c.in-Some.walk c.in-Some.ensures.items c.loop-walk.invariant.waiting in
+    let walk = last_walk fits c.args.chains.now c.args.number c.loop-walk.known c.pop.new.self.items c.in-Some.walk is in
+    let unknown = last_unknown fits c.args.chains.now c.args.number c.loop-walk.known c.pop.new.self.items c.in-Some.walk is in
+    smaller_ended g.row.N c.loop-walk.known c.loop-walk.walks.items c.pop.new.self.items c.in-Some.walk c.in-Ended.outcome c.in-Some.ensures.items
+    (omega (arith, walk.there, c.requires.few_chains, c.loop-walk.invariant.long)) unknown
+
+pub loop-walk-preserved-in-Ended : goal.loop-walk-preserved-in-Ended
+loop-walk-preserved-in-Ended g c =
+    let fits = matches c.args.packet.now c.args.state in
+    let is = waiting_at fits c.args.chains.now c.args.number c.loop-walk.known c.loop-walk.walks.items c.pop.new.self.items c.in-Some.walk c.in-Some.ensures.items c.loop-walk.invariant.waiting in
+    let walk = last_walk fits c.args.chains.now c.args.number c.loop-walk.known c.pop.new.self.items c.in-Some.walk is in
+    record {
+      long = length-set c.loop-walk.known c.in-Some.walk.chain (Some c.in-Ended.outcome) ∙ c.loop-walk.invariant.long;
+      waiting =
+          waiting_ended fits c.args.chains.now c.args.number c.loop-walk.known c.pop.new.self.items c.in-Some.walk is c.in-Ended.outcome
+          (omega (arith, walk.there, c.requires.few_chains, c.loop-walk.invariant.long)) c.in-Ended.ensures;
+    }
+
+-- ---- another chain is walked first
+
+room_for : (n count used room : ℕ) → used + room ≤ count → count ≤ n → 0 < room → used < n
+room_for n count used room low few some = omega (arith, low, few, some)
+
+pub push-requires-in-Asks : goal.push-requires-in-Asks
+push-requires-in-Asks g c =
+    let fits = matches c.args.packet.now c.args.state in
+    let is = waiting_at fits c.args.chains.now c.args.number c.loop-walk.known c.loop-walk.walks.items c.pop.new.self.items c.in-Some.walk c.in-Some.ensures.items c.loop-walk.invariant.waiting in
+    let room = last_room fits c.args.chains.now c.args.number c.loop-walk.known c.pop.new.self.items c.in-Some.walk is in
+    (small_room g.row.N c.requires.small, room_for g.row.N (length c.args.chains.now) (length c.pop.new.self.items) 1 room c.requires.few_chains (omega arith))
+
+more_room : (n count : ℕ) (now rest : List Walk) (v : Walk) → now ≡ rest ++ v ∷ [] → length rest + 2 ≤ count → count ≤ n → length now < n
+more_room n count now rest v same low few =
+    let long = ap length same ∙ length-append rest (v ∷ []) in
+    omega (arith, long, low, few)
+
+pub push-requires-in-Asks-2 : goal.push-requires-in-Asks-2
+push-requires-in-Asks-2 g c =
+    let fits = matches c.args.packet.now c.args.state in
+    let is = waiting_at fits c.args.chains.now c.args.number c.loop-walk.known c.loop-walk.walks.items c.pop.new.self.items c.in-Some.walk c.in-Some.ensures.items c.loop-walk.invariant.waiting in
+    let room = asked_room fits c.args.chains.now c.args.number c.loop-walk.known c.pop.new.self.items c.in-Some.walk is c.in-Asks.chain c.in-Asks.at c.in-Asks.ensures in
+    (small_room g.row.N c.requires.small, more_room g.row.N (length c.args.chains.now) c.push-in-Asks.new.self.items c.pop.new.self.items _ c.push-in-Asks.ensures.items room c.requires.few_chains)
+
+smaller_asked : (n count unknown : ℕ) (walks rest now then : List Walk) (w v u : Walk) → walks ≡ rest ++ w ∷ [] → now ≡ rest ++ v ∷ [] → then ≡ now ++ u ∷ [] → length rest + 2 ≤ count → count ≤ n
+    → 2 * unknown + (n - length then) < 2 * unknown + (n - length walks)
+smaller_asked n count unknown walks rest now then w v u same first second low few =
+    let long = ap length same ∙ length-append rest (w ∷ []) in
+    let one = ap length first ∙ length-append rest (v ∷ []) in
+    let two = ap length second ∙ length-append now (u ∷ []) in
+    omega (arith, long, one, two, low, few)
+
+pub loop-walk-smaller : goal.loop-walk-smaller
+loop-walk-smaller g c =
+    let fits = matches c.args.packet.now c.args.state in
+    let is = waiting_at fits c.args.chains.now c.args.number c.loop-walk.known c.loop-walk.walks.items c.pop.new.self.items c.in-Some.walk c.in-Some.ensures.items c.loop-walk.invariant.waiting in
+    let room = asked_room fits c.args.chains.now c.args.number c.loop-walk.known c.pop.new.self.items c.in-Some.walk is c.in-Asks.chain c.in-Asks.at c.in-Asks.ensures in
+    smaller_asked g.row.N (length c.args.chains.now) (count_by is_none c.loop-walk.known) c.loop-walk.walks.items c.pop.new.self.items c.push-in-Asks.new.self.items c.push-in-Asks-2.new.self.items c.in-Some.walk _ _
+    c.in-Some.ensures.items c.push-in-Asks.ensures.items c.push-in-Asks-2.ensures.items room c.requires.few_chains
+
+pub loop-walk-preserved : goal.loop-walk-preserved
+loop-walk-preserved g c =
+    let fits = matches c.args.packet.now c.args.state in
+    let is = waiting_at fits c.args.chains.now c.args.number c.loop-walk.known c.loop-walk.walks.items c.pop.new.self.items c.in-Some.walk c.in-Some.ensures.items c.loop-walk.invariant.waiting in
+    record {
+      long = c.loop-walk.invariant.long;
+      waiting =
+          subst (λ (walks : List Walk). Waiting (matches c.args.packet.now c.args.state) c.args.chains.now c.args.number c.loop-walk.known walks)
+          (sym (c.push-in-Asks-2.ensures.items ∙ ap (λ (walks : List Walk). walks ++ record { chain = c.in-Asks.chain; from = 0 } ∷ []) c.push-in-Asks.ensures.items))
+          (waiting_asked fits c.args.chains.now c.args.number c.loop-walk.known c.pop.new.self.items c.in-Some.walk is c.in-Asks.chain c.in-Asks.at c.in-Asks.ensures);
+    }
