@@ -1,10 +1,10 @@
 -- Sets of hosts from their bits: what a change of the bits does, and how many hosts there are.
-use Rattle.std.proofs.Common.{◌≡◌, ℕ, zero, suc, ◌+◌, ◌-◌, ◌*◌, ◌/◌, ◌%◌, ◌^◌, ◌<◌, ◌≤◌, Bool, true, false, not, ◌&&◌, ◌||◌, cond, nat_eq, nat_lt, nat_cmp, sym, ◌∙◌, ap, bit_or, bit_and, arith, add-suc, add-zero, zero-add, max, inl, inr}
+use Rattle.std.proofs.Common.{◌≡◌, ℕ, zero, suc, ◌+◌, ◌-◌, ◌*◌, ◌/◌, ◌%◌, ◌^◌, ◌<◌, ◌≤◌, Bool, true, false, not, ◌&&◌, ◌||◌, cond, nat_eq, nat_lt, nat_cmp, sym, ◌∙◌, ap, bit_or, bit_and, arith, add-suc, add-zero, zero-add, max, min, inl, inr}
 use Rattle.std.specs.Prelude.{count_ones}
 use Rattle.std.proofs.lemmas.Bool.{cond_both, cond-true, cond-false, cases_eq, eq-eqb, ne_eqb, lt-ltb, le-ltb}
 use Rattle.std.proofs.lemmas.Bool.Decides.{nat_tests}
 use Rattle.std.proofs.lemmas.Nat.{mod-pow-add, pow_pos}
-use Rattle.std.proofs.lemmas.Nat.Bits.{shr_and_one, bit_at-lt, bit_at-zero, bit_at_or, bit_at_set_same, bit_at_set_other, bit_at_clear_same, bit_at_clear_other}
+use Rattle.std.proofs.lemmas.Nat.Bits.{shr_and_one, bit_at-lt, bit_at-zero, bit_at_or, bit_at_and, bit_at_not, bit_at_set_same, bit_at_set_other, bit_at_clear_same, bit_at_clear_other}
 use Rattle.std.proofs.Math.Nat.{mod-eq_of_lt, mod-lt}
 use Rattle.std.specs.Cmp.{nat_cmp_total}
 use Rattle.std.specs.FinSet as set
@@ -40,6 +40,16 @@ hosts_below-union n test other grown each =
     hosts_ext _ _ (λ q.
     contains-hosts_below n grown q ∙ below_union n q (test q) (other q) (grown q) (each q)
     ∙ (λ i. sym (contains-hosts_below n test q) i || sym (contains-hosts_below n other q) i) ∙ sym (set.contains-union nat_cmp_total (hosts_below n test) (hosts_below n other) q))
+
+below_difference : (n q : ℕ) (a b c : Bool) → (q < n → c ≡ (a && not b)) → (nat_lt q n && c) ≡ ((nat_lt q n && a) && not (nat_lt q n && b))
+below_difference n q a b c fewer = grind (arith, nat_tests)
+
+pub hosts_below-difference : (n : ℕ) (test other fewer : ℕ → Bool) → ((q : ℕ) → q < n → fewer q ≡ (test q && not (other q)))
+    → hosts_below n fewer ≡ set.difference (hosts_below n test) (hosts_below n other)
+hosts_below-difference n test other fewer each =
+    hosts_ext _ _ (λ q.
+    contains-hosts_below n fewer q ∙ below_difference n q (test q) (other q) (fewer q) (each q)
+    ∙ (λ i. sym (contains-hosts_below n test q) i && not (sym (contains-hosts_below n other q) i)) ∙ sym (set.contains-difference nat_cmp_total (hosts_below n test) (hosts_below n other) q))
 
 below_remove : (n host q : ℕ) (b c : Bool) → (q < n → c ≡ (not (nat_eq q host) && b))
     → (nat_lt q n && c) ≡ (not (nat_eq q host) && (nat_lt q n && b))
@@ -131,6 +141,24 @@ both_cases false a b c d e f p r = r
 pub is_marked-both : (low high low' high' q : ℕ)
     → is_marked (bit_or low low') (bit_or high high') q ≡ (is_marked low high q || is_marked low' high' q)
 is_marked-both low high low' high' q = both_cases (nat_lt q 128) _ _ _ _ _ _ (is_joined low low' q) (is_joined high high' (q - 128))
+
+is_left : (a b : ℕ) → a < 2 → b < 2 → nat_eq (min a (1 - b)) 1 ≡ (nat_eq a 1 && not (nat_eq b 1))
+is_left a b p q = grind (arith, nat_tests)
+
+is_without : (n m q : ℕ) → m < 2 ^ 128 → q < 128
+    → nat_eq (bit_at (bit_and n (bit_not w128 m)) q) 1 ≡ (nat_eq (bit_at n q) 1 && not (nat_eq (bit_at m q) 1))
+is_without n m q fits below =
+    ap (λ b. nat_eq b 1) (bit_at_and n (bit_not w128 m) q ∙ ap (min (bit_at n q)) (bit_at_not w128 m q fits below))
+    ∙ is_left _ _ (bit_at-lt n q) (bit_at-lt m q)
+
+without_cases : (q : ℕ) (a b c d e f : Bool) → (q < 128 → a ≡ (b && not c)) → (128 ≤ q → d ≡ (e && not f))
+    → cond (nat_lt q 128) a d ≡ (cond (nat_lt q 128) b e && not (cond (nat_lt q 128) c f))
+without_cases q a b c d e f low high = grind (arith, nat_tests)
+
+pub is_marked-without : (low high low' high' q : ℕ) → low' < 2 ^ 128 → high' < 2 ^ 128 → q < 256
+    → is_marked (bit_and low (bit_not w128 low')) (bit_and high (bit_not w128 high')) q ≡ (is_marked low high q && not (is_marked low' high' q))
+is_marked-without low high low' high' q low_fits high_fits within =
+    without_cases q _ _ _ _ _ _ (is_without low low' q low_fits) (λ late. is_without high high' (q - 128) high_fits (omega (arith, late, within)))
 
 in_range : (q : ℕ) (b : Bool) → q < 256 → (nat_lt q 256 && b) ≡ b
 in_range q b below = grind (arith, nat_tests)

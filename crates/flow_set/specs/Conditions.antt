@@ -1,5 +1,4 @@
--- Conditions on sets of flows: which are kept by every subset, which look at single flows alone, and what is singled
--- out by one: minimal offending sets, the first subset, the greatest.
+-- What a condition on sets of flows singles out: minimal offending sets, the first subset, the greatest.
 use Rattle.std.specs.Prelude.{◌≡◌, ◌⊎◌, List, IsTrue, IsFalse}
 use Rattle.flow_set.specs.declared.flow.Flow.{Flow}
 use Rattle.flow_set.specs.Flow.{before}

@@ -114,6 +114,14 @@ impl HostSet {
         self.high |= other.high;
     }
 
+    /// Takes out every host of the other set.
+    pub fn remove_all(&mut self, other: &HostSet)
+        ensures { self.new ≡ set.difference self.old other.now }
+    {
+        self.low &= !other.low;
+        self.high &= !other.high;
+    }
+
     pub fn copy(&self) -> HostSet
         ensures { result ≡ self.now }
     {

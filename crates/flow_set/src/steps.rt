@@ -1,6 +1,6 @@
 //! A set of flows that grows in steps. It remembers the last one, which can be taken back.
 
-ghost use Rattle.std.specs.Prelude.{◌≡◌, IsSome, IfOk};
+ghost use Rattle.std.specs.Prelude.{◌≡◌, IsSome, IfOk, None};
 ghost use Rattle.flow_set.specs.Flow.{IsFlow};
 ghost use Rattle.flow_set.specs.inner.FlowSetView.{IsFlowSet};
 ghost use Rattle.flow_set.specs.inner.Steps.{untried, stepped, taken_back};
@@ -77,6 +77,13 @@ impl FlowSteps {
         if let LastStep::Added(f) = self.last {
             self.flows.remove(f);
         }
+        self.last = LastStep::Never;
+    }
+
+    /// Forgets the last step, so that it stays.
+    pub fn forget(&mut self)
+        ensures { self.new ≡ record self.old { before_step = None } }
+    {
         self.last = LastStep::Never;
     }
 }

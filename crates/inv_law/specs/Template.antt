@@ -45,26 +45,23 @@ meaning t hosts = record {
   holds_after_reset = λ host. t.Holds (reset_at t hosts host);
 }
 
--- a template that judges each flow alone, by the attributes of its two hosts, with the same attributes and one default for all hosts
-abbrev pub edge_template : {A : Type 0} → List ℕ → Strategy → (A → Type 0) → A → (A → A → Type 0) → Template
-edge_template {A} name strategy MayHave default Passes = record {
+-- the template of these parts
+abbrev pub template_of : {A : Type 0} → Bool → List ℕ → Strategy → (ℕ → ℕ → A → Type 0) → (ℕ → ℕ → A) → (List A → List Flow → Type 0) → Template
+template_of {A} edge_mark name strategy MayHave default Holds = record {
   name = name;
   strategy = strategy;
-  edge_mark = true;
-  Attribute = A;
-  MayHave = λ n host. MayHave;
-  default = λ n host. default;
-  Holds = λ hosts. AllFlowsPass (PassesBetween default Passes hosts);
-}
-
--- a template that judges the flows together, by where they lead
-abbrev pub walk_template : {A : Type 0} → List ℕ → Strategy → (ℕ → ℕ → A → Type 0) → (ℕ → ℕ → A) → (List A → List Flow → Type 0) → Template
-walk_template {A} name strategy MayHave default Holds = record {
-  name = name;
-  strategy = strategy;
-  edge_mark = false;
+  edge_mark = edge_mark;
   Attribute = A;
   MayHave = MayHave;
   default = default;
   Holds = Holds;
 }
+
+-- a template that judges each flow alone, by the attributes of its two hosts, with the same attributes and one default for all hosts
+abbrev pub edge_template : {A : Type 0} → List ℕ → Strategy → (A → Type 0) → A → (A → A → Type 0) → Template
+edge_template name strategy MayHave default Passes =
+    template_of true name strategy (λ n host. MayHave) (λ n host. default) (λ hosts. AllFlowsPass (PassesBetween default Passes hosts))
+
+-- a template that judges the flows together, by where they lead
+abbrev pub walk_template : {A : Type 0} → List ℕ → Strategy → (ℕ → ℕ → A → Type 0) → (ℕ → ℕ → A) → (List A → List Flow → Type 0) → Template
+walk_template = template_of false

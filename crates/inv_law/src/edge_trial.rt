@@ -52,5 +52,10 @@ impl<R: EdgeRule> Stepwise for EdgeWise<R> {
         tried.steps.back();
     }
 
+    fn holds_with(&self, tried: &mut EdgeTrial, f: Flow) -> bool {
+        tried.steps.forget();
+        self.admits(f)
+    }
+
     ghost fits_size = { λ x tried fits. fits };
 }

@@ -1,8 +1,9 @@
 //! Invariants that judge a set as it grows by one flow at a time, so that nobody has to ask about the
 //! whole set again. What they keep for this is a [`Trial`], which is made once with all its memory.
 
-ghost use Rattle.std.specs.Prelude.{◌≡◌, ◌↔◌, IsTrue, IfOk, IsSome};
+ghost use Rattle.std.specs.Prelude.{◌≡◌, ◌↔◌, IsTrue, IfOk, IsSome, None};
 ghost use Rattle.flow_set.specs.Flow.{IsFlow};
+ghost use Rattle.flow_set.specs.FlowSet.{with_flow};
 ghost use Rattle.flow_set.specs.inner.FlowSetView.{IsFlowSet};
 ghost use Rattle.flow_set.specs.inner.Steps.{TriedFlows, untried, stepped, taken_back};
 
@@ -50,6 +51,21 @@ pub trait Stepwise: Invariant {
         requires step { IsSome (Self.Tried.tried tried.old).before_step }
         ensures fits { fits self.now tried.new }
         ensures back { Self.Tried.tried tried.new ≡ taken_back (Self.Tried.tried tried.old) };
+
+    /// Whether the invariant, which holds of the flows of the trial, holds of them with one more. The
+    /// trial keeps its flows, and has no step to be taken back.
+    fn holds_with(&self, tried: &mut Self::Tried, f: Flow) -> bool
+        requires fits { fits self.now tried.old }
+        requires flow { IsFlow (Self.size_of self.now) f }
+        requires held { Self.holds_on self.now (Self.Tried.tried tried.old).flows }
+        ensures answer { IsTrue result ↔ Self.holds_on self.now (with_flow (Self.Tried.tried tried.old).flows f) }
+        ensures fits { fits self.now tried.new }
+        ensures again { Self.Tried.tried tried.new ≡ record (Self.Tried.tried tried.old) { before_step = None } }
+    {
+        let holds = self.step(tried, f);
+        self.back(tried);
+        holds
+    }
 
     // A trial that fits is of the invariant's size.
     ghost fits_size: { (x : Self) (t : Self.Tried) → fits x t

@@ -1,4 +1,4 @@
--- Sets of hosts.
+-- Lists with a set of hosts for each host.
 use Rattle.std.specs.Prelude.{ℕ, List, slice_index_or}
 use Rattle.std.specs.FinSet as set
 use Rattle.flow_set.specs.HostSet.{HostNumbers}

@@ -1,5 +1,4 @@
--- A template as one record: all that is said of it but how a description writes its attributes.
--- What an invariant of the template means is derived from the record and the attributes of the hosts.
+-- Attributes that the hosts of a template may have, its default among them.
 use Rattle.std.specs.Prelude.{ℕ, ◌<◌, List, length, slice_index_or}
 use Rattle.inv_law.specs.Template.{Template}
 
