@@ -1,4 +1,4 @@
--- What a row of a closure tells of walks: of no flows, and after one more flow.
+-- What a row of a closure tells of walks: with its own host, in other words, and of no flows.
 use Rattle.std.proofs.Common.{◌≡◌, ℕ, ◌<◌, Bool, false, ◌&&◌, ◌||◌, nat_eq, nat_cmp, ◌↔◌, inl, inr, [], replicate, sym, ◌∙◌, ap, subst}
 use Rattle.std.specs.Prelude.{IsTrue}
 use Rattle.std.specs.FinSet as set
@@ -43,36 +43,7 @@ path_from test k j s tells =
       | inr walk ↦ or_right _ _ (tells.1 walk)
     ] in (λ there. path (sym (contains-insert s k j) ∙ there), λ way. contains-insert s k j ∙ shown way)
 
--- ---- a host of a row after one more flow
-
-pub tells_step : (test : Flow → Bool) (g : Flow) (i j : ℕ) (was comes goes : Bool) → (IsTrue was ↔ HasWalk test i j)
-    → (IsTrue comes ↔ HasPath test i g.from) → (IsTrue goes ↔ HasPath test g.to j)
-    → IsTrue (was || (comes && goes)) ↔ HasWalk (λ f. same_flow g f || test f) i j
-tells_step test g i j was comes goes tells before after =
-    let wider : Flow → Bool = λ f. same_flow g f || test f in
-    let more : (f : Flow) → IsTrue (test f) → IsTrue (wider f) = λ f. or_right (same_flow g f) (test f) in (
-      λ shown. elim (or_cases was (comes && goes) shown) [
-        | inl already ↦ HasWalk-weaker test wider more i j (tells.0 already)
-        | inr both ↦
-            let parts = and_parts comes goes both in
-            walk_over wider g (or_left _ _ (same_flow_self g)) i j (HasPath-weaker test wider more i g.from (before.0 parts.0))
-            (HasPath-weaker test wider more g.to j (after.0 parts.1))
-      ],
-      λ walk. elim (walk_cut test g i j walk) [
-        | inl stays ↦ or_left was _ (tells.1 stays)
-        | inr parts ↦ or_right was _ (and_from comes goes (before.1 parts.0) (after.1 parts.1))
-      ],
-    )
-
 -- ---- other words for the same
-
--- of a host of another set with the same answer, and of walks on the same flows
-pub tells_same : (shown is : Bool) (test like : Flow → Bool) (i j : ℕ) → shown ≡ is → ((f : Flow) → test f ≡ like f)
-    → (IsTrue is ↔ HasWalk test i j) → IsTrue shown ↔ HasWalk like i j
-tells_same shown is test like i j same alike tells = (
-  λ there. HasWalk-weaker test like (λ f passes. sym (alike f) ∙ passes) i j (tells.0 (sym same ∙ there)),
-  λ walk. same ∙ tells.1 (HasWalk-weaker like test (λ f passes. alike f ∙ passes) i j walk),
-)
 
 pub tells_bool : (shown is : Bool) (P : Type 0) → shown ≡ is → (IsTrue is ↔ P) → IsTrue shown ↔ P
 tells_bool shown is P same tells = subst (λ b. IsTrue b ↔ P) (sym same) tells

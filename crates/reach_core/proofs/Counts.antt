@@ -15,7 +15,7 @@ use Rattle.flow_set.specs.laws.HostSetLaws.{hosts_ext, contains-remove}
 
 -- ---- members, one by one
 
-pub has_some : (s : HostNumbers) (q : ℕ) → IsTrue (set.contains s q) → 0 < set.len s
+has_some : (s : HostNumbers) (q : ℕ) → IsTrue (set.contains s q) → 0 < set.len s
 has_some s q shown =
     elim (cases_eq (set.len s) 0) [
       | inl none ↦ absurd (false≢true (sym (ap (λ t. set.contains t q) (set.empty_of_len s none) ∙ set.contains-empty nat_cmp q) ∙ shown))
@@ -110,13 +110,3 @@ reaches_exactly e i row shows =
       counted = all.counted;
       most = λ hosts are. length-different hosts (set.remove row i) are.different (λ k d below. stays_without row i _ (are.others k d below) ((shows _).1 (are.reached k d below)));
     }
-
-pub exactly_without : (e : List Flow) (i : ℕ) (row : HostNumbers) → ((j : ℕ) → IsTrue (set.contains row j) ↔ Reaches e i j)
-    → set.contains row i ≡ true → ReachesExactly e i (set.len row - 1)
-exactly_without e i row shows itself =
-    subst (ReachesExactly e i) (set.len-remove nat_cmp_total row i ∙ cond-true _ _ _ itself) (reaches_exactly e i row shows)
-
-pub exactly_all : (e : List Flow) (i : ℕ) (row : HostNumbers) → ((j : ℕ) → IsTrue (set.contains row j) ↔ Reaches e i j)
-    → set.contains row i ≡ false → ReachesExactly e i (set.len row)
-exactly_all e i row shows not_itself =
-    subst (ReachesExactly e i) (set.len-remove nat_cmp_total row i ∙ cond-false _ _ _ not_itself) (reaches_exactly e i row shows)

@@ -17,7 +17,7 @@ use Rattle.flow_set.specs.inner.HostSet.{row_of}
 use Rattle.flow_set.specs.laws.HostSetLaws.{contains-insert}
 use Rattle.reach_core.specs.Walks.{Joined, has_either}
 use Rattle.reach_core.specs.laws.WalkLaws.{HasPath, cases_path, path_of_walk}
-use Rattle.reach_core.specs.laws.ReachLaws.{Joined-within, Joined-back, Joined-nothing_new, Joined-below, Joined-with_flow, Touches}
+use Rattle.reach_core.specs.laws.ReachLaws.{Joined-within, Joined-back, Joined-nothing_new, Joined-below, Joined-with_flow, Touches, Touches-joined}
 use Rattle.reach_core.specs.inner.Rows.{ShowsJoin, AreBelow, IsWidened, IsBack, HasJoinRows, row_now, row_before}
 use Rattle.reach_core.specs.declared.stepped.SteppedRows.{SteppedRows}
 use Rattle.reach_core.proofs.Closes.{tells_as, tells_bool, tells_nothing}
@@ -50,17 +50,14 @@ ShowsJoin-nothing_new n fs f joined is_flow there shows = record {
 pub record AreTouched (fs : List Flow) (f : Flow) (all : HostNumbers) : Type 0 where
   pub touched : (i : ℕ) → IsTrue (set.contains all i) ↔ Touches fs f i
 
--- the hosts that are joined with one of its hosts, and the two
-abbrev pub joined_by : Flow → (ℕ → HostNumbers) → HostNumbers
-joined_by f joined = set.insert (set.insert (set.union (joined f.from) (joined f.to)) f.from) f.to
-
-contains-joined_by : (f : Flow) (joined : ℕ → HostNumbers) (i : ℕ)
-    → set.contains (joined_by f joined) i ≡ (nat_eq i f.to || (nat_eq i f.from || (set.contains (joined f.from) i || set.contains (joined f.to) i)))
-contains-joined_by f joined i =
-    contains-insert (set.insert (set.union (joined f.from) (joined f.to)) f.from) f.to i
+contains-joined_by : (f : Flow) (from to all : HostNumbers) (i : ℕ) → all ≡ set.insert (set.insert (set.union from to) f.from) f.to
+    → set.contains all i ≡ (nat_eq i f.to || (nat_eq i f.from || (set.contains from i || set.contains to i)))
+contains-joined_by f from to all i is =
+    ap (λ (s : HostNumbers). set.contains s i) is
+    ∙ contains-insert (set.insert (set.union from to) f.from) f.to i
     ∙ ap (λ b. nat_eq i f.to || b)
-    (contains-insert (set.union (joined f.from) (joined f.to)) f.from i
-    ∙ ap (λ b. nat_eq i f.from || b) (set.contains-union nat_cmp_total (joined f.from) (joined f.to) i))
+    (contains-insert (set.union from to) f.from i
+    ∙ ap (λ b. nat_eq i f.from || b) (set.contains-union nat_cmp_total from to i))
 
 -- a path to the host of a row, by the row
 shown_by : (fs : List Flow) (k i : ℕ) (row : HostNumbers) → (IsTrue (set.contains row i) ↔ Joined fs k i)
@@ -75,37 +72,44 @@ shows_path fs k i row tells path =
       | inr walk ↦ inr (tells.1 (Joined-back fs i k walk))
     ]
 
-pub touched : (n : ℕ) (fs : List Flow) (f : Flow) (joined : ℕ → HostNumbers) (all : HostNumbers) → IsFlow n f → ShowsJoin n fs joined
-    → all ≡ joined_by f joined → AreTouched fs f all
-touched n fs f joined all is_flow shows is =
-    let from = joined f.from in
-    let to = joined f.to in
-    let tells_from : (i : ℕ) → IsTrue (set.contains from i) ↔ Joined fs f.from i = λ i. shows.either f.from i is_flow.0 in
-    let tells_to : (i : ℕ) → IsTrue (set.contains to i) ↔ Joined fs f.to i = λ i. shows.either f.to i is_flow.1 in
-    record {
-      touched = λ i. tells_as all (joined_by f joined) i (Touches fs f i) is (
-        λ there. elim (or_cases (nat_eq i f.to) _ (sym (contains-joined_by f joined i) ∙ there)) [
-          | inl same ↦ inr ([], eqb-true _ _ same)
-          | inr other ↦ elim (or_cases (nat_eq i f.from) _ other) [
-            | inl same ↦ inl ([], eqb-true _ _ same)
-            | inr rows ↦ elim (or_cases (set.contains from i) (set.contains to i) rows) [
-              | inl first ↦ inl (shown_by fs f.from i from (tells_from i) first)
-              | inr second ↦ inr (shown_by fs f.to i to (tells_to i) second)
-            ]
-          ]
-        ],
-        λ touches. contains-joined_by f joined i ∙ elim touches [
-          | inl path ↦ or_right (nat_eq i f.to) _ (elim (shows_path fs f.from i from (tells_from i) path) [
-            | inl same ↦ or_left (nat_eq i f.from) _ same
-            | inr first ↦ or_right (nat_eq i f.from) _ (or_left (set.contains from i) (set.contains to i) first)
-          ])
-          | inr path ↦ elim (shows_path fs f.to i to (tells_to i) path) [
-            | inl same ↦ or_left (nat_eq i f.to) _ same
-            | inr second ↦ or_right (nat_eq i f.to) _ (or_right (nat_eq i f.from) _ (or_right (set.contains from i) (set.contains to i) second))
-          ]
-        ],
-      );
-    }
+pub touched : (fs : List Flow) (f : Flow) (from to all : HostNumbers) → ((i : ℕ) → IsTrue (set.contains from i) ↔ Joined fs f.from i)
+    → ((i : ℕ) → IsTrue (set.contains to i) ↔ Joined fs f.to i) → all ≡ set.insert (set.insert (set.union from to) f.from) f.to
+    → (i : ℕ) → IsTrue (set.contains all i) ↔ Touches fs f i
+touched fs f from to all tells_from tells_to is i = (
+  λ there. elim (or_cases (nat_eq i f.to) _ (sym (contains-joined_by f from to all i is) ∙ there)) [
+    | inl same ↦ inr ([], eqb-true _ _ same)
+    | inr other ↦ elim (or_cases (nat_eq i f.from) _ other) [
+      | inl same ↦ inl ([], eqb-true _ _ same)
+      | inr rows ↦ elim (or_cases (set.contains from i) (set.contains to i) rows) [
+        | inl first ↦ inl (shown_by fs f.from i from (tells_from i) first)
+        | inr second ↦ inr (shown_by fs f.to i to (tells_to i) second)
+      ]
+    ]
+  ],
+  λ touches. contains-joined_by f from to all i is ∙ elim touches [
+    | inl path ↦ or_right (nat_eq i f.to) _ (elim (shows_path fs f.from i from (tells_from i) path) [
+      | inl same ↦ or_left (nat_eq i f.from) _ same
+      | inr first ↦ or_right (nat_eq i f.from) _ (or_left (set.contains from i) (set.contains to i) first)
+    ])
+    | inr path ↦ elim (shows_path fs f.to i to (tells_to i) path) [
+      | inl same ↦ or_left (nat_eq i f.to) _ same
+      | inr second ↦ or_right (nat_eq i f.to) _ (or_right (nat_eq i f.from) _ (or_right (set.contains from i) (set.contains to i) second))
+    ]
+  ],
+)
+
+-- they are those that are joined with its sender once it is there
+pub joined_as_touched : (fs : List Flow) (f : Flow) (i : ℕ) (shown : Bool) → (IsTrue shown ↔ Touches fs f i)
+    → IsTrue shown ↔ Joined (with_flow fs f) f.from i
+joined_as_touched fs f i shown tells =
+    let law = Touches-joined fs f i in
+    (λ there. law.0 (tells.0 there), λ joined. tells.1 (law.1 joined))
+
+pub touched_as_joined : (fs : List Flow) (f : Flow) (all : HostNumbers)
+    → ((i : ℕ) → IsTrue (set.contains all i) ↔ Joined (with_flow fs f) f.from i) → AreTouched fs f all
+touched_as_joined fs f all tells = record {
+  touched = λ i. (λ there. (Touches-joined fs f i).1 ((tells i).0 there), λ touches. (tells i).1 ((Touches-joined fs f i).0 touches));
+}
 
 pub touched_below : (n : ℕ) (fs : List Flow) (f : Flow) (all : HostNumbers) → IsFlow n f → IsFlowSet n fs → AreTouched fs f all
     → AreBelow all n
@@ -127,14 +131,6 @@ ShowsJoin-with_flow n fs f joined joined' was all is_flow counted shows are wide
 }
 
 -- ---- steps
-
--- the hosts that a new flow touches, put together one by one
-pub joined_by_is : (f : Flow) (joined : ℕ → HostNumbers) (from to both once all : HostNumbers) → from ≡ joined f.from → to ≡ joined f.to
-    → both ≡ set.union from to → once ≡ set.insert both f.from → all ≡ set.insert once f.to → all ≡ joined_by f joined
-joined_by_is f joined from to both once all from_is to_is both_is once_is all_is =
-    all_is
-    ∙ ap (λ (s : HostNumbers). set.insert s f.to)
-    (once_is ∙ ap (λ (s : HostNumbers). set.insert s f.from) (both_is ∙ (λ i. set.union (from_is i) (to_is i))))
 
 -- its hosts are joined already where the row of its sender has its receiver
 pub joined_already : (t : TriedFlows) (f : Flow) (joined : SteppedRows) (row : HostNumbers) (shown : Bool) → IsFlow t.size f
@@ -169,6 +165,12 @@ HasJoinRows-widened t f joined joined' all is_flow rows are widened changed = re
   before = ShowsJoin-as t.size t.flows (row_now joined) (row_before joined') rows.now
       (λ i below. before-widened joined.rows joined' all all i widened changed (omega (arith, below, rows.joined_fits.rows_length)));
 }
+
+-- the last step forgotten
+pub HasJoinRows-forgotten : (t new : TriedFlows) (joined : SteppedRows) → new ≡ record t { before_step = None } → HasJoinRows t joined
+    → HasJoinRows new joined
+HasJoinRows-forgotten t new joined is rows =
+    subst (λ (s : TriedFlows). HasJoinRows s joined) (sym is) (record { joined_fits = rows.joined_fits; now = rows.now; before = tt })
 
 before_shown : (n : ℕ) (fs : List Flow) (before : Option (List Flow)) (joined : ℕ → HostNumbers) → IsSome before
     → IfSome before (λ gs. ShowsJoin n gs joined) → ShowsJoin n (flows_before_step before fs) joined

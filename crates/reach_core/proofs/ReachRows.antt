@@ -5,19 +5,20 @@ use Rattle.std.specs.FinSet as set
 use Rattle.std.proofs.lemmas.Bool.{or_right, false≢true}
 use Rattle.std.proofs.lemmas.List.{length-replicate}
 use Rattle.flow_set.specs.declared.flow.Flow.{Flow}
-use Rattle.flow_set.specs.Flow.{IsFlow, same_flow}
+use Rattle.flow_set.specs.Flow.{IsFlow}
 use Rattle.flow_set.specs.FlowSet.{has, with_flow}
-use Rattle.flow_set.specs.laws.FlowLaws.{has-with_flow}
+use Rattle.flow_set.specs.inner.FlowSetView.{IsFlowSet}
 use Rattle.flow_set.specs.inner.Steps.{TriedFlows, stepped, taken_back, flows_before_step}
 use Rattle.flow_set.proofs.SubsetLaws.{IsFlowSet-nothing, IsFlowSet-with_flow}
 use Rattle.flow_set.specs.HostSet.{HostNumbers}
 use Rattle.flow_set.specs.inner.HostSet.{row_of}
 use Rattle.reach_core.specs.Walks.{Reaches}
-use Rattle.reach_core.specs.laws.WalkLaws.{HasPath, cases_path}
-use Rattle.reach_core.specs.laws.ReachLaws.{Reaches-within, Reaches-nothing_new, Reaches-below}
+use Rattle.reach_core.specs.laws.ReachLaws.{Reaches-more, Reaches-nothing_new, Reaches-below}
+use Rattle.reach_core.specs.inner.Opening.{ReachesOnlyWith}
 use Rattle.reach_core.specs.inner.Rows.{ShowsReach, AreBelow, IsWidened, IsBack, FitsRows, HasReachRows, row_now, row_before}
 use Rattle.reach_core.specs.declared.stepped.SteppedRows.{SteppedRows}
-use Rattle.reach_core.proofs.Closes.{path_to, path_from, tells_step, tells_same, tells_as, tells_nothing}
+use Rattle.reach_core.proofs.Closes.{tells_as, tells_bool, tells_nothing}
+use Rattle.reach_core.proofs.Opening.{reaches_opened}
 use Rattle.reach_core.proofs.Widened.{contains-widened, before-widened, before-kept, fits_same, fits_widened}
 
 -- ---- other rows that say the same
@@ -33,14 +34,10 @@ ShowsReach-as n fs reached coming other_reached other_coming shows forth back = 
 
 -- ---- a flow whose sender comes to its receiver already
 
-reaches_more : (fs : List Flow) (f : Flow) (i j : ℕ) → Reaches fs i j → Reaches (with_flow fs f) i j
-reaches_more fs f =
-    Reaches-within fs (with_flow fs f) (λ g here. has-with_flow fs f g ∙ or_right (same_flow f g) (has fs g) here)
-
 nothing_new : (fs : List Flow) (f : Flow) (i j : ℕ) (P : Type 0) → Reaches fs f.from f.to → (P ↔ Reaches fs i j)
     → P ↔ Reaches (with_flow fs f) i j
 nothing_new fs f i j P there tells =
-    (λ shown. reaches_more fs f i j (tells.0 shown), λ walk. tells.1 (Reaches-nothing_new fs f there i j walk))
+    (λ shown. Reaches-more fs f i j (tells.0 shown), λ walk. tells.1 (Reaches-nothing_new fs f there i j walk))
 
 ShowsReach-nothing_new : (n : ℕ) (fs : List Flow) (f : Flow) (reached coming : ℕ → HostNumbers) → IsFlow n f
     → Reaches fs f.from f.to → ShowsReach n fs reached coming → ShowsReach n (with_flow fs f) reached coming
@@ -59,51 +56,33 @@ and_swap false true false = refl
 and_swap false false true = refl
 and_swap false false false = refl
 
--- the senders of a new flow, and those beyond it
-pub record AreEnds (n : ℕ) (fs : List Flow) (f : Flow) (senders beyond : HostNumbers) : Type 0 where
-  pub come : (i : ℕ) → IsTrue (set.contains senders i) ↔ HasPath (has fs) i f.from
-  pub go : (j : ℕ) → IsTrue (set.contains beyond j) ↔ HasPath (has fs) f.to j
+-- the hosts from which a new flow opens ways, and those to which it does
+pub record AreOpened (fs : List Flow) (f : Flow) (senders beyond : HostNumbers) : Type 0 where
+  pub by : (i : ℕ) → IsTrue (set.contains senders i) ↔ ReachesOnlyWith f fs i f.to
+  pub to : (j : ℕ) → IsTrue (set.contains beyond j) ↔ ReachesOnlyWith f fs f.from j
 
-pub ends : (n : ℕ) (fs : List Flow) (f : Flow) (reached coming : ℕ → HostNumbers) (senders beyond : HostNumbers) → IsFlow n f
-    → ShowsReach n fs reached coming → senders ≡ set.insert (coming f.from) f.from → beyond ≡ set.insert (reached f.to) f.to
-    → AreEnds n fs f senders beyond
-ends n fs f reached coming senders beyond is_flow shows sends goes = record {
-  come = λ i. tells_as senders _ i (HasPath (has fs) i f.from) sends (path_to (has fs) i f.from (coming f.from) (shows.back i f.from is_flow.0));
-  go = λ j. tells_as beyond _ j (HasPath (has fs) f.to j) goes (path_from (has fs) f.to j (reached f.to) (shows.forth f.to j is_flow.1));
-}
+pub senders_below : (n : ℕ) (fs : List Flow) (f : Flow) (senders beyond : HostNumbers) → IsFlow n f → IsFlowSet n fs
+    → AreOpened fs f senders beyond → AreBelow senders n
+senders_below n fs f senders beyond is_flow is_set are i there =
+    (Reaches-below n (with_flow fs f) (IsFlowSet-with_flow n fs f is_set is_flow) i f.to ((are.by i).0 there).0).0
 
-pub senders_below : (n : ℕ) (fs : List Flow) (f : Flow) (reached coming : ℕ → HostNumbers) (senders beyond : HostNumbers) → IsFlow n f
-    → ShowsReach n fs reached coming → AreEnds n fs f senders beyond → AreBelow senders n
-senders_below n fs f reached coming senders beyond is_flow shows are i there =
-    elim (cases_path (has fs) i f.from ((are.come i).0 there)) [
-      | inl same ↦ omega (arith, same, is_flow.0)
-      | inr walk ↦ (Reaches-below n fs shows.is_set i f.from walk).0
-    ]
-
-pub beyond_below : (n : ℕ) (fs : List Flow) (f : Flow) (reached coming : ℕ → HostNumbers) (senders beyond : HostNumbers) → IsFlow n f
-    → ShowsReach n fs reached coming → AreEnds n fs f senders beyond → AreBelow beyond n
-beyond_below n fs f reached coming senders beyond is_flow shows are j there =
-    elim (cases_path (has fs) f.to j ((are.go j).0 there)) [
-      | inl same ↦ omega (arith, same, is_flow.1)
-      | inr walk ↦ (Reaches-below n fs shows.is_set f.to j walk).1
-    ]
+pub beyond_below : (n : ℕ) (fs : List Flow) (f : Flow) (senders beyond : HostNumbers) → IsFlow n f → IsFlowSet n fs
+    → AreOpened fs f senders beyond → AreBelow beyond n
+beyond_below n fs f senders beyond is_flow is_set are j there =
+    (Reaches-below n (with_flow fs f) (IsFlowSet-with_flow n fs f is_set is_flow) f.from j ((are.to j).0 there).0).1
 
 ShowsReach-with_flow : (n : ℕ) (fs : List Flow) (f : Flow) (reached reached' was coming coming' was' : List HostNumbers)
     (senders beyond : HostNumbers) → IsFlow n f → length reached ≡ n → length coming ≡ n
-    → ShowsReach n fs (row_of reached) (row_of coming) → AreEnds n fs f senders beyond
+    → ShowsReach n fs (row_of reached) (row_of coming) → AreOpened fs f senders beyond
     → IsWidened reached reached' was senders beyond → IsWidened coming coming' was' beyond senders
     → ShowsReach n (with_flow fs f) (row_of reached') (row_of coming')
 ShowsReach-with_flow n fs f reached reached' was coming coming' was' senders beyond is_flow all all_coming shows are widened widened_back =
     record {
       is_set = IsFlowSet-with_flow n fs f shows.is_set is_flow;
-      forth = λ i j below. tells_same _ _ (λ g. same_flow f g || has fs g) (has (with_flow fs f)) i j
-          (contains-widened reached reached' was senders beyond i j widened (omega (arith, below, all)))
-          (λ g. sym (has-with_flow fs f g))
-          (tells_step (has fs) f i j _ _ _ (shows.forth i j below) (are.come i) (are.go j));
-      back = λ i j below. tells_same _ _ (λ g. same_flow f g || has fs g) (has (with_flow fs f)) i j
-          (contains-widened coming coming' was' beyond senders j i widened_back (omega (arith, below, all_coming)) ∙ and_swap _ (set.contains beyond j) (set.contains senders i))
-          (λ g. sym (has-with_flow fs f g))
-          (tells_step (has fs) f i j _ _ _ (shows.back i j below) (are.come i) (are.go j));
+      forth = λ i j below. tells_bool _ _ _ (contains-widened reached reached' was senders beyond i j widened (omega (arith, below, all)))
+          (reaches_opened fs f i j _ _ _ _ _ (shows.forth i j below) (are.by i) (are.to j) (shows.back i f.to is_flow.1) (shows.forth f.from j is_flow.0));
+      back = λ i j below. tells_bool _ _ _ (contains-widened coming coming' was' beyond senders j i widened_back (omega (arith, below, all_coming)) ∙ and_swap _ (set.contains beyond j) (set.contains senders i))
+          (reaches_opened fs f i j _ _ _ _ _ (shows.back i j below) (are.by i) (are.to j) (shows.back i f.to is_flow.1) (shows.forth f.from j is_flow.0));
     }
 
 -- ---- steps
@@ -114,12 +93,6 @@ pub reached_already : (t : TriedFlows) (f : Flow) (reached coming : SteppedRows)
     → Reaches t.flows f.from f.to
 reached_already t f reached coming row shown is_flow rows row_is shown_is there =
     (rows.now.forth f.from f.to is_flow.0).0 (sym (ap (λ (s : HostNumbers). set.contains s f.to) row_is) ∙ (sym shown_is ∙ there))
-
--- a row with its own host
-pub with_host : (rows : List HostNumbers) (host : ℕ) (row copy new : HostNumbers) → row ≡ row_of rows host → copy ≡ row
-    → new ≡ set.insert copy host → new ≡ set.insert (row_of rows host) host
-with_host rows host row copy new row_is copy_is new_is =
-    new_is ∙ ap (λ (s : HostNumbers). set.insert s host) (copy_is ∙ row_is)
 
 pub HasReachRows-as : (t new : TriedFlows) (f : Flow) (steps : TriedFlows) (reached coming rows others : SteppedRows) → new ≡ stepped steps f
     → steps ≡ t → rows ≡ reached → others ≡ coming → HasReachRows (stepped t f) reached coming → HasReachRows new rows others
@@ -145,22 +118,29 @@ HasReachRows-kept t f reached coming reached' coming' is_flow rows there kept ke
     }))
 
 pub HasReachRows-widened : (t : TriedFlows) (f : Flow) (reached coming reached' coming' : SteppedRows) (senders beyond : HostNumbers)
-    → IsFlow t.size f → HasReachRows t reached coming → AreEnds t.size t.flows f senders beyond
+    → IsFlow t.size f → HasReachRows t reached coming → AreOpened t.flows f senders beyond
     → IsWidened reached.rows reached'.rows reached'.before senders beyond → reached'.changed ≡ senders
     → IsWidened coming.rows coming'.rows coming'.before beyond senders → coming'.changed ≡ beyond
     → HasReachRows (stepped t f) reached' coming'
 HasReachRows-widened t f reached coming reached' coming' senders beyond is_flow rows are widened changed widened_back changed_back =
     record {
       reached_fits = fits_widened t.size reached reached' senders beyond rows.reached_fits widened changed
-          (senders_below t.size t.flows f _ _ senders beyond is_flow rows.now are);
+          (senders_below t.size t.flows f senders beyond is_flow rows.now.is_set are);
       coming_fits = fits_widened t.size coming coming' beyond senders rows.coming_fits widened_back changed_back
-          (beyond_below t.size t.flows f _ _ senders beyond is_flow rows.now are);
+          (beyond_below t.size t.flows f senders beyond is_flow rows.now.is_set are);
       now = ShowsReach-with_flow t.size t.flows f reached.rows reached'.rows reached'.before coming.rows coming'.rows coming'.before senders beyond
           is_flow rows.reached_fits.rows_length rows.coming_fits.rows_length rows.now are widened widened_back;
       before = ShowsReach-as t.size t.flows (row_now reached) (row_now coming) (row_before reached') (row_before coming') rows.now
           (λ i below. before-widened reached.rows reached' senders beyond i widened changed (omega (arith, below, rows.reached_fits.rows_length)))
           (λ i below. before-widened coming.rows coming' beyond senders i widened_back changed_back (omega (arith, below, rows.coming_fits.rows_length)));
     }
+
+-- the last step forgotten
+pub HasReachRows-forgotten : (t new : TriedFlows) (reached coming : SteppedRows) → new ≡ record t { before_step = None }
+    → HasReachRows t reached coming → HasReachRows new reached coming
+HasReachRows-forgotten t new reached coming is rows =
+    subst (λ (s : TriedFlows). HasReachRows s reached coming) (sym is)
+    (record { reached_fits = rows.reached_fits; coming_fits = rows.coming_fits; now = rows.now; before = tt })
 
 before_shown : (n : ℕ) (fs : List Flow) (before : Option (List Flow)) (reached coming : ℕ → HostNumbers) → IsSome before
     → IfSome before (λ gs. ShowsReach n gs reached coming) → ShowsReach n (flows_before_step before fs) reached coming

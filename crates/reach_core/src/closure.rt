@@ -14,8 +14,8 @@ use flow_set::{Flow, FlowSet, HostSet};
 use std::alloc::{AllocError, Global};
 use std::marker::Model;
 
-/// The walks along a set of flows, in their direction and in whatever direction. Who asks one kind alone
-/// takes that closure.
+/// The walks along a set of flows, in their direction and in whatever direction, for a template of one's own
+/// that asks both. The templates of this workspace ask one kind alone, and take that closure.
 #[derive(Drop)]
 pub struct Closure {
     reach: ReachClosure,

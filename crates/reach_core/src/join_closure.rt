@@ -1,9 +1,10 @@
 //! Which hosts are joined along a set of flows, in whatever direction: for each host a row of those that
 //! it is joined with. The rows begin empty and grow by one flow at a time.
 
-ghost use Rattle.std.specs.Prelude.{◌≡◌, ℕ, ◌<◌, ◌≤◌, ◌↔◌, List, [], IsTrue, IfOk, IsSome};
+ghost use Rattle.std.specs.Prelude.{◌≡◌, ℕ, ◌<◌, ◌≤◌, ◌↔◌, List, [], IsTrue, IfOk, IsSome, None};
 ghost use Rattle.std.specs.FinSet as set;
 ghost use Rattle.flow_set.specs.Flow.{IsFlow};
+ghost use Rattle.flow_set.specs.FlowSet.{with_flow};
 ghost use Rattle.flow_set.specs.inner.FlowSetView.{IsFlowSet};
 ghost use Rattle.flow_set.specs.inner.Steps.{untried, stepped, taken_back};
 ghost use Rattle.reach_core.specs.Walks.{Joined};
@@ -67,10 +68,7 @@ impl JoinClosure {
         if self.joined.row(f.from).has(f.to) {
             self.joined.keep();
         } else {
-            let mut all = self.joined.row(f.from).copy();
-            all.insert_all(self.joined.row(f.to));
-            all.insert(f.from);
-            all.insert(f.to);
+            let all = self.joined_by(f);
             self.joined.widen(&all, &all);
         }
         self.steps.step(f);
@@ -83,6 +81,13 @@ impl JoinClosure {
     {
         self.joined.back();
         self.steps.back();
+    }
+
+    /// Forgets the last `try_add`, so that it stays.
+    pub fn forget(&mut self)
+        ensures { self.new ≡ record self.old { before_step = None } }
+    {
+        self.steps.forget();
     }
 
     /// The number of hosts.
@@ -99,6 +104,19 @@ impl JoinClosure {
         ensures { (j : ℕ) → IsTrue (set.contains result.now j) ↔ Joined self.now.flows i j }
     {
         self.joined.row(i)
+    }
+
+    /// The hosts that are joined with the sender of a flow once it is there.
+    pub fn joined_by(&self, f: Flow) -> HostSet
+        requires { IsFlow self.now.size f }
+        ensures { (i : ℕ) → IsTrue (set.contains result i) ↔ Joined (with_flow self.now.flows f) f.from i }
+    {
+        let _ = self.size();
+        let mut all = self.joined_with(f.from).copy();
+        all.insert_all(self.joined_with(f.to));
+        all.insert(f.from);
+        all.insert(f.to);
+        all
     }
 
     /// Whether flows join `i` and `j`, taken forwards or backwards.

@@ -1,13 +1,15 @@
 //! Who reaches whom along a set of flows: for each host a row of the hosts that it reaches and a row of
 //! those that come to it. The rows begin empty and grow by one flow at a time.
 
-ghost use Rattle.std.specs.Prelude.{◌≡◌, ℕ, ◌<◌, ◌≤◌, ◌↔◌, List, [], IsTrue, IfOk, IsSome};
+ghost use Rattle.std.specs.Prelude.{◌≡◌, ℕ, ◌<◌, ◌≤◌, ◌↔◌, List, [], IsFalse, IsTrue, IfOk, IsSome, None};
 ghost use Rattle.std.specs.FinSet as set;
 ghost use Rattle.flow_set.specs.Flow.{IsFlow};
+ghost use Rattle.flow_set.specs.FlowSet.{with_flow};
 ghost use Rattle.flow_set.specs.inner.FlowSetView.{IsFlowSet};
 ghost use Rattle.flow_set.specs.inner.Steps.{untried, stepped, taken_back};
 ghost use Rattle.reach_core.specs.Walks.{Reaches};
 ghost use Rattle.reach_core.specs.inner.Counting.{ReachesExactly};
+ghost use Rattle.reach_core.specs.inner.Opening.{ReachesOnlyWith};
 
 use crate::stepped::SteppedRows;
 use flow_set::{Flow, FlowSet, FlowSteps, HostSet};
@@ -60,8 +62,8 @@ impl ReachClosure {
         Ok(closure)
     }
 
-    /// One more flow, which may be there already: whoever is its sender or comes to it goes on to its
-    /// receiver and to all beyond. Where the sender comes to the receiver already, that is nothing new.
+    /// One more flow, which may be there already: it opens ways from some hosts to some. Where the sender
+    /// comes to the receiver already, there are none.
     pub fn try_add(&mut self, f: Flow)
         requires { IsFlow self.old.size f }
         ensures { self.new ≡ stepped self.old f }
@@ -71,10 +73,8 @@ impl ReachClosure {
             self.reached.keep();
             self.coming.keep();
         } else {
-            let mut senders = self.coming.row(f.from).copy();
-            senders.insert(f.from);
-            let mut beyond = self.reached.row(f.to).copy();
-            beyond.insert(f.to);
+            let senders = self.opened_by(f);
+            let beyond = self.opened_to(f);
             self.reached.widen(&senders, &beyond);
             self.coming.widen(&beyond, &senders);
         }
@@ -89,6 +89,13 @@ impl ReachClosure {
         self.reached.back();
         self.coming.back();
         self.steps.back();
+    }
+
+    /// Forgets the last `try_add`, so that it stays.
+    pub fn forget(&mut self)
+        ensures { self.new ≡ record self.old { before_step = None } }
+    {
+        self.steps.forget();
     }
 
     /// The number of hosts.
@@ -115,6 +122,46 @@ impl ReachClosure {
         self.coming.row(j)
     }
 
+    /// The hosts that come to the receiver of a flow only with it. No other host reaches more with it.
+    pub fn opened_by(&self, f: Flow) -> HostSet
+        requires { IsFlow self.now.size f }
+        ensures hosts { (i : ℕ) → IsTrue (set.contains result i) ↔ ReachesOnlyWith f self.now.flows i f.to }
+        ensures others { (i j : ℕ) → IsFalse (set.contains result i) → Reaches (with_flow self.now.flows f) i j
+            → Reaches self.now.flows i j }
+    {
+        let _ = self.size();
+        let mut hosts = self.coming_to(f.from).copy();
+        hosts.insert(f.from);
+        hosts.remove_all(self.coming_to(f.to));
+        hosts
+    }
+
+    // The hosts to which one gets from the sender of a flow only with it.
+    fn opened_to(&self, f: Flow) -> HostSet
+        requires { IsFlow self.now.size f }
+        ensures { (j : ℕ) → IsTrue (set.contains result j) ↔ ReachesOnlyWith f self.now.flows f.from j }
+    {
+        let _ = self.size();
+        let mut hosts = self.reached_from(f.to).copy();
+        hosts.insert(f.to);
+        hosts.remove_all(self.reached_from(f.from));
+        hosts
+    }
+
+    /// The hosts that one gets to with a flow more, from a host that comes to its receiver then.
+    pub fn reached_with(&self, f: Flow, i: u16) -> HostSet
+        requires flow { IsFlow self.now.size f }
+        requires host { i < self.now.size }
+        requires comes { Reaches (with_flow self.now.flows f) i f.to }
+        ensures { (j : ℕ) → IsTrue (set.contains result j) ↔ Reaches (with_flow self.now.flows f) i j }
+    {
+        let _ = self.size();
+        let mut hosts = self.reached_from(i).copy();
+        hosts.insert_all(self.reached_from(f.to));
+        hosts.insert(f.to);
+        hosts
+    }
+
     /// Whether one gets from `i` to `j` along flows.
     pub fn reaches(&self, i: u16, j: u16) -> bool
         requires i { i < self.now.size }
@@ -131,7 +178,8 @@ impl ReachClosure {
         ensures { ReachesExactly self.now.flows i result }
     {
         let _ = self.size();
-        let row = self.reached_from(i);
-        if row.has(i) { row.len() - 1 } else { row.len() }
+        let mut others = self.reached_from(i).copy();
+        others.remove(i);
+        others.len()
     }
 }

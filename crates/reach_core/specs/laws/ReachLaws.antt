@@ -10,7 +10,7 @@ use Rattle.flow_set.specs.inner.FlowSetView.{IsFlowSet}
 use Rattle.flow_set.specs.laws.FlowLaws.{same_flow-true, same_flow_self, same_flow_back, has-with_flow}
 use Rattle.reach_core.specs.Walks.{LeadsTo, HasWalk, Reaches, has_either, Joined, ReachesAtMost}
 use Rattle.reach_core.specs.inner.Counting.{ReachesExactly}
-use Rattle.reach_core.specs.laws.WalkLaws.{HasPath, HasWalk-weaker, HasPath-weaker, HasWalk-append, path_of_walk, cases_path, walk_within, walk_without, walk_elsewhere, LeadsTo-append, walk_over, path_touch, walk_ends}
+use Rattle.reach_core.specs.laws.WalkLaws.{HasPath, HasWalk-weaker, HasPath-weaker, HasWalk-append, path_of_walk, cases_path, path_cut, walk_cut, walk_within, walk_without, walk_elsewhere, LeadsTo-append, walk_over, path_touch, walk_ends}
 
 -- ---- over subsets
 
@@ -165,17 +165,29 @@ joined_through e g i j (f, fs, walk) =
       | inr parts ↦ inr parts
     ]
 
+-- whoever is reached with one more flow was reached before, or stands behind it
+pub Reaches-cut : (e : List Flow) (g : Flow) (i j : ℕ) → Reaches (with_flow e g) i j
+    → Reaches e i j ⊎ (HasPath (has e) i g.from × HasPath (has e) g.to j)
+Reaches-cut e g i j walk =
+    walk_cut (has e) g i j (HasWalk-weaker (has (with_flow e g)) _ (λ f passes. sym (has-with_flow e g f) ∙ passes) i j walk)
+
+pub Reaches-more : (e : List Flow) (g : Flow) (i j : ℕ) → Reaches e i j → Reaches (with_flow e g) i j
+Reaches-more e g = Reaches-within e (with_flow e g) (λ f here. has-with_flow e g f ∙ or_right (same_flow g f) (has e f) here)
+
+-- a path to its sender and one from its receiver are a walk with it
+pub Reaches-over : (e : List Flow) (g : Flow) (i j : ℕ) → HasPath (has e) i g.from → HasPath (has e) g.to j → Reaches (with_flow e g) i j
+Reaches-over e g i j before after =
+    let more : (k l : ℕ) → HasPath (has e) k l → HasPath (has (with_flow e g)) k l =
+    HasPath-weaker (has e) (has (with_flow e g)) (λ f here. has-with_flow e g f ∙ or_right (same_flow g f) (has e f) here) in
+    walk_over (has (with_flow e g)) g (has-with_flow e g g ∙ or_left _ _ (same_flow_self g)) i j (more i g.from before) (more g.to j after)
+
 -- a flow whose receiver is reached already lets nobody reach anything new
 pub Reaches-nothing_new : (e : List Flow) (g : Flow) → Reaches e g.from g.to → (i j : ℕ) → Reaches (with_flow e g) i j → Reaches e i j
 Reaches-nothing_new e g there i j walk =
-    walk_without (has e) g there i j (HasWalk-weaker (has (with_flow e g)) _ (λ f passes. sym (has-with_flow e g f) ∙ passes) i j walk)
-
--- no flow lets those reach anything new that do not come to its sender
-pub Reaches-elsewhere : (e : List Flow) (g : Flow) (i j : ℕ) → i ≢ g.from → (Reaches e i g.from → ⊥) → Reaches (with_flow e g) i j
-    → Reaches e i j
-Reaches-elsewhere e g i j apart never walk =
-    walk_elsewhere (has e) g i j (λ path. elim (cases_path (has e) i g.from path) [ inl same ↦ apart same | inr walk ↦ never walk ])
-    (HasWalk-weaker (has (with_flow e g)) _ (λ f passes. sym (has-with_flow e g f) ∙ passes) i j walk)
+    elim (Reaches-cut e g i j walk) [
+      | inl before ↦ before
+      | inr parts ↦ walk_within (has e) i g.from g.to j parts.0 there parts.1
+    ]
 
 -- whoever reaches no more than before reaches no more others
 pub ReachesAtMost-as_before : (s e : List Flow) (i limit : ℕ) → ((j : ℕ) → Reaches s i j → Reaches e i j) → ReachesAtMost e i limit
@@ -253,6 +265,23 @@ Joined-touching e g i j first second =
         | inr q ↦ via g.to g.to p (HasWalk-append (has_either s) g.to g.from g.to back there) q
       ]
     ]
+
+-- whoever is joined with its sender is touched
+pub touched_of : (e : List Flow) (g : Flow) (i : ℕ) → Joined (with_flow e g) g.from i → Touches e g i
+touched_of e g i joined =
+    let one_way : Flow → Bool = λ f. same_flow g f || has_either e f in
+    let path : HasPath one_way g.from i =
+    elim (walk_cut one_way (back_of g) g.from i (HasWalk-weaker (has_either (with_flow e g)) _ (λ f passes. has_either-with_flow e g f ∙ passes) g.from i joined)) [
+      | inl walk ↦ path_of_walk one_way g.from i walk
+      | inr parts ↦ parts.1
+    ] in
+    elim (path_cut (has_either e) g g.from i path.0 path.1) [
+      | inl stays ↦ inl (path_turned e g.from i (path.0, stays))
+      | inr parts ↦ inr (path_turned e g.to i parts.1)
+    ]
+
+pub Touches-joined : (e : List Flow) (g : Flow) (i : ℕ) → Touches e g i ↔ Joined (with_flow e g) g.from i
+Touches-joined e g i = (Joined-touching e g g.from i (inl ([], refl)), touched_of e g i)
 
 lead_in : (test : Flow → Bool) (j i k : ℕ) → HasWalk test j i → HasPath test i k → HasPath test j k
 lead_in test j i k (f, fs, walk) (gs, rest) = ((f ∷ fs) ++ gs, LeadsTo-append test j i k (f ∷ fs) gs walk rest)

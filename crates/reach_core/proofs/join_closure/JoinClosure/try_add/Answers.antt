@@ -1,8 +1,7 @@
-use Rattle.std.proofs.Common.{◌<◌, ◌∙◌, sym, subst, arith}
+use Rattle.std.proofs.Common.{◌<◌, sym, subst, arith}
 use Rattle.flow_set.specs.Flow.{IsFlow}
 use Rattle.flow_set.specs.inner.Steps.{TriedFlows}
-use Rattle.flow_set.specs.inner.HostSet.{row_of}
-use Rattle.reach_core.proofs.JoinRows.{touched, touched_below, joined_by_is, joined_already, HasJoinRows-as, HasJoinRows-kept, HasJoinRows-widened}
+use Rattle.reach_core.proofs.JoinRows.{AreTouched, touched_as_joined, touched_below, joined_already, HasJoinRows-as, HasJoinRows-kept, HasJoinRows-widened}
 use Rattle.reach_core.proofs.join_closure.JoinClosure.try_add.Goals as goal
 use Rattle.reach_core.proofs.join_closure.JoinClosure.try_add.Goals.{then-has, else-has}
 
@@ -11,10 +10,9 @@ widen-requires-clause-below c i there =
     let t : TriedFlows = c.self.inside.steps in
     let is_flow : IsFlow t.size c.args.f = subst (λ (s : TriedFlows). IsFlow s.size c.args.f) (sym c.self.view_is) c.requires in
     let rows = c.self.invariant in
-    let are = touched t.size t.flows c.args.f (row_of c.self.inside.joined.rows) c.insert-else-has.new.self is_flow rows.now
-    (joined_by_is c.args.f (row_of c.self.inside.joined.rows) c.copy-all.result c.row-else-has-2.result.now c.insert_all.new.self c.insert.new.self c.insert-else-has.new.self
-    (c.copy-all.ensures ∙ c.row-else-has.ensures) c.row-else-has-2.ensures c.insert_all.ensures c.insert.ensures c.insert-else-has.ensures) in
-    let below : i < t.size = touched_below t.size t.flows c.args.f c.insert-else-has.new.self is_flow rows.now.is_set are i there in
+    let are = subst (λ (s : TriedFlows). AreTouched s.flows c.args.f c.joined_by-all.result) (sym c.self.view_is)
+    (touched_as_joined c.args.self.now.flows c.args.f c.joined_by-all.result c.joined_by-all.ensures) in
+    let below : i < t.size = touched_below t.size t.flows c.args.f c.joined_by-all.result is_flow rows.now.is_set are i there in
     omega (arith, below, rows.joined_fits.rows_length)
 
 pub invariant_of-self : goal.invariant_of-self
@@ -29,9 +27,8 @@ invariant_of-self c =
           (joined_already t c.args.f c.self.inside.joined c.row.result.now c.has.result is_flow rows c.row.ensures c.has.ensures w.if-has.true) w.keep.ensures)
       | else-has w ↦
           HasJoinRows-as t c.step.new.self c.args.f c.if-has.self-inside.steps w.widen.new.self c.if-has.self-inside.joined c.step.ensures (λ i. (w.self-inside-is i).steps) (λ i. (w.self-inside-is i).joined)
-          (HasJoinRows-widened t c.args.f c.self.inside.joined w.widen.new.self w.insert-else-has.new.self is_flow rows
-          (touched t.size t.flows c.args.f (row_of c.self.inside.joined.rows) w.insert-else-has.new.self is_flow rows.now
-          (joined_by_is c.args.f (row_of c.self.inside.joined.rows) w.copy-all.result w.row-else-has-2.result.now w.insert_all.new.self w.insert.new.self w.insert-else-has.new.self
-          (w.copy-all.ensures ∙ w.row-else-has.ensures) w.row-else-has-2.ensures w.insert_all.ensures w.insert.ensures w.insert-else-has.ensures))
+          (HasJoinRows-widened t c.args.f c.self.inside.joined w.widen.new.self w.joined_by-all.result is_flow rows
+          (subst (λ (s : TriedFlows). AreTouched s.flows c.args.f w.joined_by-all.result) (sym c.self.view_is)
+          (touched_as_joined c.args.self.now.flows c.args.f w.joined_by-all.result w.joined_by-all.ensures))
           w.widen.ensures.rows w.widen.ensures.changed)
     ]
