@@ -16,8 +16,9 @@ use Rattle.tmpl_zones.specs.Partners.{partners}
 use Rattle.tmpl_zones.specs.Sink.{sinks}
 use Rattle.tmpl_zones.specs.Subnets.{subnets}
 
--- what is said of an invariant, by its template, the attributes of its hosts, and the way back from other attributes:
--- the templates are listed here, and nowhere else
+-- what is said of an invariant, by its template, the attributes of its hosts, and the way back from other attributes. What an
+-- invariant means, its name and its reset are said over this list of the templates; how a description writes them, and why each has
+-- its default, over lists of their own
 abbrev pub by_template {ℓ} : {C : Type ℓ} → ((t : Template) → List t.Attribute → (List t.Attribute → AnyInv) → C) → AnyInv → C
 by_template say (any.Blp hosts) = say blp hosts any.Blp
 by_template say (any.Tainting hosts) = say tainting hosts any.Tainting

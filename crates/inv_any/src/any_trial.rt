@@ -81,5 +81,9 @@ impl Stepwise for AnyInv {
         each_trial!(ask_trial, self, &mut tried.case, inv, tried => inv.back(tried), ())
     }
 
+    fn holds_with(&self, tried: &mut AnyTrial, f: Flow) -> bool {
+        each_trial!(ask_trial, self, &mut tried.case, inv, tried => inv.holds_with(tried, f), false)
+    }
+
     ghost fits_size = { λ any tried fits. fits.size };
 }

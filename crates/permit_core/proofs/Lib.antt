@@ -1,4 +1,3 @@
-pub mod Again
 pub mod FirstLaws
 pub mod Found
 pub mod GrownLaws

@@ -7,7 +7,6 @@ ghost use Rattle.permit_core.specs.Policy.{AllHold, IsFirstFailing};
 ghost use Rattle.permit_core.specs.inner.Denied.{IsDenied};
 ghost use Rattle.permit_core.specs.inner.Trials.{AreTried};
 
-use crate::asking::holds_with;
 use flow_set::{Flow, FlowSet};
 use inv_law::Stepwise;
 
@@ -33,7 +32,7 @@ pub fn blame_by_steps<I: Stepwise>(
     ensures tried { AreTried I.fits I.Tried.tried (λ _. true) invs.now trials.new.items _permitted.now.flows }
 {
     for number in 0..invs.len() {
-        if !holds_with(&invs[number], &mut trials[number], f) {
+        if !invs[number].holds_with(&mut trials[number], f) {
             return Some(number as u16);
         }
     }

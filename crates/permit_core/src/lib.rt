@@ -3,7 +3,6 @@
 //! it stands over any lawful invariants, and knows no template.
 #![tactic(auto)]
 
-mod asking;
 mod choice;
 mod condition;
 mod denial;
@@ -17,7 +16,6 @@ mod policy_by_steps;
 mod steps;
 mod trials;
 
-pub use asking::holds_with;
 pub use choice::{Choice, Every};
 pub use condition::Condition;
 pub use denial::blame;

@@ -66,10 +66,10 @@ impl<'a, I: Stepwise> SteppedCondition for Alone<'a, I> {
     ghost has_come_to = { λ c trial e. I.fits c.inv.now trial × ((I.Tried.tried trial).flows ≡ e) };
 
     fn goes_on(&self, trial: &mut I::Tried, _kept: &FlowSet, f: Flow) -> bool {
-        if self.inv.step(trial, f) {
-            return true;
+        if !self.inv.holds_with(trial, f) {
+            return false;
         }
-        self.inv.back(trial);
-        false
+        self.inv.step(trial, f);
+        true
     }
 }

@@ -1,9 +1,9 @@
 //! One trial of each invariant, in the order of the invariants.
 
-ghost use Rattle.std.specs.Prelude.{◌≡◌, ◌↔◌, ℕ, ◌<◌, ◌≤◌, All, length, slice_index_or, IsTrue, IsFalse, IfOk, IsSome, true, if◌then◌else◌};
+ghost use Rattle.std.specs.Prelude.{◌≡◌, ◌↔◌, ℕ, ◌<◌, All, length, slice_index_or, IsTrue, IsFalse, IfOk, true, if◌then◌else◌};
 ghost use Rattle.flow_set.specs.Flow.{IsFlow};
 ghost use Rattle.flow_set.specs.FlowSet.{with_flow};
-ghost use Rattle.flow_set.specs.inner.Steps.{untried, taken_back};
+ghost use Rattle.flow_set.specs.inner.Steps.{untried};
 ghost use Rattle.permit_core.specs.inner.Trials.{EachPair, AreTried};
 
 use crate::choice::Choice;
@@ -54,10 +54,38 @@ pub fn step_chosen<I: Stepwise, C: Choice<I>>(
         → IsFalse (C.chosen choice.now (slice_index_or invs.now k x))
         → slice_index_or trials.new.items k t ≡ slice_index_or trials.old.items k t }
 {
+    if !chosen_hold_with(choice, invs, trials, f) {
+        return false;
+    }
+    step_each(choice, invs, trials, f);
+    true
+}
+
+// Whether the chosen invariants hold with the flow. All trials keep their flows.
+fn chosen_hold_with<I: Stepwise, C: Choice<I>>(
+    choice: &C,
+    invs: &[I],
+    trials: &mut Vec<I::Tried>,
+    f: Flow,
+) -> bool
+    requires counted { length trials.old.items ≡ length invs.now }
+    requires fits { EachPair I.fits invs.now trials.old.items }
+    requires flow { All (λ inv. IsFlow (I.size_of inv) f) invs.now }
+    requires held { EachPair (λ inv t. IsTrue (C.chosen choice.now inv)
+        → I.holds_on inv (I.Tried.tried t).flows) invs.now trials.old.items }
+    ensures counted { length trials.new.items ≡ length trials.old.items }
+    ensures fits { EachPair I.fits invs.now trials.new.items }
+    ensures answer { IsTrue result ↔ EachPair (λ inv t. IsTrue (C.chosen choice.now inv)
+        → I.holds_on inv (with_flow (I.Tried.tried t).flows f)) invs.now trials.old.items }
+    ensures flows { (k : ℕ) (t : I.Tried) → k < length invs.now
+        → (I.Tried.tried (slice_index_or trials.new.items k t)).flows ≡ (I.Tried.tried (slice_index_or trials.old.items k t)).flows }
+    ensures others { (k : ℕ) (x : I) (t : I.Tried) → k < length invs.now
+        → IsFalse (C.chosen choice.now (slice_index_or invs.now k x))
+        → slice_index_or trials.new.items k t ≡ slice_index_or trials.old.items k t }
+{
     for i in 0..invs.len() {
         if choice.chooses(&invs[i]) {
-            if !invs[i].step(&mut trials[i], f) {
-                take_back(choice, invs, trials, i + 1);
+            if !invs[i].holds_with(&mut trials[i], f) {
                 return false;
             }
         }
@@ -65,34 +93,31 @@ pub fn step_chosen<I: Stepwise, C: Choice<I>>(
     true
 }
 
-// Takes the last step of the chosen ones among the first `count` trials back.
-fn take_back<I: Stepwise, C: Choice<I>>(
+// Puts the flow into the trials of the chosen invariants. The trials of the others stay as they are.
+fn step_each<I: Stepwise, C: Choice<I>>(
     choice: &C,
     invs: &[I],
     trials: &mut Vec<I::Tried>,
-    count: usize,
+    f: Flow,
 )
     requires counted { length trials.old.items ≡ length invs.now }
-    requires within { count ≤ length invs.now }
     requires fits { EachPair I.fits invs.now trials.old.items }
-    requires stepped { (k : ℕ) (x : I) (t : I.Tried) → k < count
-        → IsTrue (C.chosen choice.now (slice_index_or invs.now k x))
-        → IsSome (I.Tried.tried (slice_index_or trials.old.items k t)).before_step }
+    requires flow { All (λ inv. IsFlow (I.size_of inv) f) invs.now }
+    requires held { EachPair (λ inv t. IsTrue (C.chosen choice.now inv)
+        → I.holds_on inv (I.Tried.tried t).flows) invs.now trials.old.items }
     ensures counted { length trials.new.items ≡ length trials.old.items }
     ensures fits { EachPair I.fits invs.now trials.new.items }
-    ensures back { (k : ℕ) (x : I) (t : I.Tried) → k < count
+    ensures flows { (k : ℕ) (x : I) (t : I.Tried) → k < length invs.now
         → IsTrue (C.chosen choice.now (slice_index_or invs.now k x))
-        → I.Tried.tried (slice_index_or trials.new.items k t)
-        ≡ taken_back (I.Tried.tried (slice_index_or trials.old.items k t)) }
-    ensures others { (k : ℕ) (x : I) (t : I.Tried) → k < count
+        → (I.Tried.tried (slice_index_or trials.new.items k t)).flows
+        ≡ with_flow (I.Tried.tried (slice_index_or trials.old.items k t)).flows f }
+    ensures others { (k : ℕ) (x : I) (t : I.Tried) → k < length invs.now
         → IsFalse (C.chosen choice.now (slice_index_or invs.now k x))
         → slice_index_or trials.new.items k t ≡ slice_index_or trials.old.items k t }
-    ensures rest { (k : ℕ) (t : I.Tried) → count ≤ k
-        → slice_index_or trials.new.items k t ≡ slice_index_or trials.old.items k t }
 {
-    for i in 0..count {
+    for i in 0..invs.len() {
         if choice.chooses(&invs[i]) {
-            invs[i].back(&mut trials[i]);
+            invs[i].step(&mut trials[i], f);
         }
     }
 }

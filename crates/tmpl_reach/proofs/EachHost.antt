@@ -2,7 +2,7 @@
 use Rattle.std.proofs.Common.{ℕ, ◌+◌, ◌<◌, ◌≤◌, inl, inr, sym, subst, arith}
 use Rattle.std.specs.Prelude.{◌≢◌, IsTrue}
 use Rattle.std.specs.FinSet as set
-use Rattle.std.proofs.lemmas.Bool.{both_ways, cases_Bool, cases_eq, cases_lt}
+use Rattle.std.proofs.lemmas.Bool.{both_ways, cases_eq, cases_lt}
 use Rattle.flow_set.specs.HostSet.{HostNumbers}
 use Rattle.flow_set.specs.inner.Calls.{HasNone, IsFirstFrom}
 use Rattle.tmpl_reach.specs.inner.EachOf.{EachOf}
@@ -28,16 +28,4 @@ upto_all hosts P from n small within sofar none k there =
     elim (cases_lt k from) [
       | inl before ↦ sofar k before there
       | inr late ↦ absurd (both_ways (set.contains hosts k) (none k late (omega (arith, small, within k there))) there)
-    ]
-
--- what holds of a host, of each of a set, and of all others holds of all
-pub everywhere : (P : ℕ → Type 0) (hosts : HostNumbers) (from : ℕ) → P from → EachOf hosts P
-    → ((host : ℕ) → host ≢ from → (IsTrue (set.contains hosts host) → ⊥) → P host) → (host : ℕ) → P host
-everywhere P hosts from here each rest host =
-    elim (cases_eq host from) [
-      | inl same ↦ subst P (sym same) here
-      | inr other ↦ elim (cases_Bool (set.contains hosts host)) [
-        | inl there ↦ each host there
-        | inr out ↦ rest host other (λ there. both_ways (set.contains hosts host) out there)
-      ]
     ]

@@ -20,13 +20,9 @@ AreOthers n host denied = (j : ℕ) → IsTrue (set.contains denied j) → IsTru
 abbrev pub denied_by : List HostNumbers → ℕ → HostNumbers
 denied_by denied i = slice_index_or denied i set.empty
 
--- i comes to none of these hosts, itself apart
-abbrev pub ReachesNone : HostNumbers → List Flow → ℕ → Type 0
-ReachesNone hosts e i = (j : ℕ) → i ≢ j → IsTrue (set.contains hosts j) → Reaches e i j → ⊥
-
--- each host keeps clear of those that it denies
+-- no host comes to another one that it denies
 abbrev pub ReachesNoDenied : List HostNumbers → List Flow → Type 0
-ReachesNoDenied denied e = (i : ℕ) → ReachesNone (denied_by denied i) e i
+ReachesNoDenied denied e = (i j : ℕ) → i ≢ j → IsTrue (set.contains (denied_by denied i) j) → Reaches e i j → ⊥
 
 abbrev pub no_reach : Template
 no_reach = walk_template (codes "noreach") Access AreOthers others ReachesNoDenied

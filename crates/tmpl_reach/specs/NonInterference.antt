@@ -12,13 +12,9 @@ use Rattle.tmpl_reach.specs.declared.non_interference.Interference.TheVariants.{
 abbrev pub IsInterfering : List Interference → ℕ → Type 0
 IsInterfering hosts i = slice_index_or hosts i Unrelated ≡ Interfering
 
--- nothing joins i with another interfering host
-abbrev pub IsApart : List Interference → List Flow → ℕ → Type 0
-IsApart hosts e i = (j : ℕ) → i ≢ j → IsInterfering hosts j → Joined e i j → ⊥
-
 -- nothing joins an interfering host with another
 abbrev pub IsNonInterfering : List Interference → List Flow → Type 0
-IsNonInterfering hosts e = (i : ℕ) → IsInterfering hosts i → IsApart hosts e i
+IsNonInterfering hosts e = (i : ℕ) → IsInterfering hosts i → (j : ℕ) → i ≢ j → IsInterfering hosts j → Joined e i j → ⊥
 
 abbrev pub non_interference : Template
 non_interference = walk_template (codes "noninterference") Information (λ n host. Anything) (λ n host. Interfering) IsNonInterfering

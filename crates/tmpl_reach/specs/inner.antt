@@ -1,4 +1,3 @@
-pub mod Dependability
 pub mod EachOf
 pub mod Interferences
 pub mod NoReach

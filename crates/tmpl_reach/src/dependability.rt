@@ -1,12 +1,15 @@
 //! Dependability: how many others a host may depend on. A host depends on those that it reaches
 //! along the flows, and never on itself.
 
-ghost use Rattle.std.specs.Prelude.{◌≡◌, ℕ, ◌<◌, ◌↔◌, IfOk, IsTrue, false, length, replicate, slice_index, slice_set};
+ghost use Rattle.std.specs.Prelude.{◌≡◌, ℕ, ◌<◌, ◌≤◌, ◌↔◌, List, IfOk, IsTrue, false, length, replicate, slice_index, slice_set};
+ghost use Rattle.std.specs.FinSet as set;
 ghost use Rattle.std.proofs.lemmas.Bool.{false≢true};
+ghost use Rattle.flow_set.specs.declared.flow.Flow.{Flow as Meant};
+ghost use Rattle.flow_set.specs.Flow.{IsFlow};
+ghost use Rattle.flow_set.specs.FlowSet.{with_flow};
 ghost use Rattle.inv_law.specs.declared.strategy.Strategy.TheVariants.{Access};
-ghost use Rattle.reach_core.specs.Walks.{ReachesAtMost};
+ghost use Rattle.reach_core.specs.Walks.{Reaches, ReachesAtMost};
 ghost use Rattle.tmpl_reach.specs.Dependability.{IsDependable};
-ghost use Rattle.tmpl_reach.specs.inner.Dependability.{StaysWithin};
 ghost use Rattle.tmpl_reach.specs.inner.EachOf.{EachOf};
 ghost use Rattle.tmpl_reach.specs.inner.Resets.{IsDependableAfterReset};
 ghost use Rattle.tmpl_reach.specs.laws.DependabilityLaws.{IsDependable-downward, IsDependable-none, IsDependable-reset};
@@ -58,35 +61,38 @@ impl Dependability {
         ensures { IsTrue result ↔ IsDependable self.now closure.now.flows }
     {
         for host in 0..closure.size() {
-            if !self.is_within(closure, host) {
+            if !self.is_within(host, closure.reached_from(host)) {
                 return false;
             }
         }
         true
     }
 
-    // Whether no host reaches more others than its limit, where only the sender of a new flow and those
-    // that come to it may reach more than before.
-    fn still_within(&self, closure: &ReachClosure, from: u16) -> bool
+    // Whether no host reaches more others than its limit with one flow more, where none does without it.
+    fn still_within(&self, closure: &ReachClosure, f: Flow) -> bool
         requires size { closure.now.size ≡ length self.now }
-        requires from { from < length self.now }
-        requires elsewhere { (host : ℕ) → host < length self.now → StaysWithin self.now closure.now.flows from host }
-        ensures { IsTrue result ↔ IsDependable self.now closure.now.flows }
+        requires flow { IsFlow closure.now.size f }
+        requires held { IsDependable self.now closure.now.flows }
+        ensures { IsTrue result ↔ IsDependable self.now (with_flow closure.now.flows f) }
     {
         let _ = closure.size();
-        self.is_within(closure, from) && self.are_within(closure, closure.coming_to(from))
+        let hosts = closure.opened_by(f);
+        self.are_within(closure, f, &hosts)
     }
 
-    // Whether none of the hosts reaches more others than its limit.
-    fn are_within(&self, closure: &ReachClosure, hosts: &HostSet) -> bool
+    // Whether none of these hosts, which come to the receiver of a flow with it, reaches more others than
+    // its limit then.
+    fn are_within(&self, closure: &ReachClosure, f: Flow, hosts: &HostSet) -> bool
         requires size { closure.now.size ≡ length self.now }
-        requires hosts { EachOf hosts.now (λ host. host < length self.now) }
-        ensures { IsTrue result ↔ EachOf hosts.now (λ host. ReachesAtMost closure.now.flows host (slice_index self.now host)) }
+        requires flow { IsFlow closure.now.size f }
+        requires below { EachOf hosts.now (λ host. host < length self.now) }
+        requires come { EachOf hosts.now (λ host. Reaches (with_flow closure.now.flows f) host f.to) }
+        ensures { IsTrue result ↔ EachOf hosts.now (λ host. ReachesAtMost (with_flow closure.now.flows f) host (slice_index self.now host)) }
     {
         let _ = closure.size();
         let mut from = 0;
         while let Some(host) = hosts.first_from(from) {
-            if !self.is_within(closure, host) {
+            if !self.is_within(host, &closure.reached_with(f, host)) {
                 return false;
             }
             from = host + 1;
@@ -94,13 +100,16 @@ impl Dependability {
         true
     }
 
-    // Whether the host reaches no more others than its limit.
-    fn is_within(&self, closure: &ReachClosure, host: u16) -> bool
-        requires size { closure.now.size ≡ length self.now }
+    // Whether the host, which reaches these along whatever flows, reaches no more others than its limit.
+    fn is_within(&self, host: u16, reached: &HostSet) -> bool
         requires host { host < length self.now }
-        ensures { IsTrue result ↔ ReachesAtMost closure.now.flows host (slice_index self.now host) }
+        requires small { length self.now ≤ 256 }
+        ensures { (e : List Meant) → ((j : ℕ) → IsTrue (set.contains reached.now j) ↔ Reaches e host j)
+            → IsTrue result ↔ ReachesAtMost e host (slice_index self.now host) }
     {
-        closure.count(host) <= self.limits[host as usize]
+        let mut others = reached.copy();
+        others.remove(host);
+        others.len() <= self.limits[host as usize]
     }
 }
 
@@ -159,17 +168,24 @@ impl Stepwise for Dependability {
     ghost fits = { λ x tried. tried.size ≡ length x };
 
     fn trial(&self, alloc: Global, e: &FlowSet) -> Result<ReachTrial, AllocError> {
-        ReachTrial::new(alloc, e)
+        Ok(ReachTrial {
+            closure: ReachClosure::of(alloc, e)?,
+        })
     }
 
     fn step(&self, tried: &mut ReachTrial, f: Flow) -> bool {
-        let nothing_new = tried.reaches(f);
-        tried.step(f);
-        nothing_new || self.still_within(tried.closure(), f.from)
+        let holds = self.still_within(&tried.closure, f);
+        tried.closure.try_add(f);
+        holds
     }
 
     fn back(&self, tried: &mut ReachTrial) {
-        tried.back();
+        tried.closure.undo();
+    }
+
+    fn holds_with(&self, tried: &mut ReachTrial, f: Flow) -> bool {
+        tried.closure.forget();
+        self.still_within(&tried.closure, f)
     }
 
     ghost fits_size = { λ x tried fits. fits };

@@ -1,12 +1,16 @@
 //! No-reach: hosts that a host must not reach, on whatever way.
 
-ghost use Rattle.std.specs.Prelude.{◌≡◌, ◌≢◌, ℕ, ◌<◌, ◌≤◌, ◌↔◌, IfOk, IsTrue, false, length, slice_set};
+ghost use Rattle.std.specs.Prelude.{◌≡◌, ◌≢◌, ℕ, ◌<◌, ◌≤◌, ◌↔◌, List, IfOk, IsTrue, false, length, slice_set};
 ghost use Rattle.std.specs.FinSet as set;
 ghost use Rattle.std.proofs.lemmas.Bool.{false≢true};
+ghost use Rattle.flow_set.specs.declared.flow.Flow.{Flow as Meant};
+ghost use Rattle.flow_set.specs.Flow.{IsFlow};
+ghost use Rattle.flow_set.specs.FlowSet.{with_flow};
 ghost use Rattle.inv_law.specs.declared.strategy.Strategy.TheVariants.{Access};
+ghost use Rattle.reach_core.specs.Walks.{Reaches};
 ghost use Rattle.tmpl_reach.specs.inner.EachOf.{EachOf};
-ghost use Rattle.tmpl_reach.specs.NoReach.{others, denied_by, ReachesNoDenied, ReachesNone};
-ghost use Rattle.tmpl_reach.specs.inner.NoReach.{StaysClear};
+ghost use Rattle.tmpl_reach.specs.NoReach.{others, denied_by, ReachesNoDenied};
+ghost use Rattle.tmpl_reach.specs.inner.NoReach.{ReachesNone};
 ghost use Rattle.tmpl_reach.specs.inner.Resets.{all_others};
 ghost use Rattle.tmpl_reach.specs.inner.Resets.{ReachesNoDeniedAfterReset};
 ghost use Rattle.tmpl_reach.specs.laws.NoReachLaws.{ReachesNoDenied-downward, ReachesNoDenied-none, ReachesNoDenied-reset};
@@ -81,40 +85,43 @@ impl NoReach {
     }
 
     // Whether each host keeps clear of those that it denies.
-    fn none_reached(&self, closure: &ReachClosure) -> bool
+    fn all_clear(&self, closure: &ReachClosure) -> bool
         requires { closure.now.size ≡ length self.now }
         ensures { IsTrue result ↔ ReachesNoDenied self.now closure.now.flows }
     {
         for host in 0..closure.size() {
-            if !self.reaches_none(closure, host) {
+            if !self.is_clear(host, closure.reached_from(host)) {
                 return false;
             }
         }
         true
     }
 
-    // Whether each host keeps clear of those that it denies, where only the sender of a new flow and those
-    // that come to it may reach more than before.
-    fn still_none_reached(&self, closure: &ReachClosure, from: u16) -> bool
+    // Whether each host keeps clear of those that it denies with one flow more, where all do without it.
+    fn still_clear(&self, closure: &ReachClosure, f: Flow) -> bool
         requires size { closure.now.size ≡ length self.now }
-        requires from { from < length self.now }
-        requires elsewhere { (host : ℕ) → StaysClear self.now closure.now.flows from host }
-        ensures { IsTrue result ↔ ReachesNoDenied self.now closure.now.flows }
+        requires flow { IsFlow closure.now.size f }
+        requires held { ReachesNoDenied self.now closure.now.flows }
+        ensures { IsTrue result ↔ ReachesNoDenied self.now (with_flow closure.now.flows f) }
     {
         let _ = closure.size();
-        self.reaches_none(closure, from) && self.reach_none(closure, closure.coming_to(from))
+        let hosts = closure.opened_by(f);
+        self.are_clear(closure, f, &hosts)
     }
 
-    // Whether each of the hosts keeps clear of those that it denies.
-    fn reach_none(&self, closure: &ReachClosure, hosts: &HostSet) -> bool
+    // Whether each of these hosts, which come to the receiver of a flow with it, keeps clear of those that it
+    // denies then.
+    fn are_clear(&self, closure: &ReachClosure, f: Flow, hosts: &HostSet) -> bool
         requires size { closure.now.size ≡ length self.now }
-        requires hosts { EachOf hosts.now (λ host. host < length self.now) }
-        ensures { IsTrue result ↔ EachOf hosts.now (λ host. ReachesNone (denied_by self.now host) closure.now.flows host) }
+        requires flow { IsFlow closure.now.size f }
+        requires below { EachOf hosts.now (λ host. host < length self.now) }
+        requires come { EachOf hosts.now (λ host. Reaches (with_flow closure.now.flows f) host f.to) }
+        ensures { IsTrue result ↔ EachOf hosts.now (λ host. ReachesNone (denied_by self.now host) (with_flow closure.now.flows f) host) }
     {
         let _ = closure.size();
         let mut from = 0;
         while let Some(host) = hosts.first_from(from) {
-            if !self.reaches_none(closure, host) {
+            if !self.is_clear(host, &closure.reached_with(f, host)) {
                 return false;
             }
             from = host + 1;
@@ -122,16 +129,16 @@ impl NoReach {
         true
     }
 
-    // Whether the host keeps clear of those that it denies.
-    fn reaches_none(&self, closure: &ReachClosure, host: u16) -> bool
-        requires size { closure.now.size ≡ length self.now }
-        requires host { host < length self.now }
-        ensures { IsTrue result ↔ ReachesNone (denied_by self.now host) closure.now.flows host }
+    // Whether the host, which reaches these along whatever flows, keeps clear of those that it denies.
+    fn is_clear(&self, host: u16, reached: &HostSet) -> bool
+        requires { host < length self.now }
+        ensures { (e : List Meant) → ((j : ℕ) → IsTrue (set.contains reached.now j) ↔ Reaches e host j)
+            → IsTrue result ↔ ReachesNone (denied_by self.now host) e host }
     {
-        let _ = closure.size();
-        let mut others = closure.reached_from(host).copy();
+        let denied = &self.denied[host as usize];
+        let mut others = reached.copy();
         others.remove(host);
-        others.is_apart(&self.denied[host as usize])
+        others.is_apart(denied)
     }
 }
 
@@ -166,7 +173,7 @@ impl Invariant for NoReach {
 
     fn holds(&self, alloc: Global, e: &FlowSet) -> Result<bool, AllocError> {
         let closure = ReachClosure::of(alloc, e)?;
-        Ok(self.none_reached(&closure))
+        Ok(self.all_clear(&closure))
     }
 
     fn with_default(&self, alloc: Global, host: u16) -> Result<Self, AllocError> {
@@ -190,17 +197,24 @@ impl Stepwise for NoReach {
     ghost fits = { λ x tried. tried.size ≡ length x };
 
     fn trial(&self, alloc: Global, e: &FlowSet) -> Result<ReachTrial, AllocError> {
-        ReachTrial::new(alloc, e)
+        Ok(ReachTrial {
+            closure: ReachClosure::of(alloc, e)?,
+        })
     }
 
     fn step(&self, tried: &mut ReachTrial, f: Flow) -> bool {
-        let nothing_new = tried.reaches(f);
-        tried.step(f);
-        nothing_new || self.still_none_reached(tried.closure(), f.from)
+        let holds = self.still_clear(&tried.closure, f);
+        tried.closure.try_add(f);
+        holds
     }
 
     fn back(&self, tried: &mut ReachTrial) {
-        tried.back();
+        tried.closure.undo();
+    }
+
+    fn holds_with(&self, tried: &mut ReachTrial, f: Flow) -> bool {
+        tried.closure.forget();
+        self.still_clear(&tried.closure, f)
     }
 
     ghost fits_size = { λ x tried fits. fits };

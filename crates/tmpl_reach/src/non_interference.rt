@@ -4,11 +4,13 @@
 ghost use Rattle.std.specs.Prelude.{◌≡◌, ◌≢◌, ℕ, ◌<◌, ◌≤◌, ◌↔◌, IfOk, IsTrue, MatchOption, false, length, replicate, slice_set};
 ghost use Rattle.std.specs.FinSet as set;
 ghost use Rattle.std.proofs.lemmas.Bool.{false≢true};
+ghost use Rattle.flow_set.specs.Flow.{IsFlow};
+ghost use Rattle.flow_set.specs.FlowSet.{with_flow};
 ghost use Rattle.inv_law.specs.declared.strategy.Strategy.TheVariants.{Information};
 ghost use Rattle.reach_core.specs.Walks.{Joined};
 ghost use Rattle.tmpl_reach.specs.inner.EachOf.{EachOf};
-ghost use Rattle.tmpl_reach.specs.inner.Interferences.{HasOneAtMost, NoneInterferes, IsNextInterfering, StaysApart};
-ghost use Rattle.tmpl_reach.specs.NonInterference.{IsInterfering, IsApart, IsNonInterfering};
+ghost use Rattle.tmpl_reach.specs.inner.Interferences.{HasOneAtMost, NoneInterferes, IsNextInterfering};
+ghost use Rattle.tmpl_reach.specs.NonInterference.{IsInterfering, IsNonInterfering};
 ghost use Rattle.tmpl_reach.specs.inner.Resets.{IsNonInterferingAfterReset};
 ghost use Rattle.tmpl_reach.specs.laws.NonInterferenceLaws.{IsNonInterfering-downward, IsNonInterfering-none, IsNonInterfering-reset};
 ghost use Rattle.tmpl_reach.specs.declared.non_interference.Interference.TheVariants.{Interfering, Unrelated};
@@ -100,16 +102,19 @@ impl NonInterference {
         true
     }
 
-    // Whether nothing joins an interfering host with another, where a new flow joined those alone that are
-    // joined with its sender now.
-    fn still_apart(&self, closure: &JoinClosure, from: u16) -> bool
+    // Whether nothing joins an interfering host with another with one flow more, where nothing does without it.
+    fn still_apart(&self, closure: &JoinClosure, f: Flow) -> bool
         requires size { closure.now.size ≡ length self.now }
-        requires from { from < length self.now }
-        requires elsewhere { (host : ℕ) → StaysApart self.now closure.now.flows from host }
-        ensures { IsTrue result ↔ IsNonInterfering self.now closure.now.flows }
+        requires flow { IsFlow closure.now.size f }
+        requires held { IsNonInterfering self.now closure.now.flows }
+        ensures { IsTrue result ↔ IsNonInterfering self.now (with_flow closure.now.flows f) }
     {
         let _ = closure.size();
-        self.has_one_at_most(closure.joined_with(from))
+        if closure.joined(f.from, f.to) {
+            return true;
+        }
+        let hosts = closure.joined_by(f);
+        self.has_one_at_most(&hosts)
     }
 
     // Whether at most one of the hosts is an interfering one.
@@ -211,17 +216,24 @@ impl Stepwise for NonInterference {
     ghost fits = { λ x tried. tried.size ≡ length x };
 
     fn trial(&self, alloc: Global, e: &FlowSet) -> Result<JoinTrial, AllocError> {
-        JoinTrial::new(alloc, e)
+        Ok(JoinTrial {
+            closure: JoinClosure::of(alloc, e)?,
+        })
     }
 
     fn step(&self, tried: &mut JoinTrial, f: Flow) -> bool {
-        let nothing_new = tried.joins(f);
-        tried.step(f);
-        nothing_new || self.still_apart(tried.closure(), f.from)
+        let holds = self.still_apart(&tried.closure, f);
+        tried.closure.try_add(f);
+        holds
     }
 
     fn back(&self, tried: &mut JoinTrial) {
-        tried.back();
+        tried.closure.undo();
+    }
+
+    fn holds_with(&self, tried: &mut JoinTrial, f: Flow) -> bool {
+        tried.closure.forget();
+        self.still_apart(&tried.closure, f)
     }
 
     ghost fits_size = { λ x tried fits. fits };

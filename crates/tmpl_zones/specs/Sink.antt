@@ -11,10 +11,8 @@ use Rattle.tmpl_zones.specs.declared.sink.SinkKind.TheVariants.{Sink, Pool, Unas
 -- whether a flow passes, by the kinds of its sender and its receiver
 abbrev pub sink_passes : SinkKind → SinkKind → Bool
 sink_passes Sink receiver = false
-sink_passes Pool Sink = true
-sink_passes Pool Pool = true
 sink_passes Pool Unassigned = false
-sink_passes Unassigned receiver = true
+sink_passes sender receiver = true
 
 abbrev pub sinks : Template
 sinks = edge_template (codes "sink") Information Anything Unassigned (TablePasses sink_passes)

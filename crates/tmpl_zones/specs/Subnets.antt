@@ -12,11 +12,9 @@ use Rattle.tmpl_zones.specs.declared.subnets.NetKind.TheVariants.{Subnet, Border
 abbrev pub subnets_passes : NetKind → NetKind → Bool
 subnets_passes (Subnet a) (Subnet b) = a == b
 subnets_passes (Subnet a) (Border b) = a == b
-subnets_passes (Border a) (Subnet b) = false
 subnets_passes (Border a) (Border b) = true
-subnets_passes Unassigned (Subnet b) = false
-subnets_passes Unassigned (Border b) = false
 subnets_passes sender Unassigned = true
+subnets_passes sender receiver = false
 
 abbrev pub subnets : Template
 subnets = edge_template (codes "subnets") Access Anything Unassigned (TablePasses subnets_passes)

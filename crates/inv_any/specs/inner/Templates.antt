@@ -1,5 +1,4 @@
--- An invariant of one of the ten templates, or of a template that is declared as a table: what it means, and its name, by the record of
--- its template.
+-- An invariant whose hosts have attributes that they may have.
 use Rattle.inv_any.specs.declared.any_inv.AnyInv.{AnyInv}
 use Rattle.inv_any.specs.declared.any_inv.AnyInv.TheVariants as any
 use Rattle.inv_law.specs.inner.Template.{AllMayHave}

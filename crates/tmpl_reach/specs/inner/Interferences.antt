@@ -4,8 +4,12 @@ use Rattle.std.specs.FinSet as set
 use Rattle.flow_set.specs.declared.flow.Flow.{Flow}
 use Rattle.flow_set.specs.HostSet.{HostNumbers}
 use Rattle.reach_core.specs.Walks.{Joined}
-use Rattle.tmpl_reach.specs.NonInterference.{IsInterfering, IsApart}
+use Rattle.tmpl_reach.specs.NonInterference.{IsInterfering}
 use Rattle.tmpl_reach.specs.declared.non_interference.Interference.{Interference}
+
+-- nothing joins i with another interfering host
+abbrev pub IsApart : List Interference → List Flow → ℕ → Type 0
+IsApart hosts e i = (j : ℕ) → i ≢ j → IsInterfering hosts j → Joined e i j → ⊥
 
 -- no two of the hosts interfere
 abbrev pub HasOneAtMost : List Interference → HostNumbers → Type 0

@@ -1,11 +1,11 @@
 -- Dependability holds of subsets and of no flows, and the limit 0 is secure.
 use Rattle.std.proofs.Common.{◌≡◌, ℕ, ◌<◌, List, [], ◌∷◌, length, get_or, set, length-set, ◌↔◌, inl, inr, sym, ◌∙◌, subst, arith}
 use Rattle.std.specs.Prelude.{IsTrue, slice_index, slice_set}
-use Rattle.std.proofs.lemmas.Bool.{cases_eq, or_right}
+use Rattle.std.proofs.lemmas.Bool.{cases_eq}
 use Rattle.flow_set.specs.declared.flow.Flow.{Flow}
-use Rattle.flow_set.specs.Flow.{IsFlow, same_flow}
-use Rattle.flow_set.specs.FlowSet.{has, with_flow}
-use Rattle.flow_set.specs.laws.FlowLaws.{has_first, has-with_flow}
+use Rattle.flow_set.specs.Flow.{IsFlow}
+use Rattle.flow_set.specs.FlowSet.{has}
+use Rattle.flow_set.specs.laws.FlowLaws.{has_first}
 use Rattle.flow_set.specs.inner.Downward.{IsDownward}
 use Rattle.inv_law.specs.inner.Invariants.{ResetMendsNothing}
 use Rattle.inv_law.specs.laws.AttributeLaws.{get_or-set_default}
@@ -13,10 +13,9 @@ use Rattle.inv_law.specs.Template.{Anything}
 use Rattle.inv_law.specs.inner.Template.{MayHaveDefault}
 use Rattle.inv_law.specs.laws.TemplateLaws.{IsLawfulTemplate, lawful_walk}
 use Rattle.inv_law.specs.declared.strategy.Strategy.TheVariants.{Access}
-use Rattle.reach_core.specs.Walks.{Reaches, ReachesAtMost}
-use Rattle.reach_core.specs.laws.ReachLaws.{Reaches-nothing_new, Reaches-elsewhere, Reaches-within, ReachesAtMost-as_before, ReachesAtMost-within, ReachesAtMost-none, ReachesAtMost-one, sender_reaches}
+use Rattle.reach_core.specs.Walks.{ReachesAtMost}
+use Rattle.reach_core.specs.laws.ReachLaws.{ReachesAtMost-within, ReachesAtMost-none, ReachesAtMost-one, sender_reaches}
 use Rattle.tmpl_reach.specs.Dependability.{dependability, IsDependable}
-use Rattle.tmpl_reach.specs.inner.Dependability.{StaysWithin}
 use Rattle.tmpl_reach.specs.inner.Resets.{IsDependableAfterReset}
 
 pub IsDependable-downward : (n : ℕ) (limits : List ℕ) → IsDownward n (IsDependable limits)
@@ -36,20 +35,6 @@ IsDependable-reset limits e f host is_set minimal offending holds =
     subst (λ h. IsDependable (slice_set limits h 0) e) (sym offending.blamed) holds in
     sender_reaches e offending.flow in_e is_flow.2
     (subst (ReachesAtMost e offending.flow.from) limit (after offending.flow.from (omega (arith, is_flow.0, length-set {A = ℕ}))))
-
--- a flow whose receiver is reached already breaks nothing
-pub IsDependable-nothing_new : (limits : List ℕ) (e : List Flow) (f : Flow) → Reaches e f.from f.to → IsDependable limits e
-    → IsDependable limits (with_flow e f)
-IsDependable-nothing_new limits e f there holds host below =
-    ReachesAtMost-as_before (with_flow e f) e host _ (Reaches-nothing_new e f there host) (holds host below)
-
--- one more flow changes nothing for those that do not come to its sender
-pub StaysWithin-with_flow : (limits : List ℕ) (e : List Flow) (f : Flow) → IsDependable limits e → (host : ℕ) → host < length limits
-    → StaysWithin limits (with_flow e f) f.from host
-StaysWithin-with_flow limits e f holds host below apart never =
-    ReachesAtMost-as_before (with_flow e f) e host _
-    (λ j. Reaches-elsewhere e f host j apart (λ reaches. never (Reaches-within e (with_flow e f) (λ g here. has-with_flow e f g ∙ or_right (same_flow f g) (has e g) here) host f.from reaches)))
-    (holds host below)
 
 -- one flow alone: its sender reaches one other host
 pub IsDependable-one : (limits : List ℕ) (f : Flow) → IsFlow (length limits) f

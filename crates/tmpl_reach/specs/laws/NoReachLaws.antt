@@ -6,9 +6,9 @@ use Rattle.std.specs.FinSet as set
 use Rattle.std.specs.List.{list_any}
 use Rattle.std.proofs.lemmas.Bool.{and_from, and_parts, eq-eqb, eqb-true, false≢true, lt-ltb, ltb-true, ne_eqb, not_from_false, not_from_true, or_cases, or_left, or_right}
 use Rattle.flow_set.specs.declared.flow.Flow.{Flow}
-use Rattle.flow_set.specs.Flow.{IsFlow, same_flow}
-use Rattle.flow_set.specs.FlowSet.{has, with_flow}
-use Rattle.flow_set.specs.laws.FlowLaws.{has_first, has-with_flow}
+use Rattle.flow_set.specs.Flow.{IsFlow}
+use Rattle.flow_set.specs.FlowSet.{has}
+use Rattle.flow_set.specs.laws.FlowLaws.{has_first}
 use Rattle.flow_set.specs.inner.Downward.{IsDownward}
 use Rattle.inv_law.specs.inner.Invariants.{ResetMendsNothing}
 use Rattle.inv_law.specs.inner.Template.{MayHaveDefault}
@@ -16,10 +16,8 @@ use Rattle.inv_law.specs.laws.TemplateLaws.{IsLawfulTemplate, lawful_walk}
 use Rattle.inv_law.specs.declared.strategy.Strategy.TheVariants.{Access}
 use Rattle.flow_set.specs.HostSet.{HostNumbers}
 use Rattle.flow_set.specs.laws.HostSetLaws.{contains-hosts_below, contains-insert, hosts_ext}
-use Rattle.reach_core.specs.Walks.{Reaches}
-use Rattle.reach_core.specs.laws.ReachLaws.{Reaches-nothing_new, Reaches-elsewhere, Reaches-within, Reaches-none, Reaches-one, reaches_over}
+use Rattle.reach_core.specs.laws.ReachLaws.{Reaches-within, Reaches-none, Reaches-one, reaches_over}
 use Rattle.tmpl_reach.specs.NoReach.{AreOthers, no_reach, others, denied_by, ReachesNoDenied}
-use Rattle.tmpl_reach.specs.inner.NoReach.{StaysClear}
 use Rattle.tmpl_reach.specs.inner.Resets.{ReachesNoDeniedAfterReset}
 
 pub ReachesNoDenied-downward : (n : ℕ) (denied : List HostNumbers) → IsDownward n (ReachesNoDenied denied)
@@ -72,19 +70,6 @@ ReachesNoDenied-reset denied e f host is_set minimal offending holds =
     subst (λ h. ReachesNoDenied (slice_set denied h (others (length denied) h)) e) (sym offending.blamed) holds in
     after g.from g.to is_flow.2 (ap (λ s. set.contains s g.to) (get_or-set_same denied g.from all set.empty is_flow.0) ∙ denies)
     (reaches_over e g in_e)
-
--- a flow whose receiver is reached already breaks nothing
-pub ReachesNoDenied-nothing_new : (denied : List HostNumbers) (e : List Flow) (f : Flow) → Reaches e f.from f.to
-    → ReachesNoDenied denied e → ReachesNoDenied denied (with_flow e f)
-ReachesNoDenied-nothing_new denied e f there holds i j apart denies reaches =
-    holds i j apart denies (Reaches-nothing_new e f there i j reaches)
-
--- one more flow changes nothing for those that do not come to its sender
-pub StaysClear-with_flow : (denied : List HostNumbers) (e : List Flow) (f : Flow) → ReachesNoDenied denied e → (host : ℕ)
-    → StaysClear denied (with_flow e f) f.from host
-StaysClear-with_flow denied e f holds host apart never j other denies reaches =
-    holds host j other denies
-    (Reaches-elsewhere e f host j apart (λ before. never (Reaches-within e (with_flow e f) (λ g here. has-with_flow e f g ∙ or_right (same_flow f g) (has e g) here) host f.from before)) reaches)
 
 -- one flow alone: its sender reaches its receiver
 pub ReachesNoDenied-one : (denied : List HostNumbers) (f : Flow) → IsFlow (length denied) f

@@ -1,5 +1,4 @@
--- Templates that are declared as tables: each host has a kind, and some pairs of kinds are denied, of a sender and a receiver
--- (the description's format, docs/FORMATS.md).
+-- When the default of a table hides no fault, and the first pair that another default would let pass.
 use Rattle.std.specs.Prelude.{◌≤◌, ◌<◌, ℕ, not, List, length, find, Option, IsTrue}
 use Rattle.std.specs.List.{All}
 use Rattle.inv_law.specs.Attributes.{PassesBetween}

@@ -36,7 +36,7 @@ loop-number-preserved g c =
     record {
       tried =
           AreTried-asked g.I.Stepwise.fits g.I.Tried.Trial.tried
-          (λ _. true) c.args.invs.now c.loop-number.trials.items c.args._permitted.now.flows number inv c.holds_with.new.trial
+          (λ _. true) c.args.invs.now c.loop-number.trials.items c.args._permitted.now.flows number inv c.holds_with.new.tried
           c.loop-number.invariant.tried c.loop-number-test.true c.index-invs-number.is c.holds_with.ensures.fits (ap (λ (w : TriedFlows). w.flows) c.holds_with.ensures.again ∙ flows);
       hold =
           All-more (λ x. g.I.Invariant.holds_on x (with_flow c.args._permitted.now.flows c.args.f)) c.args.invs.now number inv c.loop-number-test.true c.loop-number.invariant.hold

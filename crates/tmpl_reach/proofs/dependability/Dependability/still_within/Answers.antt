@@ -1,29 +1,32 @@
-use Rattle.std.proofs.Common.{◌<◌, arith}
-use Rattle.std.proofs.lemmas.Bool.{both_ways}
+use Rattle.std.proofs.Common.{◌<◌, length, arith}
+use Rattle.flow_set.proofs.SubsetLaws.{IsFlowSet-with_flow}
+use Rattle.flow_set.specs.FlowSet.{with_flow}
 use Rattle.reach_core.specs.laws.ReachLaws.{Reaches-below}
+use Rattle.tmpl_reach.specs.inner.EachOf.{EachOf}
 use Rattle.tmpl_reach.proofs.Still.{still_dependable}
 use Rattle.tmpl_reach.proofs.dependability.Dependability.still_within.Goals as goal
 
-pub are_within-requires-clause-hosts : goal.are_within-requires-clause-hosts
-are_within-requires-clause-hosts c host there =
-    let below : host < c.args.closure.now.size =
-    (Reaches-below c.args.closure.now.size c.args.closure.now.flows c.size.ensures.set host c.args.from ((c.coming_to.ensures host).0 there)).0 in
+pub are_within-requires-clause-below : goal.are_within-requires-clause-below
+are_within-requires-clause-below c host there =
+    let e = c.args.closure.now in
+    let f = c.args.f in
+    let below : host < e.size =
+    (Reaches-below e.size (with_flow e.flows f) (IsFlowSet-with_flow e.size e.flows f c.size.ensures.set c.requires.flow) host f.to ((c.opened_by-hosts.ensures.hosts host).0 there).0).0 in
     omega (arith, below, c.requires.size)
 
-pub returns-then-is_within : goal.returns-then-is_within
-returns-then-is_within c =
-    let law =
-    still_dependable c.args.self.now c.args.closure.now.flows c.args.from c.coming_to.result.now c.coming_to.ensures c.requires.from c.requires.elsewhere
-    (λ host there.
-    let below : host < c.args.closure.now.size =
-    (Reaches-below c.args.closure.now.size c.args.closure.now.flows c.size.ensures.set host c.args.from ((c.coming_to.ensures host).0 there)).0 in
-    omega (arith, below, c.requires.size)) in (
-      λ yes. law.0 (c.is_within.ensures.0 c.if-is_within.true, c.are_within.ensures.0 yes),
-      λ holds. c.are_within.ensures.1 (law.1 holds).1,
-    )
+pub are_within-requires-clause-come : goal.are_within-requires-clause-come
+are_within-requires-clause-come c host there = ((c.opened_by-hosts.ensures.hosts host).0 there).0
 
-pub returns-else-is_within : goal.returns-else-is_within
-returns-else-is_within c = (
-  λ no. absurd (both_ways _ c.if-is_within.false no),
-  λ holds. absurd (both_ways _ c.if-is_within.false (c.is_within.ensures.1 (holds c.args.from c.requires.from))),
-)
+pub returns : goal.returns
+returns c =
+    let e = c.args.closure.now in
+    let f = c.args.f in
+    let below : EachOf c.opened_by-hosts.result (λ host. host < length c.args.self.now) =
+    λ host there.
+    let within : host < e.size =
+    (Reaches-below e.size (with_flow e.flows f) (IsFlowSet-with_flow e.size e.flows f c.size.ensures.set c.requires.flow) host f.to ((c.opened_by-hosts.ensures.hosts host).0 there).0).0 in
+    omega (arith, within, c.requires.size) in
+    let law =
+    still_dependable c.args.self.now c.args.closure.now.flows c.args.f c.opened_by-hosts.result c.opened_by-hosts.ensures.others
+    below c.requires.held in
+    (λ yes. law.0 (c.are_within.ensures.0 yes), λ holds. c.are_within.ensures.1 (law.1 holds))

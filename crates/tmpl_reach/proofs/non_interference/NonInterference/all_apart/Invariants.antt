@@ -1,5 +1,6 @@
 use Rattle.std.proofs.Common.{ℕ, ◌<◌}
-use Rattle.tmpl_reach.specs.NonInterference.{IsInterfering, IsApart}
+use Rattle.tmpl_reach.specs.NonInterference.{IsInterfering}
+use Rattle.tmpl_reach.specs.inner.Interferences.{IsApart}
 use Rattle.tmpl_reach.proofs.non_interference.NonInterference.all_apart.Given as goal
 
 abbrev pub invariant-loop-host : goal.invariant-loop-host
