@@ -6,7 +6,7 @@ ghost use Rattle.flow_set.specs.FlowSet.{with_flow};
 ghost use Rattle.flow_set.specs.inner.Steps.{untried};
 ghost use Rattle.permit_core.specs.inner.Trials.{EachPair, AreTried};
 
-use crate::choice::Choice;
+use crate::choice::{JudgingAlone, Choice, JudgingTogether};
 use flow_set::{Flow, FlowSet};
 use inv_law::Stepwise;
 use std::alloc::{AllocError, Global};
@@ -29,7 +29,7 @@ pub fn trials_of<I: Stepwise>(
 }
 
 /// Puts the flow into the trials of the chosen invariants where all of these hold with it, and answers
-/// whether they do. Where one does not, the trials have the flows that they had. The trials of the other
+/// whether they do. Those that judge flows alone are asked first, for they cost least. Where one does not, the trials have the flows that they had. The trials of the other
 /// invariants stay as they are.
 pub fn step_chosen<I: Stepwise, C: Choice<I>>(
     choice: &C,
@@ -54,7 +54,10 @@ pub fn step_chosen<I: Stepwise, C: Choice<I>>(
         → IsFalse (C.chosen choice.now (slice_index_or invs.now k x))
         → slice_index_or trials.new.items k t ≡ slice_index_or trials.old.items k t }
 {
-    if !chosen_hold_with(choice, invs, trials, f) {
+    if !chosen_hold_with(&JudgingAlone { choice }, invs, trials, f) {
+        return false;
+    }
+    if !chosen_hold_with(&JudgingTogether { choice }, invs, trials, f) {
         return false;
     }
     step_each(choice, invs, trials, f);
