@@ -1,7 +1,6 @@
 pub mod AtHost
 pub mod FirstBadLaws
 pub mod MayHaveLaws
-mod OneOfShapes
 pub mod OwnTablesLaws
 pub mod PeersWalk
 pub mod ShallowLaws

@@ -11,12 +11,14 @@ use Rattle.std.specs.List.{fold, list_any}
 use Rattle.std.specs.Option.{option_or}
 use Rattle.std.specs.Prelude.{◌⊎◌, ◌↔◌, ℤ, pos, negsuc, IfSome, codes, unwrap_or, if◌then◌else◌}
 use Rattle.std.specs.Str.{bytes_eq}
+use Rattle.flow_set.specs.HostSet.{HostNumbers}
 use Rattle.host_net.specs.Host.{Host, host_named}
 use Rattle.host_net.proofs.NamedLaws.{host_named_within}
 use Rattle.inv_any.specs.inner.Templates.{HostsMayHave}
 use Rattle.inv_law.specs.inner.Template.{AllMayHave, MayHaveDefault}
 use Rattle.table_core.specs.Listing.{each}
 use Rattle.table_core.specs.Tables.{integer_at, list_at, number_at, number_of, text_at}
+use Rattle.text_core.proofs.StepsLaws.{bind_some}
 use Rattle.tmpl_domains.specs.Domains.{IsPlace, Place}
 use Rattle.tmpl_domains.specs.laws.DomainsLaws.{domains_default}
 use Rattle.tmpl_domains.specs.Path.{is_path, segments}
@@ -37,16 +39,16 @@ use Rattle.attr_core.specs.Assigns.{Given}
 use Rattle.attr_core.specs.Domains.{domains_attribute, domains_form}
 use Rattle.attr_core.specs.laws.FormLaws.{attribute_at}
 use Rattle.attr_core.specs.Forms.{Form, attributes_in, invariant_by, last_said, says}
-use Rattle.attr_core.specs.Kinds.{kind_of}
-use Rattle.attr_core.specs.inner.MayHave.{SaysWhatHostsMayHave, domains_listed, known_host, master_listed, noreach_listed, partners_listed}
+use Rattle.attr_core.specs.inner.MayHave.{SaysWhatHostsMayHave, domains_listed, known_host, master_listed, noreach_listed, partner_listed, partners_listed}
 use Rattle.attr_core.specs.NoReach.{all_denied, noreach_attribute, noreach_form}
 use Rattle.attr_core.specs.OwnTables.{Declared, kind_numbered, table_form}
 use Rattle.attr_core.proofs.OwnTablesLaws.{found_within}
-use Rattle.attr_core.specs.Partners.{master_in, master_of, partner_kind, partners_attribute, partners_form}
+use Rattle.attr_core.specs.Partners.{master_of, partner_of, partners_attribute, partners_form}
 use Rattle.attr_core.specs.Peers.{peer}
-use Rattle.attr_core.specs.Shapes.{has_shape}
+use Rattle.attr_core.specs.Shapes.{host_key, of_shape}
 use Rattle.attr_core.proofs.TaintedMayHaveLaws.{tainting_may_have}
-use Rattle.attr_core.specs.Templates.{form, invariant_in}
+use Rattle.attr_core.specs.Templates.{form}
+use Rattle.attr_core.specs.inner.ReadIn.{invariant_in}
 use Rattle.attr_core.proofs.TemplatesLaws.{invariant_is}
 use Rattle.attr_core.specs.declared.template.Template.{Template}
 use Rattle.attr_core.specs.declared.template.Template.TheVariants.{Blp, Tainting, Sink, Gateway, Subnets, Partners, Domains, Dependability, NonInterference, NoReach}
@@ -183,21 +185,34 @@ among_others n host ks = (
       (ltb-true j n below, λ same. false≢true (sym (not_from_true (nat_eq j host) (eq-eqb j host (sym same))) ∙ apart)),
 )
 
+denied_may_have : (hosts : List Host) (host : ℕ) (ds : List Data) (x : HostNumbers)
+    → (all_denied hosts host ds ≡ Some x) ↔ ((option_map fin.from_list (each (known_host hosts) ds) ≡ Some x) × AreOthers (length hosts) host x)
+unfolding all_denied
+denied_may_have hosts host ds x = (
+  λ said.
+      let (ks, is_ks, same) = mapped fin.from_list (each (peer hosts host) ds) x said in
+      let (known, others) = (all_peers hosts host ds ks).0 is_ks in (
+        ap (option_map fin.from_list) known ∙ ap Some same,
+        subst (AreOthers (length hosts) host) same ((among_others (length hosts) host ks).0 others),
+      ),
+  λ both.
+      let (ks, known, same) = mapped fin.from_list (each (known_host hosts) ds) x both.0 in
+      let others = (among_others (length hosts) host ks).1 (subst (AreOthers (length hosts) host) (sym same) both.1) in
+      ap (option_map fin.from_list) ((all_peers hosts host ds ks).1 (known, others)) ∙ ap Some same,
+)
+
+-- what a first step gives is what another gives, as far as hosts may have it
+then_may_have : {D A : Type 0} (o : Option D) (read listed : D → Option A) (May : A → Type 0) (x : A)
+    → ((d : D) → (read d ≡ Some x) ↔ ((listed d ≡ Some x) × May x))
+    → (option_and_then read o ≡ Some x) ↔ ((option_and_then listed o ≡ Some x) × May x)
+then_may_have None read listed May x exact = (λ said. cc, λ both. let none : None ≡ Some x = both.0 in cc)
+then_may_have (Some d) read listed May x exact = exact d
+
 pub noreach_may_have : SaysWhatHostsMayHave noreach_form (λ hosts earlier a. noreach_listed hosts a.table)
-unfolding noreach_attribute all_denied
+unfolding noreach_attribute
 noreach_may_have hosts earlier a x =
-    let ds : List Data = unwrap_or (list_at (codes "deny") a.table) [] in (
-      λ said.
-          let (ks, is_ks, same) = mapped fin.from_list (each (peer hosts a.host) ds) x said in
-          let (known, others) = (all_peers hosts a.host ds ks).0 is_ks in (
-            ap (option_map fin.from_list) known ∙ ap Some same,
-            subst (AreOthers (length hosts) a.host) same ((among_others (length hosts) a.host ks).0 others),
-          ),
-      λ both.
-          let (ks, known, same) = mapped fin.from_list (each (known_host hosts) ds) x both.0 in
-          let others = (among_others (length hosts) a.host ks).1 (subst (AreOthers (length hosts) a.host) (sym same) both.1) in
-          ap (option_map fin.from_list) ((all_peers hosts a.host ds ks).1 (known, others)) ∙ ap Some same,
-    )
+    then_may_have (list_at (codes "deny") a.table) (all_denied hosts a.host) (λ ds. option_map fin.from_list (each (known_host hosts) ds))
+    (AreOthers (length hosts) a.host) x (λ ds. denied_may_have hosts a.host ds x)
 
 -- partners: a master marks the hosts that are listed, and no others
 abbrev marked : List Bool → List ℕ → List Bool
@@ -275,11 +290,10 @@ master_others n host ks within = (
   ),
 )
 
-master_may_have : (hosts : List Host) (host : ℕ) (table : Members) (x : Partner)
-    → (master_in hosts host table ≡ Some x) ↔ ((master_listed hosts table ≡ Some x) × TakesFromOthers (length hosts) host x)
-unfolding master_in master_of
-master_may_have hosts host table x =
-    let ds : List Data = unwrap_or (list_at (codes "from") table) [] in
+master_may_have : (hosts : List Host) (host : ℕ) (ds : List Data) (x : Partner)
+    → (master_of hosts host ds ≡ Some x) ↔ ((master_listed hosts ds ≡ Some x) × TakesFromOthers (length hosts) host x)
+unfolding master_of
+master_may_have hosts host ds x =
     let make : List ℕ → Partner = fold with_sender (Master (replicate (length hosts) false)) in (
       λ said.
           let (ks, is_ks, same) = mapped make (each (peer hosts host) ds) x said in
@@ -293,28 +307,41 @@ master_may_have hosts host table x =
           ap (option_map make) ((all_peers hosts host ds ks).1 (known, others)) ∙ ap Some same,
     )
 
-partner_by : (n host : ℕ) (care master : Bool) (read listed : Option Partner) (x : Partner)
+master_by : (n host : ℕ) (master : Bool) (read listed : Option Partner) (x : Partner)
     → (read ≡ Some x) ↔ ((listed ≡ Some x) × TakesFromOthers n host x)
-    → ((if care then Some Care else (if master then read else Some DontCare)) ≡ Some x) ↔
-    (((if care then Some Care else (if master then listed else Some DontCare)) ≡ Some x) × TakesFromOthers n host x)
-partner_by n host true master read listed x exact =
-    (λ said. let same : Care ≡ x = cc in (said, subst (TakesFromOthers n host) same tt), λ both. both.0)
-partner_by n host false true read listed x exact = exact
-partner_by n host false false read listed x exact =
-    (λ said. let same : DontCare ≡ x = cc in (said, subst (TakesFromOthers n host) same tt), λ both. both.0)
+    → ((if master then read else None) ≡ Some x) ↔ (((if master then listed else None) ≡ Some x) × TakesFromOthers n host x)
+master_by n host true read listed x exact = exact
+master_by n host false read listed x exact = (λ said. cc, λ both. let none : None ≡ Some x = both.0 in cc)
+
+listless_by : (n host : ℕ) (dontcare care : Bool) (x : Partner)
+    → option_map (λ (row : List ℕ × Partner). row.1) (if dontcare then Some (codes "dontcare", DontCare) else (if care then Some (codes "care", Care) else None)) ≡ Some x
+    → TakesFromOthers n host x
+listless_by n host true care x said = let same : DontCare ≡ x = cc in subst (TakesFromOthers n host) same tt
+listless_by n host false true x said = let same : Care ≡ x = cc in subst (TakesFromOthers n host) same tt
+listless_by n host false false x said = cc
+
+partner_may_have : (hosts : List Host) (host : ℕ) (from : Option (List Data)) (word : List ℕ) (x : Partner)
+    → (partner_of hosts host from word ≡ Some x) ↔ ((partner_listed hosts from word ≡ Some x) × TakesFromOthers (length hosts) host x)
+partner_may_have hosts host None word x =
+    (λ said. (said, listless_by (length hosts) host (bytes_eq word (codes "dontcare")) (bytes_eq word (codes "care")) x said), λ both. both.0)
+partner_may_have hosts host (Some ds) word x =
+    master_by (length hosts) host (bytes_eq word (codes "master")) (master_of hosts host ds) (master_listed hosts ds) x
+    (master_may_have hosts host ds x)
 
 pub partners_may_have : SaysWhatHostsMayHave partners_form (λ hosts earlier a. partners_listed hosts a.table)
-unfolding partners_attribute partner_kind
+unfolding partners_attribute
 partners_may_have hosts earlier a x =
-    partner_by (length hosts) a.host (bytes_eq (kind_of a.table) (codes "care")) (bytes_eq (kind_of a.table) (codes "master"))
-    (master_in hosts a.host a.table) (master_listed hosts a.table) x (master_may_have hosts a.host a.table x)
+    let from = list_at (codes "from") a.table in
+    then_may_have (text_at (codes "kind") a.table) (partner_of hosts a.host from) (partner_listed hosts from)
+    (TakesFromOthers (length hosts) a.host) x (λ word. partner_may_have hosts a.host from word x)
 
 -- a declared template: the number of a word is that of a kind
 pub kinds_may_have : (d : Declared) → d.table.kinds ≡ length d.words
-    → SaysWhatHostsMayHave (table_form d) (λ hosts earlier a. kind_numbered d.words (kind_of a.table))
+    → SaysWhatHostsMayHave (table_form d) (λ hosts earlier a. option_and_then (kind_numbered d.words) (text_at (codes "kind") a.table))
 kinds_may_have d sized hosts earlier a x = (
   λ said.
-      let found : x < 0 + length d.words = found_within (bytes_eq (kind_of a.table)) 0 d.words x said in
+      let (word, is, numbered) = bind_some (text_at (codes "kind") a.table) (kind_numbered d.words) x said in
+      let found : x < 0 + length d.words = found_within (bytes_eq word) 0 d.words x numbered in
       let below : x < length d.words = omega (arith, found) in
       (said, subst (λ n. x < n) (sym sized) below),
   λ both. both.0,
@@ -385,7 +412,7 @@ AllMayHave-attributes form default each hosts assigns host within =
     attribute_at (says form hosts) (form.template.default n) n assigns host (form.template.default n host) below in
     let said : form.template.MayHave n host (unwrap_or (last host) (form.template.default n host)) =
     said_or (last host) (form.template.default n host) (form.template.MayHave n host)
-    (λ x is. last_said_is (says form hosts) (form.template.MayHave n) (λ earlier a y says_y. each hosts earlier a y (here_by (has_shape form.shapes a.table) (form.reads hosts earlier a) y says_y).1) [] host assigns x is)
+    (λ x is. last_said_is (says form hosts) (form.template.MayHave n) (λ earlier a y says_y. each hosts earlier a y (here_by (of_shape a.table (host_key ∷ form.keys)) (form.reads hosts earlier a) y says_y).1) [] host assigns x is)
     (default n host below) in
     subst (λ m. form.template.MayHave m host (get_or xs host (form.template.default m host))) (sym sized)
     (subst (form.template.MayHave n host) (sym here) said)

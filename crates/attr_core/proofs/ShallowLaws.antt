@@ -2,7 +2,6 @@
 -- arrays, and where a template takes an array, it takes texts in it.
 use Rattle.std.proofs.Common.{◌≡◌, ℕ, ◌&&◌, ◌||◌, Bool, true, false, List, [], ◌∷◌, ◌++◌, Option, Some, None, option_map, option_and_then, is_some, refl, ap, ◌∙◌, sym, subst, ◌⊎◌, inl, inr}
 use Rattle.std.proofs.lemmas.Bool.{and_parts, false≢true, not-false, or_parts}
-use Rattle.std.proofs.lemmas.Slice.Eq.{bytes_eq-Decides}
 use Rattle.std.specs.List.{AllByRecursion, list_all}
 use Rattle.std.specs.Option.{option_map_or}
 use Rattle.std.specs.Prelude.{codes, not, unwrap_or, if◌then◌else◌}
@@ -12,19 +11,20 @@ use Rattle.toml.specs.Data.{Data, string, table, Members, members_are_sorted}
 use Rattle.attr_core.specs.Assigns.{Given}
 use Rattle.attr_core.specs.OwnTables.{Declared, table_form}
 use Rattle.attr_core.specs.Forms.{Form, bad_assign, bad_from, says}
-use Rattle.attr_core.specs.Kinds.{kind_key, kind_of}
-use Rattle.attr_core.specs.NoReach.{all_denied, noreach_attribute, noreach_form, noreach_keys}
-use Rattle.attr_core.specs.Partners.{listless_keys, master_in, master_keys, master_of, partner_kind, partners_attribute, partners_form}
+use Rattle.attr_core.specs.NoReach.{all_denied, noreach_attribute, noreach_form}
+use Rattle.attr_core.specs.Partners.{master_of, partner_of, partners_attribute, partners_form}
+use Rattle.tmpl_zones.specs.Partners.{Partner}
+use Rattle.text_core.proofs.StepsLaws.{bind_some}
 use Rattle.attr_core.specs.Peers.{peer}
-use Rattle.attr_core.specs.Shapes.{has_shape, host_key, of_shape}
+use Rattle.attr_core.specs.Shapes.{host_key, of_shape}
 use Rattle.attr_core.specs.Templates.{form}
 use Rattle.attr_core.specs.declared.template.Template.{Template}
 use Rattle.attr_core.specs.declared.template.Template.TheVariants.{Partners, NoReach}
-use Rattle.table_core.specs.Keys.{Key, Kind, Array, all_suit, has_only_keys, is_one_of, is_text, lacks_key, suits_in}
+use Rattle.table_core.specs.Keys.{Key, Kind, Array, all_suit, has_only_keys, is_text, lacks_key}
 use Rattle.table_core.specs.Listing.{each}
 use Rattle.table_core.specs.Shallow.{IsShallow}
 use Rattle.table_core.proofs.ShallowLaws.{ListsTexts, keys_shallow}
-use Rattle.table_core.specs.Tables.{has_key, list_at, text_at}
+use Rattle.table_core.specs.Tables.{list_at, text_at}
 
 -- the table of the assign has two levels at most
 abbrev pub IsShallowGiven : Given → Type 0
@@ -54,30 +54,17 @@ no_lists (key ∷ keys) ms none =
     let (here, behind) = and_parts (asks_no_array key.kind) (has_no_arrays keys) none in
     (λ array stands. absurd (false≢true (sym (ap asks_no_array array) ∙ here)), no_lists keys ms behind)
 
-either_by : (b others : Bool) → (b || others) ≡ true → (b ≡ true) ⊎ (others ≡ true)
-either_by true others one = inl refl
-either_by false others one = inr one
-
-plain_shallow : (shapes : List (List Key)) (ms : Members) → list_all has_no_arrays shapes ≡ true → has_shape shapes ms ≡ true
-    → members_are_sorted ms ≡ true → IsShallow 2 (table ms)
-plain_shallow [] ms none one sorted = absurd (false≢true one)
-plain_shallow (keys ∷ shapes) ms none one sorted =
-    let (here, behind) = and_parts (has_no_arrays keys) (list_all has_no_arrays shapes) none in
-    elim (either_by (of_shape ms keys) (has_shape shapes ms) one) [
-      | inl shaped ↦ shape_shallow keys ms shaped (no_lists keys ms here) sorted
-      | inr other ↦ plain_shallow shapes ms behind other sorted
-    ]
-
 -- ---- what a template says of a table
 
 said_by : {A : Type 0} (b : Bool) (o : Option A) (x : A) → (if b then o else None) ≡ Some x → (b ≡ true) × (o ≡ Some x)
 said_by true o x said = (refl, said)
 said_by false o x said = cc
 
-without_arrays : (f : Form) → list_all has_no_arrays f.shapes ≡ true → (hosts : List Host) (earlier : List Given) (a : Given)
+without_arrays : (f : Form) → has_no_arrays (host_key ∷ f.keys) ≡ true → (hosts : List Host) (earlier : List Given) (a : Given)
     (x : f.template.Attribute) → says f hosts earlier a ≡ Some x → IsShallowGiven a
 without_arrays f none hosts earlier a x said sorted =
-    let (shaped, _) = said_by (has_shape f.shapes a.table) (f.reads hosts earlier a) x said in plain_shallow f.shapes a.table none shaped sorted
+    let (shaped, _) = said_by (of_shape a.table (host_key ∷ f.keys)) (f.reads hosts earlier a) x said in
+    shape_shallow (host_key ∷ f.keys) a.table shaped (no_lists (host_key ∷ f.keys) a.table none) sorted
 
 -- a list of other hosts is a list of texts
 peers_by : (o : Option ℕ) (rest : Option (List ℕ)) (xs : List ℕ) → option_and_then (λ y. option_map (λ ys. y ∷ ys) rest) o ≡ Some xs
@@ -103,9 +90,8 @@ peers_are_texts hosts host (d ∷ ds) xs read =
     let (others, is) = some_of (each (peer hosts host) ds) behind in
     rw (peer_text hosts host d here) (peers_are_texts hosts host ds others is)
 
-listed_texts : (o : Option (List Data)) → is_some o ≡ true → list_all is_text (unwrap_or o []) ≡ true → option_map_or (list_all is_text) o false ≡ true
-listed_texts None there all = cc
-listed_texts (Some ds) there all = all
+listed_texts : (o : Option (List Data)) (ds : List Data) → o ≡ Some ds → list_all is_text ds ≡ true → option_map_or (list_all is_text) o false ≡ true
+listed_texts o ds is all = rw is all
 
 mapped : {A B : Type 0} (f : A → B) (o : Option A) (y : B) → option_map f o ≡ Some y → (x : A) × (o ≡ Some x)
 mapped f None y is = cc
@@ -115,71 +101,34 @@ noreach_shallow : (hosts : List Host) (earlier : List Given) (a : Given) (x : no
     → says noreach_form hosts earlier a ≡ Some x → IsShallowGiven a
 unfolding noreach_attribute all_denied
 noreach_shallow hosts earlier a x said sorted =
-    let (shaped, read) = said_by (has_shape noreach_form.shapes a.table) (noreach_attribute hosts a.host a.table) x said in
-    let ds = unwrap_or (list_at (codes "deny") a.table) [] in
-    let (others, peers) = mapped _ (each (peer hosts a.host) ds) x read in
+    let (shaped, read) = said_by (of_shape a.table (host_key ∷ noreach_form.keys)) (noreach_attribute hosts a.host a.table) x said in
+    let (ds, stands, denied) = bind_some (list_at (codes "deny") a.table) _ x read in
+    let (others, peers) = mapped _ (each (peer hosts a.host) ds) x denied in
     let texts = peers_are_texts hosts a.host ds others peers in
-    elim (either_by (of_shape a.table noreach_keys) false shaped) [
-      | inl one ↦
-          shape_shallow noreach_keys a.table one
-          (λ array stands. cc, (λ array stands. listed_texts (list_at (codes "deny") a.table) stands texts, tt)) sorted
-      | inr none ↦ absurd (false≢true none)
-    ]
+    shape_shallow (host_key ∷ noreach_form.keys) a.table shaped
+    (λ array there. cc, (λ array there. listed_texts (list_at (codes "deny") a.table) ds stands texts, tt)) sorted
 
--- ---- partners: the kind of a master is the one that its shape has
+-- ---- partners: only a master lists something
 
-not_so : (b : Bool) → not b ≡ true → b ≡ false
-not_so true h = cc
-not_so false h = refl
-
-present : (there stands : Bool) → there ≡ true → (not there || stands) ≡ true → stands ≡ true
-present true stands there suits = suits
-present false stands there suits = cc
-
-one_word : (word : List ℕ) → (bytes_eq word (codes "master") || false) ≡ true → word ≡ codes "master"
-one_word word one = (bytes_eq-Decides word (codes "master")).0 (first_of (bytes_eq word (codes "master")) one)
-  where
-    first_of : (b : Bool) → (b || false) ≡ true → b ≡ true
-    first_of true h = refl
-    first_of false h = h
-
-kind_word : (o : Option (List ℕ)) → option_map_or (is_one_of (codes "master" ∷ [])) o false ≡ true → unwrap_or o [] ≡ codes "master"
-kind_word None one = cc
-kind_word (Some word) one = one_word word one
-
-master_word : (ms : Members) → of_shape ms master_keys ≡ true → kind_of ms ≡ codes "master"
-unfolding of_shape lacks_key all_suit kind_of
-master_word ms shaped =
-    let (front, suits) = and_parts (has_only_keys master_keys ms && not (lacks_key master_keys ms)) (all_suit master_keys ms) shaped in
-    let (_, lacks) = and_parts (has_only_keys master_keys ms) (not (lacks_key master_keys ms)) front in
-    let (_, later) = or_parts _ _ (not_so (lacks_key master_keys ms) lacks) in
-    let (no_kind, _) = or_parts _ _ later in
-    let (_, suits_behind) = and_parts (suits_in ms host_key) _ suits in
-    let (suits_kind, _) = and_parts (suits_in ms (kind_key (codes "master" ∷ []))) _ suits_behind in
-    kind_word (text_at (codes "kind") ms) (present (has_key (codes "kind") ms) _ (not-false _ no_kind) suits_kind)
-
-master_shallow : (hosts : List Host) (a : Given) (x : partners_form.template.Attribute) → of_shape a.table master_keys ≡ true
-    → partners_attribute hosts a.host a.table ≡ Some x → IsShallowGiven a
-unfolding partners_attribute partner_kind master_in master_of
-master_shallow hosts a x shaped read sorted =
-    let ds = unwrap_or (list_at (codes "from") a.table) [] in
-    let said = subst (λ (word : List ℕ). partner_kind hosts a.host a.table word ≡ Some x) (master_word a.table shaped) read in
-    let (others, peers) = mapped _ (each (peer hosts a.host) ds) x said in
-    let texts = peers_are_texts hosts a.host ds others peers in
-    shape_shallow master_keys a.table shaped
-    (λ array stands. cc, (λ array stands. cc, (λ array stands. listed_texts (list_at (codes "from") a.table) stands texts, tt))) sorted
+-- a list that is there is one of texts, where a kind is read
+list_read : (hosts : List Host) (host : ℕ) (o : Option (List Data)) (word : List ℕ) (x : Partner) → partner_of hosts host o word ≡ Some x
+    → is_some o ≡ true → option_map_or (list_all is_text) o false ≡ true
+unfolding master_of
+list_read hosts host None word x read there = cc
+list_read hosts host (Some ds) word x read there =
+    let (_, master) = said_by (bytes_eq word (codes "master")) (master_of hosts host ds) x read in
+    let (others, peers) = mapped _ (each (peer hosts host) ds) x master in
+    peers_are_texts hosts host ds others peers
 
 partners_shallow : (hosts : List Host) (earlier : List Given) (a : Given) (x : partners_form.template.Attribute)
     → says partners_form hosts earlier a ≡ Some x → IsShallowGiven a
+unfolding partners_attribute
 partners_shallow hosts earlier a x said sorted =
-    let (shaped, read) = said_by (has_shape partners_form.shapes a.table) (partners_attribute hosts a.host a.table) x said in
-    elim (either_by (of_shape a.table listless_keys) _ shaped) [
-      | inl listless ↦ shape_shallow listless_keys a.table listless (no_lists listless_keys a.table refl) sorted
-      | inr other ↦ elim (either_by (of_shape a.table master_keys) false other) [
-        | inl master ↦ master_shallow hosts a x master read sorted
-        | inr none ↦ absurd (false≢true none)
-      ]
-    ]
+    let (shaped, read) = said_by (of_shape a.table (host_key ∷ partners_form.keys)) (partners_attribute hosts a.host a.table) x said in
+    let from = list_at (codes "from") a.table in
+    let (word, is, kind) = bind_some (text_at (codes "kind") a.table) (partner_of hosts a.host from) x read in
+    shape_shallow (host_key ∷ partners_form.keys) a.table shaped
+    (λ array there. cc, (λ array there. cc, (λ array there. list_read hosts a.host from word x kind there, tt))) sorted
 
 -- ---- all templates
 

@@ -9,6 +9,7 @@ use Rattle.tmpl_levels.specs.Tainting.{TakesOffItsOwn}
 use Rattle.tmpl_levels.specs.declared.tainting.Labels.{Labels}
 use Rattle.attr_core.specs.laws.LabelBitsLaws.{all_listed, bits_mark, each_listed, one_place, place_of}
 use Rattle.attr_core.specs.laws.LabelWalkLaws.{told_more}
+use Rattle.attr_core.specs.inner.LabelBits.{BitsMeanLabels}
 use Rattle.attr_core.specs.inner.MayHave.{SaysWhatHostsMayHave, sets_listed}
 use Rattle.attr_core.specs.Tainting.{bits_of, different, is_listed, labels_in, labels_of, said_of, tainting_form, with_label}
 
@@ -98,3 +99,6 @@ unfolding said_of
 tainting_may_have hosts earlier a x =
     said_of_lists (labels_of earlier) (labels_in (codes "taints") a.table) (labels_in (codes "untaints") a.table) (labels_of (earlier ++ a ∷ [])) x
     (told_more earlier a)
+
+pub bits_mean_labels : BitsMeanLabels
+bits_mean_labels known labels all place = bits_mark known labels (λ l listed. place_from 0 known l (all l listed)) place

@@ -1,20 +1,22 @@
 -- The record of a template and the cases of AnyInv agree: each law is one term, which is checked for each template.
-use Rattle.std.proofs.Common.{◌≡◌, ℕ, ◌<◌, List, [], length, Some, None, Ok, Err, refl, sym, ap, ◌∙◌, arith}
+use Rattle.std.proofs.Common.{◌≡◌, ℕ, ◌<◌, List, [], length, Option, Some, None, Result, Ok, Err, refl, sym, ap, ◌∙◌, subst, arith}
 use Rattle.std.proofs.lemmas.List.FromFn.{length-map-range_with_len}
-use Rattle.std.specs.Prelude.{unwrap_or}
+use Rattle.std.specs.Prelude.{IfOk, unwrap_or}
 use Rattle.host_net.specs.Host.{Host}
 use Rattle.inv_any.specs.declared.any_inv.AnyInv.{AnyInv}
 use Rattle.attr_core.specs.inner.AssignView.{Reads}
 use Rattle.attr_core.specs.Assigns.{Given}
 use Rattle.attr_core.specs.laws.FormLaws.{bad_within}
-use Rattle.attr_core.specs.Forms.{attributes_in, bad_assign, last_said, says}
+use Rattle.attr_core.proofs.FirstBadLaws.{first_told}
+use Rattle.attr_core.specs.Forms.{Form, attributes_in, bad_assign, last_said, says}
+use Rattle.attr_core.specs.inner.FirstBad.{BlamesFirstBad, SaysNothing, TellsFirstBad}
 use Rattle.attr_core.specs.inner.Walks.{ended}
 use Rattle.attr_core.specs.declared.fault.AttrFault.{AttrFault}
 use Rattle.attr_core.specs.declared.fault.AttrFault.TheVariants.{BadAttribute, Memory}
 use Rattle.inv_law.specs.Template.{meaning}
 use Rattle.inv_any.specs.Templates.{meaning_of, template_name}
-use Rattle.attr_core.specs.Templates.{bad_in, form, invariant_in, template_named}
-use Rattle.attr_core.specs.inner.ReadIn.{read_in}
+use Rattle.attr_core.specs.Templates.{form, template_named}
+use Rattle.attr_core.specs.inner.ReadIn.{bad_in, invariant_in, read_by, read_in}
 use Rattle.attr_core.specs.declared.template.Template.{Template}
 use Rattle.attr_core.specs.declared.template.Template.TheVariants.{Blp}
 
@@ -35,20 +37,17 @@ made_means t xs = refl
 
 pub read_is : (hosts : List Host) (t : Template) (assigns : List Given)
     → read_in hosts t assigns ≡ ended (bad_in hosts t assigns) (invariant_in hosts t assigns)
-unfolding read_in bad_in invariant_in
-read_is hosts Blp assigns = refl
+unfolding read_in read_by bad_in invariant_in
 read_is hosts t assigns = refl
 
 -- the same by the record
 pub bad_is : (hosts : List Host) (t : Template) (assigns : List Given) → bad_in hosts t assigns ≡ bad_assign (form t) hosts assigns
 unfolding bad_in
-bad_is hosts Blp assigns = refl
 bad_is hosts t assigns = refl
 
 pub invariant_is : (hosts : List Host) (t : Template) (assigns : List Given)
     → invariant_in hosts t assigns ≡ (form t).make (attributes_in (form t) hosts assigns)
 unfolding invariant_in
-invariant_is hosts Blp assigns = refl
 invariant_is hosts t assigns = refl
 
 -- what the invariant means: the meaning of the template, of the attributes that are assigned
@@ -70,12 +69,45 @@ invariant_sized hosts t assigns =
 pub bad_given : (hosts : List Host) (t : Template) (assigns : List Given) (k : ℕ) → bad_in hosts t assigns ≡ Some k → k < length assigns
 bad_given hosts t assigns k is = omega (arith, bad_within (says (form t) hosts) [] assigns k (sym (bad_is hosts t assigns) ∙ is))
 
--- where no assign is bad, the invariant is made
-pub made_of_all : (hosts : List Host) (t : Template) (assigns : List Given) (fault : AttrFault) → bad_in hosts t assigns ≡ None
-    → Reads {A = AnyInv} (Err fault) (read_in hosts t assigns) → fault ≡ Memory
-made_of_all hosts t assigns (BadAttribute k) none gives = let never : Ok (invariant_in hosts t assigns) ≡ Err k = ap (λ bad. ended bad (invariant_in hosts t assigns)) (sym none) ∙ sym (read_is hosts t assigns) ∙ gives in cc
-made_of_all hosts t assigns Memory none gives = refl
+-- what was read is the invariant, and no assign is bad
+no_fault : (bad : Option ℕ) (made inv : AnyInv) → ended bad made ≡ Ok inv → (bad ≡ None) × (inv ≡ made)
+no_fault None made inv is = (refl, cc)
+no_fault (Some k) made inv is = cc
 
-pub made_is : (hosts : List Host) (t : Template) (assigns : List Given) (inv : AnyInv) → bad_in hosts t assigns ≡ None
-    → read_in hosts t assigns ≡ Ok inv → inv ≡ invariant_in hosts t assigns
-made_is hosts t assigns inv none is = let same : Ok (invariant_in hosts t assigns) ≡ Ok inv = ap (λ bad. ended bad (invariant_in hosts t assigns)) (sym none) ∙ sym (read_is hosts t assigns) ∙ is in cc
+its_fault : (bad : Option ℕ) (made : AnyInv) (k : ℕ) → ended bad made ≡ Err k → bad ≡ Some k
+its_fault None made k is = cc
+its_fault (Some j) made k is = cc
+
+pub none_of : (hosts : List Host) (t : Template) (assigns : List Given) (r : Result AnyInv AttrFault) → Reads r (read_in hosts t assigns)
+    → IfOk r (λ inv. bad_in hosts t assigns ≡ None)
+none_of hosts t assigns (Ok inv) is = (no_fault (bad_in hosts t assigns) (invariant_in hosts t assigns) inv (sym (read_is hosts t assigns) ∙ is)).0
+none_of hosts t assigns (Err fault) is = tt
+
+pub made_of : (P : AnyInv → Type 0) (hosts : List Host) (t : Template) (assigns : List Given) (r : Result AnyInv AttrFault)
+    → Reads r (read_in hosts t assigns) → P (invariant_in hosts t assigns) → IfOk r P
+made_of P hosts t assigns (Ok inv) is holds =
+    subst P (sym (no_fault (bad_in hosts t assigns) (invariant_in hosts t assigns) inv (sym (read_is hosts t assigns) ∙ is)).1) holds
+made_of P hosts t assigns (Err fault) is holds = tt
+
+-- the assign that is blamed is the first bad one
+pub fault_of : (hosts : List Host) (t : Template) (assigns : List Given) (r : Result AnyInv AttrFault) → Reads r (read_in hosts t assigns)
+    → (k : ℕ) → r ≡ Err (BadAttribute k) → bad_in hosts t assigns ≡ Some k
+fault_of hosts t assigns (Ok inv) is k blamed = cc
+fault_of hosts t assigns (Err (BadAttribute j)) is k blamed =
+    let same : j ≡ k = cc in
+    its_fault (bad_in hosts t assigns) (invariant_in hosts t assigns) j (sym (read_is hosts t assigns) ∙ is) ∙ ap Some same
+fault_of hosts t assigns (Err Memory) is k blamed = cc
+
+silent_told : (f : Form) (hosts : List Host) (assigns : List Given)
+    → TellsFirstBad (SaysNothing f hosts) assigns (bad_assign f hosts assigns)
+silent_told f hosts assigns = first_told (says f hosts) (SaysNothing f hosts) (λ earlier a none. (λ is. is, λ is. is)) assigns
+
+pub blames : (hosts : List Host) (t : Template) (assigns : List Given) (r : Result AnyInv AttrFault) → Reads r (read_in hosts t assigns)
+    → BlamesFirstBad (SaysNothing (form t) hosts) assigns r
+blames hosts t assigns (Ok inv) is =
+    subst (TellsFirstBad (SaysNothing (form t) hosts) assigns)
+    (sym (bad_is hosts t assigns) ∙ none_of hosts t assigns (Ok inv) is) (silent_told (form t) hosts assigns)
+blames hosts t assigns (Err (BadAttribute k)) is =
+    subst (TellsFirstBad (SaysNothing (form t) hosts) assigns)
+    (sym (bad_is hosts t assigns) ∙ fault_of hosts t assigns (Err (BadAttribute k)) is k refl) (silent_told (form t) hosts assigns)
+blames hosts t assigns (Err Memory) is = tt

@@ -1,18 +1,14 @@
 -- Bell-LaPadula: `level`, a whole number to 65,535, is 0 where it is absent; `trusted` is false.
 -- The keys of an assign of this template: docs/FORMATS.md.
-use Rattle.std.specs.Prelude.{false, List, [], ◌∷◌, codes, unwrap_or}
+use Rattle.std.specs.Prelude.{false, [], ◌∷◌, Some, codes, unwrap_or}
 use Rattle.inv_any.specs.declared.any_inv.AnyInv.TheVariants as any
 use Rattle.table_core.specs.Tables.{boolean_at, number_at}
 use Rattle.tmpl_levels.specs.Blp.{blp}
 use Rattle.tmpl_levels.specs.declared.blp.Clearance.{Clearance}
 use Rattle.toml.specs.Data.{Members}
-use Rattle.attr_core.specs.Alone.{plain}
+use Rattle.attr_core.specs.Alone.{alone}
 use Rattle.attr_core.specs.Forms.{Form}
-use Rattle.table_core.specs.Keys.{Key, Boolean, Number, optional}
-use Rattle.attr_core.specs.Shapes.{host_key}
-
-abbrev pub blp_keys : List Key
-blp_keys = host_key ∷ optional (codes "level") (Number 65535) ∷ optional (codes "trusted") Boolean ∷ []
+use Rattle.table_core.specs.Keys.{Boolean, Number, optional}
 
 -- the clearance that a table says
 unfoldable pub blp_attribute : Members → Clearance
@@ -23,4 +19,6 @@ blp_attribute table = record {
 
 -- the template in descriptions
 abbrev pub blp_form : Form
-blp_form = plain blp (blp_keys ∷ []) blp_attribute any.Blp
+blp_form =
+    alone blp (optional (codes "level") (Number 65535) ∷ optional (codes "trusted") Boolean ∷ [])
+    (λ hosts host table. Some (blp_attribute table)) any.Blp

@@ -1,6 +1,6 @@
 -- Domains: `path` is a path of the hierarchy; `trust`, a whole number to 16, is 0 where it is absent.
 -- The keys of an assign of this template: docs/FORMATS.md.
-use Rattle.std.specs.Prelude.{List, [], ◌∷◌, Option, Some, None, option_map, codes, unwrap_or, if◌then◌else◌}
+use Rattle.std.specs.Prelude.{[], ◌∷◌, Option, Some, None, option_map, codes, unwrap_or, if◌then◌else◌}
 use Rattle.inv_any.specs.declared.any_inv.AnyInv.TheVariants as any
 use Rattle.table_core.specs.Tables.{number_at, text_at}
 use Rattle.text_core.specs.Steps.{◌>>=◌}
@@ -9,11 +9,7 @@ use Rattle.tmpl_domains.specs.Path.{is_path, segments}
 use Rattle.toml.specs.Data.{Members}
 use Rattle.attr_core.specs.Alone.{alone}
 use Rattle.attr_core.specs.Forms.{Form}
-use Rattle.table_core.specs.Keys.{Key, Number, Text, needed, optional}
-use Rattle.attr_core.specs.Shapes.{host_key}
-
-abbrev pub domains_keys : List Key
-domains_keys = host_key ∷ needed (codes "path") Text ∷ optional (codes "trust") (Number 16) ∷ []
+use Rattle.table_core.specs.Keys.{Number, Text, needed, optional}
 
 -- the place that a table says, where its path is one
 unfoldable pub domains_attribute : Members → Option Place
@@ -23,4 +19,6 @@ domains_attribute table = do
 
 -- the template in descriptions
 abbrev pub domains_form : Form
-domains_form = alone domains (domains_keys ∷ []) (λ hosts host table. option_map Some (domains_attribute table)) any.Domains
+domains_form =
+    alone domains (needed (codes "path") Text ∷ optional (codes "trust") (Number 16) ∷ [])
+    (λ hosts host table. option_map Some (domains_attribute table)) any.Domains

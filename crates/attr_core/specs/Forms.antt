@@ -8,19 +8,19 @@ use Rattle.inv_any.specs.declared.any_inv.AnyInv.{AnyInv}
 use Rattle.inv_law.specs.Template.{Template}
 use Rattle.attr_core.specs.Assigns.{Given}
 use Rattle.table_core.specs.Keys.{Key}
-use Rattle.attr_core.specs.Shapes.{has_shape}
+use Rattle.attr_core.specs.Shapes.{host_key, of_shape}
 
--- the template, the shapes that the table of an assign may have, the attribute that an assign of such a shape says among these hosts and
--- after these earlier assigns, if it says one, and the invariant of the attributes
+-- the template, the keys of the table of an assign beside the host's, the attribute that an assign with these keys says among these hosts
+-- and after these earlier assigns, if it says one, and the invariant of the attributes
 pub record Form : Type 1 where
   pub template : Template
-  pub shapes : List (List Key)
+  pub keys : List Key
   pub reads : List Host → List Given → Given → Option template.Attribute
   pub make : List template.Attribute → AnyInv
 
--- the attribute that an assign says; one of another shape says none
+-- the attribute that an assign says; one with other keys says none
 abbrev pub says : (form : Form) → List Host → List Given → Given → Option form.template.Attribute
-says form hosts earlier a = if has_shape form.shapes a.table then form.reads hosts earlier a else None
+says form hosts earlier a = if of_shape a.table (host_key ∷ form.keys) then form.reads hosts earlier a else None
 
 -- what the last assign that names the host says
 abbrev pub last_said : {A : Type 0} → (List Given → Given → Option A) → List Given → ℕ → List Given → Option A

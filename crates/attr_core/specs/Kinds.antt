@@ -1,12 +1,26 @@
--- Tables that say a kind, by one of some words at the key `kind`.
-use Rattle.std.specs.Prelude.{ℕ, List, [], codes, unwrap_or}
+-- Templates of kinds: at the key `kind` stands a word, and each template has a row for each of its words.
+use Rattle.std.specs.Prelude.{ℕ, List, [], ◌∷◌, Option, option_map, find, codes}
+use Rattle.std.specs.Str.{bytes_eq}
+use Rattle.inv_any.specs.declared.any_inv.AnyInv.{AnyInv}
+use Rattle.inv_law.specs.Template.{Template}
 use Rattle.toml.specs.Data.{Members}
+use Rattle.attr_core.specs.Alone.{alone}
+use Rattle.attr_core.specs.Forms.{Form}
+use Rattle.table_core.specs.Keys.{Key, Text, needed}
 use Rattle.table_core.specs.Tables.{text_at}
-use Rattle.table_core.specs.Keys.{Key, OneOf, needed}
+use Rattle.text_core.specs.Steps.{◌>>=◌}
 
-abbrev pub kind_key : List (List ℕ) → Key
-kind_key words = needed (codes "kind") (OneOf words)
+abbrev pub kind_key : Key
+kind_key = needed (codes "kind") Text
 
--- the word; none at all reads as the empty one
-unfoldable pub kind_of : Members → List ℕ
-kind_of table = unwrap_or (text_at (codes "kind") table) []
+-- what the row of a word says, if there is one
+abbrev pub kind_named : {K : Type 0} → List (List ℕ × K) → List ℕ → Option K
+kind_named rows word = option_map (λ row. row.1) (find (λ row. bytes_eq word row.0) rows)
+
+-- what the word of a table says
+unfoldable pub kind_in : {K : Type 0} → List (List ℕ × K) → Members → Option K
+kind_in rows table = text_at (codes "kind") table >>= kind_named rows
+
+-- a template whose tables say a kind, and nothing else
+abbrev pub by_kind : (t : Template) → List (List ℕ × t.Attribute) → (List t.Attribute → AnyInv) → Form
+by_kind t rows make = alone t (kind_key ∷ []) (λ hosts host table. kind_in rows table) make

@@ -7,9 +7,9 @@ use Rattle.inv_any.specs.declared.any_inv.AnyInv.TheVariants as any
 use Rattle.tmpl_table.specs.KindTable.{KindTable, declared}
 use Rattle.attr_core.specs.Alone.{alone}
 use Rattle.attr_core.specs.Forms.{Form}
-use Rattle.attr_core.specs.Kinds.{kind_of}
-use Rattle.attr_core.specs.Shapes.{host_key}
-use Rattle.table_core.specs.Keys.{Key, Text, needed}
+use Rattle.attr_core.specs.Kinds.{kind_key}
+use Rattle.table_core.specs.Tables.{text_at}
+use Rattle.text_core.specs.Steps.{◌>>=◌}
 
 -- the words for its kinds, in order, and the table of their numbers
 pub record Declared : Type 0 where
@@ -20,11 +20,8 @@ pub record Declared : Type 0 where
 abbrev pub kind_numbered : List (List ℕ) → List ℕ → Option ℕ
 kind_numbered words word = position_from (bytes_eq word) 0 words
 
-abbrev pub table_keys : List Key
-table_keys = host_key ∷ needed (codes "kind") Text ∷ []
-
 -- the template in descriptions
 abbrev pub table_form : Declared → Form
 table_form d =
-    alone (declared d.table) (table_keys ∷ []) (λ hosts host table. kind_numbered d.words (kind_of table))
+    alone (declared d.table) (kind_key ∷ []) (λ hosts host table. text_at (codes "kind") table >>= kind_numbered d.words)
     (λ hosts. any.Table (record { table = d.table; hosts = hosts }))

@@ -1,6 +1,5 @@
--- The shapes that a template asks of the table of an assign: each is a list of keys.
+-- What a template asks of the table of an assign: a list of keys.
 use Rattle.std.specs.Prelude.{Bool, ◌&&◌, not, List, codes}
-use Rattle.std.specs.List.{list_any}
 use Rattle.table_core.specs.Keys.{Key, Text, all_suit, has_only_keys, lacks_key, needed}
 use Rattle.toml.specs.Data.{Members}
 
@@ -11,6 +10,3 @@ host_key = needed (codes "host") Text
 -- the table has no keys but these, those of them that must be there, and at each a value of its kind
 unfoldable pub of_shape : Members → List Key → Bool
 of_shape table keys = has_only_keys keys table && not (lacks_key keys table) && all_suit keys table
-
-abbrev pub has_shape : List (List Key) → Members → Bool
-has_shape shapes table = list_any (of_shape table) shapes

@@ -15,11 +15,7 @@ use Rattle.tmpl_levels.specs.Tainting.{tainting}
 use Rattle.inv_any.specs.declared.any_inv.AnyInv.TheVariants as any
 use Rattle.attr_core.specs.Assigns.{Given}
 use Rattle.attr_core.specs.Forms.{Form}
-use Rattle.table_core.specs.Keys.{Key, Texts, optional}
-use Rattle.attr_core.specs.Shapes.{host_key}
-
-abbrev pub tainting_keys : List Key
-tainting_keys = host_key ∷ optional (codes "taints") Texts ∷ optional (codes "untaints") Texts ∷ []
+use Rattle.table_core.specs.Keys.{Texts, optional}
 
 -- a label has the form of a name
 unfoldable pub label_in : Data → Option (List ℕ)
@@ -65,10 +61,11 @@ said_of labels table = do
       then Some (record { taints = bits_of labels taints; untaints = bits_of labels untaints })
       else None
 
--- the labels that an assign says of its host, after the earlier ones
-abbrev pub tainting_reads : List Given → Given → Option Labels
-tainting_reads earlier a = said_of (labels_of (earlier ++ a ∷ [])) a.table
-
 -- the template in descriptions
 abbrev pub tainting_form : Form
-tainting_form = record { template = tainting; shapes = tainting_keys ∷ []; reads = λ hosts. tainting_reads; make = any.Tainting }
+tainting_form = record {
+  template = tainting;
+  keys = optional (codes "taints") Texts ∷ optional (codes "untaints") Texts ∷ [];
+  reads = λ hosts earlier a. said_of (labels_of (earlier ++ a ∷ [])) a.table;
+  make = any.Tainting;
+}

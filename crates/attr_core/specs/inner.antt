@@ -3,6 +3,7 @@ pub mod Bad
 pub mod FirstBad
 pub mod Holders
 pub mod InterferenceView
+pub mod LabelBits
 pub mod LabelWalk
 pub mod MayHave
 pub mod OwnTablesWalk

@@ -1,13 +1,14 @@
 //! The way from assigns to an invariant, which is the same for all templates: each assign in turn
 //! gives its host an attribute, until one says none.
-ghost use Rattle.std.specs.Prelude.{◌≡◌, ◌<◌, ℕ, map, List, Option, Some, None, IfOk, All, if◌then◌else◌, length};
+ghost use Rattle.std.specs.Prelude.{◌≡◌, ◌<◌, ◌∷◌, ℕ, map, List, Option, Some, None, IfOk, All, if◌then◌else◌, length};
 ghost use Rattle.attr_core.specs.inner.AssignView.{given_of, Reads};
 ghost use Rattle.attr_core.specs.Assigns.{Given};
-ghost use Rattle.attr_core.specs.Forms.{Form, bad_assign, invariant_by};
-ghost use Rattle.attr_core.specs.Shapes.{has_shape};
+ghost use Rattle.attr_core.specs.Forms.{Form};
+ghost use Rattle.attr_core.specs.Shapes.{host_key, of_shape};
 ghost use Rattle.toml.specs.View.{table_view};
 ghost use Rattle.attr_core.specs.inner.Holders.{IsHolder};
-ghost use Rattle.attr_core.specs.inner.Walks.{ended, in_turn, shaped};
+ghost use Rattle.attr_core.specs.inner.ReadIn.{read_by};
+ghost use Rattle.attr_core.specs.inner.Walks.{in_turn, shaped};
 ghost use Rattle.inv_any.specs.declared.any_inv.AnyInv.{AnyInv};
 ghost use Rattle.host_net.specs.Host.{Host};
 
@@ -37,17 +38,17 @@ pub(crate) trait Assigned: Sized + Drop {
 
     ghost is_holder: { IsHolder form holding start_of with_assign made_of };
 
-    /// Whether the table of an assign has one of the shapes of the template.
+    /// Whether the table of an assign has the keys of the template, and what they ask for.
     fn has_shape(table: &Table) -> bool
-        ensures { result ≡ has_shape form.shapes (table_view table.now) };
+        ensures { result ≡ of_shape (table_view table.now) (host_key ∷ form.keys) };
 
     /// Each host with the default of the template.
     fn start(alloc: Global, hosts: &Hosts) -> Result<Self, AllocError>
         ensures size { IfOk result (λ new. size_of new ≡ length hosts.now) }
         ensures start { IfOk result (λ new. new ≡ start_of hosts.now) };
 
-    /// Gives the host of the assign, whose table has one of the shapes, its attribute, or answers false
-    /// where the assign says none.
+    /// Gives the host of the assign, whose table has the keys of the template, its attribute, or answers
+    /// false where the assign says none.
     fn take(
         &mut self,
         alloc: Global,
@@ -72,8 +73,7 @@ pub(crate) fn read<T: Assigned>(
     assigns: &[Assign<'_>],
 ) -> Result<AnyInv, AttrFault>
     requires { All (λ a. a.host < length hosts.now) assigns.now }
-    ensures { Reads result (ended (bad_assign T.form hosts.now (map given_of assigns.now))
-        (invariant_by T.form hosts.now (map given_of assigns.now))) }
+    ensures { Reads result (read_by T.form hosts.now (map given_of assigns.now)) }
 {
     match take_all::<T>(alloc, hosts, assigns) {
         Ok(taken) => Ok(taken.make()),
@@ -87,7 +87,7 @@ fn take_all<T: Assigned>(
     assigns: &[Assign<'_>],
 ) -> Result<T, AttrFault>
     requires { All (λ a. a.host < length hosts.now) assigns.now }
-    ensures given { Reads result (in_turn (shaped T.form.shapes (T.with_assign hosts.now)) 0 (T.start_of hosts.now)
+    ensures given { Reads result (in_turn (shaped T.form.keys (T.with_assign hosts.now)) 0 (T.start_of hosts.now)
         (map given_of assigns.now)) }
     ensures size { IfOk result (λ taken. T.size_of taken ≡ length hosts.now) }
 {
@@ -110,7 +110,7 @@ fn take_one<T: Assigned>(
     requires size { T.size_of taken.old ≡ length hosts.now }
     requires host { assign.now.host < length hosts.now }
     ensures size { T.size_of taken.new ≡ T.size_of taken.old }
-    ensures taken { IfOk result (λ good. shaped T.form.shapes (T.with_assign hosts.now) taken.old (given_of assign.now)
+    ensures taken { IfOk result (λ good. shaped T.form.keys (T.with_assign hosts.now) taken.old (given_of assign.now)
         ≡ (if good then Some taken.new else None)) }
 {
     if !T::has_shape(assign.table) {

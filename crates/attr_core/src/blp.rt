@@ -1,7 +1,6 @@
 //! Bell-LaPadula: the level of a host, and whether it is trusted.
 ghost use Rattle.std.specs.Prelude.{◌≡◌};
 
-use crate::alone::Alone;
 use crate::assign::Assign;
 use crate::assigned::Assigned;
 use crate::shapes::{HOST, of_shape};
@@ -22,7 +21,7 @@ const KEYS: [Key; 3] = [
 impl Assigned for Blp {
     ghost use Rattle.std.specs.Prelude.{length, replicate, Some};
     ghost use Rattle.std.proofs.Common.{refl};
-    ghost use Rattle.attr_core.specs.inner.Holders.{plain_holder};
+    ghost use Rattle.attr_core.specs.inner.Holders.{even_holder};
     ghost use Rattle.attr_core.specs.inner.Walks.{with_attribute};
     ghost use Rattle.attr_core.specs.Blp.{blp_attribute, blp_form};
     ghost use Rattle.tmpl_levels.specs.Blp.{blp, unclassified};
@@ -40,7 +39,7 @@ impl Assigned for Blp {
 
     ghost holding = { λ _ xs. xs };
 
-    ghost is_holder = { plain_holder blp blp_form.shapes blp_attribute any.Blp unclassified refl };
+    ghost is_holder = { even_holder blp blp_form.keys (λ _ _ table. Some (blp_attribute table)) any.Blp unclassified refl };
 
     fn has_shape(table: &Table) -> bool {
         of_shape(table, &KEYS)
@@ -60,15 +59,5 @@ impl Assigned for Blp {
 
     fn make(self) -> AnyInv {
         AnyInv::Blp(EdgeWise::new(self))
-    }
-}
-
-impl Alone for Blp {
-    ghost use Rattle.std.proofs.Common.{refl};
-
-    ghost alone = { λ _ _ _. refl };
-
-    fn reads(_: &Hosts, _: &Assign<'_>) -> bool {
-        true
     }
 }

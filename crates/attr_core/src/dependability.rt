@@ -1,7 +1,6 @@
 //! Dependability: how many others a host may reach.
 ghost use Rattle.std.specs.Prelude.{◌≡◌};
 
-use crate::alone::Alone;
 use crate::assign::Assign;
 use crate::assigned::Assigned;
 use crate::shapes::{HOST, of_shape};
@@ -15,11 +14,12 @@ use toml::Table;
 const KEYS: [Key; 2] = [HOST, Key::Needed("limit", Kind::Number(65535))];
 
 impl Assigned for Dependability {
-    ghost use Rattle.std.specs.Prelude.{length, replicate, Some};
+    ghost use Rattle.std.specs.Prelude.{codes, length, replicate};
     ghost use Rattle.std.proofs.Common.{refl};
-    ghost use Rattle.attr_core.specs.inner.Holders.{plain_holder};
+    ghost use Rattle.attr_core.specs.inner.Holders.{even_holder};
     ghost use Rattle.attr_core.specs.inner.Walks.{with_attribute};
-    ghost use Rattle.attr_core.specs.Dependability.{dependability_attribute, dependability_form};
+    ghost use Rattle.attr_core.specs.Dependability.{dependability_form};
+    ghost use Rattle.table_core.specs.Tables.{number_at};
     ghost use Rattle.tmpl_reach.specs.Dependability.{dependability};
     ghost use Rattle.inv_any.specs.declared.any_inv.AnyInv.TheVariants as any;
 
@@ -27,7 +27,7 @@ impl Assigned for Dependability {
 
     ghost start_of = { λ hosts. replicate (length hosts) 0 };
 
-    ghost with_assign = { λ hosts. with_attribute (λ a. Some (dependability_attribute a.table)) };
+    ghost with_assign = { λ hosts. with_attribute (λ a. number_at 65535 (codes "limit") a.table) };
 
     ghost made_of = { λ xs. any.Dependability xs };
 
@@ -35,7 +35,7 @@ impl Assigned for Dependability {
 
     ghost holding = { λ _ xs. xs };
 
-    ghost is_holder = { plain_holder dependability dependability_form.shapes dependability_attribute any.Dependability 0 refl };
+    ghost is_holder = { even_holder dependability dependability_form.keys (λ _ _ table. number_at 65535 (codes "limit") table) any.Dependability 0 refl };
 
     fn has_shape(table: &Table) -> bool {
         of_shape(table, &KEYS)
@@ -45,24 +45,15 @@ impl Assigned for Dependability {
         Dependability::new(alloc, hosts.count())
     }
 
-    #[tactic(auto, unfolding(crate::specs::Dependability::dependability_attribute))]
     fn take(&mut self, _: Global, _: &Hosts, assign: &Assign<'_>) -> Result<bool, AllocError> {
-        let limit = number_at(assign.table, "limit", 65535).unwrap_or(0);
+        let Some(limit) = number_at(assign.table, "limit", 65535) else {
+            return Ok(false);
+        };
         self.set(assign.host, limit);
         Ok(true)
     }
 
     fn make(self) -> AnyInv {
         AnyInv::Dependability(self)
-    }
-}
-
-impl Alone for Dependability {
-    ghost use Rattle.std.proofs.Common.{refl};
-
-    ghost alone = { λ _ _ _. refl };
-
-    fn reads(_: &Hosts, _: &Assign<'_>) -> bool {
-        true
     }
 }

@@ -8,7 +8,6 @@ ghost use Rattle.tmpl_domains.specs.Domains.{IsPlace};
 ghost use Rattle.tmpl_domains.specs.Path.{is_path, segments};
 ghost use Rattle.toml.specs.View.{table_view};
 
-use crate::alone::Alone;
 use crate::assign::Assign;
 use crate::assigned::Assigned;
 use crate::shapes::{HOST, of_shape};
@@ -48,7 +47,7 @@ impl Assigned for Domains {
 
     ghost holding = { λ _ xs. xs };
 
-    ghost is_holder = { even_holder domains domains_form.shapes (λ _ _ table. option_map Some (domains_attribute table)) any.Domains None refl };
+    ghost is_holder = { even_holder domains domains_form.keys (λ _ _ table. option_map Some (domains_attribute table)) any.Domains None refl };
 
     fn has_shape(table: &Table) -> bool {
         of_shape(table, &KEYS)
@@ -68,16 +67,6 @@ impl Assigned for Domains {
 
     fn make(self) -> AnyInv {
         AnyInv::Domains(EdgeWise::new(self))
-    }
-}
-
-impl Alone for Domains {
-    ghost use Rattle.std.proofs.Common.{refl};
-
-    ghost alone = { λ _ _ _. refl };
-
-    fn reads(_: &Hosts, assign: &Assign<'_>) -> bool {
-        read_attribute(assign.table).is_some()
     }
 }
 

@@ -1,40 +1,28 @@
 //! Security gateways: the kind of a host.
 ghost use Rattle.std.specs.Prelude.{◌≡◌};
-ghost use Rattle.attr_core.specs.Gateway.{gate_kind};
+ghost use Rattle.attr_core.specs.Gateway.{gateway_kinds};
+ghost use Rattle.attr_core.specs.Kinds.{kind_in};
+ghost use Rattle.toml.specs.View.{table_view};
 
-use crate::alone::Alone;
 use crate::assign::Assign;
 use crate::assigned::Assigned;
-use crate::kinds::kind_of;
-use crate::shapes::{HOST, of_shape};
+use crate::kinds::KEYS;
+use crate::shapes::of_shape;
 use host_net::Hosts;
 use inv_any::AnyInv;
 use inv_law::EdgeWise;
 use std::alloc::{AllocError, Global};
-use table_core::{Key, Kind};
+use table_core::text_at;
 use tmpl_zones::{GateKind, Gateway};
 use toml::Table;
 
-const KEYS: [Key; 2] = [
-    HOST,
-    Key::Needed(
-        "kind",
-        Kind::OneOf(&[
-            "gateway",
-            "gateway-in",
-            "member",
-            "accessible",
-            "unassigned",
-        ]),
-    ),
-];
-
 impl Assigned for Gateway {
-    ghost use Rattle.std.specs.Prelude.{length, replicate, Some};
+    ghost use Rattle.std.specs.Prelude.{length, replicate};
     ghost use Rattle.std.proofs.Common.{refl};
-    ghost use Rattle.attr_core.specs.inner.Holders.{plain_holder};
+    ghost use Rattle.attr_core.specs.inner.Holders.{even_holder};
     ghost use Rattle.attr_core.specs.inner.Walks.{with_attribute};
-    ghost use Rattle.attr_core.specs.Gateway.{gateway_attribute, gateway_form};
+    ghost use Rattle.attr_core.specs.Gateway.{gateway_form, gateway_kinds};
+    ghost use Rattle.attr_core.specs.Kinds.{kind_in};
     ghost use Rattle.tmpl_zones.specs.Gateway.{gateways};
     ghost use Rattle.tmpl_zones.specs.declared.gateway.GateKind.TheVariants.{Unassigned};
     ghost use Rattle.inv_any.specs.declared.any_inv.AnyInv.TheVariants as any;
@@ -43,7 +31,7 @@ impl Assigned for Gateway {
 
     ghost start_of = { λ hosts. replicate (length hosts) Unassigned };
 
-    ghost with_assign = { λ hosts. with_attribute (λ a. Some (gateway_attribute a.table)) };
+    ghost with_assign = { λ hosts. with_attribute (λ a. kind_in gateway_kinds a.table) };
 
     ghost made_of = { λ xs. any.Gateway xs };
 
@@ -51,7 +39,7 @@ impl Assigned for Gateway {
 
     ghost holding = { λ _ xs. xs };
 
-    ghost is_holder = { plain_holder gateways gateway_form.shapes gateway_attribute any.Gateway Unassigned refl };
+    ghost is_holder = { even_holder gateways gateway_form.keys (λ _ _ table. kind_in gateway_kinds table) any.Gateway Unassigned refl };
 
     fn has_shape(table: &Table) -> bool {
         of_shape(table, &KEYS)
@@ -61,9 +49,11 @@ impl Assigned for Gateway {
         Gateway::new(alloc, hosts.count())
     }
 
-    #[tactic(auto, unfolding(crate::specs::Gateway::gateway_attribute))]
     fn take(&mut self, _: Global, _: &Hosts, assign: &Assign<'_>) -> Result<bool, AllocError> {
-        self.set(assign.host, gate_kind(kind_of(assign.table)));
+        let Some(kind) = kind_in(assign.table) else {
+            return Ok(false);
+        };
+        self.set(assign.host, kind);
         Ok(true)
     }
 
@@ -72,25 +62,17 @@ impl Assigned for Gateway {
     }
 }
 
-impl Alone for Gateway {
-    ghost use Rattle.std.proofs.Common.{refl};
-
-    ghost alone = { λ _ _ _. refl };
-
-    fn reads(_: &Hosts, _: &Assign<'_>) -> bool {
-        true
-    }
-}
-
-#[tactic(auto, unfolding(crate::specs::Gateway::gate_kind))]
-fn gate_kind(name: &str) -> GateKind
-    ensures { result ≡ gate_kind name.now }
+/// The kind that the table says.
+#[tactic(auto, unfolding(crate::specs::Kinds::kind_in))]
+fn kind_in(table: &Table) -> Option<GateKind>
+    ensures { result ≡ kind_in gateway_kinds (table_view table.now) }
 {
-    match name {
-        "gateway" => GateKind::Gateway,
-        "gateway-in" => GateKind::GatewayIn,
-        "member" => GateKind::Member,
-        "accessible" => GateKind::Accessible,
-        _ => GateKind::Unassigned,
+    match text_at(table, "kind")? {
+        "gateway" => Some(GateKind::Gateway),
+        "gateway-in" => Some(GateKind::GatewayIn),
+        "member" => Some(GateKind::Member),
+        "accessible" => Some(GateKind::Accessible),
+        "unassigned" => Some(GateKind::Unassigned),
+        _ => None,
     }
 }

@@ -1,18 +1,10 @@
-//! What the templates of kinds share: the word at the key `kind`.
-ghost use Rattle.std.specs.Prelude.{◌≡◌};
-ghost use Rattle.attr_core.specs.Kinds.{kind_of};
-ghost use Rattle.toml.specs.View.{table_view};
+//! What the templates of kinds share: a word at the key `kind`.
 
-use table_core::text_at;
-use toml::Table;
+use crate::shapes::HOST;
+use table_core::{Key, Kind};
 
-/// The word; none at all reads as the empty one.
-#[tactic(auto, unfolding(crate::specs::Kinds::kind_of))]
-pub(crate) fn kind_of(table: &Table) -> &str
-    ensures { result.now ≡ kind_of (table_view table.now) }
-{
-    match text_at(table, "kind") {
-        Some(word) => word,
-        None => "",
-    }
-}
+/// The word for the kind of the host.
+pub(crate) const KIND: Key = Key::Needed("kind", Kind::Text);
+
+/// The keys of a table that says a kind, and nothing else.
+pub(crate) const KEYS: [Key; 2] = [HOST, KIND];

@@ -3,7 +3,6 @@
 //! or the number of the first assign that says no attribute.
 #![tactic(auto)]
 
-mod alone;
 mod assign;
 mod assigned;
 mod blp;
@@ -28,7 +27,8 @@ mod template;
 mod tests;
 
 pub use assign::Assign;
-pub use invariant::{bad_attribute, read_invariant};
-pub use may_have::says_what_hosts_may_have;
+pub use fault::AttrFault;
+pub use invariant::read_invariant;
+pub use may_have::{bits_mean_labels, says_what_hosts_may_have};
 pub use own_table::{bad_kind, kind_numbered, read_kinds};
 pub use template::Template;

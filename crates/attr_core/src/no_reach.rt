@@ -3,15 +3,14 @@ ghost use Rattle.std.specs.Prelude.{◌≡◌, ◌<◌, Some, None, if◌then◌
 ghost use Rattle.attr_core.specs.NoReach.{all_denied};
 ghost use Rattle.toml.specs.View.{view};
 
-use crate::alone::Alone;
 use crate::assign::Assign;
 use crate::assigned::Assigned;
-use crate::peers::{are_peers, listed_at, peer};
+use crate::peers::peer;
 use crate::shapes::{HOST, of_shape};
 use host_net::Hosts;
 use inv_any::AnyInv;
 use std::alloc::{AllocError, Global};
-use table_core::{Key, Kind};
+use table_core::{Key, Kind, list_at};
 use tmpl_reach::NoReach;
 use toml::{Table, Value};
 
@@ -39,7 +38,7 @@ impl Assigned for NoReach {
 
     ghost holding = { λ _ xs. xs };
 
-    ghost is_holder = { alone_holder no_reach noreach_form.shapes (λ hosts host table. noreach_attribute hosts host table) any.NoReach (λ hosts. all_others (length hosts)) (λ hosts. refl) };
+    ghost is_holder = { alone_holder no_reach noreach_form.keys (λ hosts host table. noreach_attribute hosts host table) any.NoReach (λ hosts. all_others (length hosts)) (λ hosts. refl) };
 
     fn has_shape(table: &Table) -> bool {
         of_shape(table, &KEYS)
@@ -51,22 +50,14 @@ impl Assigned for NoReach {
 
     #[tactic(auto, unfolding(crate::specs::NoReach::noreach_attribute))]
     fn take(&mut self, _: Global, hosts: &Hosts, assign: &Assign<'_>) -> Result<bool, AllocError> {
-        Ok(deny_all(self, hosts, assign.host, listed_at(assign.table, "deny")))
+        match list_at(assign.table, "deny") {
+            Some(listed) => Ok(deny_all(self, hosts, assign.host, listed)),
+            None => Ok(false),
+        }
     }
 
     fn make(self) -> AnyInv {
         AnyInv::NoReach(self)
-    }
-}
-
-impl Alone for NoReach {
-    ghost use Rattle.std.proofs.Common.{refl};
-
-    ghost alone = { λ _ _ _. refl };
-
-    #[tactic(auto, using(crate::specs::inner::Bad::is_some_map), unfolding(crate::specs::NoReach::noreach_attribute, crate::specs::NoReach::all_denied))]
-    fn reads(hosts: &Hosts, assign: &Assign<'_>) -> bool {
-        are_peers(hosts, assign.host, listed_at(assign.table, "deny"))
     }
 }
 

@@ -1,31 +1,29 @@
 //! Non-interference: whether a host is one of those that are kept apart.
-ghost use Rattle.std.specs.Prelude.{◌≡◌, codes};
-ghost use Rattle.std.specs.Str.{bytes_eq};
+ghost use Rattle.std.specs.Prelude.{◌≡◌, option_map};
+ghost use Rattle.attr_core.specs.Kinds.{kind_in};
+ghost use Rattle.attr_core.specs.NonInterference.{interference_kinds};
+ghost use Rattle.attr_core.specs.inner.InterferenceView.{interference_of};
+ghost use Rattle.toml.specs.View.{table_view};
 
-use crate::alone::Alone;
 use crate::assign::Assign;
 use crate::assigned::Assigned;
-use crate::kinds::kind_of;
-use crate::shapes::{HOST, of_shape};
+use crate::kinds::KEYS;
+use crate::shapes::of_shape;
 use host_net::Hosts;
 use inv_any::AnyInv;
 use inv_law::Invariant;
 use std::alloc::{AllocError, Global};
-use table_core::{Key, Kind};
+use table_core::text_at;
 use tmpl_reach::NonInterference;
 use toml::Table;
 
-const KEYS: [Key; 2] = [
-    HOST,
-    Key::Needed("kind", Kind::OneOf(&["unrelated", "interfering"])),
-];
-
 impl Assigned for NonInterference {
-    ghost use Rattle.std.specs.Prelude.{length, replicate, Some};
+    ghost use Rattle.std.specs.Prelude.{length, replicate};
     ghost use Rattle.std.proofs.Common.{refl};
-    ghost use Rattle.attr_core.specs.inner.Holders.{plain_holder};
+    ghost use Rattle.attr_core.specs.inner.Holders.{even_holder};
     ghost use Rattle.attr_core.specs.inner.Walks.{with_attribute};
-    ghost use Rattle.attr_core.specs.NonInterference.{interference_attribute, interference_form};
+    ghost use Rattle.attr_core.specs.NonInterference.{interference_form, interference_kinds};
+    ghost use Rattle.attr_core.specs.Kinds.{kind_in};
     ghost use Rattle.tmpl_reach.specs.NonInterference.{non_interference};
     ghost use Rattle.tmpl_reach.specs.declared.non_interference.Interference.TheVariants.{Interfering};
     ghost use Rattle.inv_any.specs.declared.any_inv.AnyInv.TheVariants as any;
@@ -34,7 +32,7 @@ impl Assigned for NonInterference {
 
     ghost start_of = { λ hosts. replicate (length hosts) Interfering };
 
-    ghost with_assign = { λ hosts. with_attribute (λ a. Some (interference_attribute a.table)) };
+    ghost with_assign = { λ hosts. with_attribute (λ a. kind_in interference_kinds a.table) };
 
     ghost made_of = { λ xs. any.NonInterference xs };
 
@@ -42,7 +40,7 @@ impl Assigned for NonInterference {
 
     ghost holding = { λ _ xs. xs };
 
-    ghost is_holder = { plain_holder non_interference interference_form.shapes interference_attribute any.NonInterference Interfering refl };
+    ghost is_holder = { even_holder non_interference interference_form.keys (λ _ _ table. kind_in interference_kinds table) any.NonInterference Interfering refl };
 
     fn has_shape(table: &Table) -> bool {
         of_shape(table, &KEYS)
@@ -52,12 +50,11 @@ impl Assigned for NonInterference {
         NonInterference::new(alloc, hosts.count())
     }
 
-    #[tactic(auto, unfolding(crate::specs::NonInterference::interference_attribute, crate::specs::NonInterference::interference_kind))]
     fn take(&mut self, alloc: Global, _: &Hosts, assign: &Assign<'_>) -> Result<bool, AllocError> {
-        if is_unrelated(kind_of(assign.table)) {
-            self.set_unrelated(assign.host);
-        } else {
-            *self = self.with_default(alloc, assign.host)?;
+        match interferes(assign.table) {
+            Some(false) => self.set_unrelated(assign.host),
+            Some(true) => *self = self.with_default(alloc, assign.host)?,
+            None => return Ok(false),
         }
         Ok(true)
     }
@@ -67,18 +64,14 @@ impl Assigned for NonInterference {
     }
 }
 
-impl Alone for NonInterference {
-    ghost use Rattle.std.proofs.Common.{refl};
-
-    ghost alone = { λ _ _ _. refl };
-
-    fn reads(_: &Hosts, _: &Assign<'_>) -> bool {
-        true
-    }
-}
-
-fn is_unrelated(name: &str) -> bool
-    ensures { result ≡ bytes_eq name.now (codes "unrelated") }
+/// Whether the table says that the host is interfering, if it says a kind.
+#[tactic(auto, unfolding(crate::specs::Kinds::kind_in))]
+fn interferes(table: &Table) -> Option<bool>
+    ensures { option_map interference_of result ≡ kind_in interference_kinds (table_view table.now) }
 {
-    name == "unrelated"
+    match text_at(table, "kind")? {
+        "unrelated" => Some(false),
+        "interfering" => Some(true),
+        _ => None,
+    }
 }

@@ -13,15 +13,13 @@ ghost use Rattle.host_net.specs.Host.{Host};
 ghost use Rattle.toml.specs.View.{table_view};
 
 use crate::assign::Assign;
-use crate::kinds::kind_of;
-use crate::shapes::{HOST, of_shape};
+use crate::kinds::KEYS;
+use crate::shapes::of_shape;
 use inv_any::AnyInv;
 use inv_law::EdgeWise;
-use table_core::{Key, Kind};
+use table_core::text_at;
 use tmpl_table::TableRule;
 use toml::Table;
-
-const KEYS: [Key; 2] = [HOST, Key::Needed("kind", Kind::Text)];
 
 /// The number of a kind, from 0, by its word.
 pub fn kind_numbered(words: &[&str], word: &str) -> Option<usize>
@@ -46,7 +44,7 @@ fn kind_said(words: &[&str], table: &Table) -> Option<usize>
     if !of_shape(table, &KEYS) {
         return None;
     }
-    kind_numbered(words, kind_of(table))
+    kind_numbered(words, text_at(table, "kind")?)
 }
 
 /// The number, from 0, of the first assign whose table says no kind of a declared template with these

@@ -1,32 +1,23 @@
 //! Partners: whom a host takes packets from.
-ghost use Rattle.std.specs.Prelude.{◌≡◌, ◌<◌, Some, None, if◌then◌else◌, map, option_map, length, slice_set, is_some};
-ghost use Rattle.attr_core.specs.Partners.{master_in, master_of};
-ghost use Rattle.toml.specs.View.{view, table_view};
+ghost use Rattle.std.specs.Prelude.{◌≡◌, ◌<◌, Some, None, if◌then◌else◌, map, option_map, length, slice_set, IfOk};
+ghost use Rattle.attr_core.specs.Kinds.{kind_named};
+ghost use Rattle.attr_core.specs.Partners.{listless_kinds, master_of, partner_of};
+ghost use Rattle.toml.specs.View.{view};
 
-use crate::alone::Alone;
 use crate::assign::Assign;
 use crate::assigned::Assigned;
-use crate::kinds::kind_of;
-use crate::peers::{are_peers, listed_at, peer};
+use crate::kinds::KIND;
+use crate::peers::peer;
 use crate::shapes::{HOST, of_shape};
 use host_net::Hosts;
 use inv_any::AnyInv;
 use inv_law::{EdgeRule, EdgeWise};
 use std::alloc::{AllocError, Global};
-use table_core::{Key, Kind};
+use table_core::{Key, Kind, list_at, text_at};
 use tmpl_zones::Partners;
 use toml::{Table, Value};
 
-const LISTLESS: [Key; 2] = [
-    HOST,
-    Key::Needed("kind", Kind::OneOf(&["dontcare", "care"])),
-];
-
-const MASTER: [Key; 3] = [
-    HOST,
-    Key::Needed("kind", Kind::OneOf(&["master"])),
-    Key::Needed("from", Kind::List),
-];
+const KEYS: [Key; 3] = [HOST, KIND, Key::Optional("from", Kind::List)];
 
 impl Assigned for Partners {
     ghost use Rattle.std.specs.Prelude.{length, replicate};
@@ -49,29 +40,30 @@ impl Assigned for Partners {
 
     ghost holding = { λ _ xs. xs };
 
-    ghost is_holder = { even_holder partners partners_form.shapes (λ hosts host table. partners_attribute hosts host table) any.Partners DontCare refl };
+    ghost is_holder = { even_holder partners partners_form.keys (λ hosts host table. partners_attribute hosts host table) any.Partners DontCare refl };
 
     fn has_shape(table: &Table) -> bool {
-        of_shape(table, &LISTLESS) || of_shape(table, &MASTER)
+        of_shape(table, &KEYS)
     }
 
     fn start(alloc: Global, hosts: &Hosts) -> Result<Self, AllocError> {
         Partners::new(alloc, hosts.count())
     }
 
-    #[tactic(auto, unfolding(crate::specs::Partners::partners_attribute, crate::specs::Partners::partner_kind))]
+    #[tactic(auto, unfolding(crate::specs::Partners::partners_attribute))]
     fn take(
         &mut self,
         alloc: Global,
         hosts: &Hosts,
         assign: &Assign<'_>,
     ) -> Result<bool, AllocError> {
-        match kind_of(assign.table) {
-            "care" => self.set_care(assign.host),
-            "master" => return Ok(put_master(self, hosts, assign)),
-            _ => *self = self.with_default(alloc, assign.host)?,
+        let Some(word) = text_at(assign.table, "kind") else {
+            return Ok(false);
+        };
+        match list_at(assign.table, "from") {
+            Some(listed) => Ok(put_master(self, hosts, assign.host, word, listed)),
+            None => put_listless(self, alloc, assign.host, word),
         }
-        Ok(true)
     }
 
     fn make(self) -> AnyInv {
@@ -79,42 +71,43 @@ impl Assigned for Partners {
     }
 }
 
-impl Alone for Partners {
-    ghost use Rattle.std.proofs.Common.{refl};
-
-    ghost alone = { λ _ _ _. refl };
-
-    #[tactic(auto, unfolding(crate::specs::Partners::partners_attribute, crate::specs::Partners::partner_kind))]
-    fn reads(hosts: &Hosts, assign: &Assign<'_>) -> bool {
-        match kind_of(assign.table) {
-            "care" => true,
-            "master" => lists_peers(hosts, assign),
-            _ => true,
-        }
-    }
-}
-
-#[tactic(auto, using(crate::specs::inner::Bad::is_some_map), unfolding(crate::specs::Partners::master_in, crate::specs::Partners::master_of))]
-fn lists_peers(hosts: &Hosts, assign: &Assign<'_>) -> bool
-    ensures { result ≡ is_some (master_in hosts.now assign.now.host (table_view assign.now.table.now)) }
-{
-    are_peers(hosts, assign.host, listed_at(assign.table, "from"))
-}
-
-// Makes the host of the assign a master, or answers false where one of the listed is no other host.
-#[tactic(auto, unfolding(crate::specs::Partners::master_in))]
-fn put_master(rule: &mut Partners, hosts: &Hosts, assign: &Assign<'_>) -> bool
-    requires size { length rule.old ≡ length hosts.now }
-    requires host { assign.now.host < length hosts.now }
+/// Gives the host a kind without a list, or answers false where the word is that of none.
+fn put_listless(
+    rule: &mut Partners,
+    alloc: Global,
+    host: u16,
+    word: &str,
+) -> Result<bool, AllocError>
+    requires { host < length rule.old }
     ensures size { length rule.new ≡ length rule.old }
-    ensures put { option_map (slice_set rule.old assign.now.host)
-        (master_in hosts.now assign.now.host (table_view assign.now.table.now)) ≡ (if result then Some rule.new else None) }
+    ensures put { IfOk result (λ good. option_map (slice_set rule.old host) (kind_named listless_kinds word.now)
+        ≡ (if good then Some rule.new else None)) }
 {
-    allow_all(rule, hosts, assign.host, listed_at(assign.table, "from"))
+    match word {
+        "care" => rule.set_care(host),
+        "dontcare" => *rule = rule.with_default(alloc, host)?,
+        _ => return Ok(false),
+    }
+    Ok(true)
 }
 
-// Makes the host a master that takes from the listed hosts alone, or answers false where one of them
-// is no other host.
+/// Makes the host a master, or answers false where the word is that of no master, or one of the listed is
+/// no other host.
+fn put_master(rule: &mut Partners, hosts: &Hosts, host: u16, word: &str, listed: &[Value]) -> bool
+    requires size { length rule.old ≡ length hosts.now }
+    requires host { host < length hosts.now }
+    ensures size { length rule.new ≡ length rule.old }
+    ensures put { option_map (slice_set rule.old host) (partner_of hosts.now host (Some (map view listed.now)) word.now)
+        ≡ (if result then Some rule.new else None) }
+{
+    if word != "master" {
+        return false;
+    }
+    allow_all(rule, hosts, host, listed)
+}
+
+/// Makes the host a master that takes from the listed hosts alone, or answers false where one of them
+/// is no other host.
 fn allow_all(rule: &mut Partners, hosts: &Hosts, host: u16, listed: &[Value]) -> bool
     requires size { length rule.old ≡ length hosts.now }
     requires host { host < length hosts.now }

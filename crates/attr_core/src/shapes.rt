@@ -1,4 +1,4 @@
-//! The shapes of an assign's table: which keys it has, and what stands at them.
+//! The shape of an assign's table: which keys it has, and what stands at them.
 ghost use Rattle.std.specs.Prelude.{◌≡◌, map};
 ghost use Rattle.attr_core.specs.Shapes.{of_shape};
 ghost use Rattle.table_core.specs.inner.KeyView.{key_view};

@@ -1,31 +1,28 @@
 //! Sinks: the kind of a host.
 ghost use Rattle.std.specs.Prelude.{◌≡◌};
-ghost use Rattle.attr_core.specs.Sink.{sink_kind};
+ghost use Rattle.attr_core.specs.Kinds.{kind_in};
+ghost use Rattle.attr_core.specs.Sink.{sink_kinds};
+ghost use Rattle.toml.specs.View.{table_view};
 
-use crate::alone::Alone;
 use crate::assign::Assign;
 use crate::assigned::Assigned;
-use crate::kinds::kind_of;
-use crate::shapes::{HOST, of_shape};
+use crate::kinds::KEYS;
+use crate::shapes::of_shape;
 use host_net::Hosts;
 use inv_any::AnyInv;
 use inv_law::EdgeWise;
 use std::alloc::{AllocError, Global};
-use table_core::{Key, Kind};
+use table_core::text_at;
 use tmpl_zones::{SinkKind, SinkRule};
 use toml::Table;
 
-const KEYS: [Key; 2] = [
-    HOST,
-    Key::Needed("kind", Kind::OneOf(&["sink", "pool", "unassigned"])),
-];
-
 impl Assigned for SinkRule {
-    ghost use Rattle.std.specs.Prelude.{length, replicate, Some};
+    ghost use Rattle.std.specs.Prelude.{length, replicate};
     ghost use Rattle.std.proofs.Common.{refl};
-    ghost use Rattle.attr_core.specs.inner.Holders.{plain_holder};
+    ghost use Rattle.attr_core.specs.inner.Holders.{even_holder};
     ghost use Rattle.attr_core.specs.inner.Walks.{with_attribute};
-    ghost use Rattle.attr_core.specs.Sink.{sink_attribute, sink_form};
+    ghost use Rattle.attr_core.specs.Sink.{sink_form, sink_kinds};
+    ghost use Rattle.attr_core.specs.Kinds.{kind_in};
     ghost use Rattle.tmpl_zones.specs.Sink.{sinks};
     ghost use Rattle.tmpl_zones.specs.declared.sink.SinkKind.TheVariants.{Unassigned};
     ghost use Rattle.inv_any.specs.declared.any_inv.AnyInv.TheVariants as any;
@@ -34,7 +31,7 @@ impl Assigned for SinkRule {
 
     ghost start_of = { λ hosts. replicate (length hosts) Unassigned };
 
-    ghost with_assign = { λ hosts. with_attribute (λ a. Some (sink_attribute a.table)) };
+    ghost with_assign = { λ hosts. with_attribute (λ a. kind_in sink_kinds a.table) };
 
     ghost made_of = { λ xs. any.Sink xs };
 
@@ -42,7 +39,7 @@ impl Assigned for SinkRule {
 
     ghost holding = { λ _ xs. xs };
 
-    ghost is_holder = { plain_holder sinks sink_form.shapes sink_attribute any.Sink Unassigned refl };
+    ghost is_holder = { even_holder sinks sink_form.keys (λ _ _ table. kind_in sink_kinds table) any.Sink Unassigned refl };
 
     fn has_shape(table: &Table) -> bool {
         of_shape(table, &KEYS)
@@ -52,9 +49,11 @@ impl Assigned for SinkRule {
         SinkRule::new(alloc, hosts.count())
     }
 
-    #[tactic(auto, unfolding(crate::specs::Sink::sink_attribute))]
     fn take(&mut self, _: Global, _: &Hosts, assign: &Assign<'_>) -> Result<bool, AllocError> {
-        self.set(assign.host, sink_kind(kind_of(assign.table)));
+        let Some(kind) = kind_in(assign.table) else {
+            return Ok(false);
+        };
+        self.set(assign.host, kind);
         Ok(true)
     }
 
@@ -63,23 +62,15 @@ impl Assigned for SinkRule {
     }
 }
 
-impl Alone for SinkRule {
-    ghost use Rattle.std.proofs.Common.{refl};
-
-    ghost alone = { λ _ _ _. refl };
-
-    fn reads(_: &Hosts, _: &Assign<'_>) -> bool {
-        true
-    }
-}
-
-#[tactic(auto, unfolding(crate::specs::Sink::sink_kind))]
-fn sink_kind(name: &str) -> SinkKind
-    ensures { result ≡ sink_kind name.now }
+/// The kind that the table says.
+#[tactic(auto, unfolding(crate::specs::Kinds::kind_in))]
+fn kind_in(table: &Table) -> Option<SinkKind>
+    ensures { result ≡ kind_in sink_kinds (table_view table.now) }
 {
-    match name {
-        "sink" => SinkKind::Sink,
-        "pool" => SinkKind::Pool,
-        _ => SinkKind::Unassigned,
+    match text_at(table, "kind")? {
+        "sink" => Some(SinkKind::Sink),
+        "pool" => Some(SinkKind::Pool),
+        "unassigned" => Some(SinkKind::Unassigned),
+        _ => None,
     }
 }

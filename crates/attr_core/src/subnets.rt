@@ -1,32 +1,27 @@
 //! Subnets: the kind of a host, and the number of its subnet.
-ghost use Rattle.std.specs.Prelude.{◌≡◌};
-ghost use Rattle.attr_core.specs.Subnets.{net_kind};
+ghost use Rattle.std.specs.Prelude.{◌≡◌, Some};
+ghost use Rattle.attr_core.specs.Kinds.{kind_named};
+ghost use Rattle.attr_core.specs.Subnets.{net_kinds, subnets_attribute};
+ghost use Rattle.toml.specs.View.{table_view};
 
-use crate::alone::Alone;
 use crate::assign::Assign;
 use crate::assigned::Assigned;
-use crate::kinds::kind_of;
+use crate::kinds::KIND;
 use crate::shapes::{HOST, of_shape};
 use host_net::Hosts;
 use inv_any::AnyInv;
 use inv_law::EdgeWise;
 use std::alloc::{AllocError, Global};
-use table_core::{Key, Kind, number_at};
+use table_core::{Key, Kind, number_at, text_at};
 use tmpl_zones::{NetKind, Subnets};
 use toml::Table;
 
-const NUMBERED: [Key; 3] = [
-    HOST,
-    Key::Needed("kind", Kind::OneOf(&["subnet", "border"])),
-    Key::Needed("number", Kind::Number(65535)),
-];
-
-const UNASSIGNED: [Key; 2] = [HOST, Key::Needed("kind", Kind::OneOf(&["unassigned"]))];
+const KEYS: [Key; 3] = [HOST, KIND, Key::Optional("number", Kind::Number(65535))];
 
 impl Assigned for Subnets {
-    ghost use Rattle.std.specs.Prelude.{length, replicate, Some};
+    ghost use Rattle.std.specs.Prelude.{length, replicate};
     ghost use Rattle.std.proofs.Common.{refl};
-    ghost use Rattle.attr_core.specs.inner.Holders.{plain_holder};
+    ghost use Rattle.attr_core.specs.inner.Holders.{even_holder};
     ghost use Rattle.attr_core.specs.inner.Walks.{with_attribute};
     ghost use Rattle.attr_core.specs.Subnets.{subnets_attribute, subnets_form};
     ghost use Rattle.tmpl_zones.specs.Subnets.{subnets};
@@ -37,7 +32,7 @@ impl Assigned for Subnets {
 
     ghost start_of = { λ hosts. replicate (length hosts) Unassigned };
 
-    ghost with_assign = { λ hosts. with_attribute (λ a. Some (subnets_attribute a.table)) };
+    ghost with_assign = { λ hosts. with_attribute (λ a. subnets_attribute a.table) };
 
     ghost made_of = { λ xs. any.Subnets xs };
 
@@ -45,20 +40,21 @@ impl Assigned for Subnets {
 
     ghost holding = { λ _ xs. xs };
 
-    ghost is_holder = { plain_holder subnets subnets_form.shapes subnets_attribute any.Subnets Unassigned refl };
+    ghost is_holder = { even_holder subnets subnets_form.keys (λ _ _ table. subnets_attribute table) any.Subnets Unassigned refl };
 
     fn has_shape(table: &Table) -> bool {
-        of_shape(table, &NUMBERED) || of_shape(table, &UNASSIGNED)
+        of_shape(table, &KEYS)
     }
 
     fn start(alloc: Global, hosts: &Hosts) -> Result<Self, AllocError> {
         Subnets::new(alloc, hosts.count())
     }
 
-    #[tactic(auto, unfolding(crate::specs::Subnets::subnets_attribute))]
     fn take(&mut self, _: Global, _: &Hosts, assign: &Assign<'_>) -> Result<bool, AllocError> {
-        let number = number_at(assign.table, "number", 65535).unwrap_or(0);
-        self.set(assign.host, net_kind(number, kind_of(assign.table)));
+        let Some(kind) = read_kind(assign.table) else {
+            return Ok(false);
+        };
+        self.set(assign.host, kind);
         Ok(true)
     }
 
@@ -67,23 +63,31 @@ impl Assigned for Subnets {
     }
 }
 
-impl Alone for Subnets {
-    ghost use Rattle.std.proofs.Common.{refl};
+/// The kind that the table says.
+#[tactic(auto, unfolding(crate::specs::Kinds::kind_in, crate::specs::Subnets::subnets_attribute))]
+fn read_kind(table: &Table) -> Option<NetKind>
+    ensures { result ≡ subnets_attribute (table_view table.now) }
+{
+    kind_named(number_at(table, "number", 65535), text_at(table, "kind")?)
+}
 
-    ghost alone = { λ _ _ _. refl };
-
-    fn reads(_: &Hosts, _: &Assign<'_>) -> bool {
-        true
+/// The kind of a word, with the number beside it or without one.
+fn kind_named(number: Option<u16>, word: &str) -> Option<NetKind>
+    ensures { result ≡ kind_named (net_kinds number) word.now }
+{
+    match number {
+        Some(number) => numbered(number, word),
+        None if word == "unassigned" => Some(NetKind::Unassigned),
+        None => None,
     }
 }
 
-#[tactic(auto, unfolding(crate::specs::Subnets::net_kind))]
-fn net_kind(number: u16, name: &str) -> NetKind
-    ensures { result ≡ net_kind number name.now }
+fn numbered(number: u16, word: &str) -> Option<NetKind>
+    ensures { result ≡ kind_named (net_kinds (Some number)) word.now }
 {
-    match name {
-        "subnet" => NetKind::Subnet(number),
-        "border" => NetKind::Border(number),
-        _ => NetKind::Unassigned,
+    match word {
+        "subnet" => Some(NetKind::Subnet(number)),
+        "border" => Some(NetKind::Border(number)),
+        _ => None,
     }
 }

@@ -1,12 +1,8 @@
 //! Tainting: the labels of a host, and those that it takes off what it sends. A label of an invariant
 //! has a number, by the place where it first stands.
-ghost use Rattle.std.specs.Prelude.{◌≡◌, ◌<◌, ◌≤◌, IsTrue, [], Some, None, if◌then◌else◌, map, option_map, length, IfOk, IfSome};
-ghost use Rattle.attr_core.specs.inner.AssignView.{given_of};
-ghost use Rattle.attr_core.specs.inner.Bad.{first_unlabelled, labels_said};
-ghost use Rattle.attr_core.specs.Forms.{bad_assign};
+ghost use Rattle.std.specs.Prelude.{◌≡◌, ◌<◌, ◌≤◌, IsTrue, map, option_map, length, IfOk, IfSome};
 ghost use Rattle.attr_core.specs.inner.LabelWalk.{all_labels, and_label, are_among, labelled, labels_at, numbered};
-ghost use Rattle.attr_core.specs.Tainting.{label_in, tainting_form};
-ghost use Rattle.host_net.specs.Host.{Host};
+ghost use Rattle.attr_core.specs.Tainting.{label_in};
 ghost use Rattle.std.specs.List.{position_from};
 ghost use Rattle.std.specs.Str.{bytes_eq};
 ghost use Rattle.tmpl_levels.specs.Tainting.{TakesOffItsOwn};
@@ -93,40 +89,6 @@ impl Assigned for TaintedHosts {
     fn make(self) -> AnyInv {
         AnyInv::Tainting(EdgeWise::new(self.hosts))
     }
-}
-
-/// The number of the first assign that says no labels, or too many.
-pub(crate) fn first_bad(
-    alloc: Global,
-    hosts: &Hosts,
-    assigns: &[Assign<'_>],
-) -> Result<Option<usize>, AllocError>
-    ensures { IfOk result (λ bad. bad ≡ bad_assign tainting_form hosts.now (map given_of assigns.now)) }
-{
-    let _hosts = hosts;
-    first_unlabelled(alloc, assigns)
-}
-
-fn first_unlabelled(alloc: Global, assigns: &[Assign<'_>]) -> Result<Option<usize>, AllocError>
-    ensures { IfOk result (λ bad. bad ≡ first_unlabelled 0 [] (map given_of assigns.now)) }
-{
-    let mut labels = Vec::new(alloc);
-    for (place, assign) in assigns.iter().enumerate() {
-        if !says_labels(&mut labels, assign)? {
-            return Ok(Some(place));
-        }
-    }
-    Ok(None)
-}
-
-// Whether the assign says labels, which are then known.
-fn says_labels(labels: &mut Vec<Name>, assign: &Assign<'_>) -> Result<bool, AllocError>
-    requires { length labels.old.items ≤ 64 }
-    ensures few { length labels.new.items ≤ 64 }
-    ensures said { IfOk result (λ said. labels_said labels.old.items (given_of assign.now).table
-        ≡ (if said then Some labels.new.items else None)) }
-{
-    Ok(of_shape(assign.table, &KEYS) && labelled(labels, assign.table)?.is_some())
 }
 
 // The labels that the table says.

@@ -1,6 +1,6 @@
 ghost use Rattle.std.specs.Prelude.{◌<◌, length};
 
-use crate::{Assign, Template, bad_attribute, read_invariant};
+use crate::{Assign, AttrFault, Template, read_invariant};
 use host_net::Hosts;
 use inv_any::AnyInv;
 use std::alloc::Global;
@@ -88,9 +88,10 @@ fn read_of(
         host: 0,
         table: &table,
     }];
-    match bad_attribute(alloc, hosts, template, &assigns).ok()? {
-        Some(assign) => Some(Err(assign)),
-        None => Some(Ok(read_invariant(alloc, hosts, template, &assigns).ok()?)),
+    match read_invariant(alloc, hosts, template, &assigns) {
+        Ok(invariant) => Some(Ok(invariant)),
+        Err(AttrFault::BadAttribute { assign }) => Some(Err(assign)),
+        Err(AttrFault::Memory) => None,
     }
 }
 

@@ -8,7 +8,8 @@ use Rattle.table_core.specs.inner.Listing.{grow}
 use Rattle.text_core.specs.Steps.{◌>>=◌}
 use Rattle.table_core.specs.Tables.{list_or_empty}
 use Rattle.tmpl_levels.specs.declared.tainting.Labels.{Labels}
-use Rattle.attr_core.specs.Tainting.{label_in}
+use Rattle.attr_core.specs.Assigns.{Given}
+use Rattle.attr_core.specs.Tainting.{label_in, labels_of, said_of}
 
 -- the labels so far, each of which has the number of its place, and one of these numbers
 pub record Known : Type 0 where
@@ -64,3 +65,7 @@ labelled labels table = do
   if are_among untaints.bits taints.bits
       then Some (record { labels = untaints.labels; attribute = record { taints = taints.bits; untaints = untaints.bits } })
       else None
+
+-- the labels that an assign says of its host, after the earlier ones
+abbrev pub tainting_reads : List Given → Given → Option Labels
+tainting_reads earlier a = said_of (labels_of (earlier ++ a ∷ [])) a.table

@@ -1,6 +1,6 @@
 -- How a description keeps to what a host may have: of the attributes that a table lists, its assign says one exactly where its host may
 -- have it.
-use Rattle.std.specs.Prelude.{◌≡◌, ◌↔◌, ℕ, false, List, [], length, Option, Some, None, nat_lt, option_map, codes, replicate, unwrap_or, if◌then◌else◌}
+use Rattle.std.specs.Prelude.{◌≡◌, ◌↔◌, ℕ, false, List, length, Option, Some, None, nat_lt, option_map, codes, replicate, unwrap_or, if◌then◌else◌}
 use Rattle.std.specs.FinSet as set
 use Rattle.std.specs.List.{fold}
 use Rattle.std.specs.Str.{bytes_eq}
@@ -12,11 +12,12 @@ use Rattle.text_core.specs.Steps.{◌>>=◌}
 use Rattle.tmpl_domains.specs.Domains.{Place}
 use Rattle.tmpl_domains.specs.Path.{segments}
 use Rattle.tmpl_levels.specs.declared.tainting.Labels.{Labels}
-use Rattle.tmpl_zones.specs.Partners.{Partner, DontCare, Care, Master, with_sender}
+use Rattle.tmpl_zones.specs.Partners.{Partner, Master, with_sender}
 use Rattle.toml.specs.Data.{Data, Members, as_str}
 use Rattle.attr_core.specs.Assigns.{Given}
 use Rattle.attr_core.specs.Forms.{Form}
-use Rattle.attr_core.specs.Kinds.{kind_of}
+use Rattle.attr_core.specs.Kinds.{kind_named}
+use Rattle.attr_core.specs.Partners.{listless_kinds}
 use Rattle.attr_core.specs.Tainting.{bits_of, labels_in}
 
 -- the assign says what is listed, where its host may have it, and no more
@@ -35,17 +36,17 @@ abbrev pub known_host : List Host → Data → Option ℕ
 known_host hosts d = as_str d >>= host_named hosts
 
 abbrev pub noreach_listed : List Host → Members → Option HostNumbers
-noreach_listed hosts table = option_map set.from_list (each (known_host hosts) (unwrap_or (list_at (codes "deny") table) []))
+noreach_listed hosts table = list_at (codes "deny") table >>= λ ds. option_map set.from_list (each (known_host hosts) ds)
 
-abbrev pub master_listed : List Host → Members → Option Partner
-master_listed hosts table =
-    option_map (fold with_sender (Master (replicate (length hosts) false))) (each (known_host hosts) (unwrap_or (list_at (codes "from") table) []))
+abbrev pub master_listed : List Host → List Data → Option Partner
+master_listed hosts ds = option_map (fold with_sender (Master (replicate (length hosts) false))) (each (known_host hosts) ds)
+
+abbrev pub partner_listed : List Host → Option (List Data) → List ℕ → Option Partner
+partner_listed hosts None word = kind_named listless_kinds word
+partner_listed hosts (Some ds) word = if bytes_eq word (codes "master") then master_listed hosts ds else None
 
 abbrev pub partners_listed : List Host → Members → Option Partner
-partners_listed hosts table =
-    if bytes_eq (kind_of table) (codes "care") then Some Care
-    else (if bytes_eq (kind_of table) (codes "master") then master_listed hosts table
-    else Some DontCare)
+partners_listed hosts table = text_at (codes "kind") table >>= partner_listed hosts (list_at (codes "from") table)
 
 -- the labels, whatever is taken off; there are at most 64 by then
 abbrev pub sets_listed : List (List ℕ) → Members → Option Labels

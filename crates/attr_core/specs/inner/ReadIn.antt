@@ -1,13 +1,24 @@
--- What the walk through the assigns of an invariant comes to, whatever its template is.
-use Rattle.std.specs.Prelude.{ℕ, List, Result}
+-- What the assigns of an invariant come to, by its template.
+use Rattle.std.specs.Prelude.{ℕ, List, Option, Result}
 use Rattle.host_net.specs.Host.{Host}
 use Rattle.inv_any.specs.declared.any_inv.AnyInv.{AnyInv}
 use Rattle.attr_core.specs.Assigns.{Given}
-use Rattle.attr_core.specs.Forms.{bad_assign, invariant_by}
-use Rattle.attr_core.specs.Templates.{by_form}
+use Rattle.attr_core.specs.Forms.{Form, bad_assign, invariant_by}
+use Rattle.attr_core.specs.Templates.{form}
 use Rattle.attr_core.specs.inner.Walks.{ended}
 use Rattle.attr_core.specs.declared.template.Template.{Template}
 
+-- the first assign that says no attribute
+unfoldable pub bad_in : List Host → Template → List Given → Option ℕ
+bad_in hosts t assigns = bad_assign (form t) hosts assigns
+
+-- the invariant whose hosts have the attributes that are assigned
+unfoldable pub invariant_in : List Host → Template → List Given → AnyInv
+invariant_in hosts t assigns = invariant_by (form t) hosts assigns
+
 -- the invariant that its assigns say, or the first assign that says no attribute
+unfoldable pub read_by : Form → List Host → List Given → Result AnyInv ℕ
+read_by f hosts assigns = ended (bad_assign f hosts assigns) (invariant_by f hosts assigns)
+
 unfoldable pub read_in : List Host → Template → List Given → Result AnyInv ℕ
-read_in hosts t assigns = by_form (λ f. ended (bad_assign f hosts assigns) (invariant_by f hosts assigns)) t
+read_in hosts t assigns = read_by (form t) hosts assigns

@@ -4,7 +4,7 @@ use Rattle.std.specs.List.{range_with_len}
 use Rattle.attr_core.specs.Assigns.{Given}
 use Rattle.attr_core.specs.Forms.{Form}
 use Rattle.table_core.specs.Keys.{Key}
-use Rattle.attr_core.specs.Shapes.{has_shape}
+use Rattle.attr_core.specs.Shapes.{host_key, of_shape}
 
 -- a step that may fail, and what is done after it; k is its number
 abbrev pub after : {S : Type 0} → ℕ → (S → Result S ℕ) → Option S → Result S ℕ
@@ -16,9 +16,9 @@ abbrev pub in_turn : {S : Type 0} → (S → Given → Option S) → ℕ → S �
 in_turn step k s [] = Ok s
 in_turn step k s (a ∷ as') = after k (λ t. in_turn step (k + 1) t as') (step s a)
 
--- a step that an assign of another shape does not take
-unfoldable pub shaped : {S : Type 0} → List (List Key) → (S → Given → Option S) → S → Given → Option S
-shaped shapes step s a = if has_shape shapes a.table then step s a else None
+-- a step that an assign with other keys does not take
+unfoldable pub shaped : {S : Type 0} → List Key → (S → Given → Option S) → S → Given → Option S
+shaped keys step s a = if of_shape a.table (host_key ∷ keys) then step s a else None
 
 -- the host of an assign gets the attribute that it says, if it says one
 abbrev pub with_attribute : {A : Type 0} → (Given → Option A) → List A → Given → Option (List A)

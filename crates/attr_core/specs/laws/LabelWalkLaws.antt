@@ -8,9 +8,9 @@ use Rattle.std.specs.Prelude.{codes, flat_map, if◌then◌else◌}
 use Rattle.toml.specs.Data.{Members}
 use Rattle.attr_core.specs.Assigns.{Given}
 use Rattle.attr_core.specs.laws.LabelBitsLaws.{among_is, bits_are, extends_self, key_bits}
-use Rattle.attr_core.specs.inner.LabelWalk.{LabelSet, Labelled, are_among, labelled, labels_at}
+use Rattle.attr_core.specs.inner.LabelWalk.{LabelSet, Labelled, are_among, labelled, labels_at, tainting_reads}
 use Rattle.attr_core.specs.laws.LabelsLaws.{IsBad, bad_labels_are, labelled_read, more_labels}
-use Rattle.attr_core.specs.Tainting.{bits_of, different, is_listed, labels_in, labels_of, said_of, tainting_reads, told, with_label}
+use Rattle.attr_core.specs.Tainting.{bits_of, different, is_listed, labels_in, labels_of, said_of, told, with_label}
 use Rattle.tmpl_levels.specs.declared.tainting.Labels.{Labels}
 
 different_append : (labels first second : List (List ℕ)) → different labels (first ++ second) ≡ different (different labels first) second

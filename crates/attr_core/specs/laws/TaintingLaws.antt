@@ -7,9 +7,9 @@ use Rattle.tmpl_levels.specs.Tainting.{untainted}
 use Rattle.tmpl_levels.specs.declared.tainting.Labels.{Labels}
 use Rattle.attr_core.specs.Assigns.{Given}
 use Rattle.attr_core.specs.inner.Holders.{IsHolder, same_everywhere}
-use Rattle.attr_core.specs.inner.LabelWalk.{Labelled, labelled}
+use Rattle.attr_core.specs.inner.LabelWalk.{Labelled, labelled, tainting_reads}
 use Rattle.attr_core.specs.laws.LabelWalkLaws.{labels_more, reads_is, reads_none}
-use Rattle.attr_core.specs.Tainting.{labels_of, tainting_form, tainting_reads}
+use Rattle.attr_core.specs.Tainting.{labels_of, tainting_form}
 use Rattle.attr_core.specs.inner.TaintedView.{Tainted, and_tainted}
 
 abbrev with_labels : List (List ℕ) → List Labels → Tainted
