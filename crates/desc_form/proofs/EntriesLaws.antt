@@ -12,7 +12,8 @@ use Rattle.text_core.specs.Firsts.{numbered_from}
 use Rattle.text_core.specs.inner.Pairs.{no_pair}
 use Rattle.desc_form.specs.Written.{Written, WrittenHost}
 use Rattle.text_core.proofs.PairLaws.{no_pair-map}
-use Rattle.desc_form.specs.HostConditions.{Entry, all_entries, entries_at, entries_of, entry_at, entries_meet, is_prefix, has_host_bits}
+use Rattle.desc_form.specs.HostConditions.{Entry, all_entries, entries_of, entries_meet}
+use Rattle.desc_form.specs.inner.EntryView.{entries_at, entry_at, has_host_bits, is_prefix}
 use Rattle.desc_form.specs.inner.HostFacts.{texts}
 use Rattle.desc_form.specs.WrittenHosts.{network_host, network_hosts}
 use Rattle.host_net.specs.Host.{Host}

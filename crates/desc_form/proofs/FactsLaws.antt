@@ -14,9 +14,10 @@ use Rattle.desc_form.specs.declared.refusal.Place.TheVariants as place
 use Rattle.desc_form.specs.declared.refusal.Refusal.{Refusal}
 use Rattle.desc_form.specs.declared.refusal.Why.TheVariants.{BadVersion, TooMany, BadName, BadPrefix, HostBits, NoAddress}
 use Rattle.desc_form.proofs.EntriesLaws.{all_texts, length_texts, no_pair_texts}
-use Rattle.desc_form.specs.HostConditions.{Entry, all_entries, bad_name, bad_prefix, bad_version, beyond, duplicate_host, entries_meet, has_host_bits, host_bits, host_conditions, is_prefix, is_version, no_address, overlap, template_limit, too_many, too_many_prefixes, two_rests}
+use Rattle.desc_form.specs.HostConditions.{Entry, all_entries, bad_name, bad_prefix, bad_version, beyond, duplicate_host, entries_meet, host_bits, host_conditions, no_address, overlap, template_limit, too_many, two_rests}
+use Rattle.desc_form.specs.inner.EntryView.{has_host_bits, is_prefix, too_many_prefixes}
 use Rattle.desc_form.specs.inner.HostFacts.{AreApart, HasAddress, HasHosts, SaysExact, SaysPrefix, texts}
-use Rattle.desc_form.specs.Mentions.{Mention, all_names, assign_names, flow_names}
+use Rattle.desc_form.specs.Mentions.{Mention, all_names}
 use Rattle.desc_form.proofs.NamesLaws.{all_assigns, all_ends, names_tested}
 use Rattle.desc_form.proofs.NoneLaws.{all_tested, none_where}
 use Rattle.desc_form.proofs.RowLaws.{and_words, as_it_is, differ_words, each_row, each_says, few_words, in_turn, never_words, none_says, not_words, numbered_pairs_row, numbered_row, pairs_row, pairs_say, passed_row, same_test, then_words}
@@ -45,8 +46,8 @@ either_passes false b first second = (
 pub version_is : (v : ℤ) → (bad_version v ≡ None) ↔ ((v ≡ pos 1) ⊎ (v ≡ pos 2))
 unfolding bad_version
 version_is v =
-    then_words (none_where (not (is_version v)) (refused BadVersion place.Document))
-    (then_words (not_words (is_version v)) (either_passes (int_eq v (pos 1)) (int_eq v (pos 2)) (Decides-int_eq v (pos 1)) (Decides-int_eq v (pos 2))))
+    then_words (none_where (not (int_eq v (pos 1) || int_eq v (pos 2))) (refused BadVersion place.Document))
+    (then_words (not_words (int_eq v (pos 1) || int_eq v (pos 2))) (either_passes (int_eq v (pos 1)) (int_eq v (pos 2)) (Decides-int_eq v (pos 1)) (Decides-int_eq v (pos 2))))
 
 -- 7
 none_beyond_limit : {A : Type 0} (limit : ℕ) (at_place : ℕ → Place) (xs : List A)

@@ -1,5 +1,5 @@
 -- What is found when all places were gone through is the first place for each of the three conditions.
-use Rattle.std.proofs.Common.{◌≡◌, ℕ, ◌+◌, Bool, true, false, cond, List, [], ◌∷◌, ◌++◌, map, Option, Some, None, option_map, refl, ap, ◌∙◌, sym}
+use Rattle.std.proofs.Common.{◌≡◌, ℕ, ℤ, ◌+◌, Bool, true, false, cond, List, [], ◌∷◌, ◌++◌, map, Option, Some, None, option_map, refl, ap, ◌∙◌, sym}
 use Rattle.std.specs.Prelude.{find, flat_map, codes}
 use Rattle.std.specs.Option.{option_or}
 use Rattle.toml.specs.Data.{Data, Members, table}
@@ -7,9 +7,11 @@ use Rattle.text_core.specs.Firsts.{numbered, numbered_from, where_holds}
 use Rattle.desc_form.specs.declared.places.Found.{Found}
 use Rattle.desc_form.specs.declared.refusal.Place.{Place}
 use Rattle.desc_form.specs.declared.refusal.Place.TheVariants.{Document, Host, FlowAt, Template}
+use Rattle.desc_form.specs.declared.refusal.Why.{Why}
+use Rattle.desc_form.specs.Refusals.{refused}
 use Rattle.desc_form.specs.Keys.{version_said}
 use Rattle.desc_form.specs.Places.{Spot, first_place, has_missing_key, has_unknown_key, has_wrong_type, invariant_spots, listed, spot_in, spots}
-use Rattle.desc_form.specs.inner.Walking.{after, after_all, after_invariants, first_places, nothing_found}
+use Rattle.desc_form.specs.inner.Walking.{after, after_all, after_invariants, first_places, nothing_found, place_where}
 
 after_append : (f : Found) (ss ts : List Spot) → after_all f (ss ++ ts) ≡ after_all (after_all f ss) ts
 after_append f [] ts = refl
@@ -67,7 +69,7 @@ pub in_parts : (ms : Members)
     (map (spot_in Host) (numbered (listed (codes "host") ms)))) 1 (listed (codes "invariant") ms))
     (map (spot_in FlowAt) (numbered (listed (codes "flow") ms)))) (map (spot_in Template) (numbered (listed (codes "template") ms)))
     ≡ first_places ms
-unfolding first_place spots
+unfolding place_where spots
 in_parts ms =
     let start = after (nothing_found (version_said ms)) (record { place = Document; value = table ms }) in
     let hosts = map (spot_in Host) (numbered (listed (codes "host") ms)) in
@@ -80,3 +82,13 @@ in_parts ms =
     ∙ after_append (after_all start hosts) invariants (flows ++ templates)
     ∙ after_append (after_all (after_all start hosts) invariants) flows templates)
     ∙ after_is (nothing_found (version_said ms)) (spots ms)
+
+-- that place is refused
+mapped_twice : {A B C : Type 0} (f : A → B) (g : B → C) (o : Option A) → option_map g (option_map f o) ≡ option_map (λ x. g (f x)) o
+mapped_twice f g None = refl
+mapped_twice f g (Some x) = refl
+
+pub refused_first : (why : Why) (holds : Option ℤ → Place → Data → Bool) (ms : Members)
+    → option_map (refused why) (place_where holds ms) ≡ first_place why holds ms
+unfolding place_where first_place
+refused_first why holds ms = mapped_twice (λ (s : Spot). s.place) (refused why) (find (λ s. holds (version_said ms) s.place s.value) (spots ms))

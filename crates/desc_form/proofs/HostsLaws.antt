@@ -11,7 +11,8 @@ use Rattle.text_core.specs.inner.Pairs.{no_pair}
 use Rattle.desc_form.specs.Written.{Written, WrittenHost}
 use Rattle.text_core.proofs.PairLaws.{no_pair-map}
 use Rattle.desc_form.proofs.EntriesLaws.{length_texts, prefixes_of_texts, prefix_count_entries, networks, prefixes_apart}
-use Rattle.desc_form.specs.HostConditions.{is_prefix, host_conditions}
+use Rattle.desc_form.specs.HostConditions.{host_conditions}
+use Rattle.desc_form.specs.inner.EntryView.{is_prefix}
 use Rattle.desc_form.specs.Mentions.{Mention, all_names}
 use Rattle.desc_form.proofs.FactsLaws.{all_say_exact, all_say_prefixes, has_hosts, have_addresses, all_legal, names_differ, rests_apart, texts_apart}
 use Rattle.desc_form.specs.inner.HostFacts.{HasHosts, texts}

@@ -6,7 +6,8 @@ use Rattle.std.specs.Option.{option_or}
 use Rattle.desc_form.specs.Written.{Written, WrittenAssign, WrittenHost, WrittenInvariant}
 use Rattle.desc_form.specs.WrittenFlow.{WrittenFlow}
 use Rattle.desc_form.specs.HostConditions.{bad_name}
-use Rattle.desc_form.specs.Mentions.{Mention, all_names, assign_name, assign_names, assign_names_of, flow_names, flow_names_of, host_name, used_names}
+use Rattle.desc_form.specs.Mentions.{Mention, all_names, assign_names_of, flow_names_of, used_names}
+use Rattle.desc_form.specs.inner.MentionView.{assign_name, host_name}
 use Rattle.text_core.specs.Firsts.{Numbered, first_found, numbered, numbered_from}
 use Rattle.text_core.specs.Name.{is_name}
 
@@ -47,9 +48,9 @@ flows_tested test k (f ∷ fs) = both_then (test f.from) (test f.to) _ (all_ends
 -- the names that stand for hosts: in assigns, then in flows
 pub used_tested : (test : List ℕ → Bool) (w : Written)
     → list_all (λ (m : Mention). test m.name) (used_names w) ≡ (all_assigns test w.invariants && all_ends test w.flows)
-unfolding used_names assign_names flow_names
+unfolding used_names
 used_tested test w =
-    list_all-append (λ (m : Mention). test m.name) (assign_names w) (flow_names w)
+    list_all-append (λ (m : Mention). test m.name) (flat_map assign_names_of (numbered w.invariants)) (flat_map flow_names_of (numbered w.flows))
     ∙ (λ t. invariants_tested test 1 w.invariants t && flows_tested test 1 w.flows t)
 
 -- all names: of hosts, then those

@@ -19,7 +19,7 @@ use Rattle.desc_form.specs.FormConditions.{form_conditions}
 use Rattle.desc_form.proofs.KeyLaws.{answers_stand, answers_suit, array_needed, array_stands, array_stands_or, array_suits, array_zips, boolean_stands, boolean_suits, integer_stands, integer_suits, absent, nothing_zipped, some_there, text_stands, text_suits, texts_stand_or, texts_suit, there, there_or}
 use Rattle.desc_form.specs.Keys.{keys_of, says_second, template_keys, version_said}
 use Rattle.desc_form.proofs.PairLaws.{pairs_read, pairs_say}
-use Rattle.desc_form.specs.Places.{Spot, assigns_of, denies_pairs, first_place, fits_version, has_other_key, has_unknown_key, has_missing_key, has_unsuited, has_wrong_type, invariant_spots, lacks_needed, listed, missing_key, spot_in, spots, unknown_key, wrong_type}
+use Rattle.desc_form.specs.Places.{Spot, assigns_of, denies_pairs, first_place, fits_version, has_unknown_key, has_missing_key, has_wrong_type, invariant_spots, listed, spot_in, spots}
 use Rattle.desc_form.proofs.SpotsLaws.{Fails, fails_apart, fails_joined, fails_where_none, none_where_fails}
 use Rattle.desc_form.specs.Written.{Written, WrittenAssign, WrittenHost, WrittenInvariant, assign_written, host_written, invariant_written, template_written, written}
 use Rattle.desc_form.specs.WrittenFlow.{WrittenFlow, flow_written}
@@ -40,9 +40,9 @@ AreGood v ss = Fails (λ s. bad v s.place s.value) ss
 abbrev IsReadIn : {A : Type 0} → (Members → A → Type 0) → (Members → A) → Data → Type 0
 IsReadIn Is read d = (ms : Members) × (d ≡ table ms) × Is ms (read ms)
 
-host_stands : (v : Option ℤ) (k : ℕ) (ms : Members) → has_other_key v (Host k) ms ≡ false → lacks_needed v (Host k) ms ≡ false
-    → has_unsuited v (Host k) ms ≡ false → IsHost ms (host_written ms)
-unfolding has_other_key lacks_needed has_unsuited has_only_keys lacks_key all_suit host_written listed has_key text_at boolean_at list_at
+host_stands : (v : Option ℤ) (k : ℕ) (ms : Members) → not (has_only_keys (keys_of v (Host k)) ms) ≡ false → lacks_key (keys_of v (Host k)) ms ≡ false
+    → not (all_suit (keys_of v (Host k)) ms) ≡ false → IsHost ms (host_written ms)
+unfolding has_only_keys lacks_key all_suit host_written listed has_key text_at boolean_at list_at
 host_stands v k ms other lacks unsuited =
     let suits = not-false (list_all (suits_in ms) (keys_of v (Host k))) unsuited in
     record {
@@ -60,9 +60,9 @@ host_reads v k (table ms) good =
     (ms, refl, host_stands v k ms parts.0 rest.0 rest.1)
 host_reads v k _ good = cc
 
-assign_stands : (v : Option ℤ) (k m : ℕ) (ms : Members) → lacks_needed v (Assign k m) ms ≡ false → has_unsuited v (Assign k m) ms ≡ false
+assign_stands : (v : Option ℤ) (k m : ℕ) (ms : Members) → lacks_key (keys_of v (Assign k m)) ms ≡ false → not (all_suit (keys_of v (Assign k m)) ms) ≡ false
     → IsAssign ms (assign_written ms)
-unfolding lacks_needed has_unsuited lacks_key all_suit assign_written has_key text_at
+unfolding lacks_key all_suit assign_written has_key text_at
 assign_stands v k m ms lacks unsuited =
     let suits = not-false (list_all (suits_in ms) (keys_of v (Assign k m))) unsuited in
     record {
@@ -73,7 +73,7 @@ assign_stands v k m ms lacks unsuited =
 assign_reads : (v : Option ℤ) (k m : ℕ) (d : Data) → bad v (Assign k m) d ≡ false → IsReadIn IsAssign assign_written d
 unfolding has_wrong_type
 assign_reads v k m (table ms) good =
-    let rest = or_parts _ _ (or_parts _ _ good).1 in
+    let rest = or_parts _ _ good in
     (ms, refl, assign_stands v k m ms rest.0 rest.1)
 assign_reads v k m _ good = cc
 
@@ -91,10 +91,10 @@ tables_read v Is read place reads k [] good = tt
 tables_read v Is read place reads k (d ∷ ds) (here, behind) =
     zip_first Is read d ds (reads k d here) (tables_read v Is read place reads (k + 1) ds behind)
 
-invariant_stands : (v : Option ℤ) (k : ℕ) (ms : Members) → has_other_key v (Invariant k) ms ≡ false
-    → lacks_needed v (Invariant k) ms ≡ false → has_unsuited v (Invariant k) ms ≡ false
+invariant_stands : (v : Option ℤ) (k : ℕ) (ms : Members) → not (has_only_keys (keys_of v (Invariant k)) ms) ≡ false
+    → lacks_key (keys_of v (Invariant k)) ms ≡ false → not (all_suit (keys_of v (Invariant k)) ms) ≡ false
     → AreGood v (map (spot_in (Assign k)) (numbered (listed (codes "assign") ms))) → IsInvariant ms (invariant_written ms)
-unfolding has_other_key lacks_needed has_unsuited has_only_keys lacks_key all_suit invariant_written listed has_key text_at list_at
+unfolding has_only_keys lacks_key all_suit invariant_written listed has_key text_at list_at
 invariant_stands v k ms other lacks unsuited good =
     let suits = not-false (list_all (suits_in ms) (keys_of v (Invariant k))) unsuited in
     record {
@@ -135,12 +135,12 @@ flows_read : (v : Option ℤ) (k : ℕ) (ds : List Data) → AreGood v (map (spo
 unfolding has_wrong_type
 flows_read v k [] good = (tt, refl)
 flows_read v k (d ∷ ds) (good, behind) =
-    let here = or_parts _ _ (or_parts _ _ good).1 in
+    let here = or_parts _ _ good in
     flow_first v d ds (flow_written d) refl here.1 (flows_read v (k + 1) ds behind)
 
-template_stands : (v : Option ℤ) (k : ℕ) (ms : Members) → has_other_key v (Template k) ms ≡ false → lacks_needed v (Template k) ms ≡ false
-    → has_unsuited v (Template k) ms ≡ false → denies_pairs ms ≡ true → IsTemplate ms (template_written ms)
-unfolding has_other_key lacks_needed has_unsuited has_only_keys lacks_key all_suit template_written listed has_key text_at list_at
+template_stands : (v : Option ℤ) (k : ℕ) (ms : Members) → not (has_only_keys (keys_of v (Template k)) ms) ≡ false → lacks_key (keys_of v (Template k)) ms ≡ false
+    → not (all_suit (keys_of v (Template k)) ms) ≡ false → denies_pairs ms ≡ true → IsTemplate ms (template_written ms)
+unfolding has_only_keys lacks_key all_suit template_written listed has_key text_at list_at
 template_stands v k ms other lacks unsuited pairs =
     let suits = not-false (list_all (suits_in ms) (keys_of v (Template k))) unsuited in
     let suits_2 = second_so _ _ suits in
@@ -194,7 +194,7 @@ templates_by false names ms xs out only suits zipped =
     rw none (nothing_zipped (IsTable IsTemplate) xs (rw none at zipped))
 
 document_stands : (v : Option ℤ) (ms : Members) → version_said ms ≡ v → AreGood v (spots ms) → IsWritten ms (written ms)
-unfolding spots has_wrong_type has_other_key lacks_needed has_unsuited has_only_keys lacks_key all_suit written listed has_key text_at integer_at list_at
+unfolding spots has_wrong_type has_only_keys lacks_key all_suit written listed has_key text_at integer_at list_at
 document_stands v ms said (document, behind) =
     let (hosts, behind_hosts) = fails_apart _ (map (spot_in Host) (numbered (listed (codes "host") ms))) _ behind in
     let (invariants, behind_invariants) = fails_apart _ (flat_map invariant_spots (numbered (listed (codes "invariant") ms))) _ behind_hosts in
@@ -234,7 +234,7 @@ document_stands v ms said (document, behind) =
 
 -- a description of the right form is what is written in it, each element of its arrays included
 pub written_stands : (ms : Members) → first_of (form_conditions ms) ≡ None → IsWritten ms (written ms)
-unfolding form_conditions unknown_key missing_key wrong_type first_place
+unfolding form_conditions first_place
 written_stands ms formed =
     let v = version_said ms in
     let (unknown, others) = neither _ _ formed in
@@ -242,7 +242,7 @@ written_stands ms formed =
     let (wrong, _) = neither _ _ last in
     document_stands v ms refl
     (fails_where_none (λ s. has_unknown_key v s.place s.value) (λ s. has_missing_key v s.place s.value) (λ s. has_wrong_type v s.place s.value) (spots ms)
-    (none_mapped _ _ (none_mapped _ _ unknown)) (none_mapped _ _ (none_mapped _ _ missing)) (none_mapped _ _ (none_mapped _ _ wrong)))
+    (none_mapped _ _ unknown) (none_mapped _ _ missing) (none_mapped _ _ wrong))
 
 -- The other way: where something is written, none of the three conditions holds.
 
@@ -258,14 +258,14 @@ present : {there rest : Bool} → there ≡ true → rest ≡ false → (not the
 present there rest = rw (there, rest) refl
 
 host_good : (v : Option ℤ) (k : ℕ) (ms : Members) (h : WrittenHost) → IsHost ms h → bad v (Host k) (table ms) ≡ false
-unfolding has_wrong_type has_other_key lacks_needed has_unsuited has_only_keys lacks_key all_suit has_key text_at boolean_at list_at
+unfolding has_wrong_type has_only_keys lacks_key all_suit has_key text_at boolean_at list_at
 host_good v k ms h stands =
     let name = text_suits (get_member (codes "name") ms) h.name stands.name in
     none_bad stands.only (present name.0 refl)
     (both_true name.1 (both_true (texts_suit (get_member (codes "at") ms) h.at stands.at) (both_true (boolean_suits (get_member (codes "rest") ms) h.rest stands.rest) refl)))
 
 assign_good : (v : Option ℤ) (k m : ℕ) (ms : Members) (a : WrittenAssign) → IsAssign ms a → bad v (Assign k m) (table ms) ≡ false
-unfolding has_wrong_type has_other_key lacks_needed has_unsuited has_only_keys lacks_key all_suit has_key text_at
+unfolding has_wrong_type has_only_keys lacks_key all_suit has_key text_at
 assign_good v k m ms a stands =
     let host = text_suits (get_member (codes "host") ms) a.host stands.host in
     none_bad {only = true} refl (present host.0 refl) (both_true host.1 refl)
@@ -283,7 +283,7 @@ tables_good v Is place good k (d ∷ ds) (x ∷ xs) ((ms, is_table, fits), zippe
 
 invariant_good : (v : Option ℤ) (k : ℕ) (ms : Members) (i : WrittenInvariant) → IsInvariant ms i
     → AreGood v (invariant_spots (record { number = k; what = table ms }))
-unfolding has_wrong_type has_other_key lacks_needed has_unsuited has_only_keys lacks_key all_suit assigns_of listed has_key text_at list_at
+unfolding has_wrong_type has_only_keys lacks_key all_suit assigns_of listed has_key text_at list_at
 invariant_good v k ms i stands =
     let template = text_suits (get_member (codes "template") ms) i.template stands.template in
     let assigns = get_member (codes "assign") ms in
@@ -316,7 +316,7 @@ flows_good v k (d ∷ ds) (f ∷ fs) (is_flow, zipped) fit =
     (flow_good v k d f is_flow here, flows_good v (k + 1) ds fs zipped behind)
 
 template_good : (v : Option ℤ) (k : ℕ) (ms : Members) (t : WrittenTemplate) → IsTemplate ms t → bad v (Template k) (table ms) ≡ false
-unfolding has_wrong_type has_other_key lacks_needed has_unsuited has_only_keys lacks_key all_suit listed has_key text_at list_at
+unfolding has_wrong_type has_only_keys lacks_key all_suit listed has_key text_at list_at
 template_good v k ms t stands =
     let name = text_suits (get_member (codes "name") ms) t.name stands.name in
     let strategy = text_suits (get_member (codes "strategy") ms) t.strategy stands.strategy in
@@ -347,7 +347,7 @@ only_document ms n only =
     (sym (names_by (int_eq n (pos 2)))) only
 
 document_good : (ms : Members) (w : Written) → IsWritten ms w → bad (Some w.version) Document (table ms) ≡ false
-unfolding has_wrong_type has_other_key lacks_needed has_unsuited has_only_keys lacks_key all_suit has_key text_at integer_at list_at
+unfolding has_wrong_type has_only_keys lacks_key all_suit has_key text_at integer_at list_at
 document_good ms w stands =
     let version = integer_suits (get_member (codes "topos") ms) w.version stands.version in
     let hosts = array_needed (IsTable IsHost) (get_member (codes "host") ms) w.hosts stands.hosts in
@@ -377,7 +377,7 @@ nothing_bad ms w stands fit =
 
 -- a description in which something is written is of the right form
 pub formed_where_written : (ms : Members) (w : Written) → IsWritten ms w → first_of (form_conditions ms) ≡ None
-unfolding form_conditions unknown_key missing_key wrong_type first_place integer_at
+unfolding form_conditions first_place integer_at
 formed_where_written ms w stands =
     let v = version_said ms in
     let said = said_version (get_member (codes "topos") ms) w.version stands.version in

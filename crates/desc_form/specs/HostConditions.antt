@@ -7,10 +7,11 @@ use Rattle.std.specs.Str.{bytes_eq}
 use Rattle.desc_form.specs.declared.refusal.Place.{Place}
 use Rattle.desc_form.specs.declared.refusal.Place.TheVariants.{Document, Host, Invariant, Template}
 use Rattle.desc_form.specs.declared.refusal.Refusal.{Refusal}
+use Rattle.desc_form.specs.declared.refusal.Why.{Why}
 use Rattle.desc_form.specs.declared.refusal.Why.TheVariants.{BadVersion, TooMany, BadName, DuplicateHost, BadPrefix, HostBits, NoAddress, TwoRests, Overlap}
 use Rattle.text_core.specs.Firsts.{where_holds, first_of, numbered, Numbered, first_pair}
 use Rattle.desc_form.specs.Mentions.{Mention, all_names}
-use Rattle.desc_form.specs.Refusals.{refused, refused_item, refused_by, refused_item_by}
+use Rattle.desc_form.specs.Refusals.{barred_at, first_at, refused, refused_item}
 use Rattle.desc_form.specs.Written.{Written, WrittenHost, WrittenInvariant}
 use Rattle.desc_form.specs.WrittenTemplate.{WrittenTemplate}
 use Rattle.text_core.specs.Name.{is_name}
@@ -25,26 +26,16 @@ pub record Entry : Type 0 where
   pub item : ℕ
   pub prefix : Option Prefix
 
-abbrev pub entry_at : ℕ → Numbered (List ℕ) → Entry
-entry_at host e = record { host = host; item = e.number; prefix = prefix_of e.what }
-
-abbrev pub entries_at : ℕ → List (List ℕ) → List Entry
-entries_at host texts = map (entry_at host) (numbered texts)
-
 abbrev pub entries_of : Numbered WrittenHost → List Entry
-entries_of h = entries_at h.number h.what.at
+entries_of h = map (λ e. record { host = h.number; item = e.number; prefix = prefix_of e.what }) (numbered h.what.at)
 
 -- the entries of all hosts, by host and item
 unfoldable pub all_entries : Written → List Entry
 all_entries w = flat_map entries_of (numbered w.hosts)
 
--- the versions that there are
-abbrev pub is_version : ℤ → Bool
-is_version version = int_eq version (pos 1) || int_eq version (pos 2)
-
 -- 6: the version is neither 1 nor 2
 unfoldable pub bad_version : ℤ → Option Refusal
-bad_version version = where_holds (not (is_version version)) (refused BadVersion Document)
+bad_version version = where_holds (not (int_eq version (pos 1) || int_eq version (pos 2))) (refused BadVersion Document)
 
 -- how many templates may be declared
 abbrev pub template_limit : ℕ
@@ -54,16 +45,12 @@ template_limit = 16
 abbrev pub beyond : {A : Type 0} → ℕ → (ℕ → Place) → List A → Option Refusal
 beyond limit place xs = where_holds (nat_lt limit (length xs)) (refused TooMany (place (limit + 1)))
 
--- all hosts together have more prefixes than a limit: the first beyond it
-abbrev pub too_many_prefixes : List Entry → Option Refusal
-too_many_prefixes es = option_map (λ e. refused_item TooMany (Host e.host) e.item) (slice_get es prefix_limit)
-
 -- 7: there are too many hosts, then too many prefixes, then too many invariants, then too many templates
 unfoldable pub too_many : List WrittenHost → List Entry → List WrittenInvariant → List WrittenTemplate → Option Refusal
 too_many hs es invariants templates =
     first_of
     (beyond host_limit Host hs
-    ∷ too_many_prefixes es
+    ∷ option_map (λ e. refused_item TooMany (Host e.host) e.item) (slice_get es prefix_limit)
     ∷ beyond invariant_limit Invariant invariants
     ∷ beyond template_limit Template templates
     ∷ [])
@@ -74,35 +61,27 @@ bad_name names = option_map (λ m. refused_item BadName m.place m.item) (find (�
 
 -- 9: a host has the name of an earlier one
 unfoldable pub duplicate_host : List WrittenHost → Option Refusal
-duplicate_host hs =
-    option_map (λ p. refused_by DuplicateHost (Host p.later.number) p.earlier.number)
-    (first_pair (λ h g. bytes_eq h.what.name g.what.name) (numbered hs))
+duplicate_host hs = barred_at DuplicateHost Host (λ h g. bytes_eq h.name g.name) hs
 
--- the entry is a prefix of at least one bit
-abbrev pub is_prefix : Option Prefix → Bool
-is_prefix said = option_map_or (λ p. nat_lt 0 p.len) said false
+-- the first entry is refused of whose prefix a test holds
+abbrev pub first_entry : Why → (Option Prefix → Bool) → List Entry → Option Refusal
+first_entry why test es = option_map (λ e. refused_item why (Host e.host) e.item) (find (λ e. test e.prefix) es)
 
 -- 10: an entry is no prefix, or one of length 0
 unfoldable pub bad_prefix : List Entry → Option Refusal
-bad_prefix es = option_map (λ e. refused_item BadPrefix (Host e.host) e.item) (find (λ e. not (is_prefix e.prefix)) es)
-
--- bits after the length of the entry's prefix are set
-abbrev pub has_host_bits : Option Prefix → Bool
-has_host_bits said = option_map_or (λ p. not (is_exact p)) said false
+bad_prefix es = first_entry BadPrefix (λ said. not (option_map_or (λ p. nat_lt 0 p.len) said false)) es
 
 -- 11: an entry has bits after the length
 unfoldable pub host_bits : List Entry → Option Refusal
-host_bits es = option_map (λ e. refused_item HostBits (Host e.host) e.item) (find (λ e. has_host_bits e.prefix) es)
+host_bits es = first_entry HostBits (λ said. option_map_or (λ p. not (is_exact p)) said false) es
 
 -- 12: a host has neither a prefix nor the rest mark, or it has both
 unfoldable pub no_address : List WrittenHost → Option Refusal
-no_address hs = option_map (λ h. refused NoAddress (Host h.number)) (find (λ h. lacks_address h.what.at h.what.rest) (numbered hs))
+no_address hs = first_at NoAddress Host (λ h. lacks_address h.at h.rest) hs
 
 -- 13: a second host has the rest mark
 unfoldable pub two_rests : List WrittenHost → Option Refusal
-two_rests hs =
-    option_map (λ p. refused_by TwoRests (Host p.later.number) p.earlier.number)
-    (first_pair (λ h g. h.what.rest && g.what.rest) (numbered hs))
+two_rests hs = barred_at TwoRests Host (λ h g. h.rest && g.rest) hs
 
 -- the prefixes that two entries say have an address in common
 abbrev pub entries_meet : Option Prefix → Option Prefix → Bool
@@ -111,7 +90,7 @@ entries_meet said other = option_map_or (λ p. option_map_or (meets p) other fal
 -- 14: a prefix has an address in common with an earlier one, by host and item
 unfoldable pub overlap : List Entry → Option Refusal
 overlap es =
-    option_map (λ p. refused_item_by Overlap (Host p.later.host) p.later.item p.earlier.host)
+    option_map (λ p. record (refused_item Overlap (Host p.later.host) p.later.item) { other = p.earlier.host })
     (first_pair (λ e f. entries_meet e.prefix f.prefix) es)
 
 -- 10 to 14

@@ -7,7 +7,7 @@ use Rattle.toml.specs.Data.{Data, table, Members, as_table}
 use Rattle.desc_form.specs.declared.refusal.Place.{Place}
 use Rattle.desc_form.specs.declared.refusal.Place.TheVariants.{Document, Host, Invariant, Assign, FlowAt, Template}
 use Rattle.desc_form.specs.declared.refusal.Refusal.{Refusal}
-use Rattle.desc_form.specs.declared.refusal.Why.TheVariants.{UnknownKey, MissingKey, WrongType}
+use Rattle.desc_form.specs.declared.refusal.Why.{Why}
 use Rattle.text_core.specs.Firsts.{Numbered, numbered}
 use Rattle.desc_form.specs.WrittenFlow.{WrittenFlow, flow_written}
 use Rattle.desc_form.specs.WrittenTemplate.{pair_written}
@@ -46,39 +46,20 @@ spots document =
     ++ (map (spot_in FlowAt) (numbered (listed (codes "flow") document))
     ++ map (spot_in Template) (numbered (listed (codes "template") document)))))
 
--- the first place where a condition holds of what stands there
-unfoldable pub first_place : (Place → Data → Bool) → Members → Option Place
-first_place holds document = option_map (λ s. s.place) (find (λ s. holds s.place s.value) (spots document))
-
--- the table has a key outside those of its place, in a document that says a version; assigns and flows are not looked at
-unfoldable pub has_other_key : Option ℤ → Place → Members → Bool
-has_other_key said (Assign k m) ms = false
-has_other_key said (FlowAt k) ms = false
-has_other_key said place ms = not (has_only_keys (keys_of said place) ms)
-
--- the table lacks a key that must be there
-unfoldable pub lacks_needed : Option ℤ → Place → Members → Bool
-lacks_needed said place ms = lacks_key (keys_of said place) ms
-
--- in the table, what stands at a key is not of its kind
-unfoldable pub has_unsuited : Option ℤ → Place → Members → Bool
-has_unsuited said place ms = not (all_suit (keys_of said place) ms)
-
--- 3: what is no table is passed over
+-- 3: the table has a key outside those of its place, in a document that says a version; assigns and flows are not looked at, and what is
+-- no table is passed over
 abbrev pub has_unknown_key : Option ℤ → Place → Data → Bool
-has_unknown_key said place d = option_map_or (has_other_key said place) (as_table d) false
+has_unknown_key said (Assign k m) d = false
+has_unknown_key said (FlowAt k) d = false
+has_unknown_key said place d = option_map_or (λ ms. not (has_only_keys (keys_of said place) ms)) (as_table d) false
 
--- 4: what is no table is passed over
+-- 4: the table lacks a key that must be there; what is no table is passed over
 abbrev pub has_missing_key : Option ℤ → Place → Data → Bool
-has_missing_key said place d = option_map_or (lacks_needed said place) (as_table d) false
+has_missing_key said place d = option_map_or (lacks_key (keys_of said place)) (as_table d) false
 
--- flows may have services: the document says version 2
-abbrev pub may_narrow : Option ℤ → Bool
-may_narrow said = says_second said
-
--- a flow is as the version has it: it has no services, or it may have some
+-- a flow is as the version has it: it has no services, or the document says version 2
 abbrev pub fits_version : Option ℤ → WrittenFlow → Bool
-fits_version said f = (length f.services == 0) || may_narrow said
+fits_version said f = (length f.services == 0) || says_second said
 
 -- what is denied is pairs
 abbrev pub denies_pairs : Members → Bool
@@ -88,17 +69,9 @@ denies_pairs ms = list_all (λ d. is_some (pair_written d)) (listed (codes "deny
 -- that of a template the array `deny` is one of arrays of two texts
 unfoldable pub has_wrong_type : Option ℤ → Place → Data → Bool
 has_wrong_type said (FlowAt k) d = not (option_map_or (fits_version said) (flow_written d) false)
-has_wrong_type said (Template k) d = option_map_or (λ ms. has_unsuited said (Template k) ms || not (denies_pairs ms)) (as_table d) true
-has_wrong_type said place d = option_map_or (has_unsuited said place) (as_table d) true
+has_wrong_type said (Template k) d = option_map_or (λ ms. not (all_suit (keys_of said (Template k)) ms) || not (denies_pairs ms)) (as_table d) true
+has_wrong_type said place d = option_map_or (λ ms. not (all_suit (keys_of said place) ms)) (as_table d) true
 
--- 3
-unfoldable pub unknown_key : Members → Option Refusal
-unknown_key document = option_map (refused UnknownKey) (first_place (has_unknown_key (version_said document)) document)
-
--- 4
-unfoldable pub missing_key : Members → Option Refusal
-missing_key document = option_map (refused MissingKey) (first_place (has_missing_key (version_said document)) document)
-
--- 5
-unfoldable pub wrong_type : Members → Option Refusal
-wrong_type document = option_map (refused WrongType) (first_place (has_wrong_type (version_said document)) document)
+-- the first place is refused where a condition holds of what stands there
+unfoldable pub first_place : Why → (Option ℤ → Place → Data → Bool) → Members → Option Refusal
+first_place why holds document = option_map (λ s. refused why s.place) (find (λ s. holds (version_said document) s.place s.value) (spots document))

@@ -2,7 +2,8 @@
 ghost use Rattle.std.specs.Prelude.{◌≡◌, map, option_map};
 ghost use Rattle.desc_form.specs.declared.refusal.Place.TheVariants.{Host};
 ghost use Rattle.desc_form.specs.declared.refusal.Why.TheVariants.{Overlap};
-ghost use Rattle.desc_form.specs.Refusals.{refused_by, refused_item_by};
+ghost use Rattle.desc_form.specs.Refusals.{refused_by};
+ghost use Rattle.desc_form.specs.inner.Refused.{refused_item_by};
 ghost use Rattle.text_core.specs.inner.FirstsView.{pair_seen};
 ghost use Rattle.desc_form.specs.inner.WrittenView.{host_view};
 ghost use Rattle.desc_form.specs.inner.EntryView.{entry_view};

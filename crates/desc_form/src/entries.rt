@@ -2,10 +2,10 @@
 ghost use Rattle.std.specs.Prelude.{◌≡◌, ◌++◌, flat_map, map, IfOk, OnOk};
 ghost use Rattle.desc_form.specs.declared.refusal.Place.TheVariants.{Host};
 ghost use Rattle.text_core.specs.Firsts.{numbered};
-ghost use Rattle.desc_form.specs.HostConditions.{bad_prefix, entries_at, entries_of, entry_at, has_host_bits, host_bits, is_prefix, too_many_prefixes};
+ghost use Rattle.desc_form.specs.HostConditions.{bad_prefix, entries_of, host_bits};
 ghost use Rattle.desc_form.specs.Refusals.{refused_item};
 ghost use Rattle.desc_form.specs.inner.WrittenView.{host_view};
-ghost use Rattle.desc_form.specs.inner.EntryView.{entry_view};
+ghost use Rattle.desc_form.specs.inner.EntryView.{entries_at, entry_at, entry_view, has_host_bits, is_prefix, too_many_prefixes};
 
 use crate::refusal::{Place, Refusal, Why};
 use crate::written::WrittenHost;

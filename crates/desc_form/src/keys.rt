@@ -2,13 +2,10 @@
 ghost use Rattle.std.specs.Prelude.{◌≡◌, map};
 ghost use Rattle.desc_form.specs.Keys.{keys_of};
 ghost use Rattle.desc_form.specs.declared.refusal.Place.TheVariants.{Document};
-ghost use Rattle.desc_form.specs.Places.{has_other_key, lacks_needed, has_unsuited};
 ghost use Rattle.table_core.specs.inner.KeyView.{key_view};
-ghost use Rattle.toml.specs.View.{table_view};
 
 use crate::refusal::Place;
-use table_core::{Key, Kind, all_suit, has_only_keys, lacks_key};
-use toml::Table;
+use table_core::{Key, Kind};
 
 const ANSWERS: [&str; 2] = ["all", "none"];
 
@@ -64,7 +61,7 @@ fn document_keys(version: Option<i64>) -> &'static [Key]
 
 /// The keys of the table at a place, in a document that says a version. An assign has further keys by its
 /// template.
-fn keys_of(version: Option<i64>, place: Place) -> &'static [Key]
+pub(crate) fn keys_of(version: Option<i64>, place: Place) -> &'static [Key]
     ensures { map key_view result.now ≡ keys_of version place }
 {
     match place {
@@ -75,33 +72,4 @@ fn keys_of(version: Option<i64>, place: Place) -> &'static [Key]
         Place::FlowAt(_) => &[],
         Place::Template(_) => &TEMPLATE,
     }
-}
-
-/// Whether the table has a key that is unknown at the place.
-#[tactic(auto, unfolding(crate::specs::Places::has_other_key))]
-pub(crate) fn has_other_key(version: Option<i64>, place: Place, here: &Table) -> bool
-    ensures { result ≡ has_other_key version place (table_view here.now) }
-{
-    match place {
-        Place::Document | Place::Host(_) | Place::Invariant(_) | Place::Template(_) => {
-            !has_only_keys(here, keys_of(version, place))
-        }
-        Place::Assign(_, _) | Place::FlowAt(_) => false,
-    }
-}
-
-/// Whether the table lacks a key that has to be there at the place.
-#[tactic(auto, unfolding(crate::specs::Places::lacks_needed))]
-pub(crate) fn lacks_needed(version: Option<i64>, place: Place, here: &Table) -> bool
-    ensures { result ≡ lacks_needed version place (table_view here.now) }
-{
-    lacks_key(here, keys_of(version, place))
-}
-
-/// Whether a value of another kind than its key asks for stands in the table of the place.
-#[tactic(auto, unfolding(crate::specs::Places::has_unsuited))]
-pub(crate) fn has_unsuited(version: Option<i64>, place: Place, here: &Table) -> bool
-    ensures { result ≡ has_unsuited version place (table_view here.now) }
-{
-    !all_suit(here, keys_of(version, place))
 }

@@ -2,8 +2,8 @@
 ghost use Rattle.std.specs.Prelude.{◌≡◌, ◌++◌, flat_map, map, IfOk, OnOk};
 ghost use Rattle.text_core.specs.Firsts.{numbered};
 ghost use Rattle.desc_form.specs.inner.WrittenView.{assign_view, flow_view, invariant_view, written_view};
-ghost use Rattle.desc_form.specs.inner.MentionView.{mention_view};
-ghost use Rattle.desc_form.specs.Mentions.{assign_name, assign_names_of, flow_names_of, used_names};
+ghost use Rattle.desc_form.specs.inner.MentionView.{assign_name, mention_view};
+ghost use Rattle.desc_form.specs.Mentions.{assign_names_of, flow_names_of, used_names};
 
 use crate::refusal::Place;
 use crate::written::{Written, WrittenAssign, WrittenFlow, WrittenHost, WrittenInvariant};
@@ -26,7 +26,7 @@ pub fn used_names<'a>(alloc: Global, written: &Written<'a>) -> Result<Vec<Mentio
     Ok(names)
 }
 
-#[tactic(auto, unfolding(crate::specs::Mentions::used_names, crate::specs::Mentions::assign_names, crate::specs::Mentions::flow_names))]
+#[tactic(auto, unfolding(crate::specs::Mentions::used_names))]
 fn push_used_names<'a>(
     names: &mut Vec<Mention<'a>>,
     written: &Written<'a>,

@@ -3,7 +3,8 @@
 ghost use Rattle.std.specs.Prelude.{◌≡◌, flat_map, map};
 ghost use Rattle.desc_form.specs.inner.WrittenView.{assign_view, flow_view, host_view, invariant_view, written_view};
 ghost use Rattle.desc_form.specs.HostConditions.{bad_name};
-ghost use Rattle.desc_form.specs.Mentions.{all_names, assign_name, assign_names_of, flow_names_of, host_name};
+ghost use Rattle.desc_form.specs.Mentions.{all_names, assign_names_of, flow_names_of};
+ghost use Rattle.desc_form.specs.inner.MentionView.{assign_name, host_name};
 ghost use Rattle.text_core.specs.Firsts.{first_found, numbered};
 
 use crate::refusal::{Place, Refusal, Why};
@@ -11,7 +12,7 @@ use crate::written::{Written, WrittenAssign, WrittenFlow, WrittenHost, WrittenIn
 use text_core::is_name;
 
 /// A text in the place of a name is no legal name.
-#[tactic(auto, unfolding(crate::specs::Mentions::all_names, crate::specs::Mentions::used_names, crate::specs::Mentions::assign_names, crate::specs::Mentions::flow_names), using(crate::proofs::NamesLaws::bad_name_append, crate::proofs::NamesLaws::bad_name_in_turn))]
+#[tactic(auto, unfolding(crate::specs::Mentions::all_names, crate::specs::Mentions::used_names), using(crate::proofs::NamesLaws::bad_name_append, crate::proofs::NamesLaws::bad_name_in_turn))]
 pub(crate) fn bad_name(written: &Written<'_>) -> Option<Refusal>
     ensures { result ≡ bad_name (all_names (written_view written.now)) }
 {

@@ -5,16 +5,17 @@ ghost use Rattle.std.specs.Prelude.{◌≡◌, ◌||◌, true, not, map};
 ghost use Rattle.std.specs.Option.{option_map_or};
 ghost use Rattle.toml.specs.Data.{as_table, table};
 ghost use Rattle.toml.specs.View.{view, table_view};
-ghost use Rattle.desc_form.specs.Keys.{version_said};
+ghost use Rattle.desc_form.specs.Keys.{keys_of, version_said};
+ghost use Rattle.table_core.specs.Keys.{all_suit};
 ghost use Rattle.desc_form.specs.declared.refusal.Place.TheVariants.{Document};
-ghost use Rattle.desc_form.specs.Places.{assigns_of, denies_pairs, has_unsuited, has_missing_key, has_unknown_key, has_wrong_type, invariant_spots, listed, spot_in};
+ghost use Rattle.desc_form.specs.Places.{assigns_of, denies_pairs, has_missing_key, has_unknown_key, has_wrong_type, invariant_spots, listed, spot_in};
 ghost use Rattle.desc_form.specs.inner.Walking.{after, after_all, after_invariants, first_places, nothing_found, place_in};
 ghost use Rattle.text_core.specs.Firsts.{numbered};
 
 use crate::flows::{are_pairs, is_flow};
-use crate::keys::{has_other_key, has_unsuited, lacks_needed};
+use crate::keys::keys_of;
 use crate::refusal::Place;
-use table_core::{integer_at, list_at};
+use table_core::{all_suit, has_only_keys, integer_at, lacks_key, list_at};
 use toml::{Table, Value};
 
 /// One of the lists of a description.
@@ -64,9 +65,14 @@ fn assigns_of(value: &Value) -> &[Value]
 fn has_unknown_key(version: Option<i64>, place: Place, value: &Value) -> bool
     ensures { result ≡ has_unknown_key version place (view value.now) }
 {
-    match value.as_table() {
-        Some(table) => has_other_key(version, place, table),
-        None => false,
+    match place {
+        Place::Document | Place::Host(_) | Place::Invariant(_) | Place::Template(_) => {
+            match value.as_table() {
+                Some(table) => !has_only_keys(table, keys_of(version, place)),
+                None => false,
+            }
+        }
+        Place::Assign(_, _) | Place::FlowAt(_) => false,
     }
 }
 
@@ -74,7 +80,7 @@ fn has_missing_key(version: Option<i64>, place: Place, value: &Value) -> bool
     ensures { result ≡ has_missing_key version place (view value.now) }
 {
     match value.as_table() {
-        Some(table) => lacks_needed(version, place, table),
+        Some(table) => lacks_key(table, keys_of(version, place)),
         None => false,
     }
 }
@@ -89,12 +95,12 @@ fn denies_pairs(table: &Table) -> bool
 /// Whether the value is no table, or one in which something is not of its kind, or that denies what is no
 /// pair.
 fn is_no_template(version: Option<i64>, place: Place, value: &Value) -> bool
-    ensures { result ≡ option_map_or (λ ms. has_unsuited version place ms || not (denies_pairs ms)) (as_table (view value.now)) true }
+    ensures { result ≡ option_map_or (λ ms. not (all_suit (keys_of version place) ms) || not (denies_pairs ms)) (as_table (view value.now)) true }
 {
     let Some(table) = value.as_table() else {
         return true;
     };
-    has_unsuited(version, place, table) || !denies_pairs(table)
+    !all_suit(table, keys_of(version, place)) || !denies_pairs(table)
 }
 
 #[tactic(auto, unfolding(crate::specs::Places::has_wrong_type))]
@@ -106,7 +112,7 @@ fn has_wrong_type(version: Option<i64>, place: Place, value: &Value) -> bool
         Place::Template(_) => is_no_template(version, place, value),
         Place::Document | Place::Host(_) | Place::Invariant(_) | Place::Assign(_, _) => {
             match value.as_table() {
-                Some(table) => has_unsuited(version, place, table),
+                Some(table) => !all_suit(table, keys_of(version, place)),
                 None => true,
             }
         }
@@ -144,11 +150,12 @@ impl Found {
             (record { place = Document; value = table (table_view document.now) }) }
     {
         let (version, place) = (integer_at(document, "topos"), Place::Document);
+        let keys = keys_of(version, place);
         Found {
             version,
-            unknown: has_other_key(version, place, document).then_some(place),
-            missing: lacks_needed(version, place, document).then_some(place),
-            wrong: has_unsuited(version, place, document).then_some(place),
+            unknown: (!has_only_keys(document, keys)).then_some(place),
+            missing: lacks_key(document, keys).then_some(place),
+            wrong: (!all_suit(document, keys)).then_some(place),
         }
     }
 

@@ -19,7 +19,7 @@ pub fn form_refusal(document: &Table) -> Option<Refusal>
     first_refusal(document)
 }
 
-#[tactic(auto, unfolding(crate::specs::FormConditions::form_conditions, crate::specs::Places::unknown_key, crate::specs::Places::missing_key, crate::specs::Places::wrong_type))]
+#[tactic(auto, unfolding(crate::specs::FormConditions::form_conditions), using(crate::proofs::FoundLaws::refused_first))]
 fn first_refusal(document: &Table) -> Option<Refusal>
     ensures { result ≡ first_of (form_conditions (table_view document.now)) }
 {

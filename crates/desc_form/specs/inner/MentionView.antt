@@ -1,6 +1,17 @@
--- What the type of a mention stands for.
+-- What the type of a mention stands for, and the names of a host and of an assign.
+use Rattle.std.specs.Prelude.{ℕ}
 use Rattle.desc_form.specs.Mentions as meant
+use Rattle.desc_form.specs.Written.{WrittenAssign, WrittenHost}
 use Rattle.desc_form.specs.declared.mentions.Mention.{Mention}
+use Rattle.desc_form.specs.declared.refusal.Place.TheVariants.{Assign, Host}
+use Rattle.text_core.specs.Firsts.{Numbered}
 
 abbrev pub mention_view : Mention → meant.Mention
 mention_view m = record { place = m.place; item = m.item; name = m.name.now }
+
+abbrev pub host_name : Numbered WrittenHost → meant.Mention
+host_name h = record { place = Host h.number; item = 0; name = h.what.name }
+
+-- the name in an assign of the invariant with a number
+abbrev pub assign_name : ℕ → Numbered WrittenAssign → meant.Mention
+assign_name invariant a = record { place = Assign invariant a.number; item = 0; name = a.what.host }

@@ -1,6 +1,6 @@
 -- What is found as the places are gone through one by one: what the private functions compute that go through them. Nothing
 -- here has to be believed: FoundLaws proves that the first places come out.
-use Rattle.std.specs.Prelude.{ℕ, ◌+◌, ℤ, List, [], ◌∷◌, Option, None}
+use Rattle.std.specs.Prelude.{ℕ, ◌+◌, ℤ, Bool, List, [], ◌∷◌, find, Option, None, option_map}
 use Rattle.std.specs.Option.{option_or}
 use Rattle.toml.specs.Data.{Data, Members}
 use Rattle.desc_form.specs.declared.places.Found.{Found}
@@ -10,7 +10,7 @@ use Rattle.desc_form.specs.declared.refusal.Place.{Place}
 use Rattle.desc_form.specs.declared.refusal.Place.TheVariants.{Host, Assign, FlowAt, Template}
 use Rattle.text_core.specs.Firsts.{where_holds}
 use Rattle.desc_form.specs.Keys.{version_said}
-use Rattle.desc_form.specs.Places.{Spot, first_place, has_unknown_key, has_missing_key, has_wrong_type, invariant_spots}
+use Rattle.desc_form.specs.Places.{Spot, has_unknown_key, has_missing_key, has_wrong_type, invariant_spots, spots}
 
 -- the place with a number in one of the lists
 abbrev pub place_in : Row → ℕ → Place
@@ -42,11 +42,15 @@ abbrev pub after_invariants : Found → ℕ → List Data → Found
 after_invariants f k [] = f
 after_invariants f k (d ∷ ds) = after_invariants (after_all f (invariant_spots (record { number = k; what = d }))) (k + 1) ds
 
+-- the first place where a condition holds of what stands there
+unfoldable pub place_where : (Option ℤ → Place → Data → Bool) → Members → Option Place
+place_where holds document = option_map (λ s. s.place) (find (λ s. holds (version_said document) s.place s.value) (spots document))
+
 -- the first place for each of the three conditions
 abbrev pub first_places : Members → Found
 first_places document = record {
   version = version_said document;
-  unknown = first_place (has_unknown_key (version_said document)) document;
-  missing = first_place (has_missing_key (version_said document)) document;
-  wrong = first_place (has_wrong_type (version_said document)) document;
+  unknown = place_where has_unknown_key document;
+  missing = place_where has_missing_key document;
+  wrong = place_where has_wrong_type document;
 }

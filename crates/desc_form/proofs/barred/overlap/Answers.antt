@@ -1,5 +1,5 @@
 use Rattle.std.proofs.Common.{rules, option_map, ◌∙◌}
-use Rattle.desc_form.specs.Refusals.{refused_item_by}
+use Rattle.desc_form.specs.inner.Refused.{refused_item_by}
 use Rattle.desc_form.specs.declared.refusal.Place.TheVariants.{Host}
 use Rattle.desc_form.specs.declared.refusal.Why.TheVariants.{Overlap}
 use Rattle.desc_form.specs.inner.EntryView.{entry_view}

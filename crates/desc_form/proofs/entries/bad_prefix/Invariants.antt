@@ -2,8 +2,8 @@ use Rattle.std.proofs.Common.{◌≡◌, map, drop, find, option_map, not}
 use Rattle.desc_form.specs.Refusals.{refused_item}
 use Rattle.desc_form.specs.declared.refusal.Place.TheVariants.{Host}
 use Rattle.desc_form.specs.declared.refusal.Why.TheVariants.{BadPrefix}
-use Rattle.desc_form.specs.inner.EntryView.{entry_view}
-use Rattle.desc_form.specs.HostConditions.{Entry, is_prefix}
+use Rattle.desc_form.specs.inner.EntryView.{entry_view, is_prefix}
+use Rattle.desc_form.specs.HostConditions.{Entry}
 use Rattle.desc_form.proofs.entries.bad_prefix.Given as goal
 
 abbrev pub invariant-loop-entry : goal.invariant-loop-entry

@@ -2,8 +2,8 @@ use Rattle.std.proofs.Common.{◌≡◌, map, drop, find, option_map}
 use Rattle.desc_form.specs.Refusals.{refused_item}
 use Rattle.desc_form.specs.declared.refusal.Place.TheVariants.{Host}
 use Rattle.desc_form.specs.declared.refusal.Why.TheVariants.{HostBits}
-use Rattle.desc_form.specs.inner.EntryView.{entry_view}
-use Rattle.desc_form.specs.HostConditions.{Entry, has_host_bits}
+use Rattle.desc_form.specs.inner.EntryView.{entry_view, has_host_bits}
+use Rattle.desc_form.specs.HostConditions.{Entry}
 use Rattle.desc_form.proofs.entries.host_bits.Given as goal
 
 abbrev pub invariant-loop-entry : goal.invariant-loop-entry

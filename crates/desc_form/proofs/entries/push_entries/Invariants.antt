@@ -1,7 +1,6 @@
 use Rattle.std.proofs.Common.{◌≡◌, ◌+◌, ◌++◌, map, drop, Bor, List, ℕ}
 use Rattle.text_core.specs.Firsts.{numbered_from}
-use Rattle.desc_form.specs.HostConditions.{entries_at, entry_at}
-use Rattle.desc_form.specs.inner.EntryView.{entry_view}
+use Rattle.desc_form.specs.inner.EntryView.{entries_at, entry_at, entry_view}
 use Rattle.desc_form.proofs.entries.push_entries.Given as goal
 
 abbrev pub invariant-loop-index : goal.invariant-loop-index

@@ -1,8 +1,7 @@
 use Rattle.std.proofs.Common.{◌≡◌, ◌+◌, ◌++◌, map, drop}
 use Rattle.text_core.specs.Firsts.{numbered_from}
 use Rattle.desc_form.specs.inner.WrittenView.{assign_view}
-use Rattle.desc_form.specs.inner.MentionView.{mention_view}
-use Rattle.desc_form.specs.Mentions.{assign_name}
+use Rattle.desc_form.specs.inner.MentionView.{assign_name, mention_view}
 use Rattle.desc_form.proofs.mentions.push_names_of.Given as goal
 
 abbrev pub invariant-loop-index : goal.invariant-loop-index
