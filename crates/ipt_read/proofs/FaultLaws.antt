@@ -5,12 +5,10 @@ use Rattle.text_core.proofs.TextByLinesLaws.{IsSettled, one_reading as reading_o
 use Rattle.ipt_rules.specs.Chain.{Chain}
 use Rattle.ipt_rules.specs.Loops.{HasNoLoop, IsLeastLoop}
 use Rattle.ipt_read.specs.declared.fault.IptWhy.{IptWhy}
-use Rattle.ipt_read.specs.declared.stage.Stage.TheVariants.{After}
-use Rattle.ipt_read.specs.Said.{SaidSoFar, line_of}
-use Rattle.ipt_read.specs.Grammar.{IsTextLine}
+use Rattle.ipt_read.specs.Said.{After, SaidSoFar, line_of}
 use Rattle.ipt_read.specs.LineFault.{IsBadLine}
 use Rattle.text_core.specs.Lines.{words}
-use Rattle.ipt_read.proofs.LineLaws.{read_of_line}
+use Rattle.ipt_read.proofs.LineLaws.{IsTextLine, read_of_line}
 use Rattle.ipt_read.proofs.LineFaultLaws.{step_of_bad_line}
 use Rattle.ipt_read.specs.TextLines.{EndsBadly, no_commit, loops, rules_text, IsReading, HasFault}
 

@@ -11,6 +11,7 @@ pub mod PartLaws
 pub mod PieceLaws
 pub mod PrintedLaws
 pub mod RuleFaultLaws
+pub mod RowLaws
 pub mod RuleRows
 pub mod ServiceRows
 pub mod ServiceValueLaws

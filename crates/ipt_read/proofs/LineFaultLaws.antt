@@ -12,14 +12,12 @@ use Rattle.ipt_rules.specs.Name.{is_user_name}
 use Rattle.ipt_rules.specs.Text.{policy_text}
 use Rattle.ipt_read.specs.declared.fault.IptWhy.{IptWhy}
 use Rattle.ipt_read.specs.declared.fault.IptWhy.TheVariants.{BadLine, OtherTable, BadChain, UnknownChain, AfterCommit, TooMany}
-use Rattle.ipt_read.specs.declared.option.Given.{Given}
 use Rattle.ipt_read.specs.declared.option.Place.TheVariants.{AtOption}
-use Rattle.ipt_read.specs.declared.stage.Stage.{Stage}
-use Rattle.ipt_read.specs.declared.stage.Stage.TheVariants.{Front, Table, After}
 use Rattle.ipt_read.specs.inner.Counts.{is_count}
-use Rattle.ipt_read.specs.Options.{nothing_given, rule_of}
+use Rattle.ipt_read.specs.Options.{Given, nothing_given}
+use Rattle.ipt_read.specs.inner.OptionSteps.{rule_of}
 use Rattle.ipt_read.specs.inner.RuleLine.{goes_on, word_by_word, rule_in, append_of, rule_line_of}
-use Rattle.ipt_read.specs.Said.{SaidSoFar, line_of}
+use Rattle.ipt_read.specs.Said.{Stage, Front, Table, After, SaidSoFar, line_of}
 use Rattle.ipt_read.specs.inner.LineStep.{no_words, table_line_of, policy_word, built_in_policy, with_built_in, declare, declare_by, chain_line_of, with_read_rule, commit_line_of, body_line_of, line_at, line_of_words, line_step}
 use Rattle.ipt_read.specs.Grammar.{IsFront, IsChainLine}
 use Rattle.ipt_read.proofs.ValueLaws.{count_said, said_count}
@@ -38,10 +36,10 @@ given_err (Err cause) c why h = ap (λ e. Err e) (err_rule cause why h)
 
 in_bad : (chains : List Chain) (front : List (List ℕ)) (name : List ℕ) (pieces : List (List ℕ)) (why : IptWhy) (o : Option ℕ) → IsFront front → number_of chains name ≡ o → rule_in chains o pieces ≡ Err why → IsBadRule chains (front ++ (codes "-A" ∷ name ∷ pieces)) why
 in_bad chains front name pieces why None counted number h =
-    subst (IsBadRule chains (front ++ (codes "-A" ∷ name ∷ pieces))) (err_rule UnknownChain why h) (no_chain front name pieces counted refl number)
+    subst (IsBadRule chains (front ++ (codes "-A" ∷ name ∷ pieces))) (err_rule UnknownChain why h) (no_chain name pieces (front, counted, refl) number)
 in_bad chains front name pieces why (Some c) counted number h =
     let at = stuck_of_read chains nothing_given pieces why (given_err (word_by_word chains nothing_given AtOption pieces) c why h) in
-    stuck front name c at.0 at.1 at.2 counted (ap (λ ps. front ++ (codes "-A" ∷ name ∷ ps)) at.3) number at.4 at.5
+    stuck name c at.0 at.1 at.2 (front, counted, ap (λ ps. front ++ (codes "-A" ∷ name ∷ ps)) at.3) number at.4 at.5
 
 abbrev NoAppend : List (List ℕ) → Type 0
 NoAppend ws = (name : List ℕ) (pieces : List (List ℕ)) → ws ≡ codes "-A" ∷ name ∷ pieces → ⊥
@@ -50,7 +48,7 @@ abbrev NotBegun : List (List ℕ) → Type 0
 NotBegun ws = (front : List (List ℕ)) (name : List ℕ) (pieces : List (List ℕ)) → IsFront front → ws ≡ front ++ (codes "-A" ∷ name ∷ pieces) → ⊥
 
 bad_line_rule : (chains : List Chain) (ws : List (List ℕ)) (why : IptWhy) → NotBegun ws → ◌≡◌ {A = Result (ℕ × Rule) IptWhy} (Err BadLine) (Err why) → IsBadRule chains ws why
-bad_line_rule chains ws why none h = subst (IsBadRule chains ws) (err_rule BadLine why h) (not_begun none)
+bad_line_rule chains ws why none h = subst (IsBadRule chains ws) (err_rule BadLine why h) (not_begun (λ name pieces is. none is.0 name pieces is.1 is.2))
 
 append_bad : (chains : List Chain) (front ws : List (List ℕ)) (why : IptWhy) → IsFront front → (NoAppend ws → NotBegun (front ++ ws)) → append_of chains ws ≡ Err why → IsBadRule chains (front ++ ws) why
 append_bad chains front [] why counted missing h = bad_line_rule chains (front ++ []) why (missing (λ name pieces e. cc)) h
@@ -119,21 +117,22 @@ begun chains front name pieces (inr count) =
 
 is_bad_line : (chains : List Chain) (ws : List (List ℕ)) (why : IptWhy) → NotBegun ws → IsBadRule chains ws why → why ≡ BadLine
 is_bad_line chains ws why none (not_begun other) = refl
-is_bad_line chains ws why none (no_chain front name pieces counted written number) = absurd (none front name pieces counted written)
-is_bad_line chains ws why none (stuck front name c read rest given counted written number fit at) = absurd (none front name (read ++ rest) counted written)
+is_bad_line chains ws why none (no_chain name pieces is number) = absurd (none is.0 name pieces is.1 is.2)
+is_bad_line chains ws why none (stuck name c read rest given is number fit at) = absurd (none is.0 name (read ++ rest) is.1 is.2)
 
 not_begun_read : (chains : List Chain) (ws : List (List ℕ)) (r : Result (ℕ × Rule) IptWhy) → NotBegun ws → rule_line_of chains ws ≡ r → r ≡ Err BadLine
 not_begun_read chains ws (Ok (c, rule)) none is =
     let line = rule_line_of_read chains ws c rule is in
-    absurd (none line.front line.name line.pieces line.counted line.written)
+    absurd (none line.written.0 line.name line.pieces line.written.1 line.written.2)
 not_begun_read chains ws (Err why) none is = ap (λ e. Err e) (is_bad_line chains ws why none (bad_rule_of_read chains ws why is))
 
 read_of_bad_rule : (chains : List Chain) (ws : List (List ℕ)) (why : IptWhy) → IsBadRule chains ws why → rule_line_of chains ws ≡ Err why
-read_of_bad_rule chains ws why (not_begun none) = not_begun_read chains ws (rule_line_of chains ws) none refl
-read_of_bad_rule chains ws why (no_chain front name pieces counted written number) =
-    ap (rule_line_of chains) written ∙ begun chains front name pieces counted ∙ ap (λ o. rule_in chains o pieces) number
-read_of_bad_rule chains ws why (stuck front name c read rest given counted written number fit at) =
-    ap (rule_line_of chains) written ∙ begun chains front name (read ++ rest) counted ∙ ap (λ o. rule_in chains o (read ++ rest)) number
+read_of_bad_rule chains ws why (not_begun none) =
+    not_begun_read chains ws (rule_line_of chains ws) (λ front name pieces counted written. none name pieces (front, counted, written)) refl
+read_of_bad_rule chains ws why (no_chain name pieces is number) =
+    ap (rule_line_of chains) is.2 ∙ begun chains is.0 name pieces is.1 ∙ ap (λ o. rule_in chains o pieces) number
+read_of_bad_rule chains ws why (stuck name c read rest given is number fit at) =
+    ap (rule_line_of chains) is.2 ∙ begun chains is.0 name (read ++ rest) is.1 ∙ ap (λ o. rule_in chains o (read ++ rest)) number
     ∙ ap (λ r. goes_on {B = ℕ × Rule} r (λ g. Ok (c, rule_of g))) (read_of_stuck chains nothing_given given read rest why fit at)
 
 -- 2. Chain lines.
@@ -151,8 +150,8 @@ Says s ws (Err why) = ((why ≡ BadChain) × (MayDeclare s ws → ⊥)) ⊎ ((wh
 
 chain_parts : (w : List ℕ) (ws : List (List ℕ)) (name policy : List ℕ) → IsChainLine (w ∷ ws) name policy → (drop 1 w ≡ name) × (policy_word ws ≡ Some policy)
 chain_parts w ws name policy line =
-    let parts = first_words w (58 ∷ name) ws (policy ∷ line.behind) line.written in
-    (ap (drop 1) parts.0, ap policy_word parts.1 ∙ policy_read policy line.behind line.counted)
+    let parts = first_words w (58 ∷ name) ws (policy ∷ line.0) line.2 in
+    (ap (drop 1) parts.0, ap policy_word parts.1 ∙ policy_read policy line.0 line.1)
 
 some_policy : (p q : List ℕ) → ◌≡◌ {A = Option (List ℕ)} (Some p) (Some q) → p ≡ q
 some_policy p q h = cc
@@ -163,7 +162,7 @@ some_number p q h = cc
 chain_whole : (w : List ℕ) (ws : List (List ℕ)) (p : List ℕ) → begins_with 58 w ≡ true → policy_word ws ≡ Some p → IsChainLine (w ∷ ws) (drop 1 w) p
 chain_whole w ws p colon said =
     let parts = policy_behind ws p said in
-    record { behind = parts.0; counted = parts.1; written = ap (λ v. v ∷ ws) (colon_word w colon) ∙ ap (λ vs. (58 ∷ drop 1 w) ∷ vs) parts.2 }
+    (parts.0, parts.1, ap (λ v. v ∷ ws) (colon_word w colon) ∙ ap (λ vs. (58 ∷ drop 1 w) ∷ vs) parts.2)
 
 not_policy : (s : SaidSoFar) (w : List ℕ) (ws : List (List ℕ)) → policy_word ws ≡ None → MayDeclare s (w ∷ ws) → ⊥
 not_policy s w ws none (a_built_in name policy c line number low free) = let parts = chain_parts w ws name (policy_text (Some policy)) line in let said = parts.1 in cc
@@ -393,9 +392,9 @@ step_of_bad n s w ws why (behind_table stage is some) =
 step_of_bad n s w ws why (bad_chain stage colon none) =
     at_stage n s w ws Table (Err BadChain) stage (colon_body n s w ws colon ∙ chain_refused s (w ∷ ws) (chain_line_of n s w ws) none (chain_says n s w ws colon))
 step_of_bad n s w ws why (many_chains stage name line number legal full) =
-    let parts = first_words w (58 ∷ name) ws (policy_text None ∷ line.behind) line.written in
+    let parts = first_words w (58 ∷ name) ws (policy_text None ∷ line.0) line.2 in
     at_stage n s w ws Table (Err TooMany) stage
-    (colon_body n s w ws (ap (begins_with 58) parts.0) ∙ (λ i. chain_line_of n s (parts.0 i) (parts.1 i)) ∙ chain_full s ws n name line.behind line.counted number legal full)
+    (colon_body n s w ws (ap (begins_with 58) parts.0) ∙ (λ i. chain_line_of n s (parts.0 i) (parts.1 i)) ∙ chain_full s ws n name line.0 line.1 number legal full)
 step_of_bad n s w ws why (bad_rule stage begins bad) =
     at_stage n s w ws Table (Err why) stage (rule_body n s w ws begins ∙ ap (with_read_rule s) (read_of_bad_rule s.chains (w ∷ ws) why bad))
 step_of_bad n s w ws why (many_rules stage begins c r line full) =

@@ -13,16 +13,14 @@ use Rattle.ipt_rules.specs.Name.{is_user_name}
 use Rattle.ipt_rules.specs.Text.{policy_text}
 use Rattle.ipt_read.specs.declared.fault.IptWhy.{IptWhy}
 use Rattle.ipt_read.specs.declared.fault.IptWhy.TheVariants.{BadLine, BadChain, TooMany, OtherTable}
-use Rattle.ipt_read.specs.declared.option.Given.{Given}
 use Rattle.ipt_read.specs.declared.option.Place.TheVariants.{AtOption}
-use Rattle.ipt_read.specs.declared.stage.Stage.{Stage}
-use Rattle.ipt_read.specs.declared.stage.Stage.TheVariants.{Front, Table, After}
 use Rattle.ipt_read.specs.inner.Counts.{is_count, is_packets_part}
-use Rattle.ipt_read.specs.Options.{nothing_given, rule_of}
+use Rattle.ipt_read.specs.Options.{Given, nothing_given}
+use Rattle.ipt_read.specs.inner.OptionSteps.{rule_of}
 use Rattle.ipt_read.specs.inner.RuleLine.{word_by_word, rule_in, append_of, rule_line_of}
-use Rattle.ipt_read.specs.Said.{SaidSoFar, line_of}
+use Rattle.ipt_read.specs.Said.{Stage, Front, Table, After, SaidSoFar, line_of}
 use Rattle.ipt_read.specs.inner.LineStep.{no_words, table_line_of, policy_word, built_in_policy, with_built_in, declare, declare_by, chain_line_of, with_read_rule, commit_line_of, body_line_of, line_at, line_of_words, line_step}
-use Rattle.ipt_read.specs.Grammar.{ArePieces, IsFront, IsRuleLine, IsChainLine, IsLine, table, built_in, user, rule, commit, IsTextLine}
+use Rattle.ipt_read.specs.Grammar.{ArePieces, IsFront, IsRuleLine, IsChainLine, IsLine, table, built_in, user, rule, commit}
 use Rattle.ipt_read.proofs.ValueLaws.{count_said, said_count}
 use Rattle.ipt_read.proofs.PieceLaws.{goes_parts, pieces_of_read, read_of_pieces}
 
@@ -40,12 +38,10 @@ in_line chains front name ws k r (Some c) counted found h =
     let parts = goes_parts {B = ℕ × Rule} (word_by_word chains nothing_given AtOption ws) (λ given. Ok (c, rule_of given)) (k, r) h in
     let same = ok_pair c k (rule_of parts.0) r parts.2 in
     record {
-      front = front;
       name = name;
       pieces = ws;
       given = parts.0;
-      counted = counted;
-      written = refl;
+      written = (front, counted, refl);
       number = found ∙ ap (λ n. Some n) same.0;
       fit = pieces_of_read chains nothing_given parts.0 ws parts.1;
       same = sym same.1;
@@ -98,7 +94,7 @@ line_read chains front name pieces c given (inr count) number fit =
 
 pub read_of_rule_line : (chains : List Chain) (ws : List (List ℕ)) (k : ℕ) (r : Rule) → IsRuleLine chains ws k r → rule_line_of chains ws ≡ Ok (k, r)
 read_of_rule_line chains ws k r line =
-    ap (rule_line_of chains) line.written ∙ line_read chains line.front line.name line.pieces k line.given line.counted line.number line.fit ∙ ap (λ q. Ok (k, q)) (sym line.same)
+    ap (rule_line_of chains) line.written.2 ∙ line_read chains line.written.0 line.name line.pieces k line.given line.written.1 line.number line.fit ∙ ap (λ q. Ok (k, q)) (sym line.same)
 
 -- 2. Chain lines.
 
@@ -185,7 +181,7 @@ chain_line_by n s t w ws None stage colon said h = cc
 chain_line_by n s t w ws (Some p) stage colon said h =
     let parts = policy_behind ws p said in
     declared_line n s t (w ∷ ws) (drop 1 w) p (number_of s.chains (drop 1 w)) stage
-    (record { behind = parts.0; counted = parts.1; written = ap (λ v. v ∷ ws) (colon_word w colon) ∙ ap (λ vs. (58 ∷ drop 1 w) ∷ vs) parts.2 }) refl h
+    (parts.0, parts.1, ap (λ v. v ∷ ws) (colon_word w colon) ∙ ap (λ vs. (58 ∷ drop 1 w) ∷ vs) parts.2) refl h
 
 -- 3. The lines by their stage.
 
@@ -254,6 +250,9 @@ unfolding line_of_words
 line_by_words n s t [] h = cc
 line_by_words n s t (w ∷ ws) h = stage_line n s t w ws s.stage refl h
 
+abbrev pub IsTextLine : ℕ → SaidSoFar → List ℕ → SaidSoFar → Type 0
+IsTextLine n s l t = IsLine n s (words l) t
+
 -- sound: a line that is read is one of the grammar
 pub line_of_read : (n : ℕ) (s t : SaidSoFar) (l : List ℕ) → line_step n s l ≡ Ok t → IsTextLine n s l t
 line_of_read n s t l h = line_by_words n s t (words l) h
@@ -312,12 +311,12 @@ unfolding line_of_words body_line_of
 words_read n s t ws (table stage) = ap (λ (g : Stage). line_at g n s (codes "*filter") []) stage
 words_read n s t ws (commit stage) = ap (λ (g : Stage). line_at g n s (codes "COMMIT") []) stage
 words_read n s t ws (built_in {name = name} {c = c} p stage line number low free) =
-    ap (line_of_words n s) line.written ∙ chain_in_body n s t name (policy_text (Some p) ∷ line.behind) stage (built_in_read_line n s name line.behind c p line.counted number low free)
+    ap (line_of_words n s) line.2 ∙ chain_in_body n s t name (policy_text (Some p) ∷ line.0) stage (built_in_read_line n s name line.0 c p line.1 number low free)
 words_read n s t ws (user {name = name} stage line number legal few) =
-    ap (line_of_words n s) line.written ∙ chain_in_body n s t name (policy_text None ∷ line.behind) stage (user_read_line n s name line.behind line.counted number legal few)
+    ap (line_of_words n s) line.2 ∙ chain_in_body n s t name (policy_text None ∷ line.0) stage (user_read_line n s name line.0 line.1 number legal few)
 words_read n s t ws (rule {c = c} {r = r} stage line few) =
-    ap (line_of_words n s) line.written ∙ rule_in_body n s t line.front line.name line.pieces stage line.counted
-    (ap (λ vs. with_read_rule s (rule_line_of s.chains vs)) (sym line.written) ∙ rule_read_line n s ws c r line few)
+    ap (line_of_words n s) line.written.2 ∙ rule_in_body n s t line.written.0 line.name line.pieces stage line.written.1
+    (ap (λ vs. with_read_rule s (rule_line_of s.chains vs)) (sym line.written.2) ∙ rule_read_line n s ws c r line few)
 
 pub read_of_line : (n : ℕ) (s t : SaidSoFar) (l : List ℕ) → IsTextLine n s l t → line_step n s l ≡ Ok t
 read_of_line n s t l line = words_read n s t (words l) line

@@ -15,10 +15,10 @@ use Rattle.ipt_rules.specs.Chain.{Chain, name_of, number_of, user_chain, with_ru
 use Rattle.ipt_rules.specs.ChainTable.{rule_count}
 use Rattle.ipt_rules.specs.Name.{is_user_name}
 use Rattle.ipt_rules.specs.Text.{newline, policy_text, chain_line, rule_line, rule_lines, commit_line}
-use Rattle.ipt_read.specs.declared.stage.Stage.TheVariants.{Table, After}
 use Rattle.ipt_read.specs.Values.{IsCount}
-use Rattle.ipt_read.specs.Said.{SaidSoFar}
-use Rattle.ipt_read.specs.Grammar.{IsLine, user, rule, commit, IsTextLine}
+use Rattle.ipt_read.proofs.LineLaws.{IsTextLine}
+use Rattle.ipt_read.specs.Said.{Table, After, SaidSoFar}
+use Rattle.ipt_read.specs.Grammar.{IsLine, user, rule, commit}
 use Rattle.ipt_read.specs.inner.WrittenWords.{rule_words}
 use Rattle.ipt_read.proofs.FineRulesLaws.{AddressFits}
 use Rattle.ipt_rules.specs.inner.RuleParts.{is_rule}
@@ -84,7 +84,7 @@ bare x = user_chain x.name
 
 user_step : (front : List Chain) (x : Chain) → number_of front x.name ≡ None → IsTrue (is_user_name x.name) → length front < 4096 → (n : ℕ) (d : List ℕ) → (e : List ℕ) × IsLine n (within front d 0) (user_words x.name) (within (front ++ user_chain x.name ∷ []) e 0)
 user_step front x new legal few = λ n d.
-    (d ++ n ∷ [], user refl (record { behind = codes "[0:0]" ∷ []; counted = inr (codes "[0:0]", zero_count, refl); written = refl }) new legal few)
+    (d ++ n ∷ [], user refl (codes "[0:0]" ∷ [], inr (codes "[0:0]", zero_count, refl), refl) new legal few)
 
 user_line_spaced : (x : Chain) → x.policy ≡ None → chain_line x ≡ spaced (user_words x.name) ++ newline
 unfolding chain_line

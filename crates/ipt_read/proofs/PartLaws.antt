@@ -1,38 +1,29 @@
 -- What a rule line gives of protocols and ports is what a rule may ask for.
-use Rattle.std.proofs.Common.{◌≡◌, ℕ, ◌<◌, ◌≤◌, ◌^◌, Bool, true, false, ◌||◌, ◌&&◌, List, Option, Some, None, inl, inr, refl, ap, ◌∙◌, subst, arith}
-use Rattle.std.specs.Prelude.{codes, bytes_eq, nat_le, is_some, is_none}
-use Rattle.std.specs.Option.{option_map}
+use Rattle.std.proofs.Common.{◌≡◌, ℕ, ◌<◌, ◌≤◌, ◌^◌, Bool, true, false, ◌||◌, ◌&&◌, List, Option, Some, None, inl, inr, refl, sym, ap, ◌∙◌, subst, arith}
+use Rattle.std.specs.Prelude.{codes, nat_le, is_some, unwrap_or}
 use Rattle.std.proofs.lemmas.Bool.{and_parts}
 use Rattle.std.proofs.lemmas.Bool.Decides.{nat_tests}
-use Rattle.text_core.proofs.StepsLaws.{if_parts, map_parts}
-use Rattle.host_net.specs.Prefix.{prefix_of}
 use Rattle.host_net.specs.Service.{last_port}
-use Rattle.host_net.specs.ServiceText.{protocol_text}
 use Rattle.ipt_rules.specs.declared.rule.PortMatch.{PortMatch}
 use Rattle.ipt_rules.specs.declared.rule.ProtoMatch.{ProtoMatch}
 use Rattle.ipt_rules.specs.declared.rule.Rule.{Rule}
+use Rattle.ipt_rules.specs.declared.rule.Target.TheVariants.{Count}
 use Rattle.ipt_rules.specs.Chain.{Chain}
 use Rattle.ipt_rules.specs.RuleParts.{names_ports}
 use Rattle.ipt_rules.specs.inner.RuleParts.{is_protocol, are_ports, is_rule}
-use Rattle.ipt_read.specs.declared.option.Given.{Given}
-use Rattle.ipt_read.specs.declared.option.Opt.{Opt}
-use Rattle.ipt_read.specs.declared.option.Opt.TheVariants.{Source, Destination, Protocol, SourcePort, DestinationPort, Interface, Module, CtState, State, Comment, Jump, RejectWith, LogPrefix, LogLevel}
-use Rattle.ipt_read.specs.declared.option.Place.{Place}
-use Rattle.ipt_read.specs.Options.{is_own_module, with_module, target_of, nothing_given, rule_of}
-use Rattle.ipt_read.specs.inner.ValueSteps.{with_value, states_of, text_of, port_match, protocol_match}
-use Rattle.ipt_read.specs.inner.ServiceSteps.{asked_protocol, asked_ports}
-use Rattle.ipt_read.proofs.ServiceValueLaws.{protocol_said, ports_said}
-use Rattle.ipt_read.specs.Grammar.{Stands, IsPiece, plain, turned, ArePieces, none_left, one_more, IsRuleLine}
-use Rattle.ipt_read.proofs.GrammarLaws.{IsTaken, taken_word, taken_text, value_taken}
+use Rattle.ipt_read.specs.declared.option.Opt.TheVariants.{Protocol, SourcePort, DestinationPort}
+use Rattle.ipt_read.specs.Options.{Given, nothing_given, in_front, Row, row_of, is_barred}
+use Rattle.ipt_read.specs.inner.OptionSteps.{row}
+use Rattle.ipt_read.specs.Grammar.{Stands, IsValue, source, destination, protocol, source_port, destination_port, ct_states, states, comment, conntrack_module, state_module, comment_module, own_module, target, jump, reject_with, log_prefix, log_level, IsPiece, plain, turned, ArePieces, none_left, one_more, IsRuleLine}
 
 -- 1. The parts of a rule.
 
 -- ports are asked for only where their module is named, and that only where the protocol has ports
-pub record HasParts (protocol : Option ProtoMatch) (ports : Bool) (source destination : Option PortMatch) : Type 0 where
-  pub proto : is_protocol protocol ≡ true
-  pub named : ports ≡ true → names_ports protocol ≡ true
-  pub sport : are_ports (names_ports protocol) source ≡ true
-  pub dport : are_ports (names_ports protocol) destination ≡ true
+pub record HasParts (asked : Option ProtoMatch) (ports : Bool) (from to : Option PortMatch) : Type 0 where
+  pub proto : is_protocol asked ≡ true
+  pub named : ports ≡ true → names_ports asked ≡ true
+  pub sport : are_ports (names_ports asked) from ≡ true
+  pub dport : are_ports (names_ports asked) to ≡ true
 
 -- of a rule, with the module where it asks for ports
 abbrev pub RuleHas : Option ProtoMatch → Option PortMatch → Option PortMatch → Type 0
@@ -53,18 +44,7 @@ rule_has r is =
 -- 2. Of what is given.
 
 abbrev GivesParts : Given → Type 0
-GivesParts given = HasParts given.proto given.ports given.sport given.dport
-
-abbrev PairGives : Given × Place → Type 0
-PairGives p = GivesParts p.0
-
-pair_gives : {A : Type 0} (f : A → Given × Place) (o : Option A) (now : Given × Place) → ((x : A) → o ≡ Some x → PairGives (f x)) → option_map f o ≡ Some now → PairGives now
-pair_gives f o now each h =
-    let parts = map_parts f o now h in
-    subst PairGives parts.2 (each parts.0 parts.1)
-
-same_gives : (p q : Given × Place) → ◌≡◌ {A = Option (Given × Place)} (Some p) (Some q) → PairGives p → PairGives q
-same_gives p q e gives = let f : p ≡ q = cc in subst PairGives f gives
+GivesParts given = HasParts given.rule.proto given.ports given.rule.sport given.rule.dport
 
 -- a protocol more, where none was given: no ports were asked for yet
 no_ports : (o : Option PortMatch) (named : Bool) → are_ports false o ≡ true → are_ports named o ≡ true
@@ -74,7 +54,7 @@ no_ports (Some part) named h = cc
 is_protocol_by : (proto : ℕ) (negated : Bool) → 0 < proto → proto < 2 ^ 8 → is_protocol (Some (record { proto = proto; negated = negated })) ≡ true
 is_protocol_by proto negated positive fits = grind (arith, nat_tests)
 
-protocol_more : (old : Option ProtoMatch) (ports : Bool) (sport dport : Option PortMatch) (proto : ℕ) (negated : Bool) → is_some old ≡ false → 0 < proto → proto < 2 ^ 8 → HasParts old ports sport dport → HasParts (Some (protocol_match negated proto)) ports sport dport
+protocol_more : (old : Option ProtoMatch) (ports : Bool) (sport dport : Option PortMatch) (proto : ℕ) (negated : Bool) → is_some old ≡ false → 0 < proto → proto < 2 ^ 8 → HasParts old ports sport dport → HasParts (Some (record { proto = proto; negated = negated })) ports sport dport
 protocol_more (Some part) ports sport dport proto negated none positive fits has = cc
 protocol_more None ports sport dport proto negated none positive fits has = record {
   proto = is_protocol_by proto negated positive fits;
@@ -90,68 +70,55 @@ are_ports_by named low high negated is order fits =
     let last : nat_le high last_port ≡ true = grind (arith, nat_tests) in
     rw (is, first, last) refl
 
-ports_fit : (given : Given) (word : List ℕ) (ports : ℕ × ℕ) (negated : Bool) → (is_none given.target && given.ports) ≡ true → asked_ports word ≡ Some ports → GivesParts given → are_ports (names_ports given.proto) (Some (port_match negated ports)) ≡ true
-ports_fit given word ports negated here asked gives =
-    let said = ports_said word ports asked in
-    are_ports_by (names_ports given.proto) ports.0 ports.1 negated (gives.named (and_parts (is_none given.target) given.ports here).1) said.order said.fits
+same_row : (r q : Row) → ◌≡◌ {A = Option Row} (Some r) (Some q) → r ≡ q
+same_row r q h = cc
 
-source_more : (given : Given) (port : PortMatch) → GivesParts given → are_ports (names_ports given.proto) (Some port) ≡ true → GivesParts (record given { sport = Some port })
-source_more given port gives are = record { proto = gives.proto; named = gives.named; sport = are; dport = gives.dport }
+-- what an option that stands says of its row
+stands_here : (given : Given) (negated : Bool) (name : List ℕ) (r q : Row) → row_of name ≡ Some r → Stands given negated name q → r.stands given ≡ true
+stands_here given negated name r q is stands = subst (λ (p : Row). p.stands given ≡ true) (same_row q r (sym stands.named ∙ is)) stands.here
 
-destination_more : (given : Given) (port : PortMatch) → GivesParts given → are_ports (names_ports given.proto) (Some port) ≡ true → GivesParts (record given { dport = Some port })
-destination_more given port gives are = record { proto = gives.proto; named = gives.named; sport = gives.sport; dport = are }
+stands_free : (given : Given) (negated : Bool) (name : List ℕ) (r q : Row) → row_of name ≡ Some r → Stands given negated name q → is_barred given negated r ≡ false
+stands_free given negated name r q is stands = subst (λ (p : Row). is_barred given negated p ≡ false) (same_row q r (sym stands.named ∙ is)) stands.free
 
--- the module of ports
-own_module : (o : Option ProtoMatch) (word : List ℕ) → is_own_module o word ≡ true → names_ports o ≡ true
-own_module None word h = cc
-own_module (Some part) word h = (and_parts (names_ports (Some part)) (bytes_eq word (protocol_text part.proto)) h).0
+ports_fit : (given : Given) (low high : ℕ) (negated : Bool) → (in_front given && given.ports) ≡ true → low ≤ high → high ≤ last_port → GivesParts given
+    → are_ports (names_ports given.rule.proto) (Some (record { low = low; high = high; negated = negated })) ≡ true
+ports_fit given low high negated here order fits gives =
+    are_ports_by (names_ports given.rule.proto) low high negated (gives.named (and_parts (in_front given) given.ports here).1) order fits
 
-module_gives : (given now : Given) (word : List ℕ) → with_module given word ≡ Some now → GivesParts given → GivesParts now
-unfolding with_module
-module_gives given now word h gives = elim (if_parts (bytes_eq word (codes "conntrack")) (Some (record given { conntrack = true })) _ (Some now) h) [
-  | inl yes' ↦ let e : record given { conntrack = true } ≡ now = cc in subst GivesParts e gives
-  | inr a ↦ elim (if_parts (bytes_eq word (codes "state")) (Some (record given { states = true })) _ (Some now) a.1) [
-    | inl yes' ↦ let e : record given { states = true } ≡ now = cc in subst GivesParts e gives
-    | inr b ↦ elim (if_parts (bytes_eq word (codes "comment")) (Some (record given { comments = true })) _ (Some now) b.1) [
-      | inl yes' ↦ let e : record given { comments = true } ≡ now = cc in subst GivesParts e gives
-      | inr d ↦ elim (if_parts (is_own_module given.proto word) (Some (record given { ports = true })) None (Some now) d.1) [
-        | inl own ↦
-            let e : record given { ports = true } ≡ now = cc in
-            subst GivesParts e (record { proto = gives.proto; named = λ p. own_module given.proto word own.0; sport = gives.sport; dport = gives.dport })
-        | inr bad ↦ cc
-      ]
-    ]
-  ]
-]
-
-value_gives : (chains : List Chain) (given : Given) (o : Opt) (negated : Bool) (word : List ℕ) (now : Given × Place) → Stands given negated o → with_value chains given o negated word ≡ Some now → GivesParts given → PairGives now
-unfolding with_value
-value_gives chains given Source negated word now stands h gives = pair_gives _ (prefix_of word) now (λ x e. gives) h
-value_gives chains given Destination negated word now stands h gives = pair_gives _ (prefix_of word) now (λ x e. gives) h
-value_gives chains given Protocol negated word now stands h gives =
-    pair_gives _ (asked_protocol word) now (λ proto e. let said = protocol_said word proto e in
-    protocol_more given.proto given.ports given.sport given.dport proto negated stands.once said.positive said.fits gives) h
-value_gives chains given SourcePort negated word now stands h gives =
-    pair_gives _ (asked_ports word) now (λ ports e. source_more given (port_match negated ports) gives (ports_fit given word ports negated stands.here e gives)) h
-value_gives chains given DestinationPort negated word now stands h gives =
-    pair_gives _ (asked_ports word) now (λ ports e. destination_more given (port_match negated ports) gives (ports_fit given word ports negated stands.here e gives)) h
-value_gives chains given Interface negated word now stands h gives = cc
-value_gives chains given Module negated word now stands h gives = pair_gives _ (with_module given word) now (λ x e. module_gives given x word e gives) h
-value_gives chains given CtState negated word now stands h gives = pair_gives _ (states_of word) now (λ x e. gives) h
-value_gives chains given State negated word now stands h gives = pair_gives _ (states_of word) now (λ x e. gives) h
-value_gives chains given Comment negated word now stands h gives = pair_gives _ (text_of word) now (λ x e. gives) h
-value_gives chains given Jump negated word now stands h gives = pair_gives _ (target_of chains word) now (λ x e. gives) h
-value_gives chains given RejectWith negated word now stands h gives = same_gives _ now h gives
-value_gives chains given LogPrefix negated word now stands h gives = pair_gives _ (text_of word) now (λ x e. gives) h
-value_gives chains given LogLevel negated word now stands h gives = same_gives _ now h gives
-
-taken_value_gives : (chains : List Chain) (given now : Given) (o : Opt) (negated : Bool) (ws : List (List ℕ)) → Stands given negated o → IsTaken chains given o negated ws now → GivesParts given → GivesParts now
-taken_value_gives chains given now o negated ws stands (taken_word {w = w} h) gives = value_gives chains given o negated w _ stands h gives
-taken_value_gives chains given now o negated ws stands (taken_text {w = w} h rest) gives = value_gives chains given o negated w _ stands h gives
+value_gives : (chains : List Chain) (given now : Given) (negated : Bool) (name : List ℕ) (ws : List (List ℕ)) (r : Row) → Stands given negated name r → IsValue chains given negated name ws now → GivesParts given → GivesParts now
+value_gives chains given now negated name ws r stands (source p fits spelled) gives = gives
+value_gives chains given now negated name ws r stands (destination p fits spelled) gives = gives
+value_gives chains given now negated name ws r stands (protocol proto is) gives =
+    protocol_more given.rule.proto given.ports given.rule.sport given.rule.dport proto negated (stands_free given negated (codes "-p") (row Protocol) r refl stands) is.positive is.fits gives
+value_gives chains given now negated name ws r stands (source_port low high are) gives = record {
+  proto = gives.proto;
+  named = gives.named;
+  sport = ports_fit given low high negated (stands_here given negated (codes "--sport") (row SourcePort) r refl stands) are.order are.fits gives;
+  dport = gives.dport;
+}
+value_gives chains given now negated name ws r stands (destination_port low high are) gives = record {
+  proto = gives.proto;
+  named = gives.named;
+  sport = gives.sport;
+  dport = ports_fit given low high negated (stands_here given negated (codes "--dport") (row DestinationPort) r refl stands) are.order are.fits gives;
+}
+value_gives chains given now negated name ws r stands (ct_states new established list) gives = gives
+value_gives chains given now negated name ws r stands (states new established list) gives = gives
+value_gives chains given now negated name ws r stands (comment is) gives = gives
+value_gives chains given now negated name ws r stands conntrack_module gives = gives
+value_gives chains given now negated name ws r stands state_module gives = gives
+value_gives chains given now negated name ws r stands comment_module gives = gives
+value_gives chains given now negated name ws r stands (own_module part said names) gives =
+    record { proto = gives.proto; named = λ p. ap names_ports said ∙ names; sport = gives.sport; dport = gives.dport }
+value_gives chains given now negated name ws r stands (target t there) gives = gives
+value_gives chains given now negated name ws r stands (jump c none number up) gives = gives
+value_gives chains given now negated name ws r stands reject_with gives = gives
+value_gives chains given now negated name ws r stands (log_prefix is) gives = gives
+value_gives chains given now negated name ws r stands log_level gives = gives
 
 piece_gives : (chains : List Chain) (given now : Given) (ws : List (List ℕ)) → IsPiece chains given ws now → GivesParts given → GivesParts now
-piece_gives chains given now ws (plain {o = o} {value = value} named stands said) gives = taken_value_gives chains given now o false value stands (value_taken chains given now o false value said) gives
-piece_gives chains given now ws (turned {o = o} {value = value} free named stands said) gives = taken_value_gives chains given now o true value stands (value_taken chains given now o true value said) gives
+piece_gives chains given now ws (plain {name = name} {row = r} {value = value} stands is) gives = value_gives chains given now false name value r stands is gives
+piece_gives chains given now ws (turned {name = name} {row = r} {value = value} free stands is) gives = value_gives chains given now true name value r stands is gives
 
 pieces_give : (chains : List Chain) (given last : Given) (ws : List (List ℕ)) → ArePieces chains given ws last → GivesParts given → GivesParts last
 pieces_give chains given last ws none_left gives = gives
@@ -161,7 +128,7 @@ pieces_give chains given last ws (one_more {now = now} {ws = front} {vs = rest} 
 nothing_gives : GivesParts nothing_given
 nothing_gives = record { proto = refl; named = λ e. cc; sport = refl; dport = refl }
 
-given_is : (given : Given) → GivesParts given → is_rule (rule_of given) ≡ true
+given_is : (given : Given) → GivesParts given → is_rule (record given.rule { target = unwrap_or given.target Count }) ≡ true
 given_is given gives = rw (gives.proto, gives.sport, gives.dport) refl
 
 -- 3. A rule that is read may ask for what it asks for.

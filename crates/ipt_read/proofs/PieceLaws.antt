@@ -10,16 +10,17 @@ use Rattle.ipt_read.specs.declared.fault.IptWhy.{IptWhy}
 use Rattle.ipt_read.specs.declared.fault.IptWhy.TheVariants.{BadLine, Interface as AnInterface, UnknownOption, BadValue}
 use Rattle.ipt_read.specs.declared.option.Opt.{Opt}
 use Rattle.ipt_read.specs.declared.option.Opt.TheVariants.{Source, Destination, Protocol, SourcePort, DestinationPort, Interface, Module, CtState, State, Comment, Jump, RejectWith, LogPrefix, LogLevel}
-use Rattle.ipt_read.specs.declared.option.Given.{Given}
 use Rattle.ipt_read.specs.declared.option.Place.{Place}
 use Rattle.ipt_read.specs.declared.option.Place.TheVariants.{AtOption, AfterBang, AtValue, InText}
-use Rattle.ipt_read.specs.Options.{option_of, may_stand, is_interface, takes_bang, is_given, target_of, with_module, value_refusal}
+use Rattle.ipt_read.specs.Options.{Given}
+use Rattle.ipt_read.specs.inner.OptionSteps.{option_of, may_stand, is_interface, bars, target_of, with_module, value_refusal}
 use Rattle.ipt_read.specs.inner.ValueSteps.{closes, quoted, text_of, states_of, with_value}
 use Rattle.ipt_read.specs.inner.ServiceSteps.{asked_protocol, asked_ports}
 use Rattle.ipt_read.specs.inner.RuleLine.{at_option, is_bang, word_step, goes_on, word_by_word}
 use Rattle.ipt_read.specs.Values.{IsRestOfText, closing, open_still}
-use Rattle.ipt_read.proofs.ValueLaws.{text_ends, ends_text, text_open, open_text}
-use Rattle.ipt_read.specs.Grammar.{Stands, IsValue, IsPiece, plain, turned, ArePieces, none_left, one_more}
+use Rattle.ipt_read.proofs.RowLaws.{StandsBy, IsValueOf, plain_by, turned_by, IsPieceBy, bare_piece, bang_piece, piece_by}
+use Rattle.ipt_read.proofs.ValueLaws.{rest_ends, text_ends, ends_text, text_open, open_text}
+use Rattle.ipt_read.specs.Grammar.{IsPiece, ArePieces, none_left, one_more}
 use Rattle.ipt_read.proofs.GrammarLaws.{one_word, text, IsTaken, taken_word, taken_text, value_taken}
 
 -- where the whole gave a value, each step gave one
@@ -92,15 +93,12 @@ value_place chains given now LogLevel negated word place h =
 
 -- what an option in its place says
 pub record IsOptionAt (given : Given) (negated : Bool) (o : Opt) (now : Given × Place) : Type 0 where
-  pub stands : Stands given negated o
+  pub stands : StandsBy given negated o
   pub behind : now ≡ (given, AtValue o negated)
 
-bar_parts : (negated bang once : Bool) → ((negated && not bang) || once) ≡ false → (negated ≡ true → bang ≡ true) × (once ≡ false)
-bar_parts true true true h = cc
-bar_parts true true false h = (λ e. refl, refl)
-bar_parts true false once h = cc
-bar_parts false bang true h = cc
-bar_parts false bang false h = (λ e. cc, refl)
+unnot : (b : Bool) → not b ≡ false → b ≡ true
+unnot true h = refl
+unnot false h = cc
 
 pub option_at : (given : Given) (negated : Bool) (option : Option Opt) (now : Given × Place) → at_option given negated option ≡ Ok now → (o : Opt) × (option ≡ Some o) × IsOptionAt given negated o now
 option_at given negated None now h = cc
@@ -108,12 +106,11 @@ option_at given negated (Some o) now h = elim (if_parts (not (may_stand given o)
   | inl bad ↦ cc
   | inr here ↦ elim (if_parts (is_interface o) (Err AnInterface) _ (Ok now) here.1) [
     | inl bad ↦ cc
-    | inr address ↦ elim (if_parts ((negated && not (takes_bang o)) || is_given given o) (Err BadLine) (Ok (given, AtValue o negated)) (Ok now) address.1) [
+    | inr address ↦ elim (if_parts (bars given negated o) (Err BadLine) (Ok (given, AtValue o negated)) (Ok now) address.1) [
       | inl bad ↦ cc
       | inr fits ↦
-          let bar = bar_parts negated (takes_bang o) (is_given given o) fits.0 in
-          let stands_here : may_stand given o ≡ true = grind (arith, nat_tests, here.0) in
-          (o, refl, record { stands = record { here = stands_here; address = address.0; bang = bar.0; once = bar.1 }; behind = cc })
+          let stands_here : may_stand given o ≡ true = unnot (may_stand given o) here.0 in
+          (o, refl, record { stands = record { here = stands_here; address = address.0; free = fits.0 }; behind = cc })
     ]
   ]
 ]
@@ -123,17 +120,17 @@ abbrev pub IsLeft : List Chain → Given → Place → List (List ℕ) → Given
 IsLeft chains given AtOption ws last = ArePieces chains given ws last
 IsLeft chains given AfterBang ws last = given.target ≡ None → ArePieces chains given (codes "!" ∷ ws) last
 IsLeft chains given (AtValue o negated) ws last =
-    (value : List (List ℕ)) × (rest : List (List ℕ)) × (now : Given) × (ws ≡ value ++ rest) × IsValue chains given o negated value now × ArePieces chains now rest last
+    (value : List (List ℕ)) × (rest : List (List ℕ)) × (now : Given) × (ws ≡ value ++ rest) × IsValueOf chains given o negated value now × ArePieces chains now rest last
 IsLeft chains given InText ws last =
     (front : List (List ℕ)) × (rest : List (List ℕ)) × (ws ≡ front ++ rest) × IsRestOfText front × ArePieces chains given rest last
 
-plain_left : (chains : List Chain) (given last : Given) (o : Opt) (w : List ℕ) (ws : List (List ℕ)) → option_of w ≡ Some o → Stands given false o → IsLeft chains given (AtValue o false) ws last → ArePieces chains given (w ∷ ws) last
+plain_left : (chains : List Chain) (given last : Given) (o : Opt) (w : List ℕ) (ws : List (List ℕ)) → option_of w ≡ Some o → StandsBy given false o → IsLeft chains given (AtValue o false) ws last → ArePieces chains given (w ∷ ws) last
 plain_left chains given last o w ws named stands left =
-    subst (λ (vs : List (List ℕ)). ArePieces chains given (w ∷ vs) last) (sym left.3) (one_more (plain named stands left.4) left.5)
+    subst (λ (vs : List (List ℕ)). ArePieces chains given (w ∷ vs) last) (sym left.3) (one_more (plain_by named stands left.4) left.5)
 
-turned_left : (chains : List Chain) (given last : Given) (o : Opt) (w : List ℕ) (ws : List (List ℕ)) → option_of w ≡ Some o → Stands given true o → IsLeft chains given (AtValue o true) ws last → given.target ≡ None → ArePieces chains given (codes "!" ∷ w ∷ ws) last
+turned_left : (chains : List Chain) (given last : Given) (o : Opt) (w : List ℕ) (ws : List (List ℕ)) → option_of w ≡ Some o → StandsBy given true o → IsLeft chains given (AtValue o true) ws last → given.target ≡ None → ArePieces chains given (codes "!" ∷ w ∷ ws) last
 turned_left chains given last o w ws named stands left free =
-    subst (λ (vs : List (List ℕ)). ArePieces chains given (codes "!" ∷ w ∷ vs) last) (sym left.3) (one_more (turned free named stands left.4) left.5)
+    subst (λ (vs : List (List ℕ)). ArePieces chains given (codes "!" ∷ w ∷ vs) last) (sym left.3) (one_more (turned_by free named stands left.4) left.5)
 
 both : (a b : Bool) → (a && b) ≡ true → (a ≡ true) × (b ≡ true)
 both true true h = (refl, refl)
@@ -168,16 +165,16 @@ at_step chains given last AfterBang w ws t step left =
 at_step chains given last (AtValue o negated) w ws t step left =
     let said : with_value chains given o negated w ≡ Some (t.0, t.1) = ok_or_parts (with_value chains given o negated w) (value_refusal o) t step in
     elim (value_place chains given t.0 o negated w t.1 said) [
-      | inl option ↦ (w ∷ [], ws, t.0, refl, one_word (said ∙ ap (λ p. Some (t.0, p)) option), subst (λ (p : Place). IsLeft chains t.0 p ws last) option left)
+      | inl option ↦ (w ∷ [], ws, t.0, refl, one_word o (said ∙ ap (λ p. Some (t.0, p)) option), subst (λ (p : Place). IsLeft chains t.0 p ws last) option left)
       | inr behind ↦
           let rest = subst (λ (p : Place). IsLeft chains t.0 p ws last) behind left in
-          (w ∷ rest.0, rest.1, t.0, ap (λ vs. w ∷ vs) rest.2, text (said ∙ ap (λ p. Some (t.0, p)) behind) rest.3, rest.4)
+          (w ∷ rest.0, rest.1, t.0, ap (λ vs. w ∷ vs) rest.2, text o (said ∙ ap (λ p. Some (t.0, p)) behind) rest.3, rest.4)
     ]
 at_step chains given last InText w ws t step left =
     let parts = map_parts {B = Given × Place} (λ p. (given, p)) (quoted false w) t (ok_or_parts (option_map (λ p. (given, p)) (quoted false w)) BadValue t step) in
     let there = subst (λ (p : Given × Place). IsLeft chains p.0 p.1 ws last) (sym parts.2) left in
     elim (quoted_place false w parts.0 parts.1) [
-      | inl option ↦ (w ∷ [], ws, refl, closing (text_ends w (parts.1 ∙ ap (λ p. Some p) option)), subst (λ (p : Place). IsLeft chains given p ws last) option there)
+      | inl option ↦ (w ∷ [], ws, refl, rest_ends (text_ends w (parts.1 ∙ ap (λ p. Some p) option)), subst (λ (p : Place). IsLeft chains given p ws last) option there)
       | inr behind ↦
           let rest = subst (λ (p : Place). IsLeft chains given p ws last) behind there in
           (w ∷ rest.0, rest.1, ap (λ vs. w ∷ vs) rest.2, open_still (text_open w (parts.1 ∙ ap (λ p. Some p) behind)) rest.3, rest.4)
@@ -198,7 +195,7 @@ pieces_of_read chains given last ws h = pieces_left chains given last AtOption w
 -- complete: pieces are read
 rest_read : (chains : List Chain) (given : Given) (ws vs : List (List ℕ)) → IsRestOfText ws → word_by_word chains given InText (ws ++ vs) ≡ word_by_word chains given AtOption vs
 unfolding word_step
-rest_read chains given ws vs (closing {w = w} ends) = rw (ends_text w ends) refl
+rest_read chains given ws vs (closing {w = w} inside is written) = rw (ends_text w inside is written) refl
 rest_read chains given ws vs (open_still {w = w} {ws = rest} is others) = rw (open_text w is) (rest_read chains given rest vs others)
 
 taken_read : (chains : List Chain) (given now : Given) (o : Opt) (negated : Bool) (ws vs : List (List ℕ)) → IsTaken chains given o negated ws now → word_by_word chains given (AtValue o negated) (ws ++ vs) ≡ word_by_word chains now AtOption vs
@@ -206,20 +203,15 @@ unfolding word_step
 taken_read chains given now o negated ws vs (taken_word h) = rw h refl
 taken_read chains given now o negated ws vs (taken_text {ws = rest} h others) = rw h (rest_read chains now rest vs others)
 
-value_read : (chains : List Chain) (given now : Given) (o : Opt) (negated : Bool) (ws vs : List (List ℕ)) → IsValue chains given o negated ws now → word_by_word chains given (AtValue o negated) (ws ++ vs) ≡ word_by_word chains now AtOption vs
+value_read : (chains : List Chain) (given now : Given) (o : Opt) (negated : Bool) (ws vs : List (List ℕ)) → IsValueOf chains given o negated ws now → word_by_word chains given (AtValue o negated) (ws ++ vs) ≡ word_by_word chains now AtOption vs
 value_read chains given now o negated ws vs is = taken_read chains given now o negated ws vs (value_taken chains given now o negated ws is)
-
-bar_none : (negated bang once : Bool) → (negated ≡ true → bang ≡ true) → once ≡ false → ((negated && not bang) || once) ≡ false
-bar_none true true once takes given = given
-bar_none true false once takes given = let e : false ≡ true = takes refl in cc
-bar_none false bang once takes given = given
 
 and_false : (b : Bool) → (b && false) ≡ false
 and_false true = refl
 and_false false = refl
 
-pub stands_at : (given : Given) (negated : Bool) (o : Opt) → Stands given negated o → at_option given negated (Some o) ≡ Ok (given, AtValue o negated)
-stands_at given negated o stands = rw (stands.here, stands.address, bar_none negated (takes_bang o) (is_given given o) stands.bang stands.once) refl
+pub stands_at : (given : Given) (negated : Bool) (o : Opt) → StandsBy given negated o → at_option given negated (Some o) ≡ Ok (given, AtValue o negated)
+stands_at given negated o stands = rw (stands.here, stands.address, stands.free) refl
 
 is_no_bang : (given : Given) (name : List ℕ) (o : Opt) → option_of name ≡ Some o → is_bang given name ≡ false
 unfolding is_bang option_of
@@ -231,12 +223,15 @@ pub bang_stands : (given : Given) → given.target ≡ None → is_bang given (c
 unfolding is_bang
 bang_stands given free = rw free refl
 
-pub piece_read : (chains : List Chain) (given now : Given) (ws vs : List (List ℕ)) → IsPiece chains given ws now → word_by_word chains given AtOption (ws ++ vs) ≡ word_by_word chains now AtOption vs
+piece_read_by : (chains : List Chain) (given now : Given) (ws vs : List (List ℕ)) → IsPieceBy chains given ws now → word_by_word chains given AtOption (ws ++ vs) ≡ word_by_word chains now AtOption vs
 unfolding word_step
-piece_read chains given now ws vs (plain {name = name} {o = o} {value = value} named stands value_is) =
+piece_read_by chains given now ws vs (bare_piece {name = name} {o = o} {value = value} named stands value_is) =
     rw (is_no_bang given name o named, named, stands_at given false o stands) (value_read chains given now o false value vs value_is)
-piece_read chains given now ws vs (turned {name = name} {o = o} {value = value} free named stands value_is) =
+piece_read_by chains given now ws vs (bang_piece {name = name} {o = o} {value = value} free named stands value_is) =
     rw (bang_stands given free, named, stands_at given true o stands) (value_read chains given now o true value vs value_is)
+
+pub piece_read : (chains : List Chain) (given now : Given) (ws vs : List (List ℕ)) → IsPiece chains given ws now → word_by_word chains given AtOption (ws ++ vs) ≡ word_by_word chains now AtOption vs
+piece_read chains given now ws vs is = piece_read_by chains given now ws vs (piece_by chains given now ws is)
 
 pub read_of_pieces : (chains : List Chain) (given last : Given) (ws : List (List ℕ)) → ArePieces chains given ws last → word_by_word chains given AtOption ws ≡ Ok last
 read_of_pieces chains given last ws none_left = refl

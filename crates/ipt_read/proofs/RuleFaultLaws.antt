@@ -1,27 +1,33 @@
 -- Why words are no rule line, said in the format's words, is what the steps find.
 use Rattle.std.proofs.Common.{◌≡◌, ◌≢◌, ◌⊎◌, inl, inr, ℕ, Bool, true, false, not, ◌&&◌, ◌||◌, List, [], ◌∷◌, ◌++◌, Option, Some, None, refl, sym, ap, subst, ◌∙◌, append_assoc}
-use Rattle.std.specs.Prelude.{Result, Ok, Err, codes}
+use Rattle.std.specs.Prelude.{Result, Ok, Err, codes, is_none}
 use Rattle.std.specs.Option.{option_map, ok_or}
 use Rattle.text_core.proofs.StepsLaws.{if_parts, split_bool}
+use Rattle.ipt_rules.specs.declared.rule.Target.{Target}
 use Rattle.ipt_rules.specs.Chain.{Chain}
 use Rattle.ipt_read.specs.declared.fault.IptWhy.{IptWhy}
 use Rattle.ipt_read.specs.declared.fault.IptWhy.TheVariants.{BadLine, UnknownOption, Interface as AnInterface, BadValue}
 use Rattle.ipt_read.specs.declared.option.Opt.{Opt}
 use Rattle.ipt_read.specs.declared.option.Opt.TheVariants as opt
-use Rattle.ipt_read.specs.declared.option.Given.{Given}
 use Rattle.ipt_read.specs.declared.option.Place.{Place}
 use Rattle.ipt_read.specs.declared.option.Place.TheVariants.{AtOption, AfterBang, AtValue, InText}
-use Rattle.ipt_read.specs.Options.{option_of, may_stand, is_interface, takes_bang, is_given, with_module, target_of, value_refusal}
+use Rattle.ipt_read.specs.Options.{Given, Row, row_of, is_barred}
+use Rattle.ipt_read.specs.inner.OptionSteps.{option_of, row, may_stand, is_interface, bars, with_module, target_of, value_refusal}
 use Rattle.ipt_read.specs.inner.ValueSteps.{quoted, with_value}
 use Rattle.ipt_read.specs.Values.{IsRestOfText, closing, open_still}
-use Rattle.ipt_read.proofs.ValueLaws.{text_ends, ends_text, text_open, open_text}
+use Rattle.ipt_read.proofs.RowLaws.{StandsBy, IsValueOf, stands_by, by_stands, value_named, named_value, plain_by, turned_by, row_by, row_found, interface_by, interface_is}
+use Rattle.ipt_read.proofs.ValueLaws.{rest_ends, text_ends, ends_text, text_open, open_text}
 use Rattle.ipt_read.specs.inner.RuleLine.{at_option, is_bang, word_step, goes_on, word_by_word}
-use Rattle.ipt_read.specs.Grammar.{Stands, IsValue, plain, turned, ArePieces, none_left, one_more}
+use Rattle.ipt_read.specs.Grammar.{Stands, IsValue, ArePieces, none_left, one_more}
 use Rattle.ipt_read.proofs.GrammarLaws.{one_word, text, IsTaken, taken_word, taken_text, value_taken, never_open}
 use Rattle.ipt_read.proofs.PieceLaws.{quoted_place, value_place, option_at, bang_parts, pieces_left, stands_at, bang_stands, piece_read}
-use Rattle.ipt_read.specs.LineFault.{HasNoValue, IsStuckAt, no_option, misplaced, interface, barred, value_missing, bad_value, IsStuck, bare_option, bang_option, bang_last}
+use Rattle.ipt_read.specs.LineFault.{IsInterface, IsStuckAt, interface, unknown, barred, value_missing, bad_value, IsStuck, bare_option, bang_option, bang_last}
 
 -- 1. Where the words of a rule line get stuck.
+
+abbrev HasNoValue : List Chain → Given → Opt → Bool → List (List ℕ) → Type 0
+HasNoValue chains given o negated ws =
+    (value rest : List (List ℕ)) (now : Given) → ws ≡ value ++ rest → IsValueOf chains given o negated value now → ⊥
 
 abbrev LostAt : List Chain → Given → List (List ℕ) → IptWhy → Type 0
 LostAt chains given ws why =
@@ -38,7 +44,7 @@ abbrev Lost : List Chain → Given → Place → List (List ℕ) → IptWhy → 
 Lost chains given AtOption ws why = LostAt chains given ws why
 Lost chains given AfterBang ws why = given.target ≡ None → LostAt chains given (codes "!" ∷ ws) why
 Lost chains given (AtValue o negated) ws why =
-    ((value : List (List ℕ)) × (rest : List (List ℕ)) × (now : Given) × (ws ≡ value ++ rest) × IsValue chains given o negated value now × LostAt chains now rest why)
+    ((value : List (List ℕ)) × (rest : List (List ℕ)) × (now : Given) × (ws ≡ value ++ rest) × IsValueOf chains given o negated value now × LostAt chains now rest why)
     ⊎ (HasNoValue chains given o negated ws × (why ≡ reason o ws))
 Lost chains given InText ws why =
     ((front : List (List ℕ)) × (rest : List (List ℕ)) × (ws ≡ front ++ rest) × IsRestOfText front × LostAt chains given rest why)
@@ -46,21 +52,21 @@ Lost chains given InText ws why =
 
 -- what a value or the rest of a text begins with
 no_rest_of : (w : List ℕ) (ws : List (List ℕ)) → quoted false w ≡ None → HasNoRest (w ∷ ws)
-no_rest_of w ws none front rest cut (closing {w = v} ends) =
+no_rest_of w ws none front rest cut (closing {w = v} inside is written) =
     let first : w ≡ v = cc in
-    let read : quoted false w ≡ Some AtOption = ap (quoted false) first ∙ ends_text v ends in cc
+    let read : quoted false w ≡ Some AtOption = ap (quoted false) first ∙ ends_text v inside is written in cc
 no_rest_of w ws none front rest cut (open_still {w = v} is others) =
     let first : w ≡ v = cc in
     let read : quoted false w ≡ Some InText = ap (quoted false) first ∙ open_text v is in cc
 
 no_rest_at_end : HasNoRest []
-no_rest_at_end front rest cut (closing ends) = cc
+no_rest_at_end front rest cut (closing inside is written) = cc
 no_rest_at_end front rest cut (open_still is others) = cc
 
 no_rest_more : (w : List ℕ) (ws : List (List ℕ)) → quoted false w ≡ Some InText → HasNoRest ws → HasNoRest (w ∷ ws)
-no_rest_more w ws read none front rest cut (closing {w = v} ends) =
+no_rest_more w ws read none front rest cut (closing {w = v} inside is written) =
     let first : w ≡ v = cc in
-    let other : quoted false w ≡ Some AtOption = ap (quoted false) first ∙ ends_text v ends in cc
+    let other : quoted false w ≡ Some AtOption = ap (quoted false) first ∙ ends_text v inside is written in cc
 no_rest_more w ws read none front rest cut (open_still {w = v} {ws = vs} is others) =
     let behind : ws ≡ vs ++ rest = cc in none vs rest behind others
 
@@ -114,11 +120,6 @@ text_reason chains given now opt.LogLevel negated w h = refl
 err_same : (w v : IptWhy) → ◌≡◌ {A = Result (Given × Place) IptWhy} (Err w) (Err v) → w ≡ v
 err_same w v h = cc
 
-bar_sum : (negated bang once : Bool) → ((negated && not bang) || once) ≡ true → ((negated ≡ true) × (bang ≡ false)) ⊎ (once ≡ true)
-bar_sum true true once h = inr h
-bar_sum true false once h = inl (refl, refl)
-bar_sum false bang once h = inr h
-
 not_true : (b : Bool) → not b ≡ true → b ≡ false
 not_true true h = cc
 not_true false h = refl
@@ -127,16 +128,62 @@ not_false : (b : Bool) → not b ≡ false → b ≡ true
 not_false true h = refl
 not_false false h = cc
 
+is_not_known : (name : List ℕ) (given : Given) → option_of name ≡ None → IsInterface name → given.target ≢ None
+is_not_known name given none is = let other = interface_is name is in cc
+
+no_row : (name : List ℕ) (given : Given) → option_of name ≡ None → (r : Row) → row_of name ≡ Some r → r.stands given ≡ false
+no_row name given none r named = let at = row_found name r named in let other = at.1 in cc
+
+some_option : (o p : Opt) → ◌≡◌ {A = Option Opt} (Some o) (Some p) → o ≡ p
+some_option o p h = cc
+
+misplaced_interface : (given : Given) (name : List ℕ) (o : Opt) → option_of name ≡ Some o → may_stand given o ≡ false → IsInterface name → given.target ≢ None
+misplaced_interface given name o named wrong is free =
+    let same : opt.Interface ≡ o = some_option opt.Interface o (sym (interface_is name is) ∙ named) in
+    let stands : may_stand given o ≡ true = sym (ap (may_stand given) same) ∙ ap (λ (t : Option Target). is_none t) free in
+    cc
+
+misplaced_row : (given : Given) (name : List ℕ) (o : Opt) → option_of name ≡ Some o → may_stand given o ≡ false → (r : Row) → row_of name ≡ Some r → r.stands given ≡ false
+misplaced_row given name o named wrong r found =
+    let at = row_found name r found in
+    let same : at.0 ≡ o = some_option at.0 o (sym at.1 ∙ named) in
+    subst (λ (q : Row). q.stands given ≡ false) (sym at.3) (ap (may_stand given) same ∙ wrong)
+
+no_target : (o : Option Target) → is_none o ≡ true → o ≡ None
+no_target None h = refl
+no_target (Some t) h = cc
+
+interface_stands : (given : Given) (o : Opt) → is_interface o ≡ true → may_stand given o ≡ true → given.target ≡ None
+interface_stands given opt.Interface is here = no_target given.target here
+interface_stands given opt.Source is here = cc
+interface_stands given opt.Destination is here = cc
+interface_stands given opt.Protocol is here = cc
+interface_stands given opt.SourcePort is here = cc
+interface_stands given opt.DestinationPort is here = cc
+interface_stands given opt.Module is here = cc
+interface_stands given opt.CtState is here = cc
+interface_stands given opt.State is here = cc
+interface_stands given opt.Comment is here = cc
+interface_stands given opt.Jump is here = cc
+interface_stands given opt.RejectWith is here = cc
+interface_stands given opt.LogPrefix is here = cc
+interface_stands given opt.LogLevel is here = cc
+
 stuck_by : (chains : List Chain) (given : Given) (negated : Bool) (name : List ℕ) (ws : List (List ℕ)) (option : Option Opt) (why : IptWhy) → option_of name ≡ option → at_option given negated option ≡ Err why → IsStuckAt chains given negated name ws why
-stuck_by chains given negated name ws None why is h = subst (IsStuckAt chains given negated name ws) (err_same UnknownOption why h) (no_option is)
+stuck_by chains given negated name ws None why is h =
+    subst (IsStuckAt chains given negated name ws) (err_same UnknownOption why h) (unknown (is_not_known name given is) (no_row name given is))
 stuck_by chains given negated name ws (Some o) why is h = elim (if_parts (not (may_stand given o)) (Err UnknownOption) _ (Err why) h) [
-  | inl bad ↦ subst (IsStuckAt chains given negated name ws) (err_same UnknownOption why bad.1) (misplaced o is (not_true (may_stand given o) bad.0))
+  | inl bad ↦
+      let wrong = not_true (may_stand given o) bad.0 in
+      subst (IsStuckAt chains given negated name ws) (err_same UnknownOption why bad.1) (unknown (misplaced_interface given name o is wrong) (misplaced_row given name o is wrong))
   | inr here ↦ elim (if_parts (is_interface o) (Err AnInterface) _ (Err why) here.1) [
-    | inl bad ↦ subst (IsStuckAt chains given negated name ws) (err_same AnInterface why bad.1) (interface o is (not_false (may_stand given o) here.0) bad.0)
-    | inr address ↦ elim (if_parts ((negated && not (takes_bang o)) || is_given given o) (Err BadLine) (Ok (given, AtValue o negated)) (Err why) address.1) [
+    | inl bad ↦
+        subst (IsStuckAt chains given negated name ws) (err_same AnInterface why bad.1)
+        (interface (interface_by name o is bad.0) (interface_stands given o bad.0 (not_false (may_stand given o) here.0)))
+    | inr address ↦ elim (if_parts (bars given negated o) (Err BadLine) (Ok (given, AtValue o negated)) (Err why) address.1) [
       | inl bad ↦
           subst (IsStuckAt chains given negated name ws) (err_same BadLine why bad.1)
-          (barred o is (not_false (may_stand given o) here.0) address.0 (bar_sum negated (takes_bang o) (is_given given o) bad.0))
+          (barred (row o) (row_by name o is address.0) (not_false (may_stand given o) here.0) bad.0)
       | inr fits ↦ let wrong = fits.1 in cc
     ]
   ]
@@ -145,9 +192,10 @@ stuck_by chains given negated name ws (Some o) why is h = elim (if_parts (not (m
 no_bang : (given : Given) (w : List ℕ) → is_bang given w ≡ false → given.target ≡ None → w ≢ codes "!"
 no_bang given w other free = λ same. let is : is_bang given w ≡ true = ap (is_bang given) same ∙ bang_stands given free in cc
 
-no_value_stuck : (chains : List Chain) (given : Given) (negated : Bool) (name : List ℕ) (o : Opt) (ws : List (List ℕ)) → option_of name ≡ Some o → Stands given negated o → HasNoValue chains given o negated ws → IsStuckAt chains given negated name ws (reason o ws)
-no_value_stuck chains given negated name o [] named stands none = value_missing o named stands
-no_value_stuck chains given negated name o (w ∷ ws) named stands none = bad_value o named stands none
+no_value_stuck : (chains : List Chain) (given : Given) (negated : Bool) (name : List ℕ) (o : Opt) (ws : List (List ℕ)) → option_of name ≡ Some o → StandsBy given negated o → HasNoValue chains given o negated ws → IsStuckAt chains given negated name ws (reason o ws)
+no_value_stuck chains given negated name o [] named stands none = value_missing (row o) (stands_by given negated name o named stands)
+no_value_stuck chains given negated name o (w ∷ ws) named stands none =
+    bad_value (row o) (stands_by given negated name o named stands) (λ value rest now cut is. none value rest now cut (named_value named stands.address is))
 
 -- a word that is refused
 at_refusal : (chains : List Chain) (given : Given) (place : Place) (w : List ℕ) (ws : List (List ℕ)) (why : IptWhy) → word_step chains given place w ≡ Err why → Lost chains given place (w ∷ ws) why
@@ -174,21 +222,21 @@ piece_lost : (chains : List Chain) (given now : Given) (piece rest : List (List 
 piece_lost chains given now piece rest why is lost more =
     (piece ++ lost.0, lost.1, lost.2, ap (λ vs. piece ++ vs) lost.3 ∙ sym (append_assoc piece lost.0 lost.1), more lost.0 lost.2 lost.4, lost.5)
 
-option_lost : (chains : List Chain) (given : Given) (o : Opt) (w : List ℕ) (ws : List (List ℕ)) (why : IptWhy) → option_of w ≡ Some o → Stands given false o → (given.target ≡ None → w ≢ codes "!") → Lost chains given (AtValue o false) ws why → LostAt chains given (w ∷ ws) why
+option_lost : (chains : List Chain) (given : Given) (o : Opt) (w : List ℕ) (ws : List (List ℕ)) (why : IptWhy) → option_of w ≡ Some o → StandsBy given false o → (given.target ≡ None → w ≢ codes "!") → Lost chains given (AtValue o false) ws why → LostAt chains given (w ∷ ws) why
 option_lost chains given o w ws why named stands bare (inl (value, rest, now, cut, is, lost)) =
-    (w ∷ (value ++ lost.0), lost.1, lost.2, ap (λ vs. w ∷ vs) (cut ∙ ap (λ vs. value ++ vs) lost.3 ∙ sym (append_assoc value lost.0 lost.1)), one_more (plain named stands is) lost.4, lost.5)
+    (w ∷ (value ++ lost.0), lost.1, lost.2, ap (λ vs. w ∷ vs) (cut ∙ ap (λ vs. value ++ vs) lost.3 ∙ sym (append_assoc value lost.0 lost.1)), one_more (plain_by named stands is) lost.4, lost.5)
 option_lost chains given o w ws why named stands bare (inr (none, same)) =
     ([], w ∷ ws, given, refl, none_left, bare_option bare (subst (IsStuckAt chains given false w ws) (sym same) (no_value_stuck chains given false w o ws named stands none)))
 
-bang_lost : (chains : List Chain) (given : Given) (o : Opt) (w : List ℕ) (ws : List (List ℕ)) (why : IptWhy) → option_of w ≡ Some o → Stands given true o → given.target ≡ None → Lost chains given (AtValue o true) ws why → LostAt chains given (codes "!" ∷ w ∷ ws) why
+bang_lost : (chains : List Chain) (given : Given) (o : Opt) (w : List ℕ) (ws : List (List ℕ)) (why : IptWhy) → option_of w ≡ Some o → StandsBy given true o → given.target ≡ None → Lost chains given (AtValue o true) ws why → LostAt chains given (codes "!" ∷ w ∷ ws) why
 bang_lost chains given o w ws why named stands free (inl (value, rest, now, cut, is, lost)) =
-    (codes "!" ∷ w ∷ (value ++ lost.0), lost.1, lost.2, ap (λ vs. codes "!" ∷ w ∷ vs) (cut ∙ ap (λ vs. value ++ vs) lost.3 ∙ sym (append_assoc value lost.0 lost.1)), one_more (turned free named stands is) lost.4, lost.5)
+    (codes "!" ∷ w ∷ (value ++ lost.0), lost.1, lost.2, ap (λ vs. codes "!" ∷ w ∷ vs) (cut ∙ ap (λ vs. value ++ vs) lost.3 ∙ sym (append_assoc value lost.0 lost.1)), one_more (turned_by free named stands is) lost.4, lost.5)
 bang_lost chains given o w ws why named stands free (inr (none, same)) =
     ([], codes "!" ∷ w ∷ ws, given, refl, none_left, bang_option free (subst (IsStuckAt chains given true w ws) (sym same) (no_value_stuck chains given true w o ws named stands none)))
 
 value_lost : (chains : List Chain) (given now : Given) (o : Opt) (negated : Bool) (w : List ℕ) (ws : List (List ℕ)) (why : IptWhy) → with_value chains given o negated w ≡ Some (now, InText) → Lost chains now InText ws why → Lost chains given (AtValue o negated) (w ∷ ws) why
 value_lost chains given now o negated w ws why read (inl (front, rest, cut, is, lost)) =
-    inl (w ∷ front, rest, now, ap (λ vs. w ∷ vs) cut, text read is, lost)
+    inl (w ∷ front, rest, now, ap (λ vs. w ∷ vs) cut, text o read is, lost)
 value_lost chains given now o negated w ws why read (inr (none, same)) =
     inr (
       (λ value rest later cut is. no_value_text chains given now o negated w ws value rest later read none cut (value_taken chains given later o negated value is)),
@@ -217,7 +265,7 @@ at_lost chains given AfterBang w ws t why step lost =
 at_lost chains given (AtValue o negated) w ws t why step lost =
     let said : with_value chains given o negated w ≡ Some (t.0, t.1) = said_of (with_value chains given o negated w) step in
     elim (value_place chains given t.0 o negated w t.1 said) [
-      | inl option ↦ inl (w ∷ [], ws, t.0, refl, one_word (said ∙ ap (λ p. Some (t.0, p)) option), subst (λ (p : Place). Lost chains t.0 p ws why) option lost)
+      | inl option ↦ inl (w ∷ [], ws, t.0, refl, one_word o (said ∙ ap (λ p. Some (t.0, p)) option), subst (λ (p : Place). Lost chains t.0 p ws why) option lost)
       | inr behind ↦ value_lost chains given t.0 o negated w ws why (said ∙ ap (λ p. Some (t.0, p)) behind) (subst (λ (p : Place). Lost chains t.0 p ws why) behind lost)
     ]
   where
@@ -232,7 +280,7 @@ at_lost chains given InText w ws t why step lost = by_place (quoted false w) ref
         let pair : ◌≡◌ {A = Given × Place} (given, place) t = cc in
         let there = subst (λ (p : Given × Place). Lost chains p.0 p.1 ws why) (sym pair) lost in
         elim (quoted_place false w place is) [
-          | inl option ↦ inl (w ∷ [], ws, refl, closing (text_ends w (is ∙ ap (λ p. Some p) option)), subst (λ (p : Place). Lost chains given p ws why) option there)
+          | inl option ↦ inl (w ∷ [], ws, refl, rest_ends (text_ends w (is ∙ ap (λ p. Some p) option)), subst (λ (p : Place). Lost chains given p ws why) option there)
           | inr behind ↦ rest_lost chains given w ws why (is ∙ ap (λ p. Some p) behind) (subst (λ (p : Place). Lost chains given p ws why) behind there)
         ]
 
@@ -269,20 +317,49 @@ value_refused chains given o negated w ws (Err why) none is = elim (lost chains 
   | inr reason_is ↦ ap (λ e. Err e) reason_is.1
 ]
 
-bar_read : (negated bang once : Bool) → ((negated ≡ true) × (bang ≡ false)) ⊎ (once ≡ true) → ((negated && not bang) || once) ≡ true
-bar_read negated bang once (inl parts) = λ i. (parts.0 i && not (parts.1 i)) || once
-bar_read true true once (inr is) = is
-bar_read true false once (inr is) = refl
-bar_read false bang once (inr is) = is
+-- where a row is misplaced, so is its option
+misplaced_read : (given : Given) (negated : Bool) (name : List ℕ) (option : Option Opt) → option_of name ≡ option → (IsInterface name → given.target ≢ None)
+    → ((r : Row) → row_of name ≡ Some r → r.stands given ≡ false) → at_option given negated option ≡ Err UnknownOption
+misplaced_read given negated name None is apart misplaced = refl
+misplaced_read given negated name (Some o) is apart misplaced = by_test (is_interface o) (may_stand given o) refl refl
+  where
+    by_test : (i m : Bool) → is_interface o ≡ i → may_stand given o ≡ m → at_option given negated (Some o) ≡ Err UnknownOption
+    by_test true true address here = absurd (apart (interface_by name o is address) (interface_stands given o address here))
+    by_test false true address here = let wrong : may_stand given o ≡ false = misplaced (row o) (row_by name o is address) in cc
+    by_test i false address here = rw here refl
+
+interface_at : (given : Given) (negated : Bool) → given.target ≡ None → at_option given negated (Some opt.Interface) ≡ Err AnInterface
+interface_at given negated free = rw free refl
+
+barred_at : (given : Given) (negated : Bool) (name : List ℕ) (r : Row) → row_of name ≡ Some r → r.stands given ≡ true → is_barred given negated r ≡ true → at_option given negated (option_of name) ≡ Err BadLine
+barred_at given negated name r named here bar =
+    let at = row_found name r named in
+    let its : may_stand given at.0 ≡ true = subst (λ (q : Row). q.stands given ≡ true) at.3 here in
+    let own : bars given negated at.0 ≡ true = subst (λ (q : Row). is_barred given negated q ≡ true) at.3 bar in
+    ap (at_option given negated) at.1 ∙ rw (its, at.2, own) refl
+
+missing_read : (chains : List Chain) (given : Given) (negated : Bool) (name : List ℕ) (r : Row) → Stands given negated name r → goes_on (at_option given negated (option_of name)) (λ t. word_by_word chains t.0 t.1 []) ≡ Err BadValue
+missing_read chains given negated name r stands =
+    let at = by_stands given negated name r stands in
+    ap (λ (o : Option Opt). goes_on (at_option given negated o) (λ t. word_by_word chains t.0 t.1 [])) at.1 ∙ rw (stands_at given negated at.0 at.2) refl
+
+bad_value_read : (chains : List Chain) (given : Given) (negated : Bool) (name w : List ℕ) (ws : List (List ℕ)) (r : Row) → Stands given negated name r
+    → ((value rest : List (List ℕ)) (now : Given) → w ∷ ws ≡ value ++ rest → IsValue chains given negated name value now → ⊥)
+    → goes_on (at_option given negated (option_of name)) (λ t. word_by_word chains t.0 t.1 (w ∷ ws)) ≡ Err r.refusal
+bad_value_read chains given negated name w ws r stands none =
+    let at = by_stands given negated name r stands in
+    let none_by : HasNoValue chains given at.0 negated (w ∷ ws) = λ value rest now cut is. none value rest now cut (value_named at.1 at.2.address is) in
+    ap (λ (o : Option Opt). goes_on (at_option given negated o) (λ t. word_by_word chains t.0 t.1 (w ∷ ws))) at.1
+    ∙ ap (λ (s : Result (Given × Place) IptWhy). goes_on s (λ t. word_by_word chains t.0 t.1 (w ∷ ws))) (stands_at given negated at.0 at.2)
+    ∙ value_refused chains given at.0 negated w ws (word_by_word chains given (AtValue at.0 negated) (w ∷ ws)) none_by refl
+    ∙ ap (λ (q : Row). Err q.refusal) (sym at.3)
 
 stuck_step : (chains : List Chain) (given : Given) (negated : Bool) (name : List ℕ) (ws : List (List ℕ)) (why : IptWhy) → IsStuckAt chains given negated name ws why → goes_on (at_option given negated (option_of name)) (λ t. word_by_word chains t.0 t.1 ws) ≡ Err why
-stuck_step chains given negated name ws why (no_option none) = rw none refl
-stuck_step chains given negated name ws why (misplaced o named wrong) = rw (named, wrong) refl
-stuck_step chains given negated name ws why (interface o named here is) = rw (named, here, is) refl
-stuck_step chains given negated name ws why (barred o named here address bar) = rw (named, here, address, bar_read negated (takes_bang o) (is_given given o) bar) refl
-stuck_step chains given negated name ws why (value_missing o named stands) = rw (named, stands_at given negated o stands) refl
-stuck_step chains given negated name ws why (bad_value {w = w} {ws = vs} o named stands none) =
-    rw (named, stands_at given negated o stands) (value_refused chains given o negated w vs (word_by_word chains given (AtValue o negated) (w ∷ vs)) none refl)
+stuck_step chains given negated name ws why (interface is free) = rw (interface_is name is, interface_at given negated free) refl
+stuck_step chains given negated name ws why (unknown apart misplaced) = rw (misplaced_read given negated name (option_of name) refl apart misplaced) refl
+stuck_step chains given negated name ws why (barred r named here bar) = rw (barred_at given negated name r named here bar) refl
+stuck_step chains given negated name ws why (value_missing r stands) = missing_read chains given negated name r stands
+stuck_step chains given negated name ws why (bad_value {w = w} {ws = vs} r stands none) = bad_value_read chains given negated name w vs r stands none
 
 not_bang : (given : Given) (name : List ℕ) → (given.target ≡ None → name ≢ codes "!") → is_bang given name ≡ false
 not_bang given name bare = split_bool (is_bang given name) (λ is. let parts = bang_parts given name is in absurd (bare parts.0 parts.1)) (λ other. other)

@@ -9,7 +9,8 @@ use Rattle.ipt_rules.specs.declared.rule.Target.TheVariants.{Reject, Return, Cou
 use Rattle.ipt_rules.specs.Chain.{Chain, built_in_chains, user_chain}
 use Rattle.ipt_read.specs.declared.fault.IptWhy.{IptWhy}
 use Rattle.ipt_read.specs.declared.fault.IptWhy.TheVariants.{BadLine, UnknownChain, Interface, UnknownOption, BadValue, UnknownTarget}
-use Rattle.ipt_read.specs.Options.{option_of, is_state, target_of, with_module}
+use Rattle.ipt_read.specs.Values.{is_state}
+use Rattle.ipt_read.specs.inner.OptionSteps.{option_of, target_of, with_module}
 use Rattle.ipt_read.specs.inner.ValueSteps.{text_of, states_of, with_value}
 use Rattle.ipt_read.specs.inner.Counts.{is_count}
 use Rattle.ipt_read.specs.inner.RuleLine.{is_bang, word_step, rule_line_of}

@@ -9,7 +9,8 @@ use Rattle.ipt_rules.specs.declared.rule.Rule.{Rule}
 use Rattle.ipt_rules.specs.declared.rule.Target.TheVariants.{Accept, Count}
 use Rattle.ipt_read.specs.declared.fault.IptWhy.{IptWhy}
 use Rattle.ipt_read.specs.declared.fault.IptWhy.TheVariants.{BadLine, UnknownOption, BadValue}
-use Rattle.ipt_read.specs.Options.{option_of, is_state, target_of, with_module}
+use Rattle.ipt_read.specs.Values.{is_state}
+use Rattle.ipt_read.specs.inner.OptionSteps.{option_of, target_of, with_module}
 use Rattle.ipt_read.specs.inner.ValueSteps.{states_of, with_value}
 use Rattle.ipt_read.specs.inner.ServiceSteps.{asked_protocol, asked_ports}
 use Rattle.ipt_read.specs.inner.Counts.{is_count}

@@ -16,9 +16,9 @@ use Rattle.ipt_rules.specs.ChainTable.{rule_count}
 use Rattle.ipt_rules.specs.inner.ChainTable.{IsTable}
 use Rattle.ipt_rules.specs.Name.{is_user_name}
 use Rattle.ipt_rules.specs.Text.{newline, policy_text, chain_line, rule_lines, table_line, commit_line, text}
-use Rattle.ipt_read.specs.declared.stage.Stage.TheVariants.{Table, After}
-use Rattle.ipt_read.specs.Said.{SaidSoFar, nothing_said}
-use Rattle.ipt_read.specs.Grammar.{IsLine, table, built_in, IsChainLine, IsTextLine}
+use Rattle.ipt_read.proofs.LineLaws.{IsTextLine}
+use Rattle.ipt_read.specs.Said.{Table, After, SaidSoFar, nothing_said}
+use Rattle.ipt_read.specs.Grammar.{IsLine, table, built_in, IsChainLine}
 use Rattle.ipt_read.specs.inner.Goes.{Goes}
 use Rattle.ipt_read.proofs.FineRulesLaws.{RulesAreFine, ChainsAreFine, HasFineRules}
 use Rattle.ipt_read.proofs.WrittenLaws.{IsFound}
@@ -126,7 +126,7 @@ abbrev built_words : List ℕ → Policy → List (List ℕ)
 built_words name policy = (58 ∷ name) ∷ policy_text (Some policy) ∷ codes "[0:0]" ∷ []
 
 built_line : (name : List ℕ) (policy : Policy) → IsChainLine (built_words name policy) name (policy_text (Some policy))
-built_line name policy = record { behind = codes "[0:0]" ∷ []; counted = inr (codes "[0:0]", zero_count, refl); written = refl }
+built_line name policy = (codes "[0:0]" ∷ [], inr (codes "[0:0]", zero_count, refl), refl)
 
 -- the three policies in place of the first ones, by their lines
 abbrev three : Policy → Policy → Policy → List Chain

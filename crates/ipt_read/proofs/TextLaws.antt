@@ -11,8 +11,7 @@ use Rattle.ipt_rules.specs.Chain.{Chain}
 use Rattle.ipt_rules.specs.ChainTable.{rule_count}
 use Rattle.ipt_rules.specs.Loops.{HasNoLoop, IsLeastLoop}
 use Rattle.ipt_read.specs.declared.fault.IptWhy.TheVariants.{NoCommit, Loop as WhyLoop}
-use Rattle.ipt_read.specs.declared.stage.Stage.TheVariants.{After}
-use Rattle.ipt_read.specs.Said.{SaidSoFar, line_of}
+use Rattle.ipt_read.specs.Said.{After, SaidSoFar, line_of}
 use Rattle.ipt_read.specs.TextLines.{EndsBadly, no_commit, loops as at_loop, rules_text, IsReading, HasFault}
 
 -- chains that are refused for a loop have one

@@ -12,17 +12,16 @@ use Rattle.ipt_rules.specs.declared.rule.Target.TheVariants.{Accept as Accepts, 
 use Rattle.ipt_rules.specs.declared.rule.Policy.TheVariants.{Accept, Drop}
 use Rattle.ipt_rules.specs.Chain.{with_policy, with_rule}
 use Rattle.ipt_rules.specs.Name.{is_user_name, is_reserved}
-use Rattle.ipt_read.specs.declared.stage.Stage.TheVariants.{After}
 use Rattle.ipt_read.specs.declared.fault.IptWhy.TheVariants.{BadLine, OtherTable, BadChain, UnknownChain, Interface, UnknownTarget, NoCommit, AfterCommit}
-use Rattle.ipt_read.specs.Options.{option_of, is_state, target_of, with_module}
+use Rattle.ipt_read.specs.Values.{is_state}
+use Rattle.ipt_read.specs.inner.OptionSteps.{option_of, target_of, with_module}
 use Rattle.ipt_read.specs.inner.ValueSteps.{text_of, states_of, with_value}
 use Rattle.ipt_read.specs.inner.Counts.{is_count}
 use Rattle.ipt_read.specs.inner.RuleLine.{is_bang, word_step, rule_line_of}
 use Rattle.ipt_read.specs.inner.LineStep.{chain_line_of, body_line_of, line_of_words}
 use Rattle.ipt_read.specs.declared.fault.IptWhy.{IptWhy}
-use Rattle.ipt_read.specs.declared.stage.Stage.{Stage}
 use Rattle.ipt_read.specs.inner.LineStep.{line_step}
-use Rattle.ipt_read.specs.Said.{SaidSoFar, nothing_said}
+use Rattle.ipt_read.specs.Said.{Stage, After, SaidSoFar, nothing_said}
 
 -- what the lines of a text say by steps, from line n on
 abbrev ended : ℕ → Stage → SaidSoFar → Result SaidSoFar (ℕ × IptWhy)

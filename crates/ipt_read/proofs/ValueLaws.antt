@@ -12,7 +12,7 @@ use Rattle.ipt_read.specs.declared.option.Place.TheVariants.{AtOption, InText}
 use Rattle.ipt_read.specs.inner.ValueSteps.{closes, quoted}
 use Rattle.ipt_read.specs.inner.Counts.{is_nothing, is_bytes_part, is_packets_part, is_count}
 use Rattle.ipt_read.specs.Values.{is_figure}
-use Rattle.ipt_read.specs.Values.{IsCount, IsInside, nothing, taken, plain, EndsText, StaysOpen}
+use Rattle.ipt_read.specs.Values.{IsCount, IsInside, nothing, taken, plain, IsRestOfText, closing}
 
 -- 1. Counts.
 
@@ -74,6 +74,19 @@ said_count word count =
 
 -- 2. Quoted texts.
 
+-- a word that ends a quoted text: the first `"` that no backslash takes is its last byte
+pub record EndsText (word : List ℕ) : Type 0 where
+  pub inside : List ℕ
+  pub is_inside : IsInside inside
+  pub written : word ≡ inside ++ (34 ∷ [])
+
+-- a word within a quoted text that does not end it; a backslash at its end takes the blank behind the word
+abbrev pub StaysOpen : List ℕ → Type 0
+StaysOpen word = IsInside (word ++ (32 ∷ []))
+
+pub rest_ends : {word : List ℕ} → EndsText word → IsRestOfText (word ∷ [])
+rest_ends ends = closing ends.inside ends.is_inside ends.written
+
 mark_is : (b mark : ℕ) → (b == mark) ≡ true → b ≡ mark
 mark_is b mark h = grind (arith, nat_tests)
 
@@ -116,8 +129,8 @@ inside_quoted inside nothing = refl
 inside_quoted inside (taken {bs = bs} is) = inside_quoted bs is
 inside_quoted inside (plain {b = b} {bs = bs} slash quote is) = rw (other_byte b 92 slash, other_byte b 34 quote) (inside_quoted bs is)
 
-pub ends_text : (word : List ℕ) → EndsText word → quoted false word ≡ Some AtOption
-ends_text word ends = ap (quoted false) ends.written ∙ inside_quoted ends.inside ends.is_inside
+pub ends_text : (word inside : List ℕ) → IsInside inside → word ≡ inside ++ (34 ∷ []) → quoted false word ≡ Some AtOption
+ends_text word inside is written = ap (quoted false) written ∙ inside_quoted inside is
 
 -- a word leaves a quoted text open exactly where it stays open
 stays_more : (front word : List ℕ) → ((inside : List ℕ) → IsInside inside → IsInside (front ++ inside)) → ((inside : List ℕ) → front ++ (inside ++ (32 ∷ [])) ≡ (front ++ inside) ++ (32 ∷ [])) → StaysOpen word → StaysOpen (front ++ word)

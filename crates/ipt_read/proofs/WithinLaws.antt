@@ -8,12 +8,12 @@ use Rattle.ipt_rules.specs.declared.rule.Rule.{Rule}
 use Rattle.ipt_rules.specs.Chain.{Chain, number_of}
 use Rattle.ipt_read.specs.declared.fault.IptWhy.{IptWhy}
 use Rattle.ipt_read.specs.declared.fault.IptWhy.TheVariants.{BadLine}
-use Rattle.ipt_read.specs.declared.option.Given.{Given}
 use Rattle.ipt_read.specs.declared.option.Place.TheVariants.{AtOption}
 use Rattle.ipt_rules.specs.inner.RuleParts.{is_rule}
 use Rattle.ipt_read.specs.inner.Counts.{is_count}
 use Rattle.ipt_read.proofs.LineLaws.{rule_line_of_read}
-use Rattle.ipt_read.specs.Options.{nothing_given, rule_of}
+use Rattle.ipt_read.specs.Options.{Given, nothing_given}
+use Rattle.ipt_read.specs.inner.OptionSteps.{rule_of}
 use Rattle.ipt_read.proofs.PartLaws.{line_is_rule}
 use Rattle.ipt_read.specs.inner.RuleLine.{goes_on, word_by_word, rule_in, append_of, rule_line_of}
 

@@ -1,61 +1,65 @@
 -- The grammar of the lines of a rule set: what each says, and which pieces a rule line has (iptables-save(8), iptables-restore(8)).
-use Rattle.std.specs.Prelude.{◌≡◌, ℕ, ◌+◌, ◌<◌, ◌^◌, Bool, true, false, IsTrue, IsFalse, List, [], ◌∷◌, ◌++◌, Some, None, length, codes, slice_set, ◌⊎◌}
-use Rattle.text_core.specs.Lines.{words}
+use Rattle.std.specs.Prelude.{◌≡◌, ℕ, ◌+◌, ◌<◌, ◌≤◌, ◌^◌, Bool, true, false, IsTrue, IsFalse, List, [], ◌∷◌, ◌++◌, Some, None, length, codes, slice_set, unwrap_or, ◌⊎◌}
 use Rattle.host_net.specs.declared.prefix.Prefix.{Prefix}
 use Rattle.host_net.specs.PrefixView.{IsSpelling}
+use Rattle.host_net.specs.ServiceText.{protocol_text}
+use Rattle.ipt_rules.specs.declared.rule.ProtoMatch.{ProtoMatch}
 use Rattle.ipt_rules.specs.declared.rule.Policy.{Policy}
 use Rattle.ipt_rules.specs.declared.rule.Rule.{Rule}
 use Rattle.ipt_rules.specs.declared.rule.Target.{Target}
+use Rattle.ipt_rules.specs.declared.rule.Target.TheVariants.{Count, Jump}
 use Rattle.ipt_rules.specs.Chain.{Chain, number_of, user_chain, with_policy, with_rule}
 use Rattle.ipt_rules.specs.Name.{is_user_name}
+use Rattle.ipt_rules.specs.RuleParts.{names_ports}
 use Rattle.ipt_rules.specs.Text.{policy_text}
-use Rattle.ipt_read.specs.declared.option.Opt.{Opt}
-use Rattle.ipt_read.specs.declared.option.Opt.TheVariants.{Source, Destination, Protocol, SourcePort, DestinationPort, Module, CtState, State, Comment, Jump, RejectWith, LogPrefix, LogLevel}
-use Rattle.ipt_read.specs.declared.option.Given.{Given}
-use Rattle.ipt_read.specs.declared.stage.Stage.TheVariants.{Front, Table, After}
-use Rattle.ipt_read.specs.Options.{option_of, may_stand, is_interface, takes_bang, is_given, with_module, target_of, nothing_given, rule_of}
+use Rattle.ipt_read.specs.Options.{Given, nothing_given, Row, row_of, is_barred, named_target}
+use Rattle.ipt_read.specs.Said.{Front, Table, After, SaidSoFar, line_of}
 use Rattle.ipt_read.specs.ServiceValues.{IsProtocolWord, ArePortsWord}
 use Rattle.ipt_read.specs.Values.{IsCount, IsText, IsStateList}
-use Rattle.ipt_read.specs.Said.{SaidSoFar, line_of}
 
--- an option may stand after what is given, with `!` before it or not: it is no interface, takes the `!`, and was not given where
--- it may stand once
-pub record Stands (given : Given) (negated : Bool) (o : Opt) : Type 0 where
-  pub here : IsTrue (may_stand given o)
-  pub address : IsFalse (is_interface o)
-  pub bang : negated ≡ true → IsTrue (takes_bang o)
-  pub once : IsFalse (is_given given o)
+-- an option of that name may stand behind what is given, with `!` before it or not
+pub record Stands (given : Given) (negated : Bool) (name : List ℕ) (row : Row) : Type 0 where
+  pub named : row_of name ≡ Some row
+  pub here : IsTrue (row.stands given)
+  pub free : IsFalse (is_barred given negated row)
 
--- the value of an option, with `!` before it or not, and what is given with it
-pub data IsValue (chains : List Chain) (given : Given) : Opt → Bool → List (List ℕ) → Given → Type 0 where
-  source : {w : List ℕ} {negated : Bool} (p : Prefix) → p.addr < 2 ^ 32 → IsSpelling w p
-      → IsValue chains given Source negated (w ∷ []) (record given { src = Some (record { prefix = p; negated = negated }) })
-  destination : {w : List ℕ} {negated : Bool} (p : Prefix) → p.addr < 2 ^ 32 → IsSpelling w p
-      → IsValue chains given Destination negated (w ∷ []) (record given { dst = Some (record { prefix = p; negated = negated }) })
-  protocol : {w : List ℕ} {negated : Bool} (proto : ℕ) → IsProtocolWord w proto
-      → IsValue chains given Protocol negated (w ∷ []) (record given { proto = Some (record { proto = proto; negated = negated }) })
-  source_port : {w : List ℕ} {negated : Bool} (low high : ℕ) → ArePortsWord w low high
-      → IsValue chains given SourcePort negated (w ∷ []) (record given { sport = Some (record { low = low; high = high; negated = negated }) })
-  destination_port : {w : List ℕ} {negated : Bool} (low high : ℕ) → ArePortsWord w low high
-      → IsValue chains given DestinationPort negated (w ∷ []) (record given { dport = Some (record { low = low; high = high; negated = negated }) })
-  module_name : {w : List ℕ} {negated : Bool} {now : Given} → with_module given w ≡ Some now → IsValue chains given Module negated (w ∷ []) now
-  ct_states : {w : List ℕ} {negated : Bool} (new established : Bool) → IsStateList w new established
-      → IsValue chains given CtState negated (w ∷ []) (record given { state = Some (record { new = new; established = established; negated = negated }) })
-  states : {w : List ℕ} {negated : Bool} (new established : Bool) → IsStateList w new established
-      → IsValue chains given State negated (w ∷ []) (record given { state = Some (record { new = new; established = established; negated = negated }) })
-  comment : {ws : List (List ℕ)} {negated : Bool} → IsText ws → IsValue chains given Comment negated ws given
-  target : {w : List ℕ} {negated : Bool} (t : Target) (logs : Bool) → target_of chains w ≡ Some (t, logs)
-      → IsValue chains given Jump negated (w ∷ []) (record given { target = Some t; logs = logs })
-  reject_with : {w : List ℕ} {negated : Bool} → IsValue chains given RejectWith negated (w ∷ []) given
-  log_prefix : {ws : List (List ℕ)} {negated : Bool} → IsText ws → IsValue chains given LogPrefix negated ws given
-  log_level : {w : List ℕ} {negated : Bool} → IsValue chains given LogLevel negated (w ∷ []) given
+-- the value of an option of that name, with `!` before it or not, and what is given with it
+pub data IsValue (chains : List Chain) (given : Given) (negated : Bool) : List ℕ → List (List ℕ) → Given → Type 0 where
+  source : {w : List ℕ} (p : Prefix) → p.addr < 2 ^ 32 → IsSpelling w p → IsValue chains given negated (codes "-s") (w ∷ [])
+      (record given { rule = record given.rule { src = Some (record { prefix = p; negated = negated }) } })
+  destination : {w : List ℕ} (p : Prefix) → p.addr < 2 ^ 32 → IsSpelling w p → IsValue chains given negated (codes "-d") (w ∷ [])
+      (record given { rule = record given.rule { dst = Some (record { prefix = p; negated = negated }) } })
+  protocol : {w : List ℕ} (proto : ℕ) → IsProtocolWord w proto → IsValue chains given negated (codes "-p") (w ∷ [])
+      (record given { rule = record given.rule { proto = Some (record { proto = proto; negated = negated }) } })
+  source_port : {w : List ℕ} (low high : ℕ) → ArePortsWord w low high → IsValue chains given negated (codes "--sport") (w ∷ [])
+      (record given { rule = record given.rule { sport = Some (record { low = low; high = high; negated = negated }) } })
+  destination_port : {w : List ℕ} (low high : ℕ) → ArePortsWord w low high → IsValue chains given negated (codes "--dport") (w ∷ [])
+      (record given { rule = record given.rule { dport = Some (record { low = low; high = high; negated = negated }) } })
+  ct_states : {w : List ℕ} (new established : Bool) → IsStateList w new established → IsValue chains given negated (codes "--ctstate") (w ∷ [])
+      (record given { rule = record given.rule { state = Some (record { new = new; established = established; negated = negated }) } })
+  states : {w : List ℕ} (new established : Bool) → IsStateList w new established → IsValue chains given negated (codes "--state") (w ∷ [])
+      (record given { rule = record given.rule { state = Some (record { new = new; established = established; negated = negated }) } })
+  comment : {ws : List (List ℕ)} → IsText ws → IsValue chains given negated (codes "--comment") ws given
+  conntrack_module : IsValue chains given negated (codes "-m") (codes "conntrack" ∷ []) (record given { conntrack = true })
+  state_module : IsValue chains given negated (codes "-m") (codes "state" ∷ []) (record given { states = true })
+  comment_module : IsValue chains given negated (codes "-m") (codes "comment" ∷ []) (record given { comments = true })
+  -- the module that has the options of ports is named after the protocol, `tcp` or `udp`, that all packets are of
+  own_module : (part : ProtoMatch) → given.rule.proto ≡ Some part → IsTrue (names_ports (Some part))
+      → IsValue chains given negated (codes "-m") (protocol_text part.proto ∷ []) (record given { ports = true })
+  target : {w : List ℕ} (t : Target) → named_target w ≡ Some t → IsValue chains given negated (codes "-j") (w ∷ []) (record given { target = Some t })
+  -- a jump to a user chain that was declared
+  jump : {w : List ℕ} (c : ℕ) → named_target w ≡ None → number_of chains w ≡ Some c → 3 ≤ c
+      → IsValue chains given negated (codes "-j") (w ∷ []) (record given { target = Some (Jump c) })
+  reject_with : {w : List ℕ} → IsValue chains given negated (codes "--reject-with") (w ∷ []) given
+  log_prefix : {ws : List (List ℕ)} → IsText ws → IsValue chains given negated (codes "--log-prefix") ws given
+  log_level : {w : List ℕ} → IsValue chains given negated (codes "--log-level") (w ∷ []) given
 
 -- a piece: an option and its value, maybe after `!`
 pub data IsPiece (chains : List Chain) (given : Given) : List (List ℕ) → Given → Type 0 where
-  plain : {name : List ℕ} {o : Opt} {value : List (List ℕ)} {now : Given} → option_of name ≡ Some o
-      → Stands given false o → IsValue chains given o false value now → IsPiece chains given (name ∷ value) now
-  turned : {name : List ℕ} {o : Opt} {value : List (List ℕ)} {now : Given} → given.target ≡ None
-      → option_of name ≡ Some o → Stands given true o → IsValue chains given o true value now → IsPiece chains given (codes "!" ∷ name ∷ value) now
+  plain : {name : List ℕ} {row : Row} {value : List (List ℕ)} {now : Given} → Stands given false name row
+      → IsValue chains given false name value now → IsPiece chains given (name ∷ value) now
+  turned : {name : List ℕ} {row : Row} {value : List (List ℕ)} {now : Given} → given.target ≡ None → Stands given true name row
+      → IsValue chains given true name value now → IsPiece chains given (codes "!" ∷ name ∷ value) now
 
 -- pieces, each of which fits after those before it
 pub data ArePieces (chains : List Chain) : Given → List (List ℕ) → Given → Type 0 where
@@ -67,23 +71,23 @@ pub data ArePieces (chains : List Chain) : Given → List (List ℕ) → Given �
 abbrev pub IsFront : List (List ℕ) → Type 0
 IsFront front = (front ≡ []) ⊎ ((count : List ℕ) × IsCount count × (front ≡ count ∷ []))
 
--- the words of a rule line: `-A`, a chain that is there, and pieces that make the rule
+-- the words of a rule line: maybe a count, then `-A`, the name of a chain, and pieces
+abbrev pub IsAppend : List (List ℕ) → (name : List ℕ) → (pieces : List (List ℕ)) → Type 0
+IsAppend ws name pieces = (front : List (List ℕ)) × IsFront front × (ws ≡ front ++ (codes "-A" ∷ name ∷ pieces))
+
+-- a rule line: its chain is there, and its pieces make the rule, which only counts where none of them gives a target
 pub record IsRuleLine (chains : List Chain) (ws : List (List ℕ)) (c : ℕ) (rule : Rule) : Type 0 where
-  pub front : List (List ℕ)
   pub name : List ℕ
   pub pieces : List (List ℕ)
   pub given : Given
-  pub counted : IsFront front
-  pub written : ws ≡ front ++ (codes "-A" ∷ name ∷ pieces)
+  pub written : IsAppend ws name pieces
   pub number : number_of chains name ≡ Some c
   pub fit : ArePieces chains nothing_given pieces given
-  pub same : rule ≡ rule_of given
+  pub same : rule ≡ record given.rule { target = unwrap_or given.target Count }
 
 -- the words of a chain line: `:` (58) and the name in one word, the policy, maybe a count
-pub record IsChainLine (ws : List (List ℕ)) (name policy : List ℕ) : Type 0 where
-  pub behind : List (List ℕ)
-  pub counted : IsFront behind
-  pub written : ws ≡ (58 ∷ name) ∷ policy ∷ behind
+abbrev pub IsChainLine : List (List ℕ) → (name policy : List ℕ) → Type 0
+IsChainLine ws name policy = (behind : List (List ℕ)) × IsFront behind × (ws ≡ (58 ∷ name) ∷ policy ∷ behind)
 
 -- line n, by its words: from what the lines before it said to what they say with it
 pub data IsLine (n : ℕ) (s : SaidSoFar) : List (List ℕ) → SaidSoFar → Type 0 where
@@ -97,6 +101,3 @@ pub data IsLine (n : ℕ) (s : SaidSoFar) : List (List ℕ) → SaidSoFar → Ty
   rule : {ws : List (List ℕ)} {c : ℕ} {r : Rule} → s.stage ≡ Table → IsRuleLine s.chains ws c r → s.rules < 1000000
       → IsLine n s ws (record s { chains = with_rule s.chains c r; rules = s.rules + 1 })
   commit : s.stage ≡ Table → IsLine n s (codes "COMMIT" ∷ []) (record s { stage = After })
-
-abbrev pub IsTextLine : ℕ → SaidSoFar → List ℕ → SaidSoFar → Type 0
-IsTextLine n s line t = IsLine n s (words line) t

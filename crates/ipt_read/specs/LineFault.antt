@@ -8,32 +8,28 @@ use Rattle.ipt_rules.specs.Name.{is_user_name}
 use Rattle.ipt_rules.specs.Text.{policy_text}
 use Rattle.ipt_read.specs.declared.fault.IptWhy.{IptWhy}
 use Rattle.ipt_read.specs.declared.fault.IptWhy.TheVariants.{BadLine, OtherTable, BadChain, UnknownChain, UnknownOption, Interface as AnInterface, BadValue, AfterCommit, TooMany}
-use Rattle.ipt_read.specs.declared.option.Opt.{Opt}
-use Rattle.ipt_read.specs.declared.option.Given.{Given}
-use Rattle.ipt_read.specs.declared.stage.Stage.TheVariants.{Front, Table, After}
-use Rattle.ipt_read.specs.Options.{option_of, may_stand, is_interface, takes_bang, is_given, nothing_given, value_refusal}
-use Rattle.ipt_read.specs.Said.{SaidSoFar, line_of}
-use Rattle.ipt_read.specs.Grammar.{Stands, IsValue, ArePieces, IsFront, IsRuleLine, IsChainLine}
+use Rattle.ipt_read.specs.Options.{Given, nothing_given, Row, row_of, is_barred}
+use Rattle.ipt_read.specs.Said.{Front, Table, After, SaidSoFar, line_of}
+use Rattle.ipt_read.specs.Grammar.{Stands, IsValue, ArePieces, IsAppend, IsRuleLine, IsChainLine}
 
 -- 1. Rule lines.
 
--- no value of the option stands in front of these words
-abbrev pub HasNoValue : List Chain → Given → Opt → Bool → List (List ℕ) → Type 0
-HasNoValue chains given o negated ws =
-    (value rest : List (List ℕ)) (now : Given) → ws ≡ value ++ rest → IsValue chains given o negated value now → ⊥
+-- matches of interfaces, which are not read
+abbrev pub IsInterface : List ℕ → Type 0
+IsInterface name = (name ≡ codes "-i") ⊎ (name ≡ codes "-o")
 
--- why words in the place of an option and its value give none, with `!` before them or not
+-- why words in the place of an option and its value give none, with `!` before them or not: a match of an interface may stand there; or else no
+-- option of that name may; or it is barred; or no value of it stands behind it
 pub data IsStuckAt (chains : List Chain) (given : Given) (negated : Bool) (name : List ℕ) : List (List ℕ) → IptWhy → Type 0 where
-  no_option : {ws : List (List ℕ)} → option_of name ≡ None → IsStuckAt chains given negated name ws UnknownOption
-  misplaced : {ws : List (List ℕ)} (o : Opt) → option_of name ≡ Some o → IsFalse (may_stand given o)
+  interface : {ws : List (List ℕ)} → IsInterface name → given.target ≡ None → IsStuckAt chains given negated name ws AnInterface
+  unknown : {ws : List (List ℕ)} → (IsInterface name → given.target ≢ None) → ((row : Row) → row_of name ≡ Some row → IsFalse (row.stands given))
       → IsStuckAt chains given negated name ws UnknownOption
-  interface : {ws : List (List ℕ)} (o : Opt) → option_of name ≡ Some o → IsTrue (may_stand given o) → IsTrue (is_interface o)
-      → IsStuckAt chains given negated name ws AnInterface
-  barred : {ws : List (List ℕ)} (o : Opt) → option_of name ≡ Some o → IsTrue (may_stand given o) → IsFalse (is_interface o)
-      → ((negated ≡ true) × IsFalse (takes_bang o)) ⊎ IsTrue (is_given given o) → IsStuckAt chains given negated name ws BadLine
-  value_missing : (o : Opt) → option_of name ≡ Some o → Stands given negated o → IsStuckAt chains given negated name [] BadValue
-  bad_value : {w : List ℕ} {ws : List (List ℕ)} (o : Opt) → option_of name ≡ Some o → Stands given negated o
-      → HasNoValue chains given o negated (w ∷ ws) → IsStuckAt chains given negated name (w ∷ ws) (value_refusal o)
+  barred : {ws : List (List ℕ)} (row : Row) → row_of name ≡ Some row → IsTrue (row.stands given) → IsTrue (is_barred given negated row)
+      → IsStuckAt chains given negated name ws BadLine
+  value_missing : (row : Row) → Stands given negated name row → IsStuckAt chains given negated name [] BadValue
+  bad_value : {w : List ℕ} {ws : List (List ℕ)} (row : Row) → Stands given negated name row
+      → ((value rest : List (List ℕ)) (now : Given) → w ∷ ws ≡ value ++ rest → IsValue chains given negated name value now → ⊥)
+      → IsStuckAt chains given negated name (w ∷ ws) row.refusal
 
 -- why the words behind what is given begin with no piece; `!` stands in front of the target alone
 pub data IsStuck (chains : List Chain) (given : Given) : List (List ℕ) → IptWhy → Type 0 where
@@ -45,13 +41,10 @@ pub data IsStuck (chains : List Chain) (given : Given) : List (List ℕ) → Ipt
 
 -- why words are no rule line: they have no `-A` and chain, behind a count or not; or there is no such chain; or the pieces get stuck
 pub data IsBadRule (chains : List Chain) (ws : List (List ℕ)) : IptWhy → Type 0 where
-  not_begun : ((front : List (List ℕ)) (name : List ℕ) (pieces : List (List ℕ)) → IsFront front → ws ≡ front ++ (codes "-A" ∷ name ∷ pieces) → ⊥)
-      → IsBadRule chains ws BadLine
-  no_chain : (front : List (List ℕ)) (name : List ℕ) (pieces : List (List ℕ)) → IsFront front
-      → ws ≡ front ++ (codes "-A" ∷ name ∷ pieces) → number_of chains name ≡ None → IsBadRule chains ws UnknownChain
-  stuck : {why : IptWhy} (front : List (List ℕ)) (name : List ℕ) (c : ℕ) (read rest : List (List ℕ)) (given : Given) → IsFront front
-      → ws ≡ front ++ (codes "-A" ∷ name ∷ (read ++ rest)) → number_of chains name ≡ Some c → ArePieces chains nothing_given read given
-      → IsStuck chains given rest why → IsBadRule chains ws why
+  not_begun : ((name : List ℕ) (pieces : List (List ℕ)) → IsAppend ws name pieces → ⊥) → IsBadRule chains ws BadLine
+  no_chain : (name : List ℕ) (pieces : List (List ℕ)) → IsAppend ws name pieces → number_of chains name ≡ None → IsBadRule chains ws UnknownChain
+  stuck : {why : IptWhy} (name : List ℕ) (c : ℕ) (read rest : List (List ℕ)) (given : Given) → IsAppend ws name (read ++ rest)
+      → number_of chains name ≡ Some c → ArePieces chains nothing_given read given → IsStuck chains given rest why → IsBadRule chains ws why
 
 -- 2. Lines.
 

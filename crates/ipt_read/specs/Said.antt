@@ -2,8 +2,12 @@
 use Rattle.std.specs.Prelude.{ℕ, List, [], ◌∷◌}
 use Rattle.std.specs.List.{slice_index_or}
 use Rattle.ipt_rules.specs.Chain.{Chain, built_in_chains}
-use Rattle.ipt_read.specs.declared.stage.Stage.{Stage}
-use Rattle.ipt_read.specs.declared.stage.Stage.TheVariants.{Front}
+
+-- how far the text has come: in front of its table, within it, or behind COMMIT
+pub data Stage : Type 0 where
+  Front : Stage
+  Table : Stage
+  After : Stage
 
 -- how far the text has come, the chains, for each chain the line of its chain line (0 where it has none yet), and how many rules
 pub record SaidSoFar : Type 0 where

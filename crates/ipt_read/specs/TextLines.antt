@@ -6,10 +6,9 @@ use Rattle.ipt_rules.specs.Chain.{Chain}
 use Rattle.ipt_rules.specs.Loops.{HasNoLoop, IsLeastLoop}
 use Rattle.ipt_read.specs.declared.fault.IptWhy.{IptWhy}
 use Rattle.ipt_read.specs.declared.fault.IptWhy.TheVariants.{TooLong, Loop, NoCommit}
-use Rattle.ipt_read.specs.declared.stage.Stage.TheVariants.{After}
-use Rattle.ipt_read.specs.Grammar.{IsTextLine}
+use Rattle.ipt_read.specs.Grammar.{IsLine}
 use Rattle.ipt_read.specs.LineFault.{IsBadLine}
-use Rattle.ipt_read.specs.Said.{SaidSoFar, nothing_said, line_of}
+use Rattle.ipt_read.specs.Said.{After, SaidSoFar, nothing_said, line_of}
 
 -- why a text ends badly: it ends without COMMIT, at the line after its last; or jumps lead back, at the chain line of the first chain
 -- that they lead back to
@@ -23,7 +22,7 @@ rules_text = record {
   byte_limit = 67108864;
   when_longer = TooLong;
   start = nothing_said;
-  IsLine = IsTextLine;
+  IsLine = λ n s line t. IsLine n s (words line) t;
   IsBadLine = λ n s line why. IsBadLine s (words line) why;
   MayEnd = λ s. (s.stage ≡ After) × HasNoLoop s.chains;
   EndsBadly = EndsBadly;

@@ -1,6 +1,8 @@
 pub mod Counts
 pub mod Goes
 pub mod LineStep
+pub mod OptionSteps
+pub mod ReaderView
 pub mod RuleLine
 pub mod ServiceSteps
 pub mod State

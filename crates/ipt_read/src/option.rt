@@ -1,6 +1,6 @@
 //! The options of a rule line, and what stands on the line already.
 
-use ipt_rules::{AddrMatch, PortMatch, ProtoMatch, StateMatch, Target};
+use ipt_rules::{Rule, Target};
 
 /// An option of a rule line.
 #[derive(Clone, Copy, Debug, PartialEq, Eq)]
@@ -21,18 +21,12 @@ pub(crate) enum Opt {
     LogLevel,
 }
 
-/// What the options in front gave: the parts of the rule, and the modules that were named, of which
-/// `ports` stands for that of the protocol.
+/// What the options in front gave: the rule so far but for its target, the target, and the modules that
+/// were named, of which `ports` stands for that of the protocol.
 #[derive(Clone, Copy)]
 pub(crate) struct Given {
-    pub(crate) src: Option<AddrMatch>,
-    pub(crate) dst: Option<AddrMatch>,
-    pub(crate) proto: Option<ProtoMatch>,
-    pub(crate) sport: Option<PortMatch>,
-    pub(crate) dport: Option<PortMatch>,
-    pub(crate) state: Option<StateMatch>,
+    pub(crate) rule: Rule,
     pub(crate) target: Option<Target>,
-    pub(crate) logs: bool,
     pub(crate) ports: bool,
     pub(crate) conntrack: bool,
     pub(crate) states: bool,

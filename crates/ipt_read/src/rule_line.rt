@@ -7,19 +7,21 @@ ghost use Rattle.text_core.specs.Pieces.{split_once};
 ghost use Rattle.ipt_read.specs.declared.option.Place.TheVariants.{AtOption};
 ghost use Rattle.ipt_read.specs.inner.Counts.{is_nothing, is_bytes_part, is_packets_part, is_count};
 ghost use Rattle.ipt_read.specs.Values.{is_figure};
-ghost use Rattle.ipt_read.specs.Options.{nothing_given, target_by, rule_of};
+ghost use Rattle.ipt_read.specs.Options.{nothing_given};
+ghost use Rattle.ipt_read.specs.inner.OptionSteps.{rule_of};
+ghost use Rattle.ipt_read.specs.inner.ReaderView.{AnswersAs, given_of, next_of};
 ghost use Rattle.ipt_read.specs.inner.RuleLine.{at_option, is_bang, word_step, at_end, word_by_word, append_of, rule_line_of};
 
 use crate::fault::IptWhy;
 use crate::option::{Given, Opt, Place};
 use crate::table::{
-    is_given, is_interface, may_stand, option_of, quoted, takes_bang, value_refusal, with_value,
+    is_barred, is_interface, may_stand, option_of, quoted, value_refusal, with_value,
 };
 use ipt_rules::{Chains, Rule, Target};
 use text_core::{Words, begins_with, split_once};
 
 fn at_option(given: Given, negated: bool, option: Option<Opt>) -> Result<(Given, Place), IptWhy>
-    ensures { result ≡ at_option given negated option }
+    ensures { AnswersAs next_of (at_option (given_of given) negated option) result }
 {
     let Some(option) = option else {
         return Err(IptWhy::UnknownOption);
@@ -30,7 +32,7 @@ fn at_option(given: Given, negated: bool, option: Option<Opt>) -> Result<(Given,
     if is_interface(option) {
         return Err(IptWhy::Interface);
     }
-    if (negated && !takes_bang(option)) || is_given(given, option) {
+    if is_barred(given, negated, option) {
         return Err(IptWhy::BadLine);
     }
     Ok((given, Place::AtValue(option, negated)))
@@ -38,7 +40,7 @@ fn at_option(given: Given, negated: bool, option: Option<Opt>) -> Result<(Given,
 
 #[tactic(auto, unfolding(crate::specs::inner::RuleLine::is_bang))]
 fn is_bang(given: Given, word: &[u8]) -> bool
-    ensures { result ≡ is_bang given word.now }
+    ensures { result ≡ is_bang (given_of given) word.now }
 {
     given.target.is_none() && word == b"!".as_slice()
 }
@@ -50,7 +52,7 @@ fn word_step(
     place: Place,
     word: &[u8],
 ) -> Result<(Given, Place), IptWhy>
-    ensures { result ≡ word_step chains.now given place word.now }
+    ensures { AnswersAs next_of (word_step chains.now (given_of given) place word.now) result }
 {
     match place {
         Place::AtOption => {
@@ -72,7 +74,7 @@ fn word_step(
 }
 
 fn at_end(given: Given, place: Place) -> Result<Given, IptWhy>
-    ensures { result ≡ at_end given place }
+    ensures { AnswersAs given_of (at_end (given_of given) place) result }
 {
     match place {
         Place::AtOption => Ok(given),
@@ -82,17 +84,20 @@ fn at_end(given: Given, place: Place) -> Result<Given, IptWhy>
 }
 
 fn nothing_given() -> Given
-    ensures { result ≡ nothing_given }
+    ensures { given_of result ≡ nothing_given }
 {
-    Given {
+    let rule = Rule {
         src: None,
         dst: None,
         proto: None,
         sport: None,
         dport: None,
         state: None,
+        target: Target::Count,
+    };
+    Given {
+        rule,
         target: None,
-        logs: false,
         ports: false,
         conntrack: false,
         states: false,
@@ -101,7 +106,7 @@ fn nothing_given() -> Given
 }
 
 fn read_options(chains: &Chains, mut line: Words) -> Result<Given, IptWhy>
-    ensures { result ≡ word_by_word chains.now nothing_given AtOption line.entry }
+    ensures { AnswersAs given_of (word_by_word chains.now nothing_given AtOption line.entry) result }
 {
     let mut given = nothing_given();
     let mut place = Place::AtOption;
@@ -114,16 +119,12 @@ fn read_options(chains: &Chains, mut line: Words) -> Result<Given, IptWhy>
 }
 
 fn rule_of(given: Given) -> Rule
-    ensures { result ≡ rule_of given }
+    ensures { result ≡ rule_of (given_of given) }
 {
+    let target = given.target.unwrap_or(Target::Count);
     Rule {
-        src: given.src,
-        dst: given.dst,
-        proto: given.proto,
-        sport: given.sport,
-        dport: given.dport,
-        state: given.state,
-        target: given.target.unwrap_or(Target::Count),
+        target,
+        ..given.rule
     }
 }
 

@@ -3,19 +3,30 @@
 ghost use Rattle.std.specs.Prelude.{◌≡◌, ◌<◌, ◌==◌, IfSome, Option, List, ℕ, length, false, bytes_eq, slice_index_or};
 ghost use Rattle.std.specs.List.{list_all, list_any};
 ghost use Rattle.ipt_rules.specs.Chain.{number_of};
-ghost use Rattle.ipt_read.specs.Options.{option_of, may_stand, is_interface, takes_bang, is_given, is_state, jump_to, target_of, is_own_module, with_module, rejects, value_refusal};
-ghost use Rattle.ipt_read.specs.inner.ValueSteps.{closes, quoted, text_of, listed, states_of, port_match, with_value};
+ghost use Rattle.std.specs.Option.{option_map};
+ghost use Rattle.ipt_read.specs.declared.option.Place.TheVariants.{AtOption};
+ghost use Rattle.ipt_read.specs.Options.{rejects, logs, named_target};
+ghost use Rattle.ipt_read.specs.Values.{is_state, listed};
+ghost use Rattle.ipt_read.specs.inner.OptionSteps.{option_of, may_stand, is_interface, bars, jump_to, target_of, is_own_module, with_module, value_refusal};
+ghost use Rattle.ipt_read.specs.inner.ReaderView.{given_of, next_of};
+ghost use Rattle.ipt_read.specs.inner.ValueSteps.{closes, quoted, text_of, states_of, port_match, with_value};
 
 use crate::fault::IptWhy;
 use crate::option::{Given, Opt, Place};
 use crate::service::{asked_ports, asked_protocol};
 use host_net::read_prefix;
-use ipt_rules::{AddrMatch, Chains, PortMatch, ProtoMatch, StateMatch, Target};
+use ipt_rules::{AddrMatch, Chains, PortMatch, ProtoMatch, Rule, StateMatch, Target};
 
-#[tactic(auto, unfolding(crate::specs::Options::option_of))]
+#[tactic(auto, unfolding(crate::specs::inner::OptionSteps::option_of))]
 pub(crate) fn option_of(word: &[u8]) -> Option<Opt>
     ensures { result ≡ option_of word.now }
 {
+    if word == b"-i".as_slice() {
+        return Some(Opt::Interface);
+    }
+    if word == b"-o".as_slice() {
+        return Some(Opt::Interface);
+    }
     if word == b"-s".as_slice() {
         return Some(Opt::Source);
     }
@@ -31,15 +42,6 @@ pub(crate) fn option_of(word: &[u8]) -> Option<Opt>
     if word == b"--dport".as_slice() {
         return Some(Opt::DestinationPort);
     }
-    if word == b"-i".as_slice() {
-        return Some(Opt::Interface);
-    }
-    if word == b"-o".as_slice() {
-        return Some(Opt::Interface);
-    }
-    if word == b"-m".as_slice() {
-        return Some(Opt::Module);
-    }
     if word == b"--ctstate".as_slice() {
         return Some(Opt::CtState);
     }
@@ -48,6 +50,9 @@ pub(crate) fn option_of(word: &[u8]) -> Option<Opt>
     }
     if word == b"--comment".as_slice() {
         return Some(Opt::Comment);
+    }
+    if word == b"-m".as_slice() {
+        return Some(Opt::Module);
     }
     if word == b"-j".as_slice() {
         return Some(Opt::Jump);
@@ -70,8 +75,14 @@ fn rejects(target: Option<Target>) -> bool
     matches!(target, Some(Target::Reject))
 }
 
+fn logs(target: Option<Target>) -> bool
+    ensures { result ≡ logs target }
+{
+    matches!(target, Some(Target::Count))
+}
+
 pub(crate) fn may_stand(given: Given, option: Opt) -> bool
-    ensures { result ≡ may_stand given option }
+    ensures { result ≡ may_stand (given_of given) option }
 {
     match option {
         Opt::SourcePort | Opt::DestinationPort => given.target.is_none() && given.ports,
@@ -79,7 +90,7 @@ pub(crate) fn may_stand(given: Given, option: Opt) -> bool
         Opt::State => given.target.is_none() && given.states,
         Opt::Comment => given.target.is_none() && given.comments,
         Opt::RejectWith => rejects(given.target),
-        Opt::LogPrefix | Opt::LogLevel => given.logs,
+        Opt::LogPrefix | Opt::LogLevel => logs(given.target),
         Opt::Source | Opt::Destination | Opt::Protocol | Opt::Interface | Opt::Module | Opt::Jump =>
             given.target.is_none(),
     }
@@ -91,32 +102,18 @@ pub(crate) fn is_interface(option: Opt) -> bool
     matches!(option, Opt::Interface)
 }
 
-pub(crate) fn takes_bang(option: Opt) -> bool
-    ensures { result ≡ takes_bang option }
-{
-    matches!(
-        option,
-        Opt::Source
-            | Opt::Destination
-            | Opt::Protocol
-            | Opt::SourcePort
-            | Opt::DestinationPort
-            | Opt::CtState
-            | Opt::State
-    )
-}
-
-pub(crate) fn is_given(given: Given, option: Opt) -> bool
-    ensures { result ≡ is_given given option }
+/// Whether the rule has the part of a match already, or `!` stands before what is no match.
+pub(crate) fn is_barred(given: Given, negated: bool, option: Opt) -> bool
+    ensures { result ≡ bars (given_of given) negated option }
 {
     match option {
-        Opt::Source => given.src.is_some(),
-        Opt::Destination => given.dst.is_some(),
-        Opt::Protocol => given.proto.is_some(),
-        Opt::SourcePort => given.sport.is_some(),
-        Opt::DestinationPort => given.dport.is_some(),
-        Opt::CtState | Opt::State => given.state.is_some(),
-        _ => false,
+        Opt::Source => given.rule.src.is_some(),
+        Opt::Destination => given.rule.dst.is_some(),
+        Opt::Protocol => given.rule.proto.is_some(),
+        Opt::SourcePort => given.rule.sport.is_some(),
+        Opt::DestinationPort => given.rule.dport.is_some(),
+        Opt::CtState | Opt::State => given.rule.state.is_some(),
+        _ => negated,
     }
 }
 
@@ -153,7 +150,7 @@ fn text_of(word: &[u8]) -> Option<Place>
     }
 }
 
-#[tactic(auto, unfolding(crate::specs::Options::is_state))]
+#[tactic(auto, unfolding(crate::specs::Values::is_state))]
 fn is_state(word: &[u8]) -> bool
     ensures { result ≡ is_state word.now }
 {
@@ -197,27 +194,35 @@ fn jump_to(chain: Option<u16>) -> Option<Target>
     }
 }
 
-#[tactic(auto, unfolding(crate::specs::Options::target_of))]
-fn target_of(chains: &Chains, word: &[u8]) -> Option<(Target, bool)>
-    ensures { result ≡ target_of chains.now word.now }
+fn named_target(word: &[u8]) -> Option<Target>
+    ensures { result ≡ named_target word.now }
 {
     if word == b"ACCEPT".as_slice() {
-        return Some((Target::Accept, false));
+        return Some(Target::Accept);
     }
     if word == b"DROP".as_slice() {
-        return Some((Target::Drop, false));
+        return Some(Target::Drop);
     }
     if word == b"REJECT".as_slice() {
-        return Some((Target::Reject, false));
+        return Some(Target::Reject);
     }
     if word == b"RETURN".as_slice() {
-        return Some((Target::Return, false));
+        return Some(Target::Return);
     }
     if word == b"LOG".as_slice() {
-        return Some((Target::Count, true));
+        return Some(Target::Count);
     }
-    let target = jump_to(chains.find(word))?;
-    Some((target, false))
+    None
+}
+
+#[tactic(auto, unfolding(crate::specs::inner::OptionSteps::target_of))]
+fn target_of(chains: &Chains, word: &[u8]) -> Option<Target>
+    ensures { result ≡ target_of chains.now word.now }
+{
+    match named_target(word) {
+        Some(target) => Some(target),
+        None => jump_to(chains.find(word)),
+    }
 }
 
 fn is_own_module(part: Option<ProtoMatch>, word: &[u8]) -> bool
@@ -240,9 +245,9 @@ fn is_own_module(part: Option<ProtoMatch>, word: &[u8]) -> bool
     }
 }
 
-#[tactic(auto, unfolding(crate::specs::Options::with_module))]
+#[tactic(auto, unfolding(crate::specs::inner::OptionSteps::with_module))]
 fn with_module(given: Given, word: &[u8]) -> Option<Given>
-    ensures { result ≡ with_module given word.now }
+    ensures { option_map given_of result ≡ with_module (given_of given) word.now }
 {
     if word == b"conntrack".as_slice() {
         return Some(Given {
@@ -262,7 +267,7 @@ fn with_module(given: Given, word: &[u8]) -> Option<Given>
             ..given
         });
     }
-    if is_own_module(given.proto, word) {
+    if is_own_module(given.rule.proto, word) {
         return Some(Given {
             ports: true,
             ..given
@@ -278,6 +283,12 @@ fn port_match(ports: (u16, u16), negated: bool) -> PortMatch
     PortMatch { low, high, negated }
 }
 
+fn with_rule(given: Given, rule: Rule) -> (Given, Place)
+    ensures { next_of result ≡ (record (given_of given) { rule = rule }, AtOption) }
+{
+    (Given { rule, ..given }, Place::AtOption)
+}
+
 /// What is given after an option's value, and where the next word stands.
 #[tactic(auto, unfolding(crate::specs::inner::ValueSteps::with_value))]
 pub(crate) fn with_value(
@@ -287,31 +298,32 @@ pub(crate) fn with_value(
     negated: bool,
     word: &[u8],
 ) -> Option<(Given, Place)>
-    ensures { result ≡ with_value chains.now given option negated word.now }
+    ensures { option_map next_of result ≡ with_value chains.now (given_of given) option negated word.now }
 {
+    let rule = given.rule;
     match option {
         Opt::Source => {
             let prefix = read_prefix(word)?;
             let src = Some(AddrMatch { prefix, negated });
-            Some((Given { src, ..given }, Place::AtOption))
+            Some(with_rule(given, Rule { src, ..rule }))
         }
         Opt::Destination => {
             let prefix = read_prefix(word)?;
             let dst = Some(AddrMatch { prefix, negated });
-            Some((Given { dst, ..given }, Place::AtOption))
+            Some(with_rule(given, Rule { dst, ..rule }))
         }
         Opt::Protocol => {
             let proto = asked_protocol(word)?;
             let proto = Some(ProtoMatch { proto, negated });
-            Some((Given { proto, ..given }, Place::AtOption))
+            Some(with_rule(given, Rule { proto, ..rule }))
         }
         Opt::SourcePort => {
             let sport = Some(port_match(asked_ports(word)?, negated));
-            Some((Given { sport, ..given }, Place::AtOption))
+            Some(with_rule(given, Rule { sport, ..rule }))
         }
         Opt::DestinationPort => {
             let dport = Some(port_match(asked_ports(word)?, negated));
-            Some((Given { dport, ..given }, Place::AtOption))
+            Some(with_rule(given, Rule { dport, ..rule }))
         }
         Opt::Interface => None,
         Opt::Module => Some((with_module(given, word)?, Place::AtOption)),
@@ -322,20 +334,12 @@ pub(crate) fn with_value(
                 established,
                 negated,
             });
-            Some((Given { state, ..given }, Place::AtOption))
+            Some(with_rule(given, Rule { state, ..rule }))
         }
         Opt::Comment | Opt::LogPrefix => Some((given, text_of(word)?)),
         Opt::Jump => {
-            let (target, logs) = target_of(chains, word)?;
-            let target = Some(target);
-            Some((
-                Given {
-                    target,
-                    logs,
-                    ..given
-                },
-                Place::AtOption,
-            ))
+            let target = Some(target_of(chains, word)?);
+            Some((Given { target, ..given }, Place::AtOption))
         }
         Opt::RejectWith | Opt::LogLevel => Some((given, Place::AtOption)),
     }

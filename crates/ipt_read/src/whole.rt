@@ -10,7 +10,8 @@ ghost use Rattle.ipt_rules.specs.Text.{text};
 ghost use Rattle.ipt_rules.specs.inner.Writable.{IsWritable};
 ghost use Rattle.ipt_read.specs.declared.fault.IptWhy.{IptWhy};
 ghost use Rattle.ipt_read.specs.inner.State.{said_of, IsFine};
-ghost use Rattle.ipt_read.specs.Said.{line_of};
+ghost use Rattle.ipt_read.specs.Said.{After, line_of};
+ghost use Rattle.ipt_read.specs.inner.ReaderView.{stage_of};
 ghost use Rattle.ipt_read.specs.TextLines.{rules_text, HasFault, IsReading};
 
 use crate::fault::{IptFault, IptWhy};
@@ -30,7 +31,7 @@ pub fn read(alloc: Global, bytes: &[u8]) -> Result<Ruleset, IptFault>
     // A text has one first fault at most, and none where it has a reading.
     ensures faulty { (line : ℕ) (why : IptWhy) → HasFault bytes.now line why →
         MatchResult result (λ rules. ⊥) (IsFault line why) }
-    // What is written of a rule set is read again.
+    // What is written of a rule set is read again, where it has no more bytes than a text may have.
     ensures again { (chains : List Chain) → IsWritable chains → bytes.now ≡ text chains → length bytes.now ≤ 67108864 →
         MatchResult result (λ rules. rules ≡ chains) (λ fault. fault ≡ TextFault.Memory) }
     // The rule set that is read is one in which each chain gives every packet one outcome.
@@ -83,7 +84,7 @@ fn line_after(bytes: &[u8]) -> u32
 fn build(alloc: Global, reader: Reader, bytes: &[u8]) -> Result<Ruleset, IptFault>
     requires fine { IsFine (said_of reader) }
     requires through { IsReadThrough rules_text bytes.now (said_of reader) }
-    requires whole { reader.stage ≡ Stage.After }
+    requires whole { stage_of reader.stage ≡ After }
     ensures found { IfOk result (IsReading bytes.now) }
     ensures refused { IfErr result (HasCause rules_text bytes.now) }
     ensures one_outcome { IfOk result EachGivesOne }

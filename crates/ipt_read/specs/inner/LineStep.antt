@@ -9,11 +9,9 @@ use Rattle.ipt_rules.specs.Chain.{user_chain, with_policy, with_rule, number_of}
 use Rattle.ipt_rules.specs.Name.{is_user_name}
 use Rattle.ipt_read.specs.declared.fault.IptWhy.{IptWhy}
 use Rattle.ipt_read.specs.declared.fault.IptWhy.TheVariants.{BadLine, OtherTable, BadChain, AfterCommit, TooMany}
-use Rattle.ipt_read.specs.declared.stage.Stage.{Stage}
-use Rattle.ipt_read.specs.declared.stage.Stage.TheVariants.{Front, Table, After}
 use Rattle.ipt_read.specs.inner.Counts.{is_count}
 use Rattle.ipt_read.specs.inner.RuleLine.{rule_line_of}
-use Rattle.ipt_read.specs.Said.{SaidSoFar, line_of}
+use Rattle.ipt_read.specs.Said.{Stage, Front, Table, After, SaidSoFar, line_of}
 
 abbrev pub no_words : List (List ℕ) → Bool
 no_words [] = true

@@ -8,11 +8,11 @@ use Rattle.ipt_rules.specs.Chain.{Chain, number_of}
 use Rattle.ipt_read.specs.declared.fault.IptWhy.{IptWhy}
 use Rattle.ipt_read.specs.declared.fault.IptWhy.TheVariants.{BadLine, UnknownChain, Interface as AnInterface, UnknownOption, BadValue}
 use Rattle.ipt_read.specs.declared.option.Opt.{Opt}
-use Rattle.ipt_read.specs.declared.option.Given.{Given}
 use Rattle.ipt_read.specs.declared.option.Place.{Place}
 use Rattle.ipt_read.specs.declared.option.Place.TheVariants.{AtOption, AfterBang, AtValue, InText}
 use Rattle.ipt_read.specs.inner.Counts.{is_count}
-use Rattle.ipt_read.specs.Options.{option_of, may_stand, is_interface, takes_bang, is_given, nothing_given, rule_of, value_refusal}
+use Rattle.ipt_read.specs.Options.{Given, nothing_given}
+use Rattle.ipt_read.specs.inner.OptionSteps.{option_of, may_stand, is_interface, bars, value_refusal, rule_of}
 use Rattle.ipt_read.specs.inner.ValueSteps.{quoted, with_value}
 
 -- a word in the place of an option, with `!` before it or not
@@ -21,7 +21,7 @@ at_option given negated None = Err UnknownOption
 at_option given negated (Some o) =
     if not (may_stand given o) then Err UnknownOption
     else if is_interface o then Err AnInterface
-    else if (negated && not (takes_bang o)) || is_given given o then Err BadLine
+    else if bars given negated o then Err BadLine
     else Ok (given, AtValue o negated)
 
 -- `!` may stand in front of the target

@@ -7,9 +7,10 @@ use Rattle.ipt_read.specs.declared.fault.IptWhy.{IptWhy}
 use Rattle.ipt_read.specs.declared.reader.Reader.{Reader}
 use Rattle.ipt_read.specs.Said.{SaidSoFar}
 use Rattle.ipt_read.specs.inner.Goes.{EachGoes}
+use Rattle.ipt_read.specs.inner.ReaderView.{stage_of}
 
 abbrev pub said_of : Reader → SaidSoFar
-said_of r = record { stage = r.stage; chains = r.chains; declared = r.declared.items; rules = r.rules }
+said_of r = record { stage = stage_of r.stage; chains = r.chains; declared = r.declared.items; rules = r.rules }
 
 -- an answer to a line against what its step says
 abbrev pub AnswersTo : Result SaidSoFar IptWhy → Result Reader (LineFault IptWhy) → Type 0

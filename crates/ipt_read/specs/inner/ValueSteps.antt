@@ -11,10 +11,11 @@ use Rattle.ipt_rules.specs.declared.rule.StateMatch.{StateMatch}
 use Rattle.ipt_rules.specs.Chain.{Chain}
 use Rattle.ipt_read.specs.declared.option.Opt.{Opt}
 use Rattle.ipt_read.specs.declared.option.Opt.TheVariants.{Source, Destination, Protocol, SourcePort, DestinationPort, Interface, Module, CtState, State, Comment, Jump, RejectWith, LogPrefix, LogLevel}
-use Rattle.ipt_read.specs.declared.option.Given.{Given}
 use Rattle.ipt_read.specs.declared.option.Place.{Place}
 use Rattle.ipt_read.specs.declared.option.Place.TheVariants.{AtOption, InText}
-use Rattle.ipt_read.specs.Options.{is_state, target_of, with_module}
+use Rattle.ipt_read.specs.Options.{Given}
+use Rattle.ipt_read.specs.Values.{is_state, listed}
+use Rattle.ipt_read.specs.inner.OptionSteps.{target_of, with_module}
 use Rattle.ipt_read.specs.inner.ServiceSteps.{asked_protocol, asked_ports}
 
 -- a closing `"` ends the word, and an option may follow
@@ -33,10 +34,6 @@ quoted taken (b ∷ bs) =
 unfoldable pub text_of : List ℕ → Option Place
 text_of [] = Some AtOption
 text_of (b ∷ bs) = if b == 34 then quoted false bs else Some AtOption
-
--- the texts between commas (44)
-abbrev pub listed : List ℕ → List (List ℕ)
-listed word = slice_split (λ b. b == 44) word
 
 -- whether NEW and whether ESTABLISHED is in a list of states
 unfoldable pub states_of : List ℕ → Option (Bool × Bool)
@@ -63,24 +60,24 @@ then_option given = (given, AtOption)
 -- what is given after an option's value, and where the next word stands
 unfoldable pub with_value : List Chain → Given → Opt → Bool → List ℕ → Option (Given × Place)
 with_value chains given Source negated word =
-    option_map (λ p. (record given { src = Some (address_match negated p) }, AtOption)) (prefix_of word)
+    option_map (λ p. (record given { rule = record given.rule { src = Some (address_match negated p) } }, AtOption)) (prefix_of word)
 with_value chains given Destination negated word =
-    option_map (λ p. (record given { dst = Some (address_match negated p) }, AtOption)) (prefix_of word)
+    option_map (λ p. (record given { rule = record given.rule { dst = Some (address_match negated p) } }, AtOption)) (prefix_of word)
 with_value chains given Protocol negated word =
-    option_map (λ proto. (record given { proto = Some (protocol_match negated proto) }, AtOption)) (asked_protocol word)
+    option_map (λ proto. (record given { rule = record given.rule { proto = Some (protocol_match negated proto) } }, AtOption)) (asked_protocol word)
 with_value chains given SourcePort negated word =
-    option_map (λ ports. (record given { sport = Some (port_match negated ports) }, AtOption)) (asked_ports word)
+    option_map (λ ports. (record given { rule = record given.rule { sport = Some (port_match negated ports) } }, AtOption)) (asked_ports word)
 with_value chains given DestinationPort negated word =
-    option_map (λ ports. (record given { dport = Some (port_match negated ports) }, AtOption)) (asked_ports word)
+    option_map (λ ports. (record given { rule = record given.rule { dport = Some (port_match negated ports) } }, AtOption)) (asked_ports word)
 with_value chains given Interface negated word = None
 with_value chains given Module negated word = option_map then_option (with_module given word)
 with_value chains given CtState negated word =
-    option_map (λ flags. (record given { state = Some (state_match negated flags) }, AtOption)) (states_of word)
+    option_map (λ flags. (record given { rule = record given.rule { state = Some (state_match negated flags) } }, AtOption)) (states_of word)
 with_value chains given State negated word =
-    option_map (λ flags. (record given { state = Some (state_match negated flags) }, AtOption)) (states_of word)
+    option_map (λ flags. (record given { rule = record given.rule { state = Some (state_match negated flags) } }, AtOption)) (states_of word)
 with_value chains given Comment negated word = option_map (λ place. (given, place)) (text_of word)
 with_value chains given Jump negated word =
-    option_map (λ t. (record given { target = Some t.0; logs = t.1 }, AtOption)) (target_of chains word)
+    option_map (λ t. (record given { target = Some t }, AtOption)) (target_of chains word)
 with_value chains given RejectWith negated word = Some (given, AtOption)
 with_value chains given LogPrefix negated word = option_map (λ place. (given, place)) (text_of word)
 with_value chains given LogLevel negated word = Some (given, AtOption)

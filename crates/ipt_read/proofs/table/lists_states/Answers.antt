@@ -1,7 +1,7 @@
 use Rattle.std.proofs.Common.{rules, tests}
 use Rattle.std.proofs.lemmas.Iterator.Search.{all_from_yields_List}
 use Rattle.std.proofs.lemmas.Iterator.Splits.{YieldsList-from_slice_split}
-use Rattle.ipt_read.specs.Options.{is_state}
+use Rattle.ipt_read.specs.Values.{is_state}
 use Rattle.ipt_read.proofs.table.lists_states.Goals as goal
 
 pub returns : goal.returns

@@ -6,10 +6,9 @@ use Rattle.text_core.specs.declared.faults.LineFault.{LineFault}
 use Rattle.text_core.specs.declared.faults.LineFault.TheVariants.{Bad, Memory}
 use Rattle.ipt_read.specs.declared.fault.IptWhy.{IptWhy}
 use Rattle.ipt_read.specs.declared.reader.Reader.{Reader}
-use Rattle.ipt_read.specs.Grammar.{IsTextLine}
 use Rattle.ipt_read.specs.LineFault.{IsBadLine}
 use Rattle.ipt_read.proofs.LineFaultLaws.{bad_line_of_step}
-use Rattle.ipt_read.proofs.LineLaws.{line_of_read}
+use Rattle.ipt_read.proofs.LineLaws.{IsTextLine, line_of_read}
 use Rattle.ipt_read.specs.inner.LineStep.{line_step}
 use Rattle.ipt_read.specs.Said.{SaidSoFar}
 use Rattle.ipt_read.specs.inner.State.{AnswersTo, IsFine, said_of}

@@ -1,0 +1,87 @@
+-- The options of a rule line as the reader goes through them, one by one. Callers see none of it; they have `Options` and `Grammar`.
+use Rattle.std.specs.Prelude.{ℕ, Bool, true, false, ◌&&◌, nat_lt, if◌then◌else◌, List, [], ◌∷◌, Option, Some, None, is_some, codes, bytes_eq, unwrap_or}
+use Rattle.std.specs.Map.{lookup}
+use Rattle.std.specs.Option.{option_or}
+use Rattle.host_net.specs.ServiceText.{protocol_text}
+use Rattle.ipt_rules.specs.declared.rule.ProtoMatch.{ProtoMatch}
+use Rattle.ipt_rules.specs.declared.rule.Rule.{Rule}
+use Rattle.ipt_rules.specs.declared.rule.Target.{Target}
+use Rattle.ipt_rules.specs.declared.rule.Target.TheVariants.{Count, Jump as JumpsTo}
+use Rattle.ipt_rules.specs.Chain.{Chain, number_of}
+use Rattle.ipt_rules.specs.RuleParts.{names_ports}
+use Rattle.ipt_read.specs.declared.fault.IptWhy.{IptWhy}
+use Rattle.ipt_read.specs.declared.fault.IptWhy.TheVariants.{UnknownOption, BadValue, UnknownTarget}
+use Rattle.ipt_read.specs.declared.option.Opt.{Opt}
+use Rattle.ipt_read.specs.declared.option.Opt.TheVariants.{Source, Destination, Protocol, SourcePort, DestinationPort, Interface, Module, CtState, State, Comment, Jump, RejectWith, LogPrefix, LogLevel}
+use Rattle.ipt_read.specs.Options.{Given, Row, in_front, rejects, logs, is_barred, named_target}
+
+-- the options that are read, each behind its name
+abbrev pub named_options : List (List ℕ × Opt)
+named_options =
+    (codes "-s", Source) ∷ (codes "-d", Destination) ∷ (codes "-p", Protocol) ∷ (codes "--sport", SourcePort) ∷ (codes "--dport", DestinationPort) ∷
+    (codes "--ctstate", CtState) ∷ (codes "--state", State) ∷ (codes "--comment", Comment) ∷ (codes "-m", Module) ∷ (codes "-j", Jump) ∷
+    (codes "--reject-with", RejectWith) ∷ (codes "--log-prefix", LogPrefix) ∷ (codes "--log-level", LogLevel) ∷ []
+
+unfoldable pub option_of : List ℕ → Option Opt
+option_of word =
+    if bytes_eq word (codes "-i") then Some Interface
+    else if bytes_eq word (codes "-o") then Some Interface
+    else lookup (bytes_eq word) named_options
+
+-- the row of each in the table; a match of an interface has none there
+abbrev pub row : Opt → Row
+row Source = record { stands = in_front; part = Some (λ rule. is_some rule.src); refusal = BadValue }
+row Destination = record { stands = in_front; part = Some (λ rule. is_some rule.dst); refusal = BadValue }
+row Protocol = record { stands = in_front; part = Some (λ rule. is_some rule.proto); refusal = BadValue }
+row SourcePort = record { stands = λ given. in_front given && given.ports; part = Some (λ rule. is_some rule.sport); refusal = BadValue }
+row DestinationPort = record { stands = λ given. in_front given && given.ports; part = Some (λ rule. is_some rule.dport); refusal = BadValue }
+row Interface = record { stands = in_front; part = None; refusal = BadValue }
+row Module = record { stands = in_front; part = None; refusal = UnknownOption }
+row CtState = record { stands = λ given. in_front given && given.conntrack; part = Some (λ rule. is_some rule.state); refusal = BadValue }
+row State = record { stands = λ given. in_front given && given.states; part = Some (λ rule. is_some rule.state); refusal = BadValue }
+row Comment = record { stands = λ given. in_front given && given.comments; part = None; refusal = BadValue }
+row Jump = record { stands = in_front; part = None; refusal = UnknownTarget }
+row RejectWith = record { stands = λ given. rejects given.target; part = None; refusal = BadValue }
+row LogPrefix = record { stands = λ given. logs given.target; part = None; refusal = BadValue }
+row LogLevel = record { stands = λ given. logs given.target; part = None; refusal = BadValue }
+
+abbrev pub may_stand : Given → Opt → Bool
+may_stand given o = (row o).stands given
+
+abbrev pub bars : Given → Bool → Opt → Bool
+bars given negated o = is_barred given negated (row o)
+
+-- why another value is refused
+abbrev pub value_refusal : Opt → IptWhy
+value_refusal o = (row o).refusal
+
+abbrev pub is_interface : Opt → Bool
+is_interface Interface = true
+is_interface _ = false
+
+-- a jump to a user chain that was declared
+abbrev pub jump_to : Option ℕ → Option Target
+jump_to None = None
+jump_to (Some c) = if nat_lt c 3 then None else Some (JumpsTo c)
+
+-- a target by its own name, or by a chain's
+unfoldable pub target_of : List Chain → List ℕ → Option Target
+target_of chains word = option_or (named_target word) (jump_to (number_of chains word))
+
+-- the module that has the options of ports is named after the protocol, `tcp` or `udp`, that all packets are of
+abbrev pub is_own_module : Option ProtoMatch → List ℕ → Bool
+is_own_module None word = false
+is_own_module (Some part) word = names_ports (Some part) && bytes_eq word (protocol_text part.proto)
+
+-- the modules: `conntrack`, `state`, `comment`, and that of the protocol
+unfoldable pub with_module : Given → List ℕ → Option Given
+with_module given word =
+    if bytes_eq word (codes "conntrack") then Some (record given { conntrack = true })
+    else if bytes_eq word (codes "state") then Some (record given { states = true })
+    else if bytes_eq word (codes "comment") then Some (record given { comments = true })
+    else if is_own_module given.rule.proto word then Some (record given { ports = true })
+    else None
+
+-- the rule that all options make
+abbrev pub rule_of : Given → Rule
+rule_of given = record given.rule { target = unwrap_or given.target Count }

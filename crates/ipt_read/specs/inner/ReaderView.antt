@@ -1,0 +1,32 @@
+-- What the reader holds of a rule line and of a text, in the words of the grammar. Callers see none of it.
+use Rattle.std.specs.Prelude.{◌≡◌, Result, Ok, Err, MatchResult}
+use Rattle.ipt_read.specs.declared.fault.IptWhy.{IptWhy}
+use Rattle.ipt_read.specs.declared.option.Given.{Given as Held}
+use Rattle.ipt_read.specs.declared.option.Place.{Place}
+use Rattle.ipt_read.specs.declared.stage.Stage.{Stage as HeldStage}
+use Rattle.ipt_read.specs.declared.stage.Stage.TheVariants as held
+use Rattle.ipt_read.specs.Options.{Given}
+use Rattle.ipt_read.specs.Said.{Stage, Front, Table, After}
+
+abbrev pub given_of : Held → Given
+given_of g = record {
+  rule = g.rule;
+  target = g.target;
+  ports = g.ports;
+  conntrack = g.conntrack;
+  states = g.states;
+  comments = g.comments;
+}
+
+-- what is given, and where the next word stands
+abbrev pub next_of : Held × Place → Given × Place
+next_of next = (given_of next.0, next.1)
+
+abbrev pub stage_of : HeldStage → Stage
+stage_of held.Front = Front
+stage_of held.Table = Table
+stage_of held.After = After
+
+-- an answer in the reader's words against the same in the grammar's
+abbrev pub AnswersAs : {A B : Type 0} → (A → B) → Result B IptWhy → Result A IptWhy → Type 0
+AnswersAs view said r = MatchResult r (λ x. said ≡ Ok (view x)) (λ why. said ≡ Err why)
