@@ -74,7 +74,7 @@ table_told [] n s all table told = subst IsTable told table
 table_told (x ∷ xs) n s all table (inl comment) = table_told xs (n + 1) s all table comment.1
 table_told (x ∷ xs) n s all table (inr adds) =
     table_told xs (n + 1) adds.0 all (subst IsTable (sym adds.2.added)
-    (table_more s adds.2.entry table adds.2.few adds.2.clear (written_in_range x adds.2.entry adds.2.written) adds.2.written.asks)) adds.3
+    (table_more s adds.2.entry table adds.2.few adds.2.clear (written_in_range x adds.2.entry adds.2.written) adds.2.written.1)) adds.3
 
 pub reading_is_table : (bytes : List ℕ) (entries : List Entry) → IsReading bytes entries → IsTable entries
 reading_is_table bytes entries reading = table_told (lines bytes) 1 [] entries empty_table reading.told

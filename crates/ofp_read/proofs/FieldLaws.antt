@@ -18,7 +18,8 @@ use Rattle.ofp_read.specs.declared.given.Key.{Key}
 use Rattle.ofp_read.specs.declared.given.Key.TheVariants as key
 use Rattle.ofp_read.specs.declared.given.Given.{Given}
 use Rattle.ofp_read.specs.inner.FieldTable.{key_with_value, key_alone, key_of, is_given, frame_types, frame_type, of_protocol, with_value, with_key, with_field}
-use Rattle.ofp_read.specs.Grammar.{Part, priority, table, kind, source, destination, protocol, source_port, destination_port, IsKindText, IsAddressText, IsNumberText, IsProtocolText, Says, EachSays, one_part, two_parts}
+use Rattle.ofp_read.specs.Grammar.{Part, priority, table, kind, source, destination, protocol, source_port, destination_port, IsKindText, IsAddressText, IsNumberText, IsProtocolText, EachSays, one_part, two_parts}
+use Rattle.ofp_read.proofs.PartWords.{Says}
 use Rattle.ofp_read.proofs.KeyLaws.{IsField, field_of_key, key_priority, key_table, key_source, key_destination, key_protocol, key_source_port, key_destination_port}
 use Rattle.ofp_read.proofs.NamedLaws.{named_is, some_same}
 use Rattle.ofp_read.proofs.PartLaws.{Lacks, Has, IsGiven, OfEach, Gives, gives_one, gives_more, with_part}

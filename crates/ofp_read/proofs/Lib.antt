@@ -10,6 +10,7 @@ pub mod LineLaws
 pub mod LineRows
 pub mod NamedLaws
 pub mod PartLaws
+pub mod PartWords
 pub mod PieceLaws
 pub mod RangeLaws
 pub mod TextLaws

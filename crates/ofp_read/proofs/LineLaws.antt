@@ -19,7 +19,8 @@ use Rattle.ofp_read.proofs.FieldsLaws.{goes_on_parts, fields_of_read, read_of_fi
 use Rattle.ofp_read.proofs.NamedLaws.{named_is}
 use Rattle.ofp_read.specs.inner.FlowLine.{goes_on, nothing_given, with_fields, actions, action_of, entry_of, with_action, flow_by, flow_of}
 use Rattle.ofp_read.specs.inner.Cut.{begins_action, cut_action}
-use Rattle.ofp_read.specs.Grammar.{Part, priority, table, kind, source, destination, protocol, source_port, destination_port, Says, EachSays, no_field, one_part, two_parts, IsProtocolText, is_separator, has_bytes, fields, IsKindText, IsActionText, ends_apart, Writes}
+use Rattle.ofp_read.specs.Grammar.{Part, priority, table, kind, source, destination, protocol, source_port, destination_port, EachSays, no_field, one_part, two_parts, IsProtocolText, is_separator, has_bytes, fields, IsKindText, IsActionText, ends_apart, Writes}
+use Rattle.ofp_read.proofs.PartWords.{Says}
 
 -- 1. The cut in front of the action.
 
@@ -160,18 +161,19 @@ written_with line front rest given e (Some a) cut read action h =
           let said = action_said (words rest) a action in
           let word = word_of_text rest said.0 cut.starts said.1 in
           let same : entry_of given a ≡ e = cc in
-          subst (λ (x : Entry). Writes line x) same
-          (record {
-            front = front;
-            action = said.0;
-            blanks = word.blanks;
-            written = cut.whole ∙ ap (λ bs. front ++ bs) word.whole;
-            apart = apart_whole front ∙ cut.apart;
-            of_fields = fields_of_read (fields front) given a read;
-            of_action = said.2;
-            blank = word.blank;
-            asks = asks.0;
-          })
+          subst (λ (x : Entry). Writes line x) same (
+            record {
+              front = front;
+              action = said.0;
+              blanks = word.blanks;
+              written = cut.whole ∙ ap (λ bs. front ++ bs) word.whole;
+              apart = apart_whole front ∙ cut.apart;
+              of_fields = fields_of_read (fields front) given a read;
+              of_action = said.2;
+              blank = word.blank;
+            },
+            asks.0,
+          )
       | inr none ↦ cc
     ]
 
@@ -377,7 +379,7 @@ asked h e same asks =
 
 pub flow_of_written : (line : List ℕ) (e : Entry) → Writes line e → flow_of line ≡ Ok e
 unfolding flow_of
-flow_of_written line e w =
+flow_of_written line e (w, asks) =
     let action = action_read e.action w.action w.blanks w.of_action w.blank in
     let begin = pieces_begin (slice_split is_separator w.front) (fields_begin e w.of_fields.parts (fields w.front) w.of_fields.each) in
     let cut : cut_action true line ≡ Some (w.front, w.action ++ w.blanks) = ap (cut_action true) w.written
@@ -387,4 +389,4 @@ flow_of_written line e w =
     ap (flow_by line) cut
     ∙ ap (λ r. goes_on r (λ g. with_action g (action_of (words (w.action ++ w.blanks))))) given.1
     ∙ ap (with_action given.0) action.1
-    ∙ asked given.0 e given.2 w.asks
+    ∙ asked given.0 e given.2 asks

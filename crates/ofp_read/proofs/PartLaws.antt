@@ -9,7 +9,8 @@ use Rattle.ofp_rules.specs.declared.entry.Action.{Action}
 use Rattle.ofp_rules.specs.declared.entry.Entry.{Entry}
 use Rattle.ofp_read.specs.declared.given.Given.{Given}
 use Rattle.ofp_read.specs.inner.FlowLine.{nothing_given, priority_of, kind_of, entry_of}
-use Rattle.ofp_read.specs.Grammar.{Part, priority, table, kind, source, destination, protocol, source_port, destination_port, IsUnsaid, IsNoneOf, AreDistinct}
+use Rattle.ofp_read.specs.Grammar.{Part, priority, table, kind, source, destination, protocol, source_port, destination_port, IsNoneOf, AreDistinct}
+use Rattle.ofp_read.proofs.PartWords.{IsUnsaid}
 
 -- 1. What is given of a part.
 

@@ -18,7 +18,8 @@ use Rattle.ofp_rules.specs.declared.entry.FrameKind.TheVariants as frames
 use Rattle.ofp_rules.specs.declared.entry.Entry.{Entry}
 use Rattle.ofp_rules.specs.Text.{kind_text, part_text, port_text}
 use Rattle.ofp_rules.specs.inner.Ranges.{address_fits, number_fits}
-use Rattle.ofp_read.specs.Grammar.{Part, kind, protocol, is_separator, has_bytes, fields, Says, EachSays, no_field, one_part, two_parts, IsKindText, IsAddressText, IsNumberText, IsProtocolText}
+use Rattle.ofp_read.specs.Grammar.{Part, kind, protocol, is_separator, has_bytes, fields, EachSays, no_field, one_part, two_parts, IsKindText, IsAddressText, IsNumberText, IsProtocolText}
+use Rattle.ofp_read.proofs.PartWords.{Says}
 use Rattle.ofp_read.proofs.LineLaws.{apart_from}
 
 -- 1. Texts of figures, dots (46) and slashes (47).

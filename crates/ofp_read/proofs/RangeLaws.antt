@@ -8,7 +8,8 @@ use Rattle.ofp_rules.specs.declared.entry.FrameKind.{FrameKind}
 use Rattle.ofp_rules.specs.declared.entry.FrameKind.TheVariants as frames
 use Rattle.ofp_rules.specs.declared.entry.Entry.{Entry}
 use Rattle.ofp_rules.specs.inner.Ranges.{address_fits, in_range, number_fits}
-use Rattle.ofp_read.specs.Grammar.{Part, priority, table, kind, source, destination, protocol, source_port, destination_port, Says, EachSays, no_field, one_part, two_parts, IsNoneOf, IsUnsaid, IsAddressText, IsNumberText, IsProtocolText, AreFieldsOf, Writes}
+use Rattle.ofp_read.specs.Grammar.{Part, priority, table, kind, source, destination, protocol, source_port, destination_port, EachSays, no_field, one_part, two_parts, IsNoneOf, IsAddressText, IsNumberText, IsProtocolText, AreFieldsOf, Writes}
+use Rattle.ofp_read.proofs.PartWords.{Says, IsUnsaid}
 use Rattle.ofp_read.proofs.PartLaws.{one_or_not}
 
 -- what the entry has of this part has room
@@ -86,7 +87,7 @@ fields_fit e texts fields p = elim (fits_or_none p e fields.parts texts fields.e
 
 pub written_in_range : (line : List ℕ) (e : Entry) → Writes line e → IsTrue (in_range e)
 written_in_range line e writes =
-    let fits = fields_fit e _ writes.of_fields in
+    let fits = fields_fit e _ writes.0.of_fields in
     and_from _ _ (fits priority)
     (and_from _ _ (fits protocol)
     (and_from _ _ (fits source_port) (and_from _ _ (fits destination_port) (and_from _ _ (fits source) (fits destination)))))

@@ -17,7 +17,7 @@ use Rattle.ofp_read.proofs.UnwrittenLaws.{unwritten_of_steps}
 use Rattle.ofp_read.specs.TextLines.{IsBad, unwritten, too_many, ambiguous}
 
 pub asks_of_flow : (line : List ℕ) (e : Entry) → Ok e ≡ flow_of line → IsTrue (asks_of_ip e)
-asks_of_flow line e read = (written_of_flow line e (sym read)).asks
+asks_of_flow line e read = (written_of_flow line e (sym read)).1
 
 pub line_added : (n : ℕ) (before now : List Entry) (line : List ℕ) (e : Entry) → Ok e ≡ flow_of line → length before < most_entries
     → ContradictsNone before e → now ≡ before ++ e ∷ [] → AddsEntry n before line now

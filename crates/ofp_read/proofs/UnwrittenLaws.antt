@@ -20,7 +20,8 @@ use Rattle.ofp_read.proofs.ApartLaws.{action_begins, has_action, fields_apart, f
 use Rattle.ofp_read.specs.inner.Cut.{begins_action, cut_action}
 use Rattle.ofp_read.specs.inner.FieldTable.{key_with_value, key_alone, key_of, is_given, with_value, with_key, with_field}
 use Rattle.ofp_read.specs.inner.FlowLine.{goes_on, nothing_given, with_fields, action_of, entry_of, with_action, flow_by, flow_of}
-use Rattle.ofp_read.specs.Grammar.{Part, priority, table, kind, protocol, source, destination, source_port, destination_port, name_of, is_separator, ends_apart, fields, IsKindText, IsProtocolText, Says, EachSays, no_field, one_part, two_parts, IsNoneOf, AreDistinct, AreFieldsOf, IsActionText}
+use Rattle.ofp_read.specs.Grammar.{Part, priority, table, kind, protocol, source, destination, source_port, destination_port, is_separator, ends_apart, fields, IsKindText, IsProtocolText, EachSays, no_field, one_part, two_parts, IsNoneOf, AreDistinct, AreFieldsOf, IsActionText}
+use Rattle.ofp_read.proofs.PartWords.{name_of, Says}
 use Rattle.ofp_read.proofs.KeyLaws.{field_of_key, key_priority, key_table, key_source, key_destination, key_protocol, key_source_port, key_destination_port}
 use Rattle.ofp_read.proofs.PartLaws.{value_of, own_value, Lacks, Has, Same, OfEach, of_each, IsGiven, with_part, same_but, has_own}
 use Rattle.ofp_read.proofs.FieldLaws.{step_of_read}
@@ -499,8 +500,16 @@ action_by line front rest h why (Some a) cut read is refused =
           let said = action_said (words rest) a is in
           let word = word_of_text rest said.0 parts.starts said.1 in
           subst (IsUnwritten line) (err_why NeedsIp why none.1)
-          (needs_ip (entry_of h a) front said.0 word.blanks (parts.whole ∙ ap (λ t. front ++ t) word.whole) (apart_whole front ∙ parts.apart)
-          (fields_of_read (fields front) h a read) said.2 word.blank none.0)
+          (needs_ip (entry_of h a) (record {
+            front = front;
+            action = said.0;
+            blanks = word.blanks;
+            written = parts.whole ∙ ap (λ t. front ++ t) word.whole;
+            apart = apart_whole front ∙ parts.apart;
+            of_fields = fields_of_read (fields front) h a read;
+            of_action = said.2;
+            blank = word.blank;
+          }) none.0)
     ]
 
 fields_by : (line front rest : List ℕ) (why : OfpWhy) (r : Result Given OfpWhy) → cut_action true line ≡ Some (front, rest)
@@ -582,10 +591,10 @@ refused_by_steps line why (unknown_action e front text whole apart of_fields non
     ∙ ap (λ r. goes_on r (λ h. with_action h (action_of (words rest)))) given.1
     ∙ no_such_action rest given.0 (λ w is. let word = word_of_text rest w starts is in (word.blanks, word.whole, word.blank))
     (action_of (words rest)) refl none
-refused_by_steps line why (needs_ip e front action blanks whole apart of_fields text blank asks) =
-    let given = read_of_fields e (fields front) of_fields in
-    let read = action_read e.action action blanks text blank in
-    ap (flow_by line) (cut_behind e line front (action ++ blanks) whole apart of_fields read.0)
-    ∙ ap (λ r. goes_on r (λ h. with_action h (action_of (words (action ++ blanks))))) given.1
+refused_by_steps line why (needs_ip e w asks) =
+    let given = read_of_fields e (fields w.front) w.of_fields in
+    let read = action_read e.action w.action w.blanks w.of_action w.blank in
+    ap (flow_by line) (cut_behind e line w.front (w.action ++ w.blanks) w.written w.apart w.of_fields read.0)
+    ∙ ap (λ r. goes_on r (λ h. with_action h (action_of (words (w.action ++ w.blanks))))) given.1
     ∙ ap (with_action given.0) read.1
     ∙ unasked given.0 e given.2 asks

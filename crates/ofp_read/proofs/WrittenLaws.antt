@@ -15,7 +15,8 @@ use Rattle.ofp_rules.specs.Matching.{asks_of_ip, kind_asks, ports_asked}
 use Rattle.ofp_rules.specs.Text.{kind_text, part_text, port_text, action_text, entry_line}
 use Rattle.ofp_rules.specs.inner.Ranges.{in_range}
 use Rattle.ofp_rules.proofs.RangesLaws.{in_range_parts}
-use Rattle.ofp_read.specs.Grammar.{Part, priority, table, kind, source, destination, protocol, source_port, destination_port, fields, IsNoneOf, AreDistinct, IsUnsaid, EachSays, IsActionText, Writes}
+use Rattle.ofp_read.specs.Grammar.{Part, priority, table, kind, source, destination, protocol, source_port, destination_port, fields, IsNoneOf, AreDistinct, EachSays, IsActionText, Writes}
+use Rattle.ofp_read.proofs.PartWords.{IsUnsaid}
 use Rattle.ofp_read.proofs.LineLaws.{apart_whole}
 use Rattle.ofp_read.proofs.PartLaws.{place_of, none_of_second}
 use Rattle.ofp_read.proofs.PieceLaws.{IsPiece, joined, address_piece, number_piece, if_given, kind_parts, kind_piece}
@@ -173,23 +174,24 @@ action_is Drop = refl
 pub bare_writes : (e : Entry) → in_range e ≡ true → IsTrue (asks_of_ip e) → Writes (bare_line e) e
 bare_writes e fits asks =
     let piece = front_piece e fits in
-    let cut : fields (front_text e) ≡ piece.texts = ap fields (sym (append-nil (front_text e))) ∙ piece.cut [] ∙ append-nil piece.texts in
-    record {
-      front = front_text e;
-      action = action_text e.action;
-      blanks = [];
-      written = ap (λ bs. front_text e ++ bs) (sym (append-nil (action_text e.action)));
-      apart = apart_whole (front_text e) ∙ piece.apart;
-      of_fields = record {
-        parts = parts_of e;
-        each = subst (EachSays e (parts_of e)) (sym cut) piece.each;
-        once = parts_distinct e;
-        others = others_of e asks;
-      };
-      of_action = action_is e.action;
-      blank = refl;
-      asks = asks;
-    }
+    let cut : fields (front_text e) ≡ piece.texts = ap fields (sym (append-nil (front_text e))) ∙ piece.cut [] ∙ append-nil piece.texts in (
+      record {
+        front = front_text e;
+        action = action_text e.action;
+        blanks = [];
+        written = ap (λ bs. front_text e ++ bs) (sym (append-nil (action_text e.action)));
+        apart = apart_whole (front_text e) ∙ piece.apart;
+        of_fields = record {
+          parts = parts_of e;
+          each = subst (EachSays e (parts_of e)) (sym cut) piece.each;
+          once = parts_distinct e;
+          others = others_of e asks;
+        };
+        of_action = action_is e.action;
+        blank = refl;
+      },
+      asks,
+    )
 
 -- 5. No line ends in it, and it is no comment.
 

@@ -1,6 +1,7 @@
 -- The grammar of a flow line: which fields and which action it has, and what it adds (ovs-ofctl(8), "Flow Syntax"; ovs-fields(7)).
 use Rattle.std.specs.Prelude.{◌≡◌, ◌≢◌, ◌<◌, ◌^◌, ◌⊎◌, ◌||◌, ◌==◌, ℕ, Bool, true, false, IsTrue, List, [], ◌∷◌, ◌++◌, Option, Some, None, length, codes, decimal}
-use Rattle.std.specs.List.{filter, list_all, slice_split}
+use Rattle.std.specs.List.{AllByRecursion, filter, last_or, list_all, slice_split}
+use Rattle.std.specs.Option.{option_map_or}
 use Rattle.text_core.specs.Lines.{is_blank}
 use Rattle.host_net.specs.declared.prefix.Prefix.{Prefix}
 use Rattle.host_net.specs.PrefixView.{IsSpelling}
@@ -38,17 +39,6 @@ pub data Part : Type 0 where
   source_port : Part
   destination_port : Part
 
--- the name in front of the value of a field about a part
-abbrev pub name_of : Part → List ℕ
-name_of priority = codes "priority="
-name_of table = codes "table="
-name_of kind = codes "dl_type="
-name_of protocol = codes "nw_proto="
-name_of source = codes "nw_src="
-name_of destination = codes "nw_dst="
-name_of source_port = codes "tp_src="
-name_of destination_port = codes "tp_dst="
-
 -- a frame kind, by its name or by the number of its EtherType
 abbrev pub IsKindText : FrameKind → List ℕ → Type 0
 IsKindText Any text = ⊥
@@ -71,16 +61,30 @@ pub record IsNumberText (name : List ℕ) (limit : ℕ) (given : Option ℕ) (te
   pub below : number < limit
   pub written : text ≡ name ++ decimal number
 
--- the field says of this part what the entry has there; there is only table 0
-abbrev pub Says : Part → Entry → List ℕ → Type 0
-Says priority e text = IsNumberText (name_of priority) (2 ^ 16) (Some e.priority) text
-Says table e text = text ≡ name_of table ++ codes "0"
-Says kind e text = IsKindText e.kind text
-Says source e text = IsAddressText (name_of source) e.src text
-Says destination e text = IsAddressText (name_of destination) e.dst text
-Says protocol e text = IsNumberText (name_of protocol) (2 ^ 8) e.proto text
-Says source_port e text = IsNumberText (name_of source_port) (2 ^ 16) e.tp_src text
-Says destination_port e text = IsNumberText (name_of destination_port) (2 ^ 16) e.tp_dst text
+-- fields about a part: the name in front of their values, what such a field says of an entry, and what the entry has where none is about the part
+pub record PartFields : Type 1 where
+  pub name : List ℕ
+  pub Says : Entry → List ℕ → Type 0
+  pub Unsaid : Entry → Type 0
+
+-- about an address, or a number, that an entry may have
+abbrev pub of_address : (name : List ℕ) → (Entry → Option Prefix) → PartFields
+of_address name given = record { name = name; Says = λ e. IsAddressText name (given e); Unsaid = λ e. given e ≡ None }
+
+abbrev pub of_number : (name : List ℕ) → (limit : ℕ) → (Entry → Option ℕ) → PartFields
+of_number name limit given = record { name = name; Says = λ e. IsNumberText name limit (given e); Unsaid = λ e. given e ≡ None }
+
+-- the fields about each part; there is only table 0
+abbrev pub about : Part → PartFields
+about priority =
+    record { name = codes "priority="; Says = λ e. IsNumberText (codes "priority=") (2 ^ 16) (Some e.priority); Unsaid = λ e. e.priority ≡ 32768 }
+about table = record { name = codes "table="; Says = λ e text. text ≡ codes "table=0"; Unsaid = λ e. Unit {0} }
+about kind = record { name = codes "dl_type="; Says = λ e. IsKindText e.kind; Unsaid = λ e. e.kind ≡ Any }
+about protocol = of_number (codes "nw_proto=") (2 ^ 8) (λ e. e.proto)
+about source = of_address (codes "nw_src=") (λ e. e.src)
+about destination = of_address (codes "nw_dst=") (λ e. e.dst)
+about source_port = of_number (codes "tp_src=") (2 ^ 16) (λ e. e.tp_src)
+about destination_port = of_number (codes "tp_dst=") (2 ^ 16) (λ e. e.tp_dst)
 
 -- IPv4 frames of a protocol, by its name
 abbrev pub IsProtocolText : FrameKind → Option ℕ → List ℕ → Type 0
@@ -88,28 +92,16 @@ IsProtocolText Ip (Some proto) text =
     ((proto ≡ icmp) × (text ≡ codes "icmp")) ⊎ (((proto ≡ tcp) × (text ≡ codes "tcp")) ⊎ ((proto ≡ udp) × (text ≡ codes "udp")))
 IsProtocolText _ _ text = ⊥
 
--- what an entry has where no field says anything about this part
-abbrev pub IsUnsaid : Part → Entry → Type 0
-IsUnsaid priority e = e.priority ≡ 32768
-IsUnsaid table e = Unit {0}
-IsUnsaid kind e = e.kind ≡ Any
-IsUnsaid source e = e.src ≡ None
-IsUnsaid destination e = e.dst ≡ None
-IsUnsaid protocol e = e.proto ≡ None
-IsUnsaid source_port e = e.tp_src ≡ None
-IsUnsaid destination_port e = e.tp_dst ≡ None
-
 -- each field is about the part at its place, or, as the name of a protocol, about the kind and the protocol both
 pub data EachSays (e : Entry) : List Part → List (List ℕ) → Type 0 where
   no_field : EachSays e [] []
-  one_part : {part : Part} {parts : List Part} {text : List ℕ} {texts : List (List ℕ)} → Says part e text → EachSays e parts texts
+  one_part : {part : Part} {parts : List Part} {text : List ℕ} {texts : List (List ℕ)} → (about part).Says e text → EachSays e parts texts
       → EachSays e (part ∷ parts) (text ∷ texts)
   two_parts : {parts : List Part} {text : List ℕ} {texts : List (List ℕ)} → IsProtocolText e.kind e.proto text
       → EachSays e parts texts → EachSays e (kind ∷ protocol ∷ parts) (text ∷ texts)
 
 abbrev pub IsNoneOf : Part → List Part → Type 0
-IsNoneOf part [] = Unit {0}
-IsNoneOf part (other ∷ others) = (part ≢ other) × IsNoneOf part others
+IsNoneOf part others = AllByRecursion (λ other. part ≢ other) others
 
 abbrev pub AreDistinct : List Part → Type 0
 AreDistinct [] = Unit {0}
@@ -120,7 +112,7 @@ pub record AreFieldsOf (e : Entry) (texts : List (List ℕ)) : Type 0 where
   pub parts : List Part
   pub each : EachSays e parts texts
   pub once : AreDistinct parts
-  pub others : (part : Part) → IsNoneOf part parts → IsUnsaid part e
+  pub others : (part : Part) → IsNoneOf part parts → (about part).Unsaid e
 
 -- 2. Lines.
 
@@ -130,12 +122,10 @@ IsActionText Drop text = text ≡ codes "actions=drop"
 
 -- what follows is not the end of a field: nothing stands before it, or a comma or blank does
 abbrev pub ends_apart : List ℕ → Bool
-ends_apart [] = true
-ends_apart (b ∷ []) = is_separator b
-ends_apart (b ∷ c ∷ bs) = ends_apart (c ∷ bs)
+ends_apart front = option_map_or is_separator (last_or None front) true
 
--- a line writes an entry: its fields, then its action, then blanks alone; and it asks of frames only what they all have
-pub record Writes (line : List ℕ) (e : Entry) : Type 0 where
+-- a line has the flow of an entry: its fields, then its action, then blanks alone
+pub record HasFlow (line : List ℕ) (e : Entry) : Type 0 where
   pub front : List ℕ
   pub action : List ℕ
   pub blanks : List ℕ
@@ -144,7 +134,10 @@ pub record Writes (line : List ℕ) (e : Entry) : Type 0 where
   pub of_fields : AreFieldsOf e (fields front)
   pub of_action : IsActionText e.action action
   pub blank : IsTrue (list_all is_blank blanks)
-  pub asks : IsTrue (asks_of_ip e)
+
+-- a line writes an entry: it has its flow, which asks of frames only what they all have
+abbrev pub Writes : List ℕ → Entry → Type 0
+Writes line e = HasFlow line e × IsTrue (asks_of_ip e)
 
 -- a line adds the entry that it writes: fewer than 8,192 stand before it, and none of them contradicts it
 pub record AddsEntry (n : ℕ) (before : List Entry) (line : List ℕ) (now : List Entry) : Type 0 where

@@ -1,6 +1,6 @@
 -- Why a line writes no entry (ovs-ofctl(8), "Flow Syntax").
 use Rattle.std.specs.Prelude.{◌≡◌, ◌≢◌, ◌⊎◌, ℕ, IsTrue, IsFalse, List, [], ◌∷◌, ◌++◌, Some, codes}
-use Rattle.std.specs.List.{list_all}
+use Rattle.std.specs.List.{AllByRecursion, list_all}
 use Rattle.text_core.specs.Lines.{is_blank}
 use Rattle.ofp_rules.specs.declared.entry.FrameKind.TheVariants.{Ip}
 use Rattle.ofp_rules.specs.declared.entry.Action.{Action}
@@ -8,18 +8,17 @@ use Rattle.ofp_rules.specs.declared.entry.Entry.{Entry}
 use Rattle.ofp_rules.specs.Matching.{asks_of_ip}
 use Rattle.ofp_read.specs.declared.fault.OfpWhy.{OfpWhy}
 use Rattle.ofp_read.specs.declared.fault.OfpWhy.TheVariants.{BadLine, UnknownField, BadValue, NeedsIp, UnknownAction}
-use Rattle.ofp_read.specs.Grammar.{Part, kind, protocol, name_of, fields, IsProtocolText, EachSays, IsNoneOf, AreFieldsOf, IsActionText, ends_apart}
+use Rattle.ofp_read.specs.Grammar.{Part, kind, protocol, about, fields, IsProtocolText, EachSays, IsNoneOf, AreFieldsOf, IsActionText, ends_apart, HasFlow}
 
 -- a field is about these parts, whatever its value: it has their name, or is a name that stands alone
 pub data IsAbout : List Part → List ℕ → Type 0 where
-  by_name : {text : List ℕ} (part : Part) (value : List ℕ) → text ≡ name_of part ++ value → IsAbout (part ∷ []) text
+  by_name : {text : List ℕ} (part : Part) (value : List ℕ) → text ≡ (about part).name ++ value → IsAbout (part ∷ []) text
   kind_alone : {text : List ℕ} → (text ≡ codes "ip") ⊎ (text ≡ codes "arp") → IsAbout (kind ∷ []) text
   protocol_alone : {text : List ℕ} (proto : ℕ) → IsProtocolText Ip (Some proto) text → IsAbout (kind ∷ protocol ∷ []) text
 
 -- none of the parts is one of those that are said
 abbrev pub AreNew : List Part → List Part → Type 0
-AreNew [] said = Unit {0}
-AreNew (part ∷ parts) said = IsNoneOf part said × AreNew parts said
+AreNew parts said = AllByRecursion (λ part. IsNoneOf part said) parts
 
 -- why a field cannot follow others that say these parts: it is about no part; or about one that is said; or it is about others, and
 -- no entry has such a field
@@ -50,6 +49,4 @@ pub data IsUnwritten (line : List ℕ) : OfpWhy → Type 0 where
       → ((a : Action) (action blanks : List ℕ) → codes "actions=" ++ text ≡ action ++ blanks → IsActionText a action
       → IsTrue (list_all is_blank blanks) → ⊥)
       → IsUnwritten line UnknownAction
-  needs_ip : (e : Entry) (front action blanks : List ℕ) → line ≡ front ++ (action ++ blanks) → IsTrue (ends_apart front)
-      → AreFieldsOf e (fields front) → IsActionText e.action action → IsTrue (list_all is_blank blanks) → IsFalse (asks_of_ip e)
-      → IsUnwritten line NeedsIp
+  needs_ip : (e : Entry) → HasFlow line e → IsFalse (asks_of_ip e) → IsUnwritten line NeedsIp
