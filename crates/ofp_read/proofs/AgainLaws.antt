@@ -65,13 +65,13 @@ entries_follow n before (e ∷ rest) accepted asks range =
     inr (
       before ++ e ∷ [],
       bare_flow e,
-      record {
-        entry = e;
-        written = bare_writes e fit.0 ask.0;
-        few = few_before before rest e accepted.0;
-        clear = contradicts_none before e (clear_front (before ++ e ∷ []) rest moved.1);
-        added = refl;
-      },
+      (
+        e,
+        bare_writes e fit.0 ask.0,
+        few_before before rest e accepted.0,
+        contradicts_none before e (clear_front (before ++ e ∷ []) rest moved.1),
+        refl,
+      ),
       subst (λ (all : List Entry). Follows AddsEntry (n + 1) (before ++ e ∷ []) (map bare_line rest) all) whole
           (entries_follow (n + 1) (before ++ e ∷ []) rest moved ask.1 fit.1),
     )

@@ -24,16 +24,16 @@ one_entry line e f a b =
 
 adds_one : (n : ℕ) (before now other : List Entry) (l : List ℕ) → AddsEntry n before l now → AddsEntry n before l other → now ≡ other
 adds_one n before now other l a b =
-    a.added ∙ ap (λ e. before ++ e ∷ []) (one_entry l a.entry b.entry a.written b.written) ∙ sym b.added
+    a.4 ∙ ap (λ e. before ++ e ∷ []) (one_entry l a.0 b.0 a.1 b.1) ∙ sym b.4
 
 written_or_not : (line : List ℕ) (e : Entry) (why : OfpWhy) → flow_of line ≡ Err why → Writes line e → ⊥
 written_or_not line e why refused writes = let read = flow_of_written line e writes in cc
 
 adds_not_bad : (n : ℕ) (before now : List Entry) (l : List ℕ) (why : OfpWhy) → AddsEntry n before l now → IsBad before l why → ⊥
-adds_not_bad n before now l why a (unwritten refused) = written_or_not l a.entry why (refused_by_steps l why refused) a.written
-adds_not_bad n before now l why a (too_many e writes many) = let few = a.few in omega arith
+adds_not_bad n before now l why a (unwritten refused) = written_or_not l a.0 why (refused_by_steps l why refused) a.1
+adds_not_bad n before now l why a (too_many e writes many) = let few = a.2 in omega arith
 adds_not_bad n before now l why a (ambiguous e f place writes few there clash) =
-    a.clear place f there (subst (Contradict f) (one_entry l e a.entry writes a.written) clash)
+    a.3 place f there (subst (Contradict f) (one_entry l e a.0 writes a.1) clash)
 
 same_why : (w v : OfpWhy) → ◌≡◌ {A = Result Entry OfpWhy} (Err w) (Err v) → w ≡ v
 same_why w v h = cc
@@ -73,8 +73,8 @@ table_told : (ls : List (List ℕ)) (n : ℕ) (s all : List Entry) → IsTable s
 table_told [] n s all table told = subst IsTable told table
 table_told (x ∷ xs) n s all table (inl comment) = table_told xs (n + 1) s all table comment.1
 table_told (x ∷ xs) n s all table (inr adds) =
-    table_told xs (n + 1) adds.0 all (subst IsTable (sym adds.2.added)
-    (table_more s adds.2.entry table adds.2.few adds.2.clear (written_in_range x adds.2.entry adds.2.written) adds.2.written.1)) adds.3
+    table_told xs (n + 1) adds.0 all (subst IsTable (sym adds.2.4)
+    (table_more s adds.2.0 table adds.2.2 adds.2.3 (written_in_range x adds.2.0 adds.2.1) adds.2.1.1)) adds.3
 
 pub reading_is_table : (bytes : List ℕ) (entries : List Entry) → IsReading bytes entries → IsTable entries
 reading_is_table bytes entries reading = table_told (lines bytes) 1 [] entries empty_table reading.told

@@ -19,7 +19,7 @@ use Rattle.ofp_read.specs.declared.given.Key.TheVariants as key
 use Rattle.ofp_read.specs.declared.given.Given.{Given}
 use Rattle.ofp_read.specs.inner.FieldTable.{key_with_value, key_alone, key_of, is_given, frame_types, frame_type, of_protocol, with_value, with_key, with_field}
 use Rattle.ofp_read.specs.Grammar.{Part, priority, table, kind, source, destination, protocol, source_port, destination_port, IsKindText, IsAddressText, IsNumberText, IsProtocolText, EachSays, one_part, two_parts}
-use Rattle.ofp_read.proofs.PartWords.{Says}
+use Rattle.ofp_read.proofs.PartWords.{Says, name_of}
 use Rattle.ofp_read.proofs.KeyLaws.{IsField, field_of_key, key_priority, key_table, key_source, key_destination, key_protocol, key_source_port, key_destination_port}
 use Rattle.ofp_read.proofs.NamedLaws.{named_is, some_same}
 use Rattle.ofp_read.proofs.PartLaws.{Lacks, Has, IsGiven, OfEach, Gives, gives_one, gives_more, with_part}
@@ -50,18 +50,11 @@ number_said : (most limit : ℕ) (name text value : List ℕ) (given : Option �
     → text ≡ name ++ value → Some n ≡ given → number most value ≡ Some n → IsNumberText name limit given text
 number_said most limit name text value given n below small written is read =
     let said = decimal_of_number most value n (omega arith) read in
-    record { number = n; is_given = sym is; below = omega (arith, said.1); written = written ∙ ap (λ bs. name ++ bs) said.0 }
+    (n, sym is, omega (arith, said.1), written ∙ ap (λ bs. name ++ bs) said.0)
 
 address_said : (name text value : List ℕ) (given : Option Prefix) (p : Prefix) → text ≡ name ++ value → Some p ≡ given
     → prefix_of value ≡ Some p → IsAddressText name given text
-address_said name text value given p written is read = record {
-  prefix = p;
-  spelling = value;
-  is_given = sym is;
-  address = prefix_of-fits value p read;
-  spelled = prefix_of-spelled value p read;
-  written = written;
-}
+address_said name text value given p written is read = (p, value, sym is, prefix_of-fits value p read, prefix_of-spelled value p read, written)
 
 step_kind : (g : Given) (text : List ℕ) (k : FrameKind) → IsKindText k text → g.kind ≡ None → IsStep g (record g { kind = Some k }) text
 step_kind g text k is lacks =
@@ -184,9 +177,9 @@ read_value g h k text value is lacks read =
     ∙ ap (λ o. ok_or o BadValue) read
 
 number_read : (most limit : ℕ) (name text : List ℕ) (given : Option ℕ) (said : IsNumberText name limit given text) → limit ≡ most + 1
-    → limit < 2 ^ 64 → number most (decimal said.number) ≡ Some said.number
+    → limit < 2 ^ 64 → number most (decimal said.0) ≡ Some said.0
 number_read most limit name text given said is small =
-    let below = said.below in number-decimal most said.number (omega arith) (omega arith)
+    let below = said.2 in number-decimal most said.0 (omega arith) (omega arith)
 
 read_kind : (k : FrameKind) (g : Given) (text : List ℕ) → IsKindText k text → g.kind ≡ None
     → with_field g text ≡ Ok (record g { kind = Some k })
@@ -215,29 +208,29 @@ read_protocol frames.Ip (Some n) g text (inr (inr (number, e))) lacks none =
 pub read_of_says : (p : Part) (e : Entry) (g : Given) (text : List ℕ) → Says p e text → Lacks p g → with_field g text ≡ Ok (with_part p e g)
 unfolding with_value
 read_of_says priority e g text says lacks =
-    read_value g _ key.Priority text (decimal says.number) (ap key_of says.written ∙ key_priority (decimal says.number)) (ap is_some lacks)
-    (ap (option_map (λ n. record g { priority = Some n })) (number_read 65535 (2 ^ 16) _ text _ says refl (omega arith))
-    ∙ ap (λ o. Some (record g { priority = o })) (sym says.is_given))
+    read_value g _ key.Priority text (decimal says.0) (ap key_of says.3 ∙ key_priority (decimal says.0)) (ap is_some lacks)
+    (ap (option_map (λ n. record g { priority = Some n })) (number_read 65535 (2 ^ 16) (name_of priority) text _ says refl (omega arith))
+    ∙ ap (λ o. Some (record g { priority = o })) (sym says.1))
 read_of_says table e g text says lacks = read_value g _ key.Table text (codes "0") (ap key_of says ∙ key_table (codes "0")) lacks refl
 read_of_says kind e g text says lacks = read_kind e.kind g text says lacks
 read_of_says source e g text says lacks =
-    read_value g _ key.Source text says.spelling (ap key_of says.written ∙ key_source says.spelling) (ap is_some lacks)
-    (ap (option_map (λ q. record g { src = Some q })) (prefix_of-read says.spelling says.prefix says.address says.spelled)
-    ∙ ap (λ o. Some (record g { src = o })) (sym says.is_given))
+    read_value g _ key.Source text says.1 (ap key_of says.5 ∙ key_source says.1) (ap is_some lacks)
+    (ap (option_map (λ q. record g { src = Some q })) (prefix_of-read says.1 says.0 says.3 says.4)
+    ∙ ap (λ o. Some (record g { src = o })) (sym says.2))
 read_of_says destination e g text says lacks =
-    read_value g _ key.Destination text says.spelling (ap key_of says.written ∙ key_destination says.spelling) (ap is_some lacks)
-    (ap (option_map (λ q. record g { dst = Some q })) (prefix_of-read says.spelling says.prefix says.address says.spelled)
-    ∙ ap (λ o. Some (record g { dst = o })) (sym says.is_given))
+    read_value g _ key.Destination text says.1 (ap key_of says.5 ∙ key_destination says.1) (ap is_some lacks)
+    (ap (option_map (λ q. record g { dst = Some q })) (prefix_of-read says.1 says.0 says.3 says.4)
+    ∙ ap (λ o. Some (record g { dst = o })) (sym says.2))
 read_of_says protocol e g text says lacks =
-    read_value g _ key.Protocol text (decimal says.number) (ap key_of says.written ∙ key_protocol (decimal says.number)) (ap is_some lacks)
-    (ap (option_map (λ n. record g { proto = Some n })) (number_read 255 (2 ^ 8) _ text _ says refl (omega arith))
-    ∙ ap (λ o. Some (record g { proto = o })) (sym says.is_given))
+    read_value g _ key.Protocol text (decimal says.0) (ap key_of says.3 ∙ key_protocol (decimal says.0)) (ap is_some lacks)
+    (ap (option_map (λ n. record g { proto = Some n })) (number_read 255 (2 ^ 8) (name_of protocol) text _ says refl (omega arith))
+    ∙ ap (λ o. Some (record g { proto = o })) (sym says.1))
 read_of_says source_port e g text says lacks =
-    read_value g _ key.SourcePort text (decimal says.number) (ap key_of says.written ∙ key_source_port (decimal says.number)) (ap is_some lacks)
-    (ap (option_map (λ n. record g { tp_src = Some n })) (number_read 65535 (2 ^ 16) _ text _ says refl (omega arith))
-    ∙ ap (λ o. Some (record g { tp_src = o })) (sym says.is_given))
+    read_value g _ key.SourcePort text (decimal says.0) (ap key_of says.3 ∙ key_source_port (decimal says.0)) (ap is_some lacks)
+    (ap (option_map (λ n. record g { tp_src = Some n })) (number_read 65535 (2 ^ 16) (name_of source_port) text _ says refl (omega arith))
+    ∙ ap (λ o. Some (record g { tp_src = o })) (sym says.1))
 read_of_says destination_port e g text says lacks =
-    read_value g _ key.DestinationPort text (decimal says.number) (ap key_of says.written ∙ key_destination_port (decimal says.number))
+    read_value g _ key.DestinationPort text (decimal says.0) (ap key_of says.3 ∙ key_destination_port (decimal says.0))
     (ap is_some lacks)
-    (ap (option_map (λ n. record g { tp_dst = Some n })) (number_read 65535 (2 ^ 16) _ text _ says refl (omega arith))
-    ∙ ap (λ o. Some (record g { tp_dst = o })) (sym says.is_given))
+    (ap (option_map (λ n. record g { tp_dst = Some n })) (number_read 65535 (2 ^ 16) (name_of destination_port) text _ says refl (omega arith))
+    ∙ ap (λ o. Some (record g { tp_dst = o })) (sym says.1))

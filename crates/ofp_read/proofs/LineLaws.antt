@@ -210,14 +210,14 @@ protocol_begins frames.Ip (Some n) text (inr (inr (number, e))) = ap begins_acti
 
 -- no field begins as the action does
 says_begins : (p : Part) (e : Entry) (text : List ℕ) → Says p e text → begins_action text ≡ false
-says_begins priority e text says = ap begins_action says.written
+says_begins priority e text says = ap begins_action says.3
 says_begins table e text says = ap begins_action says
 says_begins kind e text says = kind_begins e.kind text says
-says_begins source e text says = ap begins_action says.written
-says_begins destination e text says = ap begins_action says.written
-says_begins protocol e text says = ap begins_action says.written
-says_begins source_port e text says = ap begins_action says.written
-says_begins destination_port e text says = ap begins_action says.written
+says_begins source e text says = ap begins_action says.5
+says_begins destination e text says = ap begins_action says.5
+says_begins protocol e text says = ap begins_action says.3
+says_begins source_port e text says = ap begins_action says.3
+says_begins destination_port e text says = ap begins_action says.3
 
 abbrev pub is_field : List ℕ → Bool
 is_field text = not (begins_action text)

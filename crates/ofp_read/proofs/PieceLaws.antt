@@ -167,14 +167,7 @@ pub address_piece : (e : Entry) (p : Part) (b : ℕ) (bs : List ℕ) (part : Opt
 address_piece e p b bs None says name fits = no_piece e
 address_piece e p b bs (Some q) says name fits =
     value_piece e p b bs (prefix_text q) name (prefix_whole q)
-    (says _ (record {
-      prefix = q;
-      spelling = prefix_text q;
-      is_given = refl;
-      address = below q.addr (2 ^ 32) fits;
-      spelled = inl refl;
-      written = refl;
-    }))
+    (says _ (q, prefix_text q, refl, below q.addr (2 ^ 32) fits, inl refl, refl))
 
 pub number_piece : (e : Entry) (p : Part) (b : ℕ) (bs : List ℕ) (limit : ℕ) (given : Option ℕ)
     → ((text : List ℕ) → IsNumberText (b ∷ bs) limit given text → Says p e text) → is_whole (b ∷ bs) ≡ true → limit ≤ 2 ^ 64
@@ -183,7 +176,7 @@ number_piece e p b bs limit None says name small fits = no_piece e
 number_piece e p b bs limit (Some n) says name small fits =
     let less = below n limit fits in
     value_piece e p b bs (decimal n) name (decimal_whole n (omega arith))
-    (says _ (record { number = n; is_given = refl; below = less; written = refl }))
+    (says _ (n, refl, less, refl))
 
 -- 3. The kind and the protocol.
 

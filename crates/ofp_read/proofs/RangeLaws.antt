@@ -9,7 +9,7 @@ use Rattle.ofp_rules.specs.declared.entry.FrameKind.TheVariants as frames
 use Rattle.ofp_rules.specs.declared.entry.Entry.{Entry}
 use Rattle.ofp_rules.specs.inner.Ranges.{address_fits, in_range, number_fits}
 use Rattle.ofp_read.specs.Grammar.{Part, priority, table, kind, source, destination, protocol, source_port, destination_port, EachSays, no_field, one_part, two_parts, IsNoneOf, IsAddressText, IsNumberText, IsProtocolText, AreFieldsOf, Writes}
-use Rattle.ofp_read.proofs.PartWords.{Says, IsUnsaid}
+use Rattle.ofp_read.proofs.PartWords.{Says, IsUnsaid, name_of}
 use Rattle.ofp_read.proofs.PartLaws.{one_or_not}
 
 -- what the entry has of this part has room
@@ -27,11 +27,11 @@ below : (n limit : ℕ) → n < limit → nat_lt n limit ≡ true
 below n limit h = grind (arith, nat_tests)
 
 address_said : (name : List ℕ) (given : Option Prefix) (text : List ℕ) → IsAddressText name given text → address_fits given ≡ true
-address_said name given text said = ap address_fits said.is_given ∙ below said.prefix.addr (2 ^ 32) said.address
+address_said name given text said = ap address_fits said.2 ∙ below said.0.addr (2 ^ 32) said.3
 
 number_said : (name : List ℕ) (limit : ℕ) (given : Option ℕ) (text : List ℕ) → IsNumberText name limit given text
     → number_fits limit given ≡ true
-number_said name limit given text said = ap (number_fits limit) said.is_given ∙ below said.number limit said.below
+number_said name limit given text said = ap (number_fits limit) said.1 ∙ below said.0 limit said.2
 
 protocol_said : (k : FrameKind) (o : Option ℕ) (text : List ℕ) → IsProtocolText k o text → number_fits (2 ^ 8) o ≡ true
 protocol_said frames.Any o text said = absurd said
@@ -43,14 +43,14 @@ protocol_said frames.Ip (Some n) text (inr (inr (is, e))) = ap (λ m. nat_lt m (
 
 -- of a part of which something is said, or nothing
 said_fits : (p : Part) (e : Entry) (text : List ℕ) → Says p e text → Fits p e
-said_fits priority e text said = number_said _ (2 ^ 16) (Some e.priority) text said
+said_fits priority e text said = number_said (name_of priority) (2 ^ 16) (Some e.priority) text said
 said_fits table e text said = tt
 said_fits kind e text said = tt
-said_fits source e text said = address_said _ e.src text said
-said_fits destination e text said = address_said _ e.dst text said
-said_fits protocol e text said = number_said _ (2 ^ 8) e.proto text said
-said_fits source_port e text said = number_said _ (2 ^ 16) e.tp_src text said
-said_fits destination_port e text said = number_said _ (2 ^ 16) e.tp_dst text said
+said_fits source e text said = address_said (name_of source) e.src text said
+said_fits destination e text said = address_said (name_of destination) e.dst text said
+said_fits protocol e text said = number_said (name_of protocol) (2 ^ 8) e.proto text said
+said_fits source_port e text said = number_said (name_of source_port) (2 ^ 16) e.tp_src text said
+said_fits destination_port e text said = number_said (name_of destination_port) (2 ^ 16) e.tp_dst text said
 
 unsaid_fits : (p : Part) (e : Entry) → IsUnsaid p e → Fits p e
 unsaid_fits priority e unsaid = ap (λ n. nat_lt n (2 ^ 16)) unsaid

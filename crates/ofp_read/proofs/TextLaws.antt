@@ -22,7 +22,7 @@ asks_of_flow line e read = (written_of_flow line e (sym read)).1
 pub line_added : (n : ℕ) (before now : List Entry) (line : List ℕ) (e : Entry) → Ok e ≡ flow_of line → length before < most_entries
     → ContradictsNone before e → now ≡ before ++ e ∷ [] → AddsEntry n before line now
 line_added n before now line e read few clear added =
-    record { entry = e; written = written_of_flow line e (sym read); few = few; clear = clear; added = added }
+    (e, written_of_flow line e (sym read), few, clear, added)
 
 bad_entry : (before : List Entry) (line : List ℕ) (e : Entry) (why : OfpWhy) → Writes line e → IsLeftOut before e why
     → IsBad before line why

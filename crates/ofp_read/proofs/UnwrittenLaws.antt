@@ -20,7 +20,7 @@ use Rattle.ofp_read.proofs.ApartLaws.{action_begins, has_action, fields_apart, f
 use Rattle.ofp_read.specs.inner.Cut.{begins_action, cut_action}
 use Rattle.ofp_read.specs.inner.FieldTable.{key_with_value, key_alone, key_of, is_given, with_value, with_key, with_field}
 use Rattle.ofp_read.specs.inner.FlowLine.{goes_on, nothing_given, with_fields, action_of, entry_of, with_action, flow_by, flow_of}
-use Rattle.ofp_read.specs.Grammar.{Part, priority, table, kind, protocol, source, destination, source_port, destination_port, is_separator, ends_apart, fields, IsKindText, IsProtocolText, EachSays, no_field, one_part, two_parts, IsNoneOf, AreDistinct, AreFieldsOf, IsActionText}
+use Rattle.ofp_read.specs.Grammar.{Part, priority, table, kind, protocol, source, destination, source_port, destination_port, is_separator, ends_apart, fields, IsKindText, IsProtocolText, EachSays, no_field, one_part, two_parts, IsNoneOf, AreDistinct, AreFieldsOf, IsActionText, HasFlow}
 use Rattle.ofp_read.proofs.PartWords.{name_of, Says}
 use Rattle.ofp_read.proofs.KeyLaws.{field_of_key, key_priority, key_table, key_source, key_destination, key_protocol, key_source_port, key_destination_port}
 use Rattle.ofp_read.proofs.PartLaws.{value_of, own_value, Lacks, Has, Same, OfEach, of_each, IsGiven, with_part, same_but, has_own}
@@ -104,14 +104,14 @@ kind_about frames.Ip text (inr (inl is)) = by_name kind (codes "0x0800") is
 kind_about frames.Ip text (inr (inr is)) = by_name kind (codes "0x800") is
 
 says_about : (p : Part) (e : Entry) (text : List ℕ) → Says p e text → IsAbout (p ∷ []) text
-says_about priority e text says = by_name priority (decimal says.number) says.written
+says_about priority e text says = by_name priority (decimal says.0) says.3
 says_about table e text says = by_name table (codes "0") says
 says_about kind e text says = kind_about e.kind text says
-says_about source e text says = by_name source says.spelling says.written
-says_about destination e text says = by_name destination says.spelling says.written
-says_about protocol e text says = by_name protocol (decimal says.number) says.written
-says_about source_port e text says = by_name source_port (decimal says.number) says.written
-says_about destination_port e text says = by_name destination_port (decimal says.number) says.written
+says_about source e text says = by_name source says.1 says.5
+says_about destination e text says = by_name destination says.1 says.5
+says_about protocol e text says = by_name protocol (decimal says.0) says.3
+says_about source_port e text says = by_name source_port (decimal says.0) says.3
+says_about destination_port e text says = by_name destination_port (decimal says.0) says.3
 
 protocol_about : (k : FrameKind) (o : Option ℕ) (text : List ℕ) → IsProtocolText k o text → IsAbout (kind ∷ protocol ∷ []) text
 protocol_about frames.Any o text is = absurd is
@@ -194,11 +194,11 @@ none_unsaid : (p : Part) (e : Entry) (text : List ℕ) → HasNone p e → Says 
 none_unsaid priority e text none says = cc
 none_unsaid table e text none says = cc
 none_unsaid kind e text none says = cc
-none_unsaid source e text none says = let is = says.is_given in cc
-none_unsaid destination e text none says = let is = says.is_given in cc
-none_unsaid protocol e text none says = let is = says.is_given in cc
-none_unsaid source_port e text none says = let is = says.is_given in cc
-none_unsaid destination_port e text none says = let is = says.is_given in cc
+none_unsaid source e text none says = let is = says.2 in cc
+none_unsaid destination e text none says = let is = says.2 in cc
+none_unsaid protocol e text none says = let is = says.1 in cc
+none_unsaid source_port e text none says = let is = says.1 in cc
+none_unsaid destination_port e text none says = let is = says.1 in cc
 
 no_protocol : (k : FrameKind) (o : Option ℕ) (text : List ℕ) → o ≡ None → IsProtocolText k o text → ⊥
 no_protocol frames.Any o text none is = is
@@ -479,6 +479,27 @@ bad_in_front line front rest why cut bad =
       bad = bad.bad;
     }
 
+-- a line is cut behind the fields of an entry, where an action begins there
+cut_behind : (e : Entry) (line front rest : List ℕ) → line ≡ front ++ rest → ends_apart front ≡ true → AreFieldsOf e (fields front)
+    → begins_action rest ≡ true → cut_action true line ≡ Some (front, rest)
+cut_behind e line front rest whole apart of_fields begins =
+    let pieces = slice_split is_separator front in
+    ap (cut_action true) whole
+    ∙ cut_written true front rest (sym (apart_whole front) ∙ apart)
+    (all_begin pieces (pieces_begin pieces (fields_begin e of_fields.parts (fields front) of_fields.each))) begins
+
+some_cut : (p q : List ℕ × List ℕ) → Some p ≡ Some q → p ≡ q
+some_cut p q h = cc
+
+-- without an action the line is the flow of no entry
+no_flow : (line front rest : List ℕ) (e : Entry) → cut_action true line ≡ Some (front, rest) → action_of (words rest) ≡ None → HasFlow line e → ⊥
+no_flow line front rest e cut is flow =
+    let read = action_read e.action flow.action flow.blanks flow.of_action flow.blank in
+    let own = cut_behind e line flow.front (flow.action ++ flow.blanks) flow.written flow.apart flow.of_fields read.0 in
+    let same = some_cut (front, rest) (flow.front, flow.action ++ flow.blanks) (sym cut ∙ own) in
+    let found : action_of (words rest) ≡ Some e.action = ap (λ (p : List ℕ × List ℕ). action_of (words p.1)) same ∙ read.1 in
+    let clash = sym is ∙ found in cc
+
 action_by : (line front rest : List ℕ) (h : Given) (why : OfpWhy) (o : Option Action) → cut_action true line ≡ Some (front, rest)
     → with_fields nothing_given (fields front) ≡ Ok h → action_of (words rest) ≡ o → with_action h o ≡ Err why → IsUnwritten line why
 action_by line front rest h why None cut read is refused =
@@ -487,11 +508,7 @@ action_by line front rest h why None cut read is refused =
     subst (IsUnwritten line) (err_why UnknownAction why refused)
     (unknown_action (entry_of h actions.Drop) front (drop 8 rest) (parts.whole ∙ ap (λ bs. front ++ bs) begins)
     (apart_whole front ∙ parts.apart) (fields_of_read (fields front) h actions.Drop read)
-    (λ a action blanks whole text blank. none a
-    (ap (λ t. action_of (words t)) (begins ∙ whole) ∙ (action_read a action blanks text blank).1)))
-  where
-    none : (a : Action) → action_of (words rest) ≡ Some a → ⊥
-    none a found = cc
+    (λ f flow. no_flow line front rest f cut is flow))
 action_by line front rest h why (Some a) cut read is refused =
     elim (if_parts (asks_of_ip (entry_of h a)) (Ok (entry_of h a)) (Err NeedsIp) (Err why) refused) [
       | inl asks ↦ let wrong = asks.1 in cc
@@ -548,15 +565,6 @@ unasked h e same asks =
     let own : asks_of_ip (entry_of h e.action) ≡ false = ap asks_of_ip same ∙ asks in
     ap (λ t. if t then Ok (entry_of h e.action) else Err NeedsIp) own
 
--- a line is cut behind the fields of an entry, where an action begins there
-cut_behind : (e : Entry) (line front rest : List ℕ) → line ≡ front ++ rest → ends_apart front ≡ true → AreFieldsOf e (fields front)
-    → begins_action rest ≡ true → cut_action true line ≡ Some (front, rest)
-cut_behind e line front rest whole apart of_fields begins =
-    let pieces = slice_split is_separator front in
-    ap (cut_action true) whole
-    ∙ cut_written true front rest (sym (apart_whole front) ∙ apart)
-    (all_begin pieces (pieces_begin pieces (fields_begin e of_fields.parts (fields front) of_fields.each))) begins
-
 bad_refused : (line : List ℕ) (why : OfpWhy) (o : Option (List ℕ × List ℕ)) → cut_action true line ≡ o → HasBadField line why
     → flow_by line o ≡ Err why
 bad_refused line why None cut bad =
@@ -590,7 +598,16 @@ refused_by_steps line why (unknown_action e front text whole apart of_fields non
     ap (flow_by line) (cut_behind e line front rest whole apart of_fields starts)
     ∙ ap (λ r. goes_on r (λ h. with_action h (action_of (words rest)))) given.1
     ∙ no_such_action rest given.0 (λ w is. let word = word_of_text rest w starts is in (word.blanks, word.whole, word.blank))
-    (action_of (words rest)) refl none
+    (action_of (words rest)) refl (λ a action blanks is text_is blank. none (entry_of given.0 a) (record {
+      front = front;
+      action = action;
+      blanks = blanks;
+      written = whole ∙ ap (λ t. front ++ t) is;
+      apart = apart;
+      of_fields = fields_of_read (fields front) given.0 a given.1;
+      of_action = text_is;
+      blank = blank;
+    }))
 refused_by_steps line why (needs_ip e w asks) =
     let given = read_of_fields e (fields w.front) w.of_fields in
     let read = action_read e.action w.action w.blanks w.of_action w.blank in

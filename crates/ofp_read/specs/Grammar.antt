@@ -46,20 +46,13 @@ IsKindText Arp text = (text ≡ codes "arp") ⊎ ((text ≡ codes "dl_type=0x080
 IsKindText Ip text = (text ≡ codes "ip") ⊎ ((text ≡ codes "dl_type=0x0800") ⊎ (text ≡ codes "dl_type=0x800"))
 
 -- an address field: its name, and a spelling of the prefix
-pub record IsAddressText (name : List ℕ) (given : Option Prefix) (text : List ℕ) : Type 0 where
-  pub prefix : Prefix
-  pub spelling : List ℕ
-  pub is_given : given ≡ Some prefix
-  pub address : prefix.addr < 2 ^ 32
-  pub spelled : IsSpelling spelling prefix
-  pub written : text ≡ name ++ spelling
+abbrev pub IsAddressText : (name : List ℕ) → Option Prefix → (text : List ℕ) → Type 0
+IsAddressText name given text =
+    (p : Prefix) × (spelling : List ℕ) × (given ≡ Some p) × (p.addr < 2 ^ 32) × IsSpelling spelling p × (text ≡ name ++ spelling)
 
 -- a number field: its name, and the number, which is below a limit
-pub record IsNumberText (name : List ℕ) (limit : ℕ) (given : Option ℕ) (text : List ℕ) : Type 0 where
-  pub number : ℕ
-  pub is_given : given ≡ Some number
-  pub below : number < limit
-  pub written : text ≡ name ++ decimal number
+abbrev pub IsNumberText : (name : List ℕ) → (limit : ℕ) → Option ℕ → (text : List ℕ) → Type 0
+IsNumberText name limit given text = (number : ℕ) × (given ≡ Some number) × (number < limit) × (text ≡ name ++ decimal number)
 
 -- fields about a part: the name in front of their values, what such a field says of an entry, and what the entry has where none is about the part
 pub record PartFields : Type 1 where
@@ -76,8 +69,7 @@ of_number name limit given = record { name = name; Says = λ e. IsNumberText nam
 
 -- the fields about each part; there is only table 0
 abbrev pub about : Part → PartFields
-about priority =
-    record { name = codes "priority="; Says = λ e. IsNumberText (codes "priority=") (2 ^ 16) (Some e.priority); Unsaid = λ e. e.priority ≡ 32768 }
+about priority = record (of_number (codes "priority=") (2 ^ 16) (λ e. Some e.priority)) { Unsaid = λ e. e.priority ≡ 32768 }
 about table = record { name = codes "table="; Says = λ e text. text ≡ codes "table=0"; Unsaid = λ e. Unit {0} }
 about kind = record { name = codes "dl_type="; Says = λ e. IsKindText e.kind; Unsaid = λ e. e.kind ≡ Any }
 about protocol = of_number (codes "nw_proto=") (2 ^ 8) (λ e. e.proto)
@@ -140,9 +132,6 @@ abbrev pub Writes : List ℕ → Entry → Type 0
 Writes line e = HasFlow line e × IsTrue (asks_of_ip e)
 
 -- a line adds the entry that it writes: fewer than 8,192 stand before it, and none of them contradicts it
-pub record AddsEntry (n : ℕ) (before : List Entry) (line : List ℕ) (now : List Entry) : Type 0 where
-  pub entry : Entry
-  pub written : Writes line entry
-  pub few : length before < most_entries
-  pub clear : ContradictsNone before entry
-  pub added : now ≡ before ++ entry ∷ []
+abbrev pub AddsEntry : ℕ → (before : List Entry) → (line : List ℕ) → (now : List Entry) → Type 0
+AddsEntry n before line now =
+    (e : Entry) × Writes line e × (length before < most_entries) × ContradictsNone before e × (now ≡ before ++ e ∷ [])

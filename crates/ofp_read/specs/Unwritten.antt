@@ -1,14 +1,12 @@
 -- Why a line writes no entry (ovs-ofctl(8), "Flow Syntax").
 use Rattle.std.specs.Prelude.{◌≡◌, ◌≢◌, ◌⊎◌, ℕ, IsTrue, IsFalse, List, [], ◌∷◌, ◌++◌, Some, codes}
-use Rattle.std.specs.List.{AllByRecursion, list_all}
-use Rattle.text_core.specs.Lines.{is_blank}
+use Rattle.std.specs.List.{AllByRecursion}
 use Rattle.ofp_rules.specs.declared.entry.FrameKind.TheVariants.{Ip}
-use Rattle.ofp_rules.specs.declared.entry.Action.{Action}
 use Rattle.ofp_rules.specs.declared.entry.Entry.{Entry}
 use Rattle.ofp_rules.specs.Matching.{asks_of_ip}
 use Rattle.ofp_read.specs.declared.fault.OfpWhy.{OfpWhy}
 use Rattle.ofp_read.specs.declared.fault.OfpWhy.TheVariants.{BadLine, UnknownField, BadValue, NeedsIp, UnknownAction}
-use Rattle.ofp_read.specs.Grammar.{Part, kind, protocol, about, fields, IsProtocolText, EachSays, IsNoneOf, AreFieldsOf, IsActionText, ends_apart, HasFlow}
+use Rattle.ofp_read.specs.Grammar.{Part, kind, protocol, about, fields, IsProtocolText, EachSays, IsNoneOf, AreFieldsOf, ends_apart, HasFlow}
 
 -- a field is about these parts, whatever its value: it has their name, or is a name that stands alone
 pub data IsAbout : List Part → List ℕ → Type 0 where
@@ -39,14 +37,11 @@ pub record HasBadField (line : List ℕ) (why : OfpWhy) : Type 0 where
   pub no_action : (value : List ℕ) → here ≢ codes "actions=" ++ value
   pub bad : IsBadField of_fields.parts here why
 
--- a line writes no entry: a field in front of its action is bad; or none is, and it has no action; or its action is neither of the
--- two; or the entry asks of frames what not all of them have
+-- a line writes no entry: a field in front of its action is bad; or none is, and it has no action; or it has one, and is the flow of no
+-- entry; or the entry asks of frames what not all of them have
 pub data IsUnwritten (line : List ℕ) : OfpWhy → Type 0 where
   bad_field : {why : OfpWhy} → HasBadField line why → IsUnwritten line why
   no_action : (e : Entry) → AreFieldsOf e (fields line) → IsUnwritten line BadLine
   unknown_action : (e : Entry) (front text : List ℕ) → line ≡ front ++ (codes "actions=" ++ text) → IsTrue (ends_apart front)
-      → AreFieldsOf e (fields front)
-      → ((a : Action) (action blanks : List ℕ) → codes "actions=" ++ text ≡ action ++ blanks → IsActionText a action
-      → IsTrue (list_all is_blank blanks) → ⊥)
-      → IsUnwritten line UnknownAction
+      → AreFieldsOf e (fields front) → ((f : Entry) → HasFlow line f → ⊥) → IsUnwritten line UnknownAction
   needs_ip : (e : Entry) → HasFlow line e → IsFalse (asks_of_ip e) → IsUnwritten line NeedsIp
