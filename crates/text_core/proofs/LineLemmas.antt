@@ -1,8 +1,5 @@
 -- What one piece of a line leaves in the buffer.
-use Rattle.std.proofs.Common.{◌≡◌, ℕ, ◌+◌, ◌-◌, ◌/◌, ◌%◌, ◌^◌, ◌≤◌, ◌<◌, min, List, [], ◌∷◌, ◌++◌, take, length, ap, sym, ◌∙◌, arith, length-take, append_assoc}
-use Rattle.std.specs.Fmt.{decimal}
-use Rattle.std.proofs.lemmas.Fmt.{decimal_step}
-use Rattle.text_core.proofs.LineLaws.{cut_cut}
+use Rattle.std.proofs.Common.{◌≡◌, ℕ, ◌+◌, ◌-◌, ◌≤◌, min, List, ◌++◌, take, length, ap, sym, ◌∙◌, arith, length-take}
 use Rattle.std.proofs.lemmas.List.{take_min, length-take-le}
 use Rattle.std.proofs.lemmas.Slice.{take-put_mid}
 use Rattle.std.proofs.Math.Seq.{take-append-add}
@@ -26,12 +23,3 @@ piece_put room at fits old piece new h whole e written =
     take-put_mid at (at + fits - at) old new (at + fits) width (omega arith)
     ∙ ap (λ bs. take at old ++ bs) taken
     ∙ sym (cut_piece room at (take at old) piece front h)
-
--- a number after the number without its last digit
-pub last_digit : (room n : ℕ) (old front whole : List ℕ) → 10 ≤ n → n < 2 ^ 64 → front ≡ cut room (old ++ decimal (n / 10))
-    → whole ≡ cut room (front ++ (48 + n % 10) ∷ []) → whole ≡ cut room (old ++ decimal n)
-last_digit room n old front whole long fits e written =
-    written
-    ∙ ap (λ bs. cut room (bs ++ (48 + n % 10) ∷ [])) e
-    ∙ cut_cut room (old ++ decimal (n / 10)) ((48 + n % 10) ∷ [])
-    ∙ ap (cut room) (append_assoc old (decimal (n / 10)) ((48 + n % 10) ∷ []) ∙ ap (λ bs. old ++ bs) (sym (decimal_step n long fits)))

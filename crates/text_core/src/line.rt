@@ -4,6 +4,8 @@
 ghost use Rattle.std.specs.Prelude.{◌≡◌, ◌≤◌, ◌++◌, take, decimal};
 ghost use Rattle.text_core.specs.inner.Line.{cut};
 
+use itoa::Buffer;
+
 /// Puts a piece after the first `at` bytes, and answers where the text now ends. What the buffer
 /// holds after that place is left open.
 pub fn put<const N: usize>(buffer: &mut [u8; N], at: usize, piece: &[u8]) -> usize
@@ -23,9 +25,6 @@ pub fn put_number<const N: usize>(buffer: &mut [u8; N], at: usize, number: u64) 
     ensures text { take result buffer.new ≡ cut N (take at buffer.old ++ decimal number) }
     ensures within { result ≤ N }
 {
-    if number < 10 {
-        return put(buffer, at, &[b'0' + number as u8]);
-    }
-    let front = put_number(buffer, at, number / 10);
-    put(buffer, front, &[b'0' + (number % 10) as u8])
+    let mut digits = Buffer::new();
+    put(buffer, at, digits.format(number).as_bytes())
 }
