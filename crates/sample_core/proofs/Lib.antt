@@ -1,6 +1,6 @@
 pub mod AcceptedLaws
+mod CountsLemmas
 pub mod HostLaws
-mod LineLemmas
 pub mod NumberLaws
 mod OffenceLemmas
 mod RunLemmas

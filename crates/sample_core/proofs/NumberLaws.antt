@@ -4,7 +4,8 @@ use Rattle.std.proofs.lemmas.List.Elements.{All-nil, All-cons, All-filter, All-h
 use Rattle.std.proofs.lemmas.List.Kept.{AllPairs-cons}
 use Rattle.std.specs.List.{range_with_len}
 use Rattle.table_core.specs.Listing.{each}
-use Rattle.sample_core.specs.SampleTable.{hosts_in_care, is_in_care, sample_hosts}
+use Rattle.sample_core.specs.SampleTable.{hosts_in_care, sample_hosts}
+use Rattle.sample_core.specs.inner.TableParts.{is_in_care}
 
 abbrev pub IsBelow : ℕ → ℕ → Type 0
 IsBelow n k = k < n

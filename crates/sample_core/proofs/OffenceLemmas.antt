@@ -1,15 +1,12 @@
 -- The offences of invariants, counted so far.
-use Rattle.std.proofs.Common.{◌≡◌, ℕ, List, [], ◌∷◌, ◌++◌, Option, None, Some, map, refl, sym, ap, subst, ◌∙◌, append_assoc, append-nil}
-use Rattle.flow_set.specs.Conditions.{IsFirst}
-use Rattle.flow_set.specs.FlowSet.{SetOfFlows, without}
+use Rattle.std.proofs.Common.{◌≡◌, ℕ, List, [], ◌∷◌, ◌++◌, Option, map, refl, sym, ap, subst, ◌∙◌, append_assoc, append-nil}
 use Rattle.flow_set.specs.declared.flow.Flow.{Flow}
 use Rattle.inv_any.specs.declared.any_inv.AnyInv.{AnyInv}
 use Rattle.net_core.specs.Network.{Network}
 use Rattle.net_core.specs.Policies.{holds_on}
 use Rattle.report_core.specs.CheckReport.{AreOffences, IsOffence}
-use Rattle.sample_core.specs.Sample.{AreOffending, offence_size}
-use Rattle.std.proofs.lemmas.Bool.{false≢true}
-use Rattle.std.specs.Prelude.{◌↔◌, IfSome, IsNone, option_map}
+use Rattle.sample_core.specs.Sample.{offence_size}
+use Rattle.sample_core.specs.inner.SampleCounts.{AreOffending}
 
 -- with what is found of the invariants that are left, the counts are those of all
 abbrev pub GoesOn : Network → List ℕ → List AnyInv → Type 0
@@ -30,17 +27,3 @@ goes_next d counts new left inv later o here so_far offence pushed rest found =
 
 pub goes_end : (d : Network) (counts : List ℕ) (left : List AnyInv) → left ≡ [] → GoesOn d counts left → AreOffending d counts
 goes_end d counts left done so_far = subst (AreOffending d) (append-nil counts) (subst (GoesOn d counts) done so_far [] tt)
-
-found_by_cases : (Holds : List Flow → Type 0) (asked : List Flow) (found : Option SetOfFlows) → (IsNone found ↔ Holds asked)
-    → IfSome found (λ f. (first : List Flow) × IsFirst Holds asked first × (f.flows ≡ without asked first))
-    → IsOffence Holds asked (option_map (λ set. set.flows) found)
-found_by_cases Holds asked None holds rest = holds.0 refl
-found_by_cases Holds asked (Some f) holds rest = (λ met. absurd (false≢true (sym (holds.1 met))), rest)
-
-pub offence_found : (Holds : List Flow → Type 0) (asked read : SetOfFlows) (found : Option SetOfFlows) → read ≡ asked
-    → (IsNone found ↔ Holds read.flows)
-    → IfSome found (λ f. (first : List Flow) × IsFirst Holds read.flows first × (f.flows ≡ without read.flows first))
-    → IsOffence Holds asked.flows (option_map (λ set. set.flows) found)
-offence_found Holds asked read found same holds rest =
-    subst (λ (s : SetOfFlows). IsOffence Holds s.flows (option_map (λ set. set.flows) found)) same
-    (found_by_cases Holds read.flows found holds rest)

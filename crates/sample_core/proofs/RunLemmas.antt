@@ -5,7 +5,8 @@ use Rattle.pkt_core.specs.Firewall.{Filter}
 use Rattle.pkt_core.specs.Tracking.{Kept, Runs}
 use Rattle.pkt_core.specs.declared.event.Event.{Event}
 use Rattle.pkt_core.specs.declared.event.Event.TheVariants.{Seen}
-use Rattle.sample_core.specs.Sample.{AreForwarded, was_forwarded}
+use Rattle.sample_core.specs.Sample.{was_forwarded}
+use Rattle.sample_core.specs.inner.SampleCounts.{AreForwarded}
 use Rattle.std.specs.Prelude.{if◌then◌else◌}
 
 -- whatever run is left over these packets, what it forwards beside the count is what the whole run forwards

@@ -9,10 +9,12 @@ use Rattle.ipt_rules.specs.Text.{text_lines}
 use Rattle.net_core.specs.Network.{Network, site_of}
 use Rattle.net_core.specs.Policies.{IsPolicyOf, Policy}
 use Rattle.net_core.proofs.PolicyLaws.{policy_is_one}
+use Rattle.pkt_core.specs.Filter.{RunsFromNothing}
 use Rattle.pkt_core.specs.Tracking.{nothing_kept}
-use Rattle.pkt_core.specs.declared.event.Event.{Event}
+use Rattle.report_core.specs.CheckReport.{AreOffences}
 use Rattle.report_core.proofs.ReportLaws.{offences_are_one}
-use Rattle.sample_core.specs.Sample.{AreCounts, AreForwarded, AreOffending, Counts, IsSample, IsTableLines, chains_of, counts_text, offence_size, sample_events, was_forwarded}
+use Rattle.sample_core.specs.Sample.{Found, IsSample, IsTableLines, chains_of, offence_size, sample_events, sample_text, was_forwarded}
+use Rattle.sample_core.specs.inner.SampleCounts.{rows}
 use Rattle.sample_core.specs.SampleTable.{sample_table}
 use Rattle.sample_core.specs.declared.counts.TableLines.{TableLines}
 use Rattle.sample_core.specs.declared.counts.TableLines.TheVariants.{Lines, NeedsState, TooMany}
@@ -25,10 +27,6 @@ value_or d (Err e) = d
 said_same : {A R : Type 0} (r : Result A R) (a b : A) → r ≡ Ok a → r ≡ Ok b → a ≡ b
 said_same r a b first second = ap (value_or a) (sym first ∙ second)
 
-offending_is_one : (d : Network) (xs ys : List ℕ) → AreOffending d xs → AreOffending d ys → xs ≡ ys
-offending_is_one d xs ys a b =
-    a.counted ∙ ap (map offence_size) (offences_are_one d.invariants d.asked.flows a.offences b.offences a.found b.found) ∙ sym b.counted
-
 table_is_one : (site : Site) (p s : List Flow) (t u : TableLines) → IsTableLines site p s t → IsTableLines site p s u → t ≡ u
 table_is_one site p s NeedsState NeedsState a b = refl
 table_is_one site p s NeedsState TooMany a b = absurd (a b.0)
@@ -40,48 +38,40 @@ table_is_one site p s (Lines m) NeedsState a b = absurd (b a.0)
 table_is_one site p s (Lines m) TooMany (_, few, counted) (_, many) = absurd (omega (arith, many, few))
 table_is_one site p s (Lines m) (Lines k) (_, few, counted) (_, other, told) = ap Lines (counted ∙ sym told)
 
-forwarded_is_one : (chains : List Chain) (events : List Event) (m k : ℕ) → AreForwarded (Passes chains) events m
-    → AreForwarded (Passes chains) events k → m ≡ k
-forwarded_is_one chains events m k a b =
-    let once = chains_answer_once chains in
-    let one = runs_once AnyPacket (Passes chains) once nothing_kept events (any_known events) a.answers b.answers a.run b.run in
-    a.counted ∙ ap (λ answers. length (filter was_forwarded answers)) one ∙ sym b.counted
+-- the same is found of it
+record AreSame (n : ℕ) (f g : Found n) : Type 0 where
+  network : f.network ≡ g.network
+  policy : f.policy ≡ g.policy
+  offences : f.offences ≡ g.offences
+  table : f.table ≡ g.table
+  answers : f.answers ≡ g.answers
 
-counts_same : (c e : Counts)
-    → c.hosts ≡ e.hosts → c.asked ≡ e.asked → c.offending ≡ e.offending → c.permitted ≡ e.permitted → c.stateful ≡ e.stateful
-    → c.rules ≡ e.rules → c.table ≡ e.table → c.events ≡ e.events → c.forwarded ≡ e.forwarded → c ≡ e
-counts_same c e hosts asked offending permitted stateful rules table events forwarded = λ i. record {
-  hosts = hosts i;
-  asked = asked i;
-  offending = offending i;
-  permitted = permitted i;
-  stateful = stateful i;
-  rules = rules i;
-  table = table i;
-  events = events i;
-  forwarded = forwarded i;
-}
+found_is_one : (n : ℕ) (f g : Found n) → AreSame n f g
+found_is_one n f g =
+    let net : f.network ≡ g.network = said_same (described_by_table (sample_table n)) f.network g.network f.described g.described in
+    let policy : f.policy ≡ g.policy =
+    policy_is_one g.network f.policy g.policy (subst (λ (d : Network). IsPolicyOf d f.policy) net f.is_policy) g.is_policy in
+    let chains : chains_of f.network f.policy ≡ chains_of g.network g.policy = λ i. chains_of (net i) (policy i) in
+    let same_table : IsTableLines (site_of g.network) g.policy.permitted.flows g.policy.stateful.flows f.table =
+    subst (λ (d : Network). IsTableLines (site_of d) g.policy.permitted.flows g.policy.stateful.flows f.table) net
+    (subst (λ (x : Policy). IsTableLines (site_of f.network) x.permitted.flows x.stateful.flows f.table) policy f.is_table) in
+    let last : List Chain = chains_of g.network g.policy in
+    record {
+      network = net;
+      policy = policy;
+      offences = offences_are_one g.network.invariants g.network.asked.flows f.offences g.offences
+          (subst (λ (d : Network). AreOffences d.invariants d.asked.flows f.offences) net f.are_offences) g.are_offences;
+      table = table_is_one (site_of g.network) g.policy.permitted.flows g.policy.stateful.flows f.table g.table same_table g.is_table;
+      answers = runs_once AnyPacket (Passes last) (chains_answer_once last) nothing_kept (sample_events n) (any_known (sample_events n))
+          f.answers g.answers (subst (λ (x : List Chain). RunsFromNothing (Passes x) (sample_events n) f.answers) chains f.run) g.run;
+    }
 
-pub counts_are_one : (n : ℕ) (c e : Counts) → AreCounts n c → AreCounts n e → c ≡ e
-counts_are_one n c e p q =
-    let net : p.network ≡ q.network = said_same (described_by_table (sample_table n)) p.network q.network p.described q.described in
-    let policy : p.policy ≡ q.policy =
-    policy_is_one q.network p.policy q.policy (subst (λ (d : Network). IsPolicyOf d p.policy) net p.is_policy) q.is_policy in
-    let chains : chains_of p.network p.policy ≡ chains_of q.network q.policy = λ i. chains_of (net i) (policy i) in
-    let same_table : IsTableLines (site_of q.network) q.policy.permitted.flows q.policy.stateful.flows c.table =
-    subst (λ (d : Network). IsTableLines (site_of d) q.policy.permitted.flows q.policy.stateful.flows c.table) net
-    (subst (λ (x : Policy). IsTableLines (site_of p.network) x.permitted.flows x.stateful.flows c.table) policy p.table) in
-    counts_same c e
-    (p.hosts ∙ ap (λ (d : Network). length d.hosts) net ∙ sym q.hosts)
-    (p.asked ∙ ap (λ (d : Network). length d.asked.flows) net ∙ sym q.asked)
-    (offending_is_one q.network c.offending e.offending (subst (λ (d : Network). AreOffending d c.offending) net p.offending) q.offending)
-    (p.permitted ∙ ap (λ (x : Policy). length x.permitted.flows) policy ∙ sym q.permitted)
-    (p.stateful ∙ ap (λ (x : Policy). length x.stateful.flows) policy ∙ sym q.stateful)
-    (p.run.lines ∙ ap (λ (x : List Chain). length (text_lines x)) chains ∙ sym q.run.lines)
-    (table_is_one (site_of q.network) q.policy.permitted.flows q.policy.stateful.flows c.table e.table same_table q.table)
-    (p.run.all ∙ sym q.run.all)
-    (forwarded_is_one (chains_of q.network q.policy) (sample_events n) c.forwarded e.forwarded
-    (subst (λ (x : List Chain). AreForwarded (Passes x) (sample_events n) c.forwarded) chains p.run.passed) q.run.passed)
+text_is_one : (n : ℕ) (f g : Found n) → AreSame n f g → sample_text n f ≡ sample_text n g
+text_is_one n f g same = λ i.
+    rows n (length (same.network i).hosts) (length (same.network i).asked.flows) (map offence_size (same.offences i))
+    (length (same.policy i).permitted.flows) (length (same.policy i).stateful.flows)
+    (length (text_lines (chains_of (same.network i) (same.policy i)))) (same.table i) (length (sample_events n))
+    (length (filter was_forwarded (same.answers i)))
 
 pub sample_is_one : (n : ℕ) (a b : List ℕ) → IsSample n a → IsSample n b → a ≡ b
-sample_is_one n a b p q = p.written ∙ ap (counts_text n) (counts_are_one n p.counts q.counts p.are q.are) ∙ sym q.written
+sample_is_one n a b p q = p.written ∙ text_is_one n p.found q.found (found_is_one n p.found q.found) ∙ sym q.written

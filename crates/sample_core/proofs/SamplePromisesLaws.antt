@@ -1,5 +1,5 @@
 -- The report of the sample tells what is promised of it.
-use Rattle.std.proofs.Common.{◌≡◌, ℕ, zero, suc, ◌≤◌, IsTrue, List, [], ◌∷◌, length, map, subst, ◌∙◌, arith}
+use Rattle.std.proofs.Common.{◌≡◌, ℕ, zero, suc, ◌≤◌, IsTrue, List, [], ◌∷◌, map, subst, arith}
 use Rattle.desc_core.proofs.NetworkLaws.{IsNetwork-table}
 use Rattle.emit_core.proofs.ForwardingLaws.{layout_expected}
 use Rattle.emit_core.specs.Layout.{layout}
@@ -19,7 +19,7 @@ use Rattle.net_core.proofs.PolicyLaws.{IsSubset-stateful}
 use Rattle.pkt_core.specs.Filter.{ArePackets, ForwardsExpected}
 use Rattle.pkt_core.specs.declared.event.Event.TheVariants.{Seen}
 use Rattle.sample_core.proofs.AcceptedLaws.{hosts_counted, sample_is_small}
-use Rattle.sample_core.specs.Sample.{AreCounts, IsSample, packet_between, sample_events}
+use Rattle.sample_core.specs.Sample.{Found, IsSample, packet_between, sample_events}
 use Rattle.sample_core.specs.SamplePromises.{TellsSample}
 use Rattle.sample_core.specs.SampleTable.{sample_table}
 
@@ -42,31 +42,18 @@ sample_packets_are n few = all_shown n few (every_flow n) (IsFlowSet-every_flow 
 
 pub tells_sample : (n : ℕ) (report : List ℕ) → IsSample n report → TellsSample n report
 tells_sample n report is =
-    let a : AreCounts n is.counts = is.are in
-    let d : Network = a.network in
-    let p : List Flow = a.policy.permitted.flows in
-    let s : List Flow = a.policy.stateful.flows in
-    let network : IsNetwork d = IsNetwork-table (sample_table n) d a.described in
-    let few : n ≤ host_limit = sample_is_small n d a.described in
-    let count : length d.hosts ≡ n = hosts_counted n d few a.described in
-    let forwards : ForwardsExpected (Passes (layout (site_of d) p s)) (site_of d) p s = layout_expected (site_of d) p s network.hosts (IsSubset-stateful d p s a.is_policy.stateful) in
+    let found : Found n = is.found in
+    let d : Network = found.network in
+    let p : List Flow = found.policy.permitted.flows in
+    let s : List Flow = found.policy.stateful.flows in
+    let network : IsNetwork d = IsNetwork-table (sample_table n) d found.described in
+    let few : n ≤ host_limit = sample_is_small n d found.described in
+    let forwards : ForwardsExpected (Passes (layout (site_of d) p s)) (site_of d) p s = layout_expected (site_of d) p s network.hosts (IsSubset-stateful d p s found.is_policy.stateful) in
     record {
-      counts = is.counts;
+      found = found;
       written = is.written;
-      network = d;
-      described = a.described;
-      hosts = count;
-      hosts_told = a.hosts ∙ count;
-      asked_told = a.asked;
-      policy = a.policy;
-      permitted = a.is_policy.permitted;
-      permitted_told = a.permitted;
-      meets = a.is_policy.permitted.holds;
-      stateful = a.is_policy.stateful;
-      stateful_told = a.stateful;
-      complies = CompliesWithAll-from_policy d a.policy network a.is_policy;
-      events_told = a.run.all;
-      answers = a.run.passed.answers;
-      expected = forwards.expected (sample_events n) a.run.passed.answers (sample_packets_are n few) a.run.passed.run;
-      forwarded_told = a.run.passed.counted;
+      hosts = hosts_counted n d few found.described;
+      meets = found.is_policy.permitted.holds;
+      complies = CompliesWithAll-from_policy d found.policy network found.is_policy;
+      expected = forwards.expected (sample_events n) found.answers (sample_packets_are n few) found.run;
     }

@@ -1,36 +1,14 @@
--- Tables as they grow, key by key, and arrays, element by element.
-use Rattle.std.proofs.Common.{◌≡◌, ℕ, ◌+◌, Bool, true, false, cond, List, [], ◌∷◌, ◌++◌, map, filter, String, Global, string_bytes, Ordering, Less, Equal, Greater, refl, sym, ap, ◌∙◌, arith, append-nil, map-id, if◌then◌else◌}
+-- Arrays as they grow, element by element.
+use Rattle.std.proofs.Common.{◌≡◌, ℕ, ◌+◌, Bool, true, false, cond, List, [], ◌∷◌, ◌++◌, map, filter, sym, ap, ◌∙◌, arith, append-nil, map-id, if◌then◌else◌}
 use Rattle.std.proofs.lemmas.List.{map_push}
 use Rattle.std.proofs.lemmas.List.FromFn.{map-range_with_len_more}
 use Rattle.std.proofs.lemmas.List.Elements.{filter-append}
-use Rattle.std.specs.BTreeMap.{insert_entry}
-use Rattle.std.specs.Ordering.{match_ordering}
-use Rattle.std.specs.String.{string_cmp}
-use Rattle.sample_core.specs.inner.MembersView.{put_member, table_value}
-use Rattle.sample_core.specs.SampleTable.{hosts_in_care, is_in_care, sample_hosts}
-use Rattle.toml.specs.Data.{Data, Members, member, table}
-use Rattle.toml.specs.View.{members_view, view}
+use Rattle.sample_core.specs.inner.TableParts.{is_in_care, table_value}
+use Rattle.sample_core.specs.SampleTable.{hosts_in_care, sample_hosts}
+use Rattle.toml.specs.Data.{Data, Members, table}
+use Rattle.toml.specs.View.{view}
 use Rattle.toml.specs.declared.value.Value.{Value}
 
-abbrev Entry : Type 0
-Entry = String Global × Value
-
-put_by : (o : Ordering) (k : String Global) (v : Value) (e : Entry) (es : List Entry)
-    → members_view (insert_entry string_cmp es k v) ≡ put_member (string_bytes k) (view v) (members_view es)
-    → members_view (match_ordering o ((k, v) ∷ e ∷ es) ((e.0, v) ∷ es) (e ∷ insert_entry string_cmp es k v))
-    ≡ match_ordering o (member (string_bytes k) (view v) (member (string_bytes e.0) (view e.1) (members_view es)))
-    (member (string_bytes e.0) (view v) (members_view es))
-    (member (string_bytes e.0) (view e.1) (put_member (string_bytes k) (view v) (members_view es)))
-put_by Less k v e es later = refl
-put_by Equal k v e es later = refl
-put_by Greater k v e es later = ap (λ ms. member (string_bytes e.0) (view e.1) ms) later
-
-pub put_view : (k : String Global) (v : Value) (es : List Entry)
-    → members_view (insert_entry string_cmp es k v) ≡ put_member (string_bytes k) (view v) (members_view es)
-put_view k v [] = refl
-put_view k v (e ∷ es) = put_by (string_cmp k e.0) k v e es (put_view k v es)
-
--- an array, element by element
 pub made_more : (made : ℕ → Members) (vs : List Value) (v : Value) (k : ℕ) → map view vs ≡ map (table_value made) (sample_hosts k)
     → view v ≡ table (made k)
     → map view (vs ++ v ∷ []) ≡ map (table_value made) (sample_hosts (k + 1))

@@ -29,7 +29,8 @@ use Rattle.desc_form.specs.Written.{WrittenAssign, WrittenInvariant}
 use Rattle.host_net.specs.Limits.{host_limit}
 use Rattle.text_core.proofs.FirstsLaws.{some_same}
 use Rattle.std.proofs.lemmas.Bool.Decides.{nat_tests}
-use Rattle.sample_core.specs.SampleTable.{care_table, hosts_in_care, is_in_care, level_table, sample_hosts, sample_name}
+use Rattle.sample_core.specs.SampleTable.{care_table, hosts_in_care, level_table, sample_hosts, sample_name}
+use Rattle.sample_core.specs.inner.TableParts.{is_in_care}
 use Rattle.sample_core.specs.inner.SampleWritten.{sample_assign, sample_host, sample_invariant, sample_written}
 use Rattle.table_core.specs.Tables.{boolean_at, has_key, has_only, integer_at, list_at, number_at, text_at}
 use Rattle.toml.specs.Data.{Members}

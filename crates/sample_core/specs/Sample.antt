@@ -1,5 +1,7 @@
--- What is printed of the sample (docs/FORMATS.md): what each job makes of its description, in numbers.
-use Rattle.std.specs.Prelude.{◌≡◌, ◌≤◌, ◌<◌, ℕ, ◌+◌, ◌*◌, ◌^◌, Bool, false, List, [], ◌∷◌, ◌++◌, length, map, filter, Option, Some, None, Ok, codes, decimal}
+-- What is printed of the sample (docs/TEXTS.md): what each job makes of its description, in numbers.
+use Rattle.std.specs.Prelude.{◌≡◌, ◌≤◌, ◌<◌, ℕ, ◌+◌, ◌*◌, ◌^◌, Bool, false, List, [], ◌++◌, length, map, filter, flat_map, Option, Ok, codes, decimal}
+use Rattle.std.specs.Option.{unwrap_or}
+use Rattle.text_core.specs.Firsts.{Numbered, numbered}
 use Rattle.desc_core.specs.Description.{described_by_table}
 use Rattle.emit_core.specs.FlowTable.{flow_entries}
 use Rattle.emit_core.specs.FlowTableEvents.{AnswersAreCovered}
@@ -18,7 +20,6 @@ use Rattle.ofp_rules.specs.Text.{text_lines as table_text_lines}
 use Rattle.pkt_core.specs.declared.event.Event.{Event}
 use Rattle.pkt_core.specs.declared.event.Event.TheVariants.{Seen}
 use Rattle.pkt_core.specs.Filter.{RunsFromNothing}
-use Rattle.pkt_core.specs.Firewall.{Filter}
 use Rattle.report_core.specs.CheckReport.{AreOffences}
 use Rattle.sample_core.specs.SampleTable.{sample_table}
 use Rattle.sample_core.specs.declared.counts.TableLines.{TableLines}
@@ -31,23 +32,9 @@ sample_address k = 10 * 2 ^ 24 + k
 abbrev pub packet_between : Flow → Packet
 packet_between f = record { src = sample_address f.from; dst = sample_address f.to; proto = 17; sport = 1000; dport = 1000 }
 
--- one for each two hosts, in the order of flows
-abbrev pub sample_packets : ℕ → List Packet
-sample_packets n = map packet_between (every_flow n)
-
+-- one is seen for each two hosts, in the order of flows
 abbrev pub sample_events : ℕ → List Event
-sample_events n = map Seen (sample_packets n)
-
--- of how many flows the set is that is reported of an invariant
-abbrev pub offence_size : Option (List Flow) → ℕ
-offence_size None = 0
-offence_size (Some offending) = length offending
-
--- for each invariant of a network
-pub record AreOffending (d : Network) (counts : List ℕ) : Type 0 where
-  pub offences : List (Option (List Flow))
-  pub found : AreOffences d.invariants d.asked.flows offences
-  pub counted : counts ≡ map offence_size offences
+sample_events n = map Seen (map packet_between (every_flow n))
 
 -- the lines of the flow table of permitted flows p and stateful ones s: a table keeps no connections, and has room for so many entries
 abbrev pub IsTableLines : Site → (p s : List Flow) → TableLines → Type 0
@@ -56,83 +43,60 @@ IsTableLines site p s TooMany = AnswersAreCovered site.services p s × (most_ent
 IsTableLines site p s (Lines count) =
     AnswersAreCovered site.services p s × (length (flow_entries site p) ≤ most_entries) × (count ≡ length (table_text_lines (flow_entries site p)))
 
-abbrev pub was_forwarded : Option Bool → Bool
-was_forwarded (Some passed) = passed
-was_forwarded None = false
-
--- how many packets a run of the filter forwards, beginning with no connections
-pub record AreForwarded (filter_of : Filter) (events : List Event) (count : ℕ) : Type 0 where
-  pub answers : List (Option Bool)
-  pub run : RunsFromNothing filter_of events answers
-  pub counted : count ≡ length (filter was_forwarded answers)
-
--- the lines of the text of the chains, the events, and how many packets the chains forward
-pub record AreRunCounts (n : ℕ) (chains : List Chain) (rules events forwarded : ℕ) : Type 0 where
-  pub lines : rules ≡ length (text_lines chains)
-  pub all : events ≡ length (sample_events n)
-  pub passed : AreForwarded (Passes chains) (sample_events n) forwarded
-
-pub record Counts : Type 0 where
-  pub hosts : ℕ
-  pub asked : ℕ
-  pub offending : List ℕ
-  pub permitted : ℕ
-  pub stateful : ℕ
-  pub rules : ℕ
-  pub table : TableLines
-  pub events : ℕ
-  pub forwarded : ℕ
-
 -- the chains of a policy of the network
 abbrev pub chains_of : Network → Policy → List Chain
 chains_of d policy = layout (site_of d) policy.permitted.flows policy.stateful.flows
 
--- these are the numbers of the sample of n hosts
-pub record AreCounts (n : ℕ) (counts : Counts) : Type 0 where
+-- what the jobs find of the sample of n hosts: the network that its table describes, its policy, what is told of each invariant, the lines
+-- of its flow table, and which of the packets its chains let pass, from no connections on
+pub record Found (n : ℕ) : Type 0 where
   pub network : Network
   pub described : described_by_table (sample_table n) ≡ Ok network
   pub policy : Policy
   pub is_policy : IsPolicyOf network policy
-  pub hosts : counts.hosts ≡ length network.hosts
-  pub asked : counts.asked ≡ length network.asked.flows
-  pub offending : AreOffending network counts.offending
-  pub permitted : counts.permitted ≡ length policy.permitted.flows
-  pub stateful : counts.stateful ≡ length policy.stateful.flows
-  pub table : IsTableLines (site_of network) policy.permitted.flows policy.stateful.flows counts.table
-  pub run : AreRunCounts n (chains_of network policy) counts.rules counts.events counts.forwarded
+  pub offences : List (Option (List Flow))
+  pub are_offences : AreOffences network.invariants network.asked.flows offences
+  pub table : TableLines
+  pub is_table : IsTableLines (site_of network) policy.permitted.flows policy.stateful.flows table
+  pub answers : List (Option Bool)
+  pub run : RunsFromNothing (Passes (chains_of network policy)) (sample_events n) answers
 
--- ---- as they are printed
+-- ---- as it is printed
+
+-- of how many flows the set is that is told of an invariant
+abbrev pub offence_size : Option (List Flow) → ℕ
+offence_size offence = length (unwrap_or offence [])
+
+abbrev pub was_forwarded : Option Bool → Bool
+was_forwarded answer = unwrap_or answer false
 
 -- a word, and a number
 abbrev pub count_line : List ℕ → ℕ → List ℕ
 count_line word count = word ++ (codes " " ++ (decimal count ++ codes "\n"))
 
--- of each invariant, from a number on
-abbrev pub offending_lines : ℕ → List ℕ → List ℕ
-offending_lines number [] = []
-offending_lines number (count ∷ counts) = count_line (codes "offending " ++ decimal number) count ++ offending_lines (number + 1) counts
+-- of each invariant, by its number
+abbrev pub offending_lines : List ℕ → List ℕ
+offending_lines counts = flat_map (λ (told : Numbered ℕ). count_line (codes "offending " ++ decimal told.number) told.what) (numbered counts)
 
 abbrev pub table_line : TableLines → List ℕ
 table_line (Lines count) = count_line (codes "openflow") count
 table_line NeedsState = codes "openflow needs state\n"
 table_line TooMany = codes "openflow too many\n"
 
-abbrev pub asked_text : ℕ → Counts → List ℕ
-asked_text n counts = count_line (codes "sample") n ++ (count_line (codes "hosts") counts.hosts ++ count_line (codes "asked") counts.asked)
-
-abbrev pub policy_text : Counts → List ℕ
-policy_text counts =
-    count_line (codes "permitted") counts.permitted
-    ++ (count_line (codes "stateful") counts.stateful ++ (count_line (codes "iptables") counts.rules ++ table_line counts.table))
-
-abbrev pub run_text : Counts → List ℕ
-run_text counts = count_line (codes "events") counts.events ++ count_line (codes "forwarded") counts.forwarded
-
-abbrev pub counts_text : ℕ → Counts → List ℕ
-counts_text n counts = asked_text n counts ++ (offending_lines 1 counts.offending ++ (policy_text counts ++ run_text counts))
+abbrev pub sample_text : (n : ℕ) → Found n → List ℕ
+sample_text n found =
+    count_line (codes "sample") n
+    ++ (count_line (codes "hosts") (length found.network.hosts)
+    ++ (count_line (codes "asked") (length found.network.asked.flows)
+    ++ (offending_lines (map offence_size found.offences)
+    ++ (count_line (codes "permitted") (length found.policy.permitted.flows)
+    ++ (count_line (codes "stateful") (length found.policy.stateful.flows)
+    ++ (count_line (codes "iptables") (length (text_lines (chains_of found.network found.policy)))
+    ++ (table_line found.table
+    ++ (count_line (codes "events") (length (sample_events n))
+    ++ count_line (codes "forwarded") (length (filter was_forwarded found.answers))))))))))
 
 -- the text is the report of the sample of n hosts
 pub record IsSample (n : ℕ) (text : List ℕ) : Type 0 where
-  pub counts : Counts
-  pub are : AreCounts n counts
-  pub written : text ≡ counts_text n counts
+  pub found : Found n
+  pub written : text ≡ sample_text n found

@@ -1,5 +1,5 @@
 -- The description of the sample as a TOML table (docs/FORMATS.md): n hosts, a level for each, and every eighth host in care.
-use Rattle.std.specs.Prelude.{ℕ, pos, ◌%◌, ◌==◌, Bool, List, ◌++◌, map, filter, codes, decimal}
+use Rattle.std.specs.Prelude.{ℕ, pos, ◌%◌, ◌==◌, List, ◌++◌, map, filter, codes, decimal}
 use Rattle.std.specs.List.{range_with_len}
 use Rattle.toml.specs.Data.{Data, string, integer, array, table, Items, no_items, item, Members, no_members, member}
 use Rattle.toml.specs.View.{items_of}
@@ -26,11 +26,8 @@ care_table k = member (codes "host") (string (sample_name k)) (member (codes "ki
 abbrev pub sample_hosts : ℕ → List ℕ
 sample_hosts n = range_with_len 0 n
 
-abbrev pub is_in_care : ℕ → Bool
-is_in_care k = k % 8 == 0
-
 abbrev pub hosts_in_care : ℕ → List ℕ
-hosts_in_care n = filter is_in_care (sample_hosts n)
+hosts_in_care n = filter (λ k. k % 8 == 0) (sample_hosts n)
 
 -- an array of tables, one for each of the hosts
 abbrev pub tables : (ℕ → Members) → List ℕ → Data

@@ -1,3 +1,3 @@
-pub mod CountsView
-pub mod MembersView
+pub mod SampleCounts
 pub mod SampleWritten
+pub mod TableParts

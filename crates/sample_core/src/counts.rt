@@ -2,7 +2,8 @@
 
 ghost use Rattle.std.specs.Prelude.{◌≡◌, IfOk, [], length, option_map};
 ghost use Rattle.host_net.specs.Site.{site_with};
-ghost use Rattle.sample_core.specs.Sample.{IsTableLines, AreOffending, offence_size};
+ghost use Rattle.sample_core.specs.Sample.{IsTableLines, offence_size};
+ghost use Rattle.sample_core.specs.inner.SampleCounts.{AreOffending};
 
 use desc_core::Description;
 use emit_core::{EmitRefusal, emit_openflow, needs_state};

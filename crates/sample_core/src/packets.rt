@@ -1,8 +1,9 @@
 //! The packets of the sample: one for each two hosts.
 
-ghost use Rattle.std.specs.Prelude.{◌≡◌, ◌<◌, ◌≤◌, IfOk};
+ghost use Rattle.std.specs.Prelude.{◌≡◌, ◌<◌, ◌≤◌, IfOk, map};
+ghost use Rattle.flow_set.specs.EveryFlow.{every_flow};
 ghost use Rattle.host_net.specs.Limits.{host_limit};
-ghost use Rattle.sample_core.specs.Sample.{packet_between, sample_address, sample_packets};
+ghost use Rattle.sample_core.specs.Sample.{packet_between, sample_address};
 
 use flow_set::{Flow, FlowSet};
 use host_net::Packet;
@@ -13,7 +14,7 @@ const FIRST_ADDRESS: u32 = 10 << 24;
 /// The packets, in the order of their flows.
 pub(crate) fn sample_packets(alloc: Global, count: u16) -> Result<Vec<Packet>, AllocError>
     requires { count ≤ host_limit }
-    ensures { IfOk result (λ packets. packets.items ≡ sample_packets count) }
+    ensures { IfOk result (λ packets. packets.items ≡ map packet_between (every_flow count)) }
 {
     let all = FlowSet::full(alloc, count)?;
     let mut packets = Vec::new(alloc);

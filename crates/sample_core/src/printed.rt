@@ -5,8 +5,8 @@ ghost use Rattle.desc_core.specs.Description.{described_by_table};
 ghost use Rattle.net_core.specs.Policies.{IsPolicyOf};
 ghost use Rattle.sample_core.specs.SampleTable.{sample_table};
 ghost use Rattle.host_net.specs.Limits.{host_limit};
-ghost use Rattle.sample_core.specs.inner.CountsView.{counts_view};
-ghost use Rattle.sample_core.specs.Sample.{AreCounts, IsSample, asked_text, count_line, counts_text, offending_lines, policy_text, run_text, table_line};
+ghost use Rattle.sample_core.specs.inner.SampleCounts.{AreCounts, counts_text};
+ghost use Rattle.sample_core.specs.Sample.{IsSample, count_line, offending_lines, table_line};
 
 use crate::counts::{TableLines, offending, table_lines};
 use crate::description::sample_description;
@@ -41,7 +41,7 @@ fn counts_of(alloc: Global, count: u16, description: &Description) -> Result<Cou
     requires few { count ≤ host_limit }
     requires described { described_by_table (sample_table count) ≡ Ok description.now }
     requires whole { description.now.services ≡ [] }
-    ensures { IfOk result (λ counts. AreCounts count (counts_view counts)) }
+    ensures { IfOk result (AreCounts count) }
 {
     let policy = policy_of(alloc, description)?;
     counts_by(alloc, count, description, &policy)
@@ -59,7 +59,7 @@ fn counts_by(
     requires permitted { policy.now.permitted.size ≡ length description.now.hosts }
     requires stateful { policy.now.stateful.size ≡ length description.now.hosts }
     requires whole { description.now.services ≡ [] }
-    ensures { IfOk result (λ counts. AreCounts count (counts_view counts)) }
+    ensures { IfOk result (AreCounts count) }
 {
     let hosts = description.hosts();
     let services = description.services();
@@ -78,26 +78,24 @@ fn counts_by(
 }
 
 fn counts_text(alloc: Global, count: u16, counts: &Counts) -> Result<Vec<u8>, AllocError>
-    ensures { IfOk result (λ text. text.items ≡ counts_text count (counts_view counts.now)) }
+    ensures { IfOk result (λ text. text.items ≡ counts_text count counts.now) }
 {
     let mut text = Vec::new(alloc);
-    push_asked(&mut text, count, counts)?;
+    push_count(&mut text, b"sample", count as usize)?;
+    push_count(&mut text, b"hosts", counts.hosts as usize)?;
+    push_count(&mut text, b"asked", counts.asked as usize)?;
     push_offending(&mut text, &counts.offending)?;
-    push_policy(&mut text, counts)?;
-    push_run(&mut text, counts)?;
+    push_count(&mut text, b"permitted", counts.permitted as usize)?;
+    push_count(&mut text, b"stateful", counts.stateful as usize)?;
+    push_count(&mut text, b"iptables", counts.run.rules as usize)?;
+    push_table(&mut text, counts.table)?;
+    push_count(&mut text, b"events", counts.run.events)?;
+    push_count(&mut text, b"forwarded", counts.run.forwarded)?;
     Ok(text)
 }
 
-fn push_asked(text: &mut Vec<u8>, count: u16, counts: &Counts) -> Result<(), AllocError>
-    ensures { OnOk result (text.new.items ≡ text.old.items ++ asked_text count (counts_view counts.now)) }
-{
-    push_count(text, b"sample", count as usize)?;
-    push_count(text, b"hosts", counts.hosts as usize)?;
-    push_count(text, b"asked", counts.asked as usize)
-}
-
 fn push_offending(text: &mut Vec<u8>, offending: &[u32]) -> Result<(), AllocError>
-    ensures { OnOk result (text.new.items ≡ text.old.items ++ offending_lines 1 offending.now) }
+    ensures { OnOk result (text.new.items ≡ text.old.items ++ offending_lines offending.now) }
 {
     for (place, count) in offending.iter().enumerate() {
         push_offence(text, place + 1, *count)?;
@@ -113,15 +111,6 @@ fn push_offence(text: &mut Vec<u8>, number: usize, count: u32) -> Result<(), All
     push_count(text, digits.format(number).as_bytes(), count as usize)
 }
 
-fn push_policy(text: &mut Vec<u8>, counts: &Counts) -> Result<(), AllocError>
-    ensures { OnOk result (text.new.items ≡ text.old.items ++ policy_text (counts_view counts.now)) }
-{
-    push_count(text, b"permitted", counts.permitted as usize)?;
-    push_count(text, b"stateful", counts.stateful as usize)?;
-    push_count(text, b"iptables", counts.run.rules as usize)?;
-    push_table(text, counts.table)
-}
-
 fn push_table(text: &mut Vec<u8>, table: TableLines) -> Result<(), AllocError>
     ensures { OnOk result (text.new.items ≡ text.old.items ++ table_line table) }
 {
@@ -130,13 +119,6 @@ fn push_table(text: &mut Vec<u8>, table: TableLines) -> Result<(), AllocError>
         TableLines::NeedsState => text.extend_from_slice(b"openflow needs state\n"),
         TableLines::TooMany => text.extend_from_slice(b"openflow too many\n"),
     }
-}
-
-fn push_run(text: &mut Vec<u8>, counts: &Counts) -> Result<(), AllocError>
-    ensures { OnOk result (text.new.items ≡ text.old.items ++ run_text (counts_view counts.now)) }
-{
-    push_count(text, b"events", counts.run.events)?;
-    push_count(text, b"forwarded", counts.run.forwarded)
 }
 
 /// Puts a line with a word and a number.

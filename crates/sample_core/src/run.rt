@@ -9,7 +9,7 @@ ghost use Rattle.pkt_core.specs.inner.Kept.{kept_in};
 ghost use Rattle.pkt_core.specs.Tracking.{Runs};
 ghost use Rattle.pkt_core.specs.declared.event.Event.{Event};
 ghost use Rattle.pkt_core.specs.declared.event.Event.TheVariants.{Seen};
-ghost use Rattle.sample_core.specs.Sample.{AreForwarded, AreRunCounts};
+ghost use Rattle.sample_core.specs.inner.SampleCounts.{AreForwarded, AreRunCounts};
 ghost use Rattle.emit_core.specs.Layout.{layout};
 
 use crate::packets::sample_packets;

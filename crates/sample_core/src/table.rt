@@ -1,8 +1,9 @@
 //! The description of the sample, as a TOML table.
 
 ghost use Rattle.std.specs.Prelude.{◌≡◌, ◌++◌, ◌∷◌, [], if◌then◌else◌, IfOk, OnOk, codes, map, pos, ◌%◌, string_bytes};
-ghost use Rattle.sample_core.specs.SampleTable.{care_table, host_table, hosts_in_care, invariant_tables, is_in_care, level_table, sample_hosts, sample_name, sample_prefix, sample_table};
-ghost use Rattle.sample_core.specs.inner.MembersView.{put_member, table_value};
+ghost use Rattle.desc_core.specs.Migrated.{with_member};
+ghost use Rattle.sample_core.specs.SampleTable.{care_table, host_table, hosts_in_care, invariant_tables, level_table, sample_hosts, sample_name, sample_prefix, sample_table};
+ghost use Rattle.sample_core.specs.inner.TableParts.{is_in_care, table_value};
 ghost use Rattle.toml.specs.Data.{array, string, integer, table, no_members};
 ghost use Rattle.toml.specs.View.{items_view, table_view, view};
 
@@ -65,8 +66,8 @@ fn invariants(alloc: Global, count: u16) -> Result<Vec<Value>, AllocError>
 }
 
 fn invariant(alloc: Global, template: &str, assigns: Vec<Value>) -> Result<Value, AllocError>
-    ensures { IfOk result (λ value. view value ≡ table (put_member (codes "template") (string template.now)
-        (put_member (codes "assign") (array (items_view assigns.items)) no_members))) }
+    ensures { IfOk result (λ value. view value ≡ table (with_member (codes "template") (string template.now)
+        (with_member (codes "assign") (array (items_view assigns.items)) no_members))) }
 {
     let mut table = Table::new(alloc);
     put(alloc, &mut table, "assign", Value::Array(assigns))?;
@@ -114,8 +115,8 @@ fn push_care(alloc: Global, values: &mut Vec<Value>, host: u16) -> Result<(), Al
 
 /// The assign of a host, with one key beside its name.
 fn assign(alloc: Global, host: u16, key: &str, value: Value) -> Result<Value, AllocError>
-    ensures { IfOk result (λ made. view made ≡ table (put_member key.now (view value)
-        (put_member (codes "host") (string (sample_name host)) no_members))) }
+    ensures { IfOk result (λ made. view made ≡ table (with_member key.now (view value)
+        (with_member (codes "host") (string (sample_name host)) no_members))) }
 {
     let mut table = Table::new(alloc);
     put(alloc, &mut table, "host", Value::String(name(alloc, host)?))?;
@@ -145,7 +146,7 @@ fn text(alloc: Global, text: &str) -> Result<Value, AllocError>
 
 /// Puts a value at a key.
 fn put(alloc: Global, table: &mut Table, key: &str, value: Value) -> Result<(), AllocError>
-    ensures { OnOk result (table_view table.new ≡ put_member key.now (view value) (table_view table.old)) }
+    ensures { OnOk result (table_view table.new ≡ with_member key.now (view value) (table_view table.old)) }
 {
     table.insert(String::from_str(alloc, key)?, value)?;
     Ok(())

@@ -4,7 +4,8 @@ use Rattle.std.proofs.lemmas.List.{drop_all}
 use Rattle.flow_set.specs.FlowSet.{SetOfFlows}
 use Rattle.inv_any.specs.declared.any_inv.AnyInv.{AnyInv}
 use Rattle.net_core.specs.Policies.{holds_on}
-use Rattle.sample_core.proofs.OffenceLemmas.{goes_end, goes_next, offence_found}
+use Rattle.report_core.proofs.ReportLaws.{offence_found}
+use Rattle.sample_core.proofs.OffenceLemmas.{goes_end, goes_next}
 use Rattle.sample_core.proofs.counts.offending.Goals as goal
 
 pub loop-invariant-preserved : goal.loop-invariant-preserved

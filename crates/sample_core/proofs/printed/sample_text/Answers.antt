@@ -1,9 +1,12 @@
-use Rattle.sample_core.proofs.LineLemmas.{where_ok}
-use Rattle.sample_core.specs.inner.CountsView.{counts_view}
+use Rattle.std.proofs.Common.{◌∙◌}
+use Rattle.std.proofs.lemmas.Result.{IfOk-weaker}
+use Rattle.sample_core.proofs.CountsLemmas.{counts_told}
 use Rattle.sample_core.proofs.printed.sample_text.Goals as goal
 
 pub returns : goal.returns
 returns c =
-    where_ok _ _ c.counts_text.result
-    (λ text written. record { counts = counts_view c.in_ok-counts.counts; are = c.in_ok-counts.ensures; written = written })
+    let counts = c.in_ok-counts.counts in
+    let are = c.in_ok-counts.ensures in
+    IfOk-weaker c.counts_text.result _ _
+    (λ text written. record { found = are.found; written = written ∙ counts_told c.args.count counts are })
     c.counts_text.ensures

@@ -1,5 +1,5 @@
 use Rattle.std.proofs.Common.{◌≡◌, map}
-use Rattle.sample_core.specs.inner.MembersView.{table_value}
+use Rattle.sample_core.specs.inner.TableParts.{table_value}
 use Rattle.sample_core.specs.SampleTable.{level_table, sample_hosts}
 use Rattle.toml.specs.View.{view}
 use Rattle.sample_core.proofs.table.levels.Given as goal

@@ -1,0 +1,64 @@
+-- The numbers of the sample, one by one as the code has them, and their text.
+use Rattle.std.specs.Prelude.{◌≡◌, ℕ, Bool, List, ◌++◌, length, map, filter, Option, codes}
+use Rattle.flow_set.specs.declared.flow.Flow.{Flow}
+use Rattle.ipt_rules.specs.Chain.{Chain}
+use Rattle.ipt_rules.specs.Meaning.{Passes}
+use Rattle.ipt_rules.specs.Text.{text_lines}
+use Rattle.net_core.specs.Network.{Network}
+use Rattle.pkt_core.specs.declared.event.Event.{Event}
+use Rattle.pkt_core.specs.Filter.{RunsFromNothing}
+use Rattle.pkt_core.specs.Firewall.{Filter}
+use Rattle.report_core.specs.CheckReport.{AreOffences}
+use Rattle.sample_core.specs.Sample.{Found, chains_of, count_line, offence_size, offending_lines, sample_events, table_line, was_forwarded}
+use Rattle.sample_core.specs.declared.counts.TableLines.{TableLines}
+use Rattle.sample_core.specs.declared.printed.Counts.{Counts}
+
+-- for each invariant of a network
+pub record AreOffending (d : Network) (counts : List ℕ) : Type 0 where
+  pub offences : List (Option (List Flow))
+  pub found : AreOffences d.invariants d.asked.flows offences
+  pub counted : counts ≡ map offence_size offences
+
+-- how many packets a run of the filter forwards, beginning with no connections
+pub record AreForwarded (filter_of : Filter) (events : List Event) (count : ℕ) : Type 0 where
+  pub answers : List (Option Bool)
+  pub run : RunsFromNothing filter_of events answers
+  pub counted : count ≡ length (filter was_forwarded answers)
+
+-- the lines of the text of the chains, the events, and how many packets the chains forward
+pub record AreRunCounts (n : ℕ) (chains : List Chain) (rules events forwarded : ℕ) : Type 0 where
+  pub lines : rules ≡ length (text_lines chains)
+  pub all : events ≡ length (sample_events n)
+  pub passed : AreForwarded (Passes chains) (sample_events n) forwarded
+
+-- the numbers of what is found of the sample of n hosts
+pub record AreCounts (n : ℕ) (counts : Counts) : Type 0 where
+  pub found : Found n
+  pub hosts : counts.hosts ≡ length found.network.hosts
+  pub asked : counts.asked ≡ length found.network.asked.flows
+  pub offending : counts.offending.items ≡ map offence_size found.offences
+  pub permitted : counts.permitted ≡ length found.policy.permitted.flows
+  pub stateful : counts.stateful ≡ length found.policy.stateful.flows
+  pub rules : counts.run.rules ≡ length (text_lines (chains_of found.network found.policy))
+  pub table : counts.table ≡ found.table
+  pub events : counts.run.events ≡ length (sample_events n)
+  pub forwarded : counts.run.forwarded ≡ length (filter was_forwarded found.answers)
+
+-- the text of such numbers
+abbrev pub rows : (n hosts asked : ℕ) (offending : List ℕ) (permitted stateful rules : ℕ) → TableLines → (events forwarded : ℕ) → List ℕ
+rows n hosts asked offending permitted stateful rules table events forwarded =
+    count_line (codes "sample") n
+    ++ (count_line (codes "hosts") hosts
+    ++ (count_line (codes "asked") asked
+    ++ (offending_lines offending
+    ++ (count_line (codes "permitted") permitted
+    ++ (count_line (codes "stateful") stateful
+    ++ (count_line (codes "iptables") rules
+    ++ (table_line table
+    ++ (count_line (codes "events") events
+    ++ count_line (codes "forwarded") forwarded))))))))
+
+abbrev pub counts_text : ℕ → Counts → List ℕ
+counts_text n counts =
+    rows n counts.hosts counts.asked counts.offending.items counts.permitted counts.stateful counts.run.rules counts.table
+    counts.run.events counts.run.forwarded
