@@ -6,7 +6,7 @@ ghost use Rattle.flow_set.specs.FlowSet.{with_flow};
 ghost use Rattle.flow_set.specs.inner.Steps.{untried};
 ghost use Rattle.permit_core.specs.inner.Trials.{EachPair, AreTried};
 
-use crate::choice::{JudgingAlone, Choice, JudgingTogether};
+use crate::choice::{Choice, JudgingAlone, JudgingTogether};
 use flow_set::{Flow, FlowSet};
 use inv_law::Stepwise;
 use std::alloc::{AllocError, Global};
@@ -97,12 +97,7 @@ fn chosen_hold_with<I: Stepwise, C: Choice<I>>(
 }
 
 // Puts the flow into the trials of the chosen invariants. The trials of the others stay as they are.
-fn step_each<I: Stepwise, C: Choice<I>>(
-    choice: &C,
-    invs: &[I],
-    trials: &mut Vec<I::Tried>,
-    f: Flow,
-)
+fn step_each<I: Stepwise, C: Choice<I>>(choice: &C, invs: &[I], trials: &mut Vec<I::Tried>, f: Flow)
     requires counted { length trials.old.items ≡ length invs.now }
     requires fits { EachPair I.fits invs.now trials.old.items }
     requires flow { All (λ inv. IsFlow (I.size_of inv) f) invs.now }
