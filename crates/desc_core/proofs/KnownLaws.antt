@@ -17,7 +17,8 @@ use Rattle.desc_core.proofs.NamesLaws.{undeclared}
 use Rattle.desc_core.specs.Flows.{flow_of_names}
 use Rattle.desc_core.specs.inner.Parts.{bad_known, ends_of, name_conditions, self_found, twice_found}
 use Rattle.desc_core.proofs.UseFactsLaws.{PassesUses, hosts_declared, templates_known}
-use Rattle.desc_core.specs.UseConditions.{bad_at, bad_attribute, bad_attribute_of, duplicate_flow, is_declared, same_names, self_flow, undeclared_host, unknown_template}
+use Rattle.desc_core.specs.UseConditions.{bad_at, bad_attribute, bad_attribute_of, duplicate_flow, is_declared, self_flow, undeclared_host, unknown_template}
+use Rattle.desc_core.specs.inner.Flows.{same_names}
 use Rattle.desc_core.specs.WrittenNetwork.{Known, asked_of, given_by, invariant_of, invariants_of, known_of, made_of}
 use Rattle.desc_form.specs.Refusals.{refused, refused_by}
 use Rattle.desc_form.specs.Written.{Written, WrittenAssign, WrittenInvariant}

@@ -25,7 +25,7 @@ use Rattle.desc_form.proofs.WrittenLaws.{formed_where_written, written_stands}
 use Rattle.desc_form.proofs.WrittenOnceLaws.{written_is}
 use Rattle.desc_form.specs.declared.refusal.Refusal.{Refusal}
 use Rattle.desc_form.specs.HostConditions.{all_entries, bad_version, host_conditions}
-use Rattle.desc_form.specs.Mentions.{all_names, assign_names, flow_names, used_names}
+use Rattle.desc_form.specs.Mentions.{all_names, used_names}
 use Rattle.desc_form.specs.WrittenHosts.{network_hosts}
 use Rattle.net_core.specs.Network.{Network}
 use Rattle.table_core.specs.Shallow.{IsShallow, is_plain, items_are_plain, members_are_plain}
@@ -203,11 +203,11 @@ migrated_written ms w is =
 -- ---- what it is refused for, and its network
 
 hosts_pass : (w : Written) → first_of (host_conditions w) ≡ None → first_of (host_conditions (in_version_2 w)) ≡ None
-unfolding host_conditions bad_version all_entries all_names used_names assign_names flow_names
+unfolding host_conditions bad_version all_entries all_names used_names
 hosts_pass w none = (neither (bad_version w.version) _ none).1
 
 uses_same : (w : Written) → use_conditions (in_version_2 w) ≡ use_conditions w
-unfolding use_conditions unknown_template undeclared_host duplicate_assign bad_attribute self_flow duplicate_flow bad_service many_services bad_template not_lawful network_hosts used_names assign_names flow_names
+unfolding use_conditions unknown_template undeclared_host duplicate_assign bad_attribute self_flow duplicate_flow bad_service many_services bad_template not_lawful network_hosts used_names
 uses_same w = refl
 
 network_same : (w : Written) → network_of (in_version_2 w) ≡ network_of w

@@ -7,12 +7,13 @@ use Rattle.std.specs.Prelude.{if◌then◌else◌}
 use Rattle.std.specs.Str.{bytes_eq}
 use Rattle.desc_core.specs.UseConditions.{is_declared, undeclared_host}
 use Rattle.text_core.specs.Firsts.{first_of, numbered}
-use Rattle.desc_form.specs.Refusals.{refused_name}
+use Rattle.desc_form.specs.inner.Refused.{refused_name}
 use Rattle.desc_form.specs.Written.{Written, WrittenHost}
 use Rattle.desc_form.specs.declared.refusal.Why.TheVariants.{UndeclaredHost}
 use Rattle.desc_form.specs.HostConditions.{host_conditions}
 use Rattle.desc_form.proofs.HostsLaws.{legal_names}
-use Rattle.desc_form.specs.Mentions.{Mention, all_names, host_name, used_names}
+use Rattle.desc_form.specs.Mentions.{Mention, all_names, used_names}
+use Rattle.desc_form.specs.inner.MentionView.{host_name}
 use Rattle.desc_form.specs.WrittenHosts.{network_host, network_hosts}
 use Rattle.host_net.specs.Host.{host_named}
 use Rattle.text_core.specs.Name.{is_name}

@@ -10,7 +10,8 @@ use Rattle.desc_form.specs.declared.refusal.Place.TheVariants as place
 use Rattle.desc_form.specs.declared.refusal.Refusal.{Refusal}
 use Rattle.desc_form.specs.declared.refusal.Why.TheVariants.{BadAttribute, TooMany}
 use Rattle.text_core.specs.Firsts.{where_holds, first_of, first_found, Numbered, numbered}
-use Rattle.desc_form.specs.HostConditions.{Entry, host_conditions, bad_version, too_many, too_many_prefixes, bad_name, duplicate_host, bad_prefix, host_bits, no_address, two_rests, overlap, beyond, all_entries, template_limit}
+use Rattle.desc_form.specs.HostConditions.{Entry, host_conditions, bad_version, too_many, bad_name, duplicate_host, bad_prefix, host_bits, no_address, two_rests, overlap, beyond, all_entries, template_limit}
+use Rattle.desc_form.specs.inner.EntryView.{too_many_prefixes}
 use Rattle.host_net.specs.Limits.{invariant_limit, host_limit, prefix_limit}
 use Rattle.desc_core.specs.Description.{described, described_by_table}
 use Rattle.desc_core.proofs.DescriptionLaws.{none_of_table, none_told, told, told_of_table}
@@ -21,7 +22,7 @@ use Rattle.desc_core.specs.inner.AllConditions.{conditions, not_toml, too_long}
 use Rattle.desc_core.specs.Conditions.{table_conditions}
 use Rattle.desc_core.specs.inner.Order.{IsLeast, NoneHolds}
 use Rattle.desc_form.specs.WrittenHosts.{network_hosts}
-use Rattle.desc_form.specs.Places.{unknown_key, missing_key, wrong_type}
+use Rattle.desc_form.specs.Places.{first_place}
 use Rattle.desc_form.specs.Refusals.{number, refused, refused_item}
 use Rattle.desc_core.specs.UseConditions.{use_conditions, unknown_template, undeclared_host, duplicate_assign, duplicate_assign_of, bad_attribute, bad_attribute_of, bad_at, self_flow, duplicate_flow, bad_service, bad_service_of, many_services}
 use Rattle.desc_form.specs.FormConditions.{form_conditions}
@@ -102,7 +103,7 @@ tells_bad_service w = tells_found 21 bad_service_of (λ f. tells_map 21 _ (λ s.
 
 -- the conditions have the numbers from 1 on
 form_in_order : (table : Members) → InOrder 3 (form_conditions table)
-unfolding form_conditions unknown_key missing_key wrong_type
+unfolding form_conditions first_place
 form_in_order table = (tells_map 3 _ (λ p. refl) _, (tells_map 4 _ (λ p. refl) _, (tells_map 5 _ (λ p. refl) _, tt)))
 
 hosts_in_order : (w : Written) → InOrder 6 (host_conditions w)

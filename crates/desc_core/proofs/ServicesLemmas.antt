@@ -8,7 +8,7 @@ use Rattle.std.specs.Prelude.{◌==◌}
 use Rattle.desc_core.proofs.KnownLaws.{all_apart, each_zip, flow_is}
 use Rattle.desc_core.proofs.ListingLaws.{zip_length}
 use Rattle.desc_core.specs.inner.Parts.{ends_of, many_found, narrowed_among, self_found, twice_found, with_services}
-use Rattle.desc_core.specs.UseConditions.{has_many_services}
+use Rattle.desc_core.specs.inner.Flows.{has_many_services}
 use Rattle.desc_core.specs.WrittenNetwork.{narrowed_of, narrowed_to, services_in, services_said}
 use Rattle.desc_form.specs.Written.{Written}
 use Rattle.desc_form.specs.WrittenFlow.{WrittenFlow}

@@ -5,7 +5,7 @@ use Rattle.std.proofs.lemmas.List.{length-map}
 use Rattle.std.specs.List.{list_all}
 use Rattle.desc_core.proofs.ServicesLemmas.{AreLeft, as_many, is_new, none_yet, one_added}
 use Rattle.desc_core.specs.inner.Parts.{ends_of, with_services}
-use Rattle.desc_core.specs.UseConditions.{has_many_services}
+use Rattle.desc_core.specs.inner.Flows.{has_many_services}
 use Rattle.desc_core.specs.WrittenNetwork.{services_said}
 use Rattle.desc_form.specs.inner.WrittenView.{flow_view}
 use Rattle.desc_form.specs.declared.written.WrittenFlow.{WrittenFlow}

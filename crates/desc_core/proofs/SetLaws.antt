@@ -7,7 +7,7 @@ use Rattle.std.specs.List.{cons_option, filter_map, list_all}
 use Rattle.std.specs.Prelude.{if◌then◌else◌}
 use Rattle.std.specs.Str.{bytes_eq}
 use Rattle.desc_core.specs.Flows.{flow_of_names}
-use Rattle.desc_core.specs.UseConditions.{same_names}
+use Rattle.desc_core.specs.inner.Flows.{same_names}
 use Rattle.desc_form.specs.WrittenFlow.{WrittenFlow}
 use Rattle.flow_set.specs.declared.flow.Flow.{Flow}
 use Rattle.flow_set.specs.Flow.{same_flow}

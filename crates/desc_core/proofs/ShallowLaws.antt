@@ -6,8 +6,7 @@ use Rattle.toml.specs.Data.{Members, table, members_are_sorted}
 use Rattle.attr_core.specs.Assigns.{Given}
 use Rattle.attr_core.specs.Forms.{bad_assign}
 use Rattle.attr_core.proofs.ShallowLaws.{IsShallowGiven, assigns_shallow, kinds_shallow}
-use Rattle.desc_core.specs.Choices.{Choice, OneOfTen, OwnTable, declared_by}
-use Rattle.desc_core.specs.inner.Choices.{choice_form}
+use Rattle.desc_core.specs.Choices.{Choice, OneOfTen, OwnTable, choice_form, declared_by}
 use Rattle.desc_form.specs.WrittenTemplate.{WrittenTemplate}
 use Rattle.desc_core.proofs.WholeLaws.{IsDescribedByTable-described}
 use Rattle.desc_core.specs.Description.{described_by_table}

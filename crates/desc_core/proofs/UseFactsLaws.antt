@@ -14,7 +14,8 @@ use Rattle.desc_core.proofs.TemplateFactsLaws.{partners_are, templates_are}
 use Rattle.desc_form.specs.WrittenTemplate.{WrittenTemplate}
 use Rattle.desc_core.specs.inner.TemplateFacts.{HasPartner}
 use Rattle.desc_core.specs.inner.UseFacts.{HasUses, SaysAttributes}
-use Rattle.desc_core.specs.UseConditions.{bad_at, bad_attribute, bad_attribute_of, bad_service, bad_service_of, duplicate_assign, duplicate_assign_of, duplicate_flow, has_many_services, is_declared, many_services, same_names, self_flow, undeclared_host, unknown_template, use_conditions}
+use Rattle.desc_core.specs.UseConditions.{bad_at, bad_attribute, bad_attribute_of, bad_service, bad_service_of, duplicate_assign, duplicate_assign_of, duplicate_flow, is_declared, many_services, self_flow, undeclared_host, unknown_template, use_conditions}
+use Rattle.desc_core.specs.inner.Flows.{has_many_services, same_names}
 use Rattle.desc_core.specs.WrittenNetwork.{Known, known_of}
 use Rattle.desc_form.specs.Refusals.{refused}
 use Rattle.desc_form.specs.Written.{Written, WrittenAssign, WrittenInvariant}

@@ -29,7 +29,8 @@ use Rattle.desc_form.specs.Written.{Written, WrittenHost, WrittenInvariant, writ
 use Rattle.desc_form.specs.WrittenFlow.{WrittenFlow}
 use Rattle.desc_form.proofs.WrittenLaws.{written_stands}
 use Rattle.desc_form.proofs.FactsLaws.{all_say_prefixes, has_hosts}
-use Rattle.desc_form.specs.HostConditions.{host_conditions, is_prefix}
+use Rattle.desc_form.specs.HostConditions.{host_conditions}
+use Rattle.desc_form.specs.inner.EntryView.{is_prefix}
 use Rattle.desc_form.proofs.HostsLaws.{length-network_hosts}
 use Rattle.desc_form.specs.inner.HostFacts.{texts}
 use Rattle.desc_form.specs.WrittenHosts.{network_host, network_hosts}

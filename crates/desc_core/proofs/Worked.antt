@@ -7,7 +7,7 @@ use Rattle.std.specs.Prelude.{ℕ, ◌<◌, length, replicate, ◌≡◌, refl, 
 use Rattle.toml.specs.Data.{string, integer, table, Members, no_members, member}
 use Rattle.attr_core.specs.Blp.{blp_attribute}
 use Rattle.attr_core.specs.Shapes.{of_shape}
-use Rattle.attr_core.specs.Templates.{bad_in, invariant_in, template_named}
+use Rattle.attr_core.specs.Templates.{template_named}
 use Rattle.desc_core.specs.Choices.{bad_of, made_by}
 use Rattle.desc_core.specs.TemplateConditions.{bad_template, not_lawful}
 use Rattle.desc_core.proofs.Examples.{list, host_at, rest_host, flow, level, invariant, host_a, host_b, a_to_b, described_as, of_hosts, of_flows, of_invariants}
@@ -15,14 +15,15 @@ use Rattle.desc_form.specs.declared.refusal.Refusal.{Refusal}
 use Rattle.flow_set.specs.FlowSet.{set_of}
 use Rattle.desc_form.specs.WrittenFlow.{flow_written}
 use Rattle.desc_form.specs.HostConditions.{bad_version, too_many, bad_name, duplicate_host, bad_prefix, host_bits, no_address, two_rests, overlap, all_entries, host_conditions}
-use Rattle.desc_form.specs.Mentions.{assign_names, flow_names, used_names, all_names}
+use Rattle.desc_form.specs.Mentions.{used_names, all_names}
 use Rattle.desc_core.specs.WrittenNetwork.{network_of, asked_of, services_in, invariants_of, known_of}
 use Rattle.flow_set.specs.EveryFlow.{every_flow}
-use Rattle.desc_form.specs.Places.{unknown_key, missing_key, wrong_type, has_other_key, lacks_needed, has_unsuited, has_wrong_type, first_place, spots, listed, assigns_of}
+use Rattle.desc_form.specs.Places.{has_wrong_type, first_place, spots, listed, assigns_of}
 use Rattle.desc_core.specs.UseConditions.{use_conditions, unknown_template, undeclared_host, duplicate_assign, bad_attribute, self_flow, duplicate_flow, bad_service, many_services}
 use Rattle.desc_core.proofs.DescriptionLaws.{described-too_long}
 use Rattle.desc_core.specs.Description.{described, described_by_table}
-use Rattle.desc_form.specs.Refusals.{refused, refused_by, refused_item, refused_item_by, refused_name}
+use Rattle.desc_form.specs.Refusals.{refused, refused_by, refused_item}
+use Rattle.desc_form.specs.inner.Refused.{refused_item_by, refused_name}
 use Rattle.desc_form.specs.declared.refusal.Place.TheVariants.{Assign, Document, FlowAt, Host}
 use Rattle.desc_form.specs.declared.refusal.Why.TheVariants.{TooLong, BadAttribute, BadPrefix, BadVersion, DuplicateFlow, DuplicateHost, HostBits, Overlap, SelfFlow, TwoRests, UndeclaredHost, UnknownKey}
 use Rattle.desc_form.specs.FormConditions.{form_conditions}
@@ -58,7 +59,7 @@ worked_rows =
     ∷ []
 
 pub worked : map (λ r. described_by_table r.document) worked_rows ≡ map (λ r. Err r.refusal) worked_rows
-unfolding unknown_key missing_key wrong_type has_other_key lacks_needed has_unsuited has_only_keys lacks_key all_suit of_shape has_wrong_type first_place spots listed assigns_of has_only has_key text_at integer_at boolean_at number_at elements_of list_at flow_written written host_written invariant_written assign_written bad_version too_many bad_name duplicate_host bad_prefix host_bits no_address two_rests overlap all_entries assign_names flow_names used_names all_names unknown_template undeclared_host duplicate_assign bad_attribute self_flow duplicate_flow bad_service many_services network_of network_hosts asked_of services_in invariants_of known_of every_flow described_by_table table_conditions form_conditions host_conditions use_conditions prefix_of address_of number bounded_value is_exact meets template_named bad_in bad_of invariant_in made_by blp_attribute bad_template not_lawful
+unfolding has_only_keys lacks_key all_suit of_shape has_wrong_type first_place spots listed assigns_of has_only has_key text_at integer_at boolean_at number_at elements_of list_at flow_written written host_written invariant_written assign_written bad_version too_many bad_name duplicate_host bad_prefix host_bits no_address two_rests overlap all_entries used_names all_names unknown_template undeclared_host duplicate_assign bad_attribute self_flow duplicate_flow bad_service many_services network_of network_hosts asked_of services_in invariants_of known_of every_flow described_by_table table_conditions form_conditions host_conditions use_conditions prefix_of address_of number bounded_value is_exact meets template_named bad_of made_by blp_attribute bad_template not_lawful
 worked = refl
 
 -- without a change it is accepted
@@ -73,7 +74,7 @@ pub accepted : described_by_table (of_flows a_to_b) ≡ Ok (record {
   answers = false;
   invariants = [];
 })
-unfolding unknown_key missing_key wrong_type has_other_key lacks_needed has_unsuited has_only_keys lacks_key all_suit of_shape has_wrong_type first_place spots listed assigns_of has_only has_key text_at integer_at boolean_at number_at elements_of list_at flow_written written host_written invariant_written assign_written bad_version too_many bad_name duplicate_host bad_prefix host_bits no_address two_rests overlap all_entries assign_names flow_names used_names all_names unknown_template undeclared_host duplicate_assign bad_attribute self_flow duplicate_flow bad_service many_services network_of network_hosts asked_of services_in invariants_of known_of every_flow described_by_table table_conditions form_conditions host_conditions use_conditions prefix_of address_of number bounded_value is_exact meets template_named bad_in bad_of invariant_in made_by blp_attribute bad_template not_lawful set_of
+unfolding has_only_keys lacks_key all_suit of_shape has_wrong_type first_place spots listed assigns_of has_only has_key text_at integer_at boolean_at number_at elements_of list_at flow_written written host_written invariant_written assign_written bad_version too_many bad_name duplicate_host bad_prefix host_bits no_address two_rests overlap all_entries used_names all_names unknown_template undeclared_host duplicate_assign bad_attribute self_flow duplicate_flow bad_service many_services network_of network_hosts asked_of services_in invariants_of known_of every_flow described_by_table table_conditions form_conditions host_conditions use_conditions prefix_of address_of number bounded_value is_exact meets template_named bad_of made_by blp_attribute bad_template not_lawful set_of
 accepted = refl
 
 -- whatever stands in it, a file of one byte more than the limit is too long

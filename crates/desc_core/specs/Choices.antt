@@ -5,8 +5,8 @@ use Rattle.std.specs.Option.{option_or}
 use Rattle.std.specs.Str.{bytes_eq}
 use Rattle.attr_core.specs.Assigns.{Given}
 use Rattle.attr_core.specs.OwnTables.{Declared, kind_numbered, table_form}
-use Rattle.attr_core.specs.Forms.{bad_assign, invariant_by}
-use Rattle.attr_core.specs.Templates.{bad_in, invariant_in, template_named}
+use Rattle.attr_core.specs.Forms.{Form, bad_assign, invariant_by}
+use Rattle.attr_core.specs.Templates.{form, template_named}
 use Rattle.attr_core.specs.declared.template.Template.{Template}
 use Rattle.desc_form.specs.WrittenTemplate.{WrittenTemplate}
 use Rattle.host_net.specs.Host.{Host}
@@ -44,12 +44,15 @@ table_said t = record {
 abbrev pub declared_by : WrittenTemplate → Declared
 declared_by t = record { words = t.kinds; table = table_said t }
 
+-- how a description writes the attributes of the template
+abbrev pub choice_form : Choice → Form
+choice_form (OneOfTen t) = form t
+choice_form (OwnTable t) = table_form (declared_by t)
+
 -- the first assign that says no attribute
 unfoldable pub bad_of : List Host → Choice → List Given → Option ℕ
-bad_of hosts (OneOfTen t) assigns = bad_in hosts t assigns
-bad_of hosts (OwnTable t) assigns = bad_assign (table_form (declared_by t)) hosts assigns
+bad_of hosts choice assigns = bad_assign (choice_form choice) hosts assigns
 
 -- the invariant whose hosts have the attributes that are assigned
 unfoldable pub made_by : List Host → Choice → List Given → AnyInv
-made_by hosts (OneOfTen t) assigns = invariant_in hosts t assigns
-made_by hosts (OwnTable t) assigns = invariant_by (table_form (declared_by t)) hosts assigns
+made_by hosts choice assigns = invariant_by (choice_form choice) hosts assigns

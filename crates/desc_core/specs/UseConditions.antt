@@ -9,11 +9,11 @@ use Rattle.desc_form.specs.WrittenTemplate.{WrittenTemplate}
 use Rattle.desc_form.specs.declared.refusal.Place.TheVariants.{Invariant, Assign, FlowAt}
 use Rattle.desc_form.specs.declared.refusal.Refusal.{Refusal}
 use Rattle.desc_form.specs.declared.refusal.Why.TheVariants.{UnknownTemplate, UndeclaredHost, DuplicateAssign, BadAttribute, SelfFlow, DuplicateFlow, BadService, ManyServices}
-use Rattle.text_core.specs.Firsts.{first_found, numbered, Numbered, first_pair}
+use Rattle.text_core.specs.Firsts.{first_found, numbered, Numbered}
 use Rattle.desc_form.specs.Mentions.{used_names}
 use Rattle.desc_core.specs.WrittenNetwork.{Known, known_of}
 use Rattle.desc_form.specs.WrittenHosts.{network_hosts}
-use Rattle.desc_form.specs.Refusals.{refused, refused_by, refused_item, refused_name}
+use Rattle.desc_form.specs.Refusals.{barred_at, first_at, refused, refused_item}
 use Rattle.desc_form.specs.Written.{Written, WrittenInvariant}
 use Rattle.desc_form.specs.WrittenFlow.{WrittenFlow}
 use Rattle.host_net.specs.Host.{Host}
@@ -23,9 +23,7 @@ use Rattle.text_core.specs.Steps.{◌>>=◌}
 
 -- 15: no template has the name, nor is one declared under it
 unfoldable pub unknown_template : Written → Option Refusal
-unknown_template w =
-    option_map (λ i. refused UnknownTemplate (Invariant i.number))
-    (find (λ i. is_none (chosen w.templates i.what.template)) (numbered w.invariants))
+unknown_template w = first_at UnknownTemplate Invariant (λ i. is_none (chosen w.templates i.template)) w.invariants
 
 -- a host of the description has the name
 abbrev pub is_declared : Written → List ℕ → Bool
@@ -34,12 +32,10 @@ is_declared w name = list_any (λ h. bytes_eq name h.name) w.hosts
 -- 16: no host has the name in an assign, then in a flow
 unfoldable pub undeclared_host : Written → Option Refusal
 undeclared_host w =
-    option_map (λ m. refused_name UndeclaredHost m.place m.item m.name) (find (λ m. not (is_declared w m.name)) (used_names w))
+    option_map (λ m. record (refused_item UndeclaredHost m.place m.item) { name = m.name }) (find (λ m. not (is_declared w m.name)) (used_names w))
 
 abbrev pub duplicate_assign_of : Numbered WrittenInvariant → Option Refusal
-duplicate_assign_of i =
-    option_map (λ p. refused_by DuplicateAssign (Assign i.number p.later.number) p.earlier.number)
-    (first_pair (λ a b. bytes_eq a.what.host b.what.host) (numbered i.what.assigns))
+duplicate_assign_of i = barred_at DuplicateAssign (Assign i.number) (λ a b. bytes_eq a.host b.host) i.what.assigns
 
 -- 17: an assign has the host of an earlier one of the same invariant
 unfoldable pub duplicate_assign : Written → Option Refusal
@@ -57,21 +53,13 @@ bad_attribute_of templates hosts i = known_of templates hosts i.what >>= bad_at 
 unfoldable pub bad_attribute : Written → Option Refusal
 bad_attribute w = first_found (bad_attribute_of w.templates (network_hosts w)) (numbered w.invariants)
 
-abbrev pub leads_to_itself : WrittenFlow → Bool
-leads_to_itself f = bytes_eq f.from f.to
-
 -- 19: both names of a flow are the same
 unfoldable pub self_flow : Written → Option Refusal
-self_flow w = option_map (λ f. refused SelfFlow (FlowAt f.number)) (find (λ f. leads_to_itself f.what) (numbered w.flows))
-
-abbrev pub same_names : WrittenFlow → WrittenFlow → Bool
-same_names f g = bytes_eq f.from g.from && bytes_eq f.to g.to
+self_flow w = first_at SelfFlow FlowAt (λ f. bytes_eq f.from f.to) w.flows
 
 -- 20: a flow was listed before, whatever its services are
 unfoldable pub duplicate_flow : Written → Option Refusal
-duplicate_flow w =
-    option_map (λ p. refused_by DuplicateFlow (FlowAt p.later.number) p.earlier.number)
-    (first_pair (λ f g. same_names f.what g.what) (numbered w.flows))
+duplicate_flow w = barred_at DuplicateFlow FlowAt (λ f g. bytes_eq f.from g.from && bytes_eq f.to g.to) w.flows
 
 -- a flow is refused at its first text that says no service; behind its two names stands item 3
 abbrev pub bad_service_of : Numbered WrittenFlow → Option Refusal
@@ -82,12 +70,9 @@ bad_service_of f =
 unfoldable pub bad_service : Written → Option Refusal
 bad_service w = first_found bad_service_of (numbered w.flows)
 
-abbrev pub has_many_services : WrittenFlow → Bool
-has_many_services f = nat_lt service_limit (length f.services)
-
 -- 22: a flow has more services than there may be
 unfoldable pub many_services : Written → Option Refusal
-many_services w = option_map (λ f. refused ManyServices (FlowAt f.number)) (find (λ f. has_many_services f.what) (numbered w.flows))
+many_services w = first_at ManyServices FlowAt (λ f. nat_lt service_limit (length f.services)) w.flows
 
 -- the conditions in the order of their numbers, 15 to 24
 unfoldable pub use_conditions : Written → List (Option Refusal)

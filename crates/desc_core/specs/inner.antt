@@ -1,6 +1,6 @@
 pub mod AllConditions
 pub mod ChoiceView
-pub mod Choices
+pub mod Flows
 pub mod KnownView
 pub mod Makeable
 pub mod Migrated

@@ -2,6 +2,7 @@
 //! invariants themselves, each made of its assigns.
 ghost use Rattle.std.specs.Prelude.{◌≡◌, ◌<◌, None, length, map, All, IfOk};
 ghost use Rattle.attr_core.specs.inner.AssignView.{given_of};
+ghost use Rattle.attr_core.specs.inner.ReadIn.{bad_in, invariant_in};
 ghost use Rattle.attr_core.specs.OwnTables.{table_form};
 ghost use Rattle.attr_core.specs.Forms.{invariant_by};
 ghost use Rattle.desc_core.specs.Choices.{bad_of, declared_by};
@@ -15,7 +16,7 @@ ghost use Rattle.desc_core.specs.WrittenNetwork.{made_of};
 use crate::choice::Choice;
 use crate::known::KnownInvariant;
 use crate::own_table::rule_of;
-use attr_core::{Assign, bad_attribute, bad_kind, read_invariant, read_kinds};
+use attr_core::{Assign, AttrFault, Template, bad_kind, read_invariant, read_kinds};
 use desc_form::{Place, Refusal, Why, WrittenTemplate};
 use host_net::Hosts;
 use inv_any::AnyInv;
@@ -27,6 +28,7 @@ pub(crate) fn attribute_refusal(
     hosts: &Hosts,
     invariants: &[KnownInvariant<'_, '_>],
 ) -> Result<Option<Refusal>, AllocError>
+    requires { All (λ k. All (λ a. a.host < length hosts.now) k.assigns.items) invariants.now }
     ensures { IfOk result (λ refusal. refusal ≡ bad_known hosts.now (map known_view invariants.now)) }
 {
     for (index, invariant) in invariants.iter().enumerate() {
@@ -45,6 +47,7 @@ fn bad_attribute_of(
     number: u64,
     invariant: &KnownInvariant<'_, '_>,
 ) -> Result<Option<Refusal>, AllocError>
+    requires { All (λ a. a.host < length hosts.now) invariant.now.assigns.items }
     ensures { IfOk result (λ refusal. refusal ≡ bad_at hosts.now number (known_view invariant.now)) }
 {
     let Some(assign) = bad_assign(alloc, hosts, invariant)? else {
@@ -55,17 +58,35 @@ fn bad_attribute_of(
 }
 
 /// The number, from 0, of the first assign that says no attribute of the invariant's template.
-#[tactic(auto, unfolding(crate::specs::Choices::bad_of))]
+#[tactic(auto, unfolding(crate::specs::Choices::bad_of, attr_core::specs::inner::ReadIn::bad_in))]
 fn bad_assign(
     alloc: Global,
     hosts: &Hosts,
     invariant: &KnownInvariant<'_, '_>,
 ) -> Result<Option<usize>, AllocError>
+    requires { All (λ a. a.host < length hosts.now) invariant.now.assigns.items }
     ensures { IfOk result (λ bad. bad ≡ bad_of hosts.now (known_view invariant.now).template (known_view invariant.now).assigns) }
 {
     match invariant.template {
         Choice::OneOfTen(template) => bad_attribute(alloc, hosts, template, &invariant.assigns),
         Choice::OwnTable(template) => Ok(bad_kind(&template.kinds, &invariant.assigns)),
+    }
+}
+
+/// The same of one of the ten templates: the assigns are read, and what is read is let go.
+fn bad_attribute(
+    alloc: Global,
+    hosts: &Hosts,
+    template: Template,
+    assigns: &[Assign<'_>],
+) -> Result<Option<usize>, AllocError>
+    requires { All (λ a. a.host < length hosts.now) assigns.now }
+    ensures { IfOk result (λ bad. bad ≡ bad_in hosts.now template (map given_of assigns.now)) }
+{
+    match read_invariant(alloc, hosts, template, assigns) {
+        Ok(_) => Ok(None),
+        Err(AttrFault::BadAttribute { assign }) => Ok(Some(assign)),
+        Err(AttrFault::Memory) => Err(AllocError),
     }
 }
 
@@ -87,7 +108,7 @@ pub(crate) fn read_invariants(
     Ok(made)
 }
 
-#[tactic(auto, unfolding(crate::specs::Choices::bad_of, crate::specs::Choices::made_by))]
+#[tactic(auto, unfolding(crate::specs::Choices::bad_of, crate::specs::Choices::made_by, attr_core::specs::inner::ReadIn::bad_in, attr_core::specs::inner::ReadIn::invariant_in))]
 fn read_one(
     alloc: Global,
     hosts: &Hosts,
@@ -99,8 +120,26 @@ fn read_one(
     ensures { IfOk result (λ made. made ≡ made_of hosts.now (known_view invariant.now)) }
 {
     match invariant.template {
-        Choice::OneOfTen(template) => read_invariant(alloc, hosts, template, &invariant.assigns),
+        Choice::OneOfTen(template) => read_good(alloc, hosts, template, &invariant.assigns),
         Choice::OwnTable(template) => read_declared(alloc, hosts, template, &invariant.assigns),
+    }
+}
+
+/// The invariant of one of the ten templates.
+fn read_good(
+    alloc: Global,
+    hosts: &Hosts,
+    template: Template,
+    assigns: &[Assign<'_>],
+) -> Result<AnyInv, AllocError>
+    requires hosts { All (λ a. a.host < length hosts.now) assigns.now }
+    requires good { bad_in hosts.now template (map given_of assigns.now) ≡ None }
+    ensures { IfOk result (λ made. made ≡ invariant_in hosts.now template (map given_of assigns.now)) }
+{
+    match read_invariant(alloc, hosts, template, assigns) {
+        Ok(invariant) => Ok(invariant),
+        Err(AttrFault::BadAttribute { .. }) => unreachable!(),
+        Err(AttrFault::Memory) => Err(AllocError),
     }
 }
 

@@ -103,6 +103,7 @@ fn use_refusal(
     invariants: &[KnownInvariant<'_, '_>],
     flows: &[Flow],
 ) -> Result<Option<Refusal>, AllocError>
+    requires { All (λ k. All (λ a. a.host < length hosts.now) k.assigns.items) invariants.now }
     ensures { IfOk result (λ refusal. refusal ≡ option_or (duplicate_assign (written_view written.now))
         (option_or (bad_known hosts.now (map known_view invariants.now)) (self_found flows.now))) }
 {

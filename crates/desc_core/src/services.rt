@@ -2,7 +2,8 @@
 ghost use Rattle.std.specs.Prelude.{◌≡◌, ◌≤◌, ◌+◌, [], find, is_none, length, map, option_map, IfOk, IsTrue, OnOk, filter_map, not};
 ghost use Rattle.std.specs.List.{list_all};
 ghost use Rattle.desc_core.specs.inner.Parts.{many_found, narrowed_among, services_found, with_services};
-ghost use Rattle.desc_core.specs.UseConditions.{bad_service_of, has_many_services};
+ghost use Rattle.desc_core.specs.UseConditions.{bad_service_of};
+ghost use Rattle.desc_core.specs.inner.Flows.{has_many_services};
 ghost use Rattle.desc_form.specs.Refusals.{refused, refused_item};
 ghost use Rattle.desc_form.specs.inner.WrittenView.{flow_view};
 ghost use Rattle.desc_form.specs.declared.refusal.Place.TheVariants.{FlowAt};

@@ -1,6 +1,6 @@
 -- What the private functions give on the way to a network: the table of the bytes, and the refusals in groups, by the hosts that
 -- were found. Their contracts cite it; the laws tie it to `described`, and nothing here has to be believed.
-use Rattle.std.specs.Prelude.{ℕ, ◌==◌, List, [], ◌∷◌, ◌++◌, length, nat_lt, find, Option, Some, option_map, Err, Result, if◌then◌else◌}
+use Rattle.std.specs.Prelude.{ℕ, ◌==◌, List, [], ◌∷◌, ◌++◌, length, nat_lt, Option, Some, Err, Result, if◌then◌else◌}
 use Rattle.std.specs.List.{cons_option}
 use Rattle.std.specs.Option.{ok_or, option_or}
 use Rattle.toml.specs.Data.{Members}
@@ -10,12 +10,13 @@ use Rattle.desc_core.specs.Document.{document}
 use Rattle.net_core.specs.Network.{Network}
 use Rattle.desc_core.specs.WrittenNetwork.{Known, narrowed_to, network_of, services_said}
 use Rattle.desc_core.specs.TemplateConditions.{bad_template, not_lawful}
-use Rattle.desc_core.specs.UseConditions.{bad_at, bad_service_of, has_many_services, undeclared_host, unknown_template, use_conditions}
-use Rattle.desc_form.specs.Refusals.{refused, refused_by}
+use Rattle.desc_core.specs.UseConditions.{bad_at, bad_service_of, undeclared_host, unknown_template, use_conditions}
+use Rattle.desc_core.specs.inner.Flows.{has_many_services}
+use Rattle.desc_form.specs.Refusals.{barred_at, first_at, refused}
 use Rattle.desc_form.specs.WrittenFlow.{WrittenFlow}
 use Rattle.desc_form.specs.declared.refusal.Place.TheVariants.{Document, FlowAt}
 use Rattle.desc_form.specs.declared.refusal.Why.TheVariants.{DuplicateFlow, ManyServices, NotToml, SelfFlow, TooLong}
-use Rattle.text_core.specs.Firsts.{first_found, first_pair, numbered}
+use Rattle.text_core.specs.Firsts.{first_found, numbered}
 use Rattle.text_core.specs.Steps.{◌>>=◌}
 use Rattle.desc_form.specs.Written.{Written}
 use Rattle.desc_form.specs.HostConditions.{host_conditions}
@@ -33,11 +34,11 @@ unfoldable pub table_of : List ℕ → Result Members Refusal
 table_of bytes =
     if nat_lt byte_limit (length bytes) then Err (refused TooLong Document) else ok_or (document bytes) (refused NotToml Document)
 
--- the network, or the first of 6 to 22
+-- the network, or the first of 6 to 24
 unfoldable pub network_or : Written → Result Network Refusal
 network_or w = refused_or (first_of (host_conditions w ++ use_conditions w)) (network_of w)
 
--- the network, or the first of 15 to 22
+-- the network, or the first of 15 to 24
 abbrev pub network_by_uses : Written → Result Network Refusal
 network_by_uses w = refused_or (first_of (use_conditions w)) (network_of w)
 
@@ -58,17 +59,15 @@ bad_known hosts ks = first_found (λ k. bad_at hosts k.number k.what) (numbered 
 
 -- 19, of flows by their hosts
 abbrev pub self_found : List Flow → Option Refusal
-self_found fs = option_map (λ f. refused SelfFlow (FlowAt f.number)) (find (λ f. f.what.from == f.what.to) (numbered fs))
+self_found fs = first_at SelfFlow FlowAt (λ f. f.from == f.to) fs
 
 -- 20, of flows by their hosts
 abbrev pub twice_found : List Flow → Option Refusal
-twice_found fs =
-    option_map (λ p. refused_by DuplicateFlow (FlowAt p.later.number) p.earlier.number)
-    (first_pair (λ f g. same_flow f.what g.what) (numbered fs))
+twice_found fs = barred_at DuplicateFlow FlowAt same_flow fs
 
 -- 22, of flows as they are written
 abbrev pub many_found : List WrittenFlow → Option Refusal
-many_found ws = option_map (λ f. refused ManyServices (FlowAt f.number)) (find (λ f. has_many_services f.what) (numbered ws))
+many_found ws = first_at ManyServices FlowAt has_many_services ws
 
 -- 21 and 22
 abbrev pub services_found : List WrittenFlow → Option Refusal

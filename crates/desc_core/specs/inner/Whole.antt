@@ -8,8 +8,7 @@ use Rattle.desc_core.specs.Flows.{flow_of_names}
 use Rattle.net_core.specs.Network.{Network}
 use Rattle.attr_core.specs.Assigns.{Given}
 use Rattle.attr_core.specs.Forms.{attributes_in, bad_assign}
-use Rattle.desc_core.specs.Choices.{Choice, chosen, table_said}
-use Rattle.desc_core.specs.inner.Choices.{choice_form}
+use Rattle.desc_core.specs.Choices.{Choice, choice_form, chosen, table_said}
 use Rattle.tmpl_table.specs.KindTable.{is_lawful}
 use Rattle.desc_form.specs.WrittenTemplate.{WrittenTemplate}
 use Rattle.desc_core.specs.WrittenNetwork.{given_by}

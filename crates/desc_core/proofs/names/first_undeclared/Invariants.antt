@@ -1,7 +1,7 @@
 use Rattle.std.proofs.Common.{◌≡◌, map, drop, option_map}
 use Rattle.std.specs.List.{list_all}
 use Rattle.std.specs.Prelude.{find, is_none, IsTrue}
-use Rattle.desc_form.specs.Refusals.{refused_name}
+use Rattle.desc_form.specs.inner.Refused.{refused_name}
 use Rattle.desc_form.specs.declared.refusal.Why.TheVariants.{UndeclaredHost}
 use Rattle.desc_form.specs.inner.MentionView.{mention_view}
 use Rattle.desc_form.specs.Mentions.{Mention}
