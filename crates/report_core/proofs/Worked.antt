@@ -3,7 +3,8 @@ use Rattle.std.specs.Fmt.{digits}
 use Rattle.std.specs.Prelude.{◌≡◌, ℕ, true, false, List, [], ◌∷◌, ◌++◌, length, None, Some, map, codes, refl}
 use Rattle.net_core.specs.Network.{Network}
 use Rattle.flow_set.specs.EveryFlow.{every_flow}
-use Rattle.desc_form.specs.Refusals.{refused, refused_item, refused_by, refused_item_by, refused_name}
+use Rattle.desc_form.specs.Refusals.{refused, refused_item, refused_by}
+use Rattle.desc_form.specs.inner.Refused.{refused_item_by, refused_name}
 use Rattle.desc_form.specs.declared.refusal.Place.TheVariants.{Document, Host, Assign, FlowAt, Template}
 use Rattle.desc_form.specs.declared.refusal.Refusal.{Refusal}
 use Rattle.desc_form.specs.declared.refusal.Why.TheVariants.{NotToml, UnknownKey, BadVersion, TooMany, DuplicateHost, BadPrefix, HostBits, TwoRests, Overlap, UndeclaredHost, BadAttribute, SelfFlow, DuplicateFlow, BadService, ManyServices, BadTemplate, NotLawful}

@@ -4,12 +4,11 @@ use Rattle.std.proofs.lemmas.List.Elements.{All-nil, All-from_recursion, All-hea
 use Rattle.std.proofs.lemmas.List.Kept.{AllPairs-filter}
 use Rattle.std.specs.List.{list_any, range_with_len}
 use Rattle.attr_core.specs.Assigns.{Given}
-use Rattle.attr_core.specs.Blp.{blp_form, blp_keys}
+use Rattle.attr_core.specs.Blp.{blp_form}
 use Rattle.attr_core.specs.Forms.{bad_from, says}
-use Rattle.attr_core.specs.Kinds.{kind_of}
-use Rattle.attr_core.specs.Partners.{listless_keys, master_keys, partner_kind, partners_attribute, partners_form}
-use Rattle.attr_core.specs.Shapes.{has_shape, of_shape}
-use Rattle.attr_core.specs.Templates.{bad_in, template_named}
+use Rattle.attr_core.specs.Partners.{partners_attribute, partners_form}
+use Rattle.attr_core.specs.Shapes.{host_key, of_shape}
+use Rattle.attr_core.specs.Templates.{template_named}
 use Rattle.desc_core.specs.Choices.{Choice, OneOfTen, bad_of, chosen}
 use Rattle.desc_core.specs.inner.TemplateFacts.{HasPartner, IsTemplate}
 use Rattle.attr_core.specs.declared.template.Template.{Template}
@@ -102,14 +101,14 @@ IsLevel t = (k : ℕ) × (t ≡ level_table k)
 level_small : (k : ℕ) → nat_le (k % 4) 65535 ≡ true
 level_small k = grind (arith, nat_tests)
 
-level_shaped : (k : ℕ) → has_shape (blp_keys ∷ []) (level_table k) ≡ true
+level_shaped : (k : ℕ) → of_shape (level_table k) (host_key ∷ blp_form.keys) ≡ true
 unfolding of_shape has_only_keys lacks_key all_suit has_only has_key text_at integer_at number_at boolean_at
 level_shaped k = rw (level_small k) refl
 
 level_said : (hosts : List Host) (earlier : List Given) (host : ℕ) (t : Members) → IsLevel t
     → is_some (says blp_form hosts earlier (record { host = host; table = t })) ≡ true
 level_said hosts earlier host t (k, is) =
-    let shaped : has_shape (blp_keys ∷ []) t ≡ true = ap (has_shape (blp_keys ∷ [])) is ∙ level_shaped k in
+    let shaped : of_shape t (host_key ∷ blp_form.keys) ≡ true = ap (λ u. of_shape u (host_key ∷ blp_form.keys)) is ∙ level_shaped k in
     rw shaped refl
 
 named_blp : template_named (codes "blp") ≡ Some Blp
@@ -117,7 +116,7 @@ unfolding template_named
 named_blp = refl
 
 levels_good : (hosts : List Host) (ks : List ℕ) → SaysAttributes [] hosts (sample_invariant (codes "blp") level_table ks)
-unfolding bad_of bad_in
+unfolding bad_of
 levels_good hosts ks k said =
     let (gs, is, same) = known_parts hosts (sample_invariant (codes "blp") level_table ks) Blp k named_blp said in
     let levels : All (λ a. IsLevel a.table) (map (sample_assign level_table) ks) =
@@ -129,19 +128,18 @@ levels_good hosts ks k said =
 abbrev IsCare : Members → Type 0
 IsCare t = (k : ℕ) × (t ≡ care_table k)
 
-care_shaped : (k : ℕ) → has_shape (listless_keys ∷ master_keys ∷ []) (care_table k) ≡ true
+care_shaped : (k : ℕ) → of_shape (care_table k) (host_key ∷ partners_form.keys) ≡ true
 unfolding of_shape has_only_keys lacks_key all_suit has_only has_key text_at list_at
 care_shaped k = refl
 
 care_attribute : (hosts : List Host) (host k : ℕ) → is_some (partners_attribute hosts host (care_table k)) ≡ true
-unfolding partners_attribute partner_kind kind_of text_at
+unfolding partners_attribute text_at list_at
 care_attribute hosts host k = refl
 
 care_said : (hosts : List Host) (earlier : List Given) (host : ℕ) (t : Members) → IsCare t
     → is_some (says partners_form hosts earlier (record { host = host; table = t })) ≡ true
 care_said hosts earlier host t (k, is) =
-    let shaped : has_shape (listless_keys ∷ master_keys ∷ []) t ≡ true =
-    ap (has_shape (listless_keys ∷ master_keys ∷ [])) is ∙ care_shaped k in
+    let shaped : of_shape t (host_key ∷ partners_form.keys) ≡ true = ap (λ u. of_shape u (host_key ∷ partners_form.keys)) is ∙ care_shaped k in
     rw shaped (ap (λ u. is_some (partners_attribute hosts host u)) is ∙ care_attribute hosts host k)
 
 named_partners : template_named (codes "partners") ≡ Some Partners
@@ -149,7 +147,7 @@ unfolding template_named
 named_partners = refl
 
 care_good : (hosts : List Host) (ks : List ℕ) → SaysAttributes [] hosts (sample_invariant (codes "partners") care_table ks)
-unfolding bad_of bad_in
+unfolding bad_of
 care_good hosts ks k said =
     let (gs, is, same) = known_parts hosts (sample_invariant (codes "partners") care_table ks) Partners k named_partners said in
     let cares : All (λ a. IsCare a.table) (map (sample_assign care_table) ks) =
