@@ -6,10 +6,9 @@ use Rattle.ipt_rules.specs.Chain.{Chain}
 use Rattle.ipt_rules.specs.Loops.{HasNoLoop, IsLeastLoop}
 use Rattle.ipt_read.specs.declared.fault.IptWhy.{IptWhy}
 use Rattle.ipt_read.specs.Said.{After, SaidSoFar, line_of}
-use Rattle.ipt_read.specs.LineFault.{IsBadLine}
 use Rattle.text_core.specs.Lines.{words}
 use Rattle.ipt_read.proofs.LineLaws.{IsTextLine, read_of_line}
-use Rattle.ipt_read.proofs.LineFaultLaws.{step_of_bad_line}
+use Rattle.ipt_read.proofs.LineFaultLaws.{IsBadLine, step_of_bad_line}
 use Rattle.ipt_read.specs.TextLines.{EndsBadly, no_commit, loops, rules_text, IsReading, HasFault}
 
 -- 1. One line.

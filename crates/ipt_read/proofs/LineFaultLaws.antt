@@ -3,7 +3,7 @@ use Rattle.std.proofs.Common.{◌≡◌, ◌≢◌, ◌⊎◌, inl, inr, ℕ, �
 use Rattle.std.specs.Prelude.{Result, Ok, Err, codes, bytes_eq, nat_lt}
 use Rattle.std.proofs.lemmas.Bool.{and_parts, and_from}
 use Rattle.std.proofs.lemmas.Bool.Decides.{nat_tests}
-use Rattle.text_core.specs.Lines.{begins_with, words}
+use Rattle.text_core.specs.Lines.{begins_with, words, are_comment, is_comment}
 use Rattle.text_core.proofs.StepsLaws.{if_parts, split_bool, bytes_same, bytes_own}
 use Rattle.ipt_rules.specs.declared.rule.Policy.{Policy}
 use Rattle.ipt_rules.specs.declared.rule.Rule.{Rule}
@@ -23,7 +23,7 @@ use Rattle.ipt_read.specs.Grammar.{IsFront, IsChainLine}
 use Rattle.ipt_read.proofs.ValueLaws.{count_said, said_count}
 use Rattle.ipt_read.proofs.LineLaws.{rule_line_of_read, read_of_rule_line, count_begins, policy_read, policy_behind, colon_word, built_in_said, built_in_read}
 use Rattle.ipt_read.proofs.RuleFaultLaws.{stuck_of_read, read_of_stuck}
-use Rattle.ipt_read.specs.LineFault.{IsBadRule, not_begun, no_chain, stuck, MayDeclare, a_built_in, a_user, BeginsRule, IsBad, IsBadLine, wordless, bad_words, no_table, other_table, behind_table, bad_chain, many_chains, bad_rule, many_rules, other_line, after_commit}
+use Rattle.ipt_read.specs.LineFault.{IsBadRule, not_begun, no_chain, stuck, MayDeclare, a_built_in, a_user, BeginsRule, IsBad, no_table, other_table, behind_table, bad_chain, many_chains, bad_rule, many_rules, other_line, after_commit}
 
 -- 1. Rule lines.
 
@@ -408,18 +408,16 @@ step_of_bad n s w ws why (after_commit stage) = at_stage n s w ws After (Err Aft
 
 -- 5. The same of a line.
 
-words_bad : (n : ℕ) (s : SaidSoFar) (ws : List (List ℕ)) (why : IptWhy) → line_of_words n s ws ≡ Err why → IsBadLine s ws why
-unfolding line_of_words
-words_bad n s [] why h = subst (IsBadLine s []) (err_said BadLine why h) wordless
-words_bad n s (w ∷ ws) why h = bad_words (bad_of_step n s w ws why h)
+abbrev pub IsBadLine : SaidSoFar → List (List ℕ) → IptWhy → Type 0
+IsBadLine s ws why = (w : List ℕ) × (vs : List (List ℕ)) × (ws ≡ w ∷ vs) × IsBad s w vs why
 
-bad_words_refused : (n : ℕ) (s : SaidSoFar) (ws : List (List ℕ)) (why : IptWhy) → IsBadLine s ws why → line_of_words n s ws ≡ Err why
-unfolding line_of_words
-bad_words_refused n s [] why wordless = refl
-bad_words_refused n s (w ∷ ws) why (bad_words bad) = step_of_bad n s w ws why bad
+words_bad : (n : ℕ) (s : SaidSoFar) (ws : List (List ℕ)) (why : IptWhy) → are_comment ws ≡ false → line_of_words n s ws ≡ Err why → IsBadLine s ws why
+words_bad n s [] why word h = cc
+words_bad n s (w ∷ ws) why word h = (w, ws, refl, bad_of_step n s w ws why h)
 
-pub bad_line_of_step : (n : ℕ) (s : SaidSoFar) (l : List ℕ) (why : IptWhy) → line_step n s l ≡ Err why → IsBadLine s (words l) why
-bad_line_of_step n s l why h = words_bad n s (words l) why h
+pub bad_line_of_step : (n : ℕ) (s : SaidSoFar) (l : List ℕ) (why : IptWhy) → is_comment l ≡ false → line_step n s l ≡ Err why → IsBadLine s (words l) why
+unfolding is_comment
+bad_line_of_step n s l why word h = words_bad n s (words l) why word h
 
 pub step_of_bad_line : (n : ℕ) (s : SaidSoFar) (l : List ℕ) (why : IptWhy) → IsBadLine s (words l) why → line_step n s l ≡ Err why
-step_of_bad_line n s l why bad = bad_words_refused n s (words l) why bad
+step_of_bad_line n s l why bad = ap (line_of_words n s) bad.2 ∙ step_of_bad n s bad.0 bad.1 why bad.3

@@ -1,9 +1,10 @@
 -- Worked rows: rule lines as they are read, and why they are not.
 use Rattle.std.proofs.Common.{◌≡◌, true, false, List, [], ◌∷◌, ◌++◌, ℕ, Some, None, map, refl}
 use Rattle.std.specs.Prelude.{codes, Result, Ok, Err}
-use Rattle.text_core.specs.Decimal.{number, bounded_value}
+use Rattle.std.specs.Fmt.{digits}
+use Rattle.text_core.specs.Decimal.{number}
 use Rattle.text_core.specs.Lines.{words}
-use Rattle.host_net.specs.Prefix.{prefix_of, prefix_with, address_of}
+use Rattle.host_net.specs.Prefix.{prefix_of, prefix_with, prefix_text, address_text, octet}
 use Rattle.ipt_rules.specs.declared.rule.Rule.{Rule}
 use Rattle.ipt_rules.specs.declared.rule.Target.TheVariants.{Reject, Return, Count, Jump}
 use Rattle.ipt_rules.specs.Chain.{Chain, built_in_chains, user_chain}
@@ -69,29 +70,29 @@ refused_rows =
     ∷ []
 
 rows_refused : map (λ (r : List ℕ × IptWhy). row r.0) refused_rows ≡ map (λ (r : List ℕ × IptWhy). Err r.1) refused_rows
-unfolding address_of bounded_value is_bang is_count is_state number option_of prefix_of rule_line_of states_of target_of text_of with_module with_value word_step
+unfolding is_bang is_count is_state number option_of prefix_of octet address_text prefix_text rule_line_of states_of target_of text_of with_module with_value word_step digits
 rows_refused = refl
 
 row_accepts : row (codes "-A FORWARD") ≡ Ok (1, record { src = None; dst = None; proto = None; sport = None; dport = None; state = None; target = Count })
-unfolding rule_line_of is_count word_step is_bang option_of with_value text_of is_state states_of target_of with_module prefix_of address_of number bounded_value
+unfolding rule_line_of is_count word_step is_bang option_of with_value text_of is_state states_of target_of with_module prefix_of octet address_text prefix_text number digits
 row_accepts = refl
 
 row_jumps : row (codes "[4:240] -A FORWARD -s 192.168.1.0/24 -m comment --comment \"from the office\" -j x") ≡ Ok (1, record { src = Some (record { prefix = prefix_with 3232235776 24; negated = false }); dst = None; proto = None; sport = None; dport = None; state = None; target = Jump 3 })
-unfolding rule_line_of is_count word_step is_bang option_of with_value text_of is_state states_of target_of with_module prefix_of address_of number bounded_value
+unfolding rule_line_of is_count word_step is_bang option_of with_value text_of is_state states_of target_of with_module prefix_of octet address_text prefix_text number digits
 row_jumps = refl
 
 row_states : row (codes "-A FORWARD ! -d 10.0.0.1 -m conntrack ! --ctstate RELATED,ESTABLISHED -j REJECT --reject-with icmp-port-unreachable") ≡ Ok (1, record { src = None; dst = Some (record { prefix = prefix_with 167772161 32; negated = true }); proto = None; sport = None; dport = None; state = Some (record { new = false; established = true; negated = true }); target = Reject })
-unfolding rule_line_of is_count word_step is_bang option_of with_value text_of is_state states_of target_of with_module prefix_of address_of number bounded_value
+unfolding rule_line_of is_count word_step is_bang option_of with_value text_of is_state states_of target_of with_module prefix_of octet address_text prefix_text number digits
 row_states = refl
 
 row_comment_twice : row (codes "-A x -m comment --comment a --comment a\"b -j LOG --log-prefix \"a b\" --log-level 4") ≡ Ok (3, record { src = None; dst = None; proto = None; sport = None; dport = None; state = None; target = Count })
-unfolding rule_line_of is_count word_step is_bang option_of with_value text_of is_state states_of target_of with_module prefix_of address_of number bounded_value
+unfolding rule_line_of is_count word_step is_bang option_of with_value text_of is_state states_of target_of with_module prefix_of octet address_text prefix_text number digits
 row_comment_twice = refl
 
 row_own_chain : row (codes "-A x -j x") ≡ Ok (3, record { src = None; dst = None; proto = None; sport = None; dport = None; state = None; target = Jump 3 })
-unfolding rule_line_of is_count word_step is_bang option_of with_value text_of is_state states_of target_of with_module prefix_of address_of number bounded_value
+unfolding rule_line_of is_count word_step is_bang option_of with_value text_of is_state states_of target_of with_module prefix_of octet address_text prefix_text number digits
 row_own_chain = refl
 
 row_zeros : row (codes "[00:007] -A INPUT -m state --state INVALID -j RETURN") ≡ Ok (0, record { src = None; dst = None; proto = None; sport = None; dport = None; state = Some (record { new = false; established = false; negated = false }); target = Return })
-unfolding rule_line_of is_count word_step is_bang option_of with_value text_of is_state states_of target_of with_module prefix_of address_of number bounded_value
+unfolding rule_line_of is_count word_step is_bang option_of with_value text_of is_state states_of target_of with_module prefix_of octet address_text prefix_text number digits
 row_zeros = refl

@@ -1,8 +1,9 @@
 -- Worked rows: rule lines with protocols and ports as they are read, and why they are not.
 use Rattle.std.proofs.Common.{◌≡◌, true, false, ℕ, List, [], ◌∷◌, ◌++◌, Option, Some, None, map, refl}
 use Rattle.std.specs.Prelude.{codes, Result, Ok, Err}
-use Rattle.text_core.specs.Decimal.{number, bounded_value}
-use Rattle.host_net.specs.Prefix.{prefix_of, prefix_with, address_of}
+use Rattle.std.specs.Fmt.{digits}
+use Rattle.text_core.specs.Decimal.{number}
+use Rattle.host_net.specs.Prefix.{prefix_of, prefix_with, prefix_text, address_text, octet}
 use Rattle.ipt_rules.specs.declared.rule.PortMatch.{PortMatch}
 use Rattle.ipt_rules.specs.declared.rule.ProtoMatch.{ProtoMatch}
 use Rattle.ipt_rules.specs.declared.rule.Rule.{Rule}
@@ -44,7 +45,7 @@ row_web : forward (codes "-d 192.168.1.10/32 -p tcp -m tcp --dport 443 -m conntr
     target = Accept;
   },
 )
-unfolding rule_line_of is_count word_step is_bang option_of with_value states_of is_state target_of with_module asked_protocol asked_ports prefix_of address_of number bounded_value
+unfolding rule_line_of is_count word_step is_bang option_of with_value states_of is_state target_of with_module asked_protocol asked_ports prefix_of octet address_text prefix_text number digits
 row_web = refl
 
 -- options that are refused, and why
@@ -83,53 +84,53 @@ refused_options =
     ∷ []
 
 options_refused : map (λ (r : List ℕ × IptWhy). forward r.0) refused_options ≡ map (λ (r : List ℕ × IptWhy). Err r.1) refused_options
-unfolding address_of asked_ports asked_protocol bounded_value is_bang is_count is_state number option_of prefix_of rule_line_of states_of target_of with_module with_value word_step
+unfolding asked_ports asked_protocol is_bang is_count is_state number option_of prefix_of octet address_text prefix_text rule_line_of states_of target_of with_module with_value word_step digits
 options_refused = refl
 
 row_protocol_number : forward (codes "-p 6 -m tcp --dport 80") ≡ asks (protocol 6) None (ports 80 80)
-unfolding rule_line_of is_count word_step is_bang option_of with_value states_of is_state target_of with_module asked_protocol asked_ports prefix_of address_of number bounded_value
+unfolding rule_line_of is_count word_step is_bang option_of with_value states_of is_state target_of with_module asked_protocol asked_ports prefix_of octet address_text prefix_text number digits
 row_protocol_number = refl
 
 row_protocol_other : forward (codes "-p 47") ≡ asks (protocol 47) None None
-unfolding rule_line_of is_count word_step is_bang option_of with_value states_of is_state target_of with_module asked_protocol asked_ports prefix_of address_of number bounded_value
+unfolding rule_line_of is_count word_step is_bang option_of with_value states_of is_state target_of with_module asked_protocol asked_ports prefix_of octet address_text prefix_text number digits
 row_protocol_other = refl
 
 row_protocol_last : forward (codes "-p 255") ≡ asks (protocol 255) None None
-unfolding rule_line_of is_count word_step is_bang option_of with_value states_of is_state target_of with_module asked_protocol asked_ports prefix_of address_of number bounded_value
+unfolding rule_line_of is_count word_step is_bang option_of with_value states_of is_state target_of with_module asked_protocol asked_ports prefix_of octet address_text prefix_text number digits
 row_protocol_last = refl
 
 row_icmp : forward (codes "-p icmp") ≡ asks (protocol 1) None None
-unfolding rule_line_of is_count word_step is_bang option_of with_value states_of is_state target_of with_module asked_protocol asked_ports prefix_of address_of number bounded_value
+unfolding rule_line_of is_count word_step is_bang option_of with_value states_of is_state target_of with_module asked_protocol asked_ports prefix_of octet address_text prefix_text number digits
 row_icmp = refl
 
 row_esp : forward (codes "-p esp") ≡ asks (protocol 50) None None
-unfolding rule_line_of is_count word_step is_bang option_of with_value states_of is_state target_of with_module asked_protocol asked_ports prefix_of address_of number bounded_value
+unfolding rule_line_of is_count word_step is_bang option_of with_value states_of is_state target_of with_module asked_protocol asked_ports prefix_of octet address_text prefix_text number digits
 row_esp = refl
 
 row_ah : forward (codes "-p ah") ≡ asks (protocol 51) None None
-unfolding rule_line_of is_count word_step is_bang option_of with_value states_of is_state target_of with_module asked_protocol asked_ports prefix_of address_of number bounded_value
+unfolding rule_line_of is_count word_step is_bang option_of with_value states_of is_state target_of with_module asked_protocol asked_ports prefix_of octet address_text prefix_text number digits
 row_ah = refl
 
 row_sctp : forward (codes "! -p sctp") ≡ asks (Some (record { proto = 132; negated = true })) None None
-unfolding rule_line_of is_count word_step is_bang option_of with_value states_of is_state target_of with_module asked_protocol asked_ports prefix_of address_of number bounded_value
+unfolding rule_line_of is_count word_step is_bang option_of with_value states_of is_state target_of with_module asked_protocol asked_ports prefix_of octet address_text prefix_text number digits
 row_sctp = refl
 
 row_module_twice : forward (codes "-p udp -m udp -m udp") ≡ asks (protocol 17) None None
-unfolding rule_line_of is_count word_step is_bang option_of with_value states_of is_state target_of with_module asked_protocol asked_ports prefix_of address_of number bounded_value
+unfolding rule_line_of is_count word_step is_bang option_of with_value states_of is_state target_of with_module asked_protocol asked_ports prefix_of octet address_text prefix_text number digits
 row_module_twice = refl
 
 row_ports : forward (codes "-p udp -m udp --sport 53:60 --dport 5:5") ≡ asks (protocol 17) (ports 53 60) (ports 5 5)
-unfolding rule_line_of is_count word_step is_bang option_of with_value states_of is_state target_of with_module asked_protocol asked_ports prefix_of address_of number bounded_value
+unfolding rule_line_of is_count word_step is_bang option_of with_value states_of is_state target_of with_module asked_protocol asked_ports prefix_of octet address_text prefix_text number digits
 row_ports = refl
 
 row_ports_up_to : forward (codes "-p udp -m udp --dport :1023") ≡ asks (protocol 17) None (ports 0 1023)
-unfolding rule_line_of is_count word_step is_bang option_of with_value states_of is_state target_of with_module asked_protocol asked_ports prefix_of address_of number bounded_value
+unfolding rule_line_of is_count word_step is_bang option_of with_value states_of is_state target_of with_module asked_protocol asked_ports prefix_of octet address_text prefix_text number digits
 row_ports_up_to = refl
 
 row_ports_from : forward (codes "-p udp -m udp --sport 1024:") ≡ asks (protocol 17) (ports 1024 65535) None
-unfolding rule_line_of is_count word_step is_bang option_of with_value states_of is_state target_of with_module asked_protocol asked_ports prefix_of address_of number bounded_value
+unfolding rule_line_of is_count word_step is_bang option_of with_value states_of is_state target_of with_module asked_protocol asked_ports prefix_of octet address_text prefix_text number digits
 row_ports_from = refl
 
 row_ports_all : forward (codes "-p tcp -m tcp ! --dport 0:65535") ≡ asks (protocol 6) None (Some (record { low = 0; high = 65535; negated = true }))
-unfolding rule_line_of is_count word_step is_bang option_of with_value states_of is_state target_of with_module asked_protocol asked_ports prefix_of address_of number bounded_value
+unfolding rule_line_of is_count word_step is_bang option_of with_value states_of is_state target_of with_module asked_protocol asked_ports prefix_of octet address_text prefix_text number digits
 row_ports_all = refl

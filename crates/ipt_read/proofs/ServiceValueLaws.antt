@@ -3,10 +3,11 @@ use Rattle.std.proofs.Common.{◌≡◌, ◌⊎◌, inl, inr, ℕ, ◌<◌, ◌�
 use Rattle.std.specs.Prelude.{◌==◌, ◌&&◌, nat_le, codes, decimal, bytes_eq}
 use Rattle.std.specs.Str.{all_ascii_digits}
 use Rattle.std.proofs.lemmas.Bool.Decides.{nat_tests}
+use Rattle.std.specs.Fmt.{digits}
 use Rattle.text_core.specs.Decimal.{number}
 use Rattle.text_core.proofs.DecimalLaws.{number-decimal, decimal_of_number, decimal_lacks, decimal_digits}
 use Rattle.text_core.proofs.FirstsLaws.{some_same}
-use Rattle.text_core.specs.Pieces.{split_once}
+use Rattle.text_core.specs.inner.Pieces.{split_once}
 use Rattle.text_core.proofs.PiecesLaws.{split_once-append, split_once_none, split_once_joined}
 use Rattle.text_core.proofs.StepsLaws.{bind_some, if_parts, bytes_same, bytes_apart}
 use Rattle.host_net.specs.Service.{icmp, tcp, udp, last_port}
@@ -193,7 +194,7 @@ unfolding asked_ports
 ports_said word ports h = ports_by word (split_once 58 word) ports refl h
 
 port_there : (other port : ℕ) (word : List ℕ) → number last_port word ≡ Some port → (port_or other word ≡ Some port) × (is_nothing word ≡ false)
-unfolding number
+unfolding number digits
 port_there other port [] h = cc
 port_there other port (b ∷ bs) h = (h, refl)
 

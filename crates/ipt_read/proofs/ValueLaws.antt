@@ -5,7 +5,7 @@ use Rattle.std.specs.Char.{is_ascii_digit}
 use Rattle.std.specs.List.{list_all}
 use Rattle.std.proofs.lemmas.Bool.{and_parts, and_from}
 use Rattle.std.proofs.lemmas.Bool.Decides.{nat_tests}
-use Rattle.text_core.specs.Pieces.{split_once}
+use Rattle.text_core.specs.inner.Pieces.{split_once}
 use Rattle.text_core.proofs.PiecesLaws.{lacks, split_once-append, split_once_joined}
 use Rattle.text_core.proofs.StepsLaws.{if_parts}
 use Rattle.ipt_read.specs.declared.option.Place.TheVariants.{AtOption, InText}

@@ -72,8 +72,3 @@ pub data IsBad (s : SaidSoFar) (w : List ℕ) (ws : List (List ℕ)) : IptWhy �
   many_rules : s.stage ≡ Table → BeginsRule w → (c : ℕ) (r : Rule) → IsRuleLine s.chains (w ∷ ws) c r → 1000000 ≤ s.rules → IsBad s w ws TooMany
   other_line : s.stage ≡ Table → IsFalse (begins_with 58 w) → (BeginsRule w → ⊥) → w ∷ ws ≢ codes "COMMIT" ∷ [] → IsBad s w ws BadLine
   after_commit : s.stage ≡ After → IsBad s w ws AfterCommit
-
--- the line of these words cannot stand; one without words is passed over before
-pub data IsBadLine (s : SaidSoFar) : List (List ℕ) → IptWhy → Type 0 where
-  wordless : IsBadLine s [] BadLine
-  bad_words : {w : List ℕ} {ws : List (List ℕ)} {why : IptWhy} → IsBad s w ws why → IsBadLine s (w ∷ ws) why

@@ -1,5 +1,5 @@
 -- The text of a rule set: which chains it says, and why one says none.
-use Rattle.std.specs.Prelude.{◌≡◌, ◌≢◌, ℕ, List}
+use Rattle.std.specs.Prelude.{◌≡◌, ◌≢◌, ℕ, List, ◌∷◌}
 use Rattle.text_core.specs.Lines.{words}
 use Rattle.text_core.specs.TextByLines.{TextByLines, IsReading as IsReadingOf, HasFault as HasFaultOf}
 use Rattle.ipt_rules.specs.Chain.{Chain}
@@ -7,7 +7,7 @@ use Rattle.ipt_rules.specs.Loops.{HasNoLoop, IsLeastLoop}
 use Rattle.ipt_read.specs.declared.fault.IptWhy.{IptWhy}
 use Rattle.ipt_read.specs.declared.fault.IptWhy.TheVariants.{TooLong, Loop, NoCommit}
 use Rattle.ipt_read.specs.Grammar.{IsLine}
-use Rattle.ipt_read.specs.LineFault.{IsBadLine}
+use Rattle.ipt_read.specs.LineFault.{IsBad}
 use Rattle.ipt_read.specs.Said.{After, SaidSoFar, nothing_said, line_of}
 
 -- why a text ends badly: it ends without COMMIT, at the line after its last; or jumps lead back, at the chain line of the first chain
@@ -23,7 +23,7 @@ rules_text = record {
   when_longer = TooLong;
   start = nothing_said;
   IsLine = λ n s line t. IsLine n s (words line) t;
-  IsBadLine = λ n s line why. IsBadLine s (words line) why;
+  IsBadLine = λ n s line why. (w : List ℕ) × (ws : List (List ℕ)) × (words line ≡ w ∷ ws) × IsBad s w ws why;
   MayEnd = λ s. (s.stage ≡ After) × HasNoLoop s.chains;
   EndsBadly = EndsBadly;
 }

@@ -3,7 +3,7 @@
 ghost use Rattle.std.specs.Prelude.{◌≡◌, ◌<◌, ◌∷◌, [], IfOk, length};
 ghost use Rattle.std.specs.Char.{is_ascii_digit};
 ghost use Rattle.std.specs.List.{list_all};
-ghost use Rattle.text_core.specs.Pieces.{split_once};
+ghost use Rattle.text_core.specs.inner.Pieces.{split_once};
 ghost use Rattle.ipt_read.specs.declared.option.Place.TheVariants.{AtOption};
 ghost use Rattle.ipt_read.specs.inner.Counts.{is_nothing, is_bytes_part, is_packets_part, is_count};
 ghost use Rattle.ipt_read.specs.Values.{is_figure};

@@ -19,7 +19,7 @@ use crate::reader::{Reader, nothing_said};
 use crate::stage::Stage;
 use ipt_rules::{BuildRefusal, Ruleset};
 use std::alloc::Global;
-use text_core::{Lines, TextFault, read_lines};
+use text_core::{TextFault, read_counted_lines};
 
 /// The rule set that a text says.
 pub fn read(alloc: Global, bytes: &[u8]) -> Result<Ruleset, IptFault>
@@ -40,45 +40,33 @@ pub fn read(alloc: Global, bytes: &[u8]) -> Result<Ruleset, IptFault>
     let Ok(start) = nothing_said(alloc) else {
         return Err(TextFault::Memory);
     };
-    match read_lines(start, bytes) {
-        Ok(reader) => end(alloc, reader, bytes),
+    match read_counted_lines(start, bytes) {
+        Ok((reader, count)) => end(alloc, reader, bytes, count),
         Err(fault) => Err(fault),
     }
 }
 
-/// The rule set of a text that was read to its last line.
-fn end(alloc: Global, reader: Reader, bytes: &[u8]) -> Result<Ruleset, IptFault>
+/// The rule set of a text that was read to its last line, by how many lines it has.
+fn end(alloc: Global, reader: Reader, bytes: &[u8], count: u32) -> Result<Ruleset, IptFault>
     requires fine { IsFine (said_of reader) }
     requires through { IsReadThrough rules_text bytes.now (said_of reader) }
+    requires counted { count ≡ length (lines bytes.now) }
     ensures found { IfOk result (IsReading bytes.now) }
     ensures refused { IfErr result (HasCause rules_text bytes.now) }
     ensures one_outcome { IfOk result EachGivesOne }
 {
+    let line = count + 1;
     match reader.stage {
         Stage::After => build(alloc, reader, bytes),
         Stage::Front => Err(TextFault::Refused {
-            line: line_after(bytes),
+            line,
             why: IptWhy::NoCommit,
         }),
         Stage::Table => Err(TextFault::Refused {
-            line: line_after(bytes),
+            line,
             why: IptWhy::NoCommit,
         }),
     }
-}
-
-/// The number of the line after the last.
-fn line_after(bytes: &[u8]) -> u32
-    requires { length bytes.now ≤ 67108864 }
-    ensures { result ≡ 1 + length (lines bytes.now) }
-{
-    let mut lines = Lines::new(bytes);
-    let mut count = 1;
-    while let Some(line) = lines.next_line() {
-        let _line = line;
-        count += 1;
-    }
-    count
 }
 
 fn build(alloc: Global, reader: Reader, bytes: &[u8]) -> Result<Ruleset, IptFault>

@@ -1,6 +1,6 @@
 -- Counts of packets and bytes, as the reader reads them. Callers see none of it; they have `Values: IsCount`.
 use Rattle.std.specs.Prelude.{ℕ, Bool, true, false, ◌&&◌, ◌==◌, List, [], ◌∷◌, Option, Some, None}
-use Rattle.text_core.specs.Pieces.{split_once}
+use Rattle.text_core.specs.inner.Pieces.{split_once}
 use Rattle.ipt_read.specs.Values.{is_figure}
 
 abbrev pub is_nothing : List ℕ → Bool

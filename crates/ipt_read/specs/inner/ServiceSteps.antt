@@ -1,10 +1,10 @@
 -- What the values of `-p`, `--sport` and `--dport` say, as the reader reads them. Callers see none of it; they have `ServiceValues`.
 use Rattle.std.specs.Prelude.{ℕ, ◌&&◌, ◌==◌, nat_le, if◌then◌else◌, List, [], ◌∷◌, Option, Some, None, codes, bytes_eq}
 use Rattle.text_core.specs.Decimal.{number}
-use Rattle.text_core.specs.Pieces.{split_once}
+use Rattle.text_core.specs.inner.Pieces.{split_once}
 use Rattle.text_core.specs.Steps.{◌>>=◌}
 use Rattle.host_net.specs.Service.{last_port}
-use Rattle.host_net.specs.ServiceText.{protocol_of}
+use Rattle.host_net.specs.inner.ServiceSteps.{protocol_of}
 use Rattle.ipt_read.specs.inner.Counts.{is_nothing}
 
 -- the protocol of that name

@@ -1,4 +1,5 @@
-use Rattle.std.proofs.Common.{◌≡◌, ap, rules, sym, tests, ◌∙◌}
+use Rattle.std.proofs.Common.{◌≡◌, ap, arith, rules, sym, tests, ◌∙◌}
+use Rattle.text_core.proofs.LinesLaws.{length-lines}
 use Rattle.ipt_read.specs.Said.{Front, Table, After}
 use Rattle.ipt_read.specs.inner.ReaderView.{stage_of}
 use Rattle.ipt_read.specs.inner.State.{said_of}
@@ -10,6 +11,9 @@ front_is_early h = cc
 
 table_is_early : Table ≡ After → ⊥
 table_is_early h = cc
+
+pub overflow_add-line : goal.overflow_add-line
+overflow_add-line c = omega (arith, length-lines c.args.bytes.now, c.requires.counted, c.requires.through.short)
 
 pub returns-in-Front : goal.returns-in-Front
 returns-in-Front c = record {

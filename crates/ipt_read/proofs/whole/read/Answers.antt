@@ -33,19 +33,19 @@ written bytes chains fine e short =
     subst (λ (bs : List ℕ). IsReading bs chains) (sym e)
     (text_read_again chains fine (subst (λ (bs : List ℕ). length bs ≤ 67108864) e short))
 
-pub read_lines-requires-clause-holds : goal.read_lines-requires-clause-holds
-read_lines-requires-clause-holds c = subst IsFine (sym c.in-Ok.ensures) fine_at_first
+pub read_counted_lines-requires-clause-holds : goal.read_counted_lines-requires-clause-holds
+read_counted_lines-requires-clause-holds c = subst IsFine (sym c.in-Ok.ensures) fine_at_first
 
-pub returns-in-Ok-read_lines-clause-only : goal.returns-in-Ok-read_lines-clause-only
-returns-in-Ok-read_lines-clause-only c = λ chains reading.
+pub returns-in-Ok-read_counted_lines-clause-only : goal.returns-in-Ok-read_counted_lines-clause-only
+returns-in-Ok-read_counted_lines-clause-only c = λ chains reading.
     only c.args.bytes.now c.end.result chains c.end.ensures.found c.end.ensures.refused reading
 
-pub returns-in-Ok-read_lines-clause-faulty : goal.returns-in-Ok-read_lines-clause-faulty
-returns-in-Ok-read_lines-clause-faulty c = λ line why fault.
+pub returns-in-Ok-read_counted_lines-clause-faulty : goal.returns-in-Ok-read_counted_lines-clause-faulty
+returns-in-Ok-read_counted_lines-clause-faulty c = λ line why fault.
     faulty c.args.bytes.now c.end.result line why c.end.ensures.found c.end.ensures.refused fault
 
-pub returns-in-Ok-read_lines-clause-again : goal.returns-in-Ok-read_lines-clause-again
-returns-in-Ok-read_lines-clause-again c = λ chains fine is short.
+pub returns-in-Ok-read_counted_lines-clause-again : goal.returns-in-Ok-read_counted_lines-clause-again
+returns-in-Ok-read_counted_lines-clause-again c = λ chains fine is short.
     only c.args.bytes.now c.end.result chains c.end.ensures.found c.end.ensures.refused (written c.args.bytes.now chains fine is short)
 
 pub returns-in-Err-clause-only : goal.returns-in-Err-clause-only
