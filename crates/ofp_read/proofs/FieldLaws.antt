@@ -19,7 +19,7 @@ use Rattle.ofp_read.specs.declared.given.Key.TheVariants as key
 use Rattle.ofp_read.specs.declared.given.Given.{Given}
 use Rattle.ofp_read.specs.inner.FieldTable.{key_with_value, key_alone, key_of, is_given, frame_types, frame_type, of_protocol, with_value, with_key, with_field}
 use Rattle.ofp_read.specs.Grammar.{Part, priority, table, kind, source, destination, protocol, source_port, destination_port, IsKindText, IsAddressText, IsNumberText, IsProtocolText, EachSays, one_part, two_parts}
-use Rattle.ofp_read.proofs.PartWords.{Says, name_of}
+use Rattle.ofp_read.proofs.PartWords.{Says, name_of, IsNamed, named_one}
 use Rattle.ofp_read.proofs.KeyLaws.{IsField, field_of_key, key_priority, key_table, key_source, key_destination, key_protocol, key_source_port, key_destination_port}
 use Rattle.ofp_read.proofs.NamedLaws.{named_is, some_same}
 use Rattle.ofp_read.proofs.PartLaws.{Lacks, Has, IsGiven, OfEach, Gives, gives_one, gives_more, with_part}
@@ -118,13 +118,13 @@ step_by_value g h text value key.Arp field lacks read =
     (step_kind g text frames.Arp (inl (field.written ∙ ap (λ bs. codes "arp" ++ bs) (field.alone refl))) (not_given g.kind lacks))
 step_by_value g h text value key.Icmp field lacks read =
     subst (λ (x : Given). IsStep g x text) (some_same (of_protocol g icmp) h read)
-    (step_protocol g text icmp (inl (refl, field.written ∙ ap (λ bs. codes "icmp" ++ bs) (field.alone refl))) lacks)
+    (step_protocol g text icmp (refl, field.written ∙ ap (λ bs. codes "icmp" ++ bs) (field.alone refl)) lacks)
 step_by_value g h text value key.Tcp field lacks read =
     subst (λ (x : Given). IsStep g x text) (some_same (of_protocol g tcp) h read)
-    (step_protocol g text tcp (inr (inl (refl, field.written ∙ ap (λ bs. codes "tcp" ++ bs) (field.alone refl)))) lacks)
+    (step_protocol g text tcp (refl, field.written ∙ ap (λ bs. codes "tcp" ++ bs) (field.alone refl)) lacks)
 step_by_value g h text value key.Udp field lacks read =
     subst (λ (x : Given). IsStep g x text) (some_same (of_protocol g udp) h read)
-    (step_protocol g text udp (inr (inr (refl, field.written ∙ ap (λ bs. codes "udp" ++ bs) (field.alone refl)))) lacks)
+    (step_protocol g text udp (refl, field.written ∙ ap (λ bs. codes "udp" ++ bs) (field.alone refl)) lacks)
 step_by_value g h text value key.FrameType field lacks read =
     let parts = map_parts (λ (k : FrameKind). record g { kind = Some k }) (frame_type value) h read in
     subst (λ (x : Given). IsStep g x text) parts.2
@@ -192,18 +192,22 @@ read_kind frames.Ip g text (inl e) lacks = read_value g _ key.Ip text [] (ap key
 read_kind frames.Ip g text (inr (inl e)) lacks = read_value g _ key.FrameType text (codes "0x0800") (ap key_of e) (ap is_some lacks) refl
 read_kind frames.Ip g text (inr (inr e)) lacks = read_value g _ key.FrameType text (codes "0x800") (ap key_of e) (ap is_some lacks) refl
 
+read_named : (n : ℕ) (g : Given) (text : List ℕ) → IsNamed n text → g.kind ≡ None → g.proto ≡ None
+    → with_field g text ≡ Ok (record g { kind = Some frames.Ip; proto = Some n })
+unfolding key_of key_with_value key_alone with_value
+read_named n g text (inl (number, e)) lacks none =
+    read_value g _ key.Icmp text [] (ap key_of e) (λ i. is_some (lacks i) || is_some (none i)) (ap (λ m. Some (of_protocol g m)) (sym number))
+read_named n g text (inr (inl (number, e))) lacks none =
+    read_value g _ key.Tcp text [] (ap key_of e) (λ i. is_some (lacks i) || is_some (none i)) (ap (λ m. Some (of_protocol g m)) (sym number))
+read_named n g text (inr (inr (number, e))) lacks none =
+    read_value g _ key.Udp text [] (ap key_of e) (λ i. is_some (lacks i) || is_some (none i)) (ap (λ m. Some (of_protocol g m)) (sym number))
+
 pub read_protocol : (k : FrameKind) (o : Option ℕ) (g : Given) (text : List ℕ) → IsProtocolText k o text → g.kind ≡ None → g.proto ≡ None
     → with_field g text ≡ Ok (record g { kind = Some k; proto = o })
-unfolding key_of key_with_value key_alone with_value
 read_protocol frames.Any o g text is lacks none = absurd is
 read_protocol frames.Arp o g text is lacks none = absurd is
 read_protocol frames.Ip None g text is lacks none = absurd is
-read_protocol frames.Ip (Some n) g text (inl (number, e)) lacks none =
-    read_value g _ key.Icmp text [] (ap key_of e) (λ i. is_some (lacks i) || is_some (none i)) (ap (λ m. Some (of_protocol g m)) (sym number))
-read_protocol frames.Ip (Some n) g text (inr (inl (number, e))) lacks none =
-    read_value g _ key.Tcp text [] (ap key_of e) (λ i. is_some (lacks i) || is_some (none i)) (ap (λ m. Some (of_protocol g m)) (sym number))
-read_protocol frames.Ip (Some n) g text (inr (inr (number, e))) lacks none =
-    read_value g _ key.Udp text [] (ap key_of e) (λ i. is_some (lacks i) || is_some (none i)) (ap (λ m. Some (of_protocol g m)) (sym number))
+read_protocol frames.Ip (Some n) g text is lacks none = read_named n g text (named_one n text is) lacks none
 
 pub read_of_says : (p : Part) (e : Entry) (g : Given) (text : List ℕ) → Says p e text → Lacks p g → with_field g text ≡ Ok (with_part p e g)
 unfolding with_value

@@ -1,7 +1,7 @@
 -- How a field is named, and how its name is cut off.
 use Rattle.std.proofs.Common.{◌≡◌, ℕ, Bool, true, false, List, [], ◌∷◌, ◌++◌, Option, Some, None, refl, sym, ap, ◌∙◌, append-nil}
 use Rattle.std.specs.Prelude.{codes}
-use Rattle.text_core.specs.Pieces.{split_once}
+use Rattle.text_core.specs.inner.Pieces.{split_once}
 use Rattle.text_core.proofs.PiecesLaws.{split_once_joined}
 use Rattle.text_core.proofs.StepsLaws.{map_parts}
 use Rattle.ofp_read.specs.declared.given.Key.{Key}

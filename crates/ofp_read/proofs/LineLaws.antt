@@ -20,7 +20,7 @@ use Rattle.ofp_read.proofs.NamedLaws.{named_is}
 use Rattle.ofp_read.specs.inner.FlowLine.{goes_on, nothing_given, with_fields, actions, action_of, entry_of, with_action, flow_by, flow_of}
 use Rattle.ofp_read.specs.inner.Cut.{begins_action, cut_action}
 use Rattle.ofp_read.specs.Grammar.{Part, priority, table, kind, source, destination, protocol, source_port, destination_port, EachSays, no_field, one_part, two_parts, IsProtocolText, is_separator, has_bytes, fields, IsKindText, IsActionText, ends_apart, Writes}
-use Rattle.ofp_read.proofs.PartWords.{Says}
+use Rattle.ofp_read.proofs.PartWords.{Says, IsNamed, named_one}
 
 -- 1. The cut in front of the action.
 
@@ -200,13 +200,16 @@ kind_begins frames.Ip text (inl e) = ap begins_action e
 kind_begins frames.Ip text (inr (inl e)) = ap begins_action e
 kind_begins frames.Ip text (inr (inr e)) = ap begins_action e
 
+named_begins : (n : ℕ) (text : List ℕ) → IsNamed n text → begins_action text ≡ false
+named_begins n text (inl (number, e)) = ap begins_action e
+named_begins n text (inr (inl (number, e))) = ap begins_action e
+named_begins n text (inr (inr (number, e))) = ap begins_action e
+
 protocol_begins : (k : FrameKind) (o : Option ℕ) (text : List ℕ) → IsProtocolText k o text → begins_action text ≡ false
 protocol_begins frames.Any o text is = absurd is
 protocol_begins frames.Arp o text is = absurd is
 protocol_begins frames.Ip None text is = absurd is
-protocol_begins frames.Ip (Some n) text (inl (number, e)) = ap begins_action e
-protocol_begins frames.Ip (Some n) text (inr (inl (number, e))) = ap begins_action e
-protocol_begins frames.Ip (Some n) text (inr (inr (number, e))) = ap begins_action e
+protocol_begins frames.Ip (Some n) text is = named_begins n text (named_one n text is)
 
 -- no field begins as the action does
 says_begins : (p : Part) (e : Entry) (text : List ℕ) → Says p e text → begins_action text ≡ false

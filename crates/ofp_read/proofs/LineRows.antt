@@ -1,9 +1,10 @@
 -- Readings that were settled, line by line.
 use Rattle.std.proofs.Common.{◌≡◌, ℕ, false, List, [], ◌∷◌, Some, None, map, refl}
 use Rattle.std.specs.Prelude.{Ok, Err, codes}
-use Rattle.text_core.specs.Decimal.{number, bounded_value}
+use Rattle.std.specs.Fmt.{digits}
+use Rattle.text_core.specs.Decimal.{number}
 use Rattle.text_core.specs.Lines.{is_comment}
-use Rattle.host_net.specs.Prefix.{prefix_of, address_of}
+use Rattle.host_net.specs.Prefix.{prefix_of, prefix_text, address_text, octet}
 use Rattle.ofp_rules.specs.declared.entry.FrameKind.TheVariants.{Any, Ip}
 use Rattle.ofp_rules.specs.declared.entry.Action.TheVariants.{Normal, Drop}
 use Rattle.ofp_read.specs.declared.fault.OfpWhy.{OfpWhy}
@@ -67,19 +68,19 @@ refused_lines =
     ∷ []
 
 lines_refused : map (λ (r : List ℕ × OfpWhy). flow_of r.0) refused_lines ≡ map (λ (r : List ℕ × OfpWhy). Err r.1) refused_lines
-unfolding address_of bounded_value flow_of frame_type key_alone key_of key_with_value number prefix_of with_value
+unfolding flow_of frame_type key_alone key_of key_with_value number prefix_of octet address_text prefix_text with_value digits
 lines_refused = refl
 
 -- a protocol by its name, and by its number beside `ip`
 row_port : flow_of (codes "priority=5,tcp,tp_dst=80,actions=drop") ≡ Ok (record { priority = 5; kind = Ip; src = None; dst = None; proto = Some 6; tp_src = None; tp_dst = Some 80; action = Drop })
-unfolding flow_of key_of key_with_value key_alone with_value number bounded_value
+unfolding flow_of key_of key_with_value key_alone with_value number digits
 row_port = refl
 
 row_number : flow_of (codes "priority=5,ip,nw_proto=6,tp_src=1,actions=NORMAL") ≡ Ok (record { priority = 5; kind = Ip; src = None; dst = None; proto = Some 6; tp_src = Some 1; tp_dst = None; action = Normal })
-unfolding flow_of key_of key_with_value key_alone with_value number bounded_value
+unfolding flow_of key_of key_with_value key_alone with_value number digits
 row_number = refl
 
 -- in any order
 row_number_first : flow_of (codes "tp_dst=0 nw_proto=17 ip actions=drop") ≡ Ok (record { priority = 32768; kind = Ip; src = None; dst = None; proto = Some 17; tp_src = None; tp_dst = Some 0; action = Drop })
-unfolding flow_of key_of key_with_value key_alone with_value number bounded_value
+unfolding flow_of key_of key_with_value key_alone with_value number digits
 row_number_first = refl

@@ -19,7 +19,7 @@ use Rattle.ofp_rules.specs.declared.entry.Entry.{Entry}
 use Rattle.ofp_rules.specs.Text.{kind_text, part_text, port_text}
 use Rattle.ofp_rules.specs.inner.Ranges.{address_fits, number_fits}
 use Rattle.ofp_read.specs.Grammar.{Part, kind, protocol, is_separator, has_bytes, fields, EachSays, no_field, one_part, two_parts, IsKindText, IsAddressText, IsNumberText, IsProtocolText}
-use Rattle.ofp_read.proofs.PartWords.{Says}
+use Rattle.ofp_read.proofs.PartWords.{Says, one_named}
 use Rattle.ofp_read.proofs.LineLaws.{apart_from}
 
 -- 1. Texts of figures, dots (46) and slashes (47).
@@ -196,11 +196,11 @@ protocol_piece : (e : Entry) (n : ℕ) → ((text : List ℕ) → IsKindText fra
     → IsPiece e (kind ∷ protocol ∷ [])
     (if one then codes "icmp," else if six then codes "tcp," else if other then codes "udp," else codes "ip,nw_proto=" ++ (decimal n ++ codes ","))
 protocol_piece e n of_kind of_number of_name fits true six other is_one is_six is_other =
-    field_piece e (kind ∷ protocol ∷ []) 105 (codes "cmp") refl (two_parts (of_name _ (inl (equal n icmp is_one, refl))) no_field)
+    field_piece e (kind ∷ protocol ∷ []) 105 (codes "cmp") refl (two_parts (of_name _ (one_named n (codes "icmp") (inl (equal n icmp is_one, refl)))) no_field)
 protocol_piece e n of_kind of_number of_name fits false true other is_one is_six is_other =
-    field_piece e (kind ∷ protocol ∷ []) 116 (codes "cp") refl (two_parts (of_name _ (inr (inl (equal n tcp is_six, refl)))) no_field)
+    field_piece e (kind ∷ protocol ∷ []) 116 (codes "cp") refl (two_parts (of_name _ (one_named n (codes "tcp") (inr (inl (equal n tcp is_six, refl))))) no_field)
 protocol_piece e n of_kind of_number of_name fits false false true is_one is_six is_other =
-    field_piece e (kind ∷ protocol ∷ []) 117 (codes "dp") refl (two_parts (of_name _ (inr (inr (equal n udp is_other, refl)))) no_field)
+    field_piece e (kind ∷ protocol ∷ []) 117 (codes "dp") refl (two_parts (of_name _ (one_named n (codes "udp") (inr (inr (equal n udp is_other, refl))))) no_field)
 protocol_piece e n of_kind of_number of_name fits false false false is_one is_six is_other =
     joined e (kind ∷ []) (protocol ∷ []) (codes "ip,") (codes "nw_proto=" ++ (decimal n ++ codes ","))
     (field_piece e (kind ∷ []) 105 (codes "p") refl (one_part (of_kind _ (inl refl)) no_field))

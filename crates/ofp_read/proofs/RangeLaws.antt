@@ -9,7 +9,7 @@ use Rattle.ofp_rules.specs.declared.entry.FrameKind.TheVariants as frames
 use Rattle.ofp_rules.specs.declared.entry.Entry.{Entry}
 use Rattle.ofp_rules.specs.inner.Ranges.{address_fits, in_range, number_fits}
 use Rattle.ofp_read.specs.Grammar.{Part, priority, table, kind, source, destination, protocol, source_port, destination_port, EachSays, no_field, one_part, two_parts, IsNoneOf, IsAddressText, IsNumberText, IsProtocolText, AreFieldsOf, Writes}
-use Rattle.ofp_read.proofs.PartWords.{Says, IsUnsaid, name_of}
+use Rattle.ofp_read.proofs.PartWords.{Says, IsUnsaid, name_of, IsNamed, named_one}
 use Rattle.ofp_read.proofs.PartLaws.{one_or_not}
 
 -- what the entry has of this part has room
@@ -33,13 +33,16 @@ number_said : (name : List ℕ) (limit : ℕ) (given : Option ℕ) (text : List 
     → number_fits limit given ≡ true
 number_said name limit given text said = ap (number_fits limit) said.1 ∙ below said.0 limit said.2
 
+named_fits : (n : ℕ) (text : List ℕ) → IsNamed n text → nat_lt n (2 ^ 8) ≡ true
+named_fits n text (inl (is, e)) = ap (λ m. nat_lt m (2 ^ 8)) is
+named_fits n text (inr (inl (is, e))) = ap (λ m. nat_lt m (2 ^ 8)) is
+named_fits n text (inr (inr (is, e))) = ap (λ m. nat_lt m (2 ^ 8)) is
+
 protocol_said : (k : FrameKind) (o : Option ℕ) (text : List ℕ) → IsProtocolText k o text → number_fits (2 ^ 8) o ≡ true
 protocol_said frames.Any o text said = absurd said
 protocol_said frames.Arp o text said = absurd said
 protocol_said frames.Ip None text said = absurd said
-protocol_said frames.Ip (Some n) text (inl (is, e)) = ap (λ m. nat_lt m (2 ^ 8)) is
-protocol_said frames.Ip (Some n) text (inr (inl (is, e))) = ap (λ m. nat_lt m (2 ^ 8)) is
-protocol_said frames.Ip (Some n) text (inr (inr (is, e))) = ap (λ m. nat_lt m (2 ^ 8)) is
+protocol_said frames.Ip (Some n) text said = named_fits n text (named_one n text said)
 
 -- of a part of which something is said, or nothing
 said_fits : (p : Part) (e : Entry) (text : List ℕ) → Says p e text → Fits p e

@@ -21,7 +21,7 @@ use Rattle.ofp_read.specs.inner.Cut.{begins_action, cut_action}
 use Rattle.ofp_read.specs.inner.FieldTable.{key_with_value, key_alone, key_of, is_given, with_value, with_key, with_field}
 use Rattle.ofp_read.specs.inner.FlowLine.{goes_on, nothing_given, with_fields, action_of, entry_of, with_action, flow_by, flow_of}
 use Rattle.ofp_read.specs.Grammar.{Part, priority, table, kind, protocol, source, destination, source_port, destination_port, is_separator, ends_apart, fields, IsKindText, IsProtocolText, EachSays, no_field, one_part, two_parts, IsNoneOf, AreDistinct, AreFieldsOf, IsActionText, HasFlow}
-use Rattle.ofp_read.proofs.PartWords.{name_of, Says}
+use Rattle.ofp_read.proofs.PartWords.{name_of, Says, IsNamed, named_one}
 use Rattle.ofp_read.proofs.KeyLaws.{field_of_key, key_priority, key_table, key_source, key_destination, key_protocol, key_source_port, key_destination_port}
 use Rattle.ofp_read.proofs.PartLaws.{value_of, own_value, Lacks, Has, Same, OfEach, of_each, IsGiven, with_part, same_but, has_own}
 use Rattle.ofp_read.proofs.FieldLaws.{step_of_read}
@@ -70,14 +70,18 @@ named_key destination text value is = record { key = key.Destination; value = va
 named_key source_port text value is = record { key = key.SourcePort; value = value; found = ap key_of is ∙ key_source_port value; same = refl }
 named_key destination_port text value is = record { key = key.DestinationPort; value = value; found = ap key_of is ∙ key_destination_port value; same = refl }
 
+key_of_named : (n : ℕ) (text : List ℕ) → IsNamed n text → HasKey text (kind ∷ protocol ∷ [])
+unfolding key_of key_alone
+key_of_named n text (inl is) = alone_of text (codes "icmp") key.Icmp is.1 refl
+key_of_named n text (inr (inl is)) = alone_of text (codes "tcp") key.Tcp is.1 refl
+key_of_named n text (inr (inr is)) = alone_of text (codes "udp") key.Udp is.1 refl
+
 key_of_about : (parts : List Part) (text : List ℕ) → IsAbout parts text → HasKey text parts
 unfolding key_of key_alone
 key_of_about parts text (by_name part value is) = named_key part text value is
 key_of_about parts text (kind_alone (inl is)) = alone_of text (codes "ip") key.Ip is refl
 key_of_about parts text (kind_alone (inr is)) = alone_of text (codes "arp") key.Arp is refl
-key_of_about parts text (protocol_alone proto (inl is)) = alone_of text (codes "icmp") key.Icmp is.1 refl
-key_of_about parts text (protocol_alone proto (inr (inl is))) = alone_of text (codes "tcp") key.Tcp is.1 refl
-key_of_about parts text (protocol_alone proto (inr (inr is))) = alone_of text (codes "udp") key.Udp is.1 refl
+key_of_about parts text (protocol_alone proto is) = key_of_named proto text (named_one proto text is)
 
 about_of_key : (text value : List ℕ) (k : Key) → key_of text ≡ Some (k, value) → IsAbout (parts_of k) text
 about_of_key text value key.Priority is = by_name priority value (field_of_key text key.Priority value is).written
@@ -90,9 +94,9 @@ about_of_key text value key.SourcePort is = by_name source_port value (field_of_
 about_of_key text value key.DestinationPort is = by_name destination_port value (field_of_key text key.DestinationPort value is).written
 about_of_key text value key.Ip is = let field = field_of_key text key.Ip value is in kind_alone (inl (field.written ∙ ap (λ bs. codes "ip" ++ bs) (field.alone refl)))
 about_of_key text value key.Arp is = let field = field_of_key text key.Arp value is in kind_alone (inr (field.written ∙ ap (λ bs. codes "arp" ++ bs) (field.alone refl)))
-about_of_key text value key.Icmp is = let field = field_of_key text key.Icmp value is in protocol_alone 1 (inl (refl, field.written ∙ ap (λ bs. codes "icmp" ++ bs) (field.alone refl)))
-about_of_key text value key.Tcp is = let field = field_of_key text key.Tcp value is in protocol_alone 6 (inr (inl (refl, field.written ∙ ap (λ bs. codes "tcp" ++ bs) (field.alone refl))))
-about_of_key text value key.Udp is = let field = field_of_key text key.Udp value is in protocol_alone 17 (inr (inr (refl, field.written ∙ ap (λ bs. codes "udp" ++ bs) (field.alone refl))))
+about_of_key text value key.Icmp is = let field = field_of_key text key.Icmp value is in protocol_alone 1 (refl, field.written ∙ ap (λ bs. codes "icmp" ++ bs) (field.alone refl))
+about_of_key text value key.Tcp is = let field = field_of_key text key.Tcp value is in protocol_alone 6 (refl, field.written ∙ ap (λ bs. codes "tcp" ++ bs) (field.alone refl))
+about_of_key text value key.Udp is = let field = field_of_key text key.Udp value is in protocol_alone 17 (refl, field.written ∙ ap (λ bs. codes "udp" ++ bs) (field.alone refl))
 
 kind_about : (k : FrameKind) (text : List ℕ) → IsKindText k text → IsAbout (kind ∷ []) text
 kind_about frames.Any text is = absurd is

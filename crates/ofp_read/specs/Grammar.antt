@@ -5,7 +5,8 @@ use Rattle.std.specs.Option.{option_map_or}
 use Rattle.text_core.specs.Lines.{is_blank}
 use Rattle.host_net.specs.declared.prefix.Prefix.{Prefix}
 use Rattle.host_net.specs.PrefixView.{IsSpelling}
-use Rattle.host_net.specs.Service.{icmp, tcp, udp}
+use Rattle.host_net.specs.Service.{has_name}
+use Rattle.host_net.specs.ServiceText.{protocol_text}
 use Rattle.ofp_rules.specs.declared.entry.FrameKind.{FrameKind}
 use Rattle.ofp_rules.specs.declared.entry.FrameKind.TheVariants.{Any, Arp, Ip}
 use Rattle.ofp_rules.specs.declared.entry.Action.{Action}
@@ -80,8 +81,7 @@ about destination_port = of_number (codes "tp_dst=") (2 ^ 16) (λ e. e.tp_dst)
 
 -- IPv4 frames of a protocol, by its name
 abbrev pub IsProtocolText : FrameKind → Option ℕ → List ℕ → Type 0
-IsProtocolText Ip (Some proto) text =
-    ((proto ≡ icmp) × (text ≡ codes "icmp")) ⊎ (((proto ≡ tcp) × (text ≡ codes "tcp")) ⊎ ((proto ≡ udp) × (text ≡ codes "udp")))
+IsProtocolText Ip (Some proto) text = IsTrue (has_name proto) × (text ≡ protocol_text proto)
 IsProtocolText _ _ text = ⊥
 
 -- each field is about the part at its place, or, as the name of a protocol, about the kind and the protocol both
