@@ -2,7 +2,7 @@
 -- services where it has some; hosts are known by their numbers.
 use Rattle.std.specs.Prelude.{ℕ, ◌+◌, Bool, true, false, if◌then◌else◌, List, [], ◌∷◌, ◌++◌, Option, Some, None, map, option_map}
 use Rattle.std.specs.List.{flat_map}
-use Rattle.std.specs.Option.{option_and_then}
+use Rattle.std.specs.Option.{option_map_or, option_and_then}
 use Rattle.host_net.specs.declared.prefix.Prefix.{Prefix}
 use Rattle.host_net.specs.declared.service.Service.{Service}
 use Rattle.host_net.specs.Host.{Host, rest_of}
@@ -36,8 +36,7 @@ service_entry priority q t n =
 
 -- what is dropped between two hosts where there is a rest host, lest it pass as if from or to that host
 abbrev pub rest_drop : Option ℕ → ℕ → Prefix → Prefix → List Entry
-rest_drop None priority q t = []
-rest_drop (Some r) priority q t = ip_entry priority (Some q) (Some t) Drop ∷ []
+rest_drop rest priority q t = option_map_or (λ r. ip_entry priority (Some q) (Some t) Drop ∷ []) rest []
 
 -- the entries from the prefix q to the prefix t: of a permitted flow each service, and below them a drop where it is narrowed; of another
 -- flow the drop alone
@@ -75,8 +74,7 @@ abbrev pub from_rest : Site → List Flow → ℕ → List Entry
 from_rest site p r = for_each_host (λ i qs. from_rest_host (permits p r i) (services_of site.services r i) qs) 0 site.hosts
 
 abbrev pub with_rest : Site → List Flow → Option ℕ → List Entry
-with_rest site p None = []
-with_rest site p (Some r) = to_rest site p r ++ from_rest site p r
+with_rest site p rest = option_map_or (λ r. to_rest site p r ++ from_rest site p r) rest []
 
 -- ARP frames are forwarded, and what no entry above matches is dropped
 abbrev pub arp_entry : Entry

@@ -70,8 +70,7 @@ jump_from i q = from_source (Some q) (Jump (chain_of i)) ∷ []
 
 -- the jump to the chain of the rest host, where there is one, for the sources that are left
 abbrev pub rest_jump : Option ℕ → List Rule
-rest_jump None = []
-rest_jump (Some r) = from_source None (Jump (chain_of r)) ∷ []
+rest_jump rest = option_map_or (λ r. from_source None (Jump (chain_of r)) ∷ []) rest []
 
 -- FORWARD: to the chain of the host that owns the source
 abbrev pub forward_rules : List Host → List Rule
@@ -128,8 +127,7 @@ to_prefix side site p s i rest j q = accepts side site p s i j (Some q) ++ drops
 
 -- the rules of host i for the rest host
 abbrev pub to_rest : Side → Site → List Flow → List Flow → ℕ → Option ℕ → List Rule
-to_rest side site p s i None = []
-to_rest side site p s i (Some r) = accepts side site p s i r None
+to_rest side site p s i rest = option_map_or (λ r. accepts side site p s i r None) rest []
 
 -- the chain of host i for what it sends, or for what it receives, by the address of the other host; what no rule accepts is dropped
 abbrev pub host_rules : Side → Site → List Flow → List Flow → ℕ → List Rule

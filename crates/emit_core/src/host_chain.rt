@@ -146,7 +146,7 @@ impl<'a> HostChain<'a> {
         ensures { IfOk result (λ rules. rules.items ≡ host_rules self.now.side (site_with self.now.hosts.now
             self.now.services.now) self.now.permitted.now.flows self.now.stateful.now.flows self.now.host) }
     {
-        let mut rules = Vec::new(alloc);
+        let mut rules = Vec::with_capacity(alloc, self.hosts.count() as usize)?;
         self.push_to_hosts(&mut rules)?;
         self.push_to_rest(&mut rules)?;
         rules.push(at_other(self.side, None, Target::Drop))?;
