@@ -35,7 +35,7 @@ impl<'a> Text<'a> {
         ensures gives { GivesOne (filter_of (rules_of self.now)) }
     {
         match self {
-            Text::Ipt(filter) => filter.rules().rules(),
+            Text::Ipt(filter) => filter.ruleset().rules(),
             Text::Ofp(table) => table.len(),
         }
     }

@@ -218,16 +218,6 @@ asked_begins number known rest w v u same is = record {
   done = λ none. absurd (not_empty (rest ++ v ∷ []) u none);
 }
 
--- ---- the outcome
-
-pub outcome_known : (fits : Rule → Bool) (chains : List Chain) (number : ℕ) (known : List (Option (Option Verdict))) (walks : List Walk) (o : Option Verdict) → AreKnown fits chains known → Begins number known walks → walks ≡ [] → Some o ≡ known_at known number → Gives fits chains (rules_of chains number) o
-outcome_known fits chains number known walks o are is none found = are number o (sym found)
-
-pub outcome_there : (number : ℕ) (known : List (Option (Option Verdict))) (walks : List Walk) → Begins number known walks → walks ≡ [] → None ≡ known_at known number → ⊥
-outcome_there number known walks is none missing =
-    let done = is.done none in
-    let e : None ≡ Some done.0 = missing ∙ done.1 in cc
-
 -- ---- all that holds between two steps
 
 pub record Waiting (fits : Rule → Bool) (chains : List Chain) (number : ℕ) (known : List (Option (Option Verdict))) (walks : List Walk) : Type 0 where

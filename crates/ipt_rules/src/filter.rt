@@ -48,7 +48,7 @@ impl<'a> Filter<'a> {
     }
 
     /// Its rules.
-    pub fn rules(&self) -> &'a Ruleset
+    pub fn ruleset(&self) -> &'a Ruleset
         ensures { result.now ≡ self.now }
     {
         self.rules

@@ -21,8 +21,9 @@ use crate::rule::{Policy, Rule, Target};
 use arrayvec::ArrayVec;
 use host_net::{Covers, CtState, Packet, Verdict};
 
-/// Up to so many chains a packet needs less room, and less time to clear it.
-const FEW_CHAINS: usize = 512;
+/// The built-in chains and one for each of 256 hosts. For up to so many a packet needs less room, and
+/// less time to clear it.
+const FEW_CHAINS: usize = 259;
 
 /// What one rule does with a packet: it goes on to the next rule, ends its chain with an outcome,
 /// or walks another chain. The outcome of a chain is a verdict, or None where it returns.
