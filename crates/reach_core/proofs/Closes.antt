@@ -1,17 +1,15 @@
 -- What a row of a closure tells of walks: with its own host, in other words, and of no flows.
-use Rattle.std.proofs.Common.{◌≡◌, ℕ, ◌<◌, Bool, false, ◌&&◌, ◌||◌, nat_eq, nat_cmp, ◌↔◌, inl, inr, [], replicate, sym, ◌∙◌, ap, subst}
+use Rattle.std.proofs.Common.{◌≡◌, ℕ, ◌<◌, Bool, false, ◌||◌, nat_eq, nat_cmp, ◌↔◌, inl, inr, [], replicate, sym, ◌∙◌, ap, subst}
 use Rattle.std.specs.Prelude.{IsTrue}
 use Rattle.std.specs.FinSet as set
-use Rattle.std.proofs.lemmas.Bool.{or_cases, or_left, or_right, and_parts, and_from, eqb-true, eq-eqb, false≢true}
+use Rattle.std.proofs.lemmas.Bool.{or_cases, or_left, or_right, eqb-true, eq-eqb, false≢true}
 use Rattle.std.proofs.lemmas.List.{get_or-replicate}
 use Rattle.flow_set.specs.declared.flow.Flow.{Flow}
-use Rattle.flow_set.specs.Flow.{same_flow}
-use Rattle.flow_set.specs.laws.FlowLaws.{same_flow_self}
 use Rattle.flow_set.specs.HostSet.{HostNumbers}
 use Rattle.flow_set.specs.inner.HostSet.{row_of}
 use Rattle.flow_set.specs.laws.HostSetLaws.{contains-insert}
 use Rattle.reach_core.specs.Walks.{HasWalk}
-use Rattle.reach_core.specs.laws.WalkLaws.{HasPath, HasWalk-weaker, HasPath-weaker, path_of_walk, cases_path, walk_over, walk_cut}
+use Rattle.reach_core.specs.laws.WalkLaws.{HasPath, path_of_walk, cases_path}
 
 -- ---- paths from a row and its host
 

@@ -1,11 +1,11 @@
 -- How many other hosts a row has, against lists of different hosts.
-use Rattle.std.proofs.Common.{◌≡◌, ℕ, zero, suc, ◌-◌, ◌<◌, ◌≤◌, true, false, nat_cmp, ◌↔◌, inl, inr, List, [], ◌∷◌, length, refl, sym, ◌∙◌, ap, subst, arith}
+use Rattle.std.proofs.Common.{◌≡◌, ℕ, zero, suc, ◌-◌, ◌<◌, ◌≤◌, false, nat_cmp, ◌↔◌, inl, inr, List, [], ◌∷◌, length, refl, sym, ◌∙◌, ap, arith}
 use Rattle.std.specs.Prelude.{IsTrue, ◌≢◌, All, AllPairs}
 use Rattle.std.specs.FinSet as set
 use Rattle.std.specs.List.{list_any}
 use Rattle.std.specs.Ordering.{eq_by_cmp}
 use Rattle.std.specs.Cmp.{nat_cmp_total, unsigned_tied}
-use Rattle.std.proofs.lemmas.Bool.{and_parts, and_from, or_left, eqb-false, eq-eqb, ne_eqb, not-true, not_from_false, cases_eq, cond-true, cond-false, false≢true}
+use Rattle.std.proofs.lemmas.Bool.{and_parts, and_from, or_left, eqb-false, eq-eqb, ne_eqb, not-true, not_from_false, cases_eq, cond-true, false≢true}
 use Rattle.std.proofs.lemmas.List.Elements.{All-nil, All-cons, All-head, All-tail}
 use Rattle.flow_set.specs.declared.flow.Flow.{Flow}
 use Rattle.flow_set.specs.HostSet.{HostNumbers}

@@ -1,6 +1,6 @@
 -- Going over the hosts of a set, from the first on.
 use Rattle.std.proofs.Common.{ℕ, ◌+◌, ◌<◌, ◌≤◌, inl, inr, sym, subst, arith}
-use Rattle.std.specs.Prelude.{◌≢◌, IsTrue}
+use Rattle.std.specs.Prelude.{IsTrue}
 use Rattle.std.specs.FinSet as set
 use Rattle.std.proofs.lemmas.Bool.{both_ways, cases_eq, cases_lt}
 use Rattle.flow_set.specs.HostSet.{HostNumbers}

@@ -1,5 +1,5 @@
 -- Dependability holds of subsets and of no flows, and the limit 0 is secure.
-use Rattle.std.proofs.Common.{◌≡◌, ℕ, ◌<◌, List, [], ◌∷◌, length, get_or, set, length-set, ◌↔◌, inl, inr, sym, ◌∙◌, subst, arith}
+use Rattle.std.proofs.Common.{◌≡◌, ℕ, ◌<◌, List, [], ◌∷◌, length, get_or, set, length-set, ◌↔◌, inl, inr, sym, subst, arith}
 use Rattle.std.specs.Prelude.{IsTrue, slice_index, slice_set}
 use Rattle.std.proofs.lemmas.Bool.{cases_eq}
 use Rattle.flow_set.specs.declared.flow.Flow.{Flow}

@@ -1,4 +1,4 @@
-use Rattle.std.proofs.Common.{◌≡◌, ◌∙◌, ap}
+use Rattle.std.proofs.Common.{◌∙◌, ap}
 use Rattle.std.specs.FinSet as set
 use Rattle.flow_set.specs.HostSet.{HostNumbers}
 use Rattle.reach_core.proofs.Opening.{opens_from, opens_no_other}

@@ -1,4 +1,4 @@
-use Rattle.std.proofs.Common.{ℕ, ◌<◌, inl, inr, subst, arith}
+use Rattle.std.proofs.Common.{ℕ, inl, inr, subst, arith}
 use Rattle.std.specs.Prelude.{slice_index}
 use Rattle.std.proofs.lemmas.Bool.{both_ways, cases_lt, false≢true}
 use Rattle.reach_core.specs.Walks.{ReachesAtMost}

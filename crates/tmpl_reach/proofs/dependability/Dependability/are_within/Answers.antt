@@ -1,4 +1,3 @@
-use Rattle.std.proofs.Common.{ℕ, arith}
 use Rattle.std.specs.Prelude.{slice_index}
 use Rattle.std.proofs.lemmas.Bool.{both_ways, false≢true}
 use Rattle.flow_set.specs.FlowSet.{with_flow}
