@@ -1,32 +1,26 @@
--- A network that asks for a flow that it asks for, or for one less that it does not ask for; and one that asks for a flow and then no
--- more, or the other way round.
-use Rattle.std.proofs.Common.{◌≡◌, Bool, true, false, not, ap, sym, subst, ◌∙◌}
+-- A network that asks for a flow that it asks for, or no more for one that it does not ask for; and a change that is taken back.
+use Rattle.std.proofs.Common.{◌≡◌, Bool, true, false, not, refl, ap, sym, subst, ◌∙◌}
+use Rattle.std.specs.Bool.{beq}
 use Rattle.std.proofs.lemmas.Bool.{false≢true}
 use Rattle.std.specs.Prelude.{IsFalse, IsTrue}
 use Rattle.flow_set.specs.laws.FlowLaws.{with_flow-without_flow, with_flow_there, without_flow-with_flow, without_flow_absent}
 use Rattle.flow_set.specs.FlowSet.{IsOrdered, has}
 use Rattle.flow_set.specs.declared.flow.Flow.{Flow}
-use Rattle.net_core.specs.inner.Asking.{asking, asking_for, not_asking_for}
+use Rattle.net_core.specs.inner.Asking.{asking, asking_where}
 use Rattle.net_core.specs.Network.{Network}
 use Rattle.net_core.specs.inner.Policed.{IsJudged, Policed, policy_in}
 use Rattle.net_core.specs.declared.judged.Judged.{Judged}
 
-pub asked_already : (d : Network) (f : Flow) → IsOrdered d.asked.flows → IsTrue (has d.asked.flows f) → d ≡ asking_for d f
-asked_already d f ordered there = ap (asking d) (sym (with_flow_there d.asked.flows f ordered there))
+pub asked_already : (asked : Bool) (d : Network) (f : Flow) → IsOrdered d.asked.flows → has d.asked.flows f ≡ asked → d ≡ asking_where asked d f
+asked_already true d f ordered there = ap (asking d) (sym (with_flow_there d.asked.flows f ordered there))
+asked_already false d f ordered absent = ap (asking d) (sym (without_flow_absent d.asked.flows f absent))
 
-pub not_asked : (d : Network) (f : Flow) → IsFalse (has d.asked.flows f) → d ≡ not_asking_for d f
-not_asked d f absent = ap (asking d) (sym (without_flow_absent d.asked.flows f absent))
-
--- the network after both
-pub asked_and_not : (d more back : Network) (f : Flow) → IsOrdered d.asked.flows → IsFalse (has d.asked.flows f) → more ≡ asking_for d f
-    → back ≡ not_asking_for more f → back ≡ d
-asked_and_not d more back f ordered fresh grown shrunk =
-    shrunk ∙ ap (λ (n : Network). not_asking_for n f) grown ∙ ap (asking d) (without_flow-with_flow d.asked.flows f ordered fresh)
-
-pub not_and_asked : (d less back : Network) (f : Flow) → IsOrdered d.asked.flows → IsTrue (has d.asked.flows f) → less ≡ not_asking_for d f
-    → back ≡ asking_for less f → back ≡ d
-not_and_asked d less back f ordered there shrunk grown =
-    grown ∙ ap (λ (n : Network). asking_for n f) shrunk ∙ ap (asking d) (with_flow-without_flow d.asked.flows f ordered there)
+pub taken_back : (asked : Bool) (d next back : Network) (f : Flow) → IsOrdered d.asked.flows → has d.asked.flows f ≡ not asked
+    → next ≡ asking_where asked d f → back ≡ asking_where (not asked) next f → back ≡ d
+taken_back true d next back f ordered fresh there here =
+    here ∙ ap (λ (n : Network). asking_where false n f) there ∙ ap (asking d) (without_flow-with_flow d.asked.flows f ordered fresh)
+taken_back false d next back f ordered old there here =
+    here ∙ ap (λ (n : Network). asking_where true n f) there ∙ ap (asking d) (with_flow-without_flow d.asked.flows f ordered old)
 
 -- the same network with the same policy
 pub policed_again : (d e : Network) (j k : Judged) (p : Policed) → e ≡ d → k ≡ j → record { network = d; policy = policy_in j } ≡ p
@@ -37,6 +31,22 @@ pub judged_again : (d e : Network) (j k : Judged) → e ≡ d → k ≡ j → Is
 judged_again d e j k same kept is = subst (λ (n : Network). IsJudged n k) (sym same) (subst (λ (i : Judged). IsJudged d i) (sym kept) is)
 
 -- ---- tests
+
+pub same_test : (a b : Bool) → beq a b ≡ true → a ≡ b
+same_test true true same = refl
+same_test false false same = refl
+same_test true false same = cc
+same_test false true same = cc
+
+pub other_test : (a b : Bool) → beq a b ≡ false → a ≡ not b
+other_test true true other = cc
+other_test false false other = cc
+other_test true false other = refl
+other_test false true other = refl
+
+pub fresh_where : (asked there : Bool) → there ≡ not asked → IsTrue asked → IsFalse there
+fresh_where true there other is = other
+fresh_where false there other is = absurd (false≢true is)
 
 pub denied_so : (b : Bool) (Passes : Type 0) → IsTrue (not b) → (Passes → IsTrue b) → Passes → ⊥
 denied_so true Passes denied says passes = false≢true denied

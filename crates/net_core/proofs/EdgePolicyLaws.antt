@@ -1,26 +1,26 @@
 -- Laws of policies that are told flow by flow: they are the policies of networks whose invariants judge flows alone, and one flow more or
 -- less changes them by that flow alone.
-use Rattle.std.proofs.Common.{◌≡◌, ℕ, inl, inr, Bool, true, false, List, [], ◌∷◌, refl, sym, ◌∙◌, ap, subst, All}
+use Rattle.std.proofs.Common.{◌≡◌, ℕ, inl, inr, Bool, true, false, List, [], ◌∷◌, refl, sym, ◌∙◌, subst, All}
 use Rattle.std.specs.Prelude.{◌↔◌, IsTrue, IsFalse}
 use Rattle.std.proofs.lemmas.Bool.{both_ways, false≢true, or_cases, or_left, or_right, cases_Bool}
 use Rattle.flow_set.specs.inner.Downward.{IsEdgeWise}
 use Rattle.flow_set.specs.Flow.{IsFlow, back_of, same_flow}
 use Rattle.flow_set.specs.FlowSet.{has, IsSubset, with_back, with_flow}
 use Rattle.flow_set.specs.inner.FlowSetView.{IsFlowSet, without_flow}
-use Rattle.flow_set.specs.laws.FlowLaws.{has_first, has-with_back, same_fact}
+use Rattle.flow_set.specs.laws.FlowLaws.{has_first, has_nothing, has-with_back, same_fact}
 use Rattle.flow_set.proofs.SubsetLaws.{IsFlowSet-nothing, IsFlowSet-subset, IsFlowSet-with_back, IsFlowSet-with_flow}
 use Rattle.flow_set.specs.declared.flow.Flow.{Flow}
 use Rattle.inv_any.specs.laws.TemplateLaws.{lawful}
 use Rattle.inv_any.specs.Templates.{meaning_of}
 use Rattle.inv_any.specs.declared.any_inv.AnyInv.{AnyInv}
 use Rattle.net_core.specs.inner.Asking.{asking_for, not_asking_for}
-use Rattle.net_core.proofs.AskingLaws.{network_less, network_more}
+use Rattle.net_core.proofs.AskingLaws.{network_where}
 use Rattle.net_core.specs.inner.Fitting.{IsNetwork}
 use Rattle.net_core.specs.Network.{Network}
-use Rattle.net_core.specs.Policies.{holds_on, edge_mark, IsPolicyOf, IsStatefulBy, JudgesFlowsAlone, MeetsAll, MeetsStrict, Policy}
-use Rattle.net_core.proofs.PolicyLaws.{IsSubset-stateful}
+use Rattle.net_core.specs.Policies.{holds_on, edge_mark, IsPolicyOf, IsStateful, JudgesFlowsAlone, MeetsAll, MeetsStrict, Policy}
+use Rattle.net_core.proofs.PolicyLaws.{answerable_within}
 use Rattle.permit_core.proofs.PolicyLaws.{AllHold-edge_wise}
-use Rattle.net_core.specs.inner.EdgePolicies.{AreAnswered, AreMarked, IsAdmitted, IsAnswered, IsEdgePolicy}
+use Rattle.net_core.specs.inner.EdgePolicies.{answerable, AreMarked, IsAdmitted, IsAnswered, IsEdgePolicy}
 use Rattle.net_core.proofs.MarkedLaws.{first_marked, marked_first, marked_kept, marked_left, marked_out, within_both, within_less, within_more}
 
 edge_wise_at : (n : ℕ) (inv : AnyInv) → (meaning_of inv).size ≡ n → IsTrue (edge_mark inv) → IsEdgeWise n (holds_on inv)
@@ -41,10 +41,6 @@ strict_of_all : (d : Network) (e : List Flow) → MeetsAll d e → MeetsStrict d
 strict_of_all d e meets = λ k x within strict. meets k x within
 
 -- ---- answers, one by one
-
--- a flow of the policy with answers is permitted or an answer
-back_back : (f : Flow) → back_of (back_of f) ≡ f
-back_back f = refl
 
 one_flow : (n : ℕ) (p : List Flow) (f : Flow) → IsFlowSet n p → IsFlow n f → IsFlowSet n (f ∷ [])
 one_flow n p f p_set flow = IsFlowSet-with_flow n [] f (IsFlowSet-nothing n p_set.small) flow
@@ -92,29 +88,33 @@ answer_alone n Strict p f edge_wise p_set holds flow =
 
 -- ---- the policy, both ways
 
-flow_back : (n : ℕ) (p : List Flow) (f : Flow) → IsFlowSet n p → IsTrue (has p f) → IsFlow n f
-flow_back n p f set there = set.flows f there
+-- the flows that may have answers
+answerable_set : (answers : Bool) (n : ℕ) (p : List Flow) → IsFlowSet n p → IsFlowSet n (answerable answers p)
+answerable_set true n p set = set
+answerable_set false n p set = IsFlowSet-nothing n set.small
 
--- which of the permitted flows have answers that may pass, by the first subset
-answered_by : (answers : Bool) (d : Network) (p s : List Flow) → IsEdgeWise d.asked.size (MeetsStrict d) → IsFlowSet d.asked.size p → MeetsStrict d p
-    → IsStatefulBy answers d p s → AreAnswered answers (IsAnswered d) p s
-answered_by false d p s edge_wise set holds is = is
-answered_by true d p s edge_wise set holds is = λ f there.
-    let marked = first_marked d.asked.size (λ t. MeetsStrict d (with_back p t)) p s set (answered_edge_wise d.asked.size (MeetsStrict d) p edge_wise set holds) is f there in
-    let same = answer_alone d.asked.size (MeetsStrict d) p f edge_wise set holds (set.flows f there) in
-    (λ here. same.0 (marked.0 here), λ answer. marked.1 (same.1 answer))
+has_answerable : (answers : Bool) (p : List Flow) (f : Flow) → IsTrue (has (answerable answers p) f) → IsTrue (has p f)
+has_answerable true p f there = there
+has_answerable false p f there = has_nothing f there
 
-marked_so : (d : Network) (p s : List Flow) → IsEdgeWise d.asked.size (MeetsStrict d) → IsFlowSet d.asked.size p → MeetsStrict d p
-    → AreMarked (IsAnswered d) p s → AreMarked (λ f. MeetsStrict d (with_back p (f ∷ []))) p s
-marked_so d p s edge_wise set holds are f there =
-    let same = answer_alone d.asked.size (MeetsStrict d) p f edge_wise set holds (set.flows f there) in
-    (λ here. same.1 ((are f there).0 here), λ answer. (are f there).1 (same.0 answer))
+marked_same : (P Q : Flow → Type 0) (all xs : List Flow) → ((f : Flow) → IsTrue (has all f) → P f → Q f) → ((f : Flow) → IsTrue (has all f) → Q f → P f)
+    → AreMarked P all xs → AreMarked Q all xs
+marked_same P Q all xs to from marked f there = (λ here. to f there ((marked f there).0 here), λ passes. (marked f there).1 (from f there passes))
 
-stateful_by : (answers : Bool) (d : Network) (p s : List Flow) → IsEdgeWise d.asked.size (MeetsStrict d) → IsFlowSet d.asked.size p → MeetsStrict d p
-    → IsSubset s p → AreAnswered answers (IsAnswered d) p s → IsStatefulBy answers d p s
-stateful_by false d p s edge_wise set holds sub are = are
-stateful_by true d p s edge_wise set holds sub are =
-    marked_first d.asked.size (λ t. MeetsStrict d (with_back p t)) p s set (answered_edge_wise d.asked.size (MeetsStrict d) p edge_wise set holds) sub (marked_so d p s edge_wise set holds are)
+-- one of them is stateful exactly where its answer alone passes
+module _ (d : Network) (p : List Flow) (edge_wise : IsEdgeWise d.asked.size (MeetsStrict d)) (set : IsFlowSet d.asked.size p) (holds : MeetsStrict d p) where
+  one_answer : (f : Flow) → IsTrue (has (answerable d.answers p) f) → MeetsStrict d (with_back p (f ∷ [])) ↔ IsAnswered d f
+  one_answer f there = answer_alone d.asked.size (MeetsStrict d) p f edge_wise set holds (set.flows f (has_answerable d.answers p f there))
+
+  answered_by : (s : List Flow) → IsStateful d p s → AreMarked (IsAnswered d) (answerable d.answers p) s
+  answered_by s is =
+      marked_same (λ f. MeetsStrict d (with_back p (f ∷ []))) (IsAnswered d) (answerable d.answers p) s (λ f there. (one_answer f there).0) (λ f there. (one_answer f there).1)
+      (first_marked d.asked.size (λ t. MeetsStrict d (with_back p t)) (answerable d.answers p) s (answerable_set d.answers d.asked.size p set) (answered_edge_wise d.asked.size (MeetsStrict d) p edge_wise set holds) is)
+
+  stateful_by : (s : List Flow) → IsSubset s (answerable d.answers p) → AreMarked (IsAnswered d) (answerable d.answers p) s → IsStateful d p s
+  stateful_by s sub are =
+      marked_first d.asked.size (λ t. MeetsStrict d (with_back p t)) (answerable d.answers p) s (answerable_set d.answers d.asked.size p set) (answered_edge_wise d.asked.size (MeetsStrict d) p edge_wise set holds) sub
+      (marked_same (IsAnswered d) (λ f. MeetsStrict d (with_back p (f ∷ []))) (answerable d.answers p) s (λ f there. (one_answer f there).1) (λ f there. (one_answer f there).0) are)
 
 pub IsEdgePolicy-policy : (d : Network) (policy : Policy) → IsNetwork d → JudgesFlowsAlone d → IsPolicyOf d policy → IsEdgePolicy d policy
 IsEdgePolicy-policy d policy network alone is =
@@ -123,11 +123,11 @@ IsEdgePolicy-policy d policy network alone is =
       permitted_size = is.permitted_size;
       stateful_size = is.stateful_size;
       permitted_within = is.permitted.within;
-      stateful_within = IsSubset-stateful d policy.permitted.flows policy.stateful.flows is.stateful;
+      stateful_within = is.stateful.within;
       permitted = first_marked d.asked.size (MeetsAll d) d.asked.flows policy.permitted.flows network.asked (all_edge_wise d network alone) is.permitted;
       stateful =
-          answered_by d.answers d policy.permitted.flows policy.stateful.flows (strict_edge_wise d network alone) p_set
-          (strict_of_all d policy.permitted.flows is.permitted.holds) is.stateful;
+          answered_by d policy.permitted.flows (strict_edge_wise d network alone) p_set (strict_of_all d policy.permitted.flows is.permitted.holds)
+          policy.stateful.flows is.stateful;
     }
 
 pub policy-IsEdgePolicy : (d : Network) (policy : Policy) → IsNetwork d → JudgesFlowsAlone d → IsEdgePolicy d policy → IsPolicyOf d policy
@@ -139,8 +139,8 @@ policy-IsEdgePolicy d policy network alone is =
       stateful_size = is.stateful_size;
       permitted = permitted;
       stateful =
-          stateful_by d.answers d policy.permitted.flows policy.stateful.flows (strict_edge_wise d network alone) p_set
-          (strict_of_all d policy.permitted.flows permitted.holds) is.stateful_within is.stateful;
+          stateful_by d policy.permitted.flows (strict_edge_wise d network alone) p_set (strict_of_all d policy.permitted.flows permitted.holds)
+          policy.stateful.flows is.stateful_within is.stateful;
     }
 
 -- ---- one flow more, and one less
@@ -160,7 +160,7 @@ not_there d policy f fresh is = absent_from d.asked.flows policy.permitted.flows
 
 -- one that is admitted is permitted; its answers may pass where they are admitted
 pub admitted_more : (d : Network) (policy : Policy) (f : Flow) (s : List Flow) → IsFalse (has d.asked.flows f) → IsAdmitted d f → IsEdgePolicy d policy
-    → IsSubset s (with_flow policy.permitted.flows f) → AreAnswered d.answers (IsAnswered d) (with_flow policy.permitted.flows f) s
+    → IsSubset s (answerable d.answers (with_flow policy.permitted.flows f)) → AreMarked (IsAnswered d) (answerable d.answers (with_flow policy.permitted.flows f)) s
     → IsEdgePolicy (asking_for d f) (WithFlows (with_flow policy.permitted.flows f) s policy)
 admitted_more d policy f s fresh admitted is within answered = record {
   permitted_size = is.permitted_size;
@@ -171,23 +171,34 @@ admitted_more d policy f s fresh admitted is within answered = record {
   stateful = answered;
 }
 
-pub answered_more : (answers : Bool) (Passes : Flow → Type 0) (p s : List Flow) (f : Flow) → IsTrue answers → Passes f → AreAnswered answers Passes p s
-    → AreAnswered answers Passes (with_flow p f) (with_flow s f)
+answered_within : (answers : Bool) (p s : List Flow) (f : Flow) → IsTrue answers → IsSubset s (answerable answers p)
+    → IsSubset (with_flow s f) (answerable answers (with_flow p f))
+answered_within true p s f on sub = within_both s p f sub
+answered_within false p s f on sub = absurd (false≢true on)
+
+answered_more : (answers : Bool) (Passes : Flow → Type 0) (p s : List Flow) (f : Flow) → IsTrue answers → Passes f → AreMarked Passes (answerable answers p) s
+    → AreMarked Passes (answerable answers (with_flow p f)) (with_flow s f)
 answered_more true Passes p s f on passes are = marked_kept Passes p s f passes are
 answered_more false Passes p s f on passes are = absurd (false≢true on)
 
-pub unanswered_more : (answers : Bool) (Passes : Flow → Type 0) (p s : List Flow) (f : Flow) → (IsTrue answers → Passes f → ⊥) → IsFalse (has s f)
-    → AreAnswered answers Passes p s → AreAnswered answers Passes (with_flow p f) s
+unanswered_within : (answers : Bool) (p s : List Flow) (f : Flow) → IsSubset s (answerable answers p) → IsSubset s (answerable answers (with_flow p f))
+unanswered_within true p s f sub = within_more s p f sub
+unanswered_within false p s f sub = sub
+
+unanswered_more : (answers : Bool) (Passes : Flow → Type 0) (p s : List Flow) (f : Flow) → (IsTrue answers → Passes f → ⊥) → IsFalse (has s f)
+    → AreMarked Passes (answerable answers p) s → AreMarked Passes (answerable answers (with_flow p f)) s
 unanswered_more true Passes p s f fails absent are = marked_left Passes p s f (fails refl) absent are
 unanswered_more false Passes p s f fails absent are = are
 
-out_of_nothing : (s : List Flow) (f : Flow) → s ≡ [] → without_flow s f ≡ []
-out_of_nothing s f none = ap (λ t. without_flow t f) none
+fewer_within : (answers : Bool) (p s : List Flow) (f : Flow) → IsSubset s (answerable answers p)
+    → IsSubset (without_flow s f) (answerable answers (without_flow p f))
+fewer_within true p s f sub = within_less s p f sub
+fewer_within false p s f sub = within_less s [] f sub
 
-answered_less : (answers : Bool) (Passes : Flow → Type 0) (p s : List Flow) (f : Flow) → AreAnswered answers Passes p s
-    → AreAnswered answers Passes (without_flow p f) (without_flow s f)
+answered_less : (answers : Bool) (Passes : Flow → Type 0) (p s : List Flow) (f : Flow) → AreMarked Passes (answerable answers p) s
+    → AreMarked Passes (answerable answers (without_flow p f)) (without_flow s f)
 answered_less true Passes p s f are = marked_out Passes p s f are
-answered_less false Passes p s f are = out_of_nothing s f are
+answered_less false Passes p s f are = marked_out Passes [] s f are
 
 pub one_less : (d : Network) (policy : Policy) (f : Flow) → IsEdgePolicy d policy
     → IsEdgePolicy (not_asking_for d f) (WithFlows (without_flow policy.permitted.flows f) (without_flow policy.stateful.flows f) policy)
@@ -195,7 +206,7 @@ one_less d policy f is = record {
   permitted_size = is.permitted_size;
   stateful_size = is.stateful_size;
   permitted_within = within_less policy.permitted.flows d.asked.flows f is.permitted_within;
-  stateful_within = within_less policy.stateful.flows policy.permitted.flows f is.stateful_within;
+  stateful_within = fewer_within d.answers policy.permitted.flows policy.stateful.flows f is.stateful_within;
   permitted = marked_out (IsAdmitted d) d.asked.flows policy.permitted.flows f is.permitted;
   stateful = answered_less d.answers (IsAnswered d) policy.permitted.flows policy.stateful.flows f is.stateful;
 }
@@ -203,11 +214,11 @@ one_less d policy f is = record {
 -- ---- of the policies themselves
 
 -- a flow that is asked for no more
-pub policy_less : (d : Network) (policy : Policy) (f : Flow) → IsNetwork d → JudgesFlowsAlone d → IsPolicyOf d policy
+pub policy_less : (d : Network) (policy : Policy) (f : Flow) → IsNetwork d → JudgesFlowsAlone d → IsFlow d.asked.size f → IsPolicyOf d policy
     → IsPolicyOf (not_asking_for d f) (WithFlows (without_flow policy.permitted.flows f) (without_flow policy.stateful.flows f) policy)
-policy_less d policy f network alone is =
+policy_less d policy f network alone flow is =
     policy-IsEdgePolicy (not_asking_for d f) (WithFlows (without_flow policy.permitted.flows f) (without_flow policy.stateful.flows f) policy)
-    (network_less d f network) alone (one_less d policy f (IsEdgePolicy-policy d policy network alone is))
+    (network_where false d f flow network) alone (one_less d policy f (IsEdgePolicy-policy d policy network alone is))
 
 -- a flow that is asked for and admitted, with its answers
 pub policy_answered : (d : Network) (policy : Policy) (f : Flow) → IsNetwork d → JudgesFlowsAlone d → IsFlow d.asked.size f → IsFalse (has d.asked.flows f)
@@ -216,9 +227,9 @@ pub policy_answered : (d : Network) (policy : Policy) (f : Flow) → IsNetwork d
 policy_answered d policy f network alone flow fresh admitted on answered is =
     let edge = IsEdgePolicy-policy d policy network alone is in
     policy-IsEdgePolicy (asking_for d f) (WithFlows (with_flow policy.permitted.flows f) (with_flow policy.stateful.flows f) policy)
-    (network_more d f flow network) alone
+    (network_where true d f flow network) alone
     (admitted_more d policy f (with_flow policy.stateful.flows f) fresh admitted edge
-    (within_both policy.stateful.flows policy.permitted.flows f edge.stateful_within)
+    (answered_within d.answers policy.permitted.flows policy.stateful.flows f on edge.stateful_within)
     (answered_more d.answers (IsAnswered d) policy.permitted.flows policy.stateful.flows f on answered edge.stateful))
 
 -- and without them
@@ -227,9 +238,9 @@ pub policy_unanswered : (d : Network) (policy : Policy) (f : Flow) → IsNetwork
     → IsPolicyOf (asking_for d f) (WithFlows (with_flow policy.permitted.flows f) policy.stateful.flows policy)
 policy_unanswered d policy f network alone flow fresh admitted unanswered is =
     let edge = IsEdgePolicy-policy d policy network alone is in
-    let absent = absent_from policy.permitted.flows policy.stateful.flows f edge.stateful_within (not_there d policy f fresh edge) in
+    let absent = absent_from policy.permitted.flows policy.stateful.flows f (answerable_within d.answers policy.permitted.flows policy.stateful.flows edge.stateful_within) (not_there d policy f fresh edge) in
     policy-IsEdgePolicy (asking_for d f) (WithFlows (with_flow policy.permitted.flows f) policy.stateful.flows policy)
-    (network_more d f flow network) alone
+    (network_where true d f flow network) alone
     (admitted_more d policy f policy.stateful.flows fresh admitted edge
-    (within_more policy.stateful.flows policy.permitted.flows f edge.stateful_within)
+    (unanswered_within d.answers policy.permitted.flows policy.stateful.flows f edge.stateful_within)
     (unanswered_more d.answers (IsAnswered d) policy.permitted.flows policy.stateful.flows f unanswered absent edge.stateful))

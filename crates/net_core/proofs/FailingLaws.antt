@@ -12,7 +12,8 @@ use Rattle.flow_set.specs.inner.FlowSetView.{IsFlowSet, without_flow}
 use Rattle.flow_set.specs.declared.flow.Flow.{Flow}
 use Rattle.inv_any.specs.declared.any_inv.AnyInv.{AnyInv}
 use Rattle.net_core.specs.Policies.{holds_on}
-use Rattle.net_core.specs.FailingFlows.{FailsOn}
+use Rattle.net_core.specs.inner.Asking.{flows_where}
+use Rattle.net_core.specs.inner.FailingFlows.{FailsOn}
 use Rattle.flow_set.proofs.SubsetLaws.{nothing_within}
 use Rattle.net_core.proofs.MarkedLaws.{first_marked, within_both, within_less, within_more}
 
@@ -36,7 +37,7 @@ holds_more inv all failing f fresh holds is = record {
 }
 
 -- one on which it fails
-pub fails_more : (inv : AnyInv) (all failing : List Flow) (f : Flow) → (holds_on inv (f ∷ []) → ⊥) → FailsOn inv all failing
+fails_more : (inv : AnyInv) (all failing : List Flow) (f : Flow) → (holds_on inv (f ∷ []) → ⊥) → FailsOn inv all failing
     → FailsOn inv (with_flow all f) (with_flow failing f)
 fails_more inv all failing f fails is = record {
   within = within_both failing all f is.within;
@@ -60,7 +61,7 @@ kept : (fs : List Flow) (f g : Flow) → IsTrue (not (same_flow f g)) → has (w
 kept fs f g other = has-without_flow fs f g ∙ ap (λ b. has fs g && b) other ∙ and_true (has fs g)
 
 -- one flow less
-pub fails_less : (inv : AnyInv) (all failing : List Flow) (f : Flow) → FailsOn inv all failing → FailsOn inv (without_flow all f) (without_flow failing f)
+fails_less : (inv : AnyInv) (all failing : List Flow) (f : Flow) → FailsOn inv all failing → FailsOn inv (without_flow all f) (without_flow failing f)
 fails_less inv all failing f is = record {
   within = within_less failing all f is.within;
   marked = λ g there.
@@ -69,6 +70,12 @@ fails_less inv all failing f is = record {
       let same = kept failing f g parts.1 in
       (λ none. old.0 (sym same ∙ none), λ one. same ∙ old.1 one);
 }
+
+-- a flow that comes and on which it fails, or one that goes
+pub fails_where : (asked : Bool) (inv : AnyInv) (all failing : List Flow) (f : Flow) → (IsTrue asked → holds_on inv (f ∷ []) → ⊥) → FailsOn inv all failing
+    → FailsOn inv (flows_where asked all f) (flows_where asked failing f)
+fails_where true inv all failing f fails is = fails_more inv all failing f (fails refl) is
+fails_where false inv all failing f fails is = fails_less inv all failing f is
 
 nothing : (fs : List Flow) → ((f : Flow) → IsTrue (has fs f) → ⊥) → fs ≡ []
 nothing [] none = refl

@@ -5,7 +5,7 @@ use Rattle.std.proofs.lemmas.List.{get_or-set_same, get_or-set_other, get_or_app
 use Rattle.flow_set.specs.FlowSet.{SetOfFlows}
 use Rattle.flow_set.specs.declared.flow.Flow.{Flow}
 use Rattle.inv_any.specs.declared.any_inv.AnyInv.{AnyInv}
-use Rattle.net_core.specs.FailingFlows.{FailsIn}
+use Rattle.net_core.specs.inner.FailingFlows.{FailsIn}
 
 -- each invariant has the flows of its set, up to a place
 abbrev pub FailUpTo : ℕ → List Flow → List AnyInv → List SetOfFlows → ℕ → Type 0
@@ -50,6 +50,12 @@ within_in items whole i same within = subst (λ (xs : List AnyInv). i < length x
 
 pub past_in : (items whole : List AnyInv) (i : ℕ) → items ≡ whole → length items ≤ i → length whole ≤ i
 past_in items whole i same past = subst (λ (xs : List AnyInv). length xs ≤ i) same past
+
+-- the set of an invariant that was read of them is as it was
+pub failing_here : (n : ℕ) (all : List Flow) (items invs : List AnyInv) (old sets : List SetOfFlows) (i : ℕ) (inv : AnyInv) (was : SetOfFlows) → items ≡ invs
+    → i < length items → inv ≡ get_or items i inv → was ≡ get_or sets i was → FailUpTo n all invs old (length invs) → SameFrom sets old i → FailsIn n all inv was
+failing_here n all items invs old sets i inv was same within is read before rest =
+    set_here n all invs old sets i inv was (within_in items invs i same within) (read_in items invs i inv same is) read before rest
 
 -- one set more, at the end
 pub fail_pushed : (n : ℕ) (all : List Flow) (invs : List AnyInv) (sets : List SetOfFlows) (i : ℕ) (inv : AnyInv) (new : SetOfFlows) → i < length invs

@@ -1,12 +1,12 @@
 -- What a network's policy keeps, from its definition alone: it is the greatest where every invariant judges flows
 -- alone, and with its answers it complies with every invariant.
-use Rattle.std.proofs.Common.{◌≡◌, ℕ, Bool, true, false, List, sym, ◌∙◌, subst, All, get_or}
+use Rattle.std.proofs.Common.{◌≡◌, ℕ, List, sym, ◌∙◌, subst, All, get_or}
 use Rattle.std.specs.Prelude.{IsTrue}
 use Rattle.net_core.specs.Network.{Network}
 use Rattle.net_core.specs.inner.Fitting.{IsNetwork}
 use Rattle.permit_core.proofs.FirstLaws.{first_greatest}
 use Rattle.flow_set.specs.inner.Downward.{IsEdgeWise}
-use Rattle.flow_set.specs.FlowSet.{IsSubset, with_back}
+use Rattle.flow_set.specs.FlowSet.{IsSubset}
 use Rattle.flow_set.specs.inner.FlowSetView.{IsFlowSet}
 use Rattle.flow_set.proofs.SubsetLaws.{IsFlowSet-subset}
 use Rattle.flow_set.specs.declared.flow.Flow.{Flow}
@@ -14,7 +14,7 @@ use Rattle.inv_any.specs.laws.TemplateLaws.{lawful}
 use Rattle.inv_any.specs.Templates.{meaning_of}
 use Rattle.inv_any.specs.declared.any_inv.AnyInv.{AnyInv}
 use Rattle.permit_core.proofs.PolicyLaws.{AllHold-edge_wise}
-use Rattle.net_core.specs.Policies.{holds_on, strategy_of, edge_mark, MeetsAll, MeetsStrict, JudgesFlowsAlone, IsStatefulBy, Policy, IsPolicyOf, CompliesWithAll, IsGreatestPolicy}
+use Rattle.net_core.specs.Policies.{holds_on, strategy_of, edge_mark, MeetsAll, JudgesFlowsAlone, Policy, IsPolicyOf, CompliesWithAll, IsGreatestPolicy}
 use Rattle.net_core.proofs.PolicyLaws.{IsSubset-stateful}
 use Rattle.state_core.proofs.StatefulLaws.{Complies-from_strict}
 
@@ -32,12 +32,6 @@ IsGreatestPolicy-from_policy d policy network is_policy alone =
     first_greatest n (MeetsAll d) d.asked.flows policy.permitted.flows network.asked
     (AllHold-edge_wise n holds_on d.invariants edge_wise) is_policy.permitted
 
--- the strict invariants hold with the answers, also where there are none
-strict_holds : (answers : Bool) (d : Network) (p s : List Flow) → MeetsAll d p → IsStatefulBy answers d p s → MeetsStrict d (with_back p s)
-strict_holds true d p s meets first = first.holds
-strict_holds false d p s meets nothing =
-    λ k e within strict. subst (λ (xs : List Flow). holds_on (get_or d.invariants k e) (with_back p xs)) (sym nothing) (meets k e within)
-
 -- no answer breaks what the policy keeps
 pub CompliesWithAll-from_policy : (d : Network) (policy : Policy) → IsNetwork d → IsPolicyOf d policy → CompliesWithAll d policy
 CompliesWithAll-from_policy d policy network is_policy =
@@ -47,11 +41,10 @@ CompliesWithAll-from_policy d policy network is_policy =
     let p_set : IsFlowSet n p = IsFlowSet-subset n p d.asked.flows network.asked is_policy.permitted.within in
     let s_within : IsSubset s p = IsSubset-stateful d p s is_policy.stateful in
     let s_set : IsFlowSet n s = IsFlowSet-subset n s p p_set s_within in
-    let strict : MeetsStrict d (with_back p s) = strict_holds d.answers d p s is_policy.permitted.holds is_policy.stateful in
     record {
       within = s_within;
       each = λ k e within.
           let inv : AnyInv = get_or d.invariants k e in
           Complies-from_strict n (strategy_of inv) (edge_mark inv) (holds_on inv) p s p_set s_set
-          (edge_wise_at n inv (network.invariants k e within ∙ sym network.sized)) (is_policy.permitted.holds k e within) (strict k e within);
+          (edge_wise_at n inv (network.invariants k e within ∙ sym network.sized)) (is_policy.permitted.holds k e within) (is_policy.stateful.holds k e within);
     }

@@ -1,36 +1,43 @@
 -- Laws of policies: a network has one at most, what lies within what, and that flows which meet every invariant are
 -- permitted as they are asked for.
-use Rattle.std.proofs.Common.{◌≡◌, Bool, true, false, List, sym, ◌∙◌, subst}
+use Rattle.std.proofs.Common.{◌≡◌, ℕ, Bool, true, false, List, [], Result, Ok, Err, IfOk, IsFalse, if◌then◌else◌, sym, ◌∙◌, subst}
 use Rattle.net_core.specs.Network.{Network}
 use Rattle.net_core.specs.inner.Fitting.{IsNetwork}
-use Rattle.permit_core.proofs.FirstLaws.{first_unique, first_whole}
+use Rattle.permit_core.proofs.FirstLaws.{first_of_nothing, first_unique, first_whole}
 use Rattle.flow_set.specs.laws.FlowLaws.{set_ext}
-use Rattle.flow_set.specs.FlowSet.{IsSubset, with_back}
-use Rattle.flow_set.proofs.SubsetLaws.{nothing_within}
+use Rattle.flow_set.specs.Conditions.{IsFirst}
+use Rattle.flow_set.specs.FlowSet.{IsSubset, SetOfFlows, with_back}
+use Rattle.flow_set.proofs.SubsetLaws.{nothing_within, subset_trans}
 use Rattle.flow_set.specs.declared.flow.Flow.{Flow}
-use Rattle.net_core.specs.Policies.{MeetsAll, MeetsStrict, IsStatefulBy, IsStateful, Policy, IsPolicyOf}
+use Rattle.net_core.specs.Policies.{MeetsAll, MeetsStrict, IsStateful, Policy, IsPolicyOf}
+use Rattle.net_core.specs.inner.EdgePolicies.{answerable}
 
 -- ---- what lies within what
 
-stateful_within : (answers : Bool) (d : Network) (p s : List Flow) → IsStatefulBy answers d p s → IsSubset s p
-stateful_within true d p s first = first.within
-stateful_within false d p s nothing = subst (λ (xs : List Flow). IsSubset xs p) (sym nothing) (nothing_within p)
+pub answerable_within : (answers : Bool) (p s : List Flow) → IsSubset s (answerable answers p) → IsSubset s p
+answerable_within true p s sub = sub
+answerable_within false p s sub = subset_trans s [] p sub (nothing_within p)
 
 -- a flow whose answers may pass is permitted itself
 pub IsSubset-stateful : (d : Network) (p s : List Flow) → IsStateful d p s → IsSubset s p
-IsSubset-stateful d p s stateful = stateful_within d.answers d p s stateful
+IsSubset-stateful d p s stateful = answerable_within d.answers p s stateful.within
+
+-- where there are no answers, no flow is stateful
+pub none_stateful : {E : Type 0} (d : Network) (p : List Flow) (n : ℕ) (made : Result SetOfFlows E) → IsFalse d.answers → MeetsAll d p
+    → IfOk made (λ set. set ≡ record { size = n; flows = [] }) → IfOk made (λ s. IsStateful d p s.flows)
+none_stateful d p n (Ok set) none meets empty =
+    let Holds : List Flow → Type 0 = λ answered. MeetsStrict d (with_back p answered) in
+    subst (λ b. IsFirst Holds (if b then p else []) set.flows) (sym none)
+    (subst (λ (s : SetOfFlows). IsFirst Holds [] s.flows) (sym empty) (first_of_nothing Holds (λ k e within strict. meets k e within)))
+none_stateful d p n (Err error) none meets empty = tt
 
 -- ---- there is one at most
 
 policy_ext : (p q : Policy) → p.permitted ≡ q.permitted → p.stateful ≡ q.stateful → p ≡ q
 policy_ext p q permitted stateful = λ i. record { permitted = permitted i; stateful = stateful i }
 
-stateful_by_is_one : (answers : Bool) (d : Network) (p s t : List Flow) → IsStatefulBy answers d p s → IsStatefulBy answers d p t → s ≡ t
-stateful_by_is_one true d p s t a b = first_unique (λ answered. MeetsStrict d (with_back p answered)) p s t a b
-stateful_by_is_one false d p s t a b = a ∙ sym b
-
-pub stateful_is_one : (d : Network) (p s t : List Flow) → IsStateful d p s → IsStateful d p t → s ≡ t
-stateful_is_one d p s t a b = stateful_by_is_one d.answers d p s t a b
+stateful_is_one : (d : Network) (p s t : List Flow) → IsStateful d p s → IsStateful d p t → s ≡ t
+stateful_is_one d p s t a b = first_unique (λ answered. MeetsStrict d (with_back p answered)) (answerable d.answers p) s t a b
 
 pub policy_is_one : (d : Network) (p q : Policy) → IsPolicyOf d p → IsPolicyOf d q → p ≡ q
 policy_is_one d p q a b =

@@ -1,8 +1,8 @@
 -- Laws of flows that are not permitted: a policy stays as it is where one that an invariant denies by itself is asked for, and where one
 -- that is not permitted is asked for no more. Of these every invariant may look at walks.
-use Rattle.std.proofs.Common.{◌≡◌, ℕ, inl, inr, Bool, true, false, not, List, [], ◌∷◌, sym, ap, subst, ◌∙◌}
+use Rattle.std.proofs.Common.{◌≡◌, ℕ, inl, inr, not, List, [], ◌∷◌, sym, ap, subst, ◌∙◌}
 use Rattle.std.specs.Prelude.{IsTrue, IsFalse}
-use Rattle.std.proofs.lemmas.Bool.{and_from, both_ways, cases_Bool, false≢true, or_cases}
+use Rattle.std.proofs.lemmas.Bool.{and_from, both_ways, cases_Bool, or_cases}
 use Rattle.flow_set.specs.Conditions.{IsFirst}
 use Rattle.flow_set.specs.inner.Downward.{IsDownward}
 use Rattle.flow_set.specs.Flow.{IsFlow, same_flow}
@@ -17,7 +17,7 @@ use Rattle.inv_any.specs.declared.any_inv.AnyInv.{AnyInv}
 use Rattle.net_core.specs.inner.Asking.{asking_for, not_asking_for}
 use Rattle.net_core.specs.inner.Fitting.{IsNetwork}
 use Rattle.net_core.specs.Network.{Network}
-use Rattle.net_core.specs.Policies.{IsPolicyOf, IsStatefulBy, MeetsAll, Policy, holds_on}
+use Rattle.net_core.specs.Policies.{IsPolicyOf, MeetsAll, Policy, holds_on}
 use Rattle.permit_core.proofs.PolicyLaws.{AllHold-downward}
 use Rattle.net_core.specs.inner.EdgePolicies.{IsAdmitted}
 use Rattle.net_core.proofs.MarkedLaws.{alone, within_more}
@@ -74,11 +74,6 @@ first_more n Holds all xs f downward set fails is = record {
 
 -- ---- the policy
 
-same_stateful : (b : Bool) (d : Network) (asked : List Flow) (p s : List Flow) → IsStatefulBy b d p s
-    → IsStatefulBy b (record d { asked = record { size = d.asked.size; flows = asked } }) p s
-same_stateful true d asked p s is = is
-same_stateful false d asked p s is = is
-
 downward_at : (n : ℕ) (inv : AnyInv) → (meaning_of inv).size ≡ n → IsDownward n (holds_on inv)
 downward_at n inv sized = subst (λ m. IsDownward m (holds_on inv)) sized (lawful inv).downward
 
@@ -93,7 +88,7 @@ policy_unpermitted d policy f network absent is = record {
   permitted_size = is.permitted_size;
   stateful_size = is.stateful_size;
   permitted = first_less (MeetsAll d) d.asked.flows policy.permitted.flows f network.asked.ordered absent is.permitted;
-  stateful = same_stateful d.answers d (without_flow d.asked.flows f) policy.permitted.flows policy.stateful.flows is.stateful;
+  stateful = is.stateful;
 }
 
 -- one is asked for that some invariant denies by itself
@@ -104,5 +99,5 @@ policy_denied d policy f network flow denied is = record {
   stateful_size = is.stateful_size;
   permitted = first_more d.asked.size (MeetsAll d) d.asked.flows policy.permitted.flows f (meets_downward d network)
       (IsFlowSet-with_flow d.asked.size d.asked.flows f network.asked flow) denied is.permitted;
-  stateful = same_stateful d.answers d (with_flow d.asked.flows f) policy.permitted.flows policy.stateful.flows is.stateful;
+  stateful = is.stateful;
 }

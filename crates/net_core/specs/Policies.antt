@@ -2,7 +2,7 @@
 -- Both are after C. Diekmann, Provably Secure Networks: Methodology and Toolset for Configuration Management. That the
 -- first sets in the order of flows are meant, so that a network has one policy (PolicyLaws: policy_is_one), is topoS's
 -- own choice; the key `answers` is of the description's format, docs/FORMATS.md.
-use Rattle.std.specs.Prelude.{◌≡◌, Bool, true, false, List, [], IsTrue, All}
+use Rattle.std.specs.Prelude.{◌≡◌, Bool, if◌then◌else◌, List, [], IsTrue, All}
 use Rattle.net_core.specs.Network.{Network}
 use Rattle.flow_set.specs.Conditions.{IsFirst, IsGreatest}
 use Rattle.flow_set.specs.FlowSet.{SetOfFlows, with_back}
@@ -39,14 +39,10 @@ JudgesFlowsAlone d = All (λ inv. IsTrue (edge_mark inv)) d.invariants
 abbrev pub IsPermitted : Network → List Flow → Type 0
 IsPermitted d p = IsFirst (MeetsAll d) d.asked.flows p
 
--- s are the stateful flows: the first subset of p such that every strict invariant holds on p with their answers; none
--- where the network has no answers
-abbrev pub IsStatefulBy : Bool → Network → List Flow → List Flow → Type 0
-IsStatefulBy true d p s = IsFirst (λ answered. MeetsStrict d (with_back p answered)) p s
-IsStatefulBy false d p s = s ≡ []
-
+-- s are the stateful flows: the first subset of p, or of no flow where the network has no answers, such that every strict
+-- invariant holds on p with their answers
 abbrev pub IsStateful : Network → List Flow → List Flow → Type 0
-IsStateful d p s = IsStatefulBy d.answers d p s
+IsStateful d p s = IsFirst (λ answered. MeetsStrict d (with_back p answered)) (if d.answers then p else []) s
 
 pub record Policy : Type 0 where
   pub permitted : SetOfFlows

@@ -7,8 +7,8 @@ ghost use Rattle.flow_set.specs.declared.flow.Flow.{Flow as Meant};
 ghost use Rattle.inv_any.specs.Templates.{meaning_of};
 ghost use Rattle.net_core.specs.inner.Fitting.{IsNetwork};
 ghost use Rattle.net_core.specs.Policies.{JudgesFlowsAlone, holds_on};
-ghost use Rattle.net_core.specs.FailingFlows.{AreFailing, FailsOn};
-ghost use Rattle.net_core.specs.inner.FailingFlows.{AreFailingFlows};
+ghost use Rattle.net_core.specs.FailingFlows.{AreFailing};
+ghost use Rattle.net_core.specs.inner.FailingFlows.{AreFailingFlows, FailsOn};
 
 use crate::description::Description;
 use flow_set::FlowSet;

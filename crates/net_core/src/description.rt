@@ -1,5 +1,6 @@
 //! A network: its hosts, the flows between them that are asked for, their services, and its
 //! invariants.
+
 ghost use Rattle.std.specs.Prelude.{◌≡◌, ◌≤◌, All, length};
 ghost use Rattle.flow_set.specs.Flow.{IsFlow};
 ghost use Rattle.flow_set.specs.inner.FlowSetView.{IsFlowSet};
@@ -7,9 +8,10 @@ ghost use Rattle.host_net.specs.inner.Hosts.{IsHosts};
 ghost use Rattle.host_net.specs.Limits.{invariant_limit};
 ghost use Rattle.host_net.specs.inner.Services.{AreServices};
 ghost use Rattle.inv_any.specs.Templates.{meaning_of};
-ghost use Rattle.net_core.specs.inner.Asking.{asking_for, not_asking_for};
+ghost use Rattle.net_core.specs.inner.Asking.{asking_where};
 ghost use Rattle.net_core.specs.inner.Fitting.{IsNetwork};
 
+use crate::one_flow::set_flow;
 use flow_set::{Flow, FlowSet};
 use host_net::{Hosts, Services};
 use inv_any::AnyInv;
@@ -95,20 +97,12 @@ impl Description {
         &self.asked
     }
 
-    /// Asks for one flow more. It is narrowed to the services that it has.
-    pub fn ask_for(&mut self, flow: Flow)
+    /// Asks for the flow from now on, or no more. What services it has stay.
+    pub(crate) fn set_asked(&mut self, flow: Flow, asked: bool)
         requires { IsFlow self.old.asked.size flow }
-        ensures { self.new ≡ asking_for self.old flow }
+        ensures { self.new ≡ asking_where asked self.old flow }
     {
-        self.asked.insert(flow);
-    }
-
-    /// Asks for one flow less. What services it has stay.
-    pub fn ask_no_more_for(&mut self, flow: Flow)
-        requires { IsFlow self.old.asked.size flow }
-        ensures { self.new ≡ not_asking_for self.old flow }
-    {
-        self.asked.remove(flow);
+        set_flow(&mut self.asked, flow, asked);
     }
 
     /// The services of the flows. A flow that has none is not narrowed: every packet is of it.

@@ -2,15 +2,15 @@
 
 ghost use Rattle.std.specs.Prelude.{◌≡◌, List, IfOk, IsFalse, IsTrue};
 ghost use Rattle.flow_set.specs.Flow.{IsFlow};
-ghost use Rattle.flow_set.specs.FlowSet.{has, with_flow};
+ghost use Rattle.flow_set.specs.FlowSet.{has};
 ghost use Rattle.flow_set.specs.declared.flow.Flow.{Flow as Meant};
 ghost use Rattle.inv_any.specs.Templates.{meaning_of};
-ghost use Rattle.net_core.specs.inner.Asking.{asking_for, not_asking_for};
+ghost use Rattle.net_core.specs.inner.Asking.{asking_where, flows_where};
 ghost use Rattle.net_core.specs.Policies.{JudgesFlowsAlone, edge_mark};
-ghost use Rattle.net_core.specs.FailingFlows.{FailsIn, FailsOn};
-ghost use Rattle.net_core.specs.inner.FailingFlows.{AreFailingFlows};
+ghost use Rattle.net_core.specs.inner.FailingFlows.{AreFailingFlows, FailsIn, FailsOn};
 
 use crate::description::Description;
+use crate::one_flow::set_flow;
 use flow_set::{Flow, FlowSet};
 use inv_any::AnyInv;
 use inv_law::Invariant;
@@ -46,44 +46,35 @@ fn failing_on(alloc: Global, invariant: &AnyInv, asked: &FlowSet) -> Result<Flow
     }
 }
 
-/// Puts a flow that is asked for from now on to those on which invariants fail.
-pub(crate) fn add_failing(description: &Description, failing: &mut Vec<FlowSet>, flow: Flow)
+/// Changes the flows on which invariants fail by one that is asked for from now on, or no more.
+pub(crate) fn change_failing(
+    description: &Description,
+    failing: &mut Vec<FlowSet>,
+    flow: Flow,
+    asked: bool,
+)
     requires flow { IsFlow description.now.asked.size flow }
-    requires fresh { IsFalse (has description.now.asked.flows flow) }
+    requires fresh { IsTrue asked → IsFalse (has description.now.asked.flows flow) }
     requires failing { AreFailingFlows description.now failing.old.items }
-    ensures { AreFailingFlows (asking_for description.now flow) failing.new.items }
+    ensures { AreFailingFlows (asking_where asked description.now flow) failing.new.items }
 {
     let _asked = description.asked();
     let invariants = description.invariants();
     for place in 0..invariants.len() {
-        add_where_failing(&invariants[place], &mut failing[place], flow);
+        change_where_failing(&invariants[place], &mut failing[place], flow, asked);
     }
 }
 
-/// Puts the flow to those on which the invariant fails, if it fails on it.
-fn add_where_failing(invariant: &AnyInv, failing: &mut FlowSet, flow: Flow)
+/// The same of one invariant. A flow that comes is none of its own where it admits the flow.
+fn change_where_failing(invariant: &AnyInv, failing: &mut FlowSet, flow: Flow, asked: bool)
     requires size { failing.old.size ≡ (meaning_of invariant.now).size }
     requires flow { IsFlow failing.old.size flow }
     ensures size { failing.new.size ≡ failing.old.size }
-    ensures flows { (all : List Meant) → IsFalse (has all flow) → FailsOn invariant.now all failing.old.flows
-        → FailsOn invariant.now (with_flow all flow) failing.new.flows }
+    ensures flows { (all : List Meant) → (IsTrue asked → IsFalse (has all flow)) → FailsOn invariant.now all failing.old.flows
+        → FailsOn invariant.now (flows_where asked all flow) failing.new.flows }
 {
-    if !invariant.admits(flow) {
-        failing.insert(flow);
+    if asked && invariant.admits(flow) {
+        return;
     }
-}
-
-/// Takes a flow that is asked for no more from those on which invariants fail.
-pub(crate) fn remove_failing(description: &Description, failing: &mut Vec<FlowSet>, flow: Flow)
-    requires flow { IsFlow description.now.asked.size flow }
-    requires failing { AreFailingFlows description.now failing.old.items }
-    ensures { AreFailingFlows (not_asking_for description.now flow) failing.new.items }
-{
-    let _asked = description.asked();
-    let invariants = description.invariants();
-    for place in 0..invariants.len() {
-        let _invariant = &invariants[place];
-        let set = &mut failing[place];
-        set.remove(flow);
-    }
+    set_flow(failing, flow, asked);
 }

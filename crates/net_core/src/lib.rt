@@ -6,6 +6,7 @@ mod counts;
 mod description;
 mod failing;
 mod judged;
+mod one_flow;
 mod policed;
 mod policy;
 mod steps;

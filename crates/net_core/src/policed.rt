@@ -1,18 +1,19 @@
 //! A network with its policy, kept as flows come and go.
 
-ghost use Rattle.std.specs.Prelude.{◌≡◌, ◌↔◌, IfOk, IsFalse, IsTrue, OnErr, OnOk};
+ghost use Rattle.std.specs.Prelude.{◌≡◌, ◌↔◌, not, IfOk, IsTrue, OnErr, OnOk};
 ghost use Rattle.flow_set.specs.Flow.{IsFlow};
 ghost use Rattle.flow_set.specs.FlowSet.{has};
 ghost use Rattle.flow_set.specs.inner.FlowSetView.{IsFlowSet};
-ghost use Rattle.net_core.specs.inner.Asking.{asking_for, not_asking_for};
+ghost use Rattle.net_core.specs.inner.Asking.{asking_for, asking_where, not_asking_for};
 ghost use Rattle.net_core.specs.Policies.{IsPolicyOf, JudgesFlowsAlone};
 ghost use Rattle.net_core.specs.FailingFlows.{AreFailing};
+ghost use Rattle.net_core.specs.inner.Policed.{IsJudged, policy_in};
 
 use crate::counts::count_failing;
 use crate::description::Description;
-use crate::failing::{add_failing, remove_failing};
+use crate::failing::change_failing;
 use crate::judged::{Judged, judge, judge_again};
-use crate::steps::{add_flow, is_admitted, judges_flows_alone, remove_flow};
+use crate::steps::{change_flow, is_admitted, judges_flows_alone};
 use flow_set::{Flow, FlowSet};
 use std::alloc::{AllocError, Global};
 use std::marker::Model;
@@ -87,14 +88,7 @@ impl PolicedNetwork {
         ensures asked { OnOk result (self.new.network ≡ asking_for self.old.network flow) }
         ensures unchanged { OnErr result (self.new ≡ self.old) }
     {
-        if self.asks_for(flow) {
-            Ok(())
-        } else if self.judges_flows_alone() {
-            self.add_alone(flow);
-            Ok(())
-        } else {
-            self.add_anew(alloc, flow)
-        }
+        self.set_asked(alloc, flow, true)
     }
 
     /// Asks for one flow less, likewise.
@@ -103,13 +97,22 @@ impl PolicedNetwork {
         ensures asked { OnOk result (self.new.network ≡ not_asking_for self.old.network flow) }
         ensures unchanged { OnErr result (self.new ≡ self.old) }
     {
-        if !self.asks_for(flow) {
+        self.set_asked(alloc, flow, false)
+    }
+
+    /// Asks for the flow from now on, or no more.
+    fn set_asked(&mut self, alloc: Global, flow: Flow, asked: bool) -> Result<(), AllocError>
+        requires { IsFlow self.old.network.asked.size flow }
+        ensures asked { OnOk result (self.new.network ≡ asking_where asked self.old.network flow) }
+        ensures unchanged { OnErr result (self.new ≡ self.old) }
+    {
+        if self.asks_for(flow) == asked {
             Ok(())
         } else if self.judges_flows_alone() {
-            self.remove_alone(flow);
+            self.change_alone(flow, asked);
             Ok(())
         } else {
-            self.remove_anew(alloc, flow)
+            self.change_anew(alloc, flow, asked)
         }
     }
 
@@ -128,77 +131,55 @@ impl PolicedNetwork {
         judges_flows_alone(&self.description)
     }
 
-    /// Asks for one flow more, which changes the policy by itself.
-    fn add_alone(&mut self, flow: Flow)
+    /// The flow comes or goes, and changes the policy by itself.
+    fn change_alone(&mut self, flow: Flow, asked: bool)
         requires alone { JudgesFlowsAlone self.old.network }
         requires flow { IsFlow self.old.network.asked.size flow }
-        requires fresh { IsFalse (has self.old.network.asked.flows flow) }
-        ensures { self.new.network ≡ asking_for self.old.network flow }
+        requires other { has self.old.network.asked.flows flow ≡ not asked }
+        ensures { self.new.network ≡ asking_where asked self.old.network flow }
     {
-        add_flow(
+        change_flow(
             &self.description,
             &mut self.judged.permitted,
             &mut self.judged.stateful,
             flow,
+            asked,
         );
-        add_failing(&self.description, &mut self.judged.failing, flow);
-        self.description.ask_for(flow);
+        change_failing(&self.description, &mut self.judged.failing, flow, asked);
+        self.description.set_asked(flow, asked);
         self.judged.failed = count_failing(&self.description, &self.judged.failing);
     }
 
-    /// Asks for one flow less, likewise.
-    fn remove_alone(&mut self, flow: Flow)
-        requires alone { JudgesFlowsAlone self.old.network }
-        requires flow { IsFlow self.old.network.asked.size flow }
-        ensures { self.new.network ≡ not_asking_for self.old.network flow }
-    {
-        remove_flow(
-            &self.description,
-            &mut self.judged.permitted,
-            &mut self.judged.stateful,
-            flow,
-        );
-        remove_failing(&self.description, &mut self.judged.failing, flow);
-        self.description.ask_no_more_for(flow);
-        self.judged.failed = count_failing(&self.description, &self.judged.failing);
-    }
-
-    /// Asks for one flow more, where an invariant looks at walks. The policy stays as it is where an
-    /// invariant denies the flow by itself.
-    fn add_anew(&mut self, alloc: Global, flow: Flow) -> Result<(), AllocError>
+    /// The flow comes or goes, where an invariant looks at walks.
+    fn change_anew(&mut self, alloc: Global, flow: Flow, asked: bool) -> Result<(), AllocError>
         requires walks { JudgesFlowsAlone self.old.network → ⊥ }
         requires flow { IsFlow self.old.network.asked.size flow }
-        requires fresh { IsFalse (has self.old.network.asked.flows flow) }
-        ensures asked { OnOk result (self.new.network ≡ asking_for self.old.network flow) }
+        requires other { has self.old.network.asked.flows flow ≡ not asked }
+        ensures asked { OnOk result (self.new.network ≡ asking_where asked self.old.network flow) }
         ensures unchanged { OnErr result (self.new ≡ self.old) }
     {
-        let is_denied = !is_admitted(&self.description, flow);
-        self.description.ask_for(flow);
-        match judge_again(alloc, &self.description, &mut self.judged, is_denied) {
+        let stays = leaves_policy(&self.description, &self.judged, flow, asked);
+        self.description.set_asked(flow, asked);
+        match judge_again(alloc, &self.description, &mut self.judged, stays) {
             Ok(()) => Ok(()),
             Err(error) => {
-                self.description.ask_no_more_for(flow);
+                self.description.set_asked(flow, !asked);
                 Err(error)
             }
         }
     }
+}
 
-    /// Asks for one flow less, likewise. The policy stays as it is where the flow is not permitted.
-    fn remove_anew(&mut self, alloc: Global, flow: Flow) -> Result<(), AllocError>
-        requires walks { JudgesFlowsAlone self.old.network → ⊥ }
-        requires flow { IsFlow self.old.network.asked.size flow }
-        requires asked { IsTrue (has self.old.network.asked.flows flow) }
-        ensures asked { OnOk result (self.new.network ≡ not_asking_for self.old.network flow) }
-        ensures unchanged { OnErr result (self.new ≡ self.old) }
-    {
-        let is_denied = !self.judged.permitted.has(flow);
-        self.description.ask_no_more_for(flow);
-        match judge_again(alloc, &self.description, &mut self.judged, is_denied) {
-            Ok(()) => Ok(()),
-            Err(error) => {
-                self.description.ask_for(flow);
-                Err(error)
-            }
-        }
+/// Whether a flow leaves the policy as it is: an invariant denies by itself one that comes, or one
+/// that goes was not permitted.
+fn leaves_policy(description: &Description, judged: &Judged, flow: Flow, asked: bool) -> bool
+    requires judged { IsJudged description.now judged.now }
+    requires flow { IsFlow description.now.asked.size flow }
+    ensures { IsTrue result → IsPolicyOf (asking_where asked description.now flow) (policy_in judged.now) }
+{
+    if asked {
+        !is_admitted(description, flow)
+    } else {
+        !judged.permitted.has(flow)
     }
 }

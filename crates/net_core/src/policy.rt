@@ -1,4 +1,5 @@
 //! What a description permits.
+
 ghost use Rattle.std.specs.Prelude.{◌≡◌, length, IfOk};
 ghost use Rattle.flow_set.specs.FlowSet.{IsSubset};
 ghost use Rattle.net_core.specs.Policies.{CompliesWithAll, IsGreatestPolicy, IsPolicyOf, IsStateful, JudgesFlowsAlone, MeetsAll};

@@ -1,9 +1,9 @@
-//! One flow more or less, without memory.
+//! A flow that comes or goes, without memory.
 
 ghost use Rattle.std.specs.Prelude.{◌≡◌, ◌↔◌, [], ◌∷◌, IsFalse, IsTrue};
 ghost use Rattle.flow_set.specs.Flow.{IsFlow};
 ghost use Rattle.flow_set.specs.FlowSet.{has};
-ghost use Rattle.net_core.specs.inner.Asking.{asking_for, not_asking_for};
+ghost use Rattle.net_core.specs.inner.Asking.{asking_for, asking_where, not_asking_for};
 ghost use Rattle.net_core.specs.inner.Fitting.{IsNetwork};
 ghost use Rattle.inv_any.specs.Templates.{meaning_of};
 ghost use Rattle.net_core.specs.Policies.{IsPolicyOf, JudgesFlowsAlone, edge_mark, holds_on, strategy_of};
@@ -15,14 +15,31 @@ use flow_set::{Flow, FlowSet};
 use inv_any::AnyInv;
 use inv_law::{Invariant, Strategy};
 
-/// Puts a flow in that is asked for from now on: it is permitted where every invariant admits it, and
-/// its answers may pass where they are admitted as well.
-pub(crate) fn add_flow(
+/// Changes the policy by a flow that is asked for from now on, or no more.
+pub(crate) fn change_flow(
     description: &Description,
     permitted: &mut FlowSet,
     stateful: &mut FlowSet,
     flow: Flow,
+    asked: bool,
 )
+    requires network { IsNetwork description.now }
+    requires alone { JudgesFlowsAlone description.now }
+    requires flow { IsFlow description.now.asked.size flow }
+    requires fresh { IsTrue asked → IsFalse (has description.now.asked.flows flow) }
+    requires policy { IsPolicyOf description.now (record { permitted = permitted.old; stateful = stateful.old }) }
+    ensures { IsPolicyOf (asking_where asked description.now flow) (record { permitted = permitted.new; stateful = stateful.new }) }
+{
+    if asked {
+        add_flow(description, permitted, stateful, flow);
+    } else {
+        remove_flow(description, permitted, stateful, flow);
+    }
+}
+
+/// Puts a flow in that is asked for from now on: it is permitted where every invariant admits it, and
+/// its answers may pass where they are admitted as well.
+fn add_flow(description: &Description, permitted: &mut FlowSet, stateful: &mut FlowSet, flow: Flow)
     requires network { IsNetwork description.now }
     requires alone { JudgesFlowsAlone description.now }
     requires flow { IsFlow description.now.asked.size flow }
@@ -41,7 +58,7 @@ pub(crate) fn add_flow(
 }
 
 /// Takes a flow out that is asked for no more.
-pub(crate) fn remove_flow(
+fn remove_flow(
     description: &Description,
     permitted: &mut FlowSet,
     stateful: &mut FlowSet,

@@ -1,5 +1,5 @@
 -- The policy of a network in which every invariant judges flows alone: it is told flow by flow.
-use Rattle.std.specs.Prelude.{◌≡◌, ◌↔◌, Bool, true, false, List, [], ◌∷◌, IsTrue}
+use Rattle.std.specs.Prelude.{◌≡◌, ◌↔◌, Bool, if◌then◌else◌, List, [], ◌∷◌, IsTrue}
 use Rattle.flow_set.specs.Flow.{back_of}
 use Rattle.flow_set.specs.FlowSet.{has, IsSubset}
 use Rattle.flow_set.specs.declared.flow.Flow.{Flow}
@@ -17,16 +17,15 @@ IsAdmitted d f = MeetsAll d (f ∷ [])
 abbrev pub IsAnswered : Network → Flow → Type 0
 IsAnswered d f = MeetsStrict d (back_of f ∷ [])
 
--- those whose answers pass, where there are answers
-abbrev pub AreAnswered : Bool → (Flow → Type 0) → (p s : List Flow) → Type 0
-AreAnswered true Passes p s = AreMarked Passes p s
-AreAnswered false Passes p s = s ≡ []
+-- the flows that may have answers: all of them, or none
+abbrev pub answerable : Bool → List Flow → List Flow
+answerable answers p = if answers then p else []
 
 -- the asked flows that are admitted, and among them those whose answers are
 pub record IsEdgePolicy (d : Network) (policy : Policy) : Type 0 where
   pub permitted_size : policy.permitted.size ≡ d.asked.size
   pub stateful_size : policy.stateful.size ≡ d.asked.size
   pub permitted_within : IsSubset policy.permitted.flows d.asked.flows
-  pub stateful_within : IsSubset policy.stateful.flows policy.permitted.flows
+  pub stateful_within : IsSubset policy.stateful.flows (answerable d.answers policy.permitted.flows)
   pub permitted : AreMarked (IsAdmitted d) d.asked.flows policy.permitted.flows
-  pub stateful : AreAnswered d.answers (IsAnswered d) policy.permitted.flows policy.stateful.flows
+  pub stateful : AreMarked (IsAnswered d) (answerable d.answers policy.permitted.flows) policy.stateful.flows

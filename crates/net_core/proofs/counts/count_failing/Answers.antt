@@ -6,7 +6,8 @@ use Rattle.net_core.specs.Policies.{holds_on}
 use Rattle.net_core.proofs.CountLemmas.{failing_more, none_failing}
 use Rattle.net_core.proofs.FailingLemmas.{past_in, read_in, set_here, within_in}
 use Rattle.net_core.proofs.EdgePolicyLaws.{each_edge_wise}
-use Rattle.net_core.specs.FailingFlows.{AreFailing, FailsIn}
+use Rattle.net_core.specs.FailingFlows.{AreFailing}
+use Rattle.net_core.specs.inner.FailingFlows.{FailsIn}
 use Rattle.net_core.proofs.counts.count_failing.Goals as goal
 
 pub loop-place-preserved : goal.loop-place-preserved

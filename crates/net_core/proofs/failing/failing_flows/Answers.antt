@@ -1,7 +1,7 @@
 use Rattle.std.proofs.Common.{◌≡◌, ℕ, ◌≤◌, ◌+◌, ◌∙◌, sym, subst, List, length, arith}
 use Rattle.flow_set.specs.FlowSet.{SetOfFlows}
 use Rattle.inv_any.specs.declared.any_inv.AnyInv.{AnyInv}
-use Rattle.net_core.specs.FailingFlows.{FailsIn}
+use Rattle.net_core.specs.inner.FailingFlows.{FailsIn}
 use Rattle.net_core.proofs.FailingLemmas.{FailUpTo, fail_pushed, past_in, read_in, within_in}
 use Rattle.net_core.proofs.failing.failing_flows.Goals as goal
 

@@ -3,7 +3,7 @@ use Rattle.flow_set.specs.inner.Downward.{IsEdgeWise}
 use Rattle.flow_set.specs.declared.flow.Flow.{Flow}
 use Rattle.inv_any.specs.laws.TemplateLaws.{lawful}
 use Rattle.net_core.specs.Policies.{holds_on}
-use Rattle.net_core.specs.FailingFlows.{FailsOn}
+use Rattle.net_core.specs.inner.FailingFlows.{FailsOn}
 use Rattle.net_core.proofs.FailingLaws.{fails_outside}
 use Rattle.net_core.proofs.failing.failing_on.Goals as goal
 

@@ -17,4 +17,4 @@ pub returns : goal.returns
 returns c =
     subst (λ (s : SetOfFlows). IsPolicyOf (not_asking_for c.args.description.now c.args.flow) (record { permitted = c.remove.new.self; stateful = s })) (sym c.remove-2.ensures.set)
     (subst (λ (p : SetOfFlows). IsPolicyOf (not_asking_for c.args.description.now c.args.flow) (record { permitted = p; stateful = record c.args.stateful.now { flows = without_flow c.args.stateful.now.flows c.args.flow } })) (sym c.remove.ensures.set)
-    (policy_less c.args.description.now (record { permitted = c.args.permitted.now; stateful = c.args.stateful.now }) c.args.flow c.requires.network c.requires.alone c.requires.policy))
+    (policy_less c.args.description.now (record { permitted = c.args.permitted.now; stateful = c.args.stateful.now }) c.args.flow c.requires.network c.requires.alone c.requires.flow c.requires.policy))
