@@ -1,17 +1,20 @@
--- One byte more of a line that is walked along.
-use Rattle.std.proofs.Common.{◌≡◌, ℕ, ◌+◌, ◌<◌, true, false, List, length, get_or, drop, refl, sym, ap, ◌∙◌}
-use Rattle.std.proofs.lemmas.List.{drop_more}
-use Rattle.text_core.specs.Lines.{is_blank}
-use Rattle.edit_core.specs.Behind.{from_word, past_word}
+-- A text from the place on where a test passes first.
+use Rattle.std.proofs.Common.{◌≡◌, ℕ, ◌≤◌, Bool, List, [], Option, Some, None, length, drop, position, nat_lt, sym, ap, ◌∙◌, arith}
+use Rattle.std.proofs.lemmas.Bool.Decides.{nat_tests}
+use Rattle.std.proofs.lemmas.List.{drop_all}
+use Rattle.std.specs.List.{position_or_len}
+use Rattle.text_core.proofs.StepsLaws.{split_bool}
+use Rattle.edit_core.specs.Behind.{from_first}
 
-pub blank_passed : (bs : List ℕ) (i : ℕ) → i < length bs → is_blank (get_or bs i 0) ≡ true → from_word (drop i bs) ≡ from_word (drop (i + 1) bs)
-blank_passed bs i within blank = ap from_word (drop_more bs i 0 within) ∙ rw blank refl
+pub from_place : (test : ℕ → Bool) (bs : List ℕ) (place : ℕ) → Some place ≡ position test bs → (place ≤ length bs) × (from_first test bs ≡ drop place bs)
+from_place test bs place is = split_bool (nat_lt (position_or_len test bs) (length bs))
+    (λ within. let here : position test bs ≡ Some (position_or_len test bs) = rw within in
+    let same : place ≡ position_or_len test bs = cc (here, is) in
+    let inside : place ≤ length bs = grind (arith, nat_tests) in
+    (inside, ap (λ n. drop n bs) (sym same)))
+    (λ past. let none : position test bs ≡ None = rw past in cc (none, is))
 
-pub word_found : (bs : List ℕ) (i : ℕ) → i < length bs → is_blank (get_or bs i 0) ≡ false → from_word (drop i bs) ≡ drop i bs
-word_found bs i within other = ap from_word (drop_more bs i 0 within) ∙ rw other (sym (drop_more bs i 0 within))
-
-pub byte_passed : (bs : List ℕ) (i : ℕ) → i < length bs → is_blank (get_or bs i 0) ≡ false → past_word (drop i bs) ≡ past_word (drop (i + 1) bs)
-byte_passed bs i within other = ap past_word (drop_more bs i 0 within) ∙ rw other refl
-
-pub blank_found : (bs : List ℕ) (i : ℕ) → i < length bs → is_blank (get_or bs i 0) ≡ true → past_word (drop i bs) ≡ drop i bs
-blank_found bs i within blank = ap past_word (drop_more bs i 0 within) ∙ rw blank (sym (drop_more bs i 0 within))
+pub from_nowhere : (test : ℕ → Bool) (bs : List ℕ) → None ≡ position test bs → from_first test bs ≡ []
+from_nowhere test bs is = split_bool (nat_lt (position_or_len test bs) (length bs))
+    (λ within. let here : position test bs ≡ Some (position_or_len test bs) = rw within in cc (here, is))
+    (λ past. let end : length bs ≤ position_or_len test bs = grind (arith, nat_tests) in drop_all (position_or_len test bs) bs end)

@@ -1,34 +1,18 @@
--- Values that are copied one by one, and tables whose entries are copied.
-use Rattle.std.proofs.Common.{◌≡◌, ℕ, ◌+◌, ◌<◌, ◌≤◌, Bool, true, false, cond, ◌||◌, List, [], ◌∷◌, ◌++◌, length, get_or, drop, map, filter, append_assoc, append-nil, String, Global, string_bytes, Ordering, Less, Equal, Greater, refl, sym, ap, ◌∙◌}
-use Rattle.std.proofs.lemmas.List.{drop_all, drop_more}
-use Rattle.std.specs.BTreeMap.{BTreeMap, insert_entry}
+-- Values that are copied one by one or left out, and tables whose entries are copied.
+use Rattle.std.proofs.Common.{◌≡◌, ℕ, ◌+◌, ◌<◌, ◌≤◌, Bool, true, false, cond, not, ◌||◌, List, [], ◌∷◌, ◌++◌, length, get_or, drop, map, filter, append_assoc, append-nil, arith, String, Global, string_bytes, refl, sym, ap, ◌∙◌}
+use Rattle.std.proofs.lemmas.List.{drop_all, drop_more, length-map}
+use Rattle.std.specs.BTreeMap.{BTreeMap}
 use Rattle.std.specs.Prelude.{IfOk, MatchResult, Result, Ok, Err}
 use Rattle.std.specs.List.{AllZip, list_any}
-use Rattle.std.specs.Ordering.{match_ordering}
-use Rattle.std.specs.String.{string_cmp}
-use Rattle.desc_core.specs.Migrated.{with_member}
+use Rattle.edit_core.specs.Edited.{others}
+use Rattle.edit_core.specs.declared.fault.EditFault.TheVariants.{Absent}
+use Rattle.text_core.proofs.StepsLaws.{split_bool}
 use Rattle.toml.specs.Data.{Data, string, member}
 use Rattle.toml.specs.View.{members_view, table_view, view}
 use Rattle.toml.specs.declared.value.Value.{Value}
 
 abbrev Entry : Type 0
 Entry = String Global × Value
-
--- a table with one key more
-inserted_by : (o : Ordering) (k : String Global) (v : Value) (e : Entry) (es : List Entry)
-    → members_view (insert_entry string_cmp es k v) ≡ with_member (string_bytes k) (view v) (members_view es)
-    → members_view (match_ordering o ((k, v) ∷ e ∷ es) ((e.0, v) ∷ es) (e ∷ insert_entry string_cmp es k v))
-    ≡ match_ordering o (member (string_bytes k) (view v) (member (string_bytes e.0) (view e.1) (members_view es)))
-    (member (string_bytes e.0) (view v) (members_view es))
-    (member (string_bytes e.0) (view e.1) (with_member (string_bytes k) (view v) (members_view es)))
-inserted_by Less k v e es later = refl
-inserted_by Equal k v e es later = refl
-inserted_by Greater k v e es later = ap (λ ms. member (string_bytes e.0) (view e.1) ms) later
-
-pub inserted : (es : List Entry) (k : String Global) (v : Value)
-    → members_view (insert_entry string_cmp es k v) ≡ with_member (string_bytes k) (view v) (members_view es)
-inserted [] k v = refl
-inserted (e ∷ es) k v = inserted_by (string_cmp k e.0) k v e es (inserted es k v)
 
 -- entries with equal keys and values
 pub entries_cloned : (es fs : List Entry) → AllZip (λ (p q : Entry). (string_bytes q.0 ≡ string_bytes p.0) × (view q.1 ≡ view p.1)) es fs
@@ -61,12 +45,44 @@ pub made_all : (made : List Data → List Data) (old : List Data) (vs : List Val
 made_all made old vs i whole past nothing so_far =
     sym (append-nil old) ∙ ap (λ (ds : List Data). old ++ ds) (sym (ap (λ (ws : List Value). made (map view ws)) (drop_all i vs past) ∙ nothing)) ∙ so_far
 
-by_test : (b : Bool) (d : Data) (ds : List Data) → cond b (d ∷ ds) ds ≡ cond b (d ∷ []) [] ++ ds
-by_test true d ds = refl
-by_test false d ds = refl
+-- elements that fail a test are at most as many as all, and as many where none passes it
+fewer_by : (b : Bool) (d : Data) (left ds : List Data) → length left ≤ length ds → length (cond (not b) (d ∷ left) left) ≤ length (d ∷ ds)
+fewer_by true d left ds fewer = omega (arith, fewer)
+fewer_by false d left ds fewer = omega (arith, fewer)
 
-pub filter_first : (p : Data → Bool) (d : Data) (ds : List Data) → filter p (d ∷ ds) ≡ filter p (d ∷ []) ++ filter p ds
-filter_first p d ds = by_test (p d) d (filter p ds)
+fewer : (test : Data → Bool) (ds : List Data) → length (filter (λ d. not (test d)) ds) ≤ length ds
+fewer test [] = omega arith
+fewer test (d ∷ ds) = fewer_by (test d) d (filter (λ d. not (test d)) ds) ds (fewer test ds)
+
+none_by : (b rest : Bool) (d : Data) (left ds : List Data) → length left ≤ length ds → (length left ≡ length ds → rest ≡ false)
+    → length (cond (not b) (d ∷ left) left) ≡ length (d ∷ ds) → (b || rest) ≡ false
+none_by true rest d left ds fewer later same = absurd (omega (arith, fewer, same))
+none_by false rest d left ds fewer later same = later (omega (arith, same))
+
+none_passes : (test : Data → Bool) (ds : List Data) → length (filter (λ d. not (test d)) ds) ≡ length ds → list_any test ds ≡ false
+none_passes test [] same = refl
+none_passes test (d ∷ ds) same =
+    none_by (test d) (list_any test ds) d (filter (λ d. not (test d)) ds) ds (fewer test ds) (none_passes test ds) same
+
+all_by : (b rest : Bool) (d : Data) (left ds : List Data) → (rest ≡ false → left ≡ ds) → (b || rest) ≡ false → cond (not b) (d ∷ left) left ≡ d ∷ ds
+all_by true rest d left ds later none = cc
+all_by false rest d left ds later none = ap (λ (es : List Data). d ∷ es) (later none)
+
+all_left : (test : Data → Bool) (ds : List Data) → list_any test ds ≡ false → filter (λ d. not (test d)) ds ≡ ds
+all_left test [] none = refl
+all_left test (d ∷ ds) none = all_by (test d) (list_any test ds) d (filter (λ d. not (test d)) ds) ds (all_left test ds) none
+
+-- values without those that pass a test
+pub others_absent : (test : Data → Bool) (old new : List Value) → map view new ≡ filter (λ d. not (test d)) (map view old) → length new ≡ length old
+    → others test (map view old) ≡ Err Absent
+others_absent test old new is same =
+    rw (none_passes test (map view old) (sym (ap (λ (ds : List Data). length ds) is) ∙ length-map new view ∙ same ∙ sym (length-map old view))) refl
+
+pub others_left : (test : Data → Bool) (old new : List Value) → map view new ≡ filter (λ d. not (test d)) (map view old) → (length new ≡ length old → ⊥)
+    → others test (map view old) ≡ Ok (map view new)
+others_left test old new is apart = split_bool (list_any test (map view old))
+    (λ some. rw some (ap (λ (ds : List Data). Ok ds) (sym is)))
+    (λ none. absurd (apart (sym (length-map new view) ∙ ap (λ (ds : List Data). length ds) (is ∙ all_left test (map view old) none) ∙ length-map old view)))
 
 -- texts as values
 pub texts_next : (old new : List Data) (texts : List (String Global)) (i : ℕ) (t : String Global) (whole : List Data) → i < length texts

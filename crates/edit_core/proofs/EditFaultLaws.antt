@@ -13,7 +13,7 @@ use Rattle.edit_core.specs.Behind.{behind_word}
 use Rattle.edit_core.proofs.ChangeLaws.{change_told, told_change}
 use Rattle.edit_core.specs.inner.ChangeSteps.{add_of, assigned, change_of, change_of_words, edit_step, remove_of, removed, set_of, texts_of, unassigned, unset_of, with_change}
 use Rattle.edit_core.specs.Edit.{Change, Add, Remove, Set, Unset, Edit}
-use Rattle.edit_core.specs.EditsText.{IsBad, IsForm, TellsChange, add, bad_line, bad_value, edit_limit, edits_text, remove, set, too_many, unset}
+use Rattle.edit_core.specs.EditsText.{IsBad, IsForm, TellsChange, add, bad_line, bad_value, edits_text, remove, set, too_many, unset}
 use Rattle.edit_core.proofs.EditsTextLaws.{adds_step, step_adds}
 use Rattle.edit_core.specs.declared.text_fault.EditsWhy.{EditsWhy}
 use Rattle.edit_core.specs.declared.text_fault.EditsWhy.TheVariants.{BadLine, BadValue, TooMany}
@@ -116,7 +116,7 @@ bad_by : (n : ℕ) (before : List Edit) (line : List ℕ) (why : EditsWhy) (r : 
 bad_by n before line why (Err cause) read h = let e : cause ≡ why = cc in untold before line why (read ∙ ap (λ w. Err w) e)
 bad_by n before line why (Ok c) read h = elim (if_parts (nat_lt 9999 (length before)) (Err TooMany) _ (Err why) h) [
   | inl many ↦
-      let full : edit_limit ≤ length before = grind (arith, nat_tests, many.0) in
+      let full : 10000 ≤ length before = grind (arith, nat_tests, many.0) in
       let same : TooMany ≡ why = cc in
       subst (IsBad before line) same (too_many c (change_told line c read) full)
   | inr few ↦ cc
@@ -138,7 +138,7 @@ value_refused n before line (Err why) read form none = elim (explained line why 
   | inr value ↦ ap (λ w. Err w) value.0
 ]
 
-full_step : (n : ℕ) (before : List Edit) (c : Change) → edit_limit ≤ length before → with_change n before (Ok c) ≡ Err TooMany
+full_step : (n : ℕ) (before : List Edit) (c : Change) → 10000 ≤ length before → with_change n before (Ok c) ≡ Err TooMany
 full_step n before c full = let many : nat_lt 9999 (length before) ≡ true = grind (arith, nat_tests) in rw many refl
 
 bad_step : (n : ℕ) (before : List Edit) (line : List ℕ) (why : EditsWhy) → IsBad before line why → edit_step n before line ≡ Err why

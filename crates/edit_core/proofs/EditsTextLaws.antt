@@ -6,14 +6,14 @@ use Rattle.text_core.proofs.StepsLaws.{if_parts}
 use Rattle.edit_core.proofs.ChangeLaws.{change_told, told_change}
 use Rattle.edit_core.specs.inner.ChangeSteps.{change_of, edit_step, with_change}
 use Rattle.edit_core.specs.Edit.{Change, Edit}
-use Rattle.edit_core.specs.EditsText.{AddsEdit, edit_limit}
+use Rattle.edit_core.specs.EditsText.{AddsEdit}
 use Rattle.edit_core.specs.declared.text_fault.EditsWhy.{EditsWhy}
 use Rattle.edit_core.specs.declared.text_fault.EditsWhy.TheVariants.{TooMany}
 
-small : (n : ℕ) → n < edit_limit → nat_lt 9999 n ≡ false
+small : (n : ℕ) → n < 10000 → nat_lt 9999 n ≡ false
 small n h = grind (arith, nat_tests)
 
-room : (n : ℕ) → nat_lt 9999 n ≡ false → n < edit_limit
+room : (n : ℕ) → nat_lt 9999 n ≡ false → n < 10000
 room n h = grind (arith, nat_tests)
 
 -- a line adds an edit exactly where it tells one

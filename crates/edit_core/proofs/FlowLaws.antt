@@ -6,7 +6,8 @@ use Rattle.std.proofs.lemmas.List.Elements.{All-filter, All-head, All-push, All-
 use Rattle.std.proofs.lemmas.List.Kept.{AllPairs-filter}
 use Rattle.std.proofs.lemmas.List.Quantifiers.{all_pairs_push}
 use Rattle.std.proofs.lemmas.Slice.Eq.{bytes_eq-Decides}
-use Rattle.std.specs.List.{All, list_any, remove}
+use Rattle.std.specs.List.{All, list_any}
+use Rattle.std.specs.Option.{ok_or}
 use Rattle.std.specs.Prelude.{IsFalse, IsTrue, if◌then◌else◌, slice_get}
 use Rattle.std.specs.Str.{bytes_eq}
 use Rattle.toml.specs.Data.{Data, Members, get_member}
@@ -25,11 +26,12 @@ use Rattle.desc_form.specs.WrittenFlow.{WrittenFlow}
 use Rattle.desc_form.specs.inner.WrittenForm.{IsWritten}
 use Rattle.desc_form.specs.WrittenHosts.{network_hosts}
 use Rattle.desc_form.proofs.NoneLaws.{all_tested}
-use Rattle.edit_core.proofs.FlowLemmas.{AreEnds, all_apart, any_said, asked_more, flow_said, flows_among, found_where, has_less, is_named, named_where, narrowed_among, one_flow, one_left, other_elements, other_flows, others_zipped, services_less, services_more, services_read, services_whole, zipped_more, IsFound}
+use Rattle.edit_core.proofs.FlowLemmas.{AreEnds, all_apart, any_said, asked_more, flow_said, flows_among, found_where, has_less, is_named, named_where, narrowed_among, one_flow, other_elements, other_flows, others_zipped, services_less, services_more, services_read, services_whole, zipped_more, IsFound}
 use Rattle.edit_core.proofs.FlowTables.{AreRightFlows, IsListing, described_with, listing, own_flows, with_flows}
-use Rattle.edit_core.specs.Edited.{accepted_as, add_to, after_edit, edited, if_accepted, is_between, remove_from, text_list, with_list}
+use Rattle.edit_core.specs.Edited.{◌>>=◌, after_edit, edited, if_described, is_between, others, text_list, with_list}
 use Rattle.edit_core.specs.inner.FlowEdits.{IsAskedFlow, IsRightFlow, asking_less, asking_more, without_services}
-use Rattle.edit_core.specs.declared.fault.EditFault.TheVariants.{Absent}
+use Rattle.edit_core.specs.declared.fault.EditFault.TheVariants.{Absent, NoPolicy}
+use Rattle.edit_core.proofs.SessionLemmas.{said_of}
 use Rattle.edit_core.specs.Edit.{Add, Remove}
 use Rattle.flow_set.specs.Flow.{IsFlow, same_flow}
 use Rattle.flow_set.specs.laws.FlowLaws.{IsOrdered-without_flow, flows_ext, has-without_flow}
@@ -219,8 +221,8 @@ pub after_added : (table : Members) (flows : List Data) (d : Network) (words : L
     → after_edit (Add words) table ≡ Ok (with_list (codes "flow") (flows ++ text_list words ∷ []) table)
 unfolding after_edit edited
 after_added table flows d words f ss there said right =
-    ap (λ (o : Option (List Data)). if_accepted (add_to table words o)) there
-    ∙ ap (accepted_as (with_list (codes "flow") (flows ++ text_list words ∷ []) table)) (added table flows d words f ss there said right)
+    ap (λ (o : Option (List Data)). ok_or o NoPolicy >>= (λ ds. Ok (ds ++ text_list words ∷ [])) >>= (λ ds. Ok (with_list (codes "flow") ds table)) >>= if_described) there
+    ∙ ap (said_of (with_list (codes "flow") (flows ++ text_list words ∷ []) table)) (added table flows d words f ss there said right)
 
 -- ---- which flow two names say
 
@@ -333,9 +335,10 @@ pub after_removed : (table : Members) (flows : List Data) (d : Network) (from to
 unfolding after_edit edited
 after_removed table flows d from to f there said asked =
     let next = with_list (codes "flow") (filter (λ x. not (is_between from to x)) flows) table in
-    ap (λ (o : Option (List Data)). if_accepted (remove_from table from to o)) there
-    ∙ ap (λ b. if_accepted (if b then Ok next else Err Absent)) (asked_listed table flows d from to f there said asked)
-    ∙ ap (accepted_as next) (removed table flows d from to f there said asked)
+    let left = filter (λ x. not (is_between from to x)) flows in
+    ap (λ (o : Option (List Data)). ok_or o NoPolicy >>= others (is_between from to) >>= (λ ds. Ok (with_list (codes "flow") ds table)) >>= if_described) there
+    ∙ ap (λ b. (if b then Ok left else Err Absent) >>= (λ ds. Ok (with_list (codes "flow") ds table)) >>= if_described) (asked_listed table flows d from to f there said asked)
+    ∙ ap (said_of next) (removed table flows d from to f there said asked)
 
 -- ---- a flow without services
 
@@ -347,48 +350,3 @@ unnarrowed table d f said none =
     let services : narrowed_among (network_hosts w) w.flows ≡ d.services = sym (services_listed_of w) ∙ ap (λ (n : Network). n.services) (accepted table d said).network in
     subst (λ (ns : List NarrowedFlow). without_services ns f ≡ ns) services
     (services_whole (network_hosts w) w.flows f (subst (λ (ns : List NarrowedFlow). services_of ns f.from f.to ≡ []) (sym services) none))
-
--- so a network with one flow less has the services of all others
-pub removed_unnarrowed : (table : Members) (flows : List Data) (d : Network) (from to : List ℕ) (f : Flow)
-    → list_at (codes "flow") table ≡ Some flows → described_by_table table ≡ Ok d → IsAskedFlow d from to f → services_of d.services f.from f.to ≡ []
-    → described_by_table (with_list (codes "flow") (filter (λ x. not (is_between from to x)) flows) table)
-    ≡ Ok (record d { asked = record { size = d.asked.size; flows = without_flow d.asked.flows f } })
-removed_unnarrowed table flows d from to f there said asked none =
-    removed table flows d from to f there said asked
-    ∙ (λ i. Ok (record d { asked = record { size = d.asked.size; flows = without_flow d.asked.flows f }; services = unnarrowed table d f said none i }))
-
--- ---- flows between hosts of the network
-
-pub right_between : (table : Members) (d : Network) (words : List (List ℕ)) (f : Flow) (ss : List Service) → IsNetwork d → IsRightFlow table d words f ss
-    → IsFlow d.asked.size f
-right_between table d words f ss fits right =
-    subst (λ n. IsFlow n f) (sym fits.sized)
-    (host_named_within d.hosts right.from f.from right.is_from, host_named_within d.hosts right.to f.to right.is_to, right.apart)
-
-pub asked_between : (d : Network) (from to : List ℕ) (f : Flow) → IsNetwork d → IsAskedFlow d from to f → IsFlow d.asked.size f
-asked_between d from to f fits asked = fits.asked.flows f asked.asked
-
--- ---- the one element between two hosts
-
--- the others are those before it and behind it
-pub one_out : (table : Members) (flows : List Data) (d : Network) (from to : List ℕ) (k : ℕ) (x : Data)
-    → list_at (codes "flow") table ≡ Some flows → described_by_table table ≡ Ok d → slice_get flows k ≡ Some x → IsTrue (is_between from to x)
-    → filter (λ y. not (is_between from to y)) flows ≡ remove flows k
-one_out table flows d from to k x there said here is =
-    let w = written table in
-    let listed = listing table flows d there said in
-    one_left from to flows w.flows k x listed.zipped listed.uses.different here is
-
--- ---- the policy does not look at services
-
-same_stateful : (b : Bool) (d : Network) (ns : List NarrowedFlow) (p s : List Flow) → IsStatefulBy b d p s → IsStatefulBy b (record d { services = ns }) p s
-same_stateful true d ns p s is = is
-same_stateful false d ns p s is = is
-
-pub same_policy : (d : Network) (ns : List NarrowedFlow) (policy : Policy) → IsPolicyOf d policy → IsPolicyOf (record d { services = ns }) policy
-same_policy d ns policy is = record {
-  permitted_size = is.permitted_size;
-  stateful_size = is.stateful_size;
-  permitted = is.permitted;
-  stateful = same_stateful d.answers d ns policy.permitted.flows policy.stateful.flows is.stateful;
-}

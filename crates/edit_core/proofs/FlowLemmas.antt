@@ -390,54 +390,7 @@ services_whole hosts [] f none = refl
 services_whole hosts (w ∷ ws) f none =
     whole_by (flow_of_names hosts w) (services_said w) (narrowed_among hosts ws) f none (services_whole hosts ws f)
 
--- ---- one element lies between two hosts
+-- ---- flows of other names
 
 abbrev pub AreTwo : WrittenFlow → WrittenFlow → Type 0
 AreTwo f g = f.from ≡ g.from → f.to ≡ g.to → ⊥
-
-not_both : (from to : List ℕ) (v w : WrittenFlow) → AreTwo v w → is_named from to v ≡ true → is_named from to w ≡ true → ⊥
-not_both from to v w two first second =
-    let (v_from, v_to) = and_parts (bytes_eq from v.from) (bytes_eq to v.to) first in
-    let (w_from, w_to) = and_parts (bytes_eq from w.from) (bytes_eq to w.to) second in
-    two (sym ((bytes_eq-Decides from v.from).0 v_from) ∙ (bytes_eq-Decides from w.from).0 w_from)
-    (sym ((bytes_eq-Decides to v.to).0 v_to) ∙ (bytes_eq-Decides to w.to).0 w_to)
-
-kept_if : (b : Bool) (d : Data) (left ds : List Data) → (b ≡ true → ⊥) → left ≡ ds → cond (not b) (d ∷ left) left ≡ d ∷ ds
-kept_if true d left ds never same = absurd (never refl)
-kept_if false d left ds never same = ap (λ (es : List Data). d ∷ es) same
-
--- none of those behind it does
-rest_kept : (from to : List ℕ) (v : WrittenFlow) (ds : List Data) (ws : List WrittenFlow) → AllZip IsFlow ds ws → is_named from to v ≡ true
-    → AllByRecursion (AreTwo v) ws → other_elements from to ds ≡ ds
-rest_kept from to v [] ws zipped is two = refl
-rest_kept from to v (d ∷ ds) [] zipped is two = absurd zipped
-rest_kept from to v (d ∷ ds) (w ∷ ws) (said, zipped) is (here, two) =
-    kept_if (is_between from to d) d (other_elements from to ds) ds (λ also. not_both from to v w here is (sym (between_said from to d w said) ∙ also))
-    (rest_kept from to v ds ws zipped is two)
-
--- nor does one before it
-none_before : (from to : List ℕ) (v : WrittenFlow) (ds : List Data) (ws : List WrittenFlow) (k : ℕ) (x : Data) → AllZip IsFlow ds ws → slice_get ds k ≡ Some x
-    → is_between from to x ≡ true → AllByRecursion (AreTwo v) ws → is_named from to v ≡ true → ⊥
-none_before from to v [] ws k x zipped there is two also = cc
-none_before from to v (d ∷ ds) [] k x zipped there is two also = absurd zipped
-none_before from to v (d ∷ ds) (w ∷ ws) zero x (said, zipped) there is (here, two) also =
-    let same : d ≡ x = cc in
-    not_both from to v w here also (sym (between_said from to d w said) ∙ ap (is_between from to) same ∙ is)
-none_before from to v (d ∷ ds) (w ∷ ws) (suc k) x (said, zipped) there is (here, two) also = none_before from to v ds ws k x zipped there is two also
-
-pub one_left : (from to : List ℕ) (ds : List Data) (ws : List WrittenFlow) (k : ℕ) (x : Data) → AllZip IsFlow ds ws → AllPairs AreTwo ws
-    → slice_get ds k ≡ Some x → is_between from to x ≡ true → other_elements from to ds ≡ remove ds k
-one_left from to [] ws k x zipped two there is = cc
-one_left from to (d ∷ ds) [] k x zipped two there is = absurd zipped
-one_left from to (d ∷ ds) (w ∷ ws) zero x (said, zipped) two there is =
-    let same : d ≡ x = cc in
-    let here : is_between from to d ≡ true = ap (is_between from to) same ∙ is in
-    let others : All (AreTwo w) ws = λ i e within. two zero (suc i) e (omega arith) (omega arith) in
-    ap (λ b. cond (not b) (d ∷ other_elements from to ds) (other_elements from to ds)) here
-    ∙ rest_kept from to w ds ws zipped (sym (between_said from to d w said) ∙ here) (recursion_from_All (AreTwo w) ws others)
-one_left from to (d ∷ ds) (w ∷ ws) (suc k) x (said, zipped) two there is =
-    let others : All (AreTwo w) ws = λ i e within. two zero (suc i) e (omega arith) (omega arith) in
-    let behind : AllPairs AreTwo ws = λ i j e before within. two (suc i) (suc j) e (omega arith) (omega arith) in
-    kept_if (is_between from to d) d (other_elements from to ds) (remove ds k)
-    (λ also. none_before from to w ds ws k x zipped there is (recursion_from_All (AreTwo w) ws others) (sym (between_said from to d w said) ∙ also))
-    (one_left from to ds ws k x zipped behind there is)

@@ -44,5 +44,5 @@ pub done_after : (change : Change) (old new : Members) (d e : Network) (policy :
     → IsDone change old new summary
 done_after change old new d e policy summary f said right p after is_policy tells = (
   table_after change old new d f said right p,
-  (e, policy, record { described = described_after change old new d e f said right p after; is_policy = is_policy }, tells),
+  (e, policy, described_after change old new d e f said right p after, is_policy, tells),
 )

@@ -1,3 +1,4 @@
+pub mod AssignLemmas
 pub mod BehindLaws
 pub mod ChangeLaws
 pub mod CopyLemmas

@@ -1,27 +1,22 @@
 -- What a session answers, case by case.
-use Rattle.std.proofs.Common.{◌≡◌, ℕ, List, map, string_bytes, Some, Result, Ok, Err, inl, inr, refl, sym, ap, subst, ◌∙◌}
+use Rattle.std.proofs.Common.{◌≡◌, ℕ, List, map, string_bytes, Some, Result, Ok, Err, refl, sym, ap, subst, ◌∙◌}
 use Rattle.std.specs.BTreeMap.{BTreeMap}
-use Rattle.std.specs.Option.{ok_or}
-use Rattle.std.specs.Prelude.{IfErr, IfOk, OnErr, String, length, nat_lt}
+use Rattle.std.specs.Prelude.{IfErr, IfOk, OnErr, String}
 use Rattle.std.specs.Result.{result_map_both}
 use Rattle.std.specs.declared.alloc.Global.{Global}
-use Rattle.text_core.proofs.StepsLaws.{if_parts, ok_or_parts}
 use Rattle.desc_core.proofs.DescribeLemmas.{table_read, table_refused}
-use Rattle.desc_core.specs.Conditions.{byte_limit}
+use Rattle.desc_core.proofs.MigrationLemmas.{read_document}
 use Rattle.desc_core.specs.Description.{described, described_by_table}
 use Rattle.desc_core.specs.Document.{document}
 use Rattle.desc_core.specs.inner.Parts.{table_of as table_of_bytes}
 use Rattle.desc_core.specs.inner.Reads.{Reads}
 use Rattle.desc_core.specs.declared.fault.DescFault.{DescFault}
 use Rattle.desc_core.specs.declared.fault.DescFault.TheVariants as desc
-use Rattle.desc_form.specs.Refusals.{refused}
-use Rattle.desc_form.specs.declared.refusal.Place.TheVariants.{Document}
-use Rattle.desc_form.specs.declared.refusal.Why.TheVariants.{NotToml, TooLong}
+use Rattle.desc_form.specs.declared.refusal.Refusal.{Refusal}
 use Rattle.edit_core.specs.inner.EditFaults.{Gives, edit_fault}
-use Rattle.edit_core.specs.Edited.{accepted_as, after_edit, edited, if_accepted}
+use Rattle.edit_core.specs.Edited.{◌>>=◌, after_edit, edited, if_described}
 use Rattle.edit_core.specs.inner.InPlace.{IsDone}
-use Rattle.edit_core.specs.Kept.{IsKept}
-use Rattle.edit_core.specs.inner.Kept.{IsDescription, Refuses, entries_of, table_of, table_of-entries_of}
+use Rattle.edit_core.specs.inner.Kept.{IsDescription, IsKept, Refuses, entries_of, table_of, table_of-entries_of}
 use Rattle.edit_core.specs.Summaries.{IsStarted, TellsOf}
 use Rattle.edit_core.specs.inner.Summaries.{IsApplied}
 use Rattle.edit_core.specs.declared.fault.EditFault.{EditFault}
@@ -42,13 +37,6 @@ Entries = List (List ℕ × Value)
 
 -- ---- a start
 
-document_read : (bytes : List ℕ) (ms : Members) → table_of_bytes bytes ≡ Ok ms → document bytes ≡ Some ms
-unfolding table_of_bytes
-document_read bytes ms read = elim (if_parts (nat_lt byte_limit (length bytes)) (Err (refused TooLong Document)) (ok_or (document bytes) (refused NotToml Document)) (Ok ms) read) [
-  | inl long ↦ cc
-  | inr short ↦ ok_or_parts (document bytes) (refused NotToml Document) ms short.1
-]
-
 pub no_table : (bytes : List ℕ) (fault : DescFault) → Reads {A = Members} (Err fault) (table_of_bytes bytes) → IsStarted bytes (Err fault)
 no_table bytes (desc.Refused r) none = table_refused bytes (desc.Refused r) none
 no_table bytes desc.Memory none = tt
@@ -61,7 +49,7 @@ pub started : (bytes : List ℕ) (table : Table) (r : Result Entries DescFault) 
     → IsStarted bytes (result_map_both table_of (λ fault. fault) r)
 started bytes table (Ok s) read is described none =
     let same = same_table table s is in (
-      document_read bytes (table_view table) read ∙ ap (λ (ms : Members). Some ms) (sym same),
+      read_document bytes (table_view table) read ∙ ap (λ (ms : Members). Some ms) (sym same),
       (described.0, table_read bytes (table_view table) read ∙ ap described_by_table (sym same) ∙ described.1, described.1),
     )
 started bytes table (Err (desc.Refused r)) read is described none = table_read bytes (table_view table) read ∙ none
@@ -69,23 +57,30 @@ started bytes table (Err desc.Memory) read is described none = tt
 
 -- ---- an edit
 
+-- an edit that goes on, and what is said of a table by its description
+abbrev goes_on : Result Members EditFault → Result Members EditFault
+goes_on r = r >>= if_described
+
+abbrev pub said_of : Members → Result Network Refusal → Result Members EditFault
+said_of table r = result_map_both (λ d. table) (λ refusal. Refused refusal.why) r
+
 pub not_edited : (change : Change) (old : Members) (fault : EditFault) → Gives (edited change old) (Err fault) → IsApplied change old old (Err fault)
 unfolding after_edit
-not_edited change old NoPolicy said = (ap if_accepted said, refl)
-not_edited change old Absent said = (ap if_accepted said, refl)
-not_edited change old (Refused why) said = (ap if_accepted said, refl)
+not_edited change old NoPolicy said = (ap goes_on said, refl)
+not_edited change old Absent said = (ap goes_on said, refl)
+not_edited change old (Refused why) said = (ap goes_on said, refl)
 not_edited change old Memory said = refl
 
 pub not_described : (change : Change) (old new : Members) (fault : DescFault) → edited change old ≡ Ok new → Refuses new fault
     → IsApplied change old old (Err (edit_fault fault))
 unfolding after_edit
-not_described change old new (desc.Refused r) made none = (ap if_accepted made ∙ ap (accepted_as new) none, refl)
+not_described change old new (desc.Refused r) made none = (ap goes_on made ∙ ap (said_of new) none, refl)
 not_described change old new desc.Memory made none = refl
 
 pub applied : (change : Change) (old new : Members) (d : Network) (policy : Policy) (summary : Summary) → edited change old ≡ Ok new
     → IsKept new d policy → TellsOf d policy summary → IsApplied change old new (Ok summary)
 unfolding after_edit
-applied change old new d policy summary made kept tells = (ap if_accepted made ∙ ap (accepted_as new) kept.described, (d, policy, kept, tells))
+applied change old new d policy summary made kept tells = (ap goes_on made ∙ ap (said_of new) kept.described, (d, policy, kept.described, kept.is_policy, tells))
 
 -- ---- what is kept, of the entries
 

@@ -53,11 +53,9 @@ by_policy d p q s t one other tells also =
     told_once d p s t tells (subst (λ (policy : Policy). TellsOf d policy t) (policy_is_one d q p other one) also)
 
 pub summary_is_one : (table : Members) (s t : Summary) → IsSummary table s → IsSummary table t → s ≡ t
-summary_is_one table s t (d, p, kept, tells) (e, q, kept_too, tells_too) =
-    let here = kept.described in
-    let there = kept_too.described in
+summary_is_one table s t (d, p, here, is_policy, tells) (e, q, there, is_policy_too, tells_too) =
     let network : e ≡ d = cc (here, there) in
-    by_policy d p q s t kept.is_policy (subst (λ (n : Network). IsPolicyOf n q) network kept_too.is_policy) tells
+    by_policy d p q s t is_policy (subst (λ (n : Network). IsPolicyOf n q) network is_policy_too) tells
     (subst (λ (n : Network). TellsOf n q t) network tells_too)
 
 pub summaries_are_one : (edits : List Edit) (table : Members) (ss ts : List Summary) → AreSummaries edits table ss → AreSummaries edits table ts → ss ≡ ts

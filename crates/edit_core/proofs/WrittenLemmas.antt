@@ -14,9 +14,10 @@ use Rattle.std.specs.String.{string_cmp}
 use Rattle.desc_core.specs.Migrated.{with_member}
 use Rattle.edit_core.specs.inner.InPlace.{IsListAfter, IsTableAfter, flows_after}
 use Rattle.edit_core.specs.Edit.{Change}
-use Rattle.table_core.specs.Tables.{elements, elements_of, list_at}
+use Rattle.edit_core.proofs.FlowTables.{listed_again}
+use Rattle.table_core.specs.Tables.{elements_of, list_at}
 use Rattle.toml.proofs.Views.{view-Array, view-lookup}
-use Rattle.toml.specs.Data.{Data, array, as_array, member}
+use Rattle.toml.specs.Data.{Data, array, member}
 use Rattle.toml.specs.View.{items_of, members_view, table_view, view}
 use Rattle.toml.specs.declared.value.Value.{Value, Array}
 
@@ -86,17 +87,8 @@ found_here key table r slot is value = sym (rw is at value)
 
 -- ---- lists
 
-items_again : (ds : List Data) → elements (items_of ds) ≡ ds
-items_again [] = refl
-items_again (d ∷ ds) = ap (λ (rest : List Data). d ∷ rest) (items_again ds)
-
 listed_in : (v : Vec Value Global) → elements_of (view (Array v)) ≡ Some (map view v.items)
-unfolding elements_of
-listed_in v = ap (λ (d : Data). option_map elements (as_array d)) (view-Array v) ∙ ap (λ (ds : List Data). Some ds) (items_again (map view v.items))
-
-pub map_pushed : (vs : List Value) (v : Value) → map view (vs ++ v ∷ []) ≡ map view vs ++ view v ∷ []
-map_pushed [] v = refl
-map_pushed (x ∷ vs) v = ap (λ (ds : List Data). view x ∷ ds) (map_pushed vs v)
+listed_in v = ap elements_of (view-Array v) ∙ listed_again (map view v.items)
 
 -- a list after an edit
 pub array_after : (change : Change) (list : Value) (old new : Vec Value Global) → list ≡ Array old

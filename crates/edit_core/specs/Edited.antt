@@ -1,25 +1,34 @@
 -- The table that an edit makes of the table of a description (docs/FORMATS.md). `add` and `remove` change the list of flows, `set` and
 -- `unset` the assigns of one invariant; all else stays as it is.
-use Rattle.std.specs.Prelude.{ℕ, ◌-◌, Bool, false, not, ◌&&◌, if◌then◌else◌, List, [], ◌∷◌, ◌++◌, map, filter, Option, Some, None, option_and_then, Result, Ok, Err, codes, slice_get}
+use Rattle.std.specs.Prelude.{ℕ, ◌-◌, Bool, false, not, ◌&&◌, if◌then◌else◌, List, [], ◌∷◌, ◌++◌, map, filter, option_and_then, Result, Ok, Err, codes, slice_get}
 use Rattle.std.specs.List.{list_any, slice_set}
-use Rattle.std.specs.Option.{option_map_or}
+use Rattle.std.specs.Option.{ok_or, option_map_or}
+use Rattle.std.specs.Result.{result_map_both}
 use Rattle.std.specs.Str.{bytes_eq}
 use Rattle.desc_core.specs.Description.{described_by_table}
 use Rattle.desc_core.specs.Migrated.{with_member}
 use Rattle.desc_form.specs.Places.{assigns_of, listed}
 use Rattle.desc_form.specs.Written.{text_in}
-use Rattle.desc_form.specs.declared.refusal.Refusal.{Refusal}
 use Rattle.edit_core.specs.declared.fault.EditFault.{EditFault}
 use Rattle.edit_core.specs.declared.fault.EditFault.TheVariants.{NoPolicy, Absent, Refused}
 use Rattle.edit_core.specs.Edit.{Change, Add, Remove, Set, Unset}
-use Rattle.net_core.specs.Network.{Network}
 use Rattle.table_core.specs.Tables.{elements_of, list_at, text_at}
 use Rattle.toml.specs.Data.{Data, string, array, table, Members, as_str, as_table}
 use Rattle.toml.specs.View.{items_of}
 
+infixl 10 ◌>>=◌
+-- the first step, and then the second of what it gave; the first refusal ends them
+abbrev pub ◌>>=◌ : {A B W : Type 0} → Result A W → (A → Result B W) → Result B W
+(Ok x) >>= f = f x
+(Err why) >>= f = Err why
+
 -- the table with these elements as the array at a key
 abbrev pub with_list : List ℕ → List Data → Members → Members
 with_list key ds document = with_member key (array (items_of ds)) document
+
+-- the elements that fail a test, which one of them has to pass
+abbrev pub others : (Data → Bool) → List Data → Result (List Data) EditFault
+others test ds = if list_any test ds then Ok (filter (λ d. not (test d)) ds) else Err Absent
 
 -- ---- flows
 
@@ -38,18 +47,9 @@ begins_with from to _ = false
 abbrev pub is_between : (from to : List ℕ) → Data → Bool
 is_between from to d = option_map_or (begins_with from to) (elements_of d) false
 
--- one flow more, at the end of those that are listed
-abbrev pub add_to : Members → List (List ℕ) → Option (List Data) → Result Members EditFault
-add_to document words None = Err NoPolicy
-add_to document words (Some flows) = Ok (with_list (codes "flow") (flows ++ text_list words ∷ []) document)
-
--- the others alone
-abbrev pub remove_from : Members → (from to : List ℕ) → Option (List Data) → Result Members EditFault
-remove_from document from to None = Err NoPolicy
-remove_from document from to (Some flows) =
-    if list_any (is_between from to) flows
-    then Ok (with_list (codes "flow") (filter (λ d. not (is_between from to d)) flows) document)
-    else Err Absent
+-- the table with its list of flows changed
+abbrev pub flows_edited : Members → (List Data → Result (List Data) EditFault) → Result Members EditFault
+flows_edited document change = ok_or (list_at (codes "flow") document) NoPolicy >>= change >>= λ flows. Ok (with_list (codes "flow") flows document)
 
 -- ---- assigns
 
@@ -58,55 +58,35 @@ abbrev pub is_of_host : List ℕ → Data → Bool
 is_of_host host d = option_map_or (bytes_eq host) (option_and_then (text_at (codes "host")) (as_table d)) false
 
 -- the assigns with this one in the place of that of its host, or at the end where its host has none
-abbrev pub assigned_for : List ℕ → Members → List Data → List Data
-assigned_for host assign ds =
+abbrev pub assigned : (host : List ℕ) → Members → List Data → List Data
+assigned host assign ds =
     if list_any (is_of_host host) ds then map (λ d. if is_of_host host d then table assign else d) ds else ds ++ table assign ∷ []
 
-abbrev pub assigned : Members → List Data → List Data
-assigned assign ds = assigned_for (text_in (codes "host") assign) assign ds
-
 -- an invariant with these assigns
-abbrev pub with_assigns : List Data → Data → Data
-with_assigns ds (table ms) = table (with_list (codes "assign") ds ms)
-with_assigns ds d = d
+abbrev pub invariant_with : List Data → Data → Data
+invariant_with ds d = option_map_or (λ ms. table (with_list (codes "assign") ds ms)) (as_table d) d
 
--- the invariant with a number from 1, and the table with another in its place
-abbrev pub invariant_at : ℕ → Members → Option Data
-invariant_at k document = slice_get (listed (codes "invariant") document) (k - 1)
-
-abbrev pub with_invariant : ℕ → Data → Members → Members
-with_invariant k d document = with_list (codes "invariant") (slice_set (listed (codes "invariant") document) (k - 1) d) document
-
-abbrev pub set_in : Members → ℕ → Members → Option Data → Result Members EditFault
-set_in document k assign None = Err Absent
-set_in document k assign (Some invariant) = Ok (with_invariant k (with_assigns (assigned assign (assigns_of invariant)) invariant) document)
-
-abbrev pub unset_in : Members → ℕ → List ℕ → Option Data → Result Members EditFault
-unset_in document k host None = Err Absent
-unset_in document k host (Some invariant) =
-    if list_any (is_of_host host) (assigns_of invariant)
-    then Ok (with_invariant k (with_assigns (filter (λ d. not (is_of_host host d)) (assigns_of invariant)) invariant) document)
-    else Err Absent
+-- the table with the assigns of an invariant changed, by its number from 1
+abbrev pub assigns_edited : ℕ → Members → (List Data → Result (List Data) EditFault) → Result Members EditFault
+assigns_edited k document change = do
+  invariant ← ok_or (slice_get (listed (codes "invariant") document) (k - 1)) Absent
+  assigns ← change (assigns_of invariant)
+  Ok (with_list (codes "invariant") (slice_set (listed (codes "invariant") document) (k - 1) (invariant_with assigns invariant)) document)
 
 -- ---- edits
 
 -- the edited table: it may be no description. There is none where no flows are listed, where there is no such invariant, and where there
 -- is nothing to take out
 unfoldable pub edited : Change → Members → Result Members EditFault
-edited (Add words) document = add_to document words (list_at (codes "flow") document)
-edited (Remove from to) document = remove_from document from to (list_at (codes "flow") document)
-edited (Set k assign) document = set_in document k assign (invariant_at k document)
-edited (Unset k host) document = unset_in document k host (invariant_at k document)
+edited (Add words) document = flows_edited document (λ flows. Ok (flows ++ text_list words ∷ []))
+edited (Remove from to) document = flows_edited document (others (is_between from to))
+edited (Set k assign) document = assigns_edited k document (λ assigns. Ok (assigned (text_in (codes "host") assign) assign assigns))
+edited (Unset k host) document = assigns_edited k document (others (is_of_host host))
 
 -- a table that is a description; one that is none is refused for the first condition that holds
-abbrev pub accepted_as : Members → Result Network Refusal → Result Members EditFault
-accepted_as document (Ok d) = Ok document
-accepted_as document (Err refusal) = Err (Refused refusal.why)
-
-abbrev pub if_accepted : Result Members EditFault → Result Members EditFault
-if_accepted (Ok document) = accepted_as document (described_by_table document)
-if_accepted (Err fault) = Err fault
+abbrev pub if_described : Members → Result Members EditFault
+if_described document = result_map_both (λ d. document) (λ refusal. Refused refusal.why) (described_by_table document)
 
 -- the table after an edit, or why the edit is refused
 unfoldable pub after_edit : Change → Members → Result Members EditFault
-after_edit change document = if_accepted (edited change document)
+after_edit change document = edited change document >>= if_described

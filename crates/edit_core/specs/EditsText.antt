@@ -15,13 +15,6 @@ use Rattle.edit_core.specs.declared.text_fault.EditsWhy.TheVariants.{TooLong, Ba
 
 -- A. The grammar: which edits a text tells.
 
--- how many bytes a text may have, and how many edits
-abbrev pub byte_limit : ℕ
-byte_limit = 1048576
-
-abbrev pub edit_limit : ℕ
-edit_limit = 10000
-
 -- words are texts: each of them is UTF-8
 abbrev pub AreTexts : List (List ℕ) → Type 0
 AreTexts ws = IsTrue (list_all is_utf8 ws)
@@ -58,7 +51,7 @@ pub record AddsEdit (n : ℕ) (before : List Edit) (line : List ℕ) (now : List
   pub change : Change
   pub told : TellsChange line change
   pub added : now ≡ before ++ record { line = n; change = change } ∷ []
-  pub few : length before < edit_limit
+  pub few : length before < 10000
 
 -- B. Why a line tells none.
 
@@ -74,13 +67,13 @@ pub data IsForm (ws : List (List ℕ)) : Type 0 where
 pub data IsBad (before : List Edit) (line : List ℕ) : EditsWhy → Type 0 where
   bad_line : (IsForm (words line) → ⊥) → IsBad before line BadLine
   bad_value : IsForm (words line) → ((change : Change) → TellsChange line change → ⊥) → IsBad before line BadValue
-  too_many : (change : Change) → TellsChange line change → edit_limit ≤ length before → IsBad before line TooMany
+  too_many : (change : Change) → TellsChange line change → 10000 ≤ length before → IsBad before line TooMany
 
 -- C. The text: its lines are edits, and it may end behind each of them.
 
 abbrev pub edits_text : TextByLines (List Edit) EditsWhy
 edits_text = record {
-  byte_limit = byte_limit;
+  byte_limit = 1048576;
   when_longer = TooLong;
   start = [];
   IsLine = AddsEdit;

@@ -2,7 +2,6 @@ pub mod Behind
 pub mod Edit
 pub mod Edited
 pub mod EditsText
-pub mod Kept
 pub mod Runs
 pub mod Summaries
 pub mod inner

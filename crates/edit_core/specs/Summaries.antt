@@ -1,14 +1,12 @@
--- What is told of a description after an edit, and what a session answers.
-use Rattle.std.specs.Prelude.{◌≡◌, length, Some, Result, Ok, Err, List, ℕ}
+-- What is told of a description after an edit, and what a session is begun with.
+use Rattle.std.specs.Prelude.{◌≡◌, ℕ, List, length, Some, Result, Ok, Err}
 use Rattle.desc_core.specs.Description.{described, described_by_table}
 use Rattle.desc_core.specs.Document.{document}
 use Rattle.desc_core.specs.declared.fault.DescFault.{DescFault}
 use Rattle.desc_core.specs.declared.fault.DescFault.TheVariants as desc
-use Rattle.edit_core.specs.Kept.{IsKept}
-use Rattle.edit_core.specs.declared.fault.EditFault.TheVariants.{Memory}
 use Rattle.edit_core.specs.declared.summary.Summary.{Summary}
 use Rattle.net_core.specs.Network.{Network}
-use Rattle.net_core.specs.Policies.{Policy}
+use Rattle.net_core.specs.Policies.{IsPolicyOf, Policy}
 use Rattle.net_core.specs.FailingFlows.{AreFailing}
 use Rattle.toml.specs.Data.{Members}
 
@@ -20,9 +18,9 @@ pub record TellsOf (d : Network) (policy : Policy) (summary : Summary) : Type 0 
   pub stateful : summary.stateful ≡ length policy.stateful.flows
   pub failing : AreFailing d.invariants d.asked.flows summary.failing
 
--- the summary of the description that a table is
+-- the summary of the network that a table describes, and of its policy
 abbrev pub IsSummary : Members → Summary → Type 0
-IsSummary table summary = (d : Network) × (policy : Policy) × IsKept table d policy × TellsOf d policy summary
+IsSummary table summary = (d : Network) × (policy : Policy) × (described_by_table table ≡ Ok d) × IsPolicyOf d policy × TellsOf d policy summary
 
 -- the bytes are the document of the table, and a description; or they are refused for this
 abbrev pub IsStarted : List ℕ → Result Members DescFault → Type 0

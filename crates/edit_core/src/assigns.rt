@@ -1,11 +1,12 @@
 //! The assigns of an invariant, edited.
 
-ghost use Rattle.std.specs.Prelude.{◌≡◌, ◌++◌, ◌∷◌, [], codes, map, option_map, filter, if◌then◌else◌, not, IfOk, OnOk};
+ghost use Rattle.std.specs.Prelude.{◌≡◌, ◌-◌, codes, map, option_map, filter, if◌then◌else◌, not, slice_get, IfOk};
 ghost use Rattle.std.specs.List.{list_any, slice_set};
 ghost use Rattle.std.specs.Result.{result_map_both};
 ghost use Rattle.desc_form.specs.Places.{assigns_of, listed};
 ghost use Rattle.desc_form.specs.Written.{text_in};
-ghost use Rattle.edit_core.specs.Edited.{assigned, invariant_at, is_of_host, set_in, unset_in, with_assigns, with_invariant};
+ghost use Rattle.edit_core.specs.Edited.{assigned, edited, invariant_with, is_of_host, others, with_list};
+ghost use Rattle.edit_core.specs.Edit.{Set, Unset};
 ghost use Rattle.edit_core.specs.inner.EditFaults.{Gives};
 ghost use Rattle.toml.specs.Data.{table};
 ghost use Rattle.toml.specs.View.{table_view, view};
@@ -17,40 +18,37 @@ use table_core::{list_at, text_at};
 use toml::{Table, Value};
 
 /// The table in which an invariant, by its number from 1, assigns to a host what a table says.
+#[tactic(auto, unfolding(crate::specs::Edited::edited))]
 pub(crate) fn set_in(
     alloc: Global,
     document: &Table,
     number: u8,
     assign: &Table,
 ) -> Result<Table, EditFault>
-    ensures { Gives (set_in (table_view document.now) number (table_view assign.now) (invariant_at number (table_view document.now))) (result_map_both table_view (λ fault. fault) result) }
+    ensures { Gives (edited (Set number (table_view assign.now)) (table_view document.now)) (result_map_both table_view (λ fault. fault) result) }
 {
     let Some(invariant) = invariant_at(document, number) else {
         return Err(EditFault::Absent);
     };
     let assigns = assigned(alloc, assigns_of(invariant), assign)?;
-    let changed = with_assigns(alloc, invariant, assigns)?;
-    Ok(with_invariant(alloc, document, number, changed)?)
+    Ok(with_assigns(alloc, document, number, invariant, assigns)?)
 }
 
 /// The table in which an invariant, by its number from 1, assigns nothing to a host.
+#[tactic(auto, unfolding(crate::specs::Edited::edited))]
 pub(crate) fn unset_in(
     alloc: Global,
     document: &Table,
     number: u8,
     host: &str,
 ) -> Result<Table, EditFault>
-    ensures { Gives (unset_in (table_view document.now) number host.now (invariant_at number (table_view document.now))) (result_map_both table_view (λ fault. fault) result) }
+    ensures { Gives (edited (Unset number host.now) (table_view document.now)) (result_map_both table_view (λ fault. fault) result) }
 {
     let Some(invariant) = invariant_at(document, number) else {
         return Err(EditFault::Absent);
     };
-    if !has_host(assigns_of(invariant), host) {
-        return Err(EditFault::Absent);
-    }
     let assigns = other_assigns(alloc, assigns_of(invariant), host)?;
-    let changed = with_assigns(alloc, invariant, assigns)?;
-    Ok(with_invariant(alloc, document, number, changed)?)
+    Ok(with_assigns(alloc, document, number, invariant, assigns)?)
 }
 
 /// The invariants that the table lists.
@@ -66,7 +64,7 @@ fn invariants_of(document: &Table) -> &[Value]
 
 /// The invariant with a number, from 1.
 fn invariant_at(document: &Table, number: u8) -> Option<&Value>
-    ensures { option_map (λ value. view value.now) result ≡ invariant_at number (table_view document.now) }
+    ensures { option_map (λ value. view value.now) result ≡ slice_get (listed (codes "invariant") (table_view document.now)) (number - 1) }
 {
     invariants_of(document).get(number.saturating_sub(1) as usize)
 }
@@ -85,32 +83,39 @@ fn assigns_of(invariant: &Value) -> &[Value]
     }
 }
 
+/// The table in which the invariant with a number, from 1, has these assigns.
+fn with_assigns(
+    alloc: Global,
+    document: &Table,
+    number: u8,
+    invariant: &Value,
+    assigns: Vec<Value>,
+) -> Result<Table, AllocError>
+    ensures { IfOk result (λ table. table_view table ≡ with_list (codes "invariant") (slice_set (listed (codes "invariant") (table_view document.now)) (number - 1)
+        (invariant_with (map view assigns.items) (view invariant.now))) (table_view document.now)) }
+{
+    let changed = invariant_with(alloc, invariant, assigns)?;
+    let mut invariants = copy_values(alloc, invariants_of(document))?;
+    put_at(
+        &mut invariants,
+        number.saturating_sub(1) as usize,
+        changed,
+    );
+    with_list(alloc, document, "invariant", invariants)
+}
+
 /// The invariant with these assigns.
-fn with_assigns(alloc: Global, invariant: &Value, assigns: Vec<Value>) -> Result<Value, AllocError>
-    ensures { IfOk result (λ changed. view changed ≡ with_assigns (map view assigns.items) (view invariant.now)) }
+fn invariant_with(
+    alloc: Global,
+    invariant: &Value,
+    assigns: Vec<Value>,
+) -> Result<Value, AllocError>
+    ensures { IfOk result (λ changed. view changed ≡ invariant_with (map view assigns.items) (view invariant.now)) }
 {
     match invariant.as_table() {
         Some(members) => Ok(Value::Table(with_list(alloc, members, "assign", assigns)?)),
         None => copy_value(invariant),
     }
-}
-
-/// The table with this invariant in the place of the one with a number, from 1.
-fn with_invariant(
-    alloc: Global,
-    document: &Table,
-    number: u8,
-    invariant: Value,
-) -> Result<Table, AllocError>
-    ensures { IfOk result (λ table. table_view table ≡ with_invariant number (view invariant) (table_view document.now)) }
-{
-    let mut invariants = copy_values(alloc, invariants_of(document))?;
-    put_at(
-        &mut invariants,
-        number.saturating_sub(1) as usize,
-        invariant,
-    );
-    with_list(alloc, document, "invariant", invariants)
 }
 
 /// Puts a value in the place of the one that stands there, if one does.
@@ -124,7 +129,7 @@ fn put_at(values: &mut Vec<Value>, place: usize, value: Value)
 
 /// The assigns with one for its host: in the place of the host's, or at the end where it has none.
 fn assigned(alloc: Global, assigns: &[Value], assign: &Table) -> Result<Vec<Value>, AllocError>
-    ensures { IfOk result (λ values. map view values.items ≡ assigned (table_view assign.now) (map view assigns.now)) }
+    ensures { IfOk result (λ values. map view values.items ≡ assigned (text_in (codes "host") (table_view assign.now)) (table_view assign.now) (map view assigns.now)) }
 {
     let host = host_of(assign);
     if has_host(assigns, host) {
@@ -183,25 +188,23 @@ fn replacement(value: &Value, host: &str, assign: &Table) -> Result<Value, Alloc
     }
 }
 
-/// A copy of each assign that is not the host's.
-fn other_assigns(alloc: Global, assigns: &[Value], host: &str) -> Result<Vec<Value>, AllocError>
-    ensures { IfOk result (λ copies. map view copies.items ≡ filter (λ d. not (is_of_host host.now d)) (map view assigns.now)) }
+/// A copy of each assign that is not the host's, if one is.
+fn other_assigns(alloc: Global, listed: &[Value], host: &str) -> Result<Vec<Value>, EditFault>
+    ensures { Gives (others (is_of_host host.now) (map view listed.now)) (result_map_both (λ values. map view values.items) (λ fault. fault) result) }
 {
-    let mut copies = Vec::new(alloc);
-    for assign in assigns {
-        push_other(&mut copies, assign, host)?;
+    let mut assigns = copy_values(alloc, listed)?;
+    retain_others(&mut assigns, host);
+    if assigns.len() == listed.len() {
+        return Err(EditFault::Absent);
     }
-    Ok(copies)
+    Ok(assigns)
 }
 
-/// Puts a copy of an assign that is not the host's.
-fn push_other(copies: &mut Vec<Value>, assign: &Value, host: &str) -> Result<(), AllocError>
-    ensures { OnOk result (map view copies.new.items ≡ map view copies.old.items ++ filter (λ d. not (is_of_host host.now d)) (view assign.now ∷ [])) }
+/// Takes the assigns of a host out.
+fn retain_others(assigns: &mut Vec<Value>, host: &str)
+    ensures { map view assigns.new.items ≡ filter (λ d. not (is_of_host host.now d)) (map view assigns.old.items) }
 {
-    if !is_of_host(assign, host) {
-        copies.push(copy_value(assign)?)?;
-    }
-    Ok(())
+    assigns.retain(|assign| !is_of_host(assign, host));
 }
 
 /// Whether an assign is of the host.

@@ -1,38 +1,48 @@
 //! What stands behind the words of a line.
 
-ghost use Rattle.std.specs.Prelude.{◌≡◌};
+ghost use Rattle.std.specs.Prelude.{◌≡◌, not, position};
 ghost use Rattle.text_core.specs.Lines.{is_blank};
-ghost use Rattle.edit_core.specs.Behind.{behind_word, from_word, past_word};
+ghost use Rattle.edit_core.specs.Behind.{behind_word, from_first};
 
 /// The text behind the first word of a line.
 pub(crate) fn behind_word(line: &[u8]) -> &[u8]
     ensures { result.now ≡ behind_word line.now }
 {
-    past_word(from_word(line))
+    from_blank(from_word(line))
 }
 
 /// The line from its first word on.
+#[tactic(auto, using(crate::proofs::BehindLaws::from_place))]
 fn from_word(line: &[u8]) -> &[u8]
-    ensures { result.now ≡ from_word line.now }
+    ensures { result.now ≡ from_first (λ b. not (is_blank b)) line.now }
 {
-    for (place, byte) in line.iter().enumerate() {
-        if !is_blank(*byte) {
-            return line.split_at(place).1;
-        }
+    match place_of_word(line) {
+        Some(place) => line.split_at(place).1,
+        None => &[],
     }
-    &[]
 }
 
 /// The text from its first blank on.
-fn past_word(text: &[u8]) -> &[u8]
-    ensures { result.now ≡ past_word text.now }
+#[tactic(auto, using(crate::proofs::BehindLaws::from_place))]
+fn from_blank(text: &[u8]) -> &[u8]
+    ensures { result.now ≡ from_first is_blank text.now }
 {
-    for (place, byte) in text.iter().enumerate() {
-        if is_blank(*byte) {
-            return text.split_at(place).1;
-        }
+    match place_of_blank(text) {
+        Some(place) => text.split_at(place).1,
+        None => &[],
     }
-    &[]
+}
+
+fn place_of_word(line: &[u8]) -> Option<usize>
+    ensures { result ≡ position (λ b. not (is_blank b)) line.now }
+{
+    line.iter().position(|byte| !is_blank(*byte))
+}
+
+fn place_of_blank(text: &[u8]) -> Option<usize>
+    ensures { result ≡ position is_blank text.now }
+{
+    text.iter().position(|byte| is_blank(*byte))
 }
 
 fn is_blank(byte: u8) -> bool

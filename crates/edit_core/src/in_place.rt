@@ -16,7 +16,7 @@ ghost use Rattle.toml.specs.Data.{Members};
 ghost use Rattle.toml.specs.View.{table_view, view};
 
 use crate::edit::Change;
-use crate::flows::is_between;
+use crate::flows::retain_others;
 use crate::summary::{Summary, summary_of};
 use crate::values::text_list;
 use flow_set::Flow;
@@ -224,10 +224,4 @@ fn remove(
     }
     retain_others(elements, from, to);
     true
-}
-
-fn retain_others(elements: &mut Vec<Value>, from: &str, to: &str)
-    ensures { map view elements.new.items ≡ filter (λ d. not (is_between from.now to.now d)) (map view elements.old.items) }
-{
-    elements.retain(|element| !is_between(element, from, to));
 }

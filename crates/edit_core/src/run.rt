@@ -1,9 +1,10 @@
 //! Edits one after another.
 
 ghost use Rattle.std.specs.Prelude.{◌≡◌, IfErr, IfOk, OnOk, Ok, map};
+ghost use Rattle.std.specs.Result.{result_map_both};
 ghost use Rattle.edit_core.specs.Edited.{after_edit};
 ghost use Rattle.edit_core.specs.inner.Kept.{table_of};
-ghost use Rattle.edit_core.specs.Runs.{AreSummaries, after_edits, next_edit};
+ghost use Rattle.edit_core.specs.Runs.{AreSummaries, after_edits};
 ghost use Rattle.edit_core.specs.inner.Runs.{IsCause};
 ghost use Rattle.edit_core.specs.Summaries.{IsSummary};
 ghost use Rattle.edit_core.specs.inner.EditView.{edit_view};
@@ -44,7 +45,7 @@ impl Session {
     fn step(&mut self, edit: &Edit) -> Result<Summary, EditRefusal>
         ensures table { OnOk result (after_edit (edit_view edit.now).change (table_of self.old) ≡ Ok (table_of self.new)) }
         ensures summary { IfOk result (IsSummary (table_of self.new)) }
-        ensures refused { IfErr result (IsCause (next_edit (edit_view edit.now).line (after_edit (edit_view edit.now).change (table_of self.old)) (λ table. Ok table))) }
+        ensures refused { IfErr result (IsCause (result_map_both (λ next. next) (λ fault. ((edit_view edit.now).line, fault)) (after_edit (edit_view edit.now).change (table_of self.old)))) }
     {
         match self.apply(edit) {
             Ok(summary) => Ok(summary),

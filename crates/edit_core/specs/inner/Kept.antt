@@ -9,6 +9,7 @@ use Rattle.desc_core.specs.Description.{described_by_table}
 use Rattle.desc_core.specs.declared.fault.DescFault.{DescFault}
 use Rattle.desc_core.specs.declared.fault.DescFault.TheVariants.{Refused, Memory}
 use Rattle.net_core.specs.Network.{Network}
+use Rattle.net_core.specs.Policies.{IsPolicyOf, Policy}
 use Rattle.toml.specs.Data.{Members, member, no_members}
 
 -- the keys with the values at them
@@ -35,3 +36,8 @@ IsDescription table = (d : Network) × (described_by_table table ≡ Ok d)
 abbrev pub Refuses : Members → DescFault → Type 0
 Refuses table (Refused refusal) = described_by_table table ≡ Err refusal
 Refuses table Memory = Unit {0}
+
+-- the network that it describes, and the policy of this network
+pub record IsKept (table : Members) (d : Network) (policy : Policy) : Type 0 where
+  pub described : described_by_table table ≡ Ok d
+  pub is_policy : IsPolicyOf d policy

@@ -1,4 +1,4 @@
--- Edits one after another.
+-- Which of several edits is refused.
 use Rattle.std.specs.Prelude.{◌≡◌, ℕ, Result, Err}
 use Rattle.edit_core.specs.declared.fault.EditFault.{EditFault}
 use Rattle.edit_core.specs.declared.run.EditRefusal.{EditRefusal}

@@ -1,8 +1,8 @@
--- What is told of a description after an edit, and what a session answers.
+-- What a session answers.
 use Rattle.std.specs.Prelude.{◌≡◌, Result, Ok, Err}
 use Rattle.desc_core.specs.declared.fault.DescFault.TheVariants as desc
 use Rattle.edit_core.specs.Edited.{after_edit}
-use Rattle.edit_core.specs.Kept.{IsKept}
+use Rattle.edit_core.specs.inner.Kept.{IsKept}
 use Rattle.edit_core.specs.declared.fault.EditFault.{EditFault}
 use Rattle.edit_core.specs.declared.fault.EditFault.TheVariants.{Memory}
 use Rattle.edit_core.specs.declared.summary.Summary.{Summary}

@@ -2,7 +2,7 @@ use Rattle.std.proofs.Common.{ap, ◌∙◌}
 use Rattle.toml.proofs.Views.{view-Array}
 use Rattle.toml.specs.View.{members_view}
 use Rattle.desc_core.specs.Migrated.{with_member}
-use Rattle.edit_core.proofs.CopyLemmas.{inserted}
+use Rattle.desc_core.proofs.MigrationLemmas.{inserted}
 use Rattle.edit_core.proofs.values.with_list.Goals as goal
 
 pub returns : goal.returns
