@@ -3,7 +3,7 @@ import random
 
 from descriptions import HOSTS, description, each, mixed_invariants, name, pairs
 
-EDITS, WALK_EDITS, SAME_EDITS = 10000, 1000, 100
+EDITS, WALK_EDITS, SAME_EDITS, ANEW_EDITS = 10000, 1000, 100, 20
 SPARSE, DENSE = 217, 8  # one of so many pairs of hosts is asked for: some 300 flows, and some 8,200
 EDGE_WISE = 8  # the first of the mixed invariants that judges flows alone
 
@@ -59,3 +59,19 @@ def flows_and_assigns(share):
 def same():
     """Each sets what is set, so that the description is read anew and stays as it is: the cost of from scratch."""
     return [f'set 1 {{ host = "{name(host)}", level = 7 }}' for host in list(each(id))[:SAME_EDITS]]
+
+
+def narrowed(share, invariants):
+    """The same flows in version 2, so that flows may have services."""
+    return description(asked(share), invariants, 2)
+
+
+def edits_anew(share, attribute):
+    """Edits for which the description is read anew, by what they change; `attribute` is what invariant 1 assigns."""
+    there = set(asked(share))
+    fresh = random.Random(share).sample([flow for flow in pairs(lambda i, j: True) if flow not in there], ANEW_EDITS // 2)
+    return {
+        'services': [line for a, b in fresh for line in (f'add {a} {b} tcp/80', f'remove {a} {b}')],
+        'set': [f'set 1 {{ host = "{name(host)}", {attribute} }}' for host in range(ANEW_EDITS)],
+        'unset': [f'unset 1 {name(host)}' for host in range(ANEW_EDITS)],
+    }
