@@ -23,10 +23,11 @@ use Rattle.desc_form.specs.declared.refusal.Why.TheVariants.{BadName, BadPrefix,
 use Rattle.desc_form.specs.FormConditions.{form_conditions}
 use Rattle.desc_form.specs.Written.{written, host_written, invariant_written, assign_written}
 use Rattle.desc_form.specs.WrittenHosts.{network_hosts}
-use Rattle.host_net.specs.Prefix.{prefix_of, address_of, is_exact, meets}
+use Rattle.host_net.specs.Prefix.{prefix_of, is_exact, meets, prefix_text, address_text, octet}
 use Rattle.table_core.specs.Keys.{all_suit, has_only_keys, lacks_key}
 use Rattle.table_core.specs.Tables.{has_only, has_key, text_at, integer_at, boolean_at, number_at, elements_of, list_at}
-use Rattle.text_core.specs.Decimal.{number, bounded_value}
+use Rattle.std.specs.Fmt.{digits}
+use Rattle.text_core.specs.Decimal.{number}
 use Rattle.desc_core.proofs.Worked.{Row, row}
 
 -- types and places, then limits, names, hosts, invariants
@@ -52,5 +53,5 @@ settled_rows =
     ∷ []
 
 pub settled : map (λ r. described_by_table r.document) settled_rows ≡ map (λ r. Err r.refusal) settled_rows
-unfolding has_only_keys lacks_key all_suit of_shape has_wrong_type first_place spots listed assigns_of has_only has_key text_at integer_at boolean_at number_at elements_of list_at flow_written written host_written invariant_written assign_written bad_version too_many bad_name duplicate_host bad_prefix host_bits no_address two_rests overlap all_entries used_names all_names unknown_template undeclared_host duplicate_assign bad_attribute self_flow duplicate_flow bad_service many_services network_of network_hosts asked_of services_in invariants_of known_of every_flow described_by_table table_conditions form_conditions host_conditions use_conditions prefix_of address_of number bounded_value is_exact meets template_named bad_of made_by blp_attribute bad_template not_lawful
+unfolding has_only_keys lacks_key all_suit of_shape has_wrong_type first_place spots listed assigns_of has_only has_key text_at integer_at boolean_at number_at elements_of list_at flow_written written host_written invariant_written assign_written bad_version too_many bad_name duplicate_host bad_prefix host_bits no_address two_rests overlap all_entries used_names all_names unknown_template undeclared_host duplicate_assign bad_attribute self_flow duplicate_flow bad_service many_services network_of network_hosts asked_of services_in invariants_of known_of every_flow described_by_table table_conditions form_conditions host_conditions use_conditions prefix_of octet address_text prefix_text number is_exact meets template_named bad_of made_by blp_attribute bad_template not_lawful digits
 settled = refl

@@ -29,10 +29,11 @@ use Rattle.desc_form.specs.declared.refusal.Why.TheVariants.{TooLong, BadAttribu
 use Rattle.desc_form.specs.FormConditions.{form_conditions}
 use Rattle.desc_form.specs.Written.{written, host_written, invariant_written, assign_written}
 use Rattle.desc_form.specs.WrittenHosts.{network_hosts}
-use Rattle.host_net.specs.Prefix.{prefix_of, prefix_with, address_of, is_exact, meets}
+use Rattle.host_net.specs.Prefix.{prefix_of, prefix_with, is_exact, meets, prefix_text, address_text, octet}
 use Rattle.table_core.specs.Keys.{all_suit, has_only_keys, lacks_key}
 use Rattle.table_core.specs.Tables.{has_only, has_key, text_at, integer_at, boolean_at, number_at, elements_of, list_at}
-use Rattle.text_core.specs.Decimal.{number, bounded_value}
+use Rattle.std.specs.Fmt.{digits}
+use Rattle.text_core.specs.Decimal.{number}
 
 -- a description, and what it is refused for
 pub record Row : Type 0 where
@@ -59,7 +60,7 @@ worked_rows =
     ∷ []
 
 pub worked : map (λ r. described_by_table r.document) worked_rows ≡ map (λ r. Err r.refusal) worked_rows
-unfolding has_only_keys lacks_key all_suit of_shape has_wrong_type first_place spots listed assigns_of has_only has_key text_at integer_at boolean_at number_at elements_of list_at flow_written written host_written invariant_written assign_written bad_version too_many bad_name duplicate_host bad_prefix host_bits no_address two_rests overlap all_entries used_names all_names unknown_template undeclared_host duplicate_assign bad_attribute self_flow duplicate_flow bad_service many_services network_of network_hosts asked_of services_in invariants_of known_of every_flow described_by_table table_conditions form_conditions host_conditions use_conditions prefix_of address_of number bounded_value is_exact meets template_named bad_of made_by blp_attribute bad_template not_lawful
+unfolding has_only_keys lacks_key all_suit of_shape has_wrong_type first_place spots listed assigns_of has_only has_key text_at integer_at boolean_at number_at elements_of list_at flow_written written host_written invariant_written assign_written bad_version too_many bad_name duplicate_host bad_prefix host_bits no_address two_rests overlap all_entries used_names all_names unknown_template undeclared_host duplicate_assign bad_attribute self_flow duplicate_flow bad_service many_services network_of network_hosts asked_of services_in invariants_of known_of every_flow described_by_table table_conditions form_conditions host_conditions use_conditions prefix_of octet address_text prefix_text number is_exact meets template_named bad_of made_by blp_attribute bad_template not_lawful digits
 worked = refl
 
 -- without a change it is accepted
@@ -74,7 +75,7 @@ pub accepted : described_by_table (of_flows a_to_b) ≡ Ok (record {
   answers = false;
   invariants = [];
 })
-unfolding has_only_keys lacks_key all_suit of_shape has_wrong_type first_place spots listed assigns_of has_only has_key text_at integer_at boolean_at number_at elements_of list_at flow_written written host_written invariant_written assign_written bad_version too_many bad_name duplicate_host bad_prefix host_bits no_address two_rests overlap all_entries used_names all_names unknown_template undeclared_host duplicate_assign bad_attribute self_flow duplicate_flow bad_service many_services network_of network_hosts asked_of services_in invariants_of known_of every_flow described_by_table table_conditions form_conditions host_conditions use_conditions prefix_of address_of number bounded_value is_exact meets template_named bad_of made_by blp_attribute bad_template not_lawful set_of
+unfolding has_only_keys lacks_key all_suit of_shape has_wrong_type first_place spots listed assigns_of has_only has_key text_at integer_at boolean_at number_at elements_of list_at flow_written written host_written invariant_written assign_written bad_version too_many bad_name duplicate_host bad_prefix host_bits no_address two_rests overlap all_entries used_names all_names unknown_template undeclared_host duplicate_assign bad_attribute self_flow duplicate_flow bad_service many_services network_of network_hosts asked_of services_in invariants_of known_of every_flow described_by_table table_conditions form_conditions host_conditions use_conditions prefix_of octet address_text prefix_text number is_exact meets template_named bad_of made_by blp_attribute bad_template not_lawful set_of digits
 accepted = refl
 
 -- whatever stands in it, a file of one byte more than the limit is too long

@@ -24,11 +24,12 @@ use Rattle.desc_form.specs.Mentions.{used_names, all_names}
 use Rattle.desc_form.specs.WrittenHosts.{network_hosts}
 use Rattle.flow_set.specs.EveryFlow.{every_flow}
 use Rattle.flow_set.specs.FlowSet.{set_of}
-use Rattle.host_net.specs.Prefix.{prefix_of, prefix_with, address_of, is_exact, meets}
-use Rattle.host_net.specs.ServiceText.{ports_of, service_of}
+use Rattle.host_net.specs.Prefix.{prefix_of, prefix_with, is_exact, meets, prefix_text, address_text, octet}
+use Rattle.host_net.specs.ServiceText.{service_of}
 use Rattle.table_core.specs.Keys.{all_suit, has_only_keys, lacks_key}
 use Rattle.table_core.specs.Tables.{has_only, has_key, text_at, integer_at, boolean_at, number_at, elements_of, list_at}
-use Rattle.text_core.specs.Decimal.{number, bounded_value}
+use Rattle.std.specs.Fmt.{digits}
+use Rattle.text_core.specs.Decimal.{number}
 
 -- a number with a zero in front; too many services, alone, and behind a text that says none; a repeated flow is told before both
 abbrev service_rows : List Row
@@ -47,7 +48,7 @@ service_rows =
     ∷ []
 
 pub services_refused : map (λ r. described_by_table r.document) service_rows ≡ map (λ r. Err r.refusal) service_rows
-unfolding has_only_keys lacks_key all_suit of_shape has_wrong_type first_place spots listed assigns_of has_only has_key text_at integer_at boolean_at number_at elements_of list_at flow_written written host_written invariant_written assign_written bad_version too_many bad_name duplicate_host bad_prefix host_bits no_address two_rests overlap all_entries used_names all_names unknown_template undeclared_host duplicate_assign bad_attribute self_flow duplicate_flow bad_service many_services network_of network_hosts asked_of services_in invariants_of known_of every_flow described_by_table table_conditions form_conditions host_conditions use_conditions prefix_of address_of number bounded_value is_exact meets template_named bad_of made_by blp_attribute bad_template not_lawful service_of ports_of
+unfolding has_only_keys lacks_key all_suit of_shape has_wrong_type first_place spots listed assigns_of has_only has_key text_at integer_at boolean_at number_at elements_of list_at flow_written written host_written invariant_written assign_written bad_version too_many bad_name duplicate_host bad_prefix host_bits no_address two_rests overlap all_entries used_names all_names unknown_template undeclared_host duplicate_assign bad_attribute self_flow duplicate_flow bad_service many_services network_of network_hosts asked_of services_in invariants_of known_of every_flow described_by_table table_conditions form_conditions host_conditions use_conditions prefix_of octet address_text prefix_text number is_exact meets template_named bad_of made_by blp_attribute bad_template not_lawful service_of digits
 services_refused = refl
 
 -- one flow is narrowed, the other is whole
@@ -66,5 +67,5 @@ pub services_accepted : described_by_table (of_narrowed_flows (flow (codes "b") 
   answers = false;
   invariants = [];
 })
-unfolding has_only_keys lacks_key all_suit of_shape has_wrong_type first_place spots listed assigns_of has_only has_key text_at integer_at boolean_at number_at elements_of list_at flow_written written host_written invariant_written assign_written bad_version too_many bad_name duplicate_host bad_prefix host_bits no_address two_rests overlap all_entries used_names all_names unknown_template undeclared_host duplicate_assign bad_attribute self_flow duplicate_flow bad_service many_services network_of network_hosts asked_of services_in invariants_of known_of every_flow described_by_table table_conditions form_conditions host_conditions use_conditions prefix_of address_of number bounded_value is_exact meets template_named bad_of made_by blp_attribute bad_template not_lawful set_of service_of ports_of
+unfolding has_only_keys lacks_key all_suit of_shape has_wrong_type first_place spots listed assigns_of has_only has_key text_at integer_at boolean_at number_at elements_of list_at flow_written written host_written invariant_written assign_written bad_version too_many bad_name duplicate_host bad_prefix host_bits no_address two_rests overlap all_entries used_names all_names unknown_template undeclared_host duplicate_assign bad_attribute self_flow duplicate_flow bad_service many_services network_of network_hosts asked_of services_in invariants_of known_of every_flow described_by_table table_conditions form_conditions host_conditions use_conditions prefix_of octet address_text prefix_text number is_exact meets template_named bad_of made_by blp_attribute bad_template not_lawful set_of service_of digits
 services_accepted = refl

@@ -2,7 +2,8 @@
 use Rattle.std.proofs.Common.{◌≡◌, ℕ, List, [], ◌∷◌, refl}
 use Rattle.std.specs.List.{AllByRecursion}
 use Rattle.std.specs.Prelude.{codes, not, Err}
-use Rattle.text_core.specs.Decimal.{number, bounded_value}
+use Rattle.std.specs.Fmt.{digits}
+use Rattle.text_core.specs.Decimal.{number}
 use Rattle.edit_core.specs.Behind.{behind_word}
 use Rattle.edit_core.specs.inner.ChangeSteps.{change_of}
 use Rattle.edit_core.specs.declared.text_fault.EditsWhy.{EditsWhy}
@@ -19,7 +20,7 @@ rows_of_words = (refl, (refl, (refl, (refl, (refl, tt)))))
 -- invariants count from 1, to 16, and no number has a leading zero; a word ends at a blank alone
 rows_of_numbers : AllByRecursion (IsRefusedFor BadValue)
     (codes "unset 0 a" ∷ codes "unset 17 a" ∷ codes "set 01 { host = \"a\" }" ∷ codes "set 1{ host = \"a\" } b" ∷ [])
-unfolding change_of number bounded_value
+unfolding change_of number digits
 rows_of_numbers = (refl, (refl, (refl, (refl, tt))))
 
 row_behind : behind_word (behind_word (codes " set  1 { } # c ")) ≡ codes " { } # c "

@@ -1,25 +1,26 @@
 -- Worked rows: lines of events, as they are read.
 use Rattle.std.proofs.Common.{◌≡◌, refl}
 use Rattle.std.specs.Prelude.{codes, Ok, Err}
-use Rattle.text_core.specs.Decimal.{number, bounded_value}
+use Rattle.std.specs.Fmt.{digits}
+use Rattle.text_core.specs.Decimal.{number}
 use Rattle.text_core.specs.Lines.{words}
-use Rattle.host_net.specs.Prefix.{address_of}
+use Rattle.host_net.specs.inner.PrefixSteps.{address_of}
 use Rattle.pkt_core.specs.declared.event.Event.TheVariants.{Seen, Forget}
 use Rattle.pkt_core.specs.declared.events.EventWhy.TheVariants.{BadLine, BadValue}
 use Rattle.pkt_core.specs.inner.EventSteps.{event_of, event_by, packet_of}
 
 -- a packet with a named protocol; ports stand as they are, also of `icmp`
 row_packet : event_of (words (codes "packet 8.8.8.8 10.1.0.10 icmp 3333 443")) ≡ Ok (Seen record { src = 134744072; dst = 167837706; proto = 1; sport = 3333; dport = 443 })
-unfolding event_of event_by packet_of address_of number bounded_value
+unfolding event_of event_by packet_of address_of number digits
 row_packet = refl
 
 row_forget : event_of (words (codes "forget 0.0.0.1 0.0.0.2 255 0 65535")) ≡ Ok (Forget record { src = 1; dst = 2; proto = 255; sport = 0; dport = 65535 })
-unfolding event_of event_by packet_of address_of number bounded_value
+unfolding event_of event_by packet_of address_of number digits
 row_forget = refl
 
 -- a bad line goes before every bad value
 row_verb : event_of (words (codes "drop x x x x x")) ≡ Err BadLine
-unfolding event_of event_by packet_of address_of number bounded_value
+unfolding event_of event_by packet_of address_of number digits
 row_verb = refl
 
 row_count : event_of (words (codes "packet x x x x")) ≡ Err BadLine
@@ -28,13 +29,13 @@ row_count = refl
 
 -- `esp` is no name here, an address takes no length, and no number has a leading zero
 row_esp : event_of (words (codes "packet 0.0.0.1 0.0.0.2 esp 1 2")) ≡ Err BadValue
-unfolding event_of event_by packet_of address_of number bounded_value
+unfolding event_of event_by packet_of address_of number digits
 row_esp = refl
 
 row_length : event_of (words (codes "packet 0.0.0.1/32 0.0.0.2 6 1 2")) ≡ Err BadValue
-unfolding event_of event_by packet_of address_of number bounded_value
+unfolding event_of event_by packet_of address_of number digits
 row_length = refl
 
 row_zero : event_of (words (codes "packet 0.0.0.1 0.0.0.2 06 1 2")) ≡ Err BadValue
-unfolding event_of event_by packet_of address_of number bounded_value
+unfolding event_of event_by packet_of address_of number digits
 row_zero = refl

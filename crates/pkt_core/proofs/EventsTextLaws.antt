@@ -10,7 +10,8 @@ use Rattle.text_core.proofs.DecimalLaws.{number-decimal, decimal_of_number, deci
 use Rattle.text_core.specs.Lines.{words}
 use Rattle.text_core.proofs.StepsLaws.{bind_some, if_parts, ok_or_parts, map_parts, bytes_same, bytes_apart}
 use Rattle.host_net.specs.declared.packet.Packet.{Packet}
-use Rattle.host_net.specs.Prefix.{address_of, address_text}
+use Rattle.host_net.specs.Prefix.{address_text}
+use Rattle.host_net.specs.inner.PrefixSteps.{address_of}
 use Rattle.host_net.specs.ServiceText.{protocol_text}
 use Rattle.host_net.proofs.PrefixTextLaws.{address_of-address_text, address_text-address_of}
 use Rattle.pkt_core.specs.declared.event.Event.{Event}

@@ -1,7 +1,8 @@
 -- The forms of the command line word by word, some words that are none of them, and the usage.
 use Rattle.std.proofs.Common.{◌≡◌, ℕ, List, [], ◌∷◌, ◌++◌, None, Some, refl}
 use Rattle.std.specs.Prelude.{codes}
-use Rattle.text_core.specs.Decimal.{bounded_value, number}
+use Rattle.std.specs.Fmt.{digits}
+use Rattle.text_core.specs.Decimal.{number}
 use Rattle.topos_top.specs.Ask.{Check, Policy, Rules, Repair, Trace, Sample, Migrate, Audit, Edit, Local, ask_of, usage_text}
 use Rattle.topos_top.specs.declared.dialect.Dialect.TheVariants.{Iptables, OpenFlow}
 
@@ -31,7 +32,7 @@ unfolding ask_of
 trace_words rules events = refl
 
 sample_words : ask_of (codes "sample" ∷ codes "256" ∷ []) ≡ Some (Sample 256)
-unfolding ask_of number bounded_value
+unfolding ask_of number digits
 sample_words = refl
 
 migrate_words : (file : List ℕ) → ask_of (codes "migrate" ∷ file ∷ []) ≡ Some (Migrate file)
@@ -52,19 +53,19 @@ local_words file host = refl
 
 -- no host, more than there may be, a zero in front, no number, a word too many
 no_hosts : ask_of (codes "sample" ∷ codes "0" ∷ []) ≡ None
-unfolding ask_of number bounded_value
+unfolding ask_of number digits
 no_hosts = refl
 
 many_hosts : ask_of (codes "sample" ∷ codes "257" ∷ []) ≡ None
-unfolding ask_of number bounded_value
+unfolding ask_of number digits
 many_hosts = refl
 
 padded_hosts : ask_of (codes "sample" ∷ codes "01" ∷ []) ≡ None
-unfolding ask_of number
+unfolding ask_of number digits
 padded_hosts = refl
 
 word_for_hosts : ask_of (codes "sample" ∷ codes "x" ∷ []) ≡ None
-unfolding ask_of number bounded_value
+unfolding ask_of number digits
 word_for_hosts = refl
 
 sample_alone : ask_of (codes "sample" ∷ []) ≡ None
@@ -72,7 +73,7 @@ unfolding ask_of
 sample_alone = refl
 
 sample_of_file : (file : List ℕ) → ask_of (codes "sample" ∷ codes "8" ∷ file ∷ []) ≡ None
-unfolding ask_of number bounded_value
+unfolding ask_of number digits
 sample_of_file file = refl
 
 -- rules of another dialect, a word too few, a word too many
