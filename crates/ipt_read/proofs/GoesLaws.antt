@@ -10,7 +10,7 @@ use Rattle.ipt_rules.specs.declared.rule.Target.{Target}
 use Rattle.ipt_rules.specs.declared.rule.Target.TheVariants.{Accept, Drop, Reject, Return, Count, Jump}
 use Rattle.ipt_rules.specs.inner.Build.{jumps_nowhere, first_unknown, refusal_of, RefusedFor, at_once}
 use Rattle.ipt_rules.specs.declared.ruleset.BuildRefusal.TheVariants.{TooMany, UnknownChain}
-use Rattle.ipt_rules.specs.Chain.{Chain, number_of, user_chain, changed_at, with_policy, with_rule}
+use Rattle.ipt_rules.specs.Chain.{Chain, user_chain, changed_at, with_policy, with_rule}
 use Rattle.ipt_rules.specs.ChainTable.{rule_count}
 use Rattle.ipt_read.specs.Options.{Given, nothing_given, named_target}
 use Rattle.ipt_read.specs.Grammar.{IsValue, source, destination, protocol, source_port, destination_port, ct_states, states, comment, conntrack_module, state_module, comment_module, own_module, target, jump, reject_with, log_prefix, log_level, IsPiece, plain, turned, ArePieces, none_left, one_more, IsRuleLine}

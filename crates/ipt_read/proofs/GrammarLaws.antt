@@ -32,11 +32,6 @@ use Rattle.ipt_read.specs.Grammar.{IsValue, source, destination, protocol, sourc
 
 -- 1. Texts.
 
-abbrev OpensText : List ℕ → Place → Type 0
-OpensText w AtOption = IsText (w ∷ [])
-OpensText w InText = (ws : List (List ℕ)) → IsRestOfText ws → IsText (w ∷ ws)
-OpensText w _ = ⊥
-
 quote_is : (b : ℕ) → (b == 34) ≡ true → b ≡ 34
 quote_is b h = grind (arith, nat_tests)
 

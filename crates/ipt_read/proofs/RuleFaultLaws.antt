@@ -1,5 +1,5 @@
 -- Why words are no rule line, said in the format's words, is what the steps find.
-use Rattle.std.proofs.Common.{◌≡◌, ◌≢◌, ◌⊎◌, inl, inr, ℕ, Bool, true, false, not, ◌&&◌, ◌||◌, List, [], ◌∷◌, ◌++◌, Option, Some, None, refl, sym, ap, subst, ◌∙◌, append_assoc}
+use Rattle.std.proofs.Common.{◌≡◌, ◌≢◌, ◌⊎◌, inl, inr, ℕ, Bool, true, false, not, List, [], ◌∷◌, ◌++◌, Option, Some, None, refl, sym, ap, subst, ◌∙◌, append_assoc}
 use Rattle.std.specs.Prelude.{Result, Ok, Err, codes, is_none}
 use Rattle.std.specs.Option.{option_map, ok_or}
 use Rattle.text_core.proofs.StepsLaws.{if_parts, split_bool}
@@ -218,10 +218,6 @@ at_refusal chains given InText w ws why h = by_place (quoted false w) refl h
     by_place (Some place) is e = cc
 
 -- a word that is read, in front of those that get stuck
-piece_lost : (chains : List Chain) (given now : Given) (piece rest : List (List ℕ)) (why : IptWhy) → ArePieces chains given piece now → LostAt chains now rest why → ((read : List (List ℕ)) (last : Given) → ArePieces chains now read last → ArePieces chains given (piece ++ read) last) → LostAt chains given (piece ++ rest) why
-piece_lost chains given now piece rest why is lost more =
-    (piece ++ lost.0, lost.1, lost.2, ap (λ vs. piece ++ vs) lost.3 ∙ sym (append_assoc piece lost.0 lost.1), more lost.0 lost.2 lost.4, lost.5)
-
 option_lost : (chains : List Chain) (given : Given) (o : Opt) (w : List ℕ) (ws : List (List ℕ)) (why : IptWhy) → option_of w ≡ Some o → StandsBy given false o → (given.target ≡ None → w ≢ codes "!") → Lost chains given (AtValue o false) ws why → LostAt chains given (w ∷ ws) why
 option_lost chains given o w ws why named stands bare (inl (value, rest, now, cut, is, lost)) =
     (w ∷ (value ++ lost.0), lost.1, lost.2, ap (λ vs. w ∷ vs) (cut ∙ ap (λ vs. value ++ vs) lost.3 ∙ sym (append_assoc value lost.0 lost.1)), one_more (plain_by named stands is) lost.4, lost.5)

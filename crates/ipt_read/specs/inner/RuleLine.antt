@@ -1,6 +1,6 @@
 -- A rule line, word by word: what each word gives, or why it cannot stand there. The first such word refuses the line.
 -- Callers see none of it; they have `Grammar` and `LineFault`.
-use Rattle.std.specs.Prelude.{ℕ, Bool, true, false, ◌&&◌, ◌||◌, not, if◌then◌else◌, List, [], ◌∷◌, Option, Some, None, Result, Ok, Err, is_some, codes, bytes_eq}
+use Rattle.std.specs.Prelude.{ℕ, Bool, true, false, ◌&&◌, not, if◌then◌else◌, List, [], ◌∷◌, Option, Some, None, Result, Ok, Err, is_some, codes, bytes_eq}
 use Rattle.std.specs.Option.{option_map, ok_or}
 use Rattle.text_core.specs.Lines.{begins_with}
 use Rattle.ipt_rules.specs.declared.rule.Rule.{Rule}

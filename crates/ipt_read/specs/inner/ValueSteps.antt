@@ -1,7 +1,7 @@
 -- What the values of options say, word by word as the reader reads them. Callers see none of it; they have `Grammar`.
 use Rattle.std.specs.Prelude.{ℕ, Bool, true, false, ◌==◌, if◌then◌else◌, List, [], ◌∷◌, Option, Some, None, codes, bytes_eq}
 use Rattle.std.specs.Option.{option_map}
-use Rattle.std.specs.List.{list_all, list_any, slice_split}
+use Rattle.std.specs.List.{list_all, list_any}
 use Rattle.host_net.specs.Prefix.{prefix_of}
 use Rattle.host_net.specs.declared.prefix.Prefix.{Prefix}
 use Rattle.ipt_rules.specs.declared.rule.AddrMatch.{AddrMatch}
