@@ -1,4 +1,4 @@
--- The report of `policy` (docs/FORMATS.md): for each flow between two hosts what becomes of it, and why.
+-- The report of `policy` (docs/TEXTS.md): for each flow between two hosts what becomes of it, and why.
 use Rattle.std.specs.Prelude.{◌≡◌, ◌⊎◌, ◌↔◌, ℕ, ◌+◌, List, [], ◌++◌, flat_map, length, slice_get, codes, IsTrue, IsFalse}
 use Rattle.std.specs.List.{AllZip, zip}
 use Rattle.std.specs.Option.{option_map_or}

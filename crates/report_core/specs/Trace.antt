@@ -1,4 +1,4 @@
--- The printed text of a run: what becomes of each event, by its number from 1 (docs/FORMATS.md).
+-- The printed text of a run: what becomes of each event, by its number from 1 (docs/TEXTS.md).
 use Rattle.std.specs.Prelude.{◌≡◌, ℕ, Bool, true, false, List, ◌++◌, flat_map, Option, Some, None, codes, decimal}
 use Rattle.text_core.specs.Firsts.{Numbered, numbered}
 use Rattle.pkt_core.specs.declared.event.Event.{Event}

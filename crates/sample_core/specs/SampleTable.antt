@@ -1,4 +1,4 @@
--- The description of the sample as a TOML table (docs/FORMATS.md): n hosts, a level for each, and every eighth host in care.
+-- The description of the sample as a TOML table (docs/TEXTS.md): n hosts, a level for each, and every eighth host in care.
 use Rattle.std.specs.Prelude.{ℕ, pos, ◌%◌, ◌==◌, List, ◌++◌, map, filter, codes, decimal}
 use Rattle.std.specs.List.{range_with_len}
 use Rattle.toml.specs.Data.{Data, string, integer, array, table, Items, no_items, item, Members, no_members, member}
