@@ -96,11 +96,7 @@ fn with_assigns(
 {
     let changed = invariant_with(alloc, invariant, assigns)?;
     let mut invariants = copy_values(alloc, invariants_of(document))?;
-    put_at(
-        &mut invariants,
-        number.saturating_sub(1) as usize,
-        changed,
-    );
+    put_at(&mut invariants, number.saturating_sub(1) as usize, changed);
     with_list(alloc, document, "invariant", invariants)
 }
 

@@ -44,7 +44,12 @@ pub(crate) fn remove_from(
 }
 
 /// A copy of each value that is not the flow between the two hosts, if one is.
-fn other_flows(alloc: Global, listed: &[Value], from: &str, to: &str) -> Result<Vec<Value>, EditFault>
+fn other_flows(
+    alloc: Global,
+    listed: &[Value],
+    from: &str,
+    to: &str,
+) -> Result<Vec<Value>, EditFault>
     ensures { Gives (others (is_between from.now to.now) (map view listed.now)) (result_map_both (λ values. map view values.items) (λ fault. fault) result) }
 {
     let mut flows = copy_values(alloc, listed)?;
