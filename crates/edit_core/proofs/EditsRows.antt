@@ -1,7 +1,7 @@
 -- Worked rows: lines of edits that are refused, and what stands behind words.
 use Rattle.std.proofs.Common.{◌≡◌, ℕ, List, [], ◌∷◌, refl}
 use Rattle.std.specs.List.{AllByRecursion}
-use Rattle.std.specs.Prelude.{codes, not, Err}
+use Rattle.std.specs.Prelude.{codes, Err}
 use Rattle.std.specs.Fmt.{digits}
 use Rattle.text_core.specs.Decimal.{number}
 use Rattle.edit_core.specs.Behind.{behind_word}

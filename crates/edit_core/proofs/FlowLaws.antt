@@ -1,5 +1,5 @@
 -- A table whose flows are edited describes the network that it described, with one flow more or less.
-use Rattle.std.proofs.Common.{◌≡◌, ◌≢◌, ◌⊎◌, inl, inr, ℕ, ℤ, pos, ◌≤◌, Bool, true, false, not, ◌&&◌, List, [], ◌∷◌, ◌++◌, length, codes, filter, Option, Some, Ok, Err, is_some, refl, sym, ap, subst, ◌∙◌}
+use Rattle.std.proofs.Common.{◌≡◌, ◌≢◌, ◌⊎◌, inl, inr, ℕ, ℤ, pos, ◌≤◌, Bool, true, not, ◌&&◌, List, [], ◌∷◌, ◌++◌, length, codes, filter, Option, Some, Ok, Err, is_some, refl, sym, ap, subst, ◌∙◌}
 use Rattle.std.proofs.lemmas.Bool.{or_cases}
 use Rattle.std.proofs.lemmas.Bool.Decides.{Decides-int_eq}
 use Rattle.std.proofs.lemmas.List.Elements.{All-filter, All-head, All-push, All-tail}
@@ -8,7 +8,7 @@ use Rattle.std.proofs.lemmas.List.Quantifiers.{all_pairs_push}
 use Rattle.std.proofs.lemmas.Slice.Eq.{bytes_eq-Decides}
 use Rattle.std.specs.List.{All, list_any}
 use Rattle.std.specs.Option.{ok_or}
-use Rattle.std.specs.Prelude.{IsFalse, IsTrue, if◌then◌else◌, slice_get}
+use Rattle.std.specs.Prelude.{IsFalse, IsTrue, if◌then◌else◌}
 use Rattle.std.specs.Str.{bytes_eq}
 use Rattle.toml.specs.Data.{Data, Members, get_member}
 use Rattle.desc_core.proofs.KnownLaws.{each_is, is_host}
@@ -33,20 +33,17 @@ use Rattle.edit_core.specs.inner.FlowEdits.{IsAskedFlow, IsRightFlow, asking_les
 use Rattle.edit_core.specs.declared.fault.EditFault.TheVariants.{Absent, NoPolicy}
 use Rattle.edit_core.proofs.SessionLemmas.{said_of}
 use Rattle.edit_core.specs.Edit.{Add, Remove}
-use Rattle.flow_set.specs.Flow.{IsFlow, same_flow}
+use Rattle.flow_set.specs.Flow.{same_flow}
 use Rattle.flow_set.specs.laws.FlowLaws.{IsOrdered-without_flow, flows_ext, has-without_flow}
 use Rattle.flow_set.specs.FlowSet.{IsOrdered, has, set_of, with_flow}
 use Rattle.flow_set.specs.inner.FlowSetView.{without_flow}
 use Rattle.flow_set.proofs.ListedLaws.{IsFlowSet-set_of, has-set_of}
 use Rattle.flow_set.specs.declared.flow.Flow.{Flow}
 use Rattle.host_net.specs.Host.{Host, host_named}
-use Rattle.host_net.proofs.NamedLaws.{host_named_within}
 use Rattle.host_net.specs.Services.{NarrowedFlow, service_limit, services_of}
 use Rattle.host_net.specs.ServiceText.{service_of}
 use Rattle.host_net.specs.declared.service.Service.{Service}
-use Rattle.net_core.specs.inner.Fitting.{IsNetwork}
 use Rattle.net_core.specs.Network.{Network}
-use Rattle.net_core.specs.Policies.{IsPolicyOf, IsStatefulBy, Policy}
 use Rattle.table_core.specs.Listing.{each}
 use Rattle.table_core.specs.Tables.{integer_at, list_at}
 use Rattle.text_core.specs.Name.{is_name}

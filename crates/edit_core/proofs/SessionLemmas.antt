@@ -7,7 +7,6 @@ use Rattle.std.specs.declared.alloc.Global.{Global}
 use Rattle.desc_core.proofs.DescribeLemmas.{table_read, table_refused}
 use Rattle.desc_core.proofs.MigrationLemmas.{read_document}
 use Rattle.desc_core.specs.Description.{described, described_by_table}
-use Rattle.desc_core.specs.Document.{document}
 use Rattle.desc_core.specs.inner.Parts.{table_of as table_of_bytes}
 use Rattle.desc_core.specs.inner.Reads.{Reads}
 use Rattle.desc_core.specs.declared.fault.DescFault.{DescFault}

@@ -1,5 +1,5 @@
 -- A table whose value at a key is changed where it stands.
-use Rattle.std.proofs.Common.{◌≡◌, ℕ, Bool, true, false, cond, MutBor, Vec, List, [], ◌∷◌, ◌++◌, map, filter, Option, Some, None, option_map, String, Global, string_bytes, codes, Ordering, Less, Equal, Greater, nat_cmp, refl, sym, ap, ◌∙◌}
+use Rattle.std.proofs.Common.{◌≡◌, ℕ, Bool, true, false, cond, MutBor, Vec, List, [], ◌∷◌, map, filter, Option, Some, None, option_map, String, Global, string_bytes, codes, Ordering, Less, Equal, Greater, nat_cmp, refl, sym, ap, ◌∙◌}
 use Rattle.std.proofs.lemmas.Cmp.{nat_list_cmp_total}
 use Rattle.std.proofs.lemmas.Map.Steps.{set_value_same}
 use Rattle.std.specs.BTreeMap.{BTreeMap, get_by, is_at}

@@ -1,6 +1,5 @@
 -- What a session answers.
 use Rattle.std.specs.Prelude.{◌≡◌, Result, Ok, Err}
-use Rattle.desc_core.specs.declared.fault.DescFault.TheVariants as desc
 use Rattle.edit_core.specs.Edited.{after_edit}
 use Rattle.edit_core.specs.inner.Kept.{IsKept}
 use Rattle.edit_core.specs.declared.fault.EditFault.{EditFault}
