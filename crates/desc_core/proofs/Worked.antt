@@ -33,7 +33,7 @@ use Rattle.host_net.specs.Prefix.{prefix_of, prefix_with, is_exact, meets, prefi
 use Rattle.table_core.specs.Keys.{all_suit, has_only_keys, lacks_key}
 use Rattle.table_core.specs.Tables.{has_only, has_key, text_at, integer_at, boolean_at, number_at, elements_of, list_at}
 use Rattle.std.specs.Fmt.{digits}
-use Rattle.text_core.specs.Decimal.{number}
+use Rattle.text_core.specs.inner.Decimal.{number}
 
 -- a description, and what it is refused for
 pub record Row : Type 0 where

@@ -29,7 +29,7 @@ use Rattle.host_net.specs.ServiceText.{service_of}
 use Rattle.table_core.specs.Keys.{all_suit, has_only_keys, lacks_key}
 use Rattle.table_core.specs.Tables.{has_only, has_key, text_at, integer_at, boolean_at, number_at, elements_of, list_at}
 use Rattle.std.specs.Fmt.{digits}
-use Rattle.text_core.specs.Decimal.{number}
+use Rattle.text_core.specs.inner.Decimal.{number}
 
 -- a number with a zero in front; too many services, alone, and behind a text that says none; a repeated flow is told before both
 abbrev service_rows : List Row

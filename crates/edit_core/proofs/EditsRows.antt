@@ -3,7 +3,7 @@ use Rattle.std.proofs.Common.{◌≡◌, ℕ, List, [], ◌∷◌, refl}
 use Rattle.std.specs.List.{AllByRecursion}
 use Rattle.std.specs.Prelude.{codes, Err}
 use Rattle.std.specs.Fmt.{digits}
-use Rattle.text_core.specs.Decimal.{number}
+use Rattle.text_core.specs.inner.Decimal.{number}
 use Rattle.edit_core.specs.Behind.{behind_word}
 use Rattle.edit_core.specs.inner.ChangeSteps.{change_of}
 use Rattle.edit_core.specs.declared.text_fault.EditsWhy.{EditsWhy}

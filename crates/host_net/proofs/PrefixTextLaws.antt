@@ -8,7 +8,8 @@ use Rattle.std.proofs.lemmas.Bool.{and_parts, or_cases}
 use Rattle.std.proofs.lemmas.Bool.Decides.{nat_tests}
 use Rattle.std.proofs.lemmas.Nat.{shr-shr}
 use Rattle.std.proofs.lemmas.Fmt.{length-decimal-le}
-use Rattle.text_core.specs.Decimal.{number, numbers_in}
+use Rattle.text_core.specs.inner.Decimal.{number}
+use Rattle.text_core.specs.Decimal.{numbers_in}
 use Rattle.text_core.proofs.DecimalLaws.{number-decimal, decimal_of_number, decimal_lacks}
 use Rattle.text_core.proofs.NumbersLaws.{numbers_in-decimal, numbers_in-append}
 use Rattle.text_core.specs.Firsts.{where_holds}

@@ -2,7 +2,7 @@
 use Rattle.std.proofs.Common.{◌≡◌, true, false, List, [], ◌∷◌, ◌++◌, ℕ, Some, None, map, refl}
 use Rattle.std.specs.Prelude.{codes, Result, Ok, Err}
 use Rattle.std.specs.Fmt.{digits}
-use Rattle.text_core.specs.Decimal.{number}
+use Rattle.text_core.specs.inner.Decimal.{number}
 use Rattle.text_core.specs.Lines.{words}
 use Rattle.host_net.specs.Prefix.{prefix_of, prefix_with, prefix_text, address_text, octet}
 use Rattle.ipt_rules.specs.declared.rule.Rule.{Rule}

@@ -3,7 +3,7 @@ use Rattle.std.proofs.Common.{◌≡◌, ℕ, List, [], ◌∷◌, ◌++◌, Som
 use Rattle.std.specs.Prelude.{codes, Result, Ok, Err, ◌+◌, if◌then◌else◌}
 use Rattle.std.specs.List.{flat_map}
 use Rattle.std.specs.Fmt.{digits}
-use Rattle.text_core.specs.Decimal.{number}
+use Rattle.text_core.specs.inner.Decimal.{number}
 use Rattle.text_core.specs.Lines.{lines, is_comment}
 use Rattle.host_net.specs.Prefix.{prefix_of, prefix_with, prefix_text, address_text, octet}
 use Rattle.ipt_rules.specs.declared.rule.AddrMatch.{AddrMatch}

@@ -1,7 +1,7 @@
 //! Reading the values of the options of protocols and ports.
 
 ghost use Rattle.std.specs.Prelude.{◌≡◌, Some, None, if◌then◌else◌, nat_le};
-ghost use Rattle.text_core.specs.Decimal.{number};
+ghost use Rattle.text_core.specs.inner.Decimal.{number};
 ghost use Rattle.host_net.specs.Service.{last_port};
 ghost use Rattle.ipt_read.specs.inner.ServiceSteps.{asked_ports, asked_protocol, if_positive, named_protocol, port_or, ports_between};
 

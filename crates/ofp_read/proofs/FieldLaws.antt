@@ -2,7 +2,7 @@
 use Rattle.std.proofs.Common.{◌≡◌, ℕ, ◌+◌, ◌<◌, ◌^◌, true, false, ◌||◌, List, [], ◌∷◌, ◌++◌, Option, Some, None, is_some, refl, sym, ap, subst, ◌∙◌, arith, inl, inr}
 use Rattle.std.specs.Prelude.{Ok, Err, codes, decimal, bytes_eq, if◌then◌else◌}
 use Rattle.std.specs.Option.{option_map, ok_or}
-use Rattle.text_core.specs.Decimal.{number}
+use Rattle.text_core.specs.inner.Decimal.{number}
 use Rattle.text_core.proofs.DecimalLaws.{number-decimal, decimal_of_number}
 use Rattle.text_core.proofs.StepsLaws.{if_parts, map_parts, ok_or_parts, bytes_same}
 use Rattle.host_net.specs.declared.prefix.Prefix.{Prefix}

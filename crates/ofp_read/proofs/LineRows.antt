@@ -2,7 +2,7 @@
 use Rattle.std.proofs.Common.{◌≡◌, ℕ, false, List, [], ◌∷◌, Some, None, map, refl}
 use Rattle.std.specs.Prelude.{Ok, Err, codes}
 use Rattle.std.specs.Fmt.{digits}
-use Rattle.text_core.specs.Decimal.{number}
+use Rattle.text_core.specs.inner.Decimal.{number}
 use Rattle.text_core.specs.Lines.{is_comment}
 use Rattle.host_net.specs.Prefix.{prefix_of, prefix_text, address_text, octet}
 use Rattle.ofp_rules.specs.declared.entry.FrameKind.TheVariants.{Any, Ip}

@@ -2,7 +2,7 @@
 use Rattle.std.proofs.Common.{◌≡◌, refl}
 use Rattle.std.specs.Prelude.{codes, Ok, Err}
 use Rattle.std.specs.Fmt.{digits}
-use Rattle.text_core.specs.Decimal.{number}
+use Rattle.text_core.specs.inner.Decimal.{number}
 use Rattle.text_core.specs.Lines.{words}
 use Rattle.host_net.specs.inner.PrefixSteps.{address_of}
 use Rattle.pkt_core.specs.declared.event.Event.TheVariants.{Seen, Forget}

@@ -7,7 +7,7 @@ use Rattle.std.specs.Fmt.{decimal}
 use Rattle.std.specs.Str.{all_ascii_digits}
 use Rattle.std.proofs.lemmas.Bool.{cases_lt}
 use Rattle.std.proofs.lemmas.Fmt.{decimal_digit, decimal_nonempty, first_decimal, digits_decimal, digits_value-decimal, decimal-digits_value}
-use Rattle.text_core.specs.Decimal.{number}
+use Rattle.text_core.specs.inner.Decimal.{number}
 use Rattle.text_core.specs.inner.DecimalSteps.{value_from, bounded_value, is_empty_or_padded}
 use Rattle.text_core.proofs.DecimalLaws.{own, number-decimal, decimal_of_number}
 use Rattle.text_core.proofs.StepsLaws.{same_options}

@@ -1,3 +1,4 @@
+pub mod Decimal
 pub mod DecimalSteps
 pub mod FirstsView
 pub mod Line

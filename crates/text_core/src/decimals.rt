@@ -1,7 +1,7 @@
 //! Reading decimal numbers: digits alone, no sign, no leading zero.
 
 ghost use Rattle.std.specs.Prelude.{◌≡◌, ℕ, ◌≤◌, Some, IfSome, decimal};
-ghost use Rattle.text_core.specs.Decimal.{number};
+ghost use Rattle.text_core.specs.inner.Decimal.{number};
 ghost use Rattle.text_core.specs.inner.DecimalSteps.{bounded_value, is_empty_or_padded};
 
 /// The number that the whole text says, or None where the text is no number or says more than

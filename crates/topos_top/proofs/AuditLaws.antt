@@ -2,16 +2,17 @@
 use Rattle.std.proofs.Common.{◌≡◌, ◌↔◌, inl, inr, ℕ, zero, suc, List, [], ◌∷◌, ◌++◌, Option, Some, None, Bool, true, refl, sym, subst, ◌∙◌, ap, arith}
 use Rattle.audit_core.specs.laws.FindingLaws.{trace_packets}
 use Rattle.audit_core.specs.inner.FindingOnce.{finding_once}
-use Rattle.audit_core.specs.Findings.{DifferSomewhere, events_of, trace_of}
+use Rattle.audit_core.specs.Cuts.{cuts_between}
+use Rattle.audit_core.specs.Findings.{DifferSomewhere, IsFirstTrace, events_of, trace_of}
 use Rattle.audit_core.specs.inner.Findings.{IsFinding, IsRefused}
-use Rattle.audit_core.specs.FindingText.{classes_line}
+use Rattle.audit_core.specs.FindingText.{classes_line, trace_text}
 use Rattle.audit_core.specs.inner.FindingText.{finding_text}
 use Rattle.audit_core.specs.laws.ListLaws.{agree_not_differ}
 use Rattle.audit_core.specs.Lists.{front_of}
-use Rattle.audit_core.specs.Places.{class_count}
-use Rattle.audit_core.specs.Rules.{Rules, filter_of}
+use Rattle.audit_core.specs.Places.{class_count, leasts_of}
+use Rattle.audit_core.specs.Rules.{Chains, Entries, Rules, filter_of}
 use Rattle.audit_core.specs.inner.Rules.{GivesOne}
-use Rattle.audit_core.specs.Sides.{Sides, lets_answer, permits}
+use Rattle.audit_core.specs.Sides.{Sides, lets_answer, permits, sides_of}
 use Rattle.audit_core.specs.inner.Sides.{AgreeAlways}
 use Rattle.audit_core.specs.declared.finding.AuditRefusal.TheVariants.{TooManyClasses}
 use Rattle.audit_core.specs.declared.finding.Finding.TheVariants.{Equal, Differ as Differing}
@@ -19,27 +20,29 @@ use Rattle.audit_core.specs.declared.finding.Trace.{Trace}
 use Rattle.audit_core.specs.declared.kind.Kind.{Kind}
 use Rattle.audit_core.specs.declared.kind.Kind.TheVariants.{Alone, BehindSwap, BehindBoth}
 use Rattle.host_net.specs.declared.packet.Packet.{Packet}
+use Rattle.ipt_rules.specs.Chain.{Chain}
 use Rattle.net_core.specs.inner.Fitting.{IsNetwork}
-use Rattle.net_core.specs.Network.{Network}
+use Rattle.net_core.specs.Network.{Network, site_of}
 use Rattle.net_core.specs.Policies.{IsPolicyOf, Policy}
-use Rattle.net_core.proofs.PolicyLaws.{policy_is_one}
+use Rattle.ofp_rules.specs.declared.entry.Entry.{Entry}
 use Rattle.pkt_core.specs.declared.event.Event.{Event}
 use Rattle.pkt_core.specs.declared.event.Event.TheVariants.{Forget, Seen}
 use Rattle.pkt_core.proofs.ExpectedLaws.{expected_once}
 use Rattle.pkt_core.specs.Filter.{ArePackets}
 use Rattle.pkt_core.specs.Firewall.{Filter}
 use Rattle.pkt_core.specs.Tracking.{Kept, Runs, after_forget, after_seen, nothing_kept, state_of}
-use Rattle.topos_top.specs.Audit.{FewClasses, ForwardAlike, ManyClasses, OfSides, TellsDifference, TellsTrace, audit_job, rules_in, sides_for}
+use Rattle.topos_top.specs.Audit.{FewClasses, ForwardAlike, HasManyClasses, OfSides, TellsDifference, audit_job, rules_in}
 use Rattle.topos_top.specs.Dialects.{language_of}
 use Rattle.topos_top.specs.Job.{Answers}
-use Rattle.topos_top.specs.Reply.{Reply, error, reply_on}
-use Rattle.topos_top.specs.Rules.{CanBeWritten, IsRules}
+use Rattle.topos_top.specs.Reply.{Reply, error}
+use Rattle.topos_top.specs.inner.Views.{reply_on}
+use Rattle.topos_top.specs.Rules.{IsRules, OfPolicy}
 use Rattle.topos_top.specs.declared.dialect.Dialect.{Dialect}
 use Rattle.topos_top.specs.declared.dialect.Dialect.TheVariants.{Iptables, OpenFlow}
 use Rattle.topos_top.specs.declared.status.Status.TheVariants.{Violated, NotEmittable, Done}
 use Rattle.topos_top.specs.declared.status.Stream.TheVariants.{Output}
 use Rattle.topos_top.proofs.DialectLaws.{keeps_policies}
-use Rattle.topos_top.proofs.RulesLaws.{rules_keep}
+use Rattle.topos_top.proofs.RulesLaws.{moved as same_policy, rules_keep}
 
 -- ---- agreement
 
@@ -69,8 +72,8 @@ never_differ sides alike differ =
     agree_not_differ (filter_of sides.rules) (permits sides) (lets_answer sides) differ.0
     (λ answers run. alike.expected differ.0 answers differ.1 run) differ.2
 
-few_not_many : (sides : Sides) → FewClasses sides → ManyClasses sides → ⊥
-few_not_many sides few many = omega (arith, few, many)
+few_not_many : (sides : Sides) (line : List ℕ) → FewClasses sides → HasManyClasses sides line → ⊥
+few_not_many sides line few many = omega (arith, few, many.0)
 
 -- ---- what is told of a difference
 
@@ -79,18 +82,17 @@ trace_events Alone p forwards = refl
 trace_events BehindSwap p forwards = refl
 trace_events BehindBoth p forwards = refl
 
-tells_difference : (sides : Sides) (text : List ℕ) → TellsTrace sides text → TellsDifference sides text
-tells_difference sides text is =
-    let first = is.first in
-    record {
-      trace = is.trace;
-      told = is.told;
-      before = front_of first.kind first.packet;
-      last = first.packet;
-      events = ap events_of first.is ∙ trace_events first.kind first.packet is.trace.forwards;
-      packets = subst (λ (t : Trace). ArePackets (events_of t)) (sym first.is) (trace_packets first.kind first.packet is.trace.forwards first.first.packet);
-      differ = first.first.differ;
-    }
+tells_difference : (sides : Sides) (t : Trace) → IsFirstTrace sides (leasts_of (cuts_between sides)) t → TellsDifference sides (trace_text t)
+tells_difference sides t first = record {
+  trace = t;
+  first = first;
+  told = refl;
+  before = front_of first.kind first.packet;
+  last = first.packet;
+  events = ap events_of first.is ∙ trace_events first.kind first.packet t.forwards;
+  packets = subst (λ (u : Trace). ArePackets (events_of u)) (sym first.is) (trace_packets first.kind first.packet t.forwards first.first.packet);
+  differ = first.first.differ;
+}
 
 -- a first trace is a list of packets on which they differ
 differ_there : (sides : Sides) (t : Trace) → IsFinding sides (Differing t) → DifferSomewhere sides
@@ -99,38 +101,31 @@ differ_there sides t found =
 
 -- ---- what is owed of the ends
 
+-- a policy of the network, and the rules
+abbrev pub sides_for : Network → Rules → Policy → Sides
+sides_for d rules policy = sides_of (site_of d) policy.permitted.flows policy.stateful.flows rules
+
 module _ (d : Network) (rules : Rules) where
   -- what holds of the sides of one holds of those of the other
   moved : (Holds Other : Sides → Type 0) (p : OfSides d rules Holds) (q : OfSides d rules Other) → Holds (sides_for d rules q.policy)
-  moved Holds Other p q =
-      subst (λ (policy : Policy). Holds (sides_for d rules policy)) (policy_is_one d p.policy q.policy p.is_policy q.is_policy) p.so
+  moved Holds Other p q = same_policy d (λ site f s. Holds (sides_of site f s rules)) (λ site f s. Other (sides_of site f s rules)) p q
 
-  pub trace_once : (a b : List ℕ) → OfSides d rules (λ sides. TellsTrace sides a) → OfSides d rules (λ sides. TellsTrace sides b) → a ≡ b
+  pub trace_once : (a b : List ℕ) → OfSides d rules (λ sides. TellsDifference sides a) → OfSides d rules (λ sides. TellsDifference sides b) → a ≡ b
   trace_once a b p q =
-      let first = moved (λ sides. TellsTrace sides a) (λ sides. TellsTrace sides b) p q in
+      let first = moved (λ sides. TellsDifference sides a) (λ sides. TellsDifference sides b) p q in
       let second = q.so in
       let same = finding_once (sides_for d rules q.policy) (Differing first.trace) (Differing second.trace) first.first second.first in
       first.told ∙ ap finding_text same ∙ sym second.told
 
-  pub trace_tells : (text : List ℕ) → OfSides d rules (λ sides. TellsTrace sides text) → OfSides d rules (λ sides. TellsTrace sides text × TellsDifference sides text)
-  trace_tells text is = record { policy = is.policy; is_policy = is.is_policy; so = (is.so, tells_difference (sides_for d rules is.policy) text is.so) }
-
-  pub line_once : (a b : List ℕ) → OfSides d rules (λ sides. a ≡ classes_line (class_count sides)) → OfSides d rules (λ sides. b ≡ classes_line (class_count sides)) → a ≡ b
-  line_once a b p q = moved (λ sides. a ≡ classes_line (class_count sides)) (λ sides. b ≡ classes_line (class_count sides)) p q ∙ sym q.so
-
-  pub line_tells : (line : List ℕ) → OfSides d rules ManyClasses → OfSides d rules (λ sides. line ≡ classes_line (class_count sides))
-      → OfSides d rules (λ sides. ManyClasses sides × (line ≡ classes_line (class_count sides)))
-  line_tells line many is = record {
-    policy = is.policy;
-    is_policy = is.is_policy;
-    so = (moved ManyClasses (λ sides. line ≡ classes_line (class_count sides)) many is, is.so);
-  }
+  pub line_once : (a b : List ℕ) → OfSides d rules (λ sides. HasManyClasses sides a) → OfSides d rules (λ sides. HasManyClasses sides b) → a ≡ b
+  line_once a b p q = (moved (λ sides. HasManyClasses sides a) (λ sides. HasManyClasses sides b) p q).1 ∙ sym q.so.1
 
   pub agreement_tells : OfSides d rules (λ sides. FewClasses sides × ForwardAlike sides) → OfSides d rules ForwardAlike
   agreement_tells agree = record { policy = agree.policy; is_policy = agree.is_policy; so = agree.so.1 }
 
-  pub many_or_few : (Holds : Sides → Type 0) → OfSides d rules ManyClasses → OfSides d rules (λ sides. FewClasses sides × Holds sides) → ⊥
-  many_or_few Holds many few = few_not_many (sides_for d rules many.policy) (moved (λ sides. FewClasses sides × Holds sides) ManyClasses few many).0 many.so
+  pub many_or_few : (Holds : Sides → Type 0) (line : List ℕ) → OfSides d rules (λ sides. HasManyClasses sides line) → OfSides d rules (λ sides. FewClasses sides × Holds sides) → ⊥
+  many_or_few Holds line many few =
+      few_not_many (sides_for d rules many.policy) line (moved (λ sides. FewClasses sides × Holds sides) (λ sides. HasManyClasses sides line) few many).0 many.so
 
   pub differ_or_agree : OfSides d rules (λ sides. FewClasses sides × DifferSomewhere sides) → OfSides d rules (λ sides. FewClasses sides × ForwardAlike sides) → ⊥
   differ_or_agree differ agree =
@@ -155,7 +150,9 @@ equal_exactly d rules reply answers few = (alike_where_done, done_where_alike)
 
     done_where_alike : OfSides d rules ForwardAlike → reply.status ≡ Done
     done_where_alike alike = elim answers.1 [
-      | inl many ↦ absurd (few_not_many (sides_for d rules many.1.policy) (moved d rules FewClasses ManyClasses few many.1) many.1.so)
+      | inl many ↦
+          let there = many.1.2 in
+          absurd (few_not_many (sides_for d rules there.policy) many.1.1 (moved d rules FewClasses (λ sides. HasManyClasses sides many.1.1) few there) there.so)
       | inr rest ↦ elim rest [
         | inl differ ↦
             let both = moved d rules ForwardAlike (λ sides. FewClasses sides × DifferSomewhere sides) alike differ.1 in
@@ -166,19 +163,23 @@ equal_exactly d rules reply answers few = (alike_where_done, done_where_alike)
 
 -- the rules that are read of a text that `rules` or `repair` writes forward alike
 pub written_alike : (dialect : Dialect) (d : Network) (text : List ℕ) (said : (language_of dialect).Rules) → IsNetwork d
-    → CanBeWritten (language_of dialect) d → IsRules (language_of dialect) d text → (language_of dialect).IsReading text said
+    → OfPolicy d (language_of dialect).CanWrite → IsRules (language_of dialect) d text → (language_of dialect).IsReading text said
     → OfSides d (rules_in dialect said) ForwardAlike
 unfolding rules_keep
-written_alike Iptables d text said network can is reading = record {
-  policy = is.policy;
-  is_policy = is.is_policy;
-  so = (rules_keep (language_of Iptables) (keeps_policies Iptables) d text network can is).as_read said reading;
-}
-written_alike OpenFlow d text said network can is reading = record {
-  policy = is.policy;
-  is_policy = is.is_policy;
-  so = (rules_keep (language_of OpenFlow) (keeps_policies OpenFlow) d text network can is).as_read said reading;
-}
+written_alike Iptables d text said network can is reading =
+    let keep = rules_keep (language_of Iptables) (keeps_policies Iptables) d text network can is in
+    record {
+      policy = keep.policy;
+      is_policy = keep.invariants.is_policy;
+      so = subst (λ (rules : List Chain). ForwardAlike (sides_for d (Chains rules) keep.policy)) (sym (keep.only_reading said reading)) keep.expected;
+    }
+written_alike OpenFlow d text said network can is reading =
+    let keep = rules_keep (language_of OpenFlow) (keeps_policies OpenFlow) d text network can is in
+    record {
+      policy = keep.policy;
+      is_policy = keep.invariants.is_policy;
+      so = subst (λ (rules : List Entry). ForwardAlike (sides_for d (Entries rules) keep.policy)) (sym (keep.only_reading said reading)) keep.expected;
+    }
 
 -- ---- what the code answers
 
@@ -188,12 +189,11 @@ module _ (d : Network) (rules : Rules) (policy : Policy) (is_policy : IsPolicyOf
   ends_many reply count many is =
       subst (λ (r : Reply). Answers true (audit_job d rules) r) (sym is) (
         refl,
-        inl (
-          refl,
-          record { policy = policy; is_policy = is_policy; so = many.1 },
-          record { policy = policy; is_policy = is_policy; so = ap (λ (n : ℕ). classes_line n) many.0 },
-        ),
+        inl (refl, (tt, classes_line count, has_many count many), has_many count many),
       )
+    where
+      has_many : (count : ℕ) → IsRefused (class_count (sides_for d rules policy)) (TooManyClasses count) → OfSides d rules (λ sides. HasManyClasses sides (classes_line count))
+      has_many count many = record { policy = policy; is_policy = is_policy; so = (many.1, ap (λ (n : ℕ). classes_line n) many.0) }
 
   pub ends_different : (reply : Reply) (t : Trace) → FewClasses (sides_for d rules policy) → IsFinding (sides_for d rules policy) (Differing t)
       → reply ≡ reply_on Violated Output (finding_text (Differing t)) → Answers true (audit_job d rules) reply
@@ -203,7 +203,7 @@ module _ (d : Network) (rules : Rules) (policy : Policy) (is_policy : IsPolicyOf
         inr (inl (
           refl,
           record { policy = policy; is_policy = is_policy; so = (few, differ_there (sides_for d rules policy) t found) },
-          record { policy = policy; is_policy = is_policy; so = record { trace = t; first = found; told = refl } },
+          record { policy = policy; is_policy = is_policy; so = tells_difference (sides_for d rules policy) t found },
         )),
       )
 

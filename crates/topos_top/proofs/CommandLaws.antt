@@ -19,14 +19,15 @@ use Rattle.topos_top.specs.Commands.{course_of}
 use Rattle.topos_top.specs.Course.{Course, reads, ends}
 use Rattle.topos_top.specs.Dialects.{language_of}
 use Rattle.topos_top.specs.Edit.{edit_job}
-use Rattle.topos_top.specs.Kinds.{Said}
-use Rattle.topos_top.specs.Rules.{hindrance_when, rules_when}
+use Rattle.topos_top.specs.Kinds.{contents_of}
+use Rattle.topos_top.specs.Local.{machines_when}
+use Rattle.topos_top.specs.Rules.{ListedHolds, rules_when}
 use Rattle.topos_top.specs.Trace.{trace_job}
 use Rattle.topos_top.specs.declared.dialect.Dialect.{Dialect}
 use Rattle.topos_top.specs.declared.dialect.Dialect.TheVariants.{Iptables, OpenFlow}
 use Rattle.topos_top.specs.declared.kind.Kind.TheVariants as kind
 use Rattle.topos_top.specs.declared.status.Status.{Status}
-use Rattle.topos_top.proofs.AuditLaws.{agreement_tells, differ_or_agree, line_once, line_tells, many_or_few, trace_once, trace_tells}
+use Rattle.topos_top.proofs.AuditLaws.{agreement_tells, differ_or_agree, line_once, many_or_few, trace_once}
 use Rattle.topos_top.proofs.DialectLaws.{keeps_policies}
 use Rattle.topos_top.proofs.EditLaws.{line_is_one, never_both as refused_or_accepted, tells_edits, text_is_one}
 use Rattle.topos_top.proofs.JobLaws.{is_end, IsOwed, IsSettled, settled_writes}
@@ -38,26 +39,36 @@ use Rattle.toml.specs.Data.{Members}
 
 -- what is owed of a course, with whatever is read along it
 abbrev pub IsOwedAlong : Course → Type 0
-IsOwedAlong (reads kind file next) = (said : Said kind) → IsSound kind said → IsOwedAlong (next said)
+IsOwedAlong (reads kind file next) = (said : (contents_of kind).Said) → IsSound kind said → IsOwedAlong (next said)
 IsOwedAlong (ends job) = IsSettled job
 
 owed_offences : (ended : Status) → is_end ended ≡ true → (when : Type 0) (d : Network) → IsNetwork d → IsOwed (offences_when ended when d)
 owed_offences ended status when d sound = record { status = status; one = check_report_is_one d; tells = λ now text is. tells_offences d text sound is }
 
-owed_rules : (holds : Type 0) (dialect : Dialect) (d : Network) → IsNetwork d → IsOwed (rules_when holds (language_of dialect) d)
-owed_rules holds dialect d sound = record {
-  status = refl;
-  one = rules_are_one (language_of dialect) (keeps_policies dialect) d;
-  tells = λ now text is. rules_keep (language_of dialect) (keeps_policies dialect) d text sound now.1 is;
+settled_rules : (holds : Type 0) (dialect : Dialect) (d : Network) → IsNetwork d → IsSettled (rules_when holds (language_of dialect) d)
+settled_rules holds dialect d sound = record {
+  owed = (
+    record { status = refl; one = hindrance_is_one (language_of dialect) (keeps_policies dialect) d; tells = λ now text is. is },
+    (
+      record {
+        status = refl;
+        one = rules_are_one (language_of dialect) (keeps_policies dialect) d;
+        tells = λ now text is. rules_keep (language_of dialect) (keeps_policies dialect) d text sound now.1 is;
+      },
+      tt,
+    ),
+  );
+  apart = ((λ hindered written. never_both (language_of dialect) (keeps_policies dialect) d hindered.1 hindered.2 written.1, tt), (tt, tt));
 }
 
-owed_hindrance : (holds : Type 0) (dialect : Dialect) (d : Network) → IsOwed (hindrance_when holds (language_of dialect) d)
-owed_hindrance holds dialect d = record { status = refl; one = hindrance_is_one (language_of dialect) (keeps_policies dialect) d; tells = λ now text is. is }
-
-hindered_or_written : (holds other : Type 0) (dialect : Dialect) (d : Network)
-    → (hindrance_when holds (language_of dialect) d).when → (rules_when other (language_of dialect) d).when → ⊥
-hindered_or_written holds other dialect d hindered written =
-    never_both (language_of dialect) (keeps_policies dialect) d hindered.1 written.1 hindered.2
+settled_machines : (holds : Type 0) (d : Network) (host : List ℕ) → IsNetwork d → IsSettled (machines_when holds d host)
+settled_machines holds d host sound = record {
+  owed = (
+    record { status = refl; one = bar_is_one d host; tells = λ now text is. is },
+    (record { status = refl; one = local_is_one d host; tells = λ now text is. local_keeps d host text sound now.1 is }, tt),
+  );
+  apart = ((λ barred written. specific_or_barred d host barred.1 barred.2 written.1, tt), (tt, tt));
+}
 
 settled_trace : (dialect : Dialect) (rules : (language_of dialect).Rules) (events : List Event) → IsSound (kind.Rules dialect) rules → IsSound kind.Events events
     → IsSettled (trace_job dialect rules events)
@@ -71,14 +82,14 @@ settled_trace OpenFlow entries events sound packets =
 settled_audit : (d : Network) (rules : AuditedRules) → IsSettled (audit_job d rules)
 settled_audit d rules = record {
   owed = (
-    record { status = refl; one = line_once d rules; tells = λ now line is. line_tells d rules line now is },
+    record { status = refl; one = line_once d rules; tells = λ now line is. is },
     (
-      record { status = refl; one = trace_once d rules; tells = λ now text is. trace_tells d rules text is },
+      record { status = refl; one = trace_once d rules; tells = λ now text is. is },
       (record { status = refl; one = λ a b p q. p ∙ sym q; tells = λ now text is. agreement_tells d rules now }, tt),
     ),
   );
   apart = (
-    (λ many differ. many_or_few d rules DifferSomewhere many differ, (λ many agree. many_or_few d rules ForwardAlike many agree, tt)),
+    (λ many differ. many_or_few d rules DifferSomewhere many.1 many.2 differ, (λ many agree. many_or_few d rules ForwardAlike many.1 many.2 agree, tt)),
     ((λ differ agree. differ_or_agree d rules differ agree, tt), (tt, tt)),
   );
 }
@@ -89,7 +100,7 @@ settled_edits table edits = record {
     record { status = refl; one = line_is_one table edits; tells = λ now line is. is },
     (record { status = refl; one = text_is_one table edits; tells = λ now text is. tells_edits table edits text is }, tt),
   );
-  apart = ((λ refused accepted. refused_or_accepted table edits refused accepted, tt), (tt, tt));
+  apart = ((λ refused accepted. refused_or_accepted table edits refused.1 refused.2 accepted, tt), (tt, tt));
 }
 
 pub settled : (ask : Ask) → IsOwedAlong (course_of ask)
@@ -99,31 +110,22 @@ settled (Check file) = λ d sound. record {
 }
 settled (Policy file) = λ d sound. settled_writes _ _ (policy_report_is_one d) (λ text is. tells_policy d text sound is)
 settled (Rules dialect file) = λ d sound. record {
-  owed = (owed_offences _ refl _ d sound, (owed_hindrance _ dialect d, (owed_rules _ dialect d sound, tt)));
+  owed = (owed_offences _ refl _ d sound, (settled_rules (ListedHolds d) dialect d sound).owed);
   apart = (
     (λ fails hindered. fails.1 (hindered.0 fails.0), (λ fails holds. fails.1 (holds.0 fails.0), tt)),
-    ((hindered_or_written _ _ dialect d, tt), (tt, tt)),
+    (settled_rules (ListedHolds d) dialect d sound).apart,
   );
 }
-settled (Repair dialect file) = λ d sound. record {
-  owed = (owed_hindrance _ dialect d, (owed_rules _ dialect d sound, tt));
-  apart = ((hindered_or_written _ _ dialect d, tt), (tt, tt));
-}
+settled (Repair dialect file) = λ d sound. settled_rules (Unit {0}) dialect d sound
 settled (Trace dialect rules events) = λ said sound es packets. settled_trace dialect said es sound packets
 settled (Sample hosts) = settled_writes _ _ (sample_is_one hosts) (tells_sample hosts)
 settled (Migrate file) = λ text sound. settled_writes _ _ (λ a b p q. p ∙ sym q) (λ text is. is)
 settled (Audit dialect file rules) = λ d sound said fits. settled_audit d (rules_in dialect said)
 settled (Edit file edits) = λ table sound es known. settled_edits table es
 settled (Local file host) = λ d sound. record {
-  owed = (
-    owed_offences _ refl _ d sound,
-    (
-      record { status = refl; one = bar_is_one d host; tells = λ now text is. is },
-      (record { status = refl; one = local_is_one d host; tells = λ now text is. local_keeps d host text sound now.1 is }, tt),
-    ),
-  );
+  owed = (owed_offences _ refl _ d sound, (settled_machines (ListedHolds d) d host sound).owed);
   apart = (
     (λ fails barred. fails.1 (barred.0 fails.0), (λ fails holds. fails.1 (holds.0 fails.0), tt)),
-    ((λ barred written. specific_or_barred d host barred.1 barred.2 written.1, tt), (tt, tt)),
+    (settled_machines (ListedHolds d) d host sound).apart,
   );
 }

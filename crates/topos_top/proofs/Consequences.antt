@@ -5,19 +5,20 @@ use Rattle.std.specs.FinMap.{get}
 use Rattle.std.specs.Result.{result_map_both}
 use Rattle.edge_io.specs.Counts.{more, Rose}
 use Rattle.edge_io.specs.Told.{Files}
-use Rattle.topos_top.specs.Ask.{Ask, ask_of, reports_on_output}
+use Rattle.topos_top.specs.Ask.{Ask, AskFor, reports_on_output}
 use Rattle.topos_top.specs.Commands.{course_of}
 use Rattle.topos_top.specs.Course.{Course, reads, ends, CameAlong}
 use Rattle.topos_top.specs.Job.{Job, Answers, AnswersFirst}
-use Rattle.topos_top.specs.Kinds.{Said, Reads}
+use Rattle.topos_top.specs.Kinds.{contents_of}
 use Rattle.topos_top.specs.Promises.{Came, IsTheReply, IsComplete}
-use Rattle.topos_top.specs.Replies.{Stops, RepliesBy, telling}
+use Rattle.topos_top.specs.Replies.{Replies, RepliesTo, Stops, telling}
 use Rattle.topos_top.specs.Reply.{Reply}
 use Rattle.topos_top.specs.Shelf.{Shelf, ShelfChange}
 use Rattle.topos_top.specs.Taken.{SinkChange, Took, IsSaid, WentTo, IsGiven}
 use Rattle.topos_top.specs.declared.kind.Kind.{Kind}
 use Rattle.topos_top.specs.declared.status.Status.{Status}
 use Rattle.topos_top.specs.declared.status.Status.TheVariants as status
+use Rattle.topos_top.proofs.AskLaws.{one_ask}
 use Rattle.topos_top.proofs.CourseLaws.{between, stops_once, stops_or_read}
 use Rattle.topos_top.proofs.KindLaws.{reads_once}
 
@@ -41,17 +42,17 @@ EndsAs (end ∷ job) ended = (end.when × (ended ≡ end.status)) ⊎ ((end.when
 
 -- what was read of a file
 abbrev pub Reading : Type 0
-Reading = (kind : Kind) × Said kind
+Reading = (kind : Kind) × (contents_of kind).Said
 
-abbrev pub with_reading : (kind : Kind) → Said kind → Result (List Reading) Reply → Result (List Reading) Reply
+abbrev pub with_reading : (kind : Kind) → (contents_of kind).Said → Result (List Reading) Reply → Result (List Reading) Reply
 with_reading kind said read = result_map_both (λ readings. (kind, said) ∷ readings) (λ why. why) read
 
 -- a file has this reading, and is followed by such readings
-pub record HasReading (told : Files) (kind : Kind) (file : List ℕ) (Follow : Said kind → Result (List Reading) Reply → Type 0) (read : Result (List Reading) Reply) : Type 0 where
+pub record HasReading (told : Files) (kind : Kind) (file : List ℕ) (Follow : (contents_of kind).Said → Result (List Reading) Reply → Type 0) (read : Result (List Reading) Reply) : Type 0 where
   pub bytes : List ℕ
   pub held : get told file ≡ Some bytes
-  pub said : Said kind
-  pub reads : Reads kind bytes said
+  pub said : (contents_of kind).Said
+  pub reads : (contents_of kind).Reads bytes said
   pub rest : Result (List Reading) Reply
   pub follow : Follow said rest
   pub is : read ≡ with_reading kind said rest
@@ -66,7 +67,7 @@ ReadsTold told (reads kind file next) read =
 abbrev pub EndsByReadings : Result (List Reading) Reply → Course → Status → Type 0
 EndsByReadings (Err why) course ended = ended ≡ why.status
 EndsByReadings (Ok []) (ends job) ended = EndsAs job ended
-EndsByReadings (Ok (reading ∷ readings)) (reads kind file next) ended = (said : Said kind) × (reading ≡ (kind, said)) × EndsByReadings (Ok readings) (next said) ended
+EndsByReadings (Ok (reading ∷ readings)) (reads kind file next) ended = (said : (contents_of kind).Said) × (reading ≡ (kind, said)) × EndsByReadings (Ok readings) (next said) ended
 EndsByReadings _ course ended = ⊥
 
 -- the told files have these readings, or this reply for the first that has none, and no others
@@ -76,7 +77,7 @@ pub record AreTheReadings (told : Files) (course : Course) (read : Result (List 
 
 -- Where neither shelf nor output had a fault, the told files alone decide how a command ends, unless there is no memory.
 abbrev pub EndsAsTold : List (List ℕ) → ShelfChange → SinkChange → Status → Type 0
-EndsAsTold words shelf out ended = (ask : Ask) → ask_of words ≡ Some ask → IfSome shelf.before.told (λ files.
+EndsAsTold words shelf out ended = (ask : Ask) → AskFor words ask → IfSome shelf.before.told (λ files.
     (Rose shelf.before.faults shelf.after.faults → ⊥) → (Rose out.faults_before out.faults_after → ⊥)
     → (ended ≡ status.Memory) ⊎ ((read : Result (List Reading) Reply) × AreTheReadings files (course_of ask) read × EndsByReadings read (course_of ask) ended))
 
@@ -89,8 +90,8 @@ read_once told (reads kind file next) a b (inr p) (inr q) =
     let here = p.held in
     let there = q.held in
     let bytes : q.bytes ≡ p.bytes = cc (here, there) in
-    let said : p.said ≡ q.said = reads_once kind q.bytes p.said q.said (subst (λ (bs : List ℕ). Reads kind bs p.said) (sym bytes) p.reads) q.reads in
-    let rest : p.rest ≡ q.rest = read_once told (next q.said) p.rest q.rest (subst (λ (x : Said kind). ReadsTold told (next x) p.rest) said p.follow) q.follow in
+    let said : p.said ≡ q.said = reads_once kind q.bytes p.said q.said (subst (λ (bs : List ℕ). (contents_of kind).Reads bs p.said) (sym bytes) p.reads) q.reads in
+    let rest : p.rest ≡ q.rest = read_once told (next q.said) p.rest q.rest (subst (λ (x : (contents_of kind).Said). ReadsTold told (next x) p.rest) said p.follow) q.follow in
     p.is ∙ (λ i. with_reading kind (said i) (rest i)) ∙ sym q.is
 
 ends_as : (job : Job) (reply : Reply) → AnswersFirst job reply → EndsAs job reply.status
@@ -98,7 +99,7 @@ ends_as [] reply first = absurd first
 ends_as (end ∷ job) reply (inl here) = inl (here.1, here.0)
 ends_as (end ∷ job) reply (inr later) = inr (later.0, ends_as job reply later.1)
 
-ends_later : (kind : Kind) (file : List ℕ) (next : Said kind → Course) (said : Said kind) (ended : Status) (rest : Result (List Reading) Reply)
+ends_later : (kind : Kind) (file : List ℕ) (next : (contents_of kind).Said → Course) (said : (contents_of kind).Said) (ended : Status) (rest : Result (List Reading) Reply)
     → EndsByReadings rest (next said) ended → EndsByReadings (with_reading kind said rest) (reads kind file next) ended
 ends_later kind file next said ended (Ok readings) is = (said, refl, is)
 ends_later kind file next said ended (Err why) is = is
@@ -116,6 +117,11 @@ ends_by on (reads kind file next) told reply at tells (inr go) =
       ends_later kind file next go.said reply.status rest.0 rest.2,
     )
 
+along_of : (words : List (List ℕ)) (ask : Ask) (files : Files) (reply : Reply) → AskFor words ask → RepliesTo words files reply → Replies (reports_on_output ask) (course_of ask) files reply
+along_of words ask files reply asked (inl nothing) = absurd (nothing.0 ask asked)
+along_of words ask files reply asked (inr own) =
+    subst (λ (a : Ask). Replies (reports_on_output a) (course_of a) files reply) (one_ask words own.0 ask own.1 asked) own.2
+
 pub ends_as_told : (words : List (List ℕ)) (shelf : ShelfChange) (out err : SinkChange) (ended : Status) → IsComplete words shelf out err ended → EndsAsTold words shelf out ended
 ends_as_told words shelf out err ended complete ask asked = by_told shelf.before.told complete
   where
@@ -127,7 +133,7 @@ ends_as_told words shelf out err ended complete ask asked = by_told shelf.before
     by_told (Some files) gives = λ no_fault whole. elim (gives no_fault) [
       | inl memory ↦ inl memory
       | inr gave ↦
-          let along = subst (λ (asked : Option Ask). RepliesBy asked files gave.0) asked gave.1.allowed in
+          let along = along_of words ask files gave.0 asked gave.1.allowed in
           let found = ends_by (reports_on_output ask) (course_of ask) files gave.0 (telling files) refl along in
           let is = (given_whole out err gave.0 ended gave.2 whole).0 in
           inr (
@@ -142,7 +148,7 @@ ends_as_told words shelf out err ended complete ask asked = by_told shelf.before
 -- the files along a course, whatever is read of them
 abbrev pub HasFiles : List (Kind × List ℕ) → Course → Type 0
 HasFiles [] (ends job) = Unit {0}
-HasFiles (named ∷ files) (reads kind file next) = (named ≡ (kind, file)) × ((said : Said kind) → HasFiles files (next said))
+HasFiles (named ∷ files) (reads kind file next) = (named ≡ (kind, file)) × ((said : (contents_of kind).Said) → HasFiles files (next said))
 HasFiles _ course = ⊥
 
 -- the count of begun files after n more

@@ -6,7 +6,7 @@ use Rattle.edge_io.specs.Counts.{more, Rose}
 use Rattle.edge_io.specs.Told.{Files, Lacks}
 use Rattle.topos_top.specs.Course.{Course, reads, ends, CameAlong}
 use Rattle.topos_top.specs.Job.{Job, Answers, AnswersFirst}
-use Rattle.topos_top.specs.Kinds.{Said, Reads, Refuses}
+use Rattle.topos_top.specs.Kinds.{contents_of}
 use Rattle.topos_top.specs.inner.Reads.{MayRead}
 use Rattle.topos_top.specs.Replies.{Stops, StopsAt, NoMemory, Stopped, MayReply}
 use Rattle.topos_top.specs.Reply.{Reply, no_memory}
@@ -23,12 +23,12 @@ abbrev pub between : Type 0 → (before after : Shelf) → ShelfChange
 between only before after = record { before = before; after = after; only_failures = only }
 
 -- a file that was not accepted ends the run
-pub stopped : (on : Bool) (kind : Kind) (file : List ℕ) (next : Said kind → Course) (shelf : ShelfChange) (given : Reply)
+pub stopped : (on : Bool) (kind : Kind) (file : List ℕ) (next : (contents_of kind).Said → Course) (shelf : ShelfChange) (given : Reply)
     → MayRead kind file shelf (Err given) → MayReply on (reads kind file next) shelf given
 stopped on kind file next shelf given stops = inl stops
 
 -- after one that was accepted the run goes on
-pub went_on : {only : Type 0} (on : Bool) (kind : Kind) (file : List ℕ) (next : Said kind → Course) (before mid after : Shelf) (said : Said kind) (given : Reply)
+pub went_on : {only : Type 0} (on : Bool) (kind : Kind) (file : List ℕ) (next : (contents_of kind).Said → Course) (before mid after : Shelf) (said : (contents_of kind).Said) (given : Reply)
     → MayRead kind file (between only before mid) (Ok said) → MayReply on (next said) (between only mid after) given
     → MayReply on (reads kind file next) (between only before after) given
 went_on on kind file next before mid after said given read rest = inr (record {
@@ -42,14 +42,14 @@ went_on on kind file next before mid after said given read rest = inr (record {
 })
 
 -- a second file stopped it
-pub then_stopped : {only : Type 0} (on : Bool) (kind other : Kind) (file second : List ℕ) (next : (x : Said kind) → Said other → Course) (before mid after : Shelf) (said : Said kind) (given : Reply)
+pub then_stopped : {only : Type 0} (on : Bool) (kind other : Kind) (file second : List ℕ) (next : (x : (contents_of kind).Said) → (contents_of other).Said → Course) (before mid after : Shelf) (said : (contents_of kind).Said) (given : Reply)
     → MayRead kind file (between only before mid) (Ok said) → StopsAt (between only mid after) other second given
     → MayReply on (reads kind file (λ x. reads other second (next x))) (between only before after) given
 then_stopped on kind other file second next before mid after said given read stops =
     went_on on kind file (λ x. reads other second (next x)) before mid after said given read (inl stops)
 
 -- there was no memory for the job behind two files
-pub then_no_memory : {only : Type 0} (on : Bool) (kind other : Kind) (file second : List ℕ) (job : Said kind → Said other → Job) (before mid after : Shelf) (said : Said kind) (told : Said other) (given : Reply)
+pub then_no_memory : {only : Type 0} (on : Bool) (kind other : Kind) (file second : List ℕ) (job : (contents_of kind).Said → (contents_of other).Said → Job) (before mid after : Shelf) (said : (contents_of kind).Said) (told : (contents_of other).Said) (given : Reply)
     → MayRead kind file (between only before mid) (Ok said) → MayRead other second (between only mid after) (Ok told) → given ≡ no_memory
     → MayReply on (reads kind file (λ x. reads other second (λ y. ends (job x y)))) (between only before after) given
 then_no_memory on kind other file second job before mid after said told given read read_second is =
@@ -146,11 +146,11 @@ stops_once kind file (Some bytes) r s p q =
     let b = q.replied in
     cc (same, a, b)
 
-pub stops_or_read : {C : Type 0} (kind : Kind) (file bytes : List ℕ) (saw : Option (List ℕ)) (r : Reply) (said : Said kind) → saw ≡ Some bytes → Stops kind file saw r → Reads kind bytes said → C
+pub stops_or_read : {C : Type 0} (kind : Kind) (file bytes : List ℕ) (saw : Option (List ℕ)) (r : Reply) (said : (contents_of kind).Said) → saw ≡ Some bytes → Stops kind file saw r → (contents_of kind).Reads bytes said → C
 stops_or_read kind file bytes None r said is p q = cc is
 stops_or_read kind file bytes (Some other) r said is p q =
     let same : other ≡ bytes = cc is in
-    absurd (reads_or_refuses kind bytes p.line said q (subst (λ (bs : List ℕ). Refuses kind bs p.line) same p.refuses))
+    absurd (reads_or_refuses kind bytes p.line said q (subst (λ (bs : List ℕ). (contents_of kind).Refuses bs p.line) same p.refuses))
 
 -- the told files have one reply along a course
 pub told_once : (on : Bool) (course : Course) (shelf other : Shelf) (files : Files) (r s : Reply) → IsOwedAlong course → shelf.told ≡ Some files → other.told ≡ Some files
@@ -166,7 +166,7 @@ told_once on (reads kind file next) shelf other files r s owed told also (inr p)
     let a : get files file ≡ Some p.bytes = subst (λ (t : Option Files). IfSome t (λ fs. get fs file ≡ Some p.bytes)) told p.held in
     let b : get files file ≡ Some q.bytes = subst (λ (t : Option Files). IfSome t (λ fs. get fs file ≡ Some q.bytes)) also q.held in
     let bytes : q.bytes ≡ p.bytes = cc (a, b) in
-    let said : q.said ≡ p.said = reads_once kind p.bytes q.said p.said (subst (λ (bs : List ℕ). Reads kind bs q.said) bytes q.read) p.read in
+    let said : q.said ≡ p.said = reads_once kind p.bytes q.said p.said (subst (λ (bs : List ℕ). (contents_of kind).Reads bs q.said) bytes q.read) p.read in
     told_once on (next p.said) p.after q.after files r s (owed p.said (IsSound-Reads kind p.bytes p.said p.read)) (p.took.told ∙ told) (q.took.told ∙ also) p.next
-    (subst (λ (x : Said kind). CameAlong (Unit {0}) (next x) q.after (λ kind file at. Stops kind file (get files file) s) (λ job at. Answers on job s × AnswersFirst job s)) said q.next)
+    (subst (λ (x : (contents_of kind).Said). CameAlong (Unit {0}) (next x) q.after (λ kind file at. Stops kind file (get files file) s) (λ job at. Answers on job s × AnswersFirst job s)) said q.next)
 told_once on (ends job) shelf other files r s owed told also p q = answers_once on job owed r s p q

@@ -14,7 +14,8 @@ use Rattle.report_core.proofs.ReportPromisesLaws.{tells_policy}
 use Rattle.toml.specs.Data.{Members}
 use Rattle.topos_top.specs.Edit.{SaysEdits, SaysRefusal, SaysTable, edit_job, summary_line, summary_lines}
 use Rattle.topos_top.specs.Job.{Answers}
-use Rattle.topos_top.specs.Reply.{Reply, error, reply_on}
+use Rattle.topos_top.specs.Reply.{Reply, error}
+use Rattle.topos_top.specs.inner.Views.{reply_on}
 use Rattle.topos_top.specs.TextFault.{edit_fault_line}
 use Rattle.topos_top.specs.declared.status.Status.TheVariants.{BadText, Done}
 use Rattle.topos_top.specs.declared.status.Stream.TheVariants.{Output}
@@ -66,9 +67,9 @@ module _ (table : Members) (edits : List Edit) where
     says = tells_table says.last says.summaries text says.says;
   }
 
-  pub never_both : (line : List ℕ) × SaysRefusal table edits line → (last : Members) × (after_edits edits table ≡ Ok last) → ⊥
-  never_both refused accepted =
-      let why = refused.1.refused in
+  pub never_both : (line : List ℕ) → SaysRefusal table edits line → (last : Members) × (after_edits edits table ≡ Ok last) → ⊥
+  never_both line says accepted =
+      let why = says.refused in
       let last = accepted.1 in
       cc (why, last)
 
@@ -78,7 +79,7 @@ module _ (table : Members) (edits : List Edit) where
       → reply ≡ error BadText (edit_fault_line line fault) → Answers false (edit_job table edits) reply
   ends_refused reply line fault refused is =
       let says : SaysRefusal table edits (edit_fault_line line fault) = record { number = line; fault = fault; refused = refused; told = refl } in
-      subst (λ (r : Reply). Answers false (edit_job table edits) r) (sym is) (refl, inl (refl, (edit_fault_line line fault, says), says))
+      subst (λ (r : Reply). Answers false (edit_job table edits) r) (sym is) (refl, inl (refl, (tt, edit_fault_line line fault, says), says))
 
   pub ends_accepted : (reply : Reply) (last : Members) (summaries : List Summary) (text : List ℕ) → after_edits edits table ≡ Ok last
       → AreSummaries edits table summaries → SaysTable IsPolicyReport last summaries text → reply ≡ reply_on Done Output text

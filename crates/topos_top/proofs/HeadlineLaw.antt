@@ -12,16 +12,20 @@ use Rattle.topos_top.specs.Commands.{course_of}
 use Rattle.topos_top.specs.Course.{CameAlong}
 use Rattle.topos_top.specs.Dialects.{language_of}
 use Rattle.topos_top.specs.Job.{OneEnd, Told}
+use Rattle.topos_top.specs.Kinds.{contents_of}
 use Rattle.topos_top.specs.Local.{KeepLocal, local_job}
-use Rattle.topos_top.specs.Promises.{WroteText, Keeps, KeepsPromise}
+use Rattle.topos_top.specs.Promises.{HasCause, Keeps, KeepsPromise}
 use Rattle.topos_top.specs.Repair.{repair_job}
 use Rattle.topos_top.specs.Rules.{ListedHolds, KeepPolicy, rules_job}
 use Rattle.topos_top.specs.Shelf.{ShelfChange}
 use Rattle.topos_top.specs.Taken.{SinkChange, Took}
 use Rattle.topos_top.specs.declared.dialect.Dialect.{Dialect}
+use Rattle.topos_top.specs.declared.kind.Kind.{Kind}
 use Rattle.topos_top.specs.declared.status.Status.TheVariants.{Done}
+use Rattle.topos_top.proofs.AskLaws.{one_ask}
 use Rattle.topos_top.proofs.CommandLaws.{settled}
 use Rattle.topos_top.proofs.CourseLaws.{came_so}
+use Rattle.topos_top.proofs.KindLaws.{of_refused}
 
 -- the one end of the two jobs that is done is that of the rules
 by_rules : (dialect : Dialect) (d : Network) (text : List ℕ) → OneEnd (Told Done text) (rules_job dialect d) → ListedHolds d × KeepPolicy (language_of dialect) d text
@@ -53,21 +57,18 @@ kept : (ask : Ask) (shelf : ShelfChange) (out : SinkChange)
 kept (Rules dialect file) shelf out (inl stopped) = absurd stopped.1
 kept (Rules dialect file) shelf out (inr on) =
     let end = by_rules dialect on.said on.next.1.0 on.next.1.1 in
-    record {
-      wrote = record { bytes = on.bytes; held = on.held; network = on.said; read = on.read; rules = on.next.1.0; written = on.next.1.2; keep = end.1 };
-      listed = λ given. end.1.invariants.listed given (end.0 given);
-    }
+    record { bytes = on.bytes; held = on.held; said = on.said; read = on.read; so = (on.next.1.0, on.next.1.2, (end.1, λ given. end.1.invariants.listed given (end.0 given))) }
 kept (Repair dialect file) shelf out (inl stopped) = absurd stopped.1
 kept (Repair dialect file) shelf out (inr on) =
-    record { bytes = on.bytes; held = on.held; network = on.said; read = on.read; rules = on.next.1.0; written = on.next.1.2; keep = by_repair dialect on.said on.next.1.0 on.next.1.1 }
+    record { bytes = on.bytes; held = on.held; said = on.said; read = on.read; so = (on.next.1.0, on.next.1.2, by_repair dialect on.said on.next.1.0 on.next.1.1) }
 kept (Migrate file) shelf out (inl stopped) = absurd stopped.1
 kept (Migrate file) shelf out (inr on) = elim on.next.1.1 [
-  | inl end ↦ record { bytes = on.bytes; held = on.held; text = on.said; migrated = on.read; written = subst (Took out) end.1 on.next.1.2 }
+  | inl end ↦ record { bytes = on.bytes; held = on.held; said = on.said; read = on.read; so = subst (Took out) end.1 on.next.1.2 }
   | inr none ↦ absurd none
 ]
 kept (Local file host) shelf out (inl stopped) = absurd stopped.1
 kept (Local file host) shelf out (inr on) =
-    record { bytes = on.bytes; held = on.held; network = on.said; read = on.read; rules = on.next.1.0; written = on.next.1.2; keep = by_local on.said host on.next.1.0 on.next.1.1 }
+    record { bytes = on.bytes; held = on.held; said = on.said; read = on.read; so = (on.next.1.0, on.next.1.2, by_local on.said host on.next.1.0 on.next.1.1) }
 kept (Audit dialect file rules) shelf out (inl stopped) = absurd stopped.1
 kept (Audit dialect file rules) shelf out (inr on) = elim on.next [
   | inl stopped ↦ absurd stopped.1
@@ -76,14 +77,15 @@ kept (Audit dialect file rules) shelf out (inr on) = elim on.next [
       record {
         bytes = on.bytes;
         held = on.held;
-        network = on.said;
+        said = on.said;
         read = on.read;
-        text = second.bytes;
-        text_held = subst (λ (t : Option Files). IfSome t (λ files. get files rules ≡ Some second.bytes)) on.took.told second.held;
-        said = second.said;
-        text_read = second.read;
-        alike = end.1;
-        written = subst (Took out) end.0 second.next.1.2;
+        so = record {
+          bytes = second.bytes;
+          held = subst (λ (t : Option Files). IfSome t (λ files. get files rules ≡ Some second.bytes)) on.took.told second.held;
+          said = second.said;
+          read = second.read;
+          so = (end.1, subst (Took out) end.0 second.next.1.2);
+        };
       }
 ]
 kept (Check file) shelf out came = tt
@@ -92,9 +94,11 @@ kept (Trace dialect rules events) shelf out came = tt
 kept (Sample hosts) shelf out came = tt
 kept (Edit file edits) shelf out came = tt
 
-pub headline_law : (words : List (List ℕ)) (shelf : ShelfChange) (out err : SinkChange) → WroteText words shelf out err → KeepsPromise words shelf out
+-- no file is refused as done
+never_done : (kind : Kind) → (contents_of kind).refused_as ≡ Done → ⊥
+never_done kind = of_refused (λ t. t ≡ Done → ⊥) (λ e. cc e) (λ e. cc e) kind
+
+pub headline_law : (words : List (List ℕ)) (shelf : ShelfChange) (out err : SinkChange) → HasCause Done words shelf out err → KeepsPromise words shelf out
 headline_law words shelf out err wrote ask asked =
-    let own = wrote.asked in
-    let same : wrote.ask ≡ ask = cc (own, asked) in
-    subst (λ (a : Ask). Keeps a shelf out) same (kept wrote.ask shelf out
-    (came_so shelf.only_failures (course_of wrote.ask) shelf.before _ _ _ _ (settled wrote.ask) (λ kind file at here. here) (λ job at owed here. (here.0, (here.1.0, here.1.1, here.1.2.0))) wrote.along))
+    subst (λ (a : Ask). Keeps a shelf out) (one_ask words wrote.ask ask wrote.asked asked) (kept wrote.ask shelf out
+    (came_so shelf.only_failures (course_of wrote.ask) shelf.before _ _ _ _ (settled wrote.ask) (λ kind file at here. (here.0, never_done kind here.1.0)) (λ job at owed here. (here.0, (here.1.0, here.1.1, here.1.2.0))) wrote.along))

@@ -5,6 +5,7 @@ pub mod LocalLaws
 pub mod AuditLaws
 pub mod EditLaws
 pub mod JobLaws
+pub mod AskLaws
 pub mod CommandLaws
 pub mod CourseLaws
 pub mod RunLaws

@@ -49,11 +49,15 @@ is_rest hosts h other = by_rest (rest_of hosts) other
     by_rest (Some r) it = ap (λ (n : ℕ). Some n) (same r it)
 
 module _ (d : Network) (host : List ℕ) where
+  -- a host of that name has one number
+  one_number : (a b : IsSpecific d host) → a.number ≡ b.number
+  one_number a b = some_number a.number b.number (sym a.named ∙ b.named)
+
   pub local_is_one : (a b : List ℕ) → IsLocal d host a → IsLocal d host b → a ≡ b
   local_is_one a b p q =
       let policies = policy_is_one d p.policy q.policy p.is_policy q.is_policy in
-      let numbers = some_number p.number q.number (sym p.named ∙ q.named) in
-      p.written ∙ (λ i. text (machines_for d (policies i) (numbers i))) ∙ sym q.written
+      let numbers = one_number p.so.0 q.so.0 in
+      p.so.1 ∙ (λ i. text (machines_for d (policies i) (numbers i))) ∙ sym q.so.1
 
   pub bar_is_one : (a b : List ℕ) → IsBarred d host a → IsBarred d host b → a ≡ b
   bar_is_one a b (NoHost none is) (NoHost also same) = is ∙ sym same
@@ -72,15 +76,14 @@ module _ (d : Network) (host : List ℕ) where
       let p = is.policy.permitted.flows in
       let s = is.policy.stateful.flows in
       let known : IsSite (site_of d) = record { hosts = network.hosts; services = network.services } in
-      let number = some_number is.number found.number (sym is.named ∙ found.named) in
+      let number = one_number is.so.0 found in
       let own : List Chain = machines_for d is.policy found.number in
-      let written : rules ≡ text own = is.written ∙ ap (λ (h : ℕ). text (machines_for d is.policy h)) number in
+      let written : rules ≡ text own = is.so.1 ∙ ap (λ (h : ℕ). text (machines_for d is.policy h)) number in
       let read : IsReading rules own =
       subst (λ (bytes : List ℕ). IsReading bytes own) (sym written)
       (text_read_again own (local_writable (site_of d) p s found.number known) (local_short (site_of d) p s found.number known)) in
       record {
         policy = is.policy;
-        is_policy = is.is_policy;
         invariants = policy_keeps d is.policy network is.is_policy;
         found = found;
         written = written;

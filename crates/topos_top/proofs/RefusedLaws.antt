@@ -1,5 +1,5 @@
 -- A file that a reader refuses, or for which it has no memory, stops the run with the answer to the fault.
-use Rattle.std.proofs.Common.{◌≡◌, ◌∙◌, ℕ, List, Err, refl, sym, ap}
+use Rattle.std.proofs.Common.{◌≡◌, ◌∙◌, ℕ, List, Err, codes, refl, sym, ap}
 use Rattle.desc_core.specs.Description.{described}
 use Rattle.desc_core.specs.declared.fault.DescFault.{DescFault}
 use Rattle.desc_core.specs.declared.fault.DescFault.TheVariants as desc
@@ -16,13 +16,13 @@ use Rattle.report_core.specs.RefusalLine.{refusal_text}
 use Rattle.text_core.specs.inner.TextAnswers.{HasCause}
 use Rattle.text_core.specs.declared.faults.TextFault.{TextFault}
 use Rattle.text_core.specs.declared.faults.TextFault.TheVariants as text
-use Rattle.topos_top.specs.Kinds.{IsNoDescription, Refuses, refused_as}
+use Rattle.topos_top.specs.Kinds.{contents_of, IsNoDescription}
 use Rattle.topos_top.specs.inner.Reads.{TookFile}
 use Rattle.topos_top.specs.inner.Refused.{description_reply, text_reply}
 use Rattle.topos_top.specs.Replies.{StopsAt, NoMemory}
 use Rattle.topos_top.specs.Reply.{Reply, error}
 use Rattle.topos_top.specs.Shelf.{ShelfChange}
-use Rattle.topos_top.specs.TextFault.{rules_fault_line, flows_fault_line, events_fault_line, edits_fault_line}
+use Rattle.topos_top.specs.TextFault.{rules_reason, flows_reason, events_reason, edits_reason}
 use Rattle.topos_top.specs.declared.dialect.Dialect.TheVariants.{Iptables, OpenFlow}
 use Rattle.topos_top.specs.declared.kind.Kind.{Kind}
 use Rattle.topos_top.specs.declared.kind.Kind.TheVariants.{Rules, Events, Edits}
@@ -31,7 +31,7 @@ use Rattle.topos_top.specs.declared.status.Status.TheVariants.{BadDescription}
 use Rattle.topos_top.proofs.Taking.{refused_whole}
 
 -- of the kinds that hold a description
-pub description_refused : (kind : Kind) → ((bytes line : List ℕ) → IsNoDescription bytes line → Refuses kind bytes line) → refused_as kind ≡ BadDescription
+pub description_refused : (kind : Kind) → ((bytes line : List ℕ) → IsNoDescription bytes line → (contents_of kind).Refuses bytes line) → (contents_of kind).refused_as ≡ BadDescription
     → (shelf : ShelfChange) (file bytes : List ℕ) (fault : DescFault) (given : Reply) → TookFile shelf kind file bytes
     → ((why : Refusal) → fault ≡ desc.Refused why → described bytes ≡ Err why) → given ≡ description_reply fault → StopsAt shelf kind file given
 description_refused kind refuses status shelf file bytes (desc.Refused why) given took cause is =
@@ -43,25 +43,25 @@ description_refused kind refuses status shelf file bytes (desc.Refused why) give
 description_refused kind refuses status shelf file bytes desc.Memory given took cause is = NoMemory took.took.begins is
 
 pub rules_refused : (shelf : ShelfChange) (file bytes : List ℕ) (fault : TextFault IptWhy) (given : Reply) → TookFile shelf (Rules Iptables) file bytes
-    → HasCause rules_text bytes fault → given ≡ text_reply rules_fault_line fault → StopsAt shelf (Rules Iptables) file given
+    → HasCause rules_text bytes fault → given ≡ text_reply (codes "rules") rules_reason fault → StopsAt shelf (Rules Iptables) file given
 rules_refused shelf file bytes (text.Refused line why) given took cause is =
     refused_whole (Rules Iptables) file bytes shelf given took (record { line = _; refuses = record { number = line; why = why; fault = cause; told = refl }; replied = is })
 rules_refused shelf file bytes text.Memory given took cause is = NoMemory took.took.begins is
 
 pub flows_refused : (shelf : ShelfChange) (file bytes : List ℕ) (fault : TextFault OfpWhy) (given : Reply) → TookFile shelf (Rules OpenFlow) file bytes
-    → HasCause flows_text bytes fault → given ≡ text_reply flows_fault_line fault → StopsAt shelf (Rules OpenFlow) file given
+    → HasCause flows_text bytes fault → given ≡ text_reply (codes "rules") flows_reason fault → StopsAt shelf (Rules OpenFlow) file given
 flows_refused shelf file bytes (text.Refused line why) given took cause is =
     refused_whole (Rules OpenFlow) file bytes shelf given took (record { line = _; refuses = record { number = line; why = why; fault = cause; told = refl }; replied = is })
 flows_refused shelf file bytes text.Memory given took cause is = NoMemory took.took.begins is
 
 pub events_refused : (shelf : ShelfChange) (file bytes : List ℕ) (fault : TextFault EventWhy) (given : Reply) → TookFile shelf Events file bytes
-    → HasCause events_text bytes fault → given ≡ text_reply events_fault_line fault → StopsAt shelf Events file given
+    → HasCause events_text bytes fault → given ≡ text_reply (codes "events") events_reason fault → StopsAt shelf Events file given
 events_refused shelf file bytes (text.Refused line why) given took cause is =
     refused_whole Events file bytes shelf given took (record { line = _; refuses = record { number = line; why = why; fault = cause; told = refl }; replied = is })
 events_refused shelf file bytes text.Memory given took cause is = NoMemory took.took.begins is
 
 pub edits_refused : (shelf : ShelfChange) (file bytes : List ℕ) (fault : TextFault EditsWhy) (given : Reply) → TookFile shelf Edits file bytes
-    → HasCause edits_text bytes fault → given ≡ text_reply edits_fault_line fault → StopsAt shelf Edits file given
+    → HasCause edits_text bytes fault → given ≡ text_reply (codes "edits") edits_reason fault → StopsAt shelf Edits file given
 edits_refused shelf file bytes (text.Refused line why) given took cause is =
     refused_whole Edits file bytes shelf given took (record { line = _; refuses = record { number = line; why = why; fault = cause; told = refl }; replied = is })
 edits_refused shelf file bytes text.Memory given took cause is = NoMemory took.took.begins is

@@ -1,5 +1,6 @@
 -- The rules of a network are one text, and do what is promised of them; so is the line that says why there are none.
-use Rattle.std.proofs.Common.{◌≡◌, ℕ, List, sym, subst, ◌∙◌, ap}
+use Rattle.std.proofs.Common.{◌≡◌, ℕ, List, false, inl, refl, sym, subst, ◌∙◌, ap}
+use Rattle.host_net.specs.Site.{Site}
 use Rattle.host_net.specs.inner.Site.{IsSite}
 use Rattle.permit_core.proofs.FirstLaws.{first_with}
 use Rattle.flow_set.specs.FlowSet.{SetOfFlows}
@@ -11,66 +12,68 @@ use Rattle.net_core.specs.Policies.{IsPolicyOf, MeetsAll, Policy}
 use Rattle.net_core.proofs.PolicyLaws.{policy_is_one, IsSubset-stateful, asked_is_permitted}
 use Rattle.pkt_core.specs.Filter.{Enforces, ForwardsExpected}
 use Rattle.pkt_core.proofs.FilterLaws.{enforced_expected}
-use Rattle.topos_top.specs.Dialects.{Language, Hindrance, hindrance_line}
-use Rattle.topos_top.specs.Rules.{IsRules, CanBeWritten, IsHindered, TellsHindrance, KeepInvariants, KeepPolicy, rules_for}
+use Rattle.topos_top.specs.Dialects.{Language, language_of}
+use Rattle.topos_top.specs.Job.{Answers}
+use Rattle.topos_top.specs.Repair.{repair_job}
+use Rattle.topos_top.specs.Reply.{Reply, error}
+use Rattle.topos_top.specs.Rules.{IsRules, KeepInvariants, KeepPolicy, OfPolicy, rules_for}
+use Rattle.topos_top.specs.declared.dialect.Dialect.{Dialect}
+use Rattle.topos_top.specs.declared.status.Status.TheVariants.{NotEmittable}
 use Rattle.topos_top.proofs.DialectLaws.{KeepsPolicies}
 
 -- the policy of a network keeps its invariants
 pub policy_keeps : (d : Network) (policy : Policy) → IsNetwork d → IsPolicyOf d policy → KeepInvariants d policy
 policy_keeps d policy network is = record {
-  permitted = is.permitted;
+  is_policy = is;
   meets = is.permitted.holds;
   left_out = λ f asked absent meets. first_with (MeetsAll d) d.asked.flows policy.permitted.flows f is.permitted asked absent meets;
   greatest = IsGreatestPolicy-from_policy d policy network is;
   listed = λ given holds. ap (λ (set : SetOfFlows). set.flows) (asked_is_permitted d policy network holds is);
-  stateful = is.stateful;
   complies = CompliesWithAll-from_policy d policy network is;
 }
+
+-- what holds for the policy of one holds for that of the other
+pub moved : (d : Network) (P Q : Site → (p s : List Flow) → Type 0) (a : OfPolicy d P) (b : OfPolicy d Q)
+    → P (site_of d) b.policy.permitted.flows b.policy.stateful.flows
+moved d P Q a b =
+    subst (λ (policy : Policy). P (site_of d) policy.permitted.flows policy.stateful.flows) (policy_is_one d a.policy b.policy a.is_policy b.is_policy) a.so
+
+-- the reply where the rules cannot be written
+pub ends_hindered : (dialect : Dialect) (d : Network) (reply : Reply) (line : List ℕ) → reply ≡ error NotEmittable line
+    → OfPolicy d ((language_of dialect).Hinders line) → Answers false (repair_job dialect d) reply
+ends_hindered dialect d reply line is hindered = subst (λ (r : Reply). Answers false (repair_job dialect d) r) (sym is) (refl, inl (refl, (tt, line, hindered), hindered))
 
 module _ (language : Language) (keeps : KeepsPolicies language) (d : Network) where
   pub rules_are_one : (a b : List ℕ) → IsRules language d a → IsRules language d b → a ≡ b
   rules_are_one a b p q =
-      p.written ∙ ap (λ (policy : Policy). language.text (rules_for language d policy)) (policy_is_one d p.policy q.policy p.is_policy q.is_policy) ∙ sym q.written
+      moved d (λ site f s. a ≡ language.text (language.layout site f s)) (λ site f s. b ≡ language.text (language.layout site f s)) p q ∙ sym q.so
 
-  -- what holds for the policy of one holds for that of the other
-  pub can_write : (written : CanBeWritten language d) (policy : Policy) → written.policy ≡ policy
-      → language.CanWrite (site_of d) policy.permitted.flows policy.stateful.flows
-  can_write written policy same = subst (λ (x : Policy). language.CanWrite (site_of d) x.permitted.flows x.stateful.flows) same written.can
+  pub never_both : (line : List ℕ) → OfPolicy d (language.Hinders line) → OfPolicy d language.CanWrite → ⊥
+  never_both line hindered can =
+      keeps.apart (site_of d) hindered.policy.permitted.flows hindered.policy.stateful.flows line (moved d language.CanWrite (language.Hinders line) can hindered) hindered.so
 
-  pub never_both : (why : Hindrance) → CanBeWritten language d → IsHindered language d why → ⊥
-  never_both why written hindered =
-      let same = policy_is_one d written.policy hindered.policy written.is_policy hindered.is_policy in
-      keeps.apart (site_of d) hindered.policy.permitted.flows hindered.policy.stateful.flows why (can_write written hindered.policy same) hindered.hinders
+  pub hindrance_is_one : (a b : List ℕ) → OfPolicy d (language.Hinders a) → OfPolicy d (language.Hinders b) → a ≡ b
+  hindrance_is_one a b p q =
+      keeps.one_hindrance (site_of d) q.policy.permitted.flows q.policy.stateful.flows a b (moved d (language.Hinders a) (language.Hinders b) p q) q.so
 
-  one_cause : (why other : Hindrance) → IsHindered language d why → IsHindered language d other → why ≡ other
-  one_cause why other p q =
-      let same = policy_is_one d p.policy q.policy p.is_policy q.is_policy in
-      keeps.one_hindrance (site_of d) q.policy.permitted.flows q.policy.stateful.flows why other
-      (subst (λ (x : Policy). language.Hinders (site_of d) x.permitted.flows x.stateful.flows why) same p.hinders) q.hinders
-
-  pub hindrance_is_one : (a b : List ℕ) → TellsHindrance language d a → TellsHindrance language d b → a ≡ b
-  hindrance_is_one a b p q = p.told ∙ ap (hindrance_line d.hosts) (one_cause p.why q.why p.hindered q.hindered) ∙ sym q.told
-
-  unfoldable pub rules_keep : (rules : List ℕ) → IsNetwork d → CanBeWritten language d → IsRules language d rules → KeepPolicy language d rules
+  unfoldable pub rules_keep : (rules : List ℕ) → IsNetwork d → OfPolicy d language.CanWrite → IsRules language d rules → KeepPolicy language d rules
   rules_keep rules network written is =
       let p : List Flow = is.policy.permitted.flows in
       let s : List Flow = is.policy.stateful.flows in
       let known : IsSite (site_of d) = record { hosts = network.hosts; services = network.services } in
       let own : language.Rules = rules_for language d is.policy in
-      let can : language.CanWrite (site_of d) p s = can_write written is.policy (policy_is_one d written.policy is.policy written.is_policy is.is_policy) in
+      let can : language.CanWrite (site_of d) p s = moved d language.CanWrite (λ site f t. rules ≡ language.text (language.layout site f t)) written is in
       let enforces : Enforces (language.filter own) (site_of d) p s = keeps.enforces (site_of d) p s known can in
       let expected : ForwardsExpected (language.filter own) (site_of d) p s =
       enforced_expected (language.filter own) (site_of d) p s (IsSubset-stateful d p s is.is_policy.stateful) enforces in
-      let read : language.IsReading rules own = subst (λ (bytes : List ℕ). language.IsReading bytes own) (sym is.written) (keeps.read_again (site_of d) p s known can) in
-      let one : (others : language.Rules) → language.IsReading rules others → others ≡ own = λ others reading. keeps.one_reading rules others own reading read in
+      let read : language.IsReading rules own = subst (λ (bytes : List ℕ). language.IsReading bytes own) (sym is.so) (keeps.read_again (site_of d) p s known can) in
       record {
         policy = is.policy;
         invariants = policy_keeps d is.policy network is.is_policy;
-        written = is.written;
-        expected = expected;
+        written = is.so;
         read = read;
-        only_reading = one;
-        as_read = λ others reading. subst (λ (x : language.Rules). ForwardsExpected (language.filter x) (site_of d) p s) (sym (one others reading)) expected;
-        other_frames = λ others reading. subst (λ (x : language.Rules). language.OtherFrames x) (sym (one others reading)) (keeps.other_frames (site_of d) p s known can);
+        only_reading = λ others reading. keeps.one_reading rules others own reading read;
+        expected = expected;
         enforces = enforces;
+        other_frames = keeps.other_frames (site_of d) p s known can;
       }

@@ -1,63 +1,46 @@
 -- What follows from the one reply of a run, by where it came to: a table of what is so there in each status.
-use Rattle.std.proofs.Common.{◌≡◌, ◌⊎◌, inl, inr, ℕ, List, Option, None, Some, Bool, true, false, refl, ap, sym, subst, ◌∙◌}
+use Rattle.std.proofs.Common.{◌≡◌, ◌⊎◌, inl, inr, ℕ, List, Option, None, Some, Bool, true, false, true≢false, refl, ap, sym, subst, ◌∙◌}
 use Rattle.std.specs.Prelude.{◌↔◌}
 use Rattle.edge_io.specs.Counts.{more}
-use Rattle.topos_top.specs.Ask.{Ask, ask_of, reports_on_output}
+use Rattle.topos_top.specs.Ask.{Ask, AskNothing, reports_on_output}
 use Rattle.topos_top.specs.inner.Ask.{AsksToReport}
 use Rattle.topos_top.specs.Commands.{course_of}
-use Rattle.topos_top.specs.Job.{Job, Answers, stream_of}
-use Rattle.topos_top.specs.Kinds.{refused_as}
-use Rattle.topos_top.specs.Promises.{GaveReply, Came, SaidRefusal, SaidAs, GaveEnd, BrokeOffEnd}
-use Rattle.topos_top.specs.Replies.{StopsAt, NoMemory, Stopped, MayGiveBy}
-use Rattle.topos_top.specs.Reply.{Reply, error, cannot_read_line, no_memory, memory_line}
-use Rattle.topos_top.specs.Shelf.{Shelf, ShelfChange, SawFile, since}
+use Rattle.topos_top.specs.Job.{Job, Answers, OneEnd, Told, stream_of}
+use Rattle.topos_top.specs.Kinds.{contents_of}
+use Rattle.topos_top.specs.Promises.{AtFile, AtJob, GaveReply, HasCause, SaidRefusal}
+use Rattle.topos_top.specs.Replies.{StopsAt, NoMemory, Stopped, MayReply}
+use Rattle.topos_top.specs.Reply.{Reply, error, no_memory, usage}
+use Rattle.topos_top.specs.Shelf.{Shelf, ShelfChange, since}
 use Rattle.topos_top.specs.Taken.{SinkChange, IsSaid, WentTo, IsGiven}
 use Rattle.topos_top.specs.declared.kind.Kind.{Kind}
-use Rattle.topos_top.specs.declared.kind.Kind.TheVariants.{Description, Rules, Events, Document, Edited, Edits}
 use Rattle.topos_top.specs.declared.status.Status.{Status}
 use Rattle.topos_top.specs.declared.status.Status.TheVariants as status
 use Rattle.topos_top.specs.declared.status.Stream.{Stream}
 use Rattle.topos_top.specs.declared.status.Stream.TheVariants.{Output, Errors}
+use Rattle.topos_top.proofs.AskLaws.{one_ask}
 use Rattle.topos_top.proofs.CommandLaws.{settled}
 use Rattle.topos_top.proofs.CourseLaws.{wherever, came_so}
-use Rattle.topos_top.proofs.JobLaws.{is_end, IsSettled, told_of, end_status}
+use Rattle.topos_top.proofs.JobLaws.{is_end, IsOwed, IsSettled, from_one, told_of, end_status}
+use Rattle.topos_top.proofs.KindLaws.{of_refused}
 
 -- ---- what is so where a run came to, by its status
 
--- at the file that stopped it
-abbrev AtFile : (err : SinkChange) → Status → ShelfChange → Kind → (file : List ℕ) → Type 0
-AtFile err status.ReadFault seen kind file = SawFile seen file None × IsSaid err (cannot_read_line file)
-AtFile err status.BadDescription seen kind file = SaidAs status.BadDescription err seen kind file
-AtFile err status.BadText seen kind file = SaidAs status.BadText err seen kind file
-AtFile err status.Memory seen kind file = IsSaid err memory_line
-AtFile err _ seen kind file = ⊥
-
--- at the job
-abbrev AtJob : (out err : SinkChange) → Status → Ask → Job → Type 0
-AtJob out err status.Done ask job = GaveEnd status.Done out err ask job
-AtJob out err status.Violated ask job = GaveEnd status.Violated out err ask job
-AtJob out err status.NotEmittable ask job = GaveEnd status.NotEmittable out err ask job
-AtJob out err status.BadText ask job = GaveEnd status.BadText out err ask job
-AtJob out err status.WriteFault ask job = BrokeOffEnd out err ask job
-AtJob out err status.Memory ask job = IsSaid err memory_line
-AtJob out err _ ask job = ⊥
+-- an end of the job came, in this status, and its text went to its stream
+abbrev GaveEnd : (out err : SinkChange) → Status → Ask → Job → Type 0
+GaveEnd out err t ask job = (text : List ℕ) × OneEnd (Told t text) job × WentTo (stream_of (reports_on_output ask) t) out err text
 
 -- an end that gave its text is of a status of ends
-of_end : (out err : SinkChange) (t : Status) (ask : Ask) (job : Job) → is_end t ≡ true → GaveEnd t out err ask job → AtJob out err t ask job
+of_end : (out err : SinkChange) (t : Status) (ask : Ask) (job : Job) → is_end t ≡ true → GaveEnd out err t ask job → AtJob t out err ask job
 of_end out err status.Done ask job is here = here
 of_end out err status.Violated ask job is here = here
 of_end out err status.NotEmittable ask job is here = here
 of_end out err status.BadText ask job is here = here
 of_end out err t ask job is here = cc is
 
--- what is so of both statuses of refused files is so of each
-of_refused : (P : Status → Type 0) → P status.BadDescription → P status.BadText → (kind : Kind) → P (refused_as kind)
-of_refused P description text Description = description
-of_refused P description text (Rules dialect) = text
-of_refused P description text Events = text
-of_refused P description text Document = description
-of_refused P description text Edited = description
-of_refused P description text Edits = text
+-- no job ends in usage
+no_usage : (out err : SinkChange) (ask : Ask) (job : Job) → IsSettled job → GaveEnd out err status.Usage ask job → ⊥
+no_usage out err ask job owed gave =
+    from_one IsOwed (Told status.Usage gave.0) job (λ end is told. true≢false (sym is.status ∙ ap is_end (sym told.0.0))) owed.owed gave.1
 
 -- a line for the error stream ends the run in its status
 pub ends_in_error : (out err : SinkChange) (s : Status) (reply : Reply) (ended : Status) (line : List ℕ) → reply ≡ error ended line → IsGiven out err reply s
@@ -66,15 +49,6 @@ ends_in_error out err s reply ended line is given = elim (subst (λ (r : Reply).
   | inl whole ↦ (whole.0, whole.1.0, whole.1.1)
   | inr cut ↦ let other = cut.1 in cc other
 ]
-
--- whether the words ask for a report on the output
-abbrev reports : Option Ask → Bool
-reports None = false
-reports (Some ask) = reports_on_output ask
-
-asks : (words : List (List ℕ)) (asked : Option Ask) → ask_of words ≡ asked → reports asked ≡ true → AsksToReport words
-asks words None is on = cc on
-asks words (Some ask) is on = (ask, is, on)
 
 -- what is neither done nor reported on the output goes to the error stream
 to_errors : (on : Bool) (s : Status) → (s ≡ status.Done → ⊥) → (s ≡ status.Violated → on ≡ true → ⊥) → stream_of on s ≡ Errors
@@ -90,24 +64,24 @@ module _ (words : List (List ℕ)) (shelf : ShelfChange) (out err : SinkChange) 
   in_error ended line is = ends_in_error out err s gave.reply ended line is gave.given
 
   at_file : (kind : Kind) (file : List ℕ) (at : Shelf) → StopsAt (since at shelf) kind file gave.reply
-      → (shelf.after.begins ≡ more at.begins 1) × AtFile err s (since at shelf) kind file
+      → (shelf.after.begins ≡ more at.begins 1) × AtFile s err (since at shelf) kind file
   at_file kind file at stops = by_stop stops
     where
-      row : (t : Status) → s ≡ t → AtFile err t (since at shelf) kind file → AtFile err s (since at shelf) kind file
-      row t is here = subst (λ (t : Status). AtFile err t (since at shelf) kind file) (sym is) here
+      row : (t : Status) → s ≡ t → AtFile t err (since at shelf) kind file → AtFile s err (since at shelf) kind file
+      row t is here = subst (λ (t : Status). AtFile t err (since at shelf) kind file) (sym is) here
 
-      refused : SaidRefusal (since at shelf) kind file err → AtFile err (refused_as kind) (since at shelf) kind file
-      refused why = of_refused (λ t. refused_as kind ≡ t → AtFile err t (since at shelf) kind file) (λ same. (same, why)) (λ same. (same, why)) kind refl
+      refused : SaidRefusal (since at shelf) kind file err → AtFile (contents_of kind).refused_as err (since at shelf) kind file
+      refused why = of_refused (λ t. (contents_of kind).refused_as ≡ t → AtFile t err (since at shelf) kind file) (λ same. (same, why)) (λ same. (same, why)) kind refl
 
-      by_stop : StopsAt (since at shelf) kind file gave.reply → (shelf.after.begins ≡ more at.begins 1) × AtFile err s (since at shelf) kind file
+      by_stop : StopsAt (since at shelf) kind file gave.reply → (shelf.after.begins ≡ more at.begins 1) × AtFile s err (since at shelf) kind file
       by_stop (NoMemory begins is) = let end = in_error _ _ is in (begins, row _ end.0 end.2)
       by_stop (Stopped None last is) = let end = in_error _ _ is in (last.begins, row _ end.0 (last.held, end.2))
       by_stop (Stopped (Some bytes) last is) =
           let end = in_error _ _ is.replied in
           (last.begins, row _ end.0 (refused (record { bytes = bytes; last = last; line = is.line; refused = is.refuses; said = end.2 })))
 
-  at_job : (ask : Ask) (job : Job) → IsSettled job → (gave.reply ≡ no_memory) ⊎ Answers (reports_on_output ask) job gave.reply → AtJob out err s ask job
-  at_job ask job owed (inl lack) = let end = in_error _ _ lack in subst (λ (t : Status). AtJob out err t ask job) (sym end.0) end.2
+  at_job : (ask : Ask) (job : Job) → IsSettled job → (gave.reply ≡ no_memory) ⊎ Answers (reports_on_output ask) job gave.reply → AtJob s out err ask job
+  at_job ask job owed (inl lack) = let end = in_error _ _ lack in subst (λ (t : Status). AtJob t out err ask job) (sym end.0) end.2
   at_job ask job owed (inr answers) =
       let reply = gave.reply in
       let told = told_of job owed reply.status reply.text answers.1 in
@@ -115,37 +89,37 @@ module _ (words : List (List ℕ)) (shelf : ShelfChange) (out err : SinkChange) 
       elim gave.given [
         | inl whole ↦
             let went = subst (λ (stream : Stream). WentTo stream out err reply.text) answers.0 whole.1 in
-            subst (λ (t : Status). AtJob out err t ask job) (sym whole.0) (of_end out err reply.status ask job is (reply.text, told, went))
-        | inr cut ↦ subst (λ (t : Status). AtJob out err t ask job) (sym cut.0) (reply.status, reply.text, told, sym answers.0 ∙ cut.1, cut.2)
+            subst (λ (t : Status). AtJob t out err ask job) (sym whole.0) (of_end out err reply.status ask job is (reply.text, told, went))
+        | inr cut ↦ subst (λ (t : Status). AtJob t out err ask job) (sym cut.0) (reply.status, reply.text, told, sym answers.0 ∙ cut.1, cut.2)
       ]
 
-  came_by : (asked : Option Ask) → ask_of words ≡ asked → MayGiveBy asked shelf gave.reply
-      → ((s ≡ status.Usage) × (ask_of words ≡ None)) ⊎ Came words shelf (AtFile err s) (AtJob out err s)
-  came_by None is may = inl ((in_error _ _ may.0).0, is)
-  came_by (Some ask) is may = inr (record {
-    ask = ask;
-    asked = is;
-    along = came_so shelf.only_failures (course_of ask) shelf.before _ _ _ _ (settled ask) at_file (λ job at owed here. (here.0, at_job ask job owed here.1)) may;
-  })
-
-  came : ((s ≡ status.Usage) × (ask_of words ≡ None)) ⊎ Came words shelf (AtFile err s) (AtJob out err s)
-  came = came_by (ask_of words) refl gave.allowed
+  came : ((s ≡ status.Usage) × AskNothing words) ⊎ HasCause s words shelf out err
+  came = elim gave.allowed [
+    | inl nothing ↦ inl ((in_error _ _ nothing.1).0, nothing.0)
+    | inr asks ↦ inr (record {
+      ask = asks.0;
+      asked = asks.1;
+      along = came_so shelf.only_failures (course_of asks.0) shelf.before _ _ _ _ (settled asks.0) at_file (λ job at owed here. (here.0, at_job asks.0 job owed here.1)) asks.2;
+    })
+  ]
 
   -- the cause of each status but usage is its row
-  pub caused : (t : Status) → (t ≡ status.Usage → ⊥) → s ≡ t → Came words shelf (AtFile err t) (AtJob out err t)
+  pub caused : (t : Status) → (t ≡ status.Usage → ⊥) → s ≡ t → HasCause t words shelf out err
   caused t other is = elim came [
     | inl usage ↦ absurd (other (sym is ∙ usage.0))
-    | inr there ↦ subst (λ (t : Status). Came words shelf (AtFile err t) (AtJob out err t)) is there
+    | inr there ↦ subst (λ (t : Status). HasCause t words shelf out err) is there
   ]
 
-  pub usage_law : (s ≡ status.Usage) ↔ (ask_of words ≡ None)
+  pub usage_law : (s ≡ status.Usage) ↔ AskNothing words
   usage_law = elim came [
     | inl usage ↦ (λ is. usage.1, λ none. usage.0)
-    | inr there ↦ (λ is. absurd (nowhere (subst (λ (t : Status). Came words shelf (AtFile err t) (AtJob out err t)) is there)), λ none. let asked = there.asked in cc (none, asked))
+    | inr there ↦ (λ is. absurd (nowhere (subst (λ (t : Status). HasCause t words shelf out err) is there)), λ none. absurd (none there.ask there.asked))
   ]
     where
-      nowhere : Came words shelf (AtFile err status.Usage) (AtJob out err status.Usage) → ⊥
-      nowhere there = wherever shelf.only_failures (course_of there.ask) shelf.before _ _ (settled there.ask) (λ kind file at here. here.1) (λ job at owed here. here.1) there.along
+      nowhere : HasCause status.Usage words shelf out err → ⊥
+      nowhere there = wherever shelf.only_failures (course_of there.ask) shelf.before _ _ (settled there.ask)
+          (λ kind file at here. of_refused (λ t. t ≡ status.Usage → ⊥) (λ e. cc e) (λ e. cc e) kind here.1.0)
+          (λ job at owed here. no_usage out err there.ask job owed here.1) there.along
 
   -- ---- streams that are as they were
 
@@ -162,28 +136,40 @@ module _ (words : List (List ℕ)) (shelf : ShelfChange) (out err : SinkChange) 
   job_goes on job (inl lack) = error_goes on _ _ lack refl
   job_goes on job (inr answers) = answers.0
 
-  goes : (asked : Option Ask) → MayGiveBy asked shelf gave.reply → gave.reply.stream ≡ stream_of (reports asked) gave.reply.status
-  goes None may = error_goes false _ _ may.0 refl
-  goes (Some ask) may =
+  -- words that ask for nothing have a reply on the error stream, in no other status than usage
+  usage_goes : AskNothing words → gave.reply ≡ usage → (s ≡ status.Usage) × (gave.reply.stream ≡ Errors)
+  usage_goes nothing is = ((in_error _ _ is).0, ap (λ (r : Reply). r.stream) is)
+
+  goes : (ask : Ask) → MayReply (reports_on_output ask) (course_of ask) shelf gave.reply → gave.reply.stream ≡ stream_of (reports_on_output ask) gave.reply.status
+  goes ask may =
       wherever shelf.only_failures (course_of ask) shelf.before _ _ (settled ask) (file_goes (reports_on_output ask)) (λ job at owed here. job_goes (reports_on_output ask) job here.1) may
 
   -- so it is for the stream of the status in which the run ended, unless it was cut off
-  stream_is : (s ≡ status.WriteFault → ⊥) → gave.reply.stream ≡ stream_of (reports (ask_of words)) s
-  stream_is not_cut = elim gave.given [
-    | inl whole ↦ goes (ask_of words) gave.allowed ∙ ap (stream_of (reports (ask_of words))) (sym whole.0)
+  stream_is : (ask : Ask) → MayReply (reports_on_output ask) (course_of ask) shelf gave.reply → (s ≡ status.WriteFault → ⊥) → gave.reply.stream ≡ stream_of (reports_on_output ask) s
+  stream_is ask may not_cut = elim gave.given [
+    | inl whole ↦ goes ask may ∙ ap (stream_of (reports_on_output ask)) (sym whole.0)
     | inr cut ↦ absurd (not_cut cut.0)
   ]
 
   -- a run that ends otherwise than done, by a write fault, or with a report on the output has nothing for the output
   pub nothing_to_write : (s ≡ status.Done → ⊥) → (s ≡ status.WriteFault → ⊥) → (s ≡ status.Violated → AsksToReport words → ⊥) → gave.reply.stream ≡ Errors
-  nothing_to_write not_done not_cut not_reported =
-      stream_is not_cut ∙ to_errors (reports (ask_of words)) s not_done (λ violated on. not_reported violated (asks words (ask_of words) refl on))
+  nothing_to_write not_done not_cut not_reported = elim gave.allowed [
+    | inl nothing ↦ (usage_goes nothing.0 nothing.1).1
+    | inr asks ↦ stream_is asks.0 asks.2 not_cut ∙ to_errors (reports_on_output asks.0) s not_done (λ violated on. not_reported violated (asks.0, asks.1, on))
+  ]
 
   -- a run that is done, or ends with a report on the output, has a text for the output
   pub something_to_write : (s ≡ status.Done) ⊎ ((s ≡ status.Violated) × AsksToReport words) → gave.reply.stream ≡ Output
-  something_to_write (inl done) = stream_is (λ cut. cc (done, cut)) ∙ ap (stream_of (reports (ask_of words))) done
-  something_to_write (inr (violated, (ask, asked, on))) =
-      stream_is (λ cut. cc (violated, cut)) ∙ (λ i. stream_of ((ap reports asked ∙ on) i) (violated i))
+  something_to_write (inl done) = elim gave.allowed [
+    | inl nothing ↦ let other = (usage_goes nothing.0 nothing.1).0 in cc (done, other)
+    | inr asks ↦ stream_is asks.0 asks.2 (λ cut. cc (done, cut)) ∙ ap (stream_of (reports_on_output asks.0)) done
+  ]
+  something_to_write (inr (violated, (ask, asked, on))) = elim gave.allowed [
+    | inl nothing ↦ absurd (nothing.0 ask asked)
+    | inr asks ↦
+        let same = one_ask words asks.0 ask asks.1 asked in
+        stream_is asks.0 asks.2 (λ cut. cc (violated, cut)) ∙ (λ i. stream_of ((ap reports_on_output same ∙ on) i) (violated i))
+  ]
 
 pub no_fault : (words : List (List ℕ)) (s : Status) → (s ≡ status.Done) ⊎ ((s ≡ status.Violated) × AsksToReport words)
     → s ≡ status.WriteFault → ⊥

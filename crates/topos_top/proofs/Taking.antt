@@ -5,7 +5,7 @@ use Rattle.std.specs.Prelude.{IfSome, IsSomeAnd}
 use Rattle.std.specs.FinMap.{get}
 use Rattle.edge_io.specs.Counts.{more}
 use Rattle.edge_io.specs.Told.{Files}
-use Rattle.topos_top.specs.Kinds.{IsRefused, most_of}
+use Rattle.topos_top.specs.Kinds.{contents_of, IsRefused}
 use Rattle.topos_top.specs.inner.Reads.{TookFile}
 use Rattle.topos_top.specs.Replies.{StopsAt, Stopped}
 use Rattle.topos_top.specs.Reply.{Reply}
@@ -15,7 +15,7 @@ use Rattle.topos_top.specs.declared.kind.Kind.{Kind}
 -- a file that was taken whole
 pub took_whole : {E : Type 0} (kind : Kind) (file bytes : List ℕ) (shelf : ShelfChange) → Holds shelf.before file bytes → shelf.after.told ≡ shelf.before.told
     → shelf.before.faults ≤ shelf.after.faults → (shelf.only_failures → E ⊎ (shelf.after.faults ≡ shelf.before.faults)) → (E → ⊥)
-    → shelf.after.begins ≡ more shelf.before.begins 1 → length bytes ≡ shelf.after.taken → length bytes ≤ most_of kind → TookFile shelf kind file bytes
+    → shelf.after.begins ≡ more shelf.before.begins 1 → length bytes ≡ shelf.after.taken → length bytes ≤ (contents_of kind).most → TookFile shelf kind file bytes
 took_whole kind file bytes shelf held told faults_stay fault none begins taken within = record {
   held = held;
   took = record {
@@ -45,14 +45,14 @@ too_long_seen limit file None longer = let some = some_longer limit in (some.0, 
 too_long_seen limit file (Some files) longer = told_longer limit (get files file) longer
 
 -- a file of which one byte too many was taken: a told one is longer than the limit, and an untold one may be any that is
-pub took_too_much : (kind : Kind) (file : List ℕ) (shelf : ShelfChange) (given : Reply) → IfSome shelf.before.told (λ files. IsSomeAnd (get files file) (λ bytes. most_of kind < length bytes))
-    → shelf.after.begins ≡ more shelf.before.begins 1 → shelf.after.taken ≡ most_of kind + 1 → ((bytes : List ℕ) → most_of kind < length bytes → IsRefused kind bytes given)
+pub took_too_much : (kind : Kind) (file : List ℕ) (shelf : ShelfChange) (given : Reply) → IfSome shelf.before.told (λ files. IsSomeAnd (get files file) (λ bytes. (contents_of kind).most < length bytes))
+    → shelf.after.begins ≡ more shelf.before.begins 1 → shelf.after.taken ≡ (contents_of kind).most + 1 → ((bytes : List ℕ) → (contents_of kind).most < length bytes → IsRefused kind bytes given)
     → StopsAt shelf kind file given
 took_too_much kind file shelf given longer begins taken refused =
-    let seen = too_long_seen (most_of kind) file shelf.before.told longer in
+    let seen = too_long_seen (contents_of kind).most file shelf.before.told longer in
     Stopped (Some seen.0) (record { begins = begins; held = seen.1; taken = counted seen.0 seen.2 }) (refused seen.0 seen.2)
   where
-    counted : (bytes : List ℕ) → most_of kind < length bytes → shelf.after.taken ≡ min (length bytes) (most_of kind + 1)
+    counted : (bytes : List ℕ) → (contents_of kind).most < length bytes → shelf.after.taken ≡ min (length bytes) ((contents_of kind).most + 1)
     counted bytes longer = omega (arith, longer, taken)
 
 -- bytes that are refused

@@ -1,9 +1,10 @@
--- The forms of the command line word by word, some words that are none of them, and the usage.
-use Rattle.std.proofs.Common.{◌≡◌, ℕ, List, [], ◌∷◌, ◌++◌, None, Some, refl}
+-- The forms of the command line word by word, and some words that are none of them.
+use Rattle.std.proofs.Common.{◌≡◌, ℕ, List, [], ◌∷◌, None, Some, refl}
 use Rattle.std.specs.Prelude.{codes}
 use Rattle.std.specs.Fmt.{digits}
-use Rattle.text_core.specs.Decimal.{number}
-use Rattle.topos_top.specs.Ask.{Check, Policy, Rules, Repair, Trace, Sample, Migrate, Audit, Edit, Local, ask_of, usage_text}
+use Rattle.text_core.specs.inner.Decimal.{number}
+use Rattle.topos_top.specs.Ask.{Check, Policy, Rules, Repair, Trace, Sample, Migrate, Audit, Edit, Local}
+use Rattle.topos_top.specs.inner.Ask.{ask_of}
 use Rattle.topos_top.specs.declared.dialect.Dialect.TheVariants.{Iptables, OpenFlow}
 
 check_words : (file : List ℕ) → ask_of (codes "check" ∷ file ∷ []) ≡ Some (Check file)
@@ -92,17 +93,3 @@ one_word = refl
 too_many : (file other : List ℕ) → ask_of (codes "policy" ∷ file ∷ other ∷ []) ≡ None
 unfolding ask_of
 too_many file other = refl
-
-usage_lines : usage_text
-    ≡ codes "usage: topos check FILE\n"
-    ++ (codes "       topos policy FILE\n"
-    ++ (codes "       topos rules iptables|openflow FILE\n"
-    ++ (codes "       topos repair iptables|openflow FILE\n"
-    ++ (codes "       topos trace iptables|openflow RULES EVENTS\n"
-    ++ (codes "       topos sample N\n"
-    ++ (codes "       topos migrate FILE\n"
-    ++ (codes "       topos audit iptables|openflow FILE RULES\n"
-    ++ (codes "       topos edit FILE EDITS\n"
-    ++ codes "       topos local FILE HOST\n"))))))))
-unfolding usage_text
-usage_lines = refl

@@ -10,13 +10,13 @@ use Rattle.audit_core.specs.Rules.{Rules, Chains, Entries, filter_of}
 use Rattle.audit_core.specs.Sides.{DifferThen, Sides, sides_of}
 use Rattle.audit_core.specs.declared.finding.Trace.{Trace}
 use Rattle.host_net.specs.declared.packet.Packet.{Packet}
-use Rattle.net_core.specs.Network.{Network, site_of}
-use Rattle.net_core.specs.Policies.{IsPolicyOf, Policy}
+use Rattle.net_core.specs.Network.{Network}
 use Rattle.pkt_core.specs.declared.event.Event.{Event}
 use Rattle.pkt_core.specs.declared.event.Event.TheVariants.{Seen}
 use Rattle.pkt_core.specs.Filter.{ArePackets, ForwardsExpected}
 use Rattle.topos_top.specs.Dialects.{language_of}
-use Rattle.topos_top.specs.Job.{End, Job}
+use Rattle.topos_top.specs.Job.{End, Job, says_why}
+use Rattle.topos_top.specs.Rules.{OfPolicy}
 use Rattle.topos_top.specs.declared.dialect.Dialect.{Dialect}
 use Rattle.topos_top.specs.declared.dialect.Dialect.TheVariants.{Iptables, OpenFlow}
 use Rattle.topos_top.specs.declared.status.Status.TheVariants.{Violated, NotEmittable, Done}
@@ -26,37 +26,23 @@ abbrev pub rules_in : (dialect : Dialect) → (language_of dialect).Rules → Ru
 rules_in Iptables chains = Chains chains
 rules_in OpenFlow entries = Entries entries
 
--- a policy of the network, and the rules
-abbrev pub sides_for : Network → Rules → Policy → Sides
-sides_for d rules policy = sides_of (site_of d) policy.permitted.flows policy.stateful.flows rules
-
 -- So it is of the policy of the network and the rules.
-pub record OfSides (d : Network) (rules : Rules) (Holds : Sides → Type 0) : Type 0 where
-  pub policy : Policy
-  pub is_policy : IsPolicyOf d policy
-  pub so : Holds (sides_for d rules policy)
+abbrev pub OfSides : Network → Rules → (Sides → Type 0) → Type 0
+OfSides d rules Holds = OfPolicy d (λ site p s. Holds (sides_of site p s rules))
 
--- there are few classes of packets, and there are too many
+-- there are few classes of packets
 abbrev pub FewClasses : Sides → Type 0
 FewClasses sides = class_count sides ≤ 4000000
-
-abbrev pub ManyClasses : Sides → Type 0
-ManyClasses sides = 4000000 < class_count sides
 
 -- Over every list of packets and forgettings, beginning with no connections, the rules forward exactly what the policy and its answers expect.
 abbrev pub ForwardAlike : Sides → Type 0
 ForwardAlike sides = ForwardsExpected (filter_of sides.rules) sides.site sides.permitted sides.stateful
 
--- The text is the first short list of packets on which the rules do not do what the policy says.
-pub record TellsTrace (sides : Sides) (text : List ℕ) : Type 0 where
-  pub trace : Trace
-  pub first : IsFirstTrace sides (leasts_of (cuts_between sides)) trace
-  pub told : text ≡ trace_text trace
-
--- What is told as a difference is one: run over the told packets, beginning with no connections, the rules do with the last of them what the text says,
--- and the policy and its answers expect the other of it.
+-- The text is the first short list of packets on which the rules do not do what the policy says. What is told as a difference is one: run over the told packets,
+-- beginning with no connections, the rules do with the last of them what the text says, and the policy and its answers expect the other of it.
 pub record TellsDifference (sides : Sides) (text : List ℕ) : Type 0 where
   pub trace : Trace
+  pub first : IsFirstTrace sides (leasts_of (cuts_between sides)) trace
   pub told : text ≡ trace_text trace
   pub before : List Event
   pub last : Packet
@@ -64,22 +50,17 @@ pub record TellsDifference (sides : Sides) (text : List ℕ) : Type 0 where
   pub packets : ArePackets (events_of trace)
   pub differ : DifferThen sides before last trace.forwards
 
--- There are so many classes of packets that they are not compared.
-abbrev pub many_classes : Network → Rules → End
-many_classes d rules = record {
-  status = NotEmittable;
-  when = OfSides d rules ManyClasses;
-  is = λ line. OfSides d rules (λ sides. line ≡ classes_line (class_count sides));
-  tells = λ line. OfSides d rules (λ sides. ManyClasses sides × (line ≡ classes_line (class_count sides)));
-}
+-- There are so many classes of packets that they are not compared, and the line says how many.
+abbrev pub HasManyClasses : Sides → (line : List ℕ) → Type 0
+HasManyClasses sides line = (4000000 < class_count sides) × (line ≡ classes_line (class_count sides))
 
 -- They differ on some list of packets and forgettings: the first short one is told.
 abbrev pub difference : Network → Rules → End
 difference d rules = record {
   status = Violated;
   when = OfSides d rules (λ sides. FewClasses sides × DifferSomewhere sides);
-  is = λ text. OfSides d rules (λ sides. TellsTrace sides text);
-  tells = λ text. OfSides d rules (λ sides. TellsTrace sides text × TellsDifference sides text);
+  is = λ text. OfSides d rules (λ sides. TellsDifference sides text);
+  tells = λ text. OfSides d rules (λ sides. TellsDifference sides text);
 }
 
 -- They forward alike: `equal` is written only there, and always there where the classes are few.
@@ -92,4 +73,5 @@ agreement d rules = record {
 }
 
 abbrev pub audit_job : Network → Rules → Job
-audit_job d rules = many_classes d rules ∷ (difference d rules ∷ (agreement d rules ∷ []))
+audit_job d rules =
+    says_why NotEmittable (Unit {0}) (λ line. OfSides d rules (λ sides. HasManyClasses sides line)) ∷ (difference d rules ∷ (agreement d rules ∷ []))

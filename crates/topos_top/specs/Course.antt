@@ -1,20 +1,20 @@
 -- What a command does with its files: it reads them one after the other, each in its turn, and has a job with what it read.
 use Rattle.std.specs.Prelude.{◌⊎◌, List, ℕ}
 use Rattle.topos_top.specs.Job.{Job}
-use Rattle.topos_top.specs.Kinds.{Said, Reads}
+use Rattle.topos_top.specs.Kinds.{contents_of}
 use Rattle.topos_top.specs.Shelf.{Shelf, Holds, TookBytes}
 use Rattle.topos_top.specs.declared.kind.Kind.{Kind}
 
 pub data Course : Type 1 where
-  reads : (kind : Kind) (file : List ℕ) → (Said kind → Course) → Course
+  reads : (kind : Kind) (file : List ℕ) → ((contents_of kind).Said → Course) → Course
   ends : Job → Course
 
 -- A file was accepted with this reading, and what comes next is so with the shelf after it.
-pub record Accepted (only_failures : Type 0) (shelf : Shelf) (kind : Kind) (file : List ℕ) (Next : Said kind → Shelf → Type 0) : Type 0 where
+pub record Accepted (only_failures : Type 0) (shelf : Shelf) (kind : Kind) (file : List ℕ) (Next : (contents_of kind).Said → Shelf → Type 0) : Type 0 where
   pub bytes : List ℕ
   pub held : Holds shelf file bytes
-  pub said : Said kind
-  pub read : Reads kind bytes said
+  pub said : (contents_of kind).Said
+  pub read : (contents_of kind).Reads bytes said
   pub after : Shelf
   pub took : TookBytes only_failures kind bytes shelf after
   pub next : Next said after

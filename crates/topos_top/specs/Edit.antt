@@ -9,7 +9,7 @@ use Rattle.net_core.specs.Network.{Network}
 use Rattle.report_core.specs.PolicyReport.{IsPolicyReport}
 use Rattle.report_core.specs.ReportPromises.{TellsPolicy}
 use Rattle.toml.specs.Data.{Members}
-use Rattle.topos_top.specs.Job.{End, Job}
+use Rattle.topos_top.specs.Job.{End, Job, says_why}
 use Rattle.topos_top.specs.TextFault.{edit_fault_line}
 use Rattle.topos_top.specs.declared.status.Status.TheVariants.{BadText, Done}
 
@@ -51,16 +51,7 @@ pub record SaysRefusal (table : Members) (edits : List Edit) (line : List ℕ) :
   pub refused : after_edits edits table ≡ Err (number, fault)
   pub told : line ≡ edit_fault_line number fault
 
--- an edit is refused
-abbrev pub refusal : Members → List Edit → End
-refusal table edits = record {
-  status = BadText;
-  when = (line : List ℕ) × SaysRefusal table edits line;
-  is = SaysRefusal table edits;
-  tells = SaysRefusal table edits;
-}
-
--- none is
+-- no edit is refused
 abbrev pub acceptance : Members → List Edit → End
 acceptance table edits = record {
   status = Done;
@@ -70,4 +61,4 @@ acceptance table edits = record {
 }
 
 abbrev pub edit_job : Members → List Edit → Job
-edit_job table edits = refusal table edits ∷ (acceptance table edits ∷ [])
+edit_job table edits = says_why BadText (Unit {0}) (SaysRefusal table edits) ∷ (acceptance table edits ∷ [])

@@ -26,6 +26,10 @@ OneEnd P (end ∷ job) = P end ⊎ OneEnd P job
 abbrev pub writes : (is tells : List ℕ → Type 0) → Job
 writes is tells = record { status = status.Done; when = Unit {0}; is = is; tells = tells } ∷ []
 
+-- a line that says why, where this holds and there is a reason
+abbrev pub says_why : Status → (holds : Type 0) → (IsWhy : List ℕ → Type 0) → End
+says_why ended holds IsWhy = record { status = ended; when = holds × (line : List ℕ) × IsWhy line; is = IsWhy; tells = IsWhy }
+
 -- the end comes with this status and text
 abbrev pub EndsIn : Status → (text : List ℕ) → End → Type 0
 EndsIn ended text end = (ended ≡ end.status) × end.when × end.is text

@@ -8,23 +8,17 @@ use Rattle.ipt_read.specs.TextLines.{IsReading}
 use Rattle.ipt_rules.specs.Chain.{Chain}
 use Rattle.ipt_rules.specs.Text.{text}
 use Rattle.net_core.specs.Network.{Network, site_of}
-use Rattle.net_core.specs.Policies.{IsPolicyOf, Policy}
+use Rattle.net_core.specs.Policies.{Policy}
 use Rattle.topos_top.specs.Check.{offences_when}
-use Rattle.topos_top.specs.Job.{End, Job}
-use Rattle.topos_top.specs.Rules.{KeepInvariants, ListedFails, ListedHolds}
+use Rattle.topos_top.specs.Job.{Job, says_why}
+use Rattle.topos_top.specs.Reply.{not_emittable}
+use Rattle.topos_top.specs.Rules.{KeepInvariants, ListedFails, ListedHolds, OfPolicy}
 use Rattle.topos_top.specs.declared.status.Status.TheVariants.{Violated, NotEmittable, Done}
 
--- The line that there is no host of that name, and the one that it is the rest host, which has no machines of its own (docs/FORMATS.md).
-abbrev pub no_host_line : (host : List ℕ) → List ℕ
-no_host_line host = codes "topos: not emittable: no host " ++ (host ++ codes "\n")
-
-abbrev pub rest_host_line : (host : List ℕ) → List ℕ
-rest_host_line host = codes "topos: not emittable: " ++ (host ++ codes " is the rest host\n")
-
--- Why there are no rules for a host of that name.
+-- Why there are no rules for a host of that name, and the line that says so (docs/FORMATS.md): there is no such host, or it is the rest host, which has no machines of its own.
 pub data IsBarred (d : Network) (host line : List ℕ) : Type 0 where
-  NoHost : host_named d.hosts host ≡ None → line ≡ no_host_line host → IsBarred d host line
-  RestHost : (h : ℕ) → host_named d.hosts host ≡ Some h → rest_of d.hosts ≡ Some h → line ≡ rest_host_line host → IsBarred d host line
+  NoHost : host_named d.hosts host ≡ None → line ≡ not_emittable (codes "no host " ++ (host ++ codes "\n")) → IsBarred d host line
+  RestHost : (h : ℕ) → host_named d.hosts host ≡ Some h → rest_of d.hosts ≡ Some h → line ≡ not_emittable (host ++ codes " is the rest host\n") → IsBarred d host line
 
 -- The host of that name is a specific one, and this is its number.
 pub record IsSpecific (d : Network) (host : List ℕ) : Type 0 where
@@ -32,24 +26,19 @@ pub record IsSpecific (d : Network) (host : List ℕ) : Type 0 where
   pub named : host_named d.hosts host ≡ Some number
   pub specific : IsTrue (is_specific d.hosts number)
 
+-- The text is the rules for the machines of that host, by the policy of the network.
+abbrev pub IsLocal : Network → (host rules : List ℕ) → Type 0
+IsLocal d host rules = OfPolicy d (λ site p s. (found : IsSpecific d host) × (rules ≡ text (local_layout site p s found.number)))
+
 -- The chains for the machines of each host, by a policy of the network.
 abbrev pub machines_for : Network → Policy → ℕ → List Chain
 machines_for d policy = local_layout (site_of d) policy.permitted.flows policy.stateful.flows
-
--- The text is the rules for the machines of that host, by the policy of the network.
-pub record IsLocal (d : Network) (host rules : List ℕ) : Type 0 where
-  pub policy : Policy
-  pub is_policy : IsPolicyOf d policy
-  pub number : ℕ
-  pub named : host_named d.hosts host ≡ Some number
-  pub written : rules ≡ text (machines_for d policy number)
 
 -- What rules for the machines of a host do. They guard it by the policy, which is that of the network and keeps its invariants. Where every specific host has its own on its
 -- machines, over every list of packets and forgettings, a packet passes exactly where the policy and its answers expect it. The text has these rules
 -- as its reading, and no others.
 pub record KeepLocal (d : Network) (host rules : List ℕ) : Type 0 where
   pub policy : Policy
-  pub is_policy : IsPolicyOf d policy
   pub invariants : KeepInvariants d policy
   pub found : IsSpecific d host
   pub written : rules ≡ text (machines_for d policy found.number)
@@ -58,18 +47,13 @@ pub record KeepLocal (d : Network) (host rules : List ℕ) : Type 0 where
   pub read : IsReading rules (machines_for d policy found.number)
   pub only_reading : (others : List Chain) → IsReading rules others → others ≡ machines_for d policy found.number
 
--- the rules, where this holds and the host is a specific one
-abbrev pub machines_when : Type 0 → Network → (host : List ℕ) → End
-machines_when holds d host = record { status = Done; when = holds × IsSpecific d host; is = IsLocal d host; tells = KeepLocal d host }
-
--- the line, where this holds and it is not
-abbrev pub bar_when : Type 0 → Network → (host : List ℕ) → End
-bar_when holds d host = record { status = NotEmittable; when = holds × (line : List ℕ) × IsBarred d host line; is = IsBarred d host; tells = IsBarred d host }
+-- the rules, where this holds and the host is a specific one; and before them the line that says why, where this holds and it is not
+abbrev pub machines_when : Type 0 → Network → (host : List ℕ) → Job
+machines_when holds d host =
+    says_why NotEmittable holds (IsBarred d host)
+    ∷ (record { status = Done; when = holds × IsSpecific d host; is = IsLocal d host; tells = KeepLocal d host }
+    ∷ [])
 
 -- The same, or the report of `check` where a listed policy breaks an invariant.
 abbrev pub local_job : Network → (host : List ℕ) → Job
-local_job d host =
-    offences_when Violated (ListedFails d) d
-    ∷ (bar_when (ListedHolds d) d host
-    ∷ (machines_when (ListedHolds d) d host
-    ∷ []))
+local_job d host = offences_when Violated (ListedFails d) d ∷ machines_when (ListedHolds d) d host

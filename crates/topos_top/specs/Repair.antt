@@ -1,11 +1,10 @@
 -- `repair iptables|openflow FILE`: the rules of the permitted policy, whatever was listed.
-use Rattle.std.specs.Prelude.{[], ◌∷◌}
 use Rattle.net_core.specs.Network.{Network}
 use Rattle.topos_top.specs.Dialects.{language_of}
 use Rattle.topos_top.specs.Job.{Job}
-use Rattle.topos_top.specs.Rules.{hindrance_when, rules_when}
+use Rattle.topos_top.specs.Rules.{rules_when}
 use Rattle.topos_top.specs.declared.dialect.Dialect.{Dialect}
 
 -- The rules, where they can be written.
 abbrev pub repair_job : Dialect → Network → Job
-repair_job dialect d = hindrance_when (Unit {0}) (language_of dialect) d ∷ (rules_when (Unit {0}) (language_of dialect) d ∷ [])
+repair_job dialect d = rules_when (Unit {0}) (language_of dialect) d

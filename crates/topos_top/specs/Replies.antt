@@ -3,7 +3,7 @@ use Rattle.std.specs.Prelude.{◌≡◌, ℕ, ◌⊎◌, List, Option, None, Som
 use Rattle.std.specs.FinMap.{get}
 use Rattle.edge_io.specs.Counts.{more}
 use Rattle.edge_io.specs.Told.{Files}
-use Rattle.topos_top.specs.Ask.{Ask, ask_of, reports_on_output}
+use Rattle.topos_top.specs.Ask.{Ask, AskFor, AskNothing, reports_on_output}
 use Rattle.topos_top.specs.Commands.{course_of}
 use Rattle.topos_top.specs.Course.{Course, CameAlong}
 use Rattle.topos_top.specs.Job.{Job, Answers, AnswersFirst}
@@ -39,12 +39,10 @@ MayReply on_output course shelf given = CameAlong shelf.only_failures course she
     (λ job before. EndsAt on_output (since before shelf) job given)
 
 -- Words that are no form of the command line give the usage, and begin no file.
-abbrev pub MayGiveBy : Option Ask → ShelfChange → Reply → Type 0
-MayGiveBy None shelf given = (given ≡ usage) × (shelf.after ≡ shelf.before)
-MayGiveBy (Some ask) shelf given = MayReply (reports_on_output ask) (course_of ask) shelf given
-
 abbrev pub MayGive : List (List ℕ) → ShelfChange → Reply → Type 0
-MayGive words = MayGiveBy (ask_of words)
+MayGive words shelf given =
+    (AskNothing words × (given ≡ usage) × (shelf.after ≡ shelf.before))
+    ⊎ ((ask : Ask) × AskFor words ask × MayReply (reports_on_output ask) (course_of ask) shelf given)
 
 -- ---- where the files are told
 
@@ -59,9 +57,6 @@ Replies on_output course told given = CameAlong (Unit {0}) course (telling told)
     (λ job before. Answers on_output job given × AnswersFirst job given)
 
 -- The reply to the words of a command line.
-abbrev pub RepliesBy : Option Ask → Files → Reply → Type 0
-RepliesBy None told given = given ≡ usage
-RepliesBy (Some ask) told given = Replies (reports_on_output ask) (course_of ask) told given
-
 abbrev pub RepliesTo : List (List ℕ) → Files → Reply → Type 0
-RepliesTo words = RepliesBy (ask_of words)
+RepliesTo words told given =
+    (AskNothing words × (given ≡ usage)) ⊎ ((ask : Ask) × AskFor words ask × Replies (reports_on_output ask) (course_of ask) told given)

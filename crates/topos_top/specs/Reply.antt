@@ -11,12 +11,9 @@ pub record Reply : Type 0 where
   pub stream : Stream
   pub text : List ℕ
 
-abbrev pub reply_on : Status → Stream → (text : List ℕ) → Reply
-reply_on ended stream text = record { status = ended; stream = stream; text = text }
-
 -- a line on the error stream
 abbrev pub error : Status → (line : List ℕ) → Reply
-error ended line = reply_on ended Errors line
+error ended line = record { status = ended; stream = Errors; text = line }
 
 -- words that are no form, a file that cannot be read, and want of memory
 abbrev pub usage : Reply
@@ -33,6 +30,10 @@ memory_line = codes "topos: out of memory\n"
 
 abbrev pub no_memory : Reply
 no_memory = error status.Memory memory_line
+
+-- the line that what is asked for cannot be written, and why
+abbrev pub not_emittable : (why : List ℕ) → List ℕ
+not_emittable why = codes "topos: not emittable: " ++ why
 
 -- the line after a write fault of the output
 abbrev pub write_fault_line : List ℕ

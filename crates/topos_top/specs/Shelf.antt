@@ -3,7 +3,7 @@ use Rattle.std.specs.Prelude.{◌≡◌, ℕ, ◌+◌, ◌≤◌, ◌⊎◌, Lis
 use Rattle.std.specs.FinMap.{get}
 use Rattle.edge_io.specs.Counts.{more, Rose}
 use Rattle.edge_io.specs.Told.{Files, Lacks}
-use Rattle.topos_top.specs.Kinds.{most_of}
+use Rattle.topos_top.specs.Kinds.{contents_of}
 use Rattle.topos_top.specs.declared.kind.Kind.{Kind}
 
 -- Its files, where it tells them, and its counts: of faults, of begun files, and of the bytes that were taken of the last of them.
@@ -35,7 +35,7 @@ SawFile shelf name (Some bytes) = Holds shelf.before name bytes
 
 -- How many bytes of a file are taken: all, or one more than the limit.
 abbrev pub taken_of : Kind → List ℕ → ℕ
-taken_of kind bytes = min (length bytes) (most_of kind + 1)
+taken_of kind bytes = min (length bytes) ((contents_of kind).most + 1)
 
 -- A file of these bytes was taken. It counted no fault where the shelf counts only calls that fail, and else maybe some that were got over.
 pub record TookBytes (only_failures : Type 0) (kind : Kind) (bytes : List ℕ) (before after : Shelf) : Type 0 where

@@ -1,5 +1,5 @@
 -- The line of a text of rules, of events or of edits that is refused, with its first line that is faulty and why (docs/FORMATS.md).
-use Rattle.std.specs.Prelude.{ℕ, List, ◌++◌, codes, decimal}
+use Rattle.std.specs.Prelude.{◌≡◌, ℕ, List, ◌++◌, codes, decimal}
 use Rattle.desc_form.specs.Refusals.{name}
 use Rattle.edit_core.specs.declared.fault.EditFault.{EditFault}
 use Rattle.edit_core.specs.declared.fault.EditFault.TheVariants as edit
@@ -58,20 +58,14 @@ edit_reason edit.Memory = codes "Memory"
 
 -- a line by its number, from 1, and the reason; line 0 stands for the whole text
 abbrev pub fault_line : (text : List ℕ) → (line : ℕ) → (reason : List ℕ) → List ℕ
-fault_line text line reason = text ++ (decimal line ++ (codes ": " ++ (reason ++ codes "\n")))
+fault_line text line reason = codes "topos: " ++ (text ++ (codes ": line " ++ (decimal line ++ (codes ": " ++ (reason ++ codes "\n")))))
 
-abbrev pub rules_fault_line : (line : ℕ) → IptWhy → List ℕ
-rules_fault_line line why = fault_line (codes "topos: rules: line ") line (rules_reason why)
-
--- a text of rules is called so in every dialect
-abbrev pub flows_fault_line : (line : ℕ) → OfpWhy → List ℕ
-flows_fault_line line why = fault_line (codes "topos: rules: line ") line (flows_reason why)
-
-abbrev pub events_fault_line : (line : ℕ) → EventWhy → List ℕ
-events_fault_line line why = fault_line (codes "topos: events: line ") line (events_reason why)
-
-abbrev pub edits_fault_line : (line : ℕ) → EditsWhy → List ℕ
-edits_fault_line line why = fault_line (codes "topos: edits: line ") line (edits_reason why)
+-- The line tells a fault of the bytes, which are to hold such a text. A text of rules is called so in every dialect.
+pub record TellsFault {Why : Type 0} (text : List ℕ) (reason_of : Why → List ℕ) (HasFault : List ℕ → ℕ → Why → Type 0) (bytes line : List ℕ) : Type 0 where
+  pub number : ℕ
+  pub why : Why
+  pub fault : HasFault bytes number why
+  pub told : line ≡ fault_line text number (reason_of why)
 
 unfoldable pub edit_fault_line : (line : ℕ) → EditFault → List ℕ
-edit_fault_line line fault = fault_line (codes "topos: edits: line ") line (edit_reason fault)
+edit_fault_line line fault = fault_line (codes "edits") line (edit_reason fault)

@@ -5,6 +5,7 @@ pub mod Course
 pub mod Local
 pub mod Reads
 pub mod Refused
+pub mod Replies
 pub mod Shelf
 pub mod StatusNumber
 pub mod Taken

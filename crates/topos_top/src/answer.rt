@@ -2,9 +2,9 @@
 
 ghost use Rattle.std.specs.Prelude.{◌≡◌};
 ghost use Rattle.report_core.specs.RefusalLine.{refusal_text};
-ghost use Rattle.topos_top.specs.Reply.{Reply, usage, cannot_read, no_memory, reply_on, error};
+ghost use Rattle.topos_top.specs.Reply.{Reply, usage, cannot_read, no_memory, error};
 ghost use Rattle.topos_top.specs.TextFault.{fault_line};
-ghost use Rattle.topos_top.specs.inner.Views.{reply_view, text_view};
+ghost use Rattle.topos_top.specs.inner.Views.{reply_on, reply_view, text_view};
 
 use crate::refused::no_memory;
 use crate::status::{Status, Stream};

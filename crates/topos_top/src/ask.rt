@@ -2,8 +2,8 @@
 
 ghost use Rattle.std.specs.Prelude.{◌≡◌, ◌≤◌, map, string_bytes, option_map, IfSome};
 ghost use Rattle.host_net.specs.Limits.{host_limit};
-ghost use Rattle.topos_top.specs.Ask.{ask_of, hosts_said, among, forms, one_word, two_words, three_words};
-ghost use Rattle.topos_top.specs.inner.Views.{ask_view, HasFewHosts};
+ghost use Rattle.topos_top.specs.inner.Ask.{ask_of, hosts_said, among, forms, one_word, two_words, three_words};
+ghost use Rattle.topos_top.specs.inner.Views.{ask_view, IsWithinHosts};
 
 use crate::dialect::Dialect;
 use host_net::HOST_LIMIT;
@@ -36,10 +36,10 @@ pub enum Ask<'a> {
 }
 
 /// What the words ask for, where they are one of the forms.
-#[tactic(auto, unfolding(crate::specs::Ask::ask_of))]
+#[tactic(auto, unfolding(crate::specs::inner::Ask::ask_of))]
 pub fn ask_of_words(words: &[String]) -> Option<Ask<'_>>
     ensures ask { option_map ask_view result ≡ ask_of (map string_bytes words.now) }
-    ensures few { IfSome result (λ ask. HasFewHosts (ask_view ask)) }
+    ensures few { IfSome result (λ ask. IsWithinHosts (ask_view ask)) }
 {
     match words {
         [verb, rest @ ..] => ask_after(verb.as_str(), rest),
@@ -50,7 +50,7 @@ pub fn ask_of_words(words: &[String]) -> Option<Ask<'_>>
 /// What a verb asks for with the words after it.
 fn ask_after<'a>(verb: &str, rest: &'a [String]) -> Option<Ask<'a>>
     ensures ask { option_map ask_view result ≡ among forms verb.now (map string_bytes rest.now) }
-    ensures few { IfSome result (λ ask. HasFewHosts (ask_view ask)) }
+    ensures few { IfSome result (λ ask. IsWithinHosts (ask_view ask)) }
 {
     match verb {
         "check" => Some(Ask::Check(one_word(rest)?)),

@@ -6,7 +6,7 @@ ghost use Rattle.topos_top.specs.Commands.{course_of};
 ghost use Rattle.topos_top.specs.inner.Course.{ReadsNothing};
 ghost use Rattle.topos_top.specs.Replies.{MayReply};
 ghost use Rattle.topos_top.specs.inner.Shelf.{shelf_change};
-ghost use Rattle.topos_top.specs.inner.Views.{ask_view, reply_in, HasFewHosts};
+ghost use Rattle.topos_top.specs.inner.Views.{ask_view, reply_in, IsWithinHosts};
 
 use crate::answer::Answer;
 use crate::ask::Ask;
@@ -20,7 +20,7 @@ pub fn reply<'a, H: Shelf>(
     ask: Ask<'a>,
     shelf: &mut H,
 ) -> Result<Answer<'a>, Answer<'a>>
-    requires { HasFewHosts (ask_view ask) }
+    requires { IsWithinHosts (ask_view ask) }
     ensures same_files { H.files shelf.new ≡ H.files shelf.old }
     ensures faults_stay { H.faults shelf.old ≤ H.faults shelf.new }
     ensures reply { MayReply (reports_on_output (ask_view ask.entry)) (course_of (ask_view ask.entry))

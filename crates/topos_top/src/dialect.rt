@@ -1,7 +1,7 @@
 //! The dialects of rules.
 
 ghost use Rattle.std.specs.Prelude.{◌≡◌};
-ghost use Rattle.topos_top.specs.Ask.{dialect_named};
+ghost use Rattle.topos_top.specs.inner.Ask.{dialect_named};
 
 /// A dialect of rules.
 #[derive(Clone, Copy)]

@@ -3,7 +3,7 @@
 ghost use Rattle.std.specs.Prelude.{◌≡◌, ◌≤◌, ◌<◌, ◌^◌, ℕ, List, length};
 ghost use Rattle.desc_form.specs.Refusals.{refused};
 ghost use Rattle.report_core.specs.RefusalLine.{refusal_text};
-ghost use Rattle.topos_top.specs.Kinds.{most_of, IsRefused};
+ghost use Rattle.topos_top.specs.Kinds.{contents_of, IsRefused};
 ghost use Rattle.topos_top.specs.Reply.{error};
 ghost use Rattle.topos_top.specs.inner.Views.{reply_view};
 
@@ -36,7 +36,7 @@ pub enum Kind {
 impl Kind {
     /// The most bytes that such a file may have.
     pub fn most(self) -> usize
-        ensures most { result ≡ most_of self }
+        ensures most { result ≡ (contents_of self).most }
         ensures small { result ≤ 2 ^ 26 }
     {
         match self {
@@ -50,7 +50,7 @@ impl Kind {
 
     /// The answer to a file that has more.
     pub fn too_long<'a>(self) -> Answer<'a>
-        ensures { (bytes : List ℕ) → most_of self < length bytes → IsRefused self bytes (reply_view result) }
+        ensures { (bytes : List ℕ) → (contents_of self).most < length bytes → IsRefused self bytes (reply_view result) }
     {
         match self {
             Kind::Description => too_long_description(),
@@ -78,7 +78,7 @@ fn too_long_description<'a>() -> Answer<'a>
 
 /// The answer to rules that are too long.
 fn too_long_rules<'a>(dialect: Dialect) -> Answer<'a>
-    ensures { (bytes : List ℕ) → most_of (Kind.Rules dialect) < length bytes → IsRefused (Kind.Rules dialect) bytes (reply_view result) }
+    ensures { (bytes : List ℕ) → (contents_of (Kind.Rules dialect)).most < length bytes → IsRefused (Kind.Rules dialect) bytes (reply_view result) }
 {
     match dialect {
         Dialect::Iptables => Answer::from(IptFault::Refused {

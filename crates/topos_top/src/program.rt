@@ -1,11 +1,11 @@
 //! The whole program, over any shelf of files and any two sinks.
 
-ghost use Rattle.std.specs.Prelude.{◌≡◌, ◌≢◌, ℕ, ◌≤◌, ◌↔◌, ◌⊎◌, None, map, string_bytes};
-ghost use Rattle.topos_top.specs.Ask.{ask_of};
-ghost use Rattle.topos_top.specs.inner.Ask.{AsksToReport};
+ghost use Rattle.std.specs.Prelude.{◌≡◌, ◌≢◌, ℕ, ◌≤◌, ◌↔◌, ◌⊎◌, map, string_bytes};
+ghost use Rattle.topos_top.specs.Ask.{Sample, AskFor, AskNothing};
+ghost use Rattle.topos_top.specs.inner.Ask.{AsksToReport, ask_of};
 ghost use Rattle.topos_top.specs.inner.Commands.{NamesNoFile};
-ghost use Rattle.topos_top.specs.Promises.{GaveReply, LacksFile, HasRefused, HasBadText, IsViolated, CannotWrite, WroteText, WasCutOff, RanOut, KeepsPromise, AskForSample, EndsAsSample, IsComplete};
-ghost use Rattle.topos_top.specs.Replies.{MayGive};
+ghost use Rattle.topos_top.specs.Promises.{GaveReply, HasCause, KeepsPromise, EndsAsSample, IsComplete};
+ghost use Rattle.topos_top.specs.inner.Replies.{MayGiveBy, NamesNothing};
 ghost use Rattle.topos_top.specs.inner.Shelf.{shelf_change};
 ghost use Rattle.topos_top.specs.inner.Taken.{sink_change};
 ghost use Rattle.topos_top.specs.inner.Views.{reply_view};
@@ -38,32 +38,33 @@ pub fn run<H: Shelf, O: Sink, E: Sink>(
         (sink_change O.held O.faults out.old out.new) (sink_change E.held E.faults err.old err.new) result }
 
     // What follows from it. Usage is given exactly for words that are no form, and reads nothing.
-    ensures usage { (result ≡ Status.Usage) ↔ (ask_of (map string_bytes words.now) ≡ None) }
+    ensures usage { (result ≡ Status.Usage) ↔ AskNothing (map string_bytes words.now) }
     ensures usage_reads_nothing { result ≡ Status.Usage → shelf.new ≡ shelf.old }
     ensures reads_nothing { NamesNoFile (map string_bytes words.now) → shelf.new ≡ shelf.old }
 
     // Each other answer has its cause.
-    ensures read_fault { result ≡ Status.ReadFault → LacksFile (map string_bytes words.now)
-        (shelf_change H.files H.faults H.begins H.taken H.begin_gives H.read_gives shelf.old shelf.new)
-        (sink_change E.held E.faults err.old err.new) }
-    ensures bad_description { result ≡ Status.BadDescription → HasRefused Status.BadDescription (map string_bytes words.now)
-        (shelf_change H.files H.faults H.begins H.taken H.begin_gives H.read_gives shelf.old shelf.new)
-        (sink_change E.held E.faults err.old err.new) }
-    ensures bad_text { result ≡ Status.BadText → HasBadText (map string_bytes words.now)
+    ensures read_fault { result ≡ Status.ReadFault → HasCause Status.ReadFault (map string_bytes words.now)
         (shelf_change H.files H.faults H.begins H.taken H.begin_gives H.read_gives shelf.old shelf.new)
         (sink_change O.held O.faults out.old out.new) (sink_change E.held E.faults err.old err.new) }
-    ensures violated { result ≡ Status.Violated → IsViolated (map string_bytes words.now)
+    ensures bad_description { result ≡ Status.BadDescription → HasCause Status.BadDescription (map string_bytes words.now)
         (shelf_change H.files H.faults H.begins H.taken H.begin_gives H.read_gives shelf.old shelf.new)
         (sink_change O.held O.faults out.old out.new) (sink_change E.held E.faults err.old err.new) }
-    ensures not_emittable { result ≡ Status.NotEmittable → CannotWrite (map string_bytes words.now)
+    ensures bad_text { result ≡ Status.BadText → HasCause Status.BadText (map string_bytes words.now)
         (shelf_change H.files H.faults H.begins H.taken H.begin_gives H.read_gives shelf.old shelf.new)
         (sink_change O.held O.faults out.old out.new) (sink_change E.held E.faults err.old err.new) }
-    ensures write_fault { result ≡ Status.WriteFault → WasCutOff (map string_bytes words.now)
+    ensures violated { result ≡ Status.Violated → HasCause Status.Violated (map string_bytes words.now)
         (shelf_change H.files H.faults H.begins H.taken H.begin_gives H.read_gives shelf.old shelf.new)
         (sink_change O.held O.faults out.old out.new) (sink_change E.held E.faults err.old err.new) }
-    ensures memory { result ≡ Status.Memory → RanOut (map string_bytes words.now)
-        (shelf_change H.files H.faults H.begins H.taken H.begin_gives H.read_gives shelf.old shelf.new) (sink_change E.held E.faults err.old err.new) }
-    ensures done { result ≡ Status.Done → WroteText (map string_bytes words.now)
+    ensures not_emittable { result ≡ Status.NotEmittable → HasCause Status.NotEmittable (map string_bytes words.now)
+        (shelf_change H.files H.faults H.begins H.taken H.begin_gives H.read_gives shelf.old shelf.new)
+        (sink_change O.held O.faults out.old out.new) (sink_change E.held E.faults err.old err.new) }
+    ensures write_fault { result ≡ Status.WriteFault → HasCause Status.WriteFault (map string_bytes words.now)
+        (shelf_change H.files H.faults H.begins H.taken H.begin_gives H.read_gives shelf.old shelf.new)
+        (sink_change O.held O.faults out.old out.new) (sink_change E.held E.faults err.old err.new) }
+    ensures memory { result ≡ Status.Memory → HasCause Status.Memory (map string_bytes words.now)
+        (shelf_change H.files H.faults H.begins H.taken H.begin_gives H.read_gives shelf.old shelf.new)
+        (sink_change O.held O.faults out.old out.new) (sink_change E.held E.faults err.old err.new) }
+    ensures done { result ≡ Status.Done → HasCause Status.Done (map string_bytes words.now)
         (shelf_change H.files H.faults H.begins H.taken H.begin_gives H.read_gives shelf.old shelf.new)
         (sink_change O.held O.faults out.old out.new) (sink_change E.held E.faults err.old err.new) }
 
@@ -78,7 +79,7 @@ pub fn run<H: Shelf, O: Sink, E: Sink>(
         (shelf_change H.files H.faults H.begins H.taken H.begin_gives H.read_gives shelf.old shelf.new) (sink_change O.held O.faults out.old out.new) }
 
     // A sample takes nothing off the shelf, and is always written unless the output fails or there is no memory.
-    ensures sample { (n : ℕ) → AskForSample (map string_bytes words.now) n
+    ensures sample { (n : ℕ) → AskFor (map string_bytes words.now) (Sample n)
         → (shelf.new ≡ shelf.old) × EndsAsSample n (sink_change O.held O.faults out.old out.new) result }
 
     // Where nothing is written or said, the stream is as it was. A command reports what fails on one stream,
@@ -101,9 +102,9 @@ pub fn run<H: Shelf, O: Sink, E: Sink>(
 fn answer_to<'a, H: Shelf>(alloc: Global, words: &'a [String], shelf: &mut H) -> Answer<'a>
     ensures same_files { H.files shelf.new ≡ H.files shelf.old }
     ensures faults_stay { H.faults shelf.old ≤ H.faults shelf.new }
-    ensures reply { MayGive (map string_bytes words.now)
+    ensures reply { MayGiveBy (ask_of (map string_bytes words.now))
         (shelf_change H.files H.faults H.begins H.taken H.begin_gives H.read_gives shelf.old shelf.new) (reply_view result) }
-    ensures reads_nothing { NamesNoFile (map string_bytes words.now) → shelf.new ≡ shelf.old }
+    ensures reads_nothing { NamesNothing (ask_of (map string_bytes words.now)) → shelf.new ≡ shelf.old }
 {
     match ask_of_words(words) {
         None => Answer::error(Status::Usage, Text::Usage),

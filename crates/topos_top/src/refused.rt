@@ -31,72 +31,64 @@ impl<'a> From<DescFault> for Answer<'a> {
 }
 
 impl<'a> From<IptFault> for Answer<'a> {
-    ghost use Rattle.std.specs.Prelude.{◌≡◌};
+    ghost use Rattle.std.specs.Prelude.{◌≡◌, codes};
     ghost use Rattle.topos_top.specs.inner.Refused.{text_reply};
-    ghost use Rattle.topos_top.specs.TextFault.{rules_fault_line};
+    ghost use Rattle.topos_top.specs.TextFault.{rules_reason};
     ghost use Rattle.topos_top.specs.inner.Views.{reply_view};
 
-    ghost from_gives = { λ fault given. reply_view given ≡ text_reply rules_fault_line fault };
+    ghost from_gives = { λ fault given. reply_view given ≡ text_reply (codes "rules") rules_reason fault };
 
     fn from(fault: IptFault) -> Self {
         match fault {
-            IptFault::Refused { line, why } => {
-                bad_text(b"topos: rules: line ", line, rules_reason(why))
-            }
+            IptFault::Refused { line, why } => { bad_text(b"rules", line, rules_reason(why)) }
             IptFault::Memory => no_memory(),
         }
     }
 }
 
 impl<'a> From<OfpFault> for Answer<'a> {
-    ghost use Rattle.std.specs.Prelude.{◌≡◌};
+    ghost use Rattle.std.specs.Prelude.{◌≡◌, codes};
     ghost use Rattle.topos_top.specs.inner.Refused.{text_reply};
-    ghost use Rattle.topos_top.specs.TextFault.{flows_fault_line};
+    ghost use Rattle.topos_top.specs.TextFault.{flows_reason};
     ghost use Rattle.topos_top.specs.inner.Views.{reply_view};
 
-    ghost from_gives = { λ fault given. reply_view given ≡ text_reply flows_fault_line fault };
+    ghost from_gives = { λ fault given. reply_view given ≡ text_reply (codes "rules") flows_reason fault };
 
     fn from(fault: OfpFault) -> Self {
         match fault {
-            OfpFault::Refused { line, why } => {
-                bad_text(b"topos: rules: line ", line, flows_reason(why))
-            }
+            OfpFault::Refused { line, why } => { bad_text(b"rules", line, flows_reason(why)) }
             OfpFault::Memory => no_memory(),
         }
     }
 }
 
 impl<'a> From<EventFault> for Answer<'a> {
-    ghost use Rattle.std.specs.Prelude.{◌≡◌};
+    ghost use Rattle.std.specs.Prelude.{◌≡◌, codes};
     ghost use Rattle.topos_top.specs.inner.Refused.{text_reply};
-    ghost use Rattle.topos_top.specs.TextFault.{events_fault_line};
+    ghost use Rattle.topos_top.specs.TextFault.{events_reason};
     ghost use Rattle.topos_top.specs.inner.Views.{reply_view};
 
-    ghost from_gives = { λ fault given. reply_view given ≡ text_reply events_fault_line fault };
+    ghost from_gives = { λ fault given. reply_view given ≡ text_reply (codes "events") events_reason fault };
 
     fn from(fault: EventFault) -> Self {
         match fault {
-            EventFault::Refused { line, why } => {
-                bad_text(b"topos: events: line ", line, events_reason(why))
-            }
+            EventFault::Refused { line, why } => { bad_text(b"events", line, events_reason(why)) }
             EventFault::Memory => no_memory(),
         }
     }
 }
 
 impl<'a> From<EditsFault> for Answer<'a> {
-    ghost use Rattle.std.specs.Prelude.{◌≡◌};
+    ghost use Rattle.std.specs.Prelude.{◌≡◌, codes};
     ghost use Rattle.topos_top.specs.inner.Refused.{text_reply};
-    ghost use Rattle.topos_top.specs.TextFault.{edits_fault_line};
+    ghost use Rattle.topos_top.specs.TextFault.{edits_reason};
     ghost use Rattle.topos_top.specs.inner.Views.{reply_view};
 
-    ghost from_gives = { λ fault given. reply_view given ≡ text_reply edits_fault_line fault };
+    ghost from_gives = { λ fault given. reply_view given ≡ text_reply (codes "edits") edits_reason fault };
 
     fn from(fault: EditsFault) -> Self {
         match fault {
-            EditsFault::Refused { line, why } => {
-                bad_text(b"topos: edits: line ", line, edits_reason(why))
-            }
+            EditsFault::Refused { line, why } => { bad_text(b"edits", line, edits_reason(why)) }
             EditsFault::Memory => no_memory(),
         }
     }

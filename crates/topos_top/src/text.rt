@@ -61,7 +61,7 @@ impl<'a> Text<'a> {
             Text::Refusal(why) => put_refusal(sink, why),
             Text::Fault(text, line, reason) => put_fault(sink, text, *line, reason),
             Text::RefusedEdit(line, fault) => {
-                put_fault(sink, b"topos: edits: line ", *line, edit_reason(fault))
+                put_fault(sink, b"edits", *line, edit_reason(fault))
             }
             Text::NoMemory => put_all(sink, b"topos: out of memory\n"),
             Text::Report(report) => put_all(sink, report.bytes()),
@@ -119,6 +119,14 @@ fn put_fault<O: Sink>(sink: &mut O, text: &[u8], line: u32, reason: &[u8]) -> Re
     let mut digits = itoa::Buffer::new();
     put_pieces(
         sink,
-        &[text, digits.format(line).as_bytes(), b": ", reason, b"\n"],
+        &[
+            b"topos: ",
+            text,
+            b": line ",
+            digits.format(line).as_bytes(),
+            b": ",
+            reason,
+            b"\n",
+        ],
     )
 }

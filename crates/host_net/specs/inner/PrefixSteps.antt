@@ -1,6 +1,6 @@
 -- An address and a prefix as they are read, piece by piece.
 use Rattle.std.specs.Prelude.{ℕ, ◌+◌, ◌*◌, ◌^◌, List, Option, Some, None}
-use Rattle.text_core.specs.Decimal.{number}
+use Rattle.text_core.specs.inner.Decimal.{number}
 use Rattle.text_core.specs.Steps.{◌>>=◌}
 use Rattle.text_core.specs.inner.Pieces.{split_once}
 use Rattle.host_net.specs.Prefix.{prefix_with}

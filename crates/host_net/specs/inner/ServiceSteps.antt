@@ -1,6 +1,6 @@
 -- A service as it is read, piece by piece.
 use Rattle.std.specs.Prelude.{ℕ, nat_lt, if◌then◌else◌, List, codes, bytes_eq, Option, Some, None}
-use Rattle.text_core.specs.Decimal.{number}
+use Rattle.text_core.specs.inner.Decimal.{number}
 use Rattle.text_core.specs.Steps.{◌>>=◌}
 use Rattle.text_core.specs.inner.Pieces.{split_once}
 use Rattle.host_net.specs.declared.service.Service.{Service}

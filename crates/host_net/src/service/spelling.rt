@@ -1,7 +1,7 @@
 //! Reading the text of a service: `icmp`, `tcp`, `udp/53`, `tcp/8000-8080`.
 
 ghost use Rattle.std.specs.Prelude.{◌≡◌, ◌↔◌, Some, None, IfSome, IsNone, if◌then◌else◌, nat_lt};
-ghost use Rattle.text_core.specs.Decimal.{number};
+ghost use Rattle.text_core.specs.inner.Decimal.{number};
 ghost use Rattle.host_net.specs.Service.{last_port};
 ghost use Rattle.host_net.specs.ServiceText.{service_of};
 ghost use Rattle.host_net.specs.inner.ServiceSteps.{ports_of, protocol_of, service_by_parts, with_ports};

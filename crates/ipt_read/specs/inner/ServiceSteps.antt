@@ -1,6 +1,6 @@
 -- What the values of `-p`, `--sport` and `--dport` say, as the reader reads them. Callers see none of it; they have `ServiceValues`.
 use Rattle.std.specs.Prelude.{ℕ, ◌&&◌, ◌==◌, nat_le, if◌then◌else◌, List, [], ◌∷◌, Option, Some, None, codes, bytes_eq}
-use Rattle.text_core.specs.Decimal.{number}
+use Rattle.text_core.specs.inner.Decimal.{number}
 use Rattle.text_core.specs.inner.Pieces.{split_once}
 use Rattle.text_core.specs.Steps.{◌>>=◌}
 use Rattle.host_net.specs.Service.{last_port}

@@ -2,7 +2,7 @@
 -- (ovs-ofctl(8), "Flow Syntax"; ovs-fields(7)), as the reader reads them. Callers see none of it; they have `Grammar` and `Unwritten`.
 use Rattle.std.specs.Prelude.{ℕ, Bool, true, if◌then◌else◌, List, [], ◌∷◌, ◌||◌, Option, Some, None, Result, Err, is_some, codes, bytes_eq}
 use Rattle.std.specs.Option.{option_map, ok_or}
-use Rattle.text_core.specs.Decimal.{number}
+use Rattle.text_core.specs.inner.Decimal.{number}
 use Rattle.text_core.specs.inner.Pieces.{split_once}
 use Rattle.host_net.specs.Prefix.{prefix_of}
 use Rattle.host_net.specs.Service.{icmp, tcp, udp, last_port}

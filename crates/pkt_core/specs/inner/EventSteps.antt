@@ -1,7 +1,7 @@
 -- A text of events as the reader goes through it, step by step. Callers see none of it; they have the grammar and the first fault.
 use Rattle.std.specs.Prelude.{ℕ, nat_lt, if◌then◌else◌, List, [], ◌∷◌, ◌++◌, Option, Some, Result, Ok, Err, length, codes, bytes_eq}
 use Rattle.std.specs.Option.{option_map, ok_or}
-use Rattle.text_core.specs.Decimal.{number}
+use Rattle.text_core.specs.inner.Decimal.{number}
 use Rattle.text_core.specs.Lines.{words}
 use Rattle.text_core.specs.Steps.{◌>>=◌}
 use Rattle.host_net.specs.declared.packet.Packet.{Packet}

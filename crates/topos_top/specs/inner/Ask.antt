@@ -1,6 +1,74 @@
--- What the words of a command line ask for (docs/GUIDE.md): a constructor for each form, with all that its words say.
-use Rattle.std.specs.Prelude.{◌≡◌, ℕ, List, Some, IsTrue}
-use Rattle.topos_top.specs.Ask.{Ask, ask_of, reports_on_output}
+-- What the code reads of the words of a command line. No promise of `run` stands on it but through what the words ask for.
+use Rattle.std.specs.Prelude.{◌≡◌, ℕ, ◌==◌, List, [], ◌∷◌, Option, None, Some, option_map, codes, if◌then◌else◌, IsTrue}
+use Rattle.std.specs.Option.{option_and_then}
+use Rattle.std.specs.Str.{bytes_eq}
+use Rattle.host_net.specs.Limits.{host_limit}
+use Rattle.text_core.specs.inner.Decimal.{number}
+use Rattle.topos_top.specs.Ask.{Ask, Check, Policy, Rules, Repair, Trace, Sample, Migrate, Audit, Edit, Local, AskFor, reports_on_output}
+use Rattle.topos_top.specs.declared.dialect.Dialect.{Dialect}
+use Rattle.topos_top.specs.declared.dialect.Dialect.TheVariants.{Iptables, OpenFlow}
 
 abbrev pub AsksToReport : List (List ℕ) → Type 0
-AsksToReport words = (ask : Ask) × (ask_of words ≡ Some ask) × IsTrue (reports_on_output ask)
+AsksToReport words = (ask : Ask) × AskFor words ask × IsTrue (reports_on_output ask)
+
+-- the words, where there are just as many
+abbrev pub one_word : List (List ℕ) → Option (List ℕ)
+one_word (word ∷ []) = Some word
+one_word _ = None
+
+abbrev pub two_words : List (List ℕ) → Option (List ℕ × List ℕ)
+two_words (first ∷ (second ∷ [])) = Some (first, second)
+two_words _ = None
+
+abbrev pub three_words : List (List ℕ) → Option (List ℕ × List ℕ × List ℕ)
+three_words (first ∷ (second ∷ (third ∷ []))) = Some (first, second, third)
+three_words _ = None
+
+abbrev pub dialect_named : (word : List ℕ) → Option Dialect
+dialect_named word = if bytes_eq word (codes "iptables") then Some Iptables else if bytes_eq word (codes "openflow") then Some OpenFlow else None
+
+-- what a file asks for, two words, and a file behind a dialect
+abbrev pub of_file : (List ℕ → Ask) → List (List ℕ) → Option Ask
+of_file ask words = option_map ask (one_word words)
+
+abbrev pub of_two : ((first second : List ℕ) → Ask) → List (List ℕ) → Option Ask
+of_two ask words = option_map (λ (said : List ℕ × List ℕ). ask said.0 said.1) (two_words words)
+
+abbrev pub in_dialect : (Dialect → List ℕ → Ask) → List (List ℕ) → Option Ask
+in_dialect ask words = option_and_then (λ (said : List ℕ × List ℕ). option_map (λ dialect. ask dialect said.1) (dialect_named said.0)) (two_words words)
+
+abbrev pub with_two_files : (Dialect → (first second : List ℕ) → Ask) → List (List ℕ) → Option Ask
+with_two_files ask words = option_and_then (λ (said : List ℕ × List ℕ × List ℕ). option_map (λ dialect. ask dialect said.1 said.2) (dialect_named said.0)) (three_words words)
+
+-- The number of hosts that a word says: a decimal number from 1 to as many as there may be.
+abbrev pub hosts_said : (word : List ℕ) → Option ℕ
+hosts_said word = option_and_then (λ n. if n == 0 then None else Some n) (number host_limit word)
+
+-- A form: its first word, and what those after it ask for.
+pub record Form : Type 0 where
+  pub word : List ℕ
+  pub asks : List (List ℕ) → Option Ask
+
+-- all forms
+abbrev pub forms : List Form
+forms =
+    record { word = codes "check"; asks = of_file Check }
+    ∷ (record { word = codes "policy"; asks = of_file Policy }
+    ∷ (record { word = codes "rules"; asks = in_dialect Rules }
+    ∷ (record { word = codes "repair"; asks = in_dialect Repair }
+    ∷ (record { word = codes "trace"; asks = with_two_files Trace }
+    ∷ (record { word = codes "sample"; asks = λ words. option_and_then (λ word. option_map Sample (hosts_said word)) (one_word words) }
+    ∷ (record { word = codes "migrate"; asks = of_file Migrate }
+    ∷ (record { word = codes "audit"; asks = with_two_files Audit }
+    ∷ (record { word = codes "edit"; asks = of_two Edit }
+    ∷ (record { word = codes "local"; asks = of_two Local }
+    ∷ [])))))))))
+
+-- what is asked for by the form of that word among these
+abbrev pub among : List Form → (word : List ℕ) → (rest : List (List ℕ)) → Option Ask
+among [] word rest = None
+among (form ∷ forms) word rest = if bytes_eq word form.word then form.asks rest else among forms word rest
+
+unfoldable pub ask_of : List (List ℕ) → Option Ask
+ask_of [] = None
+ask_of (word ∷ rest) = among forms word rest

@@ -1,4 +1,4 @@
--- What a command does with its files: it reads them one after the other, each in its turn, and has a job with what it read.
+-- A course without files.
 use Rattle.topos_top.specs.Course.{Course, ends, reads}
 
 abbrev pub ReadsNothing : Course → Type 0

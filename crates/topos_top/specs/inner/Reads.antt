@@ -1,6 +1,6 @@
 -- What the code ensures that reads a file. No promise of `run` stands on it.
 use Rattle.std.specs.Prelude.{ℕ, List, Result, Ok, Err, Some}
-use Rattle.topos_top.specs.Kinds.{Said, Reads}
+use Rattle.topos_top.specs.Kinds.{contents_of}
 use Rattle.topos_top.specs.Replies.{StopsAt}
 use Rattle.topos_top.specs.Reply.{Reply}
 use Rattle.topos_top.specs.Shelf.{ShelfChange, SawFile, TookBytes}
@@ -16,6 +16,6 @@ MayTake kind file shelf (Ok bytes) = TookFile shelf kind file bytes
 MayTake kind file shelf (Err given) = StopsAt shelf kind file given
 
 -- What may come of reading a file.
-abbrev pub MayRead : (kind : Kind) → (file : List ℕ) → ShelfChange → Result (Said kind) Reply → Type 0
-MayRead kind file shelf (Ok said) = (bytes : List ℕ) × TookFile shelf kind file bytes × Reads kind bytes said
+abbrev pub MayRead : (kind : Kind) → (file : List ℕ) → ShelfChange → Result (contents_of kind).Said Reply → Type 0
+MayRead kind file shelf (Ok said) = (bytes : List ℕ) × TookFile shelf kind file bytes × (contents_of kind).Reads bytes said
 MayRead kind file shelf (Err given) = StopsAt shelf kind file given

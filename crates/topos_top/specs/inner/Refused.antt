@@ -6,13 +6,14 @@ use Rattle.report_core.specs.RefusalLine.{refusal_text}
 use Rattle.text_core.specs.declared.faults.TextFault.{TextFault}
 use Rattle.text_core.specs.declared.faults.TextFault.TheVariants as text
 use Rattle.topos_top.specs.Reply.{Reply, error, no_memory}
+use Rattle.topos_top.specs.TextFault.{fault_line}
 use Rattle.topos_top.specs.declared.status.Status.TheVariants.{BadDescription, BadText}
 
 abbrev pub description_reply : DescFault → Reply
 description_reply (desc.Refused why) = error BadDescription (refusal_text why)
 description_reply desc.Memory = no_memory
 
--- the reply to a text by lines, by the line that tells its fault
-abbrev pub text_reply : {W : Type 0} → (ℕ → W → List ℕ) → TextFault W → Reply
-text_reply told (text.Refused line why) = error BadText (told line why)
-text_reply told text.Memory = no_memory
+-- the reply to a text by lines, which is called so, and whose reasons have these names
+abbrev pub text_reply : {W : Type 0} → (name : List ℕ) → (reason_of : W → List ℕ) → TextFault W → Reply
+text_reply name reason_of (text.Refused line why) = error BadText (fault_line name line (reason_of why))
+text_reply name reason_of text.Memory = no_memory

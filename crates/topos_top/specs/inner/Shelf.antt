@@ -1,4 +1,4 @@
--- What one call saw of its shelf.
+-- A shelf before a call and after it, by the words of its trait.
 use Rattle.std.specs.Prelude.{ℕ, List, Option, Result}
 use Rattle.edge_io.specs.inner.Calls.{ShelfCountsOnlyFailures}
 use Rattle.edge_io.specs.Told.{Files}

@@ -1,4 +1,4 @@
--- What one call put into its sinks.
+-- A sink before a call and after it, by the words of its trait.
 use Rattle.std.specs.Prelude.{ℕ, List, Option}
 use Rattle.topos_top.specs.declared.status.Status.TheVariants as status
 use Rattle.topos_top.specs.Taken.{SinkChange}

@@ -14,11 +14,13 @@ use Rattle.report_core.specs.RefusalLine.{refusal_text}
 use Rattle.toml.specs.Data.{Members}
 use Rattle.toml.specs.declared.value.Value.{Value}
 use Rattle.topos_top.specs.Ask.{Ask, Check, Policy, Rules, Repair, Trace, Sample, Migrate, Audit, Edit, Local, usage_text}
-use Rattle.topos_top.specs.Reply.{Reply, reply_on, cannot_read_line, memory_line}
+use Rattle.topos_top.specs.Reply.{Reply, cannot_read_line, memory_line}
 use Rattle.topos_top.specs.TextFault.{fault_line, edit_fault_line}
 use Rattle.topos_top.specs.declared.answer.Answer.{Answer}
 use Rattle.topos_top.specs.declared.ask.Ask.{Ask as CodeAsk}
 use Rattle.topos_top.specs.declared.ask.Ask.TheVariants as ask
+use Rattle.topos_top.specs.declared.status.Status.{Status}
+use Rattle.topos_top.specs.declared.status.Stream.{Stream}
 use Rattle.topos_top.specs.declared.text.Text.{Text}
 use Rattle.topos_top.specs.declared.text.Text.TheVariants as text
 
@@ -35,9 +37,9 @@ ask_view (ask.Edit file edits) = Edit file.now edits.now
 ask_view (ask.Local file host) = Local file.now host.now
 
 -- a sample has no more hosts than there may be
-abbrev pub HasFewHosts : Ask → Type 0
-HasFewHosts (Sample hosts) = hosts ≤ host_limit
-HasFewHosts _ = Unit {0}
+abbrev pub IsWithinHosts : Ask → Type 0
+IsWithinHosts (Sample hosts) = hosts ≤ host_limit
+IsWithinHosts _ = Unit {0}
 
 -- the bytes of a text
 abbrev pub text_view : Text → List ℕ
@@ -51,6 +53,9 @@ text_view (text.Report report) = report
 text_view (text.Bytes bytes) = bytes.items
 text_view (text.Rules rules) = rules_text rules
 text_view (text.Table table) = table_text table
+
+abbrev pub reply_on : Status → Stream → (text : List ℕ) → Reply
+reply_on ended stream text = record { status = ended; stream = stream; text = text }
 
 abbrev pub reply_view : Answer → Reply
 reply_view answer = reply_on answer.status answer.stream (text_view answer.text)

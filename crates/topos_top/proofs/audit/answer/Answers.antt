@@ -1,6 +1,6 @@
 use Rattle.std.proofs.Common.{ℕ, List, ◌∙◌, ap}
 use Rattle.audit_core.specs.inner.RulesView.{rules_of}
-use Rattle.topos_top.specs.Reply.{reply_on}
+use Rattle.topos_top.specs.inner.Views.{reply_on}
 use Rattle.topos_top.specs.declared.status.Status.TheVariants.{Violated, Done}
 use Rattle.topos_top.specs.declared.status.Stream.TheVariants.{Output}
 use Rattle.topos_top.proofs.AuditLaws.{ends_equal, ends_different}

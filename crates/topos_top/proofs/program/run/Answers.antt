@@ -4,6 +4,7 @@ use Rattle.topos_top.specs.inner.Shelf.{shelf_change}
 use Rattle.topos_top.specs.inner.Taken.{sink_change}
 use Rattle.topos_top.specs.inner.Views.{reply_view}
 use Rattle.topos_top.specs.declared.status.Status.TheVariants as status
+use Rattle.topos_top.proofs.AskLaws.{is_asked, may_give}
 use Rattle.topos_top.proofs.HeadlineLaw.{headline_law}
 use Rattle.topos_top.proofs.RunLaws.{usage_law, caused, no_fault, nothing_to_write, something_to_write}
 use Rattle.topos_top.proofs.SampleLaw.{sample_law, sample_names_no_file}
@@ -17,7 +18,7 @@ gave : (g : given.Over) (c : goal.Joined-answer g) → GaveReply (map string_byt
     (sink_change g.O.Sink.held g.O.Sink.faults c.args.out.now c.give.new.out) (sink_change g.E.Sink.held g.E.Sink.faults c.args.err.now c.give.new.err) c.give.result
 gave g c = record {
   reply = reply_view c.answer_to-answer.result;
-  allowed = c.answer_to-answer.ensures.reply;
+  allowed = may_give _ _ _ c.answer_to-answer.ensures.reply;
   given = c.give.ensures.given;
 }
 
@@ -28,7 +29,11 @@ pub returns-clause-usage : goal.returns-clause-usage
 returns-clause-usage g c = usage_law _ _ _ _ _ (gave g c)
 
 pub returns-clause-usage_reads_nothing : goal.returns-clause-usage_reads_nothing
-returns-clause-usage_reads_nothing g c = λ is. let none = (usage_law _ _ _ _ _ (gave g c)).0 is in c.answer_to-answer.ensures.reads_nothing (λ ask asked. cc (none, asked))
+returns-clause-usage_reads_nothing g c = λ is.
+    c.answer_to-answer.ensures.reads_nothing (λ ask read. absurd ((usage_law _ _ _ _ _ (gave g c)).0 is ask (is_asked _ ask read)))
+
+pub returns-clause-reads_nothing : goal.returns-clause-reads_nothing
+returns-clause-reads_nothing g c = λ none. c.answer_to-answer.ensures.reads_nothing (λ ask read. none ask (is_asked _ ask read))
 
 pub returns-clause-read_fault : goal.returns-clause-read_fault
 returns-clause-read_fault g c = caused _ _ _ _ _ (gave g c) status.ReadFault (λ e. cc e)
@@ -59,8 +64,10 @@ returns-clause-headline g c = λ is.
     headline_law _ _ _ (sink_change g.E.Sink.held g.E.Sink.faults c.args.err.now c.give.new.err) (caused _ _ _ _ _ (gave g c) status.Done (λ e. cc e) is)
 
 pub returns-clause-sample : goal.returns-clause-sample
-returns-clause-sample g c = λ n asks.
-    (c.answer_to-answer.ensures.reads_nothing (sample_names_no_file _ n asks), sample_law _ _ _ _ _ (gave g c) n asks)
+returns-clause-sample g c = λ n asks. (
+  c.answer_to-answer.ensures.reads_nothing (λ ask read. sample_names_no_file _ n asks ask (is_asked _ ask read)),
+  sample_law _ _ _ _ _ (gave g c) n asks,
+)
 
 pub returns-clause-untouched : goal.returns-clause-untouched
 unfolding gave

@@ -1,0 +1,4 @@
+use Rattle.topos_top.proofs.rules.policy_rules.Goals as goal
+
+pub returns-in-Iptables : goal.returns-in-Iptables
+returns-in-Iptables c = rw c.in-Iptables.is c.answer.ensures

@@ -1,0 +1,16 @@
+-- Which replies a run may give, by what the code read of its words. No promise of `run` stands on it.
+use Rattle.std.specs.Prelude.{◌≡◌, Option, None, Some}
+use Rattle.topos_top.specs.Ask.{Ask, reports_on_output}
+use Rattle.topos_top.specs.Commands.{course_of}
+use Rattle.topos_top.specs.Replies.{MayReply}
+use Rattle.topos_top.specs.Reply.{Reply, usage}
+use Rattle.topos_top.specs.Shelf.{ShelfChange}
+use Rattle.topos_top.specs.inner.Course.{ReadsNothing}
+
+abbrev pub MayGiveBy : Option Ask → ShelfChange → Reply → Type 0
+MayGiveBy None shelf given = (given ≡ usage) × (shelf.after ≡ shelf.before)
+MayGiveBy (Some ask) shelf given = MayReply (reports_on_output ask) (course_of ask) shelf given
+
+-- nothing is asked, or what names no file
+abbrev pub NamesNothing : Option Ask → Type 0
+NamesNothing asked = (ask : Ask) → asked ≡ Some ask → ReadsNothing (course_of ask)
