@@ -114,11 +114,12 @@ sample_form (word ∷ []) ask is = by_number (number host_limit word) refl is
   where
     by_number : (o : Option ℕ) → number host_limit word ≡ o → option_map Sample (option_and_then (λ n. if n == 0 then None else Some n) o) ≡ Some ask
         → AskFor (codes "sample" ∷ word ∷ []) ask
-    by_number None said is = none_asked ask is
-    by_number (Some zero) said is = none_asked ask is
-    by_number (Some (suc n)) said is =
-        let number = decimal_of_number host_limit word (suc n) (omega arith) said in
-        asked (codes "sample" ∷ word ∷ []) (Sample (suc n)) ask (ap (λ (w : List ℕ). codes "sample" ∷ w ∷ []) number.0) (omega arith, number.1) is
+    by_number None told is = none_asked ask is
+    by_number (Some zero) told is = none_asked ask is
+    by_number (Some (suc n)) told is =
+        let number = decimal_of_number host_limit word (suc n) (omega arith) told in
+        let made = subst (λ (o : Option ℕ). option_map Sample o ≡ Some ask) (some_said (suc n) (omega arith)) is in
+        asked (codes "sample" ∷ word ∷ []) (Sample (suc n)) ask (ap (λ (w : List ℕ). codes "sample" ∷ w ∷ []) number.0) (omega arith, number.1) made
 sample_form (word ∷ other ∷ rest) ask is = none_asked ask is
 
 abbrev AreForms : List Form → Type 0
@@ -127,11 +128,12 @@ AreForms (form ∷ fs) = IsForm form.word form.asks × AreForms fs
 
 among_forms : (fs : List Form) → AreForms fs → (word : List ℕ) (rest : List (List ℕ)) (ask : Ask) → among fs word rest ≡ Some ask → AskFor (word ∷ rest) ask
 among_forms [] are word rest ask is = none_asked ask is
-among_forms (form ∷ fs) are word rest ask is = by_word (bytes_eq word form.word) refl is
+among_forms (form ∷ fs) are word rest ask is = by_word (among_forms fs are.1 word rest ask) (bytes_eq word form.word) refl is
   where
-    by_word : (b : Bool) → bytes_eq word form.word ≡ b → (if b then form.asks rest else among fs word rest) ≡ Some ask → AskFor (word ∷ rest) ask
-    by_word true same is = subst (λ (w : List ℕ). AskFor (w ∷ rest) ask) (sym ((bytes_eq-Decides word form.word).0 same)) (are.0 rest ask is)
-    by_word false other is = among_forms fs are.1 word rest ask is
+    by_word : (among fs word rest ≡ Some ask → AskFor (word ∷ rest) ask) → (b : Bool) → bytes_eq word form.word ≡ b
+        → (if b then form.asks rest else among fs word rest) ≡ Some ask → AskFor (word ∷ rest) ask
+    by_word behind true same is = subst (λ (w : List ℕ). AskFor (w ∷ rest) ask) (sym ((bytes_eq-Decides word form.word).0 same)) (are.0 rest ask is)
+    by_word behind false other is = behind is
 
 are_forms : AreForms forms
 are_forms = (

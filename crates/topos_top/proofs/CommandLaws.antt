@@ -1,5 +1,5 @@
 -- What is owed of the job of each command, where its files were read.
-use Rattle.std.proofs.Common.{◌≡◌, List, true, refl, sym, ◌∙◌}
+use Rattle.std.proofs.Common.{◌≡◌, ℕ, List, true, refl, sym, ◌∙◌}
 use Rattle.audit_core.specs.Findings.{DifferSomewhere}
 use Rattle.audit_core.specs.Rules.{Rules as AuditedRules}
 use Rattle.ipt_rules.specs.Meaning.{Passes as PassesChains}

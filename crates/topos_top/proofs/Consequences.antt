@@ -182,7 +182,7 @@ began_along only (ends job) [] before after AtFile AtJob has here = record { cou
 began_along only (reads kind file next) [] before after AtFile AtJob has came = absurd has
 began_along only (ends job) (named ∷ files) before after AtFile AtJob has came = absurd has
 
--- wherever a run came to, as where there was no memory (`RanOut`)
+-- wherever a run came to, as where there was no memory
 pub began_some : (words : List (List ℕ)) (shelf : ShelfChange) (AtFile : ShelfChange → Kind → List ℕ → Type 0) (AtJob : Ask → Job → Type 0) (came : Came words shelf AtFile AtJob)
     → (files : List (Kind × List ℕ)) → HasFiles files (course_of came.ask) → BeganSome shelf files
 began_some words shelf AtFile AtJob came files has = began_along shelf.only_failures (course_of came.ask) files shelf.before shelf.after _ _ has came.along
