@@ -1,25 +1,29 @@
 -- Keys in order, the first of them that has the bits of two addresses, and an index with one more key.
-use Rattle.std.proofs.Common.{◌≡◌, ℕ, zero, suc, ◌+◌, ◌*◌, ◌^◌, ◌≤◌, ◌<◌, ◌⊎◌, inl, inr, Bool, true, false, List, [], ◌∷◌, ◌++◌, length, get_or, take, drop, append_assoc, slice_get, slice_index_or, Option, Some, None, Result, Ok, Err, OnErr, refl, sym, ap, ◌∙◌, subst, arith, length-append}
-use Rattle.std.specs.Prelude.{Contains}
+use Rattle.std.proofs.Common.{◌≡◌, ℕ, zero, suc, ◌+◌, ◌*◌, ◌^◌, ◌≤◌, ◌<◌, ◌⊎◌, inl, inr, Bool, true, false, List, [], ◌∷◌, ◌++◌, length, get_or, take, drop, append_assoc, slice_get, slice_index_or, Option, Some, None, Result, Ok, Err, OnErr, refl, sym, ap, ◌∙◌, subst, arith, length-append, true≢false}
+use Rattle.std.specs.Prelude.{Contains, ◌==◌, ◌&&◌, nat_le, if◌then◌else◌}
+use Rattle.std.specs.Bool.{Decides}
 use Rattle.std.specs.List.{insert}
 use Rattle.std.specs.List.Sorted.{IsNonDecreasingBy, IsPartitionPoint, IsPermutation}
-use Rattle.std.proofs.lemmas.Bool.{and_from, and_parts, cases_lt}
+use Rattle.std.proofs.lemmas.Bool.{and_from, and_parts, cases_lt, or_cases, or_left, or_right}
+use Rattle.std.proofs.lemmas.Bool.Decides.{Decides-and, Decides-eqb, nat_tests}
 use Rattle.std.proofs.lemmas.List.{drop_more, take_more}
-use Rattle.std.proofs.lemmas.List.Elements.{Contains-push_cases, Contains-append_left, Contains-push}
+use Rattle.std.proofs.lemmas.List.Elements.{Contains-push_cases}
+use Rattle.std.proofs.lemmas.List.Folds.{list_any-append}
 use Rattle.std.proofs.lemmas.List.Sorted.{Contains-permutation, IsNonDecreasingBy-insert, IsPermutation-insert, IsPermutation-refl, IsPermutation-sym, length_permutation}
 use Rattle.std.proofs.lemmas.Option.{same_Some, slice_get-get_or, slice_get_within, get_or_from_slice_get}
 use Rattle.host_net.specs.declared.cover.Ends.{Ends}
+use Rattle.host_net.specs.declared.cover.Group.{Group}
 use Rattle.host_net.specs.declared.cover.Key.{Key}
 use Rattle.host_net.specs.declared.cover.Lengths.{Lengths}
 use Rattle.host_net.specs.declared.prefix.Prefix.{Prefix}
 use Rattle.host_net.specs.inner.Cover.{IsFirstFrom, covers_both, part_covers}
-use Rattle.host_net.specs.inner.CoverView.{AreInOrder, AreIndexOf, Begins, IsFirstKey, IsSmall, SameBits, begins, earlier, key_at, key_of, keys_from, length_of, own_address, rank}
+use Rattle.host_net.specs.inner.CoverView.{AreFirst, AreInOrder, AreIndexOf, AreListed, Begins, IsFirstKey, IsFirstOf, IsSmall, SameBits, begins, comes_before, earlier, has_lengths, key_at, key_of, keys_from, length_of, noted, own_address, rank}
 use Rattle.host_net.specs.Prefix.{front}
 use Rattle.host_net.proofs.PrefixLaws.{covers_front, front_covers}
 
 -- what a loop reads at a place that is not there
-abbrev pub no_lengths : Lengths
-no_lengths = record { src = 0; dst = 0 }
+abbrev pub no_group : Group
+no_group = record { lengths = record { src = 0; dst = 0 }; first = 0 }
 
 abbrev pub no_key : Key
 no_key = record { lengths = record { src = 0; dst = 0 }; src = 0; dst = 0; place = 0 }
@@ -204,18 +208,37 @@ module _ (P Q R : Key → Type 0) (keys : List Key) (from : ℕ) (from_first : (
     }
   ]
 
--- ---- one more pair of lengths
+-- ---- one more group
 
 same_both : (l m : Lengths) → l.src ≡ m.src → l.dst ≡ m.dst → l ≡ m
 same_both l m src dst = λ i. record { src = src i; dst = dst i }
 
-module _ (seen : List Lengths) (l : Lengths) (src dst from : ℕ) where
-  begins_more : (k : Key) → Begins (seen ++ l ∷ []) src dst k → Begins seen src dst k ⊎ SameBits k (key_at l src dst from)
-  begins_more k is = elim (Contains-push_cases seen l k.lengths is.among) [
+abbrev is_of : Lengths → Group → Bool
+is_of l g = (g.lengths.src == l.src) && (g.lengths.dst == l.dst)
+
+is_of_decides : (l : Lengths) (g : Group) → Decides (is_of l g) ((g.lengths.src ≡ l.src) × (g.lengths.dst ≡ l.dst))
+is_of_decides l g = Decides-and (g.lengths.src == l.src) (g.lengths.dst == l.dst) (Decides-eqb g.lengths.src l.src) (Decides-eqb g.lengths.dst l.dst)
+
+lengths_are : (l : Lengths) (g : Group) → has_lengths (g ∷ []) l ≡ true → g.lengths ≡ l
+lengths_are l g has = elim (or_cases (is_of l g) false has) [
+  | inl is ↦ let both = (is_of_decides l g).0 is in same_both g.lengths l both.0 both.1
+  | inr never ↦ absurd (true≢false (sym never))
+]
+
+are_lengths : (g : Group) → has_lengths (g ∷ []) g.lengths ≡ true
+are_lengths g = or_left (is_of g.lengths g) false ((is_of_decides g.lengths g).1 (refl, refl))
+
+below : (p n : ℕ) → nat_le p n ≡ true → p ≤ n
+below p n = grind (arith, nat_tests)
+
+module _ (seen : List Group) (g : Group) (src dst from : ℕ) where
+  begins_more : (k : Key) → Begins (seen ++ g ∷ []) src dst k → Begins seen src dst k ⊎ SameBits k (key_at g.lengths src dst from)
+  begins_more k is = elim (or_cases (has_lengths seen k.lengths) (has_lengths (g ∷ []) k.lengths) (sym (list_any-append (is_of k.lengths) seen (g ∷ [])) ∙ is.among)) [
     | inl old ↦ inl (record { among = old; src_bits = is.src_bits; dst_bits = is.dst_bits })
     | inr new ↦
-        let src_length : k.lengths.src ≡ l.src = ap (λ (m : Lengths). m.src) (sym new) in
-        let dst_length : k.lengths.dst ≡ l.dst = ap (λ (m : Lengths). m.dst) (sym new) in
+        let same = sym (lengths_are k.lengths g new) in
+        let src_length : k.lengths.src ≡ g.lengths.src = ap (λ (m : Lengths). m.src) same in
+        let dst_length : k.lengths.dst ≡ g.lengths.dst = ap (λ (m : Lengths). m.dst) same in
         inr (record {
           src_length = src_length;
           dst_length = dst_length;
@@ -224,28 +247,50 @@ module _ (seen : List Lengths) (l : Lengths) (src dst from : ℕ) where
         })
   ]
 
-  begins_old : (k : Key) → Begins seen src dst k → Begins (seen ++ l ∷ []) src dst k
-  begins_old k is = record { among = Contains-append_left seen (l ∷ []) k.lengths is.among; src_bits = is.src_bits; dst_bits = is.dst_bits }
-
-  begins_new : (k : Key) → SameBits k (key_at l src dst from) → Begins (seen ++ l ∷ []) src dst k
-  begins_new k same = record {
-    among = subst (Contains (seen ++ l ∷ [])) (sym (same_both k.lengths l same.src_length same.dst_length)) (Contains-push seen l);
-    src_bits = same.src ∙ ap (λ n. front n src) (sym same.src_length);
-    dst_bits = same.dst ∙ ap (λ n. front n dst) (sym same.dst_length);
+  begins_old : (k : Key) → Begins seen src dst k → Begins (seen ++ g ∷ []) src dst k
+  begins_old k is = record {
+    among = list_any-append (is_of k.lengths) seen (g ∷ []) ∙ or_left (has_lengths seen k.lengths) (has_lengths (g ∷ []) k.lengths) is.among;
+    src_bits = is.src_bits;
+    dst_bits = is.dst_bits;
   }
 
-pub first_more : (keys : List Key) (all : List Lengths) (i : ℕ) (l d : Lengths) (src dst from : ℕ) (found next : Option ℕ) → i < length all → l ≡ get_or all i d
-    → IsFirstKey (begins (take i all) src dst) keys from found → IsFirstKey (λ k. SameBits k (key_at l src dst from)) keys from next
-    → IsFirstKey (begins (take (i + 1) all) src dst) keys from (earlier found next)
-first_more keys all i l d src dst from found next low is first second =
-    let more : take (i + 1) all ≡ take i all ++ l ∷ [] = take_more all i d low ∙ ap (λ (m : Lengths). take i all ++ m ∷ []) (sym is) in
-    subst (λ (ls : List Lengths). IsFirstKey (begins ls src dst) keys from (earlier found next)) (sym more)
-    (earlier_is (begins (take i all) src dst) (λ k. SameBits k (key_at l src dst from)) (begins (take i all ++ l ∷ []) src dst) keys from
-    (begins_old (take i all) l src dst from) (begins_new (take i all) l src dst from) (begins_more (take i all) l src dst from)
-    found next first second)
+  begins_new : (k : Key) → SameBits k (key_at g.lengths src dst from) → Begins (seen ++ g ∷ []) src dst k
+  begins_new k same =
+      let lengths : g.lengths ≡ k.lengths = sym (same_both k.lengths g.lengths same.src_length same.dst_length) in
+      record {
+        among =
+            list_any-append (is_of k.lengths) seen (g ∷ [])
+            ∙ or_right (has_lengths seen k.lengths) (has_lengths (g ∷ []) k.lengths) (subst (λ (l : Lengths). has_lengths (g ∷ []) l ≡ true) lengths (are_lengths g));
+        src_bits = same.src ∙ ap (λ n. front n src) (sym same.src_length);
+        dst_bits = same.dst ∙ ap (λ n. front n dst) (sym same.dst_length);
+      }
+
+  pub first_next : (keys : List Key) (found next : Option ℕ) → IsFirstKey (begins seen src dst) keys from found
+      → IsFirstKey (λ k. SameBits k (key_at g.lengths src dst from)) keys from next → IsFirstKey (begins (seen ++ g ∷ []) src dst) keys from (earlier found next)
+  first_next keys =
+      earlier_is (begins seen src dst) (λ k. SameBits k (key_at g.lengths src dst from)) (begins (seen ++ g ∷ []) src dst) keys from begins_old begins_new begins_more
+
+  -- a group that comes first only behind what is found changes nothing
+  pub first_kept : (keys : List Key) (found : Option ℕ) → comes_before found g.first ≡ true → IsFirstOf g keys → IsFirstKey (begins seen src dst) keys from found
+      → IsFirstKey (begins (seen ++ g ∷ []) src dst) keys from found
+  first_kept keys None before is first = absurd (true≢false (sym before))
+  first_kept keys (Some place) before is first = record {
+    key = first.key;
+    among = first.among;
+    has = begins_old first.key first.has;
+    there = first.there;
+    later = first.later;
+    least = λ k c has later. elim (begins_more k has) [
+      | inl old ↦ first.least k c old later
+      | inr same ↦
+          let low = below place g.first before in
+          let lower = is k c (sym (same_both k.lengths g.lengths same.src_length same.dst_length)) in
+          omega (arith, low, lower)
+    ];
+  }
 
 pub first_of_none : (keys : List Key) (src dst from : ℕ) → IsFirstKey (begins [] src dst) keys from None
-first_of_none keys src dst from k c is later = let within = is.among.1 in omega (arith, within)
+first_of_none keys src dst from k c is later = true≢false (sym is.among)
 
 -- ---- what an index answers
 
@@ -261,9 +306,9 @@ bits_part_covers : (part : Option Prefix) (a : ℕ) → front (length_of part) (
 bits_part_covers None a same = refl
 bits_part_covers (Some p) a same = front_covers p a same
 
-module _ (all : List Ends) (keys : List Key) (lengths : List Lengths) (is : AreIndexOf all keys lengths) (src dst : ℕ) (small_src : src < 2 ^ 32) (small_dst : dst < 2 ^ 32) where
+module _ (all : List Ends) (keys : List Key) (groups : List Group) (is : AreIndexOf all keys groups) (src dst : ℕ) (small_src : src < 2 ^ 32) (small_dst : dst < 2 ^ 32) where
   -- what covers both has a key with their bits
-  begins_there : (i : ℕ) (e : Ends) → slice_get all i ≡ Some e → covers_both src dst e ≡ true → Begins lengths src dst (key_of e i)
+  begins_there : (i : ℕ) (e : Ends) → slice_get all i ≡ Some e → covers_both src dst e ≡ true → Begins groups src dst (key_of e i)
   begins_there i e there on =
       let both = and_parts (part_covers e.src src) (part_covers e.dst dst) on in
       record {
@@ -273,7 +318,7 @@ module _ (all : List Ends) (keys : List Key) (lengths : List Lengths) (is : AreI
       }
 
   -- and what has them covers both
-  covers_there : (k : Key) (e : Ends) → k ≡ key_of e k.place → Begins lengths src dst k → covers_both src dst e ≡ true
+  covers_there : (k : Key) (e : Ends) → k ≡ key_of e k.place → Begins groups src dst k → covers_both src dst e ≡ true
   covers_there k e same begun =
       let src_length : k.lengths.src ≡ length_of e.src = ap (λ (l : Key). l.lengths.src) same in
       let dst_length : k.lengths.dst ≡ length_of e.dst = ap (λ (l : Key). l.lengths.dst) same in
@@ -281,7 +326,7 @@ module _ (all : List Ends) (keys : List Key) (lengths : List Lengths) (is : AreI
       (bits_part_covers e.src src (sym (ap (λ (l : Key). l.src) same) ∙ begun.src_bits ∙ ap (λ n. front n src) src_length))
       (bits_part_covers e.dst dst (sym (ap (λ (l : Key). l.dst) same) ∙ begun.dst_bits ∙ ap (λ n. front n dst) dst_length))
 
-  pub index_first : (from : ℕ) (found : Option ℕ) → IsFirstKey (begins lengths src dst) keys from found → IsFirstFrom all from src dst found
+  pub index_first : (from : ℕ) (found : Option ℕ) → IsFirstKey (begins groups src dst) keys from found → IsFirstFrom all from src dst found
   index_first from None first = λ i e low high there.
       by_test (covers_both src dst e) (λ on. first (key_of e i) (is.every i e there) (begins_there i e there on) low)
   index_first from (Some place) first =
@@ -298,8 +343,8 @@ module _ (all : List Ends) (keys : List Key) (lengths : List Lengths) (is : AreI
       }
 
 -- no place is so late
-pub none_so_late : (all : List Ends) (keys : List Key) (lengths : List Lengths) (from src dst : ℕ) → AreIndexOf all keys lengths → 2 ^ 32 ≤ from → IsFirstFrom all from src dst None
-none_so_late all keys lengths from src dst is late i e low high there =
+pub none_so_late : (all : List Ends) (keys : List Key) (groups : List Group) (from src dst : ℕ) → AreIndexOf all keys groups → 2 ^ 32 ≤ from → IsFirstFrom all from src dst None
+none_so_late all keys groups from src dst is late i e low high there =
     let small = (is.order.small (key_of e i) (is.every i e there)).place in
     absurd (omega (arith, small, low, late))
 
@@ -335,17 +380,90 @@ small_more keys now key so_far small more k c = elim (Contains-push_cases keys k
   | inr new ↦ subst IsSmall new small
 ]
 
-pub lengths_more : (keys : List Key) (i : ℕ) (d : Key) (all now : List Lengths) → i < length keys → ((k : Key) → Contains (take i keys) k → Contains all k.lengths) → ((l : Lengths) → Contains all l → Contains now l)
-    → Contains now (get_or keys i d).lengths → (k : Key) → Contains (take (i + 1) keys) k → Contains now k.lengths
-lengths_more keys i d all now low so_far kept there k c =
-    elim (Contains-push_cases (take i keys) (get_or keys i d) k (subst (λ (ks : List Key). Contains ks k) (take_more keys i d low) c)) [
-      | inl old ↦ kept k.lengths (so_far k old)
-      | inr new ↦ subst (λ (l : Key). Contains now l.lengths) new there
-    ]
+-- a key stands at its place among those that are not in order yet
+place_in : (all : List Ends) (keys : List Key) (j : ℕ) (k : Key) → keys ≡ keys_from 0 all → j < length keys → get_or keys j k ≡ k → k.place ≡ j
+place_in all keys j k are within is =
+    let there : slice_get (keys_from 0 all) j ≡ Some k = ap (λ (ks : List Key). slice_get ks j) (sym are) ∙ slice_get-get_or keys j k within ∙ ap (λ (l : Key). Some l) is in
+    let place = ap (λ (l : Key). l.place) (there_key 0 all j k there).2 in
+    omega (arith, place)
 
-pub index_made : (all : List Ends) (keys sorted : List Key) (lengths : List Lengths) → keys ≡ keys_from 0 all → ((k : Key) → Contains keys k → IsSmall k) → IsPermutation keys sorted
-    → IsNonDecreasingBy rank sorted → ((k : Key) → Contains sorted k → Contains lengths k.lengths) → AreIndexOf all sorted lengths
-index_made all keys sorted lengths are small moved rise listed = record {
+-- ---- the groups of keys
+
+module _ (groups : List Group) (key : Key) where
+  pub noted_kept : (l : Lengths) → has_lengths groups l ≡ true → has_lengths (noted groups key) l ≡ true
+  noted_kept l old = by_bool (has_lengths groups key.lengths)
+    where
+      by_bool : (b : Bool) → has_lengths (if b then groups else groups ++ record { lengths = key.lengths; first = key.place } ∷ []) l ≡ true
+      by_bool true = old
+      by_bool false = list_any-append (is_of l) groups _ ∙ or_left (has_lengths groups l) _ old
+
+  pub noted_there : has_lengths (noted groups key) key.lengths ≡ true
+  noted_there = by_bool (has_lengths groups key.lengths) refl
+    where
+      by_bool : (b : Bool) → has_lengths groups key.lengths ≡ b → has_lengths (if b then groups else groups ++ record { lengths = key.lengths; first = key.place } ∷ []) key.lengths ≡ true
+      by_bool true there = there
+      by_bool false none = list_any-append (is_of key.lengths) groups _ ∙ or_right (has_lengths groups key.lengths) _ (are_lengths (record { lengths = key.lengths; first = key.place }))
+
+  noted_cases : (g : Group) → Contains (noted groups key) g → Contains groups g ⊎ ((record { lengths = key.lengths; first = key.place } ≡ g) × (has_lengths groups key.lengths ≡ false))
+  noted_cases g = by_bool (has_lengths groups key.lengths) refl
+    where
+      by_bool : (b : Bool) → has_lengths groups key.lengths ≡ b → Contains (if b then groups else groups ++ record { lengths = key.lengths; first = key.place } ∷ []) g
+          → Contains groups g ⊎ ((record { lengths = key.lengths; first = key.place } ≡ g) × (has_lengths groups key.lengths ≡ false))
+      by_bool true there c = inl c
+      by_bool false none c = elim (Contains-push_cases groups (record { lengths = key.lengths; first = key.place }) g c) [ inl old ↦ inl old | inr new ↦ inr (new, none) ]
+
+  -- each key has the lengths of a group already, or no earlier place than the one that is noted
+  pub first_noted : (keys : List Key) → AreFirst groups keys → key.place ≤ length keys → ((k : Key) → Contains keys k → (has_lengths groups k.lengths ≡ true) ⊎ (key.place ≤ k.place))
+      → AreFirst (noted groups key) keys
+  first_noted keys are low either = record {
+    first = λ g c k d same. elim (noted_cases g c) [
+      | inl old ↦ are.first g old k d same
+      | inr new ↦ elim (either k d) [
+        | inl has ↦ absurd (true≢false (sym has ∙ ap (has_lengths groups) (sym same ∙ sym (ap (λ (h : Group). h.lengths) new.0)) ∙ new.1))
+        | inr later ↦ let is = ap (λ (h : Group). h.first) new.0 in omega (arith, is, later)
+      ]
+    ];
+    begun = λ g c. elim (noted_cases g c) [
+      | inl old ↦ are.begun g old
+      | inr new ↦ let is = ap (λ (h : Group). h.first) new.0 in omega (arith, is, low)
+    ];
+  }
+
+module _ (keys : List Key) (i : ℕ) (d : Key) (groups : List Group) (within : i < length keys) (so_far : (j : ℕ) (e : Key) → j < i → has_lengths groups (get_or keys j e).lengths ≡ true) where
+  here : (e : Key) → get_or keys i e ≡ get_or keys i d
+  here e = get_or_from_slice_get keys i (get_or keys i d) e (slice_get-get_or keys i d within)
+
+  pub listed_next : (j : ℕ) (e : Key) → j < i + 1 → has_lengths (noted groups (get_or keys i d)) (get_or keys j e).lengths ≡ true
+  listed_next j e low = elim (cases_lt j i) [
+    | inl before ↦ noted_kept groups (get_or keys i d) (get_or keys j e).lengths (so_far j e before)
+    | inr last ↦
+        let at : j ≡ i = omega (arith, low, last) in
+        let same : get_or keys j e ≡ get_or keys i d = ap (λ (n : ℕ). get_or keys n e) at ∙ here e in
+        ap (λ (l : Key). has_lengths (noted groups (get_or keys i d)) l.lengths) same ∙ noted_there groups (get_or keys i d)
+  ]
+
+  pub first_after : (all : List Ends) → keys ≡ keys_from 0 all → AreFirst groups keys → AreFirst (noted groups (get_or keys i d)) keys
+  first_after all are first =
+      let own = place_in all keys i (get_or keys i d) are within (here (get_or keys i d)) in
+      first_noted groups (get_or keys i d) keys first (omega (arith, own, within)) (λ k c. elim (cases_lt c.0 i) [
+        | inl before ↦ inl (ap (λ (l : Key). has_lengths groups l.lengths) (sym c.2) ∙ so_far c.0 k before)
+        | inr behind ↦ inr (let place = place_in all keys c.0 k are c.1 c.2 in omega (arith, place, own, behind))
+      ])
+
+pub listed_all : (keys : List Key) (i : ℕ) (groups : List Group) → length keys ≤ i → ((j : ℕ) (e : Key) → j < i → has_lengths groups (get_or keys j e).lengths ≡ true) → AreListed groups keys
+listed_all keys i groups all listed k c =
+    let within = c.1 in
+    ap (λ (l : Key). has_lengths groups l.lengths) (sym c.2) ∙ listed c.0 k (omega (arith, within, all))
+
+pub first_none : (keys : List Key) → AreFirst [] keys
+first_none keys = record {
+  first = λ g c k d same. let within = c.1 in absurd (omega (arith, within));
+  begun = λ g c. let within = c.1 in absurd (omega (arith, within));
+}
+
+pub index_made : (all : List Ends) (keys sorted : List Key) (groups : List Group) → keys ≡ keys_from 0 all → ((k : Key) → Contains keys k → IsSmall k) → IsPermutation keys sorted
+    → IsNonDecreasingBy rank sorted → AreListed groups keys → AreFirst groups keys → AreIndexOf all sorted groups
+index_made all keys sorted groups are small moved rise listed firsts = record {
   order = record { rise = rise; small = λ k c. small k (back k c) };
   counted = length_permutation keys sorted moved ∙ ap length are ∙ length_keys 0 all;
   every = λ i e there.
@@ -357,7 +475,11 @@ index_made all keys sorted lengths are small moved rise listed = record {
       let own = there_key 0 all before.0 k at in
       let place : before.0 ≡ k.place = let p = ap (λ (l : Key). l.place) own.2 in omega (arith, p) in
       (own.0, subst (λ (n : ℕ). slice_get all n ≡ Some own.0) place own.1, own.2 ∙ ap (λ (m : ℕ). key_of own.0 m) (omega (arith, place)));
-  listed = listed;
+  listed = λ k c. listed k (back k c);
+  firsts = record {
+    first = λ g c k d same. firsts.first g c k (back k d) same;
+    begun = λ g c. let low = firsts.begun g c in let same = length_permutation keys sorted moved in omega (arith, low, same);
+  };
 }
   where
     back : (k : Key) → Contains sorted k → Contains keys k
@@ -365,7 +487,7 @@ index_made all keys sorted lengths are small moved rise listed = record {
 
 pub no_index : AreIndexOf [] [] []
 no_index = index_made [] [] [] [] refl (λ k c. let within = c.1 in absurd (omega (arith, within))) (IsPermutation-refl []) (λ i j d le within. absurd (omega (arith, within)))
-    (λ k c. let within = c.1 in absurd (omega (arith, within)))
+    (λ k c. let within = c.1 in absurd (omega (arith, within))) (first_none [])
 
 -- ---- one more
 
@@ -388,8 +510,8 @@ at_end : (all : List Ends) (e : Ends) → slice_get (all ++ e ∷ []) (length al
 at_end [] e = refl
 at_end (g ∷ all) e = at_end all e
 
-module _ (all : List Ends) (keys : List Key) (lengths now : List Lengths) (e : Ends) (new : Key) (at : ℕ) (is : AreIndexOf all keys lengths) (of_e : new ≡ key_of e (length keys)) (small : IsSmall new)
-    (bound : at ≤ length keys) (point : IsPartitionPoint (λ k. rank k < rank new) (λ k. rank new ≤ rank k) keys at) (there : Contains now new.lengths) (kept : (l : Lengths) → Contains lengths l → Contains now l) where
+module _ (all : List Ends) (keys : List Key) (groups : List Group) (e : Ends) (new : Key) (at : ℕ) (is : AreIndexOf all keys groups) (of_e : new ≡ key_of e (length keys)) (small : IsSmall new)
+    (bound : at ≤ length keys) (point : IsPartitionPoint (λ k. rank k < rank new) (λ k. rank new ≤ rank k) keys at) (there : has_lengths groups new.lengths ≡ true) where
   put : List Key
   put = insert keys at new
 
@@ -408,7 +530,7 @@ module _ (all : List Ends) (keys : List Key) (lengths now : List Lengths) (e : E
   as_new : new ≡ key_of e new.place
   as_new = of_e ∙ ap (λ (m : ℕ). key_of e m) (sym (ap (λ (k : Key). k.place) of_e))
 
-  pub index_more : AreIndexOf (all ++ e ∷ []) (insert keys at new) now
+  pub index_more : AreIndexOf (all ++ e ∷ []) (insert keys at new) groups
   index_more = record {
     order = record {
       rise = IsNonDecreasingBy-insert rank keys at new is.order.rise bound
@@ -428,17 +550,28 @@ module _ (all : List Ends) (keys : List Key) (lengths now : List Lengths) (e : E
           (e, subst (λ (n : ℕ). slice_get (all ++ e ∷ []) n ≡ Some e) place (at_end all e), subst (λ (l : Key). l ≡ key_of e l.place) same as_new)
       | inr old ↦ let own = is.only k old in (own.0, in_front all e k.place own.0 own.1, own.2)
     ];
-    listed = λ k c. elim (cases k c) [ inl same ↦ subst (λ (l : Key). Contains now l.lengths) same there | inr old ↦ kept k.lengths (is.listed k old) ];
+    listed = λ k c. elim (cases k c) [ inl same ↦ subst (λ (l : Key). has_lengths groups l.lengths ≡ true) same there | inr old ↦ is.listed k old ];
+    firsts = record {
+      first = λ g c k d same. elim (cases k d) [
+        | inl last ↦
+            let low = is.firsts.begun g c in
+            let place = ap (λ (l : Key). l.place) last in
+            omega (arith, low, place, place_new, is.counted)
+        | inr old ↦ is.firsts.first g c k old same
+      ];
+      begun = λ g c. let low = is.firsts.begun g c in let long = length_permutation (new ∷ keys) (insert keys at new) moved in omega (arith, low, long);
+    };
   }
 
--- more lengths than those of the keys do no harm
-pub index_kept : (all : List Ends) (keys : List Key) (lengths now : List Lengths) → AreIndexOf all keys lengths → ((l : Lengths) → Contains lengths l → Contains now l) → AreIndexOf all keys now
-index_kept all keys lengths now is kept = record {
+-- a group of the key that comes next does no harm before it is there
+pub index_noted : (all : List Ends) (keys : List Key) (groups : List Group) (key : Key) → key.place ≡ length keys → AreIndexOf all keys groups → AreIndexOf all keys (noted groups key)
+index_noted all keys groups key last is = record {
   order = is.order;
   counted = is.counted;
   every = is.every;
   only = is.only;
-  listed = λ k c. kept k.lengths (is.listed k c);
+  listed = λ k c. noted_kept groups key k.lengths (is.listed k c);
+  firsts = first_noted groups key keys is.firsts (omega (arith, last)) (λ k c. inl (is.listed k c));
 }
 
 pub always : {A E : Type 0} (r : Result A E) (P : Type 0) → P → OnErr r P

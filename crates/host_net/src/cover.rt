@@ -1,16 +1,17 @@
 //! Which of many rules can fit the two addresses of a packet: an index of the prefixes that they ask
 //! for. Those that ask for equally many bits of each address stand together, in the order of these
 //! bits and then of their places, so that the next that asks for the bits of a packet is found by
-//! halving, once for each two lengths that are in use.
+//! halving, once for each two lengths that are in use. Those that come first with their lengths only
+//! behind the one that is found already are passed over.
 
 ghost use Rattle.std.specs.Prelude.{◌≡◌, ◌<◌, ◌≤◌, ◌^◌, ◌+◌, ◌++◌, ◌∷◌, [], List, IfOk, OnOk, OnErr, Contains, IsTrue, ◌↔◌, length};
 ghost use Rattle.std.specs.List.Sorted.{IsNonDecreasingBy, IsPartitionPoint};
 ghost use Rattle.host_net.specs.declared.cover.Ends.{Ends};
+ghost use Rattle.host_net.specs.declared.cover.Group.{Group};
 ghost use Rattle.host_net.specs.declared.cover.Key.{Key};
-ghost use Rattle.host_net.specs.declared.cover.Lengths.{Lengths};
 ghost use Rattle.host_net.specs.Prefix.{front};
 ghost use Rattle.host_net.specs.inner.Cover.{IsFirstFrom};
-ghost use Rattle.host_net.specs.inner.CoverView.{AreInOrder, IsFirstKey, IsIndexOf, IsSmall, SameBits, begins, count_in, earlier, key_at, key_of, keys_from, length_of, lengths_of, own_address, rank};
+ghost use Rattle.host_net.specs.inner.CoverView.{AreFirst, AreInOrder, AreListed, IsFirstKey, IsFirstOf, IsIndexOf, IsSmall, SameBits, begins, comes_before, count_in, earlier, has_lengths, key_at, key_of, keys_from, length_of, lengths_of, noted, own_address, rank};
 
 use crate::prefix::Prefix;
 use std::alloc::{AllocError, Global};
@@ -38,11 +39,18 @@ struct Key {
     place: u32,
 }
 
+/// Lengths that are in use, and the first place of what asks for so many bits.
+#[derive(Clone, Copy)]
+struct Group {
+    lengths: Lengths,
+    first: u32,
+}
+
 /// An index of a list of `Ends`.
 #[derive(Drop)]
 pub struct Covers {
     keys: Vec<Key>,
-    lengths: Vec<Lengths>,
+    groups: Vec<Group>,
 }
 
 fn length_of(part: Option<Prefix>) -> u8
@@ -163,7 +171,7 @@ impl Covers {
     {
         Covers {
             keys: Vec::new(alloc),
-            lengths: Vec::new(alloc),
+            groups: Vec::new(alloc),
         }
     }
 
@@ -173,9 +181,9 @@ impl Covers {
         ensures { IfOk result (IsIndexOf all.now) }
     {
         let mut keys = keys_of(alloc, all)?;
+        let groups = groups_of(alloc, &keys)?;
         keys.sort_unstable_by_key(|key| key.rank());
-        let lengths = lengths_in(alloc, &keys)?;
-        Ok(Covers { keys, lengths })
+        Ok(Covers { keys, groups })
     }
 
     /// Puts one more behind the others.
@@ -185,7 +193,7 @@ impl Covers {
         ensures kept { OnErr result ((all : List Ends) → IsIndexOf all self.old → IsIndexOf all self.new) }
     {
         let key = key_of(ends, self.keys.len() as u32);
-        note(&mut self.lengths, key.lengths)?;
+        note(&mut self.groups, &key)?;
         let place = place_of(&self.keys, key.rank());
         self.keys.insert(place, key)?;
         Ok(())
@@ -198,19 +206,48 @@ impl Covers {
         if from > u32::MAX as usize {
             return None;
         }
-        first_among(&self.keys, &self.lengths, from as u32, src, dst)
+        first_among(&self.keys, &self.groups, from as u32, src, dst)
     }
 }
 
-fn first_among(keys: &[Key], all: &[Lengths], from: u32, src: u32, dst: u32) -> Option<usize>
-    ensures { AreInOrder keys.now → IsFirstKey (begins all.now src dst) keys.now from result }
+fn first_among(keys: &[Key], groups: &[Group], from: u32, src: u32, dst: u32) -> Option<usize>
+    ensures { AreInOrder keys.now → AreFirst groups.now keys.now
+        → IsFirstKey (begins groups.now src dst) keys.now from result }
 {
     let mut first = None;
-    for lengths in all {
-        let next = next_of(keys, &key_at(*lengths, src, dst, from));
-        first = earlier(first, next);
+    for group in groups {
+        first = first_with(keys, *group, first, from, src, dst);
     }
     first
+}
+
+/// The earlier of what was found before and of what the group has.
+fn first_with(
+    keys: &[Key],
+    group: Group,
+    found: Option<usize>,
+    from: u32,
+    src: u32,
+    dst: u32,
+) -> Option<usize>
+    ensures { (seen : List Group) → AreInOrder keys.now → IsFirstOf group keys.now
+        → IsFirstKey (begins seen src dst) keys.now from found
+        → IsFirstKey (begins (seen ++ group ∷ []) src dst) keys.now from result }
+{
+    if comes_before(found, group.first) {
+        return found;
+    }
+    let next = next_of(keys, &key_at(group.lengths, src, dst, from));
+    earlier(found, next)
+}
+
+fn comes_before(found: Option<usize>, place: u32) -> bool
+    ensures { result ≡ comes_before found place }
+{
+    match found {
+        Some(found) => found <= place as usize,
+        None => false,
+    }
 }
 
 fn keys_of(alloc: Global, all: &[Ends]) -> Result<Vec<Key>, AllocError>
@@ -225,24 +262,35 @@ fn keys_of(alloc: Global, all: &[Ends]) -> Result<Vec<Key>, AllocError>
     Ok(keys)
 }
 
-/// The lengths that are in use.
-fn lengths_in(alloc: Global, keys: &[Key]) -> Result<Vec<Lengths>, AllocError>
-    ensures { IfOk result (λ all. (k : Key) → Contains keys.now k → Contains all.items k.lengths) }
+/// The groups of keys that stand in the order of their places.
+fn groups_of(alloc: Global, keys: &[Key]) -> Result<Vec<Group>, AllocError>
+    ensures listed { IfOk result (λ groups. AreListed groups.items keys.now) }
+    ensures first { (all : List Ends) → keys.now ≡ keys_from 0 all
+        → IfOk result (λ groups. AreFirst groups.items keys.now) }
 {
-    let mut all = Vec::new(alloc);
+    let mut groups = Vec::new(alloc);
     for key in keys {
-        note(&mut all, key.lengths)?;
+        note(&mut groups, key)?;
     }
-    Ok(all)
+    Ok(groups)
 }
 
-/// Puts the lengths behind the others where they are new.
-fn note(all: &mut Vec<Lengths>, lengths: Lengths) -> Result<(), AllocError>
-    ensures there { OnOk result (Contains all.new.items lengths) }
-    ensures kept { (l : Lengths) → Contains all.old.items l → Contains all.new.items l }
+/// Puts a group of the key behind the others where its lengths are new.
+fn note(groups: &mut Vec<Group>, key: &Key) -> Result<(), AllocError>
+    ensures ok { OnOk result (groups.new.items ≡ noted groups.old.items key.now) }
+    ensures err { OnErr result (groups.new.items ≡ groups.old.items) }
 {
-    if !all.contains(&lengths) {
-        all.push(lengths)?;
+    if !has_lengths(groups, key.lengths) {
+        groups.push(Group {
+            lengths: key.lengths,
+            first: key.place,
+        })?;
     }
     Ok(())
+}
+
+fn has_lengths(groups: &[Group], lengths: Lengths) -> bool
+    ensures { result ≡ has_lengths groups.now lengths }
+{
+    groups.iter().any(|group| group.lengths.src == lengths.src && group.lengths.dst == lengths.dst)
 }

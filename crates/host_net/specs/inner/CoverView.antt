@@ -1,8 +1,10 @@
 -- The keys of an index of prefixes, and their order. Callers have `IsIndexOf` from the calls that make an index, and hand it on.
-use Rattle.std.specs.Prelude.{◌≡◌, ◌≤◌, ◌<◌, ◌+◌, ◌*◌, ◌^◌, ℕ, min, List, [], ◌∷◌, length, slice_get, Contains, Option, Some, None}
+use Rattle.std.specs.Prelude.{◌≡◌, ◌≤◌, ◌<◌, ◌+◌, ◌*◌, ◌^◌, ◌==◌, ◌&&◌, ℕ, Bool, false, nat_le, IsTrue, if◌then◌else◌, min, List, [], ◌∷◌, ◌++◌, length, slice_get, Contains, Option, Some, None}
+use Rattle.std.specs.List.{list_any}
 use Rattle.std.specs.List.Sorted.{IsNonDecreasingBy}
 use Rattle.host_net.specs.declared.cover.Covers.{Covers}
 use Rattle.host_net.specs.declared.cover.Ends.{Ends}
+use Rattle.host_net.specs.declared.cover.Group.{Group}
 use Rattle.host_net.specs.declared.cover.Key.{Key}
 use Rattle.host_net.specs.declared.cover.Lengths.{Lengths}
 use Rattle.host_net.specs.declared.prefix.Prefix.{Prefix}
@@ -66,13 +68,33 @@ abbrev pub IsFirstKey : (Key → Type 0) → List Key → ℕ → Option ℕ →
 IsFirstKey Has keys from None = (k : Key) → Contains keys k → Has k → from ≤ k.place → ⊥
 IsFirstKey Has keys from (Some place) = IsFirstKeyAt Has keys from place
 
--- it has one of these lengths, and the bits of the two addresses
-pub record Begins (all : List Lengths) (src dst : ℕ) (k : Key) : Type 0 where
-  pub among : Contains all k.lengths
+-- a group has these lengths
+abbrev pub has_lengths : List Group → Lengths → Bool
+has_lengths groups l = list_any (λ g. (g.lengths.src == l.src) && (g.lengths.dst == l.dst)) groups
+
+-- the groups, and one of the key where its lengths are new
+abbrev pub noted : List Group → Key → List Group
+noted groups k = if has_lengths groups k.lengths then groups else groups ++ record { lengths = k.lengths; first = k.place } ∷ []
+
+abbrev pub AreListed : List Group → List Key → Type 0
+AreListed groups keys = (k : Key) → Contains keys k → IsTrue (has_lengths groups k.lengths)
+
+-- no key of the lengths of the group has an earlier place
+abbrev pub IsFirstOf : Group → List Key → Type 0
+IsFirstOf g keys = (k : Key) → Contains keys k → g.lengths ≡ k.lengths → g.first ≤ k.place
+
+-- nor has one that comes next
+pub record AreFirst (groups : List Group) (keys : List Key) : Type 0 where
+  pub first : (g : Group) → Contains groups g → IsFirstOf g keys
+  pub begun : (g : Group) → Contains groups g → g.first ≤ length keys
+
+-- it has the lengths of one of these groups, and the bits of the two addresses
+pub record Begins (all : List Group) (src dst : ℕ) (k : Key) : Type 0 where
+  pub among : IsTrue (has_lengths all k.lengths)
   pub src_bits : k.src ≡ front k.lengths.src src
   pub dst_bits : k.dst ≡ front k.lengths.dst dst
 
-abbrev pub begins : List Lengths → ℕ → ℕ → Key → Type 0
+abbrev pub begins : List Group → ℕ → ℕ → Key → Type 0
 begins all src dst k = Begins all src dst k
 
 abbrev pub earlier : Option ℕ → Option ℕ → Option ℕ
@@ -80,13 +102,18 @@ earlier None other = other
 earlier (Some one) None = Some one
 earlier (Some one) (Some other) = Some (min one other)
 
--- the keys are those of the list, in order, and the lengths of each are among the lengths
-pub record AreIndexOf (all : List Ends) (keys : List Key) (lengths : List Lengths) : Type 0 where
+abbrev pub comes_before : Option ℕ → ℕ → Bool
+comes_before None place = false
+comes_before (Some one) place = nat_le one place
+
+-- the keys are those of the list, in order, and the groups those of the keys
+pub record AreIndexOf (all : List Ends) (keys : List Key) (groups : List Group) : Type 0 where
   pub order : AreInOrder keys
   pub counted : length keys ≡ length all
   pub every : (i : ℕ) (e : Ends) → slice_get all i ≡ Some e → Contains keys (key_of e i)
   pub only : (k : Key) → Contains keys k → (e : Ends) × (slice_get all k.place ≡ Some e) × (k ≡ key_of e k.place)
-  pub listed : (k : Key) → Contains keys k → Contains lengths k.lengths
+  pub listed : AreListed groups keys
+  pub firsts : AreFirst groups keys
 
 -- how many `Ends` are in the index
 abbrev pub count_in : Covers → ℕ
@@ -94,4 +121,4 @@ count_in index = length index.keys.items
 
 -- the index is that of the list
 abbrev pub IsIndexOf : List Ends → Covers → Type 0
-IsIndexOf all index = AreIndexOf all index.keys.items index.lengths.items
+IsIndexOf all index = AreIndexOf all index.keys.items index.groups.items

@@ -1,33 +1,40 @@
-use Rattle.std.proofs.Common.{◌≡◌, ◌≤◌, ◌<◌, ◌++◌, ◌∷◌, [], ◌∙◌, ℕ, List, length, sym, ap, subst, arith}
+use Rattle.std.proofs.Common.{◌≡◌, ◌≤◌, ◌<◌, ◌++◌, ◌∷◌, [], ◌∙◌, ℕ, List, length, true, sym, ap, subst, arith}
 use Rattle.std.specs.List.Sorted.{IsNonDecreasingBy, IsPartitionPoint}
+use Rattle.host_net.specs.declared.cover.Group.{Group}
 use Rattle.host_net.specs.declared.cover.Key.{Key}
-use Rattle.host_net.specs.inner.CoverView.{AreIndexOf, key_of, rank}
-use Rattle.host_net.proofs.CoverLemmas.{always, index_kept, index_more}
+use Rattle.host_net.specs.inner.CoverView.{AreIndexOf, has_lengths, key_of, noted, rank}
+use Rattle.host_net.proofs.CoverLemmas.{always, index_more, index_noted, noted_there}
 use Rattle.host_net.proofs.cover.Covers.add.Goals as goal
 
 pub returns-in_err-note-clause-kept : goal.returns-in_err-note-clause-kept
 returns-in_err-note-clause-kept c =
-    let index = c.args.self.now in
-    always c.from_residual.result _ (λ all is. index_kept all index.keys.items index.lengths.items c.note.new.all.items is c.note.ensures.kept)
+    always c.from_residual.result _ (λ all is.
+    subst (λ (gs : List Group). AreIndexOf all c.args.self.now.keys.items gs) (sym c.in_err-note.ensures.err) is)
 
 pub returns-in_err-insert-clause-kept : goal.returns-in_err-insert-clause-kept
 returns-in_err-insert-clause-kept c =
     let index = c.args.self.now in
+    let key = c.key_of-key.result in
+    let counted : key.place ≡ length index.keys.items = ap (λ (k : Key). k.place) c.key_of-key.ensures.key ∙ omega (arith, c.len.ensures, c.args.self.now.keys.ok) in
     always c.from_residual-in_err-insert.result _ (λ all is.
-    subst (λ (ks : List Key). AreIndexOf all ks c.note.new.all.items) (sym c.in_err-insert.ensures.items)
-    (index_kept all index.keys.items index.lengths.items c.note.new.all.items is c.note.ensures.kept))
+    subst (λ (ks : List Key). AreIndexOf all ks c.note.new.groups.items) (sym c.in_err-insert.ensures.items)
+    (subst (λ (gs : List Group). AreIndexOf all index.keys.items gs) (sym c.in_ok-note.ensures.ok) (index_noted all index.keys.items index.groups.items key counted is)))
 
 pub returns-clause-added : goal.returns-clause-added
 returns-clause-added c = λ all is.
-    let keys = c.args.self.now.keys.items in
+    let index = c.args.self.now in
+    let keys = index.keys.items in
+    let groups = c.note.new.groups.items in
     let new = c.key_of-key.result in
     let counted : c.len.result ≡ length keys = omega (arith, c.len.ensures, c.args.self.now.keys.ok) in
+    let last : new.place ≡ length keys = ap (λ (k : Key). k.place) c.key_of-key.ensures.key ∙ counted in
     let at = c.place_of-place.result in
     let bound = subst (λ (ks : List Key). at ≤ length ks) c.deref.ensures.value c.place_of-place.ensures.bound in
     let found = subst (λ (ks : List Key). IsNonDecreasingBy rank ks → IsPartitionPoint (λ k. rank k < c.rank.result) (λ k. c.rank.result ≤ rank k) ks at)
     c.deref.ensures.value c.place_of-place.ensures.point in
     let point = subst (λ (n : ℕ). IsPartitionPoint (λ k. rank k < n) (λ k. n ≤ rank k) keys at) c.rank.ensures (found is.order.rise) in
-    subst (λ (ks : List Key). AreIndexOf (all ++ c.args.ends ∷ []) ks c.note.new.all.items) (sym c.in_ok-insert.ensures.items)
-    (index_more all keys c.args.self.now.lengths.items c.note.new.all.items c.args.ends new at is
-    (c.key_of-key.ensures.key ∙ ap (key_of c.args.ends) counted) c.key_of-key.ensures.small
-    bound point c.in_ok-note.ensures.there c.note.ensures.kept)
+    let now = subst (λ (gs : List Group). AreIndexOf all keys gs) (sym c.in_ok-note.ensures.ok) (index_noted all keys index.groups.items new last is) in
+    let there = subst (λ (gs : List Group). has_lengths gs new.lengths ≡ true) (sym c.in_ok-note.ensures.ok) (noted_there index.groups.items new) in
+    subst (λ (ks : List Key). AreIndexOf (all ++ c.args.ends ∷ []) ks groups) (sym c.in_ok-insert.ensures.items)
+    (index_more all keys groups c.args.ends new at now
+    (c.key_of-key.ensures.key ∙ ap (key_of c.args.ends) counted) c.key_of-key.ensures.small bound point there)
