@@ -1,4 +1,5 @@
 pub mod ConnectionLaws
+mod ConnectionLemmas
 pub mod EventFaultLaws
 pub mod EventsRows
 pub mod EventsTextLaws

@@ -11,7 +11,7 @@ ghost use Rattle.pkt_core.specs.inner.EventSteps.{with_event, event_of, event_by
 ghost use Rattle.pkt_core.specs.Filter.{ArePackets};
 
 use crate::event::Event;
-use host_net::{Packet, read_address};
+use host_net::{Packet, read_address, read_protocol};
 use std::alloc::Global;
 use text_core::{LineFault, LineReader, TextFault, Words, read_lines, read_number};
 use thiserror::Error;
@@ -155,23 +155,18 @@ fn read_packet(
     Some(Packet {
         src: read_address(src)?,
         dst: read_address(dst)?,
-        proto: read_protocol(protocol)?,
+        proto: protocol_of(protocol)?,
         sport: read_number(65535, sport)? as u16,
         dport: read_number(65535, dport)? as u16,
     })
 }
 
-fn read_protocol(word: &[u8]) -> Option<u8>
+/// A protocol by its name, or by its number.
+fn protocol_of(word: &[u8]) -> Option<u8>
     ensures { result ≡ protocol_of word.now }
 {
-    if word == b"icmp".as_slice() {
-        return Some(1);
+    match read_protocol(word) {
+        Some(protocol) => Some(protocol),
+        None => Some(read_number(255, word)? as u8),
     }
-    if word == b"tcp".as_slice() {
-        return Some(6);
-    }
-    if word == b"udp".as_slice() {
-        return Some(17);
-    }
-    Some(read_number(255, word)? as u8)
 }

@@ -3,12 +3,14 @@
 //! said over the events alone, and tracking is proved to give just this.
 #![tactic(auto)]
 
+mod connection;
 mod event;
 mod events;
 #[cfg(test)]
 mod tests;
 mod track;
 
+pub use connection::Connection;
 pub use event::Event;
 pub use events::{EVENTS_BYTE_LIMIT, EventFault, EventWhy, read_events};
 pub use track::Track;

@@ -2,10 +2,11 @@
 //! that is set once a packet the other way was seen.
 
 ghost use Rattle.std.specs.Prelude.{◌≡◌, [], Some, None, OnOk, OnErr};
-ghost use Rattle.pkt_core.specs.inner.Kept.{kept_in, Begins};
+ghost use Rattle.pkt_core.specs.inner.Kept.{kept_in, Begins, connection_of, state_by};
 ghost use Rattle.pkt_core.specs.inner.PolicyRuns.{TracksAsExpected};
 ghost use Rattle.pkt_core.specs.Tracking.{after_forget, after_seen, state_of, with_kept};
 
+use crate::connection::Connection;
 use host_net::{CtState, Packet};
 use std::alloc::{AllocError, Global};
 use std::collections::BTreeMap;
@@ -39,17 +40,27 @@ impl Track {
         }
     }
 
+    /// The connection of a packet.
+    #[tactic(auto, using(crate::proofs::ConnectionLemmas::state_is))]
+    pub fn connection_of(&self, packet: &Packet) -> Connection
+        ensures found { result ≡ connection_of (kept_in self.now) packet.now }
+        ensures state { state_by result ≡ state_of (kept_in self.now) packet.now }
+    {
+        if let Some(answered) = mark(&self.kept, &packet.swap()) {
+            return Connection::Answers(answered);
+        }
+        match mark(&self.kept, packet) {
+            Some(answered) => Connection::Begun(answered),
+            None => Connection::Unknown,
+        }
+    }
+
     /// The state in which a packet comes: established where it answers a connection, or is of one
     /// that was answered.
     pub fn state_of(&self, packet: &Packet) -> CtState
         ensures { result ≡ state_of (kept_in self.now) packet.now }
     {
-        let answers = mark(&self.kept, &packet.swap()).is_some();
-        if answers || mark(&self.kept, packet).unwrap_or(false) {
-            CtState::Established
-        } else {
-            CtState::New
-        }
+        self.connection_of(packet).state()
     }
 
     /// Tracks a packet that was seen, where `accepted` says that it was let pass.
@@ -61,14 +72,28 @@ impl Track {
         // Only a connection that begins takes memory.
         ensures begins { OnErr result (Begins (kept_in self.old) packet.now accepted) }
     {
-        let answer = packet.swap();
-        if mark(&self.kept, &answer).is_some() {
-            return keep(&mut self.kept, &answer, true);
+        let connection = self.connection_of(packet);
+        self.step_in(connection, packet, accepted)
+    }
+
+    /// The same, where the connection of the packet was looked up already.
+    pub fn step_in(
+        &mut self,
+        connection: Connection,
+        packet: &Packet,
+        accepted: bool,
+    ) -> Result<(), AllocError>
+        requires { connection ≡ connection_of (kept_in self.old) packet.now }
+        ensures tracked { OnOk result (
+            kept_in self.new ≡ after_seen (kept_in self.old) packet.now accepted) }
+        ensures unchanged { OnErr result (self.new ≡ self.old) }
+        ensures begins { OnErr result (Begins (kept_in self.old) packet.now accepted) }
+    {
+        match connection {
+            Connection::Answers(false) => keep(&mut self.kept, &packet.swap(), true),
+            Connection::Unknown if accepted => keep(&mut self.kept, packet, false),
+            Connection::Answers(true) | Connection::Begun(_) | Connection::Unknown => Ok(()),
         }
-        if accepted && mark(&self.kept, packet).is_none() {
-            return keep(&mut self.kept, packet, false);
-        }
-        Ok(())
     }
 
     /// Forgets the connection of a packet, in both directions.

@@ -1,15 +1,34 @@
 -- The kept connections as a list, how one begins, and what a run leaves of them.
-use Rattle.std.specs.Prelude.{Bool, List, ◌≡◌, ◌∷◌, Option, Some, None, IsTrue}
+use Rattle.std.specs.Prelude.{Bool, List, ◌≡◌, ◌∷◌, Option, Some, None, IsTrue, if◌then◌else◌}
 use Rattle.std.specs.Map.{lookup}
 use Rattle.host_net.specs.declared.packet.Packet.{Packet}
+use Rattle.host_net.specs.declared.packet.CtState.{CtState}
+use Rattle.host_net.specs.declared.packet.CtState.TheVariants.{New, Established}
 use Rattle.pkt_core.specs.Tracking.{Kept, same_packet, after_seen, after_forget}
 use Rattle.host_net.specs.Packet.{swap_of}
+use Rattle.pkt_core.specs.declared.connection.Connection.{Connection}
+use Rattle.pkt_core.specs.declared.connection.Connection.TheVariants.{Answers, Begun, Unknown}
 use Rattle.pkt_core.specs.declared.event.Event.{Event}
 use Rattle.pkt_core.specs.declared.event.Event.TheVariants.{Seen, Forget}
 
 -- what a list of first packets, each with its mark, keeps
 abbrev pub kept_in : List (Packet × Bool) → Kept
 kept_in connections q = lookup (same_packet q) connections
+
+-- the connection of a packet, by what is kept of its answer and of itself
+abbrev pub connection_by : Option Bool → Option Bool → Connection
+connection_by (Some answered) own = Answers answered
+connection_by None (Some answered) = Begun answered
+connection_by None None = Unknown
+
+abbrev pub connection_of : Kept → Packet → Connection
+connection_of kept p = connection_by (kept (swap_of p)) (kept p)
+
+-- the state of a packet of it
+abbrev pub state_by : Connection → CtState
+state_by (Answers answered) = Established
+state_by (Begun answered) = if answered then Established else New
+state_by Unknown = New
 
 -- p begins a connection: it passes and is of none
 abbrev pub Begins : Kept → Packet → Bool → Type 0
