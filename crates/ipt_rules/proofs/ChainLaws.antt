@@ -1,11 +1,8 @@
 -- Laws of chains: what a change at one chain leaves as it was.
-use Rattle.std.proofs.Common.{◌≡◌, ℕ, zero, suc, ◌+◌, ◌<◌, ◌∙◌, ap, refl, Bool, false, List, [], ◌∷◌, ◌++◌, Some, None, length, get_or, set, arith, length-append}
-use Rattle.std.specs.Prelude.{IsNone, is_some, bytes_eq}
-use Rattle.std.specs.List.{list_any, position_from}
-use Rattle.std.proofs.lemmas.Bool.{or_parts, cond-false}
+use Rattle.std.proofs.Common.{◌≡◌, ℕ, zero, suc, ◌+◌, ◌<◌, ◌∙◌, ap, refl, List, [], ◌∷◌, ◌++◌, Some, length, get_or, set, arith, length-append}
 use Rattle.ipt_rules.specs.declared.rule.Rule.{Rule}
 use Rattle.ipt_rules.specs.declared.rule.Policy.{Policy}
-use Rattle.ipt_rules.specs.Chain.{Chain, changed_at, with_policy, with_rule, number_of, user_chain}
+use Rattle.ipt_rules.specs.Chain.{Chain, changed_at, with_policy, with_rule, user_chain}
 use Rattle.ipt_rules.specs.ChainTable.{rule_count}
 
 -- a write at a place is a change there
@@ -50,13 +47,3 @@ length_added xs name = length-append xs (user_chain name ∷ [])
 
 pub rule_count_added : (xs : List Chain) (name : List ℕ) → rule_count (xs ++ user_chain name ∷ []) ≡ rule_count xs
 rule_count_added xs name = omega (arith, rule_count-append xs (user_chain name ∷ []))
-
-position_none : (p : Chain → Bool) (i : ℕ) (xs : List Chain) → list_any p xs ≡ false → position_from p i xs ≡ None
-position_none p i [] unused = refl
-position_none p i (x ∷ xs) unused =
-    let parts = or_parts (p x) (list_any p xs) unused in
-    cond-false (p x) (Some i) (position_from p (i + 1) xs) parts.0 ∙ position_none p (i + 1) xs parts.1
-
--- a name that no chain has is unused
-pub number_of_unused : (xs : List Chain) (name : List ℕ) → list_any (λ x. bytes_eq x.name name) xs ≡ false → IsNone (number_of xs name)
-number_of_unused xs name unused = ap is_some (position_none (λ x. bytes_eq x.name name) 0 xs unused)

@@ -1,7 +1,7 @@
 //! Which rule of a chain is the next that may fit a packet, by an index of the addresses that the
 //! rules of each chain ask for.
 
-ghost use Rattle.std.specs.Prelude.{◌≡◌, ◌<◌, ◌≤◌, ◌^◌, length, slice_get, IfOk, IfSome, Some};
+ghost use Rattle.std.specs.Prelude.{◌≡◌, ◌<◌, ◌≤◌, ◌^◌, length, slice_get, IfOk, IfSome, IsTrue, Some};
 ghost use Rattle.host_net.specs.inner.CoverView.{IsIndexOf};
 ghost use Rattle.host_net.specs.declared.packet.CtState.{CtState};
 ghost use Rattle.ipt_rules.specs.declared.rule.Rule.{Rule};
@@ -10,7 +10,7 @@ ghost use Rattle.ipt_rules.specs.Matching.{matches};
 ghost use Rattle.ipt_rules.specs.inner.Next.{AreIndexes, IsNext, all_ends, ends_of, part_of};
 
 use crate::chain::Chain;
-use crate::rule::{AddrMatch, Rule};
+use crate::rule::{AddrMatch, Rule, address_matches};
 use host_net::{Covers, Ends, Packet, Prefix};
 use std::alloc::{AllocError, Global};
 
@@ -77,8 +77,21 @@ pub(crate) fn index_at(indexes: &[Covers], number: u16) -> Option<&Covers>
     indexes.get(number as usize)
 }
 
+/// Whether there is a rule at that place, and it asks for the addresses of the packet.
+fn asks_at(rules: &[Rule], at: usize, packet: &Packet) -> bool
+    ensures { IsTrue result → at < length rules.now }
+{
+    match rules.get(at) {
+        None => false,
+        Some(rule) => {
+            address_matches(rule.src, packet.src) && address_matches(rule.dst, packet.dst)
+        }
+    }
+}
+
 /// The place of the next rule, from one on, that may fit the packet: by an index that whose prefixes
-/// cover its addresses, and without one each. Those that are passed over do not fit it.
+/// cover its addresses, and without one each. Those that are passed over do not fit it. Within a chain
+/// no search is made where the rule at that place will do, as the one to which a walk comes back.
 pub(crate) fn next_rule(
     index: Option<&Covers>,
     rules: &[Rule],
@@ -90,6 +103,9 @@ pub(crate) fn next_rule(
     ensures next { (state : CtState) → IsNext (matches packet.now state) rules.now from result }
     ensures small { IfSome result (λ at. at < 2 ^ 32) }
 {
+    if from > 0 && asks_at(rules, from, packet) {
+        return Some(from);
+    }
     match index {
         Some(index) => index.first(from, packet.src, packet.dst),
         None if from < rules.len() => Some(from),

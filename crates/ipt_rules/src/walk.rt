@@ -1,7 +1,8 @@
 //! What the chains give a packet. A chain is walked along its rules, and where one of them jumps to a
 //! chain of which it is not known what it gives, that one is walked first. What a chain gave is kept
 //! for the packet, so that no chain is walked twice, however the jumps are nested, and it takes no
-//! memory. Of a chain only those rules are looked at whose prefixes cover the addresses of the packet.
+//! memory. Where chains have indexes, rules whose prefixes do not cover the packet's addresses are
+//! passed over.
 
 ghost use Rattle.std.specs.Prelude.{◌≡◌, ◌<◌, ◌≤◌, length, IfSome};
 ghost use Rattle.ipt_rules.specs.Matching.{matches};
