@@ -1,22 +1,26 @@
 //! One line of text in a buffer of fixed size, put together piece by piece and without memory. What
 //! does not fit is left out, so a writer whose lines are short enough has them whole.
 
-ghost use Rattle.std.specs.Prelude.{◌≡◌, ◌≤◌, ◌++◌, take, decimal};
+ghost use Rattle.std.specs.Prelude.{◌≡◌, ◌+◌, ◌<◌, ◌≤◌, ◌++◌, take, decimal};
 ghost use Rattle.text_core.specs.inner.Line.{cut};
-
-use itoa::Buffer;
 
 /// Puts a piece after the first `at` bytes, and answers where the text now ends. What the buffer
 /// holds after that place is left open.
+#[inline(always)]
 pub fn put<const N: usize>(buffer: &mut [u8; N], at: usize, piece: &[u8]) -> usize
     requires { at ≤ N }
     ensures text { take result buffer.new ≡ cut N (take at buffer.old ++ piece.now) }
     ensures within { result ≤ N }
 {
     let line = &mut buffer[..];
-    let fits = (line.len() - at).min(piece.len());
-    line[at..at + fits].copy_from_slice(&piece[..fits]);
-    at + fits
+    let room = line.len() - at;
+    // A piece that fits is copied by its own length, so that a literal needs no loop.
+    if piece.len() <= room {
+        line[at..at + piece.len()].copy_from_slice(piece);
+        return at + piece.len();
+    }
+    line[at..at + room].copy_from_slice(&piece[..room]);
+    at + room
 }
 
 /// Puts a number in decimal digits after the first `at` bytes, as `put` does.
@@ -25,6 +29,16 @@ pub fn put_number<const N: usize>(buffer: &mut [u8; N], at: usize, number: u64) 
     ensures text { take result buffer.new ≡ cut N (take at buffer.old ++ decimal number) }
     ensures within { result ≤ N }
 {
-    let mut digits = Buffer::new();
-    put(buffer, at, digits.format(number).as_bytes())
+    if number < 10 {
+        return put(buffer, at, &[digit(number)]);
+    }
+    let front = put_number(buffer, at, number / 10);
+    put(buffer, front, &[digit(number % 10)])
+}
+
+fn digit(number: u64) -> u8
+    requires { number < 10 }
+    ensures { result ≡ 48 + number }
+{
+    b'0' + number as u8
 }
