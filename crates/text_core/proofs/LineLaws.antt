@@ -17,10 +17,6 @@ pub cut_whole : (room : ℕ) (a : List ℕ) → length a ≤ room → cut room a
 unfolding cut
 cut_whole room a fits = take_all room a fits
 
-pub length_cut : (room : ℕ) (a : List ℕ) → length (cut room a) ≤ room
-unfolding cut
-length_cut room a = omega (arith, length-take room a)
-
 -- a piece of no bytes leaves the line as it was
 pub nothing_put : (room at : ℕ) (buffer : List ℕ) → at ≤ room → take at buffer ≡ cut room (take at buffer ++ [])
 nothing_put room at buffer h =

@@ -4,8 +4,8 @@ use Rattle.std.specs.Prelude.{nat_lt}
 use Rattle.std.specs.List.{list_all}
 use Rattle.std.proofs.lemmas.Bool.Decides.{nat_tests}
 use Rattle.text_core.proofs.PiecesLaws.{lacks, lacks-append}
-use Rattle.text_core.specs.Lines.{lines, words, is_blank, ends_word}
-use Rattle.text_core.proofs.LinesLaws.{has_no_blank, words_of_word, lines_ended}
+use Rattle.text_core.specs.Lines.{words, is_blank, ends_word}
+use Rattle.text_core.proofs.LinesLaws.{has_no_blank, words_of_word}
 
 -- words after a word: a blank (32) in front of each
 abbrev pub behind : List (List ℕ) → List ℕ
@@ -58,18 +58,6 @@ list_all-append p [] ys f g = g
 list_all-append p (x ∷ xs) ys f g =
     let parts = both (p x) (list_all p xs) f in
     rw (parts.0, list_all-append p xs ys parts.1 g) refl
-
--- lines, each with its end
-abbrev pub ended_lines : List (List ℕ) → List ℕ
-ended_lines [] = []
-ended_lines (l ∷ ls) = l ++ (10 ∷ ended_lines ls)
-
--- ended lines are read as these lines
-pub lines_of_ended : (ls : List (List ℕ)) → list_all (lacks 10) ls ≡ true → lines (ended_lines ls) ≡ ls
-lines_of_ended [] h = refl
-lines_of_ended (l ∷ ls) h =
-    let parts = both (lacks 10 l) (list_all (lacks 10) ls) h in
-    lines_ended l (ended_lines ls) parts.0 ∙ ap (λ xs. l ∷ xs) (lines_of_ended ls parts.1)
 
 -- spaced words without byte 10 are a line
 lacks_behind : (ws : List (List ℕ)) → list_all (lacks 10) ws ≡ true → lacks 10 (behind ws) ≡ true
