@@ -1,6 +1,5 @@
 -- Laws of texts by lines: a text has one reading or one first fault, and not both, where each of its lines does so.
-use Rattle.std.proofs.Common.{◌≡◌, ℕ, ◌+◌, Bool, true, false, List, [], ◌∷◌, ◌++◌, length, append_assoc, append-nil, refl, sym, subst, ◌∙◌, arith, ◌⊎◌, inl, inr}
-use Rattle.std.proofs.lemmas.Bool.{cases_lt}
+use Rattle.std.proofs.Common.{◌≡◌, ℕ, ◌+◌, List, [], ◌∷◌, ◌++◌, length, refl, sym, subst, ◌∙◌, arith, ◌⊎◌, inl, inr}
 use Rattle.std.specs.Prelude.{Result, Ok, Err, IfOk, IfErr, MatchResult, IsTrue, IsFalse}
 use Rattle.text_core.specs.Lines.{lines, is_comment}
 use Rattle.text_core.specs.Reading.{Follows}
@@ -17,10 +16,6 @@ pub record IsSettled {S W : Type 0} (text : TextByLines S W) : Type 0 where
   pub good_or_bad : (n : ℕ) (s : S) (l : List ℕ) (t : S) (w : W) → text.IsLine n s l t → text.IsBadLine n s l w → ⊥
   pub one_end : (n : ℕ) (s : S) (l m : ℕ) (w v : W) → text.EndsBadly n s l w → text.EndsBadly n s m v → (l ≡ m) × (w ≡ v)
   pub ends_or_not : (n : ℕ) (s : S) (l : ℕ) (w : W) → text.MayEnd s → text.EndsBadly n s l w → ⊥
-
-pub record IsTotal {S W : Type 0} (text : TextByLines S W) : Type 0 where
-  pub line : (n : ℕ) (s : S) (l : List ℕ) → ((t : S) × text.IsLine n s l t) ⊎ ((w : W) × text.IsBadLine n s l w)
-  pub end : (n : ℕ) (s : S) → text.MayEnd s ⊎ ((l : ℕ) × (w : W) × text.EndsBadly n s l w)
 
 -- a step that answers what the format says of a line
 pub record IsStep {S W : Type 0} (text : TextByLines S W) (step : ℕ → S → List ℕ → Result S W) : Type 0 where
@@ -51,18 +46,6 @@ settled_by_step text step is ends = record {
   good_or_bad = λ n s l t w p q. ok_or_err (step n s l) t w (is.read n s t l p) (is.refused n s l w q);
   one_end = λ n s l m w v p q. absurd (ends.never_badly n s l w p);
   ends_or_not = λ n s l w p q. ends.never_badly n s l w q;
-}
-
-by_answer : {S W : Type 0} (text : TextByLines S W) (step : ℕ → S → List ℕ → Result S W) → IsStep text step → (n : ℕ) (s : S) (l : List ℕ)
-    → (r : Result S W) → step n s l ≡ r → ((t : S) × text.IsLine n s l t) ⊎ ((w : W) × text.IsBadLine n s l w)
-by_answer text step is n s l (Ok t) said = inl (t, is.reads n s t l said)
-by_answer text step is n s l (Err w) said = inr (w, is.refuses n s l w said)
-
-pub total_by_step : {S W : Type 0} (text : TextByLines S W) (step : ℕ → S → List ℕ → Result S W) → IsStep text step → EndsAnywhere text
-    → IsTotal text
-total_by_step text step is ends = record {
-  line = λ n s l. by_answer text step is n s l (step n s l) refl;
-  end = λ n s. inl (ends.ends s);
 }
 
 -- 2. One line more.
@@ -210,58 +193,7 @@ no_reading_with_fault text once bytes s line why (at_line short first) reading =
 no_reading_with_fault text once bytes s line why (at_end t through bad) reading =
     ends_same text once (1 + length (lines bytes)) s t line why (next_same text once 1 text.start s t (lines bytes) reading.told through.told) reading.ends bad
 
--- 5. A text has a reading or a fault.
-
--- lines that were read are followed by one that may stand there, or by the first that is bad
-next_or_bad : {S W : Type 0} (text : TextByLines S W) → IsTotal text → (front : List (List ℕ)) (l : List ℕ) (left : List (List ℕ)) (s : S) (b : Bool)
-    → AreLines text front s → is_comment l ≡ b
-    → ((t : S) × Passes text (1 + length front) s l t) ⊎ ((why : W) × IsFirstBad text (front ++ l ∷ left) (1 + length front) why)
-next_or_bad text total front l left s true told is = inl (s, inl (is, refl))
-next_or_bad text total front l left s false told is = elim (total.line (1 + length front) s l) [
-  | inl next ↦ inl (next.0, inr (is, next.1))
-  | inr bad ↦ inr (
-    bad.0,
-    record {
-      front = front;
-      here = l;
-      behind = left;
-      before = s;
-      parts = refl;
-      read_before = told;
-      number = refl;
-      is_line = is;
-      bad = bad.1;
-    },
-  )
-]
-
-abbrev AreReadOrBad : {S W : Type 0} → TextByLines S W → List (List ℕ) → Type 0
-AreReadOrBad {S = S} {W = W} text ls = ((s : S) × AreLines text ls s) ⊎ ((line : ℕ) × (why : W) × IsFirstBad text ls line why)
-
-read_or_bad : {S W : Type 0} (text : TextByLines S W) → IsTotal text → (front left : List (List ℕ)) (s : S) → AreLines text front s
-    → AreReadOrBad text (front ++ left)
-read_or_bad {S = S} text total front [] s told = inl (s, subst (λ (ls : List (List ℕ)). AreLines text ls s) (sym (append-nil front)) told)
-read_or_bad text total front (l ∷ left) s told = elim (next_or_bad text total front l left s (is_comment l) told refl) [
-  | inr bad ↦ inr (1 + length front, bad.0, bad.1)
-  | inl next ↦
-      subst (AreReadOrBad text) (append_assoc front (l ∷ []) left)
-      (read_or_bad text total (front ++ l ∷ []) left next.0 (lines_more text front s next.0 l told next.1))
-]
-
-pub reading_or_fault : {S W : Type 0} (text : TextByLines S W) → IsTotal text → (bytes : List ℕ)
-    → ((s : S) × IsReading text bytes s) ⊎ ((line : ℕ) × (why : W) × HasFault text bytes line why)
-reading_or_fault text total bytes = elim (cases_lt text.byte_limit (length bytes)) [
-  | inl long ↦ inr (0, text.when_longer, too_long long)
-  | inr short ↦ elim (read_or_bad text total [] (lines bytes) text.start refl) [
-    | inr bad ↦ inr (bad.0, bad.1, at_line short bad.2)
-    | inl read ↦ elim (total.end (1 + length (lines bytes)) read.0) [
-      | inl ends ↦ inl (read.0, record { short = short; told = read.1; ends = ends })
-      | inr badly ↦ inr (badly.0, badly.1, at_end read.0 (record { short = short; told = read.1 }) badly.2)
-    ]
-  ]
-]
-
--- 6. What a reader answers.
+-- 5. What a reader answers.
 
 -- a text with a reading is not refused, and read as this
 pub told_reading : {V S W : Type 0} (text : TextByLines S W) → IsSettled text → (view : V → S) (bytes : List ℕ) (r : Result V (TextFault W)) (s : S)
