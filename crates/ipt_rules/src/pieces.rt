@@ -12,12 +12,13 @@ use crate::rule::{AddrMatch, Policy, StateMatch, Target};
 use host_net::put_prefix;
 use text_core::put;
 
+#[tactic(auto, using(text_core::proofs::LineLaws::nothing_put))]
 pub(crate) fn put_negation(buffer: &mut [u8; 320], at: usize, negated: bool) -> usize
     requires { at ≤ 320 }
     ensures text { take result buffer.new ≡ cut 320 (take at buffer.old ++ negation_text negated) }
     ensures within { result ≤ 320 }
 {
-    put(buffer, at, if negated { b" !" } else { b"" })
+    if negated { put(buffer, at, b" !") } else { at }
 }
 
 #[tactic(auto, using(text_core::proofs::LineLaws::nothing_put))]

@@ -10,9 +10,9 @@ use crate::rule::{PortMatch, ProtoMatch, Rule};
 use text_core::{put, put_number};
 
 /// Puts the protocol and the ports that a rule asks for.
-pub(crate) fn put_service(buffer: &mut [u8; 320], at: usize, rule: Rule) -> usize
+pub(crate) fn put_service(buffer: &mut [u8; 320], at: usize, rule: &Rule) -> usize
     requires { at ≤ 320 }
-    ensures text { take result buffer.new ≡ cut 320 (take at buffer.old ++ service_text rule.proto rule.sport rule.dport) }
+    ensures text { take result buffer.new ≡ cut 320 (take at buffer.old ++ service_text rule.now.proto rule.now.sport rule.now.dport) }
     ensures within { result ≤ 320 }
 {
     let proto = put_protocol_part(buffer, at, rule.proto);
@@ -21,8 +21,8 @@ pub(crate) fn put_service(buffer: &mut [u8; 320], at: usize, rule: Rule) -> usiz
     put_port_part(buffer, sport, b" --dport ", rule.dport)
 }
 
-fn asks_for_ports(rule: Rule) -> bool
-    ensures { result ≡ (is_some rule.sport || is_some rule.dport) }
+fn asks_for_ports(rule: &Rule) -> bool
+    ensures { result ≡ (is_some rule.now.sport || is_some rule.now.dport) }
 {
     rule.sport.is_some() || rule.dport.is_some()
 }

@@ -99,7 +99,7 @@ fn write_rule_or_commit(
     let rules = chain.rules();
     let left = number - starts[place] as usize;
     if left < rules.len() {
-        return write_rule_line(chains, chain.name(), rules[left], buffer);
+        return write_rule_line(chains, chain.name(), &rules[left], buffer);
     }
     write_commit_line(buffer)
 }
@@ -111,11 +111,11 @@ fn write_commit_line(buffer: &mut [u8; 320]) -> usize
     put(buffer, 0, b"COMMIT\n")
 }
 
-fn write_rule_line(chains: &[Chain], name: &[u8], rule: Rule, buffer: &mut [u8; 320]) -> usize
-    requires jump { JumpsIn (length chains.now) rule.target }
+fn write_rule_line(chains: &[Chain], name: &[u8], rule: &Rule, buffer: &mut [u8; 320]) -> usize
+    requires jump { JumpsIn (length chains.now) rule.now.target }
     requires name { length name.now ≤ 64 }
-    requires parts { IsTrue (is_rule rule) }
-    ensures line { take result buffer.new ≡ rule_line chains.now name.now rule }
+    requires parts { IsTrue (is_rule rule.now) }
+    ensures line { take result buffer.new ≡ rule_line chains.now name.now rule.now }
     ensures short { result ≤ 283 }
 {
     let command = put(buffer, 0, b"-A ");
