@@ -150,14 +150,6 @@ nothing_yet table count more order places looked few same also no_order no_place
 abbrev pub StuckBelow : List (List ℕ) → List (Option ℕ) → ℕ → Type 0
 StuckBelow table places n = (c : ℕ) → c < n → place_of places c ≡ None → IsStuck table places c
 
-pub stuck_more : (table : List (List ℕ)) (old new : List (Option ℕ)) (n : ℕ) → new ≡ old → StuckBelow table old n → (place_of new n ≡ None → IsStuck table new n) → StuckBelow table new (n + 1)
-stuck_more table old new n same below here c low none = elim (cases_lt c n) [
-  | inl lower ↦ subst (λ (p : List (Option ℕ)). IsStuck table p c) (sym same) (below c lower (subst (λ (p : List (Option ℕ)). place_of p c ≡ None) same none))
-  | inr up ↦
-      let is : c ≡ n = omega (arith, low, up) in
-      subst (λ (x : ℕ). IsStuck table new x) (sym is) (here (subst (λ (x : ℕ). place_of new x ≡ None) is none))
-]
-
 -- the same with the values of the code
 pub put_at : (table : List (List ℕ)) (order : List ℕ) (places : List (Option ℕ)) (looked : List ℕ) (c at n : ℕ) (new : List ℕ) → IsPartOrder table order places (set looked c at) → c < length table → place_of places c ≡ None → at ≡ length (row_of table c) → n ≡ length order → new ≡ order ++ c ∷ [] → IsPartOrder table new (set places c (Some n)) (set looked c at)
 put_at table order places looked c at n new is there none all place pushed =

@@ -14,17 +14,6 @@ use Rattle.ipt_rules.proofs.LoopLemmas.{leads_once, leads_then, stays}
 pub contains_none : {X : Type 0} (x : X) → Contains [] x → ⊥
 contains_none x (k, low, is) = omega (arith, low)
 
-pub visits_none : (seen : List Bool) (left : List ℕ) → Visits [] seen left seen left
-visits_none seen left = record {
-  long = refl;
-  measure = refl;
-  grows = λ d h. h;
-  marks = λ d h. absurd (contains_none d h);
-  only = λ d h. inl h;
-  kept = λ d h. h;
-  fresh = λ d h. inl h;
-}
-
 -- a number more that was marked
 pub visits_seen : (row : List ℕ) (seen : List Bool) (left : List ℕ) (now : List Bool) (rest : List ℕ) → Visits row seen left now rest → (x : ℕ) → IsSet now x → Visits (row ++ x ∷ []) seen left now rest
 visits_seen row seen left now rest is x here = record {

@@ -11,7 +11,6 @@ use Rattle.ipt_rules.specs.inner.ChainTable.{IsTable}
 use Rattle.ipt_rules.specs.inner.Starts.{starts_from}
 use Rattle.ipt_rules.specs.Text.{rule_lines, commit_line}
 use Rattle.ipt_rules.proofs.TextLaws.{rule_line_count}
-use Rattle.ipt_rules.proofs.BuildLemmas.{chains_at}
 use Rattle.ipt_rules.proofs.TextLemmas.{rest_lines, slice_get_after}
 
 pub length-starts : (n : ℕ) (xs : List Chain) → length (starts_from n xs) ≡ length xs
@@ -51,17 +50,6 @@ count_split [] zero = omega arith
 count_split [] (suc c) = omega arith
 count_split (x ∷ xs) zero = omega arith
 count_split (x ∷ xs) (suc c) = let rest = count_split xs c in omega (arith, rest)
-
--- the start of a chain, and then those of the chains after it
-pub starts_next : (n : ℕ) (xs : List Chain) (i : ℕ) (x : Chain) → i < length xs → x ≡ get_or xs i x → starts_from n (drop i xs) ≡ n ∷ starts_from (n + length x.rules) (drop (i + 1) xs)
-starts_next n xs i x h is = ap (starts_from n) (chains_at xs i x h is)
-
-pub starts_grown : (n : ℕ) (xs : List Chain) (i : ℕ) (x : Chain) (front new whole : List ℕ) → i < length xs → x ≡ get_or xs i x
-    → new ≡ front ++ n ∷ [] → front ++ starts_from n (drop i xs) ≡ whole → new ++ starts_from (n + length x.rules) (drop (i + 1) xs) ≡ whole
-starts_grown n xs i x front new whole h is grown before =
-    ap (λ (ys : List ℕ). ys ++ starts_from (n + length x.rules) (drop (i + 1) xs)) grown
-    ∙ append_assoc front (n ∷ []) (starts_from (n + length x.rules) (drop (i + 1) xs))
-    ∙ ap (λ (ys : List ℕ). front ++ ys) (sym (starts_next n xs i x h is)) ∙ before
 
 -- the line that stands so far behind the start of a chain
 pub rest_from : (chains : List Chain) (c left : ℕ) → slice_get (rest_lines chains 0) (rule_count (take c chains) + left) ≡ slice_get (rest_lines chains c) left
