@@ -1,6 +1,6 @@
 -- Laws of lists of invariants: all together are a condition that subsets keep, that nothing breaks, and that is on
 -- single flows where each is; a denied flow breaks one of them.
-use Rattle.std.proofs.Common.{ℕ, List, []}
+use Rattle.std.proofs.Common.{ℕ, List}
 use Rattle.std.specs.Prelude.{All}
 use Rattle.flow_set.specs.declared.flow.Flow.{Flow}
 use Rattle.flow_set.specs.FlowSet.{with_flow}
@@ -12,10 +12,6 @@ use Rattle.permit_core.specs.inner.Denied.{IsDenied}
 pub AllHold-downward : {X : Type 0} (n : ℕ) (HoldsOn : X → List Flow → Type 0) (invs : List X)
     → All (λ inv. IsDownward n (HoldsOn inv)) invs → IsDownward n (AllHold HoldsOn invs)
 AllHold-downward n HoldsOn invs downward e s set sub hold = λ k d within. downward k d within e s set sub (hold k d within)
-
-pub AllHold-nothing : {X : Type 0} (HoldsOn : X → List Flow → Type 0) (invs : List X) → ((inv : X) → HoldsOn inv [])
-    → AllHold HoldsOn invs []
-AllHold-nothing HoldsOn invs nothing = λ k d within. nothing _
 
 pub AllHold-edge_wise : {X : Type 0} (n : ℕ) (HoldsOn : X → List Flow → Type 0) (invs : List X)
     → All (λ inv. IsEdgeWise n (HoldsOn inv)) invs → IsEdgeWise n (AllHold HoldsOn invs)

@@ -7,7 +7,7 @@ use Rattle.flow_set.specs.inner.Steps.{TriedFlows}
 use Rattle.std.proofs.Common.{set, get_or, inl, inr}
 use Rattle.std.proofs.lemmas.Bool.{cases_eq}
 use Rattle.std.proofs.lemmas.List.{get_or-set_same, get_or-set_other, get_or_read, length-set}
-use Rattle.permit_core.specs.inner.Trials.{EachPair, AreTried, ChosenHold}
+use Rattle.permit_core.specs.inner.Trials.{AreTried, ChosenHold, EachChosen, EachPair}
 
 -- a list that is not empty has an element
 some_element : {T : Type 0} (ts : List T) (k : ℕ) → k < length ts → T
@@ -17,22 +17,13 @@ some_element (t ∷ ts) k below = t
 -- the chosen invariants hold of one more flow where each holds of the flows of its trial with this one
 pub ChosenHold-tried : {X T : Type 0} (Fits : X → T → Type 0) (tried : T → TriedFlows) (chosen : X → Bool) (HoldsOn : X → List Flow → Type 0) (invs : List X) (trials : List T) (e : List Flow) (f : Flow)
     → AreTried Fits tried chosen invs trials e
-    → EachPair
-    (λ inv t. IsTrue (chosen inv) → HoldsOn inv (with_flow (tried t).flows f)) invs trials ↔ ChosenHold chosen HoldsOn invs
-    (with_flow e f)
+    → EachChosen chosen (λ inv t. HoldsOn inv (with_flow (tried t).flows f)) invs trials ↔ ChosenHold chosen HoldsOn invs (with_flow e f)
 ChosenHold-tried Fits tried chosen HoldsOn invs trials e f are = (
   λ each k x below is.
       let t = some_element trials k (omega (arith, below, are.counted)) in
       subst (λ fs. HoldsOn (slice_index_or invs k x) (with_flow fs f)) (are.flows k x t below is) (each k x t below is),
   λ all k x t below is. subst (λ fs. HoldsOn (slice_index_or invs k x) (with_flow fs f)) (sym (are.flows k x t below is)) (all k x below is),
 )
-
--- each chosen invariant holds of the flows of its trial
-pub ChosenHold-now : {X T : Type 0} (Fits : X → T → Type 0) (tried : T → TriedFlows) (chosen : X → Bool) (HoldsOn : X → List Flow → Type 0) (invs : List X) (trials : List T) (e : List Flow)
-    → AreTried Fits tried chosen invs trials e → ChosenHold chosen HoldsOn invs e
-    → EachPair (λ inv t. IsTrue (chosen inv) → HoldsOn inv (tried t).flows) invs trials
-ChosenHold-now Fits tried chosen HoldsOn invs trials e are all k x t below is =
-    subst (HoldsOn (slice_index_or invs k x)) (sym (are.flows k x t below is)) (all k x below is)
 
 -- the trials after a step that the chosen ones take, or that they all do not
 pub AreTried-step : {X T : Type 0} (Fits : X → T → Type 0) (tried : T → TriedFlows) (chosen : X → Bool) (invs : List X) (old new : List T) (e : List Flow) (f : Flow) (b : Bool)
