@@ -14,7 +14,6 @@ use Rattle.inv_any.specs.declared.any_inv.AnyInv.{AnyInv}
 use Rattle.net_core.specs.Policies.{holds_on}
 use Rattle.net_core.specs.inner.Asking.{flows_where}
 use Rattle.net_core.specs.inner.FailingFlows.{FailsOn}
-use Rattle.flow_set.proofs.SubsetLaws.{nothing_within}
 use Rattle.net_core.proofs.MarkedLaws.{first_marked, within_both, within_less, within_more}
 
 absent : (all failing : List Flow) (f : Flow) → IsSubset failing all → IsFalse (has all f) → IsFalse (has failing f)
@@ -108,10 +107,3 @@ fails_outside n inv all first set edge_wise is =
     not-false : (b : Bool) → IsFalse (not b) → IsTrue b
     not-false true none = refl
     not-false false none = sym none
-
--- where it holds of all of them there is none
-pub fails_nowhere : (n : ℕ) (inv : AnyInv) (all : List Flow) → IsFlowSet n all → IsEdgeWise n (holds_on inv) → holds_on inv all → FailsOn inv all []
-fails_nowhere n inv all set edge_wise holds = record {
-  within = nothing_within all;
-  marked = λ f there. (λ _. (edge_wise all set).0 holds f there, λ _. refl);
-}

@@ -1,13 +1,12 @@
 //! The flows on which invariants fail, one by one, as flows come and go.
 
-ghost use Rattle.std.specs.Prelude.{◌≡◌, List, IfOk, IsFalse, IsTrue};
+ghost use Rattle.std.specs.Prelude.{◌≡◌, IfOk, IsFalse, IsTrue};
 ghost use Rattle.flow_set.specs.Flow.{IsFlow};
 ghost use Rattle.flow_set.specs.FlowSet.{has};
-ghost use Rattle.flow_set.specs.declared.flow.Flow.{Flow as Meant};
 ghost use Rattle.inv_any.specs.Templates.{meaning_of};
 ghost use Rattle.net_core.specs.inner.Asking.{asking_where, flows_where};
 ghost use Rattle.net_core.specs.Policies.{JudgesFlowsAlone, edge_mark};
-ghost use Rattle.net_core.specs.inner.FailingFlows.{AreFailingFlows, FailsIn, FailsOn};
+ghost use Rattle.net_core.specs.inner.FailingFlows.{AreFailingFlows, FailsIn};
 
 use crate::description::Description;
 use crate::one_flow::set_flow;
@@ -61,17 +60,30 @@ pub(crate) fn change_failing(
     let _asked = description.asked();
     let invariants = description.invariants();
     for place in 0..invariants.len() {
-        change_where_failing(&invariants[place], &mut failing[place], flow, asked);
+        change_where_failing(
+            description,
+            &invariants[place],
+            &mut failing[place],
+            flow,
+            asked,
+        );
     }
 }
 
-/// The same of one invariant. A flow that comes is none of its own where it admits the flow.
-fn change_where_failing(invariant: &AnyInv, failing: &mut FlowSet, flow: Flow, asked: bool)
-    requires size { failing.old.size ≡ (meaning_of invariant.now).size }
-    requires flow { IsFlow failing.old.size flow }
-    ensures size { failing.new.size ≡ failing.old.size }
-    ensures flows { (all : List Meant) → (IsTrue asked → IsFalse (has all flow)) → FailsOn invariant.now all failing.old.flows
-        → FailsOn invariant.now (flows_where asked all flow) failing.new.flows }
+/// The same of one invariant. A flow that comes is none of its own where it admits the flow. The
+/// description is not read: it stands here for the contract alone.
+fn change_where_failing(
+    _description: &Description,
+    invariant: &AnyInv,
+    failing: &mut FlowSet,
+    flow: Flow,
+    asked: bool,
+)
+    requires size { (meaning_of invariant.now).size ≡ _description.now.asked.size }
+    requires flow { IsFlow _description.now.asked.size flow }
+    requires fresh { IsTrue asked → IsFalse (has _description.now.asked.flows flow) }
+    requires failing { FailsIn _description.now.asked.size _description.now.asked.flows invariant.now failing.old }
+    ensures { FailsIn _description.now.asked.size (flows_where asked _description.now.asked.flows flow) invariant.now failing.new }
 {
     if asked && invariant.admits(flow) {
         return;

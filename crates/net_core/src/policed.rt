@@ -81,8 +81,8 @@ impl PolicedNetwork {
         self.judged.failed
     }
 
-    /// Asks for one flow more. Where an invariant looks at walks, the policy is found anew, for which
-    /// there may be no memory.
+    /// Asks for one flow more. Where an invariant looks at walks, the policy may have to be found anew,
+    /// for which there may be no memory.
     pub fn ask_for(&mut self, alloc: Global, flow: Flow) -> Result<(), AllocError>
         requires { IsFlow self.old.network.asked.size flow }
         ensures asked { OnOk result (self.new.network ≡ asking_for self.old.network flow) }

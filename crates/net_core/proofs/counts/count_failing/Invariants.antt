@@ -1,10 +1,10 @@
-use Rattle.std.proofs.Common.{◌+◌, ◌≤◌, ℕ, drop}
-use Rattle.net_core.specs.FailingFlows.{AreFailing}
+use Rattle.std.proofs.Common.{◌≤◌}
+use Rattle.net_core.proofs.CountLemmas.{CountTo}
 use Rattle.net_core.proofs.counts.count_failing.Given as goal
 
--- those so far and those that are left are all; and each counts once at the most
+-- those so far are counted, and each counts once at the most
 abbrev pub invariant-loop-place : goal.invariant-loop-place
 invariant-loop-place l = record {
-  goes : (n : ℕ) → AreFailing (drop l.place l.description.invariants) l.description.asked.flows n → AreFailing l.description.invariants l.description.asked.flows (l.count + n);
+  goes : CountTo l.description.invariants l.description.asked.flows l.place l.count;
   small : l.count ≤ l.place;
 }
