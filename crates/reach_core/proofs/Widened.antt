@@ -1,13 +1,11 @@
 -- Rows that are widened, one after the other: what the step changes, and the way back.
-use Rattle.std.proofs.Common.{◌≡◌, ℕ, ◌+◌, ◌<◌, ◌≤◌, Bool, true, false, ◌&&◌, ◌||◌, cond, nat_cmp, inl, inr, List, length, length-set, set, refl, sym, ◌∙◌, ap, subst, arith}
-use Rattle.std.specs.Prelude.{◌≢◌, IsTrue, IsFalse}
+use Rattle.std.proofs.Common.{◌≡◌, ℕ, ◌<◌, ◌≤◌, Bool, true, false, ◌&&◌, ◌||◌, cond, nat_cmp, List, length, refl, sym, ◌∙◌, ap, subst}
+use Rattle.std.specs.Prelude.{IsTrue, IsFalse}
 use Rattle.std.specs.FinSet as fin
 use Rattle.std.specs.Cmp.{nat_cmp_total}
-use Rattle.std.proofs.lemmas.Bool.{cond_both, cond-false, cases_eq, cases_lt, both_ways}
-use Rattle.std.proofs.lemmas.List.{get_or-set_same, get_or-set_other}
+use Rattle.std.proofs.lemmas.Bool.{cond_both, cond-false, both_ways}
 use Rattle.flow_set.specs.HostSet.{HostNumbers}
 use Rattle.flow_set.specs.inner.HostSet.{row_of}
-use Rattle.flow_set.specs.inner.Calls.{HasNone, IsFirstFrom}
 use Rattle.reach_core.specs.inner.Rows.{AreBelow, IsWidened, FitsRows, row_before}
 use Rattle.reach_core.specs.declared.stepped.SteppedRows.{SteppedRows}
 
@@ -19,44 +17,6 @@ pub record AreDone (old new : List HostNumbers) (wanted : ℕ → HostNumbers) (
   pub done : (i : ℕ) → i < from → IsTrue (fin.contains hosts i) → row_of new i ≡ wanted i
   pub left : (i : ℕ) → from ≤ i → row_of new i ≡ row_of old i
   pub others : (i : ℕ) → IsFalse (fin.contains hosts i) → row_of new i ≡ row_of old i
-
-pub done_none : (old : List HostNumbers) (wanted : ℕ → HostNumbers) (hosts : HostNumbers) → AreDone old old wanted hosts 0
-done_none old wanted hosts =
-    record { same_length = refl; done = λ i below _. absurd (omega arith); left = λ i _. refl; others = λ i _. refl }
-
-pub done_next : (old new newer : List HostNumbers) (wanted : ℕ → HostNumbers) (hosts row : HostNumbers) (from host : ℕ)
-    → AreDone old new wanted hosts from → IsFirstFrom (fin.contains hosts) from host → host < length old
-    → row ≡ wanted host → newer ≡ set new host row → AreDone old newer wanted hosts (host + 1)
-done_next old new newer wanted hosts row from host are first below is put =
-    let within : host < length new = omega (arith, below, are.same_length) in
-    let elsewhere : (i : ℕ) → i ≢ host → row_of newer i ≡ row_of new i =
-    λ i other. ap (λ (rs : List HostNumbers). row_of rs i) put ∙ get_or-set_other new host i row fin.empty other in
-    let here : row_of newer host ≡ wanted host =
-    ap (λ (rs : List HostNumbers). row_of rs host) put ∙ get_or-set_same new host row fin.empty within ∙ is in
-    record {
-      same_length = ap length put ∙ length-set new host row ∙ are.same_length;
-      done = λ i earlier there. elim (cases_eq i host) [
-        | inl same ↦ ap (row_of newer) same ∙ here ∙ ap wanted (sym same)
-        | inr other ↦ elsewhere i other ∙ elim (cases_lt i from) [
-          | inl before ↦ are.done i before there
-          | inr late ↦ absurd (both_ways (fin.contains hosts i) (first.none_before i late (omega (arith, earlier, other))) there)
-        ]
-      ];
-      left = λ i late. elsewhere i (omega (arith, late)) ∙ are.left i (omega (arith, late, first.late));
-      others = λ i out. elsewhere i (λ same. both_ways (fin.contains hosts host) (sym (ap (fin.contains hosts) same) ∙ out) first.passes) ∙ are.others i out;
-    }
-
--- where no host is left, all are done
-pub done_all : (old new : List HostNumbers) (wanted : ℕ → HostNumbers) (hosts : HostNumbers) (from : ℕ) → length old ≤ 256
-    → AreDone old new wanted hosts from → HasNone (fin.contains hosts) from 256 → (i : ℕ) → i < length old
-    → row_of new i ≡ cond (fin.contains hosts i) (wanted i) (row_of old i)
-done_all old new wanted hosts from small are none i below =
-    cond_both (fin.contains hosts i) (wanted i) (row_of old i) (λ s. row_of new i ≡ s)
-    (λ there. elim (cases_lt i from) [
-      | inl before ↦ are.done i before there
-      | inr late ↦ absurd (both_ways (fin.contains hosts i) (none i late (omega (arith, small, below))) there)
-    ])
-    (λ out. are.others i out)
 
 -- ---- a row after a step, and before it
 

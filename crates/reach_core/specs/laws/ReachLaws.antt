@@ -118,13 +118,6 @@ ReachesExactly-at_most e i count limit exactly = (
   λ most. let few = most exactly.hosts exactly.reached in omega (arith, exactly.counted),
 )
 
--- there is one such number
-pub ReachesExactly-one : (e : List Flow) (i m n : ℕ) → ReachesExactly e i m → ReachesExactly e i n → m ≡ n
-ReachesExactly-one e i m n first second =
-    let no_more = first.most second.hosts second.reached in
-    let no_less = second.most first.hosts first.reached in
-    omega (arith, first.counted, second.counted)
-
 -- a sender reaches some other host
 pub sender_reaches : (e : List Flow) (f : Flow) → IsTrue (has e f) → f.from ≢ f.to → ReachesAtMost e f.from 0 → ⊥
 sender_reaches e f here apart none =
