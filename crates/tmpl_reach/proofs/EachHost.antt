@@ -1,11 +1,10 @@
 -- Going over the hosts of a set, from the first on.
-use Rattle.std.proofs.Common.{ℕ, ◌+◌, ◌<◌, ◌≤◌, inl, inr, sym, subst, arith}
+use Rattle.std.proofs.Common.{ℕ, ◌+◌, ◌<◌, inl, inr, sym, subst, arith}
 use Rattle.std.specs.Prelude.{IsTrue}
 use Rattle.std.specs.FinSet as set
 use Rattle.std.proofs.lemmas.Bool.{both_ways, cases_eq, cases_lt}
 use Rattle.flow_set.specs.HostSet.{HostNumbers}
-use Rattle.flow_set.specs.inner.Calls.{HasNone, IsFirstFrom}
-use Rattle.tmpl_reach.specs.inner.EachOf.{EachOf}
+use Rattle.flow_set.specs.inner.Calls.{IsFirstFrom}
 
 -- what is said of each host below `from`
 abbrev pub UpTo : HostNumbers → (ℕ → Type 0) → ℕ → Type 0
@@ -20,12 +19,4 @@ upto_next hosts P from host sofar first here k below there =
         | inl before ↦ sofar k before there
         | inr late ↦ absurd (both_ways (set.contains hosts k) (first.none_before k late (omega (arith, below, other))) there)
       ]
-    ]
-
-pub upto_all : (hosts : HostNumbers) (P : ℕ → Type 0) (from n : ℕ) → n ≤ 256 → EachOf hosts (λ host. host < n) → UpTo hosts P from
-    → HasNone (set.contains hosts) from 256 → EachOf hosts P
-upto_all hosts P from n small within sofar none k there =
-    elim (cases_lt k from) [
-      | inl before ↦ sofar k before there
-      | inr late ↦ absurd (both_ways (set.contains hosts k) (none k late (omega (arith, small, within k there))) there)
     ]

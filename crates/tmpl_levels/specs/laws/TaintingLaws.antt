@@ -1,7 +1,6 @@
 -- The default of the tainting template hides no fault.
-use Rattle.std.proofs.Common.{◌≡◌, ℕ, min, bit_and, inl, inr, sym, ap, ◌∙◌, arith}
-use Rattle.std.proofs.lemmas.Bool.{cases_eq}
-use Rattle.std.proofs.lemmas.Nat.Bits.{bit_at-lt, bit_at-zero, bit_at_and, same_from_bits}
+use Rattle.std.proofs.Common.{◌≡◌, ℕ, min, bit_and, sym, ap, ◌∙◌, arith}
+use Rattle.std.proofs.lemmas.Nat.Bits.{bit_at-lt, bit_at-zero, bit_at_and}
 use Rattle.std.specs.Int.{bit_at}
 use Rattle.inv_law.specs.inner.Resets.{IsSecureDefault}
 use Rattle.inv_law.specs.inner.Template.{MayHaveDefault}
@@ -30,11 +29,3 @@ own_by_mask taints untaints same label off =
     let masked : min (bit_at untaints label) (bit_at taints label) ≡ bit_at untaints label =
     sym (bit_at_and untaints taints label) ∙ ap (λ n. bit_at n label) same in
     omega (arith, off, masked, bit_at-lt taints label)
-
-pub mask_by_own : (taints untaints : ℕ) → TakesOffItsOwn (record { taints = taints; untaints = untaints })
-    → bit_and untaints taints ≡ untaints
-mask_by_own taints untaints own =
-    same_from_bits (bit_and untaints taints) untaints (λ i. bit_at_and untaints taints i ∙ elim (cases_eq (bit_at untaints i) 1) [
-      | inl off ↦ let has = own i off in omega (arith, off, has)
-      | inr none ↦ omega (arith, none, bit_at-lt untaints i)
-    ])

@@ -3,7 +3,6 @@ use Rattle.std.proofs.Common.{◌≡◌, ◌≢◌, ℕ, not, ◌&&◌, nat_eq, 
 use Rattle.std.specs.Ordering.{nat_cmp}
 use Rattle.std.specs.Prelude.{◌<◌, IsTrue, slice_set}
 use Rattle.std.specs.FinSet as set
-use Rattle.std.specs.List.{list_any}
 use Rattle.std.proofs.lemmas.Bool.{and_from, and_parts, eq-eqb, eqb-true, false≢true, lt-ltb, ltb-true, ne_eqb, not_from_false, not_from_true, or_cases, or_left}
 use Rattle.flow_set.specs.declared.flow.Flow.{Flow}
 use Rattle.flow_set.specs.Flow.{IsFlow}
@@ -15,7 +14,7 @@ use Rattle.inv_law.specs.inner.Template.{MayHaveDefault}
 use Rattle.inv_law.specs.laws.TemplateLaws.{IsLawfulTemplate, lawful_walk}
 use Rattle.inv_law.specs.declared.strategy.Strategy.TheVariants.{Access}
 use Rattle.flow_set.specs.HostSet.{HostNumbers}
-use Rattle.flow_set.specs.laws.HostSetLaws.{contains-hosts_below, contains-insert, hosts_ext}
+use Rattle.flow_set.specs.laws.HostSetLaws.{contains-hosts_below, contains-insert}
 use Rattle.reach_core.specs.laws.ReachLaws.{Reaches-within, Reaches-none, Reaches-one, reaches_over}
 use Rattle.tmpl_reach.specs.NoReach.{AreOthers, no_reach, others, denied_by, ReachesNoDenied}
 use Rattle.tmpl_reach.specs.inner.Resets.{ReachesNoDeniedAfterReset}
@@ -80,12 +79,6 @@ ReachesNoDenied-one denied f is_flow = (
       allows (subst (λ h. IsTrue (set.contains (denied_by denied h) f.to)) ends.0 (subst (λ h. IsTrue (set.contains (denied_by denied i) h)) ends.1 denies)),
   λ holds denies. holds f.from f.to is_flow.2 denies (reaches_over (f ∷ []) f (has_first f [])),
 )
-
--- to name every other host is to deny all others
-pub from_list-others : (n host : ℕ) (named : List ℕ)
-    → ((j : ℕ) → list_any (λ other. nat_eq other j) named ≡ (nat_lt j n && not (nat_eq j host)))
-    → set.from_list named ≡ others n host
-from_list-others n host named all = hosts_ext _ _ (λ j. set.contains-from_list_nat named j ∙ all j ∙ sym (contains-others n host j))
 
 -- An example: the first of three hosts denies the third, and comes to it by the second.
 

@@ -1,7 +1,7 @@
 -- A table is lawful exactly where its default hides no fault; then only its denied pairs fail, and the default is weaker in no pair.
 use Rattle.std.proofs.Common.{◌≡◌, ℕ, ◌+◌, ◌<◌, Bool, true, false, not, ◌&&◌, ◌==◌, List, [], ◌∷◌, length, Option, Some, None, is_none, inl, inr, refl, sym, ap, ◌∙◌, subst, arith}
-use Rattle.std.specs.Prelude.{◌↔◌, IsTrue, find, if◌then◌else◌}
-use Rattle.std.specs.List.{All, list_all, list_any, position_from}
+use Rattle.std.specs.Prelude.{◌↔◌, find, if◌then◌else◌}
+use Rattle.std.specs.List.{All, list_all, position_from}
 use Rattle.std.proofs.lemmas.Bool.{and_from, and_parts, or_cases, or_left, or_right, false≢true, false_from_ne_true, eq-eqb, eqb-true, not_from_false, not_from_true, cases_Bool}
 use Rattle.std.proofs.lemmas.List.Elements.{All-cons, All-head, All-nil, All-tail}
 use Rattle.flow_set.specs.declared.flow.Flow.{Flow}
