@@ -1,8 +1,7 @@
 -- A template is lawful where an invariant of it is, whatever attributes the hosts have.
 use Rattle.std.proofs.Common.{◌<◌, ℕ, List, [], length, length-set, get_or-set_other, get_or-set_same, inl, inr, sym, subst}
-use Rattle.std.specs.Prelude.{All, IsTrue, slice_index_or, slice_set}
+use Rattle.std.specs.Prelude.{IsTrue, slice_index_or, slice_set}
 use Rattle.std.proofs.lemmas.Bool.{cases_eq, false≢true}
-use Rattle.std.proofs.lemmas.List.Elements.{All-get_or}
 use Rattle.flow_set.specs.inner.Downward.{IsDownward, IsEdgeWise}
 use Rattle.flow_set.specs.declared.flow.Flow.{Flow}
 use Rattle.inv_law.specs.laws.AttributeLaws.{ResetPassesNoMore-attributes}
@@ -10,8 +9,8 @@ use Rattle.inv_law.specs.Attributes.{PassesBetween}
 use Rattle.inv_law.specs.inner.Resets.{PassesAfterReset, IsSecureDefault}
 use Rattle.inv_law.specs.inner.Invariants.{ResetMendsNothing}
 use Rattle.inv_law.specs.laws.RuleLaws.{AllFlowsPass-downward, AllFlowsPass-none, AllFlowsPass-edge_wise, AllFlowsPass-reset}
-use Rattle.inv_law.specs.Template.{Template, Meaning, edge_template, meaning, reset_at, walk_template}
-use Rattle.inv_law.specs.inner.Template.{AllMayHave, MayHaveDefault}
+use Rattle.inv_law.specs.Template.{Template, Meaning, edge_template, meaning, walk_template}
+use Rattle.inv_law.specs.inner.Template.{AllMayHave}
 use Rattle.inv_law.specs.declared.strategy.Strategy.{Strategy}
 
 -- the laws of an invariant
@@ -63,14 +62,3 @@ AllMayHave-set t hosts host x all may i within =
       | inr other ↦
           subst (t.MayHave (length hosts) i) (sym (get_or-set_other hosts host i x (t.default (length hosts) i) other)) (all i below)
     ])
-
--- and one given the default
-pub AllMayHave-reset : (t : Template) (hosts : List t.Attribute) (host : ℕ) → MayHaveDefault t → AllMayHave t hosts → host < length hosts
-    → AllMayHave t (reset_at t hosts host)
-AllMayHave-reset t hosts host default all within =
-    AllMayHave-set t hosts host (t.default (length hosts) host) all (default (length hosts) host within)
-
--- where all hosts may have the same attributes
-pub AllMayHave-each : {A : Type 0} (name : List ℕ) (strategy : Strategy) (MayHave : A → Type 0) (default : A) (Passes : A → A → Type 0)
-    (hosts : List A) → All MayHave hosts → AllMayHave (edge_template name strategy MayHave default Passes) hosts
-AllMayHave-each name strategy MayHave default Passes hosts all host within = All-get_or MayHave hosts host default within all
