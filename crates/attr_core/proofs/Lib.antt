@@ -1,5 +1,6 @@
 pub mod AtHost
 pub mod FirstBadLaws
+pub mod HostLabelsLaws
 pub mod MayHaveLaws
 pub mod OwnTablesLaws
 pub mod PeersWalk

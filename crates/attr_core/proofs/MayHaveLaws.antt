@@ -28,7 +28,6 @@ use Rattle.tmpl_reach.specs.laws.DependabilityLaws.{dependability_default}
 use Rattle.tmpl_reach.specs.NoReach.{AreOthers}
 use Rattle.tmpl_reach.specs.laws.NoReachLaws.{contains-others, no_reach_default}
 use Rattle.tmpl_reach.specs.laws.NonInterferenceLaws.{non_interference_default}
-use Rattle.tmpl_table.specs.laws.KindTableLaws.{declared_default}
 use Rattle.tmpl_zones.specs.laws.GatewayLaws.{gateways_default}
 use Rattle.tmpl_zones.specs.Partners.{Partner, DontCare, Care, Master, TakesFromOthers, with_sender}
 use Rattle.tmpl_zones.specs.laws.PartnersLaws.{partners_default}
@@ -38,7 +37,7 @@ use Rattle.toml.specs.Data.{Data, Members, as_str}
 use Rattle.attr_core.specs.Assigns.{Given}
 use Rattle.attr_core.specs.Domains.{domains_attribute, domains_form}
 use Rattle.attr_core.specs.laws.FormLaws.{attribute_at}
-use Rattle.attr_core.specs.Forms.{Form, attributes_in, invariant_by, last_said, says}
+use Rattle.attr_core.specs.Forms.{Form, attributes_in, last_said, says}
 use Rattle.attr_core.specs.inner.MayHave.{SaysWhatHostsMayHave, domains_listed, known_host, master_listed, noreach_listed, partner_listed, partners_listed}
 use Rattle.attr_core.specs.NoReach.{all_denied, noreach_attribute, noreach_form}
 use Rattle.attr_core.specs.OwnTables.{Declared, kind_numbered, table_form}
@@ -378,7 +377,7 @@ or_some : {A : Type 0} (o p : Option A) (x : A) → option_or o p ≡ Some x →
 or_some None p x is = inr is
 or_some (Some y) p x is = inl is
 
-here_by : {A : Type 0} (b : Bool) (o : Option A) (x : A) → (if b then o else None) ≡ Some x → (b ≡ true) × (o ≡ Some x)
+pub here_by : {A : Type 0} (b : Bool) (o : Option A) (x : A) → (if b then o else None) ≡ Some x → (b ≡ true) × (o ≡ Some x)
 here_by true o x is = (refl, is)
 here_by false o x is = cc
 
@@ -426,10 +425,3 @@ pub hosts_may_have : (hosts : List Host) (t : Template) (assigns : List Given) �
 hosts_may_have hosts t assigns =
     subst HostsMayHave (sym (invariant_is hosts t assigns))
     (made_may_have t (attributes_in (form t) hosts assigns) (AllMayHave-attributes (form t) (default_may_have t) (read_may_have t) hosts assigns))
-
--- and each host of one of a declared template
-pub kinds_hosts_may_have : (d : Declared) → d.table.kinds ≡ length d.words → d.table.default < d.table.kinds
-    → (hosts : List Host) (assigns : List Given) → HostsMayHave (invariant_by (table_form d) hosts assigns)
-kinds_hosts_may_have d sized is_kind hosts assigns =
-    AllMayHave-attributes (table_form d) (declared_default d.table is_kind)
-    (λ among earlier a x is. ((kinds_may_have d sized among earlier a x).0 is).1) hosts assigns

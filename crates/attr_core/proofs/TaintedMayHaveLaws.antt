@@ -9,18 +9,17 @@ use Rattle.tmpl_levels.specs.Tainting.{TakesOffItsOwn}
 use Rattle.tmpl_levels.specs.declared.tainting.Labels.{Labels}
 use Rattle.attr_core.specs.laws.LabelBitsLaws.{all_listed, bits_mark, each_listed, one_place, place_of}
 use Rattle.attr_core.specs.laws.LabelWalkLaws.{told_more}
-use Rattle.attr_core.specs.inner.LabelBits.{BitsMeanLabels}
 use Rattle.attr_core.specs.inner.MayHave.{SaysWhatHostsMayHave, sets_listed}
 use Rattle.attr_core.specs.Tainting.{bits_of, different, is_listed, labels_in, labels_of, said_of, tainting_form, with_label}
 
-listed_front : (first second : List (List ℕ)) (l : List ℕ) → is_listed first l ≡ true → is_listed (first ++ second) l ≡ true
+pub listed_front : (first second : List (List ℕ)) (l : List ℕ) → is_listed first l ≡ true → is_listed (first ++ second) l ≡ true
 listed_front [] second l listed = absurd (false≢true listed)
 listed_front (m ∷ first) second l listed = elim (or_cases (bytes_eq l m) (is_listed first l) listed) [
   | inl same ↦ or_left (bytes_eq l m) (is_listed (first ++ second) l) same
   | inr later ↦ or_right (bytes_eq l m) (is_listed (first ++ second) l) (listed_front first second l later)
 ]
 
-listed_back : (first second : List (List ℕ)) (l : List ℕ) → is_listed second l ≡ true → is_listed (first ++ second) l ≡ true
+pub listed_back : (first second : List (List ℕ)) (l : List ℕ) → is_listed second l ≡ true → is_listed (first ++ second) l ≡ true
 listed_back [] second l listed = listed
 listed_back (m ∷ first) second l listed = or_right (bytes_eq l m) (is_listed (first ++ second) l) (listed_back first second l listed)
 
@@ -59,6 +58,10 @@ place_from n [] l listed = absurd (false≢true listed)
 place_from n (m ∷ labels) l listed =
     place_by (bytes_eq l m) (is_listed labels l) n (position_from (bytes_eq l) (n + 1) labels) listed (place_from (n + 1) labels l)
 
+pub placed : (before listed labels : List (List ℕ)) → labels ≡ different before listed
+    → (l : List ℕ) → is_listed listed l ≡ true → (k : ℕ) × (place_of labels l ≡ Some k)
+placed before listed labels is l among = place_from 0 labels l (ap (λ ls. is_listed ls l) is ∙ listed_added before listed l among)
+
 -- each label that is taken off is one that is put on exactly where the sets of their places say so
 own_listed : (labels ts us : List (List ℕ)) → ((l : List ℕ) → is_listed ts l ≡ true → (k : ℕ) × (place_of labels l ≡ Some k))
     → ((l : List ℕ) → is_listed us l ≡ true → (k : ℕ) × (place_of labels l ≡ Some k))
@@ -89,8 +92,7 @@ said_of_lists : (before : List (List ℕ)) (taints untaints : Option (List (List
 said_of_lists before None untaints labels x is = (λ said. cc, λ both. let none : None ≡ Some x = both.0 in cc)
 said_of_lists before (Some ts) None labels x is = (λ said. cc, λ both. let none : None ≡ Some x = both.0 in cc)
 said_of_lists before (Some ts) (Some us) labels x is =
-    let known : (l : List ℕ) → is_listed (ts ++ us) l ≡ true → (k : ℕ) × (place_of labels l ≡ Some k) = λ l listed.
-    place_from 0 labels l (ap (λ ls. is_listed ls l) is ∙ listed_added before (ts ++ us) l listed) in
+    let known : (l : List ℕ) → is_listed (ts ++ us) l ≡ true → (k : ℕ) × (place_of labels l ≡ Some k) = placed before (ts ++ us) labels is in
     sets_by (nat_lt (length labels) 65) (list_all (is_listed ts) us) (record { taints = bits_of labels ts; untaints = bits_of labels us }) x
     (own_listed labels ts us (λ l listed. known l (listed_front ts us l listed)) (λ l listed. known l (listed_back ts us l listed)))
 
@@ -99,6 +101,3 @@ unfolding said_of
 tainting_may_have hosts earlier a x =
     said_of_lists (labels_of earlier) (labels_in (codes "taints") a.table) (labels_in (codes "untaints") a.table) (labels_of (earlier ++ a ∷ [])) x
     (told_more earlier a)
-
-pub bits_mean_labels : BitsMeanLabels
-bits_mean_labels known labels all place = bits_mark known labels (λ l listed. place_from 0 known l (all l listed)) place

@@ -84,9 +84,10 @@ none_of hosts t assigns (Ok inv) is = (no_fault (bad_in hosts t assigns) (invari
 none_of hosts t assigns (Err fault) is = tt
 
 pub made_of : (P : AnyInv → Type 0) (hosts : List Host) (t : Template) (assigns : List Given) (r : Result AnyInv AttrFault)
-    → Reads r (read_in hosts t assigns) → P (invariant_in hosts t assigns) → IfOk r P
+    → Reads r (read_in hosts t assigns) → (bad_in hosts t assigns ≡ None → P (invariant_in hosts t assigns)) → IfOk r P
 made_of P hosts t assigns (Ok inv) is holds =
-    subst P (sym (no_fault (bad_in hosts t assigns) (invariant_in hosts t assigns) inv (sym (read_is hosts t assigns) ∙ is)).1) holds
+    let (none, made) = no_fault (bad_in hosts t assigns) (invariant_in hosts t assigns) inv (sym (read_is hosts t assigns) ∙ is) in
+    subst P (sym made) (holds none)
 made_of P hosts t assigns (Err fault) is holds = tt
 
 -- the assign that is blamed is the first bad one

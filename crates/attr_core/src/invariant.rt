@@ -2,6 +2,7 @@
 ghost use Rattle.std.specs.Prelude.{◌≡◌, ◌<◌, ℕ, map, length, All, IfOk, Some, None, Err};
 ghost use Rattle.attr_core.specs.inner.AssignView.{Reads, given_of};
 ghost use Rattle.attr_core.specs.inner.FirstBad.{BlamesFirstBad, SaysNothing};
+ghost use Rattle.attr_core.specs.inner.LabelBits.{HaveTheirLabels};
 ghost use Rattle.attr_core.specs.inner.ReadIn.{bad_in, invariant_in, read_in};
 ghost use Rattle.attr_core.specs.Templates.{form, template_named};
 ghost use Rattle.attr_core.specs.declared.fault.AttrFault.TheVariants.{BadAttribute};
@@ -42,6 +43,9 @@ pub fn read_invariant(
     ensures size { IfOk result (λ any. (meaning_of any).size ≡ length hosts.now) }
     ensures named { IfOk result (λ any. template_named (template_name any) ≡ Some template) }
     ensures may_have { IfOk result (λ any. HostsMayHave any) }
+
+    // Of an invariant of labels: a host has exactly those that the last assign of it lists, and takes off likewise.
+    ensures labels { IfOk result (λ any. HaveTheirLabels (map given_of assigns.now) any) }
 {
     by_template(alloc, hosts, template, assigns)
 }

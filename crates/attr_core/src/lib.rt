@@ -29,6 +29,6 @@ mod tests;
 pub use assign::Assign;
 pub use fault::AttrFault;
 pub use invariant::read_invariant;
-pub use may_have::{bits_mean_labels, says_what_hosts_may_have};
+pub use may_have::says_what_hosts_may_have;
 pub use own_table::{bad_kind, kind_numbered, read_kinds};
 pub use template::Template;

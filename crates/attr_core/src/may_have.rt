@@ -2,7 +2,6 @@
 
 ghost use Rattle.std.specs.Prelude.{◌≡◌, ◌++◌, [], ◌∷◌, Some, codes, length, option_and_then, option_map};
 ghost use Rattle.attr_core.specs.Domains.{domains_form};
-ghost use Rattle.attr_core.specs.inner.LabelBits.{BitsMeanLabels};
 ghost use Rattle.attr_core.specs.inner.MayHave.{SaysWhatHostsMayHave, domains_listed, noreach_listed, partners_listed, sets_listed};
 ghost use Rattle.attr_core.specs.NoReach.{noreach_form};
 ghost use Rattle.attr_core.specs.OwnTables.{Declared, kind_numbered, table_form};
@@ -19,9 +18,4 @@ pub fn says_what_hosts_may_have()
     ensures no_reach { SaysWhatHostsMayHave noreach_form (λ hosts earlier a. noreach_listed hosts a.table) }
     ensures table { (d : Declared) → d.table.kinds ≡ length d.words
         → SaysWhatHostsMayHave (table_form d) (λ hosts earlier a. option_and_then (kind_numbered d.words) (text_at (codes "kind") a.table)) }
-{}
-
-/// The labels that are put on a host, and those that it takes off, are numbers: a bit for each label.
-pub fn bits_mean_labels()
-    ensures { BitsMeanLabels }
 {}

@@ -1,13 +1,37 @@
--- What the number of a set of labels means.
-use Rattle.std.specs.Prelude.{◌≡◌, ◌↔◌, ℕ, List, Some, IsTrue}
-use Rattle.std.specs.Int.{bit_at}
+-- The labels of the hosts of an invariant, as its assigns list them. The number of a label is its place among those of all assigns.
+use Rattle.std.specs.Prelude.{◌≡◌, ◌<◌, ◌↔◌, ℕ, List, [], length, slice_index_or, Option, Some, None, IsTrue, codes, unwrap_or}
 use Rattle.std.specs.List.{position_from}
 use Rattle.std.specs.Str.{bytes_eq}
-use Rattle.attr_core.specs.Tainting.{bits_of, is_listed}
+use Rattle.inv_any.specs.declared.any_inv.AnyInv.{AnyInv}
+use Rattle.inv_any.specs.declared.any_inv.AnyInv.TheVariants as any
+use Rattle.tmpl_levels.specs.Tainting.{HasLabel, untainted}
+use Rattle.tmpl_levels.specs.declared.tainting.Labels.{Labels}
+use Rattle.attr_core.specs.Assigns.{Given}
+use Rattle.attr_core.specs.Forms.{last_said}
+use Rattle.attr_core.specs.Tainting.{is_listed, labels_in, labels_of}
 
--- of labels that are all known, a bit is set exactly where the label whose place it is, is among them
-abbrev pub BitsMeanLabels : Type 0
-BitsMeanLabels =
-    (known labels : List (List ℕ)) → ((l : List ℕ) → IsTrue (is_listed labels l) → IsTrue (is_listed known l)) → (place : ℕ)
-    → (bit_at (bits_of known labels) place ≡ 1)
-    ↔ ((l : List ℕ) × IsTrue (is_listed labels l) × (position_from (bytes_eq l) 0 known ≡ Some place))
+-- the last assign that names the host
+abbrev pub assign_of : List Given → ℕ → Option Given
+assign_of assigns host = last_said (λ earlier a. Some a) [] host assigns
+
+-- the labels that it lists at a key; none where no assign names the host
+abbrev pub listed_at : List ℕ → Option Given → List (List ℕ)
+listed_at key None = []
+listed_at key (Some a) = unwrap_or (labels_in key a.table) []
+
+-- the set has exactly the numbers of the labels that are listed
+abbrev pub HasListed : List (List ℕ) → List (List ℕ) → ℕ → Type 0
+HasListed labels listed set =
+    (number : ℕ) → HasLabel set number
+    ↔ ((label : List ℕ) × IsTrue (is_listed listed label) × (position_from (bytes_eq label) 0 labels ≡ Some number))
+
+-- the host has, and takes off, the labels that its assign lists
+pub record HasItsLabels (labels : List (List ℕ)) (a : Option Given) (host : Labels) : Type 0 where
+  pub put_on : HasListed labels (listed_at (codes "taints") a) host.taints
+  pub taken_off : HasListed labels (listed_at (codes "untaints") a) host.untaints
+
+-- so does each host of an invariant of labels
+unfoldable pub HaveTheirLabels : List Given → AnyInv → Type 0
+HaveTheirLabels assigns (any.Tainting hosts) =
+    (host : ℕ) → host < length hosts → HasItsLabels (labels_of assigns) (assign_of assigns host) (slice_index_or hosts host untainted)
+HaveTheirLabels assigns other = Unit {0}

@@ -28,7 +28,7 @@ Extends all labels = (more : List (List ℕ)) × (all ≡ labels ++ more)
 pub extends_self : (labels : List (List ℕ)) → Extends labels labels
 extends_self labels = ([], sym (append-nil labels))
 
-extends_both : (all some first : List (List ℕ)) → Extends all some → Extends some first → Extends all first
+pub extends_both : (all some first : List (List ℕ)) → Extends all some → Extends some first → Extends all first
 extends_both all some first (behind, is) (between, was) = (between ++ behind, is ∙ ap (λ labels. labels ++ behind) was ∙ append_assoc first between behind)
 
 -- a label keeps its place
@@ -42,7 +42,7 @@ found_further : (p : List ℕ → Bool) (n k : ℕ) (xs ys : List (List ℕ)) �
 found_further p n k [] ys is = cc
 found_further p n k (x ∷ xs) ys is = further_by (p x) n k (position_from p (n + 1) xs) (position_from p (n + 1) (xs ++ ys)) (found_further p (n + 1) k xs ys) is
 
-keeps_place : (all labels : List (List ℕ)) (label : List ℕ) (k : ℕ) → Extends all labels → place_of labels label ≡ Some k
+pub keeps_place : (all labels : List (List ℕ)) (label : List ℕ) (k : ℕ) → Extends all labels → place_of labels label ≡ Some k
     → place_of all label ≡ Some k
 keeps_place all labels label k (more, is) found = ap (position_from (bytes_eq label) 0) is ∙ found_further (bytes_eq label) 0 k labels more found
 

@@ -25,15 +25,15 @@ labels_told labels table l few is =
     (rw (first, second) (same ∙ sym (different_append labels ts us)), small)
 
 -- what two lists say
-abbrev both_sets : ℕ → ℕ → Labels
+abbrev pub both_sets : ℕ → ℕ → Labels
 both_sets taints untaints = record { taints = taints; untaints = untaints }
 
-abbrev said_by_lists : List (List ℕ) → Option (List (List ℕ)) → Option (List (List ℕ)) → Option Labels
+abbrev pub said_by_lists : List (List ℕ) → Option (List (List ℕ)) → Option (List (List ℕ)) → Option Labels
 said_by_lists labels taints untaints =
     option_and_then (λ ts. option_and_then (λ us.
     if nat_lt (length labels) 65 && list_all (is_listed ts) us then Some (both_sets (bits_of labels ts) (bits_of labels us)) else None) untaints) taints
 
-said_lists : (labels : List (List ℕ)) (table : Members)
+pub said_lists : (labels : List (List ℕ)) (table : Members)
     → said_of labels table ≡ said_by_lists labels (labels_in (codes "taints") table) (labels_in (codes "untaints") table)
 unfolding said_of
 said_lists labels table = refl
@@ -87,7 +87,7 @@ said_none labels table (inr (inr more)) =
 abbrev said_by : LabelSet → LabelSet → Labelled
 said_by t u = record { labels = u.labels; attribute = both_sets t.bits u.bits }
 
-if_among : {A : Type 0} (b : Bool) (x y : A) → (if b then Some x else None) ≡ Some y → (b ≡ true) × (x ≡ y)
+pub if_among : {A : Type 0} (b : Bool) (x y : A) → (if b then Some x else None) ≡ Some y → (b ≡ true) × (x ≡ y)
 if_among true x y is = (refl, cc)
 if_among false x y is = cc
 
@@ -132,12 +132,15 @@ said_by_walk : (labels : List (List ℕ)) (table : Members) (o : Option Labelled
 said_by_walk labels table None few is = said_none labels table (bad_labels_are labels table few is)
 said_by_walk labels table (Some l) few is = said_some labels table l few is
 
--- one assign more
+-- some assigns more, and one
+pub told_all : (earlier more : List Given)
+    → labels_of (earlier ++ more) ≡ different (labels_of earlier) (flat_map (λ (a : Given). told a.table) more)
+told_all earlier more =
+    let lists : List Given → List (List ℕ) = λ gs. flat_map (λ (a : Given). told a.table) gs in
+    ap (different []) (flat_map-append (λ (a : Given). told a.table) earlier more) ∙ different_append [] (lists earlier) (lists more)
+
 pub told_more : (earlier : List Given) (a : Given) → labels_of (earlier ++ a ∷ []) ≡ different (labels_of earlier) (told a.table)
-told_more earlier a =
-    let listed : List (List ℕ) = flat_map (λ (b : Given). told b.table) earlier in
-    ap (different []) (flat_map-append (λ (b : Given). told b.table) earlier (a ∷ []) ∙ ap (λ ls. listed ++ ls) (append-nil (told a.table)))
-    ∙ different_append [] listed (told a.table)
+told_more earlier a = told_all earlier (a ∷ []) ∙ ap (different (labels_of earlier)) (append-nil (told a.table))
 
 -- what an assign says is what is taken in of it
 pub reads_is : (earlier : List Given) (a : Given) → length (labels_of earlier) ≤ 64

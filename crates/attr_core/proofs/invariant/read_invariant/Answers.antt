@@ -3,6 +3,8 @@ use Rattle.std.proofs.lemmas.List.{length-map}
 use Rattle.inv_any.specs.Templates.{meaning_of, template_name}
 use Rattle.inv_any.specs.inner.Templates.{HostsMayHave}
 use Rattle.attr_core.specs.inner.AssignView.{given_of}
+use Rattle.attr_core.proofs.HostLabelsLaws.{hosts_have_labels}
+use Rattle.attr_core.specs.inner.LabelBits.{HaveTheirLabels}
 use Rattle.attr_core.specs.inner.ReadIn.{invariant_in}
 use Rattle.attr_core.proofs.MayHaveLaws.{hosts_may_have}
 use Rattle.attr_core.specs.Templates.{template_named}
@@ -27,21 +29,27 @@ returns-clause-within c k is =
 pub returns-clause-invariant : goal.returns-clause-invariant
 returns-clause-invariant c =
     made_of (λ inv. inv ≡ invariant_in c.args.hosts.now c.args.template (map given_of c.args.assigns.now))
-    c.args.hosts.now c.args.template (map given_of c.args.assigns.now) c.by_template.result c.by_template.ensures refl
+    c.args.hosts.now c.args.template (map given_of c.args.assigns.now) c.by_template.result c.by_template.ensures (λ good. refl)
 
 pub returns-clause-size : goal.returns-clause-size
 returns-clause-size c =
     made_of (λ inv. (meaning_of inv).size ≡ length c.args.hosts.now)
     c.args.hosts.now c.args.template (map given_of c.args.assigns.now) c.by_template.result c.by_template.ensures
-    (invariant_sized c.args.hosts.now c.args.template (map given_of c.args.assigns.now))
+    (λ good. invariant_sized c.args.hosts.now c.args.template (map given_of c.args.assigns.now))
 
 pub returns-clause-named : goal.returns-clause-named
 returns-clause-named c =
     made_of (λ inv. template_named (template_name inv) ≡ Some c.args.template)
     c.args.hosts.now c.args.template (map given_of c.args.assigns.now) c.by_template.result c.by_template.ensures
-    (invariant_named c.args.hosts.now c.args.template (map given_of c.args.assigns.now))
+    (λ good. invariant_named c.args.hosts.now c.args.template (map given_of c.args.assigns.now))
 
 pub returns-clause-may_have : goal.returns-clause-may_have
 returns-clause-may_have c =
     made_of HostsMayHave c.args.hosts.now c.args.template (map given_of c.args.assigns.now) c.by_template.result c.by_template.ensures
-    (hosts_may_have c.args.hosts.now c.args.template (map given_of c.args.assigns.now))
+    (λ good. hosts_may_have c.args.hosts.now c.args.template (map given_of c.args.assigns.now))
+
+pub returns-clause-labels : goal.returns-clause-labels
+returns-clause-labels c =
+    let assigns = map given_of c.args.assigns.now in
+    made_of (HaveTheirLabels assigns) c.args.hosts.now c.args.template assigns c.by_template.result c.by_template.ensures
+    (hosts_have_labels c.args.hosts.now c.args.template assigns)
