@@ -1,6 +1,6 @@
 -- A field is read exactly where it says something of parts of which nothing is given.
 use Rattle.std.proofs.Common.{◌≡◌, ℕ, ◌+◌, ◌<◌, ◌^◌, true, false, ◌||◌, List, [], ◌∷◌, ◌++◌, Option, Some, None, is_some, refl, sym, ap, subst, ◌∙◌, arith, inl, inr}
-use Rattle.std.specs.Prelude.{Ok, Err, codes, decimal, bytes_eq, if◌then◌else◌}
+use Rattle.std.specs.Prelude.{IsTrue, Ok, Err, codes, decimal, bytes_eq, if◌then◌else◌}
 use Rattle.std.specs.Option.{option_map, ok_or}
 use Rattle.text_core.specs.inner.Decimal.{number}
 use Rattle.text_core.proofs.DecimalLaws.{number-decimal, decimal_of_number}
@@ -8,7 +8,8 @@ use Rattle.text_core.proofs.StepsLaws.{if_parts, map_parts, ok_or_parts, bytes_s
 use Rattle.host_net.specs.declared.prefix.Prefix.{Prefix}
 use Rattle.host_net.specs.Prefix.{prefix_of}
 use Rattle.host_net.proofs.PrefixTextLaws.{prefix_of-read, prefix_of-spelled, prefix_of-fits}
-use Rattle.host_net.specs.Service.{icmp, tcp, udp}
+use Rattle.host_net.specs.Service.{icmp, tcp, udp, has_name}
+use Rattle.host_net.specs.ServiceText.{protocol_text}
 use Rattle.ofp_rules.specs.declared.entry.FrameKind.{FrameKind}
 use Rattle.ofp_rules.specs.declared.entry.FrameKind.TheVariants as frames
 use Rattle.ofp_rules.specs.declared.entry.Action.TheVariants as actions
@@ -18,9 +19,9 @@ use Rattle.ofp_read.specs.declared.given.Key.{Key}
 use Rattle.ofp_read.specs.declared.given.Key.TheVariants as key
 use Rattle.ofp_read.specs.declared.given.Given.{Given}
 use Rattle.ofp_read.specs.inner.FieldTable.{key_with_value, key_alone, key_of, is_given, frame_types, frame_type, of_protocol, with_value, with_key, with_field}
-use Rattle.ofp_read.specs.Grammar.{Part, priority, table, kind, source, destination, protocol, source_port, destination_port, IsKindText, IsAddressText, IsNumberText, IsProtocolText, EachSays, one_part, two_parts}
+use Rattle.ofp_read.specs.Grammar.{Part, priority, table, kind, source, destination, protocol, source_port, destination_port, IsKindText, IsAddressText, IsNumberText, EachSays, one_part, two_parts}
 use Rattle.ofp_read.proofs.PartWords.{Says, name_of, IsNamed, named_one}
-use Rattle.ofp_read.proofs.KeyLaws.{IsField, field_of_key, key_priority, key_table, key_source, key_destination, key_protocol, key_source_port, key_destination_port}
+use Rattle.ofp_read.proofs.KeyLaws.{IsField, field_of_key, key_found}
 use Rattle.ofp_read.proofs.NamedLaws.{named_is, some_same}
 use Rattle.ofp_read.proofs.PartLaws.{Lacks, Has, IsGiven, OfEach, Gives, gives_one, gives_more, with_part}
 
@@ -70,7 +71,7 @@ frame_type_said value k h =
     named_is IsTypeOf value frame_types k h (inr (inl refl), (inr (inr refl), (inr (inl refl), (inr (inr refl), tt))))
 
 -- the name of a protocol gives two parts
-step_protocol : (g : Given) (text : List ℕ) (n : ℕ) → IsProtocolText frames.Ip (Some n) text → (is_some g.kind || is_some g.proto) ≡ false
+step_protocol : (g : Given) (text : List ℕ) (n : ℕ) → IsTrue (has_name n) × (text ≡ protocol_text n) → (is_some g.kind || is_some g.proto) ≡ false
     → IsStep g (of_protocol g n) text
 step_protocol g text n is lacks = record {
   parts = kind ∷ protocol ∷ [];
@@ -78,17 +79,13 @@ step_protocol g text n is lacks = record {
       (gives_one kind (entry_with n frames.Ip None) g (record g { kind = Some frames.Ip }) refl (neither g.kind g.proto lacks).0 (λ h. cc))
       (gives_one protocol (entry_with n frames.Ip None)
       (record g { kind = Some frames.Ip }) (of_protocol g n) refl (neither g.kind g.proto lacks).1 (λ h. cc));
-  says = λ e has ps texts each. two_parts (named e.kind e.proto has.0 has.1.0) each;
+  says = λ e has ps texts each. two_parts n (sym (some_same frames.Ip e.kind has.0)) (sym has.1.0) is each;
 }
   where
     neither : {A B : Type 0} (a : Option A) (b : Option B) → (is_some a || is_some b) ≡ false → (a ≡ None) × (b ≡ None)
     neither None None h = (refl, refl)
     neither None (Some y) h = cc
     neither (Some x) b h = cc
-
-    named : (k : FrameKind) (o : Option ℕ) → Some frames.Ip ≡ Some k → Some n ≡ o → IsProtocolText k o text
-    named k o is_k is_o = subst (λ (j : FrameKind). IsProtocolText j o text) (some_same frames.Ip k is_k)
-        (subst (λ (m : Option ℕ). IsProtocolText frames.Ip m text) is_o is)
 
 not_given : {A : Type 0} (o : Option A) → is_some o ≡ false → o ≡ None
 not_given None h = refl
@@ -202,39 +199,38 @@ read_named n g text (inr (inl (number, e))) lacks none =
 read_named n g text (inr (inr (number, e))) lacks none =
     read_value g _ key.Udp text [] (ap key_of e) (λ i. is_some (lacks i) || is_some (none i)) (ap (λ m. Some (of_protocol g m)) (sym number))
 
-pub read_protocol : (k : FrameKind) (o : Option ℕ) (g : Given) (text : List ℕ) → IsProtocolText k o text → g.kind ≡ None → g.proto ≡ None
+pub read_protocol : (n : ℕ) (k : FrameKind) (o : Option ℕ) (g : Given) (text : List ℕ) → k ≡ frames.Ip → o ≡ Some n
+    → IsTrue (has_name n) × (text ≡ protocol_text n) → g.kind ≡ None → g.proto ≡ None
     → with_field g text ≡ Ok (record g { kind = Some k; proto = o })
-read_protocol frames.Any o g text is lacks none = absurd is
-read_protocol frames.Arp o g text is lacks none = absurd is
-read_protocol frames.Ip None g text is lacks none = absurd is
-read_protocol frames.Ip (Some n) g text is lacks none = read_named n g text (named_one n text is) lacks none
+read_protocol n k o g text ip its is lacks none =
+    read_named n g text (named_one n text is) lacks none ∙ sym (λ i. Ok (record g { kind = Some (ip i); proto = its i }))
 
 pub read_of_says : (p : Part) (e : Entry) (g : Given) (text : List ℕ) → Says p e text → Lacks p g → with_field g text ≡ Ok (with_part p e g)
 unfolding with_value
 read_of_says priority e g text says lacks =
-    read_value g _ key.Priority text (decimal says.0) (ap key_of says.3 ∙ key_priority (decimal says.0)) (ap is_some lacks)
+    read_value g _ key.Priority text (decimal says.0) (ap key_of says.3 ∙ key_found priority (decimal says.0)) (ap is_some lacks)
     (ap (option_map (λ n. record g { priority = Some n })) (number_read 65535 (2 ^ 16) (name_of priority) text _ says refl (omega arith))
     ∙ ap (λ o. Some (record g { priority = o })) (sym says.1))
-read_of_says table e g text says lacks = read_value g _ key.Table text (codes "0") (ap key_of says ∙ key_table (codes "0")) lacks refl
+read_of_says table e g text says lacks = read_value g _ key.Table text (codes "0") (ap key_of says ∙ key_found table (codes "0")) lacks refl
 read_of_says kind e g text says lacks = read_kind e.kind g text says lacks
 read_of_says source e g text says lacks =
-    read_value g _ key.Source text says.1 (ap key_of says.5 ∙ key_source says.1) (ap is_some lacks)
+    read_value g _ key.Source text says.1 (ap key_of says.5 ∙ key_found source says.1) (ap is_some lacks)
     (ap (option_map (λ q. record g { src = Some q })) (prefix_of-read says.1 says.0 says.3 says.4)
     ∙ ap (λ o. Some (record g { src = o })) (sym says.2))
 read_of_says destination e g text says lacks =
-    read_value g _ key.Destination text says.1 (ap key_of says.5 ∙ key_destination says.1) (ap is_some lacks)
+    read_value g _ key.Destination text says.1 (ap key_of says.5 ∙ key_found destination says.1) (ap is_some lacks)
     (ap (option_map (λ q. record g { dst = Some q })) (prefix_of-read says.1 says.0 says.3 says.4)
     ∙ ap (λ o. Some (record g { dst = o })) (sym says.2))
 read_of_says protocol e g text says lacks =
-    read_value g _ key.Protocol text (decimal says.0) (ap key_of says.3 ∙ key_protocol (decimal says.0)) (ap is_some lacks)
+    read_value g _ key.Protocol text (decimal says.0) (ap key_of says.3 ∙ key_found protocol (decimal says.0)) (ap is_some lacks)
     (ap (option_map (λ n. record g { proto = Some n })) (number_read 255 (2 ^ 8) (name_of protocol) text _ says refl (omega arith))
     ∙ ap (λ o. Some (record g { proto = o })) (sym says.1))
 read_of_says source_port e g text says lacks =
-    read_value g _ key.SourcePort text (decimal says.0) (ap key_of says.3 ∙ key_source_port (decimal says.0)) (ap is_some lacks)
+    read_value g _ key.SourcePort text (decimal says.0) (ap key_of says.3 ∙ key_found source_port (decimal says.0)) (ap is_some lacks)
     (ap (option_map (λ n. record g { tp_src = Some n })) (number_read 65535 (2 ^ 16) (name_of source_port) text _ says refl (omega arith))
     ∙ ap (λ o. Some (record g { tp_src = o })) (sym says.1))
 read_of_says destination_port e g text says lacks =
-    read_value g _ key.DestinationPort text (decimal says.0) (ap key_of says.3 ∙ key_destination_port (decimal says.0))
+    read_value g _ key.DestinationPort text (decimal says.0) (ap key_of says.3 ∙ key_found destination_port (decimal says.0))
     (ap is_some lacks)
     (ap (option_map (λ n. record g { tp_dst = Some n })) (number_read 65535 (2 ^ 16) (name_of destination_port) text _ says refl (omega arith))
     ∙ ap (λ o. Some (record g { tp_dst = o })) (sym says.1))

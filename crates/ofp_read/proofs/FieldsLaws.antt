@@ -78,9 +78,9 @@ read_of_each e (p ∷ ps) [] g says once lack = elim says [ ]
 read_of_each e (p ∷ ps) (text ∷ texts) g (one_part says rest) once lack =
     ap (λ r. goes_on r (λ now. with_fields now texts)) (read_of_says p e g text says lack.0)
     ∙ read_of_each e ps texts (with_part p e g) rest once.1 (lack_with ps p e g once.0 lack.1)
-read_of_each e (kind ∷ protocol ∷ ps) (text ∷ texts) g (two_parts says rest) once lack =
+read_of_each e (kind ∷ protocol ∷ ps) (text ∷ texts) g (two_parts n ip its says rest) once lack =
     let first = lack_with (protocol ∷ ps) kind e g once.0 lack.1 in
-    ap (λ r. goes_on r (λ now. with_fields now texts)) (read_protocol e.kind e.proto g text says lack.0 lack.1.0)
+    ap (λ r. goes_on r (λ now. with_fields now texts)) (read_protocol n e.kind e.proto g text ip its says lack.0 lack.1.0)
     ∙ read_of_each e ps texts (with_part protocol e (with_part kind e g)) rest once.1.1
     (lack_with ps protocol e (with_part kind e g) once.1.0 first.1)
 

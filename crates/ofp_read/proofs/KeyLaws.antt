@@ -7,6 +7,7 @@ use Rattle.text_core.proofs.StepsLaws.{map_parts}
 use Rattle.ofp_read.specs.declared.given.Key.{Key}
 use Rattle.ofp_read.specs.declared.given.Key.TheVariants as key
 use Rattle.ofp_read.specs.inner.FieldTable.{keys_with_value, keys_alone, key_with_value, key_alone, key_by, key_of}
+use Rattle.ofp_read.specs.Grammar.{Part, priority, table, kind, source, destination, protocol, source_port, destination_port, about}
 use Rattle.ofp_read.proofs.NamedLaws.{named_is}
 
 -- a field is its name and its value
@@ -80,31 +81,24 @@ pub field_of_key : (text : List ℕ) (k : Key) (value : List ℕ) → key_of tex
 unfolding key_of
 field_of_key text k value h = field_by text (split_once 61 text) k value refl h
 
--- a key with values is found in front of every value
-pub key_priority : (value : List ℕ) → key_of (codes "priority=" ++ value) ≡ Some (key.Priority, value)
-unfolding key_of key_with_value
-key_priority value = refl
+-- the key of the fields about a part that have a value, which is found in front of every value
+abbrev pub key_about : Part → Key
+key_about priority = key.Priority
+key_about table = key.Table
+key_about kind = key.FrameType
+key_about protocol = key.Protocol
+key_about source = key.Source
+key_about destination = key.Destination
+key_about source_port = key.SourcePort
+key_about destination_port = key.DestinationPort
 
-pub key_table : (value : List ℕ) → key_of (codes "table=" ++ value) ≡ Some (key.Table, value)
+pub key_found : (p : Part) (value : List ℕ) → key_of ((about p).name ++ value) ≡ Some (key_about p, value)
 unfolding key_of key_with_value
-key_table value = refl
-
-pub key_source : (value : List ℕ) → key_of (codes "nw_src=" ++ value) ≡ Some (key.Source, value)
-unfolding key_of key_with_value
-key_source value = refl
-
-pub key_destination : (value : List ℕ) → key_of (codes "nw_dst=" ++ value) ≡ Some (key.Destination, value)
-unfolding key_of key_with_value
-key_destination value = refl
-
-pub key_protocol : (value : List ℕ) → key_of (codes "nw_proto=" ++ value) ≡ Some (key.Protocol, value)
-unfolding key_of key_with_value
-key_protocol value = refl
-
-pub key_source_port : (value : List ℕ) → key_of (codes "tp_src=" ++ value) ≡ Some (key.SourcePort, value)
-unfolding key_of key_with_value
-key_source_port value = refl
-
-pub key_destination_port : (value : List ℕ) → key_of (codes "tp_dst=" ++ value) ≡ Some (key.DestinationPort, value)
-unfolding key_of key_with_value
-key_destination_port value = refl
+key_found priority value = refl
+key_found table value = refl
+key_found kind value = refl
+key_found protocol value = refl
+key_found source value = refl
+key_found destination value = refl
+key_found source_port value = refl
+key_found destination_port value = refl

@@ -19,7 +19,7 @@ use Rattle.ofp_read.proofs.FieldsLaws.{goes_on_parts, fields_of_read, read_of_fi
 use Rattle.ofp_read.proofs.NamedLaws.{named_is}
 use Rattle.ofp_read.specs.inner.FlowLine.{goes_on, nothing_given, with_fields, actions, action_of, entry_of, with_action, flow_by, flow_of}
 use Rattle.ofp_read.specs.inner.Cut.{begins_action, cut_action}
-use Rattle.ofp_read.specs.Grammar.{Part, priority, table, kind, source, destination, protocol, source_port, destination_port, EachSays, no_field, one_part, two_parts, IsProtocolText, is_separator, has_bytes, fields, IsKindText, IsActionText, ends_apart, Writes}
+use Rattle.ofp_read.specs.Grammar.{Part, priority, table, kind, source, destination, protocol, source_port, destination_port, EachSays, no_field, one_part, two_parts, is_separator, has_bytes, fields, IsKindText, IsActionText, ends_apart, HasFlow, Writes}
 use Rattle.ofp_read.proofs.PartWords.{Says, IsNamed, named_one}
 
 -- 1. The cut in front of the action.
@@ -152,28 +152,31 @@ action_said (w ∷ v ∷ ws) a h = cc
 
 -- 3. What is read is written.
 
+-- the flow of what the fields and the action give
+pub flow_read : (line front rest : List ℕ) (given : Given) (a : Action) → IsCut true line front rest
+    → with_fields nothing_given (fields front) ≡ Ok given → action_of (words rest) ≡ Some a → HasFlow line (entry_of given a)
+flow_read line front rest given a cut read action =
+    let said = action_said (words rest) a action in
+    let word = word_of_text rest said.0 cut.starts said.1 in
+    record {
+      front = front;
+      action = said.0;
+      blanks = word.blanks;
+      written = cut.whole ∙ ap (λ bs. front ++ bs) word.whole;
+      apart = apart_whole front ∙ cut.apart;
+      of_fields = fields_of_read (fields front) given a read;
+      of_action = said.2;
+      blank = word.blank;
+    }
+
 written_with : (line front rest : List ℕ) (given : Given) (e : Entry) (o : Option Action) → IsCut true line front rest
     → with_fields nothing_given (fields front) ≡ Ok given → action_of (words rest) ≡ o → with_action given o ≡ Ok e → Writes line e
 written_with line front rest given e None cut read action h = cc
 written_with line front rest given e (Some a) cut read action h =
     elim (if_parts (asks_of_ip (entry_of given a)) (Ok (entry_of given a)) (Err NeedsIp) (Ok e) h) [
       | inl asks ↦
-          let said = action_said (words rest) a action in
-          let word = word_of_text rest said.0 cut.starts said.1 in
           let same : entry_of given a ≡ e = cc in
-          subst (λ (x : Entry). Writes line x) same (
-            record {
-              front = front;
-              action = said.0;
-              blanks = word.blanks;
-              written = cut.whole ∙ ap (λ bs. front ++ bs) word.whole;
-              apart = apart_whole front ∙ cut.apart;
-              of_fields = fields_of_read (fields front) given a read;
-              of_action = said.2;
-              blank = word.blank;
-            },
-            asks.0,
-          )
+          subst (λ (x : Entry). Writes line x) same (flow_read line front rest given a cut read action, asks.0)
       | inr none ↦ cc
     ]
 
@@ -205,12 +208,6 @@ named_begins n text (inl (number, e)) = ap begins_action e
 named_begins n text (inr (inl (number, e))) = ap begins_action e
 named_begins n text (inr (inr (number, e))) = ap begins_action e
 
-protocol_begins : (k : FrameKind) (o : Option ℕ) (text : List ℕ) → IsProtocolText k o text → begins_action text ≡ false
-protocol_begins frames.Any o text is = absurd is
-protocol_begins frames.Arp o text is = absurd is
-protocol_begins frames.Ip None text is = absurd is
-protocol_begins frames.Ip (Some n) text is = named_begins n text (named_one n text is)
-
 -- no field begins as the action does
 says_begins : (p : Part) (e : Entry) (text : List ℕ) → Says p e text → begins_action text ≡ false
 says_begins priority e text says = ap begins_action says.3
@@ -231,8 +228,8 @@ fields_begin e [] (text ∷ texts) says = elim says [ ]
 fields_begin e (p ∷ ps) [] says = elim says [ ]
 fields_begin e (p ∷ ps) (text ∷ texts) (one_part says rest) =
     and_from (is_field text) (list_all is_field texts) (ap not (says_begins p e text says)) (fields_begin e ps texts rest)
-fields_begin e (kind ∷ protocol ∷ ps) (text ∷ texts) (two_parts says rest) =
-    and_from (is_field text) (list_all is_field texts) (ap not (protocol_begins e.kind e.proto text says)) (fields_begin e ps texts rest)
+fields_begin e (kind ∷ protocol ∷ ps) (text ∷ texts) (two_parts n ip its says rest) =
+    and_from (is_field text) (list_all is_field texts) (ap not (named_begins n text (named_one n text says))) (fields_begin e ps texts rest)
 
 -- nor does what has no bytes
 pub pieces_begin : (pieces : List (List ℕ)) → list_all is_field (filter has_bytes pieces) ≡ true → list_all is_field pieces ≡ true

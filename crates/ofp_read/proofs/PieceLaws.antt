@@ -16,9 +16,9 @@ use Rattle.host_net.specs.Service.{icmp, tcp, udp}
 use Rattle.ofp_rules.specs.declared.entry.FrameKind.{FrameKind}
 use Rattle.ofp_rules.specs.declared.entry.FrameKind.TheVariants as frames
 use Rattle.ofp_rules.specs.declared.entry.Entry.{Entry}
-use Rattle.ofp_rules.specs.Text.{kind_text, part_text, port_text}
+use Rattle.ofp_rules.specs.Text.{kind_text, field_text}
 use Rattle.ofp_rules.specs.inner.Ranges.{address_fits, number_fits}
-use Rattle.ofp_read.specs.Grammar.{Part, kind, protocol, is_separator, has_bytes, fields, EachSays, no_field, one_part, two_parts, IsKindText, IsAddressText, IsNumberText, IsProtocolText}
+use Rattle.ofp_read.specs.Grammar.{Part, kind, protocol, is_separator, has_bytes, fields, EachSays, no_field, one_part, two_parts, IsKindText, IsAddressText, IsNumberText}
 use Rattle.ofp_read.proofs.PartWords.{Says, one_named}
 use Rattle.ofp_read.proofs.LineLaws.{apart_from}
 
@@ -123,7 +123,7 @@ each-append e [] qs [] us no_field b = b
 each-append e [] qs (t ∷ ts) us a b = elim a [ ]
 each-append e (p ∷ ps) qs [] us a b = elim a [ ]
 each-append e (p ∷ ps) qs (t ∷ ts) us (one_part says rest) b = one_part says (each-append e ps qs ts us rest b)
-each-append e (kind ∷ protocol ∷ ps) qs (t ∷ ts) us (two_parts says rest) b = two_parts says (each-append e ps qs ts us rest b)
+each-append e (kind ∷ protocol ∷ ps) qs (t ∷ ts) us (two_parts n ip its says rest) b = two_parts n ip its says (each-append e ps qs ts us rest b)
 
 pub joined : (e : Entry) (ps qs : List Part) (xs ys : List ℕ) → IsPiece e ps xs → IsPiece e qs ys → IsPiece e (ps ++ qs) (xs ++ ys)
 joined e ps qs xs ys a b = record {
@@ -163,7 +163,7 @@ below n limit h = grind (arith, nat_tests)
 
 pub address_piece : (e : Entry) (p : Part) (b : ℕ) (bs : List ℕ) (part : Option Prefix)
     → ((text : List ℕ) → IsAddressText (b ∷ bs) part text → Says p e text) → is_whole (b ∷ bs) ≡ true → address_fits part ≡ true
-    → IsPiece e (if_given p part) (part_text (b ∷ bs) part)
+    → IsPiece e (if_given p part) (field_text (b ∷ bs) prefix_text part)
 address_piece e p b bs None says name fits = no_piece e
 address_piece e p b bs (Some q) says name fits =
     value_piece e p b bs (prefix_text q) name (prefix_whole q)
@@ -171,7 +171,7 @@ address_piece e p b bs (Some q) says name fits =
 
 pub number_piece : (e : Entry) (p : Part) (b : ℕ) (bs : List ℕ) (limit : ℕ) (given : Option ℕ)
     → ((text : List ℕ) → IsNumberText (b ∷ bs) limit given text → Says p e text) → is_whole (b ∷ bs) ≡ true → limit ≤ 2 ^ 64
-    → number_fits limit given ≡ true → IsPiece e (if_given p given) (port_text (b ∷ bs) given)
+    → number_fits limit given ≡ true → IsPiece e (if_given p given) (field_text (b ∷ bs) decimal given)
 number_piece e p b bs limit None says name small fits = no_piece e
 number_piece e p b bs limit (Some n) says name small fits =
     let less = below n limit fits in
@@ -191,29 +191,30 @@ kind_parts frames.Ip (Some n) = kind ∷ protocol ∷ []
 
 protocol_piece : (e : Entry) (n : ℕ) → ((text : List ℕ) → IsKindText frames.Ip text → Says kind e text)
     → ((text : List ℕ) → IsNumberText (codes "nw_proto=") (2 ^ 8) (Some n) text → Says protocol e text)
-    → ((text : List ℕ) → IsProtocolText frames.Ip (Some n) text → IsProtocolText e.kind e.proto text) → nat_lt n (2 ^ 8) ≡ true
+    → e.kind ≡ frames.Ip → e.proto ≡ Some n → nat_lt n (2 ^ 8) ≡ true
     → (one six other : Bool) → (n == icmp) ≡ one → (n == tcp) ≡ six → (n == udp) ≡ other
     → IsPiece e (kind ∷ protocol ∷ [])
-    (if one then codes "icmp," else if six then codes "tcp," else if other then codes "udp," else codes "ip,nw_proto=" ++ (decimal n ++ codes ","))
-protocol_piece e n of_kind of_number of_name fits true six other is_one is_six is_other =
-    field_piece e (kind ∷ protocol ∷ []) 105 (codes "cmp") refl (two_parts (of_name _ (one_named n (codes "icmp") (inl (equal n icmp is_one, refl)))) no_field)
-protocol_piece e n of_kind of_number of_name fits false true other is_one is_six is_other =
-    field_piece e (kind ∷ protocol ∷ []) 116 (codes "cp") refl (two_parts (of_name _ (one_named n (codes "tcp") (inr (inl (equal n tcp is_six, refl))))) no_field)
-protocol_piece e n of_kind of_number of_name fits false false true is_one is_six is_other =
-    field_piece e (kind ∷ protocol ∷ []) 117 (codes "dp") refl (two_parts (of_name _ (one_named n (codes "udp") (inr (inr (equal n udp is_other, refl))))) no_field)
-protocol_piece e n of_kind of_number of_name fits false false false is_one is_six is_other =
+    (if one || (six || other) then (if one then codes "icmp" else if six then codes "tcp" else if other then codes "udp" else decimal n) ++ codes ","
+    else codes "ip,nw_proto=" ++ (decimal n ++ codes ","))
+protocol_piece e n of_kind of_number ip its fits true six other is_one is_six is_other =
+    field_piece e (kind ∷ protocol ∷ []) 105 (codes "cmp") refl (two_parts n ip its (one_named n (codes "icmp") (inl (equal n icmp is_one, refl))) no_field)
+protocol_piece e n of_kind of_number ip its fits false true other is_one is_six is_other =
+    field_piece e (kind ∷ protocol ∷ []) 116 (codes "cp") refl (two_parts n ip its (one_named n (codes "tcp") (inr (inl (equal n tcp is_six, refl)))) no_field)
+protocol_piece e n of_kind of_number ip its fits false false true is_one is_six is_other =
+    field_piece e (kind ∷ protocol ∷ []) 117 (codes "dp") refl (two_parts n ip its (one_named n (codes "udp") (inr (inr (equal n udp is_other, refl)))) no_field)
+protocol_piece e n of_kind of_number ip its fits false false false is_one is_six is_other =
     joined e (kind ∷ []) (protocol ∷ []) (codes "ip,") (codes "nw_proto=" ++ (decimal n ++ codes ","))
     (field_piece e (kind ∷ []) 105 (codes "p") refl (one_part (of_kind _ (inl refl)) no_field))
     (number_piece e protocol 110 (codes "w_proto=") (2 ^ 8) (Some n) of_number refl (omega arith) fits)
 
 pub kind_piece : (e : Entry) (k : FrameKind) (o : Option ℕ) → ((text : List ℕ) → IsKindText k text → Says kind e text)
     → ((text : List ℕ) → IsNumberText (codes "nw_proto=") (2 ^ 8) o text → Says protocol e text)
-    → ((text : List ℕ) → IsProtocolText k o text → IsProtocolText e.kind e.proto text) → number_fits (2 ^ 8) o ≡ true
+    → e.kind ≡ k → e.proto ≡ o → number_fits (2 ^ 8) o ≡ true
     → IsPiece e (kind_parts k o) (kind_text k o)
-kind_piece e frames.Any o of_kind of_number of_name fits = no_piece e
-kind_piece e frames.Arp o of_kind of_number of_name fits =
+kind_piece e frames.Any o of_kind of_number ip its fits = no_piece e
+kind_piece e frames.Arp o of_kind of_number ip its fits =
     field_piece e (kind ∷ []) 97 (codes "rp") refl (one_part (of_kind _ (inl refl)) no_field)
-kind_piece e frames.Ip None of_kind of_number of_name fits =
+kind_piece e frames.Ip None of_kind of_number ip its fits =
     field_piece e (kind ∷ []) 105 (codes "p") refl (one_part (of_kind _ (inl refl)) no_field)
-kind_piece e frames.Ip (Some n) of_kind of_number of_name fits =
-    protocol_piece e n of_kind of_number of_name fits (n == icmp) (n == tcp) (n == udp) refl refl refl
+kind_piece e frames.Ip (Some n) of_kind of_number ip its fits =
+    protocol_piece e n of_kind of_number ip its fits (n == icmp) (n == tcp) (n == udp) refl refl refl

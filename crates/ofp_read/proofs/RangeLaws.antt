@@ -1,14 +1,12 @@
 -- The numbers of an entry that a line writes have room in a frame.
-use Rattle.std.proofs.Common.{◌≡◌, ◌<◌, ◌^◌, ◌⊎◌, inl, inr, ℕ, true, List, [], ◌∷◌, Option, Some, None, sym, ap, subst, ◌∙◌, arith}
+use Rattle.std.proofs.Common.{◌≡◌, ◌<◌, ◌^◌, ◌⊎◌, inl, inr, ℕ, true, List, [], ◌∷◌, Option, Some, sym, ap, subst, ◌∙◌, arith}
 use Rattle.std.specs.Prelude.{nat_lt, IsTrue}
 use Rattle.std.proofs.lemmas.Bool.{and_from}
 use Rattle.std.proofs.lemmas.Bool.Decides.{nat_tests}
 use Rattle.host_net.specs.declared.prefix.Prefix.{Prefix}
-use Rattle.ofp_rules.specs.declared.entry.FrameKind.{FrameKind}
-use Rattle.ofp_rules.specs.declared.entry.FrameKind.TheVariants as frames
 use Rattle.ofp_rules.specs.declared.entry.Entry.{Entry}
 use Rattle.ofp_rules.specs.inner.Ranges.{address_fits, in_range, number_fits}
-use Rattle.ofp_read.specs.Grammar.{Part, priority, table, kind, source, destination, protocol, source_port, destination_port, EachSays, no_field, one_part, two_parts, IsNoneOf, IsAddressText, IsNumberText, IsProtocolText, AreFieldsOf, Writes}
+use Rattle.ofp_read.specs.Grammar.{Part, priority, table, kind, source, destination, protocol, source_port, destination_port, EachSays, no_field, one_part, two_parts, IsNoneOf, IsAddressText, IsNumberText, AreFieldsOf, Writes}
 use Rattle.ofp_read.proofs.PartWords.{Says, IsUnsaid, name_of, IsNamed, named_one}
 use Rattle.ofp_read.proofs.PartLaws.{one_or_not}
 
@@ -37,12 +35,6 @@ named_fits : (n : ℕ) (text : List ℕ) → IsNamed n text → nat_lt n (2 ^ 8)
 named_fits n text (inl (is, e)) = ap (λ m. nat_lt m (2 ^ 8)) is
 named_fits n text (inr (inl (is, e))) = ap (λ m. nat_lt m (2 ^ 8)) is
 named_fits n text (inr (inr (is, e))) = ap (λ m. nat_lt m (2 ^ 8)) is
-
-protocol_said : (k : FrameKind) (o : Option ℕ) (text : List ℕ) → IsProtocolText k o text → number_fits (2 ^ 8) o ≡ true
-protocol_said frames.Any o text said = absurd said
-protocol_said frames.Arp o text said = absurd said
-protocol_said frames.Ip None text said = absurd said
-protocol_said frames.Ip (Some n) text said = named_fits n text (named_one n text said)
 
 -- of a part of which something is said, or nothing
 said_fits : (p : Part) (e : Entry) (text : List ℕ) → Says p e text → Fits p e
@@ -78,9 +70,9 @@ fits_or_none p e [] (text ∷ texts) says = elim says [ ]
 fits_or_none p e (q ∷ ps) [] says = elim says [ ]
 fits_or_none p e (q ∷ ps) (text ∷ texts) (one_part says rest) =
     one_more p q e ps (said_fits q e text says) (fits_or_none p e ps texts rest)
-fits_or_none p e (kind ∷ protocol ∷ ps) (text ∷ texts) (two_parts says rest) =
+fits_or_none p e (kind ∷ protocol ∷ ps) (text ∷ texts) (two_parts n ip its says rest) =
     one_more p kind e (protocol ∷ ps) tt
-    (one_more p protocol e ps (protocol_said e.kind e.proto text says) (fits_or_none p e ps texts rest))
+    (one_more p protocol e ps (ap (number_fits (2 ^ 8)) its ∙ named_fits n text (named_one n text says)) (fits_or_none p e ps texts rest))
 
 fields_fit : (e : Entry) (texts : List (List ℕ)) → AreFieldsOf e texts → (p : Part) → Fits p e
 fields_fit e texts fields p = elim (fits_or_none p e fields.parts texts fields.each) [

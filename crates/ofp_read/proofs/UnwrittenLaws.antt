@@ -18,15 +18,15 @@ use Rattle.ofp_read.specs.declared.given.Key.TheVariants as key
 use Rattle.ofp_read.specs.declared.given.Given.{Given}
 use Rattle.ofp_read.proofs.ApartLaws.{action_begins, has_action, fields_apart, fields_in_front, is_field_at, no_field_is_action, is_field_of, in_front_of_action}
 use Rattle.ofp_read.specs.inner.Cut.{begins_action, cut_action}
-use Rattle.ofp_read.specs.inner.FieldTable.{key_with_value, key_alone, key_of, is_given, with_value, with_key, with_field}
+use Rattle.ofp_read.specs.inner.FieldTable.{key_alone, key_of, is_given, with_value, with_key, with_field}
 use Rattle.ofp_read.specs.inner.FlowLine.{goes_on, nothing_given, with_fields, action_of, entry_of, with_action, flow_by, flow_of}
-use Rattle.ofp_read.specs.Grammar.{Part, priority, table, kind, protocol, source, destination, source_port, destination_port, is_separator, ends_apart, fields, IsKindText, IsProtocolText, EachSays, no_field, one_part, two_parts, IsNoneOf, AreDistinct, AreFieldsOf, IsActionText, HasFlow}
+use Rattle.ofp_read.specs.Grammar.{Part, priority, table, kind, protocol, source, destination, source_port, destination_port, is_separator, ends_apart, fields, IsKindText, EachSays, no_field, one_part, two_parts, IsNoneOf, AreDistinct, AreFieldsOf, IsActionText, HasFlow}
 use Rattle.ofp_read.proofs.PartWords.{name_of, Says, IsNamed, named_one}
-use Rattle.ofp_read.proofs.KeyLaws.{field_of_key, key_priority, key_table, key_source, key_destination, key_protocol, key_source_port, key_destination_port}
+use Rattle.ofp_read.proofs.KeyLaws.{field_of_key, key_about, key_found}
 use Rattle.ofp_read.proofs.PartLaws.{value_of, own_value, Lacks, Has, Same, OfEach, of_each, IsGiven, with_part, same_but, has_own}
 use Rattle.ofp_read.proofs.FieldLaws.{step_of_read}
 use Rattle.ofp_read.proofs.FieldsLaws.{goes_on_parts, fields_of_read, with_parts, read_of_each, part_now, all_free, read_of_fields}
-use Rattle.ofp_read.proofs.LineLaws.{apart_whole, cut_parts, word_of_text, action_said, action_read, is_field, fields_begin, pieces_begin, all_begin, cut_written}
+use Rattle.ofp_read.proofs.LineLaws.{apart_whole, cut_parts, flow_read, word_of_text, action_said, action_read, is_field, fields_begin, pieces_begin, all_begin, cut_written}
 use Rattle.ofp_read.specs.Unwritten.{IsAbout, by_name, kind_alone, protocol_alone, AreNew, IsBadField, unknown, twice, valueless, HasBadField, IsUnwritten, bad_field, no_action, unknown_action, needs_ip}
 
 -- 1. What a field is about.
@@ -53,22 +53,21 @@ record HasKey (text : List ℕ) (parts : List Part) : Type 0 where
   found : key_of text ≡ Some (key, value)
   same : parts_of key ≡ parts
 
-key_kind : (value : List ℕ) → key_of (codes "dl_type=" ++ value) ≡ Some (key.FrameType, value)
-unfolding key_of key_with_value
-key_kind value = refl
-
 alone_of : (text name : List ℕ) (k : Key) → text ≡ name → key_of name ≡ Some (k, []) → HasKey text (parts_of k)
 alone_of text name k is found = record { key = k; value = []; found = ap key_of is ∙ found; same = refl }
 
+own_part : (part : Part) → parts_of (key_about part) ≡ part ∷ []
+own_part priority = refl
+own_part table = refl
+own_part kind = refl
+own_part protocol = refl
+own_part source = refl
+own_part destination = refl
+own_part source_port = refl
+own_part destination_port = refl
+
 named_key : (part : Part) (text value : List ℕ) → text ≡ name_of part ++ value → HasKey text (part ∷ [])
-named_key priority text value is = record { key = key.Priority; value = value; found = ap key_of is ∙ key_priority value; same = refl }
-named_key table text value is = record { key = key.Table; value = value; found = ap key_of is ∙ key_table value; same = refl }
-named_key kind text value is = record { key = key.FrameType; value = value; found = ap key_of is ∙ key_kind value; same = refl }
-named_key protocol text value is = record { key = key.Protocol; value = value; found = ap key_of is ∙ key_protocol value; same = refl }
-named_key source text value is = record { key = key.Source; value = value; found = ap key_of is ∙ key_source value; same = refl }
-named_key destination text value is = record { key = key.Destination; value = value; found = ap key_of is ∙ key_destination value; same = refl }
-named_key source_port text value is = record { key = key.SourcePort; value = value; found = ap key_of is ∙ key_source_port value; same = refl }
-named_key destination_port text value is = record { key = key.DestinationPort; value = value; found = ap key_of is ∙ key_destination_port value; same = refl }
+named_key part text value is = record { key = key_about part; value = value; found = ap key_of is ∙ key_found part value; same = own_part part }
 
 key_of_named : (n : ℕ) (text : List ℕ) → IsNamed n text → HasKey text (kind ∷ protocol ∷ [])
 unfolding key_of key_alone
@@ -117,18 +116,12 @@ says_about protocol e text says = by_name protocol (decimal says.0) says.3
 says_about source_port e text says = by_name source_port (decimal says.0) says.3
 says_about destination_port e text says = by_name destination_port (decimal says.0) says.3
 
-protocol_about : (k : FrameKind) (o : Option ℕ) (text : List ℕ) → IsProtocolText k o text → IsAbout (kind ∷ protocol ∷ []) text
-protocol_about frames.Any o text is = absurd is
-protocol_about frames.Arp o text is = absurd is
-protocol_about frames.Ip None text is = absurd is
-protocol_about frames.Ip (Some n) text is = protocol_alone n is
-
 each_about : (e : Entry) (ps : List Part) (text : List ℕ) → EachSays e ps (text ∷ []) → IsAbout ps text
 each_about e [] text says = elim says [ ]
 each_about e (p ∷ []) text (one_part says rest) = says_about p e text says
 each_about e (p ∷ q ∷ ps) text (one_part says rest) = elim rest [ ]
-each_about e (kind ∷ protocol ∷ []) text (two_parts says rest) = protocol_about e.kind e.proto text says
-each_about e (kind ∷ protocol ∷ p ∷ ps) text (two_parts says rest) = elim rest [ ]
+each_about e (kind ∷ protocol ∷ []) text (two_parts n ip its says rest) = protocol_alone n says
+each_about e (kind ∷ protocol ∷ p ∷ ps) text (two_parts n ip its says rest) = elim rest [ ]
 
 -- 2. What is given of the parts of a key.
 
@@ -204,11 +197,8 @@ none_unsaid protocol e text none says = let is = says.1 in cc
 none_unsaid source_port e text none says = let is = says.1 in cc
 none_unsaid destination_port e text none says = let is = says.1 in cc
 
-no_protocol : (k : FrameKind) (o : Option ℕ) (text : List ℕ) → o ≡ None → IsProtocolText k o text → ⊥
-no_protocol frames.Any o text none is = is
-no_protocol frames.Arp o text none is = is
-no_protocol frames.Ip None text none is = is
-no_protocol frames.Ip (Some n) text none is = cc
+no_protocol : (n : ℕ) (o : Option ℕ) → o ≡ None → o ≡ Some n → ⊥
+no_protocol n o none its = cc
 
 no_kind : (e : Entry) → HasNone kind e → ⊥
 no_kind e none = cc
@@ -219,9 +209,9 @@ none_said p e [] (text ∷ texts) none says = elim says [ ]
 none_said p e (q ∷ qs) [] none says = elim says [ ]
 none_said p e (q ∷ qs) (text ∷ texts) none (one_part says rest) =
     ((λ same. none_unsaid p e text none (subst (λ (x : Part). Says x e text) (sym same) says)), none_said p e qs texts none rest)
-none_said p e (kind ∷ protocol ∷ qs) (text ∷ texts) none (two_parts says rest) = (
+none_said p e (kind ∷ protocol ∷ qs) (text ∷ texts) none (two_parts n ip its says rest) = (
   (λ same. no_kind e (subst (λ (x : Part). HasNone x e) same none)),
-  ((λ same. no_protocol e.kind e.proto text (subst (λ (x : Part). HasNone x e) same none) says), none_said p e qs texts none rest),
+  ((λ same. no_protocol n e.proto (subst (λ (x : Part). HasNone x e) same none) its), none_said p e qs texts none rest),
 )
 
 same_with : (p : Part) (e : Entry) (said : List Part) (g : Given) → IsNoneOf p said → Same p g (with_parts said e g)
@@ -517,20 +507,8 @@ action_by line front rest h why (Some a) cut read is refused =
     elim (if_parts (asks_of_ip (entry_of h a)) (Ok (entry_of h a)) (Err NeedsIp) (Err why) refused) [
       | inl asks ↦ let wrong = asks.1 in cc
       | inr none ↦
-          let parts = cut_parts true line front rest cut in
-          let said = action_said (words rest) a is in
-          let word = word_of_text rest said.0 parts.starts said.1 in
           subst (IsUnwritten line) (err_why NeedsIp why none.1)
-          (needs_ip (entry_of h a) (record {
-            front = front;
-            action = said.0;
-            blanks = word.blanks;
-            written = parts.whole ∙ ap (λ t. front ++ t) word.whole;
-            apart = apart_whole front ∙ parts.apart;
-            of_fields = fields_of_read (fields front) h a read;
-            of_action = said.2;
-            blank = word.blank;
-          }) none.0)
+          (needs_ip (entry_of h a) (flow_read line front rest h a (cut_parts true line front rest cut) read is) none.0)
     ]
 
 fields_by : (line front rest : List ℕ) (why : OfpWhy) (r : Result Given OfpWhy) → cut_action true line ≡ Some (front, rest)

@@ -1,18 +1,19 @@
 -- The line that is written of an entry writes it.
 use Rattle.std.proofs.Common.{◌≡◌, ℕ, ◌+◌, ◌<◌, ◌≤◌, ◌^◌, Bool, true, false, ◌||◌, not, List, [], ◌∷◌, ◌++◌, Option, Some, None, is_some, refl, sym, ap, subst, ◌∙◌, arith, inl, append-nil, append_assoc}
-use Rattle.std.specs.Prelude.{codes, nat_lt, ◌==◌, if◌then◌else◌, IsTrue}
+use Rattle.std.specs.Prelude.{codes, decimal, nat_lt, ◌==◌, if◌then◌else◌, IsTrue}
 use Rattle.std.specs.List.{onto_first}
 use Rattle.std.proofs.lemmas.Bool.{and_parts}
 use Rattle.std.proofs.lemmas.Bool.Decides.{nat_tests}
 use Rattle.text_core.specs.Lines.{words, is_blank, ends_word, are_comment, is_comment}
 use Rattle.text_core.proofs.PiecesLaws.{lacks, lacks-append}
+use Rattle.host_net.specs.Prefix.{prefix_text}
 use Rattle.ofp_rules.specs.declared.entry.FrameKind.{FrameKind}
 use Rattle.ofp_rules.specs.declared.entry.FrameKind.TheVariants as frames
 use Rattle.ofp_rules.specs.declared.entry.Action.{Action}
 use Rattle.ofp_rules.specs.declared.entry.Action.TheVariants.{Normal, Drop}
 use Rattle.ofp_rules.specs.declared.entry.Entry.{Entry}
-use Rattle.ofp_rules.specs.Matching.{asks_of_ip, kind_asks, ports_asked}
-use Rattle.ofp_rules.specs.Text.{kind_text, part_text, port_text, action_text, entry_line}
+use Rattle.ofp_rules.specs.Matching.{asks_of_ip, kind_asks}
+use Rattle.ofp_rules.specs.Text.{kind_text, field_text, action_text, entry_line}
 use Rattle.ofp_rules.specs.inner.Ranges.{in_range}
 use Rattle.ofp_rules.proofs.RangesLaws.{in_range_parts}
 use Rattle.ofp_read.specs.Grammar.{Part, priority, table, kind, source, destination, protocol, source_port, destination_port, fields, IsNoneOf, AreDistinct, EachSays, IsActionText, Writes}
@@ -25,11 +26,11 @@ use Rattle.ofp_read.proofs.PieceLaws.{IsPiece, joined, address_piece, number_pie
 
 abbrev behind_kind : Entry → List ℕ
 behind_kind e =
-    part_text (codes "nw_src=") e.src
-    ++ (part_text (codes "nw_dst=") e.dst ++ (port_text (codes "tp_src=") e.tp_src ++ port_text (codes "tp_dst=") e.tp_dst))
+    field_text (codes "nw_src=") prefix_text e.src
+    ++ (field_text (codes "nw_dst=") prefix_text e.dst ++ (field_text (codes "tp_src=") decimal e.tp_src ++ field_text (codes "tp_dst=") decimal e.tp_dst))
 
 abbrev front_text : Entry → List ℕ
-front_text e = port_text (codes "priority=") (Some e.priority) ++ (kind_text e.kind e.proto ++ behind_kind e)
+front_text e = field_text (codes "priority=") decimal (Some e.priority) ++ (kind_text e.kind e.proto ++ behind_kind e)
 
 abbrev parts_behind : Entry → List Part
 parts_behind e =
@@ -44,7 +45,7 @@ front_piece e fits =
     joined e (priority ∷ []) (kind_parts e.kind e.proto ++ parts_behind e) _ _
     (number_piece e priority 112 (codes "riority=") (2 ^ 16) (Some e.priority) (λ text is. is) refl (omega arith) (small e.priority room.priority))
     (joined e (kind_parts e.kind e.proto) (parts_behind e) _ _
-    (kind_piece e e.kind e.proto (λ text is. is) (λ text is. is) (λ text is. is) room.proto)
+    (kind_piece e e.kind e.proto (λ text is. is) (λ text is. is) refl refl room.proto)
     (joined e (if_given source e.src) _ _ _ (address_piece e source 110 (codes "w_src=") e.src (λ text is. is) refl room.src)
     (joined e (if_given destination e.dst) _ _ _ (address_piece e destination 110 (codes "w_dst=") e.dst (λ text is. is) refl room.dst)
     (joined e (if_given source_port e.tp_src) (if_given destination_port e.tp_dst) _ _
@@ -137,8 +138,7 @@ others_of e asks priority none = absurd (none.0 refl)
 others_of e asks table none = tt
 others_of e asks kind none = no_kind e.kind e.proto (parts_behind e) none.1
 others_of e asks protocol none =
-    let of_kind = and_parts (kind_asks e.kind (is_some e.src || (is_some e.dst || is_some e.proto)))
-    (ports_asked e.proto (is_some e.tp_src || is_some e.tp_dst)) asks in
+    let of_kind = and_parts (kind_asks e.kind (is_some e.src || (is_some e.dst || is_some e.proto))) _ asks in
     no_protocol e.kind (is_some e.src) (is_some e.dst) e.proto (parts_behind e) of_kind.0 none.1
 others_of e asks source none =
     not_given source e.src _ (none_of_second source (kind_parts e.kind e.proto) (parts_behind e) none.1)

@@ -79,18 +79,13 @@ about destination = of_address (codes "nw_dst=") (λ e. e.dst)
 about source_port = of_number (codes "tp_src=") (2 ^ 16) (λ e. e.tp_src)
 about destination_port = of_number (codes "tp_dst=") (2 ^ 16) (λ e. e.tp_dst)
 
--- IPv4 frames of a protocol, by its name
-abbrev pub IsProtocolText : FrameKind → Option ℕ → List ℕ → Type 0
-IsProtocolText Ip (Some proto) text = IsTrue (has_name proto) × (text ≡ protocol_text proto)
-IsProtocolText _ _ text = ⊥
-
--- each field is about the part at its place, or, as the name of a protocol, about the kind and the protocol both
+-- each field is about the part at its place, or, as the name of a protocol of IPv4 frames, about the kind and the protocol both
 pub data EachSays (e : Entry) : List Part → List (List ℕ) → Type 0 where
   no_field : EachSays e [] []
   one_part : {part : Part} {parts : List Part} {text : List ℕ} {texts : List (List ℕ)} → (about part).Says e text → EachSays e parts texts
       → EachSays e (part ∷ parts) (text ∷ texts)
-  two_parts : {parts : List Part} {text : List ℕ} {texts : List (List ℕ)} → IsProtocolText e.kind e.proto text
-      → EachSays e parts texts → EachSays e (kind ∷ protocol ∷ parts) (text ∷ texts)
+  two_parts : {parts : List Part} {text : List ℕ} {texts : List (List ℕ)} (proto : ℕ) → e.kind ≡ Ip → e.proto ≡ Some proto
+      → IsTrue (has_name proto) × (text ≡ protocol_text proto) → EachSays e parts texts → EachSays e (kind ∷ protocol ∷ parts) (text ∷ texts)
 
 abbrev pub IsNoneOf : Part → List Part → Type 0
 IsNoneOf part others = AllByRecursion (λ other. part ≢ other) others

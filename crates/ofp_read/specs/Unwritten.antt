@@ -1,18 +1,19 @@
 -- Why a line writes no entry (ovs-ofctl(8), "Flow Syntax").
-use Rattle.std.specs.Prelude.{◌≡◌, ◌≢◌, ◌⊎◌, ℕ, IsTrue, IsFalse, List, [], ◌∷◌, ◌++◌, Some, codes}
+use Rattle.std.specs.Prelude.{◌≡◌, ◌≢◌, ◌⊎◌, ℕ, IsTrue, IsFalse, List, [], ◌∷◌, ◌++◌, codes}
 use Rattle.std.specs.List.{AllByRecursion}
-use Rattle.ofp_rules.specs.declared.entry.FrameKind.TheVariants.{Ip}
+use Rattle.host_net.specs.Service.{has_name}
+use Rattle.host_net.specs.ServiceText.{protocol_text}
 use Rattle.ofp_rules.specs.declared.entry.Entry.{Entry}
 use Rattle.ofp_rules.specs.Matching.{asks_of_ip}
 use Rattle.ofp_read.specs.declared.fault.OfpWhy.{OfpWhy}
 use Rattle.ofp_read.specs.declared.fault.OfpWhy.TheVariants.{BadLine, UnknownField, BadValue, NeedsIp, UnknownAction}
-use Rattle.ofp_read.specs.Grammar.{Part, kind, protocol, about, fields, IsProtocolText, EachSays, IsNoneOf, AreFieldsOf, ends_apart, HasFlow}
+use Rattle.ofp_read.specs.Grammar.{Part, kind, protocol, about, fields, EachSays, IsNoneOf, AreFieldsOf, ends_apart, HasFlow}
 
 -- a field is about these parts, whatever its value: it has their name, or is a name that stands alone
 pub data IsAbout : List Part → List ℕ → Type 0 where
   by_name : {text : List ℕ} (part : Part) (value : List ℕ) → text ≡ (about part).name ++ value → IsAbout (part ∷ []) text
   kind_alone : {text : List ℕ} → (text ≡ codes "ip") ⊎ (text ≡ codes "arp") → IsAbout (kind ∷ []) text
-  protocol_alone : {text : List ℕ} (proto : ℕ) → IsProtocolText Ip (Some proto) text → IsAbout (kind ∷ protocol ∷ []) text
+  protocol_alone : {text : List ℕ} (proto : ℕ) → IsTrue (has_name proto) × (text ≡ protocol_text proto) → IsAbout (kind ∷ protocol ∷ []) text
 
 -- none of the parts is one of those that are said
 abbrev pub AreNew : List Part → List Part → Type 0

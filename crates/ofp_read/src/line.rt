@@ -1,9 +1,10 @@
 //! One flow line: its fields, its action, and the entry that they write.
 
-ghost use Rattle.std.specs.Prelude.{◌≡◌, ◌||◌, not, Bool, true, Option, List, ℕ};
-ghost use Rattle.std.specs.Option.{option_map};
+ghost use Rattle.std.specs.Prelude.{◌≡◌, true, false, Option, List, ℕ};
+ghost use Rattle.std.specs.Option.{option_map, option_map_or};
 ghost use Rattle.text_core.specs.Lines.{words, is_blank};
-ghost use Rattle.ofp_rules.specs.Matching.{asks_of_ip, ports_asked};
+ghost use Rattle.host_net.specs.Service.{has_ports};
+ghost use Rattle.ofp_rules.specs.Matching.{asks_of_ip};
 ghost use Rattle.ofp_read.specs.Grammar.{fields, has_bytes, is_separator};
 ghost use Rattle.ofp_read.specs.inner.FlowLine.{action_of, entry_of, flow_by, flow_of, nothing_given, with_action, with_fields};
 ghost use Rattle.ofp_read.specs.inner.Cut.{begins_action, cut_action};
@@ -133,7 +134,7 @@ fn asks_of_ip(entry: Entry) -> bool
 }
 
 fn has_ports(proto: Option<u8>) -> bool
-    ensures { (asks : Bool) → ports_asked proto asks ≡ (result || not asks) }
+    ensures { result ≡ option_map_or has_ports proto false }
 {
     matches!(proto, Some(6 | 17))
 }

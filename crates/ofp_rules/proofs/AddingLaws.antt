@@ -55,19 +55,6 @@ pub accepted_more : (entries : List Entry) (e : Entry) → IsAccepted entries �
 accepted_more entries e accepted few none = (simp length-append (omega arith), unambiguous_more entries e accepted.1 none)
 
 -- and back
-pub unambiguous_fewer : (entries : List Entry) (e : Entry) → IsUnambiguous (entries ++ e ∷ []) → IsUnambiguous entries
-unambiguous_fewer entries e clear i j pair =
-    let earlier = pair.earlier in
-    let within = slice_get_within entries j pair.second pair.at_second in
-    clear i j (record {
-      first = pair.first;
-      second = pair.second;
-      at_first = get_before entries (e ∷ []) i (omega arith) ∙ pair.at_first;
-      at_second = get_before entries (e ∷ []) j within ∙ pair.at_second;
-      earlier = pair.earlier;
-      contradict = pair.contradict;
-    })
-
 pub contradicts_none : (entries : List Entry) (e : Entry) → IsUnambiguous (entries ++ e ∷ []) → ContradictsNone entries e
 contradicts_none entries e clear i f there clash =
     let within = slice_get_within entries i f there in
@@ -82,8 +69,3 @@ contradicts_none entries e clear i f there clash =
 
 pub fewer_than_most : (entries : List Entry) (e : Entry) → IsAccepted (entries ++ e ∷ []) → length entries < most_entries
 fewer_than_most entries e accepted = let few = accepted.0 in omega (arith, simp length-append at few)
-
-pub accepted_fewer : (entries : List Entry) (e : Entry) → IsAccepted (entries ++ e ∷ []) → IsAccepted entries
-accepted_fewer entries e accepted =
-    let few : length entries < most_entries = fewer_than_most entries e accepted in
-    (omega arith, unambiguous_fewer entries e accepted.1)

@@ -1,10 +1,11 @@
 -- How long the line of an entry is.
-use Rattle.std.proofs.Common.{Bool, true, false, ◌==◌, ◌++◌, IsTrue, ℕ, ◌≤◌, ◌<◌, ◌^◌, [], ◌∷◌, Option, Some, None, length, arith, length-append}
+use Rattle.std.proofs.Common.{Bool, true, false, ◌==◌, ◌||◌, ◌++◌, IsTrue, ℕ, ◌≤◌, ◌<◌, ◌^◌, [], ◌∷◌, Option, Some, None, length, arith, length-append}
 use Rattle.std.specs.Prelude.{if◌then◌else◌, codes, decimal}
 use Rattle.std.proofs.lemmas.Bool.Decides.{nat_tests}
 use Rattle.std.proofs.lemmas.Fmt.{length-decimal-le}
 use Rattle.host_net.specs.declared.prefix.Prefix.{Prefix}
 use Rattle.host_net.proofs.PrefixTextLaws.{prefix_short}
+use Rattle.host_net.specs.Prefix.{prefix_text}
 use Rattle.host_net.specs.Service.{icmp, tcp, udp}
 use Rattle.ofp_rules.specs.declared.entry.FrameKind.{FrameKind}
 use Rattle.ofp_rules.specs.declared.entry.FrameKind.TheVariants.{Any, Arp, Ip}
@@ -13,15 +14,17 @@ use Rattle.ofp_rules.specs.declared.entry.Action.TheVariants.{Normal, Drop}
 use Rattle.ofp_rules.specs.declared.entry.Entry.{Entry}
 use Rattle.ofp_rules.specs.inner.Ranges.{in_range, number_fits}
 use Rattle.ofp_rules.proofs.RangesLaws.{in_range_parts}
-use Rattle.ofp_rules.specs.Text.{action_text, entry_line, kind_text, part_text, port_text, protocol_text}
+use Rattle.ofp_rules.specs.Text.{action_text, entry_line, field_text, kind_text}
 
-protocol_short : (proto : ℕ) → proto < 2 ^ 8 → length (protocol_text proto) ≤ 16
+protocol_short : (proto : ℕ) → proto < 2 ^ 8 → length (kind_text Ip (Some proto)) ≤ 16
 protocol_short proto fits =
     let other : length (codes "ip,nw_proto=" ++ (decimal proto ++ codes ",")) ≤ 16 = simp length-append (omega (arith, length-decimal-le 3 proto (omega arith) (omega arith) (omega arith))) in
     by_name (proto == icmp) (proto == tcp) (proto == udp) other
   where
     by_name : (one six other : Bool) → length (codes "ip,nw_proto=" ++ (decimal proto ++ codes ",")) ≤ 16
-        → length (if one then codes "icmp," else if six then codes "tcp," else if other then codes "udp," else codes "ip,nw_proto=" ++ (decimal proto ++ codes ",")) ≤ 16
+        → length (if one || (six || other)
+        then (if one then codes "icmp" else if six then codes "tcp" else if other then codes "udp" else decimal proto) ++ codes ","
+        else codes "ip,nw_proto=" ++ (decimal proto ++ codes ",")) ≤ 16
     by_name true six other short = omega arith
     by_name false true other short = omega arith
     by_name false false true short = omega arith
@@ -33,11 +36,11 @@ kind_short Arp proto fits = omega arith
 kind_short Ip None fits = omega arith
 kind_short Ip (Some proto) fits = protocol_short proto (grind (arith, nat_tests))
 
-part_short : (a b c d e f g : ℕ) (part : Option Prefix) → length (part_text (a ∷ b ∷ c ∷ d ∷ e ∷ f ∷ g ∷ []) part) ≤ 26
+part_short : (a b c d e f g : ℕ) (part : Option Prefix) → length (field_text (a ∷ b ∷ c ∷ d ∷ e ∷ f ∷ g ∷ []) prefix_text part) ≤ 26
 part_short a b c d e f g None = omega arith
 part_short a b c d e f g (Some p) = simp length-append (omega (arith, prefix_short p))
 
-port_short : (a b c d e f g : ℕ) (port : Option ℕ) → IsTrue (number_fits (2 ^ 16) port) → length (port_text (a ∷ b ∷ c ∷ d ∷ e ∷ f ∷ g ∷ []) port) ≤ 13
+port_short : (a b c d e f g : ℕ) (port : Option ℕ) → IsTrue (number_fits (2 ^ 16) port) → length (field_text (a ∷ b ∷ c ∷ d ∷ e ∷ f ∷ g ∷ []) decimal port) ≤ 13
 port_short a b c d e f g None fits = omega arith
 port_short a b c d e f g (Some n) fits =
     let small : n < 2 ^ 16 = grind (arith, nat_tests) in

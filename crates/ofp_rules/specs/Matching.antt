@@ -1,5 +1,6 @@
 -- Which frames an entry of a flow table matches (ovs-fields(7)).
 use Rattle.std.specs.Prelude.{ℕ, Bool, true, false, ◌&&◌, ◌||◌, ◌==◌, Option, Some, None, is_some, not}
+use Rattle.std.specs.Option.{option_map_or}
 use Rattle.host_net.specs.declared.prefix.Prefix.{Prefix}
 use Rattle.host_net.specs.declared.packet.Packet.{Packet}
 use Rattle.host_net.specs.Prefix.{covers}
@@ -43,10 +44,6 @@ abbrev pub kind_asks : FrameKind → Bool → Bool
 kind_asks OfIp asks = true
 kind_asks _ asks = not asks
 
--- only beside a protocol that has ports an entry asks for them
-abbrev pub ports_asked : Option ℕ → Bool → Bool
-ports_asked None asks = not asks
-ports_asked (Some proto) asks = has_ports proto || not asks
-
+-- so does an entry, and only beside a protocol that has ports it asks for them
 abbrev pub asks_of_ip : Entry → Bool
-asks_of_ip e = kind_asks e.kind (is_some e.src || (is_some e.dst || is_some e.proto)) && ports_asked e.proto (is_some e.tp_src || is_some e.tp_dst)
+asks_of_ip e = kind_asks e.kind (is_some e.src || (is_some e.dst || is_some e.proto)) && (option_map_or has_ports e.proto false || not (is_some e.tp_src || is_some e.tp_dst))

@@ -1,36 +1,26 @@
 -- The text of a table, line by line (ovs-ofctl(8), "Flow Syntax").
-use Rattle.std.specs.Prelude.{ℕ, ◌==◌, if◌then◌else◌, List, [], ◌∷◌, ◌++◌, Option, Some, None, map, codes, decimal}
+use Rattle.std.specs.Prelude.{ℕ, if◌then◌else◌, List, [], ◌∷◌, ◌++◌, Option, Some, None, map, codes, decimal}
 use Rattle.std.specs.List.{concat}
-use Rattle.host_net.specs.declared.prefix.Prefix.{Prefix}
 use Rattle.host_net.specs.Prefix.{prefix_text}
-use Rattle.host_net.specs.Service.{icmp, tcp, udp}
+use Rattle.host_net.specs.Service.{has_name}
+use Rattle.host_net.specs.ServiceText.{protocol_text}
 use Rattle.ofp_rules.specs.declared.entry.FrameKind.{FrameKind}
 use Rattle.ofp_rules.specs.declared.entry.FrameKind.TheVariants.{Any, Arp, Ip}
 use Rattle.ofp_rules.specs.declared.entry.Action.{Action}
 use Rattle.ofp_rules.specs.declared.entry.Action.TheVariants.{Normal, Drop}
 use Rattle.ofp_rules.specs.declared.entry.Entry.{Entry}
 
--- a protocol: three have fields of their own, any other stands by its number
-abbrev pub protocol_text : ℕ → List ℕ
-protocol_text proto =
-    if proto == icmp then codes "icmp," else if proto == tcp then codes "tcp," else if proto == udp then codes "udp," else codes "ip,nw_proto=" ++ (decimal proto ++ codes ",")
-
--- the frames that an entry asks for
+-- the frames that an entry asks for; IPv4 frames of a protocol that has a name are asked for by it alone
 abbrev pub kind_text : FrameKind → Option ℕ → List ℕ
 kind_text Any proto = []
 kind_text Arp proto = codes "arp,"
 kind_text Ip None = codes "ip,"
-kind_text Ip (Some proto) = protocol_text proto
+kind_text Ip (Some proto) = if has_name proto then protocol_text proto ++ codes "," else codes "ip,nw_proto=" ++ (decimal proto ++ codes ",")
 
--- an address field after its name, nothing where it is not given
-abbrev pub part_text : List ℕ → Option Prefix → List ℕ
-part_text name None = []
-part_text name (Some prefix) = name ++ (prefix_text prefix ++ codes ",")
-
--- a port field likewise
-abbrev pub port_text : List ℕ → Option ℕ → List ℕ
-port_text name None = []
-port_text name (Some port) = name ++ (decimal port ++ codes ",")
+-- a field: its name, and how a value is written that may be given; where none is, nothing stands
+abbrev pub field_text : {A : Type 0} → (name : List ℕ) → (written : A → List ℕ) → Option A → List ℕ
+field_text name written None = []
+field_text name written (Some value) = name ++ (written value ++ codes ",")
 
 abbrev pub action_text : Action → List ℕ
 action_text Normal = codes "actions=NORMAL"
@@ -42,9 +32,9 @@ entry_line e =
     ++ (decimal e.priority
     ++ (codes ","
     ++ (kind_text e.kind e.proto
-    ++ (part_text (codes "nw_src=") e.src
-    ++ (part_text (codes "nw_dst=") e.dst
-    ++ (port_text (codes "tp_src=") e.tp_src ++ (port_text (codes "tp_dst=") e.tp_dst ++ (action_text e.action ++ 10 ∷ []))))))))
+    ++ (field_text (codes "nw_src=") prefix_text e.src
+    ++ (field_text (codes "nw_dst=") prefix_text e.dst
+    ++ (field_text (codes "tp_src=") decimal e.tp_src ++ (field_text (codes "tp_dst=") decimal e.tp_dst ++ (action_text e.action ++ 10 ∷ []))))))))
 
 -- one line for each entry, in order
 abbrev pub text_lines : List Entry → List (List ℕ)

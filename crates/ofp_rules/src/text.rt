@@ -2,8 +2,10 @@
 
 ghost use Rattle.std.specs.Prelude.{◌≡◌, ◌<◌, ◌≤◌, ◌++◌, length, take, slice_get, Some, codes, decimal};
 ghost use Rattle.text_core.specs.inner.Line.{cut};
+ghost use Rattle.host_net.specs.Prefix.{prefix_text};
+ghost use Rattle.ofp_rules.specs.declared.entry.FrameKind.TheVariants.{Ip};
 ghost use Rattle.ofp_rules.specs.inner.Build.{IsTable};
-ghost use Rattle.ofp_rules.specs.Text.{action_text, entry_line, kind_text, part_text, port_text, protocol_text, text_lines};
+ghost use Rattle.ofp_rules.specs.Text.{action_text, entry_line, field_text, kind_text, text_lines};
 
 use crate::entry::{Action, Entry, FrameKind};
 use crate::table::Table;
@@ -70,7 +72,7 @@ fn put_kind(buffer: &mut [u8; 256], at: usize, kind: FrameKind, proto: Option<u8
 
 fn put_protocol(buffer: &mut [u8; 256], at: usize, proto: u8) -> usize
     requires { at ≤ 256 }
-    ensures text { take result buffer.new ≡ cut 256 (take at buffer.old ++ protocol_text proto) }
+    ensures text { take result buffer.new ≡ cut 256 (take at buffer.old ++ kind_text Ip (Some proto)) }
     ensures within { result ≤ 256 }
 {
     match proto {
@@ -94,7 +96,7 @@ fn put_other_protocol(buffer: &mut [u8; 256], at: usize, proto: u8) -> usize
 #[tactic(auto, using(text_core::proofs::LineLaws::nothing_put))]
 fn put_part(buffer: &mut [u8; 256], at: usize, name: &[u8], part: Option<Prefix>) -> usize
     requires { at ≤ 256 }
-    ensures text { take result buffer.new ≡ cut 256 (take at buffer.old ++ part_text name.now part) }
+    ensures text { take result buffer.new ≡ cut 256 (take at buffer.old ++ field_text name.now prefix_text part) }
     ensures within { result ≤ 256 }
 {
     match part {
@@ -110,7 +112,7 @@ fn put_part(buffer: &mut [u8; 256], at: usize, name: &[u8], part: Option<Prefix>
 #[tactic(auto, using(text_core::proofs::LineLaws::nothing_put))]
 fn put_port(buffer: &mut [u8; 256], at: usize, name: &[u8], port: Option<u16>) -> usize
     requires { at ≤ 256 }
-    ensures text { take result buffer.new ≡ cut 256 (take at buffer.old ++ port_text name.now port) }
+    ensures text { take result buffer.new ≡ cut 256 (take at buffer.old ++ field_text name.now decimal port) }
     ensures within { result ≤ 256 }
 {
     match port {

@@ -6,11 +6,6 @@ use Rattle.ofp_rules.specs.declared.entry.FrameKind.{FrameKind}
 use Rattle.ofp_rules.specs.declared.entry.FrameKind.TheVariants.{Any, Arp, Ip}
 use Rattle.ofp_rules.specs.declared.entry.Entry.{Entry}
 
--- the address of a prefix, and any where none is given
-abbrev pub address_in : Option Prefix → ℕ
-address_in None = 0
-address_in (Some prefix) = prefix.addr
-
 abbrev pub parts_meet : Option Prefix → Option Prefix → Bool
 parts_meet None part = true
 parts_meet (Some p) None = true
