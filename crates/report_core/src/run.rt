@@ -58,8 +58,9 @@ fn answer(filter: &Filter<'_>, track: &mut Track, event: Event) -> Result<Option
 {
     match event {
         Event::Seen(packet) => {
-            let passes = is_forward(filter.verdict(&packet, track.state_of(&packet)));
-            track.step(&packet, passes)?;
+            let connection = track.connection_of(&packet);
+            let passes = is_forward(filter.verdict(&packet, connection.state()));
+            track.step_in(connection, &packet, passes)?;
             Ok(Some(passes))
         }
         Event::Forget(packet) => {
