@@ -18,6 +18,7 @@ pub fn fill(chains: &mut Chains, chain: u16, rules: &[Rule]) -> Result<(), Alloc
     requires parts { IsTrue (list_all is_rule rules.now) }
     ensures { OnOk result (chains.new ≡ with_rules chains.old chain rules.now) }
 {
+    chains.reserve(chain, rules.len())?;
     for rule in rules {
         chains.rule(chain, *rule)?;
     }

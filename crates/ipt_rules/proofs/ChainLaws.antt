@@ -12,6 +12,11 @@ set_changed (x ∷ xs) zero old new change h was is = ap (λ y. y ∷ xs) (is �
 set_changed (x ∷ xs) (suc c) old new change h was is =
     ap (λ ys. x ∷ ys) (set_changed xs c old new change (omega arith) was is)
 
+pub changed_nowise : (xs : List Chain) (c : ℕ) → changed_at xs c (λ x. x) ≡ xs
+changed_nowise [] c = refl
+changed_nowise (x ∷ xs) zero = refl
+changed_nowise (x ∷ xs) (suc c) = ap (λ ys. x ∷ ys) (changed_nowise xs c)
+
 pub length-changed_at : (xs : List Chain) (c : ℕ) (change : Chain → Chain) → length (changed_at xs c change) ≡ length xs
 length-changed_at [] c change = refl
 length-changed_at (x ∷ xs) zero change = refl

@@ -110,6 +110,13 @@ impl Chain {
         &self.rules
     }
 
+    /// Makes room for so many more rules.
+    pub(crate) fn reserve(&mut self, rules: usize) -> Result<(), AllocError>
+        ensures { self.new ≡ self.old }
+    {
+        self.rules.reserve(rules)
+    }
+
     pub(crate) fn push(&mut self, rule: Rule) -> Result<(), AllocError>
         ensures ok { OnOk result (self.new ≡ record self.old { rules = self.old.rules ++ rule ∷ [] }) }
         ensures err { OnErr result (self.new ≡ self.old) }

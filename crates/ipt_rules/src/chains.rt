@@ -89,6 +89,15 @@ impl Chains {
         Some(number as u16)
     }
 
+    /// Makes room for so many more rules of a chain.
+    pub fn reserve(&mut self, chain: u16, rules: usize) -> Result<(), AllocError>
+        requires { chain < length self.old }
+        ensures { self.new ≡ self.old }
+    {
+        let changed = &mut self.chains[chain as usize];
+        changed.reserve(rules)
+    }
+
     /// Adds a rule at the end of a chain.
     pub fn rule(&mut self, chain: u16, rule: Rule) -> Result<(), AllocError>
         requires there { chain < length self.old }
