@@ -24,6 +24,7 @@ pub fn put<const N: usize>(buffer: &mut [u8; N], at: usize, piece: &[u8]) -> usi
 }
 
 /// Puts a number in decimal digits after the first `at` bytes, as `put` does.
+#[inline(always)]
 pub fn put_number<const N: usize>(buffer: &mut [u8; N], at: usize, number: u64) -> usize
     requires { at ≤ N }
     ensures text { take result buffer.new ≡ cut N (take at buffer.old ++ decimal number) }
@@ -32,7 +33,22 @@ pub fn put_number<const N: usize>(buffer: &mut [u8; N], at: usize, number: u64) 
     if number < 10 {
         return put(buffer, at, &[digit(number)]);
     }
-    let front = put_number(buffer, at, number / 10);
+    if number < 100 {
+        return put(buffer, at, &[digit(number / 10), digit(number % 10)]);
+    }
+    put_digits(buffer, at, number)
+}
+
+/// The same for numbers of any length, a digit after the other.
+fn put_digits<const N: usize>(buffer: &mut [u8; N], at: usize, number: u64) -> usize
+    requires { at ≤ N }
+    ensures text { take result buffer.new ≡ cut N (take at buffer.old ++ decimal number) }
+    ensures within { result ≤ N }
+{
+    if number < 10 {
+        return put(buffer, at, &[digit(number)]);
+    }
+    let front = put_digits(buffer, at, number / 10);
     put(buffer, front, &[digit(number % 10)])
 }
 
