@@ -1,21 +1,16 @@
 -- What a list that is longer than its limit is refused for, whatever the limit and whatever else stands in the description.
-use Rattle.std.proofs.Common.{◌≡◌, ℕ, ◌+◌, ◌<◌, ◌≤◌, List, length, Some, refl}
+use Rattle.std.proofs.Common.{◌≡◌, ◌+◌, ◌<◌, ◌≤◌, List, length, Some, refl}
 use Rattle.std.proofs.lemmas.Bool.{lt-ltb, le-ltb}
 use Rattle.std.specs.Prelude.{slice_get}
 use Rattle.desc_form.specs.Refusals.{refused, refused_item}
 use Rattle.desc_form.specs.Written.{WrittenHost, WrittenInvariant}
 use Rattle.desc_form.specs.WrittenTemplate.{WrittenTemplate}
-use Rattle.desc_form.specs.declared.refusal.Place.{Place}
 use Rattle.desc_form.specs.declared.refusal.Place.TheVariants.{Host}
 use Rattle.desc_form.specs.declared.refusal.Why.TheVariants.{TooMany}
-use Rattle.desc_form.specs.HostConditions.{Entry, beyond, too_many}
+use Rattle.desc_form.specs.HostConditions.{Entry, too_many}
 use Rattle.host_net.specs.Limits.{host_limit, prefix_limit}
 
 -- a longer list is refused at the first element beyond the limit
-pub beyond_longer : {A : Type 0} (limit : ℕ) (at_place : ℕ → Place) (xs : List A)
-    → limit < length xs → beyond limit at_place xs ≡ Some (refused TooMany (at_place (limit + 1)))
-beyond_longer limit at_place xs longer = let above = lt-ltb _ _ longer in rw above refl
-
 pub many_hosts : (hs : List WrittenHost) (es : List Entry) (is : List WrittenInvariant) (ts : List WrittenTemplate)
     → host_limit < length hs → too_many hs es is ts ≡ Some (refused TooMany (Host (host_limit + 1)))
 unfolding too_many

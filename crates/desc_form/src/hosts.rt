@@ -10,7 +10,7 @@ ghost use Rattle.host_net.specs.Prefix.{prefix_of};
 ghost use Rattle.host_net.specs.inner.Refusal.{refusal_of};
 
 use crate::written::{Written, WrittenHost};
-use host_net::{HostRefusal, Hosts, Prefix, read_prefix};
+use host_net::{Hosts, Name, Prefix, read_prefix};
 use std::alloc::{AllocError, Global};
 
 /// The hosts of a description that none of the conditions on hosts refuses.
@@ -32,11 +32,7 @@ fn add_host(alloc: Global, hosts: &mut Hosts, host: &WrittenHost<'_>) -> Result<
     ensures { OnOk result (hosts.new ≡ hosts.old ++ network_host (host_view host.now) ∷ []) }
 {
     let prefixes = prefixes_among(alloc, &host.at)?;
-    match hosts.add(host.name.as_bytes(), &prefixes, host.rest) {
-        Ok(_) => Ok(()),
-        Err(HostRefusal::Memory) => Err(AllocError),
-        Err(_) => unreachable!(),
-    }
+    hosts.push(Name::of(host.name.as_bytes()), &prefixes, host.rest)
 }
 
 /// The prefixes that the entries of a host say.
