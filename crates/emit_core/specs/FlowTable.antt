@@ -1,5 +1,5 @@
--- The layout of a policy as a flow table of OpenFlow (docs/FORMATS.md). The policy is the flows p that are permitted, each narrowed to its
--- services where it has some; hosts are known by their numbers.
+-- The layout of a policy as a flow table of OpenFlow (docs/TEXTS.md, the flows of a switch). The policy is the flows p that are permitted,
+-- each narrowed to its services where it has some; hosts are known by their numbers.
 use Rattle.std.specs.Prelude.{ℕ, ◌+◌, Bool, true, false, if◌then◌else◌, List, [], ◌∷◌, ◌++◌, Option, Some, None, map, option_map}
 use Rattle.std.specs.List.{flat_map}
 use Rattle.std.specs.Option.{option_map_or, option_and_then}

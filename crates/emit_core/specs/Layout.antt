@@ -1,4 +1,4 @@
--- The layout of a policy as chains of iptables (the text of the rules, docs/FORMATS.md). The policy is the flows p that are permitted, each
+-- The layout of a policy as chains of iptables (docs/TEXTS.md, the text of the rules). The policy is the flows p that are permitted, each
 -- narrowed to its services where it has some, and those of them, s, whose answers pass as well; hosts are known by their numbers.
 use Rattle.std.specs.Prelude.{ℕ, ◌+◌, Bool, true, false, not, ◌&&◌, ◌||◌, if◌then◌else◌, List, [], ◌∷◌, ◌++◌, Option, Some, None, length, map, codes, decimal, option_map}
 use Rattle.std.specs.List.{flat_map, range_with_len}

@@ -4,7 +4,7 @@ ghost use Rattle.std.specs.Prelude.{◌≡◌, length, IfSome, IsTrue};
 ghost use Rattle.std.specs.List.{list_all};
 ghost use Rattle.host_net.specs.inner.Hosts.{is_network};
 
-use crate::{EmitRefusal, emit_openflow};
+use crate::{NoTable, emit_openflow};
 use flow_set::{Flow, FlowSet};
 use host_net::{Hosts, Packet, Prefix, Services, Verdict, read_service};
 use ofp_rules::{Frame, Table};
@@ -55,7 +55,7 @@ fn flows(alloc: Global, hosts: &Hosts, flow: Option<Flow>) -> Option<FlowSet>
     Some(flows)
 }
 
-fn table(alloc: Global, count: u32, flow: Option<Flow>) -> Option<Result<Table, EmitRefusal>> {
+fn table(alloc: Global, count: u32, flow: Option<Flow>) -> Option<Result<Table, NoTable>> {
     let hosts = network(alloc, count)?;
     let p = flows(alloc, &hosts, flow)?;
     Some(emit_openflow(alloc, &hosts, &Services::new(alloc), &p))
@@ -73,7 +73,7 @@ fn two_hosts(alloc: Global, with_rest: bool) -> Option<Hosts> {
 }
 
 // The table of the flow from the first of them to the second, narrowed to a service.
-fn narrowed(alloc: Global, service: &[u8], with_rest: bool) -> Option<Result<Table, EmitRefusal>> {
+fn narrowed(alloc: Global, service: &[u8], with_rest: bool) -> Option<Result<Table, NoTable>> {
     let hosts = two_hosts(alloc, with_rest)?;
     let p = flows(alloc, &hosts, Some(Flow { from: 0, to: 1 }))?;
     let mut services = Services::new(alloc);
@@ -151,14 +151,14 @@ fn a_flow_narrowed_to_a_port(rt: HostRuntime) {
 fn a_flow_narrowed_to_a_range(rt: HostRuntime) {
     let range = narrowed(rt.alloc(), b"udp/53-60", false).expect(&rt, "hosts");
     let flow = Flow { from: 0, to: 1 };
-    assert_eq!(rt; range.err(), Some(EmitRefusal::RangeOfPorts { flow }));
+    assert_eq!(rt; range.err(), Some(NoTable::RangeOfPorts { flow }));
 }
 
 // Entries are the pairs of networks, an ARP entry and the last one.
 #[test]
 fn too_many_entries(rt: HostRuntime) {
     let many = table(rt.alloc(), 91, None).expect(&rt, "hosts");
-    assert_eq!(rt; many.err(), Some(EmitRefusal::TooManyRules { count: 8283 }));
+    assert_eq!(rt; many.err(), Some(NoTable::TooManyEntries { count: 8283 }));
 }
 
 #[test]

@@ -19,7 +19,7 @@ ghost use Rattle.emit_core.specs.Layout.{entry_chains, forward_rules, host_chain
 use crate::filling::{build_accepted, fill};
 use crate::forward::forward_rules;
 use crate::host_chain::host_rules;
-use crate::refusal::EmitRefusal;
+use crate::refusal::NoChains;
 use crate::side::Side;
 use flow_set::FlowSet;
 use host_net::{Hosts, Services};
@@ -38,7 +38,7 @@ pub fn emit_iptables(
     services: &Services,
     p: &FlowSet,
     s: &FlowSet,
-) -> Result<Ruleset, EmitRefusal>
+) -> Result<Ruleset, NoChains>
     requires permitted { p.now.size ≡ length hosts.now }
     requires stateful { s.now.size ≡ length hosts.now }
     requires subset { IsSubset s.now.flows p.now.flows }
@@ -54,14 +54,14 @@ pub fn emit_iptables(
     ensures expected { IfOk result (λ rules. ForwardsExpected (Passes rules) (site_with hosts.now services.now) p.now.flows s.now.flows) }
 {
     let Ok(Layout { chains, count }) = layout_of(alloc, hosts, services, p, s) else {
-        return Err(EmitRefusal::Memory);
+        return Err(NoChains::Memory);
     };
     if count > RULE_LIMIT {
-        return Err(EmitRefusal::TooManyRules { count });
+        return Err(NoChains::TooManyRules { count });
     }
     match build_accepted(alloc, chains) {
         Ok(rules) => Ok(rules),
-        Err(AllocError) => Err(EmitRefusal::Memory),
+        Err(AllocError) => Err(NoChains::Memory),
     }
 }
 

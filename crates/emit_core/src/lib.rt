@@ -28,7 +28,7 @@ pub use host_chain::host_rules;
 pub use iptables::emit_iptables;
 pub use openflow::emit_openflow;
 pub use parts::{at_other, in_prefix};
-pub use refusal::EmitRefusal;
+pub use refusal::{NoChains, NoTable};
 pub use side::Side;
 
 #[cfg(test)]

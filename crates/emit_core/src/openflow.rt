@@ -18,7 +18,7 @@ use crate::flow_entry::{arp_entry, other_entry};
 use crate::flow_policy::FlowPolicy;
 use crate::flows::push_between;
 use crate::ranges::first_range;
-use crate::refusal::EmitRefusal;
+use crate::refusal::NoTable;
 use crate::rest_flows::push_with_rest;
 use flow_set::FlowSet;
 use host_net::{Hosts, Services};
@@ -33,7 +33,7 @@ pub fn emit_openflow(
     hosts: &Hosts,
     services: &Services,
     p: &FlowSet,
-) -> Result<Table, EmitRefusal>
+) -> Result<Table, NoTable>
     requires { p.now.size ≡ length hosts.now }
     ensures layout { IfOk result (λ table. table ≡ flow_entries (site_with hosts.now services.now) p.now.flows) }
     ensures ports { OnOk result (HasNoRange services.now p.now.flows) }
@@ -51,7 +51,7 @@ pub fn emit_openflow(
         → ForwardsExpected (Passes table) (site_with hosts.now services.now) p.now.flows s) }
 {
     if let Some(flow) = first_range(services, p) {
-        return Err(EmitRefusal::RangeOfPorts { flow });
+        return Err(NoTable::RangeOfPorts { flow });
     }
     // What holds of hosts at all times is known by looking at them.
     let _count = hosts.count();
@@ -62,11 +62,11 @@ pub fn emit_openflow(
         rest: hosts.rest(),
     };
     let Ok(entries) = entries_of(alloc, &policy) else {
-        return Err(EmitRefusal::Memory);
+        return Err(NoTable::Memory);
     };
     let count = entries.count();
     if count > ENTRY_LIMIT {
-        return Err(EmitRefusal::TooManyRules { count });
+        return Err(NoTable::TooManyEntries { count });
     }
     match Table::build(alloc, entries.into_kept()) {
         Ok(table) => Ok(table),
@@ -75,12 +75,12 @@ pub fn emit_openflow(
 }
 
 // No layout with so few entries is refused: where no table came, memory ran out.
-fn out_of_memory(why: TableRefusal) -> EmitRefusal
+fn out_of_memory(why: TableRefusal) -> NoTable
     requires { why ≡ TableRefusal.Memory }
-    ensures { result ≡ EmitRefusal.Memory }
+    ensures { result ≡ NoTable.Memory }
 {
     match why {
-        TableRefusal::Memory => EmitRefusal::Memory,
+        TableRefusal::Memory => NoTable::Memory,
         _ => unreachable!(),
     }
 }

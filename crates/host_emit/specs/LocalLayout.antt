@@ -1,5 +1,6 @@
--- The layout for the machines of one host as chains of iptables (the text of the rules, docs/FORMATS.md). The policy is the flows p that are
--- permitted, each narrowed to its services where it has some, and those of them, s, whose answers pass as well; hosts are known by their numbers.
+-- The layout for the machines of one host as chains of iptables (docs/TEXTS.md, the rules for the machines of one host). The policy is the
+-- flows p that are permitted, each narrowed to its services where it has some, and those of them, s, whose answers pass as well; hosts are
+-- known by their numbers.
 use Rattle.std.specs.Prelude.{ℕ, Bool, true, not, ◌==◌, List, [], ◌∷◌, Some, None, codes, slice_get}
 use Rattle.std.specs.List.{flat_map}
 use Rattle.std.specs.Option.{option_map_or}

@@ -6,7 +6,7 @@ ghost use Rattle.sample_core.specs.Sample.{IsTableLines, offence_size};
 ghost use Rattle.sample_core.specs.inner.SampleCounts.{AreOffending};
 
 use desc_core::Description;
-use emit_core::{EmitRefusal, emit_openflow, needs_state};
+use emit_core::{NoTable, emit_openflow, needs_state};
 use flow_set::FlowSet;
 use host_net::{Hosts, Services};
 use net_core::Policy;
@@ -41,9 +41,9 @@ pub(crate) fn table_lines(
     }
     match emit_openflow(alloc, hosts, services, policy.permitted()) {
         Ok(table) => Ok(TableLines::Lines(table.lines())),
-        Err(EmitRefusal::RangeOfPorts { .. }) => unreachable!(),
-        Err(EmitRefusal::TooManyRules { .. }) => Ok(TableLines::TooMany),
-        Err(EmitRefusal::Memory) => Err(AllocError),
+        Err(NoTable::RangeOfPorts { .. }) => unreachable!(),
+        Err(NoTable::TooManyEntries { .. }) => Ok(TableLines::TooMany),
+        Err(NoTable::Memory) => Err(AllocError),
     }
 }
 

@@ -13,7 +13,7 @@ ghost use Rattle.sample_core.specs.inner.SampleCounts.{AreForwarded, AreRunCount
 ghost use Rattle.emit_core.specs.Layout.{layout};
 
 use crate::packets::sample_packets;
-use emit_core::{EmitRefusal, emit_iptables};
+use emit_core::{NoChains, emit_iptables};
 use host_net::{Hosts, Packet, Services, Verdict};
 use ipt_rules::{Filter, Ruleset};
 use net_core::Policy;
@@ -74,9 +74,8 @@ fn rules_of(
         policy.stateful(),
     ) {
         Ok(rules) => Ok(rules),
-        Err(EmitRefusal::TooManyRules { .. }) => unreachable!(),
-        Err(EmitRefusal::RangeOfPorts { .. }) => unreachable!(),
-        Err(EmitRefusal::Memory) => Err(AllocError),
+        Err(NoChains::TooManyRules { .. }) => unreachable!(),
+        Err(NoChains::Memory) => Err(AllocError),
     }
 }
 

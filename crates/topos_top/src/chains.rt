@@ -11,7 +11,7 @@ use crate::answer::Answer;
 use crate::hindrance::rules_line;
 use crate::text::Text;
 use desc_core::Description;
-use emit_core::{EmitRefusal, emit_iptables};
+use emit_core::{NoChains, emit_iptables};
 use net_core::Policy;
 use std::alloc::{AllocError, Global};
 
@@ -36,10 +36,9 @@ pub fn answer<'a>(
         policy.stateful(),
     ) {
         Ok(rules) => Ok(Answer::done(Text::Rules(rules))),
-        Err(EmitRefusal::RangeOfPorts { .. }) => unreachable!(),
-        Err(EmitRefusal::TooManyRules { count }) => {
+        Err(NoChains::TooManyRules { count }) => {
             Ok(Answer::not_emittable(rules_line(alloc, count)?))
         }
-        Err(EmitRefusal::Memory) => Err(AllocError),
+        Err(NoChains::Memory) => Err(AllocError),
     }
 }

@@ -11,7 +11,7 @@ use crate::answer::Answer;
 use crate::hindrance::{answers_line, flows_line, ports_line};
 use crate::text::Text;
 use desc_core::Description;
-use emit_core::{EmitRefusal, emit_openflow, needs_state};
+use emit_core::{NoTable, emit_openflow, needs_state};
 use net_core::Policy;
 use std::alloc::{AllocError, Global};
 
@@ -36,13 +36,13 @@ pub fn answer<'a>(
     let permitted = policy.permitted();
     match emit_openflow(alloc, hosts, services, permitted) {
         Ok(table) => Ok(Answer::done(Text::Table(table))),
-        Err(EmitRefusal::RangeOfPorts { flow }) => {
+        Err(NoTable::RangeOfPorts { flow }) => {
             let line = ports_line(alloc, hosts, permitted, flow)?;
             Ok(Answer::not_emittable(line))
         }
-        Err(EmitRefusal::TooManyRules { count }) => {
+        Err(NoTable::TooManyEntries { count }) => {
             Ok(Answer::not_emittable(flows_line(alloc, count)?))
         }
-        Err(EmitRefusal::Memory) => Err(AllocError),
+        Err(NoTable::Memory) => Err(AllocError),
     }
 }

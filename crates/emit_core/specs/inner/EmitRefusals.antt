@@ -4,21 +4,22 @@ use Rattle.host_net.specs.Site.{Site}
 use Rattle.flow_set.specs.declared.flow.Flow.{Flow}
 use Rattle.ipt_rules.specs.ChainTable.{rule_count}
 use Rattle.ofp_rules.specs.Ambiguity.{most_entries}
-use Rattle.emit_core.specs.declared.refusal.EmitRefusal.{EmitRefusal}
-use Rattle.emit_core.specs.declared.refusal.EmitRefusal.TheVariants.{RangeOfPorts, TooManyRules, Memory}
+use Rattle.emit_core.specs.declared.refusal.NoChains.{NoChains}
+use Rattle.emit_core.specs.declared.refusal.NoChains.TheVariants.{TooManyRules, Memory}
+use Rattle.emit_core.specs.declared.refusal.NoTable.{NoTable}
+use Rattle.emit_core.specs.declared.refusal.NoTable.TheVariants.{RangeOfPorts, TooManyEntries, Memory as NoMemory}
 use Rattle.emit_core.specs.FlowTable.{flow_entries}
 use Rattle.emit_core.specs.Layout.{layout}
 use Rattle.emit_core.specs.PortRanges.{HasNoRange, IsFirstRange}
 use Rattle.emit_core.specs.EmitRefusals.{rule_limit}
 
 -- why there are no chains: they have too many rules, or there is no memory
-abbrev pub HasNoChains : Site → List Flow → List Flow → EmitRefusal → Type 0
-HasNoChains site p s (RangeOfPorts flow) = ⊥
+abbrev pub HasNoChains : Site → List Flow → List Flow → NoChains → Type 0
 HasNoChains site p s (TooManyRules count) = (rule_limit < rule_count (layout site p s)) × (count ≡ rule_count (layout site p s))
 HasNoChains site p s Memory = Unit {0}
 
 -- why there is no table: a permitted flow has a range of ports; where none has, there are too many entries; or there is no memory
-abbrev pub HasNoTable : Site → List Flow → EmitRefusal → Type 0
+abbrev pub HasNoTable : Site → List Flow → NoTable → Type 0
 HasNoTable site p (RangeOfPorts flow) = IsFirstRange site.services p flow
-HasNoTable site p (TooManyRules count) = HasNoRange site.services p × (most_entries < length (flow_entries site p)) × (count ≡ length (flow_entries site p))
-HasNoTable site p Memory = Unit {0}
+HasNoTable site p (TooManyEntries count) = HasNoRange site.services p × (most_entries < length (flow_entries site p)) × (count ≡ length (flow_entries site p))
+HasNoTable site p NoMemory = Unit {0}

@@ -1,7 +1,7 @@
 use Rattle.std.proofs.Common.{arith}
 use Rattle.emit_core.specs.inner.EmitRefusals.{HasNoChains}
 use Rattle.emit_core.proofs.UnnarrowedSizeLaws.{few_rules-unnarrowed}
-use Rattle.emit_core.specs.declared.refusal.EmitRefusal.TheVariants.{TooManyRules}
+use Rattle.emit_core.specs.declared.refusal.NoChains.TheVariants.{TooManyRules}
 use Rattle.host_net.specs.inner.Site.{unnarrowed}
 use Rattle.sample_core.proofs.run.rules_of.Goals as goal
 

@@ -2,7 +2,7 @@ use Rattle.std.proofs.Common.{ℕ, ◌++◌, ◌∙◌, ap, codes, decimal}
 use Rattle.topos_top.specs.Reply.{not_emittable}
 use Rattle.topos_top.specs.declared.dialect.Dialect.TheVariants.{Iptables}
 use Rattle.emit_core.specs.inner.EmitRefusals.{HasNoChains}
-use Rattle.emit_core.specs.declared.refusal.EmitRefusal.TheVariants as refusal
+use Rattle.emit_core.specs.declared.refusal.NoChains.TheVariants as refusal
 use Rattle.net_core.specs.Network.{site_of}
 use Rattle.topos_top.proofs.RulesLaws.{ends_hindered}
 use Rattle.topos_top.proofs.chains.answer.Goals as goal

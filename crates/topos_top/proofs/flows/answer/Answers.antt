@@ -6,7 +6,7 @@ use Rattle.topos_top.specs.declared.dialect.Dialect.TheVariants.{OpenFlow}
 use Rattle.ofp_rules.specs.Text.{text as table_text}
 use Rattle.ofp_rules.specs.declared.entry.Entry.{Entry}
 use Rattle.emit_core.specs.inner.EmitRefusals.{HasNoTable}
-use Rattle.emit_core.specs.declared.refusal.EmitRefusal.TheVariants as refusal
+use Rattle.emit_core.specs.declared.refusal.NoTable.TheVariants as refusal
 use Rattle.net_core.specs.Network.{site_of}
 use Rattle.topos_top.specs.Dialects.{NeedsState, RangeOfPorts, TooManyFlows}
 use Rattle.topos_top.proofs.RulesLaws.{ends_hindered}
@@ -31,15 +31,15 @@ returns-in_ok-line-in-Err-RangeOfPorts c =
       so = RangeOfPorts flow covered ranged (rw c.hosts-hosts.ensures.value at c.in_ok-line-in-Err-RangeOfPorts.ensures);
     })
 
-pub returns-in_ok-flows_line-in-Err-TooManyRules : goal.returns-in_ok-flows_line-in-Err-TooManyRules
-returns-in_ok-flows_line-in-Err-TooManyRules c =
-    let count = c.in-Err-TooManyRules.count in
+pub returns-in_ok-flows_line-in-Err-TooManyEntries : goal.returns-in_ok-flows_line-in-Err-TooManyEntries
+returns-in_ok-flows_line-in-Err-TooManyEntries c =
+    let count = c.in-Err-TooManyEntries.count in
     let d = c.args.description.now in
     let covered = rw (c.services-services.ensures.value, c.permitted.ensures.value, c.stateful.ensures.value) at c.in_default.ensures.barred in
-    let many : HasNoTable (site_of d) c.args.policy.now.permitted.flows (refusal.TooManyRules count) =
-    rw (c.hosts-hosts.ensures.value, c.services-services.ensures.value, c.permitted-permitted.ensures.value, c.in-Err-TooManyRules.field-0-is) at c.in-Err-TooManyRules.ensures.refused in
-    let line = c.in_ok-flows_line-in-Err-TooManyRules.ensures ∙ ap (λ (n : ℕ). not_emittable (decimal n ++ codes " flows exceed 8192\n")) many.2 in
-    ends_hindered OpenFlow d _ _ c.not_emittable-in-Err-TooManyRules.ensures
+    let many : HasNoTable (site_of d) c.args.policy.now.permitted.flows (refusal.TooManyEntries count) =
+    rw (c.hosts-hosts.ensures.value, c.services-services.ensures.value, c.permitted-permitted.ensures.value, c.in-Err-TooManyEntries.field-0-is) at c.in-Err-TooManyEntries.ensures.refused in
+    let line = c.in_ok-flows_line-in-Err-TooManyEntries.ensures ∙ ap (λ (n : ℕ). not_emittable (decimal n ++ codes " flows exceed 8192\n")) many.2 in
+    ends_hindered OpenFlow d _ _ c.not_emittable-in-Err-TooManyEntries.ensures
     (record { policy = c.args.policy.now; is_policy = c.requires.policy; so = TooManyFlows covered many.0 many.1 line })
 
 pub returns-in-Ok : goal.returns-in-Ok
