@@ -1,6 +1,6 @@
 //! Which flows have answers that only a firewall with connections can let pass.
 
-ghost use Rattle.std.specs.Prelude.{◌≡◌, ◌<◌, ◌&&◌, ◌||◌, not, IfSome, MatchOption};
+ghost use Rattle.std.specs.Prelude.{◌≡◌, ◌<◌, ◌&&◌, ◌||◌, not, length, IfSome, MatchOption};
 ghost use Rattle.std.specs.List.{list_all};
 ghost use Rattle.host_net.specs.Service.{is_whole};
 ghost use Rattle.flow_set.specs.Flow.{IsFlow};
@@ -10,9 +10,19 @@ ghost use Rattle.emit_core.specs.inner.FlowTableRefusals.{lacks_answer};
 use crate::narrowing::{has_all_ports, is_whole};
 use flow_set::{Flow, FlowSet};
 use host_net::{Service, Services};
+use pkt_core::FlowPolicy;
 
-/// The first flow of `s` whose answers are not all of a flow in `p`, or None where those of each are.
-pub fn needs_state(services: &Services, p: &FlowSet, s: &FlowSet) -> Option<Flow>
+/// The first stateful flow whose answers are not all of a permitted flow, or None where those of each
+/// are.
+pub fn needs_state(policy: &FlowPolicy<'_>) -> Option<Flow>
+    ensures barred { MatchOption result (AnswersAreCovered policy.now.site.services policy.now.permitted policy.now.stateful)
+        (IsFirstBarred policy.now.site.services policy.now.permitted policy.now.stateful) }
+    ensures within { IfSome result (λ flow. (flow.from < length policy.now.site.hosts) × (flow.to < length policy.now.site.hosts)) }
+{
+    first_barred(policy.services(), policy.permitted(), policy.stateful())
+}
+
+fn first_barred(services: &Services, p: &FlowSet, s: &FlowSet) -> Option<Flow>
     requires { s.now.size ≡ p.now.size }
     ensures barred { MatchOption result (AnswersAreCovered services.now p.now.flows s.now.flows) (IsFirstBarred services.now p.now.flows s.now.flows) }
     ensures within { IfSome result (λ flow. (flow.from < s.now.size) × (flow.to < s.now.size)) }

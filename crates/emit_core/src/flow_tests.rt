@@ -8,6 +8,7 @@ use crate::{NoTable, emit_openflow};
 use flow_set::{Flow, FlowSet};
 use host_net::{Hosts, Packet, Prefix, Services, Verdict, read_service};
 use ofp_rules::{Frame, Table};
+use pkt_core::FlowPolicy;
 use std::alloc::Global;
 
 // The network at an address of 10.0.0.0/8.
@@ -58,7 +59,7 @@ fn flows(alloc: Global, hosts: &Hosts, flow: Option<Flow>) -> Option<FlowSet>
 fn table(alloc: Global, count: u32, flow: Option<Flow>) -> Option<Result<Table, NoTable>> {
     let hosts = network(alloc, count)?;
     let p = flows(alloc, &hosts, flow)?;
-    Some(emit_openflow(alloc, &hosts, &Services::new(alloc), &p))
+    written(alloc, &hosts, &Services::new(alloc), &p)
 }
 
 // The hosts 10.0.0.1 and 10.0.0.2, and maybe the rest host.
@@ -78,7 +79,21 @@ fn narrowed(alloc: Global, service: &[u8], with_rest: bool) -> Option<Result<Tab
     let p = flows(alloc, &hosts, Some(Flow { from: 0, to: 1 }))?;
     let mut services = Services::new(alloc);
     services.add(0, 1, read_service(service)?).ok()?;
-    Some(emit_openflow(alloc, &hosts, &services, &p))
+    written(alloc, &hosts, &services, &p)
+}
+
+// The table of these flows, whose answers may pass.
+fn written(
+    alloc: Global,
+    hosts: &Hosts,
+    services: &Services,
+    p: &FlowSet,
+) -> Option<Result<Table, NoTable>>
+    requires { p.now.size ≡ length hosts.now }
+{
+    let answered = p.copy(alloc).ok()?;
+    let policy = FlowPolicy::new(hosts, services, p, &answered);
+    Some(emit_openflow(alloc, &policy))
 }
 
 fn text_of(alloc: Global, table: &Table) -> Option<Vec<u8>> {

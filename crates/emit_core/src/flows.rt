@@ -2,26 +2,29 @@
 
 ghost use Rattle.std.specs.Prelude.{◌≡◌, ◌<◌, length, OnOk, if◌then◌else◌, []};
 ghost use Rattle.host_net.specs.Service.{is_whole};
-ghost use Rattle.host_net.specs.Site.{site_with};
 ghost use Rattle.emit_core.specs.FlowTable.{between, from_host, from_prefix, host_pair, pair_entries, rest_drop};
 ghost use Rattle.emit_core.specs.inner.KeptEntries.{with_entries};
 
 use crate::entries::Entries;
 use crate::flow_entry::{push_rest_drop, push_services};
-use crate::flow_policy::{FlowPolicy, PolicyFlow};
 use crate::narrowing::is_whole;
+use crate::policy_flow::PolicyFlow;
 use host_net::{Prefix, Service};
+use pkt_core::FlowPolicy;
 use std::alloc::AllocError;
 
 /// The entries from each host to each host.
 #[tactic(auto, using(crate::proofs::HostSteps::for_each_all))]
-pub(crate) fn push_between(entries: &mut Entries, policy: &FlowPolicy<'_>) -> Result<(), AllocError>
+pub(crate) fn push_between(
+    entries: &mut Entries,
+    policy: &FlowPolicy<'_>,
+    rest: Option<u16>,
+) -> Result<(), AllocError>
     ensures { OnOk result (entries.new ≡ with_entries entries.old
-        (between (site_with policy.now.hosts.now policy.now.services.now)
-        policy.now.permitted.now.flows policy.now.rest)) }
+        (between policy.now.site policy.now.permitted rest)) }
 {
-    for from in 0..policy.hosts.count() {
-        push_from_host(entries, policy, from, policy.hosts.prefixes(from))?;
+    for from in 0..policy.count() {
+        push_from_host(entries, policy, rest, from, policy.prefixes(from))?;
     }
     Ok(())
 }
@@ -30,23 +33,17 @@ pub(crate) fn push_between(entries: &mut Entries, policy: &FlowPolicy<'_>) -> Re
 fn push_from_host(
     entries: &mut Entries,
     policy: &FlowPolicy<'_>,
+    rest: Option<u16>,
     from: u16,
     sources: &[Prefix],
 ) -> Result<(), AllocError>
-    requires { from < length policy.now.hosts.now }
+    requires { from < length policy.now.site.hosts }
     ensures { OnOk result (entries.new ≡ with_entries entries.old
-        (from_host (site_with policy.now.hosts.now policy.now.services.now)
-        policy.now.permitted.now.flows policy.now.rest from sources.now)) }
+        (from_host policy.now.site policy.now.permitted rest from sources.now)) }
 {
-    for to in 0..policy.hosts.count() {
-        let flow = policy.flow(from, to);
-        push_host_pair(
-            entries,
-            &flow,
-            policy.rest,
-            sources,
-            policy.hosts.prefixes(to),
-        )?;
+    for to in 0..policy.count() {
+        let flow = PolicyFlow::of(policy, from, to);
+        push_host_pair(entries, &flow, rest, sources, policy.prefixes(to))?;
     }
     Ok(())
 }

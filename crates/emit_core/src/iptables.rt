@@ -2,11 +2,10 @@
 
 ghost use Rattle.std.specs.Prelude.{◌≡◌, ◌+◌, ◌<◌, ◌≤◌, ◌^◌, ◌∷◌, [], ◌++◌, None, length, IfOk, IfErr, OnOk, IsNone, IsTrue};
 ghost use Rattle.std.specs.List.{list_all};
-ghost use Rattle.flow_set.specs.FlowSet.{IsSubset};
 ghost use Rattle.host_net.specs.inner.Hosts.{IsHosts};
-ghost use Rattle.host_net.specs.Site.{site_with};
 ghost use Rattle.host_net.specs.inner.Site.{IsSite};
 ghost use Rattle.pkt_core.specs.Filter.{Enforces, ForwardsExpected};
+ghost use Rattle.pkt_core.specs.inner.FlowPolicy.{IsFlowPolicy};
 ghost use Rattle.ipt_rules.specs.Chain.{number_of};
 ghost use Rattle.ipt_rules.specs.ChainTable.{rule_count};
 ghost use Rattle.ipt_rules.specs.Meaning.{Passes};
@@ -21,39 +20,29 @@ use crate::forward::forward_rules;
 use crate::host_chain::host_rules;
 use crate::refusal::NoChains;
 use crate::side::Side;
-use flow_set::FlowSet;
-use host_net::{Hosts, Services};
+use host_net::Hosts;
 use ipt_rules::{ChainName, Chains, FORWARD, Policy, Rule, Ruleset};
+use pkt_core::FlowPolicy;
 use std::alloc::{AllocError, Global};
 
 /// How many rules the chains of a layout may have.
 const RULE_LIMIT: u32 = 600_000;
 
-/// The rules of a policy: the flows of `p` are permitted, each narrowed to its services where it
-/// has some, and the answers of the flows of `s`, which are some of them, pass where their
+/// The rules of a policy: permitted flows pass, and the answers of stateful ones where their
 /// connection is established.
-pub fn emit_iptables(
-    alloc: Global,
-    hosts: &Hosts,
-    services: &Services,
-    p: &FlowSet,
-    s: &FlowSet,
-) -> Result<Ruleset, NoChains>
-    requires permitted { p.now.size ≡ length hosts.now }
-    requires stateful { s.now.size ≡ length hosts.now }
-    requires subset { IsSubset s.now.flows p.now.flows }
-    ensures layout { IfOk result (λ rules. rules ≡ layout (site_with hosts.now services.now) p.now.flows s.now.flows) }
-    ensures few { OnOk result (rule_count (layout (site_with hosts.now services.now) p.now.flows s.now.flows) ≤ rule_limit) }
-    ensures refused { IfErr result (HasNoChains (site_with hosts.now services.now) p.now.flows s.now.flows) }
+pub fn emit_iptables(alloc: Global, policy: &FlowPolicy<'_>) -> Result<Ruleset, NoChains>
+    ensures layout { IfOk result (λ rules. rules ≡ layout policy.now.site policy.now.permitted policy.now.stateful) }
+    ensures few { OnOk result (rule_count (layout policy.now.site policy.now.permitted policy.now.stateful) ≤ rule_limit) }
+    ensures refused { IfErr result (HasNoChains policy.now.site policy.now.permitted policy.now.stateful) }
 
     // Each packet has a verdict, and it is forwarded exactly where the policy lets it pass.
-    ensures enforces { IfOk result (λ rules. Enforces (Passes rules) (site_with hosts.now services.now) p.now.flows s.now.flows) }
+    ensures enforces { IfOk result (λ rules. Enforces (Passes rules) policy.now.site policy.now.permitted policy.now.stateful) }
 
     // Over every list of packets and forgettings, a packet is forwarded exactly where the policy
     // and its answers expect it.
-    ensures expected { IfOk result (λ rules. ForwardsExpected (Passes rules) (site_with hosts.now services.now) p.now.flows s.now.flows) }
+    ensures expected { IfOk result (λ rules. ForwardsExpected (Passes rules) policy.now.site policy.now.permitted policy.now.stateful) }
 {
-    let Ok(Layout { chains, count }) = layout_of(alloc, hosts, services, p, s) else {
+    let Ok(Layout { chains, count }) = layout_of(alloc, policy) else {
         return Err(NoChains::Memory);
     };
     if count > RULE_LIMIT {
@@ -73,24 +62,14 @@ struct Layout {
     count: u32,
 }
 
-fn layout_of(
-    alloc: Global,
-    hosts: &Hosts,
-    services: &Services,
-    p: &FlowSet,
-    s: &FlowSet,
-) -> Result<Layout, AllocError>
-    requires permitted { p.now.size ≡ length hosts.now }
-    requires stateful { s.now.size ≡ length hosts.now }
+fn layout_of(alloc: Global, policy: &FlowPolicy<'_>) -> Result<Layout, AllocError>
     ensures counted { IfOk result (λ made. AreCounted
-        (layout (site_with hosts.now services.now) p.now.flows s.now.flows) made.chains made.count) }
-    ensures site { OnOk result (IsSite (site_with hosts.now services.now)) }
+        (layout policy.now.site policy.now.permitted policy.now.stateful) made.chains made.count) }
+    ensures policy { OnOk result (IsFlowPolicy policy.now) }
 {
-    // What holds of services at all times is known by looking at them.
-    let _services = services.of(0, 0);
-    let mut made = entry_layout(alloc, hosts)?;
-    for host in 0..hosts.count() {
-        add_host_chain(alloc, &mut made, hosts, services, p, s, host)?;
+    let mut made = entry_layout(alloc, policy.hosts())?;
+    for host in 0..policy.count() {
+        add_host_chain(alloc, &mut made, policy, host)?;
     }
     Ok(made)
 }
@@ -115,22 +94,17 @@ fn entry_layout(alloc: Global, hosts: &Hosts) -> Result<Layout, AllocError>
 fn add_host_chain(
     alloc: Global,
     made: &mut Layout,
-    hosts: &Hosts,
-    services: &Services,
-    p: &FlowSet,
-    s: &FlowSet,
+    policy: &FlowPolicy<'_>,
     host: u16,
 ) -> Result<(), AllocError>
-    requires permitted { p.now.size ≡ length hosts.now }
-    requires stateful { s.now.size ≡ length hosts.now }
-    requires there { host < length hosts.now }
-    requires site { IsSite (site_with hosts.now services.now) }
-    requires before { AreCounted (chains_up_to (site_with hosts.now services.now) p.now.flows
-        s.now.flows host) made.old.chains made.old.count }
-    ensures { OnOk result (AreCounted (chains_up_to (site_with hosts.now services.now) p.now.flows
-        s.now.flows (host + 1)) made.new.chains made.new.count) }
+    requires there { host < length policy.now.site.hosts }
+    requires site { IsSite policy.now.site }
+    requires before { AreCounted (chains_up_to policy.now.site policy.now.permitted
+        policy.now.stateful host) made.old.chains made.old.count }
+    ensures { OnOk result (AreCounted (chains_up_to policy.now.site policy.now.permitted
+        policy.now.stateful (host + 1)) made.new.chains made.new.count) }
 {
-    let rules = host_rules(alloc, hosts, services, p, s, Side::Sending, host)?;
+    let rules = host_rules(alloc, policy, Side::Sending, host)?;
     made.count += rules.len() as u32;
     if made.count > RULE_LIMIT {
         return Ok(());

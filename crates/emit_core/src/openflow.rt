@@ -1,7 +1,6 @@
 //! The flow table of a policy, put together.
 
 ghost use Rattle.std.specs.Prelude.{◌≡◌, List, [], ◌≤◌, length, IfOk, IfErr, OnOk};
-ghost use Rattle.host_net.specs.Site.{site_with};
 ghost use Rattle.flow_set.specs.declared.flow.Flow.{Flow};
 ghost use Rattle.pkt_core.specs.Filter.{Enforces, ForwardsExpected};
 ghost use Rattle.ofp_rules.specs.Ambiguity.{most_entries};
@@ -15,53 +14,38 @@ ghost use Rattle.emit_core.specs.PortRanges.{HasNoRange};
 
 use crate::entries::{ENTRY_LIMIT, Entries};
 use crate::flow_entry::{arp_entry, other_entry};
-use crate::flow_policy::FlowPolicy;
 use crate::flows::push_between;
 use crate::ranges::first_range;
 use crate::refusal::NoTable;
 use crate::rest_flows::push_with_rest;
-use flow_set::FlowSet;
-use host_net::{Hosts, Services};
 use ofp_rules::{Table, TableRefusal};
+use pkt_core::FlowPolicy;
 use std::alloc::{AllocError, Global};
 
-/// The flow table of a policy: the flows of `p` are permitted, each narrowed to its services where
-/// it has some, and answers to them only where they are of flows of `p` themselves, since a table
-/// keeps no connections.
-pub fn emit_openflow(
-    alloc: Global,
-    hosts: &Hosts,
-    services: &Services,
-    p: &FlowSet,
-) -> Result<Table, NoTable>
-    requires { p.now.size ≡ length hosts.now }
-    ensures layout { IfOk result (λ table. table ≡ flow_entries (site_with hosts.now services.now) p.now.flows) }
-    ensures ports { OnOk result (HasNoRange services.now p.now.flows) }
-    ensures few { OnOk result (length (flow_entries (site_with hosts.now services.now) p.now.flows) ≤ most_entries) }
-    ensures refused { IfErr result (HasNoTable (site_with hosts.now services.now) p.now.flows) }
+/// The flow table of a policy: permitted flows pass, and answers to them only where they are of
+/// permitted flows themselves, since a table keeps no connections.
+pub fn emit_openflow(alloc: Global, policy: &FlowPolicy<'_>) -> Result<Table, NoTable>
+    ensures layout { IfOk result (λ table. table ≡ flow_entries policy.now.site policy.now.permitted) }
+    ensures ports { OnOk result (HasNoRange policy.now.site.services policy.now.permitted) }
+    ensures few { OnOk result (length (flow_entries policy.now.site policy.now.permitted) ≤ most_entries) }
+    ensures refused { IfErr result (HasNoTable policy.now.site policy.now.permitted) }
 
     // IPv4 frames are forwarded exactly where their packet is of a flow in p, whatever the state of
     // its connection; of other frames ARP alone is.
-    ensures enforces { IfOk result (λ table. Enforces (Passes table) (site_with hosts.now services.now) p.now.flows []) }
+    ensures enforces { IfOk result (λ table. Enforces (Passes table) policy.now.site policy.now.permitted []) }
     ensures others { IfOk result (λ table. ForwardsArpAlone table) }
 
     // So where the answers of each stateful flow are covered, packets are forwarded exactly as
     // expected, over every list of packets and forgettings.
-    ensures expected { IfOk result (λ table. (s : List Flow) → AnswersAreCovered services.now p.now.flows s
-        → ForwardsExpected (Passes table) (site_with hosts.now services.now) p.now.flows s) }
+    ensures expected { IfOk result (λ table. (s : List Flow) → AnswersAreCovered policy.now.site.services policy.now.permitted s
+        → ForwardsExpected (Passes table) policy.now.site policy.now.permitted s) }
 {
-    if let Some(flow) = first_range(services, p) {
+    // What holds of policies at all times is known by looking at them.
+    let _count = policy.count();
+    if let Some(flow) = first_range(policy) {
         return Err(NoTable::RangeOfPorts { flow });
     }
-    // What holds of hosts at all times is known by looking at them.
-    let _count = hosts.count();
-    let policy = FlowPolicy {
-        hosts,
-        services,
-        permitted: p,
-        rest: hosts.rest(),
-    };
-    let Ok(entries) = entries_of(alloc, &policy) else {
+    let Ok(entries) = entries_of(alloc, policy) else {
         return Err(NoTable::Memory);
     };
     let count = entries.count();
@@ -86,12 +70,12 @@ fn out_of_memory(why: TableRefusal) -> NoTable
 }
 
 fn entries_of(alloc: Global, policy: &FlowPolicy<'_>) -> Result<Entries, AllocError>
-    ensures { IfOk result (AreCounted (flow_entries
-        (site_with policy.now.hosts.now policy.now.services.now) policy.now.permitted.now.flows)) }
+    ensures { IfOk result (AreCounted (flow_entries policy.now.site policy.now.permitted)) }
 {
+    let rest = policy.rest();
     let mut entries = Entries::new(alloc);
-    push_between(&mut entries, policy)?;
-    push_with_rest(&mut entries, policy)?;
+    push_between(&mut entries, policy, rest)?;
+    push_with_rest(&mut entries, policy, rest)?;
     entries.push(arp_entry())?;
     entries.push(other_entry())?;
     Ok(entries)

@@ -2,22 +2,23 @@
 
 ghost use Rattle.std.specs.Prelude.{◌≡◌, MatchOption};
 ghost use Rattle.std.specs.List.{list_any};
-ghost use Rattle.host_net.specs.inner.Services.{AreServices};
 ghost use Rattle.emit_core.specs.PortRanges.{HasNoRange, IsFirstRange, has_range, is_range};
 
 use crate::narrowing::has_all_ports;
-use flow_set::{Flow, FlowSet};
+use flow_set::Flow;
 use host_net::{Service, Services};
+use pkt_core::FlowPolicy;
 
-/// The first flow of `p` that is narrowed to a range of ports, or None where none is.
-pub(crate) fn first_range(services: &Services, p: &FlowSet) -> Option<Flow>
-    ensures first { MatchOption result (HasNoRange services.now p.now.flows) (IsFirstRange services.now p.now.flows) }
-    ensures services { AreServices services.now }
+/// The first permitted flow that is narrowed to a range of ports, or None where none is.
+pub(crate) fn first_range(policy: &FlowPolicy<'_>) -> Option<Flow>
+    ensures { MatchOption result (HasNoRange policy.now.site.services policy.now.permitted)
+        (IsFirstRange policy.now.site.services policy.now.permitted) }
 {
+    let services = policy.services();
     if services.is_empty() {
         return None;
     }
-    for flow in p.iter() {
+    for flow in policy.permitted().iter() {
         if has_range(services, flow) {
             return Some(flow);
         }

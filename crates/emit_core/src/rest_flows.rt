@@ -2,14 +2,15 @@
 
 ghost use Rattle.std.specs.Prelude.{◌≡◌, ◌<◌, length, OnOk};
 ghost use Rattle.std.specs.Option.{ForSome};
-ghost use Rattle.host_net.specs.Site.{site_with};
+ghost use Rattle.host_net.specs.Host.{rest_of};
 ghost use Rattle.emit_core.specs.FlowTable.{from_rest, from_rest_host, to_rest, to_rest_host, with_rest};
 ghost use Rattle.emit_core.specs.inner.KeptEntries.{with_entries};
 
 use crate::entries::Entries;
 use crate::flow_entry::push_services;
-use crate::flow_policy::{FlowPolicy, PolicyFlow};
+use crate::policy_flow::PolicyFlow;
 use host_net::Prefix;
+use pkt_core::FlowPolicy;
 use std::alloc::AllocError;
 
 /// The entries to and from the rest host, where there is one.
@@ -17,30 +18,30 @@ use std::alloc::AllocError;
 pub(crate) fn push_with_rest(
     entries: &mut Entries,
     policy: &FlowPolicy<'_>,
+    rest: Option<u16>,
 ) -> Result<(), AllocError>
+    requires { rest ≡ rest_of policy.now.site.hosts }
     ensures { OnOk result (entries.new ≡ with_entries entries.old
-        (with_rest (site_with policy.now.hosts.now policy.now.services.now)
-        policy.now.permitted.now.flows policy.now.rest)) }
+        (with_rest policy.now.site policy.now.permitted rest)) }
 {
-    if let Some(rest) = policy.rest {
-        push_to_rest(entries, policy, rest)?;
-        push_from_rest(entries, policy, rest)?;
+    if let Some(host) = rest {
+        push_to_rest(entries, policy, host)?;
+        push_from_rest(entries, policy, host)?;
     }
     Ok(())
 }
 
 #[tactic(auto, using(crate::proofs::HostSteps::for_each_all))]
 fn push_to_rest(entries: &mut Entries, policy: &FlowPolicy<'_>, rest: u16) -> Result<(), AllocError>
-    requires { rest < length policy.now.hosts.now }
+    requires { rest < length policy.now.site.hosts }
     ensures { OnOk result (entries.new ≡ with_entries entries.old
-        (to_rest (site_with policy.now.hosts.now policy.now.services.now)
-        policy.now.permitted.now.flows rest)) }
+        (to_rest policy.now.site policy.now.permitted rest)) }
 {
-    for from in 0..policy.hosts.count() {
+    for from in 0..policy.count() {
         push_sources(
             entries,
-            &policy.flow(from, rest),
-            policy.hosts.prefixes(from),
+            &PolicyFlow::of(policy, from, rest),
+            policy.prefixes(from),
         )?;
     }
     Ok(())
@@ -52,13 +53,16 @@ fn push_from_rest(
     policy: &FlowPolicy<'_>,
     rest: u16,
 ) -> Result<(), AllocError>
-    requires { rest < length policy.now.hosts.now }
+    requires { rest < length policy.now.site.hosts }
     ensures { OnOk result (entries.new ≡ with_entries entries.old
-        (from_rest (site_with policy.now.hosts.now policy.now.services.now)
-        policy.now.permitted.now.flows rest)) }
+        (from_rest policy.now.site policy.now.permitted rest)) }
 {
-    for to in 0..policy.hosts.count() {
-        push_destinations(entries, &policy.flow(rest, to), policy.hosts.prefixes(to))?;
+    for to in 0..policy.count() {
+        push_destinations(
+            entries,
+            &PolicyFlow::of(policy, rest, to),
+            policy.prefixes(to),
+        )?;
     }
     Ok(())
 }

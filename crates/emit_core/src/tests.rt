@@ -8,6 +8,7 @@ use crate::emit_iptables;
 use flow_set::{Flow, FlowSet};
 use host_net::{Hosts, SERVICE_LIMIT, Service, Services, read_prefix, read_service};
 use ipt_rules::Ruleset;
+use pkt_core::FlowPolicy;
 use std::alloc::Global;
 
 // Adds a host with one prefix, or the rest host where the text is none.
@@ -93,7 +94,8 @@ fn text(
     let services = narrowed(alloc, flow, texts)?;
     let p = one_flow(alloc, &hosts, flow)?;
     let s = stateful(alloc, &p, answers)?;
-    let rules = emit_iptables(alloc, &hosts, &services, &p, &s).ok()?;
+    let policy = FlowPolicy::new(&hosts, &services, &p, &s);
+    let rules = emit_iptables(alloc, &policy).ok()?;
     text_of(alloc, &rules)
 }
 

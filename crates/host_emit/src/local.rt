@@ -2,51 +2,38 @@
 
 ghost use Rattle.std.specs.Prelude.{◌≡◌, ◌<◌, ◌++◌, [], length, IfOk, OnOk, IsTrue};
 ghost use Rattle.std.specs.List.{flat_map};
-ghost use Rattle.flow_set.specs.FlowSet.{IsSubset};
-ghost use Rattle.host_net.specs.Site.{site_with};
-ghost use Rattle.host_net.specs.inner.Site.{IsSite};
+ghost use Rattle.pkt_core.specs.inner.FlowPolicy.{IsFlowPolicy};
 ghost use Rattle.host_emit.specs.Guarding.{Guards};
 ghost use Rattle.host_emit.specs.LocalEvents.{PassesExpected};
 ghost use Rattle.host_emit.specs.inner.LocalFilling.{AreChainRules, dropping_chains};
 ghost use Rattle.host_emit.specs.LocalLayout.{chain_for, entry_rules, is_specific, local_layout, loopback, loopback_rule, machine_chains, own_jump};
 
 use emit_core::{Side, at_other, build_accepted, fill, host_rules, in_prefix};
-use flow_set::FlowSet;
-use host_net::{Hosts, Prefix, Services};
+use host_net::{Hosts, Prefix};
 use ipt_rules::{ChainName, Chains, FORWARD, INPUT, OUTPUT, Policy, Rule, Ruleset, Target};
+use pkt_core::FlowPolicy;
 use std::alloc::{AllocError, Global};
 
 /// 127.0.0.0.
 const LOOPBACK: u32 = 0x7f000000;
 
-/// The rules for the machines of one specific host, by a policy: the flows of `p` are permitted, each
-/// narrowed to its services where it has some, and the answers of the flows of `s`, which are some of
-/// them, pass where their connection is established.
-pub fn emit_local(
-    alloc: Global,
-    hosts: &Hosts,
-    services: &Services,
-    p: &FlowSet,
-    s: &FlowSet,
-    host: u16,
-) -> Result<Ruleset, AllocError>
-    requires permitted { p.now.size ≡ length hosts.now }
-    requires stateful { s.now.size ≡ length hosts.now }
-    requires subset { IsSubset s.now.flows p.now.flows }
-    requires there { host < length hosts.now }
-    requires specific { IsTrue (is_specific hosts.now host) }
-    ensures layout { IfOk result (λ rules. rules ≡ local_layout (site_with hosts.now services.now) p.now.flows s.now.flows host) }
+/// The rules for the machines of one specific host, by a policy: permitted flows pass, and the answers
+/// of stateful ones where their connection is established.
+pub fn emit_local(alloc: Global, policy: &FlowPolicy<'_>, host: u16) -> Result<Ruleset, AllocError>
+    requires there { host < length policy.now.site.hosts }
+    requires specific { IsTrue (is_specific policy.now.site.hosts host) }
+    ensures layout { IfOk result (λ rules. rules ≡ local_layout policy.now.site policy.now.permitted policy.now.stateful host) }
 
     // Where it sends, and where it receives, each packet of the host's own passes exactly where the
     // policy lets it pass, and no other passes but what a machine says to itself.
-    ensures guards { IfOk result (λ rules. Guards rules (site_with hosts.now services.now) p.now.flows s.now.flows host) }
+    ensures guards { IfOk result (λ rules. Guards rules policy.now.site policy.now.permitted policy.now.stateful host) }
 
     // With the rules of every specific host on its machines, over every list of packets and
     // forgettings, a packet passes exactly where the policy and its answers expect it.
-    ensures passes { OnOk result (PassesExpected (local_layout (site_with hosts.now services.now) p.now.flows s.now.flows)
-        (site_with hosts.now services.now) p.now.flows s.now.flows) }
+    ensures passes { OnOk result (PassesExpected (local_layout policy.now.site policy.now.permitted policy.now.stateful)
+        policy.now.site policy.now.permitted policy.now.stateful) }
 {
-    let chains = local_chains(alloc, hosts, services, p, s, host)?;
+    let chains = local_chains(alloc, policy, host)?;
     build_accepted(alloc, chains)
 }
 
@@ -60,26 +47,17 @@ pub fn is_specific(hosts: &Hosts, host: u16) -> bool
     }
 }
 
-fn local_chains(
-    alloc: Global,
-    hosts: &Hosts,
-    services: &Services,
-    p: &FlowSet,
-    s: &FlowSet,
-    host: u16,
-) -> Result<Chains, AllocError>
-    requires permitted { p.now.size ≡ length hosts.now }
-    requires stateful { s.now.size ≡ length hosts.now }
-    requires there { host < length hosts.now }
-    ensures layout { IfOk result (λ chains. chains ≡ local_layout (site_with hosts.now services.now) p.now.flows s.now.flows host) }
-    ensures site { IsSite (site_with hosts.now services.now) }
+fn local_chains(alloc: Global, policy: &FlowPolicy<'_>, host: u16) -> Result<Chains, AllocError>
+    requires { host < length policy.now.site.hosts }
+    ensures layout { IfOk result (λ chains. chains ≡ local_layout policy.now.site policy.now.permitted policy.now.stateful host) }
+    ensures policy { IsFlowPolicy policy.now }
 {
-    // What holds of hosts and services at all times is known by looking at them.
-    let (_count, _services) = (hosts.count(), services.of(host, host));
-    let input = entry_rules(alloc, Side::Receiving, hosts.prefixes(host))?;
-    let output = entry_rules(alloc, Side::Sending, hosts.prefixes(host))?;
-    let incoming = host_rules(alloc, hosts, services, p, s, Side::Receiving, host)?;
-    let outgoing = host_rules(alloc, hosts, services, p, s, Side::Sending, host)?;
+    // What holds of policies at all times is known by looking at them.
+    let _count = policy.count();
+    let input = entry_rules(alloc, Side::Receiving, policy.prefixes(host))?;
+    let output = entry_rules(alloc, Side::Sending, policy.prefixes(host))?;
+    let incoming = host_rules(alloc, policy, Side::Receiving, host)?;
+    let outgoing = host_rules(alloc, policy, Side::Sending, host)?;
     filled(alloc, &input, &output, &incoming, &outgoing)
 }
 

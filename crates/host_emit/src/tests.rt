@@ -10,7 +10,7 @@ use host_net::{
     Hosts, Packet, SERVICE_LIMIT, Service, Services, Verdict, read_prefix, read_service,
 };
 use ipt_rules::{Filter, INPUT, OUTPUT, Ruleset};
-use pkt_core::Track;
+use pkt_core::{FlowPolicy, Track};
 use std::alloc::{AllocError, Global};
 
 const OF_A: &[u8] = b"*filter
@@ -132,7 +132,8 @@ fn rules_of(
     if host >= hosts.count() || !is_specific(&hosts, host) {
         return None;
     }
-    emit_local(alloc, &hosts, &services, &p, &s, host).ok()
+    let policy = FlowPolicy::new(&hosts, &services, &p, &s);
+    emit_local(alloc, &policy, host).ok()
 }
 
 fn text_of(alloc: Global, rules: &Ruleset) -> Option<Vec<u8>> {

@@ -1,5 +1,6 @@
 pub mod Connections
 pub mod EventSteps
 pub mod FirewallFor
+pub mod FlowPolicy
 pub mod Kept
 pub mod PolicyRuns

@@ -6,6 +6,7 @@
 mod connection;
 mod event;
 mod events;
+mod flow_policy;
 #[cfg(test)]
 mod tests;
 mod track;
@@ -13,4 +14,5 @@ mod track;
 pub use connection::Connection;
 pub use event::Event;
 pub use events::{EVENTS_BYTE_LIMIT, EventFault, EventWhy, read_events};
+pub use flow_policy::FlowPolicy;
 pub use track::Track;

@@ -1,16 +1,14 @@
 //! What the jobs make of a description, in numbers.
 
-ghost use Rattle.std.specs.Prelude.{◌≡◌, IfOk, [], length, option_map};
-ghost use Rattle.host_net.specs.Site.{site_with};
+ghost use Rattle.std.specs.Prelude.{◌≡◌, IfOk, [], option_map};
 ghost use Rattle.sample_core.specs.Sample.{IsTableLines, offence_size};
 ghost use Rattle.sample_core.specs.inner.SampleCounts.{AreOffending};
 
 use desc_core::Description;
 use emit_core::{NoTable, emit_openflow, needs_state};
 use flow_set::FlowSet;
-use host_net::{Hosts, Services};
-use net_core::Policy;
 use permit_core::offending_by_steps;
+use pkt_core::FlowPolicy;
 use std::alloc::{AllocError, Global};
 
 /// The text of the flow table of a policy.
@@ -25,21 +23,14 @@ pub enum TableLines {
 }
 
 /// How many lines the flow table of a policy has, where no flow is narrowed.
-pub(crate) fn table_lines(
-    alloc: Global,
-    hosts: &Hosts,
-    services: &Services,
-    policy: &Policy,
-) -> Result<TableLines, AllocError>
-    requires permitted { policy.now.permitted.size ≡ length hosts.now }
-    requires stateful { policy.now.stateful.size ≡ length hosts.now }
-    requires whole { services.now ≡ [] }
-    ensures { IfOk result (IsTableLines (site_with hosts.now services.now) policy.now.permitted.flows policy.now.stateful.flows) }
+pub(crate) fn table_lines(alloc: Global, policy: &FlowPolicy<'_>) -> Result<TableLines, AllocError>
+    requires whole { policy.now.site.services ≡ [] }
+    ensures { IfOk result (IsTableLines policy.now.site policy.now.permitted policy.now.stateful) }
 {
-    if needs_state(services, policy.permitted(), policy.stateful()).is_some() {
+    if needs_state(policy).is_some() {
         return Ok(TableLines::NeedsState);
     }
-    match emit_openflow(alloc, hosts, services, policy.permitted()) {
+    match emit_openflow(alloc, policy) {
         Ok(table) => Ok(TableLines::Lines(table.lines())),
         Err(NoTable::RangeOfPorts { .. }) => unreachable!(),
         Err(NoTable::TooManyEntries { .. }) => Ok(TableLines::TooMany),

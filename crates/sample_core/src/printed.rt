@@ -13,6 +13,7 @@ use crate::description::sample_description;
 use crate::run::{RunCounts, run_counts};
 use desc_core::Description;
 use net_core::{Policy, policy_of};
+use pkt_core::FlowPolicy;
 use std::alloc::{AllocError, Global};
 
 /// What the jobs make of the sample.
@@ -61,17 +62,22 @@ fn counts_by(
     requires whole { description.now.services ≡ [] }
     ensures { IfOk result (AreCounts count) }
 {
-    let hosts = description.hosts();
-    let services = description.services();
-    let table = table_lines(alloc, hosts, services, policy)?;
-    let run = run_counts(alloc, count, hosts, services, policy)?;
+    let (permitted, stateful) = (policy.permitted(), policy.stateful());
+    let asked = FlowPolicy::new(
+        description.hosts(),
+        description.services(),
+        permitted,
+        stateful,
+    );
+    let table = table_lines(alloc, &asked)?;
+    let run = run_counts(alloc, count, &asked)?;
     let offending = offending(alloc, description)?;
     Ok(Counts {
-        hosts: hosts.count(),
+        hosts: asked.count(),
         asked: description.asked().len(),
         offending,
-        permitted: policy.permitted().len(),
-        stateful: policy.stateful().len(),
+        permitted: permitted.len(),
+        stateful: stateful.len(),
         table,
         run,
     })

@@ -1,8 +1,7 @@
 //! The run of a rule set over packets, beginning with no connections.
 
-ghost use Rattle.std.specs.Prelude.{◌≡◌, ◌≤◌, ◌∷◌, Bool, List, [], Option, Some, IfOk, if◌then◌else◌, length, map};
+ghost use Rattle.std.specs.Prelude.{◌≡◌, ◌≤◌, ◌∷◌, Bool, List, [], Option, Some, IfOk, if◌then◌else◌, map};
 ghost use Rattle.host_net.specs.Limits.{host_limit};
-ghost use Rattle.host_net.specs.Site.{site_with};
 ghost use Rattle.host_net.specs.Verdict.{verdict_if};
 ghost use Rattle.ipt_rules.specs.Meaning.{Passes};
 ghost use Rattle.pkt_core.specs.inner.Kept.{kept_in};
@@ -14,10 +13,9 @@ ghost use Rattle.emit_core.specs.Layout.{layout};
 
 use crate::packets::sample_packets;
 use emit_core::{NoChains, emit_iptables};
-use host_net::{Hosts, Packet, Services, Verdict};
+use host_net::{Packet, Verdict};
 use ipt_rules::{Filter, Ruleset};
-use net_core::Policy;
-use pkt_core::Track;
+use pkt_core::{FlowPolicy, Track};
 use std::alloc::{AllocError, Global};
 
 /// The rules of a policy, and their run over the packets of the sample.
@@ -32,17 +30,13 @@ pub(crate) struct RunCounts {
 pub(crate) fn run_counts(
     alloc: Global,
     count: u16,
-    hosts: &Hosts,
-    services: &Services,
-    policy: &Policy,
+    policy: &FlowPolicy<'_>,
 ) -> Result<RunCounts, AllocError>
     requires few { count ≤ host_limit }
-    requires permitted { policy.now.permitted.size ≡ length hosts.now }
-    requires stateful { policy.now.stateful.size ≡ length hosts.now }
-    requires whole { services.now ≡ [] }
-    ensures { IfOk result (λ run. AreRunCounts count (layout (site_with hosts.now services.now) policy.now.permitted.flows policy.now.stateful.flows) run.rules run.events run.forwarded) }
+    requires whole { policy.now.site.services ≡ [] }
+    ensures { IfOk result (λ run. AreRunCounts count (layout policy.now.site policy.now.permitted policy.now.stateful) run.rules run.events run.forwarded) }
 {
-    let rules = rules_of(alloc, hosts, services, policy)?;
+    let rules = rules_of(alloc, policy)?;
     let packets = sample_packets(alloc, count)?;
     let filter = Filter::of(alloc, &rules, packets.len())?;
     let forwarded = forwarded(alloc, &filter, &packets)?;
@@ -54,25 +48,12 @@ pub(crate) fn run_counts(
 }
 
 /// The chains of a policy, which are never too many where no flow is narrowed.
-fn rules_of(
-    alloc: Global,
-    hosts: &Hosts,
-    services: &Services,
-    policy: &Policy,
-) -> Result<Ruleset, AllocError>
-    requires permitted { policy.now.permitted.size ≡ length hosts.now }
-    requires stateful { policy.now.stateful.size ≡ length hosts.now }
-    requires whole { services.now ≡ [] }
-    ensures { IfOk result (λ rules. rules ≡ layout (site_with hosts.now services.now) policy.now.permitted.flows policy.now.stateful.flows) }
+fn rules_of(alloc: Global, policy: &FlowPolicy<'_>) -> Result<Ruleset, AllocError>
+    requires whole { policy.now.site.services ≡ [] }
+    ensures { IfOk result (λ rules. rules ≡ layout policy.now.site policy.now.permitted policy.now.stateful) }
 {
-    let _count = hosts.count();
-    match emit_iptables(
-        alloc,
-        hosts,
-        services,
-        policy.permitted(),
-        policy.stateful(),
-    ) {
+    let _count = policy.count();
+    match emit_iptables(alloc, policy) {
         Ok(rules) => Ok(rules),
         Err(NoChains::TooManyRules { .. }) => unreachable!(),
         Err(NoChains::Memory) => Err(AllocError),

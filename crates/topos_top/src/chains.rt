@@ -8,6 +8,7 @@ ghost use Rattle.topos_top.specs.Repair.{repair_job};
 ghost use Rattle.topos_top.specs.declared.dialect.Dialect.TheVariants.{Iptables};
 
 use crate::answer::Answer;
+use crate::flow_policy::flow_policy;
 use crate::hindrance::rules_line;
 use crate::text::Text;
 use desc_core::Description;
@@ -26,15 +27,7 @@ pub fn answer<'a>(
     requires stateful { policy.now.stateful.size ≡ length description.now.hosts }
     ensures { IfOk result (λ answer. Answers false (repair_job Iptables description.now) (reply_view answer)) }
 {
-    let hosts = description.hosts();
-    let services = description.services();
-    match emit_iptables(
-        alloc,
-        hosts,
-        services,
-        policy.permitted(),
-        policy.stateful(),
-    ) {
+    match emit_iptables(alloc, &flow_policy(description, policy)) {
         Ok(rules) => Ok(Answer::done(Text::Rules(rules))),
         Err(NoChains::TooManyRules { count }) => {
             Ok(Answer::not_emittable(rules_line(alloc, count)?))

@@ -8,6 +8,7 @@ ghost use Rattle.topos_top.specs.Repair.{repair_job};
 ghost use Rattle.topos_top.specs.declared.dialect.Dialect.TheVariants.{OpenFlow};
 
 use crate::answer::Answer;
+use crate::flow_policy::flow_policy;
 use crate::hindrance::{answers_line, flows_line, ports_line};
 use crate::text::Text;
 use desc_core::Description;
@@ -28,16 +29,15 @@ pub fn answer<'a>(
     ensures { IfOk result (λ answer. Answers false (repair_job OpenFlow description.now) (reply_view answer)) }
 {
     let hosts = description.hosts();
-    let services = description.services();
-    if let Some(flow) = needs_state(services, policy.permitted(), policy.stateful()) {
+    let asked = flow_policy(description, policy);
+    if let Some(flow) = needs_state(&asked) {
         let line = answers_line(alloc, hosts, flow)?;
         return Ok(Answer::not_emittable(line));
     }
-    let permitted = policy.permitted();
-    match emit_openflow(alloc, hosts, services, permitted) {
+    match emit_openflow(alloc, &asked) {
         Ok(table) => Ok(Answer::done(Text::Table(table))),
         Err(NoTable::RangeOfPorts { flow }) => {
-            let line = ports_line(alloc, hosts, permitted, flow)?;
+            let line = ports_line(alloc, hosts, policy.permitted(), flow)?;
             Ok(Answer::not_emittable(line))
         }
         Err(NoTable::TooManyEntries { count }) => {

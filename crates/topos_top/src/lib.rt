@@ -13,6 +13,7 @@ mod commands;
 mod dialect;
 mod edit;
 mod ending;
+mod flow_policy;
 mod flows;
 mod hindrance;
 mod kind;

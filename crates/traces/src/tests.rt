@@ -6,7 +6,7 @@ use emit_core::emit_iptables;
 use host_net::Packet;
 use ipt_rules::{Filter, Ruleset, Verdict};
 use net_core::policy_of;
-use pkt_core::{Event, Track};
+use pkt_core::{Event, FlowPolicy, Track};
 use std::alloc::{AllocError, Global};
 use std::test::Fail;
 
@@ -77,13 +77,8 @@ fn rules_of(alloc: Global, text: &str) -> Result<Ruleset, DescFault> {
     let description = describe(alloc, text.as_bytes())?;
     let policy = policy_of(alloc, &description)?;
     let (hosts, services) = (description.hosts(), description.services());
-    match emit_iptables(
-        alloc,
-        hosts,
-        services,
-        policy.permitted(),
-        policy.stateful(),
-    ) {
+    let asked = FlowPolicy::new(hosts, services, policy.permitted(), policy.stateful());
+    match emit_iptables(alloc, &asked) {
         Ok(rules) => Ok(rules),
         Err(_) => Err(DescFault::Memory),
     }

@@ -2,7 +2,6 @@
 
 ghost use Rattle.std.specs.Prelude.{◌≡◌, ◌<◌, ◌++◌, length, map, OnOk};
 ghost use Rattle.host_net.specs.Service.{narrowings};
-ghost use Rattle.host_net.specs.Site.{site_with};
 ghost use Rattle.emit_core.specs.Layout.{accepts, accepts_flow, accepts_answers, to_service, from_service};
 
 use crate::host_chain::HostChain;
@@ -21,10 +20,10 @@ impl<'a> HostChain<'a> {
         to: u16,
         at: Option<Prefix>,
     ) -> Result<(), AllocError>
-        requires { to < length self.now.hosts.now }
+        requires { to < length self.now.policy.now.site.hosts }
         ensures { OnOk result (rules.new.items ≡ rules.old.items
-            ++ accepts self.now.side (site_with self.now.hosts.now self.now.services.now)
-            self.now.permitted.now.flows self.now.stateful.now.flows self.now.host to at) }
+            ++ accepts self.now.side self.now.policy.now.site
+            self.now.policy.now.permitted self.now.policy.now.stateful self.now.host to at) }
     {
         self.push_flow(rules, to, at)?;
         self.push_answers(rules, to, at)?;
@@ -37,10 +36,10 @@ impl<'a> HostChain<'a> {
         to: u16,
         at: Option<Prefix>,
     ) -> Result<(), AllocError>
-        requires { to < length self.now.hosts.now }
+        requires { to < length self.now.policy.now.site.hosts }
         ensures { OnOk result (rules.new.items ≡ rules.old.items
-            ++ accepts_flow self.now.side (site_with self.now.hosts.now self.now.services.now)
-            self.now.permitted.now.flows self.now.host to at) }
+            ++ accepts_flow self.now.side self.now.policy.now.site
+            self.now.policy.now.permitted self.now.host to at) }
     {
         if self.permits(to) {
             let services = self.services_on(self.side, to);
@@ -56,10 +55,10 @@ impl<'a> HostChain<'a> {
         to: u16,
         at: Option<Prefix>,
     ) -> Result<(), AllocError>
-        requires { to < length self.now.hosts.now }
+        requires { to < length self.now.policy.now.site.hosts }
         ensures { OnOk result (rules.new.items ≡ rules.old.items
-            ++ accepts_answers self.now.side (site_with self.now.hosts.now self.now.services.now)
-            self.now.permitted.now.flows self.now.stateful.now.flows self.now.host to at) }
+            ++ accepts_answers self.now.side self.now.policy.now.site
+            self.now.policy.now.permitted self.now.policy.now.stateful self.now.host to at) }
     {
         if self.answers(to) && !self.permits_all(to) {
             let services = self.services_on(self.side.other(), to);

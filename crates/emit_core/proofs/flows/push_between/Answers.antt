@@ -1,4 +1,3 @@
-use Rattle.host_net.specs.Site.{site_with}
 use Rattle.emit_core.specs.FlowTable.{from_host}
 use Rattle.emit_core.proofs.HostSteps.{grow_host}
 use Rattle.emit_core.proofs.flows.push_between.Goals as goal
@@ -6,5 +5,5 @@ use Rattle.emit_core.proofs.flows.push_between.Goals as goal
 pub loop-from-preserved : goal.loop-from-preserved
 loop-from-preserved c =
     let policy = c.args.policy.now in
-    grow_host (from_host (site_with policy.hosts.now policy.services.now) policy.permitted.now.flows policy.rest) _ _ _ _ _ _
+    grow_host (from_host policy.site policy.permitted c.args.rest) _ _ _ _ _ _
     c.prefixes.ensures c.loop-from.invariant c.in_ok-push_from_host.ensures

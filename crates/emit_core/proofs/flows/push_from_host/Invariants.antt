@@ -9,6 +9,6 @@ use Rattle.emit_core.proofs.flows.push_from_host.Given as goal
 abbrev pub invariant-loop-to : goal.invariant-loop-to
 invariant-loop-to l =
     let written = λ (j : ℕ) (ts : List Prefix).
-    host_pair (permits l.policy.permitted.now.flows l.from j) (services_of l.policy.services.now l.from j) l.policy.rest l.sources ts in
-    with_entries l.entries (for_each_host written l.to (drop l.to l.policy.hosts.now))
-    ≡ with_entries l.fn.entries (for_each_host written 0 l.policy.hosts.now)
+    host_pair (permits l.policy.permitted l.from j) (services_of l.policy.site.services l.from j) l.rest l.sources ts in
+    with_entries l.entries (for_each_host written l.to (drop l.to l.policy.site.hosts))
+    ≡ with_entries l.fn.entries (for_each_host written 0 l.policy.site.hosts)

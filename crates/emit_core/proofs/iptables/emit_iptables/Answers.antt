@@ -1,5 +1,4 @@
 use Rattle.std.proofs.Common.{◌∙◌, sym, ap, subst, arith}
-use Rattle.host_net.specs.Site.{site_with}
 use Rattle.pkt_core.specs.Filter.{Enforces, ForwardsExpected}
 use Rattle.ipt_rules.specs.inner.Build.{refusal_of}
 use Rattle.ipt_rules.specs.Loops.{HasNoLoop}
@@ -10,28 +9,24 @@ use Rattle.emit_core.proofs.iptables.emit_iptables.Goals as goal
 
 pub build_accepted-requires-clause-accepted : goal.build_accepted-requires-clause-accepted
 build_accepted-requires-clause-accepted c =
-    let hosts = c.in-Ok.ensures.site.hosts in
+    let hosts = c.in-Ok.ensures.policy.site.hosts in
     let few = c.if-count-gt-RULE_LIMIT.false in
     ap refusal_of (c.in-Ok.ensures.counted.kept few)
-    ∙ layout_accepted (site_with c.args.hosts.now c.args.services.now) c.args.p.now.flows c.args.s.now.flows (omega (arith, hosts.few)) (omega (arith, few, c.in-Ok.ensures.counted.counted))
+    ∙ layout_accepted c.args.policy.now.site c.args.policy.now.permitted c.args.policy.now.stateful (omega (arith, hosts.few)) (omega (arith, few, c.in-Ok.ensures.counted.counted))
 
 pub build_accepted-requires-clause-no_loop : goal.build_accepted-requires-clause-no_loop
 build_accepted-requires-clause-no_loop c =
     subst HasNoLoop (sym (c.in-Ok.ensures.counted.kept c.if-count-gt-RULE_LIMIT.false))
-    (layout_no_loop (site_with c.args.hosts.now c.args.services.now) c.args.p.now.flows c.args.s.now.flows)
+    (layout_no_loop c.args.policy.now.site c.args.policy.now.permitted c.args.policy.now.stateful)
 
 pub returns-in-Ok-build_accepted-clause-enforces : goal.returns-in-Ok-build_accepted-clause-enforces
 returns-in-Ok-build_accepted-clause-enforces c =
-    let site = site_with c.args.hosts.now c.args.services.now in
-    let p = c.args.p.now.flows in
-    let s = c.args.s.now.flows in
-    subst (λ chains. Enforces (Passes chains) site p s) (sym (c.in-Ok-build_accepted.ensures ∙ c.in-Ok.ensures.counted.kept c.if-count-gt-RULE_LIMIT.false))
-    (layout_enforces site p s c.in-Ok.ensures.site.hosts)
+    let policy = c.args.policy.now in
+    subst (λ chains. Enforces (Passes chains) policy.site policy.permitted policy.stateful) (sym (c.in-Ok-build_accepted.ensures ∙ c.in-Ok.ensures.counted.kept c.if-count-gt-RULE_LIMIT.false))
+    (layout_enforces policy.site policy.permitted policy.stateful c.in-Ok.ensures.policy.site.hosts)
 
 pub returns-in-Ok-build_accepted-clause-expected : goal.returns-in-Ok-build_accepted-clause-expected
 returns-in-Ok-build_accepted-clause-expected c =
-    let site = site_with c.args.hosts.now c.args.services.now in
-    let p = c.args.p.now.flows in
-    let s = c.args.s.now.flows in
-    subst (λ chains. ForwardsExpected (Passes chains) site p s) (sym (c.in-Ok-build_accepted.ensures ∙ c.in-Ok.ensures.counted.kept c.if-count-gt-RULE_LIMIT.false))
-    (layout_expected site p s c.in-Ok.ensures.site.hosts c.requires.subset)
+    let policy = c.args.policy.now in
+    subst (λ chains. ForwardsExpected (Passes chains) policy.site policy.permitted policy.stateful) (sym (c.in-Ok-build_accepted.ensures ∙ c.in-Ok.ensures.counted.kept c.if-count-gt-RULE_LIMIT.false))
+    (layout_expected policy.site policy.permitted policy.stateful c.in-Ok.ensures.policy.site.hosts c.in-Ok.ensures.policy.within)

@@ -1,6 +1,5 @@
-use Rattle.host_net.specs.Site.{site_with}
 use Rattle.emit_core.specs.inner.Filling.{AreCounted, chains_up_to}
 use Rattle.emit_core.proofs.iptables.layout_of.Given as goal
 
 abbrev pub invariant-loop-host : goal.invariant-loop-host
-invariant-loop-host l = AreCounted (chains_up_to (site_with l.hosts l.services) l.p.flows l.s.flows l.host) l.made.chains l.made.count
+invariant-loop-host l = AreCounted (chains_up_to l.policy.site l.policy.permitted l.policy.stateful l.host) l.made.chains l.made.count

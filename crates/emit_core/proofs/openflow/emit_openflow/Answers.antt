@@ -1,6 +1,6 @@
 use Rattle.std.proofs.Common.{◌≡◌, ℕ, ◌≤◌, ◌∙◌, refl, sym, ap, subst, List, length, arith}
 use Rattle.std.specs.List.{list_all}
-use Rattle.host_net.specs.Site.{Site, site_with}
+use Rattle.host_net.specs.Site.{Site}
 use Rattle.host_net.specs.inner.Site.{IsSite}
 use Rattle.flow_set.specs.declared.flow.Flow.{Flow}
 use Rattle.ofp_rules.specs.declared.entry.Entry.{Entry}
@@ -18,7 +18,7 @@ use Rattle.emit_core.proofs.openflow.emit_openflow.Goals as goal
 
 pub build-requires-clause-asks : goal.build-requires-clause-asks
 build-requires-clause-asks c =
-    ap (list_all asks_of_ip) (c.into_kept.ensures ∙ c.in-Ok.ensures.kept (omega (arith, c.count-count-2.ensures, c.if-count-gt-ENTRY_LIMIT.false))) ∙ all_ask (site_with c.args.hosts.now c.args.services.now) c.args.p.now.flows c.first_range.ensures.services
+    ap (list_all asks_of_ip) (c.into_kept.ensures ∙ c.in-Ok.ensures.kept (omega (arith, c.count-count-2.ensures, c.if-count-gt-ENTRY_LIMIT.false))) ∙ all_ask c.args.policy.now.site c.args.policy.now.permitted c.count-count.ensures.policy.site.services
 
 -- few entries without a range of ports are refused for want of memory alone
 memory_alone : (site : Site) (p : List Flow) (entries : List Entry) (count : ℕ) (why : TableRefusal) → IsSite site → HasNoRange site.services p
@@ -30,23 +30,23 @@ memory_alone site p entries count Memory known plain is all few refused = refl
 
 pub out_of_memory-requires : goal.out_of_memory-requires
 out_of_memory-requires c =
-    memory_alone (site_with c.args.hosts.now c.args.services.now) c.args.p.now.flows c.into_kept.result.items c.count-count-2.result c.in-Err.why
-    (record { hosts = c.count-count.ensures.hosts; services = c.first_range.ensures.services }) c.in_default.ensures.first
+    memory_alone c.args.policy.now.site c.args.policy.now.permitted c.into_kept.result.items c.count-count-2.result c.in-Err.why
+    c.count-count.ensures.policy.site c.in_default.ensures
     (c.into_kept.ensures ∙ c.in-Ok.ensures.kept (omega (arith, c.count-count-2.ensures, c.if-count-gt-ENTRY_LIMIT.false)))
     (c.count-count-2.ensures ∙ c.in-Ok.ensures.counted) c.if-count-gt-ENTRY_LIMIT.false c.in-Err.ensures.refused
 
-forwards : (c : goal.In-Ok-build) → ForwardsFlows c.in-Ok-build.table (site_with c.args.hosts.now c.args.services.now) c.args.p.now.flows
+forwards : (c : goal.In-Ok-build) → ForwardsFlows c.in-Ok-build.table c.args.policy.now.site c.args.policy.now.permitted
 forwards c =
-    let site = site_with c.args.hosts.now c.args.services.now in
-    subst (λ (es : List Entry). ForwardsFlows es site c.args.p.now.flows) (sym (c.in-Ok-build.ensures.ok ∙ c.into_kept.ensures ∙ c.in-Ok.ensures.kept (omega (arith, c.count-count-2.ensures, c.if-count-gt-ENTRY_LIMIT.false))))
-    (forwards_flows site c.args.p.now.flows (record { hosts = c.count-count.ensures.hosts; services = c.first_range.ensures.services }) c.in_default.ensures.first)
+    let site = c.args.policy.now.site in
+    subst (λ (es : List Entry). ForwardsFlows es site c.args.policy.now.permitted) (sym (c.in-Ok-build.ensures.ok ∙ c.into_kept.ensures ∙ c.in-Ok.ensures.kept (omega (arith, c.count-count-2.ensures, c.if-count-gt-ENTRY_LIMIT.false))))
+    (forwards_flows site c.args.policy.now.permitted c.count-count.ensures.policy.site c.in_default.ensures)
 
 pub returns-in-Ok-build-clause-enforces : goal.returns-in-Ok-build-clause-enforces
-returns-in-Ok-build-clause-enforces c = flows_enforced c.in-Ok-build.table (site_with c.args.hosts.now c.args.services.now) c.args.p.now.flows (forwards c)
+returns-in-Ok-build-clause-enforces c = flows_enforced c.in-Ok-build.table c.args.policy.now.site c.args.policy.now.permitted (forwards c)
 
 pub returns-in-Ok-build-clause-others : goal.returns-in-Ok-build-clause-others
-returns-in-Ok-build-clause-others c = arp_alone c.in-Ok-build.table (site_with c.args.hosts.now c.args.services.now) c.args.p.now.flows (forwards c)
+returns-in-Ok-build-clause-others c = arp_alone c.in-Ok-build.table c.args.policy.now.site c.args.policy.now.permitted (forwards c)
 
 pub returns-in-Ok-build-clause-expected : goal.returns-in-Ok-build-clause-expected
 returns-in-Ok-build-clause-expected c =
-    λ s answers. flows_expected c.in-Ok-build.table (site_with c.args.hosts.now c.args.services.now) c.args.p.now.flows s (forwards c) answers
+    λ s answers. flows_expected c.in-Ok-build.table c.args.policy.now.site c.args.policy.now.permitted s (forwards c) answers

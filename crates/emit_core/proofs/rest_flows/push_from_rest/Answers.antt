@@ -10,8 +10,8 @@ use Rattle.emit_core.proofs.rest_flows.push_from_rest.Goals as goal
 pub loop-to-preserved : goal.loop-to-preserved
 loop-to-preserved c =
     let policy = c.args.policy.now in
-    grow_host (λ i qs. from_rest_host (permits policy.permitted.now.flows c.args.rest i) (services_of policy.services.now c.args.rest i) qs) _ _ _ _ _ _
+    grow_host (λ i qs. from_rest_host (permits policy.permitted c.args.rest i) (services_of policy.site.services c.args.rest i) qs) _ _ _ _ _ _
     c.prefixes.ensures c.loop-to.invariant
     (c.in_ok-push_destinations.ensures
-    ∙ ap (λ (b : Bool). with_entries c.loop-to.entries (from_rest_host b c.flow.result.services.now c.prefixes.result.now)) c.flow.ensures.permitted
-    ∙ ap (λ (ss : List Service). with_entries c.loop-to.entries (from_rest_host (permits policy.permitted.now.flows c.args.rest c.loop-to.to) ss c.prefixes.result.now)) c.flow.ensures.services)
+    ∙ ap (λ (b : Bool). with_entries c.loop-to.entries (from_rest_host b c.of.result.services.now c.prefixes.result.now)) c.of.ensures.permitted
+    ∙ ap (λ (ss : List Service). with_entries c.loop-to.entries (from_rest_host (permits policy.permitted c.args.rest c.loop-to.to) ss c.prefixes.result.now)) c.of.ensures.services)

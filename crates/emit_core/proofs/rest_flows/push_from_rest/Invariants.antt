@@ -8,6 +8,6 @@ use Rattle.emit_core.proofs.rest_flows.push_from_rest.Given as goal
 
 abbrev pub invariant-loop-to : goal.invariant-loop-to
 invariant-loop-to l =
-    let written = λ (i : ℕ) (qs : List Prefix). from_rest_host (permits l.policy.permitted.now.flows l.rest i) (services_of l.policy.services.now l.rest i) qs in
-    with_entries l.entries (for_each_host written l.to (drop l.to l.policy.hosts.now))
-    ≡ with_entries l.fn.entries (for_each_host written 0 l.policy.hosts.now)
+    let written = λ (i : ℕ) (qs : List Prefix). from_rest_host (permits l.policy.permitted l.rest i) (services_of l.policy.site.services l.rest i) qs in
+    with_entries l.entries (for_each_host written l.to (drop l.to l.policy.site.hosts))
+    ≡ with_entries l.fn.entries (for_each_host written 0 l.policy.site.hosts)

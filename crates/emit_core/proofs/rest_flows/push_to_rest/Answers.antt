@@ -10,8 +10,8 @@ use Rattle.emit_core.proofs.rest_flows.push_to_rest.Goals as goal
 pub loop-from-preserved : goal.loop-from-preserved
 loop-from-preserved c =
     let policy = c.args.policy.now in
-    grow_host (λ i qs. to_rest_host (permits policy.permitted.now.flows i c.args.rest) (services_of policy.services.now i c.args.rest) qs) _ _ _ _ _ _
+    grow_host (λ i qs. to_rest_host (permits policy.permitted i c.args.rest) (services_of policy.site.services i c.args.rest) qs) _ _ _ _ _ _
     c.prefixes.ensures c.loop-from.invariant
     (c.in_ok-push_sources.ensures
-    ∙ ap (λ (b : Bool). with_entries c.loop-from.entries (to_rest_host b c.flow.result.services.now c.prefixes.result.now)) c.flow.ensures.permitted
-    ∙ ap (λ (ss : List Service). with_entries c.loop-from.entries (to_rest_host (permits policy.permitted.now.flows c.loop-from.from c.args.rest) ss c.prefixes.result.now)) c.flow.ensures.services)
+    ∙ ap (λ (b : Bool). with_entries c.loop-from.entries (to_rest_host b c.of.result.services.now c.prefixes.result.now)) c.of.ensures.permitted
+    ∙ ap (λ (ss : List Service). with_entries c.loop-from.entries (to_rest_host (permits policy.permitted c.loop-from.from c.args.rest) ss c.prefixes.result.now)) c.of.ensures.services)

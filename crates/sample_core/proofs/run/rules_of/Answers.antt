@@ -7,8 +7,9 @@ use Rattle.sample_core.proofs.run.rules_of.Goals as goal
 
 pub unreachable-requires : goal.unreachable-requires
 unreachable-requires c =
-    let p = c.permitted.result.now.flows in
-    let s = c.stateful.result.now.flows in
-    let many : HasNoChains (unnarrowed c.args.hosts.now) p s (TooManyRules c.in-Err-TooManyRules.field-0-0) =
+    let hosts = c.args.policy.now.site.hosts in
+    let p = c.args.policy.now.permitted in
+    let s = c.args.policy.now.stateful in
+    let many : HasNoChains (unnarrowed hosts) p s (TooManyRules c.in-Err-TooManyRules.field-0-0) =
     rw (c.requires.whole, c.in-Err-TooManyRules.field-0-is) at c.in-Err-TooManyRules.ensures.refused in
-    omega (arith, many.0, few_rules-unnarrowed c.args.hosts.now p s c.count-count.ensures.hosts)
+    omega (arith, many.0, few_rules-unnarrowed hosts p s c.count-count.ensures.policy.site.hosts)

@@ -1,5 +1,5 @@
 use Rattle.std.proofs.Common.{◌<◌, List, false, length, inl, inr, refl, ap, sym, subst}
-use Rattle.host_net.specs.Host.{Host}
+use Rattle.pkt_core.specs.inner.FlowPolicy.{FlowPolicy}
 use Rattle.host_net.proofs.NamedLaws.{host_named_within}
 use Rattle.ipt_rules.specs.Chain.{Chain}
 use Rattle.ipt_rules.specs.Text.{text}
@@ -11,14 +11,14 @@ use Rattle.topos_top.proofs.local.specific_machines.Goals as goal
 
 pub emit_local-requires-clause-there : goal.emit_local-requires-clause-there
 emit_local-requires-clause-there c =
-    subst (λ (hosts : List Host). c.args.number < length hosts) (sym c.hosts.ensures.value)
+    subst (λ (policy : FlowPolicy). c.args.number < length policy.site.hosts) (sym c.flow_policy.ensures)
     (host_named_within c.args.description.now.hosts c.args.host.now c.args.number c.requires.named)
 
 pub returns : goal.returns
 returns c =
     let d = c.args.description.now in
     let found : IsSpecific d c.args.host.now = record { number = c.args.number; named = c.requires.named; specific = c.requires.specific } in
-    let layout = rw (c.hosts.ensures.value, c.services.ensures.value, c.permitted.ensures.value, c.stateful.ensures.value) at c.in_ok-rules.ensures.layout in
+    let layout = rw c.flow_policy.ensures at c.in_ok-rules.ensures.layout in
     subst (λ (r : Reply). Answers false (machines_job d c.args.host.now) r) (sym c.done.ensures) (
       refl,
       inr (inl (
