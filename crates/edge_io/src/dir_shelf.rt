@@ -2,7 +2,8 @@
 ghost use Rattle.std.specs.Prelude.{◌≡◌, false, None, is_some, refl};
 ghost use Rattle.std.specs.Option.{option_and_then};
 ghost use Rattle.std.specs.Io.KnownBytes.{ReadConsumes};
-ghost use Rattle.edge_io.specs.inner.Calls.{CountsFault, ShelfCountsOnlyFailures};
+ghost use Rattle.edge_io.specs.Failures.{ShelfCountsOnlyFailures};
+ghost use Rattle.edge_io.specs.inner.Calls.{CountsFault};
 
 use crate::{Failed, Shelf};
 use std::fs;
@@ -26,8 +27,7 @@ impl<'a, R: Files> DirShelf<'a, R> {
         ensures none_begun { ⟦<DirShelf<'a, R> as Shelf>⟧.begun result ≡ false }
         ensures no_begins { ⟦<DirShelf<'a, R> as Shelf>⟧.begins result ≡ 0 }
         ensures no_faults { ⟦<DirShelf<'a, R> as Shelf>⟧.faults result ≡ 0 }
-        ensures counts { ShelfCountsOnlyFailures ⟦<DirShelf<'a, R> as Shelf>⟧.faults
-            ⟦<DirShelf<'a, R> as Shelf>⟧.begin_gives ⟦<DirShelf<'a, R> as Shelf>⟧.read_gives }
+        ensures counts { ShelfCountsOnlyFailures ⟦<DirShelf<'a, R> as Shelf>⟧ }
     {
         DirShelf {
             rt,

@@ -45,15 +45,14 @@ impl Model for MemShelf {
 }
 
 impl MemShelf {
-    ghost use Rattle.edge_io.specs.inner.Calls.{ShelfCountsOnlyFailures};
+    ghost use Rattle.edge_io.specs.Failures.{ShelfCountsOnlyFailures};
     ghost use Rattle.edge_io.specs.inner.MemShelf.{fresh_shelf, with_file};
 
     /// A shelf without files. `fails` has the numbers of the calls of `begin` and `read` that fail;
     /// the first call has number 1.
     pub fn new(alloc: Global, fails: Vec<u32>) -> MemShelf
         ensures fresh { result ≡ fresh_shelf fails.items }
-        ensures counts { ShelfCountsOnlyFailures ⟦<MemShelf as Shelf>⟧.faults
-            ⟦<MemShelf as Shelf>⟧.begin_gives ⟦<MemShelf as Shelf>⟧.read_gives }
+        ensures counts { ShelfCountsOnlyFailures ⟦<MemShelf as Shelf>⟧ }
     {
         MemShelf {
             alloc,

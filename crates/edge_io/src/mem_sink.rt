@@ -28,7 +28,8 @@ impl Model for MemSink {
 }
 
 impl MemSink {
-    ghost use Rattle.edge_io.specs.inner.Calls.{CountsOnce, CountsOnlyFailures};
+    ghost use Rattle.edge_io.specs.Failures.{CountsOnlyFailures};
+    ghost use Rattle.edge_io.specs.inner.Calls.{CountsOnce};
     ghost use Rattle.edge_io.specs.inner.MemSink.{fresh_sink};
 
     /// A sink with room for `room` bytes. `fails` has the numbers of the writes that fail; the first

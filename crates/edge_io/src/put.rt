@@ -3,7 +3,8 @@ ghost use Rattle.std.specs.Prelude.{◌≡◌, ◌≤◌, OnOk, OnErr};
 ghost use Rattle.std.specs.Io.KnownBytes.{append_known};
 ghost use Rattle.edge_io.specs.Counts.{Rose};
 ghost use Rattle.edge_io.specs.Told.{TookPrefix};
-ghost use Rattle.edge_io.specs.inner.Calls.{CountsFault, CountsOnce, CountsOnlyFailures, joined};
+ghost use Rattle.edge_io.specs.Failures.{CountsOnlyFailures};
+ghost use Rattle.edge_io.specs.inner.Calls.{CountsFault, CountsOnce, joined};
 
 use crate::{Sink, WriteFault};
 

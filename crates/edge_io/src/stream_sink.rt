@@ -1,7 +1,8 @@
 //! A stream of the system as a sink. Nothing is told of what it took.
 ghost use Rattle.std.specs.Prelude.{◌≡◌, None};
 ghost use Rattle.std.specs.Io.KnownBytes.{WriteAppends};
-ghost use Rattle.edge_io.specs.inner.Calls.{CountsFault, CountsOnce, CountsOnlyFailures};
+ghost use Rattle.edge_io.specs.Failures.{CountsOnlyFailures};
+ghost use Rattle.edge_io.specs.inner.Calls.{CountsFault, CountsOnce};
 
 use crate::{Failed, Sink};
 use std::io::Write;

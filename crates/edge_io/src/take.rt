@@ -2,7 +2,7 @@
 ghost use Rattle.std.specs.Prelude.{◌≡◌, ◌+◌, ◌^◌, ◌≤◌, ◌<◌, ◌↔◌, ◌⊎◌, IsTrue, IfOk, IfSome, IsSomeAnd, OnOk, IsErrOf, length, vec_len};
 ghost use Rattle.std.specs.Io.KnownBytes.{IsAtEnd};
 ghost use Rattle.std.specs.FinMap.{get};
-ghost use Rattle.edge_io.specs.inner.Calls.{ShelfCountsOnlyFailures};
+ghost use Rattle.edge_io.specs.Failures.{ShelfCountsOnlyFailures};
 ghost use Rattle.edge_io.specs.Counts.{more, Rose};
 ghost use Rattle.edge_io.specs.Told.{Lacks};
 ghost use Rattle.edge_io.specs.inner.Take.{answer_for, outcome_of};
@@ -39,7 +39,7 @@ pub fn take_all<H: Shelf>(
         IsSomeAnd (get files name.now) (λ bytes. limit < length bytes)) }
 
     // Only Read counts a fault, where only failures do, and only a begun file finds no memory.
-    ensures no_fault { ShelfCountsOnlyFailures H.faults H.begin_gives H.read_gives →
+    ensures no_fault { ShelfCountsOnlyFailures H.Shelf →
         IsErrOf result TakeFault.Read ⊎ (H.faults shelf.new ≡ H.faults shelf.old) }
     ensures memory { IsErrOf result TakeFault.Memory → IsTrue (H.begun shelf.new) }
 
@@ -69,7 +69,7 @@ fn take_rest<H: Shelf>(alloc: Global, shelf: &mut H, limit: usize) -> Result<Vec
     ensures read { IsErrOf result TakeFault.Read → Rose (H.faults shelf.old) (H.faults shelf.new) }
     ensures too_long { IsErrOf result TakeFault.TooLong ↔ (H.taken shelf.new ≡ limit + 1) }
     ensures longer { IsErrOf result TakeFault.TooLong → IfSome (H.left shelf.old) (λ left. limit < length left) }
-    ensures no_fault { ShelfCountsOnlyFailures H.faults H.begin_gives H.read_gives →
+    ensures no_fault { ShelfCountsOnlyFailures H.Shelf →
         IsErrOf result TakeFault.Read ⊎ (H.faults shelf.new ≡ H.faults shelf.old) }
     ensures still_begun { IsTrue (H.begun shelf.new) }
 {

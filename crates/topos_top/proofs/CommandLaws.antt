@@ -112,7 +112,7 @@ settled (Policy file) = λ d sound. settled_writes _ _ (policy_report_is_one d) 
 settled (Rules dialect file) = λ d sound. record {
   owed = (owed_offences _ refl _ d sound, (settled_rules (ListedHolds d) dialect d sound).owed);
   apart = (
-    (λ fails hindered. fails.1 (hindered.0 fails.0), (λ fails holds. fails.1 (holds.0 fails.0), tt)),
+    (λ fails hindered. fails hindered.0, (λ fails holds. fails holds.0, tt)),
     (settled_rules (ListedHolds d) dialect d sound).apart,
   );
 }
@@ -125,7 +125,7 @@ settled (Edit file edits) = λ table sound es known. settled_edits table es
 settled (Local file host) = λ d sound. record {
   owed = (owed_offences _ refl _ d sound, (settled_machines (ListedHolds d) d host sound).owed);
   apart = (
-    (λ fails barred. fails.1 (barred.0 fails.0), (λ fails holds. fails.1 (holds.0 fails.0), tt)),
+    (λ fails barred. fails barred.0, (λ fails holds. fails holds.0, tt)),
     (settled_machines (ListedHolds d) d host sound).apart,
   );
 }

@@ -10,10 +10,10 @@ use Rattle.topos_top.specs.Commands.{course_of}
 use Rattle.topos_top.specs.Course.{Course, reads, ends, CameAlong}
 use Rattle.topos_top.specs.Job.{Job, Answers, AnswersFirst}
 use Rattle.topos_top.specs.Kinds.{contents_of}
-use Rattle.topos_top.specs.Promises.{Came, IsTheReply, IsComplete}
-use Rattle.topos_top.specs.Replies.{Replies, RepliesTo, Stops, telling}
+use Rattle.topos_top.specs.Promises.{AtFile, AtJob, HasCause, IsComplete}
+use Rattle.topos_top.specs.Replies.{Replies, RepliesTo, NoMemory, Stopped, Stops, StopsAt, telling}
 use Rattle.topos_top.specs.Reply.{Reply}
-use Rattle.topos_top.specs.Shelf.{Shelf, ShelfChange}
+use Rattle.topos_top.specs.Shelf.{Shelf, ShelfChange, since}
 use Rattle.topos_top.specs.Taken.{SinkChange, Took, IsSaid, WentTo, IsGiven}
 use Rattle.topos_top.specs.declared.kind.Kind.{Kind}
 use Rattle.topos_top.specs.declared.status.Status.{Status}
@@ -126,16 +126,16 @@ pub ends_as_told : (words : List (List ℕ)) (shelf : ShelfChange) (out err : Si
 ends_as_told words shelf out err ended complete ask asked = by_told shelf.before.told complete
   where
     by_told : (told : Option Files)
-        → IfSome told (λ files. (Rose shelf.before.faults shelf.after.faults → ⊥) → (ended ≡ status.Memory) ⊎ ((reply : Reply) × IsTheReply words files reply × IsGiven out err reply ended))
+        → IfSome told (λ files. (Rose shelf.before.faults shelf.after.faults → ⊥) → (ended ≡ status.Memory) ⊎ ((reply : Reply) × RepliesTo words files reply × ((other : Reply) → RepliesTo words files other → other ≡ reply) × IsGiven out err reply ended))
         → IfSome told (λ files. (Rose shelf.before.faults shelf.after.faults → ⊥) → (Rose out.faults_before out.faults_after → ⊥)
         → (ended ≡ status.Memory) ⊎ ((read : Result (List Reading) Reply) × AreTheReadings files (course_of ask) read × EndsByReadings read (course_of ask) ended))
     by_told None gives = tt
     by_told (Some files) gives = λ no_fault whole. elim (gives no_fault) [
       | inl memory ↦ inl memory
       | inr gave ↦
-          let along = along_of words ask files gave.0 asked gave.1.allowed in
+          let along = along_of words ask files gave.0 asked gave.1 in
           let found = ends_by (reports_on_output ask) (course_of ask) files gave.0 (telling files) refl along in
-          let is = (given_whole out err gave.0 ended gave.2 whole).0 in
+          let is = (given_whole out err gave.0 ended gave.3 whole).0 in
           inr (
             found.0,
             record { given = found.1; only = λ other reads. read_once files (course_of ask) other found.0 reads found.1 },
@@ -170,19 +170,26 @@ begun_more b (suc n) = twice b n (2 ^ 64 - 1)
     twice : (b n most : ℕ) → min (min (b + 1) most + suc n) most ≡ min (b + suc (suc n)) most
     twice b n most = omega arith
 
-began_along : (only : Type 0) (course : Course) (files : List (Kind × List ℕ)) (before after : Shelf) (AtFile : Kind → List ℕ → Shelf → Type 0) (AtJob : Job → Shelf → Type 0) → HasFiles files course
-    → CameAlong only course before (λ kind file at. (after.begins ≡ more at.begins 1) × AtFile kind file at) (λ job at. (after ≡ at) × AtJob job at)
-    → BeganSome (between only before after) files
-began_along only (reads kind file next) (named ∷ files) before after AtFile AtJob has (inl here) =
-    record { count = 1; some = omega arith; most = omega arith; begins = here.0 }
-began_along only (reads kind file next) (named ∷ files) before after AtFile AtJob has (inr on) =
-    let rest = began_along only (next on.said) files on.after after AtFile AtJob (has.1 on.said) on.next in
+-- a file that stopped the run was begun
+began_at : (seen : ShelfChange) (kind : Kind) (file : List ℕ) (given : Reply) → StopsAt seen kind file given → seen.after.begins ≡ more seen.before.begins 1
+began_at seen kind file given (NoMemory begins is) = begins
+began_at seen kind file given (Stopped saw last is) = last.begins
+
+began_along : (only : Type 0) (course : Course) (files : List (Kind × List ℕ)) (before after : Shelf) (Here : Kind → List ℕ → Shelf → Type 0) (There : Job → Shelf → Type 0)
+    → ((kind : Kind) (file : List ℕ) (at : Shelf) → Here kind file at → after.begins ≡ more at.begins 1) → HasFiles files course
+    → CameAlong only course before Here (λ job at. (after ≡ at) × There job at) → BeganSome (between only before after) files
+began_along only (reads kind file next) (named ∷ files) before after Here There began has (inl here) =
+    record { count = 1; some = omega arith; most = omega arith; begins = began kind file before here }
+began_along only (reads kind file next) (named ∷ files) before after Here There began has (inr on) =
+    let rest = began_along only (next on.said) files on.after after Here There began (has.1 on.said) on.next in
     record { count = suc rest.count; some = omega arith; most = omega arith; begins = rest.begins ∙ ap (λ (n : ℕ). begun n rest.count) on.took.begins ∙ begun_more before.begins rest.count }
-began_along only (ends job) [] before after AtFile AtJob has here = record { count = 0; some = omega arith; most = omega arith; begins = ap (λ (shelf : Shelf). shelf.begins) here.0 }
-began_along only (reads kind file next) [] before after AtFile AtJob has came = absurd has
-began_along only (ends job) (named ∷ files) before after AtFile AtJob has came = absurd has
+began_along only (ends job) [] before after Here There began has here = record { count = 0; some = omega arith; most = omega arith; begins = ap (λ (shelf : Shelf). shelf.begins) here.0 }
+began_along only (reads kind file next) [] before after Here There began has came = absurd has
+began_along only (ends job) (named ∷ files) before after Here There began has came = absurd has
 
 -- wherever a run came to, as where there was no memory
-pub began_some : (words : List (List ℕ)) (shelf : ShelfChange) (AtFile : ShelfChange → Kind → List ℕ → Type 0) (AtJob : Ask → Job → Type 0) (came : Came words shelf AtFile AtJob)
-    → (files : List (Kind × List ℕ)) → HasFiles files (course_of came.ask) → BeganSome shelf files
-began_some words shelf AtFile AtJob came files has = began_along shelf.only_failures (course_of came.ask) files shelf.before shelf.after _ _ has came.along
+pub began_some : (ended : Status) (words : List (List ℕ)) (shelf : ShelfChange) (out err : SinkChange) (cause : HasCause ended words shelf out err)
+    → (files : List (Kind × List ℕ)) → HasFiles files (course_of cause.ask) → BeganSome shelf files
+began_some ended words shelf out err cause files has =
+    began_along shelf.only_failures (course_of cause.ask) files shelf.before shelf.after (λ kind file at. AtFile ended err (since at shelf) kind file) (λ job at. AtJob ended out err cause.ask job)
+    (λ kind file at here. began_at (since at shelf) kind file here.0 here.1) has cause.along

@@ -1,23 +1,23 @@
 -- The headline, from what was written by the commands that write rules and descriptions, and by the one that compares rules.
 use Rattle.std.proofs.Common.{◌≡◌, inl, inr, ℕ, List, Option, Some, subst}
 use Rattle.audit_core.specs.Rules.{Rules as AuditedRules}
-use Rattle.edge_io.specs.Counts.{more}
 use Rattle.edge_io.specs.Told.{Files}
 use Rattle.net_core.specs.Network.{Network}
 use Rattle.std.specs.FinMap.{get}
 use Rattle.std.specs.Prelude.{IfSome, codes}
-use Rattle.topos_top.specs.Ask.{Ask, Check, Policy, Rules, Repair, Trace, Sample, Migrate, Audit, Edit, Local}
+use Rattle.topos_top.specs.Ask.{Ask, Check, Policy, Rules, Repair, Trace, Sample, Migrate, Audit, Edit, Local, AskFor}
 use Rattle.topos_top.specs.Audit.{ForwardAlike, OfSides, audit_job, rules_in}
 use Rattle.topos_top.specs.Commands.{course_of}
 use Rattle.topos_top.specs.Course.{CameAlong}
 use Rattle.topos_top.specs.Dialects.{language_of}
 use Rattle.topos_top.specs.Job.{OneEnd, Told}
-use Rattle.topos_top.specs.Kinds.{contents_of}
 use Rattle.topos_top.specs.Local.{KeepLocal, local_job}
-use Rattle.topos_top.specs.Promises.{HasCause, Keeps, KeepsPromise}
+use Rattle.topos_top.specs.Promises.{HasCause, Keeps}
 use Rattle.topos_top.specs.Repair.{repair_job}
+use Rattle.topos_top.specs.Replies.{StopsAt}
+use Rattle.topos_top.specs.Reply.{Reply}
 use Rattle.topos_top.specs.Rules.{ListedHolds, KeepPolicy, rules_job}
-use Rattle.topos_top.specs.Shelf.{ShelfChange}
+use Rattle.topos_top.specs.Shelf.{ShelfChange, since}
 use Rattle.topos_top.specs.Taken.{SinkChange, Took}
 use Rattle.topos_top.specs.declared.dialect.Dialect.{Dialect}
 use Rattle.topos_top.specs.declared.kind.Kind.{Kind}
@@ -25,7 +25,7 @@ use Rattle.topos_top.specs.declared.status.Status.TheVariants.{Done}
 use Rattle.topos_top.proofs.AskLaws.{one_ask}
 use Rattle.topos_top.proofs.CommandLaws.{settled}
 use Rattle.topos_top.proofs.CourseLaws.{came_so}
-use Rattle.topos_top.proofs.KindLaws.{of_refused}
+use Rattle.topos_top.proofs.RunLaws.{stop_status}
 
 -- the one end of the two jobs that is done is that of the rules
 by_rules : (dialect : Dialect) (d : Network) (text : List ℕ) → OneEnd (Told Done text) (rules_job dialect d) → ListedHolds d × KeepPolicy (language_of dialect) d text
@@ -52,26 +52,26 @@ by_audit d rules text (inr (inr (inl equal))) = (equal.0.2, equal.1)
 by_audit d rules text (inr (inr (inr none))) = absurd none
 
 kept : (ask : Ask) (shelf : ShelfChange) (out : SinkChange)
-    → CameAlong shelf.only_failures (course_of ask) shelf.before (λ kind file at. (shelf.after.begins ≡ more at.begins 1) × ⊥) (λ job at. (shelf.after ≡ at) × ((text : List ℕ) × OneEnd (Told Done text) job × Took out text))
+    → CameAlong shelf.only_failures (course_of ask) shelf.before (λ kind file at. ⊥) (λ job at. (shelf.after ≡ at) × ((text : List ℕ) × OneEnd (Told Done text) job × Took out text))
     → Keeps ask shelf out
-kept (Rules dialect file) shelf out (inl stopped) = absurd stopped.1
+kept (Rules dialect file) shelf out (inl stopped) = absurd stopped
 kept (Rules dialect file) shelf out (inr on) =
     let end = by_rules dialect on.said on.next.1.0 on.next.1.1 in
-    record { bytes = on.bytes; held = on.held; said = on.said; read = on.read; so = (on.next.1.0, on.next.1.2, (end.1, λ given. end.1.invariants.listed given (end.0 given))) }
-kept (Repair dialect file) shelf out (inl stopped) = absurd stopped.1
+    record { bytes = on.bytes; held = on.held; said = on.said; read = on.read; so = (end.0, (on.next.1.0, on.next.1.2, end.1)) }
+kept (Repair dialect file) shelf out (inl stopped) = absurd stopped
 kept (Repair dialect file) shelf out (inr on) =
     record { bytes = on.bytes; held = on.held; said = on.said; read = on.read; so = (on.next.1.0, on.next.1.2, by_repair dialect on.said on.next.1.0 on.next.1.1) }
-kept (Migrate file) shelf out (inl stopped) = absurd stopped.1
+kept (Migrate file) shelf out (inl stopped) = absurd stopped
 kept (Migrate file) shelf out (inr on) = elim on.next.1.1 [
   | inl end ↦ record { bytes = on.bytes; held = on.held; said = on.said; read = on.read; so = subst (Took out) end.1 on.next.1.2 }
   | inr none ↦ absurd none
 ]
-kept (Local file host) shelf out (inl stopped) = absurd stopped.1
+kept (Local file host) shelf out (inl stopped) = absurd stopped
 kept (Local file host) shelf out (inr on) =
     record { bytes = on.bytes; held = on.held; said = on.said; read = on.read; so = (on.next.1.0, on.next.1.2, by_local on.said host on.next.1.0 on.next.1.1) }
-kept (Audit dialect file rules) shelf out (inl stopped) = absurd stopped.1
+kept (Audit dialect file rules) shelf out (inl stopped) = absurd stopped
 kept (Audit dialect file rules) shelf out (inr on) = elim on.next [
-  | inl stopped ↦ absurd stopped.1
+  | inl stopped ↦ absurd stopped
   | inr second ↦
       let end = by_audit on.said (rules_in dialect second.said) second.next.1.0 second.next.1.1 in
       record {
@@ -94,11 +94,12 @@ kept (Trace dialect rules events) shelf out came = tt
 kept (Sample hosts) shelf out came = tt
 kept (Edit file edits) shelf out came = tt
 
--- no file is refused as done
-never_done : (kind : Kind) → (contents_of kind).refused_as ≡ Done → ⊥
-never_done kind = of_refused (λ t. t ≡ Done → ⊥) (λ e. cc e) (λ e. cc e) kind
+-- no file stops a run that is done
+never_done : (seen : ShelfChange) (kind : Kind) (file : List ℕ) (given : Reply) → StopsAt seen kind file given → given.status ≡ Done → ⊥
+never_done seen kind file given stops done = stop_status seen kind file (λ t. t ≡ Done → ⊥) given (λ e. cc e) (λ e. cc e) (λ e. cc e) (λ e. cc e) stops done
 
-pub headline_law : (words : List (List ℕ)) (shelf : ShelfChange) (out err : SinkChange) → HasCause Done words shelf out err → KeepsPromise words shelf out
+pub headline_law : (words : List (List ℕ)) (shelf : ShelfChange) (out err : SinkChange) → HasCause Done words shelf out err
+    → (ask : Ask) → AskFor words ask → Keeps ask shelf out
 headline_law words shelf out err wrote ask asked =
     subst (λ (a : Ask). Keeps a shelf out) (one_ask words wrote.ask ask wrote.asked asked) (kept wrote.ask shelf out
-    (came_so shelf.only_failures (course_of wrote.ask) shelf.before _ _ _ _ (settled wrote.ask) (λ kind file at here. (here.0, never_done kind here.1.0)) (λ job at owed here. (here.0, (here.1.0, here.1.1, here.1.2.0))) wrote.along))
+    (came_so shelf.only_failures (course_of wrote.ask) shelf.before _ _ _ _ (settled wrote.ask) (λ kind file at here. never_done (since at shelf) kind file here.0 here.1 here.2) (λ job at owed here. (here.0, (here.1.0, here.1.1, here.1.2.0))) wrote.along))

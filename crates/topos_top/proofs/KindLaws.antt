@@ -77,20 +77,20 @@ reads_once Edited bytes a b p q = same_table bytes a b p.0 q.0
 reads_once Edits bytes a b p q = one_reading_by_lines edits_text edits_settled bytes a b p q
 
 pub reads_or_refuses : (kind : Kind) (bytes line : List ℕ) (said : (contents_of kind).Said) → (contents_of kind).Reads bytes said → (contents_of kind).Refuses bytes line → ⊥
-reads_or_refuses Description bytes line said p q = let why = q.refused in cc (p, why)
+reads_or_refuses Description bytes line said p q = let why = q.1 in cc (p, why)
 reads_or_refuses (Rules Iptables) bytes line said p q = no_reading_with_fault bytes said q.number q.why q.fault p
 reads_or_refuses (Rules OpenFlow) bytes line said p q = no_flows_with_fault bytes said q.number q.why q.fault p
 reads_or_refuses Events bytes line said p q = no_reading_with_fault_by_lines events_text events_settled bytes said q.number q.why q.fault p
-reads_or_refuses Document bytes line said p q = let accepted = p.accepted in let why = q.refused in cc (accepted, why)
-reads_or_refuses Edited bytes line said p q = let accepted = p.1.1 in let why = q.refused in cc (accepted, why)
+reads_or_refuses Document bytes line said p q = let accepted = p.accepted in let why = q.1 in cc (accepted, why)
+reads_or_refuses Edited bytes line said p q = let accepted = p.1.1 in let why = q.1 in cc (accepted, why)
 reads_or_refuses Edits bytes line said p q = no_reading_with_fault_by_lines edits_text edits_settled bytes said q.number q.why q.fault p
 
 same_refusal : (bytes l m : List ℕ) → IsNoDescription bytes l → IsNoDescription bytes m → l ≡ m
 same_refusal bytes l m p q =
-    let a = p.refused in
-    let b = q.refused in
-    let why : p.why ≡ q.why = cc (a, b) in
-    p.told ∙ ap refusal_text why ∙ sym q.told
+    let a = p.1 in
+    let b = q.1 in
+    let why : p.0 ≡ q.0 = cc (a, b) in
+    p.2 ∙ ap refusal_text why ∙ sym q.2
 
 same_line : {Why : Type 0} (text : List ℕ) (reason_of : Why → List ℕ) (HasFault : List ℕ → ℕ → Why → Type 0) (bytes : List ℕ)
     → ((n m : ℕ) (w v : Why) → HasFault bytes n w → HasFault bytes m v → (n ≡ m) × (w ≡ v))
@@ -120,7 +120,7 @@ of_refused P description text Edits = text
 -- ---- bytes past the limit
 
 long_description : (bytes : List ℕ) → (contents_of Description).most < length bytes → IsNoDescription bytes (refusal_text (refused TooLong WholeDocument))
-long_description bytes long = record { why = refused TooLong WholeDocument; refused = described-too_long bytes long; told = refl }
+long_description bytes long = (refused TooLong WholeDocument, described-too_long bytes long, refl)
 
 pub long_is_refused : (bytes : List ℕ) → (contents_of Description).most < length bytes → IsRefused Description bytes (error BadDescription (refusal_text (refused TooLong WholeDocument)))
 long_is_refused bytes long = record { line = refusal_text (refused TooLong WholeDocument); refuses = long_description bytes long; replied = refl }

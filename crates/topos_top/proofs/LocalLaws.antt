@@ -121,7 +121,7 @@ module _ (d : Network) (host : List ℕ) where
 
       said_where_barred : ((line : List ℕ) × IsBarred d host line) → reply.status ≡ NotEmittable
       said_where_barred bar = elim answers.1 [
-        | inl violated ↦ absurd (violated.1.1 (holds violated.1.0))
+        | inl violated ↦ absurd (violated.1 holds)
         | inr rest ↦ elim rest [
           | inl barred ↦ barred.0
           | inr last ↦ elim last [ inl written ↦ absurd (specific_or_barred bar.0 bar.1 written.1.1) | inr none ↦ absurd none ]

@@ -37,7 +37,7 @@ pub description_refused : (kind : Kind) → ((bytes line : List ℕ) → IsNoDes
 description_refused kind refuses status shelf file bytes (desc.Refused why) given took cause is =
     refused_whole kind file bytes shelf given took (record {
       line = refusal_text why;
-      refuses = refuses bytes (refusal_text why) (record { why = why; refused = cause why refl; told = refl });
+      refuses = refuses bytes (refusal_text why) (why, cause why refl, refl);
       replied = is ∙ ap (λ (ended : Status). error ended (refusal_text why)) (sym status);
     })
 description_refused kind refuses status shelf file bytes desc.Memory given took cause is = NoMemory took.took.begins is

@@ -1,13 +1,10 @@
 -- What follows from the one reply of a run, by where it came to: a table of what is so there in each status.
 use Rattle.std.proofs.Common.{◌≡◌, ◌⊎◌, inl, inr, ℕ, List, Option, None, Some, Bool, true, false, true≢false, refl, ap, sym, subst, ◌∙◌}
 use Rattle.std.specs.Prelude.{◌↔◌}
-use Rattle.edge_io.specs.Counts.{more}
-use Rattle.topos_top.specs.Ask.{Ask, AskNothing, reports_on_output}
-use Rattle.topos_top.specs.inner.Ask.{AsksToReport}
+use Rattle.topos_top.specs.Ask.{Ask, AskNothing, AsksToReport, reports_on_output}
 use Rattle.topos_top.specs.Commands.{course_of}
 use Rattle.topos_top.specs.Job.{Job, Answers, OneEnd, Told, stream_of}
-use Rattle.topos_top.specs.Kinds.{contents_of}
-use Rattle.topos_top.specs.Promises.{AtFile, AtJob, GaveReply, HasCause, SaidRefusal}
+use Rattle.topos_top.specs.Promises.{AtFile, AtJob, GaveReply, HasCause}
 use Rattle.topos_top.specs.Replies.{StopsAt, NoMemory, Stopped, MayReply}
 use Rattle.topos_top.specs.Reply.{Reply, error, no_memory, usage}
 use Rattle.topos_top.specs.Shelf.{Shelf, ShelfChange, since}
@@ -57,28 +54,34 @@ to_errors true status.Violated not_done not_reported = absurd (not_reported refl
 to_errors false status.Violated not_done not_reported = refl
 to_errors on s not_done not_reported = refl
 
+-- a file that stops a run has its reply in one of four statuses, and for the error stream
+pub stop_status : (seen : ShelfChange) (kind : Kind) (file : List ℕ) (P : Status → Type 0) (given : Reply) → P status.ReadFault → P status.Memory → P status.BadDescription → P status.BadText
+    → StopsAt seen kind file given → P given.status
+stop_status seen kind file P given unread memory description text (NoMemory begins is) = subst (λ (r : Reply). P r.status) (sym is) memory
+stop_status seen kind file P given unread memory description text (Stopped None last is) = subst (λ (r : Reply). P r.status) (sym is) unread
+stop_status seen kind file P given unread memory description text (Stopped (Some bytes) last is) =
+    subst (λ (r : Reply). P r.status) (sym is.replied) (of_refused P description text kind)
+
+stop_stream : (seen : ShelfChange) (kind : Kind) (file : List ℕ) (given : Reply) → StopsAt seen kind file given → given.stream ≡ Errors
+stop_stream seen kind file given (NoMemory begins is) = ap (λ (r : Reply). r.stream) is
+stop_stream seen kind file given (Stopped None last is) = ap (λ (r : Reply). r.stream) is
+stop_stream seen kind file given (Stopped (Some bytes) last is) = ap (λ (r : Reply). r.stream) is.replied
+
 -- ---- the clauses
 
 module _ (words : List (List ℕ)) (shelf : ShelfChange) (out err : SinkChange) (s : Status) (gave : GaveReply words shelf out err s) where
   in_error : (ended : Status) (line : List ℕ) → gave.reply ≡ error ended line → (s ≡ ended) × (out.held_after ≡ out.held_before) × IsSaid err line
   in_error ended line is = ends_in_error out err s gave.reply ended line is gave.given
 
-  at_file : (kind : Kind) (file : List ℕ) (at : Shelf) → StopsAt (since at shelf) kind file gave.reply
-      → (shelf.after.begins ≡ more at.begins 1) × AtFile s err (since at shelf) kind file
-  at_file kind file at stops = by_stop stops
-    where
-      row : (t : Status) → s ≡ t → AtFile t err (since at shelf) kind file → AtFile s err (since at shelf) kind file
-      row t is here = subst (λ (t : Status). AtFile t err (since at shelf) kind file) (sym is) here
+  -- a reply for the error stream ends the run in its status, and its line is said
+  said_error : gave.reply.stream ≡ Errors → (gave.reply.status ≡ s) × IsSaid err gave.reply.text
+  said_error errors = elim gave.given [
+    | inl whole ↦ (sym whole.0, (subst (λ (stream : Stream). WentTo stream out err gave.reply.text) errors whole.1).1)
+    | inr cut ↦ let other = cut.1 in cc (errors, other)
+  ]
 
-      refused : SaidRefusal (since at shelf) kind file err → AtFile (contents_of kind).refused_as err (since at shelf) kind file
-      refused why = of_refused (λ t. (contents_of kind).refused_as ≡ t → AtFile t err (since at shelf) kind file) (λ same. (same, why)) (λ same. (same, why)) kind refl
-
-      by_stop : StopsAt (since at shelf) kind file gave.reply → (shelf.after.begins ≡ more at.begins 1) × AtFile s err (since at shelf) kind file
-      by_stop (NoMemory begins is) = let end = in_error _ _ is in (begins, row _ end.0 end.2)
-      by_stop (Stopped None last is) = let end = in_error _ _ is in (last.begins, row _ end.0 (last.held, end.2))
-      by_stop (Stopped (Some bytes) last is) =
-          let end = in_error _ _ is.replied in
-          (last.begins, row _ end.0 (refused (record { bytes = bytes; last = last; line = is.line; refused = is.refuses; said = end.2 })))
+  at_file : (kind : Kind) (file : List ℕ) (at : Shelf) → StopsAt (since at shelf) kind file gave.reply → AtFile s err (since at shelf) kind file
+  at_file kind file at stops = let said = said_error (stop_stream (since at shelf) kind file gave.reply stops) in (gave.reply, stops, said.0, said.1)
 
   at_job : (ask : Ask) (job : Job) → IsSettled job → (gave.reply ≡ no_memory) ⊎ Answers (reports_on_output ask) job gave.reply → AtJob s out err ask job
   at_job ask job owed (inl lack) = let end = in_error _ _ lack in subst (λ (t : Status). AtJob t out err ask job) (sym end.0) end.2
@@ -118,7 +121,7 @@ module _ (words : List (List ℕ)) (shelf : ShelfChange) (out err : SinkChange) 
     where
       nowhere : HasCause status.Usage words shelf out err → ⊥
       nowhere there = wherever shelf.only_failures (course_of there.ask) shelf.before _ _ (settled there.ask)
-          (λ kind file at here. of_refused (λ t. t ≡ status.Usage → ⊥) (λ e. cc e) (λ e. cc e) kind here.1.0)
+          (λ kind file at here. stop_status (since at shelf) kind file (λ t. t ≡ status.Usage → ⊥) here.0 (λ e. cc e) (λ e. cc e) (λ e. cc e) (λ e. cc e) here.1 here.2)
           (λ job at owed here. no_usage out err there.ask job owed here.1) there.along
 
   -- ---- streams that are as they were
@@ -128,9 +131,8 @@ module _ (words : List (List ℕ)) (shelf : ShelfChange) (out err : SinkChange) 
   error_goes on ended line is errors = subst (λ (r : Reply). r.stream ≡ stream_of on r.status) (sym is) errors
 
   file_goes : (on : Bool) (kind : Kind) (file : List ℕ) (at : Shelf) → StopsAt (since at shelf) kind file gave.reply → gave.reply.stream ≡ stream_of on gave.reply.status
-  file_goes on kind file at (NoMemory begins is) = error_goes on _ _ is refl
-  file_goes on kind file at (Stopped None last is) = error_goes on _ _ is refl
-  file_goes on kind file at (Stopped (Some bytes) last is) = error_goes on _ _ is.replied (of_refused (λ t. Errors ≡ stream_of on t) refl refl kind)
+  file_goes on kind file at stops =
+      stop_stream (since at shelf) kind file gave.reply stops ∙ stop_status (since at shelf) kind file (λ t. Errors ≡ stream_of on t) gave.reply refl refl refl refl stops
 
   job_goes : (on : Bool) (job : Job) → (gave.reply ≡ no_memory) ⊎ Answers on job gave.reply → gave.reply.stream ≡ stream_of on gave.reply.status
   job_goes on job (inl lack) = error_goes on _ _ lack refl

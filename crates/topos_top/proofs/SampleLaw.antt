@@ -2,13 +2,12 @@
 use Rattle.std.proofs.Common.{◌≡◌, inl, inr, ℕ, false, List, ap, subst, ◌∙◌}
 use Rattle.sample_core.proofs.SamplePromisesLaws.{tells_sample}
 use Rattle.topos_top.specs.Ask.{Ask, Sample, AskFor, reports_on_output}
-use Rattle.topos_top.specs.Commands.{course_of}
-use Rattle.topos_top.specs.inner.Commands.{NamesNoFile}
-use Rattle.topos_top.specs.inner.Course.{ReadsNothing}
+use Rattle.topos_top.specs.Commands.{course_of, NamesNoFile}
+use Rattle.topos_top.specs.Course.{ReadsNothing}
 use Rattle.topos_top.specs.Job.{Answers, stream_of}
 use Rattle.topos_top.specs.Promises.{CutOff, EndsAsSample, GaveReply, NoMemory, Written}
 use Rattle.topos_top.specs.Replies.{MayReply}
-use Rattle.topos_top.specs.Reply.{Reply, no_memory, memory_line}
+use Rattle.topos_top.specs.Reply.{Reply, no_memory}
 use Rattle.topos_top.specs.Sample.{sample_job}
 use Rattle.topos_top.specs.Shelf.{ShelfChange}
 use Rattle.topos_top.specs.Taken.{SinkChange, WentTo, IsGiven}
@@ -34,7 +33,7 @@ by_answer n out err reply s (stream, inl end) given =
 
 by_memory : (n : ℕ) (out err : SinkChange) (reply : Reply) (s : Status) → reply ≡ no_memory → IsGiven out err reply s → EndsAsSample n out s
 by_memory n out err reply s lack given =
-    let end = ends_in_error out err s reply status.Memory memory_line lack given in
+    let end = ends_in_error out err s reply status.Memory no_memory.text lack given in
     NoMemory end.0 end.1
 
 by_asked : (n : ℕ) (shelf : ShelfChange) (out err : SinkChange) (reply : Reply) (s : Status) → MayReply false (course_of (Sample n)) shelf reply → IsGiven out err reply s → EndsAsSample n out s

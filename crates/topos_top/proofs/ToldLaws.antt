@@ -5,9 +5,9 @@ use Rattle.edge_io.specs.Counts.{Rose}
 use Rattle.edge_io.specs.Told.{Files}
 use Rattle.topos_top.specs.Ask.{Ask, reports_on_output}
 use Rattle.topos_top.specs.Commands.{course_of}
-use Rattle.topos_top.specs.Promises.{GaveReply, IsTheReply, IsComplete}
+use Rattle.topos_top.specs.Promises.{GaveReply, IsComplete}
 use Rattle.topos_top.specs.Replies.{MayGive, Replies, RepliesTo, telling}
-use Rattle.topos_top.specs.Reply.{Reply, no_memory, memory_line}
+use Rattle.topos_top.specs.Reply.{Reply, no_memory}
 use Rattle.topos_top.specs.Shelf.{ShelfChange}
 use Rattle.topos_top.specs.Taken.{SinkChange, IsGiven}
 use Rattle.topos_top.specs.declared.status.Status.{Status}
@@ -41,9 +41,9 @@ pub complete_law : (words : List (List ℕ)) (shelf : ShelfChange) (out err : Si
 complete_law words shelf out err s gave = by_told shelf.before.told refl
   where
     by_told : (told : Option Files) → shelf.before.told ≡ told
-        → IfSome told (λ files. (Rose shelf.before.faults shelf.after.faults → ⊥) → (s ≡ status.Memory) ⊎ ((reply : Reply) × IsTheReply words files reply × IsGiven out err reply s))
+        → IfSome told (λ files. (Rose shelf.before.faults shelf.after.faults → ⊥) → (s ≡ status.Memory) ⊎ ((reply : Reply) × RepliesTo words files reply × ((other : Reply) → RepliesTo words files other → other ≡ reply) × IsGiven out err reply s))
     by_told None is = tt
     by_told (Some files) is = λ no_fault. elim (may_as_told words shelf files gave.reply is no_fault gave.allowed) [
-      | inl lack ↦ inl (ends_in_error out err s gave.reply status.Memory memory_line lack gave.given).0
-      | inr allowed ↦ inr (gave.reply, record { allowed = allowed; only = λ other replies. reply_to_is_one words files other gave.reply replies allowed }, gave.given)
+      | inl lack ↦ inl (ends_in_error out err s gave.reply status.Memory no_memory.text lack gave.given).0
+      | inr allowed ↦ inr (gave.reply, allowed, λ other replies. reply_to_is_one words files other gave.reply replies allowed, gave.given)
     ]

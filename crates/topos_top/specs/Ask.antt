@@ -1,5 +1,5 @@
 -- What the words of a command line ask for (docs/GUIDE.md): a constructor for each form, with all that its words say.
-use Rattle.std.specs.Prelude.{◌≡◌, ℕ, ◌<◌, ◌≤◌, List, [], ◌∷◌, ◌++◌, Bool, true, false, codes, decimal}
+use Rattle.std.specs.Prelude.{◌≡◌, ℕ, ◌<◌, ◌≤◌, List, [], ◌∷◌, ◌++◌, Bool, true, false, IsTrue, codes, decimal}
 use Rattle.host_net.specs.Limits.{host_limit}
 use Rattle.topos_top.specs.declared.dialect.Dialect.{Dialect}
 use Rattle.topos_top.specs.declared.dialect.Dialect.TheVariants.{Iptables, OpenFlow}
@@ -65,3 +65,7 @@ abbrev pub reports_on_output : Ask → Bool
 reports_on_output (Check file) = true
 reports_on_output (Audit dialect file rules) = true
 reports_on_output _ = false
+
+-- The words ask for a command that reports so.
+abbrev pub AsksToReport : List (List ℕ) → Type 0
+AsksToReport words = (ask : Ask) × AskFor words ask × IsTrue (reports_on_output ask)

@@ -1,8 +1,9 @@
 -- The table of the commands: the course of each. Policies and reports are singled out by what is true of them, and not by a way to find them.
-use Rattle.topos_top.specs.Ask.{Ask, Check, Policy, Rules, Repair, Trace, Sample, Migrate, Audit, Edit, Local}
+use Rattle.std.specs.Prelude.{ℕ, List}
+use Rattle.topos_top.specs.Ask.{Ask, Check, Policy, Rules, Repair, Trace, Sample, Migrate, Audit, Edit, Local, AskFor}
 use Rattle.topos_top.specs.Audit.{audit_job, rules_in}
 use Rattle.topos_top.specs.Check.{check_job}
-use Rattle.topos_top.specs.Course.{Course, reads, ends}
+use Rattle.topos_top.specs.Course.{Course, reads, ends, ReadsNothing}
 use Rattle.topos_top.specs.Edit.{edit_job}
 use Rattle.topos_top.specs.Local.{local_job}
 use Rattle.topos_top.specs.Migrate.{migrate_job}
@@ -24,3 +25,7 @@ course_of (Migrate file) = reads kind.Document file (λ text. ends (migrate_job 
 course_of (Audit dialect file rules) = reads kind.Description file (λ d. reads (kind.Rules dialect) rules (λ said. ends (audit_job d (rules_in dialect said))))
 course_of (Edit file edits) = reads kind.Edited file (λ table. reads kind.Edits edits (λ es. ends (edit_job table es)))
 course_of (Local file host) = reads kind.Description file (λ d. ends (local_job d host))
+
+-- the words are no command, or one that names no file
+abbrev pub NamesNoFile : List (List ℕ) → Type 0
+NamesNoFile words = (ask : Ask) → AskFor words ask → ReadsNothing (course_of ask)

@@ -9,6 +9,11 @@ pub data Course : Type 1 where
   reads : (kind : Kind) (file : List ℕ) → ((contents_of kind).Said → Course) → Course
   ends : Job → Course
 
+-- a course without files
+abbrev pub ReadsNothing : Course → Type 0
+ReadsNothing (reads kind file next) = ⊥
+ReadsNothing (ends job) = Unit {0}
+
 -- A file was accepted with this reading, and what comes next is so with the shelf after it.
 pub record Accepted (only_failures : Type 0) (shelf : Shelf) (kind : Kind) (file : List ℕ) (Next : (contents_of kind).Said → Shelf → Type 0) : Type 0 where
   pub bytes : List ℕ

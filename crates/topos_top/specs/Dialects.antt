@@ -26,7 +26,7 @@ use Rattle.topos_top.specs.declared.dialect.Dialect.{Dialect}
 use Rattle.topos_top.specs.declared.dialect.Dialect.TheVariants.{Iptables, OpenFlow}
 
 -- A dialect: what rules are, their text, which rules a text is read as, why one is refused, which packets rules let pass in which state, and what they do with frames that are no such packets;
--- and for a site with permitted flows p and stateful ones s their rules, where these can be written, and the line that says why not (docs/FORMATS.md).
+-- and for a site with permitted flows p and stateful ones s their rules, where these can be written, and the line that says why not (docs/TEXTS.md).
 pub record Language : Type 1 where
   pub Rules : Type 0
   pub text : Rules → List ℕ

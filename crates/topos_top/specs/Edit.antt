@@ -13,7 +13,7 @@ use Rattle.topos_top.specs.Job.{End, Job, says_why}
 use Rattle.topos_top.specs.TextFault.{edit_fault_line}
 use Rattle.topos_top.specs.declared.status.Status.TheVariants.{BadText, Done}
 
--- The line of a summary, by the number of its edit from 1 (docs/FORMATS.md).
+-- The line of a summary, by the number of its edit from 1 (docs/TEXTS.md).
 abbrev pub summary_line : ℕ → Summary → List ℕ
 summary_line k s =
     decimal k

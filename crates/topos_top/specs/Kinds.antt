@@ -28,11 +28,9 @@ pub record Contents : Type 1 where
   pub Refuses : (bytes line : List ℕ) → Type 0
   pub refused_as : Status
 
--- the bytes are no description, for this refusal
-pub record IsNoDescription (bytes line : List ℕ) : Type 0 where
-  pub why : Refusal
-  pub refused : described bytes ≡ Err why
-  pub told : line ≡ refusal_text why
+-- the bytes are no description, and the line is that of the refusal
+abbrev pub IsNoDescription : (bytes line : List ℕ) → Type 0
+IsNoDescription bytes line = (why : Refusal) × (described bytes ≡ Err why) × (line ≡ refusal_text why)
 
 -- a description, of which this is read
 abbrev pub description : (Said : Type 0) → (List ℕ → Said → Type 0) → Contents

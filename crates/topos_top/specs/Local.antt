@@ -12,10 +12,10 @@ use Rattle.net_core.specs.Policies.{Policy}
 use Rattle.topos_top.specs.Check.{offences_when}
 use Rattle.topos_top.specs.Job.{Job, says_why}
 use Rattle.topos_top.specs.Reply.{not_emittable}
-use Rattle.topos_top.specs.Rules.{KeepInvariants, ListedFails, ListedHolds, OfPolicy}
+use Rattle.topos_top.specs.Rules.{KeepInvariants, ListedHolds, OfPolicy}
 use Rattle.topos_top.specs.declared.status.Status.TheVariants.{Violated, NotEmittable, Done}
 
--- Why there are no rules for a host of that name, and the line that says so (docs/FORMATS.md): there is no such host, or it is the rest host, which has no machines of its own.
+-- Why there are no rules for a host of that name, and the line that says so (docs/TEXTS.md): there is no such host, or it is the rest host, which has no machines of its own.
 pub data IsBarred (d : Network) (host line : List ℕ) : Type 0 where
   NoHost : host_named d.hosts host ≡ None → line ≡ not_emittable (codes "no host " ++ (host ++ codes "\n")) → IsBarred d host line
   RestHost : (h : ℕ) → host_named d.hosts host ≡ Some h → rest_of d.hosts ≡ Some h → line ≡ not_emittable (host ++ codes " is the rest host\n") → IsBarred d host line
@@ -56,4 +56,4 @@ machines_when holds d host =
 
 -- The same, or the report of `check` where a listed policy breaks an invariant.
 abbrev pub local_job : Network → (host : List ℕ) → Job
-local_job d host = offences_when Violated (ListedFails d) d ∷ machines_when (ListedHolds d) d host
+local_job d host = offences_when Violated (ListedHolds d → ⊥) d ∷ machines_when (ListedHolds d) d host

@@ -6,7 +6,7 @@ use Rattle.edge_io.specs.Told.{Files}
 use Rattle.topos_top.specs.Ask.{Ask, AskFor, AskNothing, reports_on_output}
 use Rattle.topos_top.specs.Commands.{course_of}
 use Rattle.topos_top.specs.Course.{Course, CameAlong}
-use Rattle.topos_top.specs.Job.{Job, Answers, AnswersFirst}
+use Rattle.topos_top.specs.Job.{Answers, AnswersFirst}
 use Rattle.topos_top.specs.Kinds.{IsRefused}
 use Rattle.topos_top.specs.Reply.{Reply, usage, cannot_read, no_memory}
 use Rattle.topos_top.specs.Shelf.{Shelf, ShelfChange, SawFile, since, taken_of}
@@ -28,15 +28,12 @@ pub data StopsAt (shelf : ShelfChange) (kind : Kind) (file : List ℕ) (given : 
   NoMemory : shelf.after.begins ≡ more shelf.before.begins 1 → given ≡ no_memory → StopsAt shelf kind file given
   Stopped : (saw : Option (List ℕ)) → BeganLast shelf kind file saw → Stops kind file saw given → StopsAt shelf kind file given
 
--- The reply at the job, for which nothing is taken off the shelf: there was no memory for it, or it is that of the job.
-abbrev pub EndsAt : (on_output : Bool) → ShelfChange → Job → Reply → Type 0
-EndsAt on_output shelf job given = (shelf.after ≡ shelf.before) × ((given ≡ no_memory) ⊎ Answers on_output job given)
-
--- Why a command may give a reply: along its course it was stopped by a file, or it came to its job.
+-- Why a command may give a reply: along its course it was stopped by a file, or it came to its job, for which nothing is taken off the shelf. There was no memory for the job,
+-- or the reply is that of it.
 abbrev pub MayReply : (on_output : Bool) → Course → ShelfChange → Reply → Type 0
 MayReply on_output course shelf given = CameAlong shelf.only_failures course shelf.before
     (λ kind file before. StopsAt (since before shelf) kind file given)
-    (λ job before. EndsAt on_output (since before shelf) job given)
+    (λ job before. (shelf.after ≡ before) × ((given ≡ no_memory) ⊎ Answers on_output job given))
 
 -- Words that are no form of the command line give the usage, and begin no file.
 abbrev pub MayGive : List (List ℕ) → ShelfChange → Reply → Type 0

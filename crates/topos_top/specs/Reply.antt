@@ -1,4 +1,4 @@
--- What the program replies to its words: how the run ends, and a text for one of the two streams (docs/GUIDE.md, docs/FORMATS.md).
+-- What the program replies to its words: how the run ends, and a text for one of the two streams (docs/GUIDE.md, docs/TEXTS.md).
 use Rattle.std.specs.Prelude.{ℕ, List, ◌++◌, codes}
 use Rattle.topos_top.specs.Ask.{usage_text}
 use Rattle.topos_top.specs.declared.status.Status.{Status}
@@ -19,22 +19,12 @@ error ended line = record { status = ended; stream = Errors; text = line }
 abbrev pub usage : Reply
 usage = error status.Usage usage_text
 
-abbrev pub cannot_read_line : (file : List ℕ) → List ℕ
-cannot_read_line file = codes "topos: cannot read " ++ (file ++ codes "\n")
-
 abbrev pub cannot_read : (file : List ℕ) → Reply
-cannot_read file = error status.ReadFault (cannot_read_line file)
-
-abbrev pub memory_line : List ℕ
-memory_line = codes "topos: out of memory\n"
+cannot_read file = error status.ReadFault (codes "topos: cannot read " ++ (file ++ codes "\n"))
 
 abbrev pub no_memory : Reply
-no_memory = error status.Memory memory_line
+no_memory = error status.Memory (codes "topos: out of memory\n")
 
 -- the line that what is asked for cannot be written, and why
 abbrev pub not_emittable : (why : List ℕ) → List ℕ
 not_emittable why = codes "topos: not emittable: " ++ why
-
--- the line after a write fault of the output
-abbrev pub write_fault_line : List ℕ
-write_fault_line = codes "topos: cannot write\n"

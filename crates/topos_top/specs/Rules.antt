@@ -12,10 +12,6 @@ use Rattle.topos_top.specs.Job.{Job, says_why}
 use Rattle.topos_top.specs.declared.dialect.Dialect.{Dialect}
 use Rattle.topos_top.specs.declared.status.Status.TheVariants.{Violated, NotEmittable, Done}
 
--- A policy is listed, and some invariant fails on it.
-abbrev pub ListedFails : Network → Type 0
-ListedFails d = IsTrue d.given × (AskedHolds d → ⊥)
-
 -- Where a policy is listed, every invariant holds on it.
 abbrev pub ListedHolds : Network → Type 0
 ListedHolds d = IsTrue d.given → AskedHolds d
@@ -31,7 +27,8 @@ abbrev pub IsRules : Language → Network → (rules : List ℕ) → Type 0
 IsRules language d rules = OfPolicy d (λ site p s. rules ≡ language.text (language.layout site p s))
 
 -- What a policy of a network keeps, whatever is written for it.
--- The permitted flows are the first subset of the asked ones that meets every invariant, and the greatest where all of them judge flows alone. Each asked flow that is left out breaks an invariant beside the permitted flows. A listed policy that meets every invariant is permitted as it is.
+-- The permitted flows are the first subset of the asked ones that meets every invariant, and the greatest where all of them judge flows alone.
+-- Each asked flow that is left out breaks an invariant beside the permitted flows. A listed policy that meets every invariant is permitted as it is.
 -- The stateful flows are the first whose answers break no strict invariant, and with these answers the policy complies with every invariant.
 pub record KeepInvariants (d : Network) (policy : Policy) : Type 0 where
   pub is_policy : IsPolicyOf d policy
@@ -67,4 +64,4 @@ rules_when holds language d =
 
 -- The rules, or the report of `check` where a listed policy breaks an invariant.
 abbrev pub rules_job : Dialect → Network → Job
-rules_job dialect d = offences_when Violated (ListedFails d) d ∷ rules_when (ListedHolds d) (language_of dialect) d
+rules_job dialect d = offences_when Violated (ListedHolds d → ⊥) d ∷ rules_when (ListedHolds d) (language_of dialect) d

@@ -2,7 +2,9 @@
 use Rattle.std.specs.Prelude.{◌≡◌, ℕ, ◌+◌, ◌≤◌, ◌⊎◌, List, length, min, Option, None, Some, IfSome}
 use Rattle.std.specs.FinMap.{get}
 use Rattle.edge_io.specs.Counts.{more, Rose}
+use Rattle.edge_io.specs.Failures.{ShelfCountsOnlyFailures}
 use Rattle.edge_io.specs.Told.{Files, Lacks}
+use Rattle.edge_io.specs.declared.traits.Shelf.{Ghosts}
 use Rattle.topos_top.specs.Kinds.{contents_of}
 use Rattle.topos_top.specs.declared.kind.Kind.{Kind}
 
@@ -18,6 +20,13 @@ pub record ShelfChange : Type 1 where
   pub before : Shelf
   pub after : Shelf
   pub only_failures : Type 0
+
+-- a shelf as its kind tells of it, and before a call and after it
+abbrev pub shelf_seen : {S : Type 0} → Ghosts S → S → Shelf
+shelf_seen H shelf = record { told = H.files shelf; faults = H.faults shelf; begins = H.begins shelf; taken = H.taken shelf }
+
+abbrev pub shelf_change : {S : Type 0} → Ghosts S → (old new : S) → ShelfChange
+shelf_change H old new = record { before = shelf_seen H old; after = shelf_seen H new; only_failures = ShelfCountsOnlyFailures H }
 
 -- the change of the shelf since it was like this
 abbrev pub since : Shelf → ShelfChange → ShelfChange

@@ -1,9 +1,10 @@
 -- What one call put into its sinks.
-use Rattle.std.specs.Prelude.{◌≡◌, ℕ, ◌⊎◌, List, Option}
+use Rattle.std.specs.Prelude.{◌≡◌, ℕ, ◌⊎◌, List, Option, codes}
 use Rattle.std.specs.Io.KnownBytes.{append_known}
 use Rattle.edge_io.specs.Counts.{Rose}
 use Rattle.edge_io.specs.Told.{TookPrefix}
-use Rattle.topos_top.specs.Reply.{Reply, write_fault_line}
+use Rattle.edge_io.specs.declared.traits.Sink.{Ghosts}
+use Rattle.topos_top.specs.Reply.{Reply}
 use Rattle.topos_top.specs.declared.status.Status.{Status}
 use Rattle.topos_top.specs.declared.status.Status.TheVariants as status
 use Rattle.topos_top.specs.declared.status.Stream.{Stream}
@@ -15,6 +16,10 @@ pub record SinkChange : Type 0 where
   pub held_after : Option (List ℕ)
   pub faults_before : ℕ
   pub faults_after : ℕ
+
+-- a sink before a call and after it, as its kind tells of it
+abbrev pub sink_change : {S : Type 0} → Ghosts S → (old new : S) → SinkChange
+sink_change O old new = record { held_before = O.held old; held_after = O.held new; faults_before = O.faults old; faults_after = O.faults new }
 
 -- the sink took these bytes whole
 abbrev pub Took : SinkChange → List ℕ → Type 0
@@ -35,7 +40,7 @@ WentTo Errors out err text = (out.held_after ≡ out.held_before) × IsSaid err 
 
 -- The output had a fault after a prefix of its text, and the error stream says so.
 abbrev pub BrokeOff : (out err : SinkChange) → (text : List ℕ) → Type 0
-BrokeOff out err text = TookSome out text × Rose out.faults_before out.faults_after × IsSaid err write_fault_line
+BrokeOff out err text = TookSome out text × Rose out.faults_before out.faults_after × IsSaid err (codes "topos: cannot write\n")
 
 -- How a reply is given: the run ends in its status, and its text goes to its stream; or the text is for the output, and broke off there.
 -- So the reply alone decides status and output where the output had no fault; how much of the text stands before a fault is the sink's to say.

@@ -1,4 +1,4 @@
--- The line of a text of rules, of events or of edits that is refused, with its first line that is faulty and why (docs/FORMATS.md).
+-- The line of a text of rules, of events or of edits that is refused, with its first line that is faulty and why (docs/TEXTS.md).
 use Rattle.std.specs.Prelude.{◌≡◌, ℕ, List, ◌++◌, codes, decimal}
 use Rattle.desc_form.specs.Refusals.{name}
 use Rattle.edit_core.specs.declared.fault.EditFault.{EditFault}

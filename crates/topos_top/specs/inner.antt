@@ -1,12 +1,8 @@
 pub mod Ask
 pub mod Blocks
-pub mod Commands
-pub mod Course
 pub mod Local
 pub mod Reads
 pub mod Refused
 pub mod Replies
-pub mod Shelf
 pub mod StatusNumber
-pub mod Taken
 pub mod Views

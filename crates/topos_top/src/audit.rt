@@ -10,7 +10,7 @@ ghost use Rattle.topos_top.specs.Audit.{audit_job};
 ghost use Rattle.topos_top.specs.Commands.{course_of};
 ghost use Rattle.topos_top.specs.Job.{Answers};
 ghost use Rattle.topos_top.specs.Replies.{MayReply};
-ghost use Rattle.topos_top.specs.inner.Shelf.{shelf_change};
+ghost use Rattle.topos_top.specs.Shelf.{shelf_change};
 ghost use Rattle.topos_top.specs.inner.Views.{reply_view, reply_in};
 ghost use Rattle.topos_top.specs.declared.dialect.Dialect.TheVariants.{Iptables, OpenFlow};
 
@@ -36,7 +36,7 @@ pub fn reply<'a, H: Shelf>(
     ensures same_files { H.files shelf.new ≡ H.files shelf.old }
     ensures faults_stay { H.faults shelf.old ≤ H.faults shelf.new }
     ensures reply { MayReply true (course_of (Audit dialect file.now rules.now))
-        (shelf_change H.files H.faults H.begins H.taken H.begin_gives H.read_gives shelf.old shelf.new) (reply_in result) }
+        (shelf_change H.Shelf shelf.old shelf.new) (reply_in result) }
 {
     match dialect {
         Dialect::Iptables => reply_by_rules(alloc, file, rules, shelf),
@@ -54,7 +54,7 @@ fn reply_by_rules<'a, H: Shelf>(
     ensures same_files { H.files shelf.new ≡ H.files shelf.old }
     ensures faults_stay { H.faults shelf.old ≤ H.faults shelf.new }
     ensures reply { MayReply true (course_of (Audit Iptables file.now rules.now))
-        (shelf_change H.files H.faults H.begins H.taken H.begin_gives H.read_gives shelf.old shelf.new) (reply_in result) }
+        (shelf_change H.Shelf shelf.old shelf.new) (reply_in result) }
 {
     let description = read_description(alloc, file, shelf)?;
     let rules = read_rules(alloc, rules, shelf)?;
@@ -71,7 +71,7 @@ fn reply_by_table<'a, H: Shelf>(
     ensures same_files { H.files shelf.new ≡ H.files shelf.old }
     ensures faults_stay { H.faults shelf.old ≤ H.faults shelf.new }
     ensures reply { MayReply true (course_of (Audit OpenFlow file.now rules.now))
-        (shelf_change H.files H.faults H.begins H.taken H.begin_gives H.read_gives shelf.old shelf.new) (reply_in result) }
+        (shelf_change H.Shelf shelf.old shelf.new) (reply_in result) }
 {
     let description = read_description(alloc, file, shelf)?;
     let table = read_table(alloc, rules, shelf)?;

@@ -3,9 +3,9 @@
 ghost use Rattle.std.specs.Prelude.{◌≡◌, ◌≤◌};
 ghost use Rattle.topos_top.specs.Ask.{reports_on_output};
 ghost use Rattle.topos_top.specs.Commands.{course_of};
-ghost use Rattle.topos_top.specs.inner.Course.{ReadsNothing};
+ghost use Rattle.topos_top.specs.Course.{ReadsNothing};
 ghost use Rattle.topos_top.specs.Replies.{MayReply};
-ghost use Rattle.topos_top.specs.inner.Shelf.{shelf_change};
+ghost use Rattle.topos_top.specs.Shelf.{shelf_change};
 ghost use Rattle.topos_top.specs.inner.Views.{ask_view, reply_in, IsWithinHosts};
 
 use crate::answer::Answer;
@@ -24,7 +24,7 @@ pub fn reply<'a, H: Shelf>(
     ensures same_files { H.files shelf.new ≡ H.files shelf.old }
     ensures faults_stay { H.faults shelf.old ≤ H.faults shelf.new }
     ensures reply { MayReply (reports_on_output (ask_view ask.entry)) (course_of (ask_view ask.entry))
-        (shelf_change H.files H.faults H.begins H.taken H.begin_gives H.read_gives shelf.old shelf.new) (reply_in result) }
+        (shelf_change H.Shelf shelf.old shelf.new) (reply_in result) }
     ensures no_files { ReadsNothing (course_of (ask_view ask.entry)) → shelf.new ≡ shelf.old }
 {
     match ask {

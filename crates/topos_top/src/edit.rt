@@ -10,7 +10,7 @@ ghost use Rattle.topos_top.specs.Commands.{course_of};
 ghost use Rattle.topos_top.specs.Edit.{SaysTable, edit_job, summary_line, summary_lines};
 ghost use Rattle.topos_top.specs.Job.{Answers};
 ghost use Rattle.topos_top.specs.Replies.{MayReply};
-ghost use Rattle.topos_top.specs.inner.Shelf.{shelf_change};
+ghost use Rattle.topos_top.specs.Shelf.{shelf_change};
 ghost use Rattle.topos_top.specs.inner.Views.{reply_view, reply_in};
 
 use crate::answer::Answer;
@@ -32,7 +32,7 @@ pub fn reply<'a, H: Shelf>(
     ensures same_files { H.files shelf.new ≡ H.files shelf.old }
     ensures faults_stay { H.faults shelf.old ≤ H.faults shelf.new }
     ensures reply { MayReply false (course_of (Edit file.now edits.now))
-        (shelf_change H.files H.faults H.begins H.taken H.begin_gives H.read_gives shelf.old shelf.new) (reply_in result) }
+        (shelf_change H.Shelf shelf.old shelf.new) (reply_in result) }
 {
     let mut session = read_session(alloc, file, shelf)?;
     let edits = read_edits(alloc, edits, shelf)?;

@@ -2,7 +2,7 @@
 
 ghost use Rattle.std.specs.Prelude.{◌≡◌, ◌≢◌, ◌≤◌};
 ghost use Rattle.topos_top.specs.Taken.{IsGiven};
-ghost use Rattle.topos_top.specs.inner.Taken.{sink_change};
+ghost use Rattle.topos_top.specs.Taken.{sink_change};
 ghost use Rattle.topos_top.specs.inner.Views.{reply_view};
 
 use crate::answer::Answer;
@@ -11,8 +11,8 @@ use edge_io::{Sink, put_all};
 
 /// Gives the answer on its stream, and says how the run ended. A failure of `err` changes nothing else.
 pub fn give<O: Sink, E: Sink>(answer: &Answer<'_>, out: &mut O, err: &mut E) -> Status
-    ensures given { IsGiven (sink_change O.held O.faults out.old out.new)
-        (sink_change E.held E.faults err.old err.new) (reply_view answer.now) result }
+    ensures given { IsGiven (sink_change O.Sink out.old out.new)
+        (sink_change E.Sink err.old err.new) (reply_view answer.now) result }
     ensures untouched { answer.now.stream ≡ Stream.Errors → out.new ≡ out.old }
     ensures silent { result ≢ Status.WriteFault → answer.now.stream ≡ Stream.Output → err.new ≡ err.old }
     ensures out_faults_stay { O.faults out.old ≤ O.faults out.new }

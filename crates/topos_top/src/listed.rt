@@ -4,7 +4,7 @@ ghost use Rattle.std.specs.Prelude.{◌≡◌, ◌↔◌, All, IfOk, IsTrue, Mat
 ghost use Rattle.inv_any.specs.Templates.{meaning_of};
 ghost use Rattle.net_core.specs.Policies.{holds_on};
 ghost use Rattle.report_core.specs.CheckReport.{IsCheckReport};
-ghost use Rattle.topos_top.specs.Rules.{ListedFails, ListedHolds};
+ghost use Rattle.topos_top.specs.Rules.{ListedHolds};
 
 use desc_core::Description;
 use flow_set::FlowSet;
@@ -19,7 +19,7 @@ pub fn listed_offences(
     description: &Description,
 ) -> Result<Option<Report>, AllocError>
     ensures { IfOk result (λ offences. MatchOption offences (ListedHolds description.now)
-        (λ report. ListedFails description.now × IsCheckReport description.now report)) }
+        (λ report. (ListedHolds description.now → ⊥) × IsCheckReport description.now report)) }
 {
     if !description.given() {
         return Ok(None);

@@ -1,13 +1,13 @@
 //! The whole program, over any shelf of files and any two sinks.
 
 ghost use Rattle.std.specs.Prelude.{◌≡◌, ◌≢◌, ℕ, ◌≤◌, ◌↔◌, ◌⊎◌, map, string_bytes};
-ghost use Rattle.topos_top.specs.Ask.{Sample, AskFor, AskNothing};
-ghost use Rattle.topos_top.specs.inner.Ask.{AsksToReport, ask_of};
-ghost use Rattle.topos_top.specs.inner.Commands.{NamesNoFile};
-ghost use Rattle.topos_top.specs.Promises.{GaveReply, HasCause, KeepsPromise, EndsAsSample, IsComplete};
+ghost use Rattle.topos_top.specs.Ask.{Ask, Sample, AskFor, AskNothing, AsksToReport};
+ghost use Rattle.topos_top.specs.Commands.{NamesNoFile};
+ghost use Rattle.topos_top.specs.Promises.{GaveReply, HasCause, Keeps, EndsAsSample, IsComplete};
+ghost use Rattle.topos_top.specs.Shelf.{shelf_change};
+ghost use Rattle.topos_top.specs.Taken.{sink_change};
+ghost use Rattle.topos_top.specs.inner.Ask.{ask_of};
 ghost use Rattle.topos_top.specs.inner.Replies.{MayGiveBy, NamesNothing};
-ghost use Rattle.topos_top.specs.inner.Shelf.{shelf_change};
-ghost use Rattle.topos_top.specs.inner.Taken.{sink_change};
 ghost use Rattle.topos_top.specs.inner.Views.{reply_view};
 
 use crate::answer::Answer;
@@ -33,9 +33,8 @@ pub fn run<H: Shelf, O: Sink, E: Sink>(
         × (E.faults err.old ≤ E.faults err.new) }
 
     // The run gives one reply that has its cause: its status, its text in out, its line on err.
-    ensures reply { GaveReply (map string_bytes words.now)
-        (shelf_change H.files H.faults H.begins H.taken H.begin_gives H.read_gives shelf.old shelf.new)
-        (sink_change O.held O.faults out.old out.new) (sink_change E.held E.faults err.old err.new) result }
+    ensures reply { GaveReply (map string_bytes words.now) (shelf_change H.Shelf shelf.old shelf.new)
+        (sink_change O.Sink out.old out.new) (sink_change E.Sink err.old err.new) result }
 
     // What follows from it. Usage is given exactly for words that are no form, and reads nothing.
     ensures usage { (result ≡ Status.Usage) ↔ AskNothing (map string_bytes words.now) }
@@ -44,29 +43,29 @@ pub fn run<H: Shelf, O: Sink, E: Sink>(
 
     // Each other answer has its cause.
     ensures read_fault { result ≡ Status.ReadFault → HasCause Status.ReadFault (map string_bytes words.now)
-        (shelf_change H.files H.faults H.begins H.taken H.begin_gives H.read_gives shelf.old shelf.new)
-        (sink_change O.held O.faults out.old out.new) (sink_change E.held E.faults err.old err.new) }
+        (shelf_change H.Shelf shelf.old shelf.new)
+        (sink_change O.Sink out.old out.new) (sink_change E.Sink err.old err.new) }
     ensures bad_description { result ≡ Status.BadDescription → HasCause Status.BadDescription (map string_bytes words.now)
-        (shelf_change H.files H.faults H.begins H.taken H.begin_gives H.read_gives shelf.old shelf.new)
-        (sink_change O.held O.faults out.old out.new) (sink_change E.held E.faults err.old err.new) }
+        (shelf_change H.Shelf shelf.old shelf.new)
+        (sink_change O.Sink out.old out.new) (sink_change E.Sink err.old err.new) }
     ensures bad_text { result ≡ Status.BadText → HasCause Status.BadText (map string_bytes words.now)
-        (shelf_change H.files H.faults H.begins H.taken H.begin_gives H.read_gives shelf.old shelf.new)
-        (sink_change O.held O.faults out.old out.new) (sink_change E.held E.faults err.old err.new) }
+        (shelf_change H.Shelf shelf.old shelf.new)
+        (sink_change O.Sink out.old out.new) (sink_change E.Sink err.old err.new) }
     ensures violated { result ≡ Status.Violated → HasCause Status.Violated (map string_bytes words.now)
-        (shelf_change H.files H.faults H.begins H.taken H.begin_gives H.read_gives shelf.old shelf.new)
-        (sink_change O.held O.faults out.old out.new) (sink_change E.held E.faults err.old err.new) }
+        (shelf_change H.Shelf shelf.old shelf.new)
+        (sink_change O.Sink out.old out.new) (sink_change E.Sink err.old err.new) }
     ensures not_emittable { result ≡ Status.NotEmittable → HasCause Status.NotEmittable (map string_bytes words.now)
-        (shelf_change H.files H.faults H.begins H.taken H.begin_gives H.read_gives shelf.old shelf.new)
-        (sink_change O.held O.faults out.old out.new) (sink_change E.held E.faults err.old err.new) }
+        (shelf_change H.Shelf shelf.old shelf.new)
+        (sink_change O.Sink out.old out.new) (sink_change E.Sink err.old err.new) }
     ensures write_fault { result ≡ Status.WriteFault → HasCause Status.WriteFault (map string_bytes words.now)
-        (shelf_change H.files H.faults H.begins H.taken H.begin_gives H.read_gives shelf.old shelf.new)
-        (sink_change O.held O.faults out.old out.new) (sink_change E.held E.faults err.old err.new) }
+        (shelf_change H.Shelf shelf.old shelf.new)
+        (sink_change O.Sink out.old out.new) (sink_change E.Sink err.old err.new) }
     ensures memory { result ≡ Status.Memory → HasCause Status.Memory (map string_bytes words.now)
-        (shelf_change H.files H.faults H.begins H.taken H.begin_gives H.read_gives shelf.old shelf.new)
-        (sink_change O.held O.faults out.old out.new) (sink_change E.held E.faults err.old err.new) }
+        (shelf_change H.Shelf shelf.old shelf.new)
+        (sink_change O.Sink out.old out.new) (sink_change E.Sink err.old err.new) }
     ensures done { result ≡ Status.Done → HasCause Status.Done (map string_bytes words.now)
-        (shelf_change H.files H.faults H.begins H.taken H.begin_gives H.read_gives shelf.old shelf.new)
-        (sink_change O.held O.faults out.old out.new) (sink_change E.held E.faults err.old err.new) }
+        (shelf_change H.Shelf shelf.old shelf.new)
+        (sink_change O.Sink out.old out.new) (sink_change E.Sink err.old err.new) }
 
     // The headline: rules that are written forward exactly what the policy expects, over every list
     // of packets and forgettings, also as they are read again, and the policy meets every invariant
@@ -75,12 +74,12 @@ pub fn run<H: Shelf, O: Sink, E: Sink>(
     // table in version 2. Rules are said to be equal to a description only where they forward what its
     // policy expects. With the rules of every specific host on its machines, a packet passes between
     // them exactly where the policy expects it.
-    ensures headline { result ≡ Status.Done → KeepsPromise (map string_bytes words.now)
-        (shelf_change H.files H.faults H.begins H.taken H.begin_gives H.read_gives shelf.old shelf.new) (sink_change O.held O.faults out.old out.new) }
+    ensures headline { result ≡ Status.Done → (ask : Ask) → AskFor (map string_bytes words.now) ask
+        → Keeps ask (shelf_change H.Shelf shelf.old shelf.new) (sink_change O.Sink out.old out.new) }
 
     // A sample takes nothing off the shelf, and is always written unless the output fails or there is no memory.
     ensures sample { (n : ℕ) → AskFor (map string_bytes words.now) (Sample n)
-        → (shelf.new ≡ shelf.old) × EndsAsSample n (sink_change O.held O.faults out.old out.new) result }
+        → (shelf.new ≡ shelf.old) × EndsAsSample n (sink_change O.Sink out.old out.new) result }
 
     // Where nothing is written or said, the stream is as it was. A command reports what fails on one stream,
     // and leaves the other as it was.
@@ -90,9 +89,8 @@ pub fn run<H: Shelf, O: Sink, E: Sink>(
         → err.new ≡ err.old }
 
     // The words and the told files decide what is given, and so how the run ends.
-    ensures complete { IsComplete (map string_bytes words.now)
-        (shelf_change H.files H.faults H.begins H.taken H.begin_gives H.read_gives shelf.old shelf.new)
-        (sink_change O.held O.faults out.old out.new) (sink_change E.held E.faults err.old err.new) result }
+    ensures complete { IsComplete (map string_bytes words.now) (shelf_change H.Shelf shelf.old shelf.new)
+        (sink_change O.Sink out.old out.new) (sink_change E.Sink err.old err.new) result }
 {
     let answer = answer_to(alloc, words, shelf);
     give(&answer, out, err)
@@ -103,7 +101,7 @@ fn answer_to<'a, H: Shelf>(alloc: Global, words: &'a [String], shelf: &mut H) ->
     ensures same_files { H.files shelf.new ≡ H.files shelf.old }
     ensures faults_stay { H.faults shelf.old ≤ H.faults shelf.new }
     ensures reply { MayGiveBy (ask_of (map string_bytes words.now))
-        (shelf_change H.files H.faults H.begins H.taken H.begin_gives H.read_gives shelf.old shelf.new) (reply_view result) }
+        (shelf_change H.Shelf shelf.old shelf.new) (reply_view result) }
     ensures reads_nothing { NamesNothing (ask_of (map string_bytes words.now)) → shelf.new ≡ shelf.old }
 {
     match ask_of_words(words) {

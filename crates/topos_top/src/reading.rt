@@ -4,7 +4,7 @@ ghost use Rattle.std.specs.Prelude.{◌≡◌, ◌≤◌, IfOk};
 ghost use Rattle.ipt_rules.specs.inner.OneOutcome.{EachGivesOne};
 ghost use Rattle.ofp_rules.specs.inner.Build.{IsTable};
 ghost use Rattle.topos_top.specs.inner.Reads.{MayTake, MayRead};
-ghost use Rattle.topos_top.specs.inner.Shelf.{shelf_change};
+ghost use Rattle.topos_top.specs.Shelf.{shelf_change};
 ghost use Rattle.topos_top.specs.inner.Views.{outcome_view, items_view, session_view, edits_view};
 ghost use Rattle.topos_top.specs.declared.dialect.Dialect.TheVariants.{Iptables, OpenFlow};
 
@@ -31,7 +31,7 @@ pub fn read_description<'a, H: Shelf>(
     ensures same_files { H.files shelf.new ≡ H.files shelf.old }
     ensures faults_stay { H.faults shelf.old ≤ H.faults shelf.new }
     ensures reading { MayRead Kind.Description name.now
-        (shelf_change H.files H.faults H.begins H.taken H.begin_gives H.read_gives shelf.old shelf.new) (outcome_view result) }
+        (shelf_change H.Shelf shelf.old shelf.new) (outcome_view result) }
 {
     let bytes = take(alloc, Kind::Description, name, shelf)?;
     Ok(describe(alloc, &bytes)?)
@@ -46,7 +46,7 @@ pub fn read_rules<'a, H: Shelf>(
     ensures same_files { H.files shelf.new ≡ H.files shelf.old }
     ensures faults_stay { H.faults shelf.old ≤ H.faults shelf.new }
     ensures reading { MayRead (Kind.Rules Iptables) name.now
-        (shelf_change H.files H.faults H.begins H.taken H.begin_gives H.read_gives shelf.old shelf.new) (outcome_view result) }
+        (shelf_change H.Shelf shelf.old shelf.new) (outcome_view result) }
     ensures one_outcome { IfOk result EachGivesOne }
 {
     let bytes = take(alloc, Kind::Rules(Dialect::Iptables), name, shelf)?;
@@ -62,7 +62,7 @@ pub fn read_table<'a, H: Shelf>(
     ensures same_files { H.files shelf.new ≡ H.files shelf.old }
     ensures faults_stay { H.faults shelf.old ≤ H.faults shelf.new }
     ensures reading { MayRead (Kind.Rules OpenFlow) name.now
-        (shelf_change H.files H.faults H.begins H.taken H.begin_gives H.read_gives shelf.old shelf.new) (outcome_view result) }
+        (shelf_change H.Shelf shelf.old shelf.new) (outcome_view result) }
     ensures table { IfOk result IsTable }
 {
     let bytes = take(alloc, Kind::Rules(Dialect::OpenFlow), name, shelf)?;
@@ -77,8 +77,7 @@ pub fn read_events<'a, H: Shelf>(
 ) -> Result<Vec<Event>, Answer<'a>>
     ensures same_files { H.files shelf.new ≡ H.files shelf.old }
     ensures faults_stay { H.faults shelf.old ≤ H.faults shelf.new }
-    ensures reading { MayRead Kind.Events name.now
-        (shelf_change H.files H.faults H.begins H.taken H.begin_gives H.read_gives shelf.old shelf.new) (items_view result) }
+    ensures reading { MayRead Kind.Events name.now (shelf_change H.Shelf shelf.old shelf.new) (items_view result) }
 {
     let bytes = take(alloc, Kind::Events, name, shelf)?;
     Ok(pkt_core::read_events(alloc, &bytes)?)
@@ -92,8 +91,7 @@ pub fn read_document<'a, H: Shelf>(
 ) -> Result<Vec<u8>, Answer<'a>>
     ensures same_files { H.files shelf.new ≡ H.files shelf.old }
     ensures faults_stay { H.faults shelf.old ≤ H.faults shelf.new }
-    ensures reading { MayRead Kind.Document name.now
-        (shelf_change H.files H.faults H.begins H.taken H.begin_gives H.read_gives shelf.old shelf.new) (items_view result) }
+    ensures reading { MayRead Kind.Document name.now (shelf_change H.Shelf shelf.old shelf.new) (items_view result) }
 {
     let bytes = take(alloc, Kind::Document, name, shelf)?;
     Ok(migrate(alloc, &bytes)?)
@@ -107,8 +105,7 @@ pub fn read_session<'a, H: Shelf>(
 ) -> Result<Session, Answer<'a>>
     ensures same_files { H.files shelf.new ≡ H.files shelf.old }
     ensures faults_stay { H.faults shelf.old ≤ H.faults shelf.new }
-    ensures reading { MayRead Kind.Edited name.now
-        (shelf_change H.files H.faults H.begins H.taken H.begin_gives H.read_gives shelf.old shelf.new) (session_view result) }
+    ensures reading { MayRead Kind.Edited name.now (shelf_change H.Shelf shelf.old shelf.new) (session_view result) }
 {
     let bytes = take(alloc, Kind::Edited, name, shelf)?;
     Ok(Session::start(alloc, &bytes)?)
@@ -122,8 +119,7 @@ pub fn read_edits<'a, H: Shelf>(
 ) -> Result<Vec<Edit>, Answer<'a>>
     ensures same_files { H.files shelf.new ≡ H.files shelf.old }
     ensures faults_stay { H.faults shelf.old ≤ H.faults shelf.new }
-    ensures reading { MayRead Kind.Edits name.now
-        (shelf_change H.files H.faults H.begins H.taken H.begin_gives H.read_gives shelf.old shelf.new) (edits_view result) }
+    ensures reading { MayRead Kind.Edits name.now (shelf_change H.Shelf shelf.old shelf.new) (edits_view result) }
 {
     let bytes = take(alloc, Kind::Edits, name, shelf)?;
     Ok(edit_core::read_edits(alloc, &bytes)?)
@@ -138,8 +134,7 @@ fn take<'a, H: Shelf>(
 ) -> Result<Vec<u8>, Answer<'a>>
     ensures same_files { H.files shelf.new ≡ H.files shelf.old }
     ensures faults_stay { H.faults shelf.old ≤ H.faults shelf.new }
-    ensures taken { MayTake kind name.now
-        (shelf_change H.files H.faults H.begins H.taken H.begin_gives H.read_gives shelf.old shelf.new) (items_view result) }
+    ensures taken { MayTake kind name.now (shelf_change H.Shelf shelf.old shelf.new) (items_view result) }
 {
     match take_all(alloc, shelf, name, kind.most()) {
         Ok(bytes) => Ok(bytes),

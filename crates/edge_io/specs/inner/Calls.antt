@@ -1,5 +1,5 @@
 -- What single calls of a shelf or a sink do: the fault that one counts, the file that one opens, the pieces that one puts.
-use Rattle.std.specs.Prelude.{◌≡◌, ℕ, Result, is_err, if◌then◌else◌, Option, List, IsSome, IfSome, OnOk}
+use Rattle.std.specs.Prelude.{◌≡◌, ℕ, Result, is_err, if◌then◌else◌, Option, List, IsSome, IfSome}
 use Rattle.edge_io.specs.declared.faults.Failed.{Failed}
 use Rattle.edge_io.specs.Counts.{more}
 use Rattle.std.specs.Option.{option_and_then}
@@ -16,15 +16,6 @@ CountsFault result before now = now ≡ (if is_err result then more before 1 els
 abbrev pub CountsOnce : {S T : Type 0} → (S → ℕ) → (S → List ℕ → Result T Failed → S → Type 0) → Type 0
 CountsOnce {S = S} {T = T} faults gives =
     (old : S) (bytes : List ℕ) (result : Result T Failed) (new : S) → gives old bytes result new → CountsFault result (faults old) (faults new)
-
--- each call of this kind counts a fault only where it fails
-abbrev pub CountsOnlyFailures : {S T : Type 0} → (S → ℕ) → (S → List ℕ → Result T Failed → S → Type 0) → Type 0
-CountsOnlyFailures {S = S} {T = T} faults gives =
-    (old : S) (bytes : List ℕ) (result : Result T Failed) (new : S) → gives old bytes result new → OnOk result (faults new ≡ faults old)
-
--- so does each call of a shelf
-abbrev pub ShelfCountsOnlyFailures : {S : Type 0} → (S → ℕ) → (S → List ℕ → Result (Unit {0}) Failed → S → Type 0) → (S → List ℕ → Result ℕ Failed → S → Type 0) → Type 0
-ShelfCountsOnlyFailures faults begin_gives read_gives = CountsOnlyFailures faults begin_gives × CountsOnlyFailures faults read_gives
 
 -- the bytes of the file of that name, where the shelf tells its files and has it
 abbrev pub file_told : Option Files → List ℕ → Option (List ℕ)

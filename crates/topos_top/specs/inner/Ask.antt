@@ -1,15 +1,12 @@
 -- What the code reads of the words of a command line. No promise of `run` stands on it but through what the words ask for.
-use Rattle.std.specs.Prelude.{◌≡◌, ℕ, ◌==◌, List, [], ◌∷◌, Option, None, Some, option_map, codes, if◌then◌else◌, IsTrue}
+use Rattle.std.specs.Prelude.{◌≡◌, ℕ, ◌==◌, List, [], ◌∷◌, Option, None, Some, option_map, codes, if◌then◌else◌}
 use Rattle.std.specs.Option.{option_and_then}
 use Rattle.std.specs.Str.{bytes_eq}
 use Rattle.host_net.specs.Limits.{host_limit}
 use Rattle.text_core.specs.inner.Decimal.{number}
-use Rattle.topos_top.specs.Ask.{Ask, Check, Policy, Rules, Repair, Trace, Sample, Migrate, Audit, Edit, Local, AskFor, reports_on_output}
+use Rattle.topos_top.specs.Ask.{Ask, Check, Policy, Rules, Repair, Trace, Sample, Migrate, Audit, Edit, Local}
 use Rattle.topos_top.specs.declared.dialect.Dialect.{Dialect}
 use Rattle.topos_top.specs.declared.dialect.Dialect.TheVariants.{Iptables, OpenFlow}
-
-abbrev pub AsksToReport : List (List ℕ) → Type 0
-AsksToReport words = (ask : Ask) × AskFor words ask × IsTrue (reports_on_output ask)
 
 -- the words, where there are just as many
 abbrev pub one_word : List (List ℕ) → Option (List ℕ)

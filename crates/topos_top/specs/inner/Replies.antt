@@ -2,10 +2,10 @@
 use Rattle.std.specs.Prelude.{◌≡◌, Option, None, Some}
 use Rattle.topos_top.specs.Ask.{Ask, reports_on_output}
 use Rattle.topos_top.specs.Commands.{course_of}
+use Rattle.topos_top.specs.Course.{ReadsNothing}
 use Rattle.topos_top.specs.Replies.{MayReply}
 use Rattle.topos_top.specs.Reply.{Reply, usage}
 use Rattle.topos_top.specs.Shelf.{ShelfChange}
-use Rattle.topos_top.specs.inner.Course.{ReadsNothing}
 
 abbrev pub MayGiveBy : Option Ask → ShelfChange → Reply → Type 0
 MayGiveBy None shelf given = (given ≡ usage) × (shelf.after ≡ shelf.before)

@@ -14,7 +14,7 @@ use Rattle.report_core.specs.RefusalLine.{refusal_text}
 use Rattle.toml.specs.Data.{Members}
 use Rattle.toml.specs.declared.value.Value.{Value}
 use Rattle.topos_top.specs.Ask.{Ask, Check, Policy, Rules, Repair, Trace, Sample, Migrate, Audit, Edit, Local, usage_text}
-use Rattle.topos_top.specs.Reply.{Reply, cannot_read_line, memory_line}
+use Rattle.topos_top.specs.Reply.{Reply, cannot_read, no_memory}
 use Rattle.topos_top.specs.TextFault.{fault_line, edit_fault_line}
 use Rattle.topos_top.specs.declared.answer.Answer.{Answer}
 use Rattle.topos_top.specs.declared.ask.Ask.{Ask as CodeAsk}
@@ -44,11 +44,11 @@ IsWithinHosts _ = Unit {0}
 -- the bytes of a text
 abbrev pub text_view : Text → List ℕ
 text_view text.Usage = usage_text
-text_view (text.CannotRead file) = cannot_read_line file.now
+text_view (text.CannotRead file) = (cannot_read file.now).text
 text_view (text.Refusal why) = refusal_text why
 text_view (text.Fault of line reason) = fault_line of.now line reason.now
 text_view (text.RefusedEdit line fault) = edit_fault_line line fault
-text_view text.NoMemory = memory_line
+text_view text.NoMemory = no_memory.text
 text_view (text.Report report) = report
 text_view (text.Bytes bytes) = bytes.items
 text_view (text.Rules rules) = rules_text rules

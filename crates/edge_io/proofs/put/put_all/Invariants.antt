@@ -1,7 +1,7 @@
 -- The first `done` bytes of the piece are put.
 use Rattle.std.proofs.Common.{◌≡◌, ◌≤◌, ◌-◌, length, take}
 use Rattle.std.specs.Io.KnownBytes.{append_known}
-use Rattle.edge_io.specs.inner.Calls.{CountsOnlyFailures}
+use Rattle.edge_io.specs.Failures.{CountsOnlyFailures}
 use Rattle.edge_io.proofs.put.put_all.Given as goal
 
 abbrev pub invariant-loop-done : goal.invariant-loop-done

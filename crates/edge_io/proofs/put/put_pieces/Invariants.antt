@@ -1,7 +1,8 @@
 -- The pieces before `piece` are put.
 use Rattle.std.proofs.Common.{◌≡◌, ◌≤◌, take}
 use Rattle.std.specs.Io.KnownBytes.{append_known}
-use Rattle.edge_io.specs.inner.Calls.{CountsOnlyFailures, joined}
+use Rattle.edge_io.specs.Failures.{CountsOnlyFailures}
+use Rattle.edge_io.specs.inner.Calls.{joined}
 use Rattle.edge_io.proofs.put.put_pieces.Given as goal
 
 abbrev pub invariant-loop-piece : goal.invariant-loop-piece

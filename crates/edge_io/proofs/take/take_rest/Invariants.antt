@@ -1,7 +1,7 @@
 -- What was taken so far stands in `bytes`, in front of what is left, and fits the limit.
 use Rattle.std.proofs.Common.{◌≡◌, ◌≤◌, ◌-◌, IsTrue, vec_len}
 use Rattle.std.specs.Io.KnownBytes.{prepend_known}
-use Rattle.edge_io.specs.inner.Calls.{ShelfCountsOnlyFailures}
+use Rattle.edge_io.specs.Failures.{ShelfCountsOnlyFailures}
 use Rattle.edge_io.proofs.take.take_rest.Given as goal
 
 abbrev pub invariant-loop-bytes : goal.invariant-loop-bytes
@@ -9,7 +9,7 @@ invariant-loop-bytes g l = record {
   same_files : g.H.Shelf.files l.shelf ≡ g.H.Shelf.files l.fn.shelf;
   same_begins : g.H.Shelf.begins l.shelf ≡ g.H.Shelf.begins l.fn.shelf;
   faults_stay : g.H.Shelf.faults l.fn.shelf ≤ g.H.Shelf.faults l.shelf;
-  no_fault : ShelfCountsOnlyFailures g.H.Shelf.faults g.H.Shelf.begin_gives g.H.Shelf.read_gives → g.H.Shelf.faults l.shelf ≡ g.H.Shelf.faults l.fn.shelf;
+  no_fault : ShelfCountsOnlyFailures g.H.Shelf → g.H.Shelf.faults l.shelf ≡ g.H.Shelf.faults l.fn.shelf;
   begun : IsTrue (g.H.Shelf.begun l.shelf);
   count : vec_len l.bytes ≡ g.H.Shelf.taken l.shelf;
   within : vec_len l.bytes ≤ l.limit;

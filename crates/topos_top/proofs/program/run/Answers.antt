@@ -1,7 +1,7 @@
 use Rattle.std.proofs.Common.{map, string_bytes}
 use Rattle.topos_top.specs.Promises.{GaveReply}
-use Rattle.topos_top.specs.inner.Shelf.{shelf_change}
-use Rattle.topos_top.specs.inner.Taken.{sink_change}
+use Rattle.topos_top.specs.Shelf.{shelf_change}
+use Rattle.topos_top.specs.Taken.{sink_change}
 use Rattle.topos_top.specs.inner.Views.{reply_view}
 use Rattle.topos_top.specs.declared.status.Status.TheVariants as status
 use Rattle.topos_top.proofs.AskLaws.{is_asked, may_give}
@@ -14,8 +14,8 @@ use Rattle.topos_top.proofs.program.run.Goals as goal
 
 -- what the answer and its ending say, as one fact from which each clause follows
 gave : (g : given.Over) (c : goal.Joined-answer g) → GaveReply (map string_bytes c.args.words.now)
-    (shelf_change g.H.Shelf.files g.H.Shelf.faults g.H.Shelf.begins g.H.Shelf.taken g.H.Shelf.begin_gives g.H.Shelf.read_gives c.args.shelf.now c.answer_to-answer.new.shelf)
-    (sink_change g.O.Sink.held g.O.Sink.faults c.args.out.now c.give.new.out) (sink_change g.E.Sink.held g.E.Sink.faults c.args.err.now c.give.new.err) c.give.result
+    (shelf_change g.H.Shelf c.args.shelf.now c.answer_to-answer.new.shelf)
+    (sink_change g.O.Sink c.args.out.now c.give.new.out) (sink_change g.E.Sink c.args.err.now c.give.new.err) c.give.result
 gave g c = record {
   reply = reply_view c.answer_to-answer.result;
   allowed = may_give _ _ _ c.answer_to-answer.ensures.reply;
@@ -61,7 +61,7 @@ returns-clause-done g c = caused _ _ _ _ _ (gave g c) status.Done (λ e. cc e)
 
 pub returns-clause-headline : goal.returns-clause-headline
 returns-clause-headline g c = λ is.
-    headline_law _ _ _ (sink_change g.E.Sink.held g.E.Sink.faults c.args.err.now c.give.new.err) (caused _ _ _ _ _ (gave g c) status.Done (λ e. cc e) is)
+    headline_law _ _ _ (sink_change g.E.Sink c.args.err.now c.give.new.err) (caused _ _ _ _ _ (gave g c) status.Done (λ e. cc e) is)
 
 pub returns-clause-sample : goal.returns-clause-sample
 returns-clause-sample g c = λ n asks. (
