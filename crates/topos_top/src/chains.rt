@@ -8,7 +8,7 @@ ghost use Rattle.topos_top.specs.Repair.{repair_job};
 ghost use Rattle.topos_top.specs.declared.dialect.Dialect.TheVariants.{Iptables};
 
 use crate::answer::Answer;
-use crate::flow_policy::flow_policy;
+use crate::flow_policy::policy_between;
 use crate::hindrance::rules_line;
 use crate::text::Text;
 use desc_core::Description;
@@ -27,7 +27,7 @@ pub fn answer<'a>(
     requires stateful { policy.now.stateful.size ≡ length description.now.hosts }
     ensures { IfOk result (λ answer. Answers false (repair_job Iptables description.now) (reply_view answer)) }
 {
-    match emit_iptables(alloc, &flow_policy(description, policy)) {
+    match emit_iptables(alloc, &policy_between(description, policy)) {
         Ok(rules) => Ok(Answer::done(Text::Rules(rules))),
         Err(NoChains::TooManyRules { count }) => {
             Ok(Answer::not_emittable(rules_line(alloc, count)?))

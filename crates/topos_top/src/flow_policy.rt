@@ -9,7 +9,7 @@ use net_core::Policy;
 use pkt_core::FlowPolicy;
 
 /// The policy between the hosts of a description.
-pub fn flow_policy<'a>(description: &'a Description, policy: &'a Policy) -> FlowPolicy<'a>
+pub fn policy_between<'a>(description: &'a Description, policy: &'a Policy) -> FlowPolicy<'a>
     requires permitted { policy.now.permitted.size ≡ length description.now.hosts }
     requires stateful { policy.now.stateful.size ≡ length description.now.hosts }
     ensures { result ≡ policy_with (site_of description.now) policy.now.permitted.flows policy.now.stateful.flows }

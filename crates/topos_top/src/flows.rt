@@ -8,7 +8,7 @@ ghost use Rattle.topos_top.specs.Repair.{repair_job};
 ghost use Rattle.topos_top.specs.declared.dialect.Dialect.TheVariants.{OpenFlow};
 
 use crate::answer::Answer;
-use crate::flow_policy::flow_policy;
+use crate::flow_policy::policy_between;
 use crate::hindrance::{answers_line, flows_line, ports_line};
 use crate::text::Text;
 use desc_core::Description;
@@ -29,7 +29,7 @@ pub fn answer<'a>(
     ensures { IfOk result (λ answer. Answers false (repair_job OpenFlow description.now) (reply_view answer)) }
 {
     let hosts = description.hosts();
-    let asked = flow_policy(description, policy);
+    let asked = policy_between(description, policy);
     if let Some(flow) = needs_state(&asked) {
         let line = answers_line(alloc, hosts, flow)?;
         return Ok(Answer::not_emittable(line));

@@ -14,7 +14,7 @@ ghost use Rattle.topos_top.specs.Shelf.{shelf_change};
 ghost use Rattle.topos_top.specs.inner.Views.{reply_view, reply_in};
 
 use crate::answer::Answer;
-use crate::flow_policy::flow_policy;
+use crate::flow_policy::policy_between;
 use crate::listed::listed_offences;
 use crate::reading::read_description;
 use crate::status::Status;
@@ -85,7 +85,7 @@ fn specific_machines<'a>(
     ensures { IfOk result (λ answer. Answers false (machines_job description.now host.now) (reply_view answer)) }
 {
     let policy = policy_of(alloc, description)?;
-    let rules = emit_local(alloc, &flow_policy(description, &policy), number)?;
+    let rules = emit_local(alloc, &policy_between(description, &policy), number)?;
     Ok(Answer::done(Text::Rules(rules)))
 }
 

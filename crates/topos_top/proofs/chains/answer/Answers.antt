@@ -12,6 +12,6 @@ returns-in_ok-rules_line-in-Err-TooManyRules c =
     let count = c.in-Err-TooManyRules.count in
     let d = c.args.description.now in
     let many : HasNoChains (site_of d) c.args.policy.now.permitted.flows c.args.policy.now.stateful.flows (refusal.TooManyRules count) =
-    rw (c.flow_policy.ensures, c.in-Err-TooManyRules.field-0-is) at c.in-Err-TooManyRules.ensures.refused in
+    rw (c.policy_between.ensures, c.in-Err-TooManyRules.field-0-is) at c.in-Err-TooManyRules.ensures.refused in
     let line = c.in_ok-rules_line-in-Err-TooManyRules.ensures ∙ ap (λ (n : ℕ). not_emittable (decimal n ++ codes " rules exceed 600000\n")) many.1 in
     ends_hindered Iptables d _ _ c.not_emittable.ensures (record { policy = c.args.policy.now; is_policy = c.requires.policy; so = (many.0, line) })

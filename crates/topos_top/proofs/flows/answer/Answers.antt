@@ -14,7 +14,7 @@ use Rattle.topos_top.proofs.flows.answer.Goals as goal
 
 pub returns-in-Some : goal.returns-in-Some
 returns-in-Some c =
-    let barred = rw c.flow_policy-asked.ensures at c.in-Some.ensures.barred in
+    let barred = rw c.policy_between-asked.ensures at c.in-Some.ensures.barred in
     ends_hindered OpenFlow c.args.description.now _ _ c.not_emittable.ensures
     (record { policy = c.args.policy.now; is_policy = c.requires.policy; so = NeedsState c.in-Some.flow barred (rw c.hosts-hosts.ensures.value at c.in_ok-line.ensures) })
 
@@ -22,9 +22,9 @@ pub returns-in_ok-line-in-Err-RangeOfPorts : goal.returns-in_ok-line-in-Err-Rang
 returns-in_ok-line-in-Err-RangeOfPorts c =
     let flow = c.in-Err-RangeOfPorts.flow in
     let d = c.args.description.now in
-    let covered = rw c.flow_policy-asked.ensures at c.in_default.ensures.barred in
+    let covered = rw c.policy_between-asked.ensures at c.in_default.ensures.barred in
     let ranged : HasNoTable (site_of d) c.args.policy.now.permitted.flows (refusal.RangeOfPorts flow) =
-    rw (c.flow_policy-asked.ensures, c.in-Err-RangeOfPorts.field-0-is) at c.in-Err-RangeOfPorts.ensures.refused in
+    rw (c.policy_between-asked.ensures, c.in-Err-RangeOfPorts.field-0-is) at c.in-Err-RangeOfPorts.ensures.refused in
     ends_hindered OpenFlow d _ _ c.not_emittable-in-Err-RangeOfPorts.ensures (record {
       policy = c.args.policy.now;
       is_policy = c.requires.policy;
@@ -35,9 +35,9 @@ pub returns-in_ok-flows_line-in-Err-TooManyEntries : goal.returns-in_ok-flows_li
 returns-in_ok-flows_line-in-Err-TooManyEntries c =
     let count = c.in-Err-TooManyEntries.count in
     let d = c.args.description.now in
-    let covered = rw c.flow_policy-asked.ensures at c.in_default.ensures.barred in
+    let covered = rw c.policy_between-asked.ensures at c.in_default.ensures.barred in
     let many : HasNoTable (site_of d) c.args.policy.now.permitted.flows (refusal.TooManyEntries count) =
-    rw (c.flow_policy-asked.ensures, c.in-Err-TooManyEntries.field-0-is) at c.in-Err-TooManyEntries.ensures.refused in
+    rw (c.policy_between-asked.ensures, c.in-Err-TooManyEntries.field-0-is) at c.in-Err-TooManyEntries.ensures.refused in
     let line = c.in_ok-flows_line-in-Err-TooManyEntries.ensures ∙ ap (λ (n : ℕ). not_emittable (decimal n ++ codes " flows exceed 8192\n")) many.2 in
     ends_hindered OpenFlow d _ _ c.not_emittable-in-Err-TooManyEntries.ensures
     (record { policy = c.args.policy.now; is_policy = c.requires.policy; so = TooManyFlows covered many.0 many.1 line })
@@ -45,10 +45,10 @@ returns-in_ok-flows_line-in-Err-TooManyEntries c =
 pub returns-in-Ok : goal.returns-in-Ok
 returns-in-Ok c =
     let d = c.args.description.now in
-    let covered = rw c.flow_policy-asked.ensures at c.in_default.ensures.barred in
-    let ports = rw c.flow_policy-asked.ensures at c.in-Ok.ensures.ports in
-    let few = rw c.flow_policy-asked.ensures at c.in-Ok.ensures.few in
-    let layout = rw c.flow_policy-asked.ensures at c.in-Ok.ensures.layout in
+    let covered = rw c.policy_between-asked.ensures at c.in_default.ensures.barred in
+    let ports = rw c.policy_between-asked.ensures at c.in-Ok.ensures.ports in
+    let few = rw c.policy_between-asked.ensures at c.in-Ok.ensures.few in
+    let layout = rw c.policy_between-asked.ensures at c.in-Ok.ensures.layout in
     subst (λ (r : Reply). Answers false (repair_job OpenFlow c.args.description.now) r) (sym c.done.ensures) (
       refl,
       inr (inl (

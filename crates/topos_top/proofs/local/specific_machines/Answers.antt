@@ -11,14 +11,14 @@ use Rattle.topos_top.proofs.local.specific_machines.Goals as goal
 
 pub emit_local-requires-clause-there : goal.emit_local-requires-clause-there
 emit_local-requires-clause-there c =
-    subst (λ (policy : FlowPolicy). c.args.number < length policy.site.hosts) (sym c.flow_policy.ensures)
+    subst (λ (policy : FlowPolicy). c.args.number < length policy.site.hosts) (sym c.policy_between.ensures)
     (host_named_within c.args.description.now.hosts c.args.host.now c.args.number c.requires.named)
 
 pub returns : goal.returns
 returns c =
     let d = c.args.description.now in
     let found : IsSpecific d c.args.host.now = record { number = c.args.number; named = c.requires.named; specific = c.requires.specific } in
-    let layout = rw c.flow_policy.ensures at c.in_ok-rules.ensures.layout in
+    let layout = rw c.policy_between.ensures at c.in_ok-rules.ensures.layout in
     subst (λ (r : Reply). Answers false (machines_job d c.args.host.now) r) (sym c.done.ensures) (
       refl,
       inr (inl (
