@@ -24,8 +24,3 @@ pub use session::Session;
 pub use summary::Summary;
 pub use text::{EDITS_BYTE_LIMIT, read_edits};
 pub use text_fault::{EditsFault, EditsWhy};
-
-#[cfg(test)]
-mod edit_text_tests;
-#[cfg(test)]
-mod tests;
