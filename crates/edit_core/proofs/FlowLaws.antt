@@ -26,7 +26,7 @@ use Rattle.desc_form.specs.WrittenFlow.{WrittenFlow}
 use Rattle.desc_form.specs.inner.WrittenForm.{IsWritten}
 use Rattle.desc_form.specs.WrittenHosts.{network_hosts}
 use Rattle.desc_form.proofs.NoneLaws.{all_tested}
-use Rattle.edit_core.proofs.FlowLemmas.{AreEnds, all_apart, any_said, asked_more, flow_said, flows_among, found_where, has_less, is_named, named_where, narrowed_among, one_flow, other_elements, other_flows, others_zipped, services_less, services_more, services_read, services_whole, zipped_more, IsFound}
+use Rattle.edit_core.proofs.FlowLemmas.{AreEnds, all_apart, any_said, asked_more, flow_said, flows_among, has_less, is_named, named_where, narrowed_among, one_flow, other_elements, other_flows, others_zipped, services_less, services_more, services_read, services_whole, zipped_more}
 use Rattle.edit_core.proofs.FlowTables.{AreRightFlows, IsListing, described_with, listing, own_flows, with_flows}
 use Rattle.edit_core.specs.Edited.{◌>>=◌, after_edit, edited, if_described, is_between, others, text_list, with_list}
 use Rattle.edit_core.specs.inner.FlowEdits.{IsAskedFlow, IsRightFlow, asking_less, asking_more, without_services}
@@ -223,28 +223,6 @@ after_added table flows d words f ss there said right =
 
 -- ---- which flow two names say
 
-listed_in : (table : Members) (flows : List Data) (w : Written) (from to : List ℕ) → IsListing table flows w → IsTrue (list_any (is_between from to) flows)
-    → (f : Flow) × IsAskedFlow (network_of w) from to f
-listed_in table flows w from to listing any = asked (found_where (network_hosts w) from to w.flows listing.between (sym (any_said from to flows w.flows listing.zipped) ∙ any))
-  where
-    asked : IsFound (network_hosts w) from to (flows_among (network_hosts w) w.flows) → (f : Flow) × IsAskedFlow (network_of w) from to f
-    asked (f, is_from, is_to, there) = (
-      f,
-      record {
-        is_from = ap (λ (hs : List Host). host_named hs from) (hosts_of w) ∙ is_from;
-        is_to = ap (λ (hs : List Host). host_named hs to) (hosts_of w) ∙ is_to;
-        asked = has_asked w f listing.given ∙ there;
-      },
-    )
-
--- an element between two hosts leads a flow that is asked for
-pub listed_asked : (table : Members) (flows : List Data) (d : Network) (from to : List ℕ)
-    → list_at (codes "flow") table ≡ Some flows → described_by_table table ≡ Ok d → IsTrue (list_any (is_between from to) flows)
-    → (f : Flow) × IsAskedFlow d from to f
-listed_asked table flows d from to there said any =
-    subst (λ (n : Network). (f : Flow) × IsAskedFlow n from to f) (accepted table d said).network
-    (listed_in table flows (written table) from to (listing table flows d there said) any)
-
 -- the hosts of a flow that is asked for are two
 asked_apart : (table : Members) (d : Network) (f : Flow) → described_by_table table ≡ Ok d → IsTrue (has d.asked.flows f) → f.from ≢ f.to
 asked_apart table d f said asked = ((IsNetwork-table table d said).asked.flows f asked).2
@@ -259,7 +237,7 @@ asked_ends table d from to f said asked =
       apart = asked_apart table d f said asked.asked;
     }
 
--- and a flow that is asked for stands in the table
+-- a flow that is asked for stands in the table
 pub asked_listed : (table : Members) (flows : List Data) (d : Network) (from to : List ℕ) (f : Flow)
     → list_at (codes "flow") table ≡ Some flows → described_by_table table ≡ Ok d → IsAskedFlow d from to f → IsTrue (list_any (is_between from to) flows)
 asked_listed table flows d from to f there said asked =

@@ -1,11 +1,11 @@
 -- Written flows between two hosts: which elements of a table they are, and the flows and the services that are left without them.
-use Rattle.std.proofs.Common.{◌≡◌, ◌≢◌, ◌==◌, inl, inr, ℕ, Bool, true, false, cond, not, ◌&&◌, ◌||◌, List, [], ◌∷◌, ◌++◌, append-nil, map, filter, Option, Some, None, option_map, option_and_then, is_some, refl, sym, ap, subst, ◌∙◌, arith}
+use Rattle.std.proofs.Common.{◌≡◌, ◌≢◌, ◌==◌, inl, inr, ℕ, Bool, true, false, cond, not, ◌&&◌, ◌||◌, List, [], ◌∷◌, ◌++◌, append-nil, map, filter, Option, Some, None, option_map, option_and_then, refl, sym, ap, subst, ◌∙◌, arith}
 use Rattle.std.proofs.lemmas.Bool.{and_from, and_parts, both_ways, cases_Bool, or_cases, or_parts}
 use Rattle.std.proofs.lemmas.Bool.Decides.{nat_tests}
 use Rattle.std.proofs.lemmas.List.Elements.{All-from_recursion, filter_map-append}
 use Rattle.std.proofs.lemmas.List.Sums.{fold-append}
 use Rattle.std.proofs.lemmas.Slice.Eq.{bytes_eq-Decides}
-use Rattle.std.specs.List.{All, AllByRecursion, AllZip, cons_option, filter_map, fold, list_all, list_any}
+use Rattle.std.specs.List.{All, AllByRecursion, AllZip, cons_option, filter_map, fold, list_any}
 use Rattle.std.specs.Option.{option_map_or}
 use Rattle.std.specs.Prelude.{IsFalse, IsTrue, if◌then◌else◌}
 use Rattle.std.specs.Str.{bytes_eq}
@@ -21,7 +21,7 @@ use Rattle.edit_core.proofs.FlowTables.{listed_again}
 use Rattle.edit_core.specs.Edited.{begins_with, is_between, text_list}
 use Rattle.edit_core.specs.inner.FlowEdits.{without_services}
 use Rattle.flow_set.specs.Flow.{same_flow}
-use Rattle.flow_set.specs.laws.FlowLaws.{has_first, has_later, has_nothing, same_fact, same_flow-true, same_flow_self, same_flow_sym}
+use Rattle.flow_set.specs.laws.FlowLaws.{has_first, has_nothing, same_fact, same_flow-true, same_flow_self, same_flow_sym}
 use Rattle.flow_set.specs.FlowSet.{has, set_of, with_flow}
 use Rattle.flow_set.specs.declared.flow.Flow.{Flow}
 use Rattle.host_net.specs.Host.{Host, host_named}
@@ -194,32 +194,6 @@ named_where hosts from to f [] ends there = has_nothing f there
 named_where hosts from to f (w ∷ ws) ends there =
     named_by hosts from to f w (flow_of_names hosts w) (is_named from to w) (list_any (is_named from to) ws) (flows_among hosts ws) ends refl refl there
     (named_where hosts from to f ws ends)
-
--- and where one has them, its flow is listed
-abbrev pub IsFound : List Host → (from to : List ℕ) → List Flow → Type 0
-IsFound hosts from to fs = (f : Flow) × (host_named hosts from ≡ Some f.from) × (host_named hosts to ≡ Some f.to) × IsTrue (has fs f)
-
-found_by : (hosts : List Host) (from to : List ℕ) (w : WrittenFlow) (o : Option Flow) (b rest : Bool) (fs : List Flow) → flow_of_names hosts w ≡ o
-    → is_named from to w ≡ b → is_some o ≡ true → (b || rest) ≡ true → (rest ≡ true → IsFound hosts from to fs) → IsFound hosts from to (cons_option o fs)
-found_by hosts from to w None b rest fs leads is some any later = cc
-found_by hosts from to w (Some h) true rest fs leads is some any later =
-    let both = and_parts (bytes_eq from w.from) (bytes_eq to w.to) is in
-    let own = ends_are hosts w h leads in (
-      h,
-      ap (host_named hosts) ((bytes_eq-Decides from w.from).0 both.0) ∙ own.0,
-      ap (host_named hosts) ((bytes_eq-Decides to w.to).0 both.1) ∙ own.1,
-      has_first h fs,
-    )
-found_by hosts from to w (Some h) false rest fs leads is some any later =
-    let (f, is_from, is_to, there) = later any in (f, is_from, is_to, has_later h fs f there)
-
-pub found_where : (hosts : List Host) (from to : List ℕ) (ws : List WrittenFlow) → list_all (λ w. is_some (flow_of_names hosts w)) ws ≡ true
-    → list_any (is_named from to) ws ≡ true → IsFound hosts from to (flows_among hosts ws)
-found_where hosts from to [] all any = cc
-found_where hosts from to (w ∷ ws) all any =
-    let (here, behind) = and_parts (is_some (flow_of_names hosts w)) _ all in
-    found_by hosts from to w (flow_of_names hosts w) (is_named from to w) (list_any (is_named from to) ws) (flows_among hosts ws) refl refl here any
-    (found_where hosts from to ws behind)
 
 -- ---- one flow more
 

@@ -1,21 +1,19 @@
 -- A table with other flows: what is written in it, and the network that it describes, where the flows are right.
 use Rattle.std.proofs.Common.{◌≡◌, ◌≢◌, ℕ, pos, ◌≤◌, true, false, List, [], ◌∷◌, length, codes, Option, Some, None, Ok, option_and_then, unwrap_or, nat_cmp, is_eq, refl, sym, ap, subst, ◌∙◌}
 use Rattle.std.specs.Cmp.Lexicographic.{slice_cmp}
-use Rattle.std.specs.List.{All, AllPairs, AllZip, list_all, list_any}
+use Rattle.std.specs.List.{All, AllPairs, AllZip, list_any}
 use Rattle.std.specs.Prelude.{IsSomeAnd, IsTrue, MatchOption, is_some}
 use Rattle.std.specs.Str.{bytes_eq}
 use Rattle.toml.specs.Data.{Data, array, Members, get_member}
 use Rattle.toml.specs.View.{items_of}
-use Rattle.desc_core.proofs.UsesLaws.{all_between}
 use Rattle.desc_core.specs.Description.{described_by_table}
 use Rattle.desc_core.proofs.DescriptionLaws.{accepted}
-use Rattle.desc_core.specs.Flows.{flow_of_names}
 use Rattle.desc_core.specs.Migrated.{with_member}
 use Rattle.desc_core.proofs.MigratedLaws.{get_other, get_with, keys_with}
 use Rattle.desc_core.proofs.TableFactsLaws.{described-IsRight}
 use Rattle.desc_core.specs.UseConditions.{is_declared}
 use Rattle.desc_core.specs.inner.UseFacts.{HasUses}
-use Rattle.desc_core.proofs.UseFactsLaws.{PassesUses-uses, has_uses}
+use Rattle.desc_core.proofs.UseFactsLaws.{has_uses}
 use Rattle.desc_core.specs.WrittenNetwork.{network_of}
 use Rattle.desc_form.proofs.KeyLaws.{array_zips}
 use Rattle.desc_form.specs.Written.{Written, written}
@@ -98,7 +96,6 @@ pub record IsListing (table : Members) (flows : List Data) (w : Written) : Type 
   pub uses : HasUses w
   pub zipped : AllZip IsFlow flows w.flows
   pub given : w.given ≡ true
-  pub between : list_all (λ f. is_some (flow_of_names (network_hosts w) f)) w.flows ≡ true
 
 given_where : (o : Option Data) (ds : List Data) → option_and_then elements_of o ≡ Some ds → is_some o ≡ true
 given_where None ds is = cc
@@ -126,7 +123,6 @@ listing table flows d there said =
       uses = (has_uses (written table)).0 none.uses;
       zipped = zipped_where table (written table) flows there is;
       given = list_given table (written table) flows there is;
-      between = all_between (written table) (PassesUses-uses (written table) none.uses);
     }
 
 -- its flows are right

@@ -43,11 +43,6 @@ told_next edits i e old new first s told pushed within is made tells grown so_fa
     subst (AreSummaries (map edit_view edits) first) (sym (ap (λ (ts : List Summary). ts ++ ss) grown ∙ append_assoc told (s ∷ []) ss))
     (so_far (s ∷ ss) (subst (λ (es : List meant.Edit). AreSummaries es old (s ∷ ss)) (sym (left edits i e within is)) (new, made, tells, are)))
 
-pub all_applied : (edits : List Edit) (i : ℕ) (now : Members) (whole : Result Members (ℕ × EditFault)) → length edits ≤ i
-    → after_edits (map edit_view (drop i edits)) now ≡ whole → whole ≡ Ok now
-all_applied edits i now whole past so_far =
-    sym so_far ∙ ap (λ (es : List Edit). after_edits (map edit_view es) now) (drop_all i edits past)
-
 pub all_told : (edits : List Edit) (i : ℕ) (now first : Members) (told : List Summary) → length edits ≤ i
     → ((ss : List Summary) → AreSummaries (map edit_view (drop i edits)) now ss → AreSummaries (map edit_view edits) first (told ++ ss))
     → AreSummaries (map edit_view edits) first told

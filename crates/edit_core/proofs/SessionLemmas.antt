@@ -1,7 +1,7 @@
 -- What a session answers, case by case.
-use Rattle.std.proofs.Common.{◌≡◌, ℕ, List, map, string_bytes, Some, Result, Ok, Err, refl, sym, ap, subst, ◌∙◌}
+use Rattle.std.proofs.Common.{◌≡◌, ℕ, List, Some, Result, Ok, Err, refl, sym, ap, subst, ◌∙◌}
 use Rattle.std.specs.BTreeMap.{BTreeMap}
-use Rattle.std.specs.Prelude.{IfErr, IfOk, OnErr, String}
+use Rattle.std.specs.Prelude.{IfErr, IfOk, String}
 use Rattle.std.specs.Result.{result_map_both}
 use Rattle.std.specs.declared.alloc.Global.{Global}
 use Rattle.desc_core.proofs.DescribeLemmas.{table_read, table_refused}
@@ -123,18 +123,3 @@ done_now change said s old new summary is same done =
     subst (λ (x : Change). IsApplied x (table_of s) (table_of (entries_of new)) (Ok summary)) same
     (subst (λ (ms : Members). IsApplied said ms (table_of (entries_of new)) (Ok summary)) (seen s old is)
     (subst (λ (ms : Members). IsApplied said (table_view old) ms (Ok summary)) (sym (table_of-entries_of new)) done))
-
--- the entries where nothing was changed
-pub same_entries : (s : Entries) (old new : Table) → entries_of old ≡ s → new.entries ≡ old.entries → entries_of new ≡ s
-same_entries s old new is same = ap (map (λ (e : String Global × Value). (string_bytes e.0, e.1))) same ∙ is
-
--- an edit that was made anew, from entries that were left as they are
-pub anew_now : (change said : Change) (s t next : Entries) (r : Result Summary EditFault) → t ≡ s → said ≡ change
-    → IsApplied said (table_of t) (table_of next) r → IsApplied change (table_of s) (table_of next) r
-anew_now change said s t next r same is applied =
-    subst (λ (x : Change). IsApplied x (table_of s) (table_of next) r) is
-    (subst (λ (es : Entries). IsApplied said (table_of es) (table_of next) r) same applied)
-
-pub unchanged_now : (r : Result Summary EditFault) (s t next : Entries) → t ≡ s → OnErr r (next ≡ t) → OnErr r (next ≡ s)
-unchanged_now (Ok summary) s t next same unchanged = unchanged
-unchanged_now (Err fault) s t next same unchanged = unchanged ∙ same

@@ -1,4 +1,4 @@
--- The table that an edit makes of the table of a description (docs/FORMATS.md). `add` and `remove` change the list of flows, `set` and
+-- The table that an edit makes of the table of a description (docs/TEXTS.md). `add` and `remove` change the list of flows, `set` and
 -- `unset` the assigns of one invariant; all else stays as it is.
 use Rattle.std.specs.Prelude.{ℕ, ◌-◌, Bool, false, not, ◌&&◌, if◌then◌else◌, List, [], ◌∷◌, ◌++◌, map, filter, option_and_then, Result, Ok, Err, codes, slice_get}
 use Rattle.std.specs.List.{list_any, slice_set}

@@ -1,4 +1,4 @@
--- The text of a list of edits, one line each (docs/FORMATS.md): which edits a text tells, and its first fault.
+-- The text of a list of edits, one line each (docs/TEXTS.md): which edits a text tells, and its first fault.
 use Rattle.std.specs.Prelude.{◌≡◌, ℕ, ◌<◌, ◌≤◌, List, [], ◌∷◌, ◌++◌, Some, length, codes, decimal, is_some, IsTrue}
 use Rattle.std.specs.List.{list_all}
 use Rattle.std.specs.Str.{is_utf8}

@@ -4,6 +4,8 @@ ghost use Rattle.std.specs.Prelude.{◌≡◌, not, position};
 ghost use Rattle.text_core.specs.Lines.{is_blank};
 ghost use Rattle.edit_core.specs.Behind.{behind_word, from_first};
 
+use text_core::is_blank;
+
 /// The text behind the first word of a line.
 pub(crate) fn behind_word(line: &[u8]) -> &[u8]
     ensures { result.now ≡ behind_word line.now }
@@ -43,10 +45,4 @@ fn place_of_blank(text: &[u8]) -> Option<usize>
     ensures { result ≡ position is_blank text.now }
 {
     text.iter().position(|byte| is_blank(*byte))
-}
-
-fn is_blank(byte: u8) -> bool
-    ensures { result ≡ is_blank byte }
-{
-    byte == b' ' || byte == b'\t'
 }

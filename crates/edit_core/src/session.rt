@@ -21,7 +21,7 @@ use std::alloc::Global;
 use std::marker::Model;
 use toml::Table;
 
-/// A description that is edited, with its policy. It is seen as its table.
+/// A description that is edited, with its policy. It is seen as the entries of its table.
 #[derive(Drop)]
 pub struct Session {
     alloc: Global,

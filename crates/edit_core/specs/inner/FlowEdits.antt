@@ -1,4 +1,4 @@
--- A network in which one flow is asked for more or less, and which flow an edit may add or take out (docs/FORMATS.md).
+-- A network in which one flow is asked for more or less, and which flow an edit may add or take out (docs/TEXTS.md).
 use Rattle.std.specs.Prelude.{◌≡◌, ◌≢◌, ◌⊎◌, ◌≤◌, ℕ, not, List, [], ◌∷◌, filter, length, Some, IsFalse, IsTrue}
 use Rattle.desc_core.specs.inner.Parts.{with_services}
 use Rattle.desc_form.specs.Keys.{says_second, version_said}
