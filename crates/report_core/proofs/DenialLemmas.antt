@@ -43,8 +43,3 @@ pub tried_of_read : (d : Network) (policy : Policy) (invs : List AnyInv) (read :
     → AreTriedOn d policy.permitted.flows trials → are_tried invs trials read.flows
 tried_of_read d policy invs read trials same_invs same tried =
     subst (λ (xs : List AnyInv). are_tried xs trials read.flows) (sym same_invs) (subst (λ (s : SetOfFlows). AreTriedOn d s.flows trials) (sym same) tried)
-
-pub tried_again : (d : Network) (policy : Policy) (invs : List AnyInv) (read : SetOfFlows) (trials : List AnyTrial) → invs ≡ d.invariants → read ≡ policy.permitted
-    → are_tried invs trials read.flows → AreTriedOn d policy.permitted.flows trials
-tried_again d policy invs read trials same_invs same tried =
-    subst (λ (s : SetOfFlows). AreTriedOn d s.flows trials) same (subst (λ (xs : List AnyInv). are_tried xs trials read.flows) same_invs tried)

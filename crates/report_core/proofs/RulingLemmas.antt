@@ -88,14 +88,6 @@ told-append d policy fs gs a b p q = record {
   written = ap (λ text. text ++ b) p.written ∙ ap (λ text. policy_text d fs p.rulings ++ text) q.written ∙ sym (policy_text-append d policy fs gs p.rulings q.rulings p.found);
 }
 
--- no flow, and one
-pub grows_by_none : (d : Network) (policy : Policy) (text : List ℕ) → Grows (TellsRulings d policy []) text text
-grows_by_none d policy text = record {
-  piece = [];
-  is_piece = record { rulings = []; found = tt; written = refl };
-  after = sym (append-nil text);
-}
-
 pub grows_by_one : (d : Network) (policy : Policy) (f : Flow) (r : Ruling) (old new : List ℕ) → IsRuling d policy f r → new ≡ old ++ ruling_line d f r → Grows (TellsRulings d policy (f ∷ [])) old new
 grows_by_one d policy f r old new is_ruling written = record {
   piece = ruling_line d f r;

@@ -2,7 +2,7 @@ use Rattle.std.proofs.Common.{ℕ, Option, None, length, sym, ◌∙◌, subst}
 use Rattle.std.specs.Prelude.{IsTrue, IsFalse, IsSome}
 use Rattle.std.proofs.lemmas.Bool.{false≢true}
 use Rattle.flow_set.specs.FlowSet.{SetOfFlows, has}
-use Rattle.report_core.proofs.DenialLemmas.{IsFlow-in, denied, held, tried_again, tried_of_read}
+use Rattle.report_core.proofs.DenialLemmas.{IsFlow-in, denied, held, tried_of_read}
 use Rattle.report_core.proofs.policy.ruling_of.Goals as goal
 
 pub has-requires : goal.has-requires
@@ -15,8 +15,9 @@ has-requires-2 c =
     IsFlow-in (length c.args.description.now.hosts) c.args.flow c.permitted.result.now c.args.policy.now.permitted c.permitted.ensures.value
     (c.requires.policy.permitted_size ∙ c.asked-asked.ensures.size) c.requires.flow
 
-pub unreachable-requires : goal.unreachable-requires
-unreachable-requires c =
+-- some invariant denies a flow that was asked for and is not permitted
+pub returns-in-None-clause-ruling : goal.returns-in-None-clause-ruling
+returns-in-None-clause-ruling c =
     let f = c.args.flow in
     let wanted : IsTrue (has c.args.description.now.asked.flows f) =
     subst (λ (s : SetOfFlows). IsTrue (has s.flows f)) c.asked-asked.ensures.value (sym c.has-3.ensures ∙ c.if-not-has.false) in
@@ -26,7 +27,7 @@ unreachable-requires c =
     c.blame_by_steps.ensures.denied (denied c.args.description.now c.args.policy.now f c.invariants-invariants.result.now c.permitted-2.result.now c.requires.policy
     c.invariants-invariants.ensures.value c.permitted-2.ensures.value wanted left_out) in
     let nobody : IsSome {T = ℕ} None = subst (λ (o : Option ℕ). IsSome o) c.in-None.is blamed in
-    false≢true nobody
+    absurd (false≢true nobody)
 
 pub blame_by_steps-requires-clause-held : goal.blame_by_steps-requires-clause-held
 blame_by_steps-requires-clause-held c =
@@ -36,8 +37,3 @@ pub blame_by_steps-requires-clause-tried : goal.blame_by_steps-requires-clause-t
 blame_by_steps-requires-clause-tried c =
     tried_of_read c.args.description.now c.args.policy.now c.invariants-invariants.result.now c.permitted-2.result.now c.args.trials.now.items
     c.invariants-invariants.ensures.value c.permitted-2.ensures.value c.requires.tried
-
-pub returns-clause-tried : goal.returns-clause-tried
-returns-clause-tried c =
-    tried_again c.args.description.now c.args.policy.now c.invariants-invariants.result.now c.permitted-2.result.now c.blame_by_steps.new.trials.items
-    c.invariants-invariants.ensures.value c.permitted-2.ensures.value c.blame_by_steps.ensures.tried
