@@ -10,7 +10,7 @@ use Rattle.audit_core.specs.inner.FindingText.{finding_text}
 use Rattle.audit_core.specs.laws.ListLaws.{agree_not_differ}
 use Rattle.audit_core.specs.Lists.{front_of}
 use Rattle.audit_core.specs.Places.{class_count, leasts_of}
-use Rattle.audit_core.specs.Rules.{Chains, Entries, Rules, filter_of}
+use Rattle.audit_core.specs.Rules.{Rules, filter_of}
 use Rattle.audit_core.specs.inner.Rules.{GivesOne}
 use Rattle.audit_core.specs.Sides.{Sides, lets_answer, permits, sides_of}
 use Rattle.audit_core.specs.inner.Sides.{AgreeAlways}
@@ -20,15 +20,13 @@ use Rattle.audit_core.specs.declared.finding.Trace.{Trace}
 use Rattle.audit_core.specs.declared.kind.Kind.{Kind}
 use Rattle.audit_core.specs.declared.kind.Kind.TheVariants.{Alone, BehindSwap, BehindBoth}
 use Rattle.host_net.specs.declared.packet.Packet.{Packet}
-use Rattle.ipt_rules.specs.Chain.{Chain}
 use Rattle.net_core.specs.inner.Fitting.{IsNetwork}
 use Rattle.net_core.specs.Network.{Network, site_of}
 use Rattle.net_core.specs.Policies.{IsPolicyOf, Policy}
-use Rattle.ofp_rules.specs.declared.entry.Entry.{Entry}
 use Rattle.pkt_core.specs.declared.event.Event.{Event}
 use Rattle.pkt_core.specs.declared.event.Event.TheVariants.{Forget, Seen}
 use Rattle.pkt_core.proofs.ExpectedLaws.{expected_once}
-use Rattle.pkt_core.specs.Filter.{ArePackets}
+use Rattle.pkt_core.specs.Filter.{ArePackets, ForwardsExpected}
 use Rattle.pkt_core.specs.Firewall.{Filter}
 use Rattle.pkt_core.specs.Tracking.{Kept, Runs, after_forget, after_seen, nothing_kept, state_of}
 use Rattle.topos_top.specs.Audit.{FewClasses, ForwardAlike, HasManyClasses, OfSides, TellsDifference, audit_job, rules_in}
@@ -161,24 +159,23 @@ equal_exactly d rules reply answers few = (alike_where_done, done_where_alike)
       ]
     ]
 
+-- rules let pass in an audit what they let pass in their dialect
+pub filter_in : (dialect : Dialect) (said : (language_of dialect).Rules) → filter_of (rules_in dialect said) ≡ (language_of dialect).filter said
+filter_in Iptables chains = refl
+filter_in OpenFlow entries = refl
+
 -- the rules that are read of a text that `rules` or `repair` writes forward alike
 pub written_alike : (dialect : Dialect) (d : Network) (text : List ℕ) (said : (language_of dialect).Rules) → IsNetwork d
     → OfPolicy d (language_of dialect).CanWrite → IsRules (language_of dialect) d text → (language_of dialect).IsReading text said
     → OfSides d (rules_in dialect said) ForwardAlike
 unfolding rules_keep
-written_alike Iptables d text said network can is reading =
-    let keep = rules_keep (language_of Iptables) (keeps_policies Iptables) d text network can is in
+written_alike dialect d text said network can is reading =
+    let keep = rules_keep (language_of dialect) (keeps_policies dialect) d text network can is in
+    let filter = ap (language_of dialect).filter (sym (keep.only_reading said reading)) ∙ sym (filter_in dialect said) in
     record {
       policy = keep.policy;
       is_policy = keep.invariants.is_policy;
-      so = subst (λ (rules : List Chain). ForwardAlike (sides_for d (Chains rules) keep.policy)) (sym (keep.only_reading said reading)) keep.expected;
-    }
-written_alike OpenFlow d text said network can is reading =
-    let keep = rules_keep (language_of OpenFlow) (keeps_policies OpenFlow) d text network can is in
-    record {
-      policy = keep.policy;
-      is_policy = keep.invariants.is_policy;
-      so = subst (λ (rules : List Entry). ForwardAlike (sides_for d (Entries rules) keep.policy)) (sym (keep.only_reading said reading)) keep.expected;
+      so = subst (λ (f : Filter). ForwardsExpected f (site_of d) keep.policy.permitted.flows keep.policy.stateful.flows) filter keep.expected;
     }
 
 -- ---- what the code answers

@@ -33,6 +33,7 @@ use Rattle.report_core.specs.RefusalLine.{refusal_text}
 use Rattle.topos_top.specs.Kinds.{contents_of, IsNoDescription, IsRefused}
 use Rattle.topos_top.specs.Reply.{error}
 use Rattle.topos_top.specs.TextFault.{TellsFault, edits_reason, events_reason, fault_line, flows_reason, rules_reason}
+use Rattle.topos_top.specs.declared.dialect.Dialect.{Dialect}
 use Rattle.topos_top.specs.declared.dialect.Dialect.TheVariants.{Iptables, OpenFlow}
 use Rattle.topos_top.specs.declared.kind.Kind.{Kind}
 use Rattle.topos_top.specs.declared.kind.Kind.TheVariants.{Description, Rules, Events, Document, Edited, Edits}
@@ -135,14 +136,12 @@ long_text : {Why : Type 0} (text : List ℕ) (reason_of : Why → List ℕ) (Has
     → TellsFault text reason_of HasFault bytes (fault_line text 0 (reason_of why))
 long_text text reason_of HasFault bytes why fault = record { number = 0; why = why; fault = fault; told = refl }
 
-pub long_rules : (bytes : List ℕ) → (contents_of (Rules Iptables)).most < length bytes → IsRefused (Rules Iptables) bytes (error BadText (fault_line (codes "rules") 0 (rules_reason RulesTooLong)))
-long_rules bytes long = record { line = _; refuses = long_text (codes "rules") rules_reason HasFaultInRules bytes RulesTooLong (too_long long); replied = refl }
+pub long_rules : (dialect : Dialect) (bytes : List ℕ) → (contents_of (Rules dialect)).most < length bytes → IsRefused (Rules dialect) bytes (error BadText (fault_line (codes "rules") 0 (codes "TooLong")))
+long_rules Iptables bytes long = record { line = _; refuses = long_text (codes "rules") rules_reason HasFaultInRules bytes RulesTooLong (too_long long); replied = refl }
+long_rules OpenFlow bytes long = record { line = _; refuses = long_text (codes "rules") flows_reason HasFaultInFlows bytes FlowsTooLong (too_long long); replied = refl }
 
-pub long_flows : (bytes : List ℕ) → (contents_of (Rules OpenFlow)).most < length bytes → IsRefused (Rules OpenFlow) bytes (error BadText (fault_line (codes "rules") 0 (flows_reason FlowsTooLong)))
-long_flows bytes long = record { line = _; refuses = long_text (codes "rules") flows_reason HasFaultInFlows bytes FlowsTooLong (too_long long); replied = refl }
-
-pub long_events : (bytes : List ℕ) → (contents_of Events).most < length bytes → IsRefused Events bytes (error BadText (fault_line (codes "events") 0 (events_reason EventsTooLong)))
+pub long_events : (bytes : List ℕ) → (contents_of Events).most < length bytes → IsRefused Events bytes (error BadText (fault_line (codes "events") 0 (codes "TooLong")))
 long_events bytes long = record { line = _; refuses = long_text (codes "events") events_reason IsRefusedInEvents bytes EventsTooLong (too_long long); replied = refl }
 
-pub long_edits : (bytes : List ℕ) → (contents_of Edits).most < length bytes → IsRefused Edits bytes (error BadText (fault_line (codes "edits") 0 (edits_reason EditsTooLong)))
+pub long_edits : (bytes : List ℕ) → (contents_of Edits).most < length bytes → IsRefused Edits bytes (error BadText (fault_line (codes "edits") 0 (codes "TooLong")))
 long_edits bytes long = record { line = _; refuses = long_text (codes "edits") edits_reason IsRefusedInEdits bytes EditsTooLong (too_long long); replied = refl }

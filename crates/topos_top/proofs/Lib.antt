@@ -17,4 +17,3 @@ pub mod Taking
 pub mod PutBlocks
 pub mod Growing
 pub mod Worked
-pub mod RefusedLaws

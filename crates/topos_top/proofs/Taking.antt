@@ -1,16 +1,24 @@
 -- How a file that was taken off the shelf, or was not, is what the call saw of it.
-use Rattle.std.proofs.Common.{◌≡◌, ℕ, ◌+◌, ◌<◌, ◌≤◌, ◌⊎◌, inl, inr, min, List, length, Option, None, Some, refl, arith, replicate}
+use Rattle.std.proofs.Common.{◌≡◌, ◌∙◌, ℕ, ◌+◌, ◌<◌, ◌≤◌, ◌⊎◌, inl, inr, min, List, length, Option, None, Some, Err, refl, sym, ap, arith, replicate}
 use Rattle.std.proofs.lemmas.List.{length-replicate}
 use Rattle.std.specs.Prelude.{IfSome, IsSomeAnd}
 use Rattle.std.specs.FinMap.{get}
+use Rattle.desc_core.specs.Description.{described}
+use Rattle.desc_core.specs.declared.fault.DescFault.{DescFault}
+use Rattle.desc_core.specs.declared.fault.DescFault.TheVariants as desc
+use Rattle.desc_form.specs.declared.refusal.Refusal.{Refusal}
 use Rattle.edge_io.specs.Counts.{more}
 use Rattle.edge_io.specs.Told.{Files}
-use Rattle.topos_top.specs.Kinds.{contents_of, IsRefused}
+use Rattle.report_core.specs.RefusalLine.{refusal_text}
+use Rattle.topos_top.specs.Kinds.{contents_of, IsNoDescription, IsRefused}
 use Rattle.topos_top.specs.inner.Reads.{TookFile}
-use Rattle.topos_top.specs.Replies.{StopsAt, Stopped}
-use Rattle.topos_top.specs.Reply.{Reply}
+use Rattle.topos_top.specs.inner.Views.{description_reply}
+use Rattle.topos_top.specs.Replies.{StopsAt, NoMemory, Stopped}
+use Rattle.topos_top.specs.Reply.{Reply, error}
 use Rattle.topos_top.specs.Shelf.{ShelfChange, Holds}
 use Rattle.topos_top.specs.declared.kind.Kind.{Kind}
+use Rattle.topos_top.specs.declared.status.Status.{Status}
+use Rattle.topos_top.specs.declared.status.Status.TheVariants.{BadDescription}
 
 -- a file that was taken whole
 pub took_whole : {E : Type 0} (kind : Kind) (file bytes : List ℕ) (shelf : ShelfChange) → Holds shelf.before file bytes → shelf.after.told ≡ shelf.before.told
@@ -59,3 +67,15 @@ took_too_much kind file shelf given longer begins taken refused =
 pub refused_whole : (kind : Kind) (file bytes : List ℕ) (shelf : ShelfChange) (given : Reply) → TookFile shelf kind file bytes → IsRefused kind bytes given → StopsAt shelf kind file given
 refused_whole kind file bytes shelf given took refused =
     Stopped (Some bytes) (record { begins = took.took.begins; held = took.held; taken = took.took.taken }) refused
+
+-- a description that is refused, or for which there is no memory
+pub description_refused : (kind : Kind) → ((bytes line : List ℕ) → IsNoDescription bytes line → (contents_of kind).Refuses bytes line) → (contents_of kind).refused_as ≡ BadDescription
+    → (shelf : ShelfChange) (file bytes : List ℕ) (fault : DescFault) (given : Reply) → TookFile shelf kind file bytes
+    → ((why : Refusal) → fault ≡ desc.Refused why → described bytes ≡ Err why) → given ≡ description_reply fault → StopsAt shelf kind file given
+description_refused kind refuses status shelf file bytes (desc.Refused why) given took cause is =
+    refused_whole kind file bytes shelf given took (record {
+      line = refusal_text why;
+      refuses = refuses bytes (refusal_text why) (why, cause why refl, refl);
+      replied = is ∙ ap (λ (ended : Status). error ended (refusal_text why)) (sym status);
+    })
+description_refused kind refuses status shelf file bytes desc.Memory given took cause is = NoMemory took.took.begins is

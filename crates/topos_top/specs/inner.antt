@@ -2,7 +2,6 @@ pub mod Ask
 pub mod Blocks
 pub mod Local
 pub mod Reads
-pub mod Refused
 pub mod Replies
 pub mod StatusNumber
 pub mod Views

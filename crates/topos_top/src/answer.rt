@@ -6,10 +6,9 @@ ghost use Rattle.topos_top.specs.Reply.{Reply, usage, cannot_read, no_memory, er
 ghost use Rattle.topos_top.specs.TextFault.{fault_line};
 ghost use Rattle.topos_top.specs.inner.Views.{reply_on, reply_view, text_view};
 
-use crate::refused::no_memory;
 use crate::status::{Status, Stream};
 use crate::text::Text;
-use desc_core::Refusal;
+use desc_core::{DescFault, Refusal};
 use std::alloc::{AllocError, AllocFailed};
 
 /// An answer: how the run ends, and a text for one of the two streams.
@@ -54,11 +53,40 @@ impl<'a> Answer<'a> {
         }
     }
 
+    /// A text that is refused: what it was to hold, the number of its faulty line, or 0 for the whole
+    /// of it, and why.
+    pub fn bad_text(text: &'static [u8], line: u32, reason: &'static [u8]) -> Answer<'a>
+        ensures { reply_view result ≡ error Status.BadText (fault_line text.now line reason.now) }
+    {
+        Answer::error(Status::BadText, Text::Fault(text, line, reason))
+    }
+
+    /// There is no memory for what is asked for.
+    pub fn no_memory() -> Answer<'a>
+        ensures { reply_view result ≡ no_memory }
+    {
+        Answer::error(Status::Memory, Text::NoMemory)
+    }
+
     /// Why what is asked for cannot be written.
     pub fn not_emittable(line: Vec<u8>) -> Answer<'a>
         ensures { reply_view result ≡ error Status.NotEmittable line.items }
     {
         Answer::error(Status::NotEmittable, Text::Bytes(line))
+    }
+}
+
+impl<'a> From<DescFault> for Answer<'a> {
+    ghost use Rattle.std.specs.Prelude.{◌≡◌};
+    ghost use Rattle.topos_top.specs.inner.Views.{description_reply, reply_view};
+
+    ghost from_gives = { λ fault given. reply_view given ≡ description_reply fault };
+
+    fn from(fault: DescFault) -> Self {
+        match fault {
+            DescFault::Refused(why) => { Answer::error(Status::BadDescription, Text::Refusal(why)) }
+            DescFault::Memory => Answer::no_memory(),
+        }
     }
 }
 
@@ -70,7 +98,7 @@ impl<'a> From<AllocError> for Answer<'a> {
     ghost from_gives = { λ _ given. reply_view given ≡ no_memory };
 
     fn from(_: AllocError) -> Self {
-        no_memory()
+        Answer::no_memory()
     }
 }
 
@@ -82,6 +110,6 @@ impl<'a, T: Drop> From<AllocFailed<T>> for Answer<'a> {
     ghost from_gives = { λ _ given. reply_view given ≡ no_memory };
 
     fn from(_: AllocFailed<T>) -> Self {
-        no_memory()
+        Answer::no_memory()
     }
 }

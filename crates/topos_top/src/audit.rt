@@ -1,8 +1,7 @@
 //! `audit iptables|openflow FILE RULES`: whether rules do what the policy of a network says.
 
 ghost use Rattle.std.specs.Prelude.{◌≡◌, ◌≤◌, IfOk, true};
-ghost use Rattle.ipt_rules.specs.inner.OneOutcome.{EachGivesOne};
-ghost use Rattle.audit_core.specs.Rules.{Chains, filter_of};
+ghost use Rattle.audit_core.specs.Rules.{filter_of};
 ghost use Rattle.audit_core.specs.inner.Rules.{GivesOne};
 ghost use Rattle.audit_core.specs.inner.RulesView.{rules_of};
 ghost use Rattle.topos_top.specs.Ask.{Audit};
@@ -11,17 +10,16 @@ ghost use Rattle.topos_top.specs.Commands.{course_of};
 ghost use Rattle.topos_top.specs.Job.{Answers};
 ghost use Rattle.topos_top.specs.Replies.{MayReply};
 ghost use Rattle.topos_top.specs.Shelf.{shelf_change};
-ghost use Rattle.topos_top.specs.inner.Views.{reply_view, reply_in};
-ghost use Rattle.topos_top.specs.declared.dialect.Dialect.TheVariants.{Iptables, OpenFlow};
+ghost use Rattle.topos_top.specs.inner.Views.{reply_view, reply_in, rules_view};
 
 use crate::answer::Answer;
-use crate::dialect::Dialect;
-use crate::reading::{read_description, read_rules, read_table};
+use crate::dialect::{Dialect, Rules};
+use crate::reading::{read_description, read_rules};
 use crate::text::Text;
 use audit_core::{AuditRefusal, Finding, classes_line, finding_text};
 use desc_core::Description;
 use edge_io::Shelf;
-use ipt_rules::{Filter, Ruleset};
+use ipt_rules::Filter;
 use net_core::policy_of;
 use std::alloc::{AllocError, Global};
 
@@ -38,62 +36,31 @@ pub fn reply<'a, H: Shelf>(
     ensures reply { MayReply true (course_of (Audit dialect file.now rules.now))
         (shelf_change H.Shelf shelf.old shelf.new) (reply_in result) }
 {
-    match dialect {
-        Dialect::Iptables => reply_by_rules(alloc, file, rules, shelf),
-        Dialect::OpenFlow => reply_by_table(alloc, file, rules, shelf),
+    let description = read_description(alloc, file, shelf)?;
+    let rules = read_rules(alloc, dialect, rules, shelf)?;
+    Ok(answer(alloc, &description, &rules)?)
+}
+
+/// What an audit of these rules finds. They have one verdict for every packet in each state.
+fn answer<'a>(
+    alloc: Global,
+    description: &Description,
+    rules: &Rules,
+) -> Result<Answer<'a>, AllocError>
+    requires { GivesOne (filter_of (rules_view rules.now)) }
+    ensures { IfOk result (λ answer. Answers true (audit_job description.now (rules_view rules.now)) (reply_view answer)) }
+{
+    match rules {
+        Rules::Chains(chains) => {
+            let filter = Filter::of(alloc, chains, usize::MAX)?;
+            finding(alloc, description, audit_core::Text::Ipt(&filter))
+        }
+        Rules::Table(table) => finding(alloc, description, audit_core::Text::Ofp(table)),
     }
 }
 
-/// The answer, where the second file has chains of iptables.
-fn reply_by_rules<'a, H: Shelf>(
-    alloc: Global,
-    file: &'a str,
-    rules: &'a str,
-    shelf: &mut H,
-) -> Result<Answer<'a>, Answer<'a>>
-    ensures same_files { H.files shelf.new ≡ H.files shelf.old }
-    ensures faults_stay { H.faults shelf.old ≤ H.faults shelf.new }
-    ensures reply { MayReply true (course_of (Audit Iptables file.now rules.now))
-        (shelf_change H.Shelf shelf.old shelf.new) (reply_in result) }
-{
-    let description = read_description(alloc, file, shelf)?;
-    let rules = read_rules(alloc, rules, shelf)?;
-    Ok(answer_by_rules(alloc, &description, &rules)?)
-}
-
-/// The answer, where the second file has a flow table of OpenFlow.
-fn reply_by_table<'a, H: Shelf>(
-    alloc: Global,
-    file: &'a str,
-    rules: &'a str,
-    shelf: &mut H,
-) -> Result<Answer<'a>, Answer<'a>>
-    ensures same_files { H.files shelf.new ≡ H.files shelf.old }
-    ensures faults_stay { H.faults shelf.old ≤ H.faults shelf.new }
-    ensures reply { MayReply true (course_of (Audit OpenFlow file.now rules.now))
-        (shelf_change H.Shelf shelf.old shelf.new) (reply_in result) }
-{
-    let description = read_description(alloc, file, shelf)?;
-    let table = read_table(alloc, rules, shelf)?;
-    Ok(answer(alloc, &description, audit_core::Text::Ofp(&table))?)
-}
-
-/// What an audit of these rules finds.
-fn answer_by_rules<'a>(
-    alloc: Global,
-    description: &Description,
-    rules: &Ruleset,
-) -> Result<Answer<'a>, AllocError>
-    requires { EachGivesOne rules.now }
-    ensures { IfOk result (λ answer. Answers true (audit_job description.now (Chains rules.now)) (reply_view answer)) }
-{
-    let filter = Filter::of(alloc, rules, usize::MAX)?;
-    answer(alloc, description, audit_core::Text::Ipt(&filter))
-}
-
-/// What an audit finds, or that there are too many classes of packets. The rules have one verdict
-/// for every packet in each state.
-fn answer<'a>(
+/// What an audit finds, or that there are too many classes of packets.
+fn finding<'a>(
     alloc: Global,
     description: &Description,
     rules: audit_core::Text<'_>,

@@ -3,6 +3,9 @@
 ghost use Rattle.std.specs.Prelude.{◌≡◌};
 ghost use Rattle.topos_top.specs.inner.Ask.{dialect_named};
 
+use ipt_rules::Ruleset;
+use ofp_rules::Table;
+
 /// A dialect of rules.
 #[derive(Clone, Copy)]
 pub enum Dialect {
@@ -23,4 +26,13 @@ impl Dialect {
             _ => None,
         }
     }
+}
+
+/// Rules of a dialect, as they are read.
+#[derive(Drop)]
+pub enum Rules {
+    /// Chains of iptables.
+    Chains(Ruleset),
+    /// A flow table of OpenFlow.
+    Table(Table),
 }

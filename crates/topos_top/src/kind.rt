@@ -11,10 +11,8 @@ use crate::answer::Answer;
 use crate::dialect::Dialect;
 use crate::status::Status;
 use desc_core::{DescFault, Place, Refusal, Why};
-use edit_core::{EDITS_BYTE_LIMIT, EditsFault, EditsWhy};
-use ipt_read::{IptFault, IptWhy};
-use ofp_read::{OfpFault, OfpWhy};
-use pkt_core::{EVENTS_BYTE_LIMIT, EventFault, EventWhy};
+use edit_core::EDITS_BYTE_LIMIT;
+use pkt_core::EVENTS_BYTE_LIMIT;
 
 /// What a file is to hold.
 #[derive(Clone, Copy)]
@@ -56,15 +54,9 @@ impl Kind {
             Kind::Description => too_long_description(),
             Kind::Document => too_long_description(),
             Kind::Edited => too_long_description(),
-            Kind::Rules(dialect) => too_long_rules(dialect),
-            Kind::Events => Answer::from(EventFault::Refused {
-                line: 0,
-                why: EventWhy::TooLong,
-            }),
-            Kind::Edits => Answer::from(EditsFault::Refused {
-                line: 0,
-                why: EditsWhy::TooLong,
-            }),
+            Kind::Rules(_) => Answer::bad_text(b"rules", 0, b"TooLong"),
+            Kind::Events => Answer::bad_text(b"events", 0, b"TooLong"),
+            Kind::Edits => Answer::bad_text(b"edits", 0, b"TooLong"),
         }
     }
 }
@@ -74,20 +66,4 @@ fn too_long_description<'a>() -> Answer<'a>
     ensures { reply_view result ≡ error Status.BadDescription (refusal_text (refused Why.TooLong Place.Document)) }
 {
     Answer::from(DescFault::Refused(Refusal::at(Why::TooLong, Place::Document)))
-}
-
-/// The answer to rules that are too long.
-fn too_long_rules<'a>(dialect: Dialect) -> Answer<'a>
-    ensures { (bytes : List ℕ) → (contents_of (Kind.Rules dialect)).most < length bytes → IsRefused (Kind.Rules dialect) bytes (reply_view result) }
-{
-    match dialect {
-        Dialect::Iptables => Answer::from(IptFault::Refused {
-            line: 0,
-            why: IptWhy::TooLong,
-        }),
-        Dialect::OpenFlow => Answer::from(OfpFault::Refused {
-            line: 0,
-            why: OfpWhy::TooLong,
-        }),
-    }
 }

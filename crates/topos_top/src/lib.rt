@@ -24,7 +24,6 @@ mod migrate;
 mod policy;
 mod program;
 mod reading;
-mod refused;
 mod repair;
 mod rules;
 mod sample;

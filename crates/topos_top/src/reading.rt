@@ -1,25 +1,24 @@
 //! Reading a file of each kind. What is not accepted ends the run with its answer.
 
 ghost use Rattle.std.specs.Prelude.{◌≡◌, ◌≤◌, IfOk};
-ghost use Rattle.ipt_rules.specs.inner.OneOutcome.{EachGivesOne};
-ghost use Rattle.ofp_rules.specs.inner.Build.{IsTable};
-ghost use Rattle.topos_top.specs.inner.Reads.{MayTake, MayRead};
+ghost use Rattle.audit_core.specs.Rules.{filter_of};
+ghost use Rattle.audit_core.specs.inner.Rules.{GivesOne};
+ghost use Rattle.topos_top.specs.inner.Reads.{MayTake, MayRead, MayReadRules};
 ghost use Rattle.topos_top.specs.Shelf.{shelf_change};
-ghost use Rattle.topos_top.specs.inner.Views.{outcome_view, items_view, session_view, edits_view};
-ghost use Rattle.topos_top.specs.declared.dialect.Dialect.TheVariants.{Iptables, OpenFlow};
+ghost use Rattle.topos_top.specs.inner.Views.{outcome_view, items_view, rules_view, rules_outcome, session_view, edits_view};
 
 use crate::answer::Answer;
-use crate::dialect::Dialect;
+use crate::dialect::{Dialect, Rules};
 use crate::kind::Kind;
-use crate::refused::no_memory;
 use crate::status::Status;
 use crate::text::Text;
+use crate::text_fault::{edits_reason, events_reason, flows_reason, rules_reason};
 use desc_core::{Description, describe, migrate};
 use edge_io::{Shelf, TakeFault, take_all};
-use edit_core::{Edit, Session};
-use ipt_rules::Ruleset;
-use ofp_rules::Table;
-use pkt_core::Event;
+use edit_core::{Edit, EditsFault, Session};
+use ipt_read::IptFault;
+use ofp_read::OfpFault;
+use pkt_core::{Event, EventFault};
 use std::alloc::Global;
 
 /// The network that a file describes.
@@ -37,36 +36,39 @@ pub fn read_description<'a, H: Shelf>(
     Ok(describe(alloc, &bytes)?)
 }
 
-/// The chains of a file. Each of them gives every packet one outcome.
+/// The rules of a file. They have one verdict for every packet in each state.
 pub fn read_rules<'a, H: Shelf>(
     alloc: Global,
+    dialect: Dialect,
     name: &'a str,
     shelf: &mut H,
-) -> Result<Ruleset, Answer<'a>>
+) -> Result<Rules, Answer<'a>>
     ensures same_files { H.files shelf.new ≡ H.files shelf.old }
     ensures faults_stay { H.faults shelf.old ≤ H.faults shelf.new }
-    ensures reading { MayRead (Kind.Rules Iptables) name.now
-        (shelf_change H.Shelf shelf.old shelf.new) (outcome_view result) }
-    ensures one_outcome { IfOk result EachGivesOne }
+    ensures reading { MayReadRules dialect name.now (shelf_change H.Shelf shelf.old shelf.new) (rules_outcome result) }
+    ensures one_verdict { IfOk result (λ rules. GivesOne (filter_of (rules_view rules))) }
 {
-    let bytes = take(alloc, Kind::Rules(Dialect::Iptables), name, shelf)?;
-    Ok(ipt_read::read(alloc, &bytes)?)
-}
-
-/// The flow table of a file. It gives every frame one verdict.
-pub fn read_table<'a, H: Shelf>(
-    alloc: Global,
-    name: &'a str,
-    shelf: &mut H,
-) -> Result<Table, Answer<'a>>
-    ensures same_files { H.files shelf.new ≡ H.files shelf.old }
-    ensures faults_stay { H.faults shelf.old ≤ H.faults shelf.new }
-    ensures reading { MayRead (Kind.Rules OpenFlow) name.now
-        (shelf_change H.Shelf shelf.old shelf.new) (outcome_view result) }
-    ensures table { IfOk result IsTable }
-{
-    let bytes = take(alloc, Kind::Rules(Dialect::OpenFlow), name, shelf)?;
-    Ok(ofp_read::read(alloc, &bytes)?)
+    let bytes = take(alloc, Kind::Rules(dialect), name, shelf)?;
+    match dialect {
+        Dialect::Iptables => match ipt_read::read(alloc, &bytes) {
+            Ok(chains) => Ok(Rules::Chains(chains)),
+            Err(IptFault::Refused { line, why }) => Err(Answer::bad_text(
+                b"rules",
+                line,
+                rules_reason(why),
+            )),
+            Err(IptFault::Memory) => Err(Answer::no_memory()),
+        },
+        Dialect::OpenFlow => match ofp_read::read(alloc, &bytes) {
+            Ok(table) => Ok(Rules::Table(table)),
+            Err(OfpFault::Refused { line, why }) => Err(Answer::bad_text(
+                b"rules",
+                line,
+                flows_reason(why),
+            )),
+            Err(OfpFault::Memory) => Err(Answer::no_memory()),
+        },
+    }
 }
 
 /// The events of a file.
@@ -80,7 +82,15 @@ pub fn read_events<'a, H: Shelf>(
     ensures reading { MayRead Kind.Events name.now (shelf_change H.Shelf shelf.old shelf.new) (items_view result) }
 {
     let bytes = take(alloc, Kind::Events, name, shelf)?;
-    Ok(pkt_core::read_events(alloc, &bytes)?)
+    match pkt_core::read_events(alloc, &bytes) {
+        Ok(events) => Ok(events),
+        Err(EventFault::Refused { line, why }) => Err(Answer::bad_text(
+            b"events",
+            line,
+            events_reason(why),
+        )),
+        Err(EventFault::Memory) => Err(Answer::no_memory()),
+    }
 }
 
 /// The description of a file in version 2.
@@ -122,7 +132,15 @@ pub fn read_edits<'a, H: Shelf>(
     ensures reading { MayRead Kind.Edits name.now (shelf_change H.Shelf shelf.old shelf.new) (edits_view result) }
 {
     let bytes = take(alloc, Kind::Edits, name, shelf)?;
-    Ok(edit_core::read_edits(alloc, &bytes)?)
+    match edit_core::read_edits(alloc, &bytes) {
+        Ok(edits) => Ok(edits),
+        Err(EditsFault::Refused { line, why }) => Err(Answer::bad_text(
+            b"edits",
+            line,
+            edits_reason(why),
+        )),
+        Err(EditsFault::Memory) => Err(Answer::no_memory()),
+    }
 }
 
 /// The bytes of a file.
@@ -140,6 +158,6 @@ fn take<'a, H: Shelf>(
         Ok(bytes) => Ok(bytes),
         Err(TakeFault::Read) => Err(Answer::error(Status::ReadFault, Text::CannotRead(name))),
         Err(TakeFault::TooLong) => Err(kind.too_long()),
-        Err(TakeFault::Memory) => Err(no_memory()),
+        Err(TakeFault::Memory) => Err(Answer::no_memory()),
     }
 }

@@ -1,20 +1,22 @@
 //! `trace iptables|openflow RULES EVENTS`: what becomes of each event.
 
-ghost use Rattle.std.specs.Prelude.{◌≡◌, ◌≤◌, false};
+ghost use Rattle.std.specs.Prelude.{◌≡◌, ◌≤◌, IfOk, false};
+ghost use Rattle.audit_core.specs.Rules.{filter_of};
+ghost use Rattle.report_core.specs.Trace.{IsTrace};
 ghost use Rattle.topos_top.specs.Ask.{Trace};
 ghost use Rattle.topos_top.specs.Commands.{course_of};
 ghost use Rattle.topos_top.specs.Replies.{MayReply};
 ghost use Rattle.topos_top.specs.Shelf.{shelf_change};
-ghost use Rattle.topos_top.specs.inner.Views.{reply_in};
-ghost use Rattle.topos_top.specs.declared.dialect.Dialect.TheVariants.{Iptables, OpenFlow};
+ghost use Rattle.topos_top.specs.inner.Views.{reply_in, rules_view};
 
 use crate::answer::Answer;
-use crate::dialect::Dialect;
-use crate::reading::{read_events, read_rules, read_table};
+use crate::dialect::{Dialect, Rules};
+use crate::reading::{read_events, read_rules};
 use crate::text::Text;
 use edge_io::Shelf;
+use pkt_core::Event;
 use report_core::{trace_rules, trace_table};
-use std::alloc::Global;
+use std::alloc::{AllocError, Global};
 
 /// The answer to the files of those names.
 pub fn reply<'a, H: Shelf>(
@@ -29,44 +31,18 @@ pub fn reply<'a, H: Shelf>(
     ensures reply { MayReply false (course_of (Trace dialect rules.now events.now))
         (shelf_change H.Shelf shelf.old shelf.new) (reply_in result) }
 {
-    match dialect {
-        Dialect::Iptables => reply_by_rules(alloc, rules, events, shelf),
-        Dialect::OpenFlow => reply_by_table(alloc, rules, events, shelf),
+    let rules = read_rules(alloc, dialect, rules, shelf)?;
+    let events = read_events(alloc, events, shelf)?;
+    let text = trace_text(alloc, &rules, &events)?;
+    Ok(Answer::done(Text::Bytes(text)))
+}
+
+/// What the rules do with each event, one line each.
+fn trace_text(alloc: Global, rules: &Rules, events: &[Event]) -> Result<Vec<u8>, AllocError>
+    ensures { IfOk result (λ text. IsTrace (filter_of (rules_view rules.now)) events.now text.items) }
+{
+    match rules {
+        Rules::Chains(chains) => trace_rules(alloc, chains, events),
+        Rules::Table(table) => trace_table(alloc, table, events),
     }
-}
-
-/// The answer, where the first file has chains of iptables.
-fn reply_by_rules<'a, H: Shelf>(
-    alloc: Global,
-    rules: &'a str,
-    events: &'a str,
-    shelf: &mut H,
-) -> Result<Answer<'a>, Answer<'a>>
-    ensures same_files { H.files shelf.new ≡ H.files shelf.old }
-    ensures faults_stay { H.faults shelf.old ≤ H.faults shelf.new }
-    ensures reply { MayReply false (course_of (Trace Iptables rules.now events.now))
-        (shelf_change H.Shelf shelf.old shelf.new) (reply_in result) }
-{
-    let rules = read_rules(alloc, rules, shelf)?;
-    let events = read_events(alloc, events, shelf)?;
-    let text = trace_rules(alloc, &rules, &events)?;
-    Ok(Answer::done(Text::Bytes(text)))
-}
-
-/// The answer, where the first file has a flow table of OpenFlow.
-fn reply_by_table<'a, H: Shelf>(
-    alloc: Global,
-    rules: &'a str,
-    events: &'a str,
-    shelf: &mut H,
-) -> Result<Answer<'a>, Answer<'a>>
-    ensures same_files { H.files shelf.new ≡ H.files shelf.old }
-    ensures faults_stay { H.faults shelf.old ≤ H.faults shelf.new }
-    ensures reply { MayReply false (course_of (Trace OpenFlow rules.now events.now))
-        (shelf_change H.Shelf shelf.old shelf.new) (reply_in result) }
-{
-    let table = read_table(alloc, rules, shelf)?;
-    let events = read_events(alloc, events, shelf)?;
-    let text = trace_table(alloc, &table, &events)?;
-    Ok(Answer::done(Text::Bytes(text)))
 }

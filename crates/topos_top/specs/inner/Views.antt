@@ -3,6 +3,9 @@ use Rattle.std.specs.Prelude.{◌≤◌, ℕ, List, Result, Ok, Err, map}
 use Rattle.std.specs.Result.{result_map_both}
 use Rattle.std.specs.Global.{Global}
 use Rattle.std.specs.declared.vec.Vec.{Vec}
+use Rattle.audit_core.specs.Rules.{Rules as AuditedRules, Chains, Entries}
+use Rattle.desc_core.specs.declared.fault.DescFault.{DescFault}
+use Rattle.desc_core.specs.declared.fault.DescFault.TheVariants as desc
 use Rattle.edit_core.specs.inner.Kept.{table_of}
 use Rattle.edit_core.specs.Edit as meant
 use Rattle.edit_core.specs.inner.EditView.{edit_view}
@@ -14,12 +17,15 @@ use Rattle.report_core.specs.RefusalLine.{refusal_text}
 use Rattle.toml.specs.Data.{Members}
 use Rattle.toml.specs.declared.value.Value.{Value}
 use Rattle.topos_top.specs.Ask.{Ask, Check, Policy, Rules, Repair, Trace, Sample, Migrate, Audit, Edit, Local, usage_text}
-use Rattle.topos_top.specs.Reply.{Reply, cannot_read, no_memory}
+use Rattle.topos_top.specs.Reply.{Reply, cannot_read, error, no_memory}
 use Rattle.topos_top.specs.TextFault.{fault_line, edit_fault_line}
 use Rattle.topos_top.specs.declared.answer.Answer.{Answer}
 use Rattle.topos_top.specs.declared.ask.Ask.{Ask as CodeAsk}
 use Rattle.topos_top.specs.declared.ask.Ask.TheVariants as ask
+use Rattle.topos_top.specs.declared.dialect.Rules.{Rules as CodeRules}
+use Rattle.topos_top.specs.declared.dialect.Rules.TheVariants as rules
 use Rattle.topos_top.specs.declared.status.Status.{Status}
+use Rattle.topos_top.specs.declared.status.Status.TheVariants.{BadDescription}
 use Rattle.topos_top.specs.declared.status.Stream.{Stream}
 use Rattle.topos_top.specs.declared.text.Text.{Text}
 use Rattle.topos_top.specs.declared.text.Text.TheVariants as text
@@ -60,6 +66,11 @@ reply_on ended stream text = record { status = ended; stream = stream; text = te
 abbrev pub reply_view : Answer → Reply
 reply_view answer = reply_on answer.status answer.stream (text_view answer.text)
 
+-- the reply to a description, by the fault that the reader answers
+abbrev pub description_reply : DescFault → Reply
+description_reply (desc.Refused why) = error BadDescription (refusal_text why)
+description_reply desc.Memory = no_memory
+
 -- the reply of an outcome, whether it ended the run early or not
 abbrev pub reply_in : Result Answer Answer → Reply
 reply_in (Ok given) = reply_view given
@@ -71,6 +82,14 @@ outcome_view outcome = result_map_both (λ x. x) reply_view outcome
 
 abbrev pub items_view : {A : Type 0} → Result (Vec A Global) Answer → Result (List A) Reply
 items_view outcome = result_map_both (λ xs. xs.items) reply_view outcome
+
+-- rules that were read, as those of an audit
+abbrev pub rules_view : CodeRules → AuditedRules
+rules_view (rules.Chains chains) = Chains chains
+rules_view (rules.Table table) = Entries table
+
+abbrev pub rules_outcome : Result CodeRules Answer → Result AuditedRules Reply
+rules_outcome outcome = result_map_both rules_view reply_view outcome
 
 -- a description that is edited, as its table; and a list of edits, as what they stand for
 abbrev pub session_view : Result (List (List ℕ × Value)) Answer → Result Members Reply

@@ -1,7 +1,7 @@
 use Rattle.std.proofs.Common.{refl}
 use Rattle.std.proofs.lemmas.Result.{err_from_is_err_and}
 use Rattle.topos_top.specs.declared.kind.Kind.TheVariants.{Description}
-use Rattle.topos_top.proofs.RefusedLaws.{description_refused}
+use Rattle.topos_top.proofs.Taking.{description_refused}
 use Rattle.topos_top.proofs.reading.read_description.Goals as goal
 
 pub returns-in_err-describe-clause-reading : goal.returns-in_err-describe-clause-reading

@@ -1,8 +1,14 @@
-use Rattle.std.proofs.lemmas.Result.{err_from_is_err_and}
-use Rattle.topos_top.proofs.RefusedLaws.{edits_refused}
+use Rattle.std.proofs.Common.{refl}
+use Rattle.topos_top.specs.Replies.{NoMemory}
+use Rattle.topos_top.specs.declared.kind.Kind.TheVariants.{Edits}
+use Rattle.topos_top.proofs.Taking.{refused_whole}
 use Rattle.topos_top.proofs.reading.read_edits.Goals as goal
 
-pub returns-in_err-read_edits-clause-reading : goal.returns-in_err-read_edits-clause-reading
-returns-in_err-read_edits-clause-reading g c =
-    let p = err_from_is_err_and c.from_residual-in_err-read_edits.result c.from_residual-in_err-read_edits.ensures.1 in
-    rw p.1 (edits_refused _ c.args.name.now c.in_ok-bytes.bytes.items c.in_err-read_edits.field-0.0 _ c.in_ok-bytes.ensures.taken (rw c.deref.ensures.value at c.in_err-read_edits.ensures.refused) p.2)
+pub returns-in-Err-Refused-clause-reading : goal.returns-in-Err-Refused-clause-reading
+returns-in-Err-Refused-clause-reading g c =
+    let fault = rw (c.deref.ensures.value, c.in-Err-Refused.field-0-is) at c.in-Err-Refused.ensures.refused in
+    refused_whole Edits _ _ _ _ c.in_ok-bytes.ensures.taken
+    (record { line = _; refuses = record { number = _; why = _; fault = fault; told = refl }; replied = rw c.edits_reason.ensures at c.bad_text.ensures })
+
+pub returns-in-Err-Memory-clause-reading : goal.returns-in-Err-Memory-clause-reading
+returns-in-Err-Memory-clause-reading g c = NoMemory c.in_ok-bytes.ensures.taken.took.begins c.no_memory.ensures

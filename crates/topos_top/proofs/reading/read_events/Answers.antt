@@ -1,8 +1,14 @@
-use Rattle.std.proofs.lemmas.Result.{err_from_is_err_and}
-use Rattle.topos_top.proofs.RefusedLaws.{events_refused}
+use Rattle.std.proofs.Common.{refl}
+use Rattle.topos_top.specs.Replies.{NoMemory}
+use Rattle.topos_top.specs.declared.kind.Kind.TheVariants.{Events}
+use Rattle.topos_top.proofs.Taking.{refused_whole}
 use Rattle.topos_top.proofs.reading.read_events.Goals as goal
 
-pub returns-in_err-read_events-clause-reading : goal.returns-in_err-read_events-clause-reading
-returns-in_err-read_events-clause-reading g c =
-    let p = err_from_is_err_and c.from_residual-in_err-read_events.result c.from_residual-in_err-read_events.ensures.1 in
-    rw p.1 (events_refused _ c.args.name.now c.in_ok-bytes.bytes.items c.in_err-read_events.field-0.0 _ c.in_ok-bytes.ensures.taken (rw c.deref.ensures.value at c.in_err-read_events.ensures.refused) p.2)
+pub returns-in-Err-Refused-clause-reading : goal.returns-in-Err-Refused-clause-reading
+returns-in-Err-Refused-clause-reading g c =
+    let fault = rw (c.deref.ensures.value, c.in-Err-Refused.field-0-is) at c.in-Err-Refused.ensures.refused in
+    refused_whole Events _ _ _ _ c.in_ok-bytes.ensures.taken
+    (record { line = _; refuses = record { number = _; why = _; fault = fault; told = refl }; replied = rw c.events_reason.ensures at c.bad_text.ensures })
+
+pub returns-in-Err-Memory-clause-reading : goal.returns-in-Err-Memory-clause-reading
+returns-in-Err-Memory-clause-reading g c = NoMemory c.in_ok-bytes.ensures.taken.took.begins c.no_memory.ensures

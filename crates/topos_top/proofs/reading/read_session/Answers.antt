@@ -1,7 +1,7 @@
 use Rattle.std.proofs.Common.{refl}
 use Rattle.std.proofs.lemmas.Result.{err_from_is_err_and}
 use Rattle.topos_top.specs.declared.kind.Kind.TheVariants.{Edited}
-use Rattle.topos_top.proofs.RefusedLaws.{description_refused}
+use Rattle.topos_top.proofs.Taking.{description_refused}
 use Rattle.topos_top.proofs.reading.read_session.Goals as goal
 
 pub returns-in_err-start-clause-reading : goal.returns-in_err-start-clause-reading

@@ -4,7 +4,7 @@ use Rattle.topos_top.specs.inner.Views.{reply_on}
 use Rattle.topos_top.specs.declared.status.Status.TheVariants.{Violated, Done}
 use Rattle.topos_top.specs.declared.status.Stream.TheVariants.{Output}
 use Rattle.topos_top.proofs.AuditLaws.{ends_equal, ends_different}
-use Rattle.topos_top.proofs.audit.answer.Goals as goal
+use Rattle.topos_top.proofs.audit.finding.Goals as goal
 
 pub returns-in-Ok-Equal : goal.returns-in-Ok-Equal
 returns-in-Ok-Equal c =

@@ -1,8 +1,0 @@
-use Rattle.std.proofs.lemmas.Result.{err_from_is_err_and}
-use Rattle.topos_top.proofs.RefusedLaws.{flows_refused}
-use Rattle.topos_top.proofs.reading.read_table.Goals as goal
-
-pub returns-in_err-read-clause-reading : goal.returns-in_err-read-clause-reading
-returns-in_err-read-clause-reading g c =
-    let p = err_from_is_err_and c.from_residual-in_err-read.result c.from_residual-in_err-read.ensures.1 in
-    rw p.1 (flows_refused _ c.args.name.now c.in_ok-bytes.bytes.items c.in_err-read.field-0.0 _ c.in_ok-bytes.ensures.taken (rw c.deref.ensures.value at c.in_err-read.ensures.refused) p.2)
