@@ -139,10 +139,6 @@ known_tests w = λ j. list_all (λ i. is_known w i j) w.invariants
 ends_tests : (w : Written) → list_all (λ f. is_some (ends_of (network_hosts w) f)) w.flows ≡ list_all (ends_test w) w.flows
 ends_tests w = λ j. list_all (λ f. are_ends w f j) w.flows
 
-nothing_or : {A : Type 0} (o p : Option A) → o ≡ None → p ≡ None → option_or o p ≡ None
-nothing_or None p here behind = behind
-nothing_or (Some x) p here behind = here
-
 -- every invariant of a sound description is known
 pub all_known : (w : Written) → PassesUses w → list_all (λ i. is_some (known_of w.templates (network_hosts w) i)) w.invariants ≡ true
 all_known w sound =

@@ -5,15 +5,12 @@ use Rattle.attr_core.specs.inner.AssignView.{given_of}
 use Rattle.attr_core.specs.Assigns.{Given}
 use Rattle.attr_core.specs.declared.assign.Assign as read
 use Rattle.desc_core.specs.inner.KnownView.{known_view}
-use Rattle.desc_core.specs.inner.Parts.{ends_of}
 use Rattle.desc_core.specs.WrittenNetwork.{Known, given_by, known_of}
 use Rattle.desc_core.specs.declared.known.KnownInvariant.{KnownInvariant}
 use Rattle.desc_form.specs.WrittenTemplate.{WrittenTemplate}
-use Rattle.desc_form.specs.inner.WrittenView.{assign_view, flow_view, invariant_view}
+use Rattle.desc_form.specs.inner.WrittenView.{assign_view, invariant_view}
 use Rattle.desc_form.specs.declared.written.WrittenAssign.{WrittenAssign}
-use Rattle.desc_form.specs.declared.written.WrittenFlow.{WrittenFlow}
 use Rattle.desc_form.specs.declared.written.WrittenInvariant.{WrittenInvariant}
-use Rattle.flow_set.specs.declared.flow.Flow.{Flow}
 use Rattle.host_net.specs.Host.{Host}
 use Rattle.table_core.specs.Listing.{each}
 use Rattle.table_core.proofs.ListingLaws.{each_more}
@@ -43,11 +40,3 @@ pub invariants_more : (ts : List WrittenTemplate) (hosts : List Host) (known ite
 invariants_more ts hosts known items k w ws i whole more within here says so_far =
     let more_known : map known_view items ≡ map known_view known ++ known_view k ∷ [] = ap (map known_view) more ∙ map-append known_view known (k ∷ []) in
     rw more_known (one_more invariant_view (known_of ts hosts) (map known_view known) (known_view k) w ws i whole within here says so_far)
-
--- a flow
-pub flows_more : (hosts : List Host) (found items : List Flow) (e : Flow) (w : WrittenFlow) (ws : List WrittenFlow) (i : ℕ) (whole : Option (List Flow))
-    → items ≡ found ++ e ∷ [] → i < length ws → w ≡ get_or ws i w → ends_of hosts (flow_view w) ≡ Some e
-    → option_map (λ rest. found ++ rest) (each (ends_of hosts) (map flow_view (drop i ws))) ≡ whole
-    → option_map (λ rest. items ++ rest) (each (ends_of hosts) (map flow_view (drop (i + 1) ws))) ≡ whole
-flows_more hosts found items e w ws i whole more within here says so_far =
-    rw more (one_more flow_view (ends_of hosts) found e w ws i whole within here says so_far)

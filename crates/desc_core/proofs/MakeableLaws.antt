@@ -1,6 +1,6 @@
 -- Where no condition refuses the description, an invariant can be made of each template that one names.
-use Rattle.std.proofs.Common.{◌≡◌, ℕ, ◌≤◌, ◌+◌, Bool, true, false, not, ◌&&◌, ◌||◌, ◌==◌, List, [], ◌∷◌, ◌++◌, map, length, Option, Some, None, option_map, option_and_then, inl, inr, refl, sym, ap, ◌∙◌, subst, arith}
-use Rattle.std.proofs.lemmas.Bool.{and_from, and_parts, cases_Bool, eq-eqb, false≢true, or_cases, or_left, or_right, not_from_false, not_from_true, ltb-true, leb-true}
+use Rattle.std.proofs.Common.{◌≡◌, ℕ, ◌+◌, Bool, true, false, not, ◌&&◌, ◌==◌, List, [], ◌∷◌, ◌++◌, map, length, Option, Some, None, option_map, inl, inr, refl, ap, ◌∙◌, subst, arith}
+use Rattle.std.proofs.lemmas.Bool.{and_from, and_parts, eq-eqb, false≢true, or_cases, or_left, or_right, not_from_false, not_from_true, ltb-true, leb-true}
 use Rattle.std.proofs.lemmas.List.Elements.{All-from_recursion}
 use Rattle.std.proofs.lemmas.List.Folds.{list_all-map}
 use Rattle.std.proofs.lemmas.Option.{option_and_then_some}
@@ -9,12 +9,11 @@ use Rattle.std.specs.List.{All, AllByRecursion, AllZip, find, list_all, list_any
 use Rattle.std.specs.Option.{option_or}
 use Rattle.std.specs.Prelude.{codes, if◌then◌else◌}
 use Rattle.std.specs.Str.{bytes_eq}
-use Rattle.attr_core.specs.Assigns.{Given}
 use Rattle.attr_core.specs.Templates.{template_named}
 use Rattle.attr_core.specs.declared.template.Template.{Template}
 use Rattle.desc_core.proofs.KnownLaws.{each_zip}
 use Rattle.desc_core.proofs.ListingLaws.{all_weaker}
-use Rattle.desc_core.specs.Choices.{Choice, OneOfTen, OwnTable, chosen, number_of_kind, strategy_said, table_said}
+use Rattle.desc_core.specs.Choices.{Choice, OneOfTen, OwnTable, chosen, number_of_kind, table_said}
 use Rattle.desc_core.specs.inner.KnownView.{known_view}
 use Rattle.desc_core.specs.inner.Makeable.{CanBeMade, IsMakeable}
 use Rattle.desc_core.specs.inner.Parts.{templates_found}
@@ -29,7 +28,7 @@ use Rattle.inv_law.specs.declared.strategy.Strategy.TheVariants.{Access, Informa
 use Rattle.table_core.specs.Listing.{each}
 use Rattle.text_core.proofs.FirstsLaws.{neither, none_mapped}
 use Rattle.text_core.specs.Name.{is_name}
-use Rattle.tmpl_table.specs.KindTable.{is_lawful, lists, passes_with, with_kind}
+use Rattle.tmpl_table.specs.KindTable.{is_lawful, lists, passes_with}
 
 -- ---- a pair that is denied by its words is denied by its numbers
 

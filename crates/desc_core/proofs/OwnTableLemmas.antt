@@ -1,7 +1,7 @@
 -- The table that the code makes of a declared template.
-use Rattle.std.proofs.Common.{◌≡◌, ℕ, ◌≤◌, ◌<◌, ◌+◌, Bool, true, false, List, [], length, map, Option, Some, None, refl, sym, arith}
+use Rattle.std.proofs.Common.{◌≡◌, ℕ, ◌≤◌, ◌<◌, ◌+◌, Bool, true, false, List, [], length, Option, Some, None, refl, sym, arith}
 use Rattle.std.proofs.lemmas.List.Elements.{All-map}
-use Rattle.std.specs.List.{All, position_from}
+use Rattle.std.specs.List.{All}
 use Rattle.std.specs.Str.{bytes_eq}
 use Rattle.attr_core.specs.OwnTables.{kind_numbered}
 use Rattle.attr_core.proofs.OwnTablesLaws.{found_within}

@@ -1,7 +1,6 @@
 -- A table describes the network that is written in it exactly where the facts of TableFacts hold of it.
 use Rattle.std.proofs.Common.{◌≡◌, Option, None, Ok, refl, subst}
 use Rattle.std.specs.Option.{option_or}
-use Rattle.std.specs.Prelude.{◌↔◌}
 use Rattle.toml.specs.Data.{Members}
 use Rattle.desc_core.specs.Description.{described_by_table, refused_or}
 use Rattle.desc_core.proofs.DescriptionLaws.{accepted, by_groups}
@@ -38,6 +37,3 @@ described-IsRight table right =
     let same = written_is table right.w right.written in
     unrefused _ _ _ _ (network_of (written table)) (by_groups table) (formed_where_written table right.w right.written)
     ((has_hosts (written table)).1 (subst HasHosts same right.hosts)) ((has_uses (written table)).1 (subst HasUses same right.uses))
-
-pub is_right : (table : Members) → (described_by_table table ≡ Ok (network_of (written table))) ↔ IsRight table
-is_right table = (IsRight-described table (network_of (written table)), described-IsRight table)

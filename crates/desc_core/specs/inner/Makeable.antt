@@ -1,9 +1,7 @@
 -- Which templates an invariant can be made of: what the private functions ask for that make one. Nothing here has to be believed:
 -- where no condition refuses the description, it holds of each template that an invariant names.
-use Rattle.std.specs.Prelude.{◌≡◌, ◌≤◌, ◌<◌, true, length, IsTrue}
-use Rattle.std.specs.List.{All}
+use Rattle.std.specs.Prelude.{◌≡◌, ◌≤◌, true, length, IsTrue}
 use Rattle.desc_core.specs.Choices.{Choice, OneOfTen, OwnTable, table_said}
-use Rattle.desc_core.specs.WrittenNetwork.{Known}
 use Rattle.desc_form.specs.WrittenTemplate.{WrittenTemplate}
 use Rattle.text_core.specs.Name.{is_name}
 use Rattle.tmpl_table.specs.KindTable.{is_lawful}

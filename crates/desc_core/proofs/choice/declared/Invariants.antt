@@ -1,7 +1,6 @@
-use Rattle.std.proofs.Common.{◌≡◌, map, drop, option_map}
+use Rattle.std.proofs.Common.{◌≡◌, map, drop}
 use Rattle.std.specs.Prelude.{find}
 use Rattle.std.specs.Str.{bytes_eq}
-use Rattle.desc_core.specs.Choices.{OwnTable}
 use Rattle.desc_form.specs.WrittenTemplate.{WrittenTemplate}
 use Rattle.desc_form.specs.inner.WrittenView.{template_view}
 use Rattle.desc_core.proofs.choice.declared.Given as goal

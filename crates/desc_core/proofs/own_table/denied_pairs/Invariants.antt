@@ -1,4 +1,4 @@
-use Rattle.std.proofs.Common.{◌≡◌, ◌++◌, map, drop, ℕ}
+use Rattle.std.proofs.Common.{◌≡◌, ◌++◌, map, drop}
 use Rattle.desc_core.specs.Choices.{number_of_kind}
 use Rattle.desc_form.specs.WrittenTemplate.{WrittenPair}
 use Rattle.desc_form.specs.inner.WrittenView.{pair_view, template_view}

@@ -1,4 +1,4 @@
-use Rattle.std.proofs.Common.{◌≡◌, ◌<◌, ℕ, Bor, List, length, map, true, sym, subst, ap, ◌∙◌, Some, None, []}
+use Rattle.std.proofs.Common.{◌≡◌, ◌<◌, ℕ, Bor, List, length, true, sym, subst, ap, ◌∙◌, Some, None, []}
 use Rattle.std.specs.Prelude.{unwrap_or, if◌then◌else◌}
 use Rattle.std.proofs.lemmas.List.{length-map}
 use Rattle.std.specs.List.{All}

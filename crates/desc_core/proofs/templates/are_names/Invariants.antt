@@ -1,9 +1,5 @@
-use Rattle.std.proofs.Common.{◌≡◌, ◌+◌, ◌&&◌, [], map, drop, take, not, option_map, Bor, List, ℕ}
-use Rattle.std.specs.Prelude.{find}
-use Rattle.std.specs.List.{list_all, list_any}
-use Rattle.std.specs.Str.{bytes_eq}
-use Rattle.desc_form.specs.WrittenTemplate.{WrittenPair, WrittenTemplate}
-use Rattle.desc_form.specs.inner.WrittenView.{pair_view, template_view}
+use Rattle.std.proofs.Common.{◌≡◌, [], map, drop, Bor, List, ℕ}
+use Rattle.std.specs.List.{list_all}
 use Rattle.text_core.specs.Name.{is_name}
 use Rattle.desc_core.proofs.templates.are_names.Given as goal
 

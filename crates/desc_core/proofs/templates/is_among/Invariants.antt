@@ -1,9 +1,6 @@
-use Rattle.std.proofs.Common.{◌≡◌, ◌+◌, ◌&&◌, [], map, drop, take, not, option_map, Bor, List, ℕ}
-use Rattle.std.specs.Prelude.{find}
-use Rattle.std.specs.List.{list_all, list_any}
+use Rattle.std.proofs.Common.{◌≡◌, [], map, drop, Bor, List, ℕ}
+use Rattle.std.specs.List.{list_any}
 use Rattle.std.specs.Str.{bytes_eq}
-use Rattle.desc_form.specs.WrittenTemplate.{WrittenPair, WrittenTemplate}
-use Rattle.desc_form.specs.inner.WrittenView.{pair_view, template_view}
 use Rattle.desc_core.proofs.templates.is_among.Given as goal
 
 abbrev pub invariant-loop-other : goal.invariant-loop-other

@@ -1,9 +1,8 @@
-use Rattle.std.proofs.Common.{◌≡◌, ◌+◌, ◌&&◌, [], map, drop, take, not, option_map, Bor, List, ℕ}
-use Rattle.std.specs.Prelude.{find}
-use Rattle.std.specs.List.{list_all, list_any}
+use Rattle.std.proofs.Common.{◌≡◌, ◌&&◌, [], map, drop}
+use Rattle.std.specs.List.{list_any}
 use Rattle.std.specs.Str.{bytes_eq}
-use Rattle.desc_form.specs.WrittenTemplate.{WrittenPair, WrittenTemplate}
-use Rattle.desc_form.specs.inner.WrittenView.{pair_view, template_view}
+use Rattle.desc_form.specs.WrittenTemplate.{WrittenPair}
+use Rattle.desc_form.specs.inner.WrittenView.{pair_view}
 use Rattle.desc_core.proofs.templates.lists.Given as goal
 
 abbrev pub invariant-loop-pair : goal.invariant-loop-pair

@@ -1,11 +1,9 @@
-use Rattle.std.proofs.Common.{◌≡◌, ◌+◌, ◌&&◌, [], map, drop, take, not, option_map, Bor, List, ℕ}
+use Rattle.std.proofs.Common.{◌≡◌, ◌+◌, [], map, drop, not, option_map}
 use Rattle.std.specs.Prelude.{find}
-use Rattle.std.specs.List.{list_all, list_any}
-use Rattle.std.specs.Str.{bytes_eq}
-use Rattle.desc_form.specs.WrittenTemplate.{WrittenPair, WrittenTemplate}
+use Rattle.desc_form.specs.WrittenTemplate.{WrittenPair}
 use Rattle.desc_form.specs.inner.WrittenView.{pair_view, template_view}
-use Rattle.desc_core.specs.TemplateConditions.{are_different, first_bad, has_partner, unlawful_at}
-use Rattle.text_core.specs.Firsts.{Numbered, first_found, numbered_from}
+use Rattle.desc_core.specs.TemplateConditions.{has_partner}
+use Rattle.text_core.specs.Firsts.{Numbered, numbered_from}
 use Rattle.desc_form.specs.Refusals.{refused_item}
 use Rattle.desc_form.specs.declared.refusal.Place.TheVariants.{Template}
 use Rattle.desc_form.specs.declared.refusal.Why.TheVariants.{NotLawful}
