@@ -1,5 +1,5 @@
 -- The offences of invariants, counted so far.
-use Rattle.std.proofs.Common.{◌≡◌, ℕ, List, [], ◌∷◌, ◌++◌, Option, map, refl, sym, ap, subst, ◌∙◌, append_assoc, append-nil}
+use Rattle.std.proofs.Common.{◌≡◌, ℕ, List, [], ◌∷◌, ◌++◌, Option, map, sym, ap, subst, ◌∙◌, append_assoc, append-nil}
 use Rattle.flow_set.specs.declared.flow.Flow.{Flow}
 use Rattle.inv_any.specs.declared.any_inv.AnyInv.{AnyInv}
 use Rattle.net_core.specs.Network.{Network}
@@ -12,9 +12,6 @@ use Rattle.sample_core.specs.inner.SampleCounts.{AreOffending}
 abbrev pub GoesOn : Network → List ℕ → List AnyInv → Type 0
 GoesOn d counts left =
     (rest : List (Option (List Flow))) → AreOffences left d.asked.flows rest → AreOffending d (counts ++ map offence_size rest)
-
-pub goes_start : (d : Network) → GoesOn d [] d.invariants
-goes_start d rest found = record { offences = rest; found = found; counted = refl }
 
 pub goes_next : (d : Network) (counts new : List ℕ) (left : List AnyInv) (inv : AnyInv) (later : List AnyInv) (o : Option (List Flow))
     → left ≡ inv ∷ later
