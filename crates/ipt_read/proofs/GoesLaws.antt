@@ -13,7 +13,7 @@ use Rattle.ipt_rules.specs.declared.ruleset.BuildRefusal.TheVariants.{TooMany, U
 use Rattle.ipt_rules.specs.Chain.{Chain, user_chain, changed_at, with_policy, with_rule}
 use Rattle.ipt_rules.specs.ChainTable.{rule_count}
 use Rattle.ipt_read.specs.Options.{Given, nothing_given, named_target}
-use Rattle.ipt_read.specs.Grammar.{IsValue, source, destination, protocol, source_port, destination_port, ct_states, states, comment, conntrack_module, state_module, comment_module, own_module, target, jump, reject_with, log_prefix, log_level, IsPiece, plain, turned, ArePieces, none_left, one_more, IsRuleLine}
+use Rattle.ipt_read.specs.Grammar.{IsValue, source, destination, protocol, source_port, destination_port, states, conntrack_module, state_module, comment_module, own_module, target, jump, a_text, a_word, IsPiece, plain, turned, ArePieces, none_left, one_more, IsRuleLine}
 use Rattle.ipt_read.specs.inner.Goes.{Goes, AllGo, EachGoes}
 use Rattle.ipt_read.proofs.WithinLaws.{number_of_within}
 
@@ -86,18 +86,15 @@ value_goes chains given now negated name ws (destination p fits spelled) goes = 
 value_goes chains given now negated name ws (protocol proto is) goes = goes
 value_goes chains given now negated name ws (source_port low high are) goes = goes
 value_goes chains given now negated name ws (destination_port low high are) goes = goes
-value_goes chains given now negated name ws (ct_states new established list) goes = goes
-value_goes chains given now negated name ws (states new established list) goes = goes
-value_goes chains given now negated name ws (comment is) goes = goes
+value_goes chains given now negated name ws (states new established its list) goes = goes
 value_goes chains given now negated name ws conntrack_module goes = goes
 value_goes chains given now negated name ws state_module goes = goes
 value_goes chains given now negated name ws comment_module goes = goes
 value_goes chains given now negated name ws (own_module part said names) goes = goes
 value_goes chains given now negated name ws (target {w = w} t there) goes = named_goes (length chains) w t there
 value_goes chains given now negated name ws (jump {w = w} c none number up) goes = (up, number_of_within chains w c number)
-value_goes chains given now negated name ws reject_with goes = goes
-value_goes chains given now negated name ws (log_prefix is) goes = goes
-value_goes chains given now negated name ws log_level goes = goes
+value_goes chains given now negated name ws (a_text its is) goes = goes
+value_goes chains given now negated name ws (a_word its) goes = goes
 
 piece_goes : (chains : List Chain) (given now : Given) (ws : List (List ℕ)) → IsPiece chains given ws now → TargetGoes (length chains) given.target → TargetGoes (length chains) now.target
 piece_goes chains given now ws (plain {name = name} {value = value} stands is) goes = value_goes chains given now false name value is goes

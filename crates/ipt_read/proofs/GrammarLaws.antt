@@ -28,7 +28,7 @@ use Rattle.ipt_read.proofs.StateLaws.{states_said, said_states}
 use Rattle.ipt_read.proofs.ValueLaws.{rest_ends, text_ends, ends_text, text_open, open_text}
 use Rattle.ipt_read.specs.inner.ValueSteps.{quoted, text_of, states_of, with_value}
 use Rattle.ipt_read.specs.Values.{IsRestOfText, closing, open_still, IsText, bare, in_quotes}
-use Rattle.ipt_read.specs.Grammar.{IsValue, source, destination, protocol, source_port, destination_port, conntrack_module, state_module, comment_module, own_module, ct_states, states, comment, target, jump, reject_with, log_prefix, log_level}
+use Rattle.ipt_read.specs.Grammar.{IsValue, source, destination, protocol, source_port, destination_port, conntrack_module, state_module, comment_module, own_module, states, target, jump, a_text, a_word}
 
 -- 1. Texts.
 
@@ -141,21 +141,21 @@ word_said chains given now Interface negated w h = cc
 word_said chains given now Module negated w h =
     pair_said (λ g. IsValueOf chains given Module negated (w ∷ []) g) _ (with_module given w) (now, AtOption) (λ g e. module_said chains given g negated w e) h
 word_said chains given now CtState negated w h =
-    pair_said (λ g. IsValueOf chains given CtState negated (w ∷ []) g) _ (states_of w) (now, AtOption) (λ flags e. ct_states flags.0 flags.1 (states_said w flags.0 flags.1 e)) h
+    pair_said (λ g. IsValueOf chains given CtState negated (w ∷ []) g) _ (states_of w) (now, AtOption) (λ flags e. states flags.0 flags.1 (inl refl) (states_said w flags.0 flags.1 e)) h
 word_said chains given now State negated w h =
-    pair_said (λ g. IsValueOf chains given State negated (w ∷ []) g) _ (states_of w) (now, AtOption) (λ flags e. states flags.0 flags.1 (states_said w flags.0 flags.1 e)) h
+    pair_said (λ g. IsValueOf chains given State negated (w ∷ []) g) _ (states_of w) (now, AtOption) (λ flags e. states flags.0 flags.1 (inr refl) (states_said w flags.0 flags.1 e)) h
 word_said chains given now Comment negated w h =
     let said = text_said given w now AtOption h in
-    subst (λ (g : Given). IsValueOf chains given Comment negated (w ∷ []) g) said.1 (comment (in_one_word w said.0))
+    subst (λ (g : Given). IsValueOf chains given Comment negated (w ∷ []) g) said.1 (a_text (inl refl) (in_one_word w said.0))
 word_said chains given now Jump negated w h =
     pair_said (λ g. IsValueOf chains given Jump negated (w ∷ []) g) _ (target_of chains w) (now, AtOption) (λ t e. target_said chains given negated w t e) h
 word_said chains given now RejectWith negated w h =
-    subst (λ (g : Given). IsValueOf chains given RejectWith negated (w ∷ []) g) (same_given given now h) reject_with
+    subst (λ (g : Given). IsValueOf chains given RejectWith negated (w ∷ []) g) (same_given given now h) (a_word (inl refl))
 word_said chains given now LogPrefix negated w h =
     let said = text_said given w now AtOption h in
-    subst (λ (g : Given). IsValueOf chains given LogPrefix negated (w ∷ []) g) said.1 (log_prefix (in_one_word w said.0))
+    subst (λ (g : Given). IsValueOf chains given LogPrefix negated (w ∷ []) g) said.1 (a_text (inr refl) (in_one_word w said.0))
 word_said chains given now LogLevel negated w h =
-    subst (λ (g : Given). IsValueOf chains given LogLevel negated (w ∷ []) g) (same_given given now h) log_level
+    subst (λ (g : Given). IsValueOf chains given LogLevel negated (w ∷ []) g) (same_given given now h) (a_word (inr refl))
 
 pub never_open : {A : Type 0} (f : A → Given × Place) (o : Option A) (now : Given) → ((x : A) → (f x).1 ≡ AtOption) → option_map f o ≡ Some (now, InText) → ⊥
 never_open f o now each h =
@@ -182,12 +182,12 @@ words_said chains given now CtState negated w ws h rest = absurd (never_open _ (
 words_said chains given now State negated w ws h rest = absurd (never_open _ (states_of w) now (λ x. refl) h)
 words_said chains given now Comment negated w ws h rest =
     let said = text_said given w now InText h in
-    subst (λ (g : Given). IsValueOf chains given Comment negated (w ∷ ws) g) said.1 (comment (in_more_words w ws said.0 rest))
+    subst (λ (g : Given). IsValueOf chains given Comment negated (w ∷ ws) g) said.1 (a_text (inl refl) (in_more_words w ws said.0 rest))
 words_said chains given now Jump negated w ws h rest = absurd (never_open _ (target_of chains w) now (λ x. refl) h)
 words_said chains given now RejectWith negated w ws h rest = absurd (not_open given now h)
 words_said chains given now LogPrefix negated w ws h rest =
     let said = text_said given w now InText h in
-    subst (λ (g : Given). IsValueOf chains given LogPrefix negated (w ∷ ws) g) said.1 (log_prefix (in_more_words w ws said.0 rest))
+    subst (λ (g : Given). IsValueOf chains given LogPrefix negated (w ∷ ws) g) said.1 (a_text (inr refl) (in_more_words w ws said.0 rest))
 words_said chains given now LogLevel negated w ws h rest = absurd (not_open given now h)
 
 pub one_word : {chains : List Chain} {given now : Given} (o : Opt) {negated : Bool} {w : List ℕ} → with_value chains given o negated w ≡ Some (now, AtOption) → IsValueOf chains given o negated (w ∷ []) now
@@ -272,18 +272,22 @@ taken_by chains given now o negated name ws named (destination {w = w} p fits sp
 taken_by chains given now o negated name ws named (protocol {w = w} proto is) = taken_as {p = Protocol} o named (taken_word (rw (protocol_read w proto is) refl))
 taken_by chains given now o negated name ws named (source_port {w = w} low high are) = taken_as {p = SourcePort} o named (taken_word (rw (ports_read w low high are) refl))
 taken_by chains given now o negated name ws named (destination_port {w = w} low high are) = taken_as {p = DestinationPort} o named (taken_word (rw (ports_read w low high are) refl))
-taken_by chains given now o negated name ws named (ct_states {w = w} new established list) = taken_as {p = CtState} o named (taken_word (rw (said_states w new established list) refl))
-taken_by chains given now o negated name ws named (states {w = w} new established list) = taken_as {p = State} o named (taken_word (rw (said_states w new established list) refl))
-taken_by chains given now o negated name ws named (comment is) = taken_as {p = Comment} o named (text_taken chains given Comment negated ws (comment_takes chains given negated) is)
+taken_by chains given now o negated name ws named (states {w = w} new established (inl its) list) =
+    taken_as {p = CtState} o (sym (ap option_of its) ∙ named) (taken_word (rw (said_states w new established list) refl))
+taken_by chains given now o negated name ws named (states {w = w} new established (inr its) list) =
+    taken_as {p = State} o (sym (ap option_of its) ∙ named) (taken_word (rw (said_states w new established list) refl))
 taken_by chains given now o negated name ws named conntrack_module = taken_as {p = Module} o named (taken_word refl)
 taken_by chains given now o negated name ws named state_module = taken_as {p = Module} o named (taken_word refl)
 taken_by chains given now o negated name ws named comment_module = taken_as {p = Module} o named (taken_word refl)
 taken_by chains given now o negated name ws named (own_module part said names) = taken_as {p = Module} o named (taken_word (rw (with_own_module given part said names) refl))
 taken_by chains given now o negated name ws named (target {w = w} t there) = taken_as {p = Jump} o named (taken_word (rw (target_read chains w t there) refl))
 taken_by chains given now o negated name ws named (jump {w = w} c none number up) = taken_as {p = Jump} o named (taken_word (rw (jump_read chains w c none number up) refl))
-taken_by chains given now o negated name ws named reject_with = taken_as {p = RejectWith} o named (taken_word refl)
-taken_by chains given now o negated name ws named (log_prefix is) = taken_as {p = LogPrefix} o named (text_taken chains given LogPrefix negated ws (prefix_takes chains given negated) is)
-taken_by chains given now o negated name ws named log_level = taken_as {p = LogLevel} o named (taken_word refl)
+taken_by chains given now o negated name ws named (a_text (inl its) is) =
+    taken_as {p = Comment} o (sym (ap option_of its) ∙ named) (text_taken chains given Comment negated ws (comment_takes chains given negated) is)
+taken_by chains given now o negated name ws named (a_text (inr its) is) =
+    taken_as {p = LogPrefix} o (sym (ap option_of its) ∙ named) (text_taken chains given LogPrefix negated ws (prefix_takes chains given negated) is)
+taken_by chains given now o negated name ws named (a_word (inl its)) = taken_as {p = RejectWith} o (sym (ap option_of its) ∙ named) (taken_word refl)
+taken_by chains given now o negated name ws named (a_word (inr its)) = taken_as {p = LogLevel} o (sym (ap option_of its) ∙ named) (taken_word refl)
 
 pub value_taken : (chains : List Chain) (given now : Given) (o : Opt) (negated : Bool) (ws : List (List ℕ)) → IsValueOf chains given o negated ws now → IsTaken chains given o negated ws now
 value_taken chains given now o negated ws is = taken_by chains given now o negated _ ws (option_written o) is

@@ -20,6 +20,7 @@ use Rattle.ipt_read.specs.inner.RuleLine.{goes_on, word_by_word, rule_in, append
 use Rattle.ipt_read.specs.Said.{Stage, Front, Table, After, SaidSoFar, line_of}
 use Rattle.ipt_read.specs.inner.LineStep.{no_words, table_line_of, policy_word, built_in_policy, with_built_in, declare, declare_by, chain_line_of, with_read_rule, commit_line_of, body_line_of, line_at, line_of_words, line_step}
 use Rattle.ipt_read.specs.Grammar.{IsFront, IsChainLine}
+use Rattle.ipt_read.proofs.RowLaws.{not_true, not_false}
 use Rattle.ipt_read.proofs.ValueLaws.{count_said, said_count}
 use Rattle.ipt_read.proofs.LineLaws.{rule_line_of_read, read_of_rule_line, count_begins, policy_read, policy_behind, colon_word, built_in_said, built_in_read}
 use Rattle.ipt_read.proofs.RuleFaultLaws.{stuck_of_read, read_of_stuck}
@@ -237,14 +238,6 @@ chain_says n s w ws colon = chain_says_by n s w ws (policy_word ws) colon refl
 
 err_said : (w v : IptWhy) → ◌≡◌ {A = Result SaidSoFar IptWhy} (Err w) (Err v) → w ≡ v
 err_said w v h = cc
-
-not_true : (b : Bool) → not b ≡ true → b ≡ false
-not_true true h = cc
-not_true false h = refl
-
-not_false : (b : Bool) → not b ≡ false → b ≡ true
-not_false true h = refl
-not_false false h = cc
 
 apart : (w name : List ℕ) → bytes_eq w name ≡ false → w ≢ name
 apart w name other = λ same. let own : bytes_eq w name ≡ true = ap (λ v. bytes_eq v name) same ∙ bytes_own name in cc

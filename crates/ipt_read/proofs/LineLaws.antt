@@ -21,6 +21,7 @@ use Rattle.ipt_read.specs.inner.RuleLine.{word_by_word, rule_in, append_of, rule
 use Rattle.ipt_read.specs.Said.{Stage, Front, Table, After, SaidSoFar, line_of}
 use Rattle.ipt_read.specs.inner.LineStep.{no_words, table_line_of, policy_word, built_in_policy, with_built_in, declare, declare_by, chain_line_of, with_read_rule, commit_line_of, body_line_of, line_at, line_of_words, line_step}
 use Rattle.ipt_read.specs.Grammar.{ArePieces, IsFront, IsRuleLine, IsChainLine, IsLine, table, built_in, user, rule, commit}
+use Rattle.ipt_read.proofs.RowLaws.{not_false}
 use Rattle.ipt_read.proofs.ValueLaws.{count_said, said_count}
 use Rattle.ipt_read.proofs.PieceLaws.{goes_parts, pieces_of_read, read_of_pieces}
 
@@ -139,10 +140,6 @@ both true true h = (refl, refl)
 both true false h = cc
 both false b h = cc
 
-unnot : (b : Bool) → not b ≡ false → b ≡ true
-unnot true h = refl
-unnot false h = cc
-
 -- a chain line of a built-in chain
 built_in_line : (n : ℕ) (s t : SaidSoFar) (ws : List (List ℕ)) (name policy : List ℕ) (c : ℕ) (o : Option Policy) → s.stage ≡ Table → IsChainLine ws name policy → number_of s.chains name ≡ Some c → built_in_policy policy ≡ o → with_built_in n s c o ≡ Ok t → IsLine n s ws t
 built_in_line n s t ws name policy c None stage line number said h = cc
@@ -163,7 +160,7 @@ user_line n s t ws name policy stage line number h = elim (if_parts (not (is_use
   | inr fits ↦ elim (if_parts (nat_lt 4095 (length s.chains)) (Err TooMany) (Ok (record s { chains = s.chains ++ user_chain name ∷ []; declared = s.declared ++ n ∷ [] })) (Ok t) fits.1) [
     | inl many ↦ cc
     | inr few ↦
-        let parts = both (is_user_name name) (bytes_eq policy (codes "-")) (unnot (is_user_name name && bytes_eq policy (codes "-")) fits.0) in
+        let parts = both (is_user_name name) (bytes_eq policy (codes "-")) (not_false (is_user_name name && bytes_eq policy (codes "-")) fits.0) in
         let room : length s.chains < 4096 = grind (arith, nat_tests, few.0) in
         let whole : IsChainLine ws name (policy_text None) = subst (λ (v : List ℕ). IsChainLine ws name v) (bytes_same policy (codes "-") parts.1) line in
         let e : record s { chains = s.chains ++ user_chain name ∷ []; declared = s.declared ++ n ∷ [] } ≡ t = cc in
@@ -199,6 +196,12 @@ pub nothing_behind : (ws : List (List ℕ)) → not (no_words ws) ≡ false → 
 nothing_behind [] h = refl
 nothing_behind (w ∷ ws) h = cc
 
+-- a line of one word
+lone_line : (n : ℕ) (s t : SaidSoFar) (w word : List ℕ) (ws : List (List ℕ)) → bytes_eq w word ≡ true → not (no_words ws) ≡ false
+    → IsLine n s (word ∷ []) t → IsLine n s (w ∷ ws) t
+lone_line n s t w word ws is alone line =
+    subst (λ (vs : List (List ℕ)). IsLine n s vs t) (λ i. sym (bytes_same w word is) i ∷ sym (nothing_behind ws alone) i) line
+
 commit_line_by : (n : ℕ) (s t : SaidSoFar) (w : List ℕ) (ws : List (List ℕ)) → s.stage ≡ Table → commit_line_of s w ws ≡ Ok t → IsLine n s (w ∷ ws) t
 commit_line_by n s t w ws stage h = elim (if_parts (not (bytes_eq w (codes "COMMIT"))) (Err BadLine) _ (Ok t) h) [
   | inl bad ↦ cc
@@ -206,10 +209,8 @@ commit_line_by n s t w ws stage h = elim (if_parts (not (bytes_eq w (codes "COMM
     | inl bad ↦ cc
     | inr alone ↦
         let e : record s { stage = After } ≡ t = cc in
-        let is_commit : w ≡ codes "COMMIT" = bytes_same w (codes "COMMIT") (unnot (bytes_eq w (codes "COMMIT")) word.0) in
         subst (λ (u : SaidSoFar). IsLine n s (w ∷ ws) u) e
-        (subst (λ (v : List ℕ). IsLine n s (v ∷ ws) (record s { stage = After })) (sym is_commit)
-        (subst (λ (vs : List (List ℕ)). IsLine n s (codes "COMMIT" ∷ vs) (record s { stage = After })) (sym (nothing_behind ws alone.0)) (commit stage)))
+        (lone_line n s (record s { stage = After }) w (codes "COMMIT") ws (not_false (bytes_eq w (codes "COMMIT")) word.0) alone.0 (commit stage))
   ]
 ]
 
@@ -222,10 +223,8 @@ table_line_by n s t w ws stage h = elim (if_parts (not (begins_with 42 w)) (Err 
       | inl bad ↦ cc
       | inr alone ↦
           let e : record s { stage = Table } ≡ t = cc in
-          let is_table : w ≡ codes "*filter" = bytes_same w (codes "*filter") (unnot (bytes_eq w (codes "*filter")) word.0) in
           subst (λ (u : SaidSoFar). IsLine n s (w ∷ ws) u) e
-          (subst (λ (v : List ℕ). IsLine n s (v ∷ ws) (record s { stage = Table })) (sym is_table)
-          (subst (λ (vs : List (List ℕ)). IsLine n s (codes "*filter" ∷ vs) (record s { stage = Table })) (sym (nothing_behind ws alone.0)) (table stage)))
+          (lone_line n s (record s { stage = Table }) w (codes "*filter") ws (not_false (bytes_eq w (codes "*filter")) word.0) alone.0 (table stage))
     ]
   ]
 ]

@@ -14,7 +14,7 @@ use Rattle.ipt_rules.specs.inner.RuleParts.{is_protocol, are_ports, is_rule}
 use Rattle.ipt_read.specs.declared.option.Opt.TheVariants.{Protocol, SourcePort, DestinationPort}
 use Rattle.ipt_read.specs.Options.{Given, nothing_given, in_front, Row, row_of, is_barred}
 use Rattle.ipt_read.specs.inner.OptionSteps.{row}
-use Rattle.ipt_read.specs.Grammar.{Stands, IsValue, source, destination, protocol, source_port, destination_port, ct_states, states, comment, conntrack_module, state_module, comment_module, own_module, target, jump, reject_with, log_prefix, log_level, IsPiece, plain, turned, ArePieces, none_left, one_more, IsRuleLine}
+use Rattle.ipt_read.specs.Grammar.{Stands, IsValue, source, destination, protocol, source_port, destination_port, states, conntrack_module, state_module, comment_module, own_module, target, jump, a_text, a_word, IsPiece, plain, turned, ArePieces, none_left, one_more, IsRuleLine}
 
 -- 1. The parts of a rule.
 
@@ -102,9 +102,7 @@ value_gives chains given now negated name ws r stands (destination_port low high
   sport = gives.sport;
   dport = ports_fit given low high negated (stands_here given negated (codes "--dport") (row DestinationPort) r refl stands) are.order are.fits gives;
 }
-value_gives chains given now negated name ws r stands (ct_states new established list) gives = gives
-value_gives chains given now negated name ws r stands (states new established list) gives = gives
-value_gives chains given now negated name ws r stands (comment is) gives = gives
+value_gives chains given now negated name ws r stands (states new established its list) gives = gives
 value_gives chains given now negated name ws r stands conntrack_module gives = gives
 value_gives chains given now negated name ws r stands state_module gives = gives
 value_gives chains given now negated name ws r stands comment_module gives = gives
@@ -112,9 +110,8 @@ value_gives chains given now negated name ws r stands (own_module part said name
     record { proto = gives.proto; named = λ p. ap names_ports said ∙ names; sport = gives.sport; dport = gives.dport }
 value_gives chains given now negated name ws r stands (target t there) gives = gives
 value_gives chains given now negated name ws r stands (jump c none number up) gives = gives
-value_gives chains given now negated name ws r stands reject_with gives = gives
-value_gives chains given now negated name ws r stands (log_prefix is) gives = gives
-value_gives chains given now negated name ws r stands log_level gives = gives
+value_gives chains given now negated name ws r stands (a_text its is) gives = gives
+value_gives chains given now negated name ws r stands (a_word its) gives = gives
 
 piece_gives : (chains : List Chain) (given now : Given) (ws : List (List ℕ)) → IsPiece chains given ws now → GivesParts given → GivesParts now
 piece_gives chains given now ws (plain {name = name} {row = r} {value = value} stands is) gives = value_gives chains given now false name value r stands is gives

@@ -17,7 +17,7 @@ use Rattle.ipt_read.specs.inner.ValueSteps.{closes, quoted, text_of, states_of, 
 use Rattle.ipt_read.specs.inner.ServiceSteps.{asked_protocol, asked_ports}
 use Rattle.ipt_read.specs.inner.RuleLine.{at_option, is_bang, word_step, goes_on, word_by_word}
 use Rattle.ipt_read.specs.Values.{IsRestOfText, closing, open_still}
-use Rattle.ipt_read.proofs.RowLaws.{StandsBy, IsValueOf, plain_by, turned_by, IsPieceBy, bare_piece, bang_piece, piece_by}
+use Rattle.ipt_read.proofs.RowLaws.{not_false, StandsBy, IsValueOf, plain_by, turned_by, IsPieceBy, bare_piece, bang_piece, piece_by}
 use Rattle.ipt_read.proofs.ValueLaws.{rest_ends, text_ends, ends_text, text_open, open_text}
 use Rattle.ipt_read.specs.Grammar.{IsPiece, ArePieces, none_left, one_more}
 use Rattle.ipt_read.proofs.GrammarLaws.{one_word, text, IsTaken, taken_word, taken_text, value_taken}
@@ -95,10 +95,6 @@ pub record IsOptionAt (given : Given) (negated : Bool) (o : Opt) (now : Given ×
   pub stands : StandsBy given negated o
   pub behind : now ≡ (given, AtValue o negated)
 
-unnot : (b : Bool) → not b ≡ false → b ≡ true
-unnot true h = refl
-unnot false h = cc
-
 pub option_at : (given : Given) (negated : Bool) (option : Option Opt) (now : Given × Place) → at_option given negated option ≡ Ok now → (o : Opt) × (option ≡ Some o) × IsOptionAt given negated o now
 option_at given negated None now h = cc
 option_at given negated (Some o) now h = elim (if_parts (not (may_stand given o)) (Err UnknownOption) _ (Ok now) h) [
@@ -108,7 +104,7 @@ option_at given negated (Some o) now h = elim (if_parts (not (may_stand given o)
     | inr address ↦ elim (if_parts (bars given negated o) (Err BadLine) (Ok (given, AtValue o negated)) (Ok now) address.1) [
       | inl bad ↦ cc
       | inr fits ↦
-          let stands_here : may_stand given o ≡ true = unnot (may_stand given o) here.0 in
+          let stands_here : may_stand given o ≡ true = not_false (may_stand given o) here.0 in
           (o, refl, record { stands = record { here = stands_here; address = address.0; free = fits.0 }; behind = cc })
     ]
   ]

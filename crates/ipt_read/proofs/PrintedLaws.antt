@@ -26,6 +26,7 @@ use Rattle.ipt_rules.specs.Name.{is_user_name, is_printing, has_name_length, beg
 use Rattle.ipt_rules.specs.RuleParts.{names_ports}
 use Rattle.ipt_rules.specs.inner.RuleParts.{is_protocol, are_ports, is_rule}
 use Rattle.ipt_rules.specs.Text.{ports_text, states_text}
+use Rattle.ipt_read.proofs.RowLaws.{not_true}
 use Rattle.ipt_read.proofs.PartLaws.{rule_has}
 use Rattle.ipt_read.specs.inner.WrittenWords.{bang_words, address_words, protocol_words, module_words, port_words, service_words, state_words, target_words, rule_pieces, rule_words}
 use Rattle.ipt_read.proofs.LinesAgainLaws.{IsWritten}
@@ -39,10 +40,6 @@ both : (a b : Bool) → (a && b) ≡ true → (a ≡ true) × (b ≡ true)
 both true true h = (refl, refl)
 both true false h = cc
 both false b h = cc
-
-unnot : (b : Bool) → not b ≡ true → b ≡ false
-unnot false h = refl
-unnot true h = cc
 
 printed_word : (w : List ℕ) → is_printed w ≡ true → (is_word w ≡ true) × (lacks 10 w ≡ true)
 printed_word [] h = cc
@@ -92,7 +89,7 @@ user_name_free name h =
     let parts = both (has_name_length name) (list_all is_printing name && (not (begins_as_option name) && not (is_reserved name))) h in
     let bytes = both (list_all is_printing name) (not (begins_as_option name) && not (is_reserved name)) parts.1 in
     let free = both (not (begins_as_option name)) (not (is_reserved name)) bytes.1 in
-    unnot (is_reserved name) free.1
+    not_true (is_reserved name) free.1
 
 -- prefixes
 prints_append : (xs ys : List ℕ) → list_all prints xs ≡ true → list_all prints ys ≡ true → list_all prints (xs ++ ys) ≡ true

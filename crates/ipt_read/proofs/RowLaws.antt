@@ -52,9 +52,13 @@ option_written LogLevel = refl
 abbrev is_named : List ℕ × Opt → Bool
 is_named entry = bytes_eq entry.0 (written entry.1) && not (is_interface entry.1)
 
-unnot : (b : Bool) → not b ≡ true → b ≡ false
-unnot true h = cc
-unnot false h = refl
+pub not_true : (b : Bool) → not b ≡ true → b ≡ false
+not_true true h = cc
+not_true false h = refl
+
+pub not_false : (b : Bool) → not b ≡ false → b ≡ true
+not_false true h = refl
+not_false false h = cc
 
 same_option : (o p : Opt) → ◌≡◌ {A = Option Opt} (Some o) (Some p) → o ≡ p
 same_option o p h = cc
@@ -67,7 +71,7 @@ found name o (entry ∷ entries) all h = elim (if_parts (bytes_eq name entry.0) 
       let same = same_option entry.1 o here.1 in
       let parts = and_parts (is_named entry) (list_all is_named entries) all in
       let its = and_parts (bytes_eq entry.0 (written entry.1)) (not (is_interface entry.1)) parts.0 in
-      (bytes_same name entry.0 here.0 ∙ bytes_same entry.0 (written entry.1) its.0 ∙ ap written same, sym (ap is_interface same) ∙ unnot (is_interface entry.1) its.1)
+      (bytes_same name entry.0 here.0 ∙ bytes_same entry.0 (written entry.1) its.0 ∙ ap written same, sym (ap is_interface same) ∙ not_true (is_interface entry.1) its.1)
   | inr there ↦ found name o entries (and_parts (is_named entry) (list_all is_named entries) all).1 there.1
 ]
 

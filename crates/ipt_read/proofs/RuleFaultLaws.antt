@@ -15,7 +15,7 @@ use Rattle.ipt_read.specs.Options.{Given, Row, row_of, is_barred}
 use Rattle.ipt_read.specs.inner.OptionSteps.{option_of, row, may_stand, is_interface, bars, with_module, target_of, value_refusal}
 use Rattle.ipt_read.specs.inner.ValueSteps.{quoted, with_value}
 use Rattle.ipt_read.specs.Values.{IsRestOfText, closing, open_still}
-use Rattle.ipt_read.proofs.RowLaws.{StandsBy, IsValueOf, stands_by, by_stands, value_named, named_value, plain_by, turned_by, row_by, row_found, interface_by, interface_is}
+use Rattle.ipt_read.proofs.RowLaws.{not_true, not_false, StandsBy, IsValueOf, stands_by, by_stands, value_named, named_value, plain_by, turned_by, row_by, row_found, interface_by, interface_is}
 use Rattle.ipt_read.proofs.ValueLaws.{rest_ends, text_ends, ends_text, text_open, open_text}
 use Rattle.ipt_read.specs.inner.RuleLine.{at_option, is_bang, word_step, goes_on, word_by_word}
 use Rattle.ipt_read.specs.Grammar.{Stands, IsValue, ArePieces, none_left, one_more}
@@ -120,14 +120,6 @@ text_reason chains given now opt.LogLevel negated w h = refl
 err_same : (w v : IptWhy) → ◌≡◌ {A = Result (Given × Place) IptWhy} (Err w) (Err v) → w ≡ v
 err_same w v h = cc
 
-not_true : (b : Bool) → not b ≡ true → b ≡ false
-not_true true h = cc
-not_true false h = refl
-
-not_false : (b : Bool) → not b ≡ false → b ≡ true
-not_false true h = refl
-not_false false h = cc
-
 is_not_known : (name : List ℕ) (given : Given) → option_of name ≡ None → IsInterface name → given.target ≢ None
 is_not_known name given none is = let other = interface_is name is in cc
 
@@ -153,21 +145,10 @@ no_target : (o : Option Target) → is_none o ≡ true → o ≡ None
 no_target None h = refl
 no_target (Some t) h = cc
 
-interface_stands : (given : Given) (o : Opt) → is_interface o ≡ true → may_stand given o ≡ true → given.target ≡ None
-interface_stands given opt.Interface is here = no_target given.target here
-interface_stands given opt.Source is here = cc
-interface_stands given opt.Destination is here = cc
-interface_stands given opt.Protocol is here = cc
-interface_stands given opt.SourcePort is here = cc
-interface_stands given opt.DestinationPort is here = cc
-interface_stands given opt.Module is here = cc
-interface_stands given opt.CtState is here = cc
-interface_stands given opt.State is here = cc
-interface_stands given opt.Comment is here = cc
-interface_stands given opt.Jump is here = cc
-interface_stands given opt.RejectWith is here = cc
-interface_stands given opt.LogPrefix is here = cc
-interface_stands given opt.LogLevel is here = cc
+interface_stands : (given : Given) (name : List ℕ) (o : Opt) → option_of name ≡ Some o → IsInterface name → may_stand given o ≡ true → given.target ≡ None
+interface_stands given name o named is here =
+    let same : opt.Interface ≡ o = some_option opt.Interface o (sym (interface_is name is) ∙ named) in
+    no_target given.target (ap (may_stand given) same ∙ here)
 
 stuck_by : (chains : List Chain) (given : Given) (negated : Bool) (name : List ℕ) (ws : List (List ℕ)) (option : Option Opt) (why : IptWhy) → option_of name ≡ option → at_option given negated option ≡ Err why → IsStuckAt chains given negated name ws why
 stuck_by chains given negated name ws None why is h =
@@ -179,7 +160,7 @@ stuck_by chains given negated name ws (Some o) why is h = elim (if_parts (not (m
   | inr here ↦ elim (if_parts (is_interface o) (Err AnInterface) _ (Err why) here.1) [
     | inl bad ↦
         subst (IsStuckAt chains given negated name ws) (err_same AnInterface why bad.1)
-        (interface (interface_by name o is bad.0) (interface_stands given o bad.0 (not_false (may_stand given o) here.0)))
+        (interface (interface_by name o is bad.0) (interface_stands given name o is (interface_by name o is bad.0) (not_false (may_stand given o) here.0)))
     | inr address ↦ elim (if_parts (bars given negated o) (Err BadLine) (Ok (given, AtValue o negated)) (Err why) address.1) [
       | inl bad ↦
           subst (IsStuckAt chains given negated name ws) (err_same BadLine why bad.1)
@@ -320,7 +301,7 @@ misplaced_read given negated name None is apart misplaced = refl
 misplaced_read given negated name (Some o) is apart misplaced = by_test (is_interface o) (may_stand given o) refl refl
   where
     by_test : (i m : Bool) → is_interface o ≡ i → may_stand given o ≡ m → at_option given negated (Some o) ≡ Err UnknownOption
-    by_test true true address here = absurd (apart (interface_by name o is address) (interface_stands given o address here))
+    by_test true true address here = let its = interface_by name o is address in absurd (apart its (interface_stands given name o is its here))
     by_test false true address here = let wrong : may_stand given o ≡ false = misplaced (row o) (row_by name o is address) in cc
     by_test i false address here = rw here refl
 

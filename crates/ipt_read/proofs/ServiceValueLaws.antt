@@ -1,6 +1,7 @@
 -- The values of protocols and ports are read exactly where they are written as is said.
 use Rattle.std.proofs.Common.{◌≡◌, ◌⊎◌, inl, inr, ℕ, ◌<◌, ◌≤◌, ◌^◌, ◌∙◌, sym, ap, refl, subst, true, false, List, [], ◌∷◌, ◌++◌, Option, Some, None, arith}
 use Rattle.std.specs.Prelude.{◌==◌, ◌&&◌, nat_le, codes, decimal, bytes_eq}
+use Rattle.std.specs.Option.{option_or}
 use Rattle.std.specs.Str.{all_ascii_digits}
 use Rattle.std.proofs.lemmas.Bool.Decides.{nat_tests}
 use Rattle.std.specs.Fmt.{digits}
@@ -12,35 +13,39 @@ use Rattle.text_core.proofs.PiecesLaws.{split_once-append, split_once_none, spli
 use Rattle.text_core.proofs.StepsLaws.{bind_some, if_parts, bytes_same, bytes_apart}
 use Rattle.host_net.specs.Service.{icmp, tcp, udp, last_port}
 use Rattle.host_net.specs.ServiceText.{protocol_text}
+use Rattle.host_net.specs.inner.ServiceSteps.{protocol_of}
 use Rattle.ipt_read.specs.inner.Counts.{is_nothing}
-use Rattle.ipt_read.specs.ServiceValues.{IsOtherName, IsProtocolWord, ArePortsWord}
-use Rattle.ipt_read.specs.inner.ServiceSteps.{named_protocol, if_positive, named_or_numbered, asked_protocol, port_or, ports_between, ports_of_parts, asked_ports}
+use Rattle.ipt_read.specs.ServiceValues.{other_protocol, IsProtocolWord, ArePortsWord}
+use Rattle.ipt_read.specs.inner.ServiceSteps.{named_protocol, if_positive, asked_protocol, port_or, ports_between, ports_of_parts, asked_ports}
 
 -- 1. Protocols.
 
-protocol_named : (word : List ℕ) (proto : ℕ) → named_protocol word ≡ Some proto → IsProtocolWord word proto
-protocol_named word proto h = elim (if_parts (bytes_eq word (codes "esp")) (Some 50) _ (Some proto) h) [
-  | inl a ↦ subst (IsProtocolWord word) (some_same 50 proto a.1)
-      (record { positive = omega arith; fits = omega arith; written = inr (inr (inl (bytes_same word (codes "esp") a.0, refl))) })
+abbrev HasRoom : ℕ → Type 0
+HasRoom proto = (0 < proto) × (proto < 2 ^ 8)
+
+other_fits : (word : List ℕ) (proto : ℕ) → other_protocol word ≡ Some proto → HasRoom proto
+other_fits word proto h = elim (if_parts (bytes_eq word (codes "esp")) (Some 50) _ (Some proto) h) [
+  | inl a ↦ subst HasRoom (some_same 50 proto a.1) (omega arith, omega arith)
   | inr b ↦ elim (if_parts (bytes_eq word (codes "ah")) (Some 51) _ (Some proto) b.1) [
-    | inl a ↦ subst (IsProtocolWord word) (some_same 51 proto a.1)
-        (record { positive = omega arith; fits = omega arith; written = inr (inr (inr (inl (bytes_same word (codes "ah") a.0, refl)))) })
-    | inr d ↦ elim (if_parts (bytes_eq word (codes "sctp")) (Some 132) _ (Some proto) d.1) [
-      | inl a ↦ subst (IsProtocolWord word) (some_same 132 proto a.1)
-          (record { positive = omega arith; fits = omega arith; written = inr (inr (inr (inr (bytes_same word (codes "sctp") a.0, refl)))) })
-      | inr e ↦ elim (if_parts (bytes_eq word (codes "icmp")) (Some icmp) _ (Some proto) e.1) [
-        | inl a ↦ subst (IsProtocolWord word) (some_same icmp proto a.1)
-            (record { positive = omega arith; fits = omega arith; written = inl (bytes_same word (codes "icmp") a.0) })
-        | inr f ↦ elim (if_parts (bytes_eq word (codes "tcp")) (Some tcp) _ (Some proto) f.1) [
-          | inl a ↦ subst (IsProtocolWord word) (some_same tcp proto a.1)
-              (record { positive = omega arith; fits = omega arith; written = inl (bytes_same word (codes "tcp") a.0) })
-          | inr g ↦ elim (if_parts (bytes_eq word (codes "udp")) (Some udp) None (Some proto) g.1) [
-            | inl a ↦ subst (IsProtocolWord word) (some_same udp proto a.1)
-                (record { positive = omega arith; fits = omega arith; written = inl (bytes_same word (codes "udp") a.0) })
-            | inr none ↦ cc
-          ]
-        ]
-      ]
+    | inl a ↦ subst HasRoom (some_same 51 proto a.1) (omega arith, omega arith)
+    | inr d ↦ elim (if_parts (bytes_eq word (codes "sctp")) (Some 132) None (Some proto) d.1) [
+      | inl a ↦ subst HasRoom (some_same 132 proto a.1) (omega arith, omega arith)
+      | inr none ↦ cc
+    ]
+  ]
+]
+
+three_named : (word : List ℕ) (proto : ℕ) → protocol_of word ≡ Some proto → IsProtocolWord word proto
+three_named word proto h = elim (if_parts (bytes_eq word (codes "icmp")) (Some icmp) _ (Some proto) h) [
+  | inl a ↦ subst (IsProtocolWord word) (some_same icmp proto a.1)
+      (record { positive = omega arith; fits = omega arith; written = inl (bytes_same word (codes "icmp") a.0) })
+  | inr b ↦ elim (if_parts (bytes_eq word (codes "tcp")) (Some tcp) _ (Some proto) b.1) [
+    | inl a ↦ subst (IsProtocolWord word) (some_same tcp proto a.1)
+        (record { positive = omega arith; fits = omega arith; written = inl (bytes_same word (codes "tcp") a.0) })
+    | inr d ↦ elim (if_parts (bytes_eq word (codes "udp")) (Some udp) None (Some proto) d.1) [
+      | inl a ↦ subst (IsProtocolWord word) (some_same udp proto a.1)
+          (record { positive = omega arith; fits = omega arith; written = inl (bytes_same word (codes "udp") a.0) })
+      | inr none ↦ cc
     ]
   ]
 ]
@@ -58,15 +63,17 @@ protocol_numbered word proto (Some n) said h = elim (if_parts (n == 0) None (Som
       (record { positive = not_zero n some.0; fits = omega (arith, told.1); written = inr (inl told.0) })
 ]
 
-protocol_by : (word : List ℕ) (proto : ℕ) (o : Option ℕ) → named_protocol word ≡ o → named_or_numbered o word ≡ Some proto
-    → IsProtocolWord word proto
-protocol_by word proto None named h = protocol_numbered word proto (number 255 word) refl h
-protocol_by word proto (Some n) named h = protocol_named word proto (named ∙ h)
+protocol_by : (word : List ℕ) (proto : ℕ) (o p : Option ℕ) → other_protocol word ≡ o → protocol_of word ≡ p
+    → option_or (option_or o p) (if_positive (number 255 word)) ≡ Some proto → IsProtocolWord word proto
+protocol_by word proto (Some n) p other three h =
+    let room = other_fits word proto (other ∙ h) in record { positive = room.0; fits = room.1; written = inr (inr (other ∙ h)) }
+protocol_by word proto None (Some n) other three h = three_named word proto (three ∙ h)
+protocol_by word proto None None other three h = protocol_numbered word proto (number 255 word) refl h
 
 -- a word that asks for a protocol is one of those that are written for it
 pub protocol_said : (word : List ℕ) (proto : ℕ) → asked_protocol word ≡ Some proto → IsProtocolWord word proto
 unfolding asked_protocol
-protocol_said word proto h = protocol_by word proto (named_protocol word) refl h
+protocol_said word proto h = protocol_by word proto (other_protocol word) (protocol_of word) refl refl h
 
 not_named : (word : List ℕ) → all_ascii_digits word ≡ true → named_protocol word ≡ None
 not_named word digits =
@@ -89,11 +96,9 @@ number_read proto positive fits =
     rw (not_named (decimal proto) (decimal_digits proto (omega arith)), number-decimal 255 proto (omega arith) (omega arith), is_zero proto positive)
     refl
 
-name_read : (word : List ℕ) (proto : ℕ) → IsOtherName word proto → asked_protocol word ≡ Some proto
+name_read : (word : List ℕ) (proto : ℕ) → other_protocol word ≡ Some proto → asked_protocol word ≡ Some proto
 unfolding asked_protocol
-name_read word proto (inl a) = ap asked_protocol a.0 ∙ ap (λ (n : ℕ). Some n) (sym a.1)
-name_read word proto (inr (inl a)) = ap asked_protocol a.0 ∙ ap (λ (n : ℕ). Some n) (sym a.1)
-name_read word proto (inr (inr a)) = ap asked_protocol a.0 ∙ ap (λ (n : ℕ). Some n) (sym a.1)
+name_read word proto h = ap (λ o. option_or (option_or o (protocol_of word)) (if_positive (number 255 word))) h
 
 -- a protocol has a name, or is written by its number
 abbrev IsAnyText : ℕ → Type 0

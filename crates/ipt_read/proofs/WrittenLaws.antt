@@ -24,7 +24,7 @@ use Rattle.ipt_read.specs.Options.{Given, nothing_given, Row, named_target}
 use Rattle.ipt_read.specs.Values.{is_state, IsStateList}
 use Rattle.ipt_read.specs.ServiceValues.{IsProtocolWord, ArePortsWord}
 use Rattle.ipt_read.specs.inner.OptionSteps.{row}
-use Rattle.ipt_read.specs.Grammar.{Stands, IsValue, source, destination, protocol, source_port, destination_port, ct_states, conntrack_module, own_module, target, jump, plain, turned, ArePieces, none_left, one_more, IsRuleLine}
+use Rattle.ipt_read.specs.Grammar.{Stands, IsValue, source, destination, protocol, source_port, destination_port, states, conntrack_module, own_module, target, jump, plain, turned, ArePieces, none_left, one_more, IsRuleLine}
 use Rattle.ipt_read.proofs.PartLaws.{RuleHas, rule_has}
 use Rattle.ipt_read.specs.inner.WrittenWords.{bang_words, address_words, protocol_words, module_words, port_words, service_words, state_words, target_words, rule_pieces, rule_words}
 
@@ -170,7 +170,7 @@ state_pieces chains given last None rest others = others
 state_pieces chains given last (Some part) rest others =
     one_more (plain {row = row Module} (record { named = refl; here = refl; free = refl }) conntrack_module)
     (piece_by_sign chains (with_state_of given true None) (with_state_of given true (Some part)) last (row CtState) part.negated (codes "--ctstate") (states_text part.new part.established ∷ []) rest refl
-    (record { named = refl; here = refl; free = refl }) (ct_states part.new part.established (states_listed part.new part.established)) others)
+    (record { named = refl; here = refl; free = refl }) (states part.new part.established (inl refl) (states_listed part.new part.established)) others)
 
 -- a target that is written can be read: the chain of a jump is a user chain that is found by its name
 abbrev pub IsFound : List Chain → List Chain → Target → Type 0

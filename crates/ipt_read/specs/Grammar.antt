@@ -35,11 +35,8 @@ pub data IsValue (chains : List Chain) (given : Given) (negated : Bool) : List �
       (record given { rule = record given.rule { sport = Some (record { low = low; high = high; negated = negated }) } })
   destination_port : {w : List ℕ} (low high : ℕ) → ArePortsWord w low high → IsValue chains given negated (codes "--dport") (w ∷ [])
       (record given { rule = record given.rule { dport = Some (record { low = low; high = high; negated = negated }) } })
-  ct_states : {w : List ℕ} (new established : Bool) → IsStateList w new established → IsValue chains given negated (codes "--ctstate") (w ∷ [])
-      (record given { rule = record given.rule { state = Some (record { new = new; established = established; negated = negated }) } })
-  states : {w : List ℕ} (new established : Bool) → IsStateList w new established → IsValue chains given negated (codes "--state") (w ∷ [])
-      (record given { rule = record given.rule { state = Some (record { new = new; established = established; negated = negated }) } })
-  comment : {ws : List (List ℕ)} → IsText ws → IsValue chains given negated (codes "--comment") ws given
+  states : {name w : List ℕ} (new established : Bool) → (name ≡ codes "--ctstate") ⊎ (name ≡ codes "--state") → IsStateList w new established
+      → IsValue chains given negated name (w ∷ []) (record given { rule = record given.rule { state = Some (record { new = new; established = established; negated = negated }) } })
   conntrack_module : IsValue chains given negated (codes "-m") (codes "conntrack" ∷ []) (record given { conntrack = true })
   state_module : IsValue chains given negated (codes "-m") (codes "state" ∷ []) (record given { states = true })
   comment_module : IsValue chains given negated (codes "-m") (codes "comment" ∷ []) (record given { comments = true })
@@ -50,9 +47,9 @@ pub data IsValue (chains : List Chain) (given : Given) (negated : Bool) : List �
   -- a jump to a user chain that was declared
   jump : {w : List ℕ} (c : ℕ) → named_target w ≡ None → number_of chains w ≡ Some c → 3 ≤ c
       → IsValue chains given negated (codes "-j") (w ∷ []) (record given { target = Some (Jump c) })
-  reject_with : {w : List ℕ} → IsValue chains given negated (codes "--reject-with") (w ∷ []) given
-  log_prefix : {ws : List (List ℕ)} → IsText ws → IsValue chains given negated (codes "--log-prefix") ws given
-  log_level : {w : List ℕ} → IsValue chains given negated (codes "--log-level") (w ∷ []) given
+  -- what the rule does not depend on: a text, and how to reject or to log in one word
+  a_text : {name : List ℕ} {ws : List (List ℕ)} → (name ≡ codes "--comment") ⊎ (name ≡ codes "--log-prefix") → IsText ws → IsValue chains given negated name ws given
+  a_word : {name w : List ℕ} → (name ≡ codes "--reject-with") ⊎ (name ≡ codes "--log-level") → IsValue chains given negated name (w ∷ []) given
 
 -- a piece: an option and its value, maybe after `!`
 pub data IsPiece (chains : List Chain) (given : Given) : List (List ℕ) → Given → Type 0 where

@@ -3,8 +3,10 @@
 ghost use Rattle.std.specs.Prelude.{◌≡◌, Some, None, if◌then◌else◌, nat_le};
 ghost use Rattle.text_core.specs.inner.Decimal.{number};
 ghost use Rattle.host_net.specs.Service.{last_port};
+ghost use Rattle.ipt_read.specs.ServiceValues.{other_protocol};
 ghost use Rattle.ipt_read.specs.inner.ServiceSteps.{asked_ports, asked_protocol, if_positive, named_protocol, port_or, ports_between};
 
+use host_net::read_protocol;
 use text_core::{read_number, split_once};
 
 /// The greatest port.
@@ -15,14 +17,18 @@ const LAST_PORT: u16 = 65535;
 pub(crate) fn asked_protocol(word: &[u8]) -> Option<u8>
     ensures { result ≡ asked_protocol word.now }
 {
-    match named_protocol(word) {
-        Some(proto) => Some(proto),
-        None => numbered_protocol(word),
-    }
+    named_protocol(word).or(numbered_protocol(word))
 }
 
 fn named_protocol(word: &[u8]) -> Option<u8>
     ensures { result ≡ named_protocol word.now }
+{
+    other_protocol(word).or(read_protocol(word))
+}
+
+/// The protocols that have a name in iptables beside the three of `read_protocol`.
+fn other_protocol(word: &[u8]) -> Option<u8>
+    ensures { result ≡ other_protocol word.now }
 {
     if word == b"esp".as_slice() {
         return Some(50);
@@ -32,15 +38,6 @@ fn named_protocol(word: &[u8]) -> Option<u8>
     }
     if word == b"sctp".as_slice() {
         return Some(132);
-    }
-    if word == b"icmp".as_slice() {
-        return Some(1);
-    }
-    if word == b"tcp".as_slice() {
-        return Some(6);
-    }
-    if word == b"udp".as_slice() {
-        return Some(17);
     }
     None
 }

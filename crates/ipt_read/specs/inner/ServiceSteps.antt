@@ -1,31 +1,25 @@
 -- What the values of `-p`, `--sport` and `--dport` say, as the reader reads them. Callers see none of it; they have `ServiceValues`.
-use Rattle.std.specs.Prelude.{ℕ, ◌&&◌, ◌==◌, nat_le, if◌then◌else◌, List, [], ◌∷◌, Option, Some, None, codes, bytes_eq}
+use Rattle.std.specs.Prelude.{ℕ, ◌&&◌, ◌==◌, nat_le, if◌then◌else◌, List, [], ◌∷◌, Option, Some, None}
+use Rattle.std.specs.Option.{option_or}
 use Rattle.text_core.specs.inner.Decimal.{number}
 use Rattle.text_core.specs.inner.Pieces.{split_once}
 use Rattle.text_core.specs.Steps.{◌>>=◌}
 use Rattle.host_net.specs.Service.{last_port}
 use Rattle.host_net.specs.inner.ServiceSteps.{protocol_of}
+use Rattle.ipt_read.specs.ServiceValues.{other_protocol}
 use Rattle.ipt_read.specs.inner.Counts.{is_nothing}
 
--- the protocol of that name
+-- the protocol of a name
 abbrev pub named_protocol : List ℕ → Option ℕ
-named_protocol word =
-    if bytes_eq word (codes "esp") then Some 50
-    else if bytes_eq word (codes "ah") then Some 51
-    else if bytes_eq word (codes "sctp") then Some 132
-    else protocol_of word
+named_protocol word = option_or (other_protocol word) (protocol_of word)
 
 abbrev pub if_positive : Option ℕ → Option ℕ
 if_positive None = None
 if_positive (Some n) = if n == 0 then None else Some n
 
 -- the protocol of a name, or else of a number
-abbrev pub named_or_numbered : Option ℕ → List ℕ → Option ℕ
-named_or_numbered (Some proto) word = Some proto
-named_or_numbered None word = if_positive (number 255 word)
-
 unfoldable pub asked_protocol : List ℕ → Option ℕ
-asked_protocol word = named_or_numbered (named_protocol word) word
+asked_protocol word = option_or (named_protocol word) (if_positive (number 255 word))
 
 -- a port, or where none is written another
 abbrev pub port_or : ℕ → List ℕ → Option ℕ
