@@ -1,5 +1,4 @@
 use Rattle.std.proofs.Common.{refl}
-use Rattle.topos_top.specs.Replies.{NoMemory}
 use Rattle.topos_top.specs.declared.kind.Kind.TheVariants.{Edits}
 use Rattle.topos_top.proofs.Taking.{refused_whole}
 use Rattle.topos_top.proofs.reading.read_edits.Goals as goal
@@ -9,6 +8,3 @@ returns-in-Err-Refused-clause-reading g c =
     let fault = rw (c.deref.ensures.value, c.in-Err-Refused.field-0-is) at c.in-Err-Refused.ensures.refused in
     refused_whole Edits _ _ _ _ c.in_ok-bytes.ensures.taken
     (record { line = _; refuses = record { number = _; why = _; fault = fault; told = refl }; replied = rw c.edits_reason.ensures at c.bad_text.ensures })
-
-pub returns-in-Err-Memory-clause-reading : goal.returns-in-Err-Memory-clause-reading
-returns-in-Err-Memory-clause-reading g c = NoMemory c.in_ok-bytes.ensures.taken.took.begins c.no_memory.ensures
