@@ -1,11 +1,12 @@
 //! A rule set: chains whose jumps all lead somewhere and never back, so that each packet has a
 //! verdict.
 
-ghost use Rattle.std.specs.Prelude.{◌≡◌, ◌<◌, ◌≤◌, ◌⊎◌, length, IfOk, IfErr, OnOk, IsNone, IfSome, Some};
+ghost use Rattle.std.specs.Prelude.{◌≡◌, ◌<◌, ◌≤◌, ◌⊎◌, length, IfOk, IfErr, OnOk, IsNone, IfSome, Some, None};
 ghost use Rattle.ipt_rules.specs.Chain.{Chain};
 ghost use Rattle.ipt_rules.specs.ChainTable.{rule_count};
 ghost use Rattle.ipt_rules.specs.inner.ChainTable.{IsTable};
 ghost use Rattle.ipt_rules.specs.inner.Build.{refusal_of, RefusedFor, first_unknown, jumps_nowhere, place_of_unknown};
+ghost use Rattle.ipt_rules.specs.inner.Ranked.{IsRanked};
 ghost use Rattle.ipt_rules.specs.Loops.{HasNoLoop};
 ghost use Rattle.ipt_rules.specs.inner.OneOutcome.{EachGivesOne};
 
@@ -15,7 +16,7 @@ use crate::loops::loop_among;
 use crate::ranking::CHAIN_LIMIT;
 use crate::rule::{Rule, Target};
 use crate::starts::starts_of;
-use std::alloc::Global;
+use std::alloc::{AllocError, Global};
 use std::marker::Model;
 
 const RULE_LIMIT: u32 = 1_000_000;
@@ -77,20 +78,43 @@ impl Ruleset {
         if let Some(why) = refusal(&chains.chains, chains.rules) {
             return Err(why);
         }
-        let Ok(found) = loop_among(alloc, &chains.chains) else {
+        let Ok(found) = chains.first_loop(alloc) else {
             return Err(BuildRefusal::Memory);
         };
         if let Some(chain) = found {
             return Err(BuildRefusal::Loop { chain });
         }
-        let Ok(starts) = starts_of(alloc, &chains.chains) else {
-            return Err(BuildRefusal::Memory);
-        };
+        match Ruleset::new(alloc, chains) {
+            Ok(rules) => Ok(rules),
+            Err(_) => Err(BuildRefusal::Memory),
+        }
+    }
+
+    /// The rule set of chains that nothing is wrong with, from none of which jumps lead back to it.
+    pub fn new(alloc: Global, chains: Chains) -> Result<Ruleset, AllocError>
+        requires accepted { refusal_of chains ≡ None }
+        requires ranked { IsRanked chains None }
+        ensures ok { IfOk result (λ rules. rules ≡ chains) }
+        ensures table { IfOk result IsTable }
+        ensures one_outcome { IfOk result EachGivesOne }
+        ensures no_loop { IfOk result HasNoLoop }
+    {
+        let starts = starts_of(alloc, &chains.chains)?;
         Ok(Ruleset {
             chains: chains.chains,
             rules: chains.rules,
             starts,
         })
+    }
+}
+
+impl Chains {
+    /// The first chain from which jumps lead back to it, of chains that nothing else is wrong with.
+    pub fn first_loop(&self, alloc: Global) -> Result<Option<u16>, AllocError>
+        requires { refusal_of self.now ≡ None }
+        ensures { IfOk result (IsRanked self.now) }
+    {
+        loop_among(alloc, &self.chains)
     }
 }
 
