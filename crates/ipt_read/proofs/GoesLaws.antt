@@ -8,8 +8,7 @@ use Rattle.ipt_rules.specs.declared.rule.Policy.{Policy}
 use Rattle.ipt_rules.specs.declared.rule.Rule.{Rule}
 use Rattle.ipt_rules.specs.declared.rule.Target.{Target}
 use Rattle.ipt_rules.specs.declared.rule.Target.TheVariants.{Accept, Drop, Reject, Return, Count, Jump}
-use Rattle.ipt_rules.specs.inner.Build.{jumps_nowhere, first_unknown, refusal_of, RefusedFor, at_once}
-use Rattle.ipt_rules.specs.declared.ruleset.BuildRefusal.TheVariants.{TooMany, UnknownChain}
+use Rattle.ipt_rules.specs.inner.Build.{jumps_nowhere, first_unknown, refusal_of}
 use Rattle.ipt_rules.specs.Chain.{Chain, user_chain, changed_at, with_policy, with_rule}
 use Rattle.ipt_rules.specs.ChainTable.{rule_count}
 use Rattle.ipt_read.specs.Options.{Given, nothing_given, named_target}
@@ -137,9 +136,3 @@ not_refused xs few rules go =
     let a : nat_lt 4096 (length xs) ≡ false = grind (arith, nat_tests) in
     let b : nat_lt 1000000 (rule_count xs) ≡ false = grind (arith, nat_tests) in
     rw (a, b) (none_unknown (length xs) 0 xs go)
-
-pub not_many : (xs : List Chain) (k : ℕ) → refusal_of xs ≡ None → RefusedFor xs (TooMany k) → ⊥
-not_many xs k none (at_once e) = cc
-
-pub not_unknown : (xs : List Chain) (c k : ℕ) → refusal_of xs ≡ None → RefusedFor xs (UnknownChain c k) → ⊥
-not_unknown xs c k none (at_once e) = cc

@@ -17,7 +17,7 @@ ghost use Rattle.ipt_read.specs.TextLines.{rules_text, HasFault, IsReading};
 use crate::fault::{IptFault, IptWhy};
 use crate::reader::{Reader, nothing_said};
 use crate::stage::Stage;
-use ipt_rules::{BuildRefusal, Ruleset};
+use ipt_rules::Ruleset;
 use std::alloc::Global;
 use text_core::{TextFault, read_counted_lines};
 
@@ -58,11 +58,7 @@ fn end(alloc: Global, reader: Reader, bytes: &[u8], count: u32) -> Result<Rulese
     let line = count + 1;
     match reader.stage {
         Stage::After => build(alloc, reader, bytes),
-        Stage::Front => Err(TextFault::Refused {
-            line,
-            why: IptWhy::NoCommit,
-        }),
-        Stage::Table => Err(TextFault::Refused {
+        Stage::Front | Stage::Table => Err(TextFault::Refused {
             line,
             why: IptWhy::NoCommit,
         }),
@@ -77,17 +73,18 @@ fn build(alloc: Global, reader: Reader, bytes: &[u8]) -> Result<Ruleset, IptFaul
     ensures refused { IfErr result (HasCause rules_text bytes.now) }
     ensures one_outcome { IfOk result EachGivesOne }
 {
-    let declared = reader.declared;
-    match Ruleset::build(alloc, reader.chains) {
-        Ok(rules) => Ok(rules),
-        Err(BuildRefusal::Loop { chain }) => Err(TextFault::Refused {
-            line: line_of(&declared, chain),
+    let Ok(found) = reader.chains.first_loop(alloc) else {
+        return Err(TextFault::Memory);
+    };
+    if let Some(chain) = found {
+        return Err(TextFault::Refused {
+            line: line_of(&reader.declared, chain),
             why: IptWhy::Loop,
-        }),
-        Err(BuildRefusal::Memory) => Err(TextFault::Memory),
-        // The reader keeps within the limits, and its jumps go to user chains.
-        Err(BuildRefusal::TooMany { .. }) => unreachable!(),
-        Err(BuildRefusal::UnknownChain { .. }) => unreachable!(),
+        });
+    }
+    match Ruleset::new(alloc, reader.chains) {
+        Ok(rules) => Ok(rules),
+        Err(_) => Err(TextFault::Memory),
     }
 }
 
