@@ -6,7 +6,7 @@ use Rattle.topos_top.proofs.audit.answer.Goals as goal
 
 pub finding-requires : goal.finding-requires
 finding-requires c =
-    subst (λ (chains : List Chain). GivesOne (filter_of (Chains chains))) (sym c.in_ok-filter.ensures) (rw c.in-Chains.is at c.requires)
+    subst (λ (chains : List Chain). GivesOne (filter_of (Chains chains))) (sym c.in_ok-filter-in-Chains.ensures) (rw c.in-Chains.is at c.requires)
 
 pub finding-requires-in-Table : goal.finding-requires-in-Table
 finding-requires-in-Table c = rw c.in-Table.is at c.requires

@@ -19,7 +19,7 @@ returns-in-Err-Refused-clause-reading g c =
     let took = rw c.in-Iptables.is at c.in_ok-bytes.ensures.taken in
     let fault = rw (c.deref.ensures.value, c.in-Err-Refused.field-0-is) at c.in-Err-Refused.ensures.refused in
     rw c.in-Iptables.is (refused_whole (Rules Iptables) _ _ _ _ took
-      (record { line = _; refuses = record { number = _; why = _; fault = fault; told = refl }; replied = rw c.rules_reason.ensures at c.bad_text.ensures }))
+    (record { line = _; refuses = record { number = _; why = _; fault = fault; told = refl }; replied = rw c.rules_reason.ensures at c.bad_text.ensures }))
 
 pub returns-in-Ok-read-clause-reading : goal.returns-in-Ok-read-clause-reading
 returns-in-Ok-read-clause-reading g c =
@@ -35,4 +35,4 @@ returns-in-Err-Refused-read-clause-reading g c =
     let took = rw c.in-OpenFlow.is at c.in_ok-bytes.ensures.taken in
     let fault = rw (c.deref-in-OpenFlow.ensures.value, c.in-Err-Refused-read.field-0-is) at c.in-Err-Refused-read.ensures.refused in
     rw c.in-OpenFlow.is (refused_whole (Rules OpenFlow) _ _ _ _ took
-      (record { line = _; refuses = record { number = _; why = _; fault = fault; told = refl }; replied = rw c.flows_reason.ensures at c.bad_text-in-Err-Refused-read.ensures }))
+    (record { line = _; refuses = record { number = _; why = _; fault = fault; told = refl }; replied = rw c.flows_reason.ensures at c.bad_text-in-Err-Refused-read.ensures }))

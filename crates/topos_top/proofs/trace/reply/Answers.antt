@@ -35,7 +35,7 @@ returns-clause-reply g c =
     let events = c.in_ok-events.events.items in
     let text = c.in_ok-text.text.items in
     let filter = ap filter_of rules.told ∙ filter_in c.args.dialect rules.said in
-    let trace = subst (λ (f : Filter). IsTrace f events text) filter c.in_ok-text.ensures in
+    let trace = subst (λ (f : Filter). IsTrace f events text) filter (rw c.deref.ensures.value at c.in_ok-text.ensures) in
     went_on false (Rules c.args.dialect) c.args.rules.now (λ x. reads Events c.args.events.now (λ es. ends (trace_job c.args.dialect x es))) _ _ _ _ _ rules.read
     (went_on false Events c.args.events.now (λ es. ends (trace_job c.args.dialect rules.said es)) _ _ _ _ _ c.in_ok-events.ensures.reading
     (refl, inr (subst (λ (r : Reply). Answers false (trace_job c.args.dialect rules.said events) r) (sym c.done.ensures) (refl, inl (refl, tt, trace)))))
