@@ -1,8 +1,6 @@
 //! The audit: whether rules do what a policy says, over every list of packets and forgettings.
 
-ghost use Rattle.std.specs.Prelude.{◌≡◌, ◌↔◌, ◌≤◌, length, IfOk, IfErr, OnOk};
-ghost use Rattle.host_net.specs.Site.{site_with};
-ghost use Rattle.flow_set.specs.FlowSet.{IsSubset};
+ghost use Rattle.std.specs.Prelude.{◌≡◌, ◌↔◌, ◌≤◌, IfOk, IfErr, OnOk};
 ghost use Rattle.audit_core.specs.Findings.{DifferSomewhere};
 ghost use Rattle.audit_core.specs.inner.Findings.{IsFinding, IsRefused};
 ghost use Rattle.audit_core.specs.Places.{class_count};
@@ -14,41 +12,32 @@ use crate::leasts::Leasts;
 use crate::named::named_between;
 use crate::sides::Sides;
 use crate::text::Text;
-use flow_set::FlowSet;
-use host_net::{Hosts, Services};
+use pkt_core::FlowPolicy;
 use std::alloc::Global;
 
 const MOST_CLASSES: u128 = 4_000_000;
 
-/// Compares what rules do with what a policy expects, whose permitted flows are `p` and whose
-/// stateful ones are `s`.
+/// Compares what rules do with what a policy expects.
 pub fn audit(
     alloc: Global,
-    hosts: &Hosts,
-    services: &Services,
-    p: &FlowSet,
-    s: &FlowSet,
+    policy: &FlowPolicy<'_>,
     text: &Text<'_>,
 ) -> Result<Finding, AuditRefusal>
-    requires permitted { p.now.size ≡ length hosts.now }
-    requires stateful { s.now.size ≡ length hosts.now }
-    requires subset { IsSubset s.now.flows p.now.flows }
-
     // They agree on every list of events, or this is the first short list on which they differ.
-    ensures found { IfOk result (IsFinding (sides_of (site_with hosts.now services.now) p.now.flows s.now.flows (rules_of text.now))) }
+    ensures found { IfOk result (IsFinding (sides_of policy.now.site policy.now.permitted policy.now.stateful (rules_of text.now))) }
     ensures exact { IfOk result (λ finding. (finding ≡ Finding.Equal) ↔
-        (DifferSomewhere (sides_of (site_with hosts.now services.now) p.now.flows s.now.flows (rules_of text.now)) → ⊥)) }
-    ensures few { OnOk result (class_count (sides_of (site_with hosts.now services.now) p.now.flows s.now.flows (rules_of text.now)) ≤ 4000000) }
-    ensures refused { IfErr result (IsRefused (class_count (sides_of (site_with hosts.now services.now) p.now.flows s.now.flows (rules_of text.now)))) }
+        (DifferSomewhere (sides_of policy.now.site policy.now.permitted policy.now.stateful (rules_of text.now)) → ⊥)) }
+    ensures few { OnOk result (class_count (sides_of policy.now.site policy.now.permitted policy.now.stateful (rules_of text.now)) ≤ 4000000) }
+    ensures refused { IfErr result (IsRefused (class_count (sides_of policy.now.site policy.now.permitted policy.now.stateful (rules_of text.now)))) }
 {
-    let named = named_between(alloc, hosts, services, text)?;
+    let named = named_between(alloc, policy, text)?;
     let found = named.distinct();
     let leasts = Leasts::of(alloc, &found)?;
     let count = leasts.total();
     if count > MOST_CLASSES {
         return Err(AuditRefusal::TooManyClasses { count });
     }
-    let sides = Sides::new(hosts, services, p, s, *text);
+    let sides = Sides::new(policy, *text);
     let thinned = leasts.thinned(alloc, &found)?;
     let kept = sides.merged(alloc, &thinned)?;
     let owners = sides.owners(alloc, &kept.addresses)?;

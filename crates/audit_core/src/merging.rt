@@ -34,7 +34,7 @@ impl<'a> Sides<'a> {
             Text::Ipt(filter) => thin(
                 alloc,
                 addresses,
-                Likeness::Treatment(self.hosts, filter.ruleset()),
+                Likeness::Treatment(self.policy.hosts(), filter.ruleset()),
             ),
             Text::Ofp(_) => Vec::from_slice(alloc, addresses),
         }

@@ -4,7 +4,6 @@ ghost use Rattle.std.specs.Prelude.{◌≡◌, ◌<◌, ◌++◌, ◌∷◌, [],
 ghost use Rattle.std.specs.List.{flat_map};
 ghost use Rattle.host_net.specs.Hosts.{all_prefixes};
 ghost use Rattle.host_net.specs.Services.{services_of};
-ghost use Rattle.host_net.specs.Site.{site_with};
 ghost use Rattle.ipt_rules.specs.Rules.{all_rules};
 ghost use Rattle.audit_core.specs.inner.Named.{AreMore, IsNamedBy};
 ghost use Rattle.audit_core.specs.Parts.{Addresses, Protocol, Ports, address_parts, entry_parts, flow_services, number_parts, one_port_parts, port_parts, prefix_parts, protocol_parts, rule_parts, rules_parts, service_parts, site_parts};
@@ -15,6 +14,7 @@ use flow_set::FlowSet;
 use host_net::{Hosts, Prefix, Service, Services};
 use ipt_rules::{AddrMatch, PortMatch, ProtoMatch, Rule, Ruleset};
 use ofp_rules::{Entry, Table};
+use pkt_core::FlowPolicy;
 use std::alloc::{AllocError, Global};
 
 /// The addresses from the first to the last.
@@ -42,15 +42,14 @@ pub(crate) struct Found {
 /// What a description and rules name.
 pub(crate) fn named_between(
     alloc: Global,
-    hosts: &Hosts,
-    services: &Services,
+    policy: &FlowPolicy<'_>,
     text: &Text<'_>,
 ) -> Result<Found, AllocError>
-    ensures { IfOk result (IsNamedBy (site_parts (site_with hosts.now services.now) ++ rules_parts (rules_of text.now))) }
+    ensures { IfOk result (IsNamedBy (site_parts policy.now.site ++ rules_parts (rules_of text.now))) }
 {
     let mut found = nothing_found(alloc);
-    push_hosts(&mut found, hosts)?;
-    push_flows(alloc, &mut found, hosts, services)?;
+    push_hosts(&mut found, policy.hosts())?;
+    push_flows(alloc, &mut found, policy)?;
     push_text(&mut found, text)?;
     Ok(found)
 }
@@ -84,16 +83,11 @@ fn push_prefixes(found: &mut Found, prefixes: &[Prefix]) -> Result<(), AllocErro
 }
 
 /// The services of every flow between the hosts.
-fn push_flows(
-    alloc: Global,
-    found: &mut Found,
-    hosts: &Hosts,
-    services: &Services,
-) -> Result<(), AllocError>
-    ensures { OnOk result (AreMore (flat_map service_parts (flow_services (site_with hosts.now services.now))) found.old found.new) }
+fn push_flows(alloc: Global, found: &mut Found, policy: &FlowPolicy<'_>) -> Result<(), AllocError>
+    ensures { OnOk result (AreMore (flat_map service_parts (flow_services policy.now.site)) found.old found.new) }
 {
-    let flows = FlowSet::full(alloc, hosts.count())?;
-    push_services_of(found, &flows, services)
+    let flows = FlowSet::full(alloc, policy.count())?;
+    push_services_of(found, &flows, policy.services())
 }
 
 fn push_services_of(

@@ -5,9 +5,9 @@ ghost use Rattle.host_net.specs.Host.{owner_of};
 ghost use Rattle.std.specs.List.{list_any};
 ghost use Rattle.host_net.specs.Packet.{IsPacket};
 ghost use Rattle.host_net.specs.Service.{is_served, serves};
-ghost use Rattle.host_net.specs.Site.{site_with};
 ghost use Rattle.pkt_core.specs.Firewall.{may_pass};
 ghost use Rattle.pkt_core.specs.FlowPolicy.{is_of};
+ghost use Rattle.pkt_core.specs.inner.FlowPolicy.{IsFlowPolicy};
 ghost use Rattle.audit_core.specs.inner.Judging.{SayOther, SaySame};
 ghost use Rattle.audit_core.specs.Rules.{filter_of};
 ghost use Rattle.audit_core.specs.inner.Rules.{GivesOne};
@@ -18,23 +18,19 @@ ghost use Rattle.audit_core.specs.Sides.{lets_answer, permits, sides_of};
 use crate::leasts::Class;
 use crate::text::Text;
 use flow_set::{Flow, FlowSet};
-use host_net::{CtState, Hosts, Packet, Service, Services};
+use host_net::{CtState, Hosts, Packet, Service};
+use pkt_core::FlowPolicy;
 use std::alloc::{AllocError, Global};
 use std::marker::Model;
 
 /// A policy between hosts, and the rules that are to do what it says.
 #[derive(Drop)]
 pub(crate) struct Sides<'a> {
-    pub(crate) hosts: &'a Hosts,
-    services: &'a Services,
-    permitted: &'a FlowSet,
-    stateful: &'a FlowSet,
+    pub(crate) policy: &'a FlowPolicy<'a>,
     pub(crate) text: Text<'a>,
 }
 
 impl<'a> Model for Sides<'a> {
-    ghost use Rattle.std.specs.Prelude.{◌≡◌, length};
-    ghost use Rattle.host_net.specs.Site.{site_with};
     ghost use Rattle.audit_core.specs.Rules.{filter_of};
     ghost use Rattle.audit_core.specs.inner.Rules.{GivesOne};
     ghost use Rattle.audit_core.specs.inner.RulesView.{rules_of};
@@ -42,33 +38,21 @@ impl<'a> Model for Sides<'a> {
 
     ghost Value = { Sides };
 
-    ghost view = { λ s. sides_of (site_with s.hosts.now s.services.now) s.permitted.now.flows s.stateful.now.flows (rules_of s.text) };
+    ghost view = { λ s. sides_of s.policy.now.site s.policy.now.permitted s.policy.now.stateful (rules_of s.text) };
 
-    ghost invariant = { λ s. (s.permitted.now.size ≡ length s.hosts.now) × (s.stateful.now.size ≡ length s.hosts.now) × GivesOne (filter_of (rules_of s.text)) };
+    ghost invariant = { λ s. GivesOne (filter_of (rules_of s.text)) };
 }
 
 impl<'a> Sides<'a> {
-    pub(crate) fn new(
-        hosts: &'a Hosts,
-        services: &'a Services,
-        permitted: &'a FlowSet,
-        stateful: &'a FlowSet,
-        text: Text<'a>,
-    ) -> Sides<'a>
-        requires permitted { permitted.now.size ≡ length hosts.now }
-        requires stateful { stateful.now.size ≡ length hosts.now }
-        ensures sides { result ≡ sides_of (site_with hosts.now services.now) permitted.now.flows stateful.now.flows (rules_of text.entry) }
+    pub(crate) fn new(policy: &'a FlowPolicy<'a>, text: Text<'a>) -> Sides<'a>
+        ensures sides { result ≡ sides_of policy.now.site policy.now.permitted policy.now.stateful (rules_of text.entry) }
+        ensures policy { IsFlowPolicy policy.now }
         ensures gives { GivesOne (filter_of (rules_of text.entry)) }
     {
-        // That a packet passes or does not is said by this call.
-        let _ = text.rules();
-        Sides {
-            hosts,
-            services,
-            permitted,
-            stateful,
-            text,
-        }
+        // What holds of a policy at all times, and that a packet passes or does not, is known by
+        // these calls.
+        let (_count, _rules) = (policy.count(), text.rules());
+        Sides { policy, text }
     }
 
     /// The owners of the addresses.
@@ -79,21 +63,21 @@ impl<'a> Sides<'a> {
     ) -> Result<Vec<Option<u16>>, AllocError>
         ensures { IfOk result (λ owners. owners.items ≡ map (owner_of self.now.site.hosts) addresses.now) }
     {
-        owners(alloc, self.hosts, addresses)
+        owners(alloc, self.policy.hosts(), addresses)
     }
 
     pub(crate) fn permits(&self, class: &Class) -> bool
         requires { AreOwners self.now.site.hosts class.now }
         ensures { result ≡ permits self.now class.now.packet }
     {
-        is_of(self.hosts, self.services, self.permitted, class)
+        is_of(self.policy, self.policy.permitted(), class)
     }
 
     fn lets_answer(&self, class: &Class) -> bool
         requires { AreOwners self.now.site.hosts class.now }
         ensures { result ≡ lets_answer self.now class.now.packet }
     {
-        is_of(self.hosts, self.services, self.stateful, class)
+        is_of(self.policy, self.policy.stateful(), class)
     }
 
     /// Whether the policy lets a packet, which is permitted or not, pass on an established
@@ -134,15 +118,17 @@ fn owners(alloc: Global, hosts: &Hosts, addresses: &[u32]) -> Result<Vec<Option<
 }
 
 /// Whether the packet is of one of the flows.
-fn is_of(hosts: &Hosts, services: &Services, flows: &FlowSet, class: &Class) -> bool
-    requires size { flows.now.size ≡ length hosts.now }
-    requires owners { AreOwners hosts.now class.now }
-    ensures { result ≡ is_of (site_with hosts.now services.now) flows.now.flows class.now.packet }
+fn is_of(policy: &FlowPolicy<'_>, flows: &FlowSet, class: &Class) -> bool
+    requires size { flows.now.size ≡ length policy.now.site.hosts }
+    requires owners { AreOwners policy.now.site.hosts class.now }
+    ensures { result ≡ is_of policy.now.site flows.now.flows class.now.packet }
 {
     let (Some(from), Some(to)) = (class.from, class.to) else {
         return false;
     };
-    from != to && flows.has(Flow { from, to }) && is_served(services.of(from, to), &class.packet)
+    from != to
+        && flows.has(Flow { from, to })
+        && is_served(policy.services().of(from, to), &class.packet)
 }
 
 /// Whether one of the services serves the packet, or there are none.

@@ -14,6 +14,7 @@ ghost use Rattle.topos_top.specs.inner.Views.{reply_view, reply_in, rules_view};
 
 use crate::answer::Answer;
 use crate::dialect::{Dialect, Rules};
+use crate::flow_policy::policy_between;
 use crate::reading::{read_description, read_rules};
 use crate::text::Text;
 use audit_core::{AuditRefusal, Finding, classes_line, finding_text};
@@ -69,14 +70,7 @@ fn finding<'a>(
     ensures { IfOk result (λ answer. Answers true (audit_job description.now (rules_of rules.entry)) (reply_view answer)) }
 {
     let policy = policy_of(alloc, description)?;
-    match audit_core::audit(
-        alloc,
-        description.hosts(),
-        description.services(),
-        policy.permitted(),
-        policy.stateful(),
-        &rules,
-    ) {
+    match audit_core::audit(alloc, &policy_between(description, &policy), &rules) {
         Ok(Finding::Equal) => {
             let text = finding_text(alloc, &Finding::Equal)?;
             Ok(Answer::done(Text::Bytes(text)))
