@@ -11,6 +11,7 @@ use flow_set::{Flow, FlowSet};
 use host_net::{Hosts, Packet, Services, read_prefix, read_service};
 use ipt_rules::{AddrMatch, Chains, Filter, Policy, Rule, Ruleset, StateMatch, Target};
 use ofp_rules::{Action, Entry, FrameKind, Table};
+use pkt_core::FlowPolicy;
 use std::alloc::Global;
 
 // 1. Two hosts, of which one may send to the other.
@@ -158,7 +159,8 @@ fn found(
     let s = stateful(alloc, &p, answers)?;
     let rules = chains(alloc, rules_answer)?;
     let filter = Filter::of(alloc, &rules, 1).ok()?;
-    audit(alloc, &hosts, &services, &p, &s, &Text::Ipt(&filter)).ok()
+    let policy = FlowPolicy::new(&hosts, &services, &p, &s);
+    audit(alloc, &policy, &Text::Ipt(&filter)).ok()
 }
 
 fn found_in_table(alloc: Global, answers: bool) -> Option<Finding> {
@@ -167,7 +169,8 @@ fn found_in_table(alloc: Global, answers: bool) -> Option<Finding> {
     let p = one_flow(alloc, &hosts)?;
     let s = stateful(alloc, &p, answers)?;
     let table = table(alloc)?;
-    audit(alloc, &hosts, &services, &p, &s, &Text::Ofp(&table)).ok()
+    let policy = FlowPolicy::new(&hosts, &services, &p, &s);
+    audit(alloc, &policy, &Text::Ofp(&table)).ok()
 }
 
 #[test]
