@@ -1,46 +1,28 @@
 -- What is left to ask with one more flow: of those that it opens ways for, or that it joins.
-use Rattle.std.proofs.Common.{◌≡◌, ℕ, ◌+◌, ◌<◌, ◌≤◌, ◌↔◌, ◌∙◌, List, length, inl, inr, sym, arith}
-use Rattle.std.specs.Prelude.{IsFalse, IsTrue, slice_index}
+use Rattle.std.proofs.Common.{◌≡◌, ℕ, ◌+◌, ◌<◌, ◌≤◌, ◌↔◌, ◌∙◌, List, inl, inr, sym, arith}
+use Rattle.std.specs.Prelude.{IsFalse, IsTrue}
 use Rattle.std.specs.FinSet as set
 use Rattle.std.proofs.lemmas.Bool.{both_ways, cases_Bool, cases_eq, cases_lt}
 use Rattle.flow_set.specs.declared.flow.Flow.{Flow}
 use Rattle.flow_set.specs.FlowSet.{with_flow}
 use Rattle.flow_set.specs.HostSet.{HostNumbers}
-use Rattle.reach_core.specs.Walks.{Reaches, Joined, has_either, ReachesAtMost}
+use Rattle.reach_core.specs.Walks.{Reaches, Joined, has_either}
 use Rattle.reach_core.specs.laws.WalkLaws.{HasWalk-append}
-use Rattle.reach_core.specs.laws.ReachLaws.{Joined-back, ReachesAtMost-as_before}
-use Rattle.tmpl_reach.specs.Dependability.{IsDependable}
+use Rattle.reach_core.specs.laws.ReachLaws.{Joined-back}
 use Rattle.tmpl_reach.specs.inner.EachOf.{EachOf}
 use Rattle.tmpl_reach.specs.inner.Interferences.{HasOneAtMost, IsNextInterfering, NoneInterferes, StaysApart}
 use Rattle.tmpl_reach.specs.NonInterference.{IsInterfering, IsNonInterfering}
-use Rattle.tmpl_reach.specs.NoReach.{denied_by, ReachesNoDenied}
-use Rattle.tmpl_reach.specs.inner.NoReach.{ReachesNone}
 use Rattle.tmpl_reach.specs.declared.non_interference.Interference.{Interference}
 
--- what holds of each host of a set and of all others holds of all
-pub everywhere : (P : ℕ → Type 0) (hosts : HostNumbers) → ((host : ℕ) → IsFalse (set.contains hosts host) → P host)
-    → EachOf hosts P ↔ ((host : ℕ) → P host)
-everywhere P hosts rest = (
-  λ each host. elim (cases_Bool (set.contains hosts host)) [ inl there ↦ each host there | inr out ↦ rest host out ],
-  λ all host _. all host,
-)
-
-pub still_dependable : (limits : List ℕ) (e : List Flow) (f : Flow) (hosts : HostNumbers)
+-- what holds of each host of a set with one flow more holds of all hosts, where the others reach nothing new
+pub everywhere : (P : List Flow → ℕ → Type 0) (e : List Flow) (f : Flow) (hosts : HostNumbers)
+    → ((s e : List Flow) (host : ℕ) → ((j : ℕ) → Reaches s host j → Reaches e host j) → P e host → P s host)
     → ((i j : ℕ) → IsFalse (set.contains hosts i) → Reaches (with_flow e f) i j → Reaches e i j)
-    → EachOf hosts (λ host. host < length limits) → IsDependable limits e
-    → EachOf hosts (λ host. ReachesAtMost (with_flow e f) host (slice_index limits host)) ↔ IsDependable limits (with_flow e f)
-still_dependable limits e f hosts others below held =
-    let law =
-    everywhere (λ host. host < length limits → ReachesAtMost (with_flow e f) host (slice_index limits host)) hosts
-    (λ host out is_host. ReachesAtMost-as_before (with_flow e f) e host _ (λ j. others host j out) (held host is_host)) in
-    (λ each. law.0 (λ host there _. each host there), λ holds host there. holds host (below host there))
-
-pub still_clear : (denied : List HostNumbers) (e : List Flow) (f : Flow) (hosts : HostNumbers)
-    → ((i j : ℕ) → IsFalse (set.contains hosts i) → Reaches (with_flow e f) i j → Reaches e i j) → ReachesNoDenied denied e
-    → EachOf hosts (λ host. ReachesNone (denied_by denied host) (with_flow e f) host) ↔ ReachesNoDenied denied (with_flow e f)
-still_clear denied e f hosts others held =
-    everywhere (λ host. ReachesNone (denied_by denied host) (with_flow e f) host) hosts
-    (λ host out j apart denies reaches. held host j apart denies (others host j out reaches))
+    → ((host : ℕ) → P e host) → EachOf hosts (P (with_flow e f)) → (host : ℕ) → P (with_flow e f) host
+everywhere P e f hosts fewer others held each host = elim (cases_Bool (set.contains hosts host)) [
+  | inl there ↦ each host there
+  | inr out ↦ fewer (with_flow e f) e host (λ j. others host j out) (held host)
+]
 
 pub still_apart : (kinds : List Interference) (e : List Flow) (from : ℕ) (hosts : HostNumbers)
     → ((i : ℕ) → IsTrue (set.contains hosts i) ↔ Joined e from i) → ((host : ℕ) → StaysApart kinds e from host)

@@ -1,19 +1,16 @@
 //! Dependability: how many others a host may depend on. A host depends on those that it reaches
 //! along the flows, and never on itself.
 
-ghost use Rattle.std.specs.Prelude.{◌≡◌, ℕ, ◌<◌, ◌≤◌, ◌↔◌, List, IfOk, IsTrue, false, length, replicate, slice_index, slice_set};
-ghost use Rattle.std.specs.FinSet as set;
+ghost use Rattle.std.specs.Prelude.{◌≡◌, ◌<◌, IfOk, false, length, replicate, slice_index, slice_set};
 ghost use Rattle.std.proofs.lemmas.Bool.{false≢true};
-ghost use Rattle.flow_set.specs.declared.flow.Flow.{Flow as Meant};
-ghost use Rattle.flow_set.specs.Flow.{IsFlow};
-ghost use Rattle.flow_set.specs.FlowSet.{with_flow};
 ghost use Rattle.inv_law.specs.declared.strategy.Strategy.TheVariants.{Access};
-ghost use Rattle.reach_core.specs.Walks.{Reaches, ReachesAtMost};
+ghost use Rattle.reach_core.specs.Walks.{ReachesAtMost};
+ghost use Rattle.reach_core.specs.laws.ReachLaws.{ReachesAtMost-as_before};
 ghost use Rattle.tmpl_reach.specs.Dependability.{IsDependable};
-ghost use Rattle.tmpl_reach.specs.inner.EachOf.{EachOf};
 ghost use Rattle.tmpl_reach.specs.inner.Resets.{IsDependableAfterReset};
 ghost use Rattle.tmpl_reach.specs.laws.DependabilityLaws.{IsDependable-downward, IsDependable-none, IsDependable-reset};
 
+use crate::host_wise::{HostWise, all_allowed, still_allowed};
 use crate::trial::ReachTrial;
 use flow_set::{Flow, FlowSet};
 use inv_law::{Invariant, Stepwise, Strategy};
@@ -54,63 +51,22 @@ impl Dependability {
     {
         self.limits[host as usize] = limit;
     }
+}
 
-    // Whether no host reaches more others than its limit.
-    fn all_within(&self, closure: &ReachClosure) -> bool
-        requires { closure.now.size ≡ length self.now }
-        ensures { IsTrue result ↔ IsDependable self.now closure.now.flows }
-    {
-        for host in 0..closure.size() {
-            if !self.is_within(host, closure.reached_from(host)) {
-                return false;
-            }
-        }
-        true
-    }
+impl HostWise for Dependability {
+    ghost hosts_of = { λ limits. length limits };
 
-    // Whether no host reaches more others than its limit with one flow more, where none does without it.
-    fn still_within(&self, closure: &ReachClosure, f: Flow) -> bool
-        requires size { closure.now.size ≡ length self.now }
-        requires flow { IsFlow closure.now.size f }
-        requires held { IsDependable self.now closure.now.flows }
-        ensures { IsTrue result ↔ IsDependable self.now (with_flow closure.now.flows f) }
-    {
-        let _ = closure.size();
-        let hosts = closure.opened_by(f);
-        self.are_within(closure, f, &hosts)
-    }
+    ghost allows_on = { λ limits e host. host < length limits → ReachesAtMost e host (slice_index limits host) };
 
-    // Whether none of these hosts, which come to the receiver of a flow with it, reaches more others than
-    // its limit then.
-    fn are_within(&self, closure: &ReachClosure, f: Flow, hosts: &HostSet) -> bool
-        requires size { closure.now.size ≡ length self.now }
-        requires flow { IsFlow closure.now.size f }
-        requires below { EachOf hosts.now (λ host. host < length self.now) }
-        requires come { EachOf hosts.now (λ host. Reaches (with_flow closure.now.flows f) host f.to) }
-        ensures { IsTrue result ↔ EachOf hosts.now (λ host. ReachesAtMost (with_flow closure.now.flows f) host (slice_index self.now host)) }
-    {
-        let _ = closure.size();
-        let mut from = 0;
-        while let Some(host) = hosts.first_from(from) {
-            if !self.is_within(host, &closure.reached_with(f, host)) {
-                return false;
-            }
-            from = host + 1;
-        }
-        true
-    }
-
-    // Whether the host, which reaches these along whatever flows, reaches no more others than its limit.
-    fn is_within(&self, host: u16, reached: &HostSet) -> bool
-        requires host { host < length self.now }
-        requires small { length self.now ≤ 256 }
-        ensures { (e : List Meant) → ((j : ℕ) → IsTrue (set.contains reached.now j) ↔ Reaches e host j)
-            → IsTrue result ↔ ReachesAtMost e host (slice_index self.now host) }
-    {
+    fn allows(&self, host: u16, reached: &HostSet) -> bool {
         let mut others = reached.copy();
         others.remove(host);
         others.len() <= self.limits[host as usize]
     }
+
+    ghost allows_none = { IsDependable-none };
+
+    ghost allows_fewer = { λ limits s e host fewer most below. ReachesAtMost-as_before s e host (slice_index limits host) fewer (most below) };
 }
 
 impl Invariant for Dependability {
@@ -144,7 +100,7 @@ impl Invariant for Dependability {
 
     fn holds(&self, alloc: Global, e: &FlowSet) -> Result<bool, AllocError> {
         let closure = ReachClosure::of(alloc, e)?;
-        Ok(self.all_within(&closure))
+        Ok(all_allowed(self, &closure))
     }
 
     fn with_default(&self, alloc: Global, host: u16) -> Result<Self, AllocError> {
@@ -174,7 +130,7 @@ impl Stepwise for Dependability {
     }
 
     fn step(&self, tried: &mut ReachTrial, f: Flow) -> bool {
-        let holds = self.still_within(&tried.closure, f);
+        let holds = still_allowed(self, &tried.closure, f);
         tried.closure.try_add(f);
         holds
     }
@@ -185,7 +141,7 @@ impl Stepwise for Dependability {
 
     fn holds_with(&self, tried: &mut ReachTrial, f: Flow) -> bool {
         tried.closure.forget();
-        self.still_within(&tried.closure, f)
+        still_allowed(self, &tried.closure, f)
     }
 
     ghost fits_size = { λ x tried fits. fits };

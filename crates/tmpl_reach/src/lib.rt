@@ -3,6 +3,7 @@
 #![tactic(auto)]
 
 mod dependability;
+mod host_wise;
 mod no_reach;
 mod non_interference;
 #[cfg(test)]

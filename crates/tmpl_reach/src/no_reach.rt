@@ -1,20 +1,16 @@
 //! No-reach: hosts that a host must not reach, on whatever way.
 
-ghost use Rattle.std.specs.Prelude.{◌≡◌, ◌≢◌, ℕ, ◌<◌, ◌≤◌, ◌↔◌, List, IfOk, IsTrue, false, length, slice_set};
+ghost use Rattle.std.specs.Prelude.{◌≡◌, ◌≢◌, ◌<◌, ◌≤◌, IfOk, false, length, slice_set};
 ghost use Rattle.std.specs.FinSet as set;
 ghost use Rattle.std.proofs.lemmas.Bool.{false≢true};
-ghost use Rattle.flow_set.specs.declared.flow.Flow.{Flow as Meant};
-ghost use Rattle.flow_set.specs.Flow.{IsFlow};
-ghost use Rattle.flow_set.specs.FlowSet.{with_flow};
 ghost use Rattle.inv_law.specs.declared.strategy.Strategy.TheVariants.{Access};
-ghost use Rattle.reach_core.specs.Walks.{Reaches};
-ghost use Rattle.tmpl_reach.specs.inner.EachOf.{EachOf};
 ghost use Rattle.tmpl_reach.specs.NoReach.{others, denied_by, ReachesNoDenied};
 ghost use Rattle.tmpl_reach.specs.inner.NoReach.{ReachesNone};
 ghost use Rattle.tmpl_reach.specs.inner.Resets.{all_others};
 ghost use Rattle.tmpl_reach.specs.inner.Resets.{ReachesNoDeniedAfterReset};
 ghost use Rattle.tmpl_reach.specs.laws.NoReachLaws.{ReachesNoDenied-downward, ReachesNoDenied-none, ReachesNoDenied-reset};
 
+use crate::host_wise::{HostWise, all_allowed, still_allowed};
 use crate::trial::ReachTrial;
 use flow_set::{Flow, FlowSet};
 use inv_law::{Invariant, Stepwise, Strategy};
@@ -83,63 +79,23 @@ impl NoReach {
     {
         self.denied[host as usize].has(other)
     }
+}
 
-    // Whether each host keeps clear of those that it denies.
-    fn all_clear(&self, closure: &ReachClosure) -> bool
-        requires { closure.now.size ≡ length self.now }
-        ensures { IsTrue result ↔ ReachesNoDenied self.now closure.now.flows }
-    {
-        for host in 0..closure.size() {
-            if !self.is_clear(host, closure.reached_from(host)) {
-                return false;
-            }
-        }
-        true
-    }
+impl HostWise for NoReach {
+    ghost hosts_of = { λ denied. length denied };
 
-    // Whether each host keeps clear of those that it denies with one flow more, where all do without it.
-    fn still_clear(&self, closure: &ReachClosure, f: Flow) -> bool
-        requires size { closure.now.size ≡ length self.now }
-        requires flow { IsFlow closure.now.size f }
-        requires held { ReachesNoDenied self.now closure.now.flows }
-        ensures { IsTrue result ↔ ReachesNoDenied self.now (with_flow closure.now.flows f) }
-    {
-        let _ = closure.size();
-        let hosts = closure.opened_by(f);
-        self.are_clear(closure, f, &hosts)
-    }
+    ghost allows_on = { λ denied e host. ReachesNone (denied_by denied host) e host };
 
-    // Whether each of these hosts, which come to the receiver of a flow with it, keeps clear of those that it
-    // denies then.
-    fn are_clear(&self, closure: &ReachClosure, f: Flow, hosts: &HostSet) -> bool
-        requires size { closure.now.size ≡ length self.now }
-        requires flow { IsFlow closure.now.size f }
-        requires below { EachOf hosts.now (λ host. host < length self.now) }
-        requires come { EachOf hosts.now (λ host. Reaches (with_flow closure.now.flows f) host f.to) }
-        ensures { IsTrue result ↔ EachOf hosts.now (λ host. ReachesNone (denied_by self.now host) (with_flow closure.now.flows f) host) }
-    {
-        let _ = closure.size();
-        let mut from = 0;
-        while let Some(host) = hosts.first_from(from) {
-            if !self.is_clear(host, &closure.reached_with(f, host)) {
-                return false;
-            }
-            from = host + 1;
-        }
-        true
-    }
-
-    // Whether the host, which reaches these along whatever flows, keeps clear of those that it denies.
-    fn is_clear(&self, host: u16, reached: &HostSet) -> bool
-        requires { host < length self.now }
-        ensures { (e : List Meant) → ((j : ℕ) → IsTrue (set.contains reached.now j) ↔ Reaches e host j)
-            → IsTrue result ↔ ReachesNone (denied_by self.now host) e host }
-    {
+    fn allows(&self, host: u16, reached: &HostSet) -> bool {
         let denied = &self.denied[host as usize];
         let mut others = reached.copy();
         others.remove(host);
         others.is_apart(denied)
     }
+
+    ghost allows_none = { ReachesNoDenied-none };
+
+    ghost allows_fewer = { λ denied s e host fewer none j apart denies reaches. none j apart denies (fewer j reaches) };
 }
 
 impl Invariant for NoReach {
@@ -173,7 +129,7 @@ impl Invariant for NoReach {
 
     fn holds(&self, alloc: Global, e: &FlowSet) -> Result<bool, AllocError> {
         let closure = ReachClosure::of(alloc, e)?;
-        Ok(self.all_clear(&closure))
+        Ok(all_allowed(self, &closure))
     }
 
     fn with_default(&self, alloc: Global, host: u16) -> Result<Self, AllocError> {
@@ -203,7 +159,7 @@ impl Stepwise for NoReach {
     }
 
     fn step(&self, tried: &mut ReachTrial, f: Flow) -> bool {
-        let holds = self.still_clear(&tried.closure, f);
+        let holds = still_allowed(self, &tried.closure, f);
         tried.closure.try_add(f);
         holds
     }
@@ -214,7 +170,7 @@ impl Stepwise for NoReach {
 
     fn holds_with(&self, tried: &mut ReachTrial, f: Flow) -> bool {
         tried.closure.forget();
-        self.still_clear(&tried.closure, f)
+        still_allowed(self, &tried.closure, f)
     }
 
     ghost fits_size = { λ x tried fits. fits };

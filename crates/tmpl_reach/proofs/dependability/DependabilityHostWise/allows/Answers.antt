@@ -7,7 +7,7 @@ use Rattle.flow_set.specs.HostSet.{HostNumbers}
 use Rattle.reach_core.specs.inner.Counting.{ReachesExactly}
 use Rattle.reach_core.specs.laws.ReachLaws.{ReachesExactly-at_most}
 use Rattle.reach_core.proofs.Counts.{reaches_exactly}
-use Rattle.tmpl_reach.proofs.dependability.Dependability.is_within.Goals as goal
+use Rattle.tmpl_reach.proofs.dependability.DependabilityHostWise.allows.Goals as goal
 
 pub returns : goal.returns
 returns c e shows =
@@ -21,6 +21,6 @@ returns c e shows =
     (sym (c.len.ensures ∙ ap (λ (s : HostNumbers). set.len s) (c.remove.ensures ∙ ap (λ (s : HostNumbers). set.remove s host) c.copy-others.ensures)))
     (reaches_exactly e host c.args.reached.now shows) in
     let law = ReachesExactly-at_most e host c.len.result (slice_index c.args.self.now host) count in (
-      λ yes. law.0 (subst (λ n. c.len.result ≤ n) limit (leb-true _ _ yes)),
-      λ most. le-leb _ _ (subst (λ n. c.len.result ≤ n) (sym limit) (law.1 most)),
+      λ yes _. law.0 (subst (λ n. c.len.result ≤ n) limit (leb-true _ _ yes)),
+      λ most. le-leb _ _ (subst (λ n. c.len.result ≤ n) (sym limit) (law.1 (most c.requires.host))),
     )
