@@ -1,6 +1,6 @@
 -- Rules agree with a policy on every list of events exactly where they forward what is expected of it. So whatever is written to forward
 -- what is expected of a policy is found equal to it.
-use Rattle.std.proofs.Common.{◌≡◌, ◌↔◌, Bool, List, [], ◌∷◌, Option, Some, None, suc, refl}
+use Rattle.std.proofs.Common.{◌≡◌, Bool, List, [], ◌∷◌, Option, Some, None, suc, refl}
 use Rattle.pkt_core.specs.declared.event.Event.{Event}
 use Rattle.pkt_core.specs.declared.event.Event.TheVariants.{Seen, Forget}
 use Rattle.pkt_core.proofs.ExpectedLaws.{expected_once}
@@ -42,10 +42,6 @@ expected_where_agree sides gives agree = record {
   one = λ events answers others packets run other.
       expected_once (permits sides) (lets_answer sides) events answers others (agree events packets answers run) (agree events packets others other);
 }
-
--- so they are the same
-pub agree_always_is_expected : (sides : Sides) → GivesOne (filter_of sides.rules) → AgreeAlways sides ↔ AreAsExpected sides
-agree_always_is_expected sides gives = (expected_where_agree sides gives, agree_where_expected sides)
 
 -- rules that forward what is expected differ from the policy on no list of events
 pub no_difference_where_expected : (sides : Sides) → AreAsExpected sides → DifferSomewhere sides → ⊥

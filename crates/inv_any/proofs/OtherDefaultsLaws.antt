@@ -1,35 +1,31 @@
 -- Any attribute but the default lets off a host that is to blame, template by template.
-use Rattle.std.proofs.Common.{◌≡◌, ◌≢◌, ℕ, suc, zero, ◌≤◌, ◌<◌, ◌+◌, ◌-◌, ◌/◌, ◌%◌, Bool, true, false, not, ◌&&◌, ◌||◌, nat_eq, nat_lt, List, [], ◌∷◌, length, replicate, get_or, set, drop, take, Some, None, inl, inr, refl, sym, ap, ◌∙◌, subst, arith, get_or-set_same, get_or-set_other, length-set}
-use Rattle.std.specs.Prelude.{◌⊎◌, ◌↔◌, IsTrue, slice_set, slice_index, slice_index_or}
+use Rattle.std.proofs.Common.{◌≡◌, ◌≢◌, ℕ, suc, zero, ◌≤◌, ◌<◌, ◌-◌, ◌/◌, ◌%◌, Bool, true, false, not, ◌||◌, nat_eq, nat_lt, List, [], ◌∷◌, length, replicate, get_or, set, drop, Some, None, inl, inr, refl, sym, ap, ◌∙◌, subst, arith, get_or-set_same, get_or-set_other, length-set}
+use Rattle.std.specs.Prelude.{◌⊎◌, slice_index, slice_index_or}
 use Rattle.std.specs.Int.{bit_at}
 use Rattle.std.specs.FinSet as fin
-use Rattle.std.proofs.lemmas.Bool.{false≢true, cases_eq, cases_Bool, or_cases, or_parts, and_parts, and_from, eqb-false, eq-eqb, not_from_true, not_from_false, eqb-true, ne_eqb, lt-ltb, ltb-true, false_from_ne_true}
+use Rattle.std.proofs.lemmas.Bool.{false≢true, cases_eq, cases_Bool, or_cases, or_parts, and_parts, and_from, eqb-false, eq-eqb, not_from_true, not_from_false, ne_eqb, lt-ltb, ltb-true, false_from_ne_true}
 use Rattle.std.proofs.lemmas.List.{get_or-replicate, length-replicate, take-append-drop}
 use Rattle.std.proofs.lemmas.Nat.Bits.{bit_at-zero, bit_at-suc, bit_at_lowest}
 use Rattle.flow_set.specs.Conditions.{IsMinimalOffending}
-use Rattle.flow_set.specs.Flow.{IsFlow, same_flow}
-use Rattle.flow_set.specs.laws.FlowLaws.{filter_nothing, has_first, same_fact, same_flow-true, has-append}
+use Rattle.flow_set.specs.Flow.{same_flow}
+use Rattle.flow_set.specs.laws.FlowLaws.{filter_nothing, has_first, same_flow-true}
 use Rattle.flow_set.specs.FlowSet.{has, with_flow, without}
 use Rattle.flow_set.specs.declared.flow.Flow.{Flow}
 use Rattle.flow_set.specs.HostSet.{HostNumbers}
 use Rattle.flow_set.specs.laws.HostSetLaws.{hosts_ext}
 use Rattle.inv_any.specs.inner.OtherDefaults.{LetsOff, OnlyDefaultIsSecure}
-use Rattle.inv_law.specs.Attributes.{PassesBetween}
-use Rattle.inv_law.specs.inner.Invariants.{IsOffendingHost, blamed_host}
 use Rattle.inv_law.specs.laws.RuleLaws.{AllFlowsPass-none, AllFlowsPass-one, passes_alone}
 use Rattle.inv_law.specs.Rules.{AllFlowsPass}
-use Rattle.inv_law.specs.declared.strategy.Strategy.{Strategy}
 use Rattle.inv_law.specs.declared.strategy.Strategy.TheVariants.{Access, Information}
 use Rattle.tmpl_domains.specs.Domains.{DomainsPass, domains}
 use Rattle.tmpl_levels.specs.Blp.{BlpPasses, blp}
 use Rattle.tmpl_levels.specs.Tainting.{HasLabel, TaintsPass, tainting, untainted}
 use Rattle.tmpl_levels.specs.declared.blp.Clearance.{Clearance}
-use Rattle.tmpl_levels.specs.declared.tainting.Labels.{Labels}
 use Rattle.tmpl_reach.specs.Dependability.{IsDependable, dependability}
 use Rattle.tmpl_reach.specs.laws.DependabilityLaws.{IsDependable-none, IsDependable-one}
-use Rattle.tmpl_reach.specs.NoReach.{ReachesNoDenied, denied_by, no_reach, others}
+use Rattle.tmpl_reach.specs.NoReach.{ReachesNoDenied, no_reach, others}
 use Rattle.tmpl_reach.specs.laws.NoReachLaws.{ReachesNoDenied-none, ReachesNoDenied-one, contains-others}
-use Rattle.tmpl_reach.specs.NonInterference.{IsInterfering, IsNonInterfering, non_interference}
+use Rattle.tmpl_reach.specs.NonInterference.{IsNonInterfering, non_interference}
 use Rattle.tmpl_reach.specs.laws.NonInterferenceLaws.{IsNonInterfering-none, IsNonInterfering-one}
 use Rattle.tmpl_reach.specs.declared.non_interference.Interference.{Interference}
 use Rattle.tmpl_reach.specs.declared.non_interference.Interference.TheVariants.{Interfering, Unrelated}

@@ -1,5 +1,5 @@
 -- What follows from the one reply of a run, by where it came to: a table of what is so there in each status.
-use Rattle.std.proofs.Common.{◌≡◌, ◌⊎◌, inl, inr, ℕ, List, Option, None, Some, Bool, true, false, true≢false, refl, ap, sym, subst, ◌∙◌}
+use Rattle.std.proofs.Common.{◌≡◌, ◌⊎◌, inl, inr, ℕ, List, None, Some, Bool, true, false, true≢false, refl, ap, sym, subst, ◌∙◌}
 use Rattle.std.specs.Prelude.{◌↔◌}
 use Rattle.topos_top.specs.Ask.{Ask, AskNothing, AsksToReport, reports_on_output}
 use Rattle.topos_top.specs.Commands.{course_of}

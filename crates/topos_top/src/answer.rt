@@ -1,8 +1,7 @@
 //! What the program answers to its words, before anything is written.
 
 ghost use Rattle.std.specs.Prelude.{◌≡◌};
-ghost use Rattle.report_core.specs.RefusalLine.{refusal_text};
-ghost use Rattle.topos_top.specs.Reply.{Reply, usage, cannot_read, no_memory, error};
+ghost use Rattle.topos_top.specs.Reply.{no_memory, error};
 ghost use Rattle.topos_top.specs.TextFault.{fault_line};
 ghost use Rattle.topos_top.specs.inner.Views.{reply_on, reply_view, text_view};
 

@@ -1,7 +1,7 @@
 //! `local FILE HOST`: the rules for the machines of one host, unless the policy was listed and breaks
 //! an invariant.
 
-ghost use Rattle.std.specs.Prelude.{◌≡◌, ◌≤◌, ◌<◌, ◌++◌, IfOk, IsTrue, Some, codes, false, length};
+ghost use Rattle.std.specs.Prelude.{◌≡◌, ◌≤◌, ◌<◌, IfOk, IsTrue, Some, false};
 ghost use Rattle.host_emit.specs.LocalLayout.{is_specific};
 ghost use Rattle.host_net.specs.Host.{host_named};
 ghost use Rattle.topos_top.specs.Ask.{Local};

@@ -1,6 +1,5 @@
 -- An invariant whose hosts have attributes that they may have.
 use Rattle.inv_any.specs.declared.any_inv.AnyInv.{AnyInv}
-use Rattle.inv_any.specs.declared.any_inv.AnyInv.TheVariants as any
 use Rattle.inv_law.specs.inner.Template.{AllMayHave}
 use Rattle.inv_any.specs.Templates.{by_template}
 
