@@ -1,3 +1,4 @@
+pub mod AssignWalk
 pub mod AtHost
 pub mod FirstBadLaws
 pub mod HostLabelsLaws

@@ -10,7 +10,7 @@ use Rattle.attr_core.specs.OwnTables.{Declared, table_form}
 use Rattle.attr_core.specs.inner.OwnTablesWalk.{kind_said, kinds_after}
 use Rattle.attr_core.specs.laws.FormLaws.{set_all, set_all_assigned, set_said}
 use Rattle.attr_core.specs.Forms.{assigned, attributes_in, bad_assign, invariant_by, says}
-use Rattle.attr_core.specs.inner.Holders.{same_everywhere}
+use Rattle.attr_core.specs.inner.Walks.{same_everywhere}
 
 says_kind : (d : Declared) (hosts : List Host) (earlier : List Given) (a : Given) → says (table_form d) hosts earlier a ≡ kind_said d.words a.table
 unfolding kind_said
@@ -39,7 +39,7 @@ made_of_kinds d hosts assigns =
     let said = λ (before : List Given) (a : Given). kind_said d.words a.table in
     let kinds : kinds_after d.words (replicate (length hosts) d.table.default) assigns ≡ attributes_in (table_form d) hosts assigns =
     after_all d.words [] (replicate (length hosts) d.table.default) assigns
-    ∙ ap (λ xs. set_all said [] xs assigns) (same_everywhere d.table.default 0 (length hosts))
+    ∙ ap (λ xs. set_all said [] xs assigns) (same_everywhere d.table.default (length hosts))
     ∙ set_all_assigned said (λ host. d.table.default) (length hosts) assigns
     ∙ ap (λ (f : List Given → Given → Option ℕ). assigned f (λ host. d.table.default) (length hosts) assigns) (sym (says_is d hosts)) in
     λ i. any.Table (record { table = d.table; hosts = kinds i })

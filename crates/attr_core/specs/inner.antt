@@ -1,7 +1,6 @@
 pub mod AssignView
 pub mod Bad
 pub mod FirstBad
-pub mod Holders
 pub mod InterferenceView
 pub mod LabelBits
 pub mod LabelWalk

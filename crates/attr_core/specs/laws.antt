@@ -2,4 +2,3 @@ pub mod FormLaws
 pub mod LabelBitsLaws
 pub mod LabelWalkLaws
 pub mod LabelsLaws
-pub mod TaintingLaws

@@ -1,16 +1,14 @@
 //! The way from assigns to an invariant, which is the same for all templates: each assign in turn
 //! gives its host an attribute, until one says none.
-ghost use Rattle.std.specs.Prelude.{◌≡◌, ◌<◌, ◌∷◌, ℕ, map, List, Option, Some, None, IfOk, All, if◌then◌else◌, length};
+ghost use Rattle.std.specs.Prelude.{◌≡◌, ◌<◌, ◌∷◌, [], ◌++◌, ℕ, ⊤, map, List, Some, None, Err, option_map, IfOk, IsTrue, All, if◌then◌else◌, length, slice_set};
 ghost use Rattle.attr_core.specs.inner.AssignView.{given_of, Reads};
 ghost use Rattle.attr_core.specs.Assigns.{Given};
-ghost use Rattle.attr_core.specs.Forms.{Form};
+ghost use Rattle.attr_core.specs.Forms.{Form, attributes_in, bad_assign, says};
 ghost use Rattle.attr_core.specs.Shapes.{host_key, of_shape};
+ghost use Rattle.attr_core.specs.declared.fault.AttrFault.TheVariants.{BadAttribute};
 ghost use Rattle.toml.specs.View.{table_view};
-ghost use Rattle.attr_core.specs.inner.Holders.{IsHolder};
 ghost use Rattle.attr_core.specs.inner.ReadIn.{read_by};
-ghost use Rattle.attr_core.specs.inner.Walks.{in_turn, shaped};
-ghost use Rattle.inv_any.specs.declared.any_inv.AnyInv.{AnyInv};
-ghost use Rattle.host_net.specs.Host.{Host};
+ghost use Rattle.attr_core.specs.inner.Walks.{defaults};
 
 use crate::assign::Assign;
 use crate::fault::AttrFault;
@@ -21,22 +19,13 @@ use toml::Table;
 
 /// The attributes of all hosts in one template, as far as the assigns were taken in.
 pub(crate) trait Assigned: Sized + Drop {
-    // How many hosts it has, what it is before the first assign, and what with one assign more, if that
-    // says an attribute.
-    ghost size_of: { Self → ℕ };
-
-    ghost start_of: { List Host → Self };
-
-    ghost with_assign: { List Host → Self → Given → Option Self };
-
-    ghost made_of: { Self → AnyInv };
-
-    // The template, and what this is after these assigns, with these attributes.
+    // The template, and the attributes that the hosts have so far.
     ghost form: { Form };
 
-    ghost holding: { List Given → List form.template.Attribute → Self };
+    ghost attributes: { Self → List form.template.Attribute };
 
-    ghost is_holder: { IsHolder form holding start_of with_assign made_of };
+    // What is kept of the assigns that were taken in: nothing, where each speaks for itself.
+    ghost keeps: { List Given → Self → Type 0 } = { λ _ _. ⊤ };
 
     /// Whether the table of an assign has the keys of the template, and what they ask for.
     fn has_shape(table: &Table) -> bool
@@ -44,8 +33,8 @@ pub(crate) trait Assigned: Sized + Drop {
 
     /// Each host with the default of the template.
     fn start(alloc: Global, hosts: &Hosts) -> Result<Self, AllocError>
-        ensures size { IfOk result (λ new. size_of new ≡ length hosts.now) }
-        ensures start { IfOk result (λ new. new ≡ start_of hosts.now) };
+        ensures attributes { IfOk result (λ new. attributes new ≡ defaults form (length hosts.now)) }
+        ensures keeps { IfOk result (λ new. keeps [] new) };
 
     /// Gives the host of the assign, whose table has the keys of the template, its attribute, or answers
     /// false where the assign says none.
@@ -55,15 +44,17 @@ pub(crate) trait Assigned: Sized + Drop {
         hosts: &Hosts,
         assign: &Assign<'_>,
     ) -> Result<bool, AllocError>
-        requires size { size_of self.old ≡ length hosts.now }
+        requires size { length (attributes self.old) ≡ length hosts.now }
         requires host { assign.now.host < length hosts.now }
-        ensures size { size_of self.new ≡ size_of self.old }
-        ensures taken { IfOk result (λ good. with_assign hosts.now self.old (given_of assign.now)
-            ≡ (if good then Some self.new else None)) };
+        ensures taken { IfOk result (λ good. (earlier : List Given) → keeps earlier self.old
+            → option_map (slice_set (attributes self.old) assign.now.host) (form.reads hosts.now earlier (given_of assign.now))
+            ≡ (if good then Some (attributes self.new) else None)) }
+        ensures keeps { IfOk result (λ good. (earlier : List Given) → keeps earlier self.old → IsTrue good
+            → keeps (earlier ++ given_of assign.now ∷ []) self.new) };
 
     /// The invariant of the attributes that were taken in.
     fn make(self) -> AnyInv
-        ensures { result ≡ made_of self };
+        ensures { result ≡ form.make (attributes self) };
 }
 
 /// The invariant of the template of `T`, or the first assign that says no attribute.
@@ -87,9 +78,9 @@ fn take_all<T: Assigned>(
     assigns: &[Assign<'_>],
 ) -> Result<T, AttrFault>
     requires { All (λ a. a.host < length hosts.now) assigns.now }
-    ensures given { Reads result (in_turn (shaped T.form.keys (T.with_assign hosts.now)) 0 (T.start_of hosts.now)
-        (map given_of assigns.now)) }
-    ensures size { IfOk result (λ taken. T.size_of taken ≡ length hosts.now) }
+    ensures good { IfOk result (λ taken. bad_assign T.form hosts.now (map given_of assigns.now) ≡ None) }
+    ensures attributes { IfOk result (λ taken. T.attributes taken ≡ attributes_in T.form hosts.now (map given_of assigns.now)) }
+    ensures first { (k : ℕ) → result ≡ Err (BadAttribute k) → bad_assign T.form hosts.now (map given_of assigns.now) ≡ Some k }
 {
     let mut taken = T::start(alloc, hosts)?;
     for (place, assign) in assigns.iter().enumerate() {
@@ -100,18 +91,19 @@ fn take_all<T: Assigned>(
     Ok(taken)
 }
 
-#[tactic(auto, unfolding(crate::specs::inner::Walks::shaped))]
 fn take_one<T: Assigned>(
     taken: &mut T,
     alloc: Global,
     hosts: &Hosts,
     assign: &Assign<'_>,
 ) -> Result<bool, AllocError>
-    requires size { T.size_of taken.old ≡ length hosts.now }
+    requires size { length (T.attributes taken.old) ≡ length hosts.now }
     requires host { assign.now.host < length hosts.now }
-    ensures size { T.size_of taken.new ≡ T.size_of taken.old }
-    ensures taken { IfOk result (λ good. shaped T.form.keys (T.with_assign hosts.now) taken.old (given_of assign.now)
-        ≡ (if good then Some taken.new else None)) }
+    ensures taken { IfOk result (λ good. (earlier : List Given) → T.keeps earlier taken.old
+        → option_map (slice_set (T.attributes taken.old) assign.now.host) (says T.form hosts.now earlier (given_of assign.now))
+        ≡ (if good then Some (T.attributes taken.new) else None)) }
+    ensures keeps { IfOk result (λ good. (earlier : List Given) → T.keeps earlier taken.old → IsTrue good
+        → T.keeps (earlier ++ given_of assign.now ∷ []) taken.new) }
 {
     if !T::has_shape(assign.table) {
         return Ok(false);

@@ -19,32 +19,17 @@ const KEYS: [Key; 3] = [
 ];
 
 impl Assigned for Blp {
-    ghost use Rattle.std.specs.Prelude.{length, replicate, Some};
-    ghost use Rattle.std.proofs.Common.{refl};
-    ghost use Rattle.attr_core.specs.inner.Holders.{even_holder};
-    ghost use Rattle.attr_core.specs.inner.Walks.{with_attribute};
-    ghost use Rattle.attr_core.specs.Blp.{blp_attribute, blp_form};
-    ghost use Rattle.tmpl_levels.specs.Blp.{blp, unclassified};
-    ghost use Rattle.inv_any.specs.declared.any_inv.AnyInv.TheVariants as any;
-
-    ghost size_of = { λ attributes. length attributes };
-
-    ghost start_of = { λ hosts. replicate (length hosts) unclassified };
-
-    ghost with_assign = { λ hosts. with_attribute (λ a. Some (blp_attribute a.table)) };
-
-    ghost made_of = { λ xs. any.Blp xs };
+    ghost use Rattle.attr_core.specs.Blp.{blp_form};
 
     ghost form = { blp_form };
 
-    ghost holding = { λ _ xs. xs };
-
-    ghost is_holder = { even_holder blp blp_form.keys (λ _ _ table. Some (blp_attribute table)) any.Blp unclassified refl };
+    ghost attributes = { λ attributes. attributes };
 
     fn has_shape(table: &Table) -> bool {
         of_shape(table, &KEYS)
     }
 
+    #[tactic(auto, using(crate::specs::inner::Walks::same_everywhere))]
     fn start(alloc: Global, hosts: &Hosts) -> Result<Self, AllocError> {
         Blp::new(alloc, hosts.count())
     }

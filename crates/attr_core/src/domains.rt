@@ -26,33 +26,17 @@ const KEYS: [Key; 3] = [
 ];
 
 impl Assigned for Domains {
-    ghost use Rattle.std.specs.Prelude.{length, replicate};
-    ghost use Rattle.std.proofs.Common.{refl};
-    ghost use Rattle.attr_core.specs.inner.Holders.{even_holder};
-    ghost use Rattle.attr_core.specs.inner.Walks.{with_attribute};
-    ghost use Rattle.std.specs.Prelude.{Some, None, option_map};
-    ghost use Rattle.attr_core.specs.Domains.{domains_attribute, domains_form};
-    ghost use Rattle.tmpl_domains.specs.Domains.{domains};
-    ghost use Rattle.inv_any.specs.declared.any_inv.AnyInv.TheVariants as any;
-
-    ghost size_of = { λ attributes. length attributes };
-
-    ghost start_of = { λ hosts. replicate (length hosts) None };
-
-    ghost with_assign = { λ hosts. with_attribute (λ a. option_map Some (domains_attribute a.table)) };
-
-    ghost made_of = { λ xs. any.Domains xs };
+    ghost use Rattle.attr_core.specs.Domains.{domains_form};
 
     ghost form = { domains_form };
 
-    ghost holding = { λ _ xs. xs };
-
-    ghost is_holder = { even_holder domains domains_form.keys (λ _ _ table. option_map Some (domains_attribute table)) any.Domains None refl };
+    ghost attributes = { λ attributes. attributes };
 
     fn has_shape(table: &Table) -> bool {
         of_shape(table, &KEYS)
     }
 
+    #[tactic(auto, using(crate::specs::inner::Walks::same_everywhere))]
     fn start(alloc: Global, hosts: &Hosts) -> Result<Self, AllocError> {
         Domains::new(alloc, hosts.count())
     }

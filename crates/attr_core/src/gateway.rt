@@ -17,34 +17,17 @@ use tmpl_zones::{GateKind, Gateway};
 use toml::Table;
 
 impl Assigned for Gateway {
-    ghost use Rattle.std.specs.Prelude.{length, replicate};
-    ghost use Rattle.std.proofs.Common.{refl};
-    ghost use Rattle.attr_core.specs.inner.Holders.{even_holder};
-    ghost use Rattle.attr_core.specs.inner.Walks.{with_attribute};
-    ghost use Rattle.attr_core.specs.Gateway.{gateway_form, gateway_kinds};
-    ghost use Rattle.attr_core.specs.Kinds.{kind_in};
-    ghost use Rattle.tmpl_zones.specs.Gateway.{gateways};
-    ghost use Rattle.tmpl_zones.specs.declared.gateway.GateKind.TheVariants.{Unassigned};
-    ghost use Rattle.inv_any.specs.declared.any_inv.AnyInv.TheVariants as any;
-
-    ghost size_of = { λ attributes. length attributes };
-
-    ghost start_of = { λ hosts. replicate (length hosts) Unassigned };
-
-    ghost with_assign = { λ hosts. with_attribute (λ a. kind_in gateway_kinds a.table) };
-
-    ghost made_of = { λ xs. any.Gateway xs };
+    ghost use Rattle.attr_core.specs.Gateway.{gateway_form};
 
     ghost form = { gateway_form };
 
-    ghost holding = { λ _ xs. xs };
-
-    ghost is_holder = { even_holder gateways gateway_form.keys (λ _ _ table. kind_in gateway_kinds table) any.Gateway Unassigned refl };
+    ghost attributes = { λ attributes. attributes };
 
     fn has_shape(table: &Table) -> bool {
         of_shape(table, &KEYS)
     }
 
+    #[tactic(auto, using(crate::specs::inner::Walks::same_everywhere))]
     fn start(alloc: Global, hosts: &Hosts) -> Result<Self, AllocError> {
         Gateway::new(alloc, hosts.count())
     }

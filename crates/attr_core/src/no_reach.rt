@@ -17,28 +17,11 @@ use toml::{Table, Value};
 const KEYS: [Key; 2] = [HOST, Key::Needed("deny", Kind::List)];
 
 impl Assigned for NoReach {
-    ghost use Rattle.std.specs.Prelude.{length, replicate};
-    ghost use Rattle.std.proofs.Common.{refl};
-    ghost use Rattle.attr_core.specs.inner.Holders.{alone_holder};
-    ghost use Rattle.attr_core.specs.inner.Walks.{with_attribute};
-    ghost use Rattle.attr_core.specs.NoReach.{noreach_attribute, noreach_form};
-    ghost use Rattle.tmpl_reach.specs.NoReach.{no_reach};
-    ghost use Rattle.tmpl_reach.specs.inner.Resets.{all_others};
-    ghost use Rattle.inv_any.specs.declared.any_inv.AnyInv.TheVariants as any;
-
-    ghost size_of = { λ attributes. length attributes };
-
-    ghost start_of = { λ hosts. all_others (length hosts) };
-
-    ghost with_assign = { λ hosts. with_attribute (λ a. noreach_attribute hosts a.host a.table) };
-
-    ghost made_of = { λ xs. any.NoReach xs };
+    ghost use Rattle.attr_core.specs.NoReach.{noreach_form};
 
     ghost form = { noreach_form };
 
-    ghost holding = { λ _ xs. xs };
-
-    ghost is_holder = { alone_holder no_reach noreach_form.keys (λ hosts host table. noreach_attribute hosts host table) any.NoReach (λ hosts. all_others (length hosts)) (λ hosts. refl) };
+    ghost attributes = { λ attributes. attributes };
 
     fn has_shape(table: &Table) -> bool {
         of_shape(table, &KEYS)

@@ -18,34 +18,17 @@ use tmpl_reach::NonInterference;
 use toml::Table;
 
 impl Assigned for NonInterference {
-    ghost use Rattle.std.specs.Prelude.{length, replicate};
-    ghost use Rattle.std.proofs.Common.{refl};
-    ghost use Rattle.attr_core.specs.inner.Holders.{even_holder};
-    ghost use Rattle.attr_core.specs.inner.Walks.{with_attribute};
-    ghost use Rattle.attr_core.specs.NonInterference.{interference_form, interference_kinds};
-    ghost use Rattle.attr_core.specs.Kinds.{kind_in};
-    ghost use Rattle.tmpl_reach.specs.NonInterference.{non_interference};
-    ghost use Rattle.tmpl_reach.specs.declared.non_interference.Interference.TheVariants.{Interfering};
-    ghost use Rattle.inv_any.specs.declared.any_inv.AnyInv.TheVariants as any;
-
-    ghost size_of = { λ attributes. length attributes };
-
-    ghost start_of = { λ hosts. replicate (length hosts) Interfering };
-
-    ghost with_assign = { λ hosts. with_attribute (λ a. kind_in interference_kinds a.table) };
-
-    ghost made_of = { λ xs. any.NonInterference xs };
+    ghost use Rattle.attr_core.specs.NonInterference.{interference_form};
 
     ghost form = { interference_form };
 
-    ghost holding = { λ _ xs. xs };
-
-    ghost is_holder = { even_holder non_interference interference_form.keys (λ _ _ table. kind_in interference_kinds table) any.NonInterference Interfering refl };
+    ghost attributes = { λ attributes. attributes };
 
     fn has_shape(table: &Table) -> bool {
         of_shape(table, &KEYS)
     }
 
+    #[tactic(auto, using(crate::specs::inner::Walks::same_everywhere))]
     fn start(alloc: Global, hosts: &Hosts) -> Result<Self, AllocError> {
         NonInterference::new(alloc, hosts.count())
     }

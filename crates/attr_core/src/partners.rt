@@ -20,32 +20,17 @@ use toml::{Table, Value};
 const KEYS: [Key; 3] = [HOST, KIND, Key::Optional("from", Kind::List)];
 
 impl Assigned for Partners {
-    ghost use Rattle.std.specs.Prelude.{length, replicate};
-    ghost use Rattle.std.proofs.Common.{refl};
-    ghost use Rattle.attr_core.specs.inner.Holders.{even_holder};
-    ghost use Rattle.attr_core.specs.inner.Walks.{with_attribute};
-    ghost use Rattle.attr_core.specs.Partners.{partners_attribute, partners_form};
-    ghost use Rattle.tmpl_zones.specs.Partners.{DontCare, partners};
-    ghost use Rattle.inv_any.specs.declared.any_inv.AnyInv.TheVariants as any;
-
-    ghost size_of = { λ attributes. length attributes };
-
-    ghost start_of = { λ hosts. replicate (length hosts) DontCare };
-
-    ghost with_assign = { λ hosts. with_attribute (λ a. partners_attribute hosts a.host a.table) };
-
-    ghost made_of = { λ xs. any.Partners xs };
+    ghost use Rattle.attr_core.specs.Partners.{partners_form};
 
     ghost form = { partners_form };
 
-    ghost holding = { λ _ xs. xs };
-
-    ghost is_holder = { even_holder partners partners_form.keys (λ hosts host table. partners_attribute hosts host table) any.Partners DontCare refl };
+    ghost attributes = { λ attributes. attributes };
 
     fn has_shape(table: &Table) -> bool {
         of_shape(table, &KEYS)
     }
 
+    #[tactic(auto, using(crate::specs::inner::Walks::same_everywhere))]
     fn start(alloc: Global, hosts: &Hosts) -> Result<Self, AllocError> {
         Partners::new(alloc, hosts.count())
     }

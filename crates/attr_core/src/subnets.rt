@@ -19,33 +19,17 @@ use toml::Table;
 const KEYS: [Key; 3] = [HOST, KIND, Key::Optional("number", Kind::Number(65535))];
 
 impl Assigned for Subnets {
-    ghost use Rattle.std.specs.Prelude.{length, replicate};
-    ghost use Rattle.std.proofs.Common.{refl};
-    ghost use Rattle.attr_core.specs.inner.Holders.{even_holder};
-    ghost use Rattle.attr_core.specs.inner.Walks.{with_attribute};
-    ghost use Rattle.attr_core.specs.Subnets.{subnets_attribute, subnets_form};
-    ghost use Rattle.tmpl_zones.specs.Subnets.{subnets};
-    ghost use Rattle.tmpl_zones.specs.declared.subnets.NetKind.TheVariants.{Unassigned};
-    ghost use Rattle.inv_any.specs.declared.any_inv.AnyInv.TheVariants as any;
-
-    ghost size_of = { λ attributes. length attributes };
-
-    ghost start_of = { λ hosts. replicate (length hosts) Unassigned };
-
-    ghost with_assign = { λ hosts. with_attribute (λ a. subnets_attribute a.table) };
-
-    ghost made_of = { λ xs. any.Subnets xs };
+    ghost use Rattle.attr_core.specs.Subnets.{subnets_form};
 
     ghost form = { subnets_form };
 
-    ghost holding = { λ _ xs. xs };
-
-    ghost is_holder = { even_holder subnets subnets_form.keys (λ _ _ table. subnets_attribute table) any.Subnets Unassigned refl };
+    ghost attributes = { λ attributes. attributes };
 
     fn has_shape(table: &Table) -> bool {
         of_shape(table, &KEYS)
     }
 
+    #[tactic(auto, using(crate::specs::inner::Walks::same_everywhere))]
     fn start(alloc: Global, hosts: &Hosts) -> Result<Self, AllocError> {
         Subnets::new(alloc, hosts.count())
     }

@@ -45,31 +45,19 @@ impl Model for TaintedHosts {
 }
 
 impl Assigned for TaintedHosts {
-    ghost use Rattle.std.specs.Prelude.{length, replicate, []};
     ghost use Rattle.attr_core.specs.Tainting.{labels_of, tainting_form};
-    ghost use Rattle.attr_core.specs.inner.TaintedView.{and_tainted};
-    ghost use Rattle.attr_core.specs.laws.TaintingLaws.{tainting_holder};
-    ghost use Rattle.inv_any.specs.declared.any_inv.AnyInv.TheVariants as any;
-    ghost use Rattle.tmpl_levels.specs.Tainting.{untainted};
-
-    ghost size_of = { λ tainted. length tainted.hosts };
-
-    ghost start_of = { λ hosts. record { labels = []; hosts = replicate (length hosts) untainted } };
-
-    ghost with_assign = { λ _. and_tainted };
-
-    ghost made_of = { λ tainted. any.Tainting tainted.hosts };
 
     ghost form = { tainting_form };
 
-    ghost holding = { λ earlier xs. record { labels = labels_of earlier; hosts = xs } };
+    ghost attributes = { λ tainted. tainted.hosts };
 
-    ghost is_holder = { tainting_holder };
+    ghost keeps = { λ earlier tainted. tainted.labels ≡ labels_of earlier };
 
     fn has_shape(table: &Table) -> bool {
         of_shape(table, &KEYS)
     }
 
+    #[tactic(auto, using(crate::specs::inner::Walks::same_everywhere))]
     fn start(alloc: Global, hosts: &Hosts) -> Result<Self, AllocError> {
         Ok(TaintedHosts {
             labels: Vec::new(alloc),
@@ -77,7 +65,6 @@ impl Assigned for TaintedHosts {
         })
     }
 
-    #[tactic(auto, unfolding(crate::specs::inner::TaintedView::and_tainted))]
     fn take(&mut self, _: Global, _: &Hosts, assign: &Assign<'_>) -> Result<bool, AllocError> {
         let Some((taints, untaints)) = labelled(&mut self.labels, assign.table)? else {
             return Ok(false);

@@ -1,6 +1,5 @@
--- A walk through the assigns that keeps what the earlier ones said and the attributes so far ends with the attributes that are assigned,
--- or at the first assign that says none.
-use Rattle.std.proofs.Common.{◌≡◌, ◌≢◌, ℕ, suc, ◌+◌, ◌<◌, ◌==◌, Bool, true, false, not, List, [], ◌∷◌, ◌++◌, append_assoc, append-nil, length, length-set, get_or, map, Option, Some, None, option_map, is_some, Ok, Err, refl, sym, ap, ◌∙◌, arith}
+-- The attributes that assigns in turn leave are those that are assigned.
+use Rattle.std.proofs.Common.{◌≡◌, ◌≢◌, ℕ, suc, ◌+◌, ◌<◌, ◌==◌, Bool, true, false, not, List, [], ◌∷◌, ◌++◌, append_assoc, append-nil, length, length-set, get_or, map, Option, Some, None, is_some, refl, sym, ap, ◌∙◌, arith}
 use Rattle.std.proofs.lemmas.Bool.{and_parts}
 use Rattle.std.proofs.lemmas.Bool.Decides.{nat_tests}
 use Rattle.std.proofs.lemmas.List.{ext_get_or, get_or-set_same, length-append}
@@ -11,7 +10,6 @@ use Rattle.std.specs.Option.{option_or}
 use Rattle.std.specs.Prelude.{if◌then◌else◌, slice_set, unwrap_or}
 use Rattle.attr_core.specs.Assigns.{Given}
 use Rattle.attr_core.specs.Forms.{assigned, bad_from, last_said}
-use Rattle.attr_core.specs.inner.Walks.{after, ended, in_turn}
 
 abbrev pub set_said : {A : Type 0} → List A → ℕ → Option A → List A
 set_said xs host None = xs
@@ -21,29 +19,7 @@ abbrev pub set_all : {A : Type 0} → (List Given → Given → Option A) → Li
 set_all says earlier xs [] = xs
 set_all says earlier xs (a ∷ rest) = set_all says (earlier ++ a ∷ []) (set_said xs a.host (says earlier a)) rest
 
--- the walk
-one_more : {A S : Type 0} (says : List Given → Given → Option A) (holding : List Given → List A → S) (step : S → Given → Option S)
-    (k : ℕ) (earlier : List Given) (xs : List A) (a : Given) (rest : List Given) (o : Option A) → k ≡ length earlier
-    → ((ys : List A) → in_turn step (k + 1) (holding (earlier ++ a ∷ []) ys) rest ≡ ended (bad_from says (earlier ++ a ∷ []) rest) (holding ((earlier ++ a ∷ []) ++ rest) (set_all says (earlier ++ a ∷ []) ys rest)))
-    → after k (λ t. in_turn step (k + 1) t rest) (option_map (λ x. holding (earlier ++ a ∷ []) (slice_set xs a.host x)) o)
-    ≡ ended (if is_some o then bad_from says (earlier ++ a ∷ []) rest else Some (length earlier)) (holding (earlier ++ (a ∷ rest)) (set_all says (earlier ++ a ∷ []) (set_said xs a.host o) rest))
-one_more says holding step k earlier xs a rest None place behind = ap Err place
-one_more says holding step k earlier xs a rest (Some x) place behind =
-    behind (slice_set xs a.host x)
-    ∙ ap (λ all. ended (bad_from says (earlier ++ a ∷ []) rest) (holding all (set_all says (earlier ++ a ∷ []) (slice_set xs a.host x) rest))) (append_assoc earlier (a ∷ []) rest)
-
-pub in_turn_ended : {A S : Type 0} (says : List Given → Given → Option A) (holding : List Given → List A → S) (step : S → Given → Option S)
-    → ((earlier : List Given) (xs : List A) (a : Given) → step (holding earlier xs) a ≡ option_map (λ x. holding (earlier ++ a ∷ []) (slice_set xs a.host x)) (says earlier a))
-    → (k : ℕ) (earlier : List Given) (xs : List A) (rest : List Given) → k ≡ length earlier
-    → in_turn step k (holding earlier xs) rest ≡ ended (bad_from says earlier rest) (holding (earlier ++ rest) (set_all says earlier xs rest))
-in_turn_ended says holding step steps k earlier xs [] place = ap (λ all. Ok (holding all xs)) (sym (append-nil earlier))
-in_turn_ended says holding step steps k earlier xs (a ∷ rest) place =
-    let next : k + 1 ≡ length (earlier ++ a ∷ []) = omega (arith, place, length-append earlier (a ∷ [])) in
-    ap (after k (λ t. in_turn step (k + 1) t rest)) (steps earlier xs a)
-    ∙ one_more says holding step k earlier xs a rest (says earlier a) place (λ ys. in_turn_ended says holding step steps (k + 1) (earlier ++ a ∷ []) ys rest next)
-
--- the attributes that it ends with
-length-set_said : {A : Type 0} (xs : List A) (host : ℕ) (o : Option A) → length (set_said xs host o) ≡ length xs
+pub length-set_said : {A : Type 0} (xs : List A) (host : ℕ) (o : Option A) → length (set_said xs host o) ≡ length xs
 length-set_said xs host None = refl
 length-set_said xs host (Some x) = length-set xs host x
 
@@ -89,15 +65,6 @@ set_all_assigned says default n assigns =
     get_or-set_all says [] (map default (range_with_len 0 n)) assigns host (default 0) (rw sized below)
     ∙ ap (unwrap_or (last_said says [] host assigns)) (get_or-map-range_with_len default 0 n host host (default 0) below (omega arith))
     ∙ sym (get_or-map-range_with_len (λ i. unwrap_or (last_said says [] i assigns) (default i)) 0 n host host (default 0) below (omega arith)))
-
--- the whole walk
-pub walked : {A S : Type 0} (says : List Given → Given → Option A) (holding : List Given → List A → S) (step : S → Given → Option S)
-    → ((earlier : List Given) (xs : List A) (a : Given) → step (holding earlier xs) a ≡ option_map (λ x. holding (earlier ++ a ∷ []) (slice_set xs a.host x)) (says earlier a))
-    → (default : ℕ → A) (n : ℕ) (assigns : List Given)
-    → in_turn step 0 (holding [] (map default (range_with_len 0 n))) assigns ≡ ended (bad_from says [] assigns) (holding assigns (assigned says default n assigns))
-walked says holding step steps default n assigns =
-    in_turn_ended says holding step steps 0 [] (map default (range_with_len 0 n)) assigns refl
-    ∙ ap (λ xs. ended (bad_from says [] assigns) (holding assigns xs)) (set_all_assigned says default n assigns)
 
 -- the assign that is bad is one of those that are given
 within_by : {A : Type 0} (o : Option A) (n m k : ℕ) (later : Option ℕ) → (later ≡ Some k → k < n + 1 + m)

@@ -9,7 +9,7 @@ use Rattle.toml.specs.Data.{Members}
 use Rattle.attr_core.specs.Assigns.{Given}
 use Rattle.attr_core.specs.laws.LabelBitsLaws.{among_is, bits_are, extends_self, key_bits}
 use Rattle.attr_core.specs.inner.LabelWalk.{LabelSet, Labelled, are_among, labelled, labels_at, tainting_reads}
-use Rattle.attr_core.specs.laws.LabelsLaws.{IsBad, bad_labels_are, labelled_read, more_labels}
+use Rattle.attr_core.specs.laws.LabelsLaws.{IsBad, bad_labels_are, labelled_read}
 use Rattle.attr_core.specs.Tainting.{bits_of, different, is_listed, labels_in, labels_of, said_of, told, with_label}
 use Rattle.tmpl_levels.specs.declared.tainting.Labels.{Labels}
 
@@ -155,14 +155,3 @@ pub labels_more : (earlier : List Given) (a : Given) (l : Labelled) → length (
 labels_more earlier a l few is =
     let (same, small) = labels_told (labels_of earlier) a.table l few is in
     (same ∙ sym (told_more earlier a), small)
-
-above : (n : ℕ) → nat_lt n 65 ≡ false → 64 < n
-above n over = grind (arith, nat_tests)
-
--- where there are too many already, nothing more is said
-pub reads_none : (earlier : List Given) (a : Given) → nat_lt (length (labels_of earlier)) 65 ≡ false → tainting_reads earlier a ≡ None
-reads_none earlier a over =
-    let labels : List (List ℕ) = different (labels_of earlier) (told a.table) in
-    let more : 64 < length labels = omega (arith, above (length (labels_of earlier)) over, more_labels (labels_of earlier) (told a.table)) in
-    ap (λ ls. said_of ls a.table) (told_more earlier a) ∙ said_lists labels a.table
-    ∙ too_many labels (labels_in (codes "taints") a.table) (labels_in (codes "untaints") a.table) (over_by (length labels) more)
