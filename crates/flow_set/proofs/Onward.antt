@@ -136,7 +136,3 @@ pub none_in_rows : (n : ℕ) (rows : List HostNumbers) (p : Flow) (row start : �
 none_in_rows n rows p row start are far over =
     first_from_lost (flows_of rows n) p (λ g there.
     far g there ∙ lower g.from g.to row start (omega (arith, over, (marked_flow n rows g are (sym (has-flows_of n rows g are) ∙ there)).0)))
-
--- from the first place on there is a flow where there is any
-pub none_from_start : (fs : List Flow) → first_from fs (record { from = 0; to = 0 }) ≡ None → fs ≡ []
-none_from_start fs none = sym (flows_from-start fs) ∙ flows_from-end fs (record { from = 0; to = 0 }) none
