@@ -2,8 +2,8 @@ pub mod Apart
 pub mod BitRows
 pub mod ConditionLaws
 pub mod EveryFlowLaws
-pub mod Filling
 pub mod FirstBits
+pub mod FullRows
 pub mod HostSets
 pub mod ListedLaws
 pub mod Onward

@@ -1,8 +1,9 @@
 //! A set of hosts, one bit for each number below 256. A row of a closure is such
 //! a set, and so is a list of hosts that must not be reached.
 
-ghost use Rattle.std.specs.Prelude.{◌≡◌, ◌<◌, ◌+◌, ◌↔◌, IsTrue, MatchOption};
+ghost use Rattle.std.specs.Prelude.{◌≡◌, ◌<◌, ◌≤◌, ◌+◌, ◌↔◌, true, IsTrue, MatchOption};
 ghost use Rattle.std.specs.FinSet as set;
+ghost use Rattle.flow_set.specs.HostSet.{hosts_below};
 ghost use Rattle.flow_set.specs.inner.Calls.{AreApart, HasNone, IsFirstFrom};
 ghost use Rattle.flow_set.specs.inner.HostBits.{is_set, IsFirstBit};
 
@@ -36,6 +37,19 @@ impl HostSet {
         ensures { result ≡ set.empty }
     {
         HostSet { low: 0, high: 0 }
+    }
+
+    /// The hosts with numbers below this one.
+    #[tactic(auto, unfolding(crate::specs::HostSet::hosts_below))]
+    pub(crate) fn below(count: u16) -> HostSet
+        requires { count ≤ 256 }
+        ensures { result ≡ hosts_below count (λ _. true) }
+    {
+        let mut hosts = HostSet::empty();
+        for host in 0..count {
+            hosts.insert(host);
+        }
+        hosts
     }
 
     pub fn has(&self, host: u16) -> bool

@@ -51,11 +51,14 @@ impl FlowSet {
         ensures set { IfOk result (λ set. IsFlowSet size set.flows) }
         ensures full { IfOk result (λ set. IsFull size set.flows) }
     {
-        let mut all = FlowSet::empty(alloc, size)?;
+        let hosts = HostSet::below(size);
+        let mut rows = Vec::with_capacity(alloc, size as usize)?;
         for from in 0..size {
-            all.add_from(from);
+            let mut row = hosts.copy();
+            row.remove(from);
+            rows.push(row)?;
         }
-        Ok(all)
+        Ok(FlowSet { size, rows })
     }
 
     /// The number of hosts.
@@ -173,20 +176,6 @@ impl FlowSet {
             all.insert(f.back());
         }
         Ok(all)
-    }
-
-    // Puts in every flow that begins at `from`.
-    fn add_from(&mut self, from: u16)
-        requires { from < self.old.size }
-        ensures set { IsFlowSet self.new.size self.new.flows }
-        ensures size { self.new.size ≡ self.old.size }
-        ensures flows { (f : Flow) → IsTrue (has self.new.flows f) ↔ (IsTrue (has self.old.flows f) ⊎ (IsFlow self.old.size f × (f.from ≡ from))) }
-    {
-        for to in 0..self.size() {
-            if to != from {
-                self.insert(Flow { from, to });
-            }
-        }
     }
 }
 
