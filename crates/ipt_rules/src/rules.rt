@@ -11,6 +11,7 @@ use crate::rule::Rule;
 use crate::ruleset::Ruleset;
 use crate::starts::chain_at;
 use crate::walk::rules_of;
+use std::cell::Cell;
 
 impl Ruleset {
     /// How many rules stand in all chains.
@@ -28,7 +29,7 @@ impl Ruleset {
         requires { k < length (all_rules self.now) }
         ensures { slice_get (all_rules self.now) k ≡ Some result }
     {
-        rule_among(&self.chains, &self.starts, k)
+        rule_among(&self.chains, &self.starts, &self.found_last, k)
     }
 
     /// How many chains there are, the built-in ones among them.
@@ -47,13 +48,13 @@ impl Ruleset {
     }
 }
 
-fn rule_among(chains: &[Chain], starts: &[u32], number: u32) -> Rule
+fn rule_among(chains: &[Chain], starts: &[u32], found_last: &Cell<usize>, number: u32) -> Rule
     requires starts { starts.now ≡ starts_from 0 chains.now }
     requires few { length chains.now ≤ 4096 }
     requires there { number < length (all_rules chains.now) }
     ensures { slice_get (all_rules chains.now) number ≡ Some result }
 {
-    let place = chain_at(starts, number as usize);
+    let place = chain_at(starts, found_last, number as usize);
     let rules = chains[place].rules();
     rules[(number - starts[place]) as usize]
 }

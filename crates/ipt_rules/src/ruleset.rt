@@ -17,6 +17,7 @@ use crate::ranking::CHAIN_LIMIT;
 use crate::rule::{Rule, Target};
 use crate::starts::starts_of;
 use std::alloc::{AllocError, Global};
+use std::cell::Cell;
 use std::marker::Model;
 
 const RULE_LIMIT: u32 = 1_000_000;
@@ -48,6 +49,8 @@ pub struct Ruleset {
     pub(crate) rules: u32,
     /// The number of each chain's first rule among the rules of all chains.
     pub(crate) starts: Vec<u32>,
+    /// The chain in which a rule was found last.
+    pub(crate) found_last: Cell<usize>,
 }
 
 impl Model for Ruleset {
@@ -104,6 +107,7 @@ impl Ruleset {
             chains: chains.chains,
             rules: chains.rules,
             starts,
+            found_last: Cell::new(0),
         })
     }
 }

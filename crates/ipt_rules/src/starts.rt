@@ -1,13 +1,14 @@
 //! Where the rules of each chain begin among the rules of all chains, so that a rule is found by
 //! its number without going through the chains before it.
 
-ghost use Rattle.std.specs.Prelude.{◌≡◌, ◌+◌, ◌<◌, ◌≤◌, length, slice_index_or, IfOk};
+ghost use Rattle.std.specs.Prelude.{◌≡◌, ◌+◌, ◌<◌, ◌≤◌, length, slice_index_or, IfOk, IsTrue};
 ghost use Rattle.std.specs.List.Sorted.{IsNonDecreasingBy};
 ghost use Rattle.ipt_rules.specs.ChainTable.{rule_count};
 ghost use Rattle.ipt_rules.specs.inner.Starts.{starts_from};
 
 use crate::chain::Chain;
 use std::alloc::{AllocError, Global};
+use std::cell::Cell;
 
 /// The number of each chain's first rule.
 pub(crate) fn starts_of(alloc: Global, chains: &[Chain]) -> Result<Vec<u32>, AllocError>
@@ -23,8 +24,38 @@ pub(crate) fn starts_of(alloc: Global, chains: &[Chain]) -> Result<Vec<u32>, All
     Ok(starts)
 }
 
-/// The last chain whose rules begin at that number or before it, found by halving.
-pub(crate) fn chain_at(starts: &[u32], number: usize) -> usize
+/// The last chain whose rules begin at that number or before it: the one that was found last, since
+/// most often numbers come in their order, or else one that is found by halving.
+pub(crate) fn chain_at(starts: &[u32], found_last: &Cell<usize>, number: usize) -> usize
+    requires rising { IsNonDecreasingBy (λ n. n) starts.now }
+    requires some { 0 < length starts.now }
+    requires first { slice_index_or starts.now 0 0 ≤ number }
+    ensures there { result < length starts.now }
+    ensures begun { slice_index_or starts.now result 0 ≤ number }
+    ensures last { result + 1 < length starts.now → number < slice_index_or starts.now (result + 1) 0 }
+{
+    let place = found_last.get();
+    if is_chain_at(starts, place, number) {
+        return place;
+    }
+    let place = halved(starts, number);
+    found_last.set(place);
+    place
+}
+
+/// Whether the number is of a rule of that chain, and the chain is not the last.
+fn is_chain_at(starts: &[u32], place: usize, number: usize) -> bool
+    requires { 0 < length starts.now }
+    ensures there { IsTrue result → place < length starts.now }
+    ensures begun { IsTrue result → slice_index_or starts.now place 0 ≤ number }
+    ensures last { IsTrue result → number < slice_index_or starts.now (place + 1) 0 }
+{
+    place < starts.len() - 1
+        && starts[place] as usize <= number
+        && number < starts[place + 1] as usize
+}
+
+fn halved(starts: &[u32], number: usize) -> usize
     requires rising { IsNonDecreasingBy (λ n. n) starts.now }
     requires some { 0 < length starts.now }
     requires first { slice_index_or starts.now 0 0 ≤ number }

@@ -19,6 +19,7 @@ use crate::rule::Rule;
 use crate::ruleset::Ruleset;
 use crate::services::put_service;
 use crate::starts::chain_at;
+use std::cell::Cell;
 use text_core::put;
 
 impl Ruleset {
@@ -55,7 +56,8 @@ impl Ruleset {
         if place < chains.len() {
             return write_chain_line(&chains[place], buffer);
         }
-        write_rule_or_commit(chains, &self.starts, place - chains.len(), buffer)
+        let number = place - chains.len();
+        write_rule_or_commit(chains, &self.starts, &self.found_last, number, buffer)
     }
 }
 
@@ -82,6 +84,7 @@ fn write_chain_line(chain: &Chain, buffer: &mut [u8; 320]) -> usize
 fn write_rule_or_commit(
     chains: &[Chain],
     starts: &[u32],
+    found_last: &Cell<usize>,
     number: usize,
     buffer: &mut [u8; 320],
 ) -> usize
@@ -94,7 +97,7 @@ fn write_rule_or_commit(
     ensures line { slice_get (flat_map (rule_lines chains.now) chains.now ++ commit_line ∷ []) number ≡ Some (take result buffer.new) }
     ensures short { result ≤ 283 }
 {
-    let place = chain_at(starts, number);
+    let place = chain_at(starts, found_last, number);
     let chain = &chains[place];
     let rules = chain.rules();
     let left = number - starts[place] as usize;

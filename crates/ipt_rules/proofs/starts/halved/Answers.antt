@@ -3,7 +3,7 @@ use Rattle.std.proofs.lemmas.Bool.{cases_lt}
 use Rattle.std.proofs.lemmas.Bool.Decides.{nat_tests}
 use Rattle.std.proofs.lemmas.List.Sorted.{IsPartitionPoint-from_clause, IsPartitionedBy-leb}
 use Rattle.std.specs.List.Sorted.{IsPartitionPoint}
-use Rattle.ipt_rules.proofs.starts.chain_at.Goals as goal
+use Rattle.ipt_rules.proofs.starts.halved.Goals as goal
 
 point : (c : goal.After-partition_point) → IsPartitionPoint (λ y. leb y c.args.number ≡ true) (λ y. leb y c.args.number ≡ false) c.args.starts.now c.partition_point.result
 point c =
