@@ -1,12 +1,12 @@
 -- Keys in order, the first of them that has the bits of two addresses, and an index with one more key.
-use Rattle.std.proofs.Common.{◌≡◌, ℕ, zero, suc, ◌+◌, ◌*◌, ◌^◌, ◌≤◌, ◌<◌, ◌⊎◌, inl, inr, Bool, true, false, List, [], ◌∷◌, ◌++◌, length, get_or, take, drop, append_assoc, slice_get, slice_index_or, Option, Some, None, Result, Ok, Err, OnErr, refl, sym, ap, ◌∙◌, subst, arith, length-append, true≢false}
+use Rattle.std.proofs.Common.{◌≡◌, ℕ, zero, suc, ◌+◌, ◌-◌, ◌*◌, ◌^◌, ◌≤◌, ◌<◌, ◌⊎◌, inl, inr, Bool, true, false, List, [], ◌∷◌, ◌++◌, length, get_or, drop, append_assoc, slice_get, slice_index_or, Option, Some, None, Result, Ok, Err, OnErr, refl, sym, ap, ◌∙◌, subst, arith, length-append, true≢false}
 use Rattle.std.specs.Prelude.{Contains, ◌==◌, ◌&&◌, nat_le, if◌then◌else◌}
 use Rattle.std.specs.Bool.{Decides}
 use Rattle.std.specs.List.{insert}
 use Rattle.std.specs.List.Sorted.{IsNonDecreasingBy, IsPartitionPoint, IsPermutation}
 use Rattle.std.proofs.lemmas.Bool.{and_from, and_parts, cases_lt, or_cases, or_left, or_right}
 use Rattle.std.proofs.lemmas.Bool.Decides.{Decides-and, Decides-eqb, nat_tests}
-use Rattle.std.proofs.lemmas.List.{drop_more, take_more}
+use Rattle.std.proofs.lemmas.List.{drop_more}
 use Rattle.std.proofs.lemmas.List.Elements.{Contains-push_cases}
 use Rattle.std.proofs.lemmas.List.Folds.{list_any-append}
 use Rattle.std.proofs.lemmas.List.Sorted.{Contains-permutation, IsNonDecreasingBy-insert, IsPermutation-insert, IsPermutation-refl, IsPermutation-sym, length_permutation}
@@ -158,6 +158,28 @@ module _ (keys : List Key) (p : Key) (at : ℕ) (order : AreInOrder keys) (point
       let behind = no_earlier k c (rank_later p k same_k later) in
       let within = c.1 in
       omega (arith, behind, within, past)
+
+-- ---- a place that was guessed
+
+any_default : (keys : List Key) (i : ℕ) (d : Key) → i < length keys → slice_index_or keys i d ≡ slice_index_or keys i no_key
+any_default keys i d within = get_or_from_slice_get keys i (slice_index_or keys i no_key) d (slice_get-get_or keys i no_key within)
+
+-- where the keys rise, two that stand beside each other tell which place it is
+pub point_at : (keys : List Key) (n at : ℕ) → at < length keys → n ≤ rank (slice_index_or keys at no_key)
+    → (at ≡ 0) ⊎ (rank (slice_index_or keys (at - 1) no_key) < n) → IsNonDecreasingBy rank keys → IsPartitionPoint (λ k. rank k < n) (λ k. n ≤ rank k) keys at
+point_at keys n at within above below rises = (
+  λ i d low high. elim below [
+    | inl none ↦ absurd (omega (arith, none, high))
+    | inr lower ↦
+        let most = rises i (at - 1) d (omega (arith, high)) (omega (arith, within)) in
+        let same = ap rank (any_default keys (at - 1) d (omega (arith, within))) in
+        omega (arith, most, same, lower)
+  ],
+  λ i d low high.
+      let least = rises at i d low high in
+      let same = ap rank (any_default keys at d within) in
+      omega (arith, least, same, above),
+)
 
 -- ---- the first of several
 

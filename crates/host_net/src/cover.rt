@@ -2,7 +2,8 @@
 //! for. Those that ask for equally many bits of each address stand together, in the order of these
 //! bits and then of their places, so that the next that asks for the bits of a packet is found by
 //! halving, once for each two lengths that are in use. Those that come first with their lengths only
-//! behind the one that is found already are passed over.
+//! behind the one that is found already are passed over. A guide tells of most bits where they begin,
+//! so that halving is seldom needed.
 
 ghost use Rattle.std.specs.Prelude.{◌≡◌, ◌<◌, ◌≤◌, ◌^◌, ◌+◌, ◌++◌, ◌∷◌, [], List, IfOk, OnOk, OnErr, Contains, IsTrue, ◌↔◌, length};
 ghost use Rattle.std.specs.List.Sorted.{IsNonDecreasingBy, IsPartitionPoint};
@@ -51,7 +52,18 @@ struct Group {
 pub struct Covers {
     keys: Vec<Key>,
     groups: Vec<Group>,
+    /// Where the keys of some bits begin, by a hash of these. Keys are compared: it is but a guide.
+    guide: Vec<u32>,
 }
+
+/// So many places of a guide there are for each key.
+const PLACES_FOR_KEY: usize = 2;
+
+/// What stands in a guide where no key begins.
+const NOWHERE: u32 = u32::MAX;
+
+/// The golden ratio, by which products of numbers that are close to each other lie far apart.
+const MULTIPLIER: u64 = 0x9e37_79b9_7f4a_7c15;
 
 fn length_of(part: Option<Prefix>) -> u8
     ensures { result ≡ length_of part }
@@ -129,8 +141,48 @@ impl Key {
     }
 }
 
+/// The place in a guide of that length for the bits of a key.
+fn slot_of(key: &Key, len: usize) -> usize {
+    let lengths = (key.lengths.src as u64) << 8 | key.lengths.dst as u64;
+    let bits = (key.src as u64) << 32 | key.dst as u64;
+    let hash = (bits ^ lengths << 48).wrapping_mul(MULTIPLIER) >> 32;
+    (hash.wrapping_mul(len as u64) >> 32) as usize
+}
+
+/// Where the guide has the bits of a key begin.
+fn guess_of(guide: &[u32], key: &Key) -> usize {
+    match guide.get(slot_of(key, guide.len())) {
+        Some(place) => *place as usize,
+        None => NOWHERE as usize,
+    }
+}
+
+/// Whether the first key whose rank is no lower stands there.
+fn is_place(keys: &[Key], at: usize, least: u128) -> bool
+    ensures within { IsTrue result → at ≤ length keys.now }
+    ensures point { IsTrue result → IsNonDecreasingBy rank keys.now → IsPartitionPoint (λ k. rank k < least) (λ k. least ≤ rank k) keys.now at }
+{
+    if at >= keys.len() || keys[at].rank() < least {
+        return false;
+    }
+    at == 0 || keys[at - 1].rank() < least
+}
+
+/// How many keys stand before the first whose rank is no lower than that of a key.
+fn place_of(keys: &[Key], guide: &[u32], key: &Key) -> usize
+    ensures bound { result ≤ length keys.now }
+    ensures point { IsNonDecreasingBy rank keys.now → IsPartitionPoint (λ k. rank k < rank key.now) (λ k. rank key.now ≤ rank k) keys.now result }
+{
+    let least = key.rank();
+    let guess = guess_of(guide, key);
+    if is_place(keys, guess, least) {
+        return guess;
+    }
+    searched(keys, least)
+}
+
 /// How many keys stand before the first whose rank is no lower.
-fn place_of(keys: &[Key], least: u128) -> usize
+fn searched(keys: &[Key], least: u128) -> usize
     ensures bound { result ≤ length keys.now }
     ensures point { IsNonDecreasingBy rank keys.now → IsPartitionPoint (λ k. rank k < least) (λ k. least ≤ rank k) keys.now result }
 {
@@ -138,10 +190,10 @@ fn place_of(keys: &[Key], least: u128) -> usize
 }
 
 /// The first place, from that of the key on, of a key with the same bits.
-fn next_of(keys: &[Key], from: &Key) -> Option<usize>
+fn next_of(keys: &[Key], guide: &[u32], from: &Key) -> Option<usize>
     ensures { AreInOrder keys.now → IsFirstKey (λ k. SameBits k from.now) keys.now from.now.place result }
 {
-    let at = place_of(keys, from.rank());
+    let at = place_of(keys, guide, from);
     if at == keys.len() {
         return None;
     }
@@ -172,6 +224,7 @@ impl Covers {
         Covers {
             keys: Vec::new(alloc),
             groups: Vec::new(alloc),
+            guide: Vec::new(alloc),
         }
     }
 
@@ -183,7 +236,12 @@ impl Covers {
         let mut keys = keys_of(alloc, all)?;
         let groups = groups_of(alloc, &keys)?;
         keys.sort_unstable_by_key(|key| key.rank());
-        Ok(Covers { keys, groups })
+        let guide = guide_of(alloc, &keys)?;
+        Ok(Covers {
+            keys,
+            groups,
+            guide,
+        })
     }
 
     /// Puts one more behind the others.
@@ -194,7 +252,7 @@ impl Covers {
     {
         let key = key_of(ends, self.keys.len() as u32);
         note(&mut self.groups, &key)?;
-        let place = place_of(&self.keys, key.rank());
+        let place = place_of(&self.keys, &self.guide, &key);
         self.keys.insert(place, key)?;
         Ok(())
     }
@@ -206,17 +264,24 @@ impl Covers {
         if from > u32::MAX as usize {
             return None;
         }
-        first_among(&self.keys, &self.groups, from as u32, src, dst)
+        first_among(&self.keys, &self.groups, &self.guide, from as u32, src, dst)
     }
 }
 
-fn first_among(keys: &[Key], groups: &[Group], from: u32, src: u32, dst: u32) -> Option<usize>
+fn first_among(
+    keys: &[Key],
+    groups: &[Group],
+    guide: &[u32],
+    from: u32,
+    src: u32,
+    dst: u32,
+) -> Option<usize>
     ensures { AreInOrder keys.now → AreFirst groups.now keys.now
         → IsFirstKey (begins groups.now src dst) keys.now from result }
 {
     let mut first = None;
     for group in groups {
-        first = first_with(keys, *group, first, from, src, dst);
+        first = first_with(keys, guide, *group, first, from, src, dst);
     }
     first
 }
@@ -224,6 +289,7 @@ fn first_among(keys: &[Key], groups: &[Group], from: u32, src: u32, dst: u32) ->
 /// The earlier of what was found before and of what the group has.
 fn first_with(
     keys: &[Key],
+    guide: &[u32],
     group: Group,
     found: Option<usize>,
     from: u32,
@@ -237,7 +303,7 @@ fn first_with(
     if comes_before(found, group.first) {
         return found;
     }
-    let next = next_of(keys, &key_at(group.lengths, src, dst, from));
+    let next = next_of(keys, guide, &key_at(group.lengths, src, dst, from));
     earlier(found, next)
 }
 
@@ -273,6 +339,24 @@ fn groups_of(alloc: Global, keys: &[Key]) -> Result<Vec<Group>, AllocError>
         note(&mut groups, key)?;
     }
     Ok(groups)
+}
+
+/// A guide to keys that stand in order.
+fn guide_of(alloc: Global, keys: &[Key]) -> Result<Vec<u32>, AllocError> {
+    let mut guide = vec![in alloc; NOWHERE; keys.len().saturating_mul(PLACES_FOR_KEY)]?;
+    for (place, key) in keys.iter().enumerate() {
+        let place = u32::try_from(place).unwrap_or(NOWHERE);
+        point_to(&mut guide, key, place);
+    }
+    Ok(guide)
+}
+
+/// Points to the place of a key, unless one before it has its place in the guide.
+fn point_to(guide: &mut [u32], key: &Key, place: u32) {
+    let slot = slot_of(key, guide.len());
+    if let Some(first) = guide.get_mut(slot) {
+        *first = place.min(*first);
+    }
 }
 
 /// Puts a group of the key behind the others where its lengths are new.

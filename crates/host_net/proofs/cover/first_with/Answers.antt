@@ -1,4 +1,4 @@
-use Rattle.std.proofs.Common.{List, Option, ℕ, ◌++◌, ◌∷◌, [], ◌∙◌, sym, subst}
+use Rattle.std.proofs.Common.{Option, ℕ, ◌++◌, ◌∷◌, [], ◌∙◌, sym, subst}
 use Rattle.host_net.specs.declared.cover.Key.{Key}
 use Rattle.host_net.specs.inner.CoverView.{IsFirstKey, SameBits, begins}
 use Rattle.host_net.proofs.CoverLemmas.{first_kept, first_next}

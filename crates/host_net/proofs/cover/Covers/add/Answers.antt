@@ -1,8 +1,8 @@
-use Rattle.std.proofs.Common.{◌≡◌, ◌≤◌, ◌<◌, ◌++◌, ◌∷◌, [], ◌∙◌, ℕ, List, length, true, sym, ap, subst, arith}
+use Rattle.std.proofs.Common.{◌≡◌, ◌≤◌, ◌<◌, ◌++◌, ◌∷◌, [], ◌∙◌, List, length, true, sym, ap, subst, arith}
 use Rattle.std.specs.List.Sorted.{IsNonDecreasingBy, IsPartitionPoint}
 use Rattle.host_net.specs.declared.cover.Group.{Group}
 use Rattle.host_net.specs.declared.cover.Key.{Key}
-use Rattle.host_net.specs.inner.CoverView.{AreIndexOf, has_lengths, key_of, noted, rank}
+use Rattle.host_net.specs.inner.CoverView.{AreIndexOf, has_lengths, key_of, rank}
 use Rattle.host_net.proofs.CoverLemmas.{always, index_more, index_noted, noted_there}
 use Rattle.host_net.proofs.cover.Covers.add.Goals as goal
 
@@ -30,9 +30,9 @@ returns-clause-added c = λ all is.
     let last : new.place ≡ length keys = ap (λ (k : Key). k.place) c.key_of-key.ensures.key ∙ counted in
     let at = c.place_of-place.result in
     let bound = subst (λ (ks : List Key). at ≤ length ks) c.deref.ensures.value c.place_of-place.ensures.bound in
-    let found = subst (λ (ks : List Key). IsNonDecreasingBy rank ks → IsPartitionPoint (λ k. rank k < c.rank.result) (λ k. c.rank.result ≤ rank k) ks at)
+    let found = subst (λ (ks : List Key). IsNonDecreasingBy rank ks → IsPartitionPoint (λ k. rank k < rank new) (λ k. rank new ≤ rank k) ks at)
     c.deref.ensures.value c.place_of-place.ensures.point in
-    let point = subst (λ (n : ℕ). IsPartitionPoint (λ k. rank k < n) (λ k. n ≤ rank k) keys at) c.rank.ensures (found is.order.rise) in
+    let point = found is.order.rise in
     let now = subst (λ (gs : List Group). AreIndexOf all keys gs) (sym c.in_ok-note.ensures.ok) (index_noted all keys index.groups.items new last is) in
     let there = subst (λ (gs : List Group). has_lengths gs new.lengths ≡ true) (sym c.in_ok-note.ensures.ok) (noted_there index.groups.items new) in
     subst (λ (ks : List Key). AreIndexOf (all ++ c.args.ends ∷ []) ks groups) (sym c.in_ok-insert.ensures.items)

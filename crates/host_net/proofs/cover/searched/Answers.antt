@@ -2,7 +2,7 @@ use Rattle.std.proofs.Common.{arith, rules, ltb}
 use Rattle.std.proofs.lemmas.Bool.Decides.{nat_tests}
 use Rattle.std.proofs.lemmas.List.Sorted.{IsPartitionPoint-from_clause, IsPartitionedBy-ltb}
 use Rattle.host_net.specs.inner.CoverView.{rank}
-use Rattle.host_net.proofs.cover.place_of.Goals as goal
+use Rattle.host_net.proofs.cover.searched.Goals as goal
 
 pub returns-clause-point : goal.returns-clause-point
 returns-clause-point c = λ rises.
