@@ -245,9 +245,6 @@ module _ (fits : Rule → Bool) (chains : List Chain) (number : ℕ) where
     pub last_unknown : known_at known w.chain ≡ None
     last_unknown = last.unknown
 
-    pub last_room : length rest + 1 ≤ length chains
-    last_room = omega (arith, last.low, is.ranking.is.short)
-
     pub waiting_ended : (o : Option Verdict) → w.chain < length known → Gives fits chains (rules_of chains w.chain) o → Waiting fits chains number (set known w.chain (Some o)) rest
     waiting_ended o low gives = record {
       ranking = is.ranking;

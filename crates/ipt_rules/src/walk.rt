@@ -4,7 +4,7 @@
 //! memory. Where chains have indexes, rules whose prefixes do not cover the packet's addresses are
 //! passed over.
 
-ghost use Rattle.std.specs.Prelude.{◌≡◌, ◌<◌, ◌≤◌, length, IfSome};
+ghost use Rattle.std.specs.Prelude.{◌≡◌, ◌<◌, ◌≤◌, length, IfSome, IsSome};
 ghost use Rattle.ipt_rules.specs.Matching.{matches};
 ghost use Rattle.ipt_rules.specs.Chain.{rules_of, policy_of};
 ghost use Rattle.ipt_rules.specs.ChainTable.{rule_count};
@@ -25,6 +25,9 @@ use host_net::{Covers, CtState, Packet, Verdict};
 /// The built-in chains and one for each of 256 hosts. For up to so many a packet needs less room, and
 /// less time to clear it.
 const FEW_CHAINS: usize = 259;
+
+/// Seldom do more walks than these wait at once. For no more of them a packet needs less room as well.
+const FEW_WALKS: usize = 16;
 
 /// What one rule does with a packet: it goes on to the next rule, ends its chain with an outcome,
 /// or walks another chain. The outcome of a chain is a verdict, or None where it returns.
@@ -115,24 +118,28 @@ fn walk_on(
     Stop::Ended(None)
 }
 
-/// What a chain gives a packet from its first rule, where there are at most N chains.
-fn outcome_among<const N: usize>(
+/// What a chain gives a packet from its first rule, where there are at most N chains; or None where
+/// more than D walks would wait at once.
+fn outcome_among<const N: usize, const D: usize>(
     chains: &[Chain],
     indexes: &[Covers],
     number: u16,
     packet: &Packet,
     state: CtState,
-) -> Option<Verdict>
+) -> Option<Option<Verdict>>
     requires there { number < length chains.now }
     requires few_chains { length chains.now ≤ N }
     requires small { N ≤ 4096 }
+    requires some_walks { 0 < D }
+    requires few_walks { D ≤ 4096 }
     requires few_rules { rule_count chains.now ≤ 1000000 }
     requires indexes { AreIndexes indexes.now chains.now }
     requires ranking { HasRanking chains.now }
-    ensures { Gives (matches packet.now state) chains.now (rules_of chains.now number) result }
+    ensures given { IfSome result (Gives (matches packet.now state) chains.now (rules_of chains.now number)) }
+    ensures enough { N ≤ D → IsSome result }
 {
     let mut known = [None; N];
-    let mut walks: ArrayVec<Walk, N> = ArrayVec::new();
+    let mut walks: ArrayVec<Walk, D> = ArrayVec::new();
     walks.push(Walk {
         chain: number,
         from: 0,
@@ -142,12 +149,15 @@ fn outcome_among<const N: usize>(
         match walk_on(chains, walk, index, &known, packet, state) {
             Stop::Ended(outcome) => known[walk.chain as usize] = Some(outcome),
             Stop::Asks { chain, at } => {
+                if walks.len() + 2 > D {
+                    return None;
+                }
                 walks.push(Walk { from: at, ..walk });
                 walks.push(Walk { chain, from: 0 });
             }
         }
     }
-    known_at(&known, number)?
+    known_at(&known, number)
 }
 
 /// What a chain gives a packet from its first rule.
@@ -165,10 +175,18 @@ pub(crate) fn outcome(
     requires ranking { HasRanking chains.now }
     ensures { Gives (matches packet.now state) chains.now (rules_of chains.now number) result }
 {
-    if chains.len() <= FEW_CHAINS {
-        outcome_among::<FEW_CHAINS>(chains, indexes, number, packet, state)
+    let soon = if chains.len() <= FEW_CHAINS {
+        outcome_among::<FEW_CHAINS, FEW_WALKS>(chains, indexes, number, packet, state)
     } else {
-        outcome_among::<CHAIN_LIMIT>(chains, indexes, number, packet, state)
+        outcome_among::<CHAIN_LIMIT, FEW_WALKS>(chains, indexes, number, packet, state)
+    };
+    match soon {
+        Some(outcome) => outcome,
+        None => {
+            outcome_among::<CHAIN_LIMIT, CHAIN_LIMIT>(
+                chains, indexes, number, packet, state,
+            ).unwrap()
+        }
     }
 }
 

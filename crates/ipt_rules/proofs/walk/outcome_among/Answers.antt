@@ -11,7 +11,7 @@ use Rattle.ipt_rules.specs.Chain.{Chain, rules_of}
 use Rattle.ipt_rules.specs.Matching.{matches}
 use Rattle.ipt_rules.specs.inner.Next.{AreIndexes, all_ends}
 use Rattle.ipt_rules.specs.inner.Walking.{known_at}
-use Rattle.ipt_rules.proofs.WalkingLemmas.{Waiting, fewer_unknown, waiting_first, last_walk, last_unknown, last_room, waiting_ended, asked_room, waiting_asked}
+use Rattle.ipt_rules.proofs.WalkingLemmas.{Waiting, fewer_unknown, waiting_first, last_walk, last_unknown, waiting_ended, asked_room, waiting_asked}
 use Rattle.ipt_rules.proofs.walk.outcome_among.Goals as goal
 
 -- ---- the room that the walks take
@@ -19,17 +19,17 @@ use Rattle.ipt_rules.proofs.walk.outcome_among.Goals as goal
 small_room : (n : ℕ) → n ≤ 4096 → up 8 (up 1 (up 8 (0 + up 8 (0 + n * 16)) + 8) + 0) < 9223372036854775808
 small_room n few = omega (arith, few)
 
-empty_room : (n count number : ℕ) (walks : List Walk) → walks ≡ [] → number < count → count ≤ n → length walks < n
-empty_room n count number walks none there few = let e = ap length none in omega (arith, e, there, few)
+empty_room : (n : ℕ) (walks : List Walk) → walks ≡ [] → 0 < n → length walks < n
+empty_room n walks none some = let e = ap length none in omega (arith, e, some)
 
 pub new-walks-requires : goal.new-walks-requires
-new-walks-requires g c = small_room g.row.N c.requires.small
+new-walks-requires g c = small_room g.row.D c.requires.few_walks
 
 pub push-requires : goal.push-requires
-push-requires g c = (small_room g.row.N c.requires.small, empty_room g.row.N (length c.args.chains.now) c.args.number c.new-walks.result.items c.new-walks.ensures c.requires.there c.requires.few_chains)
+push-requires g c = (small_room g.row.D c.requires.few_walks, empty_room g.row.D c.new-walks.result.items c.new-walks.ensures c.requires.some_walks)
 
 pub pop-requires : goal.pop-requires
-pop-requires g c = small_room g.row.N c.requires.small
+pop-requires g c = small_room g.row.D c.requires.few_walks
 
 pub shared_whole_as_slice-walk_on : goal.shared_whole_as_slice-walk_on
 shared_whole_as_slice-walk_on g c = omega (arith, c.requires.small)
@@ -109,27 +109,15 @@ loop-walk-preserved-in-Ended g c =
 
 -- ---- another chain is walked first
 
-room_for : (n count used room : ℕ) → used + room ≤ count → count ≤ n → 0 < room → used < n
-room_for n count used room low few some = omega (arith, low, few, some)
+full : (n d count used : ℕ) → used + 2 ≤ count → count ≤ n → n ≤ d → d < used + 2 → ⊥
+full n d count used room few enough over = omega (arith, room, few, enough, over)
 
-pub push-requires-in-Asks : goal.push-requires-in-Asks
-push-requires-in-Asks g c =
-    let fits = matches c.args.packet.now c.args.state in
-    let is = waiting_at fits c.args.chains.now c.args.number c.loop-walk.known c.loop-walk.walks.items c.pop.new.self.items c.in-Some.walk c.in-Some.ensures.items c.loop-walk.invariant.waiting in
-    let room = last_room fits c.args.chains.now c.args.number c.loop-walk.known c.pop.new.self.items c.in-Some.walk is in
-    (small_room g.row.N c.requires.small, room_for g.row.N (length c.args.chains.now) (length c.pop.new.self.items) 1 room c.requires.few_chains (omega arith))
-
-more_room : (n count : ℕ) (now rest : List Walk) (v : Walk) → now ≡ rest ++ v ∷ [] → length rest + 2 ≤ count → count ≤ n → length now < n
-more_room n count now rest v same low few =
-    let long = ap length same ∙ length-append rest (v ∷ []) in
-    omega (arith, long, low, few)
-
-pub push-requires-in-Asks-2 : goal.push-requires-in-Asks-2
-push-requires-in-Asks-2 g c =
+pub returns-then-len-clause-enough : goal.returns-then-len-clause-enough
+returns-then-len-clause-enough g c = λ enough.
     let fits = matches c.args.packet.now c.args.state in
     let is = waiting_at fits c.args.chains.now c.args.number c.loop-walk.known c.loop-walk.walks.items c.pop.new.self.items c.in-Some.walk c.in-Some.ensures.items c.loop-walk.invariant.waiting in
     let room = asked_room fits c.args.chains.now c.args.number c.loop-walk.known c.pop.new.self.items c.in-Some.walk is c.in-Asks.chain c.in-Asks.at c.in-Asks.ensures in
-    (small_room g.row.N c.requires.small, more_room g.row.N (length c.args.chains.now) c.push-in-Asks.new.self.items c.pop.new.self.items _ c.push-in-Asks.ensures.items room c.requires.few_chains)
+    absurd (full g.row.N g.row.D (length c.args.chains.now) (length c.pop.new.self.items) room c.requires.few_chains enough (omega (arith, c.len.ensures.value, c.if-len.true)))
 
 smaller_asked : (n count unknown : ℕ) (walks rest now then : List Walk) (w v u : Walk) → walks ≡ rest ++ w ∷ [] → now ≡ rest ++ v ∷ [] → then ≡ now ++ u ∷ [] → length rest + 2 ≤ count → count ≤ n
     → 2 * unknown + (n - length then) < 2 * unknown + (n - length walks)
