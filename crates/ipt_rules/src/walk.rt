@@ -1,8 +1,9 @@
 //! What the chains give a packet. A chain is walked along its rules, and where one of them jumps to a
 //! chain of which it is not known what it gives, that one is walked first. What a chain gave is kept
 //! for the packet, so that no chain is walked twice, however the jumps are nested, and it takes no
-//! memory. Where chains have indexes, rules whose prefixes do not cover the packet's addresses are
-//! passed over.
+//! memory. Only where more walks wait at once than there is room for are all walked anew, with room for
+//! as many as there are chains. Where chains have indexes, rules whose prefixes do not cover the
+//! packet's addresses are passed over.
 
 ghost use Rattle.std.specs.Prelude.{◌≡◌, ◌<◌, ◌≤◌, length, IfSome, IsSome};
 ghost use Rattle.ipt_rules.specs.Matching.{matches};
