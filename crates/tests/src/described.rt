@@ -1,4 +1,8 @@
-//! The networks of the tests, as descriptions.
+//! Networks of the tests as descriptions, whole or in parts that are put together.
+
+use desc_core::{Description, describe};
+use std::alloc::Global;
+use std::test::Fail;
 
 /// Two hosts, and a flow from a to b whose answers may pass.
 pub(crate) const PAIR: &str = r#"topos = 1
@@ -20,19 +24,8 @@ template = "dependability"
 assign = [{ host = "a", limit = 1 }, { host = "b", limit = 1 }]
 "#;
 
-/// The same, with a second invariant that denies the first flow.
-pub(crate) const DENIED: &str = r#"topos = 1
-flow = [["a", "b"], ["b", "c"]]
-host = [
-  { name = "a", at = ["10.0.0.1/32"] },
-  { name = "b", at = ["10.0.0.2/32"] },
-  { name = "c", at = ["10.0.0.3/32"] },
-]
-
-[[invariant]]
-template = "dependability"
-assign = [{ host = "a", limit = 1 }, { host = "b", limit = 1 }]
-
+/// A second invariant, which denies the first flow of the chain.
+pub(crate) const DENIAL: &str = r#"
 [[invariant]]
 template = "noreach"
 assign = [{ host = "a", deny = ["b"] }, { host = "b", deny = [] }, { host = "c", deny = [] }]
@@ -70,3 +63,12 @@ assign = [{ host = "db", level = 2 }, { host = "web", level = 1, trusted = true 
 template = "sink"
 assign = [{ host = "web", kind = "sink" }]
 "#;
+
+/// What the parts describe one after the other.
+pub(crate) fn described(alloc: Global, parts: &[&str]) -> Result<Description, Fail> {
+    let mut text = Vec::new(alloc);
+    for part in parts {
+        text.extend_from_slice(part.as_bytes())?;
+    }
+    Ok(describe(alloc, &text)?)
+}
