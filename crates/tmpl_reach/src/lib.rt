@@ -5,8 +5,6 @@
 mod dependability;
 mod no_reach;
 mod non_interference;
-#[cfg(test)]
-mod tests;
 mod trial;
 
 pub use dependability::Dependability;
