@@ -23,8 +23,6 @@ mod sink;
 mod subnets;
 mod tainting;
 mod template;
-#[cfg(test)]
-mod tests;
 
 pub use assign::Assign;
 pub use fault::AttrFault;

@@ -18,8 +18,6 @@ mod named;
 mod report;
 mod same_parts;
 mod sides;
-#[cfg(test)]
-mod tests;
 mod text;
 mod thinning;
 

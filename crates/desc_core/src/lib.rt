@@ -15,8 +15,6 @@ mod network;
 mod own_table;
 mod services;
 mod templates;
-#[cfg(test)]
-mod tests;
 
 pub use desc_form::{Place, Refusal, Why};
 pub use description::{describe, describe_table};

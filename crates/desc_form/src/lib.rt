@@ -26,8 +26,3 @@ pub use written::{
     Written, WrittenAssign, WrittenFlow, WrittenHost, WrittenInvariant, WrittenPair,
     WrittenTemplate, read_written,
 };
-
-#[cfg(test)]
-mod desc_hosts_tests;
-#[cfg(test)]
-mod tests;

@@ -24,6 +24,3 @@ pub use put::{put_all, put_pieces};
 pub use stream_sink::StreamSink;
 pub use take::take_all;
 pub use traits::{Shelf, Sink};
-
-#[cfg(test)]
-mod tests;

@@ -30,8 +30,3 @@ pub use openflow::emit_openflow;
 pub use parts::{at_other, in_prefix};
 pub use refusal::{NoChains, NoTable};
 pub use side::Side;
-
-#[cfg(test)]
-mod flow_tests;
-#[cfg(test)]
-mod tests;

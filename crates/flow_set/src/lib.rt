@@ -13,6 +13,3 @@ pub use flow::Flow;
 pub use iter::Iter;
 pub use set::FlowSet;
 pub use steps::FlowSteps;
-
-#[cfg(test)]
-mod tests;

@@ -5,6 +5,3 @@
 mod local;
 
 pub use local::{emit_local, is_specific};
-
-#[cfg(test)]
-mod tests;

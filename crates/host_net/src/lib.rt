@@ -14,8 +14,6 @@ mod ranges;
 mod refusal;
 mod service;
 mod services;
-#[cfg(test)]
-mod tests;
 
 pub use cover::{Covers, Ends};
 pub use hosts::Hosts;

@@ -4,8 +4,6 @@ ghost use Rattle.std.specs.Prelude.{◌≡◌, ◌≤◌, ◌↔◌, IsTrue};
 ghost use Rattle.host_net.specs.Service.{serves};
 
 mod spelling;
-#[cfg(test)]
-mod tests;
 
 use crate::packet::Packet;
 pub use spelling::{read_protocol, read_service};

@@ -5,8 +5,6 @@
 mod any_inv;
 mod any_trial;
 mod defaults;
-#[cfg(test)]
-mod tests;
 
 pub use any_inv::AnyInv;
 pub use any_trial::AnyTrial;

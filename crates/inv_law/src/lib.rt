@@ -9,8 +9,6 @@ mod edge_wise;
 mod invariant;
 mod stepwise;
 mod strategy;
-#[cfg(test)]
-mod tests;
 
 pub use edge_rule::EdgeRule;
 pub use edge_trial::EdgeTrial;

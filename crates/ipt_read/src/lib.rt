@@ -13,6 +13,3 @@ mod whole;
 pub use fault::{IptFault, IptWhy};
 pub use reader::BYTE_LIMIT;
 pub use whole::read;
-
-#[cfg(test)]
-mod tests;

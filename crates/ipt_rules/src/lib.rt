@@ -28,6 +28,3 @@ pub use rule::{
     AddrMatch, Policy, PortMatch, ProtoMatch, Rule, StateMatch, Target, address_matches,
 };
 pub use ruleset::{BuildRefusal, FORWARD, INPUT, OUTPUT, Ruleset};
-
-#[cfg(test)]
-mod tests;

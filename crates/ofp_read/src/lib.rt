@@ -9,6 +9,3 @@ mod whole;
 
 pub use fault::{OfpFault, OfpWhy};
 pub use whole::{BYTE_LIMIT, read};
-
-#[cfg(test)]
-mod tests;

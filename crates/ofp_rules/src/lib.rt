@@ -9,6 +9,3 @@ mod text;
 
 pub use entry::{Action, Entry, Frame, FrameKind};
 pub use table::{Table, TableRefusal};
-
-#[cfg(test)]
-mod tests;

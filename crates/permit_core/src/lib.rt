@@ -28,6 +28,3 @@ pub use policy::permit;
 pub use policy_by_steps::permit_by_steps;
 pub use steps::{SteppedCondition, first_subset_by_steps};
 pub use trials::{step_chosen, trials_of};
-
-#[cfg(test)]
-mod tests;

@@ -7,8 +7,6 @@ mod connection;
 mod event;
 mod events;
 mod flow_policy;
-#[cfg(test)]
-mod tests;
 mod track;
 
 pub use connection::Connection;

@@ -7,8 +7,6 @@ mod join_closure;
 mod reach_closure;
 mod rows;
 mod stepped;
-#[cfg(test)]
-mod tests;
 
 pub use closure::Closure;
 pub use flow_set::HostSet;

@@ -11,6 +11,3 @@ mod table;
 pub use counts::TableLines;
 pub use description::sample_description;
 pub use printed::sample_text;
-
-#[cfg(test)]
-mod tests;

@@ -11,8 +11,6 @@ mod lines;
 mod names;
 mod padding;
 mod pieces;
-#[cfg(test)]
-mod tests;
 mod texts;
 
 pub use decimals::read_number;

@@ -5,7 +5,5 @@
 
 mod domain;
 mod domains;
-#[cfg(test)]
-mod tests;
 
 pub use domains::Domains;

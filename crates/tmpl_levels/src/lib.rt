@@ -4,8 +4,6 @@
 
 mod blp;
 mod tainting;
-#[cfg(test)]
-mod tests;
 
 pub use blp::Blp;
 pub use tainting::Tainting;

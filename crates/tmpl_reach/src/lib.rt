@@ -6,8 +6,6 @@ mod dependability;
 mod host_wise;
 mod no_reach;
 mod non_interference;
-#[cfg(test)]
-mod tests;
 mod trial;
 
 pub use dependability::Dependability;

@@ -6,8 +6,6 @@
 mod fault;
 mod pairs;
 mod table_rule;
-#[cfg(test)]
-mod tests;
 
 pub use fault::TableFault;
 pub use table_rule::TableRule;

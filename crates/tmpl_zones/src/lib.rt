@@ -9,8 +9,6 @@ mod kinds;
 mod partners;
 mod sink;
 mod subnets;
-#[cfg(test)]
-mod tests;
 
 pub use gateway::{GateKind, Gateway};
 pub use partners::Partners;
