@@ -24,8 +24,8 @@ use Rattle.audit_core.specs.Places.{IsClassPacket, Leasts, class_total}
 use Rattle.audit_core.specs.inner.Places.{AreLeasts}
 use Rattle.audit_core.specs.Rules.{Rules, Chains, Entries, filter_of}
 use Rattle.audit_core.specs.inner.Rules.{GivesOne}
-use Rattle.audit_core.specs.inner.Searching.{AreAlike, IsNoHigher, Represent}
-use Rattle.audit_core.specs.Sides.{Sides, lets_answer, permits}
+use Rattle.audit_core.specs.inner.Searching.{AreAlike, Represent}
+use Rattle.audit_core.specs.Sides.{Sides}
 use Rattle.audit_core.specs.inner.Thinning.{IsKeptFor, IsThinned}
 use Rattle.audit_core.specs.inner.Treatment.{AreMerged, AreTreatedAlike, TreatSame}
 use Rattle.audit_core.proofs.StandingLemmas.{some_kept}

@@ -6,7 +6,6 @@ use Rattle.host_net.specs.declared.packet.Packet.{Packet}
 use Rattle.host_net.specs.declared.packet.CtState.{CtState}
 use Rattle.host_net.specs.declared.packet.Verdict.{Verdict}
 use Rattle.ipt_rules.specs.declared.rule.Rule.{Rule}
-use Rattle.ipt_rules.specs.declared.rule.Target.{Target}
 use Rattle.ipt_rules.specs.Chain.{Chain, policy_of, rules_of}
 use Rattle.ipt_rules.specs.Matching.{address_matches, matches, port_matches, protocol_matches, state_matches}
 use Rattle.ipt_rules.specs.Meaning.{Gives, GoesOn, Ends, HasVerdictIn, RuleStep, Walks, at_end, comes_back, decides, ends, goes_on, step_of, verdict_by}

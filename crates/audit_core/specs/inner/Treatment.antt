@@ -5,7 +5,7 @@ use Rattle.std.specs.Prelude.{◌≡◌, ℕ, if◌then◌else◌, IsTrue, List,
 use Rattle.host_net.specs.Host.{owner_of}
 use Rattle.ipt_rules.specs.declared.rule.AddrMatch.{AddrMatch}
 use Rattle.ipt_rules.specs.declared.rule.Rule.{Rule}
-use Rattle.ipt_rules.specs.Chain.{Chain, rules_of}
+use Rattle.ipt_rules.specs.Chain.{rules_of}
 use Rattle.ipt_rules.specs.Matching.{address_matches}
 use Rattle.audit_core.specs.declared.end.End.{End}
 use Rattle.audit_core.specs.declared.end.End.TheVariants.{Source, Destination}
