@@ -21,5 +21,5 @@ pub use name::Name;
 pub use packet::{CtState, Packet, Verdict};
 pub use prefix::{Prefix, put_prefix, read_address, read_prefix};
 pub use refusal::{HOST_LIMIT, HostRefusal, PREFIX_LIMIT};
-pub use service::{Service, read_protocol, read_service};
+pub use service::{LAST_PORT, Service, read_port, read_protocol, read_service};
 pub use services::{SERVICE_LIMIT, Services};

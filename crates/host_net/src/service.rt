@@ -6,7 +6,7 @@ ghost use Rattle.host_net.specs.Service.{serves};
 mod spelling;
 
 use crate::packet::Packet;
-pub use spelling::{read_protocol, read_service};
+pub use spelling::{LAST_PORT, read_port, read_protocol, read_service};
 
 /// A protocol by its number, and the destination ports from `low` to `high`, both included.
 #[derive(Clone, Copy, Debug, PartialEq, Eq)]

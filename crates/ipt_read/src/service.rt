@@ -2,15 +2,11 @@
 
 ghost use Rattle.std.specs.Prelude.{◌≡◌, Some, None, if◌then◌else◌, nat_le};
 ghost use Rattle.text_core.specs.inner.Decimal.{number};
-ghost use Rattle.host_net.specs.Service.{last_port};
 ghost use Rattle.ipt_read.specs.ServiceValues.{other_protocol};
 ghost use Rattle.ipt_read.specs.inner.ServiceSteps.{asked_ports, asked_protocol, if_positive, named_protocol, port_or, ports_between};
 
-use host_net::read_protocol;
+use host_net::{LAST_PORT, read_port, read_protocol};
 use text_core::{read_number, split_once};
-
-/// The greatest port.
-const LAST_PORT: u16 = 65535;
 
 /// A protocol by a name, or by its number from 1 to 255.
 #[tactic(auto, unfolding(crate::specs::inner::ServiceSteps::asked_protocol))]
@@ -85,10 +81,4 @@ fn port_or(other: u16, word: &[u8]) -> Option<u16>
         return Some(other);
     }
     read_port(word)
-}
-
-fn read_port(word: &[u8]) -> Option<u16>
-    ensures { result ≡ number last_port word.now }
-{
-    Some(read_number(LAST_PORT as u32, word)? as u16)
 }

@@ -6,7 +6,7 @@ ghost use Rattle.ofp_read.specs.inner.FieldTable.{frame_type, is_given, key_alon
 
 use crate::fault::OfpWhy;
 use crate::given::{Given, Key};
-use host_net::read_prefix;
+use host_net::{read_port, read_prefix};
 use ofp_rules::FrameKind;
 use text_core::{read_number, split_once};
 
@@ -166,11 +166,11 @@ fn with_value(given: Given, key: Key, value: &[u8]) -> Option<Given>
             Some(Given { proto, ..given })
         }
         Key::SourcePort => {
-            let tp_src = Some(read_number(65535, value)? as u16);
+            let tp_src = Some(read_port(value)?);
             Some(Given { tp_src, ..given })
         }
         Key::DestinationPort => {
-            let tp_dst = Some(read_number(65535, value)? as u16);
+            let tp_dst = Some(read_port(value)?);
             Some(Given { tp_dst, ..given })
         }
     }

@@ -11,7 +11,7 @@ ghost use Rattle.pkt_core.specs.inner.EventSteps.{with_event, event_of, event_by
 ghost use Rattle.pkt_core.specs.Filter.{ArePackets};
 
 use crate::event::Event;
-use host_net::{Packet, read_address, read_protocol};
+use host_net::{Packet, read_address, read_port, read_protocol};
 use std::alloc::Global;
 use text_core::{LineFault, LineReader, TextFault, Words, read_lines, read_number};
 use thiserror::Error;
@@ -156,8 +156,8 @@ fn read_packet(
         src: read_address(src)?,
         dst: read_address(dst)?,
         proto: protocol_of(protocol)?,
-        sport: read_number(65535, sport)? as u16,
-        dport: read_number(65535, dport)? as u16,
+        sport: read_port(sport)?,
+        dport: read_port(dport)?,
     })
 }
 

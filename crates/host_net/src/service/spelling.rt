@@ -21,7 +21,7 @@ const TCP: u8 = 6;
 const UDP: u8 = 17;
 
 /// The greatest port.
-const LAST_PORT: u16 = 65535;
+pub const LAST_PORT: u16 = 65535;
 
 /// Reads `icmp`, `tcp` or `udp`, which have all ports, or behind `tcp/` or `udp/` a port or a range
 /// of ports `80-90`, whose first is less than its last. No number has a leading zero.
@@ -73,7 +73,8 @@ fn read_ports(text: &[u8]) -> Option<(u16, u16)>
     }
 }
 
-fn read_port(text: &[u8]) -> Option<u16>
+/// The port whose number the whole text says.
+pub fn read_port(text: &[u8]) -> Option<u16>
     ensures { result ≡ number last_port text.now }
 {
     Some(read_number(LAST_PORT as u32, text)? as u16)

@@ -5,6 +5,7 @@ use Rattle.text_core.specs.inner.Decimal.{number}
 use Rattle.text_core.specs.Lines.{words}
 use Rattle.text_core.specs.Steps.{◌>>=◌}
 use Rattle.host_net.specs.declared.packet.Packet.{Packet}
+use Rattle.host_net.specs.Service.{last_port}
 use Rattle.host_net.specs.inner.PrefixSteps.{address_of}
 use Rattle.pkt_core.specs.declared.event.Event.{Event}
 use Rattle.pkt_core.specs.declared.event.Event.TheVariants.{Seen, Forget}
@@ -24,8 +25,8 @@ packet_of src dst protocol sport dport = do
   a ← address_of src
   b ← address_of dst
   n ← protocol_of protocol
-  x ← number 65535 sport
-  y ← number 65535 dport
+  x ← number last_port sport
+  y ← number last_port dport
   Some (record { src = a; dst = b; proto = n; sport = x; dport = y })
 
 -- by the verb: a packet that is seen, or the forgetting of its connection
