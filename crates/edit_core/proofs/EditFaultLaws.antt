@@ -8,7 +8,7 @@ use Rattle.text_core.proofs.StepsLaws.{if_parts, bytes_same}
 use Rattle.text_core.specs.inner.TextAnswers.{HasReason}
 use Rattle.text_core.specs.declared.faults.LineFault.{LineFault}
 use Rattle.text_core.specs.declared.faults.LineFault.TheVariants.{Bad, Memory as NoMemory}
-use Rattle.text_core.proofs.TextByLinesLaws.{EndsAnywhere, IsSettled, IsStep, settled_by_step}
+use Rattle.text_core.proofs.TextByLinesLaws.{IsSettled, IsStep, settled_by_step}
 use Rattle.edit_core.specs.Behind.{behind_word}
 use Rattle.edit_core.proofs.ChangeLaws.{change_told, told_change}
 use Rattle.edit_core.specs.inner.ChangeSteps.{add_of, assigned, change_of, change_of_words, edit_step, remove_of, removed, set_of, texts_of, unassigned, unset_of, with_change}
@@ -156,12 +156,9 @@ edits_step = record {
   refused = λ n es line why bad. bad_step n es line why bad;
 }
 
-ends : EndsAnywhere edits_text
-ends = record { ends = λ es. tt; never_badly = λ n es line why none. none }
-
 -- a text has one reading or one first fault
 pub edits_settled : IsSettled edits_text
-edits_settled = settled_by_step edits_text edit_step edits_step ends
+edits_settled = settled_by_step edits_text edit_step edits_step (λ n es line why none. none)
 
 -- a reason of the step is one of the text
 pub has_reason : (n : ℕ) (es : List Edit) (line : List ℕ) (fault : LineFault EditsWhy) → HasReason (λ why. edit_step n es line ≡ Err why) fault

@@ -7,7 +7,7 @@ use Rattle.text_core.specs.Lines.{words}
 use Rattle.text_core.specs.inner.TextAnswers.{HasReason}
 use Rattle.text_core.specs.declared.faults.LineFault.{LineFault}
 use Rattle.text_core.specs.declared.faults.LineFault.TheVariants.{Bad, Memory as NoMemory}
-use Rattle.text_core.proofs.TextByLinesLaws.{EndsAnywhere, IsSettled, IsStep, settled_by_step}
+use Rattle.text_core.proofs.TextByLinesLaws.{IsSettled, IsStep, settled_by_step}
 use Rattle.text_core.proofs.StepsLaws.{if_parts, bytes_same}
 use Rattle.host_net.specs.declared.packet.Packet.{Packet}
 use Rattle.pkt_core.specs.declared.event.Event.{Event}
@@ -137,12 +137,9 @@ events_step = record {
   refused = λ n es line why bad. bad_step es (words line) why bad;
 }
 
-ends : EndsAnywhere events_text
-ends = record { ends = λ es. tt; never_badly = λ n es line why none. none }
-
 -- a text has one reading or one first fault
 pub events_settled : IsSettled events_text
-events_settled = settled_by_step events_text event_step events_step ends
+events_settled = settled_by_step events_text event_step events_step (λ n es line why none. none)
 
 -- a reason of the step is one of the text
 pub has_reason : (n : ℕ) (es : List Event) (line : List ℕ) (fault : LineFault EventWhy)

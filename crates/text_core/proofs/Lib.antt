@@ -1,5 +1,6 @@
 pub mod DecimalLaws
 pub mod DecimalLemmas
+mod DigitLemmas
 pub mod FirstPairLaws
 pub mod FirstsLaws
 pub mod FirstsLemmas

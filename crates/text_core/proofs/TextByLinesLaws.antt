@@ -24,11 +24,6 @@ pub record IsStep {S W : Type 0} (text : TextByLines S W) (step : ℕ → S → 
   pub refuses : (n : ℕ) (s : S) (l : List ℕ) (w : W) → step n s l ≡ Err w → text.IsBadLine n s l w
   pub refused : (n : ℕ) (s : S) (l : List ℕ) (w : W) → text.IsBadLine n s l w → step n s l ≡ Err w
 
--- a format whose texts may end with every line
-pub record EndsAnywhere {S W : Type 0} (text : TextByLines S W) : Type 0 where
-  pub ends : (s : S) → text.MayEnd s
-  pub never_badly : (n : ℕ) (s : S) (l : ℕ) (w : W) → text.EndsBadly n s l w → ⊥
-
 same_ok : {S W : Type 0} (r : Result S W) (t u : S) → r ≡ Ok t → r ≡ Ok u → t ≡ u
 same_ok r t u p q = cc (p, q)
 
@@ -38,14 +33,15 @@ same_err r w v p q = cc (p, q)
 ok_or_err : {S W : Type 0} (r : Result S W) (t : S) (w : W) → r ≡ Ok t → r ≡ Err w → ⊥
 ok_or_err r t w p q = cc (p, q)
 
-pub settled_by_step : {S W : Type 0} (text : TextByLines S W) (step : ℕ → S → List ℕ → Result S W) → IsStep text step → EndsAnywhere text
-    → IsSettled text
-settled_by_step text step is ends = record {
+-- a format whose lines a step reads, and whose texts never end badly
+pub settled_by_step : {S W : Type 0} (text : TextByLines S W) (step : ℕ → S → List ℕ → Result S W) → IsStep text step
+    → ((n : ℕ) (s : S) (l : ℕ) (w : W) → text.EndsBadly n s l w → ⊥) → IsSettled text
+settled_by_step text step is never_badly = record {
   one_next = λ n s l t u p q. same_ok (step n s l) t u (is.read n s t l p) (is.read n s u l q);
   one_reason = λ n s l w v p q. same_err (step n s l) w v (is.refused n s l w p) (is.refused n s l v q);
   good_or_bad = λ n s l t w p q. ok_or_err (step n s l) t w (is.read n s t l p) (is.refused n s l w q);
-  one_end = λ n s l m w v p q. absurd (ends.never_badly n s l w p);
-  ends_or_not = λ n s l w p q. ends.never_badly n s l w q;
+  one_end = λ n s l m w v p q. absurd (never_badly n s l w p);
+  ends_or_not = λ n s l w p q. never_badly n s l w q;
 }
 
 -- 2. One line more.

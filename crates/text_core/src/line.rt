@@ -30,28 +30,53 @@ pub fn put_number<const N: usize>(buffer: &mut [u8; N], at: usize, number: u64) 
     ensures text { take result buffer.new ≡ cut N (take at buffer.old ++ decimal number) }
     ensures within { result ≤ N }
 {
-    if number < 10 {
-        return put(buffer, at, &[digit(number)]);
+    if number < 1000 {
+        return put_short(buffer, at, number);
     }
-    if number < 100 {
-        return put(buffer, at, &[digit(number / 10), digit(number % 10)]);
-    }
-    put_digits(buffer, at, number)
+    put_long(buffer, at, number)
 }
 
-/// The same for numbers of any length, a digit after the other.
-fn put_digits<const N: usize>(buffer: &mut [u8; N], at: usize, number: u64) -> usize
+/// The same for a number of up to three digits, which is put at once.
+#[inline(always)]
+fn put_short<const N: usize>(buffer: &mut [u8; N], at: usize, number: u64) -> usize
+    requires fits { at ≤ N }
+    requires small { number < 1000 }
+    ensures text { take result buffer.new ≡ cut N (take at buffer.old ++ decimal number) }
+    ensures within { result ≤ N }
+{
+    let ones = digit(number % 10);
+    if number < 10 {
+        return put(buffer, at, &[ones]);
+    }
+    let tens = digit(number / 10 % 10);
+    if number < 100 {
+        return put(buffer, at, &[tens, ones]);
+    }
+    put(buffer, at, &[digit(number / 100), tens, ones])
+}
+
+/// The same for a number of any length, three digits after the others.
+fn put_long<const N: usize>(buffer: &mut [u8; N], at: usize, number: u64) -> usize
     requires { at ≤ N }
     ensures text { take result buffer.new ≡ cut N (take at buffer.old ++ decimal number) }
     ensures within { result ≤ N }
 {
-    if number < 10 {
-        return put(buffer, at, &[digit(number)]);
+    if number < 1000 {
+        return put_short(buffer, at, number);
     }
-    let front = put_digits(buffer, at, number / 10);
-    put(buffer, front, &[digit(number % 10)])
+    let front = put_long(buffer, at, number / 1000);
+    put(
+        buffer,
+        front,
+        &[
+            digit(number / 100 % 10),
+            digit(number / 10 % 10),
+            digit(number % 10),
+        ],
+    )
 }
 
+#[inline(always)]
 fn digit(number: u64) -> u8
     requires { number < 10 }
     ensures { result ≡ 48 + number }
