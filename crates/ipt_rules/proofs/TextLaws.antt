@@ -163,6 +163,17 @@ at_most n m h = grind (arith, nat_tests)
 below : (n m : ℕ) → nat_le n m ≡ true → n ≤ m
 below n m h = grind (arith, nat_tests)
 
+-- ports are asked for beside a protocol alone
+nothing_asked : (proto : Option ProtoMatch) (sport dport : Option PortMatch) → proto ≡ None
+    → is_protocol proto && (are_ports (names_ports proto) sport && are_ports (names_ports proto) dport) ≡ true → service_text proto sport dport ≡ []
+nothing_asked None None None none legal = refl
+nothing_asked None None (Some d) none legal = cc
+nothing_asked None (Some s) dport none legal = cc
+nothing_asked (Some part) sport dport none legal = cc
+
+pub no_service : (rule : Rule) → rule.proto ≡ None → is_rule rule ≡ true → service_text rule.proto rule.sport rule.dport ≡ []
+no_service rule none legal = nothing_asked rule.proto rule.sport rule.dport none legal
+
 rule_asks : (rule : Rule) → is_rule rule ≡ true → length (service_text rule.proto rule.sport rule.dport) ≤ 58
 rule_asks rule legal =
     let ports = are_ports (names_ports rule.proto) rule.sport && are_ports (names_ports rule.proto) rule.dport in

@@ -5,7 +5,7 @@ ghost use Rattle.std.specs.Prelude.{◌≡◌, ◌<◌, ◌≤◌, ◌++◌, len
 ghost use Rattle.text_core.specs.inner.Line.{cut};
 ghost use Rattle.ipt_rules.specs.inner.Jumps.{JumpsIn};
 ghost use Rattle.ipt_rules.specs.Chain.{name_of};
-ghost use Rattle.ipt_rules.specs.Text.{negation_text, address_text, state_text, states_text, target_text, policy_text};
+ghost use Rattle.ipt_rules.specs.Text.{newline, negation_text, address_text, state_text, states_text, target_text, policy_text};
 
 use crate::chain::Chain;
 use crate::rule::{AddrMatch, Policy, StateMatch, Target};
@@ -72,7 +72,7 @@ fn put_states(buffer: &mut [u8; 320], at: usize, new: bool, established: bool) -
     }
 }
 
-#[tactic(auto, using(text_core::proofs::LineLaws::nothing_put))]
+/// Puts the target of a rule and ends its line.
 pub(crate) fn put_target(
     buffer: &mut [u8; 320],
     at: usize,
@@ -81,19 +81,20 @@ pub(crate) fn put_target(
 ) -> usize
     requires fits { at ≤ 320 }
     requires there { JumpsIn (length chains.now) target }
-    ensures text { take result buffer.new ≡ cut 320 (take at buffer.old ++ target_text chains.now target) }
+    ensures text { take result buffer.new ≡ cut 320 (take at buffer.old ++ (target_text chains.now target ++ newline)) }
     ensures within { result ≤ 320 }
     ensures short { length (target_text chains.now target) ≤ 68 }
 {
     match target {
-        Target::Accept => put(buffer, at, b" -j ACCEPT"),
-        Target::Drop => put(buffer, at, b" -j DROP"),
-        Target::Reject => put(buffer, at, b" -j REJECT"),
-        Target::Return => put(buffer, at, b" -j RETURN"),
-        Target::Count => at,
+        Target::Accept => put(buffer, at, b" -j ACCEPT\n"),
+        Target::Drop => put(buffer, at, b" -j DROP\n"),
+        Target::Reject => put(buffer, at, b" -j REJECT\n"),
+        Target::Return => put(buffer, at, b" -j RETURN\n"),
+        Target::Count => put(buffer, at, b"\n"),
         Target::Jump(chain) => {
             let option = put(buffer, at, b" -j ");
-            put(buffer, option, name_of(chains, chain))
+            let name = put(buffer, option, name_of(chains, chain));
+            put(buffer, name, b"\n")
         }
     }
 }

@@ -1,22 +1,37 @@
 //! The pieces of a rule's line on protocols and ports, each put after what the buffer holds.
 
-ghost use Rattle.std.specs.Prelude.{◌≡◌, ◌≤◌, ◌++◌, ◌||◌, take, is_some, codes, decimal, if◌then◌else◌, nat_lt, []};
+ghost use Rattle.std.specs.Prelude.{◌≡◌, ◌≤◌, ◌++◌, ◌||◌, take, is_some, codes, decimal, if◌then◌else◌, nat_lt, [], IsTrue, Some};
 ghost use Rattle.text_core.specs.inner.Line.{cut};
 ghost use Rattle.host_net.specs.ServiceText.{protocol_text};
-ghost use Rattle.ipt_rules.specs.Text.{module_text, port_text, ports_text, protocol_part_text, service_text};
+ghost use Rattle.ipt_rules.specs.inner.RuleParts.{is_rule};
+ghost use Rattle.ipt_rules.specs.Text.{module_text, port_text, ports_text, service_text};
 
 use crate::pieces::put_negation;
 use crate::rule::{PortMatch, ProtoMatch, Rule};
 use text_core::{put, put_number};
 
-/// Puts the protocol and the ports that a rule asks for.
+/// Puts the protocol and the ports that a rule asks for. It asks for ports beside a protocol alone.
 pub(crate) fn put_service(buffer: &mut [u8; 320], at: usize, rule: &Rule) -> usize
-    requires { at ≤ 320 }
+    requires fits { at ≤ 320 }
+    requires parts { IsTrue (is_rule rule.now) }
     ensures text { take result buffer.new ≡ cut 320 (take at buffer.old ++ service_text rule.now.proto rule.now.sport rule.now.dport) }
     ensures within { result ≤ 320 }
 {
-    let proto = put_protocol_part(buffer, at, rule.proto);
-    let module = put_module(buffer, proto, rule.proto, asks_for_ports(rule));
+    match rule.proto {
+        None => at,
+        Some(asked) => put_asked(buffer, at, asked, rule),
+    }
+}
+
+fn put_asked(buffer: &mut [u8; 320], at: usize, asked: ProtoMatch, rule: &Rule) -> usize
+    requires { at ≤ 320 }
+    ensures text { take result buffer.new ≡ cut 320 (take at buffer.old ++ service_text (Some asked) rule.now.sport rule.now.dport) }
+    ensures within { result ≤ 320 }
+{
+    let mark = put_negation(buffer, at, asked.negated);
+    let option = put(buffer, mark, b" -p ");
+    let proto = put_protocol(buffer, option, asked.proto);
+    let module = put_module(buffer, proto, asked, asks_for_ports(rule));
     let sport = put_port_part(buffer, module, b" --sport ", rule.sport);
     put_port_part(buffer, sport, b" --dport ", rule.dport)
 }
@@ -28,33 +43,16 @@ fn asks_for_ports(rule: &Rule) -> bool
 }
 
 #[tactic(auto, using(text_core::proofs::LineLaws::nothing_put))]
-fn put_protocol_part(buffer: &mut [u8; 320], at: usize, part: Option<ProtoMatch>) -> usize
+fn put_module(buffer: &mut [u8; 320], at: usize, asked: ProtoMatch, ports: bool) -> usize
     requires { at ≤ 320 }
-    ensures text { take result buffer.new ≡ cut 320 (take at buffer.old ++ protocol_part_text part) }
+    ensures text { take result buffer.new ≡ cut 320 (take at buffer.old ++ module_text (Some asked) ports) }
     ensures within { result ≤ 320 }
 {
-    match part {
-        None => at,
-        Some(asked) => {
-            let mark = put_negation(buffer, at, asked.negated);
-            let option = put(buffer, mark, b" -p ");
-            put_protocol(buffer, option, asked.proto)
-        }
-    }
-}
-
-#[tactic(auto, using(text_core::proofs::LineLaws::nothing_put))]
-fn put_module(buffer: &mut [u8; 320], at: usize, part: Option<ProtoMatch>, ports: bool) -> usize
-    requires { at ≤ 320 }
-    ensures text { take result buffer.new ≡ cut 320 (take at buffer.old ++ module_text part ports) }
-    ensures within { result ≤ 320 }
-{
-    match part {
-        Some(asked) if ports => {
-            let option = put(buffer, at, b" -m ");
-            put_protocol(buffer, option, asked.proto)
-        }
-        _ => at,
+    if ports {
+        let option = put(buffer, at, b" -m ");
+        put_protocol(buffer, option, asked.proto)
+    } else {
+        at
     }
 }
 

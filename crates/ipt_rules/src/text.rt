@@ -127,6 +127,5 @@ fn write_rule_line(chains: &[Chain], name: &[u8], rule: &Rule, buffer: &mut [u8;
     let dst = put_address_part(buffer, src, b" -d ", rule.dst);
     let service = put_service(buffer, dst, rule);
     let state = put_state_part(buffer, service, rule.state);
-    let target = put_target(buffer, state, chains, rule.target);
-    put(buffer, target, b"\n")
+    put_target(buffer, state, chains, rule.target)
 }

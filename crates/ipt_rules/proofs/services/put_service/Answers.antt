@@ -1,7 +1,13 @@
-use Rattle.std.proofs.Common.{append_assoc}
-use Rattle.text_core.proofs.LineLaws.{cut_cut}
+use Rattle.std.proofs.Common.{List, ℕ, ◌++◌, ap, sym, ◌∙◌, take}
+use Rattle.text_core.specs.inner.Line.{cut}
+use Rattle.text_core.proofs.LineLaws.{nothing_put}
+use Rattle.ipt_rules.proofs.TextLaws.{no_service}
 use Rattle.ipt_rules.proofs.services.put_service.Goals as goal
 
-pub returns-clause-text : goal.returns-clause-text
-returns-clause-text c =
-    rw (c.put_port_part.ensures.text, c.put_port_part-sport.ensures.text, c.put_module-module.ensures.text, c.put_protocol_part-proto.ensures.text, c.asks_for_ports.ensures) (simp (cut_cut, append_assoc))
+pub returns-in-None-clause-text : goal.returns-in-None-clause-text
+returns-in-None-clause-text c =
+    nothing_put 320 c.args.at c.args.buffer.now c.requires.fits
+    ∙ ap (λ (piece : List ℕ). cut 320 (take c.args.at c.args.buffer.now ++ piece)) (sym (no_service c.args.rule.now c.in-None.is c.requires.parts))
+
+pub returns-in-Some-clause-text : goal.returns-in-Some-clause-text
+returns-in-Some-clause-text c = rw c.in-Some.is c.put_asked.ensures.text
