@@ -1,6 +1,5 @@
 pub mod DecimalLaws
 pub mod DecimalLemmas
-mod DigitLemmas
 pub mod FirstPairLaws
 pub mod FirstsLaws
 pub mod FirstsLemmas

@@ -1,9 +1,10 @@
 -- What one piece of a line leaves in the buffer.
-use Rattle.std.proofs.Common.{◌≡◌, ℕ, ◌+◌, ◌-◌, ◌≤◌, min, List, ◌++◌, take, length, ap, sym, ◌∙◌, arith, length-take}
-use Rattle.std.proofs.lemmas.List.{take_min, length-take-le}
+use Rattle.std.proofs.Common.{◌≡◌, ℕ, ◌+◌, ◌-◌, ◌<◌, ◌≤◌, min, List, [], ◌∷◌, ◌++◌, take, set, length, ap, sym, ◌∙◌, arith, length-append, length-take}
+use Rattle.std.proofs.lemmas.List.{take_all, take_min, take_more_set, take-append-le, length-take-le}
 use Rattle.std.proofs.lemmas.Slice.{take-put_mid}
 use Rattle.std.proofs.Math.Seq.{take-append-add}
 use Rattle.text_core.specs.inner.Line.{cut}
+use Rattle.text_core.proofs.LineLaws.{cut_whole}
 use borrow.Rule.Slice.PartMut.{put_mid}
 
 -- a piece goes in as far as there is room after what stands already
@@ -23,3 +24,18 @@ piece_put room at fits old piece new h whole e written =
     take-put_mid at (at + fits - at) old new (at + fits) width (omega arith)
     ∙ ap (λ bs. take at old ++ bs) taken
     ∙ sym (cut_piece room at (take at old) piece front h)
+
+-- a byte goes in where there is room for it
+pub byte_put : (room at byte : ℕ) (old : List ℕ) → length old ≡ room → at < room → take (at + 1) (set old at byte) ≡ cut room (take at old ++ byte ∷ [])
+byte_put room at byte old whole there =
+    let front = take at old in
+    let short : length (front ++ byte ∷ []) ≤ room = omega (arith, length-append front (byte ∷ []), length-take-le at old (omega arith)) in
+    take_more_set old at byte (omega arith) ∙ sym (cut_whole room (front ++ byte ∷ []) short)
+
+-- and is left out where the buffer is full
+pub byte_left : (room at byte : ℕ) (old : List ℕ) → length old ≡ room → at ≡ room → take at old ≡ cut room (take at old ++ byte ∷ [])
+unfolding cut
+byte_left room at byte old whole full =
+    let front = take at old in
+    let long : length front ≡ room = omega (arith, full, length-take-le at old (omega (arith, whole, full))) in
+    sym (take-append-le room front (byte ∷ []) (omega arith) ∙ take_all room front (omega arith))
