@@ -21,6 +21,7 @@ pub(crate) fn put_negation(buffer: &mut [u8; 320], at: usize, negated: bool) -> 
     if negated { put(buffer, at, b" !") } else { at }
 }
 
+#[inline(always)]
 #[tactic(auto, using(text_core::proofs::LineLaws::nothing_put))]
 pub(crate) fn put_address_part(
     buffer: &mut [u8; 320],
