@@ -1,15 +1,14 @@
 -- The lines of a text that go into a sink in blocks.
-use Rattle.std.proofs.Common.{◌≡◌, ℕ, zero, suc, ◌+◌, ◌≤◌, List, [], ◌∷◌, ◌++◌, Option, Some, inl, inr, length, take, drop, arith, refl, ap, sym, subst, ◌∙◌, append_assoc, add-one, length-append, length-take}
-use Rattle.std.proofs.lemmas.List.{append-nil}
-use Rattle.std.proofs.Math.Seq.{take_all}
+use Rattle.std.proofs.Common.{◌≡◌, ℕ, zero, suc, ◌+◌, ◌≤◌, List, [], ◌∷◌, ◌++◌, Option, Some, inl, inr, length, take, drop, arith, refl, ap, sym, subst, ◌∙◌, append_assoc, add-one}
+use Rattle.std.proofs.lemmas.List.{append-nil, length-take-le, take-append-le}
+use Rattle.std.proofs.Math.Seq.{take_all, take-append-add}
 use Rattle.std.specs.Prelude.{slice_get}
 use Rattle.std.specs.List.{concat}
 use Rattle.std.specs.Io.KnownBytes.{append_known}
 use Rattle.edge_io.specs.Told.{TookPrefix}
-use Rattle.text_core.specs.inner.Line.{cut}
-use Rattle.text_core.proofs.LineLaws.{cut_whole}
 use Rattle.topos_top.specs.inner.Blocks.{HasRoom}
 use Rattle.edge_io.proofs.PutLaws.{append_known-append, TookPrefix-after}
+use borrow.Rule.Slice.PartMut.{post_of, put_mid}
 
 pub concat-take_suc : (lines : List (List ℕ)) (i : ℕ) (line : List ℕ) → slice_get lines i ≡ Some line
     → concat (take (suc i) lines) ≡ concat (take i lines) ++ line
@@ -74,10 +73,16 @@ put_whole old now new lines i waiting sofar end step =
     let done = sofar_put old now new lines i waiting sofar step in
     done.put ∙ ap (append_known old) (sym (append-nil done.front) ∙ sym done.all ∙ ap concat (take_all i lines end))
 
--- a line that fits behind what fills the block stands there whole
-pub line_stands : (left filled : ℕ) (block new line : List ℕ) → left ≤ 8192 → length line ≤ 320 → take filled new ≡ cut 8512 (take left block ++ line) → take filled new ≡ take left block ++ line
-line_stands left filled block new line room short put =
-    put ∙ cut_whole 8512 (take left block ++ line) (omega (arith, room, short, length-append (take left block) line, length-take left block))
+-- what is written to the front of the room stands behind what fills the block
+pub written_behind : (at room n : ℕ) (old new : List ℕ) → at ≤ length old → n ≤ length new
+    → take (at + n) (put_mid at room old new) ≡ take at old ++ take n new
+written_behind at room n old new within fits =
+    let front = take at old in
+    let long : at + n ≡ length front + n = omega (arith, length-take-le at old within) in
+    let end = post_of at room old in
+    ap (λ (m : ℕ). take m (put_mid at room old new)) long
+    ∙ take-append-add front (new ++ end) n
+    ∙ ap (λ (bytes : List ℕ). front ++ bytes) (take-append-le n new end fits)
 
 pub sofar_as : (old now : Option (List ℕ)) (lines : List (List ℕ)) (i : ℕ) (waiting other : List ℕ) → other ≡ waiting → IsSofar old now lines i waiting → IsSofar old now lines i other
 sofar_as old now lines i waiting other same sofar = subst (λ (bytes : List ℕ). IsSofar old now lines i bytes) (sym same) sofar

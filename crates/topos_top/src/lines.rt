@@ -1,7 +1,7 @@
 //! Putting a text into a sink in blocks of lines, so that the text is never held whole and a write
 //! takes many of its lines. The block stands on the stack.
 
-ghost use Rattle.std.specs.Prelude.{◌≡◌, ◌≤◌, OnOk, OnErr, IfOk, take};
+ghost use Rattle.std.specs.Prelude.{◌≡◌, ◌<◌, ◌≤◌, OnOk, OnErr, IfOk, Some, length, slice_get, take};
 ghost use Rattle.std.specs.List.{concat};
 ghost use Rattle.std.specs.Io.KnownBytes.{append_known};
 ghost use Rattle.edge_io.specs.Counts.{Rose};
@@ -11,7 +11,6 @@ ghost use Rattle.topos_top.specs.inner.Blocks.{HasRoom};
 use edge_io::{Sink, WriteFault, put_all};
 use ipt_rules::Ruleset;
 use ofp_rules::Table;
-use text_core::put;
 
 /// The most bytes of a line.
 const LINE: usize = 320;
@@ -76,14 +75,25 @@ pub fn put_lines<T: Lines, O: Sink>(sink: &mut O, text: &T) -> Result<(), WriteF
     ensures fault { OnErr result (Rose (O.faults sink.old) (O.faults sink.new)) }
 {
     let mut block = [0; BLOCK];
-    let mut line = [0; LINE];
     let mut filled = 0;
     for i in 0..text.count() {
         let start = make_room(sink, &block, filled)?;
-        let length = text.write(i, &mut line);
-        filled = put(&mut block, start, &line[..length]);
+        filled = start + write_front(text, i, &mut block[start..]);
     }
     put_all(sink, &block[..filled])
+}
+
+/// Writes line `i` to the front of the room, and answers its length.
+fn write_front<T: Lines>(text: &T, i: u32, room: &mut [u8]) -> usize
+    requires there { i < length (T.lines_of text.now) }
+    requires fits { 320 ≤ length room.old }
+    ensures line { slice_get (T.lines_of text.now) i ≡ Some (take result room.new) }
+    ensures short { result ≤ 320 }
+{
+    let Some(front) = room.first_chunk_mut::<LINE>() else {
+        unreachable!()
+    };
+    text.write(i, front)
 }
 
 /// Puts the block where what is left of it may be too little for a line, and answers how much of it is

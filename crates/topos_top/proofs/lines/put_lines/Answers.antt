@@ -1,5 +1,6 @@
-use Rattle.std.proofs.Common.{◌+◌, take, arith, length-take}
-use Rattle.topos_top.proofs.PutBlocks.{sofar_as, sofar_room, sofar_line, line_stands, cut_in_block}
+use Rattle.std.proofs.Common.{◌+◌, ◌-◌, take, arith}
+use Rattle.topos_top.proofs.PutBlocks.{sofar_as, sofar_room, sofar_line, written_behind, cut_in_block}
+use borrow.Rule.Slice.PartMut.{mid_len}
 use Rattle.topos_top.proofs.lines.put_lines.Goals as goal
 
 pub returns-in_err-start-clause-prefix : goal.returns-in_err-start-clause-prefix
@@ -9,14 +10,14 @@ returns-in_err-start-clause-prefix g c =
 pub loop-i-preserved : goal.loop-i-preserved
 loop-i-preserved g c =
     let lines = g.T.Lines.lines_of c.args.text.now in
-    let line = take c.write-length.result c.write-length.new.buffer in
-    let room = sofar_room _ _ _ lines c.loop-i.i (take c.loop-i.filled c.loop-i.block) (take c.in_ok-start.start c.loop-i.block) c.loop-i.invariant.sofar c.in_ok-start.ensures.left in
-    let stands = line_stands c.in_ok-start.start c.put-filled.result c.loop-i.block c.put-filled.new.buffer line c.in_ok-start.ensures.room
-    (omega (arith, c.write-length.ensures.short, length-take c.write-length.result c.write-length.new.buffer)) c.put-filled.ensures.text in
+    let start = c.in_ok-start.start in
+    let new = c.write_front.new.room in
+    let room = sofar_room _ _ _ lines c.loop-i.i (take c.loop-i.filled c.loop-i.block) (take start c.loop-i.block) c.loop-i.invariant.sofar c.in_ok-start.ensures.left in
+    let long = mid_len start 8512 c.loop-i.block (omega arith) in
+    let stands = written_behind start (8512 - start) c.write_front.result c.loop-i.block new (omega (arith, c.in_ok-start.ensures.room)) (omega (arith, c.in_ok-start.ensures.room, c.write_front.ensures.short, long)) in
     record {
-      sofar = sofar_as _ _ lines (c.loop-i.i + 1) _ _ stands
-          (sofar_line _ _ lines c.loop-i.i (take c.in_ok-start.start c.loop-i.block) line room c.write-length.ensures.line);
-      fits = c.put-filled.ensures.within;
+      sofar = sofar_as _ _ lines (c.loop-i.i + 1) _ _ stands (sofar_line _ _ lines c.loop-i.i (take start c.loop-i.block) (take c.write_front.result new) room c.write_front.ensures.line);
+      fits = omega (arith, c.in_ok-start.ensures.room, c.write_front.ensures.short);
       faults_stay = omega (arith, c.loop-i.invariant.faults_stay, c.in_ok-start.ensures.faults_stay);
     }
 
