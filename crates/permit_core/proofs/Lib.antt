@@ -4,4 +4,5 @@ pub mod GrownLaws
 pub mod PolicyLaws
 pub mod Step
 pub mod TrialLaws
+pub mod TriedLaws
 pub mod Turning

@@ -1,3 +1,4 @@
 pub mod Denied
 pub mod Grown
 pub mod Trials
+pub mod Tried

@@ -24,30 +24,16 @@ impl<I> Choice<I> for Every {
     }
 }
 
-/// Those of a choice that judge flows alone.
-#[derive(Drop)]
-pub(crate) struct JudgingAlone<'a, C> {
-    pub(crate) choice: &'a C,
+/// Whether the invariant is chosen and judges flows alone.
+pub(crate) fn judges_alone<I: Invariant, C: Choice<I>>(choice: &C, inv: &I) -> bool
+    ensures { result ≡ (C.chosen choice.now inv.now && I.edge_mark inv.now) }
+{
+    choice.chooses(inv) && inv.edge_wise()
 }
 
-impl<'a, I: Invariant, C: Choice<I>> Choice<I> for JudgingAlone<'a, C> {
-    ghost chosen = { λ c inv. C.chosen c.choice.now inv && I.edge_mark inv };
-
-    fn chooses(&self, inv: &I) -> bool {
-        self.choice.chooses(inv) && inv.edge_wise()
-    }
-}
-
-/// Those of a choice that judge flows together.
-#[derive(Drop)]
-pub(crate) struct JudgingTogether<'a, C> {
-    pub(crate) choice: &'a C,
-}
-
-impl<'a, I: Invariant, C: Choice<I>> Choice<I> for JudgingTogether<'a, C> {
-    ghost chosen = { λ c inv. C.chosen c.choice.now inv && not (I.edge_mark inv) };
-
-    fn chooses(&self, inv: &I) -> bool {
-        self.choice.chooses(inv) && !inv.edge_wise()
-    }
+/// Whether the invariant is chosen and judges flows together.
+pub(crate) fn judges_together<I: Invariant, C: Choice<I>>(choice: &C, inv: &I) -> bool
+    ensures { result ≡ (C.chosen choice.now inv.now && not (I.edge_mark inv.now)) }
+{
+    choice.chooses(inv) && !inv.edge_wise()
 }

@@ -4,6 +4,7 @@
 #![tactic(auto)]
 
 mod choice;
+mod chosen;
 mod condition;
 mod denial;
 mod denial_by_steps;
@@ -15,8 +16,10 @@ mod policy;
 mod policy_by_steps;
 mod steps;
 mod trials;
+mod tried;
 
 pub use choice::{Choice, Every};
+pub use chosen::{step_chosen, trials_together};
 pub use condition::Condition;
 pub use denial::blame;
 pub use denial_by_steps::blame_by_steps;
@@ -27,4 +30,5 @@ pub use pass::first_subset;
 pub use policy::permit;
 pub use policy_by_steps::permit_by_steps;
 pub use steps::{SteppedCondition, first_subset_by_steps};
-pub use trials::{step_chosen, trials_of};
+pub use trials::trials_of;
+pub use tried::TriedInvariant;

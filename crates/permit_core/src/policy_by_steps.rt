@@ -1,20 +1,21 @@
 //! The permitted policy by trials: no invariant is asked about the whole set again.
 
-ghost use Rattle.std.specs.Prelude.{◌≡◌, All, true, IsTrue, IfOk};
+ghost use Rattle.std.specs.Prelude.{◌≡◌, All, not, IsTrue, IfOk};
 ghost use Rattle.flow_set.specs.inner.FlowSetView.{IsFlowSet};
 ghost use Rattle.flow_set.specs.Conditions.{IsFirst, IsGreatest};
 ghost use Rattle.permit_core.specs.Policy.{AllHold};
-ghost use Rattle.permit_core.specs.inner.Trials.{AreTried};
+ghost use Rattle.permit_core.specs.inner.Tried.{ChosenTried};
 
 use crate::choice::Every;
+use crate::chosen::{step_chosen, trials_together};
 use crate::steps::{SteppedCondition, first_subset_by_steps};
-use crate::trials::{step_chosen, trials_of};
+use crate::tried::TriedInvariant;
 use flow_set::{Flow, FlowSet};
 use inv_law::Stepwise;
 use std::alloc::{AllocError, Global};
 
-/// What `permit` answers, from one trial of each invariant. They are made first, and after them only
-/// the answer takes memory.
+/// What `permit` answers, from one trial of each invariant that judges flows together. They are made first,
+/// and after them only the answer takes memory.
 pub fn permit_by_steps<I: Stepwise>(
     alloc: Global,
     invs: &[I],
@@ -29,7 +30,7 @@ pub fn permit_by_steps<I: Stepwise>(
 {
     let size = asked.size();
     let none = FlowSet::empty(alloc, size)?;
-    let mut trials = trials_of(alloc, invs, &none)?;
+    let mut trials = trials_together(alloc, &Every, invs, &none)?;
     first_subset_by_steps(alloc, &Together { invs, size }, &mut trials, asked)
 }
 
@@ -41,16 +42,21 @@ struct Together<'a, I> {
 }
 
 impl<'a, I: Stepwise> SteppedCondition for Together<'a, I> {
-    type State = Vec<I::Tried>;
+    type State = Vec<TriedInvariant<'a, I, I::Tried>>;
 
     ghost size_of = { λ c. c.size };
 
     ghost meets_on = { λ c. AllHold I.holds_on c.invs.now };
 
     ghost has_come_to = { λ c trials e. All (λ inv. I.size_of inv ≡ c.size) c.invs.now
-        × AreTried I.fits I.Tried.tried (λ _. true) c.invs.now trials.items e };
+        × ChosenTried I.fits I.Tried.tried (λ inv. not (I.edge_mark inv)) c.invs.now trials.items e };
 
-    fn goes_on(&self, trials: &mut Vec<I::Tried>, _kept: &FlowSet, f: Flow) -> bool {
+    fn goes_on(
+        &self,
+        trials: &mut Vec<TriedInvariant<'a, I, I::Tried>>,
+        _kept: &FlowSet,
+        f: Flow,
+    ) -> bool {
         step_chosen(&Every, self.invs, trials, f)
     }
 }

@@ -1,20 +1,22 @@
 //! The stateful flows by trials: each begins with the permitted flows and takes the answers as steps.
 
-ghost use Rattle.std.specs.Prelude.{◌≡◌, All, IfOk};
+ghost use Rattle.std.specs.Prelude.{◌≡◌, ◌&&◌, All, not, IfOk};
 ghost use Rattle.flow_set.specs.FlowSet.{with_back};
 ghost use Rattle.flow_set.specs.inner.FlowSetView.{IsFlowSet};
 ghost use Rattle.flow_set.specs.Conditions.{IsFirst};
 ghost use Rattle.state_core.specs.Stateful.{is_strict, StrictHold, CompliesWithEach};
-ghost use Rattle.permit_core.specs.inner.Trials.{AreTried};
+ghost use Rattle.permit_core.specs.inner.Tried.{ChosenTried};
 
 use crate::refinement::Strict;
 use flow_set::{Flow, FlowSet};
 use inv_law::Stepwise;
-use permit_core::{SteppedCondition, first_subset_by_steps, step_chosen, trials_of};
+use permit_core::{
+    SteppedCondition, TriedInvariant, first_subset_by_steps, step_chosen, trials_together,
+};
 use std::alloc::{AllocError, Global};
 
-/// What `refine` answers, from one trial of each invariant. They are made first, and after them only
-/// the answer takes memory.
+/// What `refine` answers, from one trial of each strict invariant that judges flows together. They are made
+/// first, and after them only the answer takes memory.
 pub fn refine_by_steps<I: Stepwise>(
     alloc: Global,
     invs: &[I],
@@ -29,7 +31,7 @@ pub fn refine_by_steps<I: Stepwise>(
         p.now.flows s.flows) }
     ensures complies { IfOk result (λ s. CompliesWithEach I.strategy_of I.holds_on invs.now p.now.flows s.flows) }
 {
-    let mut trials = trials_of(alloc, invs, p)?;
+    let mut trials = trials_together(alloc, &Strict, invs, p)?;
     let answered = Answered {
         invs,
         permitted: p,
@@ -47,17 +49,27 @@ struct Answered<'a, I> {
 }
 
 impl<'a, I: Stepwise> SteppedCondition for Answered<'a, I> {
-    type State = Vec<I::Tried>;
+    type State = Vec<TriedInvariant<'a, I, I::Tried>>;
 
     ghost size_of = { λ c. c.size };
 
     ghost meets_on = { λ c s. StrictHold I.strategy_of I.edge_mark I.holds_on c.invs.now (with_back c.permitted.now.flows s) };
 
-    ghost has_come_to = { λ c trials s. IsFlowSet c.size c.permitted.now.flows
+    ghost has_come_to = { λ c trials s. (c.permitted.now.size ≡ c.size) × IsFlowSet c.size c.permitted.now.flows
         × All (λ inv. I.size_of inv ≡ c.size) c.invs.now
-        × AreTried I.fits I.Tried.tried (λ inv. is_strict (I.strategy_of inv) (I.edge_mark inv)) c.invs.now trials.items (with_back c.permitted.now.flows s) };
+        × ChosenTried I.fits I.Tried.tried (λ inv. is_strict (I.strategy_of inv) (I.edge_mark inv) && not (I.edge_mark inv)) c.invs.now trials.items (with_back c.permitted.now.flows s) };
 
-    fn goes_on(&self, trials: &mut Vec<I::Tried>, _kept: &FlowSet, f: Flow) -> bool {
-        step_chosen(&Strict, self.invs, trials, f.back())
+    fn goes_on(
+        &self,
+        trials: &mut Vec<TriedInvariant<'a, I, I::Tried>>,
+        _kept: &FlowSet,
+        f: Flow,
+    ) -> bool {
+        let answer = f.back();
+        // An answer that is permitted as a flow of its own adds nothing.
+        if self.permitted.has(answer) {
+            return true;
+        }
+        step_chosen(&Strict, self.invs, trials, answer)
     }
 }

@@ -1,5 +1,5 @@
 -- Lists of invariants with a trial of each. Two lists stand side by side: what has one number belongs together.
-use Rattle.std.specs.Prelude.{◌≡◌, ℕ, ◌<◌, Bool, List, All, length, slice_index_or, IsFalse, IsTrue}
+use Rattle.std.specs.Prelude.{◌≡◌, ℕ, ◌<◌, Bool, List, All, length, slice_index_or, IsTrue}
 use Rattle.flow_set.specs.declared.flow.Flow.{Flow}
 use Rattle.flow_set.specs.inner.Steps.{TriedFlows}
 
@@ -16,17 +16,6 @@ pub record AreTried {X T : Type 0} (Fits : X → T → Type 0) (tried : T → Tr
   pub counted : length trials ≡ length invs
   pub fits : EachPair Fits invs trials
   pub flows : EachChosen chosen (λ _ t. (tried t).flows ≡ e) invs trials
-
--- each invariant has a trial that fits it, and each chosen one holds of the flows of its trial
-pub record ChosenHoldOf {X T : Type 0} (Fits : X → T → Type 0) (tried : T → TriedFlows) (chosen : X → Bool) (HoldsOn : X → List Flow → Type 0) (invs : List X) (trials : List T) : Type 0 where
-  pub counted : length trials ≡ length invs
-  pub fits : EachPair Fits invs trials
-  pub held : EachChosen chosen (λ inv t. HoldsOn inv (tried t).flows) invs trials
-
--- the trials of the invariants that are not chosen are as they were
-abbrev pub OthersStay : {X T : Type 0} → (X → Bool) → List X → List T → List T → Type 0
-OthersStay chosen invs old new =
-    (k : ℕ) (x : _) (t : _) → k < length invs → IsFalse (chosen (slice_index_or invs k x)) → slice_index_or new k t ≡ slice_index_or old k t
 
 -- the chosen invariants hold of the flows e
 abbrev pub ChosenHold : {X : Type 0} → (X → Bool) → (X → List Flow → Type 0) → List X → List Flow → Type 0

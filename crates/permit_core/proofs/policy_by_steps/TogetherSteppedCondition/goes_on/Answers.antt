@@ -1,18 +1,31 @@
-use Rattle.std.proofs.Common.{true, refl}
-use Rattle.permit_core.proofs.TrialLaws.{ChosenHold-tried, AreTried-step}
+use Rattle.std.proofs.Common.{get_or, not, true, refl, subst}
+use Rattle.flow_set.specs.inner.Downward.{IsEdgeWise}
+use Rattle.permit_core.proofs.TriedLaws.{CanTake-chosen, ChosenHold-step, ChosenTried-step}
 use Rattle.permit_core.proofs.policy_by_steps.TogetherSteppedCondition.goes_on.Goals as goal
+
+pub step_chosen-requires-clause-can : goal.step_chosen-requires-clause-can
+step_chosen-requires-clause-can g c =
+    let inv = g.I.Invariant in
+    CanTake-chosen c.args.self.now.size inv.size_of inv.holds_on g.I.Stepwise.fits g.I.Tried.Trial.tried
+    (λ _. true) inv.edge_mark c.args.self.now.invs.now c.args.trials.now.items c.args._kept.now.flows c.args.f
+    c.requires.come.0 c.requires.new.flow (λ k x below _. c.requires.held k x below) c.requires.come.1
 
 pub returns-clause-answer : goal.returns-clause-answer
 returns-clause-answer g c =
+    let inv = g.I.Invariant in
+    let n = c.args.self.now.size in
+    let invs = c.args.self.now.invs.now in
     let law =
-    ChosenHold-tried g.I.Stepwise.fits g.I.Tried.Trial.tried
-    (λ _. true) g.I.Invariant.holds_on c.args.self.now.invs.now c.args.trials.now.items c.args._kept.now.flows c.args.f c.requires.come.1 in
+    ChosenHold-step n inv.holds_on g.I.Stepwise.fits g.I.Tried.Trial.tried
+    (λ _. true) inv.edge_mark invs c.args.trials.now.items c.args._kept.now.flows c.args.f
+    (λ k d below marked. subst (λ m. IsEdgeWise m (inv.holds_on (get_or invs k d))) (c.requires.come.0 k d below) (g.met.I.Invariant.mark_is_right (get_or invs k d) marked))
+    c.requires.new.set c.requires.new.flow (λ k x below _. c.requires.held k x below) c.requires.come.1 in
     (λ yes k x below. law.0 (c.step_chosen.ensures.answer.0 yes) k x below refl, λ all. c.step_chosen.ensures.answer.1 (law.1 (λ k x below _. all k x below)))
 
 pub returns-clause-come : goal.returns-clause-come
 returns-clause-come g c = (
   c.requires.come.0,
-  AreTried-step g.I.Stepwise.fits g.I.Tried.Trial.tried
-      (λ _. true) c.args.self.now.invs.now c.args.trials.now.items c.step_chosen.new.trials.items c.args._kept.now.flows c.args.f c.step_chosen.result
-      c.requires.come.1 c.step_chosen.ensures.counted c.step_chosen.ensures.fits c.step_chosen.ensures.flows,
+  ChosenTried-step g.I.Stepwise.fits g.I.Tried.Trial.tried
+      (λ inv. not (g.I.Invariant.edge_mark inv)) c.args.self.now.invs.now c.args.trials.now.items c.step_chosen.new.trials.items c.args._kept.now.flows c.args.f c.step_chosen.result
+      c.requires.come.1 c.step_chosen.ensures.flows,
 )
