@@ -8,7 +8,7 @@ ghost use Rattle.ipt_rules.specs.Loops.{HasNoLoop};
 ghost use Rattle.ipt_rules.specs.inner.RuleParts.{is_rule};
 ghost use Rattle.emit_core.specs.inner.Filling.{with_rules};
 
-use ipt_rules::{BuildRefusal, Chains, Rule, Ruleset};
+use ipt_rules::{Chains, Rule, Ruleset};
 use std::alloc::{AllocError, Global};
 
 /// Adds the rules at the end of a chain.
@@ -31,17 +31,7 @@ pub fn build_accepted(alloc: Global, chains: Chains) -> Result<Ruleset, AllocErr
     requires no_loop { HasNoLoop chains }
     ensures { IfOk result (λ rules. rules ≡ chains) }
 {
-    match Ruleset::build(alloc, chains) {
-        Ok(rules) => Ok(rules),
-        Err(why) => Err(out_of_memory(why)),
-    }
-}
-
-fn out_of_memory(why: BuildRefusal) -> AllocError
-    requires { why ≡ BuildRefusal.Memory }
-{
-    match why {
-        BuildRefusal::Memory => AllocError,
-        _ => unreachable!(),
-    }
+    // The search finds no loop, and so an order in which each jump goes back.
+    let _none = chains.first_loop(alloc)?;
+    Ruleset::new(alloc, chains)
 }

@@ -1,16 +1,13 @@
-use Rattle.std.proofs.Common.{◌≡◌, List, None, refl}
-use Rattle.ipt_rules.specs.declared.ruleset.BuildRefusal.{BuildRefusal}
-use Rattle.ipt_rules.specs.declared.ruleset.BuildRefusal.TheVariants.{Memory}
-use Rattle.ipt_rules.specs.inner.Build.{refusal_of, RefusedFor, at_once, loops, no_memory}
+use Rattle.std.proofs.Common.{ℕ, List, Option, Some, None}
 use Rattle.ipt_rules.specs.Chain.{Chain}
 use Rattle.ipt_rules.specs.Loops.{HasNoLoop}
+use Rattle.ipt_rules.specs.inner.Ranked.{IsRanked}
 use Rattle.emit_core.proofs.filling.build_accepted.Goals as goal
 
--- where chains are accepted and have no loop only memory is left as a cause
-only_memory : (chains : List Chain) (cause : BuildRefusal) → refusal_of chains ≡ None → HasNoLoop chains → RefusedFor chains cause → cause ≡ Memory
-only_memory chains cause accepted no_loop (at_once refused) = cc
-only_memory chains cause accepted no_loop (loops {c} fine found) = absurd (no_loop c found.back)
-only_memory chains cause accepted no_loop no_memory = refl
+-- where there is no loop an order is found
+no_loop_found : (chains : List Chain) (found : Option ℕ) → HasNoLoop chains → IsRanked chains found → IsRanked chains None
+no_loop_found chains None no_loop ranked = ranked
+no_loop_found chains (Some c) no_loop loop = absurd (no_loop c loop.back)
 
-pub out_of_memory-requires : goal.out_of_memory-requires
-out_of_memory-requires c = only_memory c.args.chains c.in-Err.why c.requires.accepted c.requires.no_loop c.in-Err.ensures.refused
+pub new-requires-clause-ranked : goal.new-requires-clause-ranked
+new-requires-clause-ranked c = no_loop_found c.args.chains c.in_ok-_none._none c.requires.no_loop c.in_ok-_none.ensures
