@@ -2,3 +2,4 @@ pub mod EmitRefusals
 pub mod Filling
 pub mod FlowTableRefusals
 pub mod KeptEntries
+pub mod Link

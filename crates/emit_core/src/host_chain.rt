@@ -4,18 +4,16 @@ ghost use Rattle.std.specs.Prelude.{◌≡◌, ◌≤◌, ◌<◌, ◌++◌, len
 ghost use Rattle.std.specs.List.{flat_map};
 ghost use Rattle.std.specs.Option.{ForSome};
 ghost use Rattle.host_net.specs.Host.{rest_of};
-ghost use Rattle.emit_core.specs.Sides.{links, other_side, services_on};
-ghost use Rattle.emit_core.specs.Layout.{links_whole, is_open, drops, to_prefix, to_rest, for_each_prefix, host_rules};
+ghost use Rattle.emit_core.specs.Layout.{is_open, to_prefix, to_rest, for_each_prefix, host_rules};
+ghost use Rattle.emit_core.specs.inner.Link.{link_of, prefix_rules};
 
-mod accepts;
+mod link;
 
-use crate::narrowing::is_whole;
 use crate::parts::at_other;
-use crate::permitted::permits;
 use crate::side::Side;
-use flow_set::FlowSet;
-use host_net::{Prefix, Service};
+use host_net::Prefix;
 use ipt_rules::{Rule, Target};
+use link::Link;
 use pkt_core::FlowPolicy;
 use std::alloc::{AllocError, Global};
 
@@ -51,39 +49,13 @@ struct HostChain<'a> {
 }
 
 impl<'a> HostChain<'a> {
-    /// Whether the host may send to another, or receive from it.
-    fn permits(&self, other: u16) -> bool
+    /// What passes between the host and another.
+    fn link(&self, other: u16) -> Link<'a>
         requires { other < length self.now.policy.now.site.hosts }
-        ensures { result ≡ links self.now.side self.now.policy.now.permitted self.now.host other }
+        ensures { result ≡ link_of self.now.side self.now.policy.now.site
+            self.now.policy.now.permitted self.now.policy.now.stateful self.now.host other }
     {
-        links(self.policy.permitted(), self.side, self.host, other)
-    }
-
-    /// Whether the host may answer another, or be answered by it.
-    fn answers(&self, other: u16) -> bool
-        requires { other < length self.now.policy.now.site.hosts }
-        ensures { result ≡ links (other_side self.now.side) self.now.policy.now.stateful
-            self.now.host other }
-    {
-        let side = self.side.other();
-        links(self.policy.stateful(), side, self.host, other)
-    }
-
-    /// Whether every packet may pass that the host sends to another, or receives from it.
-    fn permits_all(&self, other: u16) -> bool
-        requires { other < length self.now.policy.now.site.hosts }
-        ensures { result ≡ links_whole self.now.side self.now.policy.now.site
-            self.now.policy.now.permitted self.now.host other }
-    {
-        self.permits(other) && is_whole(self.services_on(self.side, other))
-    }
-
-    /// The services of the flow that the host has with another on a side.
-    fn services_on(&self, side: Side, other: u16) -> &[Service]
-        ensures { result.now ≡ services_on side self.now.policy.now.site.services self.now.host other }
-    {
-        let flow = side.flow(self.host, other);
-        self.policy.services().of(flow.from, flow.to)
+        Link::of(self.policy, self.side, self.host, other)
     }
 
     /// Whether some packet to the rest host passes, or some packet from it.
@@ -93,7 +65,7 @@ impl<'a> HostChain<'a> {
     {
         match self.rest {
             None => false,
-            Some(rest) => self.permits(rest) || self.answers(rest),
+            Some(rest) => self.link(rest).is_open(),
         }
     }
 
@@ -115,37 +87,10 @@ impl<'a> HostChain<'a> {
             ++ for_each_prefix (to_prefix self.now.side self.now.policy.now.site
             self.now.policy.now.permitted self.now.policy.now.stateful self.now.host self.now.rest) 0 self.now.policy.now.site.hosts) }
     {
+        let opened = self.is_open();
         for to in 0..self.policy.count() {
-            self.push_to_host(rules, to, self.policy.prefixes(to))?;
+            push_to_host(rules, &self.link(to), opened, self.policy.prefixes(to))?;
         }
-        Ok(())
-    }
-
-    fn push_to_host(
-        &self,
-        rules: &mut Vec<Rule>,
-        to: u16,
-        prefixes: &[Prefix],
-    ) -> Result<(), AllocError>
-        requires { to < length self.now.policy.now.site.hosts }
-        ensures { OnOk result (rules.new.items ≡ rules.old.items
-            ++ flat_map (to_prefix self.now.side self.now.policy.now.site
-            self.now.policy.now.permitted self.now.policy.now.stateful self.now.host self.now.rest to) prefixes.now) }
-    {
-        for prefix in prefixes {
-            self.push_to_prefix(rules, to, *prefix)?;
-        }
-        Ok(())
-    }
-
-    fn push_to_prefix(&self, rules: &mut Vec<Rule>, to: u16, at: Prefix) -> Result<(), AllocError>
-        requires { to < length self.now.policy.now.site.hosts }
-        ensures { OnOk result (rules.new.items ≡ rules.old.items
-            ++ to_prefix self.now.side self.now.policy.now.site
-            self.now.policy.now.permitted self.now.policy.now.stateful self.now.host self.now.rest to at) }
-    {
-        self.push_accepts(rules, to, Some(at))?;
-        self.push_drops(rules, to, at)?;
         Ok(())
     }
 
@@ -155,31 +100,24 @@ impl<'a> HostChain<'a> {
             self.now.policy.now.permitted self.now.policy.now.stateful self.now.host self.now.rest) }
     {
         if let Some(rest) = self.rest {
-            self.push_accepts(rules, rest, None)?;
-        }
-        Ok(())
-    }
-
-    // In front of the rest host, what else would pass as if to it.
-    fn push_drops(&self, rules: &mut Vec<Rule>, to: u16, at: Prefix) -> Result<(), AllocError>
-        requires { to < length self.now.policy.now.site.hosts }
-        ensures { OnOk result (rules.new.items ≡ rules.old.items
-            ++ drops self.now.side self.now.policy.now.site
-            self.now.policy.now.permitted self.now.policy.now.stateful self.now.host self.now.rest to at) }
-    {
-        if self.is_open() && !self.permits_all(to) {
-            rules.push(at_other(self.side, Some(at), Target::Drop))?;
+            self.link(rest).push_accepts(rules, None)?;
         }
         Ok(())
     }
 }
 
-/// Whether the flow that a host has with another on that side is in the set.
-fn links(flows: &FlowSet, side: Side, host: u16, other: u16) -> bool
-    requires host_within { host < flows.now.size }
-    requires other_within { other < flows.now.size }
-    ensures { result ≡ links side flows.now.flows host other }
+/// Adds the rules for each prefix of the other host.
+fn push_to_host(
+    rules: &mut Vec<Rule>,
+    link: &Link<'_>,
+    opened: bool,
+    prefixes: &[Prefix],
+) -> Result<(), AllocError>
+    ensures { OnOk result (rules.new.items ≡ rules.old.items
+        ++ flat_map (prefix_rules link.now opened) prefixes.now) }
 {
-    let flow = side.flow(host, other);
-    permits(flows, flow.from, flow.to)
+    for prefix in prefixes {
+        link.push_to_prefix(rules, opened, *prefix)?;
+    }
+    Ok(())
 }

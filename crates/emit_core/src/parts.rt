@@ -1,7 +1,8 @@
 //! The few forms of rules that a layout has.
 
 ghost use Rattle.std.specs.Prelude.{◌≡◌, ◌+◌, ◌<◌, ◌^◌};
-ghost use Rattle.emit_core.specs.Layout.{chain_of, in_prefix, answering, from_source, at_other, to_service, from_service, protocol_part, port_part, ports_of_service};
+ghost use Rattle.emit_core.specs.Layout.{chain_of, in_prefix, answering, from_source, at_other, protocol_part, port_part, ports_of_service};
+ghost use Rattle.emit_core.specs.inner.Link.{accepting};
 
 use crate::narrowing::has_all_ports;
 use crate::side::Side;
@@ -43,26 +44,37 @@ pub fn at_other(side: Side, prefix: Option<Prefix>, target: Target) -> Rule
     }
 }
 
-/// A rule that accepts packets to the ports of a service; without a service it asks for none.
-pub(crate) fn to_service(side: Side, prefix: Option<Prefix>, service: Option<Service>) -> Rule
-    ensures { result ≡ to_service side prefix service }
-{
-    Rule {
-        proto: protocol_part(service),
-        dport: port_part(service),
-        ..at_other(side, prefix, Target::Accept)
-    }
+/// Which packets a rule accepts: those of a flow, or answers to one.
+#[derive(Clone, Copy, Debug, PartialEq, Eq)]
+pub(crate) enum Accepted {
+    Flow,
+    Answers,
 }
 
-/// A rule that accepts answers from the ports of a service; without a service it asks for none.
-pub(crate) fn from_service(side: Side, prefix: Option<Prefix>, service: Option<Service>) -> Rule
-    ensures { result ≡ from_service side prefix service }
+/// A rule that accepts packets to the ports of a service, or answers from them; without a service it
+/// asks for none.
+pub(crate) fn accepting(
+    accepted: Accepted,
+    side: Side,
+    prefix: Option<Prefix>,
+    service: Option<Service>,
+) -> Rule
+    ensures { result ≡ accepting accepted side prefix service }
 {
-    Rule {
-        proto: protocol_part(service),
-        sport: port_part(service),
-        state: answering(),
-        ..at_other(side, prefix, Target::Accept)
+    let (proto, ports) = (protocol_part(service), port_part(service));
+    let rule = at_other(side, prefix, Target::Accept);
+    match accepted {
+        Accepted::Flow => Rule {
+            proto,
+            dport: ports,
+            ..rule
+        },
+        Accepted::Answers => Rule {
+            proto,
+            sport: ports,
+            state: answering(),
+            ..rule
+        },
     }
 }
 

@@ -1,4 +1,7 @@
+use Rattle.std.proofs.Common.{◌∙◌, ◌++◌, ap, Bool}
+use Rattle.std.specs.List.{flat_map}
 use Rattle.emit_core.specs.Layout.{to_prefix}
+use Rattle.emit_core.specs.inner.Link.{Link, link_of, prefix_rules}
 use Rattle.emit_core.proofs.Steps.{grow_each}
 use Rattle.emit_core.proofs.host_chain.HostChain.push_to_hosts.Goals as goal
 
@@ -6,5 +9,11 @@ pub loop-to-preserved : goal.loop-to-preserved
 loop-to-preserved c =
     let chain = c.args.self.now in
     let policy = chain.policy.now in
+    let rules = c.loop-to.rules.items in
+    let prefixes = c.prefixes.result.now in
     grow_each (to_prefix chain.side policy.site policy.permitted policy.stateful chain.host chain.rest) _ _ _ _ _ _
-    c.prefixes.ensures c.loop-to.invariant c.in_ok-push_to_host.ensures
+    c.prefixes.ensures c.loop-to.invariant
+    (c.in_ok-push_to_host.ensures
+    ∙ ap (λ (l : Link). rules ++ flat_map (prefix_rules l c.is_open-opened.result) prefixes) c.link.ensures
+    ∙ ap (λ (b : Bool). rules ++ flat_map (prefix_rules (link_of chain.side policy.site policy.permitted policy.stateful chain.host c.loop-to.to) b) prefixes)
+    c.is_open-opened.ensures)

@@ -1,0 +1,57 @@
+-- What is asked of a host and another once, and the rules for the two by it: those of the layout.
+use Rattle.std.specs.Prelude.{ℕ, Bool, not, ◌&&◌, if◌then◌else◌, List, [], ◌∷◌, ◌++◌, Option, Some, None, map}
+use Rattle.host_net.specs.declared.prefix.Prefix.{Prefix}
+use Rattle.host_net.specs.declared.service.Service.{Service}
+use Rattle.host_net.specs.Service.{is_whole, narrowings}
+use Rattle.host_net.specs.Site.{Site}
+use Rattle.flow_set.specs.declared.flow.Flow.{Flow}
+use Rattle.ipt_rules.specs.declared.rule.Rule.{Rule}
+use Rattle.ipt_rules.specs.declared.rule.Target.TheVariants.{Drop}
+use Rattle.emit_core.specs.declared.parts.Accepted.{Accepted}
+use Rattle.emit_core.specs.declared.parts.Accepted.TheVariants.{Answers, Flow as OfFlow}
+use Rattle.emit_core.specs.declared.side.Side.{Side}
+use Rattle.emit_core.specs.Layout.{at_other, from_service, to_service}
+use Rattle.emit_core.specs.Sides.{links, other_side, services_on}
+
+-- the rule that accepts packets to a service, or answers from it
+abbrev pub accepting : Accepted → Side → Option Prefix → Option Service → Rule
+accepting OfFlow side q n = to_service side q n
+accepting Answers side q n = from_service side q n
+
+-- whether the flow on the side is permitted, whether answers pass there, and the services of both flows
+pub record Link : Type 0 where
+  pub side : Side
+  pub permitted : Bool
+  pub answered : Bool
+  pub services : List Service
+  pub answer_services : List Service
+
+abbrev pub link_of : Side → Site → List Flow → List Flow → ℕ → ℕ → Link
+link_of side site p s i j = record {
+  side = side;
+  permitted = links side p i j;
+  answered = links (other_side side) s i j;
+  services = services_on side site.services i j;
+  answer_services = services_on (other_side side) site.services i j;
+}
+
+-- every packet passes
+abbrev pub is_whole_link : Link → Bool
+is_whole_link link = link.permitted && is_whole link.services
+
+abbrev pub flow_rules : Link → Option Prefix → List Rule
+flow_rules link q = if link.permitted then map (to_service link.side q) (narrowings link.services) else []
+
+abbrev pub answer_rules : Link → Option Prefix → List Rule
+answer_rules link q =
+    if link.answered && not (is_whole_link link) then map (from_service link.side q) (narrowings link.answer_services) else []
+
+abbrev pub accept_rules : Link → Option Prefix → List Rule
+accept_rules link q = flow_rules link q ++ answer_rules link q
+
+-- in an open chain
+abbrev pub drop_rules : Link → Bool → Prefix → List Rule
+drop_rules link opened q = if opened && not (is_whole_link link) then at_other link.side (Some q) None Drop ∷ [] else []
+
+abbrev pub prefix_rules : Link → Bool → Prefix → List Rule
+prefix_rules link opened q = accept_rules link (Some q) ++ drop_rules link opened q
