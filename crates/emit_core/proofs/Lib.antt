@@ -20,6 +20,7 @@ pub mod HostChainLaws
 pub mod HostSteps
 pub mod LayoutLaws
 pub mod LayoutRulesLaws
+pub mod LinkLaws
 pub mod NarrowedSteps
 pub mod NarrowingLaws
 pub mod OwnerLaws

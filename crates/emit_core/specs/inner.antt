@@ -3,3 +3,4 @@ pub mod Filling
 pub mod FlowTableRefusals
 pub mod KeptEntries
 pub mod Link
+pub mod RestEntries

@@ -59,6 +59,7 @@ impl<'a> HostChain<'a> {
     }
 
     /// Whether some packet to the rest host passes, or some packet from it.
+    #[tactic(auto, using(crate::proofs::LinkLaws::link_open))]
     fn is_open(&self) -> bool
         ensures { result ≡ is_open self.now.side self.now.policy.now.permitted
             self.now.policy.now.stateful self.now.host self.now.rest }
@@ -94,6 +95,7 @@ impl<'a> HostChain<'a> {
         Ok(())
     }
 
+    #[tactic(auto, using(crate::proofs::LinkLaws::link_accepts))]
     fn push_to_rest(&self, rules: &mut Vec<Rule>) -> Result<(), AllocError>
         ensures { OnOk result (rules.new.items ≡ rules.old.items
             ++ to_rest self.now.side self.now.policy.now.site

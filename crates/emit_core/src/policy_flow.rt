@@ -2,9 +2,10 @@
 
 ghost use Rattle.std.specs.Prelude.{◌≡◌, ◌<◌, length};
 ghost use Rattle.host_net.specs.Services.{services_of};
-ghost use Rattle.emit_core.specs.Sides.{permits};
+ghost use Rattle.emit_core.specs.Sides.{links, permits, services_on};
 
 use crate::permitted::permits;
+use crate::side::Side;
 use host_net::Service;
 use pkt_core::FlowPolicy;
 
@@ -27,5 +28,16 @@ impl<'a> PolicyFlow<'a> {
             permitted: permits(policy.permitted(), from, to),
             services: policy.services().of(from, to),
         }
+    }
+
+    /// The flow that a host has with another on a side.
+    pub(crate) fn on(policy: &FlowPolicy<'a>, side: Side, host: u16, other: u16) -> PolicyFlow<'a>
+        requires host { host < length policy.now.site.hosts }
+        requires other { other < length policy.now.site.hosts }
+        ensures permitted { result.permitted ≡ links side policy.now.permitted host other }
+        ensures services { result.services.now ≡ services_on side policy.now.site.services host other }
+    {
+        let flow = side.flow(host, other);
+        PolicyFlow::of(policy, flow.from, flow.to)
     }
 }

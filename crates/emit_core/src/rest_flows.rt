@@ -3,13 +3,15 @@
 ghost use Rattle.std.specs.Prelude.{◌≡◌, ◌<◌, length, OnOk};
 ghost use Rattle.std.specs.Option.{ForSome};
 ghost use Rattle.host_net.specs.Host.{rest_of};
-ghost use Rattle.emit_core.specs.FlowTable.{from_rest, from_rest_host, to_rest, to_rest_host, with_rest};
+ghost use Rattle.emit_core.specs.FlowTable.{with_rest};
 ghost use Rattle.emit_core.specs.inner.KeptEntries.{with_entries};
+ghost use Rattle.emit_core.specs.inner.RestEntries.{prefix_on, prefixes_on, with_rest_on};
 
 use crate::entries::Entries;
 use crate::flow_entry::push_services;
 use crate::policy_flow::PolicyFlow;
-use host_net::Prefix;
+use crate::side::Side;
+use host_net::{Prefix, Service};
 use pkt_core::FlowPolicy;
 use std::alloc::AllocError;
 
@@ -25,78 +27,59 @@ pub(crate) fn push_with_rest(
         (with_rest policy.now.site policy.now.permitted rest)) }
 {
     if let Some(host) = rest {
-        push_to_rest(entries, policy, host)?;
-        push_from_rest(entries, policy, host)?;
+        push_on_side(entries, policy, Side::Sending, host)?;
+        push_on_side(entries, policy, Side::Receiving, host)?;
     }
     Ok(())
 }
 
+/// The entries of each host for what it sends to the rest host, or for what it receives from there.
 #[tactic(auto, using(crate::proofs::HostSteps::for_each_all))]
-fn push_to_rest(entries: &mut Entries, policy: &FlowPolicy<'_>, rest: u16) -> Result<(), AllocError>
-    requires { rest < length policy.now.site.hosts }
-    ensures { OnOk result (entries.new ≡ with_entries entries.old
-        (to_rest policy.now.site policy.now.permitted rest)) }
-{
-    for from in 0..policy.count() {
-        push_sources(
-            entries,
-            &PolicyFlow::of(policy, from, rest),
-            policy.prefixes(from),
-        )?;
-    }
-    Ok(())
-}
-
-#[tactic(auto, using(crate::proofs::HostSteps::for_each_all))]
-fn push_from_rest(
+fn push_on_side(
     entries: &mut Entries,
     policy: &FlowPolicy<'_>,
+    side: Side,
     rest: u16,
 ) -> Result<(), AllocError>
     requires { rest < length policy.now.site.hosts }
     ensures { OnOk result (entries.new ≡ with_entries entries.old
-        (from_rest policy.now.site policy.now.permitted rest)) }
+        (with_rest_on side policy.now.site policy.now.permitted rest)) }
 {
-    for to in 0..policy.count() {
-        push_destinations(
-            entries,
-            &PolicyFlow::of(policy, rest, to),
-            policy.prefixes(to),
-        )?;
+    for host in 0..policy.count() {
+        let flow = PolicyFlow::on(policy, side, host, rest);
+        push_prefixes(entries, side, &flow, policy.prefixes(host))?;
     }
     Ok(())
 }
 
-fn push_sources(
+fn push_prefixes(
     entries: &mut Entries,
+    side: Side,
     flow: &PolicyFlow<'_>,
     prefixes: &[Prefix],
 ) -> Result<(), AllocError>
     ensures { OnOk result (entries.new ≡ with_entries entries.old
-        (to_rest_host flow.now.permitted flow.now.services.now prefixes.now)) }
+        (prefixes_on side flow.now.permitted flow.now.services.now prefixes.now)) }
 {
     if !flow.permitted {
         return Ok(());
     }
     for prefix in prefixes {
-        push_services(entries, 30, Some(*prefix), None, flow.services)?;
+        push_prefix(entries, side, flow.services, *prefix)?;
     }
     Ok(())
 }
 
-fn push_destinations(
+fn push_prefix(
     entries: &mut Entries,
-    flow: &PolicyFlow<'_>,
-    prefixes: &[Prefix],
+    side: Side,
+    services: &[Service],
+    prefix: Prefix,
 ) -> Result<(), AllocError>
-    ensures { OnOk result (entries.new ≡ with_entries entries.old
-        (from_rest_host flow.now.permitted flow.now.services.now prefixes.now)) }
+    ensures { OnOk result (entries.new ≡ with_entries entries.old (prefix_on side services.now prefix)) }
 {
-    if !flow.permitted {
-        return Ok(());
+    match side {
+        Side::Sending => push_services(entries, 30, Some(prefix), None, services),
+        Side::Receiving => push_services(entries, 30, None, Some(prefix), services),
     }
-    for prefix in prefixes {
-        push_services(entries, 30, None, Some(*prefix), flow.services)?;
-    }
-    Ok(())
 }

@@ -1,5 +1,6 @@
 -- What is asked of a host and another once, and the rules for the two by it: those of the layout.
-use Rattle.std.specs.Prelude.{ℕ, Bool, not, ◌&&◌, if◌then◌else◌, List, [], ◌∷◌, ◌++◌, Option, Some, None, map}
+use Rattle.std.specs.Prelude.{ℕ, Bool, false, not, ◌&&◌, ◌||◌, is_some, if◌then◌else◌, List, [], ◌∷◌, ◌++◌, Option, Some, None, map}
+use Rattle.std.specs.Option.{option_map_or}
 use Rattle.host_net.specs.declared.prefix.Prefix.{Prefix}
 use Rattle.host_net.specs.declared.service.Service.{Service}
 use Rattle.host_net.specs.Service.{is_whole, narrowings}
@@ -18,33 +19,36 @@ abbrev pub accepting : Accepted → Side → Option Prefix → Option Service �
 accepting OfFlow side q n = to_service side q n
 accepting Answers side q n = from_service side q n
 
--- whether the flow on the side is permitted, whether answers pass there, and the services of both flows
+-- the services of the flow on the side, where it is permitted, and those of the flow that is answered, where answers pass
 pub record Link : Type 0 where
   pub side : Side
-  pub permitted : Bool
-  pub answered : Bool
-  pub services : List Service
-  pub answer_services : List Service
+  pub flow : Option (List Service)
+  pub answers : Option (List Service)
+
+abbrev pub served : Bool → List Service → Option (List Service)
+served there ss = if there then Some ss else None
 
 abbrev pub link_of : Side → Site → List Flow → List Flow → ℕ → ℕ → Link
 link_of side site p s i j = record {
   side = side;
-  permitted = links side p i j;
-  answered = links (other_side side) s i j;
-  services = services_on side site.services i j;
-  answer_services = services_on (other_side side) site.services i j;
+  flow = served (links side p i j) (services_on side site.services i j);
+  answers = served (links (other_side side) s i j) (services_on (other_side side) site.services i j);
 }
+
+-- some packet passes
+abbrev pub is_open_link : Link → Bool
+is_open_link link = is_some link.flow || is_some link.answers
 
 -- every packet passes
 abbrev pub is_whole_link : Link → Bool
-is_whole_link link = link.permitted && is_whole link.services
+is_whole_link link = option_map_or is_whole link.flow false
 
 abbrev pub flow_rules : Link → Option Prefix → List Rule
-flow_rules link q = if link.permitted then map (to_service link.side q) (narrowings link.services) else []
+flow_rules link q = option_map_or (λ ss. map (to_service link.side q) (narrowings ss)) link.flow []
 
 abbrev pub answer_rules : Link → Option Prefix → List Rule
 answer_rules link q =
-    if link.answered && not (is_whole_link link) then map (from_service link.side q) (narrowings link.answer_services) else []
+    option_map_or (λ ss. if not (is_whole_link link) then map (from_service link.side q) (narrowings ss) else []) link.answers []
 
 abbrev pub accept_rules : Link → Option Prefix → List Rule
 accept_rules link q = flow_rules link q ++ answer_rules link q

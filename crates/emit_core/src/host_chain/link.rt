@@ -1,39 +1,42 @@
 //! What passes between a host and another on a side: the packets of their flow, then answers.
 
-ghost use Rattle.std.specs.Prelude.{◌≡◌, ◌<◌, ◌||◌, ◌++◌, length, map, OnOk};
+ghost use Rattle.std.specs.Prelude.{◌≡◌, ◌<◌, ◌++◌, length, map, option_map, OnOk};
 ghost use Rattle.host_net.specs.Service.{narrowings};
 ghost use Rattle.emit_core.specs.Sides.{links, services_on};
-ghost use Rattle.emit_core.specs.inner.Link.{accept_rules, accepting, answer_rules, drop_rules, flow_rules, is_whole_link, link_of, prefix_rules};
+ghost use Rattle.emit_core.specs.inner.Link.{accept_rules, accepting, answer_rules, drop_rules, flow_rules, is_open_link, is_whole_link, link_of, prefix_rules, served};
 
 use crate::narrowing::is_whole;
 use crate::parts::{Accepted, accepting, at_other};
 use crate::permitted::permits;
 use crate::side::Side;
 use flow_set::FlowSet;
-use host_net::{Prefix, Service};
+use host_net::{Prefix, Service, Services};
 use ipt_rules::{Rule, Target};
 use pkt_core::FlowPolicy;
 use std::alloc::AllocError;
 use std::marker::Model;
 
-/// Whether the flow that a host has with another on a side is permitted, whether answers pass there,
-/// and the services of both flows.
+/// What passes between a host and another on a side of the host.
 #[derive(Drop)]
 pub(super) struct Link<'a> {
     side: Side,
-    permitted: bool,
-    answered: bool,
-    services: &'a [Service],
-    answer_services: &'a [Service],
+    /// The services of their flow, where it is permitted.
+    flow: Option<&'a [Service]>,
+    /// The services of the flow that is answered, where answers pass.
+    answers: Option<&'a [Service]>,
 }
 
 impl<'a> Model for Link<'a> {
+    ghost use Rattle.std.specs.Prelude.{option_map};
     ghost use Rattle.emit_core.specs.inner.Link.{Link};
 
     ghost Value = { Link };
 
-    ghost view = { λ l. record { side = l.side; permitted = l.permitted; answered = l.answered;
-        services = l.services.now; answer_services = l.answer_services.now } };
+    ghost view = { λ l. record {
+      side = l.side;
+      flow = option_map (λ ss. ss.now) l.flow;
+      answers = option_map (λ ss. ss.now) l.answers;
+    } };
 }
 
 impl<'a> Link<'a> {
@@ -42,27 +45,29 @@ impl<'a> Link<'a> {
         requires other { other < length policy.now.site.hosts }
         ensures { result ≡ link_of side policy.now.site policy.now.permitted policy.now.stateful host other }
     {
+        let services = policy.services();
         Link {
             side,
-            permitted: links(policy.permitted(), side, host, other),
-            answered: links(policy.stateful(), side.other(), host, other),
-            services: services_on(policy, side, host, other),
-            answer_services: services_on(policy, side.other(), host, other),
+            flow: services_in(policy.permitted(), services, side, host, other),
+            answers: services_in(policy.stateful(), services, side.other(), host, other),
         }
     }
 
     /// Whether some packet passes.
     pub(super) fn is_open(&self) -> bool
-        ensures { result ≡ (self.now.permitted || self.now.answered) }
+        ensures { result ≡ is_open_link self.now }
     {
-        self.permitted || self.answered
+        self.flow.is_some() || self.answers.is_some()
     }
 
     /// Whether every packet passes.
     fn is_whole(&self) -> bool
         ensures { result ≡ is_whole_link self.now }
     {
-        self.permitted && is_whole(self.services)
+        match self.flow {
+            None => false,
+            Some(services) => is_whole(services),
+        }
     }
 
     /// Adds the rules for a prefix of the other host.
@@ -96,8 +101,8 @@ impl<'a> Link<'a> {
     fn push_flow(&self, rules: &mut Vec<Rule>, at: Option<Prefix>) -> Result<(), AllocError>
         ensures { OnOk result (rules.new.items ≡ rules.old.items ++ flow_rules self.now at) }
     {
-        if self.permitted {
-            push_accepted(rules, Accepted::Flow, self.side, at, self.services)?;
+        if let Some(services) = self.flow {
+            push_accepted(rules, Accepted::Flow, self.side, at, services)?;
         }
         Ok(())
     }
@@ -106,14 +111,11 @@ impl<'a> Link<'a> {
     fn push_answers(&self, rules: &mut Vec<Rule>, at: Option<Prefix>) -> Result<(), AllocError>
         ensures { OnOk result (rules.new.items ≡ rules.old.items ++ answer_rules self.now at) }
     {
-        if self.answered && !self.is_whole() {
-            push_accepted(
-                rules,
-                Accepted::Answers,
-                self.side,
-                at,
-                self.answer_services,
-            )?;
+        if self.is_whole() {
+            return Ok(());
+        }
+        if let Some(services) = self.answers {
+            push_accepted(rules, Accepted::Answers, self.side, at, services)?;
         }
         Ok(())
     }
@@ -129,22 +131,24 @@ impl<'a> Link<'a> {
     }
 }
 
-/// Whether the flow that a host has with another on that side is in the set.
-fn links(flows: &FlowSet, side: Side, host: u16, other: u16) -> bool
-    requires host_within { host < flows.now.size }
-    requires other_within { other < flows.now.size }
-    ensures { result ≡ links side flows.now.flows host other }
+/// The services of the flow that a host has with another on that side, where it is in the set.
+fn services_in<'a>(
+    flows: &FlowSet,
+    services: &'a Services,
+    side: Side,
+    host: u16,
+    other: u16,
+) -> Option<&'a [Service]>
+    requires host { host < flows.now.size }
+    requires other { other < flows.now.size }
+    ensures { option_map (λ ss. ss.now) result
+        ≡ served (links side flows.now.flows host other) (services_on side services.now host other) }
 {
     let flow = side.flow(host, other);
-    permits(flows, flow.from, flow.to)
-}
-
-/// The services of the flow that a host has with another on that side.
-fn services_on<'a>(policy: &FlowPolicy<'a>, side: Side, host: u16, other: u16) -> &'a [Service]
-    ensures { result.now ≡ services_on side policy.now.site.services host other }
-{
-    let flow = side.flow(host, other);
-    policy.services().of(flow.from, flow.to)
+    if !permits(flows, flow.from, flow.to) {
+        return None;
+    }
+    Some(services.of(flow.from, flow.to))
 }
 
 /// Adds a rule for each service, or one for every packet where nothing narrows the flow.

@@ -1,7 +1,10 @@
-use Rattle.std.proofs.Common.{◌∙◌, ◌++◌, ap, Bool}
+use Rattle.std.proofs.Common.{◌∙◌, ◌++◌, ap, Bool, List}
 use Rattle.std.specs.List.{flat_map}
+use Rattle.host_net.specs.declared.prefix.Prefix.{Prefix}
+use Rattle.ipt_rules.specs.declared.rule.Rule.{Rule}
 use Rattle.emit_core.specs.Layout.{to_prefix}
 use Rattle.emit_core.specs.inner.Link.{Link, link_of, prefix_rules}
+use Rattle.emit_core.proofs.LinkLaws.{link_prefix}
 use Rattle.emit_core.proofs.Steps.{grow_each}
 use Rattle.emit_core.proofs.host_chain.HostChain.push_to_hosts.Goals as goal
 
@@ -16,4 +19,6 @@ loop-to-preserved c =
     (c.in_ok-push_to_host.ensures
     ∙ ap (λ (l : Link). rules ++ flat_map (prefix_rules l c.is_open-opened.result) prefixes) c.link.ensures
     ∙ ap (λ (b : Bool). rules ++ flat_map (prefix_rules (link_of chain.side policy.site policy.permitted policy.stateful chain.host c.loop-to.to) b) prefixes)
-    c.is_open-opened.ensures)
+    c.is_open-opened.ensures
+    ∙ ap (λ (written : Prefix → List Rule). rules ++ flat_map written prefixes)
+    (link_prefix chain.side policy.site policy.permitted policy.stateful chain.host chain.rest c.loop-to.to))
