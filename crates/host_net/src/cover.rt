@@ -59,6 +59,10 @@ pub struct Covers {
 /// So many places of a guide there are for each key.
 const PLACES_FOR_KEY: usize = 2;
 
+/// So many places of a guide are tried for a key, one after another. What is not among them is found
+/// by halving.
+const TRIES: usize = 8;
+
 /// What stands in a guide where no key begins.
 const NOWHERE: u32 = u32::MAX;
 
@@ -149,11 +153,12 @@ fn slot_of(key: &Key, len: usize) -> usize {
     (hash.wrapping_mul(len as u64) >> 32) as usize
 }
 
-/// Where the guide has the bits of a key begin.
-fn guess_of(guide: &[u32], key: &Key) -> usize {
-    match guide.get(slot_of(key, guide.len())) {
-        Some(place) => *place as usize,
-        None => NOWHERE as usize,
+/// The places of a guide that are tried for the bits of a key.
+fn tries_of<'a>(guide: &'a [u32], key: &Key) -> &'a [u32] {
+    let slot = slot_of(key, guide.len().saturating_sub(TRIES));
+    match guide.get(slot..slot.saturating_add(TRIES)) {
+        Some(places) => places,
+        None => &[],
     }
 }
 
@@ -174,9 +179,13 @@ fn place_of(keys: &[Key], guide: &[u32], key: &Key) -> usize
     ensures point { IsNonDecreasingBy rank keys.now → IsPartitionPoint (λ k. rank k < rank key.now) (λ k. rank key.now ≤ rank k) keys.now result }
 {
     let least = key.rank();
-    let guess = guess_of(guide, key);
-    if is_place(keys, guess, least) {
-        return guess;
+    for place in tries_of(guide, key) {
+        if *place == NOWHERE {
+            break;
+        }
+        if is_place(keys, *place as usize, least) {
+            return *place as usize;
+        }
     }
     searched(keys, least)
 }
@@ -343,19 +352,27 @@ fn groups_of(alloc: Global, keys: &[Key]) -> Result<Vec<Group>, AllocError>
 
 /// A guide to keys that stand in order.
 fn guide_of(alloc: Global, keys: &[Key]) -> Result<Vec<u32>, AllocError> {
-    let mut guide = vec![in alloc; NOWHERE; keys.len().saturating_mul(PLACES_FOR_KEY)]?;
+    let len = keys
+        .len()
+        .saturating_mul(PLACES_FOR_KEY)
+        .saturating_add(TRIES);
+    let mut guide = vec![in alloc; NOWHERE; len]?;
     for (place, key) in keys.iter().enumerate() {
-        let place = u32::try_from(place).unwrap_or(NOWHERE);
-        point_to(&mut guide, key, place);
+        if place == 0 || !key.shares_bits(&keys[place - 1]) {
+            let place = u32::try_from(place).unwrap_or(NOWHERE);
+            point_to(&mut guide, key, place);
+        }
     }
     Ok(guide)
 }
 
-/// Points to the place of a key, unless one before it has its place in the guide.
+/// Points to the first key of some bits, where one of the places that are tried for it is free.
 fn point_to(guide: &mut [u32], key: &Key, place: u32) {
-    let slot = slot_of(key, guide.len());
-    if let Some(first) = guide.get_mut(slot) {
-        *first = place.min(*first);
+    let slot = slot_of(key, guide.len().saturating_sub(TRIES));
+    if let Some(places) = guide.get_mut(slot..slot.saturating_add(TRIES)) {
+        if let Some(free) = places.iter_mut().find(|place| **place == NOWHERE) {
+            *free = place;
+        }
     }
 }
 
