@@ -7,7 +7,7 @@ use Rattle.std.proofs.lemmas.Bool.{and_parts, cases_lt}
 use Rattle.std.proofs.lemmas.Option.{same_Some, slice_get_past}
 use Rattle.std.proofs.lemmas.List.Elements.{Contains-append_right}
 use Rattle.std.specs.List.{list_all, cons_option}
-use Rattle.std.specs.Prelude.{is_some, slice_get, Contains}
+use Rattle.std.specs.Prelude.{slice_get, Contains}
 use Rattle.ipt_rules.specs.declared.rule.Rule.{Rule}
 use Rattle.ipt_rules.specs.declared.rule.Target.{Target}
 use Rattle.ipt_rules.specs.declared.rule.Target.TheVariants.{Accept, Drop, Reject, Return, Count, Jump}
@@ -32,16 +32,14 @@ module _ (fits : Rule → Bool) (chains : List Chain) (rules : List Rule) (i : �
   pub ends_here : (o : Option Verdict) → Ends o ≡ step_of (fits r) r.target → Gives fits chains rules o
   ends_here o step = here o (ends (sym step))
 
-  pub decides_here : (c : ℕ) (o : Option Verdict) → true ≡ is_some o → Walks c ≡ step_of (fits r) r.target → Gives fits chains (rules_of chains c) o → Gives fits chains rules o
-  decides_here c None some step walked = cc
-  decides_here c (Some v) some step walked = here (Some v) (decides (sym step) walked)
+  pub decides_here : (c : ℕ) → Walks c ≡ step_of (fits r) r.target → (v : Verdict) → Gives fits chains (rules_of chains c) (Some v) → Gives fits chains rules (Some v)
+  decides_here c step v walked = here (Some v) (decides (sym step) walked)
 
   pub goes_on_here : GoesOn ≡ step_of (fits r) r.target → GivesAlso fits chains (drop (i + 1) rules) rules
   goes_on_here step = record { gives = λ o g. here o (goes_on (sym step) g) }
 
-  pub comes_back_here : (c : ℕ) (o : Option Verdict) → false ≡ is_some o → Walks c ≡ step_of (fits r) r.target → Gives fits chains (rules_of chains c) o → GivesAlso fits chains (drop (i + 1) rules) rules
-  comes_back_here c (Some v) some step walked = cc
-  comes_back_here c None some step walked = record { gives = λ o g. here o (comes_back (sym step) walked g) }
+  pub comes_back_here : (c : ℕ) → Walks c ≡ step_of (fits r) r.target → Gives fits chains (rules_of chains c) None → GivesAlso fits chains (drop (i + 1) rules) rules
+  comes_back_here c step walked = record { gives = λ o g. here o (comes_back (sym step) walked g) }
 
 pub end_gives : (fits : Rule → Bool) (chains : List Chain) (rules : List Rule) (i : ℕ) → length rules ≤ i → GivesAlso fits chains (drop i rules) rules → Gives fits chains rules None
 end_gives fits chains rules i past also =

@@ -1,18 +1,18 @@
 //! What the chains give a packet. A chain is walked along its rules, and where one of them jumps to a
-//! chain of which it is not known what it gives, that one is walked first. What a chain gave is kept
-//! for the packet, so that no chain is walked twice, however the jumps are nested, and it takes no
-//! memory. Only where more walks wait at once than there is room for are all walked anew, with room for
-//! as many as there are chains. Where chains have indexes, rules whose prefixes do not cover the
-//! packet's addresses are passed over.
+//! chain that is not known to return, that one is walked first. A verdict is that of all walks that wait
+//! for it. That a chain returned is kept for the packet, so that no chain is walked twice, however the
+//! jumps are nested, and it takes no memory. Only where more walks wait at once than there is room for
+//! are all walked anew, with room for as many as there are chains. Where chains have indexes, rules
+//! whose prefixes do not cover the packet's addresses are passed over.
 
-ghost use Rattle.std.specs.Prelude.{◌≡◌, ◌<◌, ◌≤◌, length, IfSome, IsSome};
+ghost use Rattle.std.specs.Prelude.{◌≡◌, ◌<◌, ◌≤◌, length, IfOk, IfSome, IsOk};
 ghost use Rattle.ipt_rules.specs.Matching.{matches};
 ghost use Rattle.ipt_rules.specs.Chain.{rules_of, policy_of};
 ghost use Rattle.ipt_rules.specs.ChainTable.{rule_count};
 ghost use Rattle.ipt_rules.specs.Meaning.{step_of, Gives, policy_verdict};
 ghost use Rattle.ipt_rules.specs.inner.WalkView.{step_view};
 ghost use Rattle.ipt_rules.specs.inner.Ranks.{HasRanking};
-ghost use Rattle.ipt_rules.specs.inner.Walking.{AreKnown, IsWalk, StopsAt, known_at};
+ghost use Rattle.ipt_rules.specs.inner.Walking.{DoReturn, IsWalk, StopsAt, returns_at};
 ghost use Rattle.ipt_rules.specs.inner.Next.{AreIndexes, all_ends};
 ghost use Rattle.host_net.specs.inner.CoverView.{IsIndexOf};
 
@@ -30,12 +30,13 @@ const FEW_CHAINS: usize = 259;
 /// Seldom do more walks than these wait at once. For no more of them a packet needs less room as well.
 const FEW_WALKS: usize = 16;
 
-/// What one rule does with a packet: it goes on to the next rule, ends its chain with an outcome,
-/// or walks another chain. The outcome of a chain is a verdict, or None where it returns.
+/// What one rule does with a packet: it goes on to the next rule, decides, returns from its chain, or
+/// walks another chain.
 #[derive(Drop)]
 pub(crate) enum Step {
     GoesOn,
-    Ends(Option<Verdict>),
+    Decides(Verdict),
+    Returns,
     Walks(u16),
 }
 
@@ -46,13 +47,18 @@ pub(crate) struct Walk {
     from: usize,
 }
 
-/// Where a walk along a chain stops: at the outcome of the chain; or at a rule that jumps to a chain
-/// of which nothing is known yet.
+/// Where a walk along a chain stops: at a verdict; where the chain returns; or at a rule that jumps to
+/// a chain that is to be walked first.
 #[derive(Drop)]
 pub(crate) enum Stop {
-    Ended(Option<Verdict>),
+    Decides(Verdict),
+    Returns,
     Asks { chain: u16, at: usize },
 }
+
+/// More walks would wait at once than there is room for.
+#[derive(Debug, Drop)]
+struct NoRoom;
 
 fn step_at(rule: &Rule, packet: &Packet, state: CtState) -> Step
     ensures { step_view result ≡ step_of (matches packet.now state rule.now) rule.now.target }
@@ -61,9 +67,9 @@ fn step_at(rule: &Rule, packet: &Packet, state: CtState) -> Step
         return Step::GoesOn;
     }
     match rule.target {
-        Target::Accept => Step::Ends(Some(Verdict::Forward)),
-        Target::Drop | Target::Reject => Step::Ends(Some(Verdict::Drop)),
-        Target::Return => Step::Ends(None),
+        Target::Accept => Step::Decides(Verdict::Forward),
+        Target::Drop | Target::Reject => Step::Decides(Verdict::Drop),
+        Target::Return => Step::Returns,
         Target::Count => Step::GoesOn,
         Target::Jump(chain) => Step::Walks(chain),
     }
@@ -77,57 +83,55 @@ pub(crate) fn rules_of(chains: &[Chain], number: u16) -> &[Rule]
     chains[number as usize].rules()
 }
 
-/// The outcome of a chain, where it is known.
-fn known_at(known: &[Option<Option<Verdict>>], chain: u16) -> Option<Option<Verdict>>
-    ensures { result ≡ known_at known.now chain }
+/// Whether it is known that a chain returns.
+fn returns_at(returning: &[bool], chain: u16) -> bool
+    ensures { result ≡ returns_at returning.now chain }
 {
-    *known.get(chain as usize)?
+    returning.get(chain as usize).copied().unwrap_or(false)
 }
 
-/// Goes on with a walk, by what is known of other chains.
+/// Goes on with a walk, by which other chains are known to return.
 fn walk_on(
     chains: &[Chain],
     walk: Walk,
     index: Option<&Covers>,
-    known: &[Option<Option<Verdict>>],
+    returning: &[bool],
     packet: &Packet,
     state: CtState,
 ) -> Stop
     requires few { rule_count chains.now ≤ 1000000 }
     requires walk { IsWalk (matches packet.now state) chains.now walk }
     requires index { IfSome index (λ index. IsIndexOf (all_ends (rules_of chains.now walk.chain)) index.now) }
-    requires known { AreKnown (matches packet.now state) chains.now known.now }
-    ensures { StopsAt (matches packet.now state) chains.now known.now walk.chain result }
+    requires returning { DoReturn (matches packet.now state) chains.now returning.now }
+    ensures { StopsAt (matches packet.now state) chains.now returning.now walk.chain result }
 {
     let rules = rules_of(chains, walk.chain);
     let mut from = walk.from;
     while let Some(at) = next_rule(index, rules, from, packet) {
         match step_at(&rules[at], packet, state) {
             Step::GoesOn => {}
-            Step::Ends(outcome) => return Stop::Ended(outcome),
+            Step::Decides(verdict) => return Stop::Decides(verdict),
+            Step::Returns => return Stop::Returns,
             Step::Walks(chain) => {
-                let Some(outcome) = known_at(known, chain) else {
+                if !returns_at(returning, chain) {
                     return Stop::Asks { chain, at };
-                };
-                if outcome.is_some() {
-                    return Stop::Ended(outcome);
                 }
             }
         }
         from = at + 1;
     }
-    Stop::Ended(None)
+    Stop::Returns
 }
 
-/// What a chain gives a packet from its first rule, where there are at most N chains; or None where
-/// more than D walks would wait at once.
+/// What a chain gives a packet from its first rule, a verdict or None where it returns. There are at
+/// most N chains, and room for D walks.
 fn outcome_among<const N: usize, const D: usize>(
     chains: &[Chain],
     indexes: &[Covers],
     number: u16,
     packet: &Packet,
     state: CtState,
-) -> Option<Option<Verdict>>
+) -> Result<Option<Verdict>, NoRoom>
     requires there { number < length chains.now }
     requires few_chains { length chains.now ≤ N }
     requires small { N ≤ 4096 }
@@ -136,10 +140,10 @@ fn outcome_among<const N: usize, const D: usize>(
     requires few_rules { rule_count chains.now ≤ 1000000 }
     requires indexes { AreIndexes indexes.now chains.now }
     requires ranking { HasRanking chains.now }
-    ensures given { IfSome result (Gives (matches packet.now state) chains.now (rules_of chains.now number)) }
-    ensures enough { N ≤ D → IsSome result }
+    ensures given { IfOk result (Gives (matches packet.now state) chains.now (rules_of chains.now number)) }
+    ensures enough { N ≤ D → IsOk result }
 {
-    let mut known = [None; N];
+    let mut returning = [false; N];
     let mut walks: ArrayVec<Walk, D> = ArrayVec::new();
     walks.push(Walk {
         chain: number,
@@ -147,18 +151,19 @@ fn outcome_among<const N: usize, const D: usize>(
     });
     while let Some(walk) = walks.pop() {
         let index = index_at(indexes, walk.chain);
-        match walk_on(chains, walk, index, &known, packet, state) {
-            Stop::Ended(outcome) => known[walk.chain as usize] = Some(outcome),
+        match walk_on(chains, walk, index, &returning, packet, state) {
+            Stop::Decides(verdict) => return Ok(Some(verdict)),
+            Stop::Returns => returning[walk.chain as usize] = true,
             Stop::Asks { chain, at } => {
                 if walks.len() + 2 > D {
-                    return None;
+                    return Err(NoRoom);
                 }
                 walks.push(Walk { from: at, ..walk });
                 walks.push(Walk { chain, from: 0 });
             }
         }
     }
-    known_at(&known, number)
+    Ok(None)
 }
 
 /// What a chain gives a packet from its first rule.
@@ -182,8 +187,8 @@ pub(crate) fn outcome(
         outcome_among::<CHAIN_LIMIT, FEW_WALKS>(chains, indexes, number, packet, state)
     };
     match soon {
-        Some(outcome) => outcome,
-        None => {
+        Ok(outcome) => outcome,
+        Err(NoRoom) => {
             outcome_among::<CHAIN_LIMIT, CHAIN_LIMIT>(
                 chains, indexes, number, packet, state,
             ).unwrap()

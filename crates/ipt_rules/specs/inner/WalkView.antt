@@ -1,9 +1,11 @@
 -- What a step of the code's walk stands for.
+use Rattle.std.specs.Prelude.{Some, None}
 use Rattle.ipt_rules.specs.declared.walk.Step.{Step}
 use Rattle.ipt_rules.specs.declared.walk.Step.TheVariants as code
 use Rattle.ipt_rules.specs.Meaning.{RuleStep, GoesOn, Ends, Walks}
 
 abbrev pub step_view : Step → RuleStep
 step_view code.GoesOn = GoesOn
-step_view (code.Ends outcome) = Ends outcome
+step_view (code.Decides verdict) = Ends (Some verdict)
+step_view code.Returns = Ends None
 step_view (code.Walks chain) = Walks chain

@@ -1,25 +1,26 @@
--- Walks along chains, and what is known of chains that were walked to their end. Callers see none of it.
-use Rattle.std.specs.Prelude.{◌≡◌, ℕ, ◌<◌, ◌≤◌, List, Bool, Option, Some, None, slice_get, length, drop, Contains}
+-- Walks along chains, and which chains are known to return. Callers see none of it.
+use Rattle.std.specs.Prelude.{◌≡◌, ℕ, ◌<◌, ◌≤◌, List, Bool, true, false, Option, Some, None, slice_get, length, drop, Contains}
+use Rattle.std.specs.Option.{unwrap_or}
 use Rattle.ipt_rules.specs.declared.rule.Rule.{Rule}
 use Rattle.ipt_rules.specs.declared.walk.Stop.{Stop}
-use Rattle.ipt_rules.specs.declared.walk.Stop.TheVariants.{Ended, Asks}
+use Rattle.ipt_rules.specs.declared.walk.Stop.TheVariants.{Decides, Returns, Asks}
 use Rattle.ipt_rules.specs.declared.walk.Walk.{Walk}
 use Rattle.host_net.specs.declared.packet.Verdict.{Verdict}
 use Rattle.ipt_rules.specs.Chain.{Chain, rules_of}
 use Rattle.ipt_rules.specs.Loops.{jumps_from}
 use Rattle.ipt_rules.specs.Meaning.{Gives}
 
-abbrev pub known_in : Option (Option (Option Verdict)) → Option (Option Verdict)
-known_in None = None
-known_in (Some outcome) = outcome
+-- whether it is known that chain c returns
+abbrev pub returns_at : List Bool → ℕ → Bool
+returns_at returning c = unwrap_or (slice_get returning c) false
 
--- the outcome of chain c, where it is known
-abbrev pub known_at : List (Option (Option Verdict)) → ℕ → Option (Option Verdict)
-known_at known c = known_in (slice_get known c)
+-- those of which it is known do return
+abbrev pub DoReturn : (Rule → Bool) → List Chain → List Bool → Type 0
+DoReturn fits chains returning = (c : ℕ) → returns_at returning c ≡ true → Gives fits chains (rules_of chains c) None
 
--- what is known is so
-abbrev pub AreKnown : (Rule → Bool) → List Chain → List (Option (Option Verdict)) → Type 0
-AreKnown fits chains known = (c : ℕ) (o : Option Verdict) → known_at known c ≡ Some o → Gives fits chains (rules_of chains c) o
+-- where chain d comes to a verdict, chain c does
+abbrev pub DecidesFor : (Rule → Bool) → List Chain → ℕ → ℕ → Type 0
+DecidesFor fits chains d c = (v : Verdict) → Gives fits chains (rules_of chains d) (Some v) → Gives fits chains (rules_of chains c) (Some v)
 
 -- every outcome that the rules that are left give
 pub record GivesAlso (fits : Rule → Bool) (chains : List Chain) (left rules : List Rule) : Type 0 where
@@ -31,13 +32,15 @@ pub record IsWalk (fits : Rule → Bool) (chains : List Chain) (w : Walk) : Type
   pub within : w.from ≤ length (rules_of chains w.chain)
   pub also : GivesAlso fits chains (drop w.from (rules_of chains w.chain)) (rules_of chains w.chain)
 
--- from there on chain c is walked once the outcome of chain d is known, to which it jumps
-pub record AsksFor (fits : Rule → Bool) (chains : List Chain) (known : List (Option (Option Verdict))) (c d at : ℕ) : Type 0 where
+-- chain c jumps to chain d, which decides for it or returns; and then it is walked on from there
+pub record AsksFor (fits : Rule → Bool) (chains : List Chain) (returning : List Bool) (c d at : ℕ) : Type 0 where
   pub jumps : Contains (jumps_from chains c) d
-  pub unknown : known_at known d ≡ None
+  pub unknown : returns_at returning d ≡ false
+  pub decides : DecidesFor fits chains d c
   pub walk : IsWalk fits chains (record { chain = c; from = at })
 
 -- where a walk along chain c stops
-abbrev pub StopsAt : (Rule → Bool) → List Chain → List (Option (Option Verdict)) → ℕ → Stop → Type 0
-StopsAt fits chains known c (Ended o) = Gives fits chains (rules_of chains c) o
-StopsAt fits chains known c (Asks d at) = AsksFor fits chains known c d at
+abbrev pub StopsAt : (Rule → Bool) → List Chain → List Bool → ℕ → Stop → Type 0
+StopsAt fits chains returning c (Decides v) = Gives fits chains (rules_of chains c) (Some v)
+StopsAt fits chains returning c Returns = Gives fits chains (rules_of chains c) None
+StopsAt fits chains returning c (Asks d at) = AsksFor fits chains returning c d at

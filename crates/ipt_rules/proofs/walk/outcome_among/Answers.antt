@@ -1,16 +1,15 @@
-use Rattle.std.proofs.Common.{◌≡◌, ◌+◌, ◌-◌, ◌*◌, ◌<◌, ◌≤◌, ◌∙◌, ℕ, Bool, List, [], ◌∷◌, ◌++◌, Option, Some, None, length, length-append, replicate, set, sym, ap, subst, arith}
-use Rattle.std.specs.Prelude.{count_by, is_none, IfSome, slice_get}
+use Rattle.std.proofs.Common.{◌≡◌, ◌+◌, ◌-◌, ◌*◌, ◌<◌, ◌≤◌, ◌∙◌, ℕ, Bool, true, false, List, [], ◌∷◌, ◌++◌, Option, Some, None, length, length-append, replicate, set, sym, ap, subst, arith}
+use Rattle.std.specs.Prelude.{count_by, not, IfSome, slice_get}
 use Rattle.std.proofs.lemmas.List.{length-replicate, length-set}
 use prog.Memory.{up}
 use Rattle.host_net.specs.declared.cover.Covers.{Covers}
-use Rattle.host_net.specs.declared.packet.Verdict.{Verdict}
 use Rattle.host_net.specs.inner.CoverView.{IsIndexOf}
 use Rattle.ipt_rules.specs.declared.rule.Rule.{Rule}
 use Rattle.ipt_rules.specs.declared.walk.Walk.{Walk}
 use Rattle.ipt_rules.specs.Chain.{Chain, rules_of}
 use Rattle.ipt_rules.specs.Matching.{matches}
 use Rattle.ipt_rules.specs.inner.Next.{AreIndexes, all_ends}
-use Rattle.ipt_rules.specs.inner.Walking.{known_at}
+use Rattle.ipt_rules.specs.inner.Walking.{returns_at}
 use Rattle.ipt_rules.proofs.WalkingLemmas.{Waiting, fewer_unknown, waiting_first, last_walk, last_unknown, waiting_ended, asked_room, waiting_asked}
 use Rattle.ipt_rules.proofs.walk.outcome_among.Goals as goal
 
@@ -34,24 +33,21 @@ pop-requires g c = small_room g.row.D c.requires.few_walks
 pub shared_whole_as_slice-walk_on : goal.shared_whole_as_slice-walk_on
 shared_whole_as_slice-walk_on g c = omega (arith, c.requires.small)
 
-pub shared_whole_as_slice-known_at : goal.shared_whole_as_slice-known_at
-shared_whole_as_slice-known_at g c = omega (arith, c.requires.small)
-
 -- ---- the first walk
 
 pub loop-walk-init : goal.loop-walk-init
 loop-walk-init g c = record {
-  long = length-replicate g.row.N None;
+  long = length-replicate g.row.N false;
   waiting =
-      subst (λ (walks : List Walk). Waiting (matches c.args.packet.now c.args.state) c.args.chains.now c.args.number (replicate g.row.N None) walks)
+      subst (λ (walks : List Walk). Waiting (matches c.args.packet.now c.args.state) c.args.chains.now c.args.number (replicate g.row.N false) walks)
       (sym (c.push.ensures.items ∙ ap (λ (walks : List Walk). walks ++ record { chain = c.args.number; from = 0 } ∷ []) c.new-walks.ensures))
       (waiting_first (matches c.args.packet.now c.args.state) c.args.chains.now c.args.number g.row.N c.requires.ranking c.requires.there);
 }
 
 -- ---- a walk goes on
 
-waiting_at : (fits : Rule → Bool) (chains : List Chain) (number : ℕ) (known : List (Option (Option Verdict))) (walks rest : List Walk) (w : Walk) → walks ≡ rest ++ w ∷ [] → Waiting fits chains number known walks → Waiting fits chains number known (rest ++ w ∷ [])
-waiting_at fits chains number known walks rest w same is = subst (λ (ws : List Walk). Waiting fits chains number known ws) same is
+waiting_at : (fits : Rule → Bool) (chains : List Chain) (number : ℕ) (returning : List Bool) (walks rest : List Walk) (w : Walk) → walks ≡ rest ++ w ∷ [] → Waiting fits chains number returning walks → Waiting fits chains number returning (rest ++ w ∷ [])
+waiting_at fits chains number returning walks rest w same is = subst (λ (ws : List Walk). Waiting fits chains number returning ws) same is
 
 index_known : {X : Type 0} (now : X → Covers) (indexes : List Covers) (chains : List Chain) (number : ℕ) (o : Option X) → AreIndexes indexes chains → IfSome o (λ x. slice_get indexes number ≡ Some (now x)) → IfSome o (λ x. IsIndexOf (all_ends (rules_of chains number)) (now x))
 index_known now indexes chains number None are there = tt
@@ -60,8 +56,8 @@ index_known now indexes chains number (Some x) are there = are number (now x) th
 pub walk_on-requires-clause-walk : goal.walk_on-requires-clause-walk
 walk_on-requires-clause-walk g c =
     let fits = matches c.args.packet.now c.args.state in
-    let is = waiting_at fits c.args.chains.now c.args.number c.loop-walk.known c.loop-walk.walks.items c.pop.new.self.items c.in-Some.walk c.in-Some.ensures.items c.loop-walk.invariant.waiting in
-    last_walk fits c.args.chains.now c.args.number c.loop-walk.known c.pop.new.self.items c.in-Some.walk is
+    let is = waiting_at fits c.args.chains.now c.args.number c.loop-walk.returning c.loop-walk.walks.items c.pop.new.self.items c.in-Some.walk c.in-Some.ensures.items c.loop-walk.invariant.waiting in
+    last_walk fits c.args.chains.now c.args.number c.loop-walk.returning c.pop.new.self.items c.in-Some.walk is
 
 pub walk_on-requires-clause-index : goal.walk_on-requires-clause-index
 walk_on-requires-clause-index g c =
@@ -70,41 +66,41 @@ walk_on-requires-clause-index g c =
 chain_low : (n count chain : ℕ) → chain < count → count ≤ n → chain < n
 chain_low n count chain there few = omega (arith, there, few)
 
-pub bounds-known-walk : goal.bounds-known-walk
-bounds-known-walk g c =
+pub bounds-returning-walk : goal.bounds-returning-walk
+bounds-returning-walk g c =
     let fits = matches c.args.packet.now c.args.state in
-    let is = waiting_at fits c.args.chains.now c.args.number c.loop-walk.known c.loop-walk.walks.items c.pop.new.self.items c.in-Some.walk c.in-Some.ensures.items c.loop-walk.invariant.waiting in
-    let walk = last_walk fits c.args.chains.now c.args.number c.loop-walk.known c.pop.new.self.items c.in-Some.walk is in
+    let is = waiting_at fits c.args.chains.now c.args.number c.loop-walk.returning c.loop-walk.walks.items c.pop.new.self.items c.in-Some.walk c.in-Some.ensures.items c.loop-walk.invariant.waiting in
+    let walk = last_walk fits c.args.chains.now c.args.number c.loop-walk.returning c.pop.new.self.items c.in-Some.walk is in
     chain_low g.row.N (length c.args.chains.now) c.in-Some.walk.chain walk.there c.requires.few_chains
 
 -- ---- a chain ends
 
-smaller_ended : (n : ℕ) (known : List (Option (Option Verdict))) (walks rest : List Walk) (w : Walk) (o : Option Verdict) → walks ≡ rest ++ w ∷ [] → w.chain < length known → known_at known w.chain ≡ None
-    → 2 * count_by is_none (set known w.chain (Some o)) + (n - length rest) < 2 * count_by is_none known + (n - length walks)
-smaller_ended n known walks rest w o same low none =
-    let fewer = fewer_unknown known w.chain o low none in
+smaller_ended : (n : ℕ) (returning : List Bool) (walks rest : List Walk) (w : Walk) → walks ≡ rest ++ w ∷ [] → w.chain < length returning → returns_at returning w.chain ≡ false
+    → 2 * count_by not (set returning w.chain true) + (n - length rest) < 2 * count_by not returning + (n - length walks)
+smaller_ended n returning walks rest w same low off =
+    let fewer = fewer_unknown returning w.chain low off in
     let long = ap length same ∙ length-append rest (w ∷ []) in
     omega (arith, fewer, long)
 
-pub loop-walk-smaller-in-Ended : goal.loop-walk-smaller-in-Ended
-loop-walk-smaller-in-Ended g c =
+pub loop-walk-smaller-in-Returns : goal.loop-walk-smaller-in-Returns
+loop-walk-smaller-in-Returns g c =
     let fits = matches c.args.packet.now c.args.state in
-    let is = waiting_at fits c.args.chains.now c.args.number c.loop-walk.known c.loop-walk.walks.items c.pop.new.self.items c.in-Some.walk c.in-Some.ensures.items c.loop-walk.invariant.waiting in
-    let walk = last_walk fits c.args.chains.now c.args.number c.loop-walk.known c.pop.new.self.items c.in-Some.walk is in
-    let unknown = last_unknown fits c.args.chains.now c.args.number c.loop-walk.known c.pop.new.self.items c.in-Some.walk is in
-    smaller_ended g.row.N c.loop-walk.known c.loop-walk.walks.items c.pop.new.self.items c.in-Some.walk c.in-Ended.outcome c.in-Some.ensures.items
+    let is = waiting_at fits c.args.chains.now c.args.number c.loop-walk.returning c.loop-walk.walks.items c.pop.new.self.items c.in-Some.walk c.in-Some.ensures.items c.loop-walk.invariant.waiting in
+    let walk = last_walk fits c.args.chains.now c.args.number c.loop-walk.returning c.pop.new.self.items c.in-Some.walk is in
+    let unknown = last_unknown fits c.args.chains.now c.args.number c.loop-walk.returning c.pop.new.self.items c.in-Some.walk is in
+    smaller_ended g.row.N c.loop-walk.returning c.loop-walk.walks.items c.pop.new.self.items c.in-Some.walk c.in-Some.ensures.items
     (omega (arith, walk.there, c.requires.few_chains, c.loop-walk.invariant.long)) unknown
 
-pub loop-walk-preserved-in-Ended : goal.loop-walk-preserved-in-Ended
-loop-walk-preserved-in-Ended g c =
+pub loop-walk-preserved-in-Returns : goal.loop-walk-preserved-in-Returns
+loop-walk-preserved-in-Returns g c =
     let fits = matches c.args.packet.now c.args.state in
-    let is = waiting_at fits c.args.chains.now c.args.number c.loop-walk.known c.loop-walk.walks.items c.pop.new.self.items c.in-Some.walk c.in-Some.ensures.items c.loop-walk.invariant.waiting in
-    let walk = last_walk fits c.args.chains.now c.args.number c.loop-walk.known c.pop.new.self.items c.in-Some.walk is in
+    let is = waiting_at fits c.args.chains.now c.args.number c.loop-walk.returning c.loop-walk.walks.items c.pop.new.self.items c.in-Some.walk c.in-Some.ensures.items c.loop-walk.invariant.waiting in
+    let walk = last_walk fits c.args.chains.now c.args.number c.loop-walk.returning c.pop.new.self.items c.in-Some.walk is in
     record {
-      long = length-set c.loop-walk.known c.in-Some.walk.chain (Some c.in-Ended.outcome) ∙ c.loop-walk.invariant.long;
+      long = length-set c.loop-walk.returning c.in-Some.walk.chain true ∙ c.loop-walk.invariant.long;
       waiting =
-          waiting_ended fits c.args.chains.now c.args.number c.loop-walk.known c.pop.new.self.items c.in-Some.walk is c.in-Ended.outcome
-          (omega (arith, walk.there, c.requires.few_chains, c.loop-walk.invariant.long)) c.in-Ended.ensures;
+          waiting_ended fits c.args.chains.now c.args.number c.loop-walk.returning c.pop.new.self.items c.in-Some.walk is
+          (omega (arith, walk.there, c.requires.few_chains, c.loop-walk.invariant.long)) c.in-Returns.ensures;
     }
 
 -- ---- another chain is walked first
@@ -115,8 +111,8 @@ full n d count used room few enough over = omega (arith, room, few, enough, over
 pub returns-then-len-clause-enough : goal.returns-then-len-clause-enough
 returns-then-len-clause-enough g c = λ enough.
     let fits = matches c.args.packet.now c.args.state in
-    let is = waiting_at fits c.args.chains.now c.args.number c.loop-walk.known c.loop-walk.walks.items c.pop.new.self.items c.in-Some.walk c.in-Some.ensures.items c.loop-walk.invariant.waiting in
-    let room = asked_room fits c.args.chains.now c.args.number c.loop-walk.known c.pop.new.self.items c.in-Some.walk is c.in-Asks.chain c.in-Asks.at c.in-Asks.ensures in
+    let is = waiting_at fits c.args.chains.now c.args.number c.loop-walk.returning c.loop-walk.walks.items c.pop.new.self.items c.in-Some.walk c.in-Some.ensures.items c.loop-walk.invariant.waiting in
+    let room = asked_room fits c.args.chains.now c.args.number c.loop-walk.returning c.pop.new.self.items c.in-Some.walk is c.in-Asks.chain c.in-Asks.at c.in-Asks.ensures in
     absurd (full g.row.N g.row.D (length c.args.chains.now) (length c.pop.new.self.items) room c.requires.few_chains enough (omega (arith, c.len.ensures.value, c.if-len.true)))
 
 smaller_asked : (n count unknown : ℕ) (walks rest now then : List Walk) (w v u : Walk) → walks ≡ rest ++ w ∷ [] → now ≡ rest ++ v ∷ [] → then ≡ now ++ u ∷ [] → length rest + 2 ≤ count → count ≤ n
@@ -130,19 +126,19 @@ smaller_asked n count unknown walks rest now then w v u same first second low fe
 pub loop-walk-smaller : goal.loop-walk-smaller
 loop-walk-smaller g c =
     let fits = matches c.args.packet.now c.args.state in
-    let is = waiting_at fits c.args.chains.now c.args.number c.loop-walk.known c.loop-walk.walks.items c.pop.new.self.items c.in-Some.walk c.in-Some.ensures.items c.loop-walk.invariant.waiting in
-    let room = asked_room fits c.args.chains.now c.args.number c.loop-walk.known c.pop.new.self.items c.in-Some.walk is c.in-Asks.chain c.in-Asks.at c.in-Asks.ensures in
-    smaller_asked g.row.N (length c.args.chains.now) (count_by is_none c.loop-walk.known) c.loop-walk.walks.items c.pop.new.self.items c.push-in-Asks.new.self.items c.push-in-Asks-2.new.self.items c.in-Some.walk _ _
+    let is = waiting_at fits c.args.chains.now c.args.number c.loop-walk.returning c.loop-walk.walks.items c.pop.new.self.items c.in-Some.walk c.in-Some.ensures.items c.loop-walk.invariant.waiting in
+    let room = asked_room fits c.args.chains.now c.args.number c.loop-walk.returning c.pop.new.self.items c.in-Some.walk is c.in-Asks.chain c.in-Asks.at c.in-Asks.ensures in
+    smaller_asked g.row.N (length c.args.chains.now) (count_by not c.loop-walk.returning) c.loop-walk.walks.items c.pop.new.self.items c.push-in-Asks.new.self.items c.push-in-Asks-2.new.self.items c.in-Some.walk _ _
     c.in-Some.ensures.items c.push-in-Asks.ensures.items c.push-in-Asks-2.ensures.items room c.requires.few_chains
 
 pub loop-walk-preserved : goal.loop-walk-preserved
 loop-walk-preserved g c =
     let fits = matches c.args.packet.now c.args.state in
-    let is = waiting_at fits c.args.chains.now c.args.number c.loop-walk.known c.loop-walk.walks.items c.pop.new.self.items c.in-Some.walk c.in-Some.ensures.items c.loop-walk.invariant.waiting in
+    let is = waiting_at fits c.args.chains.now c.args.number c.loop-walk.returning c.loop-walk.walks.items c.pop.new.self.items c.in-Some.walk c.in-Some.ensures.items c.loop-walk.invariant.waiting in
     record {
       long = c.loop-walk.invariant.long;
       waiting =
-          subst (λ (walks : List Walk). Waiting (matches c.args.packet.now c.args.state) c.args.chains.now c.args.number c.loop-walk.known walks)
+          subst (λ (walks : List Walk). Waiting (matches c.args.packet.now c.args.state) c.args.chains.now c.args.number c.loop-walk.returning walks)
           (sym (c.push-in-Asks-2.ensures.items ∙ ap (λ (walks : List Walk). walks ++ record { chain = c.in-Asks.chain; from = 0 } ∷ []) c.push-in-Asks.ensures.items))
-          (waiting_asked fits c.args.chains.now c.args.number c.loop-walk.known c.pop.new.self.items c.in-Some.walk is c.in-Asks.chain c.in-Asks.at c.in-Asks.ensures);
+          (waiting_asked fits c.args.chains.now c.args.number c.loop-walk.returning c.pop.new.self.items c.in-Some.walk is c.in-Asks.chain c.in-Asks.at c.in-Asks.ensures);
     }

@@ -1,15 +1,15 @@
 use Rattle.std.proofs.Common.{◌≡◌, ◌+◌, ◌-◌, ◌*◌, length}
-use Rattle.std.specs.Prelude.{count_by, is_none}
+use Rattle.std.specs.Prelude.{count_by, not}
 use Rattle.ipt_rules.specs.Matching.{matches}
 use Rattle.ipt_rules.proofs.WalkingLemmas.{Waiting}
 use Rattle.ipt_rules.proofs.walk.outcome_among.Given as goal
 
--- each step ends a chain that was unknown, or begins the walk of one
+-- each step tells of one more chain that it returns, or begins the walk of one
 abbrev pub decreases-loop-walk : goal.decreases-loop-walk
-decreases-loop-walk g l = 2 * count_by is_none l.known + (g.row.N - length l.walks.items)
+decreases-loop-walk g l = 2 * count_by not l.returning + (g.row.N - length l.walks.items)
 
 abbrev pub invariant-loop-walk : goal.invariant-loop-walk
 invariant-loop-walk g l = record {
-  long : length l.known ≡ g.row.N;
-  waiting : Waiting (matches l.packet l.state) l.chains l.number l.known l.walks.items;
+  long : length l.returning ≡ g.row.N;
+  waiting : Waiting (matches l.packet l.state) l.chains l.number l.returning l.walks.items;
 }

@@ -1,4 +1,4 @@
-use Rattle.std.proofs.Common.{◌≡◌, ℕ, Bool, List, Option, Some, None, drop, length, refl, sym, ap, subst, arith, ◌∙◌}
+use Rattle.std.proofs.Common.{ℕ, Bool, List, Some, None, drop, length, refl, sym, ap, subst, arith, ◌∙◌}
 use Rattle.std.specs.Prelude.{Contains}
 use Rattle.std.proofs.lemmas.Option.{slice_get_read}
 use Rattle.host_net.specs.declared.packet.Verdict.{Verdict}
@@ -8,11 +8,11 @@ use Rattle.ipt_rules.specs.Loops.{jumps_of}
 use Rattle.ipt_rules.specs.Meaning.{Gives}
 use Rattle.ipt_rules.specs.Matching.{matches}
 use Rattle.ipt_rules.specs.inner.Next.{IsNextAt}
-use Rattle.ipt_rules.specs.inner.Walking.{GivesAlso, known_at}
+use Rattle.ipt_rules.specs.inner.Walking.{GivesAlso}
 use Rattle.ipt_rules.proofs.NextLemmas.{chain_few, gives_passed}
 use Rattle.ipt_rules.proofs.WalkLemmas.{end_gives, ends_here, decides_here, goes_on_here, comes_back_here, jump_at, walked_jump}
 use Rattle.ipt_rules.proofs.walk.walk_on.Goals as goal
-use Rattle.ipt_rules.proofs.walk.walk_on.Goals.{in-GoesOn, in-Walks+in-Some-known_at+else-is_some}
+use Rattle.ipt_rules.proofs.walk.walk_on.Goals.{in-GoesOn, in-Walks+else-not-returns_at}
 
 pub loop-at-init : goal.loop-at-init
 loop-at-init c =
@@ -50,27 +50,22 @@ loop-at-smaller c =
     let within = next.within in
     omega (arith, later, within)
 
-pub returns-in-Ends : goal.returns-in-Ends
-returns-in-Ends c =
+pub returns-in-Decides : goal.returns-in-Decides
+returns-in-Decides c =
     let rules = c.rules_of-rules.result.now in
     let next = c.in-Some.ensures.next c.args.state in
     let also = also_at (matches c.args.packet.now c.args.state) c.args.chains.now rules c.loop-at.from c.in-Some.at next c.loop-at.invariant.also in
-    rw (← c.rules_of-rules.ensures) (ends_here (matches c.args.packet.now c.args.state) c.args.chains.now rules c.in-Some.at c.index-rules-at.result next.within c.index-rules-at.is also c.in-Ends.outcome c.in-Ends.ensures)
+    rw (← c.rules_of-rules.ensures) (ends_here (matches c.args.packet.now c.args.state) c.args.chains.now rules c.in-Some.at c.index-rules-at.result next.within c.index-rules-at.is also (Some c.in-Decides.verdict) c.in-Decides.ensures)
 
-pub returns-then-is_some : goal.returns-then-is_some
-returns-then-is_some c =
+pub returns-in-Returns : goal.returns-in-Returns
+returns-in-Returns c =
     let rules = c.rules_of-rules.result.now in
     let next = c.in-Some.ensures.next c.args.state in
     let also = also_at (matches c.args.packet.now c.args.state) c.args.chains.now rules c.loop-at.from c.in-Some.at next c.loop-at.invariant.also in
-    let known : Gives (matches c.args.packet.now c.args.state) c.args.chains.now (rules_of c.args.chains.now c.in-Walks.chain) c.in-Some-known_at.outcome = c.requires.known c.in-Walks.chain c.in-Some-known_at.outcome (sym c.in-Some-known_at.ensures) in
-    rw (← c.rules_of-rules.ensures) (decides_here (matches c.args.packet.now c.args.state) c.args.chains.now rules c.in-Some.at c.index-rules-at.result next.within c.index-rules-at.is also c.in-Walks.chain c.in-Some-known_at.outcome c.if-is_some.ensures c.in-Walks.ensures known)
+    rw (← c.rules_of-rules.ensures) (ends_here (matches c.args.packet.now c.args.state) c.args.chains.now rules c.in-Some.at c.index-rules-at.result next.within c.index-rules-at.is also None c.in-Returns.ensures)
 
-none_of : (o : Option (Option Verdict)) → ((v : Option Verdict) → o ≡ Some v → ⊥) → o ≡ None
-none_of None never = refl
-none_of (Some v) never = absurd (never v refl)
-
-pub returns-in_default-known_at : goal.returns-in_default-known_at
-returns-in_default-known_at c =
+pub returns-then-not-returns_at : goal.returns-then-not-returns_at
+returns-then-not-returns_at c =
     let rules = c.rules_of-rules.result.now in
     let next = c.in-Some.ensures.next c.args.state in
     let within = next.within in
@@ -80,7 +75,10 @@ returns-in_default-known_at c =
     jump_at rules c.in-Some.at c.index-rules-at.result c.in-Walks.chain (slice_get_read rules (length rules) c.in-Some.at c.index-rules-at.result refl next.within c.index-rules-at.is) (walked_jump (matches c.args.packet.now c.args.state c.index-rules-at.result) c.index-rules-at.result.target c.in-Walks.chain c.in-Walks.ensures) in
     record {
       jumps = subst (λ (rs : List Rule). Contains (jumps_of rs) c.in-Walks.chain) c.rules_of-rules.ensures jumps;
-      unknown = none_of (known_at c.args.known.now c.in-Walks.chain) (λ v is. c.in_default-known_at.not-Some v (c.known_at.ensures ∙ is));
+      unknown = sym c.returns_at.ensures ∙ c.if-not-returns_at.true;
+      decides =
+          subst (λ (rs : List Rule). (v : Verdict) → Gives (matches c.args.packet.now c.args.state) c.args.chains.now (rules_of c.args.chains.now c.in-Walks.chain) (Some v) → Gives (matches c.args.packet.now c.args.state) c.args.chains.now rs (Some v)) c.rules_of-rules.ensures
+          (decides_here (matches c.args.packet.now c.args.state) c.args.chains.now rules c.in-Some.at c.index-rules-at.result next.within c.index-rules-at.is also c.in-Walks.chain c.in-Walks.ensures);
       walk = record {
         there = c.requires.walk.there;
         within = omega (arith, same, within);
@@ -98,9 +96,8 @@ loop-at-preserved c =
       within = omega (arith, within);
       also = elim c.match-step_at.branch [
         | in-GoesOn w ↦ goes_on_here (matches c.args.packet.now c.args.state) c.args.chains.now rules c.in-Some.at c.index-rules-at.result next.within c.index-rules-at.is also w.in-GoesOn.ensures
-        | in-Walks+in-Some-known_at+else-is_some w ↦
-            let known : Gives (matches c.args.packet.now c.args.state) c.args.chains.now (rules_of c.args.chains.now w.in-Walks.chain) w.in-Some-known_at.outcome = c.requires.known w.in-Walks.chain w.in-Some-known_at.outcome (sym w.in-Some-known_at.ensures) in
-            comes_back_here (matches c.args.packet.now c.args.state) c.args.chains.now rules c.in-Some.at c.index-rules-at.result next.within c.index-rules-at.is also w.in-Walks.chain w.in-Some-known_at.outcome w.if-is_some.ensures w.in-Walks.ensures known
+        | in-Walks+else-not-returns_at w ↦
+            comes_back_here (matches c.args.packet.now c.args.state) c.args.chains.now rules c.in-Some.at c.index-rules-at.result next.within c.index-rules-at.is also w.in-Walks.chain w.in-Walks.ensures (c.requires.returning w.in-Walks.chain (sym w.returns_at.ensures ∙ w.if-not-returns_at.false))
       ];
     }
 
