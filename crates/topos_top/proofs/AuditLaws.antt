@@ -15,6 +15,7 @@ use Rattle.audit_core.specs.inner.Rules.{GivesOne}
 use Rattle.audit_core.specs.Sides.{Sides, lets_answer, permits, sides_of}
 use Rattle.audit_core.specs.inner.Sides.{AgreeAlways}
 use Rattle.audit_core.specs.declared.finding.AuditRefusal.TheVariants.{TooManyClasses}
+use Rattle.audit_core.specs.declared.finding.Finding.{Finding}
 use Rattle.audit_core.specs.declared.finding.Finding.TheVariants.{Equal, Differ as Differing}
 use Rattle.audit_core.specs.declared.finding.Trace.{Trace}
 use Rattle.audit_core.specs.declared.kind.Kind.{Kind}
@@ -33,6 +34,7 @@ use Rattle.topos_top.specs.Audit.{FewClasses, ForwardAlike, HasManyClasses, OfSi
 use Rattle.topos_top.specs.Dialects.{language_of}
 use Rattle.topos_top.specs.Job.{Answers}
 use Rattle.topos_top.specs.Reply.{Reply, error}
+use Rattle.topos_top.specs.inner.JobReplies.{finding_reply}
 use Rattle.topos_top.specs.inner.Views.{reply_on}
 use Rattle.topos_top.specs.Rules.{IsRules, OfPolicy}
 use Rattle.topos_top.specs.declared.dialect.Dialect.{Dialect}
@@ -192,7 +194,7 @@ module _ (d : Network) (rules : Rules) (policy : Policy) (is_policy : IsPolicyOf
       has_many : (count : ℕ) → IsRefused (class_count (sides_for d rules policy)) (TooManyClasses count) → OfSides d rules (λ sides. HasManyClasses sides (classes_line count))
       has_many count many = record { policy = policy; is_policy = is_policy; so = (many.1, ap (λ (n : ℕ). classes_line n) many.0) }
 
-  pub ends_different : (reply : Reply) (t : Trace) → FewClasses (sides_for d rules policy) → IsFinding (sides_for d rules policy) (Differing t)
+  ends_different : (reply : Reply) (t : Trace) → FewClasses (sides_for d rules policy) → IsFinding (sides_for d rules policy) (Differing t)
       → reply ≡ reply_on Violated Output (finding_text (Differing t)) → Answers true (audit_job d rules) reply
   ends_different reply t few found is =
       subst (λ (r : Reply). Answers true (audit_job d rules) r) (sym is) (
@@ -204,7 +206,7 @@ module _ (d : Network) (rules : Rules) (policy : Policy) (is_policy : IsPolicyOf
         )),
       )
 
-  pub ends_equal : (reply : Reply) → GivesOne (filter_of rules) → FewClasses (sides_for d rules policy) → IsFinding (sides_for d rules policy) Equal
+  ends_equal : (reply : Reply) → GivesOne (filter_of rules) → FewClasses (sides_for d rules policy) → IsFinding (sides_for d rules policy) Equal
       → reply ≡ reply_on Done Output (finding_text Equal) → Answers true (audit_job d rules) reply
   ends_equal reply gives few found is =
       subst (λ (r : Reply). Answers true (audit_job d rules) r) (sym is) (
@@ -215,3 +217,8 @@ module _ (d : Network) (rules : Rules) (policy : Policy) (is_policy : IsPolicyOf
           refl,
         ))),
       )
+
+  pub ends_found : (reply : Reply) (finding : Finding) → GivesOne (filter_of rules) → FewClasses (sides_for d rules policy) → IsFinding (sides_for d rules policy) finding
+      → reply ≡ finding_reply finding → Answers true (audit_job d rules) reply
+  ends_found reply Equal gives few found is = ends_equal reply gives few found is
+  ends_found reply (Differing t) gives few found is = ends_different reply t few found is

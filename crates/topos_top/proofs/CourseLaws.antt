@@ -1,7 +1,8 @@
 -- What is so along a course: the laws for a file and for the job, each once.
 use Rattle.std.proofs.Common.{◌≡◌, ◌≤◌, ◌⊎◌, inl, inr, ℕ, ◌+◌, ◌^◌, ◌-◌, min, arith, List, Option, None, Some, Bool, Ok, Err, refl, sym, subst, ◌∙◌}
-use Rattle.std.specs.Prelude.{IfSome}
+use Rattle.std.specs.Prelude.{IfOk, IfSome, Result}
 use Rattle.std.specs.FinMap.{get}
+use Rattle.std.specs.declared.alloc.AllocError.{AllocError}
 use Rattle.edge_io.specs.Counts.{more, Rose}
 use Rattle.edge_io.specs.Told.{Files, Lacks}
 use Rattle.topos_top.specs.Course.{Course, reads, ends, CameAlong}
@@ -11,6 +12,9 @@ use Rattle.topos_top.specs.inner.Reads.{MayRead}
 use Rattle.topos_top.specs.Replies.{Stops, StopsAt, NoMemory, Stopped, MayReply}
 use Rattle.topos_top.specs.Reply.{Reply, no_memory}
 use Rattle.topos_top.specs.Shelf.{Shelf, ShelfChange, SawFile, TookBytes, taken_of}
+use Rattle.topos_top.specs.inner.JobReplies.{job_reply}
+use Rattle.topos_top.specs.inner.Views.{reply_view}
+use Rattle.topos_top.specs.declared.answer.Answer.{Answer}
 use Rattle.topos_top.specs.declared.kind.Kind.{Kind}
 use Rattle.topos_top.proofs.CommandLaws.{IsOwedAlong}
 use Rattle.topos_top.proofs.JobLaws.{IsSettled, answers_first, answers_once}
@@ -40,6 +44,19 @@ went_on on kind file next before mid after said given read rest = inr (record {
   took = read.1.took;
   next = rest;
 })
+
+-- after the last one there was no memory for the job, or it answers
+job_answers : (on : Bool) (job : Job) (made : Result Answer AllocError) (given : Reply) → IfOk made (λ answer. Answers on job (reply_view answer))
+    → given ≡ job_reply made → (given ≡ no_memory) ⊎ Answers on job given
+job_answers on job (Ok answer) given answers is = inr (subst (λ (r : Reply). Answers on job r) (sym is) answers)
+job_answers on job (Err _) given answers is = inl is
+
+pub went_to_job : {only : Type 0} (on : Bool) (kind : Kind) (file : List ℕ) (job : (contents_of kind).Said → Job) (before after : Shelf) (said : (contents_of kind).Said)
+    (made : Result Answer AllocError) (given : Reply) → MayRead kind file (between only before after) (Ok said)
+    → IfOk made (λ answer. Answers on (job said) (reply_view answer)) → given ≡ job_reply made
+    → MayReply on (reads kind file (λ x. ends (job x))) (between only before after) given
+went_to_job on kind file job before after said made given read answers is =
+    went_on on kind file (λ x. ends (job x)) before after after said given read (refl, job_answers on (job said) made given answers is)
 
 -- a second file stopped it
 pub then_stopped : {only : Type 0} (on : Bool) (kind other : Kind) (file second : List ℕ) (next : (x : (contents_of kind).Said) → (contents_of other).Said → Course) (before mid after : Shelf) (said : (contents_of kind).Said) (given : Reply)

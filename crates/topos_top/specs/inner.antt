@@ -1,5 +1,6 @@
 pub mod Ask
 pub mod Blocks
+pub mod JobReplies
 pub mod Local
 pub mod Reads
 pub mod Replies

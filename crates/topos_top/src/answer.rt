@@ -3,7 +3,8 @@
 ghost use Rattle.std.specs.Prelude.{◌≡◌};
 ghost use Rattle.topos_top.specs.Reply.{no_memory, error};
 ghost use Rattle.topos_top.specs.TextFault.{fault_line};
-ghost use Rattle.topos_top.specs.inner.Views.{reply_on, reply_view, text_view};
+ghost use Rattle.topos_top.specs.inner.JobReplies.{job_reply};
+ghost use Rattle.topos_top.specs.inner.Views.{reply_in, reply_on, reply_view, text_view};
 
 use crate::status::{Status, Stream};
 use crate::text::Text;
@@ -65,6 +66,13 @@ impl<'a> Answer<'a> {
         ensures { reply_view result ≡ no_memory }
     {
         Answer::error(Status::Memory, Text::NoMemory)
+    }
+
+    /// The answer of a job, or that there was no memory for it.
+    pub fn of_job(made: Result<Answer<'a>, AllocError>) -> Result<Answer<'a>, Answer<'a>>
+        ensures { reply_in result ≡ job_reply made.entry }
+    {
+        Ok(made?)
     }
 
     /// Why what is asked for cannot be written.

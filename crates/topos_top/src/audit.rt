@@ -5,16 +5,19 @@ ghost use Rattle.audit_core.specs.Rules.{filter_of};
 ghost use Rattle.audit_core.specs.inner.Rules.{GivesOne};
 ghost use Rattle.audit_core.specs.inner.RulesView.{rules_of};
 ghost use Rattle.topos_top.specs.Ask.{Audit};
-ghost use Rattle.topos_top.specs.Audit.{audit_job};
+ghost use Rattle.topos_top.specs.Audit.{audit_job, rules_in};
 ghost use Rattle.topos_top.specs.Commands.{course_of};
+ghost use Rattle.topos_top.specs.Course.{reads, ends};
 ghost use Rattle.topos_top.specs.Job.{Answers};
 ghost use Rattle.topos_top.specs.Replies.{MayReply};
 ghost use Rattle.topos_top.specs.Shelf.{shelf_change};
+ghost use Rattle.topos_top.specs.inner.JobReplies.{finding_reply};
 ghost use Rattle.topos_top.specs.inner.Views.{reply_view, reply_in, rules_view};
 
 use crate::answer::Answer;
 use crate::dialect::{Dialect, Rules};
 use crate::flow_policy::policy_between;
+use crate::kind::Kind;
 use crate::reading::{read_description, read_rules};
 use crate::text::Text;
 use audit_core::{AuditRefusal, Finding, classes_line, finding_text};
@@ -38,8 +41,24 @@ pub fn reply<'a, H: Shelf>(
         (shelf_change H.Shelf shelf.old shelf.new) (reply_in result) }
 {
     let description = read_description(alloc, file, shelf)?;
+    reply_for(alloc, dialect, &description, rules, shelf)
+}
+
+/// The same for the network of a description: the answer to the rules.
+fn reply_for<'a, H: Shelf>(
+    alloc: Global,
+    dialect: Dialect,
+    description: &Description,
+    rules: &'a str,
+    shelf: &mut H,
+) -> Result<Answer<'a>, Answer<'a>>
+    ensures same_files { H.files shelf.new ≡ H.files shelf.old }
+    ensures faults_stay { H.faults shelf.old ≤ H.faults shelf.new }
+    ensures reply { MayReply true (reads (Kind.Rules dialect) rules.now (λ said. ends (audit_job description.now (rules_in dialect said))))
+        (shelf_change H.Shelf shelf.old shelf.new) (reply_in result) }
+{
     let rules = read_rules(alloc, dialect, rules, shelf)?;
-    Ok(answer(alloc, &description, &rules)?)
+    Answer::of_job(answer(alloc, description, &rules))
 }
 
 /// What an audit of these rules finds. They have one verdict for every packet in each state.
@@ -71,17 +90,21 @@ fn finding<'a>(
 {
     let policy = policy_of(alloc, description)?;
     match audit_core::audit(alloc, &policy_between(description, &policy), &rules) {
-        Ok(Finding::Equal) => {
-            let text = finding_text(alloc, &Finding::Equal)?;
-            Ok(Answer::done(Text::Bytes(text)))
-        }
-        Ok(Finding::Differ(trace)) => {
-            let text = finding_text(alloc, &Finding::Differ(trace))?;
-            Ok(Answer::reported(Text::Bytes(text)))
-        }
+        Ok(finding) => told(alloc, &finding),
         Err(AuditRefusal::TooManyClasses { count }) => {
             Ok(Answer::not_emittable(classes_line(alloc, count)?))
         }
         Err(AuditRefusal::Memory) => Err(AllocError),
+    }
+}
+
+/// The text of what was found, as a report where the rules differ.
+fn told<'a>(alloc: Global, finding: &Finding) -> Result<Answer<'a>, AllocError>
+    ensures { IfOk result (λ answer. reply_view answer ≡ finding_reply finding.now) }
+{
+    let text = Text::Bytes(finding_text(alloc, finding)?);
+    match finding {
+        Finding::Equal => Ok(Answer::done(text)),
+        Finding::Differ(_) => Ok(Answer::reported(text)),
     }
 }

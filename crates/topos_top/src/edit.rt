@@ -7,6 +7,7 @@ ghost use Rattle.edit_core.specs.inner.EditView.{edit_view};
 ghost use Rattle.report_core.specs.PolicyReport.{IsPolicyReport};
 ghost use Rattle.topos_top.specs.Ask.{Edit};
 ghost use Rattle.topos_top.specs.Commands.{course_of};
+ghost use Rattle.topos_top.specs.Course.{reads, ends};
 ghost use Rattle.topos_top.specs.Edit.{SaysTable, edit_job, summary_line, summary_lines};
 ghost use Rattle.topos_top.specs.Job.{Answers};
 ghost use Rattle.topos_top.specs.Replies.{MayReply};
@@ -14,6 +15,7 @@ ghost use Rattle.topos_top.specs.Shelf.{shelf_change};
 ghost use Rattle.topos_top.specs.inner.Views.{reply_view, reply_in};
 
 use crate::answer::Answer;
+use crate::kind::Kind;
 use crate::reading::{read_edits, read_session};
 use crate::status::Status;
 use crate::text::Text;
@@ -35,8 +37,23 @@ pub fn reply<'a, H: Shelf>(
         (shelf_change H.Shelf shelf.old shelf.new) (reply_in result) }
 {
     let mut session = read_session(alloc, file, shelf)?;
+    reply_for(alloc, &mut session, edits, shelf)
+}
+
+/// The same for a session over the description: the answer to the edits.
+fn reply_for<'a, H: Shelf>(
+    alloc: Global,
+    session: &mut Session,
+    edits: &'a str,
+    shelf: &mut H,
+) -> Result<Answer<'a>, Answer<'a>>
+    ensures same_files { H.files shelf.new ≡ H.files shelf.old }
+    ensures faults_stay { H.faults shelf.old ≤ H.faults shelf.new }
+    ensures reply { MayReply false (reads Kind.Edits edits.now (λ es. ends (edit_job (table_of session.old) es)))
+        (shelf_change H.Shelf shelf.old shelf.new) (reply_in result) }
+{
     let edits = read_edits(alloc, edits, shelf)?;
-    Ok(answer(alloc, &mut session, &edits)?)
+    Answer::of_job(answer(alloc, session, &edits))
 }
 
 /// The summaries and the policy in the end, or the first edit that is refused.

@@ -38,7 +38,7 @@ pub fn reply<'a, H: Shelf>(
         (shelf_change H.Shelf shelf.old shelf.new) (reply_in result) }
 {
     let description = read_description(alloc, file, shelf)?;
-    Ok(answer(alloc, &description, host)?)
+    Answer::of_job(answer(alloc, &description, host))
 }
 
 /// The rules, or why there are none.

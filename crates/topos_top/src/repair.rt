@@ -27,5 +27,5 @@ pub fn reply<'a, H: Shelf>(
         (shelf_change H.Shelf shelf.old shelf.new) (reply_in result) }
 {
     let description = read_description(alloc, file, shelf)?;
-    Ok(policy_rules(alloc, dialect, &description)?)
+    Answer::of_job(policy_rules(alloc, dialect, &description))
 }

@@ -36,7 +36,7 @@ pub fn reply<'a, H: Shelf>(
         (shelf_change H.Shelf shelf.old shelf.new) (reply_in result) }
 {
     let description = read_description(alloc, file, shelf)?;
-    Ok(answer(alloc, dialect, &description)?)
+    Answer::of_job(answer(alloc, dialect, &description))
 }
 
 /// The rules, or why there are none.

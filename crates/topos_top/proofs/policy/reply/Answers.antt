@@ -1,10 +1,9 @@
-use Rattle.std.proofs.Common.{inl, inr, refl, false}
+use Rattle.std.proofs.Common.{inl, false}
 use Rattle.std.proofs.lemmas.Result.{err_from_is_err_and}
-use Rattle.topos_top.specs.Course.{ends}
 use Rattle.topos_top.specs.Policy.{policy_job}
-use Rattle.topos_top.specs.inner.Views.{reply_view}
+use Rattle.topos_top.specs.inner.Views.{reply_in}
 use Rattle.topos_top.specs.declared.kind.Kind.TheVariants.{Description}
-use Rattle.topos_top.proofs.CourseLaws.{went_on}
+use Rattle.topos_top.proofs.CourseLaws.{went_to_job}
 use Rattle.topos_top.proofs.policy.reply.Goals as goal
 
 pub returns-in_err-description-clause-reply : goal.returns-in_err-description-clause-reply
@@ -14,4 +13,4 @@ returns-in_err-description-clause-reply g c =
 
 pub returns-clause-reply : goal.returns-clause-reply
 returns-clause-reply g c =
-    went_on false Description c.args.file.now (λ x. ends (policy_job x)) _ _ _ c.in_ok-description.description (reply_view c.in_ok-answer.field-0) c.in_ok-description.ensures.reading (refl, inr c.in_ok-answer.ensures)
+    went_to_job false Description c.args.file.now policy_job _ _ c.in_ok-description.description c.answer.result (reply_in c.of_job.result) c.in_ok-description.ensures.reading c.answer.ensures c.of_job.ensures
