@@ -1,9 +1,12 @@
 //! From a description to the same one in version 2.
-ghost use Rattle.std.specs.Prelude.{◌≡◌, ◌≤◌, true, false, Some, IfOk, OnOk};
+ghost use Rattle.std.specs.Prelude.{◌≡◌, ◌≤◌, true, false, Some, Ok, Err, IfOk, IfErr, OnOk};
 ghost use Rattle.std.specs.Result.{result_map_both};
+ghost use Rattle.desc_core.specs.Description.{described_by_table};
 ghost use Rattle.desc_core.specs.Document.{document};
 ghost use Rattle.desc_core.specs.Migrated.{migrated};
 ghost use Rattle.desc_core.specs.inner.Migrated.{Migrates};
+ghost use Rattle.desc_core.specs.inner.Reads.{Reads};
+ghost use Rattle.net_core.specs.Network.{Network};
 ghost use Rattle.toml.specs.Data.{members_depth, members_have_valid_dates};
 ghost use Rattle.toml.specs.Text.{IsDocumentText};
 ghost use Rattle.toml.specs.View.{table_view};
@@ -21,9 +24,18 @@ pub fn migrate(alloc: Global, bytes: &[u8]) -> Result<Vec<u8>, DescFault>
     ensures { Migrates bytes.now (result_map_both (λ text. text.items) (λ fault. fault) result) }
 {
     let mut table = read_table(alloc, bytes)?;
-    let _described = describe_table(alloc, &table)?;
+    accept(alloc, &table)?;
     set_version(alloc, &mut table)?;
     Ok(print(alloc, &table)?)
+}
+
+/// Refuses a table that describes no network. The network itself is not kept.
+fn accept(alloc: Global, table: &Table) -> Result<(), DescFault>
+    ensures accepted { IfOk result (λ _. (network : Network) × (described_by_table (table_view table.now) ≡ Ok network)) }
+    ensures refused { IfErr result (λ fault. Reads {A = Network} (Err fault) (described_by_table (table_view table.now))) }
+{
+    describe_table(alloc, table)?;
+    Ok(())
 }
 
 fn set_version(alloc: Global, table: &mut Table) -> Result<(), AllocError>
