@@ -10,6 +10,7 @@ use Rattle.text_core.proofs.DecimalLaws.{number-decimal, decimal_of_number}
 use Rattle.text_core.specs.Lines.{words}
 use Rattle.text_core.specs.Steps.{◌>>=◌}
 use Rattle.text_core.proofs.StepsLaws.{bind_some, if_parts, ok_or_parts, map_parts, bytes_same}
+use Rattle.text_core.specs.declared.faults.ListWhy.TheVariants.{BadValue}
 use Rattle.host_net.specs.Limits.{invariant_limit}
 use Rattle.table_core.specs.Tables.{text_at}
 use Rattle.toml.specs.Data.{Data, string, integer, float, boolean, datetime, array, table, Members, as_table, get_member}
@@ -18,7 +19,6 @@ use Rattle.edit_core.specs.Behind.{behind_word}
 use Rattle.edit_core.specs.inner.ChangeSteps.{add_of, assign_of, assigned, change_of, change_of_words, from_one, invariant_said, remove_of, removed, set_of, text_of, texts_of, unassigned, unset_of, value_in, with_host}
 use Rattle.edit_core.specs.Edit.{Change, Add, Remove, Set, Unset}
 use Rattle.edit_core.specs.EditsText.{AreTexts, IsAssignText, IsInvariantNumber, TellsChange}
-use Rattle.edit_core.specs.declared.text_fault.EditsWhy.TheVariants.{BadValue}
 
 -- ---- words
 

@@ -9,14 +9,14 @@ use Rattle.text_core.specs.inner.TextAnswers.{HasReason}
 use Rattle.text_core.specs.declared.faults.LineFault.{LineFault}
 use Rattle.text_core.specs.declared.faults.LineFault.TheVariants.{Bad, Memory as NoMemory}
 use Rattle.text_core.proofs.TextByLinesLaws.{IsSettled, IsStep, settled_by_step}
+use Rattle.text_core.specs.declared.faults.ListWhy.{ListWhy}
+use Rattle.text_core.specs.declared.faults.ListWhy.TheVariants.{BadLine, BadValue, TooMany}
 use Rattle.edit_core.specs.Behind.{behind_word}
 use Rattle.edit_core.proofs.ChangeLaws.{change_told, told_change}
 use Rattle.edit_core.specs.inner.ChangeSteps.{add_of, assigned, change_of, change_of_words, edit_step, remove_of, removed, set_of, texts_of, unassigned, unset_of, with_change}
 use Rattle.edit_core.specs.Edit.{Change, Add, Remove, Set, Unset, Edit}
 use Rattle.edit_core.specs.EditsText.{IsBad, IsForm, TellsChange, add, bad_line, bad_value, edits_text, remove, set, too_many, unset}
 use Rattle.edit_core.proofs.EditsTextLaws.{adds_step, step_adds}
-use Rattle.edit_core.specs.declared.text_fault.EditsWhy.{EditsWhy}
-use Rattle.edit_core.specs.declared.text_fault.EditsWhy.TheVariants.{BadLine, BadValue, TooMany}
 
 -- 1. Why words tell no change.
 
@@ -32,33 +32,33 @@ form_read ws text (remove a b is) h = value_not_line (removed a b) (ap (λ xs. c
 form_read ws text (set a word rest is) h = value_not_line (assigned a text) (ap (λ xs. change_of_words xs text) (sym is) ∙ h)
 form_read ws text (unset a b is) h = value_not_line (unassigned a b) (ap (λ xs. change_of_words xs text) (sym is) ∙ h)
 
-abbrev Explains : List (List ℕ) → EditsWhy → Type 0
+abbrev Explains : List (List ℕ) → ListWhy → Type 0
 Explains ws why = (why ≡ BadLine) ⊎ ((why ≡ BadValue) × IsForm ws)
 
-line_why : (ws : List (List ℕ)) (why : EditsWhy) → ◌≡◌ {A = Result Change EditsWhy} (Err BadLine) (Err why) → Explains ws why
+line_why : (ws : List (List ℕ)) (why : ListWhy) → ◌≡◌ {A = Result Change ListWhy} (Err BadLine) (Err why) → Explains ws why
 line_why ws why h = let e : BadLine ≡ why = cc in inl (sym e)
 
-value_why : (ws : List (List ℕ)) (o : Option Change) (why : EditsWhy) → IsForm ws → ok_or o BadValue ≡ Err why → Explains ws why
+value_why : (ws : List (List ℕ)) (o : Option Change) (why : ListWhy) → IsForm ws → ok_or o BadValue ≡ Err why → Explains ws why
 value_why ws None why form h = let e : BadValue ≡ why = cc in inr (sym e, form)
 value_why ws (Some c) why form h = cc
 
-add_why : (ws rest : List (List ℕ)) (why : EditsWhy) → ws ≡ codes "add" ∷ rest → add_of rest ≡ Err why → Explains ws why
+add_why : (ws rest : List (List ℕ)) (why : ListWhy) → ws ≡ codes "add" ∷ rest → add_of rest ≡ Err why → Explains ws why
 add_why ws [] why is h = line_why ws why h
 add_why ws (a ∷ []) why is h = line_why ws why h
 add_why ws (a ∷ b ∷ rest) why is h = value_why ws (option_map Add (texts_of (a ∷ b ∷ rest))) why (add a b rest is) h
 
-remove_why : (ws rest : List (List ℕ)) (why : EditsWhy) → ws ≡ codes "remove" ∷ rest → remove_of rest ≡ Err why → Explains ws why
+remove_why : (ws rest : List (List ℕ)) (why : ListWhy) → ws ≡ codes "remove" ∷ rest → remove_of rest ≡ Err why → Explains ws why
 remove_why ws [] why is h = line_why ws why h
 remove_why ws (a ∷ []) why is h = line_why ws why h
 remove_why ws (a ∷ b ∷ []) why is h = value_why ws (removed a b) why (remove a b is) h
 remove_why ws (a ∷ b ∷ x ∷ rest) why is h = line_why ws why h
 
-set_why : (ws rest : List (List ℕ)) (text : List ℕ) (why : EditsWhy) → ws ≡ codes "set" ∷ rest → set_of text rest ≡ Err why → Explains ws why
+set_why : (ws rest : List (List ℕ)) (text : List ℕ) (why : ListWhy) → ws ≡ codes "set" ∷ rest → set_of text rest ≡ Err why → Explains ws why
 set_why ws [] text why is h = line_why ws why h
 set_why ws (a ∷ []) text why is h = line_why ws why h
 set_why ws (a ∷ word ∷ rest) text why is h = value_why ws (assigned a text) why (set a word rest is) h
 
-unset_why : (ws rest : List (List ℕ)) (why : EditsWhy) → ws ≡ codes "unset" ∷ rest → unset_of rest ≡ Err why → Explains ws why
+unset_why : (ws rest : List (List ℕ)) (why : ListWhy) → ws ≡ codes "unset" ∷ rest → unset_of rest ≡ Err why → Explains ws why
 unset_why ws [] why is h = line_why ws why h
 unset_why ws (a ∷ []) why is h = line_why ws why h
 unset_why ws (a ∷ b ∷ []) why is h = value_why ws (unassigned a b) why (unset a b is) h
@@ -67,7 +67,7 @@ unset_why ws (a ∷ b ∷ x ∷ rest) why is h = line_why ws why h
 verb_is : (verb name : List ℕ) (rest : List (List ℕ)) → bytes_eq verb name ≡ true → verb ∷ rest ≡ name ∷ rest
 verb_is verb name rest same = ap (λ v. v ∷ rest) (bytes_same verb name same)
 
-words_why : (ws : List (List ℕ)) (text : List ℕ) (why : EditsWhy) → change_of_words ws text ≡ Err why → Explains ws why
+words_why : (ws : List (List ℕ)) (text : List ℕ) (why : ListWhy) → change_of_words ws text ≡ Err why → Explains ws why
 words_why [] text why h = line_why [] why h
 words_why (verb ∷ rest) text why h = elim (if_parts (bytes_eq verb (codes "add")) (add_of rest) _ (Err why) h) [
   | inl first ↦ add_why (verb ∷ rest) rest why (verb_is verb (codes "add") rest first.0) first.1
@@ -83,7 +83,7 @@ words_why (verb ∷ rest) text why h = elim (if_parts (bytes_eq verb (codes "add
   ]
 ]
 
-explained : (line : List ℕ) (why : EditsWhy) → change_of line ≡ Err why → Explains (words line) why
+explained : (line : List ℕ) (why : ListWhy) → change_of line ≡ Err why → Explains (words line) why
 unfolding change_of
 explained line why h = words_why (words line) (behind_word (behind_word line)) why h
 
@@ -102,16 +102,16 @@ told_form line (Remove from to) told = remove from to told.0
 told_form line (Set k assign) told = set (decimal k) told.word told.rest told.written
 told_form line (Unset k host) told = unset (decimal k) host told.0
 
-not_told : (line : List ℕ) (why : EditsWhy) → change_of line ≡ Err why → (c : Change) → TellsChange line c → ⊥
+not_told : (line : List ℕ) (why : ListWhy) → change_of line ≡ Err why → (c : Change) → TellsChange line c → ⊥
 not_told line why refused c told = let read : change_of line ≡ Ok c = told_change line c told in cc
 
-untold : (before : List Edit) (line : List ℕ) (why : EditsWhy) → change_of line ≡ Err why → IsBad before line why
+untold : (before : List Edit) (line : List ℕ) (why : ListWhy) → change_of line ≡ Err why → IsBad before line why
 untold before line why refused = elim (explained line why refused) [
   | inl form ↦ subst (IsBad before line) (sym form) (bad_line (no_form line (refused ∙ ap (λ w. Err w) form)))
   | inr value ↦ subst (IsBad before line) (sym value.0) (bad_value value.1 (not_told line why refused))
 ]
 
-bad_by : (n : ℕ) (before : List Edit) (line : List ℕ) (why : EditsWhy) (r : Result Change EditsWhy) → change_of line ≡ r
+bad_by : (n : ℕ) (before : List Edit) (line : List ℕ) (why : ListWhy) (r : Result Change ListWhy) → change_of line ≡ r
     → with_change n before r ≡ Err why → IsBad before line why
 bad_by n before line why (Err cause) read h = let e : cause ≡ why = cc in untold before line why (read ∙ ap (λ w. Err w) e)
 bad_by n before line why (Ok c) read h = elim (if_parts (nat_lt 9999 (length before)) (Err TooMany) _ (Err why) h) [
@@ -122,7 +122,7 @@ bad_by n before line why (Ok c) read h = elim (if_parts (nat_lt 9999 (length bef
   | inr few ↦ cc
 ]
 
-line_refused : (n : ℕ) (before : List Edit) (line : List ℕ) (r : Result Change EditsWhy) → change_of line ≡ r → (IsForm (words line) → ⊥)
+line_refused : (n : ℕ) (before : List Edit) (line : List ℕ) (r : Result Change ListWhy) → change_of line ≡ r → (IsForm (words line) → ⊥)
     → with_change n before r ≡ Err BadLine
 line_refused n before line (Ok c) read none = absurd (none (told_form line c (change_told line c read)))
 line_refused n before line (Err why) read none = elim (explained line why read) [
@@ -130,7 +130,7 @@ line_refused n before line (Err why) read none = elim (explained line why read) 
   | inr value ↦ absurd (none value.1)
 ]
 
-value_refused : (n : ℕ) (before : List Edit) (line : List ℕ) (r : Result Change EditsWhy) → change_of line ≡ r → IsForm (words line)
+value_refused : (n : ℕ) (before : List Edit) (line : List ℕ) (r : Result Change ListWhy) → change_of line ≡ r → IsForm (words line)
     → ((c : Change) → TellsChange line c → ⊥) → with_change n before r ≡ Err BadValue
 value_refused n before line (Ok c) read form none = absurd (none c (change_told line c read))
 value_refused n before line (Err why) read form none = elim (explained line why read) [
@@ -141,7 +141,7 @@ value_refused n before line (Err why) read form none = elim (explained line why 
 full_step : (n : ℕ) (before : List Edit) (c : Change) → 10000 ≤ length before → with_change n before (Ok c) ≡ Err TooMany
 full_step n before c full = let many : nat_lt 9999 (length before) ≡ true = grind (arith, nat_tests) in rw many refl
 
-bad_step : (n : ℕ) (before : List Edit) (line : List ℕ) (why : EditsWhy) → IsBad before line why → edit_step n before line ≡ Err why
+bad_step : (n : ℕ) (before : List Edit) (line : List ℕ) (why : ListWhy) → IsBad before line why → edit_step n before line ≡ Err why
 bad_step n before line why (bad_line none) = line_refused n before line (change_of line) refl none
 bad_step n before line why (bad_value form none) = value_refused n before line (change_of line) refl form none
 bad_step n before line why (too_many c told full) = ap (with_change n before) (told_change line c told) ∙ full_step n before c full
@@ -161,7 +161,7 @@ pub edits_settled : IsSettled edits_text
 edits_settled = settled_by_step edits_text edit_step edits_step (λ n es line why none. none)
 
 -- a reason of the step is one of the text
-pub has_reason : (n : ℕ) (es : List Edit) (line : List ℕ) (fault : LineFault EditsWhy) → HasReason (λ why. edit_step n es line ≡ Err why) fault
+pub has_reason : (n : ℕ) (es : List Edit) (line : List ℕ) (fault : LineFault ListWhy) → HasReason (λ why. edit_step n es line ≡ Err why) fault
     → HasReason (edits_text.IsBadLine n es line) fault
 has_reason n es line (Bad why) refused = edits_step.refuses n es line why refused
 has_reason n es line NoMemory refused = tt

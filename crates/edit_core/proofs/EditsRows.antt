@@ -4,12 +4,12 @@ use Rattle.std.specs.List.{AllByRecursion}
 use Rattle.std.specs.Prelude.{codes, Err}
 use Rattle.std.specs.Fmt.{digits}
 use Rattle.text_core.specs.inner.Decimal.{number}
+use Rattle.text_core.specs.declared.faults.ListWhy.{ListWhy}
+use Rattle.text_core.specs.declared.faults.ListWhy.TheVariants.{BadLine, BadValue}
 use Rattle.edit_core.specs.Behind.{behind_word}
 use Rattle.edit_core.specs.inner.ChangeSteps.{change_of}
-use Rattle.edit_core.specs.declared.text_fault.EditsWhy.{EditsWhy}
-use Rattle.edit_core.specs.declared.text_fault.EditsWhy.TheVariants.{BadLine, BadValue}
 
-abbrev IsRefusedFor : EditsWhy → List ℕ → Type 0
+abbrev IsRefusedFor : ListWhy → List ℕ → Type 0
 IsRefusedFor why line = change_of line ≡ Err why
 
 -- the number of words goes before every value

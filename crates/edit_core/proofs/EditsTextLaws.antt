@@ -3,12 +3,12 @@ use Rattle.std.proofs.Common.{◌≡◌, ℕ, ◌<◌, false, List, [], ◌∷�
 use Rattle.std.specs.Prelude.{Result, Ok, Err, nat_lt}
 use Rattle.std.proofs.lemmas.Bool.Decides.{nat_tests}
 use Rattle.text_core.proofs.StepsLaws.{if_parts}
+use Rattle.text_core.specs.declared.faults.ListWhy.{ListWhy}
+use Rattle.text_core.specs.declared.faults.ListWhy.TheVariants.{TooMany}
 use Rattle.edit_core.proofs.ChangeLaws.{change_told, told_change}
 use Rattle.edit_core.specs.inner.ChangeSteps.{change_of, edit_step, with_change}
 use Rattle.edit_core.specs.Edit.{Change, Edit}
 use Rattle.edit_core.specs.EditsText.{AddsEdit}
-use Rattle.edit_core.specs.declared.text_fault.EditsWhy.{EditsWhy}
-use Rattle.edit_core.specs.declared.text_fault.EditsWhy.TheVariants.{TooMany}
 
 small : (n : ℕ) → n < 10000 → nat_lt 9999 n ≡ false
 small n h = grind (arith, nat_tests)
@@ -17,7 +17,7 @@ room : (n : ℕ) → nat_lt 9999 n ≡ false → n < 10000
 room n h = grind (arith, nat_tests)
 
 -- a line adds an edit exactly where it tells one
-adds_told : (n : ℕ) (es : List Edit) (line : List ℕ) (now : List Edit) (r : Result Change EditsWhy) → change_of line ≡ r
+adds_told : (n : ℕ) (es : List Edit) (line : List ℕ) (now : List Edit) (r : Result Change ListWhy) → change_of line ≡ r
     → with_change n es r ≡ Ok now → AddsEdit n es line now
 adds_told n es line now (Err why) read h = cc
 adds_told n es line now (Ok c) read h = elim (if_parts (nat_lt 9999 (length es)) (Err TooMany) _ (Ok now) h) [

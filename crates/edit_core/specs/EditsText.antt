@@ -4,14 +4,14 @@ use Rattle.std.specs.List.{list_all}
 use Rattle.std.specs.Str.{is_utf8}
 use Rattle.text_core.specs.Lines.{words}
 use Rattle.text_core.specs.TextByLines.{TextByLines, HasFault, IsReading as IsReadingOf}
+use Rattle.text_core.specs.declared.faults.ListWhy.{ListWhy}
+use Rattle.text_core.specs.declared.faults.ListWhy.TheVariants.{TooLong, BadLine, BadValue, TooMany}
 use Rattle.host_net.specs.Limits.{invariant_limit}
 use Rattle.table_core.specs.Tables.{text_at}
 use Rattle.toml.specs.Data.{Members, get_member, table}
 use Rattle.toml.specs.Parse.{parse_document}
 use Rattle.edit_core.specs.Behind.{behind_word}
 use Rattle.edit_core.specs.Edit.{Change, Add, Remove, Set, Unset, Edit}
-use Rattle.edit_core.specs.declared.text_fault.EditsWhy.{EditsWhy}
-use Rattle.edit_core.specs.declared.text_fault.EditsWhy.TheVariants.{TooLong, BadLine, BadValue, TooMany}
 
 -- A. The grammar: which edits a text tells.
 
@@ -64,14 +64,14 @@ pub data IsForm (ws : List (List ℕ)) : Type 0 where
 
 -- why a line adds no edit to those before it: its words have no form of an edit; or they have one, and tell no change; or they tell
 -- one, and 10,000 edits stand before it
-pub data IsBad (before : List Edit) (line : List ℕ) : EditsWhy → Type 0 where
+pub data IsBad (before : List Edit) (line : List ℕ) : ListWhy → Type 0 where
   bad_line : (IsForm (words line) → ⊥) → IsBad before line BadLine
   bad_value : IsForm (words line) → ((change : Change) → TellsChange line change → ⊥) → IsBad before line BadValue
   too_many : (change : Change) → TellsChange line change → 10000 ≤ length before → IsBad before line TooMany
 
 -- C. The text: its lines are edits, and it may end behind each of them.
 
-abbrev pub edits_text : TextByLines (List Edit) EditsWhy
+abbrev pub edits_text : TextByLines (List Edit) ListWhy
 edits_text = record {
   byte_limit = 1048576;
   when_longer = TooLong;
@@ -86,5 +86,5 @@ edits_text = record {
 abbrev pub IsReading : List ℕ → List Edit → Type 0
 IsReading bytes edits = IsReadingOf edits_text bytes edits
 
-abbrev pub IsRefused : List ℕ → ℕ → EditsWhy → Type 0
+abbrev pub IsRefused : List ℕ → ℕ → ListWhy → Type 0
 IsRefused bytes line why = HasFault edits_text bytes line why

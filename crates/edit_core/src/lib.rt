@@ -14,7 +14,6 @@ mod session;
 mod summary;
 mod table;
 mod text;
-mod text_fault;
 mod values;
 
 pub use edit::{Change, Edit};
@@ -22,5 +21,4 @@ pub use fault::EditFault;
 pub use run::EditRefusal;
 pub use session::Session;
 pub use summary::Summary;
-pub use text::{EDITS_BYTE_LIMIT, read_edits};
-pub use text_fault::{EditsFault, EditsWhy};
+pub use text::{EDITS_BYTE_LIMIT, EditsFault, read_edits};

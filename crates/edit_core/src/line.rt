@@ -10,23 +10,22 @@ ghost use Rattle.toml.specs.View.{table_view, view};
 
 use crate::behind::behind_word;
 use crate::edit::Change;
-use crate::text_fault::EditsWhy;
 use std::alloc::Global;
 use std::str;
 use table_core::text_at;
-use text_core::{LineFault, Words, read_number};
+use text_core::{LineFault, ListWhy, Words, read_number};
 use toml::{Table, Value};
 
 const INVARIANT_LIMIT: u32 = 16;
 
 /// The change that a line tells, or why it tells none.
 #[tactic(auto, unfolding(crate::specs::inner::ChangeSteps::change_of))]
-pub(crate) fn read_change(alloc: Global, line: &[u8]) -> Result<Change, LineFault<EditsWhy>>
+pub(crate) fn read_change(alloc: Global, line: &[u8]) -> Result<Change, LineFault<ListWhy>>
     ensures { Says (change_of line.now) result }
 {
     let mut words = Words::new(line);
     let Some(verb) = words.next_word() else {
-        return Err(LineFault::Bad(EditsWhy::BadLine));
+        return Err(LineFault::Bad(ListWhy::BadLine));
     };
     if verb == b"add".as_slice() {
         return read_add(alloc, words);
@@ -40,18 +39,18 @@ pub(crate) fn read_change(alloc: Global, line: &[u8]) -> Result<Change, LineFaul
     if verb == b"unset".as_slice() {
         return read_unset(alloc, words);
     }
-    Err(LineFault::Bad(EditsWhy::BadLine))
+    Err(LineFault::Bad(ListWhy::BadLine))
 }
 
 /// A flow that is listed, by the words behind `add`.
-fn read_add(alloc: Global, mut words: Words<'_>) -> Result<Change, LineFault<EditsWhy>>
+fn read_add(alloc: Global, mut words: Words<'_>) -> Result<Change, LineFault<ListWhy>>
     ensures { Says (add_of words.entry) result }
 {
     let Some(from) = words.next_word() else {
-        return Err(LineFault::Bad(EditsWhy::BadLine));
+        return Err(LineFault::Bad(ListWhy::BadLine));
     };
     let Some(to) = words.next_word() else {
-        return Err(LineFault::Bad(EditsWhy::BadLine));
+        return Err(LineFault::Bad(ListWhy::BadLine));
     };
     let mut texts = Vec::new(alloc);
     texts.push(read_text(alloc, from)?)?;
@@ -65,7 +64,7 @@ fn read_texts(
     alloc: Global,
     texts: &mut Vec<String>,
     mut words: Words<'_>,
-) -> Result<(), LineFault<EditsWhy>>
+) -> Result<(), LineFault<ListWhy>>
     ensures { PutsTexts words.entry (map string_bytes texts.old.items) (map string_bytes texts.new.items) result }
 {
     while let Some(word) = words.next_word() {
@@ -75,17 +74,17 @@ fn read_texts(
 }
 
 /// A flow that is taken out, by the words behind `remove`.
-fn read_remove(alloc: Global, mut words: Words<'_>) -> Result<Change, LineFault<EditsWhy>>
+fn read_remove(alloc: Global, mut words: Words<'_>) -> Result<Change, LineFault<ListWhy>>
     ensures { Says (remove_of words.entry) result }
 {
     let Some(from) = words.next_word() else {
-        return Err(LineFault::Bad(EditsWhy::BadLine));
+        return Err(LineFault::Bad(ListWhy::BadLine));
     };
     let Some(to) = words.next_word() else {
-        return Err(LineFault::Bad(EditsWhy::BadLine));
+        return Err(LineFault::Bad(ListWhy::BadLine));
     };
     if words.next_word().is_some() {
-        return Err(LineFault::Bad(EditsWhy::BadLine));
+        return Err(LineFault::Bad(ListWhy::BadLine));
     }
     let from = read_text(alloc, from)?;
     let to = read_text(alloc, to)?;
@@ -93,36 +92,36 @@ fn read_remove(alloc: Global, mut words: Words<'_>) -> Result<Change, LineFault<
 }
 
 /// An assign, by the words behind `set` and the text behind the first of them.
-fn read_set(alloc: Global, mut words: Words<'_>, text: &[u8]) -> Result<Change, LineFault<EditsWhy>>
+fn read_set(alloc: Global, mut words: Words<'_>, text: &[u8]) -> Result<Change, LineFault<ListWhy>>
     ensures { Says (set_of text.now words.entry) result }
 {
     let Some(number) = words.next_word() else {
-        return Err(LineFault::Bad(EditsWhy::BadLine));
+        return Err(LineFault::Bad(ListWhy::BadLine));
     };
     if words.next_word().is_none() {
-        return Err(LineFault::Bad(EditsWhy::BadLine));
+        return Err(LineFault::Bad(ListWhy::BadLine));
     }
     let Some(number) = invariant_said(number) else {
-        return Err(LineFault::Bad(EditsWhy::BadValue));
+        return Err(LineFault::Bad(ListWhy::BadValue));
     };
     Ok(Change::Set(number, read_assign(alloc, text)?))
 }
 
 /// What an invariant assigns to a host is taken out, by the words behind `unset`.
-fn read_unset(alloc: Global, mut words: Words<'_>) -> Result<Change, LineFault<EditsWhy>>
+fn read_unset(alloc: Global, mut words: Words<'_>) -> Result<Change, LineFault<ListWhy>>
     ensures { Says (unset_of words.entry) result }
 {
     let Some(number) = words.next_word() else {
-        return Err(LineFault::Bad(EditsWhy::BadLine));
+        return Err(LineFault::Bad(ListWhy::BadLine));
     };
     let Some(host) = words.next_word() else {
-        return Err(LineFault::Bad(EditsWhy::BadLine));
+        return Err(LineFault::Bad(ListWhy::BadLine));
     };
     if words.next_word().is_some() {
-        return Err(LineFault::Bad(EditsWhy::BadLine));
+        return Err(LineFault::Bad(ListWhy::BadLine));
     }
     let Some(number) = invariant_said(number) else {
-        return Err(LineFault::Bad(EditsWhy::BadValue));
+        return Err(LineFault::Bad(ListWhy::BadValue));
     };
     Ok(Change::Unset(number, read_text(alloc, host)?))
 }
@@ -139,35 +138,35 @@ fn invariant_said(word: &[u8]) -> Option<u8>
 }
 
 /// A word as a text.
-fn read_text(alloc: Global, word: &[u8]) -> Result<String, LineFault<EditsWhy>>
+fn read_text(alloc: Global, word: &[u8]) -> Result<String, LineFault<ListWhy>>
     ensures { SaysValue (text_of word.now) (result_map_both string_bytes (λ fault. fault) result) }
 {
     match str::from_utf8(word) {
         Ok(text) => Ok(String::from_str(alloc, text)?),
-        Err(_) => Err(LineFault::Bad(EditsWhy::BadValue)),
+        Err(_) => Err(LineFault::Bad(ListWhy::BadValue)),
     }
 }
 
 /// The table of an assign, which a text says as a TOML value.
 #[tactic(auto, unfolding(crate::specs::inner::ChangeSteps::assign_of))]
-fn read_assign(alloc: Global, text: &[u8]) -> Result<Table, LineFault<EditsWhy>>
+fn read_assign(alloc: Global, text: &[u8]) -> Result<Table, LineFault<ListWhy>>
     ensures { SaysValue (assign_of text.now) (result_map_both table_view (λ fault. fault) result) }
 {
     let Ok(text) = str::from_utf8(text) else {
-        return Err(LineFault::Bad(EditsWhy::BadValue));
+        return Err(LineFault::Bad(ListWhy::BadValue));
     };
     let document = read_document(alloc, text)?;
     let Some(assign) = value_in(document) else {
-        return Err(LineFault::Bad(EditsWhy::BadValue));
+        return Err(LineFault::Bad(ListWhy::BadValue));
     };
     if text_at(&assign, "host").is_none() {
-        return Err(LineFault::Bad(EditsWhy::BadValue));
+        return Err(LineFault::Bad(ListWhy::BadValue));
     }
     Ok(assign)
 }
 
 /// The document `v = ` and a text.
-fn read_document(alloc: Global, text: &str) -> Result<Table, LineFault<EditsWhy>>
+fn read_document(alloc: Global, text: &str) -> Result<Table, LineFault<ListWhy>>
     ensures { SaysValue (parse_document (codes "v = " ++ text.now)) (result_map_both table_view (λ fault. fault) result) }
 {
     let mut line = String::from_str(alloc, "v = ")?;
@@ -177,7 +176,7 @@ fn read_document(alloc: Global, text: &str) -> Result<Table, LineFault<EditsWhy>
         Err(error) => Err(if error.is_memory() {
             LineFault::Memory
         } else {
-            LineFault::Bad(EditsWhy::BadValue)
+            LineFault::Bad(ListWhy::BadValue)
         }),
     }
 }

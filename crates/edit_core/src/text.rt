@@ -3,22 +3,29 @@
 
 ghost use Rattle.std.specs.Prelude.{◌≡◌, ℕ, List, map, Ok, Err, IfOk, IfErr, OnOk, MatchResult};
 ghost use Rattle.text_core.specs.inner.TextAnswers.{HasCause, HasReason, IsFault};
+ghost use Rattle.text_core.specs.declared.faults.ListWhy.{ListWhy};
 ghost use Rattle.edit_core.specs.Edit.{Edit as Meant};
 ghost use Rattle.edit_core.specs.inner.EditView.{change_view, edit_view};
 ghost use Rattle.edit_core.specs.EditsText.{IsReading, IsRefused, edits_text};
 ghost use Rattle.edit_core.specs.inner.ChangeSteps.{with_change};
-ghost use Rattle.edit_core.specs.declared.text_fault.EditsWhy.{EditsWhy};
 
 use crate::edit::{Change, Edit};
 use crate::line::read_change;
-use crate::text_fault::{EditsFault, EditsWhy};
 use std::alloc::Global;
-use text_core::{LineFault, LineReader, TextFault, read_lines};
+use text_core::{LineFault, LineReader, ListWhy, TextFault, read_lines};
 
 /// The most bytes that a text of edits may have.
 pub const EDITS_BYTE_LIMIT: usize = 1_048_576;
 
 const EDIT_LIMIT: usize = 10_000;
+
+/// The first line that tells no edit, from 1, and why; line 0 stands for the whole text.
+///
+/// - `TooLong`: more than 1,048,576 bytes.
+/// - `BadLine`: the first word is none of the four, or the number of words is another one.
+/// - `BadValue`: the number of an invariant or a table that is none, or a word that is not UTF-8.
+/// - `TooMany`: the 10,001st edit.
+pub type EditsFault = TextFault<ListWhy>;
 
 /// The edits that a text tells.
 pub fn read_edits(alloc: Global, bytes: &[u8]) -> Result<Vec<Edit>, EditsFault>
@@ -28,7 +35,7 @@ pub fn read_edits(alloc: Global, bytes: &[u8]) -> Result<Vec<Edit>, EditsFault>
         MatchResult result (λ edits. map edit_view edits.items ≡ told) (λ fault. fault ≡ TextFault.Memory) }
     ensures refused { IfErr result (HasCause edits_text bytes.now) }
     // A text has one first fault at most, and none where it tells edits.
-    ensures faulty { (line : ℕ) (why : EditsWhy) → IsRefused bytes.now line why →
+    ensures faulty { (line : ℕ) (why : ListWhy) → IsRefused bytes.now line why →
         MatchResult result (λ edits. ⊥) (IsFault line why) }
 {
     let start = EditReader {
@@ -49,7 +56,7 @@ struct EditReader {
 }
 
 impl LineReader for EditReader {
-    type Why = EditsWhy;
+    type Why = ListWhy;
 
     ghost Said = { List Meant };
 
@@ -59,11 +66,11 @@ impl LineReader for EditReader {
 
     ghost holds = { λ reader. Unit {0} };
 
-    fn limit(&self) -> (usize, EditsWhy) {
-        (EDITS_BYTE_LIMIT, EditsWhy::TooLong)
+    fn limit(&self) -> (usize, ListWhy) {
+        (EDITS_BYTE_LIMIT, ListWhy::TooLong)
     }
 
-    fn read_line(mut self, number: u32, line: &[u8]) -> Result<EditReader, LineFault<EditsWhy>> {
+    fn read_line(mut self, number: u32, line: &[u8]) -> Result<EditReader, LineFault<ListWhy>> {
         let change = read_change(self.alloc, line)?;
         add_edit(&mut self.edits, number, change)?;
         Ok(self)
@@ -71,14 +78,14 @@ impl LineReader for EditReader {
 }
 
 /// Puts the edit on a line behind those before it.
-fn add_edit(edits: &mut Vec<Edit>, line: u32, change: Change) -> Result<(), LineFault<EditsWhy>>
+fn add_edit(edits: &mut Vec<Edit>, line: u32, change: Change) -> Result<(), LineFault<ListWhy>>
     ensures ok { OnOk result
         (with_change line (map edit_view edits.old.items) (Ok (change_view change)) ≡ Ok (map edit_view edits.new.items)) }
     ensures err { IfErr result
         (HasReason (λ why. with_change line (map edit_view edits.old.items) (Ok (change_view change)) ≡ Err why)) }
 {
     if edits.len() >= EDIT_LIMIT {
-        return Err(LineFault::Bad(EditsWhy::TooMany));
+        return Err(LineFault::Bad(ListWhy::TooMany));
     }
     edits.push(Edit::on_line(line, change))?;
     Ok(())

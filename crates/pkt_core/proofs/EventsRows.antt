@@ -4,9 +4,9 @@ use Rattle.std.specs.Prelude.{codes, Ok, Err}
 use Rattle.std.specs.Fmt.{digits}
 use Rattle.text_core.specs.inner.Decimal.{number}
 use Rattle.text_core.specs.Lines.{words}
+use Rattle.text_core.specs.declared.faults.ListWhy.TheVariants.{BadLine, BadValue}
 use Rattle.host_net.specs.inner.PrefixSteps.{address_of}
 use Rattle.pkt_core.specs.declared.event.Event.TheVariants.{Seen, Forget}
-use Rattle.pkt_core.specs.declared.events.EventWhy.TheVariants.{BadLine, BadValue}
 use Rattle.pkt_core.specs.inner.EventSteps.{event_of, event_by, packet_of}
 
 -- a packet with a named protocol; ports stand as they are, also of `icmp`

@@ -9,6 +9,8 @@ use Rattle.text_core.specs.inner.Decimal.{number}
 use Rattle.text_core.proofs.DecimalLaws.{number-decimal, decimal_of_number, decimal_digits}
 use Rattle.text_core.specs.Lines.{words}
 use Rattle.text_core.proofs.StepsLaws.{bind_some, if_parts, ok_or_parts, map_parts, bytes_same, bytes_apart}
+use Rattle.text_core.specs.declared.faults.ListWhy.{ListWhy}
+use Rattle.text_core.specs.declared.faults.ListWhy.TheVariants.{BadValue, TooMany}
 use Rattle.host_net.specs.declared.packet.Packet.{Packet}
 use Rattle.host_net.specs.Prefix.{address_text}
 use Rattle.host_net.specs.inner.PrefixSteps.{address_of}
@@ -16,8 +18,6 @@ use Rattle.host_net.specs.ServiceText.{protocol_text}
 use Rattle.host_net.proofs.PrefixTextLaws.{address_of-address_text, address_text-address_of}
 use Rattle.pkt_core.specs.declared.event.Event.{Event}
 use Rattle.pkt_core.specs.declared.event.Event.TheVariants.{Seen, Forget}
-use Rattle.pkt_core.specs.declared.events.EventWhy.{EventWhy}
-use Rattle.pkt_core.specs.declared.events.EventWhy.TheVariants.{BadValue, TooMany}
 use Rattle.pkt_core.specs.EventsText.{TellsPacket, TellsEvent, AddsEvent}
 use Rattle.pkt_core.specs.inner.EventSteps.{protocol_of, packet_of, event_by, event_of, with_event, event_step}
 
@@ -136,7 +136,7 @@ small : (n : ℕ) → n < 1000000 → nat_lt 999999 n ≡ false
 small n h = grind (arith, nat_tests)
 
 -- a line adds an event exactly where it tells one
-adds_told : (n : ℕ) (es : List Event) (line : List ℕ) (now : List Event) (r : Result Event EventWhy) → event_of (words line) ≡ r
+adds_told : (n : ℕ) (es : List Event) (line : List ℕ) (now : List Event) (r : Result Event ListWhy) → event_of (words line) ≡ r
     → with_event es r ≡ Ok now → AddsEvent n es line now
 adds_told n es line now (Err why) read h = cc
 adds_told n es line now (Ok e) read h = elim (if_parts (nat_lt 999999 (length es)) (Err TooMany) _ (Ok now) h) [

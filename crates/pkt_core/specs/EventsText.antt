@@ -2,14 +2,14 @@
 use Rattle.std.specs.Prelude.{◌≡◌, ℕ, ◌<◌, ◌≤◌, List, [], ◌∷◌, ◌++◌, length, slice_get, Some, ◌⊎◌, codes, decimal}
 use Rattle.text_core.specs.Lines.{words}
 use Rattle.text_core.specs.TextByLines.{TextByLines, HasFault, IsReading as IsReadingOf}
+use Rattle.text_core.specs.declared.faults.ListWhy.{ListWhy}
+use Rattle.text_core.specs.declared.faults.ListWhy.TheVariants.{TooLong, BadLine, BadValue, TooMany}
 use Rattle.host_net.specs.declared.packet.Packet.{Packet}
 use Rattle.host_net.specs.Packet.{IsPacket}
 use Rattle.host_net.specs.Prefix.{address_text}
 use Rattle.host_net.specs.ServiceText.{protocol_text}
 use Rattle.pkt_core.specs.declared.event.Event.{Event}
 use Rattle.pkt_core.specs.declared.event.Event.TheVariants.{Seen, Forget}
-use Rattle.pkt_core.specs.declared.events.EventWhy.{EventWhy}
-use Rattle.pkt_core.specs.declared.events.EventWhy.TheVariants.{TooLong, BadLine, BadValue, TooMany}
 
 -- A. The grammar: which events a text tells.
 
@@ -40,14 +40,14 @@ AreVerbAndFive ws = (length ws ≡ 6) × ((slice_get ws 0 ≡ Some (codes "packe
 
 -- why a line adds no event to those before it: its words are not a verb and five more; or they are, and tell no event; or they
 -- tell one, and 1,000,000 stand before it
-pub data IsBad (before : List Event) (ws : List (List ℕ)) : EventWhy → Type 0 where
+pub data IsBad (before : List Event) (ws : List (List ℕ)) : ListWhy → Type 0 where
   bad_line : (AreVerbAndFive ws → ⊥) → IsBad before ws BadLine
   bad_value : AreVerbAndFive ws → ((event : Event) → TellsEvent ws event → ⊥) → IsBad before ws BadValue
   too_many : (event : Event) → TellsEvent ws event → 1000000 ≤ length before → IsBad before ws TooMany
 
 -- C. The text: its lines are events, and it may end behind each of them.
 
-abbrev pub events_text : TextByLines (List Event) EventWhy
+abbrev pub events_text : TextByLines (List Event) ListWhy
 events_text = record {
   byte_limit = 16777216;
   when_longer = TooLong;
@@ -62,5 +62,5 @@ events_text = record {
 abbrev pub IsReading : List ℕ → List Event → Type 0
 IsReading bytes events = IsReadingOf events_text bytes events
 
-abbrev pub IsRefused : List ℕ → ℕ → EventWhy → Type 0
+abbrev pub IsRefused : List ℕ → ℕ → ListWhy → Type 0
 IsRefused bytes line why = HasFault events_text bytes line why

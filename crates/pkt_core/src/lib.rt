@@ -11,6 +11,6 @@ mod track;
 
 pub use connection::Connection;
 pub use event::Event;
-pub use events::{EVENTS_BYTE_LIMIT, EventFault, EventWhy, read_events};
+pub use events::{EVENTS_BYTE_LIMIT, EventFault, read_events};
 pub use flow_policy::FlowPolicy;
 pub use track::Track;

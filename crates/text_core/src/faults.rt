@@ -14,6 +14,19 @@ pub enum LineFault<W> {
     Memory,
 }
 
+/// Why a text that lists entries, one on each line, is refused. Each reader says what its entries are.
+#[derive(Clone, Copy, Debug, PartialEq, Eq)]
+pub enum ListWhy {
+    /// More bytes than such a text may have.
+    TooLong,
+    /// Words that have the form of no entry.
+    BadLine,
+    /// The form of an entry, and a word that has none of its values.
+    BadValue,
+    /// One entry more than such a text may have.
+    TooMany,
+}
+
 /// The first line that is refused, from 1, and why; line 0 stands for the whole text.
 #[derive(Clone, Copy, Debug, PartialEq, Eq)]
 pub enum TextFault<W> {

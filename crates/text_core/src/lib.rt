@@ -14,7 +14,7 @@ mod pieces;
 mod texts;
 
 pub use decimals::read_number;
-pub use faults::{LineFault, TextFault};
+pub use faults::{LineFault, ListWhy, TextFault};
 pub use firsts::{Numbered, Pair, first_pair};
 pub use line::{put, put_number};
 pub use lines::{Lines, Words, begins_with, is_blank, is_comment};

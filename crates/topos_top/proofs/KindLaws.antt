@@ -9,7 +9,6 @@ use Rattle.desc_form.specs.declared.refusal.Place.TheVariants.{Document as Whole
 use Rattle.desc_form.specs.declared.refusal.Why.TheVariants.{TooLong}
 use Rattle.edit_core.proofs.EditFaultLaws.{edits_settled}
 use Rattle.edit_core.specs.EditsText.{edits_text, IsRefused as IsRefusedInEdits}
-use Rattle.edit_core.specs.declared.text_fault.EditsWhy.TheVariants.{TooLong as EditsTooLong}
 use Rattle.ipt_read.proofs.FaultLaws.{one_fault, no_reading_with_fault}
 use Rattle.ipt_read.proofs.AgainLaws.{one_reading}
 use Rattle.ipt_read.specs.TextLines.{HasFault as HasFaultInRules}
@@ -24,7 +23,7 @@ use Rattle.pkt_core.specs.Filter.{ArePackets}
 use Rattle.pkt_core.proofs.ReadEventLaws.{packets_read}
 use Rattle.pkt_core.proofs.EventFaultLaws.{events_settled}
 use Rattle.pkt_core.specs.EventsText.{events_text, IsRefused as IsRefusedInEvents}
-use Rattle.pkt_core.specs.declared.events.EventWhy.TheVariants.{TooLong as EventsTooLong}
+use Rattle.text_core.specs.declared.faults.ListWhy.TheVariants.{TooLong as ListTooLong}
 use Rattle.text_core.specs.TextByLines.{too_long}
 use Rattle.text_core.proofs.TextByLinesLaws.{one_reading as one_reading_by_lines, one_fault as one_fault_by_lines, no_reading_with_fault as no_reading_with_fault_by_lines}
 use Rattle.toml.specs.Data.{Members}
@@ -32,7 +31,7 @@ use Rattle.desc_core.specs.Document.{document}
 use Rattle.report_core.specs.RefusalLine.{refusal_text}
 use Rattle.topos_top.specs.Kinds.{contents_of, IsNoDescription, IsRefused}
 use Rattle.topos_top.specs.Reply.{error}
-use Rattle.topos_top.specs.TextFault.{TellsFault, edits_reason, events_reason, fault_line, flows_reason, rules_reason}
+use Rattle.topos_top.specs.TextFault.{TellsFault, fault_line, flows_reason, list_reason, rules_reason}
 use Rattle.topos_top.specs.declared.dialect.Dialect.{Dialect}
 use Rattle.topos_top.specs.declared.dialect.Dialect.TheVariants.{Iptables, OpenFlow}
 use Rattle.topos_top.specs.declared.kind.Kind.{Kind}
@@ -104,10 +103,10 @@ pub refuses_once : (kind : Kind) (bytes a b : List ℕ) → (contents_of kind).R
 refuses_once Description bytes a b p q = same_refusal bytes a b p q
 refuses_once (Rules Iptables) bytes a b p q = same_line (codes "rules") rules_reason HasFaultInRules bytes (one_fault bytes) a b p q
 refuses_once (Rules OpenFlow) bytes a b p q = same_line (codes "rules") flows_reason HasFaultInFlows bytes (one_fault_in_flows bytes) a b p q
-refuses_once Events bytes a b p q = same_line (codes "events") events_reason IsRefusedInEvents bytes (one_fault_by_lines events_text events_settled bytes) a b p q
+refuses_once Events bytes a b p q = same_line (codes "events") list_reason IsRefusedInEvents bytes (one_fault_by_lines events_text events_settled bytes) a b p q
 refuses_once Document bytes a b p q = same_refusal bytes a b p q
 refuses_once Edited bytes a b p q = same_refusal bytes a b p q
-refuses_once Edits bytes a b p q = same_line (codes "edits") edits_reason IsRefusedInEdits bytes (one_fault_by_lines edits_text edits_settled bytes) a b p q
+refuses_once Edits bytes a b p q = same_line (codes "edits") list_reason IsRefusedInEdits bytes (one_fault_by_lines edits_text edits_settled bytes) a b p q
 
 -- what is so of both statuses of refused files is so of each
 pub of_refused : (P : Status → Type 0) → P BadDescription → P BadText → (kind : Kind) → P (contents_of kind).refused_as
@@ -141,7 +140,7 @@ long_rules Iptables bytes long = record { line = _; refuses = long_text (codes "
 long_rules OpenFlow bytes long = record { line = _; refuses = long_text (codes "rules") flows_reason HasFaultInFlows bytes FlowsTooLong (too_long long); replied = refl }
 
 pub long_events : (bytes : List ℕ) → (contents_of Events).most < length bytes → IsRefused Events bytes (error BadText (fault_line (codes "events") 0 (codes "TooLong")))
-long_events bytes long = record { line = _; refuses = long_text (codes "events") events_reason IsRefusedInEvents bytes EventsTooLong (too_long long); replied = refl }
+long_events bytes long = record { line = _; refuses = long_text (codes "events") list_reason IsRefusedInEvents bytes ListTooLong (too_long long); replied = refl }
 
 pub long_edits : (bytes : List ℕ) → (contents_of Edits).most < length bytes → IsRefused Edits bytes (error BadText (fault_line (codes "edits") 0 (codes "TooLong")))
-long_edits bytes long = record { line = _; refuses = long_text (codes "edits") edits_reason IsRefusedInEdits bytes EditsTooLong (too_long long); replied = refl }
+long_edits bytes long = record { line = _; refuses = long_text (codes "edits") list_reason IsRefusedInEdits bytes ListTooLong (too_long long); replied = refl }

@@ -14,7 +14,7 @@ use Rattle.report_core.specs.RefusalLine.{refusal_text}
 use Rattle.toml.specs.Data.{Members}
 use Rattle.topos_top.specs.Dialects.{language_of}
 use Rattle.topos_top.specs.Reply.{Reply, error}
-use Rattle.topos_top.specs.TextFault.{TellsFault, events_reason, edits_reason}
+use Rattle.topos_top.specs.TextFault.{TellsFault, list_reason}
 use Rattle.topos_top.specs.declared.kind.Kind.{Kind}
 use Rattle.topos_top.specs.declared.kind.Kind.TheVariants.{Description, Rules, Events, Document, Edited, Edits}
 use Rattle.topos_top.specs.declared.status.Status.{Status}
@@ -43,10 +43,10 @@ text Said most Reads Refuses = record { Said = Said; most = most; Reads = Reads;
 abbrev pub contents_of : Kind → Contents
 contents_of Description = description Network (λ bytes d. described bytes ≡ Ok d)
 contents_of (Rules dialect) = text (language_of dialect).Rules 67108864 (language_of dialect).IsReading (language_of dialect).Refuses
-contents_of Events = text (List Event) 16777216 IsReadingOfEvents (TellsFault (codes "events") events_reason IsRefusedInEvents)
+contents_of Events = text (List Event) 16777216 IsReadingOfEvents (TellsFault (codes "events") list_reason IsRefusedInEvents)
 contents_of Document = description (List ℕ) IsMigrated
 contents_of Edited = description Members (λ bytes table. IsStarted bytes (Ok table))
-contents_of Edits = text (List Edit) 1048576 IsReadingOfEdits (TellsFault (codes "edits") edits_reason IsRefusedInEdits)
+contents_of Edits = text (List Edit) 1048576 IsReadingOfEdits (TellsFault (codes "edits") list_reason IsRefusedInEdits)
 
 -- the reply to bytes that are refused
 pub record IsRefused (kind : Kind) (bytes : List ℕ) (given : Reply) : Type 0 where

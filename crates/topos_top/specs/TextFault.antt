@@ -3,14 +3,12 @@ use Rattle.std.specs.Prelude.{◌≡◌, ℕ, List, ◌++◌, codes, decimal}
 use Rattle.desc_form.specs.Refusals.{name}
 use Rattle.edit_core.specs.declared.fault.EditFault.{EditFault}
 use Rattle.edit_core.specs.declared.fault.EditFault.TheVariants as edit
-use Rattle.edit_core.specs.declared.text_fault.EditsWhy.{EditsWhy}
-use Rattle.edit_core.specs.declared.text_fault.EditsWhy.TheVariants as edits
 use Rattle.ipt_read.specs.declared.fault.IptWhy.{IptWhy}
 use Rattle.ipt_read.specs.declared.fault.IptWhy.TheVariants as rules
 use Rattle.ofp_read.specs.declared.fault.OfpWhy.{OfpWhy}
 use Rattle.ofp_read.specs.declared.fault.OfpWhy.TheVariants as flows
-use Rattle.pkt_core.specs.declared.events.EventWhy.{EventWhy}
-use Rattle.pkt_core.specs.declared.events.EventWhy.TheVariants as events
+use Rattle.text_core.specs.declared.faults.ListWhy.{ListWhy}
+use Rattle.text_core.specs.declared.faults.ListWhy.TheVariants as list
 
 abbrev pub rules_reason : IptWhy → List ℕ
 rules_reason rules.TooLong = codes "TooLong"
@@ -37,17 +35,12 @@ flows_reason flows.UnknownAction = codes "UnknownAction"
 flows_reason flows.Ambiguous = codes "Ambiguous"
 flows_reason flows.TooMany = codes "TooMany"
 
-abbrev pub events_reason : EventWhy → List ℕ
-events_reason events.TooLong = codes "TooLong"
-events_reason events.BadLine = codes "BadLine"
-events_reason events.BadValue = codes "BadValue"
-events_reason events.TooMany = codes "TooMany"
-
-abbrev pub edits_reason : EditsWhy → List ℕ
-edits_reason edits.TooLong = codes "TooLong"
-edits_reason edits.BadLine = codes "BadLine"
-edits_reason edits.BadValue = codes "BadValue"
-edits_reason edits.TooMany = codes "TooMany"
+-- why a list of events or of edits is refused
+abbrev pub list_reason : ListWhy → List ℕ
+list_reason list.TooLong = codes "TooLong"
+list_reason list.BadLine = codes "BadLine"
+list_reason list.BadValue = codes "BadValue"
+list_reason list.TooMany = codes "TooMany"
 
 -- Why an edit is refused on the table that it changes. Memory has a name as well, though no edit is refused for it.
 abbrev pub edit_reason : EditFault → List ℕ

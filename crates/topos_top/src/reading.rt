@@ -12,7 +12,7 @@ use crate::dialect::{Dialect, Rules};
 use crate::kind::Kind;
 use crate::status::Status;
 use crate::text::Text;
-use crate::text_fault::{edits_reason, events_reason, flows_reason, rules_reason};
+use crate::text_fault::{flows_reason, list_reason, rules_reason};
 use desc_core::{Description, describe, migrate};
 use edge_io::{Shelf, TakeFault, take_all};
 use edit_core::{Edit, EditsFault, Session};
@@ -87,7 +87,7 @@ pub fn read_events<'a, H: Shelf>(
         Err(EventFault::Refused { line, why }) => Err(Answer::bad_text(
             b"events",
             line,
-            events_reason(why),
+            list_reason(why),
         )),
         Err(EventFault::Memory) => Err(Answer::no_memory()),
     }
@@ -137,7 +137,7 @@ pub fn read_edits<'a, H: Shelf>(
         Err(EditsFault::Refused { line, why }) => Err(Answer::bad_text(
             b"edits",
             line,
-            edits_reason(why),
+            list_reason(why),
         )),
         Err(EditsFault::Memory) => Err(Answer::no_memory()),
     }

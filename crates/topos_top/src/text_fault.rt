@@ -1,12 +1,12 @@
 //! The names of the reasons for which a text of rules, of events or of edits is refused.
 
 ghost use Rattle.std.specs.Prelude.{◌≡◌};
-ghost use Rattle.topos_top.specs.TextFault.{rules_reason, flows_reason, events_reason, edits_reason, edit_reason};
+ghost use Rattle.topos_top.specs.TextFault.{rules_reason, flows_reason, list_reason, edit_reason};
 
-use edit_core::{EditFault, EditsWhy};
+use edit_core::EditFault;
 use ipt_read::IptWhy;
 use ofp_read::OfpWhy;
-use pkt_core::EventWhy;
+use text_core::ListWhy;
 
 /// Why rules are refused.
 pub fn rules_reason(why: IptWhy) -> &'static [u8]
@@ -45,27 +45,15 @@ pub fn flows_reason(why: OfpWhy) -> &'static [u8]
     }
 }
 
-/// Why events are refused.
-pub fn events_reason(why: EventWhy) -> &'static [u8]
-    ensures { result.now ≡ events_reason why }
+/// Why a list of events or of edits is refused.
+pub fn list_reason(why: ListWhy) -> &'static [u8]
+    ensures { result.now ≡ list_reason why }
 {
     match why {
-        EventWhy::TooLong => b"TooLong",
-        EventWhy::BadLine => b"BadLine",
-        EventWhy::BadValue => b"BadValue",
-        EventWhy::TooMany => b"TooMany",
-    }
-}
-
-/// Why edits are refused as a text.
-pub fn edits_reason(why: EditsWhy) -> &'static [u8]
-    ensures { result.now ≡ edits_reason why }
-{
-    match why {
-        EditsWhy::TooLong => b"TooLong",
-        EditsWhy::BadLine => b"BadLine",
-        EditsWhy::BadValue => b"BadValue",
-        EditsWhy::TooMany => b"TooMany",
+        ListWhy::TooLong => b"TooLong",
+        ListWhy::BadLine => b"BadLine",
+        ListWhy::BadValue => b"BadValue",
+        ListWhy::TooMany => b"TooMany",
     }
 }
 

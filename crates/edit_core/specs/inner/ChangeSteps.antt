@@ -6,14 +6,14 @@ use Rattle.std.specs.Str.{is_utf8}
 use Rattle.text_core.specs.inner.Decimal.{number}
 use Rattle.text_core.specs.Lines.{words}
 use Rattle.text_core.specs.Steps.{◌>>=◌}
+use Rattle.text_core.specs.declared.faults.ListWhy.{ListWhy}
+use Rattle.text_core.specs.declared.faults.ListWhy.TheVariants.{BadLine, BadValue, TooMany}
 use Rattle.host_net.specs.Limits.{invariant_limit}
 use Rattle.table_core.specs.Tables.{text_at}
 use Rattle.toml.specs.Data.{Members, as_table, get_member}
 use Rattle.toml.specs.Parse.{parse_document}
 use Rattle.edit_core.specs.Behind.{behind_word}
 use Rattle.edit_core.specs.Edit.{Change, Add, Remove, Set, Unset, Edit}
-use Rattle.edit_core.specs.declared.text_fault.EditsWhy.{EditsWhy}
-use Rattle.edit_core.specs.declared.text_fault.EditsWhy.TheVariants.{BadLine, BadValue, TooMany}
 
 -- words that are UTF-8
 abbrev pub texts_of : List (List ℕ) → Option (List (List ℕ))
@@ -40,33 +40,33 @@ unfoldable pub assign_of : List ℕ → Option Members
 assign_of text = if is_utf8 text then (parse_document (codes "v = " ++ text) >>= value_in) >>= with_host else None
 
 -- by the words behind the first, and the text behind the number
-abbrev pub add_of : List (List ℕ) → Result Change EditsWhy
+abbrev pub add_of : List (List ℕ) → Result Change ListWhy
 add_of (from ∷ to ∷ services) = ok_or (option_map Add (texts_of (from ∷ to ∷ services))) BadValue
 add_of _ = Err BadLine
 
 abbrev pub removed : List ℕ → List ℕ → Option Change
 removed from to = text_of from >>= λ f. option_map (Remove f) (text_of to)
 
-abbrev pub remove_of : List (List ℕ) → Result Change EditsWhy
+abbrev pub remove_of : List (List ℕ) → Result Change ListWhy
 remove_of (from ∷ to ∷ []) = ok_or (removed from to) BadValue
 remove_of _ = Err BadLine
 
 abbrev pub assigned : List ℕ → List ℕ → Option Change
 assigned number text = invariant_said number >>= λ k. option_map (Set k) (assign_of text)
 
-abbrev pub set_of : List ℕ → List (List ℕ) → Result Change EditsWhy
+abbrev pub set_of : List ℕ → List (List ℕ) → Result Change ListWhy
 set_of text (number ∷ word ∷ rest) = ok_or (assigned number text) BadValue
 set_of text _ = Err BadLine
 
 abbrev pub unassigned : List ℕ → List ℕ → Option Change
 unassigned number host = invariant_said number >>= λ k. option_map (Unset k) (text_of host)
 
-abbrev pub unset_of : List (List ℕ) → Result Change EditsWhy
+abbrev pub unset_of : List (List ℕ) → Result Change ListWhy
 unset_of (number ∷ host ∷ []) = ok_or (unassigned number host) BadValue
 unset_of _ = Err BadLine
 
 -- by the first word
-abbrev pub change_by : List ℕ → List (List ℕ) → List ℕ → Result Change EditsWhy
+abbrev pub change_by : List ℕ → List (List ℕ) → List ℕ → Result Change ListWhy
 change_by verb rest text =
     if bytes_eq verb (codes "add") then add_of rest
     else if bytes_eq verb (codes "remove") then remove_of rest
@@ -74,17 +74,17 @@ change_by verb rest text =
     else if bytes_eq verb (codes "unset") then unset_of rest
     else Err BadLine
 
-abbrev pub change_of_words : List (List ℕ) → List ℕ → Result Change EditsWhy
+abbrev pub change_of_words : List (List ℕ) → List ℕ → Result Change ListWhy
 change_of_words [] text = Err BadLine
 change_of_words (verb ∷ rest) text = change_by verb rest text
 
-unfoldable pub change_of : List ℕ → Result Change EditsWhy
+unfoldable pub change_of : List ℕ → Result Change ListWhy
 change_of line = change_of_words (words line) (behind_word (behind_word line))
 
 -- the edits with one more, of 10,000 at most
-abbrev pub with_change : ℕ → List Edit → Result Change EditsWhy → Result (List Edit) EditsWhy
+abbrev pub with_change : ℕ → List Edit → Result Change ListWhy → Result (List Edit) ListWhy
 with_change n edits (Ok change) = if nat_lt 9999 (length edits) then Err TooMany else Ok (edits ++ record { line = n; change = change } ∷ [])
 with_change n edits (Err why) = Err why
 
-abbrev pub edit_step : ℕ → List Edit → List ℕ → Result (List Edit) EditsWhy
+abbrev pub edit_step : ℕ → List Edit → List ℕ → Result (List Edit) ListWhy
 edit_step n edits line = with_change n edits (change_of line)

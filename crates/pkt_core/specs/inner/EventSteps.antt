@@ -4,13 +4,13 @@ use Rattle.std.specs.Option.{option_map, ok_or}
 use Rattle.text_core.specs.inner.Decimal.{number}
 use Rattle.text_core.specs.Lines.{words}
 use Rattle.text_core.specs.Steps.{◌>>=◌}
+use Rattle.text_core.specs.declared.faults.ListWhy.{ListWhy}
+use Rattle.text_core.specs.declared.faults.ListWhy.TheVariants.{BadLine, BadValue, TooMany}
 use Rattle.host_net.specs.declared.packet.Packet.{Packet}
 use Rattle.host_net.specs.Service.{last_port}
 use Rattle.host_net.specs.inner.PrefixSteps.{address_of}
 use Rattle.pkt_core.specs.declared.event.Event.{Event}
 use Rattle.pkt_core.specs.declared.event.Event.TheVariants.{Seen, Forget}
-use Rattle.pkt_core.specs.declared.events.EventWhy.{EventWhy}
-use Rattle.pkt_core.specs.declared.events.EventWhy.TheVariants.{BadLine, BadValue, TooMany}
 
 abbrev pub protocol_of : List ℕ → Option ℕ
 protocol_of word =
@@ -30,21 +30,21 @@ packet_of src dst protocol sport dport = do
   Some (record { src = a; dst = b; proto = n; sport = x; dport = y })
 
 -- by the verb: a packet that is seen, or the forgetting of its connection
-unfoldable pub event_by : List ℕ → Option Packet → Result Event EventWhy
+unfoldable pub event_by : List ℕ → Option Packet → Result Event ListWhy
 event_by verb p =
     if bytes_eq verb (codes "packet") then ok_or (option_map Seen p) BadValue
     else if bytes_eq verb (codes "forget") then ok_or (option_map Forget p) BadValue
     else Err BadLine
 
 -- the event of a line's words; another number of words is a bad line
-unfoldable pub event_of : List (List ℕ) → Result Event EventWhy
+unfoldable pub event_of : List (List ℕ) → Result Event ListWhy
 event_of (verb ∷ src ∷ dst ∷ protocol ∷ sport ∷ dport ∷ []) = event_by verb (packet_of src dst protocol sport dport)
 event_of _ = Err BadLine
 
 -- the events with one more, of 1,000,000 at most
-abbrev pub with_event : List Event → Result Event EventWhy → Result (List Event) EventWhy
+abbrev pub with_event : List Event → Result Event ListWhy → Result (List Event) ListWhy
 with_event events (Ok e) = if nat_lt 999999 (length events) then Err TooMany else Ok (events ++ e ∷ [])
 with_event events (Err why) = Err why
 
-abbrev pub event_step : ℕ → List Event → List ℕ → Result (List Event) EventWhy
+abbrev pub event_step : ℕ → List Event → List ℕ → Result (List Event) ListWhy
 event_step n events line = with_event events (event_of (words line))

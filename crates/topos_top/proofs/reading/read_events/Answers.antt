@@ -7,4 +7,4 @@ pub returns-in-Err-Refused-clause-reading : goal.returns-in-Err-Refused-clause-r
 returns-in-Err-Refused-clause-reading g c =
     let fault = rw (c.deref.ensures.value, c.in-Err-Refused.field-0-is) at c.in-Err-Refused.ensures.refused in
     refused_whole Events _ _ _ _ c.in_ok-bytes.ensures.taken
-    (record { line = _; refuses = record { number = _; why = _; fault = fault; told = refl }; replied = rw c.events_reason.ensures at c.bad_text.ensures })
+    (record { line = _; refuses = record { number = _; why = _; fault = fault; told = refl }; replied = rw c.list_reason.ensures at c.bad_text.ensures })

@@ -2,23 +2,23 @@ use Rattle.std.proofs.Common.{◌≡◌, ℕ, List, Ok, Err, map, ap, ◌∙◌,
 use Rattle.text_core.specs.inner.TextAnswers.{HasReason}
 use Rattle.text_core.specs.declared.faults.LineFault.{LineFault}
 use Rattle.text_core.specs.declared.faults.LineFault.TheVariants.{Bad, Memory}
+use Rattle.text_core.specs.declared.faults.ListWhy.{ListWhy}
 use Rattle.edit_core.specs.inner.ChangeSteps.{change_of, edit_step, with_change}
 use Rattle.edit_core.specs.Edit.{Change, Edit}
 use Rattle.edit_core.proofs.EditFaultLaws.{has_reason}
 use Rattle.edit_core.specs.inner.EditView.{change_view, edit_view}
 use Rattle.edit_core.specs.inner.EditsAnswers.{Says}
 use Rattle.edit_core.proofs.EditsTextLaws.{step_adds}
-use Rattle.edit_core.specs.declared.text_fault.EditsWhy.{EditsWhy}
 use Rattle.edit_core.proofs.text.EditReaderLineReader.read_line.Goals as goal
 
 -- a line that tells no change is refused for that reason
-unread : (n : ℕ) (es : List Edit) (line : List ℕ) (fault : LineFault EditsWhy) → Says (change_of line) (Err fault)
+unread : (n : ℕ) (es : List Edit) (line : List ℕ) (fault : LineFault ListWhy) → Says (change_of line) (Err fault)
     → HasReason (λ why. edit_step n es line ≡ Err why) fault
 unread n es line (Bad why) said = ap (with_change n es) said
 unread n es line Memory said = tt
 
 -- a change that is not put is refused for that reason
-unput : (n : ℕ) (es : List Edit) (line : List ℕ) (c : Change) (fault : LineFault EditsWhy) → change_of line ≡ Ok c
+unput : (n : ℕ) (es : List Edit) (line : List ℕ) (c : Change) (fault : LineFault ListWhy) → change_of line ≡ Ok c
     → HasReason (λ why. with_change n es (Ok c) ≡ Err why) fault → HasReason (λ why. edit_step n es line ≡ Err why) fault
 unput n es line c (Bad why) said refused = ap (with_change n es) said ∙ refused
 unput n es line c Memory said refused = tt
