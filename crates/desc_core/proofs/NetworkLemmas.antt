@@ -86,8 +86,12 @@ names_first : (w : Written) → first_of (use_conditions w) ≡ option_or (first
 unfolding use_conditions
 names_first w = first_of-append (name_conditions w) (duplicate_assign w ∷ bad_attribute w ∷ self_flow w ∷ duplicate_flow w ∷ bad_service w ∷ many_services w ∷ bad_template w ∷ not_lawful w ∷ [])
 
-pub refused_for_name : (w : Written) (r : Refusal) → first_of (name_conditions w) ≡ Some r → network_by_uses w ≡ Err r
+refused_for_name : (w : Written) (r : Refusal) → first_of (name_conditions w) ≡ Some r → network_by_uses w ≡ Err r
 refused_for_name w r name = told w r (names_first w ∙ rw name refl)
+
+pub fault_for_name : (w : Written) (fault : DescFault) → ((r : Refusal) → fault ≡ Refused r → first_of (name_conditions w) ≡ Some r) → Reads {A = Network} (Err fault) (network_by_uses w)
+fault_for_name w (Refused r) name = refused_for_name w r (name r refl)
+fault_for_name w Memory name = tt
 
 pub refused_before : (w : Written) (hosts : List Host) (ks : List Known) (es : List Flow) (r : Refusal) → AreKnown w hosts ks es → before_last w hosts ks es ≡ Some r → network_by_uses w ≡ Err r
 refused_before w hosts ks es r all is = told w r (uses_are w hosts ks es all ∙ rw is refl)

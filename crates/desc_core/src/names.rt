@@ -4,6 +4,7 @@ ghost use Rattle.std.specs.Prelude.{◌≡◌, ◌≢◌, Some, find, is_none, m
 ghost use Rattle.std.specs.List.{list_all};
 ghost use Rattle.std.specs.Str.{bytes_eq};
 ghost use Rattle.desc_core.specs.Choices.{chosen};
+ghost use Rattle.desc_core.specs.declared.fault.DescFault.TheVariants.{Refused};
 ghost use Rattle.desc_core.specs.inner.Parts.{name_conditions};
 ghost use Rattle.desc_core.specs.UseConditions.{duplicate_assign_of, undeclared_host};
 ghost use Rattle.text_core.specs.Firsts.{first_found, first_of, first_pair, numbered};
@@ -12,6 +13,7 @@ ghost use Rattle.desc_form.specs.Refusals.{refused, refused_by};
 ghost use Rattle.desc_form.specs.inner.Refused.{refused_name};
 ghost use Rattle.desc_form.specs.inner.WrittenView.{assign_view, invariant_view, template_view, written_view};
 ghost use Rattle.desc_form.specs.declared.refusal.Place.TheVariants.{Assign, Invariant};
+ghost use Rattle.desc_form.specs.declared.refusal.Refusal.{Refusal};
 ghost use Rattle.desc_form.specs.declared.refusal.Why.TheVariants.{DuplicateAssign, UndeclaredHost, UnknownTemplate};
 ghost use Rattle.desc_form.specs.HostConditions.{host_conditions};
 ghost use Rattle.desc_form.specs.inner.MentionView.{mention_view};
@@ -20,6 +22,7 @@ ghost use Rattle.host_net.specs.Host.{host_named};
 ghost use Rattle.text_core.specs.Name.{is_name};
 
 use crate::choice::chosen;
+use crate::fault::DescFault;
 use desc_form::{
     Mention, Place, Refusal, Why, Written, WrittenAssign, WrittenInvariant, WrittenTemplate,
     used_names,
@@ -28,20 +31,17 @@ use host_net::{Hosts, Name};
 use std::alloc::{AllocError, Global};
 use text_core::{Pair, first_pair};
 
-/// The refusal for a template that is unknown, or a host that is not declared, where there is one.
-pub(crate) fn unknown_name(
-    alloc: Global,
-    hosts: &Hosts,
-    written: &Written<'_>,
-) -> Result<Refusal, AllocError>
+/// The fault of a template that is unknown, or of a host that is not declared, where there is one.
+pub(crate) fn unknown_name(alloc: Global, hosts: &Hosts, written: &Written<'_>) -> DescFault
     requires hosts { hosts.now ≡ network_hosts (written_view written.now) }
     requires unrefused { first_of (host_conditions (written_view written.now)) ≡ None }
     requires unknown { first_of (name_conditions (written_view written.now)) ≢ None }
-    ensures { IfOk result (λ refusal. first_of (name_conditions (written_view written.now)) ≡ Some refusal) }
+    ensures { (refusal : Refusal) → result ≡ Refused refusal → first_of (name_conditions (written_view written.now)) ≡ Some refusal }
 {
-    match name_refusal(alloc, hosts, written)? {
-        Some(refusal) => Ok(refusal),
-        None => unreachable!(),
+    match name_refusal(alloc, hosts, written) {
+        Ok(Some(refusal)) => DescFault::Refused(refusal),
+        Ok(None) => unreachable!(),
+        Err(AllocError) => DescFault::Memory,
     }
 }
 
