@@ -1,22 +1,21 @@
--- A line of events is bad, in the format's words, exactly where its step refuses it; so a text has one reading or one first fault.
-use Rattle.std.proofs.Common.{◌≡◌, ◌≢◌, ℕ, ◌≤◌, true, false, List, [], ◌∷◌, Option, Some, None, ◌⊎◌, inl, inr, refl, sym, ap, ◌∙◌, arith, length, subst}
-use Rattle.std.specs.Prelude.{codes, Result, Ok, Err, bytes_eq, nat_lt, slice_get}
+-- A line that is not read as an event is bad, in the format's words, for the reason that is told; and a text has one reading or one first fault.
+use Rattle.std.proofs.Common.{◌≡◌, ◌≢◌, ℕ, false, List, [], ◌∷◌, Option, Some, None, ◌⊎◌, inl, inr, refl, sym, ap, arith, length, subst}
+use Rattle.std.specs.Prelude.{codes, Result, Ok, Err, bytes_eq, slice_get}
 use Rattle.std.specs.Option.{option_map, ok_or}
-use Rattle.std.proofs.lemmas.Bool.Decides.{nat_tests}
 use Rattle.text_core.specs.Lines.{words}
-use Rattle.text_core.specs.inner.TextAnswers.{HasReason}
-use Rattle.text_core.specs.declared.faults.LineFault.{LineFault}
-use Rattle.text_core.specs.declared.faults.LineFault.TheVariants.{Bad, Memory as NoMemory}
-use Rattle.text_core.proofs.TextByLinesLaws.{IsSettled, IsStep, settled_by_step}
+use Rattle.text_core.specs.ListText.{IsBad, bad_line, bad_value, by_lines}
+use Rattle.text_core.specs.inner.ListAnswers.{TellsOne, TellsFormed}
+use Rattle.text_core.proofs.ListTextLaws.{list_settled}
+use Rattle.text_core.proofs.TextByLinesLaws.{IsSettled, same_ok}
 use Rattle.text_core.proofs.StepsLaws.{if_parts, bytes_same}
 use Rattle.text_core.specs.declared.faults.ListWhy.{ListWhy}
-use Rattle.text_core.specs.declared.faults.ListWhy.TheVariants.{BadLine, BadValue, TooMany}
+use Rattle.text_core.specs.declared.faults.ListWhy.TheVariants.{BadLine, BadValue}
 use Rattle.host_net.specs.declared.packet.Packet.{Packet}
 use Rattle.pkt_core.specs.declared.event.Event.{Event}
 use Rattle.pkt_core.specs.declared.event.Event.TheVariants.{Seen, Forget}
-use Rattle.pkt_core.specs.EventsText.{TellsEvent, AreVerbAndFive, IsBad, bad_line, bad_value, too_many, events_text}
-use Rattle.pkt_core.specs.inner.EventSteps.{packet_of, event_by, event_of, with_event, event_step}
-use Rattle.pkt_core.proofs.EventsTextLaws.{event_told, told_event, step_adds, adds_step}
+use Rattle.pkt_core.specs.EventsText.{TellsEvent, AreVerbAndFive, events_text}
+use Rattle.pkt_core.specs.inner.EventSteps.{packet_of, event_by, event_of}
+use Rattle.pkt_core.proofs.EventsTextLaws.{told_event}
 
 -- 1. Why words tell no event.
 
@@ -72,77 +71,33 @@ explained (a ∷ b ∷ c ∷ d ∷ x ∷ []) why h = bad_count (a ∷ b ∷ c �
 explained (a ∷ b ∷ c ∷ d ∷ x ∷ y ∷ []) why h = explained_by a b c d x y (packet_of b c d x y) why h
 explained (a ∷ b ∷ c ∷ d ∷ x ∷ y ∷ z ∷ ws) why h = bad_count (a ∷ b ∷ c ∷ d ∷ x ∷ y ∷ z ∷ ws) why (λ e. absurd (omega (arith, e))) h
 
--- 2. A line is bad exactly where its step refuses it.
+-- 2. A line of events tells one event at most, and what tells one has its verb and five words.
 
-not_told : (ws : List (List ℕ)) (why : ListWhy) → event_of ws ≡ Err why → (e : Event) → TellsEvent ws e → ⊥
-not_told ws why refused e told = let read : event_of ws ≡ Ok e = told_event ws e told in cc
+tells_one : (ws : List (List ℕ)) (x y : Event) → TellsEvent ws x → TellsEvent ws y → x ≡ y
+tells_one ws x y p q = same_ok (event_of ws) x y (told_event ws x p) (told_event ws y q)
 
-untold : (before : List Event) (ws : List (List ℕ)) (why : ListWhy) → event_of ws ≡ Err why → IsBad before ws why
-untold before ws why refused = elim (explained ws why refused) [
-  | inl line ↦ subst (IsBad before ws) (sym line.0) (bad_line line.1)
-  | inr value ↦ subst (IsBad before ws) (sym value.0) (bad_value value.1 (not_told ws why refused))
-]
-
-bad_by : (before : List Event) (ws : List (List ℕ)) (why : ListWhy) (r : Result Event ListWhy) → event_of ws ≡ r
-    → with_event before r ≡ Err why → IsBad before ws why
-bad_by before ws why (Err cause) read h =
-    let e : cause ≡ why = cc in
-    untold before ws why (read ∙ ap (λ w. Err w) e)
-bad_by before ws why (Ok e) read h = elim (if_parts (nat_lt 999999 (length before)) (Err TooMany) _ (Err why) h) [
-  | inl many ↦
-      let full : 1000000 ≤ length before = grind (arith, nat_tests, many.0) in
-      let same : TooMany ≡ why = cc in
-      subst (IsBad before ws) same (too_many e (event_told ws e read) full)
-  | inr few ↦ cc
-]
-
-full_step : (before : List Event) (e : Event) → 1000000 ≤ length before → with_event before (Ok e) ≡ Err TooMany
-full_step before e full =
-    let many : nat_lt 999999 (length before) ≡ true = grind (arith, nat_tests) in
-    rw many refl
-
-line_refused : (before : List Event) (ws : List (List ℕ)) (r : Result Event ListWhy) → event_of ws ≡ r → (AreVerbAndFive ws → ⊥)
-    → ((e : Event) → TellsEvent ws e → AreVerbAndFive ws) → with_event before r ≡ Err BadLine
-line_refused before ws (Ok e) read other form = absurd (other (form e (event_told ws e read)))
-line_refused before ws (Err why) read other form = elim (explained ws why read) [
-  | inl line ↦ ap (λ w. Err w) line.0
-  | inr value ↦ absurd (other value.1)
-]
-
-value_refused : (before : List Event) (ws : List (List ℕ)) (r : Result Event ListWhy) → event_of ws ≡ r → AreVerbAndFive ws
-    → ((e : Event) → TellsEvent ws e → ⊥) → with_event before r ≡ Err BadValue
-value_refused before ws (Ok e) read form untold_event = absurd (untold_event e (event_told ws e read))
-value_refused before ws (Err why) read form untold_event = elim (explained ws why read) [
-  | inl line ↦ absurd (line.1 form)
-  | inr value ↦ ap (λ w. Err w) value.0
-]
-
--- what tells an event has its verb and five words
 told_form : (ws : List (List ℕ)) (e : Event) → TellsEvent ws e → AreVerbAndFive ws
 told_form ws (Seen p) told = (ap length told.written, inl (ap (λ (xs : List (List ℕ)). slice_get xs 0) told.written))
 told_form ws (Forget p) told = (ap length told.written, inr (ap (λ (xs : List (List ℕ)). slice_get xs 0) told.written))
 
-bad_step : (before : List Event) (ws : List (List ℕ)) (why : ListWhy) → IsBad before ws why → with_event before (event_of ws) ≡ Err why
-bad_step before ws why (bad_line other) = line_refused before ws (event_of ws) refl other (told_form ws)
-bad_step before ws why (bad_value form none) = value_refused before ws (event_of ws) refl form none
-bad_step before ws why (too_many e told full) = ap (with_event before) (told_event ws e told) ∙ full_step before e full
+pub event_lines_tell_one : TellsOne events_text
+event_lines_tell_one n line x y p q = tells_one (words line) x y p q
 
--- 3. The steps are those of the text.
-
-pub events_step : IsStep events_text event_step
-events_step = record {
-  reads = λ n es now line h. step_adds n es now line h;
-  read = λ n es now line adds. adds_step n es now line adds;
-  refuses = λ n es line why h. bad_by es (words line) why (event_of (words line)) refl h;
-  refused = λ n es line why bad. bad_step es (words line) why bad;
-}
+pub event_lines_have_form : TellsFormed events_text
+event_lines_have_form n line x told = told_form (words line) x told
 
 -- a text has one reading or one first fault
-pub events_settled : IsSettled events_text
-events_settled = settled_by_step events_text event_step events_step (λ n es line why none. none)
+pub events_settled : IsSettled (by_lines events_text)
+events_settled = list_settled events_text event_lines_tell_one event_lines_have_form
 
--- a reason of the step is one of the text
-pub has_reason : (n : ℕ) (es : List Event) (line : List ℕ) (fault : LineFault ListWhy)
-    → HasReason (λ why. with_event es (event_of (words line)) ≡ Err why) fault → HasReason (events_text.IsBadLine n es line) fault
-has_reason n es line (Bad why) refused = events_step.refuses n es line why refused
-has_reason n es line NoMemory refused = tt
+-- 3. A line that is refused is bad, whatever stands before it.
+
+not_told : (ws : List (List ℕ)) (why : ListWhy) → event_of ws ≡ Err why → (e : Event) → TellsEvent ws e → ⊥
+not_told ws why refused e told = let read : event_of ws ≡ Ok e = told_event ws e told in cc
+
+pub refused_is_bad : (n : ℕ) (before : List Event) (line : List ℕ) (why : ListWhy) → event_of (words line) ≡ Err why
+    → IsBad events_text n before line why
+refused_is_bad n before line why refused = elim (explained (words line) why refused) [
+  | inl other ↦ subst (IsBad events_text n before line) (sym other.0) (bad_line other.1)
+  | inr value ↦ subst (IsBad events_text n before line) (sym value.0) (bad_value value.1 (not_told (words line) why refused))
+]

@@ -1,16 +1,13 @@
 -- Laws of the texts of events: a line is read as an event exactly where it tells it.
-use Rattle.std.proofs.Common.{◌≡◌, ℕ, ◌==◌, ◌<◌, ◌^◌, false, List, [], ◌∷◌, ◌++◌, Some, ◌⊎◌, inl, inr, refl, sym, ap, ◌∙◌, arith, length, subst}
-use Rattle.std.specs.Prelude.{codes, decimal, Result, Ok, Err, bytes_eq, nat_lt}
+use Rattle.std.proofs.Common.{◌≡◌, ℕ, ◌==◌, ◌<◌, ◌^◌, List, [], ◌∷◌, Some, ◌⊎◌, inl, inr, refl, sym, ap, ◌∙◌, arith, subst}
+use Rattle.std.specs.Prelude.{codes, decimal, Ok, bytes_eq}
 use Rattle.std.specs.Option.{option_map}
 use Rattle.std.specs.Str.{all_ascii_digits}
 use Rattle.std.proofs.lemmas.Bool.{eqb-true}
-use Rattle.std.proofs.lemmas.Bool.Decides.{nat_tests}
 use Rattle.text_core.specs.inner.Decimal.{number}
 use Rattle.text_core.proofs.DecimalLaws.{number-decimal, decimal_of_number, decimal_digits}
-use Rattle.text_core.specs.Lines.{words}
 use Rattle.text_core.proofs.StepsLaws.{bind_some, if_parts, ok_or_parts, map_parts, bytes_same, bytes_apart}
-use Rattle.text_core.specs.declared.faults.ListWhy.{ListWhy}
-use Rattle.text_core.specs.declared.faults.ListWhy.TheVariants.{BadValue, TooMany}
+use Rattle.text_core.specs.declared.faults.ListWhy.TheVariants.{BadValue}
 use Rattle.host_net.specs.declared.packet.Packet.{Packet}
 use Rattle.host_net.specs.Prefix.{address_text}
 use Rattle.host_net.specs.inner.PrefixSteps.{address_of}
@@ -18,8 +15,8 @@ use Rattle.host_net.specs.ServiceText.{protocol_text}
 use Rattle.host_net.proofs.PrefixTextLaws.{address_of-address_text, address_text-address_of}
 use Rattle.pkt_core.specs.declared.event.Event.{Event}
 use Rattle.pkt_core.specs.declared.event.Event.TheVariants.{Seen, Forget}
-use Rattle.pkt_core.specs.EventsText.{TellsPacket, TellsEvent, AddsEvent}
-use Rattle.pkt_core.specs.inner.EventSteps.{protocol_of, packet_of, event_by, event_of, with_event, event_step}
+use Rattle.pkt_core.specs.EventsText.{TellsPacket, TellsEvent}
+use Rattle.pkt_core.specs.inner.EventSteps.{protocol_of, packet_of, event_by, event_of}
 
 -- the word of a protocol
 protocol_told : (word : List ℕ) (n : ℕ) → protocol_of word ≡ Some n → ((word ≡ protocol_text n) ⊎ (word ≡ decimal n)) × (n < 2 ^ 8)
@@ -131,26 +128,3 @@ told_event ws (Seen p) told =
 told_event ws (Forget p) told =
     let parts = packet_read (codes "forget") ws p told in
     ap event_of parts.5 ∙ rw parts.6 refl
-
-small : (n : ℕ) → n < 1000000 → nat_lt 999999 n ≡ false
-small n h = grind (arith, nat_tests)
-
--- a line adds an event exactly where it tells one
-adds_told : (n : ℕ) (es : List Event) (line : List ℕ) (now : List Event) (r : Result Event ListWhy) → event_of (words line) ≡ r
-    → with_event es r ≡ Ok now → AddsEvent n es line now
-adds_told n es line now (Err why) read h = cc
-adds_told n es line now (Ok e) read h = elim (if_parts (nat_lt 999999 (length es)) (Err TooMany) _ (Ok now) h) [
-  | inl many ↦ cc
-  | inr few ↦
-      let same : es ++ e ∷ [] ≡ now = cc in
-      let room : length es < 1000000 = grind (arith, nat_tests, few.0) in
-      record { event = e; told = event_told (words line) e read; added = sym same; few = room }
-]
-
-pub step_adds : (n : ℕ) (es now : List Event) (line : List ℕ) → event_step n es line ≡ Ok now → AddsEvent n es line now
-step_adds n es now line h = adds_told n es line now (event_of (words line)) refl h
-
-pub adds_step : (n : ℕ) (es now : List Event) (line : List ℕ) → AddsEvent n es line now → event_step n es line ≡ Ok now
-adds_step n es now line adds =
-    let room : nat_lt 999999 (length es) ≡ false = small (length es) adds.few in
-    rw (told_event (words line) adds.event adds.told, room) (ap (λ xs. Ok xs) (sym adds.added))

@@ -7,7 +7,8 @@ use Rattle.pkt_core.specs.declared.event.Event.{Event}
 use Rattle.pkt_core.specs.declared.event.Event.TheVariants.{Seen, Forget}
 use Rattle.pkt_core.specs.Events.{SeenAt}
 use Rattle.pkt_core.specs.laws.EventLaws.{get_back}
-use Rattle.pkt_core.specs.EventsText.{TellsEvent, AddsEvent, IsReading}
+use Rattle.text_core.specs.ListText.{AddsEntry}
+use Rattle.pkt_core.specs.EventsText.{TellsEvent, IsReading, events_text}
 use Rattle.pkt_core.specs.Filter.{ArePackets}
 
 -- an event that is told of a packet seen
@@ -21,16 +22,16 @@ seen_told ws (Forget q) p told same = absurd (apart q p same)
     apart : (q p : Packet) → Forget q ≡ Seen p → ⊥
     apart q p h = cc
 
-packets_more : (n : ℕ) (before : List Event) (line : List ℕ) (now : List Event) → ArePackets before → AddsEvent n before line now
+packets_more : (n : ℕ) (before : List Event) (line : List ℕ) (now : List Event) → ArePackets before → AddsEntry events_text n before line now
     → ArePackets now
 packets_more n before line now are adds k p there =
-    elim (get_back before adds.event (Seen p) k (subst (λ (es : List Event). SeenAt es k p) adds.added there)) [
+    elim (get_back before adds.entry (Seen p) k (subst (λ (es : List Event). SeenAt es k p) adds.added there)) [
       | inl old ↦ are k p old
-      | inr new ↦ seen_told _ adds.event p adds.told new.1
+      | inr new ↦ seen_told _ adds.entry p adds.told new.1
     ]
 
 packets_all : (n : ℕ) (before : List Event) (ls : List (List ℕ)) (events : List Event) → ArePackets before
-    → Follows AddsEvent n before ls events → ArePackets events
+    → Follows (AddsEntry events_text) n before ls events → ArePackets events
 packets_all n before [] events are same = subst ArePackets same are
 packets_all n before (l ∷ ls) events are (inl comment) = packets_all (n + 1) before ls events are comment.1
 packets_all n before (l ∷ ls) events are (inr more) = packets_all (n + 1) more.0 ls events (packets_more n before l more.0 are more.2) more.3

@@ -1,19 +1,20 @@
 //! Reading the text of a list of events: one line each, as
 //! `packet 10.0.0.1 10.0.0.2 tcp 1024 80` or `forget` with the same five words.
 
-ghost use Rattle.std.specs.Prelude.{◌≡◌, ℕ, List, Ok, Err, IfOk, IfErr, OnOk, MatchResult};
+ghost use Rattle.std.specs.Prelude.{◌≡◌, ℕ, List, IfOk, IfErr, MatchResult};
 ghost use Rattle.text_core.specs.Lines.{words};
-ghost use Rattle.text_core.specs.inner.TextAnswers.{HasCause, HasReason, IsFault};
+ghost use Rattle.text_core.specs.ListText.{by_lines};
+ghost use Rattle.text_core.specs.inner.TextAnswers.{HasCause, IsFault};
 ghost use Rattle.text_core.specs.declared.faults.ListWhy.{ListWhy};
-ghost use Rattle.pkt_core.specs.declared.event.Event.{Event};
+ghost use Rattle.pkt_core.specs.declared.event.Event.{Event as Meant};
 ghost use Rattle.pkt_core.specs.EventsText.{IsReading, IsRefused, events_text};
-ghost use Rattle.pkt_core.specs.inner.EventSteps.{with_event, event_of, event_by, packet_of, protocol_of};
+ghost use Rattle.pkt_core.specs.inner.EventSteps.{event_of, event_by, packet_of, protocol_of};
 ghost use Rattle.pkt_core.specs.Filter.{ArePackets};
 
 use crate::event::Event;
 use host_net::{Packet, read_address, read_port, read_protocol};
 use std::alloc::Global;
-use text_core::{LineFault, LineReader, ListWhy, TextFault, Words, read_lines, read_number};
+use text_core::{EntryReader, LineFault, ListWhy, TextFault, Words, read_list, read_number};
 
 /// The most bytes that a text of events may have.
 pub const EVENTS_BYTE_LIMIT: usize = 16_777_216;
@@ -32,65 +33,40 @@ pub type EventFault = TextFault<ListWhy>;
 pub fn read_events(alloc: Global, bytes: &[u8]) -> Result<Vec<Event>, EventFault>
     ensures found { IfOk result (λ events. IsReading bytes.now events.items) }
     // A text that tells events is refused for want of memory alone.
-    ensures only { (told : List Event) → IsReading bytes.now told →
+    ensures only { (told : List Meant) → IsReading bytes.now told →
         MatchResult result (λ events. events.items ≡ told) (λ fault. fault ≡ TextFault.Memory) }
-    ensures refused { IfErr result (HasCause events_text bytes.now) }
+    ensures refused { IfErr result (HasCause (by_lines events_text) bytes.now) }
     // A text has one first fault at most, and none where it tells events.
     ensures faulty { (line : ℕ) (why : ListWhy) → IsRefused bytes.now line why →
         MatchResult result (λ events. ⊥) (IsFault line why) }
     ensures packets { IfOk result (λ events. ArePackets events.items) }
 {
-    let start = EventReader {
-        events: Vec::new(alloc),
-    };
-    match read_lines(start, bytes) {
-        Ok(reader) => Ok(reader.events),
-        Err(fault) => Err(fault),
-    }
+    read_list(alloc, &EventLines, bytes)
 }
 
-/// The events of the lines so far.
+/// The lines of a text of events.
 #[derive(Drop)]
-struct EventReader {
-    events: Vec<Event>,
-}
+struct EventLines;
 
-impl LineReader for EventReader {
-    type Why = ListWhy;
+impl EntryReader for EventLines {
+    type Entry = Event;
 
-    ghost Said = { List Event };
+    ghost Told = { Meant };
 
-    ghost text = { events_text };
+    ghost list = { events_text };
 
-    ghost said = { λ reader. reader.events.items };
+    ghost told = { λ event. event };
 
-    ghost holds = { λ reader. Unit {0} };
-
-    fn limit(&self) -> (usize, ListWhy) {
-        (EVENTS_BYTE_LIMIT, ListWhy::TooLong)
+    fn limits(&self) -> (usize, usize) {
+        (EVENTS_BYTE_LIMIT, EVENT_LIMIT)
     }
 
-    fn read_line(mut self, _number: u32, line: &[u8]) -> Result<EventReader, LineFault<ListWhy>> {
-        add_event(&mut self.events, line)?;
-        Ok(self)
+    fn read_entry(&self, _number: u32, line: &[u8]) -> Result<Event, LineFault<ListWhy>> {
+        match read_event(line) {
+            Ok(event) => Ok(event),
+            Err(why) => Err(LineFault::Bad(why)),
+        }
     }
-}
-
-/// Puts the event of a line behind those before it.
-fn add_event(events: &mut Vec<Event>, line: &[u8]) -> Result<(), LineFault<ListWhy>>
-    ensures ok { OnOk result (with_event events.old.items (event_of (words line.now)) ≡ Ok events.new.items) }
-    ensures err { IfErr result
-        (HasReason (λ why. with_event events.old.items (event_of (words line.now)) ≡ Err why)) }
-{
-    let event = match read_event(line) {
-        Ok(event) => event,
-        Err(why) => return Err(LineFault::Bad(why)),
-    };
-    if events.len() >= EVENT_LIMIT {
-        return Err(LineFault::Bad(ListWhy::TooMany));
-    }
-    events.push(event)?;
-    Ok(())
 }
 
 #[tactic(auto, unfolding(crate::specs::inner::EventSteps::event_of))]

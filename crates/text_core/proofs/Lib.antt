@@ -7,6 +7,7 @@ pub mod LineLaws
 pub mod LineLemmas
 pub mod LinesLaws
 pub mod LinesRows
+pub mod ListTextLaws
 pub mod NumbersLaws
 pub mod PairLaws
 pub mod PiecesLaws

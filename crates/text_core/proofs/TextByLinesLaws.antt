@@ -24,7 +24,7 @@ pub record IsStep {S W : Type 0} (text : TextByLines S W) (step : ℕ → S → 
   pub refuses : (n : ℕ) (s : S) (l : List ℕ) (w : W) → step n s l ≡ Err w → text.IsBadLine n s l w
   pub refused : (n : ℕ) (s : S) (l : List ℕ) (w : W) → text.IsBadLine n s l w → step n s l ≡ Err w
 
-same_ok : {S W : Type 0} (r : Result S W) (t u : S) → r ≡ Ok t → r ≡ Ok u → t ≡ u
+pub same_ok : {S W : Type 0} (r : Result S W) (t u : S) → r ≡ Ok t → r ≡ Ok u → t ≡ u
 same_ok r t u p q = cc (p, q)
 
 same_err : {S W : Type 0} (r : Result S W) (w v : W) → r ≡ Err w → r ≡ Err v → w ≡ v

@@ -1,6 +1,7 @@
 pub mod Decimal
 pub mod Firsts
 pub mod Lines
+pub mod ListText
 pub mod Name
 pub mod Reading
 pub mod Steps

@@ -2,6 +2,7 @@ pub mod Decimal
 pub mod DecimalSteps
 pub mod FirstsView
 pub mod Line
+pub mod ListAnswers
 pub mod Padded
 pub mod Pairs
 pub mod Pieces

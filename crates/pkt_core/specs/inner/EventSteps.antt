@@ -1,11 +1,10 @@
--- A text of events as the reader goes through it, step by step. Callers see none of it; they have the grammar and the first fault.
-use Rattle.std.specs.Prelude.{ℕ, nat_lt, if◌then◌else◌, List, [], ◌∷◌, ◌++◌, Option, Some, Result, Ok, Err, length, codes, bytes_eq}
+-- A line of events as the reader goes through it, step by step. Callers see none of it; they have the grammar and the first fault.
+use Rattle.std.specs.Prelude.{ℕ, if◌then◌else◌, List, [], ◌∷◌, Option, Some, Result, Err, codes, bytes_eq}
 use Rattle.std.specs.Option.{option_map, ok_or}
 use Rattle.text_core.specs.inner.Decimal.{number}
-use Rattle.text_core.specs.Lines.{words}
 use Rattle.text_core.specs.Steps.{◌>>=◌}
 use Rattle.text_core.specs.declared.faults.ListWhy.{ListWhy}
-use Rattle.text_core.specs.declared.faults.ListWhy.TheVariants.{BadLine, BadValue, TooMany}
+use Rattle.text_core.specs.declared.faults.ListWhy.TheVariants.{BadLine, BadValue}
 use Rattle.host_net.specs.declared.packet.Packet.{Packet}
 use Rattle.host_net.specs.Service.{last_port}
 use Rattle.host_net.specs.inner.PrefixSteps.{address_of}
@@ -40,11 +39,3 @@ event_by verb p =
 unfoldable pub event_of : List (List ℕ) → Result Event ListWhy
 event_of (verb ∷ src ∷ dst ∷ protocol ∷ sport ∷ dport ∷ []) = event_by verb (packet_of src dst protocol sport dport)
 event_of _ = Err BadLine
-
--- the events with one more, of 1,000,000 at most
-abbrev pub with_event : List Event → Result Event ListWhy → Result (List Event) ListWhy
-with_event events (Ok e) = if nat_lt 999999 (length events) then Err TooMany else Ok (events ++ e ∷ [])
-with_event events (Err why) = Err why
-
-abbrev pub event_step : ℕ → List Event → List ℕ → Result (List Event) ListWhy
-event_step n events line = with_event events (event_of (words line))

@@ -1,0 +1,97 @@
+//! Reading a text that lists entries, one on each line: one reader for all such texts. A format says how
+//! an entry is read from its line, and how many there may be.
+
+ghost use Rattle.std.specs.Prelude.{◌≡◌, ◌<◌, ◌^◌, ℕ, List, map, IfOk, IfErr, MatchResult};
+ghost use Rattle.text_core.specs.ListText.{ListText, IsBad, by_lines};
+ghost use Rattle.text_core.specs.TextByLines.{HasFault, IsReading};
+ghost use Rattle.text_core.specs.inner.ListAnswers.{TellsOne, TellsFormed};
+ghost use Rattle.text_core.specs.inner.TextAnswers.{HasCause, HasReason, IsFault};
+ghost use Rattle.text_core.specs.declared.faults.ListWhy.{ListWhy as Why};
+
+use crate::faults::{LineFault, ListWhy, TextFault};
+use crate::texts::{LineReader, read_lines};
+use std::alloc::Global;
+
+/// A format of texts that list entries.
+pub trait EntryReader {
+    /// What a line tells, as the code holds it.
+    type Entry: Drop;
+
+    /// What an entry stands for, and the format that tells it.
+    ghost Told: { Type 0 };
+
+    ghost list: { ListText Told };
+
+    ghost told: { Self.Entry → Told };
+
+    /// The most bytes that a text may have, and the most entries.
+    fn limits(&self) -> (usize, usize)
+        ensures limits { result ≡ (list.byte_limit, list.most) }
+        ensures small { list.byte_limit < 2 ^ 32 };
+
+    /// The entry that a line tells, which is no comment, or why it tells none, however many stand before it.
+    fn read_entry(&self, number: u32, line: &[u8]) -> Result<Self::Entry, LineFault<ListWhy>>
+        ensures ok { IfOk result (λ entry. list.Tells number line.now (told entry)) }
+        ensures err { (before : List Told) → IfErr result (HasReason (IsBad list number before line.now)) };
+}
+
+/// The entries that a text lists, or its first fault. A line tells one entry at most.
+pub fn read_list<R: EntryReader>(
+    alloc: Global,
+    reader: &R,
+    bytes: &[u8],
+) -> Result<Vec<R::Entry>, TextFault<ListWhy>>
+    requires one { TellsOne R.list }
+    requires formed { TellsFormed R.list }
+    ensures found { IfOk result (λ entries. IsReading (by_lines R.list) bytes.now (map R.told entries.items)) }
+    // A text that lists entries is refused for want of memory alone.
+    ensures only { (said : List R.Told) → IsReading (by_lines R.list) bytes.now said →
+        MatchResult result (λ entries. map R.told entries.items ≡ said) (λ fault. fault ≡ TextFault.Memory) }
+    ensures refused { IfErr result (HasCause (by_lines R.list) bytes.now) }
+    // A text has one first fault at most, and none where it lists entries.
+    ensures faulty { (line : ℕ) (why : Why) → HasFault (by_lines R.list) bytes.now line why →
+        MatchResult result (λ entries. ⊥) (IsFault line why) }
+{
+    let start = Listed {
+        reader,
+        entries: Vec::new(alloc),
+    };
+    match read_lines(start, bytes) {
+        Ok(listed) => Ok(listed.entries),
+        Err(fault) => Err(fault),
+    }
+}
+
+/// The entries of the lines so far.
+#[derive(Drop)]
+struct Listed<'a, R, E> {
+    reader: &'a R,
+    entries: Vec<E>,
+}
+
+impl<'a, R: EntryReader> LineReader for Listed<'a, R, R::Entry> {
+    type Why = ListWhy;
+
+    ghost Said = { List R.Told };
+
+    ghost text = { by_lines R.list };
+
+    ghost said = { λ listed. map R.told listed.entries.items };
+
+    ghost holds = { λ listed. Unit {0} };
+
+    fn limit(&self) -> (usize, ListWhy) {
+        let (bytes, _) = self.reader.limits();
+        (bytes, ListWhy::TooLong)
+    }
+
+    fn read_line(mut self, number: u32, line: &[u8]) -> Result<Self, LineFault<ListWhy>> {
+        let entry = self.reader.read_entry(number, line)?;
+        let (_, most) = self.reader.limits();
+        if self.entries.len() >= most {
+            return Err(LineFault::Bad(ListWhy::TooMany));
+        }
+        self.entries.push(entry)?;
+        Ok(self)
+    }
+}
