@@ -89,10 +89,10 @@ by_parts_read text s spelling = elim spelling.written [
 ]
 
 -- only spellings are read: what a protocol's name says
-abbrev IsNameOf : List ℕ → ℕ → Type 0
+abbrev pub IsNameOf : List ℕ → ℕ → Type 0
 IsNameOf name proto = (name ≡ protocol_text proto) × ((proto ≡ icmp) ⊎ IsTrue (has_ports proto))
 
-protocol_told : (name : List ℕ) (proto : ℕ) → protocol_of name ≡ Some proto → IsNameOf name proto
+pub protocol_told : (name : List ℕ) (proto : ℕ) → protocol_of name ≡ Some proto → IsNameOf name proto
 protocol_told name proto read = elim (if_parts (bytes_eq name (codes "icmp")) (Some icmp) _ (Some proto) read) [
   | inl one ↦ subst (IsNameOf name) (some_same icmp proto one.1) (bytes_same name (codes "icmp") one.0, inl refl)
   | inr rest ↦ elim (if_parts (bytes_eq name (codes "tcp")) (Some tcp) _ (Some proto) rest.1) [

@@ -1,9 +1,10 @@
 -- Laws of the texts of events: a line is read as an event exactly where it tells it.
-use Rattle.std.proofs.Common.{◌≡◌, ℕ, ◌==◌, ◌<◌, ◌^◌, List, [], ◌∷◌, Some, ◌⊎◌, inl, inr, refl, sym, ap, ◌∙◌, arith, subst}
+use Rattle.std.proofs.Common.{◌≡◌, ℕ, ◌==◌, ◌<◌, ◌^◌, List, [], ◌∷◌, Option, Some, None, ◌⊎◌, inl, inr, refl, sym, ap, ◌∙◌, arith, subst}
 use Rattle.std.specs.Prelude.{codes, decimal, Ok, bytes_eq}
-use Rattle.std.specs.Option.{option_map}
+use Rattle.std.specs.Option.{option_map, option_or}
 use Rattle.std.specs.Str.{all_ascii_digits}
 use Rattle.std.proofs.lemmas.Bool.{eqb-true}
+use Rattle.std.proofs.lemmas.Bool.Decides.{nat_tests}
 use Rattle.text_core.specs.inner.Decimal.{number}
 use Rattle.text_core.proofs.DecimalLaws.{number-decimal, decimal_of_number, decimal_digits}
 use Rattle.text_core.proofs.StepsLaws.{bind_some, if_parts, ok_or_parts, map_parts, bytes_same, bytes_apart}
@@ -12,24 +13,25 @@ use Rattle.host_net.specs.declared.packet.Packet.{Packet}
 use Rattle.host_net.specs.Prefix.{address_text}
 use Rattle.host_net.specs.inner.PrefixSteps.{address_of}
 use Rattle.host_net.specs.ServiceText.{protocol_text}
+use Rattle.host_net.specs.inner.ServiceSteps.{protocol_of as named_protocol}
 use Rattle.host_net.proofs.PrefixTextLaws.{address_of-address_text, address_text-address_of}
+use Rattle.host_net.proofs.ServiceStepsLemmas.{protocol_told as named_told}
 use Rattle.pkt_core.specs.declared.event.Event.{Event}
 use Rattle.pkt_core.specs.declared.event.Event.TheVariants.{Seen, Forget}
 use Rattle.pkt_core.specs.EventsText.{TellsPacket, TellsEvent}
 use Rattle.pkt_core.specs.inner.EventSteps.{protocol_of, packet_of, event_by, event_of}
 
 -- the word of a protocol
+protocol_by : (word : List ℕ) (n : ℕ) (named : Option ℕ) → named_protocol word ≡ named → option_or named (number 255 word) ≡ Some n
+    → ((word ≡ protocol_text n) ⊎ (word ≡ decimal n)) × (n < 2 ^ 8)
+protocol_by word n None none read = let said = decimal_of_number 255 word n (omega arith) read in (inr said.0, omega (arith, said.1))
+protocol_by word n (Some m) named read =
+    let same : m ≡ n = cc in
+    let told = named_told word n (named ∙ ap (λ k. Some k) same) in
+    (inl told.0, grind (arith, nat_tests, told.1))
+
 protocol_told : (word : List ℕ) (n : ℕ) → protocol_of word ≡ Some n → ((word ≡ protocol_text n) ⊎ (word ≡ decimal n)) × (n < 2 ^ 8)
-protocol_told word n read = elim (if_parts (bytes_eq word (codes "icmp")) (Some 1) _ (Some n) read) [
-  | inl icmp ↦ let e : 1 ≡ n = cc in (inl (bytes_same word (codes "icmp") icmp.0 ∙ ap protocol_text e), omega arith)
-  | inr rest ↦ elim (if_parts (bytes_eq word (codes "tcp")) (Some 6) _ (Some n) rest.1) [
-    | inl tcp ↦ let e : 6 ≡ n = cc in (inl (bytes_same word (codes "tcp") tcp.0 ∙ ap protocol_text e), omega arith)
-    | inr more ↦ elim (if_parts (bytes_eq word (codes "udp")) (Some 17) _ (Some n) more.1) [
-      | inl udp ↦ let e : 17 ≡ n = cc in (inl (bytes_same word (codes "udp") udp.0 ∙ ap protocol_text e), omega arith)
-      | inr last ↦ let said = decimal_of_number 255 word n (omega arith) last.1 in (inr said.0, omega (arith, said.1))
-    ]
-  ]
-]
+protocol_told word n read = protocol_by word n (named_protocol word) refl read
 
 packet_told : (verb src dst protocol sport dport : List ℕ) (p : Packet) → packet_of src dst protocol sport dport ≡ Some p
     → TellsPacket verb (verb ∷ src ∷ dst ∷ protocol ∷ sport ∷ dport ∷ []) p

@@ -41,9 +41,6 @@ is_at-cmp p q = by_fields p.src p.dst p.proto p.sport p.dport q.src q.dst q.prot
 read_by_fields : (entries : List (Packet × Bool)) (q : Packet) → lookup (is_at ((order.cmp-value).it q)) entries ≡ kept_in entries q
 read_by_fields entries q = ap (λ (test : Packet → Bool). lookup test entries) (λ i k. is_at-cmp q k i)
 
-pub none_read : (entries : List (Packet × Bool)) (q : Packet) (o : Option Bool) → lookup (is_at ((order.cmp-value).it q)) entries ≡ o → kept_in entries q ≡ o
-none_read entries q o h = sym (read_by_fields entries q) ∙ h
-
 -- what a map answers after a change at p
 pub kept_in-updates : (old new : List (Packet × Bool)) (p : Packet) (now : Option Bool) →
     ((q : Packet) → lookup (is_at ((order.cmp-value).it q)) new ≡ cond (is_at ((order.cmp-value).it p) q) now (lookup (is_at ((order.cmp-value).it q)) old)) →

@@ -1,6 +1,6 @@
 -- A line of events as the reader goes through it, step by step. Callers see none of it; they have the grammar and the first fault.
 use Rattle.std.specs.Prelude.{ℕ, if◌then◌else◌, List, [], ◌∷◌, Option, Some, Result, Err, codes, bytes_eq}
-use Rattle.std.specs.Option.{option_map, ok_or}
+use Rattle.std.specs.Option.{option_map, option_or, ok_or}
 use Rattle.text_core.specs.inner.Decimal.{number}
 use Rattle.text_core.specs.Steps.{◌>>=◌}
 use Rattle.text_core.specs.declared.faults.ListWhy.{ListWhy}
@@ -8,15 +8,13 @@ use Rattle.text_core.specs.declared.faults.ListWhy.TheVariants.{BadLine, BadValu
 use Rattle.host_net.specs.declared.packet.Packet.{Packet}
 use Rattle.host_net.specs.Service.{last_port}
 use Rattle.host_net.specs.inner.PrefixSteps.{address_of}
+use Rattle.host_net.specs.inner.ServiceSteps.{protocol_of as named_protocol}
 use Rattle.pkt_core.specs.declared.event.Event.{Event}
 use Rattle.pkt_core.specs.declared.event.Event.TheVariants.{Seen, Forget}
 
+-- a protocol by its name, or by its number
 abbrev pub protocol_of : List ℕ → Option ℕ
-protocol_of word =
-    if bytes_eq word (codes "icmp") then Some 1
-    else if bytes_eq word (codes "tcp") then Some 6
-    else if bytes_eq word (codes "udp") then Some 17
-    else number 255 word
+protocol_of word = option_or (named_protocol word) (number 255 word)
 
 -- the packet of five words
 unfoldable pub packet_of : List ℕ → List ℕ → List ℕ → List ℕ → List ℕ → Option Packet
