@@ -8,12 +8,12 @@ use Rattle.emit_core.specs.Layout.{layout}
 use Rattle.emit_core.specs.PortRanges.{HasNoRange, IsFirstRange}
 use Rattle.flow_set.specs.declared.flow.Flow.{Flow}
 use Rattle.host_net.specs.Site.{Site}
-use Rattle.ipt_read.specs.TextLines.{IsReading as IsReadingOfRules, HasFault as HasFaultInRules}
+use Rattle.ipt_read.specs.TextLines.{IsReading as IsReadingOfRules, HasFault as HasFaultInRules, rules_text}
 use Rattle.ipt_rules.specs.Chain.{Chain}
 use Rattle.ipt_rules.specs.ChainTable.{rule_count}
 use Rattle.ipt_rules.specs.Meaning.{Passes as PassesChains}
 use Rattle.ipt_rules.specs.Text.{text as chains_text}
-use Rattle.ofp_read.specs.TextLines.{IsReading as IsReadingOfFlows, HasFault as HasFaultInFlows}
+use Rattle.ofp_read.specs.TextLines.{IsReading as IsReadingOfFlows, HasFault as HasFaultInFlows, flows_text}
 use Rattle.ofp_rules.specs.Ambiguity.{most_entries}
 use Rattle.ofp_rules.specs.Meaning.{Passes as PassesTable}
 use Rattle.ofp_rules.specs.Text.{text as table_text}
@@ -25,11 +25,12 @@ use Rattle.topos_top.specs.TextFault.{TellsFault, rules_reason, flows_reason}
 use Rattle.topos_top.specs.declared.dialect.Dialect.{Dialect}
 use Rattle.topos_top.specs.declared.dialect.Dialect.TheVariants.{Iptables, OpenFlow}
 
--- A dialect: what rules are, their text, which rules a text is read as, why one is refused, which packets rules let pass in which state, and what they do with frames that are no such packets;
+-- A dialect: what rules are, their text, the most bytes that one may have which is read, which rules a text is read as, why one is refused, which packets rules let pass in which state, and what they do with frames that are no such packets;
 -- and for a site with permitted flows p and stateful ones s their rules, where these can be written, and the line that says why not (docs/TEXTS.md).
 pub record Language : Type 1 where
   pub Rules : Type 0
   pub text : Rules → List ℕ
+  pub byte_limit : ℕ
   pub IsReading : List ℕ → Rules → Type 0
   pub Refuses : (bytes line : List ℕ) → Type 0
   pub filter : Rules → Filter
@@ -48,6 +49,7 @@ abbrev pub iptables : Language
 iptables = record {
   Rules = List Chain;
   text = chains_text;
+  byte_limit = rules_text.byte_limit;
   IsReading = IsReadingOfRules;
   Refuses = TellsFault (codes "rules") rules_reason HasFaultInRules;
   filter = PassesChains;
@@ -72,6 +74,7 @@ abbrev pub openflow : Language
 openflow = record {
   Rules = List Entry;
   text = table_text;
+  byte_limit = flows_text.byte_limit;
   IsReading = IsReadingOfFlows;
   Refuses = TellsFault (codes "rules") flows_reason HasFaultInFlows;
   filter = PassesTable;

@@ -1,14 +1,14 @@
 -- The kinds of files: what is read of the bytes of each, and why bytes are refused.
 use Rattle.std.specs.Prelude.{◌≡◌, ℕ, List, Ok, Err, codes}
+use Rattle.desc_core.specs.Conditions.{byte_limit}
 use Rattle.desc_core.specs.Description.{described}
 use Rattle.desc_core.specs.Migrated.{IsMigrated}
-use Rattle.desc_core.specs.declared.fault.TheConstants.{BYTE_LIMIT}
 use Rattle.desc_form.specs.declared.refusal.Refusal.{Refusal}
 use Rattle.edit_core.specs.Summaries.{IsStarted}
 use Rattle.edit_core.specs.Edit.{Edit}
-use Rattle.edit_core.specs.EditsText.{IsReading as IsReadingOfEdits, IsRefused as IsRefusedInEdits}
+use Rattle.edit_core.specs.EditsText.{IsReading as IsReadingOfEdits, IsRefused as IsRefusedInEdits, edits_text}
 use Rattle.net_core.specs.Network.{Network}
-use Rattle.pkt_core.specs.EventsText.{IsReading as IsReadingOfEvents, IsRefused as IsRefusedInEvents}
+use Rattle.pkt_core.specs.EventsText.{IsReading as IsReadingOfEvents, IsRefused as IsRefusedInEvents, events_text}
 use Rattle.pkt_core.specs.declared.event.Event.{Event}
 use Rattle.report_core.specs.RefusalLine.{refusal_text}
 use Rattle.toml.specs.Data.{Members}
@@ -34,7 +34,7 @@ IsNoDescription bytes line = (why : Refusal) × (described bytes ≡ Err why) ×
 
 -- a description, of which this is read
 abbrev pub description : (Said : Type 0) → (List ℕ → Said → Type 0) → Contents
-description Said Reads = record { Said = Said; most = BYTE_LIMIT; Reads = Reads; Refuses = IsNoDescription; refused_as = status.BadDescription }
+description Said Reads = record { Said = Said; most = byte_limit; Reads = Reads; Refuses = IsNoDescription; refused_as = status.BadDescription }
 
 -- a text by lines
 abbrev pub text : (Said : Type 0) → ℕ → (List ℕ → Said → Type 0) → (Refuses : (bytes line : List ℕ) → Type 0) → Contents
@@ -42,11 +42,11 @@ text Said most Reads Refuses = record { Said = Said; most = most; Reads = Reads;
 
 abbrev pub contents_of : Kind → Contents
 contents_of Description = description Network (λ bytes d. described bytes ≡ Ok d)
-contents_of (Rules dialect) = text (language_of dialect).Rules 67108864 (language_of dialect).IsReading (language_of dialect).Refuses
-contents_of Events = text (List Event) 16777216 IsReadingOfEvents (TellsFault (codes "events") list_reason IsRefusedInEvents)
+contents_of (Rules dialect) = text (language_of dialect).Rules (language_of dialect).byte_limit (language_of dialect).IsReading (language_of dialect).Refuses
+contents_of Events = text (List Event) events_text.byte_limit IsReadingOfEvents (TellsFault (codes "events") list_reason IsRefusedInEvents)
 contents_of Document = description (List ℕ) IsMigrated
 contents_of Edited = description Members (λ bytes table. IsStarted bytes (Ok table))
-contents_of Edits = text (List Edit) 1048576 IsReadingOfEdits (TellsFault (codes "edits") list_reason IsRefusedInEdits)
+contents_of Edits = text (List Edit) edits_text.byte_limit IsReadingOfEdits (TellsFault (codes "edits") list_reason IsRefusedInEdits)
 
 -- the reply to bytes that are refused
 pub record IsRefused (kind : Kind) (bytes : List ℕ) (given : Reply) : Type 0 where
