@@ -2,7 +2,7 @@
 -- less changes them by that flow alone.
 use Rattle.std.proofs.Common.{◌≡◌, ℕ, inl, inr, Bool, true, false, List, [], ◌∷◌, refl, sym, ◌∙◌, subst, All}
 use Rattle.std.specs.Prelude.{◌↔◌, IsTrue, IsFalse}
-use Rattle.std.proofs.lemmas.Bool.{both_ways, false≢true, or_cases, or_left, or_right, cases_Bool}
+use Rattle.std.proofs.lemmas.Bool.{false≢true, or_cases, or_left, or_right}
 use Rattle.flow_set.specs.inner.Downward.{IsEdgeWise}
 use Rattle.flow_set.specs.Flow.{IsFlow, back_of, same_flow}
 use Rattle.flow_set.specs.FlowSet.{has, IsSubset, with_back, with_flow}
@@ -17,21 +17,21 @@ use Rattle.net_core.specs.inner.Asking.{asking_for, not_asking_for}
 use Rattle.net_core.proofs.AskingLaws.{network_where}
 use Rattle.net_core.specs.inner.Fitting.{IsNetwork}
 use Rattle.net_core.specs.Network.{Network}
-use Rattle.net_core.specs.Policies.{holds_on, edge_mark, IsPolicyOf, IsStateful, JudgesFlowsAlone, MeetsAll, MeetsStrict, Policy}
+use Rattle.net_core.specs.Policies.{answerable, holds_on, edge_mark, IsPolicyOf, IsStateful, JudgesFlowsAlone, MeetsAll, MeetsStrict, Policy}
 use Rattle.net_core.proofs.PolicyLaws.{answerable_within}
 use Rattle.permit_core.proofs.PolicyLaws.{AllHold-edge_wise}
-use Rattle.net_core.specs.inner.EdgePolicies.{answerable, AreMarked, IsAdmitted, IsAnswered, IsEdgePolicy}
-use Rattle.net_core.proofs.MarkedLaws.{first_marked, marked_first, marked_kept, marked_left, marked_out, within_both, within_less, within_more}
+use Rattle.net_core.specs.inner.EdgePolicies.{AreMarked, IsAdmitted, IsAnswered, IsEdgePolicy}
+use Rattle.net_core.proofs.MarkedLaws.{absent_from, first_marked, marked_first, marked_kept, marked_left, marked_out, within_both, within_less, within_more}
 
-edge_wise_at : (n : ℕ) (inv : AnyInv) → (meaning_of inv).size ≡ n → IsTrue (edge_mark inv) → IsEdgeWise n (holds_on inv)
+-- an invariant whose mark says so judges flows alone, at its own size
+pub edge_wise_at : (n : ℕ) (inv : AnyInv) → (meaning_of inv).size ≡ n → IsTrue (edge_mark inv) → IsEdgeWise n (holds_on inv)
 edge_wise_at n inv sized marked = subst (λ m. IsEdgeWise m (holds_on inv)) sized ((lawful inv).mark_is_right marked)
-
-all_edge_wise : (d : Network) → IsNetwork d → JudgesFlowsAlone d → IsEdgeWise d.asked.size (MeetsAll d)
-all_edge_wise d network alone =
-    AllHold-edge_wise d.asked.size holds_on d.invariants (λ k e within. edge_wise_at d.asked.size _ (network.invariants k e within ∙ sym network.sized) (alone k e within))
 
 pub each_edge_wise : (d : Network) → IsNetwork d → JudgesFlowsAlone d → All (λ inv. IsEdgeWise d.asked.size (holds_on inv)) d.invariants
 each_edge_wise d network alone k e within = edge_wise_at d.asked.size _ (network.invariants k e within ∙ sym network.sized) (alone k e within)
+
+pub all_edge_wise : (d : Network) → IsNetwork d → JudgesFlowsAlone d → IsEdgeWise d.asked.size (MeetsAll d)
+all_edge_wise d network alone = AllHold-edge_wise d.asked.size holds_on d.invariants (each_edge_wise d network alone)
 
 strict_edge_wise : (d : Network) → IsNetwork d → JudgesFlowsAlone d → IsEdgeWise d.asked.size (MeetsStrict d)
 strict_edge_wise d network alone e set =
@@ -151,9 +151,6 @@ WithFlows permitted stateful policy = record {
   permitted = record { size = policy.permitted.size; flows = permitted };
   stateful = record { size = policy.stateful.size; flows = stateful };
 }
-
-absent_from : (all xs : List Flow) (f : Flow) → IsSubset xs all → IsFalse (has all f) → IsFalse (has xs f)
-absent_from all xs f sub absent = elim (cases_Bool (has xs f)) [ inl there ↦ absurd (both_ways _ absent (sub.within f there)) | inr none ↦ none ]
 
 not_there : (d : Network) (policy : Policy) (f : Flow) → IsFalse (has d.asked.flows f) → IsEdgePolicy d policy → IsFalse (has policy.permitted.flows f)
 not_there d policy f fresh is = absent_from d.asked.flows policy.permitted.flows f is.permitted_within fresh

@@ -2,22 +2,20 @@
 -- invariant holds.
 use Rattle.std.proofs.Common.{◌≡◌, ℕ, inl, inr, Bool, true, false, not, ◌&&◌, ◌||◌, List, [], ◌∷◌, refl, sym, ◌∙◌, ap}
 use Rattle.std.specs.Prelude.{◌↔◌, IsTrue, IsFalse}
-use Rattle.std.proofs.lemmas.Bool.{and_parts, both_ways, cases_Bool, or_left}
+use Rattle.std.proofs.Math.Bool.{and-true}
+use Rattle.std.proofs.lemmas.Bool.{and_parts, both_ways, cases_Bool, not-false, or_left}
 use Rattle.flow_set.specs.Conditions.{IsFirst}
 use Rattle.flow_set.specs.inner.Downward.{IsEdgeWise}
 use Rattle.flow_set.specs.Flow.{same_flow}
 use Rattle.flow_set.specs.laws.FlowLaws.{IsOrdered-without, has-with_flow, has-without, has-without_flow, has_first, same_fact, same_flow_sym}
-use Rattle.flow_set.specs.FlowSet.{has, IsSubset, with_flow, without}
+use Rattle.flow_set.specs.FlowSet.{has, with_flow, without}
 use Rattle.flow_set.specs.inner.FlowSetView.{IsFlowSet, without_flow}
 use Rattle.flow_set.specs.declared.flow.Flow.{Flow}
 use Rattle.inv_any.specs.declared.any_inv.AnyInv.{AnyInv}
 use Rattle.net_core.specs.Policies.{holds_on}
 use Rattle.net_core.specs.inner.Asking.{flows_where}
 use Rattle.net_core.specs.inner.FailingFlows.{FailsOn}
-use Rattle.net_core.proofs.MarkedLaws.{first_marked, within_both, within_less, within_more}
-
-absent : (all failing : List Flow) (f : Flow) → IsSubset failing all → IsFalse (has all f) → IsFalse (has failing f)
-absent all failing f sub fresh = elim (cases_Bool (has failing f)) [ inl there ↦ absurd (both_ways _ fresh (sub.within f there)) | inr none ↦ none ]
+use Rattle.net_core.proofs.MarkedLaws.{absent_from, first_marked, within_both, within_less, within_more}
 
 -- another flow of the larger set is one of the smaller
 old_one : (all : List Flow) (f g : Flow) → IsFalse (same_flow f g) → IsTrue (has (with_flow all f) g) → IsTrue (has all g)
@@ -30,7 +28,7 @@ holds_more inv all failing f fresh holds is = record {
   within = within_more failing all f is.within;
   marked = λ g there. elim (cases_Bool (same_flow f g)) [
     | inl same ↦
-        (λ none. same_fact (λ h. holds_on inv (h ∷ [])) f g same holds, λ one. same_fact (λ h. IsFalse (has failing h)) f g same (absent all failing f is.within fresh))
+        (λ none. same_fact (λ h. holds_on inv (h ∷ [])) f g same holds, λ one. same_fact (λ h. IsFalse (has failing h)) f g same (absent_from all failing f is.within fresh))
     | inr other ↦ is.marked g (old_one all f g other there)
   ];
 }
@@ -52,12 +50,8 @@ fails_more inv all failing f fails is = record {
   ];
 }
 
-and_true : (b : Bool) → (b && true) ≡ b
-and_true true = refl
-and_true false = refl
-
 kept : (fs : List Flow) (f g : Flow) → IsTrue (not (same_flow f g)) → has (without_flow fs f) g ≡ has fs g
-kept fs f g other = has-without_flow fs f g ∙ ap (λ b. has fs g && b) other ∙ and_true (has fs g)
+kept fs f g other = has-without_flow fs f g ∙ ap (λ b. has fs g && b) other ∙ and-true (has fs g)
 
 -- one flow less
 fails_less : (inv : AnyInv) (all failing : List Flow) (f : Flow) → FailsOn inv all failing → FailsOn inv (without_flow all f) (without_flow failing f)
@@ -103,7 +97,3 @@ fails_outside n inv all first set edge_wise is =
         λ one. has-without all first f ∙ ap (λ b. b && not (has first f)) there ∙ ap not ((marked f there).1 one),
       );
     }
-  where
-    not-false : (b : Bool) → IsFalse (not b) → IsTrue b
-    not-false true none = refl
-    not-false false none = sym none

@@ -1,36 +1,24 @@
 -- What a network's policy keeps, from its definition alone: it is the greatest where every invariant judges flows
 -- alone, and with its answers it complies with every invariant.
-use Rattle.std.proofs.Common.{◌≡◌, ℕ, List, sym, ◌∙◌, subst, All, get_or}
-use Rattle.std.specs.Prelude.{IsTrue}
+use Rattle.std.proofs.Common.{ℕ, List, sym, ◌∙◌, get_or}
 use Rattle.net_core.specs.Network.{Network}
 use Rattle.net_core.specs.inner.Fitting.{IsNetwork}
 use Rattle.permit_core.proofs.FirstLaws.{first_greatest}
-use Rattle.flow_set.specs.inner.Downward.{IsEdgeWise}
 use Rattle.flow_set.specs.FlowSet.{IsSubset}
 use Rattle.flow_set.specs.inner.FlowSetView.{IsFlowSet}
 use Rattle.flow_set.proofs.SubsetLaws.{IsFlowSet-subset}
 use Rattle.flow_set.specs.declared.flow.Flow.{Flow}
-use Rattle.inv_any.specs.laws.TemplateLaws.{lawful}
-use Rattle.inv_any.specs.Templates.{meaning_of}
 use Rattle.inv_any.specs.declared.any_inv.AnyInv.{AnyInv}
-use Rattle.permit_core.proofs.PolicyLaws.{AllHold-edge_wise}
 use Rattle.net_core.specs.Policies.{holds_on, strategy_of, edge_mark, MeetsAll, JudgesFlowsAlone, Policy, IsPolicyOf, CompliesWithAll, IsGreatestPolicy}
+use Rattle.net_core.proofs.EdgePolicyLaws.{all_edge_wise, edge_wise_at}
 use Rattle.net_core.proofs.PolicyLaws.{IsSubset-stateful}
 use Rattle.state_core.proofs.StatefulLaws.{Complies-from_strict}
-
--- an invariant whose mark says so judges flows alone, at its own size
-edge_wise_at : (n : ℕ) (inv : AnyInv) → (meaning_of inv).size ≡ n → IsTrue (edge_mark inv) → IsEdgeWise n (holds_on inv)
-edge_wise_at n inv sized marked = subst (λ m. IsEdgeWise m (holds_on inv)) sized ((lawful inv).mark_is_right marked)
 
 -- where every invariant judges flows alone, the permitted flows contain every other policy
 pub IsGreatestPolicy-from_policy : (d : Network) (policy : Policy) → IsNetwork d → IsPolicyOf d policy → JudgesFlowsAlone d
     → IsGreatestPolicy d policy
 IsGreatestPolicy-from_policy d policy network is_policy alone =
-    let n : ℕ = d.asked.size in
-    let edge_wise : All (λ inv. IsEdgeWise n (holds_on inv)) d.invariants =
-    λ k e within. edge_wise_at n _ (network.invariants k e within ∙ sym network.sized) (alone k e within) in
-    first_greatest n (MeetsAll d) d.asked.flows policy.permitted.flows network.asked
-    (AllHold-edge_wise n holds_on d.invariants edge_wise) is_policy.permitted
+    first_greatest d.asked.size (MeetsAll d) d.asked.flows policy.permitted.flows network.asked (all_edge_wise d network alone) is_policy.permitted
 
 -- no answer breaks what the policy keeps
 pub CompliesWithAll-from_policy : (d : Network) (policy : Policy) → IsNetwork d → IsPolicyOf d policy → CompliesWithAll d policy

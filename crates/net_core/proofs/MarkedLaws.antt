@@ -115,6 +115,10 @@ marked_out Passes all xs f marked g there =
 
 -- ---- subsets
 
+-- what a set has not, its subsets have not
+pub absent_from : (all xs : List Flow) (f : Flow) → IsSubset xs all → IsFalse (has all f) → IsFalse (has xs f)
+absent_from all xs f sub absent = elim (cases_Bool (has xs f)) [ inl there ↦ absurd (both_ways _ absent (sub.within f there)) | inr none ↦ none ]
+
 pub within_both : (xs all : List Flow) (f : Flow) → IsSubset xs all → IsSubset (with_flow xs f) (with_flow all f)
 within_both xs all f sub = record {
   ordered = IsOrdered-with_flow xs f sub.ordered;

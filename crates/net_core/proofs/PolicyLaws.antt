@@ -1,6 +1,6 @@
 -- Laws of policies: a network has one at most, what lies within what, and that flows which meet every invariant are
 -- permitted as they are asked for.
-use Rattle.std.proofs.Common.{◌≡◌, ℕ, Bool, true, false, List, [], Result, Ok, Err, IfOk, IsFalse, if◌then◌else◌, sym, ◌∙◌, subst}
+use Rattle.std.proofs.Common.{◌≡◌, ℕ, Bool, true, false, List, [], Result, Ok, Err, IfOk, IsFalse, sym, ◌∙◌, subst}
 use Rattle.net_core.specs.Network.{Network}
 use Rattle.net_core.specs.inner.Fitting.{IsNetwork}
 use Rattle.permit_core.proofs.FirstLaws.{first_of_nothing, first_unique, first_whole}
@@ -9,8 +9,7 @@ use Rattle.flow_set.specs.Conditions.{IsFirst}
 use Rattle.flow_set.specs.FlowSet.{IsSubset, SetOfFlows, with_back}
 use Rattle.flow_set.proofs.SubsetLaws.{nothing_within, subset_trans}
 use Rattle.flow_set.specs.declared.flow.Flow.{Flow}
-use Rattle.net_core.specs.Policies.{MeetsAll, MeetsStrict, IsStateful, Policy, IsPolicyOf}
-use Rattle.net_core.specs.inner.EdgePolicies.{answerable}
+use Rattle.net_core.specs.Policies.{answerable, MeetsAll, MeetsStrict, IsStateful, Policy, IsPolicyOf}
 
 -- ---- what lies within what
 
@@ -27,7 +26,7 @@ pub none_stateful : {E : Type 0} (d : Network) (p : List Flow) (n : ℕ) (made :
     → IfOk made (λ set. set ≡ record { size = n; flows = [] }) → IfOk made (λ s. IsStateful d p s.flows)
 none_stateful d p n (Ok set) none meets empty =
     let Holds : List Flow → Type 0 = λ answered. MeetsStrict d (with_back p answered) in
-    subst (λ b. IsFirst Holds (if b then p else []) set.flows) (sym none)
+    subst (λ b. IsFirst Holds (answerable b p) set.flows) (sym none)
     (subst (λ (s : SetOfFlows). IsFirst Holds [] s.flows) (sym empty) (first_of_nothing Holds (λ k e within strict. meets k e within)))
 none_stateful d p n (Err error) none meets empty = tt
 

@@ -39,10 +39,14 @@ JudgesFlowsAlone d = All (λ inv. IsTrue (edge_mark inv)) d.invariants
 abbrev pub IsPermitted : Network → List Flow → Type 0
 IsPermitted d p = IsFirst (MeetsAll d) d.asked.flows p
 
+-- the flows that may have answers: all of them, or none
+abbrev pub answerable : Bool → List Flow → List Flow
+answerable answers p = if answers then p else []
+
 -- s are the stateful flows: the first subset of p, or of no flow where the network has no answers, such that every strict
 -- invariant holds on p with their answers
 abbrev pub IsStateful : Network → List Flow → List Flow → Type 0
-IsStateful d p s = IsFirst (λ answered. MeetsStrict d (with_back p answered)) (if d.answers then p else []) s
+IsStateful d p s = IsFirst (λ answered. MeetsStrict d (with_back p answered)) (answerable d.answers p) s
 
 pub record Policy : Type 0 where
   pub permitted : SetOfFlows

@@ -13,7 +13,8 @@ ghost use Rattle.state_core.specs.Stateful.{is_strict};
 use crate::description::Description;
 use flow_set::{Flow, FlowSet};
 use inv_any::AnyInv;
-use inv_law::{Invariant, Strategy};
+use inv_law::Invariant;
+use state_core::is_strict;
 
 /// Changes the policy by a flow that is asked for from now on, or no more.
 pub(crate) fn change_flow(
@@ -134,10 +135,4 @@ fn admits_answer(invariant: &AnyInv, answer: Flow) -> bool
     } else {
         true
     }
-}
-
-fn is_strict(invariant: &AnyInv) -> bool
-    ensures { result ≡ is_strict (strategy_of invariant.now) (edge_mark invariant.now) }
-{
-    matches!(invariant.strategy(), Strategy::Information) || !invariant.edge_wise()
 }

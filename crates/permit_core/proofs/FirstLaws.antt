@@ -1,5 +1,5 @@
--- Laws of first subsets, by subject: there is one at most, one more flow in a pass, there is one, what is left out, the greatest subset.
-use Rattle.std.proofs.Common.{◌≡◌, ℕ, ◌⊎◌, inl, inr, Bool, true, false, not, ◌&&◌, ◌||◌, List, [], ◌∷◌, ◌++◌, refl, sym, ◌∙◌, ap, subst, append_assoc, append-nil}
+-- Laws of first subsets, by subject: there is one at most, one more flow in a pass, what is left out, the greatest subset.
+use Rattle.std.proofs.Common.{◌≡◌, ℕ, inl, inr, Bool, true, false, not, ◌&&◌, ◌||◌, List, [], ◌∷◌, ◌++◌, refl, sym, ◌∙◌, ap, subst}
 use Rattle.std.proofs.Math.Bool.{and-true}
 use Rattle.std.specs.Prelude.{IsTrue, IsFalse}
 use Rattle.std.proofs.lemmas.Bool.{both_ways, false≢true, and_parts, or_cases, or_left, or_right, cases_Bool, true_from_ne_false, false_from_ne_true, not-true}
@@ -136,26 +136,6 @@ first_left n Holds xs kept f set downward p fails = record {
     | inr d ↦ inr (differs_earlier kept ys f d (front_before xs (f ∷ []) d.flow f set.ordered (p.within.within d.flow d.here) (has_first f [])))
   ];
 }
-
--- ---- there is one
-
-first_behind : (n : ℕ) (Holds : List Flow → Type 0) (xs rest kept : List Flow) → IsFlowSet n (xs ++ rest) → IsDownward n Holds
-    → ((e : List Flow) → Holds e ⊎ (Holds e → ⊥)) → IsFirst Holds xs kept → (first : List Flow) × IsFirst Holds (xs ++ rest) first
-first_behind n Holds xs [] kept set downward decides p = (kept, subst (λ (zs : List Flow). IsFirst Holds zs kept) (sym (append-nil xs)) p)
-first_behind n Holds xs (f ∷ rest) kept set downward decides p =
-    let same : (xs ++ f ∷ []) ++ rest ≡ xs ++ f ∷ rest = append_assoc xs (f ∷ []) rest in
-    let whole : IsFlowSet n ((xs ++ f ∷ []) ++ rest) = subst (IsFlowSet n) (sym same) set in
-    let so_far : IsFlowSet n (xs ++ f ∷ []) =
-    IsFlowSet-subset n (xs ++ f ∷ []) ((xs ++ f ∷ []) ++ rest) whole (subset_front (xs ++ f ∷ []) rest whole.ordered) in
-    subst (λ (zs : List Flow). (first : List Flow) × IsFirst Holds zs first) same (elim (decides (with_flow kept f)) [
-      | inl holds ↦ first_behind n Holds (xs ++ f ∷ []) rest (with_flow kept f) whole downward decides (first_kept n Holds xs kept f so_far downward p holds)
-      | inr fails ↦ first_behind n Holds (xs ++ f ∷ []) rest kept whole downward decides (first_left n Holds xs kept f so_far downward p fails)
-    ])
-
--- a set has a first subset for every condition that can be decided, that subsets keep and that holds of nothing
-pub first_exists : (n : ℕ) (Holds : List Flow → Type 0) (all : List Flow) → IsFlowSet n all → IsDownward n Holds → Holds []
-    → ((e : List Flow) → Holds e ⊎ (Holds e → ⊥)) → (first : List Flow) × IsFirst Holds all first
-first_exists n Holds all set downward nothing decides = first_behind n Holds [] all [] set downward decides (first_of_nothing Holds nothing)
 
 -- ---- what is left out
 

@@ -1,5 +1,5 @@
 -- A law of lists of invariants with their trials.
-use Rattle.std.proofs.Common.{◌≡◌, ℕ, ◌<◌, Bool, List, length, set, get_or, inl, inr, sym, ◌∙◌, ap, subst, arith}
+use Rattle.std.proofs.Common.{◌≡◌, ℕ, ◌<◌, List, length, set, get_or, inl, inr, sym, ◌∙◌, ap, subst, arith}
 use Rattle.flow_set.specs.declared.flow.Flow.{Flow}
 use Rattle.flow_set.specs.inner.Steps.{TriedFlows}
 use Rattle.std.proofs.lemmas.Bool.{cases_eq}
@@ -7,9 +7,9 @@ use Rattle.std.proofs.lemmas.List.{get_or-set_same, get_or-set_other, get_or_rea
 use Rattle.permit_core.specs.inner.Trials.{AreTried}
 
 -- the trials where one of them took a step and gave it back
-pub AreTried-asked : {X T : Type 0} (Fits : X → T → Type 0) (tried : T → TriedFlows) (chosen : X → Bool) (invs : List X) (trials : List T) (e : List Flow) (i : ℕ) (inv : X) (t : T)
-    → AreTried Fits tried chosen invs trials e → i < length invs → inv ≡ get_or invs i inv → Fits inv t → (tried t).flows ≡ e → AreTried Fits tried chosen invs (set trials i t) e
-AreTried-asked Fits tried chosen invs trials e i inv t are within read fits flows =
+pub AreTried-asked : {X T : Type 0} (Fits : X → T → Type 0) (tried : T → TriedFlows) (invs : List X) (trials : List T) (e : List Flow) (i : ℕ) (inv : X) (t : T)
+    → AreTried Fits tried invs trials e → i < length invs → inv ≡ get_or invs i inv → Fits inv t → (tried t).flows ≡ e → AreTried Fits tried invs (set trials i t) e
+AreTried-asked Fits tried invs trials e i inv t are within read fits flows =
     let room : i < length trials = omega (arith, within, are.counted) in
     record {
       counted = length-set trials i t ∙ are.counted;
@@ -19,8 +19,8 @@ AreTried-asked Fits tried chosen invs trials e i inv t are within read fits flow
             (subst (Fits inv) (sym (ap (λ j. get_or (set trials i t) j u) same ∙ get_or-set_same trials i t u room)) fits)
         | inr other ↦ subst (Fits (get_or invs k x)) (sym (get_or-set_other trials i k t u other)) (are.fits k x u below)
       ];
-      flows = λ k x u below is. elim (cases_eq k i) [
+      flows = λ k x u below. elim (cases_eq k i) [
         | inl same ↦ ap (λ v. (tried v).flows) (ap (λ j. get_or (set trials i t) j u) same ∙ get_or-set_same trials i t u room) ∙ flows
-        | inr other ↦ ap (λ v. (tried v).flows) (get_or-set_other trials i k t u other) ∙ are.flows k x u below is
+        | inr other ↦ ap (λ v. (tried v).flows) (get_or-set_other trials i k t u other) ∙ are.flows k x u below
       ];
     }

@@ -1,6 +1,6 @@
 //! Which invariant denies a flow, by trials of the policy.
 
-ghost use Rattle.std.specs.Prelude.{◌≡◌, ◌≤◌, All, length, true, IsSome, MatchOption};
+ghost use Rattle.std.specs.Prelude.{◌≡◌, ◌≤◌, All, length, IsSome, MatchOption};
 ghost use Rattle.flow_set.specs.Flow.{IsFlow};
 ghost use Rattle.flow_set.specs.FlowSet.{with_flow};
 ghost use Rattle.permit_core.specs.Policy.{AllHold, IsFirstFailing};
@@ -23,13 +23,13 @@ pub fn blame_by_steps<I: Stepwise>(
     requires flow { IsFlow _permitted.now.size f }
     requires numbers { length invs.now ≤ 65536 }
     requires held { AllHold I.holds_on invs.now _permitted.now.flows }
-    requires tried { AreTried I.fits I.Tried.tried (λ _. true) invs.now trials.old.items _permitted.now.flows }
+    requires tried { AreTried I.fits I.Tried.tried invs.now trials.old.items _permitted.now.flows }
     ensures least { let with = with_flow _permitted.now.flows f in
         MatchOption result
         (AllHold I.holds_on invs.now with)
         (λ number. IsFirstFailing I.holds_on invs.now with number) }
     ensures denied { IsDenied (AllHold I.holds_on invs.now) _permitted.now.flows f → IsSome result }
-    ensures tried { AreTried I.fits I.Tried.tried (λ _. true) invs.now trials.new.items _permitted.now.flows }
+    ensures tried { AreTried I.fits I.Tried.tried invs.now trials.new.items _permitted.now.flows }
 {
     for number in 0..invs.len() {
         if !invs[number].holds_with(&mut trials[number], f) {

@@ -3,7 +3,6 @@
 ghost use Rattle.std.specs.Prelude.{◌≡◌, List, IfOk, IfSome, IsNone, ◌↔◌};
 ghost use Rattle.flow_set.specs.declared.flow.Flow.{Flow};
 ghost use Rattle.flow_set.specs.FlowSet.{without};
-ghost use Rattle.flow_set.specs.inner.FlowSetView.{IsFlowSet};
 ghost use Rattle.flow_set.specs.Conditions.{IsFirst, IsMinimalOffending};
 
 use crate::condition::Condition;
@@ -49,8 +48,8 @@ fn take_out(set: &mut FlowSet, others: &FlowSet)
 
 // The condition that one invariant holds.
 #[derive(Drop)]
-struct Alone<'a, I> {
-    inv: &'a I,
+pub(crate) struct Alone<'a, I> {
+    pub(crate) inv: &'a I,
 }
 
 impl<'a, I: Invariant> Condition for Alone<'a, I> {

@@ -3,9 +3,9 @@
 ghost use Rattle.std.specs.Prelude.{◌≡◌, List, IfOk, IfSome, IsNone, ◌↔◌};
 ghost use Rattle.flow_set.specs.declared.flow.Flow.{Flow};
 ghost use Rattle.flow_set.specs.FlowSet.{IsSubset, without};
-ghost use Rattle.flow_set.specs.inner.FlowSetView.{IsFlowSet};
 ghost use Rattle.flow_set.specs.Conditions.{IsFirst, IsMinimalOffending};
 
+use crate::offence::Alone;
 use crate::steps::{SteppedCondition, first_subset_by_steps};
 use flow_set::{Flow, FlowSet};
 use inv_law::{Stepwise, Trial};
@@ -48,12 +48,6 @@ fn turn_out(set: &mut FlowSet, all: &FlowSet)
             set.insert(f);
         }
     }
-}
-
-// The condition that one invariant holds.
-#[derive(Drop)]
-struct Alone<'a, I> {
-    inv: &'a I,
 }
 
 impl<'a, I: Stepwise> SteppedCondition for Alone<'a, I> {

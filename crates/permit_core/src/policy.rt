@@ -36,9 +36,9 @@ pub fn permit<I: Invariant>(
 
 // The condition that all of the invariants hold.
 #[derive(Drop)]
-struct Together<'a, I> {
-    invs: &'a [I],
-    size: u16,
+pub(crate) struct Together<'a, I> {
+    pub(crate) invs: &'a [I],
+    pub(crate) size: u16,
 }
 
 impl<'a, I: Invariant> Condition for Together<'a, I> {

@@ -8,6 +8,7 @@ ghost use Rattle.permit_core.specs.inner.Tried.{ChosenTried};
 
 use crate::choice::Every;
 use crate::chosen::{step_chosen, trials_together};
+use crate::policy::Together;
 use crate::steps::{SteppedCondition, first_subset_by_steps};
 use crate::tried::TriedInvariant;
 use flow_set::{Flow, FlowSet};
@@ -32,13 +33,6 @@ pub fn permit_by_steps<I: Stepwise>(
     let none = FlowSet::empty(alloc, size)?;
     let mut trials = trials_together(alloc, &Every, invs, &none)?;
     first_subset_by_steps(alloc, &Together { invs, size }, &mut trials, asked)
-}
-
-// The condition that all of the invariants hold.
-#[derive(Drop)]
-struct Together<'a, I> {
-    invs: &'a [I],
-    size: u16,
 }
 
 impl<'a, I: Stepwise> SteppedCondition for Together<'a, I> {

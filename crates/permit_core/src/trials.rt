@@ -1,6 +1,6 @@
 //! One trial of each invariant, in the order of the invariants.
 
-ghost use Rattle.std.specs.Prelude.{◌≡◌, All, IfOk, true};
+ghost use Rattle.std.specs.Prelude.{◌≡◌, All, IfOk};
 ghost use Rattle.flow_set.specs.inner.Steps.{untried};
 ghost use Rattle.permit_core.specs.inner.Trials.{AreTried, EachPair};
 
@@ -15,8 +15,7 @@ pub fn trials_of<I: Stepwise>(
     e: &FlowSet,
 ) -> Result<Vec<I::Tried>, AllocError>
     requires { All (λ inv. I.size_of inv ≡ e.now.size) invs.now }
-    ensures tried { IfOk result (λ trials. AreTried I.fits I.Tried.tried (λ _. true) invs.now trials.items
-        e.now.flows) }
+    ensures tried { IfOk result (λ trials. AreTried I.fits I.Tried.tried invs.now trials.items e.now.flows) }
     ensures begun { IfOk result (λ trials. EachPair (λ inv t. I.Tried.tried t ≡ untried e.now) invs.now trials.items) }
 {
     let mut trials = Vec::with_capacity(alloc, invs.len())?;

@@ -1,5 +1,5 @@
 -- Flows that were asked for and are not permitted, and what their blame rests on.
-use Rattle.std.proofs.Common.{◌≡◌, ℕ, true, List, sym, subst}
+use Rattle.std.proofs.Common.{◌≡◌, ℕ, List, sym, subst}
 use Rattle.std.specs.Prelude.{IsTrue, IsFalse}
 use Rattle.net_core.specs.Network.{Network}
 use Rattle.flow_set.specs.Flow.{IsFlow}
@@ -37,7 +37,7 @@ held d policy invs read is_policy same_invs same =
     (subst (λ (s : SetOfFlows). MeetsAll d s.flows) (sym same) is_policy.permitted.holds)
 
 abbrev are_tried : List AnyInv → List AnyTrial → List Flow → Type 0
-are_tried invs trials flows = AreTried (λ inv trial. FitsAny inv trial.case) (λ trial. tried_of trial.case) (λ _. true) invs trials flows
+are_tried invs trials flows = AreTried (λ inv trial. FitsAny inv trial.case) (λ trial. tried_of trial.case) invs trials flows
 
 pub tried_of_read : (d : Network) (policy : Policy) (invs : List AnyInv) (read : SetOfFlows) (trials : List AnyTrial) → invs ≡ d.invariants → read ≡ policy.permitted
     → AreTriedOn d policy.permitted.flows trials → are_tried invs trials read.flows

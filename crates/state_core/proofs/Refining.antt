@@ -1,6 +1,6 @@
 -- What refining rests on: which answers add nothing, what one answer more is, that the condition of stateful flows is
 -- kept by fewer of them, and that what is found complies.
-use Rattle.std.proofs.Common.{◌≡◌, ℕ, Bool, true, false, ◌||◌, cond, List, Result, Ok, Err, get_or, refl, sym, ◌∙◌, ap}
+use Rattle.std.proofs.Common.{◌≡◌, ℕ, Bool, true, false, ◌||◌, cond, List, Result, Ok, Err, get_or, refl, sym, ◌∙◌, ap, subst}
 use Rattle.std.specs.Prelude.{IsTrue, IsFalse, All, IfOk}
 use Rattle.std.proofs.lemmas.Bool.{or_from}
 use Rattle.flow_set.specs.declared.flow.Flow.{Flow}
@@ -17,9 +17,11 @@ use Rattle.inv_law.specs.declared.strategy.Strategy.{Strategy}
 use Rattle.state_core.specs.Stateful.{StrictHold, CompliesWithEach}
 use Rattle.state_core.proofs.StatefulLaws.{Complies-from_strict}
 
--- an answer that is a flow of the policy itself adds nothing
-pub permitted_answer : (p s : List Flow) (f : Flow) → IsOrdered p → IsTrue (has p (back_of f)) → with_back p (with_flow s f) ≡ with_back p s
-permitted_answer p s f ordered there =
+-- an answer that is a flow of the policy itself, as a test tells, adds nothing
+pub permitted_answer : (p s : List Flow) (f answer : Flow) (test : Bool) → IsOrdered p → answer ≡ back_of f → test ≡ has p answer → IsTrue test
+    → with_back p (with_flow s f) ≡ with_back p s
+permitted_answer p s f answer test ordered is tells passes =
+    let there : IsTrue (has p (back_of f)) = subst (λ (h : Flow). IsTrue (has p h)) is (sym tells ∙ passes) in
     flows_ext (with_back p (with_flow s f)) (with_back p s) (IsOrdered-with_back p (with_flow s f) ordered)
     (IsOrdered-with_back p s ordered)
     (λ g.

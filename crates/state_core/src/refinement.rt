@@ -6,7 +6,6 @@ ghost use Rattle.flow_set.specs.inner.FlowSetView.{IsFlowSet};
 ghost use Rattle.flow_set.specs.Conditions.{IsFirst};
 ghost use Rattle.state_core.specs.Stateful.{is_strict, StrictHold, CompliesWithEach};
 
-use crate::answers::with_answers;
 use flow_set::{Flow, FlowSet};
 use inv_law::{Invariant, Strategy};
 use permit_core::{Choice, Condition, chosen_still_hold, first_subset};
@@ -34,10 +33,10 @@ pub fn refine<I: Invariant>(alloc: Global, invs: &[I], p: &FlowSet) -> Result<Fl
 
 // The condition that the strict invariants hold of the permitted flows with answers.
 #[derive(Drop)]
-struct Answered<'a, I> {
-    invs: &'a [I],
-    permitted: &'a FlowSet,
-    size: u16,
+pub(crate) struct Answered<'a, I> {
+    pub(crate) invs: &'a [I],
+    pub(crate) permitted: &'a FlowSet,
+    pub(crate) size: u16,
 }
 
 impl<'a, I: Invariant> Condition for Answered<'a, I> {
@@ -54,7 +53,7 @@ impl<'a, I: Invariant> Condition for Answered<'a, I> {
         if self.permitted.has(answer) {
             return Ok(true);
         }
-        let all = with_answers(alloc, self.permitted, set)?;
+        let all = self.permitted.with_back(alloc, set)?;
         chosen_still_hold(alloc, &Strict, self.invs, &all, answer)
     }
 }
@@ -71,7 +70,8 @@ impl<I: Invariant> Choice<I> for Strict {
     }
 }
 
-fn is_strict<I: Invariant>(inv: &I) -> bool
+/// Whether the invariant has to hold of answers as of any flow.
+pub fn is_strict<I: Invariant>(inv: &I) -> bool
     ensures { result ≡ is_strict (I.strategy_of inv.now) (I.edge_mark inv.now) }
 {
     matches!(inv.strategy(), Strategy::Information) || !inv.edge_wise()

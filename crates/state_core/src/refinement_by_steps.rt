@@ -7,7 +7,7 @@ ghost use Rattle.flow_set.specs.Conditions.{IsFirst};
 ghost use Rattle.state_core.specs.Stateful.{is_strict, StrictHold, CompliesWithEach};
 ghost use Rattle.permit_core.specs.inner.Tried.{ChosenTried};
 
-use crate::refinement::Strict;
+use crate::refinement::{Answered, Strict};
 use flow_set::{Flow, FlowSet};
 use inv_law::Stepwise;
 use permit_core::{
@@ -38,14 +38,6 @@ pub fn refine_by_steps<I: Stepwise>(
         size: p.size(),
     };
     first_subset_by_steps(alloc, &answered, &mut trials, p)
-}
-
-// The condition that the strict invariants hold of the permitted flows with answers.
-#[derive(Drop)]
-struct Answered<'a, I> {
-    invs: &'a [I],
-    permitted: &'a FlowSet,
-    size: u16,
 }
 
 impl<'a, I: Stepwise> SteppedCondition for Answered<'a, I> {

@@ -1,10 +1,10 @@
 -- The policy of a network in which every invariant judges flows alone: it is told flow by flow.
-use Rattle.std.specs.Prelude.{◌≡◌, ◌↔◌, Bool, if◌then◌else◌, List, [], ◌∷◌, IsTrue}
+use Rattle.std.specs.Prelude.{◌≡◌, ◌↔◌, List, [], ◌∷◌, IsTrue}
 use Rattle.flow_set.specs.Flow.{back_of}
 use Rattle.flow_set.specs.FlowSet.{has, IsSubset}
 use Rattle.flow_set.specs.declared.flow.Flow.{Flow}
 use Rattle.net_core.specs.Network.{Network}
-use Rattle.net_core.specs.Policies.{MeetsAll, MeetsStrict, Policy}
+use Rattle.net_core.specs.Policies.{answerable, MeetsAll, MeetsStrict, Policy}
 
 -- of the flows of `all`, xs has exactly those that pass
 abbrev pub AreMarked : (Flow → Type 0) → (all xs : List Flow) → Type 0
@@ -16,10 +16,6 @@ IsAdmitted d f = MeetsAll d (f ∷ [])
 
 abbrev pub IsAnswered : Network → Flow → Type 0
 IsAnswered d f = MeetsStrict d (back_of f ∷ [])
-
--- the flows that may have answers: all of them, or none
-abbrev pub answerable : Bool → List Flow → List Flow
-answerable answers p = if answers then p else []
 
 -- the asked flows that are admitted, and among them those whose answers are
 pub record IsEdgePolicy (d : Network) (policy : Policy) : Type 0 where

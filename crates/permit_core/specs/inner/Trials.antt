@@ -7,15 +7,11 @@ use Rattle.flow_set.specs.inner.Steps.{TriedFlows}
 abbrev pub EachPair : {X T : Type 0} → (X → T → Type 0) → List X → List T → Type 0
 EachPair R xs ts = (k : ℕ) (x : _) (t : _) → k < length xs → R (slice_index_or xs k x) (slice_index_or ts k t)
 
--- the relation holds of each chosen invariant and its trial
-abbrev pub EachChosen : {X T : Type 0} → (X → Bool) → (X → T → Type 0) → List X → List T → Type 0
-EachChosen chosen R invs trials = EachPair (λ inv t. IsTrue (chosen inv) → R inv t) invs trials
-
--- each invariant has a trial that fits it, and those of the chosen ones have come to the flows e
-pub record AreTried {X T : Type 0} (Fits : X → T → Type 0) (tried : T → TriedFlows) (chosen : X → Bool) (invs : List X) (trials : List T) (e : List Flow) : Type 0 where
+-- each invariant has a trial that fits it and has come to the flows e
+pub record AreTried {X T : Type 0} (Fits : X → T → Type 0) (tried : T → TriedFlows) (invs : List X) (trials : List T) (e : List Flow) : Type 0 where
   pub counted : length trials ≡ length invs
   pub fits : EachPair Fits invs trials
-  pub flows : EachChosen chosen (λ _ t. (tried t).flows ≡ e) invs trials
+  pub flows : EachPair (λ _ t. (tried t).flows ≡ e) invs trials
 
 -- the chosen invariants hold of the flows e
 abbrev pub ChosenHold : {X : Type 0} → (X → Bool) → (X → List Flow → Type 0) → List X → List Flow → Type 0

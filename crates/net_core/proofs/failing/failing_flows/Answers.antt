@@ -17,7 +17,7 @@ loop-invariant-preserved c =
     subst (λ (s : SetOfFlows). FailsIn s.size s.flows inv new) c.asked-asked.ensures.value c.in_ok-failing_on.ensures in
     record {
       counted = omega (arith, c.in_ok-push.ensures.len, c.loop-invariant.invariant.counted);
-      done = subst (λ (sets : List SetOfFlows). FailUpTo d.asked.size d.asked.flows d.invariants sets (i + 1)) (sym c.in_ok-push.ensures.items)
+      done = subst (λ (sets : List SetOfFlows). FailUpTo d.asked.size d.asked.flows d.invariants sets (i + 1)) (sym {A = List SetOfFlows} c.in_ok-push.ensures.items)
           (fail_pushed d.asked.size d.asked.flows d.invariants c.loop-invariant.failing.items i inv new there
           (sym {A = ℕ} c.loop-invariant.failing.ok.0 ∙ c.loop-invariant.invariant.counted) fails c.loop-invariant.invariant.done);
     }

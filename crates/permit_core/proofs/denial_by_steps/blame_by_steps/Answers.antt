@@ -1,4 +1,4 @@
-use Rattle.std.proofs.Common.{◌≡◌, true, refl, length, sym, ◌∙◌, ap, subst}
+use Rattle.std.proofs.Common.{◌≡◌, refl, length, sym, ◌∙◌, ap, subst}
 use Rattle.std.proofs.lemmas.Bool.{both_ways}
 use Rattle.std.proofs.lemmas.List.{take_all}
 use Rattle.std.proofs.lemmas.Option.{slice_get_read}
@@ -17,7 +17,7 @@ returns-then-not-holds_with-clause-least g c =
     let t = c.index_mut.result.now in
     let flows : (g.I.Tried.Trial.tried t).flows ≡ c.args._permitted.now.flows =
     ap (λ u. (g.I.Tried.Trial.tried u).flows) c.index_mut.ensures.value
-    ∙ c.loop-number.invariant.tried.flows number inv t c.loop-number-test.true refl in
+    ∙ c.loop-number.invariant.tried.flows number inv t c.loop-number-test.true in
     record {
       inv = inv;
       place = slice_get_read c.args.invs.now (length c.args.invs.now) number inv refl c.loop-number-test.true c.index-invs-number.is;
@@ -32,11 +32,11 @@ loop-number-preserved g c =
     let t = c.index_mut.result.now in
     let flows : (g.I.Tried.Trial.tried t).flows ≡ c.args._permitted.now.flows =
     ap (λ u. (g.I.Tried.Trial.tried u).flows) c.index_mut.ensures.value
-    ∙ c.loop-number.invariant.tried.flows number inv t c.loop-number-test.true refl in
+    ∙ c.loop-number.invariant.tried.flows number inv t c.loop-number-test.true in
     record {
       tried =
           AreTried-asked g.I.Stepwise.fits g.I.Tried.Trial.tried
-          (λ _. true) c.args.invs.now c.loop-number.trials.items c.args._permitted.now.flows number inv c.holds_with.new.tried
+          c.args.invs.now c.loop-number.trials.items c.args._permitted.now.flows number inv c.holds_with.new.tried
           c.loop-number.invariant.tried c.loop-number-test.true c.index-invs-number.is c.holds_with.ensures.fits (ap (λ (w : TriedFlows). w.flows) c.holds_with.ensures.again ∙ flows);
       hold =
           All-more (λ x. g.I.Invariant.holds_on x (with_flow c.args._permitted.now.flows c.args.f)) c.args.invs.now number inv c.loop-number-test.true c.loop-number.invariant.hold

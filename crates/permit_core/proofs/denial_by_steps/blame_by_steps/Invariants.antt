@@ -1,4 +1,4 @@
-use Rattle.std.proofs.Common.{true, take}
+use Rattle.std.proofs.Common.{take}
 use Rattle.flow_set.specs.FlowSet.{with_flow}
 use Rattle.permit_core.specs.Policy.{AllHold}
 use Rattle.permit_core.specs.inner.Trials.{AreTried}
@@ -7,6 +7,6 @@ use Rattle.permit_core.proofs.denial_by_steps.blame_by_steps.Given as goal
 -- the invariants so far hold with the flow, and all trials have the flows of the policy
 abbrev pub invariant-loop-number : goal.invariant-loop-number
 invariant-loop-number g l = record {
-  tried : AreTried g.I.Stepwise.fits g.I.Tried.Trial.tried (λ _. true) l.invs l.trials.items l._permitted.flows;
+  tried : AreTried g.I.Stepwise.fits g.I.Tried.Trial.tried l.invs l.trials.items l._permitted.flows;
   hold : AllHold g.I.Invariant.holds_on (take l.number l.invs) (with_flow l._permitted.flows l.f);
 }

@@ -1,5 +1,5 @@
 use Rattle.std.proofs.Common.{◌≡◌, ℕ, List, refl, sym, ◌∙◌, ap, subst}
-use Rattle.std.specs.Prelude.{IsTrue, IsFalse}
+use Rattle.std.specs.Prelude.{IsFalse}
 use Rattle.permit_core.specs.inner.Grown.{IsGrown}
 use Rattle.flow_set.specs.declared.flow.Flow.{Flow}
 use Rattle.flow_set.specs.Flow.{back_of}
@@ -14,8 +14,7 @@ pub returns-then-has : goal.returns-then-has
 returns-then-has g c =
     let p : List Flow = c.args.self.now.permitted.now.flows in
     let grown = c.requires.grown in
-    let there = subst (λ (f : Flow). IsTrue (has p f)) c.back-answer.ensures (sym c.has.ensures ∙ c.if-has.true) in
-    let same = permitted_answer p grown.old c.args.added c.requires.can.1.ordered there in (
+    let same = permitted_answer p grown.old c.args.added c.back-answer.result c.has.result c.requires.can.1.ordered c.back-answer.ensures c.has.ensures c.if-has.true in (
       λ _. subst (λ (e : List Flow). StrictHold g.I.Invariant.strategy_of g.I.Invariant.edge_mark g.I.Invariant.holds_on c.args.self.now.invs.now e) (sym (ap (with_back p) grown.grown ∙ same)) grown.held,
       λ _. refl,
     )

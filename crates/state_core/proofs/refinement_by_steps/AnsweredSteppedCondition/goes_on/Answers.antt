@@ -1,8 +1,7 @@
 use Rattle.std.proofs.Common.{◌≡◌, Bool, ◌&&◌, not, List, cond, get_or, ◌∙◌, ap, refl, sym, subst}
-use Rattle.std.specs.Prelude.{IsTrue}
 use Rattle.flow_set.specs.declared.flow.Flow.{Flow}
 use Rattle.flow_set.specs.Flow.{IsFlow}
-use Rattle.flow_set.specs.FlowSet.{has, with_flow, with_back}
+use Rattle.flow_set.specs.FlowSet.{with_flow, with_back}
 use Rattle.flow_set.specs.inner.Downward.{IsEdgeWise}
 use Rattle.flow_set.proofs.SubsetLaws.{IsFlow-back_of, IsFlowSet-with_back}
 use Rattle.permit_core.specs.inner.Tried.{ChosenTried}
@@ -17,8 +16,7 @@ pub returns-then-has-clause-answer : goal.returns-then-has-clause-answer
 returns-then-has-clause-answer g c =
     let inv = g.I.Invariant in
     let p : List Flow = c.args.self.now.permitted.now.flows in
-    let there = subst (λ (f : Flow). IsTrue (has p f)) c.back-answer.ensures (sym c.has.ensures ∙ c.if-has.true) in
-    let same = permitted_answer p c.args._kept.now.flows c.args.f c.requires.come.1.ordered there in (
+    let same = permitted_answer p c.args._kept.now.flows c.args.f c.back-answer.result c.has.result c.requires.come.1.ordered c.back-answer.ensures c.has.ensures c.if-has.true in (
       λ _. subst (λ (e : List Flow). StrictHold inv.strategy_of inv.edge_mark inv.holds_on c.args.self.now.invs.now e) (sym same) c.requires.held,
       λ _. refl,
     )
@@ -27,8 +25,7 @@ pub returns-then-has-clause-come : goal.returns-then-has-clause-come
 returns-then-has-clause-come g c =
     let inv = g.I.Invariant in
     let p : List Flow = c.args.self.now.permitted.now.flows in
-    let there = subst (λ (f : Flow). IsTrue (has p f)) c.back-answer.ensures (sym c.has.ensures ∙ c.if-has.true) in
-    let same = permitted_answer p c.args._kept.now.flows c.args.f c.requires.come.1.ordered there in
+    let same = permitted_answer p c.args._kept.now.flows c.args.f c.back-answer.result c.has.result c.requires.come.1.ordered c.back-answer.ensures c.has.ensures c.if-has.true in
     let chosen = λ (x : _). is_strict (inv.strategy_of x) (inv.edge_mark x) && not (inv.edge_mark x) in (
       c.requires.come.0,
       c.requires.come.1,
