@@ -22,7 +22,7 @@ use Rattle.ipt_read.specs.inner.LineStep.{no_words, table_line_of, policy_word, 
 use Rattle.ipt_read.specs.Grammar.{IsFront, IsChainLine}
 use Rattle.ipt_read.proofs.RowLaws.{not_true, not_false}
 use Rattle.ipt_read.proofs.ValueLaws.{count_said, said_count}
-use Rattle.ipt_read.proofs.LineLaws.{rule_line_of_read, read_of_rule_line, count_begins, policy_read, policy_behind, colon_word, built_in_said, built_in_read}
+use Rattle.ipt_read.proofs.LineLaws.{rule_line_of_read, read_of_rule_line, count_begins, policy_read, policy_behind, colon_word, built_in_said, built_in_read, low_free}
 use Rattle.ipt_read.proofs.RuleFaultLaws.{stuck_of_read, read_of_stuck}
 use Rattle.ipt_read.specs.LineFault.{IsBadRule, not_begun, no_chain, stuck, MayDeclare, a_built_in, a_user, BeginsRule, IsBad, no_table, other_table, behind_table, bad_chain, many_chains, bad_rule, many_rules, other_line, after_commit}
 
@@ -190,9 +190,6 @@ not_user s w ws p said number none (a_user name line other legal) =
     let is_name : is_user_name (drop 1 w) ≡ true = ap is_user_name parts.0 ∙ legal in
     let is_dash : bytes_eq p (codes "-") ≡ true = ap (λ v. bytes_eq v (codes "-")) dash in
     let both = and_from (is_user_name (drop 1 w)) (bytes_eq p (codes "-")) is_name is_dash in cc
-
-low_free : (c k : ℕ) → c < 3 → k ≡ 0 → (nat_lt c 3 && (k == 0)) ≡ true
-low_free c k low free = grind (arith, nat_tests)
 
 is_low : (c : ℕ) → nat_lt c 3 ≡ true → c < 3
 is_low c h = grind (arith, nat_tests)
