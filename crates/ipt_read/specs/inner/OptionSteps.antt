@@ -11,25 +11,31 @@ use Rattle.ipt_rules.specs.Chain.{Chain, number_of}
 use Rattle.ipt_rules.specs.RuleParts.{names_ports}
 use Rattle.ipt_read.specs.declared.fault.IptWhy.{IptWhy}
 use Rattle.ipt_read.specs.declared.fault.IptWhy.TheVariants.{UnknownOption, BadValue, UnknownTarget}
-use Rattle.ipt_read.specs.declared.option.Opt.{Opt}
-use Rattle.ipt_read.specs.declared.option.Opt.TheVariants.{Source, Destination, Protocol, SourcePort, DestinationPort, Interface, Module, CtState, State, Comment, Jump, RejectWith, LogPrefix, LogLevel}
+use Rattle.ipt_read.specs.declared.option.RuleOption.{RuleOption}
+use Rattle.ipt_read.specs.declared.option.RuleOption.TheVariants.{Source, Destination, Protocol, SourcePort, DestinationPort, Interface, Module, CtState, State, Comment, Jump, RejectWith, LogPrefix, LogLevel}
 use Rattle.ipt_read.specs.Options.{Given, Row, in_front, rejects, logs, is_barred, named_target}
 
+-- the options of targets, each behind its name
+abbrev pub target_options : List (List ℕ × RuleOption)
+target_options = (codes "--reject-with", RejectWith) ∷ (codes "--log-prefix", LogPrefix) ∷ (codes "--log-level", LogLevel) ∷ []
+
+abbrev pub option_of_target : List ℕ → Option RuleOption
+option_of_target word = lookup (bytes_eq word) target_options
+
 -- the options that are read, each behind its name
-abbrev pub named_options : List (List ℕ × Opt)
+abbrev pub named_options : List (List ℕ × RuleOption)
 named_options =
     (codes "-s", Source) ∷ (codes "-d", Destination) ∷ (codes "-p", Protocol) ∷ (codes "--sport", SourcePort) ∷ (codes "--dport", DestinationPort) ∷
-    (codes "--ctstate", CtState) ∷ (codes "--state", State) ∷ (codes "--comment", Comment) ∷ (codes "-m", Module) ∷ (codes "-j", Jump) ∷
-    (codes "--reject-with", RejectWith) ∷ (codes "--log-prefix", LogPrefix) ∷ (codes "--log-level", LogLevel) ∷ []
+    (codes "--ctstate", CtState) ∷ (codes "--state", State) ∷ (codes "--comment", Comment) ∷ (codes "-m", Module) ∷ (codes "-j", Jump) ∷ target_options
 
-unfoldable pub option_of : List ℕ → Option Opt
+unfoldable pub option_of : List ℕ → Option RuleOption
 option_of word =
     if bytes_eq word (codes "-i") then Some Interface
     else if bytes_eq word (codes "-o") then Some Interface
     else lookup (bytes_eq word) named_options
 
 -- the row of each in the table; a match of an interface has none there
-abbrev pub row : Opt → Row
+abbrev pub row : RuleOption → Row
 row Source = record { stands = in_front; part = Some (λ rule. is_some rule.src); refusal = BadValue }
 row Destination = record { stands = in_front; part = Some (λ rule. is_some rule.dst); refusal = BadValue }
 row Protocol = record { stands = in_front; part = Some (λ rule. is_some rule.proto); refusal = BadValue }
@@ -45,17 +51,17 @@ row RejectWith = record { stands = λ given. rejects given.target; part = None; 
 row LogPrefix = record { stands = λ given. logs given.target; part = None; refusal = BadValue }
 row LogLevel = record { stands = λ given. logs given.target; part = None; refusal = BadValue }
 
-abbrev pub may_stand : Given → Opt → Bool
+abbrev pub may_stand : Given → RuleOption → Bool
 may_stand given o = (row o).stands given
 
-abbrev pub bars : Given → Bool → Opt → Bool
+abbrev pub bars : Given → Bool → RuleOption → Bool
 bars given negated o = is_barred given negated (row o)
 
 -- why another value is refused
-abbrev pub value_refusal : Opt → IptWhy
+abbrev pub value_refusal : RuleOption → IptWhy
 value_refusal o = (row o).refusal
 
-abbrev pub is_interface : Opt → Bool
+abbrev pub is_interface : RuleOption → Bool
 is_interface Interface = true
 is_interface _ = false
 
