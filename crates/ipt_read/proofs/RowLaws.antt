@@ -12,25 +12,9 @@ use Rattle.ipt_read.specs.declared.option.RuleOption.TheVariants.{Source, Destin
 use Rattle.ipt_read.specs.Options.{Given, Row, row_of}
 use Rattle.ipt_read.specs.Grammar.{Stands, IsValue, IsPiece, plain, turned}
 use Rattle.ipt_read.specs.LineFault.{IsInterface}
-use Rattle.ipt_read.specs.inner.OptionSteps.{named_options, option_of, row, may_stand, bars, is_interface}
+use Rattle.ipt_read.specs.inner.OptionSteps.{named_options, option_of, written, row, may_stand, bars, is_interface}
 
 -- 1. The names of options.
-
-abbrev pub written : RuleOption → List ℕ
-written Source = codes "-s"
-written Destination = codes "-d"
-written Protocol = codes "-p"
-written SourcePort = codes "--sport"
-written DestinationPort = codes "--dport"
-written Interface = codes "-i"
-written Module = codes "-m"
-written CtState = codes "--ctstate"
-written State = codes "--state"
-written Comment = codes "--comment"
-written Jump = codes "-j"
-written RejectWith = codes "--reject-with"
-written LogPrefix = codes "--log-prefix"
-written LogLevel = codes "--log-level"
 
 pub option_written : (o : RuleOption) → option_of (written o) ≡ Some o
 unfolding option_of
