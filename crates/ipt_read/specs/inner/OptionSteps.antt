@@ -1,5 +1,5 @@
 -- The options of a rule line as the reader goes through them, one by one. Callers see none of it; they have `Options` and `Grammar`.
-use Rattle.std.specs.Prelude.{ℕ, Bool, true, false, ◌&&◌, nat_lt, if◌then◌else◌, List, [], ◌∷◌, Option, Some, None, codes, bytes_eq, unwrap_or}
+use Rattle.std.specs.Prelude.{ℕ, Bool, true, false, ◌&&◌, nat_lt, if◌then◌else◌, List, [], ◌∷◌, ◌++◌, map, Option, Some, None, codes, bytes_eq, unwrap_or}
 use Rattle.std.specs.Map.{lookup}
 use Rattle.std.specs.Option.{option_or}
 use Rattle.host_net.specs.ServiceText.{protocol_text}
@@ -15,26 +15,7 @@ use Rattle.ipt_read.specs.declared.option.RuleOption.{RuleOption}
 use Rattle.ipt_read.specs.declared.option.RuleOption.TheVariants.{Source, Destination, Protocol, SourcePort, DestinationPort, Interface, Module, CtState, State, Comment, Jump, RejectWith, LogPrefix, LogLevel}
 use Rattle.ipt_read.specs.Options.{Given, Row, in_front, row_of, is_barred, named_target}
 
--- the options of targets, each behind its name
-abbrev pub target_options : List (List ℕ × RuleOption)
-target_options = (codes "--reject-with", RejectWith) ∷ (codes "--log-prefix", LogPrefix) ∷ (codes "--log-level", LogLevel) ∷ []
-
-abbrev pub option_of_target : List ℕ → Option RuleOption
-option_of_target word = lookup (bytes_eq word) target_options
-
--- the options that are read, each behind its name
-abbrev pub named_options : List (List ℕ × RuleOption)
-named_options =
-    (codes "-s", Source) ∷ (codes "-d", Destination) ∷ (codes "-p", Protocol) ∷ (codes "--sport", SourcePort) ∷ (codes "--dport", DestinationPort) ∷
-    (codes "--ctstate", CtState) ∷ (codes "--state", State) ∷ (codes "--comment", Comment) ∷ (codes "-m", Module) ∷ (codes "-j", Jump) ∷ target_options
-
-unfoldable pub option_of : List ℕ → Option RuleOption
-option_of word =
-    if bytes_eq word (codes "-i") then Some Interface
-    else if bytes_eq word (codes "-o") then Some Interface
-    else lookup (bytes_eq word) named_options
-
--- the name of each; a match of an interface has another, too
+-- the name of an option; a match of an interface has another, too
 abbrev pub written : RuleOption → List ℕ
 written Source = codes "-s"
 written Destination = codes "-d"
@@ -50,6 +31,28 @@ written Jump = codes "-j"
 written RejectWith = codes "--reject-with"
 written LogPrefix = codes "--log-prefix"
 written LogLevel = codes "--log-level"
+
+-- an option behind its name
+abbrev pub named : RuleOption → List ℕ × RuleOption
+named o = (written o, o)
+
+-- the options of targets
+abbrev pub target_options : List (List ℕ × RuleOption)
+target_options = map named (RejectWith ∷ LogPrefix ∷ LogLevel ∷ [])
+
+abbrev pub option_of_target : List ℕ → Option RuleOption
+option_of_target word = lookup (bytes_eq word) target_options
+
+-- the options that are read
+abbrev pub named_options : List (List ℕ × RuleOption)
+named_options =
+    map named (Source ∷ Destination ∷ Protocol ∷ SourcePort ∷ DestinationPort ∷ CtState ∷ State ∷ Comment ∷ Module ∷ Jump ∷ []) ++ target_options
+
+unfoldable pub option_of : List ℕ → Option RuleOption
+option_of word =
+    if bytes_eq word (codes "-i") then Some Interface
+    else if bytes_eq word (codes "-o") then Some Interface
+    else lookup (bytes_eq word) named_options
 
 -- the row of each in the table; a match of an interface has none there, and may stand in front of the target
 abbrev pub row : RuleOption → Row
