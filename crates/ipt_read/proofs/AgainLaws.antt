@@ -1,12 +1,11 @@
--- What is written is read: the text of a rule set has that rule set as its reading, and no other.
-use Rattle.std.proofs.Common.{◌≡◌, ℕ, ◌≤◌, sym, subst, List, length}
+-- What is written is read: the text of a rule set has that rule set as its reading.
+use Rattle.std.proofs.Common.{◌≤◌, sym, subst, List, length}
 use Rattle.ipt_rules.specs.Chain.{Chain}
 use Rattle.ipt_rules.specs.Loops.{HasNoLoop}
 use Rattle.ipt_rules.specs.Text.{text}
 use Rattle.ipt_rules.specs.inner.Writable.{IsWritable}
 use Rattle.ipt_read.proofs.TextAgainLaws.{again}
 use Rattle.ipt_read.proofs.FineRulesLaws.{has_fine_rules}
-use Rattle.ipt_read.proofs.FaultLaws.{one_reading as reading_once}
 use Rattle.ipt_read.specs.TextLines.{IsReading}
 
 -- where the text is not too long
@@ -14,6 +13,3 @@ pub text_read_again : (all : List Chain) → IsWritable all → length (text all
 text_read_again all writable short =
     let read = again all (has_fine_rules all writable) in
     (read.0, record { short = short; told = read.1; ends = (read.2, subst HasNoLoop (sym read.3) writable.no_loop) }, sym read.3)
-
-pub one_reading : (bytes : List ℕ) (a b : List Chain) → IsReading bytes a → IsReading bytes b → a ≡ b
-one_reading bytes a b p q = reading_once bytes a b p q

@@ -1,5 +1,5 @@
 -- What the lines of a text need to be read again, from what holds of every rule set.
-use Rattle.std.proofs.Common.{◌≡◌, ◌<◌, ◌≤◌, ◌^◌, ◌+◌, ℕ, refl, Bool, true, false, cond, List, [], ◌∷◌, Option, Some, None, length, arith}
+use Rattle.std.proofs.Common.{◌≡◌, ◌<◌, ◌≤◌, ◌^◌, ◌+◌, ℕ, true, false, List, [], ◌∷◌, Option, Some, None, length, arith}
 use Rattle.std.specs.Prelude.{IfSome, IsTrue}
 use Rattle.std.specs.List.{list_all, position_from}
 use Rattle.std.proofs.lemmas.Bool.{and_parts}
@@ -8,8 +8,7 @@ use Rattle.ipt_rules.specs.declared.rule.AddrMatch.{AddrMatch}
 use Rattle.ipt_rules.specs.declared.rule.Rule.{Rule}
 use Rattle.ipt_rules.specs.declared.rule.Target.{Target}
 use Rattle.ipt_rules.specs.declared.rule.Target.TheVariants.{Accept, Drop, Reject, Return, Count, Jump}
-use Rattle.ipt_rules.specs.declared.ruleset.BuildRefusal.{BuildRefusal}
-use Rattle.ipt_rules.specs.inner.Build.{jumps_nowhere, unknown_at, place_of_unknown, first_unknown, refusal_of}
+use Rattle.ipt_rules.specs.inner.Build.{jumps_nowhere, place_of_unknown, first_unknown, refusal_of}
 use Rattle.ipt_rules.specs.Chain.{Chain}
 use Rattle.ipt_rules.specs.ChainTable.{rule_count}
 use Rattle.ipt_rules.specs.inner.ChainTable.{IsTable}
@@ -17,6 +16,7 @@ use Rattle.ipt_rules.specs.Loops.{HasNoLoop}
 use Rattle.ipt_rules.specs.inner.Addresses.{address_fits, addresses_fit}
 use Rattle.ipt_rules.specs.inner.RuleParts.{is_rule, AreRules}
 use Rattle.ipt_rules.specs.inner.Writable.{IsWritable}
+use Rattle.ipt_rules.proofs.BuildLemmas.{known_first, none_at}
 use Rattle.ipt_read.specs.inner.Goes.{Goes}
 
 -- an address that a rule asks for is one of 32 bits
@@ -58,10 +58,6 @@ goes_by count (Jump c) h = (high, there)
     there : c < count
     there = grind (arith, nat_tests)
 
-known_first : (b : Bool) (i : ℕ) (o : Option ℕ) → cond b (Some i) o ≡ None → (b ≡ false) × (o ≡ None)
-known_first true i o h = cc
-known_first false i o h = (refl, h)
-
 rules_fine : (count i : ℕ) (rs : List Rule) → position_from (λ r. jumps_nowhere count r.target) i rs ≡ None → list_all addresses_fit rs ≡ true → list_all is_rule rs ≡ true → RulesAreFine count rs
 rules_fine count i [] known fit parts = tt
 rules_fine count i (r ∷ rs) known fit parts =
@@ -70,10 +66,6 @@ rules_fine count i (r ∷ rs) known fit parts =
     let fits = and_parts (addresses_fit r) (list_all addresses_fit rs) fit in
     let both = and_parts (address_fits r.src) (address_fits r.dst) fits.0 in
     (fits_by r.src both.0, fits_by r.dst both.1, goes_by count r.target here.0, are.0, rules_fine count (i + 1) rs here.1 fits.1 are.1)
-
-none_at : (n : ℕ) (o : Option ℕ) (others : Option BuildRefusal) → unknown_at n o others ≡ None → (o ≡ None) × (others ≡ None)
-none_at n None others h = (refl, h)
-none_at n (Some k) others h = cc
 
 chains_fine : (count n : ℕ) (xs : List Chain) → first_unknown count n xs ≡ None → list_all (λ x. list_all addresses_fit x.rules) xs ≡ true → AreRules xs → ChainsAreFine count xs
 chains_fine count n [] known fit parts = tt

@@ -15,8 +15,9 @@ use Rattle.ipt_rules.specs.declared.rule.Target.{Target}
 use Rattle.ipt_rules.specs.declared.rule.Target.TheVariants.{Jump as JumpsTo}
 use Rattle.ipt_rules.specs.Chain.{Chain, number_of}
 use Rattle.ipt_rules.specs.RuleParts.{names_ports}
-use Rattle.ipt_read.specs.declared.option.Opt.{Opt}
-use Rattle.ipt_read.specs.declared.option.Opt.TheVariants.{Source, Destination, Protocol, SourcePort, DestinationPort, Interface, Module, CtState, State, Comment, Jump, RejectWith, LogPrefix, LogLevel}
+use Rattle.ipt_rules.proofs.TextLaws.{which_has_ports}
+use Rattle.ipt_read.specs.declared.option.RuleOption.{RuleOption}
+use Rattle.ipt_read.specs.declared.option.RuleOption.TheVariants.{Source, Destination, Protocol, SourcePort, DestinationPort, Interface, Module, CtState, State, Comment, Jump, RejectWith, LogPrefix, LogLevel}
 use Rattle.ipt_read.specs.declared.option.Place.{Place}
 use Rattle.ipt_read.specs.declared.option.Place.TheVariants.{AtOption, InText}
 use Rattle.ipt_read.specs.Options.{Given, named_target}
@@ -125,7 +126,7 @@ target_said : (chains : List Chain) (given : Given) (negated : Bool) (w : List �
 unfolding target_of
 target_said chains given negated w t h = named_said chains given negated w t (named_target w) refl h
 
-word_said : (chains : List Chain) (given now : Given) (o : Opt) (negated : Bool) (w : List ℕ) → with_value chains given o negated w ≡ Some (now, AtOption) → IsValueOf chains given o negated (w ∷ []) now
+word_said : (chains : List Chain) (given now : Given) (o : RuleOption) (negated : Bool) (w : List ℕ) → with_value chains given o negated w ≡ Some (now, AtOption) → IsValueOf chains given o negated (w ∷ []) now
 unfolding with_value
 word_said chains given now Source negated w h =
     pair_said (λ g. IsValueOf chains given Source negated (w ∷ []) g) _ (prefix_of w) (now, AtOption) (λ p e. source p (prefix_of-fits w p e) (prefix_of-spelled w p e)) h
@@ -169,7 +170,7 @@ not_open given now h =
     let place : AtOption ≡ InText = ap (λ (r : Given × Place). r.1) e in
     cc
 
-words_said : (chains : List Chain) (given now : Given) (o : Opt) (negated : Bool) (w : List ℕ) (ws : List (List ℕ)) → with_value chains given o negated w ≡ Some (now, InText) → IsRestOfText ws → IsValueOf chains given o negated (w ∷ ws) now
+words_said : (chains : List Chain) (given now : Given) (o : RuleOption) (negated : Bool) (w : List ℕ) (ws : List (List ℕ)) → with_value chains given o negated w ≡ Some (now, InText) → IsRestOfText ws → IsValueOf chains given o negated (w ∷ ws) now
 unfolding with_value
 words_said chains given now Source negated w ws h rest = absurd (never_open _ (prefix_of w) now (λ x. refl) h)
 words_said chains given now Destination negated w ws h rest = absurd (never_open _ (prefix_of w) now (λ x. refl) h)
@@ -190,23 +191,23 @@ words_said chains given now LogPrefix negated w ws h rest =
     subst (λ (g : Given). IsValueOf chains given LogPrefix negated (w ∷ ws) g) said.1 (a_text (inr refl) (in_more_words w ws said.0 rest))
 words_said chains given now LogLevel negated w ws h rest = absurd (not_open given now h)
 
-pub one_word : {chains : List Chain} {given now : Given} (o : Opt) {negated : Bool} {w : List ℕ} → with_value chains given o negated w ≡ Some (now, AtOption) → IsValueOf chains given o negated (w ∷ []) now
+pub one_word : {chains : List Chain} {given now : Given} (o : RuleOption) {negated : Bool} {w : List ℕ} → with_value chains given o negated w ≡ Some (now, AtOption) → IsValueOf chains given o negated (w ∷ []) now
 one_word {chains = chains} {given = given} {now = now} o {negated = negated} {w = w} h = word_said chains given now o negated w h
 
-pub text : {chains : List Chain} {given now : Given} (o : Opt) {negated : Bool} {w : List ℕ} {ws : List (List ℕ)} → with_value chains given o negated w ≡ Some (now, InText) → IsRestOfText ws → IsValueOf chains given o negated (w ∷ ws) now
+pub text : {chains : List Chain} {given now : Given} (o : RuleOption) {negated : Bool} {w : List ℕ} {ws : List (List ℕ)} → with_value chains given o negated w ≡ Some (now, InText) → IsRestOfText ws → IsValueOf chains given o negated (w ∷ ws) now
 text {chains = chains} {given = given} {now = now} o {negated = negated} {w = w} {ws = ws} h rest = words_said chains given now o negated w ws h rest
 
 -- 3. Each value is taken by steps.
 
-pub data IsTaken (chains : List Chain) (given : Given) (o : Opt) (negated : Bool) : List (List ℕ) → Given → Type 0 where
+pub data IsTaken (chains : List Chain) (given : Given) (o : RuleOption) (negated : Bool) : List (List ℕ) → Given → Type 0 where
   taken_word : {w : List ℕ} {now : Given} → with_value chains given o negated w ≡ Some (now, AtOption) → IsTaken chains given o negated (w ∷ []) now
   taken_text : {w : List ℕ} {ws : List (List ℕ)} {now : Given} → with_value chains given o negated w ≡ Some (now, InText)
       → IsRestOfText ws → IsTaken chains given o negated (w ∷ ws) now
 
-abbrev TakesText : List Chain → Given → Opt → Bool → Type 0
+abbrev TakesText : List Chain → Given → RuleOption → Bool → Type 0
 TakesText chains given o negated = (w : List ℕ) (place : Place) → text_of w ≡ Some place → with_value chains given o negated w ≡ Some (given, place)
 
-quotes_taken : (chains : List Chain) (given : Given) (o : Opt) (negated : Bool) (w : List ℕ) (ws vs : List (List ℕ)) → TakesText chains given o negated → vs ≡ w ∷ ws → IsRestOfText vs → IsTaken chains given o negated ((34 ∷ w) ∷ ws) given
+quotes_taken : (chains : List Chain) (given : Given) (o : RuleOption) (negated : Bool) (w : List ℕ) (ws vs : List (List ℕ)) → TakesText chains given o negated → vs ≡ w ∷ ws → IsRestOfText vs → IsTaken chains given o negated ((34 ∷ w) ∷ ws) given
 quotes_taken chains given o negated w ws vs takes same (closing {w = v} inside is written) =
     let first : v ≡ w = cc in
     let others : [] ≡ ws = cc in
@@ -217,7 +218,7 @@ quotes_taken chains given o negated w ws vs takes same (open_still {w = v} {ws =
     let others : us ≡ ws = cc in
     taken_text (takes (34 ∷ w) InText (quoted_step w InText (ap (quoted false) (sym first) ∙ open_text v is))) (subst IsRestOfText others rest)
 
-text_taken : (chains : List Chain) (given : Given) (o : Opt) (negated : Bool) (ws : List (List ℕ)) → TakesText chains given o negated → IsText ws → IsTaken chains given o negated ws given
+text_taken : (chains : List Chain) (given : Given) (o : RuleOption) (negated : Bool) (ws : List (List ℕ)) → TakesText chains given o negated → IsText ws → IsTaken chains given o negated ws given
 text_taken chains given o negated ws takes (bare {w = w} other) = taken_word (takes w AtOption (bare_step w other))
 text_taken chains given o negated ws takes (in_quotes {w = w} {ws = vs} rest) = quotes_taken chains given o negated w vs (w ∷ vs) takes refl rest
 
@@ -230,9 +231,6 @@ unfolding with_value
 prefix_takes chains given negated w place h = rw h refl
 
 -- the module of a protocol
-which_has_ports : (proto : ℕ) → has_ports proto ≡ true → (proto ≡ tcp) ⊎ (proto ≡ udp)
-which_has_ports proto h = grind (arith, nat_tests)
-
 abbrev OtherNames : ℕ → Type 0
 OtherNames proto =
     (bytes_eq (protocol_text proto) (codes "conntrack") ≡ false) × (bytes_eq (protocol_text proto) (codes "state") ≡ false) × (bytes_eq (protocol_text proto) (codes "comment") ≡ false)
@@ -262,10 +260,10 @@ target_read : (chains : List Chain) (w : List ℕ) (t : Target) → named_target
 unfolding target_of
 target_read chains w t there = rw there refl
 
-taken_as : {chains : List Chain} {given now : Given} {negated : Bool} {ws : List (List ℕ)} {p : Opt} (o : Opt) → ◌≡◌ {A = Option Opt} (Some p) (Some o) → IsTaken chains given p negated ws now → IsTaken chains given o negated ws now
-taken_as {chains = chains} {given = given} {now = now} {negated = negated} {ws = ws} {p = p} o h is = let same : p ≡ o = cc in subst (λ (q : Opt). IsTaken chains given q negated ws now) same is
+taken_as : {chains : List Chain} {given now : Given} {negated : Bool} {ws : List (List ℕ)} {p : RuleOption} (o : RuleOption) → ◌≡◌ {A = Option RuleOption} (Some p) (Some o) → IsTaken chains given p negated ws now → IsTaken chains given o negated ws now
+taken_as {chains = chains} {given = given} {now = now} {negated = negated} {ws = ws} {p = p} o h is = let same : p ≡ o = cc in subst (λ (q : RuleOption). IsTaken chains given q negated ws now) same is
 
-taken_by : (chains : List Chain) (given now : Given) (o : Opt) (negated : Bool) (name : List ℕ) (ws : List (List ℕ)) → option_of name ≡ Some o → IsValue chains given negated name ws now → IsTaken chains given o negated ws now
+taken_by : (chains : List Chain) (given now : Given) (o : RuleOption) (negated : Bool) (name : List ℕ) (ws : List (List ℕ)) → option_of name ≡ Some o → IsValue chains given negated name ws now → IsTaken chains given o negated ws now
 unfolding option_of with_value with_module
 taken_by chains given now o negated name ws named (source {w = w} p fits spelled) = taken_as {p = Source} o named (taken_word (rw (prefix_of-read w p fits spelled) refl))
 taken_by chains given now o negated name ws named (destination {w = w} p fits spelled) = taken_as {p = Destination} o named (taken_word (rw (prefix_of-read w p fits spelled) refl))
@@ -289,5 +287,5 @@ taken_by chains given now o negated name ws named (a_text (inr its) is) =
 taken_by chains given now o negated name ws named (a_word (inl its)) = taken_as {p = RejectWith} o (sym (ap option_of its) ∙ named) (taken_word refl)
 taken_by chains given now o negated name ws named (a_word (inr its)) = taken_as {p = LogLevel} o (sym (ap option_of its) ∙ named) (taken_word refl)
 
-pub value_taken : (chains : List Chain) (given now : Given) (o : Opt) (negated : Bool) (ws : List (List ℕ)) → IsValueOf chains given o negated ws now → IsTaken chains given o negated ws now
+pub value_taken : (chains : List Chain) (given now : Given) (o : RuleOption) (negated : Bool) (ws : List (List ℕ)) → IsValueOf chains given o negated ws now → IsTaken chains given o negated ws now
 value_taken chains given now o negated ws is = taken_by chains given now o negated _ ws (option_written o) is

@@ -1,6 +1,6 @@
 -- Why a line cannot stand, said in the format's words, is what the steps find.
 use Rattle.std.proofs.Common.{◌≡◌, ◌≢◌, ◌⊎◌, inl, inr, ℕ, ◌+◌, ◌<◌, ◌≤◌, Bool, true, false, not, ◌&&◌, ◌||◌, ◌==◌, List, [], ◌∷◌, ◌++◌, Option, Some, None, refl, sym, ap, subst, ◌∙◌, arith, length, drop}
-use Rattle.std.specs.Prelude.{Result, Ok, Err, codes, bytes_eq, nat_lt}
+use Rattle.std.specs.Prelude.{Result, Ok, Err, codes, bytes_eq, nat_lt, nat_le}
 use Rattle.std.proofs.lemmas.Bool.{and_parts, and_from}
 use Rattle.std.proofs.lemmas.Bool.Decides.{nat_tests}
 use Rattle.text_core.specs.Lines.{begins_with, words, are_comment, is_comment}
@@ -8,6 +8,7 @@ use Rattle.text_core.proofs.StepsLaws.{if_parts, split_bool, bytes_same, bytes_o
 use Rattle.ipt_rules.specs.declared.rule.Policy.{Policy}
 use Rattle.ipt_rules.specs.declared.rule.Rule.{Rule}
 use Rattle.ipt_rules.specs.Chain.{Chain, number_of, with_rule}
+use Rattle.ipt_rules.specs.ChainTable.{chain_limit, rule_limit}
 use Rattle.ipt_rules.specs.Name.{is_user_name}
 use Rattle.ipt_rules.specs.Text.{policy_text}
 use Rattle.ipt_read.specs.declared.fault.IptWhy.{IptWhy}
@@ -22,7 +23,7 @@ use Rattle.ipt_read.specs.inner.LineStep.{no_words, table_line_of, policy_word, 
 use Rattle.ipt_read.specs.Grammar.{IsFront, IsChainLine}
 use Rattle.ipt_read.proofs.RowLaws.{not_true, not_false}
 use Rattle.ipt_read.proofs.ValueLaws.{count_said, said_count}
-use Rattle.ipt_read.proofs.LineLaws.{rule_line_of_read, read_of_rule_line, count_begins, policy_read, policy_behind, colon_word, built_in_said, built_in_read}
+use Rattle.ipt_read.proofs.LineLaws.{rule_line_of_read, read_of_rule_line, count_begins, policy_read, policy_behind, colon_word, built_in_said, built_in_read, low_free}
 use Rattle.ipt_read.proofs.RuleFaultLaws.{stuck_of_read, read_of_stuck}
 use Rattle.ipt_read.specs.LineFault.{IsBadRule, not_begun, no_chain, stuck, MayDeclare, a_built_in, a_user, BeginsRule, IsBad, no_table, other_table, behind_table, bad_chain, many_chains, bad_rule, many_rules, other_line, after_commit}
 
@@ -191,9 +192,6 @@ not_user s w ws p said number none (a_user name line other legal) =
     let is_dash : bytes_eq p (codes "-") ≡ true = ap (λ v. bytes_eq v (codes "-")) dash in
     let both = and_from (is_user_name (drop 1 w)) (bytes_eq p (codes "-")) is_name is_dash in cc
 
-low_free : (c k : ℕ) → c < 3 → k ≡ 0 → (nat_lt c 3 && (k == 0)) ≡ true
-low_free c k low free = grind (arith, nat_tests)
-
 is_low : (c : ℕ) → nat_lt c 3 ≡ true → c < 3
 is_low c h = grind (arith, nat_tests)
 
@@ -215,7 +213,7 @@ user_says n s w ws p colon said number = split_bool (is_user_name (drop 1 w) && 
     (λ fits.
     let parts = and_parts (is_user_name (drop 1 w)) (bytes_eq p (codes "-")) fits in
     let line = subst (IsChainLine (w ∷ ws) (drop 1 w)) (bytes_same p (codes "-") parts.1) (chain_whole w ws p colon said) in
-    split_bool (nat_lt 4095 (length s.chains))
+    split_bool (nat_le chain_limit (length s.chains))
     (λ many.
     let full : 4096 ≤ length s.chains = grind (arith, nat_tests) in
     rw (fits, many) (inr (refl, record { name = drop 1 w; line = line; number = number; legal = parts.0; full = full })))
@@ -296,7 +294,7 @@ begins_no_chain (b ∷ bs) (inr is) = grind (arith, nat_tests)
 rule_bad : (s : SaidSoFar) (w : List ℕ) (ws : List (List ℕ)) (why : IptWhy) (r : Result (ℕ × Rule) IptWhy) → s.stage ≡ Table → BeginsRule w → rule_line_of s.chains (w ∷ ws) ≡ r → with_read_rule s r ≡ Err why → IsBad s w ws why
 rule_bad s w ws why (Err cause) stage begins read h =
     subst (IsBad s w ws) (err_said cause why h) (bad_rule stage begins (bad_rule_of_read s.chains (w ∷ ws) cause read))
-rule_bad s w ws why (Ok r) stage begins read h = elim (if_parts (nat_lt 999999 s.rules) (Err TooMany) (Ok (record s { chains = with_rule s.chains r.0 r.1; rules = s.rules + 1 })) (Err why) h) [
+rule_bad s w ws why (Ok r) stage begins read h = elim (if_parts (nat_le rule_limit s.rules) (Err TooMany) (Ok (record s { chains = with_rule s.chains r.0 r.1; rules = s.rules + 1 })) (Err why) h) [
   | inl many ↦
       let full : 1000000 ≤ s.rules = grind (arith, nat_tests, many.0) in
       subst (IsBad s w ws) (err_said TooMany why many.1) (many_rules stage begins r.0 r.1 (rule_line_of_read s.chains (w ∷ ws) r.0 r.1 read) full)
@@ -352,7 +350,7 @@ chain_refused s ws (Err why) none (inr full) = absurd (none (a_user full.1.name 
 chain_full : (s : SaidSoFar) (ws : List (List ℕ)) (n : ℕ) (name : List ℕ) (behind : List (List ℕ)) → IsFront behind → number_of s.chains name ≡ None → is_user_name name ≡ true → 4096 ≤ length s.chains → chain_line_of n s (58 ∷ name) (policy_text None ∷ behind) ≡ Err TooMany
 unfolding chain_line_of
 chain_full s ws n name behind counted number legal full =
-    let many : nat_lt 4095 (length s.chains) ≡ true = grind (arith, nat_tests) in
+    let many : nat_le chain_limit (length s.chains) ≡ true = grind (arith, nat_tests) in
     rw (policy_read (codes "-") behind counted, number, legal, many) refl
 
 colon_body : (n : ℕ) (s : SaidSoFar) (w : List ℕ) (ws : List (List ℕ)) → begins_with 58 w ≡ true → body_line_of n s w ws ≡ chain_line_of n s w ws
@@ -394,7 +392,7 @@ step_of_bad n s w ws why (many_rules stage begins c r line full) =
     at_stage n s w ws Table (Err TooMany) stage (rule_body n s w ws begins ∙ ap (with_read_rule s) (read_of_rule_line s.chains (w ∷ ws) c r line) ∙ rules_full c r)
   where
     rules_full : (c : ℕ) (r : Rule) → with_read_rule s (Ok (c, r)) ≡ Err TooMany
-    rules_full c r = let many : nat_lt 999999 s.rules ≡ true = grind (arith, nat_tests, full) in rw many refl
+    rules_full c r = let many : nat_le rule_limit s.rules ≡ true = grind (arith, nat_tests, full) in rw many refl
 step_of_bad n s w ws why (other_line stage colon none other) =
     at_stage n s w ws Table (Err BadLine) stage (other_body n s w ws colon (not_begins w none) ∙ commit_refused s w ws other)
 step_of_bad n s w ws why (after_commit stage) = at_stage n s w ws After (Err AfterCommit) stage refl

@@ -1,6 +1,7 @@
 -- Laws of the lines of a text: a line is read exactly where it is one of the grammar.
 use Rattle.std.proofs.Common.{◌≡◌, ℕ, ◌+◌, ◌<◌, Bool, true, false, not, ◌&&◌, ◌||◌, ◌==◌, IsTrue, List, [], ◌∷◌, ◌++◌, Option, Some, None, inl, inr, refl, sym, ap, ◌∙◌, subst, arith, length, drop}
-use Rattle.std.specs.Prelude.{Result, Ok, Err, bytes_eq, codes, nat_lt, slice_set}
+use Rattle.std.specs.Prelude.{Result, Ok, Err, bytes_eq, codes, nat_lt, nat_le, slice_set}
+use Rattle.std.proofs.lemmas.Bool.{and_parts}
 use Rattle.std.proofs.lemmas.Bool.Decides.{nat_tests}
 use Rattle.text_core.specs.Lines.{words, begins_with}
 use Rattle.text_core.specs.inner.Pieces.{split_once}
@@ -9,6 +10,7 @@ use Rattle.ipt_rules.specs.declared.rule.Rule.{Rule}
 use Rattle.ipt_rules.specs.declared.rule.Policy.{Policy}
 use Rattle.ipt_rules.specs.declared.rule.Policy.TheVariants.{Accept, Drop}
 use Rattle.ipt_rules.specs.Chain.{Chain, number_of, user_chain, with_policy, with_rule}
+use Rattle.ipt_rules.specs.ChainTable.{chain_limit, rule_limit}
 use Rattle.ipt_rules.specs.Name.{is_user_name}
 use Rattle.ipt_rules.specs.Text.{policy_text}
 use Rattle.ipt_read.specs.declared.fault.IptWhy.{IptWhy}
@@ -135,17 +137,12 @@ pub built_in_read : (p : Policy) → built_in_policy (policy_text (Some p)) ≡ 
 built_in_read Accept = refl
 built_in_read Drop = refl
 
-both : (a b : Bool) → (a && b) ≡ true → (a ≡ true) × (b ≡ true)
-both true true h = (refl, refl)
-both true false h = cc
-both false b h = cc
-
 -- a chain line of a built-in chain
 built_in_line : (n : ℕ) (s t : SaidSoFar) (ws : List (List ℕ)) (name policy : List ℕ) (c : ℕ) (o : Option Policy) → s.stage ≡ Table → IsChainLine ws name policy → number_of s.chains name ≡ Some c → built_in_policy policy ≡ o → with_built_in n s c o ≡ Ok t → IsLine n s ws t
 built_in_line n s t ws name policy c None stage line number said h = cc
 built_in_line n s t ws name policy c (Some p) stage line number said h = elim (if_parts (nat_lt c 3 && (line_of s.declared c == 0)) (Ok (record s { chains = with_policy s.chains c p; declared = slice_set s.declared c n })) (Err BadChain) (Ok t) h) [
   | inl fits ↦
-      let parts = both (nat_lt c 3) (line_of s.declared c == 0) fits.0 in
+      let parts = and_parts (nat_lt c 3) (line_of s.declared c == 0) fits.0 in
       let low : c < 3 = grind (arith, nat_tests, parts.0) in
       let free : line_of s.declared c ≡ 0 = grind (arith, nat_tests, parts.1) in
       let whole : IsChainLine ws name (policy_text (Some p)) = subst (λ (v : List ℕ). IsChainLine ws name v) (built_in_said policy p said) line in
@@ -157,10 +154,10 @@ built_in_line n s t ws name policy c (Some p) stage line number said h = elim (i
 user_line : (n : ℕ) (s t : SaidSoFar) (ws : List (List ℕ)) (name policy : List ℕ) → s.stage ≡ Table → IsChainLine ws name policy → number_of s.chains name ≡ None → declare n s name policy None ≡ Ok t → IsLine n s ws t
 user_line n s t ws name policy stage line number h = elim (if_parts (not (is_user_name name && bytes_eq policy (codes "-"))) (Err BadChain) _ (Ok t) h) [
   | inl bad ↦ cc
-  | inr fits ↦ elim (if_parts (nat_lt 4095 (length s.chains)) (Err TooMany) (Ok (record s { chains = s.chains ++ user_chain name ∷ []; declared = s.declared ++ n ∷ [] })) (Ok t) fits.1) [
+  | inr fits ↦ elim (if_parts (nat_le chain_limit (length s.chains)) (Err TooMany) (Ok (record s { chains = s.chains ++ user_chain name ∷ []; declared = s.declared ++ n ∷ [] })) (Ok t) fits.1) [
     | inl many ↦ cc
     | inr few ↦
-        let parts = both (is_user_name name) (bytes_eq policy (codes "-")) (not_false (is_user_name name && bytes_eq policy (codes "-")) fits.0) in
+        let parts = and_parts (is_user_name name) (bytes_eq policy (codes "-")) (not_false (is_user_name name && bytes_eq policy (codes "-")) fits.0) in
         let room : length s.chains < 4096 = grind (arith, nat_tests, few.0) in
         let whole : IsChainLine ws name (policy_text None) = subst (λ (v : List ℕ). IsChainLine ws name v) (bytes_same policy (codes "-") parts.1) line in
         let e : record s { chains = s.chains ++ user_chain name ∷ []; declared = s.declared ++ n ∷ [] } ≡ t = cc in
@@ -184,7 +181,7 @@ chain_line_by n s t w ws (Some p) stage colon said h =
 
 rule_line_by : (n : ℕ) (s t : SaidSoFar) (ws : List (List ℕ)) (o : Result (ℕ × Rule) IptWhy) → s.stage ≡ Table → rule_line_of s.chains ws ≡ o → with_read_rule s o ≡ Ok t → IsLine n s ws t
 rule_line_by n s t ws (Err why) stage read h = cc
-rule_line_by n s t ws (Ok r) stage read h = elim (if_parts (nat_lt 999999 s.rules) (Err TooMany) (Ok (record s { chains = with_rule s.chains r.0 r.1; rules = s.rules + 1 })) (Ok t) h) [
+rule_line_by n s t ws (Ok r) stage read h = elim (if_parts (nat_le rule_limit s.rules) (Err TooMany) (Ok (record s { chains = with_rule s.chains r.0 r.1; rules = s.rules + 1 })) (Ok t) h) [
   | inl many ↦ cc
   | inr few ↦
       let room : s.rules < 1000000 = grind (arith, nat_tests, few.0) in
@@ -258,13 +255,13 @@ line_of_read n s t l h = line_by_words n s t (words l) h
 
 -- 4. Complete: a line of the grammar is read.
 
-low_free : (c k : ℕ) → c < 3 → k ≡ 0 → (nat_lt c 3 && (k == 0)) ≡ true
+pub low_free : (c k : ℕ) → c < 3 → k ≡ 0 → (nat_lt c 3 && (k == 0)) ≡ true
 low_free c k low free = grind (arith, nat_tests)
 
-few_chains : (n : ℕ) → n < 4096 → nat_lt 4095 n ≡ false
+few_chains : (n : ℕ) → n < chain_limit → nat_le chain_limit n ≡ false
 few_chains n h = grind (arith, nat_tests)
 
-few_rules : (n : ℕ) → n < 1000000 → nat_lt 999999 n ≡ false
+few_rules : (n : ℕ) → n < rule_limit → nat_le rule_limit n ≡ false
 few_rules n h = grind (arith, nat_tests)
 
 built_in_read_line : (n : ℕ) (s : SaidSoFar) (name : List ℕ) (behind : List (List ℕ)) (c : ℕ) (p : Policy) → IsFront behind → number_of s.chains name ≡ Some c → c < 3 → line_of s.declared c ≡ 0 → chain_line_of n s (58 ∷ name) (policy_text (Some p) ∷ behind) ≡ Ok (record s { chains = with_policy s.chains c p; declared = slice_set s.declared c n })

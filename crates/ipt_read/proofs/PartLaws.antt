@@ -11,7 +11,7 @@ use Rattle.ipt_rules.specs.declared.rule.Target.TheVariants.{Count}
 use Rattle.ipt_rules.specs.Chain.{Chain}
 use Rattle.ipt_rules.specs.RuleParts.{names_ports}
 use Rattle.ipt_rules.specs.inner.RuleParts.{is_protocol, are_ports, is_rule}
-use Rattle.ipt_read.specs.declared.option.Opt.TheVariants.{Protocol, SourcePort, DestinationPort}
+use Rattle.ipt_read.specs.declared.option.RuleOption.TheVariants.{Protocol, SourcePort, DestinationPort}
 use Rattle.ipt_read.specs.Options.{Given, nothing_given, in_front, Row, row_of, is_barred}
 use Rattle.ipt_read.specs.inner.OptionSteps.{row}
 use Rattle.ipt_read.specs.Grammar.{Stands, IsValue, source, destination, protocol, source_port, destination_port, states, conntrack_module, state_module, comment_module, own_module, target, jump, a_text, a_word, IsPiece, plain, turned, ArePieces, none_left, one_more, IsRuleLine}

@@ -2,13 +2,14 @@
 use Rattle.std.proofs.Common.{◌≡◌, ℕ, Bool, true, false, not, ◌&&◌, ◌==◌, List, [], ◌∷◌, ◌++◌, Option, Some, None, ◌⊎◌, inl, inr, refl, sym, ap, ◌∙◌, subst}
 use Rattle.std.specs.Prelude.{Result, Ok, Err, bytes_eq, codes, is_some}
 use Rattle.std.specs.Option.{option_map}
+use Rattle.std.proofs.lemmas.Bool.{and_parts}
 use Rattle.text_core.proofs.StepsLaws.{if_parts, map_parts, ok_or_parts, bytes_same, split_bool}
 use Rattle.host_net.specs.Prefix.{prefix_of}
 use Rattle.ipt_rules.specs.Chain.{Chain}
 use Rattle.ipt_read.specs.declared.fault.IptWhy.{IptWhy}
 use Rattle.ipt_read.specs.declared.fault.IptWhy.TheVariants.{BadLine, Interface as AnInterface, UnknownOption, BadValue}
-use Rattle.ipt_read.specs.declared.option.Opt.{Opt}
-use Rattle.ipt_read.specs.declared.option.Opt.TheVariants.{Source, Destination, Protocol, SourcePort, DestinationPort, Interface, Module, CtState, State, Comment, Jump, RejectWith, LogPrefix, LogLevel}
+use Rattle.ipt_read.specs.declared.option.RuleOption.{RuleOption}
+use Rattle.ipt_read.specs.declared.option.RuleOption.TheVariants.{Source, Destination, Protocol, SourcePort, DestinationPort, Interface, Module, CtState, State, Comment, Jump, RejectWith, LogPrefix, LogLevel}
 use Rattle.ipt_read.specs.declared.option.Place.{Place}
 use Rattle.ipt_read.specs.declared.option.Place.TheVariants.{AtOption, AfterBang, AtValue, InText}
 use Rattle.ipt_read.specs.Options.{Given}
@@ -69,7 +70,7 @@ text_value_place given now word place h =
     let parts = map_parts {B = Given × Place} (λ p. (given, p)) (text_of word) (now, place) h in
     text_place word place (parts.1 ∙ ap (λ p. Some p) (same_place (given, parts.0) (now, place) parts.2))
 
-pub value_place : (chains : List Chain) (given now : Given) (o : Opt) (negated : Bool) (word : List ℕ) (place : Place) → with_value chains given o negated word ≡ Some (now, place) → IsBehindValue place
+pub value_place : (chains : List Chain) (given now : Given) (o : RuleOption) (negated : Bool) (word : List ℕ) (place : Place) → with_value chains given o negated word ≡ Some (now, place) → IsBehindValue place
 unfolding with_value
 value_place chains given now Source negated word place h = at_place _ (prefix_of word) now place (λ x. refl) h
 value_place chains given now Destination negated word place h = at_place _ (prefix_of word) now place (λ x. refl) h
@@ -91,11 +92,11 @@ value_place chains given now LogLevel negated word place h =
     inl (sym (same_place (given, AtOption) (now, place) e))
 
 -- what an option in its place says
-pub record IsOptionAt (given : Given) (negated : Bool) (o : Opt) (now : Given × Place) : Type 0 where
+pub record IsOptionAt (given : Given) (negated : Bool) (o : RuleOption) (now : Given × Place) : Type 0 where
   pub stands : StandsBy given negated o
   pub behind : now ≡ (given, AtValue o negated)
 
-pub option_at : (given : Given) (negated : Bool) (option : Option Opt) (now : Given × Place) → at_option given negated option ≡ Ok now → (o : Opt) × (option ≡ Some o) × IsOptionAt given negated o now
+pub option_at : (given : Given) (negated : Bool) (option : Option RuleOption) (now : Given × Place) → at_option given negated option ≡ Ok now → (o : RuleOption) × (option ≡ Some o) × IsOptionAt given negated o now
 option_at given negated None now h = cc
 option_at given negated (Some o) now h = elim (if_parts (not (may_stand given o)) (Err UnknownOption) _ (Ok now) h) [
   | inl bad ↦ cc
@@ -119,18 +120,13 @@ IsLeft chains given (AtValue o negated) ws last =
 IsLeft chains given InText ws last =
     (front : List (List ℕ)) × (rest : List (List ℕ)) × (ws ≡ front ++ rest) × IsRestOfText front × ArePieces chains given rest last
 
-plain_left : (chains : List Chain) (given last : Given) (o : Opt) (w : List ℕ) (ws : List (List ℕ)) → option_of w ≡ Some o → StandsBy given false o → IsLeft chains given (AtValue o false) ws last → ArePieces chains given (w ∷ ws) last
+plain_left : (chains : List Chain) (given last : Given) (o : RuleOption) (w : List ℕ) (ws : List (List ℕ)) → option_of w ≡ Some o → StandsBy given false o → IsLeft chains given (AtValue o false) ws last → ArePieces chains given (w ∷ ws) last
 plain_left chains given last o w ws named stands left =
     subst (λ (vs : List (List ℕ)). ArePieces chains given (w ∷ vs) last) (sym left.3) (one_more (plain_by named stands left.4) left.5)
 
-turned_left : (chains : List Chain) (given last : Given) (o : Opt) (w : List ℕ) (ws : List (List ℕ)) → option_of w ≡ Some o → StandsBy given true o → IsLeft chains given (AtValue o true) ws last → given.target ≡ None → ArePieces chains given (codes "!" ∷ w ∷ ws) last
+turned_left : (chains : List Chain) (given last : Given) (o : RuleOption) (w : List ℕ) (ws : List (List ℕ)) → option_of w ≡ Some o → StandsBy given true o → IsLeft chains given (AtValue o true) ws last → given.target ≡ None → ArePieces chains given (codes "!" ∷ w ∷ ws) last
 turned_left chains given last o w ws named stands left free =
     subst (λ (vs : List (List ℕ)). ArePieces chains given (codes "!" ∷ w ∷ vs) last) (sym left.3) (one_more (turned_by free named stands left.4) left.5)
-
-both : (a b : Bool) → (a && b) ≡ true → (a ≡ true) × (b ≡ true)
-both true true h = (refl, refl)
-both true false h = cc
-both false b h = cc
 
 none_of : {A : Type 0} (o : Option A) → not (is_some o) ≡ true → o ≡ None
 none_of None h = refl
@@ -139,7 +135,7 @@ none_of (Some x) h = cc
 pub bang_parts : (given : Given) (w : List ℕ) → is_bang given w ≡ true → (given.target ≡ None) × (w ≡ codes "!")
 unfolding is_bang
 bang_parts given w h =
-    let parts = both (not (is_some given.target)) (bytes_eq w (codes "!")) h in
+    let parts = and_parts (not (is_some given.target)) (bytes_eq w (codes "!")) h in
     (none_of given.target parts.0, bytes_same w (codes "!") parts.1)
 
 -- sound: a line that is read has pieces
@@ -193,22 +189,22 @@ unfolding word_step
 rest_read chains given ws vs (closing {w = w} inside is written) = rw (ends_text w inside is written) refl
 rest_read chains given ws vs (open_still {w = w} {ws = rest} is others) = rw (open_text w is) (rest_read chains given rest vs others)
 
-taken_read : (chains : List Chain) (given now : Given) (o : Opt) (negated : Bool) (ws vs : List (List ℕ)) → IsTaken chains given o negated ws now → word_by_word chains given (AtValue o negated) (ws ++ vs) ≡ word_by_word chains now AtOption vs
+taken_read : (chains : List Chain) (given now : Given) (o : RuleOption) (negated : Bool) (ws vs : List (List ℕ)) → IsTaken chains given o negated ws now → word_by_word chains given (AtValue o negated) (ws ++ vs) ≡ word_by_word chains now AtOption vs
 unfolding word_step
 taken_read chains given now o negated ws vs (taken_word h) = rw h refl
 taken_read chains given now o negated ws vs (taken_text {ws = rest} h others) = rw h (rest_read chains now rest vs others)
 
-value_read : (chains : List Chain) (given now : Given) (o : Opt) (negated : Bool) (ws vs : List (List ℕ)) → IsValueOf chains given o negated ws now → word_by_word chains given (AtValue o negated) (ws ++ vs) ≡ word_by_word chains now AtOption vs
+value_read : (chains : List Chain) (given now : Given) (o : RuleOption) (negated : Bool) (ws vs : List (List ℕ)) → IsValueOf chains given o negated ws now → word_by_word chains given (AtValue o negated) (ws ++ vs) ≡ word_by_word chains now AtOption vs
 value_read chains given now o negated ws vs is = taken_read chains given now o negated ws vs (value_taken chains given now o negated ws is)
 
 and_false : (b : Bool) → (b && false) ≡ false
 and_false true = refl
 and_false false = refl
 
-pub stands_at : (given : Given) (negated : Bool) (o : Opt) → StandsBy given negated o → at_option given negated (Some o) ≡ Ok (given, AtValue o negated)
+pub stands_at : (given : Given) (negated : Bool) (o : RuleOption) → StandsBy given negated o → at_option given negated (Some o) ≡ Ok (given, AtValue o negated)
 stands_at given negated o stands = rw (stands.here, stands.address, stands.free) refl
 
-is_no_bang : (given : Given) (name : List ℕ) (o : Opt) → option_of name ≡ Some o → is_bang given name ≡ false
+is_no_bang : (given : Given) (name : List ℕ) (o : RuleOption) → option_of name ≡ Some o → is_bang given name ≡ false
 unfolding is_bang option_of
 is_no_bang given name o named = split_bool (bytes_eq name (codes "!"))
     (λ same. let e = ap option_of (bytes_same name (codes "!") same) in cc)

@@ -4,6 +4,7 @@ use Rattle.std.specs.Prelude.{◌==◌, nat_lt, if◌then◌else◌, is_some, co
 use Rattle.std.specs.Char.{is_ascii_digit}
 use Rattle.std.specs.Str.{all_ascii_digits}
 use Rattle.std.specs.List.{list_all}
+use Rattle.std.proofs.lemmas.Bool.{and_parts}
 use Rattle.std.proofs.lemmas.Bool.Decides.{nat_tests}
 use Rattle.std.proofs.lemmas.Fmt.{decimal_nonempty}
 use Rattle.text_core.proofs.DecimalLaws.{decimal_digits}
@@ -36,11 +37,6 @@ abbrev pub is_printed : List ℕ → Bool
 is_printed [] = false
 is_printed (b ∷ bs) = list_all prints (b ∷ bs)
 
-both : (a b : Bool) → (a && b) ≡ true → (a ≡ true) × (b ≡ true)
-both true true h = (refl, refl)
-both true false h = cc
-both false b h = cc
-
 printed_word : (w : List ℕ) → is_printed w ≡ true → (is_word w ≡ true) × (lacks 10 w ≡ true)
 printed_word [] h = cc
 printed_word (b ∷ bs) h = (prints_no_blank (b ∷ bs) h, prints_lacks (b ∷ bs) h)
@@ -48,7 +44,7 @@ printed_word (b ∷ bs) h = (prints_no_blank (b ∷ bs) h, prints_lacks (b ∷ b
 printed_words : (ws : List (List ℕ)) → list_all is_printed ws ≡ true → (list_all is_word ws ≡ true) × (list_all (lacks 10) ws ≡ true)
 printed_words [] h = (refl, refl)
 printed_words (w ∷ ws) h =
-    let parts = both (is_printed w) (list_all is_printed ws) h in
+    let parts = and_parts (is_printed w) (list_all is_printed ws) h in
     let here = printed_word w parts.0 in
     let others = printed_words ws parts.1 in
     (rw (here.0, others.0) refl, rw (here.1, others.1) refl)
@@ -68,7 +64,7 @@ name_byte_prints b h = grind (arith, nat_tests)
 name_prints : (bs : List ℕ) → list_all is_printing bs ≡ true → list_all prints bs ≡ true
 name_prints [] h = refl
 name_prints (b ∷ bs) h =
-    let parts = both (is_printing b) (list_all is_printing bs) h in
+    let parts = and_parts (is_printing b) (list_all is_printing bs) h in
     rw (name_byte_prints b parts.0, name_prints bs parts.1) refl
 
 not_empty_printed : (bs : List ℕ) → has_name_length bs ≡ true → list_all prints bs ≡ true → is_printed bs ≡ true
@@ -78,24 +74,24 @@ not_empty_printed (b ∷ bs) some h = h
 pub user_name_printed : (name : List ℕ) → is_user_name name ≡ true → (list_all prints name ≡ true) × (is_printed name ≡ true)
 unfolding is_user_name
 user_name_printed name h =
-    let parts = both (has_name_length name) (list_all is_printing name && (not (begins_as_option name) && not (is_reserved name))) h in
-    let bytes = both (list_all is_printing name) (not (begins_as_option name) && not (is_reserved name)) parts.1 in
+    let parts = and_parts (has_name_length name) (list_all is_printing name && (not (begins_as_option name) && not (is_reserved name))) h in
+    let bytes = and_parts (list_all is_printing name) (not (begins_as_option name) && not (is_reserved name)) parts.1 in
     let printed = name_prints name bytes.0 in
     (printed, not_empty_printed name parts.0 printed)
 
 pub user_name_free : (name : List ℕ) → is_user_name name ≡ true → is_reserved name ≡ false
 unfolding is_user_name
 user_name_free name h =
-    let parts = both (has_name_length name) (list_all is_printing name && (not (begins_as_option name) && not (is_reserved name))) h in
-    let bytes = both (list_all is_printing name) (not (begins_as_option name) && not (is_reserved name)) parts.1 in
-    let free = both (not (begins_as_option name)) (not (is_reserved name)) bytes.1 in
+    let parts = and_parts (has_name_length name) (list_all is_printing name && (not (begins_as_option name) && not (is_reserved name))) h in
+    let bytes = and_parts (list_all is_printing name) (not (begins_as_option name) && not (is_reserved name)) parts.1 in
+    let free = and_parts (not (begins_as_option name)) (not (is_reserved name)) bytes.1 in
     not_true (is_reserved name) free.1
 
 -- prefixes
 prints_append : (xs ys : List ℕ) → list_all prints xs ≡ true → list_all prints ys ≡ true → list_all prints (xs ++ ys) ≡ true
 prints_append [] ys f g = g
 prints_append (x ∷ xs) ys f g =
-    let parts = both (prints x) (list_all prints xs) f in
+    let parts = and_parts (prints x) (list_all prints xs) f in
     rw (parts.0, prints_append xs ys parts.1 g) refl
 
 digit_parts : (b : ℕ) (bs : List ℕ) → all_ascii_digits (b ∷ bs) ≡ true → (is_ascii_digit b ≡ true) × (all_ascii_digits bs ≡ true)
@@ -132,7 +128,7 @@ prefix_printed p =
 all_append : (xs ys : List (List ℕ)) → list_all is_printed xs ≡ true → list_all is_printed ys ≡ true → list_all is_printed (xs ++ ys) ≡ true
 all_append [] ys f g = g
 all_append (x ∷ xs) ys f g =
-    let parts = both (is_printed x) (list_all is_printed xs) f in
+    let parts = and_parts (is_printed x) (list_all is_printed xs) f in
     rw (parts.0, all_append xs ys parts.1 g) refl
 
 bang_printed : (negated : Bool) → list_all is_printed (bang_words negated) ≡ true

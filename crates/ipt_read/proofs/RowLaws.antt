@@ -7,32 +7,16 @@ use Rattle.std.specs.Option.{option_map}
 use Rattle.std.proofs.lemmas.Bool.{and_parts}
 use Rattle.text_core.proofs.StepsLaws.{if_parts, map_parts, bytes_same}
 use Rattle.ipt_rules.specs.Chain.{Chain}
-use Rattle.ipt_read.specs.declared.option.Opt.{Opt}
-use Rattle.ipt_read.specs.declared.option.Opt.TheVariants.{Source, Destination, Protocol, SourcePort, DestinationPort, Interface, Module, CtState, State, Comment, Jump, RejectWith, LogPrefix, LogLevel}
+use Rattle.ipt_read.specs.declared.option.RuleOption.{RuleOption}
+use Rattle.ipt_read.specs.declared.option.RuleOption.TheVariants.{Source, Destination, Protocol, SourcePort, DestinationPort, Interface, Module, CtState, State, Comment, Jump, RejectWith, LogPrefix, LogLevel}
 use Rattle.ipt_read.specs.Options.{Given, Row, row_of}
 use Rattle.ipt_read.specs.Grammar.{Stands, IsValue, IsPiece, plain, turned}
 use Rattle.ipt_read.specs.LineFault.{IsInterface}
-use Rattle.ipt_read.specs.inner.OptionSteps.{named_options, option_of, row, may_stand, bars, is_interface}
+use Rattle.ipt_read.specs.inner.OptionSteps.{named_options, option_of, written, row, may_stand, bars, is_interface}
 
 -- 1. The names of options.
 
-abbrev pub written : Opt → List ℕ
-written Source = codes "-s"
-written Destination = codes "-d"
-written Protocol = codes "-p"
-written SourcePort = codes "--sport"
-written DestinationPort = codes "--dport"
-written Interface = codes "-i"
-written Module = codes "-m"
-written CtState = codes "--ctstate"
-written State = codes "--state"
-written Comment = codes "--comment"
-written Jump = codes "-j"
-written RejectWith = codes "--reject-with"
-written LogPrefix = codes "--log-prefix"
-written LogLevel = codes "--log-level"
-
-pub option_written : (o : Opt) → option_of (written o) ≡ Some o
+pub option_written : (o : RuleOption) → option_of (written o) ≡ Some o
 unfolding option_of
 option_written Source = refl
 option_written Destination = refl
@@ -49,7 +33,7 @@ option_written RejectWith = refl
 option_written LogPrefix = refl
 option_written LogLevel = refl
 
-abbrev is_named : List ℕ × Opt → Bool
+abbrev is_named : List ℕ × RuleOption → Bool
 is_named entry = bytes_eq entry.0 (written entry.1) && not (is_interface entry.1)
 
 pub not_true : (b : Bool) → not b ≡ true → b ≡ false
@@ -60,10 +44,10 @@ pub not_false : (b : Bool) → not b ≡ false → b ≡ true
 not_false true h = refl
 not_false false h = cc
 
-same_option : (o p : Opt) → ◌≡◌ {A = Option Opt} (Some o) (Some p) → o ≡ p
+same_option : (o p : RuleOption) → ◌≡◌ {A = Option RuleOption} (Some o) (Some p) → o ≡ p
 same_option o p h = cc
 
-found : (name : List ℕ) (o : Opt) (entries : List (List ℕ × Opt)) → list_all is_named entries ≡ true → lookup (bytes_eq name) entries ≡ Some o
+found : (name : List ℕ) (o : RuleOption) (entries : List (List ℕ × RuleOption)) → list_all is_named entries ≡ true → lookup (bytes_eq name) entries ≡ Some o
     → (name ≡ written o) × (is_interface o ≡ false)
 found name o [] all h = cc
 found name o (entry ∷ entries) all h = elim (if_parts (bytes_eq name entry.0) (Some entry.1) (lookup (bytes_eq name) entries) (Some o) h) [
@@ -75,7 +59,7 @@ found name o (entry ∷ entries) all h = elim (if_parts (bytes_eq name entry.0) 
   | inr there ↦ found name o entries (and_parts (is_named entry) (list_all is_named entries) all).1 there.1
 ]
 
-found_named : (name : List ℕ) (o : Opt) → lookup (bytes_eq name) named_options ≡ Some o → (name ≡ written o) × (is_interface o ≡ false)
+found_named : (name : List ℕ) (o : RuleOption) → lookup (bytes_eq name) named_options ≡ Some o → (name ≡ written o) × (is_interface o ≡ false)
 found_named name o h = found name o named_options refl h
 
 -- 2. Their rows.
@@ -94,7 +78,7 @@ row_is : (name : List ℕ) → row_of name ≡ option_map row (lookup (bytes_eq 
 row_is name = lookup_mapped row (bytes_eq name) named_options
 
 -- an option is a match of an interface, or stands in the table
-option_parts : (name : List ℕ) (o : Option Opt) → option_of name ≡ o
+option_parts : (name : List ℕ) (o : Option RuleOption) → option_of name ≡ o
     → (IsInterface name × (o ≡ Some Interface)) ⊎ (lookup (bytes_eq name) named_options ≡ o)
 unfolding option_of
 option_parts name o h = elim (if_parts (bytes_eq name (codes "-i")) (Some Interface) _ o h) [
@@ -105,25 +89,25 @@ option_parts name o h = elim (if_parts (bytes_eq name (codes "-i")) (Some Interf
   ]
 ]
 
-in_table : (name : List ℕ) (o : Opt) → option_of name ≡ Some o → is_interface o ≡ false → lookup (bytes_eq name) named_options ≡ Some o
+in_table : (name : List ℕ) (o : RuleOption) → option_of name ≡ Some o → is_interface o ≡ false → lookup (bytes_eq name) named_options ≡ Some o
 in_table name o h address = elim (option_parts name (Some o) h) [
   | inl interface ↦ let is : false ≡ true = sym address ∙ ap is_interface (same_option o Interface interface.1) in cc
   | inr there ↦ there
 ]
 
-pub name_by : (name : List ℕ) (o : Opt) → option_of name ≡ Some o → is_interface o ≡ false → name ≡ written o
+pub name_by : (name : List ℕ) (o : RuleOption) → option_of name ≡ Some o → is_interface o ≡ false → name ≡ written o
 name_by name o h address = (found_named name o (in_table name o h address)).0
 
-pub row_by : (name : List ℕ) (o : Opt) → option_of name ≡ Some o → is_interface o ≡ false → row_of name ≡ Some (row o)
+pub row_by : (name : List ℕ) (o : RuleOption) → option_of name ≡ Some o → is_interface o ≡ false → row_of name ≡ Some (row o)
 row_by name o h address = row_is name ∙ ap (option_map row) (in_table name o h address)
 
-pub row_found : (name : List ℕ) (r : Row) → row_of name ≡ Some r → (o : Opt) × (option_of name ≡ Some o) × (is_interface o ≡ false) × (r ≡ row o)
+pub row_found : (name : List ℕ) (r : Row) → row_of name ≡ Some r → (o : RuleOption) × (option_of name ≡ Some o) × (is_interface o ≡ false) × (r ≡ row o)
 row_found name r h =
     let parts = map_parts row (lookup (bytes_eq name) named_options) r (sym (row_is name) ∙ h) in
     let its = found_named name parts.0 parts.1 in
     (parts.0, ap option_of its.0 ∙ option_written parts.0, its.1, sym parts.2)
 
-pub interface_by : (name : List ℕ) (o : Opt) → option_of name ≡ Some o → is_interface o ≡ true → IsInterface name
+pub interface_by : (name : List ℕ) (o : RuleOption) → option_of name ≡ Some o → is_interface o ≡ true → IsInterface name
 interface_by name o h is = elim (option_parts name (Some o) h) [
   | inl interface ↦ interface.0
   | inr there ↦ let other : false ≡ true = sym (found_named name o there).1 ∙ is in cc
@@ -136,47 +120,47 @@ interface_is name (inr second) = ap option_of second
 
 -- 3. Where they stand, and their values.
 
-pub record StandsBy (given : Given) (negated : Bool) (o : Opt) : Type 0 where
+pub record StandsBy (given : Given) (negated : Bool) (o : RuleOption) : Type 0 where
   pub here : may_stand given o ≡ true
   pub address : is_interface o ≡ false
   pub free : bars given negated o ≡ false
 
-pub stands_by : (given : Given) (negated : Bool) (name : List ℕ) (o : Opt) → option_of name ≡ Some o → StandsBy given negated o → Stands given negated name (row o)
+pub stands_by : (given : Given) (negated : Bool) (name : List ℕ) (o : RuleOption) → option_of name ≡ Some o → StandsBy given negated o → Stands given negated name (row o)
 stands_by given negated name o named stands = record { named = row_by name o named stands.address; here = stands.here; free = stands.free }
 
 pub by_stands : (given : Given) (negated : Bool) (name : List ℕ) (r : Row) → Stands given negated name r
-    → (o : Opt) × (option_of name ≡ Some o) × StandsBy given negated o × (r ≡ row o)
+    → (o : RuleOption) × (option_of name ≡ Some o) × StandsBy given negated o × (r ≡ row o)
 by_stands given negated name r stands =
     let at = row_found name r stands.named in
     let its = subst (λ (q : Row). Stands given negated name q) at.3 stands in
     (at.0, at.1, record { here = its.here; address = at.2; free = its.free }, at.3)
 
-abbrev pub IsValueOf : List Chain → Given → Opt → Bool → List (List ℕ) → Given → Type 0
+abbrev pub IsValueOf : List Chain → Given → RuleOption → Bool → List (List ℕ) → Given → Type 0
 IsValueOf chains given o negated value now = IsValue chains given negated (written o) value now
 
-pub value_named : {chains : List Chain} {given now : Given} {negated : Bool} {name : List ℕ} {o : Opt} {value : List (List ℕ)} → option_of name ≡ Some o → is_interface o ≡ false
+pub value_named : {chains : List Chain} {given now : Given} {negated : Bool} {name : List ℕ} {o : RuleOption} {value : List (List ℕ)} → option_of name ≡ Some o → is_interface o ≡ false
     → IsValueOf chains given o negated value now → IsValue chains given negated name value now
 value_named {chains = chains} {given = given} {now = now} {negated = negated} {name = name} {o = o} {value = value} named address is =
     subst (λ (v : List ℕ). IsValue chains given negated v value now) (sym (name_by name o named address)) is
 
-pub named_value : {chains : List Chain} {given now : Given} {negated : Bool} {name : List ℕ} {o : Opt} {value : List (List ℕ)} → option_of name ≡ Some o → is_interface o ≡ false
+pub named_value : {chains : List Chain} {given now : Given} {negated : Bool} {name : List ℕ} {o : RuleOption} {value : List (List ℕ)} → option_of name ≡ Some o → is_interface o ≡ false
     → IsValue chains given negated name value now → IsValueOf chains given o negated value now
 named_value {chains = chains} {given = given} {now = now} {negated = negated} {name = name} {o = o} {value = value} named address is =
     subst (λ (v : List ℕ). IsValue chains given negated v value now) (name_by name o named address) is
 
-pub plain_by : {chains : List Chain} {given now : Given} {name : List ℕ} {o : Opt} {value : List (List ℕ)} → option_of name ≡ Some o → StandsBy given false o
+pub plain_by : {chains : List Chain} {given now : Given} {name : List ℕ} {o : RuleOption} {value : List (List ℕ)} → option_of name ≡ Some o → StandsBy given false o
     → IsValueOf chains given o false value now → IsPiece chains given (name ∷ value) now
 plain_by {given = given} {name = name} {o = o} named stands is = plain (stands_by given false name o named stands) (value_named named stands.address is)
 
-pub turned_by : {chains : List Chain} {given now : Given} {name : List ℕ} {o : Opt} {value : List (List ℕ)} → given.target ≡ None → option_of name ≡ Some o → StandsBy given true o
+pub turned_by : {chains : List Chain} {given now : Given} {name : List ℕ} {o : RuleOption} {value : List (List ℕ)} → given.target ≡ None → option_of name ≡ Some o → StandsBy given true o
     → IsValueOf chains given o true value now → IsPiece chains given (codes "!" ∷ name ∷ value) now
 turned_by {given = given} {name = name} {o = o} free named stands is = turned free (stands_by given true name o named stands) (value_named named stands.address is)
 
 -- a piece by the option that the reader takes it for
 pub data IsPieceBy (chains : List Chain) (given : Given) : List (List ℕ) → Given → Type 0 where
-  bare_piece : {name : List ℕ} {o : Opt} {value : List (List ℕ)} {now : Given} → option_of name ≡ Some o → StandsBy given false o
+  bare_piece : {name : List ℕ} {o : RuleOption} {value : List (List ℕ)} {now : Given} → option_of name ≡ Some o → StandsBy given false o
       → IsValueOf chains given o false value now → IsPieceBy chains given (name ∷ value) now
-  bang_piece : {name : List ℕ} {o : Opt} {value : List (List ℕ)} {now : Given} → given.target ≡ None → option_of name ≡ Some o → StandsBy given true o
+  bang_piece : {name : List ℕ} {o : RuleOption} {value : List (List ℕ)} {now : Given} → given.target ≡ None → option_of name ≡ Some o → StandsBy given true o
       → IsValueOf chains given o true value now → IsPieceBy chains given (codes "!" ∷ name ∷ value) now
 
 pub piece_by : (chains : List Chain) (given now : Given) (ws : List (List ℕ)) → IsPiece chains given ws now → IsPieceBy chains given ws now

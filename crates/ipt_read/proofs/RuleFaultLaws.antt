@@ -7,8 +7,8 @@ use Rattle.ipt_rules.specs.declared.rule.Target.{Target}
 use Rattle.ipt_rules.specs.Chain.{Chain}
 use Rattle.ipt_read.specs.declared.fault.IptWhy.{IptWhy}
 use Rattle.ipt_read.specs.declared.fault.IptWhy.TheVariants.{BadLine, UnknownOption, Interface as AnInterface, BadValue}
-use Rattle.ipt_read.specs.declared.option.Opt.{Opt}
-use Rattle.ipt_read.specs.declared.option.Opt.TheVariants as opt
+use Rattle.ipt_read.specs.declared.option.RuleOption.{RuleOption}
+use Rattle.ipt_read.specs.declared.option.RuleOption.TheVariants as opt
 use Rattle.ipt_read.specs.declared.option.Place.{Place}
 use Rattle.ipt_read.specs.declared.option.Place.TheVariants.{AtOption, AfterBang, AtValue, InText}
 use Rattle.ipt_read.specs.Options.{Given, Row, row_of, is_barred}
@@ -25,7 +25,7 @@ use Rattle.ipt_read.specs.LineFault.{IsInterface, IsStuckAt, interface, unknown,
 
 -- 1. Where the words of a rule line get stuck.
 
-abbrev HasNoValue : List Chain → Given → Opt → Bool → List (List ℕ) → Type 0
+abbrev HasNoValue : List Chain → Given → RuleOption → Bool → List (List ℕ) → Type 0
 HasNoValue chains given o negated ws =
     (value rest : List (List ℕ)) (now : Given) → ws ≡ value ++ rest → IsValueOf chains given o negated value now → ⊥
 
@@ -33,7 +33,7 @@ abbrev LostAt : List Chain → Given → List (List ℕ) → IptWhy → Type 0
 LostAt chains given ws why =
     (read : List (List ℕ)) × (rest : List (List ℕ)) × (last : Given) × (ws ≡ read ++ rest) × ArePieces chains given read last × IsStuck chains last rest why
 
-abbrev reason : Opt → List (List ℕ) → IptWhy
+abbrev reason : RuleOption → List (List ℕ) → IptWhy
 reason o [] = BadValue
 reason o (w ∷ ws) = value_refusal o
 
@@ -70,7 +70,7 @@ no_rest_more w ws read none front rest cut (closing {w = v} inside is written) =
 no_rest_more w ws read none front rest cut (open_still {w = v} {ws = vs} is others) =
     let behind : ws ≡ vs ++ rest = cc in none vs rest behind others
 
-no_value_by : (chains : List Chain) (given : Given) (o : Opt) (negated : Bool) (w : List ℕ) (ws value rest : List (List ℕ)) (now : Given) → with_value chains given o negated w ≡ None → w ∷ ws ≡ value ++ rest → IsTaken chains given o negated value now → ⊥
+no_value_by : (chains : List Chain) (given : Given) (o : RuleOption) (negated : Bool) (w : List ℕ) (ws value rest : List (List ℕ)) (now : Given) → with_value chains given o negated w ≡ None → w ∷ ws ≡ value ++ rest → IsTaken chains given o negated value now → ⊥
 no_value_by chains given o negated w ws value rest now none cut (taken_word {w = v} read) =
     let first : w ≡ v = cc in
     let other = ap (with_value chains given o negated) first ∙ read in cc
@@ -78,19 +78,19 @@ no_value_by chains given o negated w ws value rest now none cut (taken_text {w =
     let first : w ≡ v = cc in
     let other = ap (with_value chains given o negated) first ∙ read in cc
 
-no_value_of : (chains : List Chain) (given : Given) (o : Opt) (negated : Bool) (w : List ℕ) (ws : List (List ℕ)) → with_value chains given o negated w ≡ None → HasNoValue chains given o negated (w ∷ ws)
+no_value_of : (chains : List Chain) (given : Given) (o : RuleOption) (negated : Bool) (w : List ℕ) (ws : List (List ℕ)) → with_value chains given o negated w ≡ None → HasNoValue chains given o negated (w ∷ ws)
 no_value_of chains given o negated w ws none value rest now cut is =
     no_value_by chains given o negated w ws value rest now none cut (value_taken chains given now o negated value is)
 
-no_value_end : (chains : List Chain) (given : Given) (o : Opt) (negated : Bool) (value rest : List (List ℕ)) (now : Given) → [] ≡ value ++ rest → IsTaken chains given o negated value now → ⊥
+no_value_end : (chains : List Chain) (given : Given) (o : RuleOption) (negated : Bool) (value rest : List (List ℕ)) (now : Given) → [] ≡ value ++ rest → IsTaken chains given o negated value now → ⊥
 no_value_end chains given o negated value rest now cut (taken_word read) = cc
 no_value_end chains given o negated value rest now cut (taken_text read others) = cc
 
-no_value_at_end : (chains : List Chain) (given : Given) (o : Opt) (negated : Bool) → HasNoValue chains given o negated []
+no_value_at_end : (chains : List Chain) (given : Given) (o : RuleOption) (negated : Bool) → HasNoValue chains given o negated []
 no_value_at_end chains given o negated value rest now cut is =
     no_value_end chains given o negated value rest now cut (value_taken chains given now o negated value is)
 
-no_value_text : (chains : List Chain) (given then_given : Given) (o : Opt) (negated : Bool) (w : List ℕ) (ws value rest : List (List ℕ)) (now : Given) → with_value chains given o negated w ≡ Some (then_given, InText) → HasNoRest ws → w ∷ ws ≡ value ++ rest → IsTaken chains given o negated value now → ⊥
+no_value_text : (chains : List Chain) (given then_given : Given) (o : RuleOption) (negated : Bool) (w : List ℕ) (ws value rest : List (List ℕ)) (now : Given) → with_value chains given o negated w ≡ Some (then_given, InText) → HasNoRest ws → w ∷ ws ≡ value ++ rest → IsTaken chains given o negated value now → ⊥
 no_value_text chains given then_given o negated w ws value rest now read none cut (taken_word {w = v} other) =
     let first : w ≡ v = cc in
     let both : ◌≡◌ {A = Option (Given × Place)} (Some (then_given, InText)) (Some (now, AtOption)) = sym read ∙ ap (with_value chains given o negated) first ∙ other in
@@ -100,7 +100,7 @@ no_value_text chains given then_given o negated w ws value rest now read none cu
     let behind : ws ≡ vs ++ rest = cc in none vs rest behind others
 
 -- only a text goes on in the next word
-text_reason : (chains : List Chain) (given now : Given) (o : Opt) (negated : Bool) (w : List ℕ) → with_value chains given o negated w ≡ Some (now, InText) → value_refusal o ≡ BadValue
+text_reason : (chains : List Chain) (given now : Given) (o : RuleOption) (negated : Bool) (w : List ℕ) → with_value chains given o negated w ≡ Some (now, InText) → value_refusal o ≡ BadValue
 unfolding with_value
 text_reason chains given now opt.Module negated w h = absurd (never_open _ (with_module given w) now (λ x. refl) h)
 text_reason chains given now opt.Jump negated w h = absurd (never_open _ (target_of chains w) now (λ x. refl) h)
@@ -126,16 +126,16 @@ is_not_known name given none is = let other = interface_is name is in cc
 no_row : (name : List ℕ) (given : Given) → option_of name ≡ None → (r : Row) → row_of name ≡ Some r → r.stands given ≡ false
 no_row name given none r named = let at = row_found name r named in let other = at.1 in cc
 
-some_option : (o p : Opt) → ◌≡◌ {A = Option Opt} (Some o) (Some p) → o ≡ p
+some_option : (o p : RuleOption) → ◌≡◌ {A = Option RuleOption} (Some o) (Some p) → o ≡ p
 some_option o p h = cc
 
-misplaced_interface : (given : Given) (name : List ℕ) (o : Opt) → option_of name ≡ Some o → may_stand given o ≡ false → IsInterface name → given.target ≢ None
+misplaced_interface : (given : Given) (name : List ℕ) (o : RuleOption) → option_of name ≡ Some o → may_stand given o ≡ false → IsInterface name → given.target ≢ None
 misplaced_interface given name o named wrong is free =
     let same : opt.Interface ≡ o = some_option opt.Interface o (sym (interface_is name is) ∙ named) in
     let stands : may_stand given o ≡ true = sym (ap (may_stand given) same) ∙ ap (λ (t : Option Target). is_none t) free in
     cc
 
-misplaced_row : (given : Given) (name : List ℕ) (o : Opt) → option_of name ≡ Some o → may_stand given o ≡ false → (r : Row) → row_of name ≡ Some r → r.stands given ≡ false
+misplaced_row : (given : Given) (name : List ℕ) (o : RuleOption) → option_of name ≡ Some o → may_stand given o ≡ false → (r : Row) → row_of name ≡ Some r → r.stands given ≡ false
 misplaced_row given name o named wrong r found =
     let at = row_found name r found in
     let same : at.0 ≡ o = some_option at.0 o (sym at.1 ∙ named) in
@@ -145,12 +145,12 @@ no_target : (o : Option Target) → is_none o ≡ true → o ≡ None
 no_target None h = refl
 no_target (Some t) h = cc
 
-interface_stands : (given : Given) (name : List ℕ) (o : Opt) → option_of name ≡ Some o → IsInterface name → may_stand given o ≡ true → given.target ≡ None
+interface_stands : (given : Given) (name : List ℕ) (o : RuleOption) → option_of name ≡ Some o → IsInterface name → may_stand given o ≡ true → given.target ≡ None
 interface_stands given name o named is here =
     let same : opt.Interface ≡ o = some_option opt.Interface o (sym (interface_is name is) ∙ named) in
     no_target given.target (ap (may_stand given) same ∙ here)
 
-stuck_by : (chains : List Chain) (given : Given) (negated : Bool) (name : List ℕ) (ws : List (List ℕ)) (option : Option Opt) (why : IptWhy) → option_of name ≡ option → at_option given negated option ≡ Err why → IsStuckAt chains given negated name ws why
+stuck_by : (chains : List Chain) (given : Given) (negated : Bool) (name : List ℕ) (ws : List (List ℕ)) (option : Option RuleOption) (why : IptWhy) → option_of name ≡ option → at_option given negated option ≡ Err why → IsStuckAt chains given negated name ws why
 stuck_by chains given negated name ws None why is h =
     subst (IsStuckAt chains given negated name ws) (err_same UnknownOption why h) (unknown (is_not_known name given is) (no_row name given is))
 stuck_by chains given negated name ws (Some o) why is h = elim (if_parts (not (may_stand given o)) (Err UnknownOption) _ (Err why) h) [
@@ -173,7 +173,7 @@ stuck_by chains given negated name ws (Some o) why is h = elim (if_parts (not (m
 no_bang : (given : Given) (w : List ℕ) → is_bang given w ≡ false → given.target ≡ None → w ≢ codes "!"
 no_bang given w other free = λ same. let is : is_bang given w ≡ true = ap (is_bang given) same ∙ bang_stands given free in cc
 
-no_value_stuck : (chains : List Chain) (given : Given) (negated : Bool) (name : List ℕ) (o : Opt) (ws : List (List ℕ)) → option_of name ≡ Some o → StandsBy given negated o → HasNoValue chains given o negated ws → IsStuckAt chains given negated name ws (reason o ws)
+no_value_stuck : (chains : List Chain) (given : Given) (negated : Bool) (name : List ℕ) (o : RuleOption) (ws : List (List ℕ)) → option_of name ≡ Some o → StandsBy given negated o → HasNoValue chains given o negated ws → IsStuckAt chains given negated name ws (reason o ws)
 no_value_stuck chains given negated name o [] named stands none = value_missing (row o) (stands_by given negated name o named stands)
 no_value_stuck chains given negated name o (w ∷ ws) named stands none =
     bad_value (row o) (stands_by given negated name o named stands) (λ value rest now cut is. none value rest now cut (named_value named stands.address is))
@@ -199,19 +199,19 @@ at_refusal chains given InText w ws why h = by_place (quoted false w) refl h
     by_place (Some place) is e = cc
 
 -- a word that is read, in front of those that get stuck
-option_lost : (chains : List Chain) (given : Given) (o : Opt) (w : List ℕ) (ws : List (List ℕ)) (why : IptWhy) → option_of w ≡ Some o → StandsBy given false o → (given.target ≡ None → w ≢ codes "!") → Lost chains given (AtValue o false) ws why → LostAt chains given (w ∷ ws) why
+option_lost : (chains : List Chain) (given : Given) (o : RuleOption) (w : List ℕ) (ws : List (List ℕ)) (why : IptWhy) → option_of w ≡ Some o → StandsBy given false o → (given.target ≡ None → w ≢ codes "!") → Lost chains given (AtValue o false) ws why → LostAt chains given (w ∷ ws) why
 option_lost chains given o w ws why named stands bare (inl (value, rest, now, cut, is, lost)) =
     (w ∷ (value ++ lost.0), lost.1, lost.2, ap (λ vs. w ∷ vs) (cut ∙ ap (λ vs. value ++ vs) lost.3 ∙ sym (append_assoc value lost.0 lost.1)), one_more (plain_by named stands is) lost.4, lost.5)
 option_lost chains given o w ws why named stands bare (inr (none, same)) =
     ([], w ∷ ws, given, refl, none_left, bare_option bare (subst (IsStuckAt chains given false w ws) (sym same) (no_value_stuck chains given false w o ws named stands none)))
 
-bang_lost : (chains : List Chain) (given : Given) (o : Opt) (w : List ℕ) (ws : List (List ℕ)) (why : IptWhy) → option_of w ≡ Some o → StandsBy given true o → given.target ≡ None → Lost chains given (AtValue o true) ws why → LostAt chains given (codes "!" ∷ w ∷ ws) why
+bang_lost : (chains : List Chain) (given : Given) (o : RuleOption) (w : List ℕ) (ws : List (List ℕ)) (why : IptWhy) → option_of w ≡ Some o → StandsBy given true o → given.target ≡ None → Lost chains given (AtValue o true) ws why → LostAt chains given (codes "!" ∷ w ∷ ws) why
 bang_lost chains given o w ws why named stands free (inl (value, rest, now, cut, is, lost)) =
     (codes "!" ∷ w ∷ (value ++ lost.0), lost.1, lost.2, ap (λ vs. codes "!" ∷ w ∷ vs) (cut ∙ ap (λ vs. value ++ vs) lost.3 ∙ sym (append_assoc value lost.0 lost.1)), one_more (turned_by free named stands is) lost.4, lost.5)
 bang_lost chains given o w ws why named stands free (inr (none, same)) =
     ([], codes "!" ∷ w ∷ ws, given, refl, none_left, bang_option free (subst (IsStuckAt chains given true w ws) (sym same) (no_value_stuck chains given true w o ws named stands none)))
 
-value_lost : (chains : List Chain) (given now : Given) (o : Opt) (negated : Bool) (w : List ℕ) (ws : List (List ℕ)) (why : IptWhy) → with_value chains given o negated w ≡ Some (now, InText) → Lost chains now InText ws why → Lost chains given (AtValue o negated) (w ∷ ws) why
+value_lost : (chains : List Chain) (given now : Given) (o : RuleOption) (negated : Bool) (w : List ℕ) (ws : List (List ℕ)) (why : IptWhy) → with_value chains given o negated w ≡ Some (now, InText) → Lost chains now InText ws why → Lost chains given (AtValue o negated) (w ∷ ws) why
 value_lost chains given now o negated w ws why read (inl (front, rest, cut, is, lost)) =
     inl (w ∷ front, rest, now, ap (λ vs. w ∷ vs) cut, text o read is, lost)
 value_lost chains given now o negated w ws why read (inr (none, same)) =
@@ -285,7 +285,7 @@ pieces_read chains given last read rest none_left = refl
 pieces_read chains given last read rest (one_more {now = now} {ws = front} {vs = vs} piece others) =
     ap (word_by_word chains given AtOption) (append_assoc front vs rest) ∙ piece_read chains given now front (vs ++ rest) piece ∙ pieces_read chains now last vs rest others
 
-value_refused : (chains : List Chain) (given : Given) (o : Opt) (negated : Bool) (w : List ℕ) (ws : List (List ℕ)) (r : Result Given IptWhy) → HasNoValue chains given o negated (w ∷ ws) → word_by_word chains given (AtValue o negated) (w ∷ ws) ≡ r → r ≡ Err (value_refusal o)
+value_refused : (chains : List Chain) (given : Given) (o : RuleOption) (negated : Bool) (w : List ℕ) (ws : List (List ℕ)) (r : Result Given IptWhy) → HasNoValue chains given o negated (w ∷ ws) → word_by_word chains given (AtValue o negated) (w ∷ ws) ≡ r → r ≡ Err (value_refusal o)
 value_refused chains given o negated w ws (Ok last) none is =
     let left = pieces_left chains given last (AtValue o negated) (w ∷ ws) is in
     absurd (none left.0 left.1 left.2 left.3 left.4)
@@ -295,7 +295,7 @@ value_refused chains given o negated w ws (Err why) none is = elim (lost chains 
 ]
 
 -- where a row is misplaced, so is its option
-misplaced_read : (given : Given) (negated : Bool) (name : List ℕ) (option : Option Opt) → option_of name ≡ option → (IsInterface name → given.target ≢ None)
+misplaced_read : (given : Given) (negated : Bool) (name : List ℕ) (option : Option RuleOption) → option_of name ≡ option → (IsInterface name → given.target ≢ None)
     → ((r : Row) → row_of name ≡ Some r → r.stands given ≡ false) → at_option given negated option ≡ Err UnknownOption
 misplaced_read given negated name None is apart misplaced = refl
 misplaced_read given negated name (Some o) is apart misplaced = by_test (is_interface o) (may_stand given o) refl refl
@@ -318,7 +318,7 @@ barred_at given negated name r named here bar =
 missing_read : (chains : List Chain) (given : Given) (negated : Bool) (name : List ℕ) (r : Row) → Stands given negated name r → goes_on (at_option given negated (option_of name)) (λ t. word_by_word chains t.0 t.1 []) ≡ Err BadValue
 missing_read chains given negated name r stands =
     let at = by_stands given negated name r stands in
-    ap (λ (o : Option Opt). goes_on (at_option given negated o) (λ t. word_by_word chains t.0 t.1 [])) at.1 ∙ rw (stands_at given negated at.0 at.2) refl
+    ap (λ (o : Option RuleOption). goes_on (at_option given negated o) (λ t. word_by_word chains t.0 t.1 [])) at.1 ∙ rw (stands_at given negated at.0 at.2) refl
 
 bad_value_read : (chains : List Chain) (given : Given) (negated : Bool) (name w : List ℕ) (ws : List (List ℕ)) (r : Row) → Stands given negated name r
     → ((value rest : List (List ℕ)) (now : Given) → w ∷ ws ≡ value ++ rest → IsValue chains given negated name value now → ⊥)
@@ -326,7 +326,7 @@ bad_value_read : (chains : List Chain) (given : Given) (negated : Bool) (name w 
 bad_value_read chains given negated name w ws r stands none =
     let at = by_stands given negated name r stands in
     let none_by : HasNoValue chains given at.0 negated (w ∷ ws) = λ value rest now cut is. none value rest now cut (value_named at.1 at.2.address is) in
-    ap (λ (o : Option Opt). goes_on (at_option given negated o) (λ t. word_by_word chains t.0 t.1 (w ∷ ws))) at.1
+    ap (λ (o : Option RuleOption). goes_on (at_option given negated o) (λ t. word_by_word chains t.0 t.1 (w ∷ ws))) at.1
     ∙ ap (λ (s : Result (Given × Place) IptWhy). goes_on s (λ t. word_by_word chains t.0 t.1 (w ∷ ws))) (stands_at given negated at.0 at.2)
     ∙ value_refused chains given at.0 negated w ws (word_by_word chains given (AtValue at.0 negated) (w ∷ ws)) none_by refl
     ∙ ap (λ (q : Row). Err q.refusal) (sym at.3)

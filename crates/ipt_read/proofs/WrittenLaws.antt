@@ -1,6 +1,7 @@
 -- Laws of written rule lines: the words of a line are pieces that make the rule.
 use Rattle.std.proofs.Common.{◌≡◌, ℕ, ◌<◌, ◌≤◌, ◌^◌, Bool, true, false, ◌||◌, List, [], ◌∷◌, ◌++◌, append-nil, append_assoc, Option, Some, None, inl, inr, refl, sym, subst, arith}
 use Rattle.std.specs.Prelude.{codes, bytes_eq, decimal, nat_lt, is_some, unwrap_or}
+use Rattle.std.proofs.lemmas.Bool.{or_left, or_right, or_parts}
 use Rattle.std.proofs.lemmas.Bool.Decides.{nat_tests}
 use Rattle.text_core.proofs.StepsLaws.{split_bool}
 use Rattle.host_net.specs.Prefix.{prefix_text}
@@ -19,7 +20,7 @@ use Rattle.ipt_rules.specs.RuleParts.{names_ports}
 use Rattle.ipt_rules.specs.inner.RuleParts.{is_protocol, are_ports, is_rule}
 use Rattle.ipt_rules.specs.Text.{ports_text, states_text}
 use Rattle.ipt_read.proofs.FineRulesLaws.{AddressFits}
-use Rattle.ipt_read.specs.declared.option.Opt.TheVariants.{Source, Destination, Protocol, SourcePort, DestinationPort, Module, CtState, Jump as JumpOption}
+use Rattle.ipt_read.specs.declared.option.RuleOption.TheVariants.{Source, Destination, Protocol, SourcePort, DestinationPort, Module, CtState, Jump as JumpOption}
 use Rattle.ipt_read.specs.Options.{Given, nothing_given, Row, named_target}
 use Rattle.ipt_read.specs.Values.{is_state, IsStateList}
 use Rattle.ipt_read.specs.ServiceValues.{IsProtocolWord, ArePortsWord}
@@ -123,14 +124,6 @@ destination_port_pieces chains given last named ports (Some part) rest are there
     (record { named = refl; here = there refl; free = refl }) (destination_port part.low part.high (ports_fit named part are)) others
 
 -- a protocol and its ports
-or_first : (a b : Bool) → a ≡ true → (a || b) ≡ true
-or_first true b h = refl
-or_first false b h = cc
-
-or_second : (a b : Bool) → b ≡ true → (a || b) ≡ true
-or_second true b h = refl
-or_second false b h = h
-
 abbrev with_service_of : Given → Option ProtoMatch → Bool → Option PortMatch → Option PortMatch → Given
 with_service_of given proto ports sport dport = record given { rule = record given.rule { proto = proto; sport = sport; dport = dport }; ports = ports; target = None }
 
@@ -140,8 +133,8 @@ service_pieces chains given last r rest has others =
     (four_joined (protocol_words r.proto) (module_words r.proto asks_ports) (port_words (codes "--sport") r.sport) (port_words (codes "--dport") r.dport) rest)
     (protocol_pieces chains (with_service_of given None false None None) last r.proto _ has.proto
     (module_pieces chains (with_service_of given None false None None) last r.proto asks_ports _ has.named
-    (source_port_pieces chains (with_service_of given r.proto asks_ports None None) last (names_ports r.proto) asks_ports r.sport _ has.sport (or_first (is_some r.sport) (is_some r.dport))
-    (destination_port_pieces chains (with_service_of given r.proto asks_ports r.sport None) last (names_ports r.proto) asks_ports r.dport rest has.dport (or_second (is_some r.sport) (is_some r.dport)) others))))
+    (source_port_pieces chains (with_service_of given r.proto asks_ports None None) last (names_ports r.proto) asks_ports r.sport _ has.sport (or_left (is_some r.sport) (is_some r.dport))
+    (destination_port_pieces chains (with_service_of given r.proto asks_ports r.sport None) last (names_ports r.proto) asks_ports r.dport rest has.dport (or_right (is_some r.sport) (is_some r.dport)) others))))
   where
     asks_ports : Bool
     asks_ports = is_some r.sport || is_some r.dport
@@ -188,21 +181,17 @@ record IsNoTarget (name : List ℕ) : Type 0 where
   returns : bytes_eq name (codes "RETURN") ≡ false
   log : bytes_eq name (codes "LOG") ≡ false
 
-neither : (a b : Bool) → (a || b) ≡ false → (a ≡ false) × (b ≡ false)
-neither true b h = cc
-neither false b h = (refl, h)
-
 no_target : (name : List ℕ) → is_reserved name ≡ false → IsNoTarget name
 unfolding is_reserved
 no_target name h =
-    let a = neither (bytes_eq name (codes "INPUT")) _ h in
-    let b = neither (bytes_eq name (codes "FORWARD")) _ a.1 in
-    let d = neither (bytes_eq name (codes "OUTPUT")) _ b.1 in
-    let e = neither (bytes_eq name (codes "ACCEPT")) _ d.1 in
-    let f = neither (bytes_eq name (codes "DROP")) _ e.1 in
-    let g = neither (bytes_eq name (codes "REJECT")) _ f.1 in
-    let i = neither (bytes_eq name (codes "RETURN")) _ g.1 in
-    let j = neither (bytes_eq name (codes "LOG")) _ i.1 in
+    let a = or_parts (bytes_eq name (codes "INPUT")) _ h in
+    let b = or_parts (bytes_eq name (codes "FORWARD")) _ a.1 in
+    let d = or_parts (bytes_eq name (codes "OUTPUT")) _ b.1 in
+    let e = or_parts (bytes_eq name (codes "ACCEPT")) _ d.1 in
+    let f = or_parts (bytes_eq name (codes "DROP")) _ e.1 in
+    let g = or_parts (bytes_eq name (codes "REJECT")) _ f.1 in
+    let i = or_parts (bytes_eq name (codes "RETURN")) _ g.1 in
+    let j = or_parts (bytes_eq name (codes "LOG")) _ i.1 in
     record { accept = e.0; drops = f.0; reject = g.0; returns = i.0; log = j.0 }
 
 not_named : (name : List ℕ) → is_reserved name ≡ false → named_target name ≡ None

@@ -9,6 +9,7 @@ use Rattle.ipt_rules.specs.declared.rule.Rule.{Rule}
 use Rattle.ipt_rules.specs.declared.rule.Target.{Target}
 use Rattle.ipt_rules.specs.declared.rule.Target.TheVariants.{Count, Jump}
 use Rattle.ipt_rules.specs.Chain.{Chain, number_of, user_chain, with_policy, with_rule}
+use Rattle.ipt_rules.specs.ChainTable.{chain_limit, rule_limit}
 use Rattle.ipt_rules.specs.Name.{is_user_name}
 use Rattle.ipt_rules.specs.RuleParts.{names_ports}
 use Rattle.ipt_rules.specs.Text.{policy_text}
@@ -93,8 +94,8 @@ pub data IsLine (n : ℕ) (s : SaidSoFar) : List (List ℕ) → SaidSoFar → Ty
       → IsChainLine ws name (policy_text (Some policy)) → number_of s.chains name ≡ Some c → c < 3 → line_of s.declared c ≡ 0
       → IsLine n s ws (record s { chains = with_policy s.chains c policy; declared = slice_set s.declared c n })
   user : {ws : List (List ℕ)} {name : List ℕ} → s.stage ≡ Table → IsChainLine ws name (policy_text None)
-      → number_of s.chains name ≡ None → IsTrue (is_user_name name) → length s.chains < 4096
+      → number_of s.chains name ≡ None → IsTrue (is_user_name name) → length s.chains < chain_limit
       → IsLine n s ws (record s { chains = s.chains ++ user_chain name ∷ []; declared = s.declared ++ n ∷ [] })
-  rule : {ws : List (List ℕ)} {c : ℕ} {r : Rule} → s.stage ≡ Table → IsRuleLine s.chains ws c r → s.rules < 1000000
+  rule : {ws : List (List ℕ)} {c : ℕ} {r : Rule} → s.stage ≡ Table → IsRuleLine s.chains ws c r → s.rules < rule_limit
       → IsLine n s ws (record s { chains = with_rule s.chains c r; rules = s.rules + 1 })
   commit : s.stage ≡ Table → IsLine n s (codes "COMMIT" ∷ []) (record s { stage = After })

@@ -4,6 +4,7 @@ use Rattle.text_core.specs.Lines.{begins_with}
 use Rattle.ipt_rules.specs.declared.rule.Policy.{Policy}
 use Rattle.ipt_rules.specs.declared.rule.Rule.{Rule}
 use Rattle.ipt_rules.specs.Chain.{Chain, number_of}
+use Rattle.ipt_rules.specs.ChainTable.{chain_limit, rule_limit}
 use Rattle.ipt_rules.specs.Name.{is_user_name}
 use Rattle.ipt_rules.specs.Text.{policy_text}
 use Rattle.ipt_read.specs.declared.fault.IptWhy.{IptWhy}
@@ -67,8 +68,8 @@ pub data IsBad (s : SaidSoFar) (w : List ℕ) (ws : List (List ℕ)) : IptWhy �
   behind_table : s.stage ≡ Front → w ≡ codes "*filter" → ws ≢ [] → IsBad s w ws BadLine
   bad_chain : s.stage ≡ Table → IsTrue (begins_with 58 w) → (MayDeclare s (w ∷ ws) → ⊥) → IsBad s w ws BadChain
   many_chains : s.stage ≡ Table → (name : List ℕ) → IsChainLine (w ∷ ws) name (policy_text None) → number_of s.chains name ≡ None
-      → IsTrue (is_user_name name) → 4096 ≤ length s.chains → IsBad s w ws TooMany
+      → IsTrue (is_user_name name) → chain_limit ≤ length s.chains → IsBad s w ws TooMany
   bad_rule : {why : IptWhy} → s.stage ≡ Table → BeginsRule w → IsBadRule s.chains (w ∷ ws) why → IsBad s w ws why
-  many_rules : s.stage ≡ Table → BeginsRule w → (c : ℕ) (r : Rule) → IsRuleLine s.chains (w ∷ ws) c r → 1000000 ≤ s.rules → IsBad s w ws TooMany
+  many_rules : s.stage ≡ Table → BeginsRule w → (c : ℕ) (r : Rule) → IsRuleLine s.chains (w ∷ ws) c r → rule_limit ≤ s.rules → IsBad s w ws TooMany
   other_line : s.stage ≡ Table → IsFalse (begins_with 58 w) → (BeginsRule w → ⊥) → w ∷ ws ≢ codes "COMMIT" ∷ [] → IsBad s w ws BadLine
   after_commit : s.stage ≡ After → IsBad s w ws AfterCommit

@@ -21,19 +21,19 @@ pub enum IptWhy {
     /// A chain line whose name, policy or count is none, or whose chain has one already.
     #[error("BadChain")]
     BadChain,
-    /// A rule of a chain that has no chain line before it.
+    /// A rule of a user chain that has no chain line before it.
     #[error("UnknownChain")]
     UnknownChain,
     /// A match of an interface, which is not read.
     #[error("Interface")]
     Interface,
-    /// A word that is no option where it stands.
+    /// A word that is no option where it stands, or a module that is not read there.
     #[error("UnknownOption")]
     UnknownOption,
     /// A value that is none of its option, or none at all.
     #[error("BadValue")]
     BadValue,
-    /// A target that is none, or a chain that has no chain line before the rule.
+    /// A target that is none, a built-in chain, or a chain that has no chain line before the rule.
     #[error("UnknownTarget")]
     UnknownTarget,
     /// From the chain of that line jumps lead back to it.

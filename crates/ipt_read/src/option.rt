@@ -4,7 +4,7 @@ use ipt_rules::{Rule, Target};
 
 /// An option of a rule line.
 #[derive(Clone, Copy, Debug, PartialEq, Eq)]
-pub(crate) enum Opt {
+pub(crate) enum RuleOption {
     Source,
     Destination,
     Protocol,
@@ -38,6 +38,6 @@ pub(crate) struct Given {
 pub(crate) enum Place {
     AtOption,
     AfterBang,
-    AtValue(Opt, bool),
+    AtValue(RuleOption, bool),
     InText,
 }

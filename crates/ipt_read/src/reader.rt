@@ -15,16 +15,12 @@ ghost use Rattle.ipt_read.specs.TextLines.{rules_text};
 use crate::fault::{IptWhy, bad};
 use crate::rule_line::{is_count, rule_line_of};
 use crate::stage::Stage;
-use ipt_rules::{ChainName, Chains, Policy, Rule};
+use ipt_rules::{CHAIN_LIMIT, ChainName, Chains, Policy, RULE_LIMIT, Rule};
 use std::alloc::{AllocError, Global};
 use text_core::{LineFault, LineReader, Words, begins_with};
 
 /// The most bytes that a text may have.
 pub const BYTE_LIMIT: usize = 67_108_864;
-
-const CHAIN_LIMIT: usize = 4096;
-
-const RULE_LIMIT: u32 = 1_000_000;
 
 /// What the lines have said: for each chain the line of its chain line, 0 where it has none yet.
 #[derive(Drop)]
@@ -81,12 +77,12 @@ fn built_in_policy(word: &[u8]) -> Option<Policy>
 
 fn with_built_in(
     mut state: Reader,
-    n: u32,
+    number: u32,
     chain: u16,
     policy: Option<Policy>,
 ) -> Result<Reader, LineFault<IptWhy>>
     requires { chain < length state.declared.items }
-    ensures { AnswersTo (with_built_in n (said_of state) chain policy) result }
+    ensures { AnswersTo (with_built_in number (said_of state) chain policy) result }
 {
     let Some(policy) = policy else {
         return Err(bad(IptWhy::BadChain));
@@ -95,20 +91,20 @@ fn with_built_in(
         return Err(bad(IptWhy::BadChain));
     }
     state.chains.set_policy(chain, policy);
-    state.declared[chain as usize] = n;
+    state.declared[chain as usize] = number;
     Ok(state)
 }
 
 fn with_user_chain(
     mut state: Reader,
-    n: u32,
+    number: u32,
     name: &[u8],
     policy: &[u8],
 ) -> Result<Reader, LineFault<IptWhy>>
     requires unused { number_of state.chains name.now ≡ None }
     requires few { length state.chains ≤ 4096 }
     requires numbered { length state.declared.items ≡ length state.chains }
-    ensures { AnswersTo (declare n (said_of state) name.now policy.now None) result }
+    ensures { AnswersTo (declare number (said_of state) name.now policy.now None) result }
 {
     let Some(name) = ChainName::new(name) else {
         return Err(bad(IptWhy::BadChain));
@@ -119,19 +115,19 @@ fn with_user_chain(
     if state.declared.len() >= CHAIN_LIMIT {
         return Err(bad(IptWhy::TooMany));
     }
-    match add_chain(state, n, name) {
+    match add_chain(state, number, name) {
         Ok(state) => Ok(state),
         Err(_) => Err(LineFault::Memory),
     }
 }
 
-fn add_chain(mut state: Reader, n: u32, name: ChainName) -> Result<Reader, AllocError>
+fn add_chain(mut state: Reader, number: u32, name: ChainName) -> Result<Reader, AllocError>
     requires unused { number_of state.chains name ≡ None }
     requires few { length state.chains < 4096 }
     ensures { IfOk result (λ t. said_of t ≡
-        record (said_of state) { chains = state.chains ++ user_chain name ∷ []; declared = state.declared.items ++ n ∷ [] }) }
+        record (said_of state) { chains = state.chains ++ user_chain name ∷ []; declared = state.declared.items ++ number ∷ [] }) }
 {
-    state.declared.push(n)?;
+    state.declared.push(number)?;
     state.chains.add(name)?;
     Ok(state)
 }
@@ -154,27 +150,37 @@ fn add_rule(mut state: Reader, chain: u16, rule: Rule) -> Result<Reader, LineFau
 }
 
 #[tactic(auto, using(crate::proofs::WithinLaws::number_of_within))]
-fn declare(state: Reader, n: u32, name: &[u8], policy: &[u8]) -> Result<Reader, LineFault<IptWhy>>
+fn declare(
+    state: Reader,
+    number: u32,
+    name: &[u8],
+    policy: &[u8],
+) -> Result<Reader, LineFault<IptWhy>>
     requires { IsFine (said_of state) }
-    ensures { AnswersTo (declare n (said_of state) name.now policy.now (number_of state.chains name.now)) result }
+    ensures { AnswersTo (declare number (said_of state) name.now policy.now (number_of state.chains name.now)) result }
 {
     match state.chains.find(name) {
-        Some(chain) => with_built_in(state, n, chain, built_in_policy(policy)),
-        None => with_user_chain(state, n, name, policy),
+        Some(chain) => with_built_in(state, number, chain, built_in_policy(policy)),
+        None => with_user_chain(state, number, name, policy),
     }
 }
 
 #[tactic(auto, unfolding(crate::specs::inner::LineStep::chain_line_of))]
-fn chain_line(state: Reader, n: u32, word: &[u8], rest: Words) -> Result<Reader, LineFault<IptWhy>>
+fn chain_line(
+    state: Reader,
+    number: u32,
+    word: &[u8],
+    rest: Words,
+) -> Result<Reader, LineFault<IptWhy>>
     requires fine { IsFine (said_of state) }
     requires word { 0 < length word.now }
-    ensures { AnswersTo (chain_line_of n (said_of state) word.now rest.entry) result }
+    ensures { AnswersTo (chain_line_of number (said_of state) word.now rest.entry) result }
 {
     match policy_word(rest) {
         None => Err(bad(IptWhy::BadChain)),
         Some(policy) => {
             let (_, name) = word.split_at(1);
-            declare(state, n, name, policy)
+            declare(state, number, name, policy)
         }
     }
 }
@@ -204,12 +210,17 @@ fn commit_line(mut state: Reader, word: &[u8], mut rest: Words) -> Result<Reader
 }
 
 #[tactic(auto, unfolding(crate::specs::inner::LineStep::body_line_of))]
-fn body_line(state: Reader, n: u32, word: &[u8], rest: Words) -> Result<Reader, LineFault<IptWhy>>
+fn body_line(
+    state: Reader,
+    number: u32,
+    word: &[u8],
+    rest: Words,
+) -> Result<Reader, LineFault<IptWhy>>
     requires { IsFine (said_of state) }
-    ensures { AnswersTo (body_line_of n (said_of state) word.now rest.entry) result }
+    ensures { AnswersTo (body_line_of number (said_of state) word.now rest.entry) result }
 {
     if begins_with(word, b':') {
-        return chain_line(state, n, word, rest);
+        return chain_line(state, number, word, rest);
     }
     if word == b"-A".as_slice() || begins_with(word, b'[') {
         return rule_line(state, word, rest);
@@ -218,9 +229,9 @@ fn body_line(state: Reader, n: u32, word: &[u8], rest: Words) -> Result<Reader, 
 }
 
 #[tactic(auto, unfolding(crate::specs::inner::LineStep::line_of_words))]
-fn words_line(state: Reader, n: u32, line: &[u8]) -> Result<Reader, LineFault<IptWhy>>
+fn words_line(state: Reader, number: u32, line: &[u8]) -> Result<Reader, LineFault<IptWhy>>
     requires { IsFine (said_of state) }
-    ensures { AnswersTo (line_step n (said_of state) line.now) result }
+    ensures { AnswersTo (line_step number (said_of state) line.now) result }
 {
     let mut rest = Words::new(line);
     let Some(word) = rest.next_word() else {
@@ -228,7 +239,7 @@ fn words_line(state: Reader, n: u32, line: &[u8]) -> Result<Reader, LineFault<Ip
     };
     match state.stage {
         Stage::Front => table_line(state, word, rest),
-        Stage::Table => body_line(state, n, word, rest),
+        Stage::Table => body_line(state, number, word, rest),
         Stage::After => Err(bad(IptWhy::AfterCommit)),
     }
 }

@@ -13,14 +13,18 @@ ghost use Rattle.ipt_read.specs.inner.ReaderView.{AnswersAs, given_of, next_of};
 ghost use Rattle.ipt_read.specs.inner.RuleLine.{at_option, is_bang, word_step, at_end, word_by_word, append_of, rule_line_of};
 
 use crate::fault::IptWhy;
-use crate::option::{Given, Opt, Place};
+use crate::option::{Given, Place, RuleOption};
 use crate::table::{
     is_barred, is_interface, may_stand, option_of, quoted, value_refusal, with_value,
 };
 use ipt_rules::{Chains, Rule, Target};
 use text_core::{Words, begins_with, split_once};
 
-fn at_option(given: Given, negated: bool, option: Option<Opt>) -> Result<(Given, Place), IptWhy>
+fn at_option(
+    given: Given,
+    negated: bool,
+    option: Option<RuleOption>,
+) -> Result<(Given, Place), IptWhy>
     ensures { AnswersAs next_of (at_option (given_of given) negated option) result }
 {
     let Some(option) = option else {

@@ -7,64 +7,70 @@ ghost use Rattle.std.specs.Option.{option_map};
 ghost use Rattle.ipt_read.specs.declared.option.Place.TheVariants.{AtOption};
 ghost use Rattle.ipt_read.specs.Options.{rejects, logs, named_target};
 ghost use Rattle.ipt_read.specs.Values.{is_state, listed};
-ghost use Rattle.ipt_read.specs.inner.OptionSteps.{option_of, may_stand, is_interface, bars, jump_to, target_of, is_own_module, with_module, value_refusal};
+ghost use Rattle.ipt_read.specs.inner.OptionSteps.{option_of, option_of_target, may_stand, is_interface, bars, jump_to, target_of, is_own_module, with_module, value_refusal};
 ghost use Rattle.ipt_read.specs.inner.ReaderView.{given_of, next_of};
-ghost use Rattle.ipt_read.specs.inner.ValueSteps.{closes, quoted, text_of, states_of, port_match, with_value};
+ghost use Rattle.ipt_read.specs.inner.ValueSteps.{closes, quoted, text_of, states_of, port_match, state_match, with_value};
 
 use crate::fault::IptWhy;
-use crate::option::{Given, Opt, Place};
+use crate::option::{Given, Place, RuleOption};
 use crate::service::{asked_ports, asked_protocol};
 use host_net::read_prefix;
 use ipt_rules::{AddrMatch, Chains, PortMatch, ProtoMatch, Rule, StateMatch, Target};
 
 #[tactic(auto, unfolding(crate::specs::inner::OptionSteps::option_of))]
-pub(crate) fn option_of(word: &[u8]) -> Option<Opt>
+pub(crate) fn option_of(word: &[u8]) -> Option<RuleOption>
     ensures { result ≡ option_of word.now }
 {
     if word == b"-i".as_slice() {
-        return Some(Opt::Interface);
+        return Some(RuleOption::Interface);
     }
     if word == b"-o".as_slice() {
-        return Some(Opt::Interface);
+        return Some(RuleOption::Interface);
     }
     if word == b"-s".as_slice() {
-        return Some(Opt::Source);
+        return Some(RuleOption::Source);
     }
     if word == b"-d".as_slice() {
-        return Some(Opt::Destination);
+        return Some(RuleOption::Destination);
     }
     if word == b"-p".as_slice() {
-        return Some(Opt::Protocol);
+        return Some(RuleOption::Protocol);
     }
     if word == b"--sport".as_slice() {
-        return Some(Opt::SourcePort);
+        return Some(RuleOption::SourcePort);
     }
     if word == b"--dport".as_slice() {
-        return Some(Opt::DestinationPort);
+        return Some(RuleOption::DestinationPort);
     }
     if word == b"--ctstate".as_slice() {
-        return Some(Opt::CtState);
+        return Some(RuleOption::CtState);
     }
     if word == b"--state".as_slice() {
-        return Some(Opt::State);
+        return Some(RuleOption::State);
     }
     if word == b"--comment".as_slice() {
-        return Some(Opt::Comment);
+        return Some(RuleOption::Comment);
     }
     if word == b"-m".as_slice() {
-        return Some(Opt::Module);
+        return Some(RuleOption::Module);
     }
     if word == b"-j".as_slice() {
-        return Some(Opt::Jump);
+        return Some(RuleOption::Jump);
     }
+    option_of_target(word)
+}
+
+fn option_of_target(word: &[u8]) -> Option<RuleOption>
+    ensures { result ≡ option_of_target word.now }
+{
     if word == b"--reject-with".as_slice() {
-        return Some(Opt::RejectWith);
+        return Some(RuleOption::RejectWith);
     }
     if word == b"--log-prefix".as_slice() {
-        return Some(Opt::LogPrefix);
+        return Some(RuleOption::LogPrefix);
     }
     if word == b"--log-level".as_slice() {
-        return Some(Opt::LogLevel);
+        return Some(RuleOption::LogLevel);
     }
     None
 }
@@ -81,38 +87,43 @@ fn logs(target: Option<Target>) -> bool
     matches!(target, Some(Target::Count))
 }
 
-pub(crate) fn may_stand(given: Given, option: Opt) -> bool
+pub(crate) fn may_stand(given: Given, option: RuleOption) -> bool
     ensures { result ≡ may_stand (given_of given) option }
 {
     match option {
-        Opt::SourcePort | Opt::DestinationPort => given.target.is_none() && given.ports,
-        Opt::CtState => given.target.is_none() && given.conntrack,
-        Opt::State => given.target.is_none() && given.states,
-        Opt::Comment => given.target.is_none() && given.comments,
-        Opt::RejectWith => rejects(given.target),
-        Opt::LogPrefix | Opt::LogLevel => logs(given.target),
-        Opt::Source | Opt::Destination | Opt::Protocol | Opt::Interface | Opt::Module | Opt::Jump =>
-            given.target.is_none(),
+        RuleOption::SourcePort | RuleOption::DestinationPort => given.target.is_none()
+            && given.ports,
+        RuleOption::CtState => given.target.is_none() && given.conntrack,
+        RuleOption::State => given.target.is_none() && given.states,
+        RuleOption::Comment => given.target.is_none() && given.comments,
+        RuleOption::RejectWith => rejects(given.target),
+        RuleOption::LogPrefix | RuleOption::LogLevel => logs(given.target),
+        RuleOption::Source
+        | RuleOption::Destination
+        | RuleOption::Protocol
+        | RuleOption::Interface
+        | RuleOption::Module
+        | RuleOption::Jump => given.target.is_none(),
     }
 }
 
-pub(crate) fn is_interface(option: Opt) -> bool
+pub(crate) fn is_interface(option: RuleOption) -> bool
     ensures { result ≡ is_interface option }
 {
-    matches!(option, Opt::Interface)
+    matches!(option, RuleOption::Interface)
 }
 
 /// Whether the rule has the part of a match already, or `!` stands before what is no match.
-pub(crate) fn is_barred(given: Given, negated: bool, option: Opt) -> bool
+pub(crate) fn is_barred(given: Given, negated: bool, option: RuleOption) -> bool
     ensures { result ≡ bars (given_of given) negated option }
 {
     match option {
-        Opt::Source => given.rule.src.is_some(),
-        Opt::Destination => given.rule.dst.is_some(),
-        Opt::Protocol => given.rule.proto.is_some(),
-        Opt::SourcePort => given.rule.sport.is_some(),
-        Opt::DestinationPort => given.rule.dport.is_some(),
-        Opt::CtState | Opt::State => given.rule.state.is_some(),
+        RuleOption::Source => given.rule.src.is_some(),
+        RuleOption::Destination => given.rule.dst.is_some(),
+        RuleOption::Protocol => given.rule.proto.is_some(),
+        RuleOption::SourcePort => given.rule.sport.is_some(),
+        RuleOption::DestinationPort => given.rule.dport.is_some(),
+        RuleOption::CtState | RuleOption::State => given.rule.state.is_some(),
         _ => negated,
     }
 }
@@ -283,6 +294,17 @@ fn port_match(ports: (u16, u16), negated: bool) -> PortMatch
     PortMatch { low, high, negated }
 }
 
+fn state_match(flags: (bool, bool), negated: bool) -> StateMatch
+    ensures { result ≡ state_match negated flags }
+{
+    let (new, established) = flags;
+    StateMatch {
+        new,
+        established,
+        negated,
+    }
+}
+
 fn with_rule(given: Given, rule: Rule) -> (Given, Place)
     ensures { next_of result ≡ (record (given_of given) { rule = rule }, AtOption) }
 {
@@ -294,7 +316,7 @@ fn with_rule(given: Given, rule: Rule) -> (Given, Place)
 pub(crate) fn with_value(
     chains: &Chains,
     given: Given,
-    option: Opt,
+    option: RuleOption,
     negated: bool,
     word: &[u8],
 ) -> Option<(Given, Place)>
@@ -302,55 +324,50 @@ pub(crate) fn with_value(
 {
     let rule = given.rule;
     match option {
-        Opt::Source => {
+        RuleOption::Source => {
             let prefix = read_prefix(word)?;
             let src = Some(AddrMatch { prefix, negated });
             Some(with_rule(given, Rule { src, ..rule }))
         }
-        Opt::Destination => {
+        RuleOption::Destination => {
             let prefix = read_prefix(word)?;
             let dst = Some(AddrMatch { prefix, negated });
             Some(with_rule(given, Rule { dst, ..rule }))
         }
-        Opt::Protocol => {
+        RuleOption::Protocol => {
             let proto = asked_protocol(word)?;
             let proto = Some(ProtoMatch { proto, negated });
             Some(with_rule(given, Rule { proto, ..rule }))
         }
-        Opt::SourcePort => {
+        RuleOption::SourcePort => {
             let sport = Some(port_match(asked_ports(word)?, negated));
             Some(with_rule(given, Rule { sport, ..rule }))
         }
-        Opt::DestinationPort => {
+        RuleOption::DestinationPort => {
             let dport = Some(port_match(asked_ports(word)?, negated));
             Some(with_rule(given, Rule { dport, ..rule }))
         }
-        Opt::Interface => None,
-        Opt::Module => Some((with_module(given, word)?, Place::AtOption)),
-        Opt::CtState | Opt::State => {
-            let (new, established) = states_of(word)?;
-            let state = Some(StateMatch {
-                new,
-                established,
-                negated,
-            });
+        RuleOption::Interface => None,
+        RuleOption::Module => Some((with_module(given, word)?, Place::AtOption)),
+        RuleOption::CtState | RuleOption::State => {
+            let state = Some(state_match(states_of(word)?, negated));
             Some(with_rule(given, Rule { state, ..rule }))
         }
-        Opt::Comment | Opt::LogPrefix => Some((given, text_of(word)?)),
-        Opt::Jump => {
+        RuleOption::Comment | RuleOption::LogPrefix => Some((given, text_of(word)?)),
+        RuleOption::Jump => {
             let target = Some(target_of(chains, word)?);
             Some((Given { target, ..given }, Place::AtOption))
         }
-        Opt::RejectWith | Opt::LogLevel => Some((given, Place::AtOption)),
+        RuleOption::RejectWith | RuleOption::LogLevel => Some((given, Place::AtOption)),
     }
 }
 
-pub(crate) fn value_refusal(option: Opt) -> IptWhy
+pub(crate) fn value_refusal(option: RuleOption) -> IptWhy
     ensures { result ≡ value_refusal option }
 {
     match option {
-        Opt::Module => IptWhy::UnknownOption,
-        Opt::Jump => IptWhy::UnknownTarget,
+        RuleOption::Module => IptWhy::UnknownOption,
+        RuleOption::Jump => IptWhy::UnknownTarget,
         _ => IptWhy::BadValue,
     }
 }

@@ -36,7 +36,7 @@ pub rules_left : (xs : List Chain) (i : ℕ) (x : Chain) → i < length xs → x
 rules_left xs i x h is = ap rule_count (chains_at xs i x h is)
 
 -- one rule more that jumps somewhere
-known_first : (b : Bool) (i : ℕ) (o : Option ℕ) → cond b (Some i) o ≡ None → (b ≡ false) × (o ≡ None)
+pub known_first : (b : Bool) (i : ℕ) (o : Option ℕ) → cond b (Some i) o ≡ None → (b ≡ false) × (o ≡ None)
 known_first true i o h = cc
 known_first false i o h = (refl, h)
 
@@ -46,7 +46,7 @@ rules_known count i (r ∷ rs) known =
     let here = known_first (jumps_nowhere count r.target) i (position_from (λ s. jumps_nowhere count s.target) (i + 1) rs) known in
     and_from _ _ (ap not here.0) (rules_known count (i + 1) rs here.1)
 
-none_at : (n : ℕ) (o : Option ℕ) (others : Option BuildRefusal) → unknown_at n o others ≡ None → (o ≡ None) × (others ≡ None)
+pub none_at : (n : ℕ) (o : Option ℕ) (others : Option BuildRefusal) → unknown_at n o others ≡ None → (o ≡ None) × (others ≡ None)
 none_at n None others h = (refl, h)
 none_at n (Some k) others h = cc
 

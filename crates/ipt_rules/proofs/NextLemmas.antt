@@ -1,6 +1,6 @@
 -- Rules that are passed over do not fit, and change nothing.
 use Rattle.std.proofs.Common.{◌≡◌, ℕ, zero, suc, ◌+◌, ◌-◌, ◌≤◌, ◌<◌, ◌^◌, ◌∙◌, inl, inr, sym, ap, refl, subst, arith, Bool, true, false, cond, List, [], ◌∷◌, ◌++◌, Option, Some, None, length, append_assoc, get_or, drop, slice_get}
-use Rattle.std.proofs.lemmas.Bool.{and_from, and_parts}
+use Rattle.std.proofs.lemmas.Bool.{and_from, and_parts, false_from_ne_true}
 use Rattle.std.proofs.lemmas.List.{drop_more}
 use Rattle.std.specs.Prelude.{IfSome}
 use Rattle.std.proofs.lemmas.Option.{same_Some, slice_get_within, slice_get_cases, slice_get_read}
@@ -24,10 +24,6 @@ use Rattle.ipt_rules.specs.inner.Walking.{GivesAlso}
 use Rattle.ipt_rules.proofs.Gets.{get_pushed}
 use Rattle.ipt_rules.proofs.WalkLemmas.{goes_on_here}
 
-by_test : (b : Bool) → (b ≡ true → ⊥) → b ≡ false
-by_test true fails = absurd (fails refl)
-by_test false fails = refl
-
 turned_covers : (negated : Bool) (p : Prefix) (a : ℕ) → turned negated (covers p a) ≡ true → part_covers (cond negated None (Some p)) a ≡ true
 turned_covers true p a fits = refl
 turned_covers false p a fits = fits
@@ -47,7 +43,7 @@ rule_covers packet state r fits =
     and_from (part_covers (part_of r.src) packet.src) (part_covers (part_of r.dst) packet.dst) (part_fits r.src packet.src src) (part_fits r.dst packet.dst dst)
 
 not_covered : (packet : Packet) (state : CtState) (r : Rule) → covers_both packet.src packet.dst (ends_of r) ≡ false → matches packet state r ≡ false
-not_covered packet state r off = by_test (matches packet state r) (λ fits. let on = rule_covers packet state r fits in cc)
+not_covered packet state r off = false_from_ne_true (matches packet state r) (λ fits. let on = rule_covers packet state r fits in cc)
 
 ends_at : (rules : List Rule) (i : ℕ) (r : Rule) → slice_get rules i ≡ Some r → slice_get (all_ends rules) i ≡ Some (ends_of r)
 ends_at [] i r there = cc

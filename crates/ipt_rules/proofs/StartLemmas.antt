@@ -1,13 +1,12 @@
 -- Where the rules of each chain begin, and which line stands so far behind.
 use Rattle.std.proofs.Common.{◌≡◌, ℕ, zero, suc, ◌+◌, ◌-◌, ◌<◌, ◌≤◌, ◌∙◌, sym, ap, refl, List, [], ◌∷◌, ◌++◌, length, get_or, take, drop, arith, append_assoc, take-append-drop}
-use Rattle.std.specs.Prelude.{slice_get, IsSome}
+use Rattle.std.specs.Prelude.{slice_get}
 use Rattle.std.specs.List.{flat_map}
 use Rattle.std.specs.List.Sorted.{IsNonDecreasingBy}
 use Rattle.std.proofs.lemmas.Grind.{flat_map-append}
 use Rattle.std.proofs.Math.Numerals.{add-one}
-use Rattle.ipt_rules.specs.Chain.{Chain, policy_of}
+use Rattle.ipt_rules.specs.Chain.{Chain}
 use Rattle.ipt_rules.specs.ChainTable.{rule_count}
-use Rattle.ipt_rules.specs.inner.ChainTable.{IsTable}
 use Rattle.ipt_rules.specs.inner.Starts.{starts_from}
 use Rattle.ipt_rules.specs.Text.{rule_lines, commit_line}
 use Rattle.ipt_rules.proofs.TextLaws.{rule_line_count}
@@ -65,13 +64,6 @@ rest_from chains c left =
     ∙ ap (λ (ls : List (List ℕ)). slice_get ls (rule_count (take c chains) + left)) (append_assoc front back (commit_line ∷ []))
     ∙ slice_get_after front (back ++ commit_line ∷ []) (rule_count (take c chains) + left) (omega (arith, long))
     ∙ ap (slice_get (back ++ commit_line ∷ [])) behind
-
-some_policy : (chains : List Chain) → IsSome (policy_of chains 0) → 0 < length chains
-some_policy [] h = cc
-some_policy (x ∷ xs) h = omega arith
-
-pub some_chain : (chains : List Chain) → IsTable chains → 0 < length chains
-some_chain chains table = some_policy chains (table.built_in 0 (omega arith))
 
 pub begins : (chains : List Chain) (starts : List ℕ) (c : ℕ) → starts ≡ starts_from 0 chains → c < length chains → get_or starts c 0 ≡ rule_count (take c chains)
 begins chains starts c are h =

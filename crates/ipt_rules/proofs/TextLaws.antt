@@ -66,11 +66,11 @@ pub protocol_short : (n : ℕ) → n < 2 ^ 8 → length (protocol_text n) ≤ 4
 protocol_short n fits =
     by_name n (n == icmp) (n == tcp) (n == udp) (length-decimal-le 3 n (omega arith) (omega arith) (omega arith))
 
-counted_protocol : (n : ℕ) → has_ports n ≡ true → (n ≡ tcp) ⊎ (n ≡ udp)
-counted_protocol n ports = grind (arith, nat_tests)
+pub which_has_ports : (n : ℕ) → has_ports n ≡ true → (n ≡ tcp) ⊎ (n ≡ udp)
+which_has_ports n ports = grind (arith, nat_tests)
 
 pub counted_short : (n : ℕ) → has_ports n ≡ true → length (protocol_text n) ≤ 3
-counted_short n ports = elim (counted_protocol n ports) [
+counted_short n ports = elim (which_has_ports n ports) [
   | inl six ↦ subst (λ (m : ℕ). length (protocol_text m) ≤ 3) (sym six) (omega arith)
   | inr other ↦ subst (λ (m : ℕ). length (protocol_text m) ≤ 3) (sym other) (omega arith)
 ]

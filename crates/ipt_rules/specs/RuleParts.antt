@@ -1,4 +1,4 @@
--- What a rule may ask for beside addresses and states (iptables(8), iptables-extensions(8) on tcp and udp).
+-- Whether a rule asks for a protocol that has ports (iptables-extensions(8) on tcp and udp).
 use Rattle.std.specs.Prelude.{Bool, false, not, ◌&&◌, Option, Some, None}
 use Rattle.host_net.specs.Service.{has_ports}
 use Rattle.ipt_rules.specs.declared.rule.ProtoMatch.{ProtoMatch}

@@ -96,7 +96,7 @@ impl Chain {
         self.head.policy()
     }
 
-    /// Gives a built-in chain another policy. A user chain has none, and stays as it is.
+    /// Gives a built-in chain another policy.
     pub(crate) fn set_policy(&mut self, policy: Policy)
         requires { IsSome self.old.policy }
         ensures { self.new ≡ record self.old { policy = Some policy } }

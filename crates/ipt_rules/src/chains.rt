@@ -9,6 +9,7 @@ ghost use Rattle.ipt_rules.specs.inner.RuleParts.{is_rule};
 use crate::chain::{Chain, Head};
 use crate::name::ChainName;
 use crate::rule::{Policy, Rule};
+use crate::ruleset::{FORWARD, INPUT, OUTPUT};
 use std::alloc::{AllocError, Global};
 use std::marker::Model;
 
@@ -115,9 +116,9 @@ impl Chains {
 
 fn built_in_by_name(alloc: Global) -> Result<Vec<u16>, AllocError> {
     let mut by_name = Vec::new(alloc);
-    by_name.push(1)?;
-    by_name.push(0)?;
-    by_name.push(2)?;
+    by_name.push(FORWARD)?;
+    by_name.push(INPUT)?;
+    by_name.push(OUTPUT)?;
     Ok(by_name)
 }
 

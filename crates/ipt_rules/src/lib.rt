@@ -27,4 +27,4 @@ pub use name::ChainName;
 pub use rule::{
     AddrMatch, Policy, PortMatch, ProtoMatch, Rule, StateMatch, Target, address_matches,
 };
-pub use ruleset::{BuildRefusal, FORWARD, INPUT, OUTPUT, Ruleset};
+pub use ruleset::{BuildRefusal, CHAIN_LIMIT, FORWARD, INPUT, OUTPUT, RULE_LIMIT, Ruleset};

@@ -9,8 +9,6 @@ ghost use Rattle.ipt_rules.specs.inner.Ranks.{row_of, place_of, IsBefore, IsPart
 use crate::jumps::JumpTable;
 use std::alloc::{AllocError, Global};
 
-pub(crate) const CHAIN_LIMIT: usize = 4096;
-
 #[derive(Drop)]
 pub(crate) struct Ranking {
     pub(crate) order: Vec<u16>,

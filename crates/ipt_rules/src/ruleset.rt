@@ -13,14 +13,16 @@ ghost use Rattle.ipt_rules.specs.inner.OneOutcome.{EachGivesOne};
 use crate::chain::Chain;
 use crate::chains::Chains;
 use crate::loops::loop_among;
-use crate::ranking::CHAIN_LIMIT;
 use crate::rule::{Rule, Target};
 use crate::starts::starts_of;
 use std::alloc::{AllocError, Global};
 use std::cell::Cell;
 use std::marker::Model;
 
-const RULE_LIMIT: u32 = 1_000_000;
+/// The most chains of a rule set.
+pub const CHAIN_LIMIT: usize = 4096;
+/// The most rules of a rule set, in all its chains.
+pub const RULE_LIMIT: u32 = 1_000_000;
 
 /// The built-in chain of packets to the machine itself.
 pub const INPUT: u16 = 0;

@@ -18,8 +18,8 @@ ghost use Rattle.host_net.specs.inner.CoverView.{IsIndexOf};
 
 use crate::chain::Chain;
 use crate::next::{index_at, next_rule};
-use crate::ranking::CHAIN_LIMIT;
 use crate::rule::{Policy, Rule, Target};
+use crate::ruleset::CHAIN_LIMIT;
 use arrayvec::ArrayVec;
 use host_net::{Covers, CtState, Packet, Verdict};
 

@@ -7,7 +7,8 @@ use Rattle.emit_core.proofs.WritableLaws.{layout_short, layout_writable}
 use Rattle.flow_set.specs.declared.flow.Flow.{Flow}
 use Rattle.host_net.specs.Site.{Site}
 use Rattle.host_net.specs.inner.Site.{IsSite}
-use Rattle.ipt_read.proofs.AgainLaws.{one_reading, text_read_again}
+use Rattle.ipt_read.proofs.AgainLaws.{text_read_again}
+use Rattle.ipt_read.proofs.FaultLaws.{one_reading}
 use Rattle.ofp_read.proofs.AgainLaws.{text_read_again as flows_read_again}
 use Rattle.ofp_read.proofs.FaultLaws.{one_reading as one_reading_of_flows}
 use Rattle.pkt_core.specs.Filter.{Enforces}

@@ -9,8 +9,7 @@ use Rattle.desc_form.specs.declared.refusal.Place.TheVariants.{Document as Whole
 use Rattle.desc_form.specs.declared.refusal.Why.TheVariants.{TooLong}
 use Rattle.edit_core.proofs.EditFaultLaws.{edits_settled}
 use Rattle.edit_core.specs.EditsText.{edits_text, IsRefused as IsRefusedInEdits}
-use Rattle.ipt_read.proofs.FaultLaws.{one_fault, no_reading_with_fault}
-use Rattle.ipt_read.proofs.AgainLaws.{one_reading}
+use Rattle.ipt_read.proofs.FaultLaws.{one_reading, one_fault, no_reading_with_fault}
 use Rattle.ipt_read.specs.TextLines.{HasFault as HasFaultInRules}
 use Rattle.ipt_read.specs.declared.fault.IptWhy.TheVariants.{TooLong as RulesTooLong}
 use Rattle.net_core.specs.inner.Fitting.{IsNetwork}

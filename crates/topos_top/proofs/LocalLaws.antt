@@ -9,7 +9,8 @@ use Rattle.host_emit.specs.LocalLayout.{is_specific}
 use Rattle.host_emit.proofs.LocalWritableLaws.{local_short, local_writable}
 use Rattle.host_net.specs.Host.{Host, rest_of}
 use Rattle.host_net.specs.inner.Site.{IsSite}
-use Rattle.ipt_read.proofs.AgainLaws.{one_reading, text_read_again}
+use Rattle.ipt_read.proofs.AgainLaws.{text_read_again}
+use Rattle.ipt_read.proofs.FaultLaws.{one_reading}
 use Rattle.ipt_read.specs.TextLines.{IsReading}
 use Rattle.ipt_rules.specs.Chain.{Chain}
 use Rattle.ipt_rules.specs.Text.{text}

@@ -1,11 +1,12 @@
 -- One line of a text as the reader goes through it, from its first word on: what the lines say with it, or why it cannot stand there.
 -- Callers see none of it; they have `Grammar` and `LineFault`.
-use Rattle.std.specs.Prelude.{ℕ, ◌+◌, Bool, true, false, ◌&&◌, ◌||◌, not, ◌==◌, nat_lt, if◌then◌else◌, List, [], ◌∷◌, ◌++◌, Option, Some, None, Result, Ok, Err, length, drop, codes, bytes_eq, slice_set}
+use Rattle.std.specs.Prelude.{ℕ, ◌+◌, Bool, true, false, ◌&&◌, ◌||◌, not, ◌==◌, nat_lt, nat_le, if◌then◌else◌, List, [], ◌∷◌, ◌++◌, Option, Some, None, Result, Ok, Err, length, drop, codes, bytes_eq, slice_set}
 use Rattle.text_core.specs.Lines.{words, begins_with}
 use Rattle.ipt_rules.specs.declared.rule.Policy.{Policy}
 use Rattle.ipt_rules.specs.declared.rule.Policy.TheVariants.{Accept, Drop}
 use Rattle.ipt_rules.specs.declared.rule.Rule.{Rule}
 use Rattle.ipt_rules.specs.Chain.{user_chain, with_policy, with_rule, number_of}
+use Rattle.ipt_rules.specs.ChainTable.{chain_limit, rule_limit}
 use Rattle.ipt_rules.specs.Name.{is_user_name}
 use Rattle.ipt_read.specs.declared.fault.IptWhy.{IptWhy}
 use Rattle.ipt_read.specs.declared.fault.IptWhy.TheVariants.{BadLine, OtherTable, BadChain, AfterCommit, TooMany}
@@ -47,7 +48,7 @@ abbrev pub declare : ℕ → SaidSoFar → List ℕ → List ℕ → Option ℕ 
 declare n s name policy (Some c) = with_built_in n s c (built_in_policy policy)
 declare n s name policy None =
     if not (is_user_name name && bytes_eq policy (codes "-")) then Err BadChain
-    else if nat_lt 4095 (length s.chains) then Err TooMany
+    else if nat_le chain_limit (length s.chains) then Err TooMany
     else Ok (record s { chains = s.chains ++ user_chain name ∷ []; declared = s.declared ++ n ∷ [] })
 
 abbrev pub declare_by : ℕ → SaidSoFar → List ℕ → Option (List ℕ) → Result SaidSoFar IptWhy
@@ -57,11 +58,11 @@ declare_by n s name (Some policy) = declare n s name policy (number_of s.chains 
 unfoldable pub chain_line_of : ℕ → SaidSoFar → List ℕ → List (List ℕ) → Result SaidSoFar IptWhy
 chain_line_of n s w ws = declare_by n s (drop 1 w) (policy_word ws)
 
--- one rule more, of 1,000,000 at most
+-- one rule more, within the limit
 abbrev pub with_read_rule : SaidSoFar → Result (ℕ × Rule) IptWhy → Result SaidSoFar IptWhy
 with_read_rule s (Err why) = Err why
 with_read_rule s (Ok r) =
-    if nat_lt 999999 s.rules then Err TooMany else Ok (record s { chains = with_rule s.chains r.0 r.1; rules = s.rules + 1 })
+    if nat_le rule_limit s.rules then Err TooMany else Ok (record s { chains = with_rule s.chains r.0 r.1; rules = s.rules + 1 })
 
 -- the line COMMIT
 abbrev pub commit_line_of : SaidSoFar → List ℕ → List (List ℕ) → Result SaidSoFar IptWhy

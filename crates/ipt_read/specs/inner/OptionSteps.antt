@@ -1,5 +1,5 @@
 -- The options of a rule line as the reader goes through them, one by one. Callers see none of it; they have `Options` and `Grammar`.
-use Rattle.std.specs.Prelude.{ℕ, Bool, true, false, ◌&&◌, nat_lt, if◌then◌else◌, List, [], ◌∷◌, Option, Some, None, is_some, codes, bytes_eq, unwrap_or}
+use Rattle.std.specs.Prelude.{ℕ, Bool, true, false, ◌&&◌, nat_lt, if◌then◌else◌, List, [], ◌∷◌, ◌++◌, map, Option, Some, None, codes, bytes_eq, unwrap_or}
 use Rattle.std.specs.Map.{lookup}
 use Rattle.std.specs.Option.{option_or}
 use Rattle.host_net.specs.ServiceText.{protocol_text}
@@ -10,52 +10,65 @@ use Rattle.ipt_rules.specs.declared.rule.Target.TheVariants.{Count, Jump as Jump
 use Rattle.ipt_rules.specs.Chain.{Chain, number_of}
 use Rattle.ipt_rules.specs.RuleParts.{names_ports}
 use Rattle.ipt_read.specs.declared.fault.IptWhy.{IptWhy}
-use Rattle.ipt_read.specs.declared.fault.IptWhy.TheVariants.{UnknownOption, BadValue, UnknownTarget}
-use Rattle.ipt_read.specs.declared.option.Opt.{Opt}
-use Rattle.ipt_read.specs.declared.option.Opt.TheVariants.{Source, Destination, Protocol, SourcePort, DestinationPort, Interface, Module, CtState, State, Comment, Jump, RejectWith, LogPrefix, LogLevel}
-use Rattle.ipt_read.specs.Options.{Given, Row, in_front, rejects, logs, is_barred, named_target}
+use Rattle.ipt_read.specs.declared.fault.IptWhy.TheVariants.{BadValue}
+use Rattle.ipt_read.specs.declared.option.RuleOption.{RuleOption}
+use Rattle.ipt_read.specs.declared.option.RuleOption.TheVariants.{Source, Destination, Protocol, SourcePort, DestinationPort, Interface, Module, CtState, State, Comment, Jump, RejectWith, LogPrefix, LogLevel}
+use Rattle.ipt_read.specs.Options.{Given, Row, in_front, row_of, is_barred, named_target}
 
--- the options that are read, each behind its name
-abbrev pub named_options : List (List ℕ × Opt)
+-- the name of an option; a match of an interface has another, too
+abbrev pub written : RuleOption → List ℕ
+written Source = codes "-s"
+written Destination = codes "-d"
+written Protocol = codes "-p"
+written SourcePort = codes "--sport"
+written DestinationPort = codes "--dport"
+written Interface = codes "-i"
+written Module = codes "-m"
+written CtState = codes "--ctstate"
+written State = codes "--state"
+written Comment = codes "--comment"
+written Jump = codes "-j"
+written RejectWith = codes "--reject-with"
+written LogPrefix = codes "--log-prefix"
+written LogLevel = codes "--log-level"
+
+-- an option behind its name
+abbrev pub named : RuleOption → List ℕ × RuleOption
+named o = (written o, o)
+
+-- the options of targets
+abbrev pub target_options : List (List ℕ × RuleOption)
+target_options = map named (RejectWith ∷ LogPrefix ∷ LogLevel ∷ [])
+
+abbrev pub option_of_target : List ℕ → Option RuleOption
+option_of_target word = lookup (bytes_eq word) target_options
+
+-- the options that are read
+abbrev pub named_options : List (List ℕ × RuleOption)
 named_options =
-    (codes "-s", Source) ∷ (codes "-d", Destination) ∷ (codes "-p", Protocol) ∷ (codes "--sport", SourcePort) ∷ (codes "--dport", DestinationPort) ∷
-    (codes "--ctstate", CtState) ∷ (codes "--state", State) ∷ (codes "--comment", Comment) ∷ (codes "-m", Module) ∷ (codes "-j", Jump) ∷
-    (codes "--reject-with", RejectWith) ∷ (codes "--log-prefix", LogPrefix) ∷ (codes "--log-level", LogLevel) ∷ []
+    map named (Source ∷ Destination ∷ Protocol ∷ SourcePort ∷ DestinationPort ∷ CtState ∷ State ∷ Comment ∷ Module ∷ Jump ∷ []) ++ target_options
 
-unfoldable pub option_of : List ℕ → Option Opt
+unfoldable pub option_of : List ℕ → Option RuleOption
 option_of word =
     if bytes_eq word (codes "-i") then Some Interface
     else if bytes_eq word (codes "-o") then Some Interface
     else lookup (bytes_eq word) named_options
 
--- the row of each in the table; a match of an interface has none there
-abbrev pub row : Opt → Row
-row Source = record { stands = in_front; part = Some (λ rule. is_some rule.src); refusal = BadValue }
-row Destination = record { stands = in_front; part = Some (λ rule. is_some rule.dst); refusal = BadValue }
-row Protocol = record { stands = in_front; part = Some (λ rule. is_some rule.proto); refusal = BadValue }
-row SourcePort = record { stands = λ given. in_front given && given.ports; part = Some (λ rule. is_some rule.sport); refusal = BadValue }
-row DestinationPort = record { stands = λ given. in_front given && given.ports; part = Some (λ rule. is_some rule.dport); refusal = BadValue }
-row Interface = record { stands = in_front; part = None; refusal = BadValue }
-row Module = record { stands = in_front; part = None; refusal = UnknownOption }
-row CtState = record { stands = λ given. in_front given && given.conntrack; part = Some (λ rule. is_some rule.state); refusal = BadValue }
-row State = record { stands = λ given. in_front given && given.states; part = Some (λ rule. is_some rule.state); refusal = BadValue }
-row Comment = record { stands = λ given. in_front given && given.comments; part = None; refusal = BadValue }
-row Jump = record { stands = in_front; part = None; refusal = UnknownTarget }
-row RejectWith = record { stands = λ given. rejects given.target; part = None; refusal = BadValue }
-row LogPrefix = record { stands = λ given. logs given.target; part = None; refusal = BadValue }
-row LogLevel = record { stands = λ given. logs given.target; part = None; refusal = BadValue }
+-- the row of each in the table; a match of an interface has none there, and may stand in front of the target
+abbrev pub row : RuleOption → Row
+row o = unwrap_or (row_of (written o)) (record { stands = in_front; part = None; refusal = BadValue })
 
-abbrev pub may_stand : Given → Opt → Bool
+abbrev pub may_stand : Given → RuleOption → Bool
 may_stand given o = (row o).stands given
 
-abbrev pub bars : Given → Bool → Opt → Bool
+abbrev pub bars : Given → Bool → RuleOption → Bool
 bars given negated o = is_barred given negated (row o)
 
 -- why another value is refused
-abbrev pub value_refusal : Opt → IptWhy
+abbrev pub value_refusal : RuleOption → IptWhy
 value_refusal o = (row o).refusal
 
-abbrev pub is_interface : Opt → Bool
+abbrev pub is_interface : RuleOption → Bool
 is_interface Interface = true
 is_interface _ = false
 

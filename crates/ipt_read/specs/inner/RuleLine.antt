@@ -7,7 +7,7 @@ use Rattle.ipt_rules.specs.declared.rule.Rule.{Rule}
 use Rattle.ipt_rules.specs.Chain.{Chain, number_of}
 use Rattle.ipt_read.specs.declared.fault.IptWhy.{IptWhy}
 use Rattle.ipt_read.specs.declared.fault.IptWhy.TheVariants.{BadLine, UnknownChain, Interface as AnInterface, UnknownOption, BadValue}
-use Rattle.ipt_read.specs.declared.option.Opt.{Opt}
+use Rattle.ipt_read.specs.declared.option.RuleOption.{RuleOption}
 use Rattle.ipt_read.specs.declared.option.Place.{Place}
 use Rattle.ipt_read.specs.declared.option.Place.TheVariants.{AtOption, AfterBang, AtValue, InText}
 use Rattle.ipt_read.specs.inner.Counts.{is_count}
@@ -16,7 +16,7 @@ use Rattle.ipt_read.specs.inner.OptionSteps.{option_of, may_stand, is_interface,
 use Rattle.ipt_read.specs.inner.ValueSteps.{quoted, with_value}
 
 -- a word in the place of an option, with `!` before it or not
-abbrev pub at_option : Given → Bool → Option Opt → Result (Given × Place) IptWhy
+abbrev pub at_option : Given → Bool → Option RuleOption → Result (Given × Place) IptWhy
 at_option given negated None = Err UnknownOption
 at_option given negated (Some o) =
     if not (may_stand given o) then Err UnknownOption

@@ -2,7 +2,7 @@
 use Rattle.std.specs.Prelude.{◌≡◌, ◌≤◌, Result, Ok, Err, MatchResult, length}
 use Rattle.text_core.specs.inner.TextAnswers.{HasReason}
 use Rattle.text_core.specs.declared.faults.LineFault.{LineFault}
-use Rattle.ipt_rules.specs.ChainTable.{rule_count}
+use Rattle.ipt_rules.specs.ChainTable.{rule_count, chain_limit, rule_limit}
 use Rattle.ipt_read.specs.declared.fault.IptWhy.{IptWhy}
 use Rattle.ipt_read.specs.declared.reader.Reader.{Reader}
 use Rattle.ipt_read.specs.Said.{SaidSoFar}
@@ -18,8 +18,8 @@ AnswersTo said r = MatchResult r (λ t. said ≡ Ok (said_of t)) (HasReason (λ 
 
 -- what holds between two lines
 pub record IsFine (s : SaidSoFar) : Type 0 where
-  pub few_chains : length s.chains ≤ 4096
-  pub few_rules : s.rules ≤ 1000000
+  pub few_chains : length s.chains ≤ chain_limit
+  pub few_rules : s.rules ≤ rule_limit
   pub counted : s.rules ≡ rule_count s.chains
   pub numbered : length s.declared ≡ length s.chains
   pub goes : EachGoes (length s.chains) s.chains

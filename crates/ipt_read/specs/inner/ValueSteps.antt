@@ -9,8 +9,8 @@ use Rattle.ipt_rules.specs.declared.rule.PortMatch.{PortMatch}
 use Rattle.ipt_rules.specs.declared.rule.ProtoMatch.{ProtoMatch}
 use Rattle.ipt_rules.specs.declared.rule.StateMatch.{StateMatch}
 use Rattle.ipt_rules.specs.Chain.{Chain}
-use Rattle.ipt_read.specs.declared.option.Opt.{Opt}
-use Rattle.ipt_read.specs.declared.option.Opt.TheVariants.{Source, Destination, Protocol, SourcePort, DestinationPort, Interface, Module, CtState, State, Comment, Jump, RejectWith, LogPrefix, LogLevel}
+use Rattle.ipt_read.specs.declared.option.RuleOption.{RuleOption}
+use Rattle.ipt_read.specs.declared.option.RuleOption.TheVariants.{Source, Destination, Protocol, SourcePort, DestinationPort, Interface, Module, CtState, State, Comment, Jump, RejectWith, LogPrefix, LogLevel}
 use Rattle.ipt_read.specs.declared.option.Place.{Place}
 use Rattle.ipt_read.specs.declared.option.Place.TheVariants.{AtOption, InText}
 use Rattle.ipt_read.specs.Options.{Given}
@@ -58,7 +58,7 @@ abbrev pub then_option : Given → Given × Place
 then_option given = (given, AtOption)
 
 -- what is given after an option's value, and where the next word stands
-unfoldable pub with_value : List Chain → Given → Opt → Bool → List ℕ → Option (Given × Place)
+unfoldable pub with_value : List Chain → Given → RuleOption → Bool → List ℕ → Option (Given × Place)
 with_value chains given Source negated word =
     option_map (λ p. (record given { rule = record given.rule { src = Some (address_match negated p) } }, AtOption)) (prefix_of word)
 with_value chains given Destination negated word =

@@ -7,7 +7,7 @@ use Rattle.ipt_rules.specs.declared.rule.Target.TheVariants.{Jump}
 use Rattle.ipt_rules.specs.declared.ruleset.BuildRefusal.{BuildRefusal}
 use Rattle.ipt_rules.specs.declared.ruleset.BuildRefusal.TheVariants.{TooMany, UnknownChain, Loop, Memory}
 use Rattle.ipt_rules.specs.Chain.{Chain}
-use Rattle.ipt_rules.specs.ChainTable.{rule_count}
+use Rattle.ipt_rules.specs.ChainTable.{chain_limit, rule_limit, rule_count}
 use Rattle.ipt_rules.specs.Loops.{IsLeastLoop}
 
 -- among so many chains, a jump to a built-in chain or to no chain
@@ -32,8 +32,8 @@ first_unknown count c (x ∷ xs) =
 -- why the chains are no rule set: too many chains, else too many rules, else a jump to nowhere
 unfoldable pub refusal_of : List Chain → Option BuildRefusal
 refusal_of chains =
-    if nat_lt 4096 (length chains) then Some (TooMany (length chains))
-    else if nat_lt 1000000 (rule_count chains) then Some (TooMany (rule_count chains))
+    if nat_lt chain_limit (length chains) then Some (TooMany (length chains))
+    else if nat_lt rule_limit (rule_count chains) then Some (TooMany (rule_count chains))
     else first_unknown (length chains) 0 chains
 
 -- what chains are refused for: as above; else that jumps lead back to a chain, the least such; or that there is no memory

@@ -1,4 +1,4 @@
--- Which chains make a table, and how many rules they have.
+-- Which chains make a table.
 use Rattle.std.specs.Prelude.{◌≡◌, ◌≤◌, ℕ, ◌<◌, IsSome, IsTrue, List, [], Option, Some, None, length, codes}
 use Rattle.std.specs.Option.{option_map_or, option_and_then}
 use Rattle.ipt_rules.specs.Name.{is_user_name}

@@ -6,6 +6,7 @@ use Rattle.ipt_rules.specs.declared.rule.Target.{Target}
 use Rattle.ipt_rules.specs.declared.rule.Target.TheVariants.{Jump}
 use Rattle.ipt_rules.specs.inner.Build.{jumps_nowhere, refusal_of}
 use Rattle.ipt_rules.specs.Chain.{Chain, rules_of}
+use Rattle.ipt_rules.specs.ChainTable.{chain_limit, rule_limit}
 use Rattle.ipt_rules.specs.inner.ChainTable.{IsChainList}
 use Rattle.ipt_rules.specs.inner.Ranks.{HasRanking}
 use Rattle.ipt_rules.specs.inner.Starts.{starts_from}
@@ -23,8 +24,8 @@ pub record JumpsAreKnown (chains : List Chain) : Type 0 where
 pub record IsRuleset (chains : List Chain) (rules : ℕ) (starts : List ℕ) : Type 0 where
   pub list : IsChainList chains rules
   pub accepted : IsNone (refusal_of chains)
-  pub few_chains : length chains ≤ 4096
-  pub few_rules : rules ≤ 1000000
+  pub few_chains : length chains ≤ chain_limit
+  pub few_rules : rules ≤ rule_limit
   pub jumps : JumpsAreKnown chains
   pub starts_are : starts ≡ starts_from 0 chains
   pub ranking : HasRanking chains

@@ -2,6 +2,7 @@
 -- it; they have what `build` ensures.
 use Rattle.std.specs.Prelude.{◌≡◌, ℕ, ◌+◌, ◌<◌, ◌≤◌, List, [], Bool, true, Option, Some, None, length, slice_get, Contains, is_none, count_by, map, not, ◌⊎◌}
 use Rattle.ipt_rules.specs.Chain.{Chain}
+use Rattle.ipt_rules.specs.ChainTable.{chain_limit}
 use Rattle.ipt_rules.specs.Loops.{jumps_of, jumps_from}
 
 -- for each chain the chains that it jumps to
@@ -57,7 +58,7 @@ IsSet marks i = slice_get marks i ≡ Some true
 -- to chains that have places, and each chain is in the order once
 pub record IsPartOrder (table : List (List ℕ)) (order : List ℕ) (places : List (Option ℕ)) (looked : List ℕ) : Type 0 where
   pub ordered : IsOrder (row_of table) (length table) order places
-  pub few : length table ≤ 4096
+  pub few : length table ≤ chain_limit
   pub all_places : length places ≡ length table
   pub all_looked : length looked ≡ length table
   pub counted : length order + count_by is_none places ≡ length table
