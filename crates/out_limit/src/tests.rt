@@ -11,7 +11,7 @@ use inv_law::{Invariant, Stepwise};
 use permit_core::{
     blame, blame_by_steps, offending, offending_by_steps, permit, permit_by_steps, trials_of,
 };
-use state_core::{refine, refine_by_steps};
+use state_core::{refine, refine_by_steps, with_answers};
 use std::alloc::{AllocError, Global};
 use std::test::Fail;
 use tmpl_reach::Dependability;
@@ -44,7 +44,7 @@ fn one_flow_of_the_first_host(rt: HostRuntime) -> Result<(), Fail> {
     assert!(rt; p.has(FIRST));
     let stateful = refine(rt.alloc(), &invs, &p)?;
     assert!(rt; stateful.is_empty());
-    let both = p.with_back(rt.alloc(), &p)?;
+    let both = with_answers(rt.alloc(), &p, &p)?;
     assert!(rt; both.has(ANSWER));
     Ok(())
 }

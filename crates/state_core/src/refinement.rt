@@ -6,6 +6,7 @@ ghost use Rattle.flow_set.specs.inner.FlowSetView.{IsFlowSet};
 ghost use Rattle.flow_set.specs.Conditions.{IsFirst};
 ghost use Rattle.state_core.specs.Stateful.{is_strict, StrictHold, CompliesWithEach};
 
+use crate::answers::with_answers;
 use flow_set::{Flow, FlowSet};
 use inv_law::{Invariant, Strategy};
 use permit_core::{Choice, Condition, chosen_still_hold, first_subset};
@@ -53,7 +54,7 @@ impl<'a, I: Invariant> Condition for Answered<'a, I> {
         if self.permitted.has(answer) {
             return Ok(true);
         }
-        let all = self.permitted.with_back(alloc, set)?;
+        let all = with_answers(alloc, self.permitted, set)?;
         chosen_still_hold(alloc, &Strict, self.invs, &all, answer)
     }
 }

@@ -1,0 +1,20 @@
+//! A policy together with the answers that it lets back.
+
+ghost use Rattle.std.specs.Prelude.{◌≡◌, ◌⊎◌, ◌↔◌, IsTrue, IfOk};
+ghost use Rattle.flow_set.specs.Flow.{back_of};
+ghost use Rattle.flow_set.specs.FlowSet.{has, with_back};
+ghost use Rattle.flow_set.specs.declared.flow.Flow.{Flow};
+
+use flow_set::FlowSet;
+use std::alloc::{AllocError, Global};
+
+/// The flows of `p` and the answers of the flows of `s`, each of which goes the other way.
+pub fn with_answers(alloc: Global, p: &FlowSet, s: &FlowSet) -> Result<FlowSet, AllocError>
+    requires { s.now.size ≡ p.now.size }
+    ensures size { IfOk result (λ all. all.size ≡ p.now.size) }
+    ensures flows { IfOk result (λ all. all.flows ≡ with_back p.now.flows s.now.flows) }
+    ensures members { IfOk result (λ all. (f : Flow) → IsTrue (has all.flows f)
+        ↔ (IsTrue (has p.now.flows f) ⊎ IsTrue (has s.now.flows (back_of f)))) }
+{
+    p.with_back(alloc, s)
+}
