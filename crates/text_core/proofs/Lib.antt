@@ -11,7 +11,6 @@ pub mod NumbersLaws
 pub mod PairLaws
 pub mod PiecesLaws
 pub mod PiecesLemmas
-pub mod ReadingLaws
 pub mod SoFar
 pub mod SpacedLaws
 pub mod StepsLaws

@@ -5,5 +5,4 @@ pub mod Line
 pub mod Padded
 pub mod Pairs
 pub mod Pieces
-pub mod Reading
 pub mod TextAnswers
