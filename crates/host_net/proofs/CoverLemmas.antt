@@ -4,7 +4,7 @@ use Rattle.std.specs.Prelude.{Contains, ◌==◌, ◌&&◌, nat_le, if◌then◌
 use Rattle.std.specs.Bool.{Decides}
 use Rattle.std.specs.List.{insert}
 use Rattle.std.specs.List.Sorted.{IsNonDecreasingBy, IsPartitionPoint, IsPermutation}
-use Rattle.std.proofs.lemmas.Bool.{and_from, and_parts, cases_lt, or_cases, or_left, or_right}
+use Rattle.std.proofs.lemmas.Bool.{and_from, and_parts, cases_lt, false_from_ne_true, or_cases, or_left, or_right}
 use Rattle.std.proofs.lemmas.Bool.Decides.{Decides-and, Decides-eqb, nat_tests}
 use Rattle.std.proofs.lemmas.List.{drop_more}
 use Rattle.std.proofs.lemmas.List.Elements.{Contains-push_cases}
@@ -17,7 +17,7 @@ use Rattle.host_net.specs.declared.cover.Key.{Key}
 use Rattle.host_net.specs.declared.cover.Lengths.{Lengths}
 use Rattle.host_net.specs.declared.prefix.Prefix.{Prefix}
 use Rattle.host_net.specs.inner.Cover.{IsFirstFrom, covers_both, part_covers}
-use Rattle.host_net.specs.inner.CoverView.{AreFirst, AreInOrder, AreIndexOf, AreListed, Begins, IsFirstKey, IsFirstOf, IsSmall, SameBits, begins, comes_before, earlier, has_lengths, key_at, key_of, keys_from, length_of, noted, own_address, rank}
+use Rattle.host_net.specs.inner.CoverView.{AreFirst, AreInOrder, AreIndexOf, AreListed, Begins, IsFirstKey, IsFirstOf, IsSmall, SameBits, comes_before, earlier, has_lengths, key_at, key_of, keys_from, length_of, noted, own_address, rank}
 use Rattle.host_net.specs.Prefix.{front}
 use Rattle.host_net.proofs.PrefixLaws.{covers_front, front_covers}
 
@@ -287,14 +287,14 @@ module _ (seen : List Group) (g : Group) (src dst from : ℕ) where
         dst_bits = same.dst ∙ ap (λ n. front n dst) (sym same.dst_length);
       }
 
-  pub first_next : (keys : List Key) (found next : Option ℕ) → IsFirstKey (begins seen src dst) keys from found
-      → IsFirstKey (λ k. SameBits k (key_at g.lengths src dst from)) keys from next → IsFirstKey (begins (seen ++ g ∷ []) src dst) keys from (earlier found next)
+  pub first_next : (keys : List Key) (found next : Option ℕ) → IsFirstKey (Begins seen src dst) keys from found
+      → IsFirstKey (λ k. SameBits k (key_at g.lengths src dst from)) keys from next → IsFirstKey (Begins (seen ++ g ∷ []) src dst) keys from (earlier found next)
   first_next keys =
-      earlier_is (begins seen src dst) (λ k. SameBits k (key_at g.lengths src dst from)) (begins (seen ++ g ∷ []) src dst) keys from begins_old begins_new begins_more
+      earlier_is (Begins seen src dst) (λ k. SameBits k (key_at g.lengths src dst from)) (Begins (seen ++ g ∷ []) src dst) keys from begins_old begins_new begins_more
 
   -- a group that comes first only behind what is found changes nothing
-  pub first_kept : (keys : List Key) (found : Option ℕ) → comes_before found g.first ≡ true → IsFirstOf g keys → IsFirstKey (begins seen src dst) keys from found
-      → IsFirstKey (begins (seen ++ g ∷ []) src dst) keys from found
+  pub first_kept : (keys : List Key) (found : Option ℕ) → comes_before found g.first ≡ true → IsFirstOf g keys → IsFirstKey (Begins seen src dst) keys from found
+      → IsFirstKey (Begins (seen ++ g ∷ []) src dst) keys from found
   first_kept keys None before is first = absurd (true≢false (sym before))
   first_kept keys (Some place) before is first = record {
     key = first.key;
@@ -311,14 +311,7 @@ module _ (seen : List Group) (g : Group) (src dst from : ℕ) where
     ];
   }
 
-pub first_of_none : (keys : List Key) (src dst from : ℕ) → IsFirstKey (begins [] src dst) keys from None
-first_of_none keys src dst from k c is later = true≢false (sym is.among)
-
 -- ---- what an index answers
-
-by_test : (b : Bool) → (b ≡ true → ⊥) → b ≡ false
-by_test true fails = absurd (fails refl)
-by_test false fails = refl
 
 part_bits : (part : Option Prefix) (a : ℕ) → a < 2 ^ 32 → part_covers part a ≡ true → front (length_of part) (own_address part) ≡ front (length_of part) a
 part_bits None a small on = omega (arith, small)
@@ -348,9 +341,9 @@ module _ (all : List Ends) (keys : List Key) (groups : List Group) (is : AreInde
       (bits_part_covers e.src src (sym (ap (λ (l : Key). l.src) same) ∙ begun.src_bits ∙ ap (λ n. front n src) src_length))
       (bits_part_covers e.dst dst (sym (ap (λ (l : Key). l.dst) same) ∙ begun.dst_bits ∙ ap (λ n. front n dst) dst_length))
 
-  pub index_first : (from : ℕ) (found : Option ℕ) → IsFirstKey (begins groups src dst) keys from found → IsFirstFrom all from src dst found
+  pub index_first : (from : ℕ) (found : Option ℕ) → IsFirstKey (Begins groups src dst) keys from found → IsFirstFrom all from src dst found
   index_first from None first = λ i e low high there.
-      by_test (covers_both src dst e) (λ on. first (key_of e i) (is.every i e there) (begins_there i e there on) low)
+      false_from_ne_true (covers_both src dst e) (λ on. first (key_of e i) (is.every i e there) (begins_there i e there on) low)
   index_first from (Some place) first =
       let own = is.only first.key first.among in
       record {
@@ -359,7 +352,7 @@ module _ (all : List Ends) (keys : List Key) (groups : List Group) (is : AreInde
         covers = covers_there first.key own.0 own.2 first.has;
         later = first.later;
         first = λ i e low high there.
-            by_test (covers_both src dst e) (λ on.
+            false_from_ne_true (covers_both src dst e) (λ on.
             let least = first.least (key_of e i) (is.every i e there) (begins_there i e there on) low in
             omega (arith, least, high));
       }
