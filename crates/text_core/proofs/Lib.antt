@@ -3,6 +3,7 @@ pub mod DecimalLemmas
 pub mod FirstPairLaws
 pub mod FirstsLaws
 pub mod FirstsLemmas
+pub mod GetLaws
 pub mod LineLaws
 pub mod LineLemmas
 pub mod LinesLaws
