@@ -11,6 +11,7 @@ use Rattle.std.proofs.lemmas.List.Elements.{Contains-push_cases}
 use Rattle.std.proofs.lemmas.List.Folds.{list_any-append}
 use Rattle.std.proofs.lemmas.List.Sorted.{Contains-permutation, IsNonDecreasingBy-insert, IsPermutation-insert, IsPermutation-refl, IsPermutation-sym, length_permutation}
 use Rattle.std.proofs.lemmas.Option.{same_Some, slice_get-get_or, slice_get_within, get_or_from_slice_get}
+use Rattle.text_core.proofs.GetLaws.{get_front, get_last, get_pushed}
 use Rattle.host_net.specs.declared.cover.Ends.{Ends}
 use Rattle.host_net.specs.declared.cover.Group.{Group}
 use Rattle.host_net.specs.declared.cover.Key.{Key}
@@ -510,21 +511,6 @@ one_of_two : (x : Key) (xs : List Key) (k : Key) → Contains (x ∷ xs) k → (
 one_of_two x xs k (zero, within, is) = inl is
 one_of_two x xs k (suc i, within, is) = inr (i, omega (arith, within), is)
 
-pushed : (all : List Ends) (e : Ends) (i : ℕ) (f : Ends) → slice_get (all ++ e ∷ []) i ≡ Some f → (slice_get all i ≡ Some f) ⊎ ((i ≡ length all) × (e ≡ f))
-pushed [] e zero f is = inr (refl, same_Some e f is)
-pushed [] e (suc i) f is = cc
-pushed (g ∷ all) e zero f is = inl is
-pushed (g ∷ all) e (suc i) f is = elim (pushed all e i f is) [ inl old ↦ inl old | inr new ↦ inr (ap suc new.0, new.1) ]
-
-in_front : (all : List Ends) (e : Ends) (i : ℕ) (f : Ends) → slice_get all i ≡ Some f → slice_get (all ++ e ∷ []) i ≡ Some f
-in_front [] e i f is = cc
-in_front (g ∷ all) e zero f is = is
-in_front (g ∷ all) e (suc i) f is = in_front all e i f is
-
-at_end : (all : List Ends) (e : Ends) → slice_get (all ++ e ∷ []) (length all) ≡ Some e
-at_end [] e = refl
-at_end (g ∷ all) e = at_end all e
-
 module _ (all : List Ends) (keys : List Key) (groups : List Group) (e : Ends) (new : Key) (at : ℕ) (is : AreIndexOf all keys groups) (of_e : new ≡ key_of e (length keys)) (small : IsSmall new)
     (bound : at ≤ length keys) (point : IsPartitionPoint (λ k. rank k < rank new) (λ k. rank new ≤ rank k) keys at) (there : has_lengths groups new.lengths ≡ true) where
   put : List Key
@@ -553,7 +539,7 @@ module _ (all : List Ends) (keys : List Key) (groups : List Group) (e : Ends) (n
       small = λ k c. elim (cases k c) [ inl same ↦ subst IsSmall same small | inr old ↦ is.order.small k old ];
     };
     counted = length_permutation (new ∷ keys) (insert keys at new) moved ∙ ap suc is.counted ∙ sym (simp length-append (omega arith));
-    every = λ i f at_f. elim (pushed all e i f at_f) [
+    every = λ i f at_f. elim (get_pushed all e i f at_f) [
       | inl old ↦ into (key_of f i) (is.every i f old)
       | inr last ↦
           let as_key : new ≡ key_of f i = as_new ∙ ap (λ (m : ℕ). key_of e m) (place_new ∙ sym last.0) ∙ ap (λ (g : Ends). key_of g i) last.1 in
@@ -562,8 +548,8 @@ module _ (all : List Ends) (keys : List Key) (groups : List Group) (e : Ends) (n
     only = λ k c. elim (cases k c) [
       | inl same ↦
           let place : length all ≡ k.place = sym place_new ∙ ap (λ (l : Key). l.place) same in
-          (e, subst (λ (n : ℕ). slice_get (all ++ e ∷ []) n ≡ Some e) place (at_end all e), subst (λ (l : Key). l ≡ key_of e l.place) same as_new)
-      | inr old ↦ let own = is.only k old in (own.0, in_front all e k.place own.0 own.1, own.2)
+          (e, subst (λ (n : ℕ). slice_get (all ++ e ∷ []) n ≡ Some e) place (get_last all e), subst (λ (l : Key). l ≡ key_of e l.place) same as_new)
+      | inr old ↦ let own = is.only k old in (own.0, get_front all (e ∷ []) k.place own.0 own.1, own.2)
     ];
     listed = λ k c. elim (cases k c) [ inl same ↦ subst (λ (l : Key). has_lengths groups l.lengths ≡ true) same there | inr old ↦ is.listed k old ];
     firsts = record {

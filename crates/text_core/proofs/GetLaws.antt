@@ -12,9 +12,12 @@ get_front [] ys i x is = cc
 get_front (y ∷ xs) ys zero x is = is
 get_front (y ∷ xs) ys (suc i) x is = get_front xs ys i x is
 
+pub get_seam : {A : Type 0} (xs : List A) (x : A) (ys : List A) → slice_get (xs ++ x ∷ ys) (length xs) ≡ Some x
+get_seam [] x ys = refl
+get_seam (y ∷ xs) x ys = get_seam xs x ys
+
 pub get_last : {A : Type 0} (xs : List A) (x : A) → slice_get (xs ++ x ∷ []) (length xs) ≡ Some x
-get_last [] x = refl
-get_last (y ∷ xs) x = get_last xs x
+get_last xs x = get_seam xs x []
 
 pub get_pushed : {A : Type 0} (xs : List A) (x : A) (i : ℕ) (y : A) → slice_get (xs ++ x ∷ []) i ≡ Some y
     → (slice_get xs i ≡ Some y) ⊎ ((i ≡ length xs) × (x ≡ y))
