@@ -72,9 +72,6 @@ none_upper low high s from bits none k late below =
     upper (λ h. IsFalse (set.contains s h)) k (omega (arith, late))
     (host_high low high s (k - 128) bits (omega (arith, below)) ∙ none (k - 128) (omega (arith, late)) (omega (arith, below)))
 
-pub none_beyond : (s : HostNumbers) (from : ℕ) → 128 ≤ from → HasNone (set.contains s) (128 + from) 256
-none_beyond s from far k late below = absurd (omega (arith, far, late, below))
-
 pub first_upper_place : (low high : ℕ) (s : HostNumbers) (from place : ℕ) → HasBits low high s → IsFirstBit high from place
     → IsFirstFrom (set.contains s) (128 + from) (128 + place)
 first_upper_place low high s from place bits first = record {

@@ -1,12 +1,9 @@
 -- The rows of every flow: that of a host has each host but itself.
-use Rattle.std.proofs.Common.{◌≡◌, ◌≢◌, ℕ, ◌+◌, ◌<◌, ◌≤◌, Bool, true, not, ◌&&◌, nat_eq, nat_lt, List, [], ◌∷◌, ◌++◌, length, sym, ◌∙◌, ap, inl, inr, arith}
+use Rattle.std.proofs.Common.{◌≡◌, ◌≢◌, ℕ, ◌<◌, ◌≤◌, true, not, ◌&&◌, nat_eq, nat_lt, List, length, sym, ◌∙◌, ap, arith}
 use Rattle.std.specs.Prelude.{IsTrue}
 use Rattle.std.specs.FinSet as set
-use Rattle.std.proofs.lemmas.Bool.{cases_lt}
 use Rattle.std.proofs.lemmas.Bool.Decides.{nat_tests}
-use Rattle.std.proofs.lemmas.List.{get_or_append_left, get_or_push, length_push}
 use Rattle.flow_set.specs.declared.flow.Flow.{Flow}
-use Rattle.flow_set.specs.Flow.{IsFlow}
 use Rattle.flow_set.specs.EveryFlow.{every_flow}
 use Rattle.flow_set.specs.HostSet.{HostNumbers, hosts_below}
 use Rattle.flow_set.specs.inner.BitRows.{marks, flows_of, AreRows}
@@ -23,17 +20,6 @@ others n host = set.remove (hosts_below n (λ _. true)) host
 pub record AreOthers (n k : ℕ) (hosts : List HostNumbers) : Type 0 where
   pub counted : length hosts ≡ k
   pub rows : (i : ℕ) → i < k → row_of hosts i ≡ others n i
-
-pub others_more : (n k : ℕ) (rows : List HostNumbers) → AreOthers n k rows → AreOthers n (k + 1) (rows ++ others n k ∷ [])
-others_more n k rows are = record {
-  counted = length_push rows _ ∙ ap (λ m. m + 1) are.counted;
-  rows = λ i below. elim (cases_lt i k) [
-    | inl earlier ↦ get_or_append_left rows _ set.empty i (omega (arith, earlier, are.counted)) ∙ are.rows i earlier
-    | inr last ↦
-        let same : i ≡ k = omega (arith, below, last) in
-        get_or_push rows (others n k) set.empty i (are.counted ∙ sym same) ∙ ap (others n) (sym same)
-  ];
-}
 
 marks-others : (n : ℕ) (rows : List HostNumbers) (f : Flow) → AreOthers n n rows → f.from < n
     → marks rows f ≡ (not (nat_eq f.to f.from) && (nat_lt f.to n && true))

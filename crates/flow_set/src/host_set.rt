@@ -1,12 +1,13 @@
 //! A set of hosts, one bit for each number below 256. A row of a closure is such
 //! a set, and so is a list of hosts that must not be reached.
 
-ghost use Rattle.std.specs.Prelude.{◌≡◌, ◌<◌, ◌≤◌, ◌+◌, ◌↔◌, true, IsTrue, MatchOption};
+ghost use Rattle.std.specs.Prelude.{◌≡◌, ◌<◌, ◌≤◌, ◌+◌, ◌↔◌, true, IsTrue, IfOk, MatchOption};
 ghost use Rattle.std.specs.FinSet as set;
 ghost use Rattle.flow_set.specs.HostSet.{hosts_below};
 ghost use Rattle.flow_set.specs.inner.Calls.{AreApart, HasNone, IsFirstFrom};
 ghost use Rattle.flow_set.specs.inner.HostBits.{is_set, IsFirstBit};
 
+use std::alloc::{AllocError, Global};
 use std::marker::Model;
 
 // How many hosts each of the two numbers has a bit for.
@@ -41,7 +42,7 @@ impl HostSet {
 
     /// The hosts with numbers below this one.
     #[tactic(auto, unfolding(crate::specs::HostSet::hosts_below))]
-    pub(crate) fn below(count: u16) -> HostSet
+    pub fn below(count: u16) -> HostSet
         requires { count ≤ 256 }
         ensures { result ≡ hosts_below count (λ _. true) }
     {
@@ -143,6 +144,13 @@ impl HostSet {
             low: self.low,
             high: self.high,
         }
+    }
+
+    /// A copy of each of these sets, in their order.
+    pub fn copies(alloc: Global, sets: &[HostSet]) -> Result<Vec<HostSet>, AllocError>
+        ensures { IfOk result (λ copies. copies.items ≡ sets.now) }
+    {
+        sets.iter().map(|hosts| hosts.copy()).collect(alloc)
     }
 
     /// The number of hosts in the set.

@@ -3,7 +3,6 @@
 
 ghost use Rattle.std.specs.Prelude.{◌≡◌};
 ghost use Rattle.std.specs.Iterator.{YieldsFirst, item_count};
-ghost use Rattle.flow_set.specs.inner.FlowSetView.{IsFlowSet};
 
 use crate::flow::Flow;
 use crate::set::FlowSet;

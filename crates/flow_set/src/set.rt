@@ -1,7 +1,7 @@
 //! A set of flows between `size` hosts, kept as one row of bits for each sender. All rows are made with
 //! the set, so that putting in and taking out never ask for memory.
 
-ghost use Rattle.std.specs.Prelude.{◌≡◌, ◌<◌, ◌≤◌, ◌⊎◌, ◌↔◌, [], ◌∷◌, length, not, IsTrue, IfOk, if◌then◌else◌};
+ghost use Rattle.std.specs.Prelude.{◌≡◌, ◌<◌, ◌≤◌, ◌⊎◌, ◌↔◌, [], length, not, IsTrue, IfOk};
 ghost use Rattle.flow_set.specs.EveryFlow.{every_flow};
 ghost use Rattle.flow_set.specs.Flow.{IsFlow, back_of};
 ghost use Rattle.flow_set.specs.FlowSet.{IsFull, has, with_flow, with_back};
@@ -157,7 +157,7 @@ impl FlowSet {
         ensures set { IsFlowSet self.now.size self.now.flows }
     {
         let _ = self.size();
-        let rows = copies(alloc, &self.rows)?;
+        let rows = HostSet::copies(alloc, &self.rows)?;
         Ok(FlowSet {
             size: self.size,
             rows,
@@ -177,10 +177,4 @@ impl FlowSet {
         }
         Ok(all)
     }
-}
-
-fn copies(alloc: Global, rows: &[HostSet]) -> Result<Vec<HostSet>, AllocError>
-    ensures { IfOk result (λ copies. copies.items ≡ rows.now) }
-{
-    rows.iter().map(|row| row.copy()).collect(alloc)
 }

@@ -4,20 +4,21 @@ use Rattle.std.specs.Prelude.{Contains, ◌==◌, ◌&&◌, nat_le, if◌then◌
 use Rattle.std.specs.Bool.{Decides}
 use Rattle.std.specs.List.{insert}
 use Rattle.std.specs.List.Sorted.{IsNonDecreasingBy, IsPartitionPoint, IsPermutation}
-use Rattle.std.proofs.lemmas.Bool.{and_from, and_parts, cases_lt, or_cases, or_left, or_right}
+use Rattle.std.proofs.lemmas.Bool.{and_from, and_parts, cases_lt, false_from_ne_true, or_cases, or_left, or_right}
 use Rattle.std.proofs.lemmas.Bool.Decides.{Decides-and, Decides-eqb, nat_tests}
 use Rattle.std.proofs.lemmas.List.{drop_more}
 use Rattle.std.proofs.lemmas.List.Elements.{Contains-push_cases}
 use Rattle.std.proofs.lemmas.List.Folds.{list_any-append}
 use Rattle.std.proofs.lemmas.List.Sorted.{Contains-permutation, IsNonDecreasingBy-insert, IsPermutation-insert, IsPermutation-refl, IsPermutation-sym, length_permutation}
 use Rattle.std.proofs.lemmas.Option.{same_Some, slice_get-get_or, slice_get_within, get_or_from_slice_get}
+use Rattle.text_core.proofs.GetLaws.{get_front, get_last, get_pushed}
 use Rattle.host_net.specs.declared.cover.Ends.{Ends}
 use Rattle.host_net.specs.declared.cover.Group.{Group}
 use Rattle.host_net.specs.declared.cover.Key.{Key}
 use Rattle.host_net.specs.declared.cover.Lengths.{Lengths}
 use Rattle.host_net.specs.declared.prefix.Prefix.{Prefix}
 use Rattle.host_net.specs.inner.Cover.{IsFirstFrom, covers_both, part_covers}
-use Rattle.host_net.specs.inner.CoverView.{AreFirst, AreInOrder, AreIndexOf, AreListed, Begins, IsFirstKey, IsFirstOf, IsSmall, SameBits, begins, comes_before, earlier, has_lengths, key_at, key_of, keys_from, length_of, noted, own_address, rank}
+use Rattle.host_net.specs.inner.CoverView.{AreFirst, AreInOrder, AreIndexOf, AreListed, Begins, IsFirstKey, IsFirstOf, IsSmall, SameBits, comes_before, earlier, has_lengths, key_at, key_of, keys_from, length_of, noted, own_address, rank}
 use Rattle.host_net.specs.Prefix.{front}
 use Rattle.host_net.proofs.PrefixLaws.{covers_front, front_covers}
 
@@ -287,14 +288,14 @@ module _ (seen : List Group) (g : Group) (src dst from : ℕ) where
         dst_bits = same.dst ∙ ap (λ n. front n dst) (sym same.dst_length);
       }
 
-  pub first_next : (keys : List Key) (found next : Option ℕ) → IsFirstKey (begins seen src dst) keys from found
-      → IsFirstKey (λ k. SameBits k (key_at g.lengths src dst from)) keys from next → IsFirstKey (begins (seen ++ g ∷ []) src dst) keys from (earlier found next)
+  pub first_next : (keys : List Key) (found next : Option ℕ) → IsFirstKey (Begins seen src dst) keys from found
+      → IsFirstKey (λ k. SameBits k (key_at g.lengths src dst from)) keys from next → IsFirstKey (Begins (seen ++ g ∷ []) src dst) keys from (earlier found next)
   first_next keys =
-      earlier_is (begins seen src dst) (λ k. SameBits k (key_at g.lengths src dst from)) (begins (seen ++ g ∷ []) src dst) keys from begins_old begins_new begins_more
+      earlier_is (Begins seen src dst) (λ k. SameBits k (key_at g.lengths src dst from)) (Begins (seen ++ g ∷ []) src dst) keys from begins_old begins_new begins_more
 
   -- a group that comes first only behind what is found changes nothing
-  pub first_kept : (keys : List Key) (found : Option ℕ) → comes_before found g.first ≡ true → IsFirstOf g keys → IsFirstKey (begins seen src dst) keys from found
-      → IsFirstKey (begins (seen ++ g ∷ []) src dst) keys from found
+  pub first_kept : (keys : List Key) (found : Option ℕ) → comes_before found g.first ≡ true → IsFirstOf g keys → IsFirstKey (Begins seen src dst) keys from found
+      → IsFirstKey (Begins (seen ++ g ∷ []) src dst) keys from found
   first_kept keys None before is first = absurd (true≢false (sym before))
   first_kept keys (Some place) before is first = record {
     key = first.key;
@@ -311,14 +312,7 @@ module _ (seen : List Group) (g : Group) (src dst from : ℕ) where
     ];
   }
 
-pub first_of_none : (keys : List Key) (src dst from : ℕ) → IsFirstKey (begins [] src dst) keys from None
-first_of_none keys src dst from k c is later = true≢false (sym is.among)
-
 -- ---- what an index answers
-
-by_test : (b : Bool) → (b ≡ true → ⊥) → b ≡ false
-by_test true fails = absurd (fails refl)
-by_test false fails = refl
 
 part_bits : (part : Option Prefix) (a : ℕ) → a < 2 ^ 32 → part_covers part a ≡ true → front (length_of part) (own_address part) ≡ front (length_of part) a
 part_bits None a small on = omega (arith, small)
@@ -348,9 +342,9 @@ module _ (all : List Ends) (keys : List Key) (groups : List Group) (is : AreInde
       (bits_part_covers e.src src (sym (ap (λ (l : Key). l.src) same) ∙ begun.src_bits ∙ ap (λ n. front n src) src_length))
       (bits_part_covers e.dst dst (sym (ap (λ (l : Key). l.dst) same) ∙ begun.dst_bits ∙ ap (λ n. front n dst) dst_length))
 
-  pub index_first : (from : ℕ) (found : Option ℕ) → IsFirstKey (begins groups src dst) keys from found → IsFirstFrom all from src dst found
+  pub index_first : (from : ℕ) (found : Option ℕ) → IsFirstKey (Begins groups src dst) keys from found → IsFirstFrom all from src dst found
   index_first from None first = λ i e low high there.
-      by_test (covers_both src dst e) (λ on. first (key_of e i) (is.every i e there) (begins_there i e there on) low)
+      false_from_ne_true (covers_both src dst e) (λ on. first (key_of e i) (is.every i e there) (begins_there i e there on) low)
   index_first from (Some place) first =
       let own = is.only first.key first.among in
       record {
@@ -359,7 +353,7 @@ module _ (all : List Ends) (keys : List Key) (groups : List Group) (is : AreInde
         covers = covers_there first.key own.0 own.2 first.has;
         later = first.later;
         first = λ i e low high there.
-            by_test (covers_both src dst e) (λ on.
+            false_from_ne_true (covers_both src dst e) (λ on.
             let least = first.least (key_of e i) (is.every i e there) (begins_there i e there on) low in
             omega (arith, least, high));
       }
@@ -517,21 +511,6 @@ one_of_two : (x : Key) (xs : List Key) (k : Key) → Contains (x ∷ xs) k → (
 one_of_two x xs k (zero, within, is) = inl is
 one_of_two x xs k (suc i, within, is) = inr (i, omega (arith, within), is)
 
-pushed : (all : List Ends) (e : Ends) (i : ℕ) (f : Ends) → slice_get (all ++ e ∷ []) i ≡ Some f → (slice_get all i ≡ Some f) ⊎ ((i ≡ length all) × (e ≡ f))
-pushed [] e zero f is = inr (refl, same_Some e f is)
-pushed [] e (suc i) f is = cc
-pushed (g ∷ all) e zero f is = inl is
-pushed (g ∷ all) e (suc i) f is = elim (pushed all e i f is) [ inl old ↦ inl old | inr new ↦ inr (ap suc new.0, new.1) ]
-
-in_front : (all : List Ends) (e : Ends) (i : ℕ) (f : Ends) → slice_get all i ≡ Some f → slice_get (all ++ e ∷ []) i ≡ Some f
-in_front [] e i f is = cc
-in_front (g ∷ all) e zero f is = is
-in_front (g ∷ all) e (suc i) f is = in_front all e i f is
-
-at_end : (all : List Ends) (e : Ends) → slice_get (all ++ e ∷ []) (length all) ≡ Some e
-at_end [] e = refl
-at_end (g ∷ all) e = at_end all e
-
 module _ (all : List Ends) (keys : List Key) (groups : List Group) (e : Ends) (new : Key) (at : ℕ) (is : AreIndexOf all keys groups) (of_e : new ≡ key_of e (length keys)) (small : IsSmall new)
     (bound : at ≤ length keys) (point : IsPartitionPoint (λ k. rank k < rank new) (λ k. rank new ≤ rank k) keys at) (there : has_lengths groups new.lengths ≡ true) where
   put : List Key
@@ -560,7 +539,7 @@ module _ (all : List Ends) (keys : List Key) (groups : List Group) (e : Ends) (n
       small = λ k c. elim (cases k c) [ inl same ↦ subst IsSmall same small | inr old ↦ is.order.small k old ];
     };
     counted = length_permutation (new ∷ keys) (insert keys at new) moved ∙ ap suc is.counted ∙ sym (simp length-append (omega arith));
-    every = λ i f at_f. elim (pushed all e i f at_f) [
+    every = λ i f at_f. elim (get_pushed all e i f at_f) [
       | inl old ↦ into (key_of f i) (is.every i f old)
       | inr last ↦
           let as_key : new ≡ key_of f i = as_new ∙ ap (λ (m : ℕ). key_of e m) (place_new ∙ sym last.0) ∙ ap (λ (g : Ends). key_of g i) last.1 in
@@ -569,8 +548,8 @@ module _ (all : List Ends) (keys : List Key) (groups : List Group) (e : Ends) (n
     only = λ k c. elim (cases k c) [
       | inl same ↦
           let place : length all ≡ k.place = sym place_new ∙ ap (λ (l : Key). l.place) same in
-          (e, subst (λ (n : ℕ). slice_get (all ++ e ∷ []) n ≡ Some e) place (at_end all e), subst (λ (l : Key). l ≡ key_of e l.place) same as_new)
-      | inr old ↦ let own = is.only k old in (own.0, in_front all e k.place own.0 own.1, own.2)
+          (e, subst (λ (n : ℕ). slice_get (all ++ e ∷ []) n ≡ Some e) place (get_last all e), subst (λ (l : Key). l ≡ key_of e l.place) same as_new)
+      | inr old ↦ let own = is.only k old in (own.0, get_front all (e ∷ []) k.place own.0 own.1, own.2)
     ];
     listed = λ k c. elim (cases k c) [ inl same ↦ subst (λ (l : Key). has_lengths groups l.lengths ≡ true) same there | inr old ↦ is.listed k old ];
     firsts = record {

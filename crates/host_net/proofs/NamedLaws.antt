@@ -10,7 +10,7 @@ found_below : (b : Bool) (n k m : ℕ) (o : Option ℕ) → (if b then Some n el
 found_below true n k m o is below later = let same : n ≡ k = cc in omega arith
 found_below false n k m o is below later = later is
 
-position_within : {A : Type 0} (p : A → Bool) (n k : ℕ) (xs : List A) → position_from p n xs ≡ Some k → k < n + length xs
+pub position_within : {A : Type 0} (p : A → Bool) (n k : ℕ) (xs : List A) → position_from p n xs ≡ Some k → k < n + length xs
 position_within p n k [] is = cc
 position_within p n k (x ∷ xs) is =
     found_below (p x) n k (n + suc (length xs)) (position_from p (n + 1) xs) is (omega arith) (λ later. omega (arith, position_within p (n + 1) k xs later))

@@ -7,6 +7,7 @@ use Rattle.std.specs.Option.{option_map, option_or}
 use Rattle.std.specs.Prelude.{if◌then◌else◌, not}
 use Rattle.text_core.specs.Firsts.{where_holds}
 use Rattle.text_core.proofs.FirstsLaws.{some_same}
+use Rattle.text_core.proofs.GetLaws.{get_seam}
 use Rattle.text_core.specs.Name.{is_name}
 use Rattle.host_net.specs.Host.{Host, host_named, rest_of, lacks_address}
 use Rattle.host_net.specs.inner.Hosts.{meets_any, prefix_lists}
@@ -58,10 +59,6 @@ nowhere : {A : Type 0} (t : A → Bool) (i j : ℕ) (xs : List A) (y : A) → po
 nowhere t i j [] y is there passes = cc
 nowhere t i j (x ∷ xs) y is there passes = nowhere_by t i j x xs (t x) refl is y there passes (λ m found at_m. nowhere t (i + 1) m xs y found at_m passes)
 
-at_seam : {A : Type 0} (xs : List A) (y : A) (ys : List A) → slice_get (xs ++ y ∷ ys) (length xs) ≡ Some y
-at_seam [] y ys = refl
-at_seam (x ∷ xs) y ys = at_seam xs y ys
-
 -- the search among the prefixes of a new host, of which `own` were passed
 record IsPassed (hs : List Host) (at : List Prefix) (n : ℕ) : Type 0 where
   none : (k j : ℕ) → k < n → HasPartner hs at k j → ⊥
@@ -76,7 +73,7 @@ found : (hs : List Host) (at own : List Prefix) (p : Prefix) (ps : List Prefix) 
     → IsPassed hs at (length own) → meeting (prefix_lists hs) own p ≡ Some o
     → Overlap (length own) o ≡ Overlap item other → IsFirstOverlap hs at item other
 found hs at own p ps o item other whole passed met same =
-    let here : slice_get at (length own) ≡ Some p = ap (λ (qs : List Prefix). slice_get qs (length own)) whole ∙ at_seam own p ps in
+    let here : slice_get at (length own) ≡ Some p = ap (λ (qs : List Prefix). slice_get qs (length own)) whole ∙ get_seam own p ps in
     let front : take (length own) at ≡ own = ap (λ (qs : List Prefix). take (length own) qs) whole ∙ take-append_seam own (p ∷ ps) in
     let lists : earlier hs at (length own) ≡ prefix_lists hs ++ own ∷ [] = ap (λ (qs : List Prefix). prefix_lists hs ++ qs ∷ []) front in
     let (n, place, one) = placed (λ qs. meets_any qs p) 0 o (prefix_lists hs ++ own ∷ []) met in
@@ -100,7 +97,7 @@ found hs at own p ps o item other whole passed met same =
 one_more_passed : (hs : List Host) (at own : List Prefix) (p : Prefix) (ps : List Prefix) → at ≡ own ++ p ∷ ps
     → IsPassed hs at (length own) → meeting (prefix_lists hs) own p ≡ None → IsPassed hs at (length (own ++ p ∷ []))
 one_more_passed hs at own p ps whole passed none =
-    let here : slice_get at (length own) ≡ Some p = ap (λ (qs : List Prefix). slice_get qs (length own)) whole ∙ at_seam own p ps in
+    let here : slice_get at (length own) ≡ Some p = ap (λ (qs : List Prefix). slice_get qs (length own)) whole ∙ get_seam own p ps in
     let front : take (length own) at ≡ own = ap (λ (qs : List Prefix). take (length own) qs) whole ∙ take-append_seam own (p ∷ ps) in
     let lists : earlier hs at (length own) ≡ prefix_lists hs ++ own ∷ [] = ap (λ (qs : List Prefix). prefix_lists hs ++ qs ∷ []) front in
     record {

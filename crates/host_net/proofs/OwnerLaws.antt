@@ -2,7 +2,7 @@
 use Rattle.std.proofs.Common.{◌≡◌, ℕ, zero, suc, ◌+◌, Bool, true, false, cond, not, ◌||◌, IsTrue, List, [], ◌∷◌, ◌++◌, slice_get, Some, None, refl, sym, ap, ◌∙◌, arith, true≢false}
 use Rattle.std.specs.List.{position_from, list_all}
 use Rattle.std.specs.Option.{option_or}
-use Rattle.std.proofs.lemmas.Bool.{and_parts, or_left, or_right}
+use Rattle.std.proofs.lemmas.Bool.{and_parts, or_left, or_parts, or_right}
 use Rattle.std.proofs.lemmas.List.Folds.{list_all-append, list_any-append}
 use Rattle.text_core.proofs.FirstsLaws.{some_same}
 use Rattle.host_net.specs.Host.{Host, covers_any, owner_of, rest_of}
@@ -91,15 +91,11 @@ covered_once hs i j g h a known at_i at_j by_g by_h =
     some_same i j (sym (owner_of_covered hs i g a known at_i by_g) ∙ owner_of_covered hs j h a known at_j by_h)
 
 -- where no prefix covers the address, it belongs to the rest host or to nobody
-neither_covers : (a b : Bool) → (a || b) ≡ false → (a ≡ false) × (b ≡ false)
-neither_covers true b h = cc
-neither_covers false b h = (refl, h)
-
 pub not_held : (hs : List Host) (i a : ℕ) → covers_any (all_prefixes hs) a ≡ false
     → position_from (λ h. covers_any h.prefixes a) i hs ≡ None
 not_held [] i a none = refl
 not_held (x ∷ hs) i a none =
-    let parts = neither_covers (covers_any x.prefixes a) (covers_any (all_prefixes hs) a) (sym (list_any-append (λ p. covers p a) x.prefixes (all_prefixes hs)) ∙ none) in
+    let parts = or_parts (covers_any x.prefixes a) (covers_any (all_prefixes hs) a) (sym (list_any-append (λ p. covers p a) x.prefixes (all_prefixes hs)) ∙ none) in
     rw parts.0 (not_held hs (i + 1) a parts.1)
 
 pub owner_of_uncovered : (hs : List Host) (a : ℕ) → covers_any (all_prefixes hs) a ≡ false → owner_of hs a ≡ rest_of hs

@@ -1,6 +1,7 @@
 -- The ranges that are kept stay those of the hosts, with one more host that there was no cause to refuse.
 use Rattle.std.proofs.Common.{◌≡◌, ℕ, ◌+◌, Bool, true, false, cond, List, [], ◌∷◌, ◌++◌, length, Option, Some, None, refl, sym, ap, ◌∙◌, arith}
 use Rattle.std.specs.Option.{option_or}
+use Rattle.std.proofs.lemmas.Bool.{false_from_ne_true}
 use Rattle.text_core.specs.inner.Pairs.{no_pair}
 use Rattle.text_core.proofs.PairLaws.{no_pair-behind}
 use Rattle.host_net.proofs.HostsKept.{still_apart, welcome}
@@ -25,14 +26,10 @@ pub new_apart : (hs : List Host) (name : List ℕ) (at : List Prefix) (rest : Bo
     → no_pair meets at ≡ true
 new_apart hs name at rest known none = no_pair-behind meets (all_prefixes hs) at (all_apart hs name at rest known none)
 
-never : (b : Bool) → (b ≡ true → ⊥) → b ≡ false
-never true wrong = absurd (wrong refl)
-never false wrong = refl
-
 pub new_free : (hs : List Host) (name : List ℕ) (at : List Prefix) (rest : Bool) → IsHosts hs → refusal_of hs name at rest ≡ None
     → (a : ℕ) → covers_any at a ≡ true → holder_of hs a ≡ None
 new_free hs name at rest known none a covered =
-    not_held hs 0 a (never (covers_any (all_prefixes hs) a)
+    not_held hs 0 a (false_from_ne_true (covers_any (all_prefixes hs) a)
     (λ held. parts_apart a (all_prefixes hs) at (all_apart hs name at rest known none) held covered))
 
 one_holder : (covered : Bool) (o : Option ℕ) (n : ℕ) → (covered ≡ true → o ≡ None)

@@ -1,11 +1,11 @@
 -- Ranges in order: the one that may hold an address, and one range more among them.
-use Rattle.std.proofs.Common.{◌≡◌, ℕ, zero, suc, ◌+◌, ◌-◌, ◌≤◌, ◌<◌, Bool, true, false, cond, ◌||◌, nat_le, nat_lt, List, [], ◌∷◌, ◌++◌, length, get_or, take, drop, drop-cons, slice_get, slice_index_or, Option, Some, None, refl, sym, ap, ◌∙◌, arith, inl, inr}
+use Rattle.std.proofs.Common.{◌≡◌, ℕ, zero, suc, ◌-◌, ◌≤◌, ◌<◌, Bool, true, false, cond, ◌||◌, nat_le, nat_lt, List, [], ◌∷◌, ◌++◌, length, get_or, take, drop, drop-cons, slice_get, slice_index_or, Option, Some, None, refl, sym, ap, ◌∙◌, arith, inl, inr}
 use Rattle.std.specs.List.{insert, list_all}
 use Rattle.std.specs.Option.{option_or}
 use Rattle.std.specs.List.Sorted.{IsNonDecreasingBy}
-use Rattle.std.proofs.lemmas.Bool.{and_from, and_parts, cases_lt, or_left, or_right}
+use Rattle.std.proofs.lemmas.Bool.{and_from, and_parts, cases_lt, or_left, or_right, true_from_ne_false}
 use Rattle.std.proofs.lemmas.Bool.Decides.{nat_tests}
-use Rattle.std.proofs.lemmas.List.Folds.{list_all-append, list_any-append, list_any_more}
+use Rattle.std.proofs.lemmas.List.Folds.{list_all-append, list_any-append}
 use Rattle.std.proofs.lemmas.List.{take-append-drop}
 use Rattle.text_core.proofs.FirstsLaws.{neither}
 use Rattle.text_core.specs.inner.Pairs.{no_pair}
@@ -219,10 +219,6 @@ not_together r s rs some_r some_s free together = elim (cases_lt r.first s.first
   | inr more ↦ held_here s rs r.first (holds_this_first r s more together) (free r.first (holds_own_first r some_r))
 ]
 
-apart_by : (b : Bool) → (b ≡ false → ⊥) → b ≡ true
-apart_by true not_false = refl
-apart_by false not_false = absurd (not_false refl)
-
 none_later : (b : Bool) (n : ℕ) (o : Option ℕ) → cond b (Some n) o ≡ None → o ≡ None
 none_later true n o none = cc
 none_later false n o none = none
@@ -232,7 +228,7 @@ free_apart : (r : Range) (rs : List Range) → nat_le r.first r.last ≡ true �
 free_apart r [] some h free = refl
 free_apart r (s ∷ rs) some h free =
     let is = first_of s rs h in
-    and_from (is_apart r s) (list_all (is_apart r) rs) (apart_by (is_apart r s) (not_together r s rs some is.some free))
+    and_from (is_apart r s) (list_all (is_apart r) rs) (true_from_ne_false (is_apart r s) (not_together r s rs some is.some free))
     (free_apart r rs some is.behind (λ a own. none_later (holds s a) s.host (holder_among rs a) (free a own)))
 
 -- a range between those that begin before it and those that begin behind it
@@ -292,7 +288,7 @@ put_held r rs i a free =
     ∙ ap (λ ss. cond (holds r a) (Some r.host) (holder_among ss a)) whole
 
 -- the range of a prefix holds what the prefix covers
-same_test : (b c : Bool) → (b ≡ true → c ≡ true) → (c ≡ true → b ≡ true) → b ≡ c
+pub same_test : (b c : Bool) → (b ≡ true → c ≡ true) → (c ≡ true → b ≡ true) → b ≡ c
 same_test true c to from = sym (to refl)
 same_test false true to from = from refl
 same_test false false to from = refl
@@ -336,21 +332,3 @@ free_next rs all at i host p r within here same apart free held = λ a own.
     no_prefix_yet rs all (covers_any (take i at) a) host a (held a)
     (λ early. parts_apart a (take i at) (p ∷ drop (suc i) at) (ap (no_pair meets) whole ∙ apart) early rest)
     (free a covered)
-
-one_of_both : {A : Type 0} (b c : Bool) (x : A) (o : A) → cond c x (cond b x o) ≡ cond (b || c) x o
-one_of_both true true x o = refl
-one_of_both true false x o = refl
-one_of_both false true x o = refl
-one_of_both false false x o = refl
-
-pub held_next : (rs all new : List Range) (at : List Prefix) (i host : ℕ) (p : Prefix) (r : Range) → i < length at → p ≡ get_or at i p
-    → ((a : ℕ) → holds r a ≡ covers p a) → r.host ≡ host
-    → ((a : ℕ) → holder_among new a ≡ cond (holds r a) (Some r.host) (holder_among all a))
-    → IsHeldWith rs (take i at) host all → IsHeldWith rs (take (i + 1) at) host new
-held_next rs all new at i host p r within here same of_host put held = λ a.
-    let more : (covers_any (take i at) a || covers p a) ≡ covers_any (take (i + 1) at) a =
-    sym (list_any_more (λ q. covers q a) at i p within ∙ ap (λ q. covers_any (take i at) a || covers q a) (sym here)) in
-    put a
-    ∙ (λ j. cond (same a j) (Some (of_host j)) (held a j))
-    ∙ one_of_both (covers_any (take i at) a) (covers p a) (Some host) (holder_among rs a)
-    ∙ ap (λ b. cond b (Some host) (holder_among rs a)) more

@@ -1,7 +1,7 @@
 -- Laws of the texts of services: a text is read as a service exactly where it is a spelling of it.
-use Rattle.std.proofs.Common.{◌≡◌, ℕ, ◌<◌, Bool, true, false, cond, nat_le, ◌==◌, ◌&&◌, ◌||◌, List, [], ◌∷◌, ◌++◌, find, Option, Some, None, ◌⊎◌, ◌↔◌, inl, inr, refl, sym, ap, ◌∙◌, arith, subst}
+use Rattle.std.proofs.Common.{◌≡◌, ℕ, ◌<◌, Bool, true, false, cond, nat_le, ◌==◌, ◌&&◌, List, [], ◌∷◌, ◌++◌, find, Option, Some, None, ◌⊎◌, ◌↔◌, inl, inr, refl, sym, ap, ◌∙◌, arith, subst}
 use Rattle.std.specs.Prelude.{IsTrue, IsNone, IfSome, decimal, bytes_eq}
-use Rattle.std.proofs.lemmas.Bool.{and_parts, or_cases}
+use Rattle.std.proofs.lemmas.Bool.{and_parts, or_cases, or_right}
 use Rattle.std.proofs.lemmas.Bool.Decides.{nat_tests}
 use Rattle.text_core.specs.Decimal.{numbers_in}
 use Rattle.text_core.proofs.FirstsLaws.{some_same}
@@ -19,10 +19,6 @@ abbrev IsNamed : Service → Type 0
 IsNamed s = (s.proto ≡ icmp) ⊎ ((s.proto ≡ tcp) ⊎ (s.proto ≡ udp))
 
 -- 1. The test says what a spelling is.
-
-or_right : (x y : Bool) → y ≡ true → (x || y) ≡ true
-or_right true y h = refl
-or_right false y h = h
 
 ports_one : (low high : ℕ) → low ≡ high → ports_text low high ≡ decimal low
 ports_one low high same =

@@ -11,7 +11,7 @@ use Rattle.host_net.specs.Services.{NarrowedFlow, is_between, services_of, servi
 use Rattle.host_net.specs.inner.Services.{with_service, AreServices}
 
 -- the same ends are found, and others are not
-own_ends : (from to : ℕ) → ((from == from) && (to == to)) ≡ true
+pub own_ends : (from to : ℕ) → ((from == from) && (to == to)) ≡ true
 own_ends from to = grind (arith, nat_tests)
 
 other_ends : (i j from to : ℕ) → (i ≢ from) ⊎ (j ≢ to) → ((i == from) && (j == to)) ≡ false

@@ -1,4 +1,4 @@
--- The ends of a prefix, the addresses that two have in common, and the texts that stand for one.
+-- The ends of a prefix, and the texts that stand for one.
 use Rattle.std.specs.Prelude.{◌≡◌, ℕ, ◌+◌, ◌*◌, ◌^◌, ◌-◌, List, ◌⊎◌}
 use Rattle.host_net.specs.declared.prefix.Prefix.{Prefix}
 use Rattle.host_net.specs.Prefix.{front, address_text, prefix_text}

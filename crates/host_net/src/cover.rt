@@ -10,11 +10,10 @@ ghost use Rattle.std.specs.List.Sorted.{IsNonDecreasingBy, IsPartitionPoint};
 ghost use Rattle.host_net.specs.declared.cover.Ends.{Ends};
 ghost use Rattle.host_net.specs.declared.cover.Group.{Group};
 ghost use Rattle.host_net.specs.declared.cover.Key.{Key};
-ghost use Rattle.host_net.specs.Prefix.{front};
 ghost use Rattle.host_net.specs.inner.Cover.{IsFirstFrom};
-ghost use Rattle.host_net.specs.inner.CoverView.{AreFirst, AreInOrder, AreListed, IsFirstKey, IsFirstOf, IsIndexOf, IsSmall, SameBits, begins, comes_before, count_in, earlier, has_lengths, key_at, key_of, keys_from, length_of, lengths_of, noted, own_address, rank};
+ghost use Rattle.host_net.specs.inner.CoverView.{AreFirst, AreInOrder, AreListed, Begins, IsFirstKey, IsFirstOf, IsIndexOf, IsSmall, SameBits, comes_before, count_in, earlier, has_lengths, key_at, key_of, keys_from, length_of, lengths_of, noted, own_address, rank};
 
-use crate::prefix::Prefix;
+use crate::prefix::{Prefix, front};
 use std::alloc::{AllocError, Global};
 
 /// What a rule asks of the two addresses of a packet: that each prefix that is given covers its own.
@@ -66,7 +65,8 @@ const TRIES: usize = 8;
 /// What stands in a guide where no key begins.
 const NOWHERE: u32 = u32::MAX;
 
-/// The golden ratio, by which products of numbers that are close to each other lie far apart.
+/// 2^64 over the golden ratio, by which products of numbers that are close to each other lie far
+/// apart (multiplicative hashing: Knuth, The Art of Computer Programming, volume 3, section 6.4).
 const MULTIPLIER: u64 = 0x9e37_79b9_7f4a_7c15;
 
 fn length_of(part: Option<Prefix>) -> u8
@@ -94,13 +94,6 @@ fn lengths_of(ends: Ends) -> Lengths
         src: length_of(ends.src),
         dst: length_of(ends.dst),
     }
-}
-
-/// The first bits of an address.
-fn front(len: u8, addr: u32) -> u32
-    ensures { result ≡ front len addr }
-{
-    ((addr as u64) >> 32u8.saturating_sub(len)) as u32
 }
 
 fn key_at(lengths: Lengths, src: u32, dst: u32, place: u32) -> Key
@@ -286,7 +279,7 @@ fn first_among(
     dst: u32,
 ) -> Option<usize>
     ensures { AreInOrder keys.now → AreFirst groups.now keys.now
-        → IsFirstKey (begins groups.now src dst) keys.now from result }
+        → IsFirstKey (Begins groups.now src dst) keys.now from result }
 {
     let mut first = None;
     for group in groups {
@@ -306,8 +299,8 @@ fn first_with(
     dst: u32,
 ) -> Option<usize>
     ensures { (seen : List Group) → AreInOrder keys.now → IsFirstOf group keys.now
-        → IsFirstKey (begins seen src dst) keys.now from found
-        → IsFirstKey (begins (seen ++ group ∷ []) src dst) keys.now from result }
+        → IsFirstKey (Begins seen src dst) keys.now from found
+        → IsFirstKey (Begins (seen ++ group ∷ []) src dst) keys.now from result }
 {
     if comes_before(found, group.first) {
         return found;

@@ -1,6 +1,6 @@
 //! The hosts of a network, by name and by address.
 
-ghost use Rattle.std.specs.Prelude.{◌≡◌, ℕ, ◌≤◌, ◌<◌, ◌^◌, ◌++◌, ◌∷◌, [], Some, None, Ok, Err, IsTrue, IsFalse, IfOk, OnOk, OnErr, MatchResult, length, slice_get};
+ghost use Rattle.std.specs.Prelude.{◌≡◌, ℕ, ◌<◌, ◌^◌, ◌++◌, ◌∷◌, [], Some, None, Ok, Err, IsTrue, IsFalse, OnOk, OnErr, MatchResult, length, slice_get};
 ghost use Rattle.std.specs.List.{list_all};
 ghost use Rattle.std.specs.Option.{option_map, ForSome};
 ghost use Rattle.host_net.specs.Host.{Host, covers_any, host_named, owner_of, rest_of};

@@ -1,6 +1,7 @@
-//! Hosts of a network and the packets between them: IPv4 prefixes, packets, host names, and the
-//! list of hosts with the owner of each address. Everything above speaks of addresses through
-//! these types.
+//! Hosts of a network and the packets between them: IPv4 prefixes, packets, host names, the list
+//! of hosts with the owner of each address, the services to which flows are narrowed, and an index
+//! of what can fit the addresses of a packet. Everything above speaks of addresses through these
+//! types.
 #![tactic(auto)]
 
 mod addresses;
@@ -20,6 +21,6 @@ pub use hosts::Hosts;
 pub use name::Name;
 pub use packet::{CtState, Packet, Verdict};
 pub use prefix::{Prefix, put_prefix, read_address, read_prefix};
-pub use refusal::{HOST_LIMIT, HostRefusal, PREFIX_LIMIT};
+pub use refusal::{HOST_LIMIT, HostRefusal, INVARIANT_LIMIT, PREFIX_LIMIT};
 pub use service::{LAST_PORT, Service, read_port, read_protocol, read_service};
 pub use services::{SERVICE_LIMIT, Services};

@@ -7,6 +7,7 @@ mod covering;
 mod spelling;
 mod writing;
 
+pub(crate) use covering::front;
 pub use spelling::{read_address, read_prefix};
 pub use writing::put_prefix;
 

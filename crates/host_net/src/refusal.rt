@@ -1,4 +1,4 @@
-//! Why a host is not added.
+//! Why a host is not added, and how large a network may be.
 
 use std::alloc::AllocError;
 
@@ -7,6 +7,9 @@ pub const HOST_LIMIT: usize = 256;
 
 /// How many prefixes all hosts may have together.
 pub const PREFIX_LIMIT: usize = 1024;
+
+/// How many invariants there may be.
+pub const INVARIANT_LIMIT: usize = 16;
 
 /// Why a host was not added, the first cause in this order. Hosts and prefixes are named by their
 /// places, from 0.

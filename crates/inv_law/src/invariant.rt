@@ -1,5 +1,6 @@
 //! The trait of all invariants, with the laws that each of them proves. The engines above use
-//! nothing of an invariant but this trait, so they serve templates that are not in this workspace.
+//! nothing of an invariant but this trait, and `Stepwise` where they go by steps, so they serve
+//! templates that are not in this workspace.
 
 ghost use Rattle.std.specs.Prelude.{◌≡◌, ℕ, ◌<◌, ◌↔◌, ⊤, Bool, List, [], ◌∷◌, IsTrue, IfOk};
 ghost use Rattle.flow_set.specs.inner.Downward.{IsDownward, IsEdgeWise};

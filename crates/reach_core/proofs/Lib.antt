@@ -1,7 +1,6 @@
 pub mod Closes
 pub mod Counts
 pub mod JoinRows
-pub mod Lasts
 pub mod Opening
 pub mod ReachRows
 pub mod Shows

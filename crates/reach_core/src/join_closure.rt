@@ -1,7 +1,7 @@
 //! Which hosts are joined along a set of flows, in whatever direction: for each host a row of those that
 //! it is joined with. The rows begin empty and grow by one flow at a time.
 
-ghost use Rattle.std.specs.Prelude.{◌≡◌, ℕ, ◌<◌, ◌≤◌, ◌↔◌, List, [], IsTrue, IfOk, IsSome, None};
+ghost use Rattle.std.specs.Prelude.{◌≡◌, ℕ, ◌<◌, ◌≤◌, ◌↔◌, [], IsTrue, IfOk, IsSome, None};
 ghost use Rattle.std.specs.FinSet as set;
 ghost use Rattle.flow_set.specs.Flow.{IsFlow};
 ghost use Rattle.flow_set.specs.FlowSet.{with_flow};

@@ -9,6 +9,5 @@ mod rows;
 mod stepped;
 
 pub use closure::Closure;
-pub use flow_set::HostSet;
 pub use join_closure::JoinClosure;
 pub use reach_closure::ReachClosure;

@@ -1,7 +1,7 @@
 //! Who reaches whom along a set of flows: for each host a row of the hosts that it reaches and a row of
 //! those that come to it. The rows begin empty and grow by one flow at a time.
 
-ghost use Rattle.std.specs.Prelude.{◌≡◌, ℕ, ◌<◌, ◌≤◌, ◌↔◌, List, [], IsFalse, IsTrue, IfOk, IsSome, None};
+ghost use Rattle.std.specs.Prelude.{◌≡◌, ℕ, ◌<◌, ◌≤◌, ◌↔◌, [], IsFalse, IsTrue, IfOk, IsSome, None};
 ghost use Rattle.std.specs.FinSet as set;
 ghost use Rattle.flow_set.specs.Flow.{IsFlow};
 ghost use Rattle.flow_set.specs.FlowSet.{with_flow};

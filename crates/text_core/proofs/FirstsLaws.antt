@@ -76,13 +76,3 @@ all_numbered p k (x ∷ xs) = rw (all_numbered p (k + 1) xs)
 pub no_pair_numbered : {A : Type 0} (r : A → A → Bool) (k : ℕ) (xs : List A) → no_pair (λ (x y : Numbered A). r x.what y.what) (numbered_from k xs) ≡ no_pair r xs
 no_pair_numbered r k [] = refl
 no_pair_numbered r k (x ∷ xs) = rw (all_numbered (λ y. not (r y x)) (k + 1) xs, no_pair_numbered r (k + 1) xs)
-
-not_not : (b : Bool) → not (not b) ≡ true → b ≡ true
-not_not true h = refl
-not_not false h = cc
-
-pub all_twice : {A : Type 0} (p : A → Bool) (xs : List A) → list_all (λ x. not (not (p x))) xs ≡ true → list_all p xs ≡ true
-all_twice p [] h = refl
-all_twice p (x ∷ xs) h =
-    let (here, behind) = and_parts (not (not (p x))) _ h in
-    rw (not_not (p x) here, all_twice p xs behind)

@@ -3,6 +3,7 @@ pub mod DecimalLemmas
 pub mod FirstPairLaws
 pub mod FirstsLaws
 pub mod FirstsLemmas
+pub mod GetLaws
 pub mod LineLaws
 pub mod LineLemmas
 pub mod LinesLaws
@@ -12,7 +13,6 @@ pub mod NumbersLaws
 pub mod PairLaws
 pub mod PiecesLaws
 pub mod PiecesLemmas
-pub mod ReadingLaws
 pub mod SoFar
 pub mod SpacedLaws
 pub mod StepsLaws

@@ -1,7 +1,8 @@
 -- Texts that are put together from words and lines are read as these words and lines.
-use Rattle.std.proofs.Common.{◌≡◌, ℕ, Bool, true, false, ◌&&◌, List, [], ◌∷◌, ◌++◌, append_assoc, refl, sym, ap, ◌∙◌, arith, nat_eq}
+use Rattle.std.proofs.Common.{◌≡◌, ℕ, Bool, true, false, List, [], ◌∷◌, ◌++◌, append_assoc, refl, sym, ap, ◌∙◌, arith, nat_eq}
 use Rattle.std.specs.Prelude.{nat_lt}
 use Rattle.std.specs.List.{list_all}
+use Rattle.std.proofs.lemmas.Bool.{and_parts}
 use Rattle.std.proofs.lemmas.Bool.Decides.{nat_tests}
 use Rattle.text_core.proofs.PiecesLaws.{lacks, lacks-append}
 use Rattle.text_core.specs.Lines.{words, is_blank, ends_word}
@@ -26,11 +27,6 @@ behind_ends : (ws : List (List ℕ)) → ends_word (behind ws) ≡ true
 behind_ends [] = refl
 behind_ends (w ∷ ws) = refl
 
-both : (a b : Bool) → (a && b) ≡ true → (a ≡ true) × (b ≡ true)
-both true true h = (refl, refl)
-both true false h = cc
-both false b h = cc
-
 word_then : (w rest : List ℕ) → is_word w ≡ true → ends_word rest ≡ true → words (w ++ rest) ≡ w ∷ words rest
 word_then [] rest h ends = cc
 word_then (b ∷ w) rest h ends = words_of_word b w rest h ends
@@ -38,14 +34,14 @@ word_then (b ∷ w) rest h ends = words_of_word b w rest h ends
 words_behind : (ws : List (List ℕ)) → list_all is_word ws ≡ true → words (behind ws) ≡ ws
 words_behind [] h = refl
 words_behind (w ∷ ws) h =
-    let parts = both (is_word w) (list_all is_word ws) h in
+    let parts = and_parts (is_word w) (list_all is_word ws) h in
     word_then w (behind ws) parts.0 (behind_ends ws) ∙ ap (λ vs. w ∷ vs) (words_behind ws parts.1)
 
 -- spaced words are read as these words
 pub words_spaced : (ws : List (List ℕ)) → list_all is_word ws ≡ true → words (spaced ws) ≡ ws
 words_spaced [] h = refl
 words_spaced (w ∷ ws) h =
-    let parts = both (is_word w) (list_all is_word ws) h in
+    let parts = and_parts (is_word w) (list_all is_word ws) h in
     word_then w (behind ws) parts.0 (behind_ends ws) ∙ ap (λ vs. w ∷ vs) (words_behind ws parts.1)
 
 pub behind-append : (xs ys : List (List ℕ)) → behind (xs ++ ys) ≡ behind xs ++ behind ys
@@ -53,23 +49,17 @@ behind-append [] ys = refl
 behind-append (x ∷ xs) ys =
     ap (λ bs. 32 ∷ bs) (ap (λ bs. x ++ bs) (behind-append xs ys) ∙ sym (append_assoc x (behind xs) (behind ys)))
 
-pub list_all-append : (p : List ℕ → Bool) (xs ys : List (List ℕ)) → list_all p xs ≡ true → list_all p ys ≡ true → list_all p (xs ++ ys) ≡ true
-list_all-append p [] ys f g = g
-list_all-append p (x ∷ xs) ys f g =
-    let parts = both (p x) (list_all p xs) f in
-    rw (parts.0, list_all-append p xs ys parts.1 g) refl
-
 -- spaced words without byte 10 are a line
 lacks_behind : (ws : List (List ℕ)) → list_all (lacks 10) ws ≡ true → lacks 10 (behind ws) ≡ true
 lacks_behind [] h = refl
 lacks_behind (w ∷ ws) h =
-    let parts = both (lacks 10 w) (list_all (lacks 10) ws) h in
+    let parts = and_parts (lacks 10 w) (list_all (lacks 10) ws) h in
     lacks-append 10 w (behind ws) parts.0 (lacks_behind ws parts.1)
 
 pub lacks_spaced : (ws : List (List ℕ)) → list_all (lacks 10) ws ≡ true → lacks 10 (spaced ws) ≡ true
 lacks_spaced [] h = refl
 lacks_spaced (w ∷ ws) h =
-    let parts = both (lacks 10 w) (list_all (lacks 10) ws) h in
+    let parts = and_parts (lacks 10 w) (list_all (lacks 10) ws) h in
     lacks-append 10 w (behind ws) parts.0 (lacks_behind ws parts.1)
 
 -- a text of printing bytes alone is a word, and no line ends in it
@@ -84,7 +74,7 @@ no_end b h = grind (arith, nat_tests)
 
 print_parts : (b : ℕ) (bs : List ℕ) → list_all prints (b ∷ bs) ≡ true → (is_blank b ≡ false) × (nat_eq b 10 ≡ false) × (list_all prints bs ≡ true)
 print_parts b bs h =
-    let parts = both (prints b) (list_all prints bs) h in
+    let parts = and_parts (prints b) (list_all prints bs) h in
     (no_blank b parts.0, no_end b parts.0, parts.1)
 
 pub prints_no_blank : (bs : List ℕ) → list_all prints bs ≡ true → has_no_blank bs ≡ true

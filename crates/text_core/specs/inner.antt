@@ -6,5 +6,4 @@ pub mod ListAnswers
 pub mod Padded
 pub mod Pairs
 pub mod Pieces
-pub mod Reading
 pub mod TextAnswers

@@ -1,7 +1,7 @@
 //! Reading a text line by line: one loop for all readers. A reader says what a line adds, or why it
 //! cannot stand where it stands; the first line that cannot ends the reading.
 
-ghost use Rattle.std.specs.Prelude.{◌≡◌, ◌<◌, ◌^◌, ℕ, List, length, Ok, Err, IfOk, IfErr, IsFalse};
+ghost use Rattle.std.specs.Prelude.{◌≡◌, ◌<◌, ◌^◌, length, Ok, Err, IfOk, IfErr, IsFalse};
 ghost use Rattle.text_core.specs.Lines.{lines, is_comment};
 ghost use Rattle.text_core.specs.TextByLines.{TextByLines, IsReadThrough};
 ghost use Rattle.text_core.specs.inner.TextAnswers.{HasCause, HasReason, Passes, Stops};

@@ -12,9 +12,9 @@ ghost use Rattle.tmpl_reach.specs.laws.DependabilityLaws.{IsDependable-downward,
 
 use crate::host_wise::{HostWise, all_allowed, still_allowed};
 use crate::trial::ReachTrial;
-use flow_set::{Flow, FlowSet};
+use flow_set::{Flow, FlowSet, HostSet};
 use inv_law::{Invariant, Stepwise, Strategy};
-use reach_core::{HostSet, ReachClosure};
+use reach_core::ReachClosure;
 use std::alloc::{AllocError, Global};
 use std::marker::Model;
 

@@ -8,8 +8,8 @@ ghost use Rattle.flow_set.specs.Flow.{IsFlow};
 ghost use Rattle.flow_set.specs.FlowSet.{with_flow};
 ghost use Rattle.reach_core.specs.Walks.{Reaches};
 
-use flow_set::Flow;
-use reach_core::{HostSet, ReachClosure};
+use flow_set::{Flow, HostSet};
+use reach_core::ReachClosure;
 
 /// An invariant that holds where it allows each host what the host reaches.
 pub(crate) trait HostWise: Sized {

@@ -6,15 +6,14 @@ ghost use Rattle.std.proofs.lemmas.Bool.{false≢true};
 ghost use Rattle.inv_law.specs.declared.strategy.Strategy.TheVariants.{Access};
 ghost use Rattle.tmpl_reach.specs.NoReach.{others, denied_by, ReachesNoDenied};
 ghost use Rattle.tmpl_reach.specs.inner.NoReach.{ReachesNone};
-ghost use Rattle.tmpl_reach.specs.inner.Resets.{all_others};
-ghost use Rattle.tmpl_reach.specs.inner.Resets.{ReachesNoDeniedAfterReset};
+ghost use Rattle.tmpl_reach.specs.inner.Resets.{all_others, ReachesNoDeniedAfterReset};
 ghost use Rattle.tmpl_reach.specs.laws.NoReachLaws.{ReachesNoDenied-downward, ReachesNoDenied-none, ReachesNoDenied-reset};
 
 use crate::host_wise::{HostWise, all_allowed, still_allowed};
 use crate::trial::ReachTrial;
-use flow_set::{Flow, FlowSet};
+use flow_set::{Flow, FlowSet, HostSet};
 use inv_law::{Invariant, Stepwise, Strategy};
-use reach_core::{HostSet, ReachClosure};
+use reach_core::ReachClosure;
 use std::alloc::{AllocError, Global};
 use std::marker::Model;
 
@@ -133,7 +132,7 @@ impl Invariant for NoReach {
     }
 
     fn with_default(&self, alloc: Global, host: u16) -> Result<Self, AllocError> {
-        let mut denied = copies(alloc, &self.denied)?;
+        let mut denied = HostSet::copies(alloc, &self.denied)?;
         denied[host as usize] = others(self.hosts(), host);
         Ok(NoReach { denied })
     }
@@ -178,20 +177,11 @@ impl Stepwise for NoReach {
 
 // All hosts of `n` but this one.
 fn others(n: u16, host: u16) -> HostSet
-    requires { n ≤ 256 }
+    requires count { n ≤ 256 }
+    requires host { host < 256 }
     ensures { result ≡ others n host }
 {
-    let mut all = HostSet::empty();
-    for other in 0..n {
-        if other != host {
-            all.insert(other);
-        }
-    }
-    all
-}
-
-fn copies(alloc: Global, denied: &[HostSet]) -> Result<Vec<HostSet>, AllocError>
-    ensures { IfOk result (λ copies. copies.items ≡ denied.now) }
-{
-    denied.iter().map(|hosts| hosts.copy()).collect(alloc)
+    let mut hosts = HostSet::below(n);
+    hosts.remove(host);
+    hosts
 }

@@ -1,11 +1,11 @@
 //! The rule of a declared table: a flow passes where the pair of the kinds of its two hosts is not denied.
 
-ghost use Rattle.std.specs.Prelude.{◌≡◌, ◌≤◌, ◌<◌, ◌↔◌, All, IfOk, IfErr, IsTrue, None, length, replicate, slice_index, slice_set};
+ghost use Rattle.std.specs.Prelude.{◌≡◌, ◌<◌, All, IfOk, IfErr, IsTrue, None, length, replicate, slice_set};
 ghost use Rattle.inv_law.specs.laws.AttributeLaws.{ResetPassesNoMore-attributes};
 ghost use Rattle.inv_law.specs.Attributes.{PassesBetween};
 ghost use Rattle.inv_law.specs.inner.Resets.{PassesAfterReset};
 ghost use Rattle.tmpl_table.specs.KindTable.{TablePasses, declared, is_lawful};
-ghost use Rattle.tmpl_table.specs.inner.KindTable.{HidesNoFault, PairPasses, first_weaker};
+ghost use Rattle.tmpl_table.specs.inner.KindTable.{HidesNoFault, first_weaker};
 ghost use Rattle.tmpl_table.specs.laws.KindTableLaws.{table_secure};
 ghost use Rattle.tmpl_table.specs.inner.TableFaults.{IsRefused};
 
@@ -56,7 +56,6 @@ impl TableRule {
         default: u8,
         denied: &[(u8, u8)],
     ) -> Result<TableRule, TableFault>
-        requires kinds { (1 ≤ kinds) × (kinds ≤ 64) }
         requires default { default < kinds }
         requires pairs { All (λ pair. (pair.0 < kinds) × (pair.1 < kinds)) denied.now }
         ensures made { IfOk result (λ rule. rule ≡ record {

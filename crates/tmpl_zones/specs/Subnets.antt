@@ -1,4 +1,4 @@
--- The subnets template: a subnet sends within its number, and borders send to each other.
+-- The subnets template: a subnet sends within its number, borders send to each other, and all send to unassigned hosts.
 -- In the manner of the template of this name of Network_Security_Policy_Verification in the Archive of Formal Proofs,
 -- with the table of docs/FORMATS.md.
 use Rattle.std.specs.Prelude.{Bool, true, false, ◌==◌, codes}

@@ -1,7 +1,7 @@
 //! The communication partners template: a master takes packets only from the hosts in its list, and
 //! a host that cares from all hosts but those that do not.
 
-ghost use Rattle.std.specs.Prelude.{◌≡◌, ◌≢◌, ◌<◌, ◌↔◌, ◌⊎◌, ℕ, true, false, IsTrue, IfOk, length, replicate, slice_index_or, slice_set};
+ghost use Rattle.std.specs.Prelude.{◌≡◌, ◌≢◌, ◌<◌, ◌↔◌, ◌⊎◌, ℕ, true, false, IfOk, length, replicate, slice_index_or, slice_set};
 ghost use Rattle.inv_law.specs.declared.strategy.Strategy.TheVariants.{Access};
 ghost use Rattle.tmpl_zones.specs.Partners.{Partner, DontCare, Care, Master, PartnersPass, with_sender};
 ghost use Rattle.tmpl_zones.specs.inner.PartnersView.{IsMaster};

@@ -1,5 +1,6 @@
-//! The subnets template: hosts of a subnet send to each other and to the border of their subnet, and
-//! borders send to borders. No border sends into a subnet, its own included.
+//! The subnets template: hosts of a subnet send to each other and to the border of their subnet,
+//! borders send to borders, and every host sends to unassigned hosts. No border sends into a subnet,
+//! its own included.
 
 use crate::kinds::{Kind, KindRule};
 use inv_law::Strategy;

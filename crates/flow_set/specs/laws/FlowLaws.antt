@@ -68,7 +68,7 @@ has_later g fs f h = or_right _ _ h
 pub same_fact : (P : Flow → Type 0) (f g : Flow) → IsTrue (same_flow f g) → P f → P g
 same_fact P f g s h = subst P (same_flow-true f g s) h
 
-or_swap : (a b c : Bool) → (a || (b || c)) ≡ (b || (a || c))
+pub or_swap : (a b c : Bool) → (a || (b || c)) ≡ (b || (a || c))
 or_swap true true c = refl
 or_swap true false c = refl
 or_swap false true c = refl

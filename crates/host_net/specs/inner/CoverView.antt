@@ -94,9 +94,6 @@ pub record Begins (all : List Group) (src dst : ℕ) (k : Key) : Type 0 where
   pub src_bits : k.src ≡ front k.lengths.src src
   pub dst_bits : k.dst ≡ front k.lengths.dst dst
 
-abbrev pub begins : List Group → ℕ → ℕ → Key → Type 0
-begins all src dst k = Begins all src dst k
-
 abbrev pub earlier : Option ℕ → Option ℕ → Option ℕ
 earlier None other = other
 earlier (Some one) None = Some one

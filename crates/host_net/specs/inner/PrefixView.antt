@@ -1,4 +1,4 @@
--- The ends of a prefix, the addresses that two have in common, and the texts that stand for one.
+-- The addresses that two prefixes have in common.
 use Rattle.std.specs.Prelude.{ℕ, ◌^◌, ◌<◌, IsTrue}
 use Rattle.host_net.specs.declared.prefix.Prefix.{Prefix}
 use Rattle.host_net.specs.Prefix.{covers}

@@ -1,4 +1,4 @@
--- Services, to which flows may be narrowed: a protocol and the ports that it counts its packets to (TCP: RFC 9293, section 3.1; UDP: RFC 768).
+-- Which services a flow may be narrowed to.
 use Rattle.std.specs.Prelude.{Bool, ◌&&◌, ◌||◌, ◌==◌, nat_le}
 use Rattle.host_net.specs.declared.service.Service.{Service}
 use Rattle.host_net.specs.Service.{has_all_ports, has_ports, icmp, last_port}

@@ -1,4 +1,4 @@
--- The flows between hosts that are narrowed to services, each with its services.
+-- One more service of a flow, and what is true of services, however they were added.
 use Rattle.std.specs.Prelude.{ℕ, ◌≤◌, if◌then◌else◌, IsTrue, List, [], ◌∷◌, ◌++◌, length}
 use Rattle.std.specs.List.{list_all}
 use Rattle.host_net.specs.declared.service.Service.{Service}

@@ -1,4 +1,4 @@
--- The hosts of a network, and the services to which flows between them are narrowed.
+-- Hosts between which no flow is narrowed, and what is true of a site.
 use Rattle.std.specs.Prelude.{List, []}
 use Rattle.host_net.specs.Host.{Host}
 use Rattle.host_net.specs.inner.Hosts.{IsHosts}

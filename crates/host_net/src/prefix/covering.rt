@@ -58,7 +58,7 @@ impl Prefix {
     pub fn first(&self) -> u32
         ensures { result ≡ first_address self.now }
     {
-        (front(self.len, self.addr) << (32 - self.len)) as u32
+        ((front(self.len, self.addr) as u64) << (32 - self.len)) as u32
     }
 
     /// The last address that the prefix covers.
@@ -80,11 +80,11 @@ impl Prefix {
     }
 }
 
-fn front(len: u8, addr: u32) -> u64
-    requires { len ≤ 32 }
+/// The first bits of an address.
+pub(crate) fn front(len: u8, addr: u32) -> u32
     ensures { result ≡ front len addr }
 {
-    (addr as u64) >> (32 - len)
+    ((addr as u64) >> 32u8.saturating_sub(len)) as u32
 }
 
 /// The number of which all bits after the first `len` of 32 are 1, and no others.

@@ -1,8 +1,7 @@
 -- A rule on attributes is lawful where its default is secure, whatever the attributes are.
 use Rattle.std.proofs.Common.{◌≡◌, ℕ, suc, zero, List, [], ◌∷◌, get_or, set, refl, sym, get_or-set_other}
 use Rattle.inv_law.specs.Attributes.{PassesBetween}
-use Rattle.inv_law.specs.inner.Resets.{PassesAfterReset, IsSecureDefault}
-use Rattle.inv_law.specs.inner.Resets.{ResetPassesNoMore}
+use Rattle.inv_law.specs.inner.Resets.{PassesAfterReset, IsSecureDefault, ResetPassesNoMore}
 use Rattle.inv_law.specs.declared.strategy.Strategy.{Strategy}
 use Rattle.inv_law.specs.declared.strategy.Strategy.TheVariants.{Access, Information}
 

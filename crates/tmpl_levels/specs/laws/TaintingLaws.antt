@@ -22,7 +22,7 @@ tainting_lawful = lawful_edge tainting.name tainting.strategy TakesOffItsOwn unt
 pub tainting_default : MayHaveDefault tainting
 tainting_default n host within label off = off
 
--- a host takes off only its own labels exactly where its mask keeps all that it takes off
+-- a host whose mask keeps all that it takes off takes off only its own labels
 pub own_by_mask : (taints untaints : ℕ) → bit_and untaints taints ≡ untaints
     → TakesOffItsOwn (record { taints = taints; untaints = untaints })
 own_by_mask taints untaints same label off =

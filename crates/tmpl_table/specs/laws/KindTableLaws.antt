@@ -1,6 +1,6 @@
--- A table is lawful exactly where its default hides no fault; then only its denied pairs fail, and the default is weaker in no pair.
+-- A table is lawful exactly where its default hides no fault; then the default is weaker in no pair.
 use Rattle.std.proofs.Common.{◌≡◌, ℕ, ◌+◌, ◌<◌, Bool, true, false, not, ◌&&◌, ◌==◌, List, [], ◌∷◌, length, Option, Some, None, is_none, inl, inr, refl, sym, ap, ◌∙◌, subst, arith}
-use Rattle.std.specs.Prelude.{◌↔◌, find, if◌then◌else◌}
+use Rattle.std.specs.Prelude.{find, if◌then◌else◌}
 use Rattle.std.specs.List.{All, list_all, position_from}
 use Rattle.std.proofs.lemmas.Bool.{and_from, and_parts, or_cases, or_left, or_right, false≢true, false_from_ne_true, eq-eqb, eqb-true, not_from_false, not_from_true, cases_Bool}
 use Rattle.std.proofs.lemmas.List.Elements.{All-cons, All-head, All-nil, All-tail}
@@ -67,13 +67,6 @@ guarded false x is = absurd (false≢true is)
 unguarded : (b x : Bool) → b ≡ false → not (b && x) ≡ true
 unguarded true x is = absurd (false≢true (sym is))
 unguarded false x is = refl
-
--- in a lawful table a flow passes where its pair is not denied, and nowhere else
-pub TablePasses-lawful : (table : KindTable) → is_lawful table ≡ true → (sender receiver : ℕ)
-    → TablePasses table sender receiver ↔ PairPasses table.denied sender receiver
-TablePasses-lawful table lawful sender receiver =
-    let same = guarded (is_lawful table) (lists table.denied (sender, receiver)) lawful in
-    (λ passes. sym same ∙ passes, λ passes. same ∙ passes)
 
 -- what passes with the default at the blamed host passes with any kind there
 pub table_secure : (table : KindTable) → IsSecureDefault table.strategy table.default (TablePasses table)

@@ -2,9 +2,8 @@
 use Rattle.std.proofs.Common.{ℕ, List, length, refl}
 use Rattle.std.proofs.lemmas.Bool.{false≢true}
 use Rattle.inv_law.specs.laws.AttributeLaws.{ResetPassesNoMore-attributes}
-use Rattle.inv_law.specs.inner.Resets.{IsSecureDefault}
+use Rattle.inv_law.specs.inner.Resets.{IsSecureDefault, ResetPassesNoMore}
 use Rattle.inv_law.specs.laws.RuleLaws.{AllFlowsPass-downward, AllFlowsPass-none, AllFlowsPass-edge_wise, AllFlowsPass-reset}
-use Rattle.inv_law.specs.inner.Resets.{ResetPassesNoMore}
 use Rattle.inv_law.specs.inner.Template.{MayHaveDefault}
 use Rattle.inv_law.specs.laws.TemplateLaws.{IsLawfulTemplate}
 use Rattle.inv_law.specs.declared.strategy.Strategy.TheVariants.{Access}

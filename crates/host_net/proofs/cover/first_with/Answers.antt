@@ -1,6 +1,6 @@
 use Rattle.std.proofs.Common.{Option, ℕ, ◌++◌, ◌∷◌, [], ◌∙◌, sym, subst}
 use Rattle.host_net.specs.declared.cover.Key.{Key}
-use Rattle.host_net.specs.inner.CoverView.{IsFirstKey, SameBits, begins}
+use Rattle.host_net.specs.inner.CoverView.{Begins, IsFirstKey, SameBits}
 use Rattle.host_net.proofs.CoverLemmas.{first_kept, first_next}
 use Rattle.host_net.proofs.cover.first_with.Goals as goal
 
@@ -12,5 +12,5 @@ pub returns : goal.returns
 returns c = λ seen order group first.
     let keys = c.args.keys.now in
     let next = subst (λ (k : Key). IsFirstKey (λ l. SameBits l k) keys k.place c.next_of-next.result) c.key_at.ensures (c.next_of-next.ensures order) in
-    subst (λ (o : Option ℕ). IsFirstKey (begins (seen ++ c.args.group ∷ []) c.args.src c.args.dst) keys c.args.from o) (sym c.earlier.ensures)
+    subst (λ (o : Option ℕ). IsFirstKey (Begins (seen ++ c.args.group ∷ []) c.args.src c.args.dst) keys c.args.from o) (sym c.earlier.ensures)
     (first_next seen c.args.group c.args.src c.args.dst c.args.from keys c.args.found c.next_of-next.result first next)

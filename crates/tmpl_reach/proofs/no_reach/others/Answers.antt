@@ -1,25 +1,23 @@
-use Rattle.std.proofs.Common.{◌≡◌, sym, ◌∙◌, ap, add-one, not, nat_eq, Bool, ℕ, suc, ◌+◌}
+use Rattle.std.proofs.Common.{◌≡◌, ℕ, Bool, true, false, not, ◌&&◌, nat_eq, nat_lt, refl, sym, ap, ◌∙◌}
 use Rattle.std.specs.FinSet as set
-use Rattle.std.proofs.lemmas.Bool.{cond-true, cond-false, not_from_false, not_from_true, ne_eqb, eq-eqb}
 use Rattle.flow_set.specs.HostSet.{HostNumbers, hosts_below}
+use Rattle.flow_set.specs.laws.HostSetLaws.{contains-hosts_below, contains-remove, hosts_ext}
+use Rattle.tmpl_reach.specs.NoReach.{others}
+use Rattle.tmpl_reach.specs.laws.NoReachLaws.{contains-others}
 use Rattle.tmpl_reach.proofs.no_reach.others.Goals as goal
-use Rattle.tmpl_reach.proofs.no_reach.others.Goals.{then-other-host, else-other-host}
 
-pub loop-other-init : goal.loop-other-init
-unfolding hosts_below
-loop-other-init c = c.empty-all.ensures
+other_first : (b c : Bool) → (b && (c && true)) ≡ (c && b)
+other_first true true = refl
+other_first true false = refl
+other_first false true = refl
+other_first false false = refl
 
-pub loop-other-preserved : goal.loop-other-preserved
-unfolding hosts_below
-loop-other-preserved c =
-    let other : ℕ = c.loop-other.other in
-    let test : ℕ → Bool = λ h. not (nat_eq h c.args.host) in
-    let one_more : hosts_below (other + 1) test ≡ hosts_below (suc other) test = ap (λ n. hosts_below n test) (add-one other) in
-    elim c.if-other-host.branch [
-      | then-other-host w ↦
-          w.all-is ∙ w.insert.ensures ∙ ap (λ (s : HostNumbers). set.insert s other) c.loop-other.invariant
-          ∙ sym (one_more ∙ cond-true (test other) _ _ (not_from_false _ (ne_eqb _ _ w.if-other-host.true)))
-      | else-other-host w ↦
-          w.all-is ∙ c.loop-other.invariant
-          ∙ sym (one_more ∙ cond-false (test other) _ _ (not_from_true _ (eq-eqb _ _ w.if-other-host.false)))
-    ]
+all_but : (n host : ℕ) → set.remove (hosts_below n (λ _. true)) host ≡ others n host
+all_but n host =
+    hosts_ext (set.remove (hosts_below n (λ _. true)) host) (others n host) (λ q.
+    contains-remove (hosts_below n (λ _. true)) host q
+    ∙ ap (λ b. not (nat_eq q host) && b) (contains-hosts_below n (λ _. true) q)
+    ∙ other_first (not (nat_eq q host)) (nat_lt q n) ∙ sym (contains-others n host q))
+
+pub returns : goal.returns
+returns c = c.remove.ensures ∙ ap (λ (s : HostNumbers). set.remove s c.args.host) c.below-hosts.ensures ∙ all_but c.args.n c.args.host

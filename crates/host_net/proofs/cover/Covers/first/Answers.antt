@@ -1,7 +1,7 @@
 use Rattle.std.proofs.Common.{List, subst, arith}
 use Rattle.host_net.specs.declared.cover.Group.{Group}
 use Rattle.host_net.specs.declared.cover.Key.{Key}
-use Rattle.host_net.specs.inner.CoverView.{AreFirst, AreInOrder, IsFirstKey, begins}
+use Rattle.host_net.specs.inner.CoverView.{AreFirst, AreInOrder, Begins, IsFirstKey}
 use Rattle.host_net.proofs.CoverLemmas.{index_first, none_so_late}
 use Rattle.host_net.proofs.cover.Covers.first.Goals as goal
 
@@ -14,8 +14,8 @@ pub returns : goal.returns
 returns c = λ all is.
     let index = c.args.self.now in
     let found = c.first_among.result in
-    let keys = subst (λ (ks : List Key). AreInOrder ks → AreFirst c.deref-2.result.now ks → IsFirstKey (begins c.deref-2.result.now c.args.src c.args.dst) ks c.args.from found)
+    let keys = subst (λ (ks : List Key). AreInOrder ks → AreFirst c.deref-2.result.now ks → IsFirstKey (Begins c.deref-2.result.now c.args.src c.args.dst) ks c.args.from found)
     c.deref.ensures.value c.first_among.ensures in
-    let first = subst (λ (gs : List Group). AreFirst gs index.keys.items → IsFirstKey (begins gs c.args.src c.args.dst) index.keys.items c.args.from found)
+    let first = subst (λ (gs : List Group). AreFirst gs index.keys.items → IsFirstKey (Begins gs c.args.src c.args.dst) index.keys.items c.args.from found)
     c.deref-2.ensures.value (keys is.order) is.firsts in
     index_first all index.keys.items index.groups.items is c.args.src c.args.dst (omega (arith, c.ranges.src.fits)) (omega (arith, c.ranges.dst.fits)) c.args.from found first

@@ -1,10 +1,10 @@
-use Rattle.std.proofs.Common.{List, ◌∙◌, ap, sym, subst}
+use Rattle.std.proofs.Common.{List, [], ◌∷◌, ◌++◌, ◌∙◌, ap, sym, subst}
 use Rattle.flow_set.specs.declared.flow.Flow.{Flow}
 use Rattle.flow_set.specs.Flow.{IsFlow}
 use Rattle.flow_set.specs.FlowSet.{IsOrdered, with_flow}
 use Rattle.flow_set.specs.inner.Steps.{TriedFlows}
+use Rattle.flow_set.specs.laws.FlowLaws.{front_before, has_first, IsOrdered-front, with_flow-last}
 use Rattle.flow_set.specs.laws.WalkLaws.{walk_next, walk_member}
-use Rattle.reach_core.proofs.Lasts.{with_flow-last}
 use Rattle.reach_core.proofs.join_closure.JoinClosure.of.Goals as goal
 
 pub try_add-requires : goal.try_add-requires
@@ -18,10 +18,13 @@ loop-f-preserved c =
     let kept = c.loop-f.invariant in
     let walk =
     walk_next c.loop-f.yielded c.loop-f.f-iterator c.next.new.self c.args.e.now.flows c.in-Some.f kept.walk c.in-Some.ensures.steps in
+    let xs : List Flow = c.loop-f.yielded in
+    let f : Flow = c.in-Some.f in
+    let ordered = IsOrdered-front (xs ++ f ∷ []) c.next.new.self (subst IsOrdered (sym walk) c.iter-f-items.ensures.set.ordered) in
     record {
       size = ap (λ (t : TriedFlows). t.size) c.try_add.ensures ∙ kept.size;
       flows =
           ap (λ (t : TriedFlows). t.flows) c.try_add.ensures ∙ ap (λ (fs : List Flow). with_flow fs c.in-Some.f) kept.flows
-          ∙ with_flow-last c.loop-f.yielded c.in-Some.f c.next.new.self (subst IsOrdered (sym walk) c.iter-f-items.ensures.set.ordered);
+          ∙ with_flow-last xs f (λ g there. front_before xs (f ∷ []) g f ordered there (has_first f []));
       walk = walk;
     }
