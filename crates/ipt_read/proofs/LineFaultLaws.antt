@@ -1,7 +1,7 @@
 -- Why a line cannot stand, said in the format's words, is what the steps find.
 use Rattle.std.proofs.Common.{◌≡◌, ◌≢◌, ◌⊎◌, inl, inr, ℕ, ◌+◌, ◌<◌, ◌≤◌, Bool, true, false, not, ◌&&◌, ◌||◌, ◌==◌, List, [], ◌∷◌, ◌++◌, Option, Some, None, refl, sym, ap, subst, ◌∙◌, arith, length, drop}
 use Rattle.std.specs.Prelude.{Result, Ok, Err, codes, bytes_eq, nat_lt, nat_le}
-use Rattle.std.proofs.lemmas.Bool.{and_parts, and_from}
+use Rattle.std.proofs.lemmas.Bool.{and_parts, and_from, not-true, not-false}
 use Rattle.std.proofs.lemmas.Bool.Decides.{nat_tests}
 use Rattle.text_core.specs.Lines.{begins_with, words, are_comment, is_comment}
 use Rattle.text_core.proofs.StepsLaws.{if_parts, split_bool, bytes_same, bytes_own}
@@ -21,7 +21,6 @@ use Rattle.ipt_read.specs.inner.RuleLine.{goes_on, word_by_word, rule_in, append
 use Rattle.ipt_read.specs.Said.{Stage, Front, Table, After, SaidSoFar, line_of}
 use Rattle.ipt_read.specs.inner.LineStep.{no_words, table_line_of, policy_word, built_in_policy, with_built_in, declare, declare_by, chain_line_of, with_read_rule, commit_line_of, body_line_of, line_at, line_of_words, line_step}
 use Rattle.ipt_read.specs.Grammar.{IsFront, IsChainLine}
-use Rattle.ipt_read.proofs.RowLaws.{not_true, not_false}
 use Rattle.ipt_read.proofs.ValueLaws.{count_said, said_count}
 use Rattle.ipt_read.proofs.LineLaws.{rule_line_of_read, read_of_rule_line, count_begins, policy_read, policy_behind, colon_word, built_in_said, built_in_read, low_free}
 use Rattle.ipt_read.proofs.RuleFaultLaws.{stuck_of_read, read_of_stuck}
@@ -253,11 +252,11 @@ words_some (w ∷ ws) h = refl
 
 front_bad : (s : SaidSoFar) (w : List ℕ) (ws : List (List ℕ)) (why : IptWhy) → s.stage ≡ Front → table_line_of s w ws ≡ Err why → IsBad s w ws why
 front_bad s w ws why stage h = elim (if_parts (not (begins_with 42 w)) (Err BadLine) _ (Err why) h) [
-  | inl bad ↦ subst (IsBad s w ws) (err_said BadLine why bad.1) (no_table stage (not_true (begins_with 42 w) bad.0))
+  | inl bad ↦ subst (IsBad s w ws) (err_said BadLine why bad.1) (no_table stage (not-true (begins_with 42 w) bad.0))
   | inr star ↦ elim (if_parts (not (bytes_eq w (codes "*filter"))) (Err OtherTable) _ (Err why) star.1) [
-    | inl bad ↦ subst (IsBad s w ws) (err_said OtherTable why bad.1) (other_table stage (not_false (begins_with 42 w) star.0) (apart w (codes "*filter") (not_true (bytes_eq w (codes "*filter")) bad.0)))
+    | inl bad ↦ subst (IsBad s w ws) (err_said OtherTable why bad.1) (other_table stage (not-false (begins_with 42 w) star.0) (apart w (codes "*filter") (not-true (bytes_eq w (codes "*filter")) bad.0)))
     | inr word ↦ elim (if_parts (not (no_words ws)) (Err BadLine) (Ok (record s { stage = Table })) (Err why) word.1) [
-      | inl bad ↦ subst (IsBad s w ws) (err_said BadLine why bad.1) (behind_table stage (bytes_same w (codes "*filter") (not_false (bytes_eq w (codes "*filter")) word.0)) (some_words ws (not_true (no_words ws) bad.0)))
+      | inl bad ↦ subst (IsBad s w ws) (err_said BadLine why bad.1) (behind_table stage (bytes_same w (codes "*filter") (not-false (bytes_eq w (codes "*filter")) word.0)) (some_words ws (not-true (no_words ws) bad.0)))
       | inr fine ↦ let wrong = fine.1 in cc
     ]
   ]
@@ -305,11 +304,11 @@ commit_bad : (s : SaidSoFar) (w : List ℕ) (ws : List (List ℕ)) (why : IptWhy
 commit_bad s w ws why stage colon other h = elim (if_parts (not (bytes_eq w (codes "COMMIT"))) (Err BadLine) _ (Err why) h) [
   | inl bad ↦
       subst (IsBad s w ws) (err_said BadLine why bad.1)
-      (other_line stage colon none (λ e. apart w (codes "COMMIT") (not_true (bytes_eq w (codes "COMMIT")) bad.0) (first_words w (codes "COMMIT") ws [] e).0))
+      (other_line stage colon none (λ e. apart w (codes "COMMIT") (not-true (bytes_eq w (codes "COMMIT")) bad.0) (first_words w (codes "COMMIT") ws [] e).0))
   | inr word ↦ elim (if_parts (not (no_words ws)) (Err BadLine) (Ok (record s { stage = After })) (Err why) word.1) [
     | inl bad ↦
         subst (IsBad s w ws) (err_said BadLine why bad.1)
-        (other_line stage colon none (λ e. some_words ws (not_true (no_words ws) bad.0) (first_words w (codes "COMMIT") ws [] e).1))
+        (other_line stage colon none (λ e. some_words ws (not-true (no_words ws) bad.0) (first_words w (codes "COMMIT") ws [] e).1))
     | inr fine ↦ let wrong = fine.1 in cc
   ]
 ]

@@ -1,7 +1,7 @@
 -- Laws of the lines of a text: a line is read exactly where it is one of the grammar.
 use Rattle.std.proofs.Common.{◌≡◌, ℕ, ◌+◌, ◌<◌, Bool, true, false, not, ◌&&◌, ◌||◌, ◌==◌, IsTrue, List, [], ◌∷◌, ◌++◌, Option, Some, None, inl, inr, refl, sym, ap, ◌∙◌, subst, arith, length, drop}
 use Rattle.std.specs.Prelude.{Result, Ok, Err, bytes_eq, codes, nat_lt, nat_le, slice_set}
-use Rattle.std.proofs.lemmas.Bool.{and_parts}
+use Rattle.std.proofs.lemmas.Bool.{and_parts, not-false}
 use Rattle.std.proofs.lemmas.Bool.Decides.{nat_tests}
 use Rattle.text_core.specs.Lines.{words, begins_with}
 use Rattle.text_core.specs.inner.Pieces.{split_once}
@@ -23,7 +23,6 @@ use Rattle.ipt_read.specs.inner.RuleLine.{word_by_word, rule_in, append_of, rule
 use Rattle.ipt_read.specs.Said.{Stage, Front, Table, After, SaidSoFar, line_of}
 use Rattle.ipt_read.specs.inner.LineStep.{no_words, table_line_of, policy_word, built_in_policy, with_built_in, declare, declare_by, chain_line_of, with_read_rule, commit_line_of, body_line_of, line_at, line_of_words, line_step}
 use Rattle.ipt_read.specs.Grammar.{ArePieces, IsFront, IsRuleLine, IsChainLine, IsLine, table, built_in, user, rule, commit}
-use Rattle.ipt_read.proofs.RowLaws.{not_false}
 use Rattle.ipt_read.proofs.ValueLaws.{count_said, said_count}
 use Rattle.ipt_read.proofs.PieceLaws.{goes_parts, pieces_of_read, read_of_pieces}
 
@@ -157,7 +156,7 @@ user_line n s t ws name policy stage line number h = elim (if_parts (not (is_use
   | inr fits ↦ elim (if_parts (nat_le chain_limit (length s.chains)) (Err TooMany) (Ok (record s { chains = s.chains ++ user_chain name ∷ []; declared = s.declared ++ n ∷ [] })) (Ok t) fits.1) [
     | inl many ↦ cc
     | inr few ↦
-        let parts = and_parts (is_user_name name) (bytes_eq policy (codes "-")) (not_false (is_user_name name && bytes_eq policy (codes "-")) fits.0) in
+        let parts = and_parts (is_user_name name) (bytes_eq policy (codes "-")) (not-false (is_user_name name && bytes_eq policy (codes "-")) fits.0) in
         let room : length s.chains < 4096 = grind (arith, nat_tests, few.0) in
         let whole : IsChainLine ws name (policy_text None) = subst (λ (v : List ℕ). IsChainLine ws name v) (bytes_same policy (codes "-") parts.1) line in
         let e : record s { chains = s.chains ++ user_chain name ∷ []; declared = s.declared ++ n ∷ [] } ≡ t = cc in
@@ -207,7 +206,7 @@ commit_line_by n s t w ws stage h = elim (if_parts (not (bytes_eq w (codes "COMM
     | inr alone ↦
         let e : record s { stage = After } ≡ t = cc in
         subst (λ (u : SaidSoFar). IsLine n s (w ∷ ws) u) e
-        (lone_line n s (record s { stage = After }) w (codes "COMMIT") ws (not_false (bytes_eq w (codes "COMMIT")) word.0) alone.0 (commit stage))
+        (lone_line n s (record s { stage = After }) w (codes "COMMIT") ws (not-false (bytes_eq w (codes "COMMIT")) word.0) alone.0 (commit stage))
   ]
 ]
 
@@ -221,7 +220,7 @@ table_line_by n s t w ws stage h = elim (if_parts (not (begins_with 42 w)) (Err 
       | inr alone ↦
           let e : record s { stage = Table } ≡ t = cc in
           subst (λ (u : SaidSoFar). IsLine n s (w ∷ ws) u) e
-          (lone_line n s (record s { stage = Table }) w (codes "*filter") ws (not_false (bytes_eq w (codes "*filter")) word.0) alone.0 (table stage))
+          (lone_line n s (record s { stage = Table }) w (codes "*filter") ws (not-false (bytes_eq w (codes "*filter")) word.0) alone.0 (table stage))
     ]
   ]
 ]

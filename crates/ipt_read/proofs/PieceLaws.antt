@@ -2,7 +2,7 @@
 use Rattle.std.proofs.Common.{◌≡◌, ℕ, Bool, true, false, not, ◌&&◌, ◌==◌, List, [], ◌∷◌, ◌++◌, Option, Some, None, ◌⊎◌, inl, inr, refl, sym, ap, ◌∙◌, subst}
 use Rattle.std.specs.Prelude.{Result, Ok, Err, bytes_eq, codes, is_some}
 use Rattle.std.specs.Option.{option_map}
-use Rattle.std.proofs.lemmas.Bool.{and_parts}
+use Rattle.std.proofs.lemmas.Bool.{and_parts, not-false}
 use Rattle.text_core.proofs.StepsLaws.{if_parts, map_parts, ok_or_parts, bytes_same, split_bool}
 use Rattle.host_net.specs.Prefix.{prefix_of}
 use Rattle.ipt_rules.specs.Chain.{Chain}
@@ -18,7 +18,7 @@ use Rattle.ipt_read.specs.inner.ValueSteps.{closes, quoted, text_of, states_of, 
 use Rattle.ipt_read.specs.inner.ServiceSteps.{asked_protocol, asked_ports}
 use Rattle.ipt_read.specs.inner.RuleLine.{at_option, is_bang, word_step, goes_on, word_by_word}
 use Rattle.ipt_read.specs.Values.{IsRestOfText, closing, open_still}
-use Rattle.ipt_read.proofs.RowLaws.{not_false, StandsBy, IsValueOf, plain_by, turned_by, IsPieceBy, bare_piece, bang_piece, piece_by}
+use Rattle.ipt_read.proofs.RowLaws.{StandsBy, IsValueOf, plain_by, turned_by, IsPieceBy, bare_piece, bang_piece, piece_by}
 use Rattle.ipt_read.proofs.ValueLaws.{rest_ends, text_ends, ends_text, text_open, open_text}
 use Rattle.ipt_read.specs.Grammar.{IsPiece, ArePieces, none_left, one_more}
 use Rattle.ipt_read.proofs.GrammarLaws.{one_word, text, IsTaken, taken_word, taken_text, value_taken}
@@ -105,7 +105,7 @@ option_at given negated (Some o) now h = elim (if_parts (not (may_stand given o)
     | inr address ↦ elim (if_parts (bars given negated o) (Err BadLine) (Ok (given, AtValue o negated)) (Ok now) address.1) [
       | inl bad ↦ cc
       | inr fits ↦
-          let stands_here : may_stand given o ≡ true = not_false (may_stand given o) here.0 in
+          let stands_here : may_stand given o ≡ true = not-false (may_stand given o) here.0 in
           (o, refl, record { stands = record { here = stands_here; address = address.0; free = fits.0 }; behind = cc })
     ]
   ]

@@ -4,7 +4,7 @@ use Rattle.std.specs.Prelude.{◌==◌, nat_lt, if◌then◌else◌, is_some, co
 use Rattle.std.specs.Char.{is_ascii_digit}
 use Rattle.std.specs.Str.{all_ascii_digits}
 use Rattle.std.specs.List.{list_all}
-use Rattle.std.proofs.lemmas.Bool.{and_parts}
+use Rattle.std.proofs.lemmas.Bool.{and_parts, not-true}
 use Rattle.std.proofs.lemmas.Bool.Decides.{nat_tests}
 use Rattle.std.proofs.lemmas.Fmt.{decimal_nonempty}
 use Rattle.text_core.proofs.DecimalLaws.{decimal_digits}
@@ -27,7 +27,6 @@ use Rattle.ipt_rules.specs.Name.{is_user_name, is_printing, has_name_length, beg
 use Rattle.ipt_rules.specs.RuleParts.{names_ports}
 use Rattle.ipt_rules.specs.inner.RuleParts.{is_protocol, are_ports, is_rule}
 use Rattle.ipt_rules.specs.Text.{ports_text, states_text}
-use Rattle.ipt_read.proofs.RowLaws.{not_true}
 use Rattle.ipt_read.proofs.PartLaws.{rule_has}
 use Rattle.ipt_read.specs.inner.WrittenWords.{bang_words, address_words, protocol_words, module_words, port_words, service_words, state_words, target_words, rule_pieces, rule_words}
 use Rattle.ipt_read.proofs.LinesAgainLaws.{IsWritten}
@@ -85,7 +84,7 @@ user_name_free name h =
     let parts = and_parts (has_name_length name) (list_all is_printing name && (not (begins_as_option name) && not (is_reserved name))) h in
     let bytes = and_parts (list_all is_printing name) (not (begins_as_option name) && not (is_reserved name)) parts.1 in
     let free = and_parts (not (begins_as_option name)) (not (is_reserved name)) bytes.1 in
-    not_true (is_reserved name) free.1
+    not-true (is_reserved name) free.1
 
 -- prefixes
 prints_append : (xs ys : List ℕ) → list_all prints xs ≡ true → list_all prints ys ≡ true → list_all prints (xs ++ ys) ≡ true

@@ -4,7 +4,7 @@ use Rattle.std.specs.Prelude.{codes, bytes_eq}
 use Rattle.std.specs.List.{list_all}
 use Rattle.std.specs.Map.{lookup}
 use Rattle.std.specs.Option.{option_map}
-use Rattle.std.proofs.lemmas.Bool.{and_parts}
+use Rattle.std.proofs.lemmas.Bool.{and_parts, not-true}
 use Rattle.text_core.proofs.StepsLaws.{if_parts, map_parts, bytes_same}
 use Rattle.ipt_rules.specs.Chain.{Chain}
 use Rattle.ipt_read.specs.declared.option.RuleOption.{RuleOption}
@@ -36,14 +36,6 @@ option_written LogLevel = refl
 abbrev is_named : List ℕ × RuleOption → Bool
 is_named entry = bytes_eq entry.0 (written entry.1) && not (is_interface entry.1)
 
-pub not_true : (b : Bool) → not b ≡ true → b ≡ false
-not_true true h = cc
-not_true false h = refl
-
-pub not_false : (b : Bool) → not b ≡ false → b ≡ true
-not_false true h = refl
-not_false false h = cc
-
 same_option : (o p : RuleOption) → ◌≡◌ {A = Option RuleOption} (Some o) (Some p) → o ≡ p
 same_option o p h = cc
 
@@ -55,7 +47,7 @@ found name o (entry ∷ entries) all h = elim (if_parts (bytes_eq name entry.0) 
       let same = same_option entry.1 o here.1 in
       let parts = and_parts (is_named entry) (list_all is_named entries) all in
       let its = and_parts (bytes_eq entry.0 (written entry.1)) (not (is_interface entry.1)) parts.0 in
-      (bytes_same name entry.0 here.0 ∙ bytes_same entry.0 (written entry.1) its.0 ∙ ap written same, sym (ap is_interface same) ∙ not_true (is_interface entry.1) its.1)
+      (bytes_same name entry.0 here.0 ∙ bytes_same entry.0 (written entry.1) its.0 ∙ ap written same, sym (ap is_interface same) ∙ not-true (is_interface entry.1) its.1)
   | inr there ↦ found name o entries (and_parts (is_named entry) (list_all is_named entries) all).1 there.1
 ]
 

@@ -2,6 +2,7 @@
 use Rattle.std.proofs.Common.{◌≡◌, ◌≢◌, ◌⊎◌, inl, inr, ℕ, Bool, true, false, not, List, [], ◌∷◌, ◌++◌, Option, Some, None, refl, sym, ap, subst, ◌∙◌, append_assoc}
 use Rattle.std.specs.Prelude.{Result, Ok, Err, codes, is_none}
 use Rattle.std.specs.Option.{option_map, ok_or}
+use Rattle.std.proofs.lemmas.Bool.{not-true, not-false}
 use Rattle.text_core.proofs.StepsLaws.{if_parts, split_bool}
 use Rattle.ipt_rules.specs.declared.rule.Target.{Target}
 use Rattle.ipt_rules.specs.Chain.{Chain}
@@ -15,7 +16,7 @@ use Rattle.ipt_read.specs.Options.{Given, Row, row_of, is_barred}
 use Rattle.ipt_read.specs.inner.OptionSteps.{option_of, row, may_stand, is_interface, bars, with_module, target_of, value_refusal}
 use Rattle.ipt_read.specs.inner.ValueSteps.{quoted, with_value}
 use Rattle.ipt_read.specs.Values.{IsRestOfText, closing, open_still}
-use Rattle.ipt_read.proofs.RowLaws.{not_true, not_false, StandsBy, IsValueOf, stands_by, by_stands, value_named, named_value, plain_by, turned_by, row_by, row_found, interface_by, interface_is}
+use Rattle.ipt_read.proofs.RowLaws.{StandsBy, IsValueOf, stands_by, by_stands, value_named, named_value, plain_by, turned_by, row_by, row_found, interface_by, interface_is}
 use Rattle.ipt_read.proofs.ValueLaws.{rest_ends, text_ends, ends_text, text_open, open_text}
 use Rattle.ipt_read.specs.inner.RuleLine.{at_option, is_bang, word_step, goes_on, word_by_word}
 use Rattle.ipt_read.specs.Grammar.{Stands, IsValue, ArePieces, none_left, one_more}
@@ -155,16 +156,16 @@ stuck_by chains given negated name ws None why is h =
     subst (IsStuckAt chains given negated name ws) (err_same UnknownOption why h) (unknown (is_not_known name given is) (no_row name given is))
 stuck_by chains given negated name ws (Some o) why is h = elim (if_parts (not (may_stand given o)) (Err UnknownOption) _ (Err why) h) [
   | inl bad ↦
-      let wrong = not_true (may_stand given o) bad.0 in
+      let wrong = not-true (may_stand given o) bad.0 in
       subst (IsStuckAt chains given negated name ws) (err_same UnknownOption why bad.1) (unknown (misplaced_interface given name o is wrong) (misplaced_row given name o is wrong))
   | inr here ↦ elim (if_parts (is_interface o) (Err AnInterface) _ (Err why) here.1) [
     | inl bad ↦
         subst (IsStuckAt chains given negated name ws) (err_same AnInterface why bad.1)
-        (interface (interface_by name o is bad.0) (interface_stands given name o is (interface_by name o is bad.0) (not_false (may_stand given o) here.0)))
+        (interface (interface_by name o is bad.0) (interface_stands given name o is (interface_by name o is bad.0) (not-false (may_stand given o) here.0)))
     | inr address ↦ elim (if_parts (bars given negated o) (Err BadLine) (Ok (given, AtValue o negated)) (Err why) address.1) [
       | inl bad ↦
           subst (IsStuckAt chains given negated name ws) (err_same BadLine why bad.1)
-          (barred (row o) (row_by name o is address.0) (not_false (may_stand given o) here.0) bad.0)
+          (barred (row o) (row_by name o is address.0) (not-false (may_stand given o) here.0) bad.0)
       | inr fits ↦ let wrong = fits.1 in cc
     ]
   ]
