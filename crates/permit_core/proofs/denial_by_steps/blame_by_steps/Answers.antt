@@ -1,13 +1,12 @@
-use Rattle.std.proofs.Common.{◌≡◌, refl, length, sym, ◌∙◌, ap, subst}
+use Rattle.std.proofs.Common.{◌≡◌, refl, length, sym, subst}
 use Rattle.std.proofs.lemmas.Bool.{both_ways}
 use Rattle.std.proofs.lemmas.List.{take_all}
 use Rattle.std.proofs.lemmas.Option.{slice_get_read}
 use Rattle.std.proofs.lemmas.List.Elements.{All-more}
 use Rattle.flow_set.specs.FlowSet.{with_flow}
-use Rattle.flow_set.specs.inner.Steps.{TriedFlows}
 use Rattle.permit_core.specs.Policy.{AllHold}
 use Rattle.permit_core.proofs.PolicyLaws.{denied_fails}
-use Rattle.permit_core.proofs.TrialLaws.{AreTried-asked}
+use Rattle.permit_core.proofs.TrialLaws.{AreTried-asked, flows_read}
 use Rattle.permit_core.proofs.denial_by_steps.blame_by_steps.Goals as goal
 
 pub returns-then-not-holds_with-clause-least : goal.returns-then-not-holds_with-clause-least
@@ -16,8 +15,8 @@ returns-then-not-holds_with-clause-least g c =
     let inv = c.index-invs-number.result in
     let t = c.index_mut.result.now in
     let flows : (g.I.Tried.Trial.tried t).flows ≡ c.args._permitted.now.flows =
-    ap (λ u. (g.I.Tried.Trial.tried u).flows) c.index_mut.ensures.value
-    ∙ c.loop-number.invariant.tried.flows number inv t c.loop-number-test.true in
+    flows_read g.I.Stepwise.fits g.I.Tried.Trial.tried c.args.invs.now c.loop-number.trials.items c.args._permitted.now.flows number inv t
+    c.loop-number.invariant.tried c.loop-number-test.true c.index_mut.ensures.value in
     record {
       inv = inv;
       place = slice_get_read c.args.invs.now (length c.args.invs.now) number inv refl c.loop-number-test.true c.index-invs-number.is;
@@ -31,13 +30,13 @@ loop-number-preserved g c =
     let inv = c.index-invs-number.result in
     let t = c.index_mut.result.now in
     let flows : (g.I.Tried.Trial.tried t).flows ≡ c.args._permitted.now.flows =
-    ap (λ u. (g.I.Tried.Trial.tried u).flows) c.index_mut.ensures.value
-    ∙ c.loop-number.invariant.tried.flows number inv t c.loop-number-test.true in
+    flows_read g.I.Stepwise.fits g.I.Tried.Trial.tried c.args.invs.now c.loop-number.trials.items c.args._permitted.now.flows number inv t
+    c.loop-number.invariant.tried c.loop-number-test.true c.index_mut.ensures.value in
     record {
       tried =
           AreTried-asked g.I.Stepwise.fits g.I.Tried.Trial.tried
-          c.args.invs.now c.loop-number.trials.items c.args._permitted.now.flows number inv c.holds_with.new.tried
-          c.loop-number.invariant.tried c.loop-number-test.true c.index-invs-number.is c.holds_with.ensures.fits (ap (λ (w : TriedFlows). w.flows) c.holds_with.ensures.again ∙ flows);
+          c.args.invs.now c.loop-number.trials.items c.args._permitted.now.flows number inv t c.holds_with.new.tried
+          c.loop-number.invariant.tried c.loop-number-test.true c.index-invs-number.is c.index_mut.ensures.value c.holds_with.ensures.fits c.holds_with.ensures.again;
       hold =
           All-more (λ x. g.I.Invariant.holds_on x (with_flow c.args._permitted.now.flows c.args.f)) c.args.invs.now number inv c.loop-number-test.true c.loop-number.invariant.hold
           (subst (λ x. g.I.Invariant.holds_on x (with_flow c.args._permitted.now.flows c.args.f)) c.index-invs-number.is

@@ -1,5 +1,6 @@
 use Rattle.std.proofs.Common.{get_or, subst}
-use Rattle.flow_set.specs.inner.Downward.{IsDownward, IsEdgeWise}
+use Rattle.flow_set.specs.inner.Downward.{IsDownward}
+use Rattle.permit_core.proofs.PolicyLaws.{marked_edge_wise}
 use Rattle.state_core.proofs.Refining.{StrictHold-downward, complies_found}
 use Rattle.state_core.proofs.refinement_by_steps.refine_by_steps.Goals as goal
 
@@ -17,5 +18,5 @@ returns-clause-complies g c =
     let inv = g.I.Invariant in
     let invs = c.args.invs.now in
     complies_found n inv.strategy_of inv.edge_mark inv.holds_on invs c.args.p.now.flows c.first_subset_by_steps.result c.size.ensures.set
-    (λ k d below marked. subst (λ m. IsEdgeWise m (inv.holds_on (get_or invs k d))) (c.requires.sizes k d below) (g.met.I.Invariant.mark_is_right (get_or invs k d) marked))
+    (marked_edge_wise n inv.size_of inv.edge_mark inv.holds_on invs g.met.I.Invariant.mark_is_right c.requires.sizes)
     c.requires.permitted c.first_subset_by_steps.ensures.first

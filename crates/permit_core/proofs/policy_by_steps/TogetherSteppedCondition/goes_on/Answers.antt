@@ -1,5 +1,5 @@
-use Rattle.std.proofs.Common.{get_or, not, true, refl, subst}
-use Rattle.flow_set.specs.inner.Downward.{IsEdgeWise}
+use Rattle.std.proofs.Common.{not, true, refl}
+use Rattle.permit_core.proofs.PolicyLaws.{marked_edge_wise}
 use Rattle.permit_core.proofs.TriedLaws.{CanTake-chosen, ChosenHold-step, ChosenTried-step}
 use Rattle.permit_core.proofs.policy_by_steps.TogetherSteppedCondition.goes_on.Goals as goal
 
@@ -18,7 +18,7 @@ returns-clause-answer g c =
     let law =
     ChosenHold-step n inv.holds_on g.I.Stepwise.fits g.I.Tried.Trial.tried
     (λ _. true) inv.edge_mark invs c.args.trials.now.items c.args._kept.now.flows c.args.f
-    (λ k d below marked. subst (λ m. IsEdgeWise m (inv.holds_on (get_or invs k d))) (c.requires.come.0 k d below) (g.met.I.Invariant.mark_is_right (get_or invs k d) marked))
+    (marked_edge_wise n inv.size_of inv.edge_mark inv.holds_on invs g.met.I.Invariant.mark_is_right c.requires.come.0)
     c.requires.new.set c.requires.new.flow (λ k x below _. c.requires.held k x below) c.requires.come.1 in
     (λ yes k x below. law.0 (c.step_chosen.ensures.answer.0 yes) k x below refl, λ all. c.step_chosen.ensures.answer.1 (law.1 (λ k x below _. all k x below)))
 

@@ -1,11 +1,11 @@
-use Rattle.std.proofs.Common.{◌≡◌, Bool, ◌&&◌, not, List, cond, get_or, ◌∙◌, ap, refl, sym, subst}
+use Rattle.std.proofs.Common.{◌≡◌, Bool, ◌&&◌, not, List, cond, ◌∙◌, ap, refl, sym, subst}
 use Rattle.flow_set.specs.declared.flow.Flow.{Flow}
 use Rattle.flow_set.specs.Flow.{IsFlow}
 use Rattle.flow_set.specs.FlowSet.{with_flow, with_back}
-use Rattle.flow_set.specs.inner.Downward.{IsEdgeWise}
 use Rattle.flow_set.proofs.SubsetLaws.{IsFlow-back_of, IsFlowSet-with_back}
 use Rattle.permit_core.specs.inner.Tried.{ChosenTried}
 use Rattle.permit_core.specs.inner.Trials.{ChosenHold}
+use Rattle.permit_core.proofs.PolicyLaws.{marked_edge_wise}
 use Rattle.permit_core.proofs.TriedLaws.{CanTake-chosen, ChosenHold-step, ChosenTried-step}
 use Rattle.state_core.specs.Stateful.{is_strict, StrictHold}
 use Rattle.state_core.proofs.Refining.{answer_of_more, answers_after, permitted_answer}
@@ -53,7 +53,7 @@ returns-clause-answer g c =
     let law =
     ChosenHold-step n inv.holds_on g.I.Stepwise.fits g.I.Tried.Trial.tried strict inv.edge_mark invs c.args.trials.now.items
     (with_back p kept) c.back-answer.result
-    (λ k d below marked. subst (λ m. IsEdgeWise m (inv.holds_on (get_or invs k d))) (c.requires.come.2 k d below) (g.met.I.Invariant.mark_is_right (get_or invs k d) marked))
+    (marked_edge_wise n inv.size_of inv.edge_mark inv.holds_on invs g.met.I.Invariant.mark_is_right c.requires.come.2)
     (IsFlowSet-with_back n p kept c.requires.come.1 c.requires.new.set)
     (subst (IsFlow n) (sym c.back-answer.ensures) (IsFlow-back_of n c.args.f c.requires.new.flow)) c.requires.held c.requires.come.3 in
     let more : with_flow (with_back p kept) c.back-answer.result ≡ with_back p (with_flow kept c.args.f) = ap (λ (h : Flow). with_flow (with_back p kept) h) c.back-answer.ensures ∙ answer_of_more p kept c.args.f c.requires.come.1.ordered in (
