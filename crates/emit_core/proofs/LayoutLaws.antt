@@ -1,6 +1,6 @@
 -- Laws of the layout: how many chains it has and how long FORWARD is, where its rules jump, and that its chains have names of their own.
 use Rattle.std.proofs.Common.{◌≡◌, ℕ, ◌+◌, ◌*◌, ◌^◌, ◌%◌, ◌<◌, ◌≤◌, zero, suc, Bool, true, false, not, ◌&&◌, List, [], ◌∷◌, ◌++◌, Option, Some, None, length, map, refl, sym, subst, ◌∙◌, arith, length-append}
-use Rattle.std.specs.Prelude.{if◌then◌else◌, nat_le, nat_lt, IsTrue, codes, decimal, bytes_eq}
+use Rattle.std.specs.Prelude.{nat_le, nat_lt, IsTrue, codes, decimal, bytes_eq}
 use Rattle.std.specs.List.{flat_map, list_all, range_with_len, position_from}
 use Rattle.std.proofs.lemmas.Bool.{and_from, and_parts}
 use Rattle.std.proofs.lemmas.Bool.Decides.{nat_tests}
@@ -29,6 +29,7 @@ use Rattle.ipt_rules.specs.Name.{is_user_name, is_reserved, is_printing, has_nam
 use Rattle.emit_core.specs.declared.side.Side.{Side}
 use Rattle.emit_core.specs.declared.side.Side.TheVariants.{Sending}
 use Rattle.emit_core.specs.Sides.{links, other_side, services_on}
+use Rattle.emit_core.proofs.LayoutRulesLaws.{if_pass}
 use Rattle.emit_core.proofs.OwnerLaws.{rest_below}
 use Rattle.emit_core.specs.Layout.{for_each_prefix, at_other, to_service, from_service, links_whole, accepts_flow, accepts_answers, accepts, drops, is_open, to_prefix, to_rest, host_rules, forward_rules, rest_jump, jump_from, from_source, chain_of, layout, host_chain, host_chain_name}
 use Rattle.emit_core.specs.inner.Filling.{chains_up_to}
@@ -88,10 +89,6 @@ pub all_map : (test : Rule → Bool) (rule : Option Service → Rule) → ((n : 
 all_map test rule each [] = refl
 all_map test rule each (n ∷ ns) = and_from _ _ (each n) (all_map test rule each ns)
 
-pub all_if : (test : Rule → Bool) (b : Bool) (rules : List Rule) → list_all test rules ≡ true → list_all test (if b then rules else []) ≡ true
-all_if test true rules all = all
-all_if test false rules all = refl
-
 abbrev decisive : Rule → Bool
 decisive r = decides r.target
 
@@ -101,8 +98,8 @@ decide_accepts side site p s i j q =
     let back = narrowings (services_on (other_side side) site.services i j) in
     list_all-append decisive (accepts_flow side site p i j q) (accepts_answers side site p s i j q)
     ∙ and_from _ _
-    (all_if decisive (links side p i j) (map (to_service side q) there) (all_map decisive (to_service side q) (λ n. refl) there))
-    (all_if decisive (links (other_side side) s i j && not (links_whole side site p i j)) (map (from_service side q) back)
+    (if_pass decisive (links side p i j) (map (to_service side q) there) (all_map decisive (to_service side q) (λ n. refl) there))
+    (if_pass decisive (links (other_side side) s i j && not (links_whole side site p i j)) (map (from_service side q) back)
     (all_map decisive (from_service side q) (λ n. refl) back))
 
 decide_to_prefix : (side : Side) (site : Site) (p s : List Flow) (i : ℕ) (rest : Option ℕ) (j : ℕ) (q : Prefix)
@@ -110,7 +107,7 @@ decide_to_prefix : (side : Side) (site : Site) (p s : List Flow) (i : ℕ) (rest
 decide_to_prefix side site p s i rest j q =
     list_all-append decisive (accepts side site p s i j (Some q)) (drops side site p s i rest j q)
     ∙ and_from _ _ (decide_accepts side site p s i j (Some q))
-    (all_if decisive (is_open side p s i rest && not (links_whole side site p i j)) (at_other side (Some q) None Drop ∷ []) refl)
+    (if_pass decisive (is_open side p s i rest && not (links_whole side site p i j)) (at_other side (Some q) None Drop ∷ []) refl)
 
 decide_to_rest : (side : Side) (site : Site) (p s : List Flow) (i : ℕ) (rest : Option ℕ) → list_all decisive (to_rest side site p s i rest) ≡ true
 decide_to_rest side site p s i None = refl

@@ -1,5 +1,5 @@
 -- What is true of every rule of the forms that a layout has is true of each of its rules.
-use Rattle.std.proofs.Common.{◌≡◌, ℕ, ◌+◌, ◌<◌, zero, suc, Bool, true, false, not, ◌&&◌, ◌||◌, ◌==◌, IsTrue, List, [], ◌∷◌, ◌++◌, Option, Some, None, length, map, get_or, refl, ap, ◌∙◌, arith}
+use Rattle.std.proofs.Common.{◌≡◌, ℕ, ◌+◌, zero, suc, Bool, true, false, not, ◌&&◌, ◌||◌, ◌==◌, IsTrue, List, [], ◌∷◌, ◌++◌, Option, Some, None, length, map, refl, ◌∙◌, arith}
 use Rattle.std.specs.Prelude.{if◌then◌else◌, nat_le}
 use Rattle.std.specs.List.{flat_map, list_all, range_with_len}
 use Rattle.std.specs.Option.{option_map_or}
@@ -24,13 +24,6 @@ use Rattle.emit_core.specs.declared.side.Side.{Side}
 use Rattle.emit_core.specs.declared.side.Side.TheVariants.{Sending, Receiving}
 use Rattle.emit_core.specs.Layout.{for_each_prefix, at_other, protocol_part, port_part, to_service, from_service, links_whole, accepts_flow, accepts_answers, accepts, drops, is_open, to_prefix, to_rest, host_rules, forward_rules, rest_jump, jump_from, from_source, chain_of, layout, host_chain}
 use Rattle.emit_core.specs.Sides.{links, other_side, services_on, flow_on}
-
--- a rule of a list that passes whole
-pub passes_at : (test : Rule → Bool) (rules : List Rule) (i : ℕ) (r : Rule) → list_all test rules ≡ true → i < length rules → r ≡ get_or rules i r
-    → test r ≡ true
-passes_at test [] i r all below is = absurd (omega arith)
-passes_at test (x ∷ xs) zero r all below is = ap test is ∙ (and_parts (test x) (list_all test xs) all).0
-passes_at test (x ∷ xs) (suc i) r all below is = passes_at test xs i r (and_parts (test x) (list_all test xs) all).1 (omega arith) is
 
 -- a service, or none
 abbrev pub is_narrowing : Option Service → Bool
@@ -58,7 +51,7 @@ map_pass test rule each [] all = refl
 map_pass test rule each (n ∷ ns) all =
     let parts = and_parts (is_narrowing n) (list_all is_narrowing ns) all in and_from _ _ (each n parts.0) (map_pass test rule each ns parts.1)
 
-if_pass : (test : Rule → Bool) (b : Bool) (rules : List Rule) → list_all test rules ≡ true → list_all test (if b then rules else []) ≡ true
+pub if_pass : (test : Rule → Bool) (b : Bool) (rules : List Rule) → list_all test rules ≡ true → list_all test (if b then rules else []) ≡ true
 if_pass test true rules all = all
 if_pass test false rules all = refl
 
