@@ -146,14 +146,14 @@ enters_up c low Count is = refl
 enters_up c low (Jump d) is = grind (arith, nat_tests)
 
 -- jumps lead from INPUT and OUTPUT to the user chains, and from there nowhere
-pub local_no_loop : (site : Site) (p s : List Flow) (h : ℕ) → HasNoLoop (local_layout site p s h)
-local_no_loop site p s h =
+pub local_no_loop : (site : Site) (p s : List Flow) (h : ℕ) → IsSite site → HasNoLoop (local_layout site p s h)
+local_no_loop site p s h is =
     let own = prefixes_of site.hosts h in
     no_loop_upward (local_layout site p s h)
     (and_from _ _ (all_from enters (goes_up 0) (enters_up 0 (omega arith)) (entry_rules Receiving own) (entries_enter Receiving own))
     (and_from _ _ (all_from enters (goes_up 2) (enters_up 2 (omega arith)) (entry_rules Sending own) (entries_enter Sending own))
-    (and_from _ _ (all_from decides (goes_up 3) (decides_up 3) (host_rules Receiving site p s h) (host_rules_decide Receiving site p s h))
-    (and_from _ _ (all_from decides (goes_up 4) (decides_up 4) (host_rules Sending site p s h) (host_rules_decide Sending site p s h)) refl))))
+    (and_from _ _ (all_from decides (goes_up 3) (decides_up 3) (host_rules Receiving site p s h) (host_rules_decide Receiving site p s h is.services))
+    (and_from _ _ (all_from decides (goes_up 4) (decides_up 4) (host_rules Sending site p s h) (host_rules_decide Sending site p s h is.services)) refl))))
 
 -- no cause is there to refuse them
 pub local_accepted : (site : Site) (p s : List Flow) (h : ℕ) → IsSite site → refusal_of (local_layout site p s h) ≡ None
@@ -165,6 +165,6 @@ local_accepted site p s h is =
       rules,
       none_nowhere 5 enters enters_somewhere 0 (entry_rules Receiving own) (entries_enter Receiving own),
       none_nowhere 5 enters enters_somewhere 0 (entry_rules Sending own) (entries_enter Sending own),
-      none_nowhere 5 decides (decides_somewhere 5) 0 (host_rules Receiving site p s h) (host_rules_decide Receiving site p s h),
-      none_nowhere 5 decides (decides_somewhere 5) 0 (host_rules Sending site p s h) (host_rules_decide Sending site p s h),
+      none_nowhere 5 decides (decides_somewhere 5) 0 (host_rules Receiving site p s h) (host_rules_decide Receiving site p s h is.services),
+      none_nowhere 5 decides (decides_somewhere 5) 0 (host_rules Sending site p s h) (host_rules_decide Sending site p s h is.services),
     ) refl
