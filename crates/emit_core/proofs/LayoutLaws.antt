@@ -60,67 +60,49 @@ few_forward_rules hosts =
 pub length-chains_up_to : (site : Site) (p s : List Flow) (n : ℕ) → length (chains_up_to site p s n) ≡ n + 3
 length-chains_up_to site p s n = omega (arith, length-map-range_with_len (host_chain site p s) 0 n)
 
--- the rule ends the walk of a packet that it fits
-abbrev pub decides : Target → Bool
-decides Accept = true
-decides Drop = true
-decides _ = false
+-- where it jumps, a rule jumps to a chain from the low one on, before the past one
+abbrev pub jumps_between : (low past : ℕ) → Target → Bool
+jumps_between low past (Jump c) = nat_le low c && nat_lt c past
+jumps_between low past _ = true
 
-abbrev decisive : Rule → Bool
-decisive r = decides r.target
+-- no rule of a host's chain jumps
+pub host_rules_stay : (low : ℕ) (side : Side) (site : Site) (p s : List Flow) (i : ℕ) → AreServices site.services
+    → list_all (λ r. jumps_between low 0 r.target) (host_rules side site p s i) ≡ true
+host_rules_stay low side site p s i are =
+    let stay : Rule → Bool = λ r. jumps_between low 0 r.target in
+    let forms : PassForms stay anywhere = record { dropping = λ side q at. refl; flow = λ side q n at is. refl; answer = λ side q n at is. refl } in
+    host_rules_pass stay anywhere forms side site p s i are (all_anywhere (all_prefixes site.hosts))
 
-decisive_forms : PassForms decisive anywhere
-decisive_forms = record { dropping = λ side q at. refl; flow = λ side q n at is. refl; answer = λ side q n at is. refl }
-
--- no rule of a host's chain jumps or returns
-pub host_rules_decide : (side : Side) (site : Site) (p s : List Flow) (i : ℕ) → AreServices site.services
-    → list_all (λ r. decides r.target) (host_rules side site p s i) ≡ true
-host_rules_decide side site p s i are = host_rules_pass decisive anywhere decisive_forms side site p s i are (all_anywhere (all_prefixes site.hosts))
-
--- the rule jumps to the chain of one of n hosts
-abbrev jumps_to_host : ℕ → Target → Bool
-jumps_to_host n (Jump c) = nat_le 3 c && nat_lt c (n + 3)
-jumps_to_host n _ = false
-
-jump_there : (n i : ℕ) → i < n → jumps_to_host n (Jump (chain_of i)) ≡ true
+jump_there : (n i : ℕ) → i < n → jumps_between 3 (n + 3) (Jump (chain_of i)) ≡ true
 jump_there n i below = grind (arith, nat_tests)
 
 -- each rule of FORWARD jumps to the chain of a host
-forward_rules_jump : (hosts : List Host) → list_all (λ r. jumps_to_host (length hosts) r.target) (forward_rules hosts) ≡ true
+forward_rules_jump : (hosts : List Host) → list_all (λ r. jumps_between 3 (length hosts + 3) r.target) (forward_rules hosts) ≡ true
 forward_rules_jump hosts =
-    forward_rules_pass (λ r. jumps_to_host (length hosts) r.target) anywhere hosts (λ q i below at. jump_there (length hosts) i below)
+    forward_rules_pass (λ r. jumps_between 3 (length hosts + 3) r.target) anywhere hosts (λ q i below at. jump_there (length hosts) i below)
     (all_anywhere (all_prefixes hosts))
 
--- rules that pass a test do not jump to nowhere, where the test rules it out
-pub none_nowhere : (count : ℕ) (test : Target → Bool) → ((t : Target) → test t ≡ true → jumps_nowhere count t ≡ false)
-    → (i : ℕ) (rules : List Rule) → list_all (λ r. test r.target) rules ≡ true
-    → position_from (λ r. jumps_nowhere count r.target) i rules ≡ None
-none_nowhere count test ruled_out i [] all = refl
-none_nowhere count test ruled_out i (r ∷ rs) all =
-    let parts = and_parts (test r.target) (list_all (λ x. test x.target) rs) all in
-    rw (ruled_out r.target parts.0) (none_nowhere count test ruled_out (i + 1) rs parts.1)
+somewhere : (low past count : ℕ) → 3 ≤ low → past ≤ count → (t : Target) → jumps_between low past t ≡ true → jumps_nowhere count t ≡ false
+somewhere low past count user room Accept is = refl
+somewhere low past count user room Drop is = refl
+somewhere low past count user room Reject is = refl
+somewhere low past count user room Return is = refl
+somewhere low past count user room Count is = refl
+somewhere low past count user room (Jump c) is = grind (arith, nat_tests)
 
-pub decides_somewhere : (count : ℕ) (t : Target) → decides t ≡ true → jumps_nowhere count t ≡ false
-decides_somewhere count Accept is = refl
-decides_somewhere count Drop is = refl
-decides_somewhere count Reject is = refl
-decides_somewhere count Return is = refl
-decides_somewhere count Count is = refl
-decides_somewhere count (Jump c) is = cc
-
-jumps_somewhere : (n count : ℕ) → n + 3 ≤ count → (t : Target) → jumps_to_host n t ≡ true → jumps_nowhere count t ≡ false
-jumps_somewhere n count room Accept is = refl
-jumps_somewhere n count room Drop is = refl
-jumps_somewhere n count room Reject is = refl
-jumps_somewhere n count room Return is = refl
-jumps_somewhere n count room Count is = refl
-jumps_somewhere n count room (Jump c) is = grind (arith, nat_tests)
+-- rules that jump to user chains that are there do not jump to nowhere
+pub none_nowhere : (low past count : ℕ) → 3 ≤ low → past ≤ count → (i : ℕ) (rules : List Rule)
+    → list_all (λ r. jumps_between low past r.target) rules ≡ true → position_from (λ r. jumps_nowhere count r.target) i rules ≡ None
+none_nowhere low past count user room i [] all = refl
+none_nowhere low past count user room i (r ∷ rs) all =
+    let parts = and_parts (jumps_between low past r.target) (list_all (λ x. jumps_between low past x.target) rs) all in
+    rw (somewhere low past count user room r.target parts.0) (none_nowhere low past count user room (i + 1) rs parts.1)
 
 host_chains_known : (site : Site) (p s : List Flow) (count c k n : ℕ) → AreServices site.services
     → first_unknown count c (map (host_chain site p s) (range_with_len k n)) ≡ None
 host_chains_known site p s count c k zero are = refl
 host_chains_known site p s count c k (suc n) are =
-    rw (none_nowhere count decides (decides_somewhere count) 0 (host_rules Sending site p s k) (host_rules_decide Sending site p s k are))
+    rw (none_nowhere 3 0 count (omega arith) (omega arith) 0 (host_rules Sending site p s k) (host_rules_stay 3 Sending site p s k are))
     (host_chains_known site p s count (c + 1) (k + 1) n are)
 
 -- every jump leads to a chain that is there
@@ -128,7 +110,7 @@ layout_known : (site : Site) (p s : List Flow) → AreServices site.services →
 layout_known site p s are =
     let count = length (layout site p s) in
     let room : length site.hosts + 3 ≤ count = omega (arith, length-chains_up_to site p s (length site.hosts)) in
-    rw (none_nowhere count (jumps_to_host (length site.hosts)) (jumps_somewhere (length site.hosts) count room) 0 (forward_rules site.hosts) (forward_rules_jump site.hosts))
+    rw (none_nowhere 3 (length site.hosts + 3) count (omega arith) room 0 (forward_rules site.hosts) (forward_rules_jump site.hosts))
     (host_chains_known site p s count 3 0 (length site.hosts) are)
 
 -- the layout of a policy for no more than 256 hosts, with no more than a million rules, is a rule set
@@ -140,34 +122,27 @@ layout_accepted site p s are few few_rules =
     let rules : nat_lt 1000000 (rule_count (layout site p s)) ≡ false = grind (arith, nat_tests) in
     rw (chains, rules) (layout_known site p s are)
 
-pub all_from : (test other : Target → Bool) → ((t : Target) → test t ≡ true → other t ≡ true) → (rules : List Rule)
-    → list_all (λ r. test r.target) rules ≡ true → list_all (λ r. other r.target) rules ≡ true
-all_from test other follows [] all = refl
-all_from test other follows (r ∷ rs) all =
-    let parts = and_parts (test r.target) (list_all (λ x. test x.target) rs) all in
-    and_from _ _ (follows r.target parts.0) (all_from test other follows rs parts.1)
+upward : (low past c : ℕ) → c < low → (t : Target) → jumps_between low past t ≡ true → goes_up c t ≡ true
+upward low past c below Accept is = refl
+upward low past c below Drop is = refl
+upward low past c below Reject is = refl
+upward low past c below Return is = refl
+upward low past c below Count is = refl
+upward low past c below (Jump d) is = grind (arith, nat_tests)
 
-pub decides_up : (c : ℕ) (t : Target) → decides t ≡ true → goes_up c t ≡ true
-decides_up c Accept is = refl
-decides_up c Drop is = refl
-decides_up c Reject is = refl
-decides_up c Return is = refl
-decides_up c Count is = refl
-decides_up c (Jump d) is = cc
-
-host_up : (n : ℕ) (t : Target) → jumps_to_host n t ≡ true → goes_up 1 t ≡ true
-host_up n Accept is = refl
-host_up n Drop is = refl
-host_up n Reject is = refl
-host_up n Return is = refl
-host_up n Count is = refl
-host_up n (Jump d) is = grind (arith, nat_tests)
+-- rules of a chain below those that they jump to jump up
+pub all_upward : (low past c : ℕ) → c < low → (rules : List Rule) → list_all (λ r. jumps_between low past r.target) rules ≡ true
+    → list_all (λ r. goes_up c r.target) rules ≡ true
+all_upward low past c below [] all = refl
+all_upward low past c below (r ∷ rs) all =
+    let parts = and_parts (jumps_between low past r.target) (list_all (λ x. jumps_between low past x.target) rs) all in
+    and_from _ _ (upward low past c below r.target parts.0) (all_upward low past c below rs parts.1)
 
 host_chains_up : (site : Site) (p s : List Flow) (c k n : ℕ) → AreServices site.services
     → jumps_go_up c (map (host_chain site p s) (range_with_len k n)) ≡ true
 host_chains_up site p s c k zero are = refl
 host_chains_up site p s c k (suc n) are =
-    and_from _ _ (all_from decides (goes_up c) (decides_up c) (host_rules Sending site p s k) (host_rules_decide Sending site p s k are))
+    and_from _ _ (all_upward (c + 1) 0 c (omega arith) (host_rules Sending site p s k) (host_rules_stay (c + 1) Sending site p s k are))
     (host_chains_up site p s (c + 1) (k + 1) n are)
 
 -- jumps lead from FORWARD to the chains of hosts, and from there nowhere
@@ -175,7 +150,7 @@ pub layout_no_loop : (site : Site) (p s : List Flow) → AreServices site.servic
 layout_no_loop site p s are =
     no_loop_upward (layout site p s)
     (and_from _ _
-    (all_from (jumps_to_host (length site.hosts)) (goes_up 1) (host_up (length site.hosts)) (forward_rules site.hosts) (forward_rules_jump site.hosts))
+    (all_upward 3 (length site.hosts + 3) 1 (omega arith) (forward_rules site.hosts) (forward_rules_jump site.hosts))
     (host_chains_up site p s 3 0 (length site.hosts) are))
 
 -- hosts with different numbers have chains with different names
