@@ -1,12 +1,10 @@
--- What stands among entries that are written one after another, and how many they are.
-use Rattle.std.proofs.Common.{◌≡◌, inl, inr, ℕ, zero, suc, ◌+◌, ◌*◌, ◌≤◌, Bool, true, List, [], ◌∷◌, Some, length, refl, ap, subst, ◌∙◌, arith, length-append}
+-- What stands among entries that are written one after another.
+use Rattle.std.proofs.Common.{◌≡◌, inl, inr, ℕ, zero, suc, ◌+◌, Bool, true, List, [], ◌∷◌, Some, refl, ap, subst, ◌∙◌, arith}
 use Rattle.std.specs.Prelude.{slice_get, map}
 use Rattle.std.specs.List.{flat_map, list_all}
 use Rattle.std.proofs.lemmas.Bool.{and_from, and_parts}
-use Rattle.std.proofs.lemmas.List.Sums.{sum_by-cons}
 use Rattle.host_net.specs.declared.prefix.Prefix.{Prefix}
 use Rattle.host_net.specs.Host.{Host}
-use Rattle.host_net.specs.inner.Hosts.{prefix_count}
 use Rattle.ofp_rules.specs.declared.entry.Entry.{Entry}
 use Rattle.ofp_rules.specs.Meaning.{IsOneOf}
 use Rattle.ofp_rules.proofs.HighestLaws.{one_of_front, one_of_back, one_of_parts}
@@ -107,21 +105,3 @@ pub one_passes : {X : Type 0} (f : X → Bool) (xs : List X) (x : X) → list_al
 one_passes f [] x all here = absurd here
 one_passes f (y ∷ xs) x all (inl is) = ap f is ∙ (and_parts (f y) (list_all f xs) all).0
 one_passes f (y ∷ xs) x all (inr later) = one_passes f xs x (and_parts (f y) (list_all f xs) all).1 later
-
--- how many
-pub flat_long : {X Y : Type 0} (f : X → List Y) (xs : List X) (n : ℕ) → ((x : X) → length (f x) ≤ n)
-    → length (flat_map f xs) ≤ length xs * n
-flat_long f [] n each = omega arith
-flat_long f (x ∷ xs) n each =
-    let later = flat_long f xs n each in
-    omega (arith, length-append (f x) (flat_map f xs), each x)
-
-pub each_long : (w : ℕ → List Prefix → List Entry) (k : ℕ) (hs : List Host) (n : ℕ)
-    → ((i : ℕ) (qs : List Prefix) → length (w i qs) ≤ length qs * n) → length (for_each_host w k hs) ≤ prefix_count hs * n
-each_long w k [] n each = omega arith
-each_long w k (h ∷ hs) n each =
-    let later = each_long w (k + 1) hs n each in
-    let count : prefix_count (h ∷ hs) ≡ length h.prefixes + prefix_count hs = sum_by-cons (λ (g : Host). length g.prefixes) h hs in
-    let here : length (w k h.prefixes) ≤ length h.prefixes * n = each k h.prefixes in
-    let both : length (w k h.prefixes) + length (for_each_host w (k + 1) hs) ≤ (length h.prefixes + prefix_count hs) * n = omega arith in
-    rw (length-append (w k h.prefixes) (for_each_host w (k + 1) hs), count) both

@@ -56,10 +56,6 @@ belongs_by : (same : Bool) (services : List NarrowedFlow) (p : List Flow) (f : F
 belongs_by true services p f packet = refl
 belongs_by false services p f packet = refl
 
-pub not_true : (b : Bool) → (b ≡ true → ⊥) → b ≡ false
-not_true true h = absurd (h refl)
-not_true false h = refl
-
 -- what is done at a priority with a frame that is to pass, or is not
 abbrev action_at : Bool → ℕ → Action
 action_at goes n = if n == 40 then (if goes then Normal else Drop) else (if n == 35 then Drop else (if n == 0 then Drop else Normal))

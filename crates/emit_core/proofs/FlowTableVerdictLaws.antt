@@ -1,6 +1,6 @@
 -- The highest entry that matches a frame decides as the policy does.
 use Rattle.std.proofs.Common.{◌≡◌, ◌⊎◌, inl, inr, ℕ, ◌<◌, Bool, true, false, ◌&&◌, List, Option, Some, None, refl, sym, ap, ◌∙◌, subst, arith, true≢false}
-use Rattle.std.proofs.lemmas.Bool.{and_parts, and_from}
+use Rattle.std.proofs.lemmas.Bool.{and_parts, and_from, false_from_ne_true}
 use Rattle.host_net.specs.declared.packet.Packet.{Packet}
 use Rattle.host_net.specs.declared.packet.Verdict.{Verdict}
 use Rattle.host_net.specs.Packet.{IsPacket}
@@ -22,7 +22,7 @@ use Rattle.ofp_rules.proofs.HighestLaws.{has_verdict}
 use Rattle.ofp_rules.specs.Matching.{matches}
 use Rattle.ofp_rules.specs.Meaning.{IsOneOf, IsHighest, HasVerdict, verdict_of as verdict_by_action}
 use Rattle.emit_core.specs.FlowTable.{ip_entry, service_entry, pair_entries, arp_entry, other_entry, flow_entries}
-use Rattle.emit_core.proofs.FlowTableLaws.{passes, ForwardsFlows, not_true, of_owners, of_nobody_from, of_nobody_to, never_within, askable_by, passes_by, service_goes, drop_stays, kind_of_pair}
+use Rattle.emit_core.proofs.FlowTableLaws.{passes, ForwardsFlows, of_owners, of_nobody_from, of_nobody_to, never_within, askable_by, passes_by, service_goes, drop_stays, kind_of_pair}
 use Rattle.emit_core.proofs.FlowTableOriginLaws.{IsBetween, IsToRest, IsFromRest, Origin, of_pair, of_to_rest, of_from_rest, of_arp, of_other, origin, pair_in, to_rest_in, from_rest_in, last_in}
 use Rattle.emit_core.proofs.FlowTablePairLaws.{PairKind, of_service, of_low, of_drop, pair_service, pair_all}
 use Rattle.emit_core.proofs.FlowTableServiceLaws.{entry_matches, server}
@@ -132,7 +132,7 @@ module _ (site : Site) (p : List Flow) (known : IsSite site) (plain : HasNoRange
       let s : IsHeld site.hosts packet.src = record { place = o.i; host = o.g; prefix = o.q; there = o.at_i; listed = o.from; covered = both.0 } in
       let d : IsHeld site.hosts packet.dst = record { place = o.j; host = o.h; prefix = o.t; there = o.at_j; listed = o.to; covered = both.1 } in
       let priority : e.priority ≡ 35 = ap (λ (x : Entry). x.priority) e_is in
-      not_true (is_of site p packet) (λ of_flow.
+      false_from_ne_true (is_of site p packet) (λ of_flow.
       let at = held_service packet is s d of_flow in
       let above = at.above in
       let below = high.above at.entry at.listed at.matched in
@@ -199,7 +199,7 @@ module _ (site : Site) (p : List Flow) (known : IsSite site) (plain : HasNoRange
   other_says Other e is e_is high = refl
   other_says (Ipv4 packet) e is e_is high =
       let priority : e.priority ≡ 0 = ap (λ (x : Entry). x.priority) e_is in
-      not_true (is_of site p packet) (λ of_flow.
+      false_from_ne_true (is_of site p packet) (λ of_flow.
       let at = matched_by packet (rest_of site.hosts) is refl of_flow (ownership site.hosts packet.src) (ownership site.hosts packet.dst) in
       let above = at.above in
       let below = high.above at.entry at.listed at.matched in

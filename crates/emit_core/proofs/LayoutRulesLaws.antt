@@ -1,5 +1,5 @@
 -- What is true of every rule of the forms that a layout has is true of each of its rules.
-use Rattle.std.proofs.Common.{◌≡◌, ℕ, ◌+◌, ◌<◌, zero, suc, Bool, true, false, not, ◌&&◌, ◌||◌, ◌==◌, IsTrue, List, [], ◌∷◌, ◌++◌, Option, Some, None, length, map, get_or, refl, ap, ◌∙◌, arith}
+use Rattle.std.proofs.Common.{◌≡◌, ℕ, ◌+◌, ◌<◌, ◌≤◌, zero, suc, Bool, true, false, not, ◌&&◌, ◌||◌, ◌==◌, IsTrue, List, [], ◌∷◌, ◌++◌, Option, Some, None, length, map, refl, ◌∙◌, arith}
 use Rattle.std.specs.Prelude.{if◌then◌else◌, nat_le}
 use Rattle.std.specs.List.{flat_map, list_all, range_with_len}
 use Rattle.std.specs.Option.{option_map_or}
@@ -16,29 +16,22 @@ use Rattle.host_net.specs.inner.Services.{AreServices}
 use Rattle.host_net.specs.Site.{Site}
 use Rattle.flow_set.specs.declared.flow.Flow.{Flow}
 use Rattle.ipt_rules.specs.declared.rule.Rule.{Rule}
-use Rattle.ipt_rules.specs.declared.rule.Target.{Target}
 use Rattle.ipt_rules.specs.declared.rule.Target.TheVariants.{Drop, Jump}
 use Rattle.ipt_rules.specs.RuleParts.{names_ports}
 use Rattle.ipt_rules.specs.inner.RuleParts.{is_protocol, are_ports, is_rule, AreRules}
 use Rattle.emit_core.specs.declared.side.Side.{Side}
-use Rattle.emit_core.specs.declared.side.Side.TheVariants.{Sending, Receiving}
+use Rattle.emit_core.specs.declared.side.Side.TheVariants.{Sending}
 use Rattle.emit_core.specs.Layout.{for_each_prefix, at_other, protocol_part, port_part, to_service, from_service, links_whole, accepts_flow, accepts_answers, accepts, drops, is_open, to_prefix, to_rest, host_rules, forward_rules, rest_jump, jump_from, from_source, chain_of, layout, host_chain}
 use Rattle.emit_core.specs.Sides.{links, other_side, services_on, flow_on}
-
--- a rule of a list that passes whole
-pub passes_at : (test : Rule → Bool) (rules : List Rule) (i : ℕ) (r : Rule) → list_all test rules ≡ true → i < length rules → r ≡ get_or rules i r
-    → test r ≡ true
-passes_at test [] i r all below is = absurd (omega arith)
-passes_at test (x ∷ xs) zero r all below is = ap test is ∙ (and_parts (test x) (list_all test xs) all).0
-passes_at test (x ∷ xs) (suc i) r all below is = passes_at test xs i r (and_parts (test x) (list_all test xs) all).1 (omega arith) is
+use Rattle.emit_core.proofs.OwnerLaws.{rest_below}
 
 -- a service, or none
 abbrev pub is_narrowing : Option Service → Bool
 is_narrowing n = option_map_or is_service n true
 
--- every rule of the three forms passes the test, where its prefix, if it has one, fits, and its service, if it has one, is one
+-- every rule of the three forms that host chains have passes the test, where its prefix, if it has one, fits, and its service, if it has one, is one
 pub record PassForms (test : Rule → Bool) (fits : Prefix → Bool) : Type 0 where
-  pub plain : (side : Side) (q : Option Prefix) (target : Target) → option_map_or fits q true ≡ true → test (at_other side q None target) ≡ true
+  pub dropping : (side : Side) (q : Option Prefix) → option_map_or fits q true ≡ true → test (at_other side q None Drop) ≡ true
   pub flow : (side : Side) (q : Option Prefix) (n : Option Service) → option_map_or fits q true ≡ true → is_narrowing n ≡ true → test (to_service side q n) ≡ true
   pub answer : (side : Side) (q : Option Prefix) (n : Option Service) → option_map_or fits q true ≡ true → is_narrowing n ≡ true → test (from_service side q n) ≡ true
 
@@ -58,7 +51,7 @@ map_pass test rule each [] all = refl
 map_pass test rule each (n ∷ ns) all =
     let parts = and_parts (is_narrowing n) (list_all is_narrowing ns) all in and_from _ _ (each n parts.0) (map_pass test rule each ns parts.1)
 
-if_pass : (test : Rule → Bool) (b : Bool) (rules : List Rule) → list_all test rules ≡ true → list_all test (if b then rules else []) ≡ true
+pub if_pass : (test : Rule → Bool) (b : Bool) (rules : List Rule) → list_all test rules ≡ true → list_all test (if b then rules else []) ≡ true
 if_pass test true rules all = all
 if_pass test false rules all = refl
 
@@ -69,34 +62,33 @@ flat_pass test fits written each (q ∷ qs) all =
     let parts = and_parts (fits q) (list_all fits qs) all in
     list_all-append test (written q) (flat_map written qs) ∙ and_from _ _ (each q parts.0) (flat_pass test fits written each qs parts.1)
 
-each_pass : (test : Rule → Bool) (fits : Prefix → Bool) (written : ℕ → Prefix → List Rule)
-    → ((j : ℕ) (q : Prefix) → fits q ≡ true → list_all test (written j q) ≡ true)
-    → (k : ℕ) (hs : List Host) → list_all fits (all_prefixes hs) ≡ true → list_all test (for_each_prefix written k hs) ≡ true
-each_pass test fits written each k [] all = refl
-each_pass test fits written each k (h ∷ hs) all =
+each_pass : (test : Rule → Bool) (fits : Prefix → Bool) (written : ℕ → Prefix → List Rule) (n : ℕ)
+    → ((j : ℕ) (q : Prefix) → j < n → fits q ≡ true → list_all test (written j q) ≡ true)
+    → (k : ℕ) (hs : List Host) → k + length hs ≤ n → list_all fits (all_prefixes hs) ≡ true → list_all test (for_each_prefix written k hs) ≡ true
+each_pass test fits written n each k [] within all = refl
+each_pass test fits written n each k (h ∷ hs) within all =
     let parts = and_parts (list_all fits h.prefixes) (list_all fits (all_prefixes hs)) (list_all-apart fits h.prefixes (all_prefixes hs) all) in
     list_all-append test (flat_map (written k) h.prefixes) (for_each_prefix written (k + 1) hs)
-    ∙ and_from _ _ (flat_pass test fits (written k) (each k) h.prefixes parts.0) (each_pass test fits written each (k + 1) hs parts.1)
+    ∙ and_from _ _ (flat_pass test fits (written k) (λ q. each k q (omega arith)) h.prefixes parts.0) (each_pass test fits written n each (k + 1) hs (omega arith) parts.1)
   where
     list_all-apart : (f : Prefix → Bool) (xs ys : List Prefix) → list_all f (xs ++ ys) ≡ true → (list_all f xs && list_all f ys) ≡ true
     list_all-apart f xs ys h = rw (← list_all-append f xs ys) h
 
 -- 2. The rules of a layout.
 
-rest_jump_pass : (test : Rule → Bool) (fits : Prefix → Bool)
-    → ((q : Option Prefix) (target : Target) → option_map_or fits q true ≡ true → test (from_source q target) ≡ true) → (rest : Option ℕ)
-    → list_all test (rest_jump rest) ≡ true
-rest_jump_pass test fits form None = refl
-rest_jump_pass test fits form (Some r) = and_from _ _ (form None (Jump (chain_of r)) refl) refl
+rest_jump_pass : (test : Rule → Bool) (n : ℕ) → ((i : ℕ) → i < n → test (from_source None (Jump (chain_of i))) ≡ true) → (rest : Option ℕ)
+    → ((r : ℕ) → rest ≡ Some r → r < n) → list_all test (rest_jump rest) ≡ true
+rest_jump_pass test n form None below = refl
+rest_jump_pass test n form (Some r) below = and_from _ _ (form r (below r refl)) refl
 
-pub forward_rules_pass : (test : Rule → Bool) (fits : Prefix → Bool)
-    → ((q : Option Prefix) (target : Target) → option_map_or fits q true ≡ true → test (from_source q target) ≡ true) → (hosts : List Host)
+pub forward_rules_pass : (test : Rule → Bool) (fits : Prefix → Bool) (hosts : List Host)
+    → ((q : Option Prefix) (i : ℕ) → i < length hosts → option_map_or fits q true ≡ true → test (from_source q (Jump (chain_of i))) ≡ true)
     → list_all fits (all_prefixes hosts) ≡ true → list_all test (forward_rules hosts) ≡ true
-forward_rules_pass test fits form hosts all =
+forward_rules_pass test fits hosts form all =
     list_all-append test (for_each_prefix jump_from 0 hosts) (rest_jump (rest_of hosts))
     ∙ and_from _ _
-    (each_pass test fits jump_from (λ i q at. and_from _ _ (form (Some q) (Jump (chain_of i)) at) refl) 0 hosts all)
-    (rest_jump_pass test fits form (rest_of hosts))
+    (each_pass test fits jump_from (length hosts) (λ i q below at. and_from _ _ (form (Some q) i below at) refl) 0 hosts (omega arith) all)
+    (rest_jump_pass test (length hosts) (λ i below. form None i below refl) (rest_of hosts) (rest_below hosts))
 
 module _ (test : Rule → Bool) (fits : Prefix → Bool) (forms : PassForms test fits) where
   accepts_pass : (side : Side) (site : Site) (p s : List Flow) (i j : ℕ) (q : Option Prefix) → AreServices site.services → option_map_or fits q true ≡ true
@@ -120,7 +112,7 @@ module _ (test : Rule → Bool) (fits : Prefix → Bool) (forms : PassForms test
       list_all-append test (accepts side site p s i j (Some q)) (drops side site p s i rest j q)
       ∙ and_from _ _ (accepts_pass side site p s i j (Some q) are at)
       (if_pass test (is_open side p s i rest && not (links_whole side site p i j)) (at_other side (Some q) None Drop ∷ [])
-      (and_from _ _ (forms.plain side (Some q) Drop at) refl))
+      (and_from _ _ (forms.dropping side (Some q) at) refl))
 
   to_rest_pass : (side : Side) (site : Site) (p s : List Flow) (i : ℕ) (rest : Option ℕ) → AreServices site.services
       → list_all test (to_rest side site p s i rest) ≡ true
@@ -132,18 +124,20 @@ module _ (test : Rule → Bool) (fits : Prefix → Bool) (forms : PassForms test
   host_rules_pass side site p s i are all =
       let rest = rest_of site.hosts in
       list_all-append test (for_each_prefix (to_prefix side site p s i rest) 0 site.hosts) (to_rest side site p s i rest ++ at_other side None None Drop ∷ [])
-      ∙ and_from _ _ (each_pass test fits (to_prefix side site p s i rest) (to_prefix_pass side site p s i rest are) 0 site.hosts all)
+      ∙ and_from _ _ (each_pass test fits (to_prefix side site p s i rest) (length site.hosts) (λ j q below at. to_prefix_pass side site p s i rest are j q at) 0 site.hosts (omega arith) all)
       (list_all-append test (to_rest side site p s i rest) (at_other side None None Drop ∷ [])
-      ∙ and_from _ _ (to_rest_pass side site p s i rest are) (and_from _ _ (forms.plain side None Drop refl) refl))
+      ∙ and_from _ _ (to_rest_pass side site p s i rest are) (and_from _ _ (forms.dropping side None refl) refl))
 
   chains_pass : (site : Site) (p s : List Flow) (k n : ℕ) → AreServices site.services → list_all fits (all_prefixes site.hosts) ≡ true
       → list_all (λ x. list_all test x.rules) (map (host_chain site p s) (range_with_len k n)) ≡ true
   chains_pass site p s k zero are all = refl
   chains_pass site p s k (suc n) are all = and_from _ _ (host_rules_pass Sending site p s k are all) (chains_pass site p s (k + 1) n are all)
 
-  pub layout_passes : (site : Site) (p s : List Flow) → AreServices site.services → list_all fits (all_prefixes site.hosts) ≡ true
+  pub layout_passes : ((q : Option Prefix) (i : ℕ) → option_map_or fits q true ≡ true → test (from_source q (Jump (chain_of i))) ≡ true)
+      → (site : Site) (p s : List Flow) → AreServices site.services → list_all fits (all_prefixes site.hosts) ≡ true
       → IsTrue (list_all (λ x. list_all test x.rules) (layout site p s))
-  layout_passes site p s are all = and_from _ _ (forward_rules_pass test fits (λ q target at. forms.plain Receiving q target at) site.hosts all) (chains_pass site p s 0 (length site.hosts) are all)
+  layout_passes jump site p s are all =
+      and_from _ _ (forward_rules_pass test fits site.hosts (λ q i below at. jump q i at) all) (chains_pass site p s 0 (length site.hosts) are all)
 
 -- 3. They ask for protocols and ports as rules may, at every prefix.
 
@@ -187,13 +181,13 @@ answer_is_rule side q None at is = refl
 answer_is_rule side q (Some s) at is = let asked = service_asked s is in and_from _ _ asked.protocol (and_from _ _ asked.ports refl)
 
 forms_are_rules : PassForms is_rule anywhere
-forms_are_rules = record { plain = λ side q target at. refl; flow = flow_is_rule; answer = answer_is_rule }
+forms_are_rules = record { dropping = λ side q at. refl; flow = flow_is_rule; answer = answer_is_rule }
 
 pub host_rules_are : (side : Side) (site : Site) (p s : List Flow) (i : ℕ) → AreServices site.services → list_all is_rule (host_rules side site p s i) ≡ true
 host_rules_are side site p s i are = host_rules_pass is_rule anywhere forms_are_rules side site p s i are (all_anywhere (all_prefixes site.hosts))
 
 pub forward_rules_are : (hosts : List Host) → list_all is_rule (forward_rules hosts) ≡ true
-forward_rules_are hosts = forward_rules_pass is_rule anywhere (λ q target at. refl) hosts (all_anywhere (all_prefixes hosts))
+forward_rules_are hosts = forward_rules_pass is_rule anywhere hosts (λ q i below at. refl) (all_anywhere (all_prefixes hosts))
 
 pub layout_rules_are : (site : Site) (p s : List Flow) → AreServices site.services → AreRules (layout site p s)
-layout_rules_are site p s are = layout_passes is_rule anywhere forms_are_rules site p s are (all_anywhere (all_prefixes site.hosts))
+layout_rules_are site p s are = layout_passes is_rule anywhere forms_are_rules (λ q i at. refl) site p s are (all_anywhere (all_prefixes site.hosts))

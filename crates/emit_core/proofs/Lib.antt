@@ -24,8 +24,8 @@ pub mod LinkLaws
 pub mod NarrowedSteps
 pub mod NarrowingLaws
 pub mod OwnerLaws
-pub mod RangeSteps
 pub mod RuleFitsLaws
+pub mod SearchSteps
 pub mod Steps
 pub mod TableLaws
 pub mod UnnarrowedLaws

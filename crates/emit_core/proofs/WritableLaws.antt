@@ -21,6 +21,7 @@ use Rattle.host_net.specs.inner.Site.{IsSite}
 use Rattle.flow_set.specs.declared.flow.Flow.{Flow}
 use Rattle.ipt_rules.specs.declared.rule.Rule.{Rule}
 use Rattle.ipt_rules.specs.declared.rule.Target.{Target}
+use Rattle.ipt_rules.specs.declared.rule.Target.TheVariants.{Drop, Jump}
 use Rattle.ipt_rules.specs.Chain.{name_of, policy_of, number_of}
 use Rattle.ipt_rules.specs.ChainTable.{rule_count}
 use Rattle.ipt_rules.specs.inner.ChainTable.{IsTable, name_in, policy_in}
@@ -32,7 +33,7 @@ use Rattle.ipt_rules.specs.inner.Writable.{IsWritable}
 use Rattle.emit_core.specs.declared.side.Side.{Side}
 use Rattle.emit_core.specs.declared.side.Side.TheVariants.{Sending, Receiving}
 use Rattle.emit_core.specs.EmitRefusals.{rule_limit}
-use Rattle.emit_core.specs.Layout.{at_other, destination_part, forward_rules, from_service, host_chain, host_chain_name, host_rules, in_prefix, layout, port_part, protocol_part, source_part, to_service}
+use Rattle.emit_core.specs.Layout.{at_other, chain_of, destination_part, forward_rules, from_service, host_chain, host_chain_name, host_rules, in_prefix, layout, port_part, protocol_part, source_part, to_service}
 use Rattle.emit_core.proofs.LayoutRulesLaws.{PassForms, all_anywhere, anywhere, forward_rules_pass, host_rules_pass, is_narrowing, layout_passes, layout_rules_are, service_asked}
 use Rattle.emit_core.proofs.LayoutLaws.{layout_accepted, layout_no_loop, length-chains_up_to, host_chain_name_legal, other_name}
 
@@ -121,14 +122,14 @@ parts_fit Receiving q fits = and_from _ _ (prefix_part_fits q fits) refl
 
 forms_fit : PassForms addresses_fit prefix_fits
 forms_fit = record {
-  plain = λ side q target fits. parts_fit side q fits;
+  dropping = λ side q fits. parts_fit side q fits;
   flow = λ side q n fits is. parts_fit side q fits;
   answer = λ side q n fits is. parts_fit side q fits;
 }
 
 layout_addresses : (site : Site) (p s : List Flow) → IsSite site → AddressesFit (layout site p s)
 layout_addresses site p s is =
-    layout_passes addresses_fit prefix_fits forms_fit site p s is.services (network_fits (all_prefixes site.hosts) is.hosts.networks)
+    layout_passes addresses_fit prefix_fits forms_fit (λ q i fits. parts_fit Receiving q fits) site p s is.services (network_fits (all_prefixes site.hosts) is.hosts.networks)
 
 -- and so have those in the chain of a host, for what it sends or for what it receives
 pub host_rules_addresses : (side : Side) (site : Site) (p s : List Flow) (i : ℕ) → IsSite site → list_all addresses_fit (host_rules side site p s i) ≡ true
@@ -142,8 +143,8 @@ layout_writable site p s is few =
     let hosts : length site.hosts ≤ 256 = is.hosts.few in
     record {
       table = layout_table site p s hosts;
-      accepted = layout_accepted site p s hosts (omega (arith, few));
-      no_loop = layout_no_loop site p s;
+      accepted = layout_accepted site p s is.services hosts (omega (arith, few));
+      no_loop = layout_no_loop site p s is.services;
       addresses = layout_addresses site p s is;
       parts = layout_rules_are site p s is.services;
     }
@@ -215,7 +216,7 @@ plain_asks most room side q target = at_most (asked (at_other side q None target
 
 forms_ask : PassForms (asks_at_most 91) anywhere
 forms_ask = record {
-  plain = λ side q target at. plain_asks 91 (omega arith) side q target;
+  dropping = λ side q at. plain_asks 91 (omega arith) side q Drop;
   flow = λ side q n at is. flow_asks side q n is;
   answer = λ side q n at is. answer_asks side q n is;
 }
@@ -245,7 +246,7 @@ layout_takes : (site : Site) (p s : List Flow) → IsSite site → TakeAtMost 95
 layout_takes site p s is =
     and_from _ _
     (takes 95 22 (codes "FORWARD") (forward_rules site.hosts) (omega arith)
-    (forward_rules_pass (asks_at_most 22) anywhere (λ q target at. plain_asks 22 (omega arith) Receiving q target) site.hosts (all_anywhere (all_prefixes site.hosts))))
+    (forward_rules_pass (asks_at_most 22) anywhere site.hosts (λ q i below at. plain_asks 22 (omega arith) Receiving q (Jump (chain_of i))) (all_anywhere (all_prefixes site.hosts))))
     (chains_take site p s 0 (length site.hosts) is.services (let few : length site.hosts ≤ 256 = is.hosts.few in omega (arith, few)))
 
 -- the text has at most the bytes that a text may have which is read: at most 110 a line

@@ -1,6 +1,5 @@
--- Why a policy has no chains, or no flow table.
+-- How many rules a layout may have.
 use Rattle.std.specs.Prelude.{ℕ}
 
--- how many rules the chains of a layout may have
 abbrev pub rule_limit : ℕ
 rule_limit = 600000

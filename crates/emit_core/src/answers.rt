@@ -5,7 +5,6 @@ ghost use Rattle.std.specs.List.{list_all};
 ghost use Rattle.host_net.specs.Service.{is_whole};
 ghost use Rattle.flow_set.specs.Flow.{IsFlow};
 ghost use Rattle.emit_core.specs.FlowTableEvents.{AnswersAreCovered, IsFirstBarred, has_all_of, is_covered};
-ghost use Rattle.emit_core.specs.inner.FlowTableRefusals.{lacks_answer};
 
 use crate::narrowing::{has_all_ports, is_whole};
 use flow_set::{Flow, FlowSet};
@@ -22,38 +21,26 @@ pub fn needs_state(policy: &FlowPolicy<'_>) -> Option<Flow>
     first_barred(policy.services(), policy.permitted(), policy.stateful())
 }
 
-fn first_barred(services: &Services, p: &FlowSet, s: &FlowSet) -> Option<Flow>
-    requires { s.now.size ≡ p.now.size }
-    ensures barred { MatchOption result (AnswersAreCovered services.now p.now.flows s.now.flows) (IsFirstBarred services.now p.now.flows s.now.flows) }
-    ensures within { IfSome result (λ flow. (flow.from < s.now.size) × (flow.to < s.now.size)) }
+fn first_barred(services: &Services, permitted: &FlowSet, stateful: &FlowSet) -> Option<Flow>
+    requires { stateful.now.size ≡ permitted.now.size }
+    ensures barred { MatchOption result (AnswersAreCovered services.now permitted.now.flows stateful.now.flows)
+        (IsFirstBarred services.now permitted.now.flows stateful.now.flows) }
+    ensures within { IfSome result (λ flow. (flow.from < stateful.now.size) × (flow.to < stateful.now.size)) }
 {
-    let count = s.size();
-    for from in 0..count {
-        for to in 0..count {
-            let flow = Flow { from, to };
-            if lacks_answer(services, p, s, flow) {
-                return Some(flow);
-            }
+    for flow in stateful.iter() {
+        if !is_covered(services, permitted, flow) {
+            return Some(flow);
         }
     }
     None
 }
 
-fn lacks_answer(services: &Services, p: &FlowSet, s: &FlowSet, flow: Flow) -> bool
-    requires size { s.now.size ≡ p.now.size }
-    requires from { flow.from < s.now.size }
-    requires to { flow.to < s.now.size }
-    ensures { result ≡ lacks_answer services.now p.now.flows s.now.flows flow }
-{
-    flow.from != flow.to && s.has(flow) && !is_covered(services, p, flow)
-}
-
 /// Whether all that answers the flow is of its reverse.
-fn is_covered(services: &Services, p: &FlowSet, flow: Flow) -> bool
-    requires { IsFlow p.now.size flow }
-    ensures { result ≡ is_covered services.now p.now.flows flow }
+fn is_covered(services: &Services, permitted: &FlowSet, flow: Flow) -> bool
+    requires { IsFlow permitted.now.size flow }
+    ensures { result ≡ is_covered services.now permitted.now.flows flow }
 {
-    p.has(flow.back())
+    permitted.has(flow.back())
         && are_all_of(
             services.of(flow.to, flow.from),
             services.of(flow.from, flow.to),

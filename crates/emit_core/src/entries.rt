@@ -4,12 +4,9 @@
 ghost use Rattle.std.specs.Prelude.{◌≡◌, OnOk};
 ghost use Rattle.emit_core.specs.inner.KeptEntries.{no_entries, with_entry};
 
-use ofp_rules::Entry;
+use ofp_rules::{ENTRY_LIMIT, Entry};
 use std::alloc::{AllocError, Global};
 use std::marker::Model;
-
-/// How many entries a flow table may have.
-pub(crate) const ENTRY_LIMIT: u32 = 8192;
 
 /// Entries in their order, of which those are kept that a table may have.
 #[derive(Drop)]

@@ -3,7 +3,7 @@
 ghost use Rattle.std.specs.Prelude.{◌≡◌};
 ghost use Rattle.host_net.specs.Service.{has_all_ports, is_whole};
 
-use host_net::Service;
+use host_net::{LAST_PORT, Service};
 
 /// Whether nothing narrows a flow with these services.
 pub(crate) fn is_whole(services: &[Service]) -> bool
@@ -16,5 +16,5 @@ pub(crate) fn is_whole(services: &[Service]) -> bool
 pub(crate) fn has_all_ports(service: Service) -> bool
     ensures { result ≡ has_all_ports service }
 {
-    service.low == 0 && service.high == 65535
+    service.low == 0 && service.high == LAST_PORT
 }

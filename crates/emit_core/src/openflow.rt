@@ -12,13 +12,13 @@ ghost use Rattle.emit_core.specs.FlowTableForwarding.{ForwardsArpAlone};
 ghost use Rattle.emit_core.specs.inner.KeptEntries.{AreCounted};
 ghost use Rattle.emit_core.specs.PortRanges.{HasNoRange};
 
-use crate::entries::{ENTRY_LIMIT, Entries};
+use crate::entries::Entries;
 use crate::flow_entry::{arp_entry, other_entry};
 use crate::flows::push_between;
 use crate::ranges::first_range;
 use crate::refusal::NoTable;
 use crate::rest_flows::push_with_rest;
-use ofp_rules::{Table, TableRefusal};
+use ofp_rules::{ENTRY_LIMIT, Table, TableRefusal};
 use pkt_core::FlowPolicy;
 use std::alloc::{AllocError, Global};
 
@@ -30,8 +30,8 @@ pub fn emit_openflow(alloc: Global, policy: &FlowPolicy<'_>) -> Result<Table, No
     ensures few { OnOk result (length (flow_entries policy.now.site policy.now.permitted) ≤ most_entries) }
     ensures refused { IfErr result (HasNoTable policy.now.site policy.now.permitted) }
 
-    // IPv4 frames are forwarded exactly where their packet is of a flow in p, whatever the state of
-    // its connection; of other frames ARP alone is.
+    // IPv4 frames are forwarded exactly where their packet is of a permitted flow, whatever the
+    // state of its connection; of other frames ARP alone is.
     ensures enforces { IfOk result (λ table. Enforces (Passes table) policy.now.site policy.now.permitted []) }
     ensures others { IfOk result (λ table. ForwardsArpAlone table) }
 

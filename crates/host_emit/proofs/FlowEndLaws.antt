@@ -2,22 +2,20 @@
 use Rattle.std.proofs.Common.{◌≡◌, inl, inr, ℕ, Bool, true, false, not, ◌&&◌, ◌==◌, Some, None, refl, ap, subst, ◌∙◌, true≢false, arith}
 use Rattle.std.specs.Prelude.{if◌then◌else◌, List, Option}
 use Rattle.std.specs.Option.{option_map_or}
+use Rattle.std.proofs.Math.Bool.{and-false}
 use Rattle.std.proofs.lemmas.Bool.{or_cases, or_left, or_right}
 use Rattle.std.proofs.lemmas.Bool.Decides.{nat_tests}
 use Rattle.host_net.specs.declared.packet.Packet.{Packet}
 use Rattle.host_net.specs.Packet.{swap_of}
 use Rattle.host_net.specs.Host.{Host, owner_of, rest_of}
 use Rattle.flow_set.specs.declared.flow.Flow.{Flow}
+use Rattle.flow_set.specs.Flow.{back_of}
 use Rattle.pkt_core.specs.FlowPolicy.{flow_of, flow_of_owners}
 use Rattle.emit_core.specs.declared.side.Side.{Side}
 use Rattle.emit_core.specs.declared.side.Side.TheVariants.{Sending, Receiving}
 use Rattle.host_emit.specs.LocalLayout.{is_specific}
 use Rattle.host_emit.specs.Passing.{at_host, is_end}
 use Rattle.host_emit.specs.inner.Passing.{host_on}
-
--- the answer to a packet is of the reversed flow
-abbrev back : Flow → Flow
-back f = record { from = f.to; to = f.from }
 
 pub same_number : (i : ℕ) → (i == i) ≡ true
 same_number i = grind (arith, nat_tests)
@@ -26,24 +24,25 @@ pub apart_numbers : (i j : ℕ) → (i == j) ≡ false → (j == i) ≡ false
 apart_numbers i j h = grind (arith, nat_tests)
 
 some_flow : (i j : ℕ) (b c : Bool) (f : Flow) → b ≡ c → (if b then None else Some (record { from = i; to = j })) ≡ Some f →
-    (if c then None else Some (record { from = j; to = i })) ≡ Some (back f)
+    (if c then None else Some (record { from = j; to = i })) ≡ Some (back_of f)
 some_flow i j true c f same is = cc
 some_flow i j false true f same is = cc
 some_flow i j false false f same is = ap (λ (o : Option Flow). option_back o) is
   where
     option_back : Option Flow → Option Flow
     option_back None = None
-    option_back (Some g) = Some (back g)
+    option_back (Some g) = Some (back_of g)
 
 turned_test : (i j : ℕ) → (i == j) ≡ (j == i)
 turned_test i j = grind (arith, nat_tests)
 
-between_back : (from to : Option ℕ) (f : Flow) → flow_of_owners from to ≡ Some f → flow_of_owners to from ≡ Some (back f)
+between_back : (from to : Option ℕ) (f : Flow) → flow_of_owners from to ≡ Some f → flow_of_owners to from ≡ Some (back_of f)
 between_back None to f is = cc
 between_back (Some i) None f is = cc
 between_back (Some i) (Some j) f is = some_flow i j (i == j) (j == i) f (turned_test i j) is
 
-flow_back : (hosts : List Host) (p : Packet) (f : Flow) → flow_of hosts p ≡ Some f → flow_of hosts (swap_of p) ≡ Some (back f)
+-- the answer to a packet is of the reversed flow
+flow_back : (hosts : List Host) (p : Packet) (f : Flow) → flow_of hosts p ≡ Some f → flow_of hosts (swap_of p) ≡ Some (back_of f)
 flow_back hosts p f is = between_back (owner_of hosts p.src) (owner_of hosts p.dst) f is
 
 pub no_flow_back : (from to : Option ℕ) → flow_of_owners from to ≡ None → flow_of_owners to from ≡ None
@@ -92,7 +91,7 @@ pub end_on : (side : Side) (f : Flow) → is_end (Some f) (host_on side f) ≡ t
 end_on Sending f = or_left (f.from == f.from) _ (same_number f.from)
 end_on Receiving f = or_right (f.from == f.to) _ (same_number f.to)
 
-end_back : (f : Flow) (h : ℕ) → is_end (Some f) h ≡ true → is_end (Some (back f)) h ≡ true
+end_back : (f : Flow) (h : ℕ) → is_end (Some f) h ≡ true → is_end (Some (back_of f)) h ≡ true
 end_back f h is = elim (or_cases (f.from == h) (f.to == h) is) [ inl a ↦ or_right (f.to == h) _ a | inr b ↦ or_left (f.to == h) _ b ]
 
 -- at an end of its flow a packet is the host's
@@ -100,15 +99,11 @@ pub at_end : (hosts : List Host) (test : Packet → Bool) (p : Packet) (f : Flow
 at_end hosts test p f h is there = ap (λ (o : Option Flow). is_end o h && test p) is ∙ ap (λ (b : Bool). b && test p) there
 
 pub at_end_back : (hosts : List Host) (test : Packet → Bool) (p : Packet) (f : Flow) (h : ℕ) → flow_of hosts p ≡ Some f → is_end (Some f) h ≡ true → at_host hosts test h (swap_of p) ≡ test (swap_of p)
-at_end_back hosts test p f h is there = at_end hosts test (swap_of p) (back f) h (flow_back hosts p f is) (end_back f h there)
+at_end_back hosts test p f h is there = at_end hosts test (swap_of p) (back_of f) h (flow_back hosts p f is) (end_back f h there)
 
 -- elsewhere it is not
 pub off_end : (hosts : List Host) (test : Packet → Bool) (p : Packet) (o : Option Flow) (h : ℕ) → flow_of hosts p ≡ o → is_end o h ≡ false → at_host hosts test h p ≡ false
 off_end hosts test p o h is away = ap (λ (x : Option Flow). is_end x h && test p) is ∙ ap (λ (b : Bool). b && test p) away
 
 pub at_barred : (hosts : List Host) (test : Packet → Bool) (p : Packet) (h : ℕ) → test p ≡ false → at_host hosts test h p ≡ false
-at_barred hosts test p h barred = ap (λ (b : Bool). is_end (flow_of hosts p) h && b) barred ∙ by_test (is_end (flow_of hosts p) h)
-  where
-    by_test : (b : Bool) → (b && false) ≡ false
-    by_test true = refl
-    by_test false = refl
+at_barred hosts test p h barred = ap (λ (b : Bool). is_end (flow_of hosts p) h && b) barred ∙ and-false (is_end (flow_of hosts p) h)

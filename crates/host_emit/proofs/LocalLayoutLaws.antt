@@ -1,6 +1,6 @@
 -- Laws of the layout for a host's machines: how its chains are filled, how many rules they have, and that they make a rule set.
-use Rattle.std.proofs.Common.{◌≡◌, ℕ, ◌+◌, ◌<◌, ◌≤◌, zero, suc, Bool, true, false, ◌&&◌, List, [], ◌∷◌, Option, Some, None, length, refl, sym, ap, subst, ◌∙◌, arith}
-use Rattle.std.specs.Prelude.{nat_le, nat_lt, IsTrue, slice_get, codes, option_map}
+use Rattle.std.proofs.Common.{◌≡◌, ℕ, ◌+◌, ◌≤◌, zero, suc, true, false, List, [], ◌∷◌, Option, Some, None, length, refl, sym, ap, subst, ◌∙◌, arith}
+use Rattle.std.specs.Prelude.{nat_lt, IsTrue, slice_get, codes, option_map}
 use Rattle.std.specs.List.{flat_map, list_all}
 use Rattle.std.specs.Option.{option_map_or}
 use Rattle.std.proofs.lemmas.Bool.{and_from}
@@ -13,14 +13,12 @@ use Rattle.host_net.specs.Site.{Site}
 use Rattle.host_net.specs.inner.Site.{IsSite}
 use Rattle.flow_set.specs.declared.flow.Flow.{Flow}
 use Rattle.ipt_rules.specs.declared.rule.Rule.{Rule}
-use Rattle.ipt_rules.specs.declared.rule.Target.{Target}
-use Rattle.ipt_rules.specs.declared.rule.Target.TheVariants.{Accept, Drop, Reject, Return, Count, Jump}
 use Rattle.ipt_rules.specs.declared.rule.Policy.TheVariants.{Drop as Dropping}
-use Rattle.ipt_rules.specs.inner.Build.{jumps_nowhere, refusal_of}
+use Rattle.ipt_rules.specs.inner.Build.{refusal_of}
 use Rattle.ipt_rules.specs.Chain.{Chain, built_in_chains, with_policy}
 use Rattle.ipt_rules.specs.ChainTable.{rule_count}
 use Rattle.ipt_rules.specs.Loops.{HasNoLoop}
-use Rattle.ipt_rules.proofs.LoopLaws.{goes_up, no_loop_upward}
+use Rattle.ipt_rules.proofs.LoopLaws.{no_loop_upward}
 use Rattle.ipt_rules.specs.Name.{is_reserved, is_user_name}
 use Rattle.emit_core.specs.declared.side.Side.{Side}
 use Rattle.emit_core.specs.declared.side.Side.TheVariants.{Sending, Receiving}
@@ -28,7 +26,7 @@ use Rattle.emit_core.proofs.FewRulesLaws.{few_host_rules}
 use Rattle.emit_core.specs.inner.Filling.{with_rules}
 use Rattle.emit_core.proofs.FillingLaws.{with_rules-changed}
 use Rattle.emit_core.specs.Layout.{host_rules}
-use Rattle.emit_core.proofs.LayoutLaws.{all_from, decides, decides_somewhere, decides_up, host_rules_decide, none_nowhere}
+use Rattle.emit_core.proofs.LayoutLaws.{all_upward, host_rules_stay, jumps_between, none_nowhere}
 use Rattle.host_emit.specs.inner.LocalFilling.{dropping_chains}
 use Rattle.host_emit.specs.LocalLayout.{entry_rules, local_layout, machine_chains, own_jump, prefixes_of}
 
@@ -115,45 +113,24 @@ few_local_rules site p s h is =
 
 -- 3. They make a rule set.
 
--- a rule of INPUT or OUTPUT accepts, or jumps to one of the two user chains
-abbrev enters : Target → Bool
-enters Accept = true
-enters (Jump c) = nat_le 3 c && nat_lt c 5
-enters _ = false
-
-jumps_enter : (side : Side) (qs : List Prefix) → list_all (λ r. enters r.target) (flat_map (own_jump side) qs) ≡ true
+-- a rule of INPUT or OUTPUT jumps to one of the two user chains, where it jumps
+jumps_enter : (side : Side) (qs : List Prefix) → list_all (λ r. jumps_between 3 5 r.target) (flat_map (own_jump side) qs) ≡ true
 jumps_enter side [] = refl
 jumps_enter Sending (q ∷ qs) = jumps_enter Sending qs
 jumps_enter Receiving (q ∷ qs) = jumps_enter Receiving qs
 
-entries_enter : (side : Side) (qs : List Prefix) → list_all (λ r. enters r.target) (entry_rules side qs) ≡ true
+entries_enter : (side : Side) (qs : List Prefix) → list_all (λ r. jumps_between 3 5 r.target) (entry_rules side qs) ≡ true
 entries_enter side qs = jumps_enter side qs
 
-enters_somewhere : (t : Target) → enters t ≡ true → jumps_nowhere 5 t ≡ false
-enters_somewhere Accept is = refl
-enters_somewhere Drop is = refl
-enters_somewhere Reject is = refl
-enters_somewhere Return is = refl
-enters_somewhere Count is = refl
-enters_somewhere (Jump c) is = grind (arith, nat_tests)
-
-enters_up : (c : ℕ) → c < 3 → (t : Target) → enters t ≡ true → goes_up c t ≡ true
-enters_up c low Accept is = refl
-enters_up c low Drop is = refl
-enters_up c low Reject is = refl
-enters_up c low Return is = refl
-enters_up c low Count is = refl
-enters_up c low (Jump d) is = grind (arith, nat_tests)
-
 -- jumps lead from INPUT and OUTPUT to the user chains, and from there nowhere
-pub local_no_loop : (site : Site) (p s : List Flow) (h : ℕ) → HasNoLoop (local_layout site p s h)
-local_no_loop site p s h =
+pub local_no_loop : (site : Site) (p s : List Flow) (h : ℕ) → IsSite site → HasNoLoop (local_layout site p s h)
+local_no_loop site p s h is =
     let own = prefixes_of site.hosts h in
     no_loop_upward (local_layout site p s h)
-    (and_from _ _ (all_from enters (goes_up 0) (enters_up 0 (omega arith)) (entry_rules Receiving own) (entries_enter Receiving own))
-    (and_from _ _ (all_from enters (goes_up 2) (enters_up 2 (omega arith)) (entry_rules Sending own) (entries_enter Sending own))
-    (and_from _ _ (all_from decides (goes_up 3) (decides_up 3) (host_rules Receiving site p s h) (host_rules_decide Receiving site p s h))
-    (and_from _ _ (all_from decides (goes_up 4) (decides_up 4) (host_rules Sending site p s h) (host_rules_decide Sending site p s h)) refl))))
+    (and_from _ _ (all_upward 3 5 0 (omega arith) (entry_rules Receiving own) (entries_enter Receiving own))
+    (and_from _ _ (all_upward 3 5 2 (omega arith) (entry_rules Sending own) (entries_enter Sending own))
+    (and_from _ _ (all_upward 4 0 3 (omega arith) (host_rules Receiving site p s h) (host_rules_stay 4 Receiving site p s h is.services))
+    (and_from _ _ (all_upward 5 0 4 (omega arith) (host_rules Sending site p s h) (host_rules_stay 5 Sending site p s h is.services)) refl))))
 
 -- no cause is there to refuse them
 pub local_accepted : (site : Site) (p s : List Flow) (h : ℕ) → IsSite site → refusal_of (local_layout site p s h) ≡ None
@@ -163,8 +140,8 @@ local_accepted site p s h is =
     let rules : nat_lt 1000000 (rule_count (local_layout site p s h)) ≡ false = grind (arith, nat_tests, few_local_rules site p s h is) in
     rw (
       rules,
-      none_nowhere 5 enters enters_somewhere 0 (entry_rules Receiving own) (entries_enter Receiving own),
-      none_nowhere 5 enters enters_somewhere 0 (entry_rules Sending own) (entries_enter Sending own),
-      none_nowhere 5 decides (decides_somewhere 5) 0 (host_rules Receiving site p s h) (host_rules_decide Receiving site p s h),
-      none_nowhere 5 decides (decides_somewhere 5) 0 (host_rules Sending site p s h) (host_rules_decide Sending site p s h),
+      none_nowhere 3 5 5 (omega arith) (omega arith) 0 (entry_rules Receiving own) (entries_enter Receiving own),
+      none_nowhere 3 5 5 (omega arith) (omega arith) 0 (entry_rules Sending own) (entries_enter Sending own),
+      none_nowhere 3 0 5 (omega arith) (omega arith) 0 (host_rules Receiving site p s h) (host_rules_stay 3 Receiving site p s h is.services),
+      none_nowhere 3 0 5 (omega arith) (omega arith) 0 (host_rules Sending site p s h) (host_rules_stay 3 Sending site p s h is.services),
     ) refl

@@ -133,7 +133,7 @@ pub local_writable : (site : Site) (p s : List Flow) (h : ℕ) → IsSite site �
 local_writable site p s h is = record {
   table = local_table site p s h;
   accepted = local_accepted site p s h is;
-  no_loop = local_no_loop site p s h;
+  no_loop = local_no_loop site p s h is;
   addresses = local_addresses site p s h is;
   parts = local_rules_are site p s h is;
 }

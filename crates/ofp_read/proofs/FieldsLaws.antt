@@ -1,12 +1,14 @@
 -- Fields are read from left to right exactly where they are those of an entry.
 use Rattle.std.proofs.Common.{◌≡◌, ◌⊎◌, inl, inr, ℕ, List, [], ◌∷◌, ◌++◌, refl, sym, ap, subst, ◌∙◌}
-use Rattle.std.specs.Prelude.{Result, Ok, Err}
+use Rattle.std.specs.Prelude.{Option, Result, Ok, Err, unwrap_or}
 use Rattle.ofp_rules.specs.declared.entry.Action.{Action}
+use Rattle.ofp_rules.specs.declared.entry.FrameKind.{FrameKind}
+use Rattle.ofp_rules.specs.declared.entry.FrameKind.TheVariants.{Any}
 use Rattle.ofp_rules.specs.declared.entry.Entry.{Entry}
 use Rattle.ofp_read.specs.declared.fault.OfpWhy.{OfpWhy}
 use Rattle.ofp_read.specs.declared.given.Given.{Given}
 use Rattle.ofp_read.specs.inner.FieldTable.{with_field}
-use Rattle.ofp_read.specs.inner.FlowLine.{goes_on, nothing_given, with_fields, priority_of, kind_of, entry_of}
+use Rattle.ofp_read.specs.inner.FlowLine.{goes_on, nothing_given, with_fields, entry_of}
 use Rattle.ofp_read.specs.Grammar.{Part, priority, kind, source, destination, protocol, source_port, destination_port, EachSays, no_field, one_part, two_parts, IsNoneOf, AreDistinct, AreFieldsOf}
 use Rattle.ofp_read.proofs.PartLaws.{Lacks, Has, Same, OfEach, of_each, IsGiven, Gives, gives_none, gives_more, still_given, with_part, same_but, one_or_not, has_own, has_with, unsaid_own}
 use Rattle.ofp_read.proofs.FieldLaws.{IsStep, step_of_read, read_of_says, read_protocol}
@@ -104,14 +106,14 @@ all_free (p ∷ ps) = (refl, all_free ps)
 entry_is : (e : Entry) (texts : List (List ℕ)) (fields : AreFieldsOf e texts)
     → entry_of (with_parts fields.parts e nothing_given) e.action ≡ e
 entry_is e texts fields =
-    let first : priority_of (with_parts fields.parts e nothing_given).priority ≡ e.priority = elim
+    let first : unwrap_or (with_parts fields.parts e nothing_given).priority 32768 ≡ e.priority = elim
     (part_now priority e fields.parts nothing_given) [
-      | inl has ↦ ap priority_of has
-      | inr left ↦ ap priority_of (sym left.1) ∙ sym (fields.others priority left.0)
+      | inl has ↦ ap (λ (o : Option ℕ). unwrap_or o 32768) has
+      | inr left ↦ ap (λ (o : Option ℕ). unwrap_or o 32768) (sym left.1) ∙ sym (fields.others priority left.0)
     ] in
-    let second : kind_of (with_parts fields.parts e nothing_given).kind ≡ e.kind = elim (part_now kind e fields.parts nothing_given) [
-      | inl has ↦ ap kind_of has
-      | inr left ↦ ap kind_of (sym left.1) ∙ sym (fields.others kind left.0)
+    let second : unwrap_or (with_parts fields.parts e nothing_given).kind Any ≡ e.kind = elim (part_now kind e fields.parts nothing_given) [
+      | inl has ↦ ap (λ (o : Option FrameKind). unwrap_or o Any) has
+      | inr left ↦ ap (λ (o : Option FrameKind). unwrap_or o Any) (sym left.1) ∙ sym (fields.others kind left.0)
     ] in
     let src : (with_parts fields.parts e nothing_given).src ≡ e.src = elim (part_now source e fields.parts nothing_given) [
       | inl has ↦ has

@@ -1,8 +1,8 @@
 -- What a name stands for in a table of names has what every row of the table has.
 use Rattle.std.proofs.Common.{◌≡◌, ℕ, inl, inr, List, [], ◌∷◌, Some, sym, subst}
 use Rattle.std.specs.Prelude.{bytes_eq}
+use Rattle.std.specs.Map.{lookup}
 use Rattle.text_core.proofs.StepsLaws.{if_parts, bytes_same}
-use Rattle.ofp_read.specs.inner.FieldTable.{named}
 
 pub some_same : {A : Type 0} (x y : A) → Some x ≡ Some y → x ≡ y
 some_same x y h = cc
@@ -12,9 +12,9 @@ OfEachRow Is [] = Unit {0}
 OfEachRow Is (row ∷ rows) = Is row.0 row.1 × OfEachRow Is rows
 
 pub named_is : {A : Type 0} (Is : List ℕ → A → Type 0) (name : List ℕ) (rows : List (List ℕ × A)) (x : A)
-    → named name rows ≡ Some x → OfEachRow Is rows → Is name x
+    → lookup (bytes_eq name) rows ≡ Some x → OfEachRow Is rows → Is name x
 named_is Is name [] x h each = cc
-named_is {A} Is name (row ∷ rows) x h each = elim (if_parts (bytes_eq name row.0) (Some row.1) (named name rows) (Some x) h) [
+named_is {A} Is name (row ∷ rows) x h each = elim (if_parts (bytes_eq name row.0) (Some row.1) (lookup (bytes_eq name) rows) (Some x) h) [
   | inl is ↦ subst (λ (y : A). Is name y) (some_same row.1 x is.1)
       (subst (λ (n : List ℕ). Is n row.1) (sym (bytes_same name row.0 is.0)) each.0)
   | inr other ↦ named_is Is name rows x other.1 each.1

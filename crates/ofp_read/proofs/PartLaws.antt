@@ -1,14 +1,16 @@
 -- What is given of each part of an entry, and what one field more changes in it.
 use Rattle.std.proofs.Common.{◌≡◌, ◌≢◌, ◌⊎◌, inl, inr, ℕ, Bool, true, false, List, [], ◌∷◌, ◌++◌, Option, Some, None, refl, sym, ap, subst, ◌∙◌, arith}
-use Rattle.std.specs.Prelude.{◌==◌, if◌then◌else◌}
+use Rattle.std.specs.Prelude.{◌==◌, if◌then◌else◌, unwrap_or}
+use Rattle.std.proofs.lemmas.Bool.{true_from_ne_false}
 use Rattle.std.proofs.lemmas.Bool.Decides.{nat_tests}
 use Rattle.text_core.proofs.StepsLaws.{split_bool}
 use Rattle.host_net.specs.declared.prefix.Prefix.{Prefix}
 use Rattle.ofp_rules.specs.declared.entry.FrameKind.{FrameKind}
+use Rattle.ofp_rules.specs.declared.entry.FrameKind.TheVariants.{Any}
 use Rattle.ofp_rules.specs.declared.entry.Action.{Action}
 use Rattle.ofp_rules.specs.declared.entry.Entry.{Entry}
 use Rattle.ofp_read.specs.declared.given.Given.{Given}
-use Rattle.ofp_read.specs.inner.FlowLine.{nothing_given, priority_of, kind_of, entry_of}
+use Rattle.ofp_read.specs.inner.FlowLine.{nothing_given, entry_of}
 use Rattle.ofp_read.specs.Grammar.{Part, priority, table, kind, source, destination, protocol, source_port, destination_port, IsNoneOf, AreDistinct}
 use Rattle.ofp_read.proofs.PartWords.{IsUnsaid}
 
@@ -140,22 +142,14 @@ same_but p q e g apart = by_part q (λ is. apart (sym (at_own_place q) ∙ ap pa
 
 -- 4. An entry has what is given, and what nothing is given of is unsaid.
 
-given_priority : (o : Option ℕ) → (o ≡ None → ⊥) → o ≡ Some (priority_of o)
-given_priority None given = absurd (given refl)
-given_priority (Some n) given = refl
-
-given_kind : (o : Option FrameKind) → (o ≡ None → ⊥) → o ≡ Some (kind_of o)
-given_kind None given = absurd (given refl)
-given_kind (Some n) given = refl
-
-given_table : (b : Bool) → (b ≡ false → ⊥) → b ≡ true
-given_table false given = absurd (given refl)
-given_table true given = refl
+is_given_or : {A : Type 0} (o : Option A) (other : A) → (o ≡ None → ⊥) → o ≡ Some (unwrap_or o other)
+is_given_or None other given = absurd (given refl)
+is_given_or (Some x) other given = refl
 
 pub has_own : (p : Part) (g : Given) (a : Action) → (Lacks p g → ⊥) → Has p (entry_of g a) g
-has_own priority g a given = given_priority g.priority given
-has_own table g a given = given_table g.table given
-has_own kind g a given = given_kind g.kind given
+has_own priority g a given = is_given_or g.priority 32768 given
+has_own table g a given = true_from_ne_false g.table given
+has_own kind g a given = is_given_or g.kind Any given
 has_own source g a given = refl
 has_own destination g a given = refl
 has_own protocol g a given = refl
@@ -163,9 +157,9 @@ has_own source_port g a given = refl
 has_own destination_port g a given = refl
 
 pub unsaid_own : (p : Part) (g : Given) (a : Action) → Lacks p g → IsUnsaid p (entry_of g a)
-unsaid_own priority g a lacks = ap priority_of lacks
+unsaid_own priority g a lacks = ap (λ (o : Option ℕ). unwrap_or o 32768) lacks
 unsaid_own table g a lacks = tt
-unsaid_own kind g a lacks = ap kind_of lacks
+unsaid_own kind g a lacks = ap (λ (o : Option FrameKind). unwrap_or o Any) lacks
 unsaid_own source g a lacks = lacks
 unsaid_own destination g a lacks = lacks
 unsaid_own protocol g a lacks = lacks

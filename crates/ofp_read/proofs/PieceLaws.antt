@@ -24,9 +24,6 @@ use Rattle.ofp_read.proofs.LineLaws.{apart_from}
 
 -- 1. Texts of figures, dots (46) and slashes (47).
 
-digits_parts : (b : ℕ) (bs : List ℕ) → all_ascii_digits (b ∷ bs) ≡ true → (is_ascii_digit b ≡ true) × (all_ascii_digits bs ≡ true)
-digits_parts b bs digits = grind (arith, nat_tests)
-
 octet_fits : (a place : ℕ) → octet a place < 2 ^ 64
 unfolding octet
 octet_fits a place = omega arith
@@ -42,7 +39,7 @@ module _ (p : ℕ → Bool) (of_digit : (b : ℕ) → is_ascii_digit b ≡ true 
   digits_all : (bs : List ℕ) → all_ascii_digits bs ≡ true → list_all p bs ≡ true
   digits_all [] h = refl
   digits_all (b ∷ bs) h =
-      let parts = digits_parts b bs h in
+      let parts = and_parts (is_ascii_digit b) (all_ascii_digits bs) h in
       and_from (p b) (list_all p bs) (of_digit b parts.0) (digits_all bs parts.1)
 
   decimal_all : (n : ℕ) → n < 2 ^ 64 → list_all p (decimal n) ≡ true

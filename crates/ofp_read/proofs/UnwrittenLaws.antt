@@ -3,6 +3,7 @@ use Rattle.std.proofs.Common.{◌≡◌, inl, inr, ℕ, Bool, true, false, ◌||
 use Rattle.std.specs.Prelude.{Result, Ok, Err, codes, is_some, if◌then◌else◌, decimal}
 use Rattle.std.specs.Option.{ok_or}
 use Rattle.std.specs.List.{list_all, slice_split}
+use Rattle.std.proofs.lemmas.Bool.{or_parts}
 use Rattle.text_core.specs.Lines.{words, is_blank}
 use Rattle.text_core.proofs.StepsLaws.{if_parts, split_bool}
 use Rattle.ofp_rules.specs.declared.entry.FrameKind.{FrameKind}
@@ -132,18 +133,14 @@ is_none : {A : Type 0} (o : Option A) → is_some o ≡ false → o ≡ None
 is_none None h = refl
 is_none (Some x) h = cc
 
-neither : (a b : Bool) → (a || b) ≡ false → (a ≡ false) × (b ≡ false)
-neither true b h = cc
-neither false b h = (refl, h)
-
 free_key : (g : Given) (k : Key) → is_given g k ≡ false → Lack g (parts_of k)
 free_key g key.Priority h = (is_none g.priority h, tt)
 free_key g key.Table h = (h, tt)
 free_key g key.Ip h = (is_none g.kind h, tt)
 free_key g key.Arp h = (is_none g.kind h, tt)
-free_key g key.Icmp h = let both = neither (is_some g.kind) (is_some g.proto) h in (is_none g.kind both.0, (is_none g.proto both.1, tt))
-free_key g key.Tcp h = let both = neither (is_some g.kind) (is_some g.proto) h in (is_none g.kind both.0, (is_none g.proto both.1, tt))
-free_key g key.Udp h = let both = neither (is_some g.kind) (is_some g.proto) h in (is_none g.kind both.0, (is_none g.proto both.1, tt))
+free_key g key.Icmp h = let both = or_parts (is_some g.kind) (is_some g.proto) h in (is_none g.kind both.0, (is_none g.proto both.1, tt))
+free_key g key.Tcp h = let both = or_parts (is_some g.kind) (is_some g.proto) h in (is_none g.kind both.0, (is_none g.proto both.1, tt))
+free_key g key.Udp h = let both = or_parts (is_some g.kind) (is_some g.proto) h in (is_none g.kind both.0, (is_none g.proto both.1, tt))
 free_key g key.FrameType h = (is_none g.kind h, tt)
 free_key g key.Source h = (is_none g.src h, tt)
 free_key g key.Destination h = (is_none g.dst h, tt)

@@ -1,6 +1,6 @@
 -- Entries that are passed over do not match, and change nothing.
-use Rattle.std.proofs.Common.{◌≡◌, ℕ, zero, suc, ◌+◌, ◌-◌, ◌^◌, ◌≤◌, ◌<◌, ◌∙◌, inl, inr, sym, ap, refl, subst, arith, Bool, true, false, List, [], ◌∷◌, ◌++◌, Option, Some, None, length, get_or, take, slice_get}
-use Rattle.std.proofs.lemmas.Bool.{and_from, and_parts}
+use Rattle.std.proofs.Common.{◌≡◌, ℕ, zero, suc, ◌+◌, ◌-◌, ◌^◌, ◌≤◌, ◌<◌, ◌∙◌, inl, inr, sym, ap, refl, subst, arith, true, false, List, [], ◌∷◌, ◌++◌, Option, Some, None, length, get_or, take, slice_get}
+use Rattle.std.proofs.lemmas.Bool.{and_from, and_parts, false_from_ne_true}
 use Rattle.std.proofs.lemmas.List.{take_more}
 use Rattle.std.proofs.lemmas.Option.{same_Some, slice_get_within, slice_get_cases}
 use Rattle.host_net.specs.declared.cover.Covers.{Covers}
@@ -16,10 +16,6 @@ use Rattle.ofp_rules.specs.inner.Highest.{IsFound, higher}
 use Rattle.ofp_rules.proofs.HighestLaws.{found_more, skipped, with_last}
 use Rattle.ofp_rules.specs.Matching.{kind_matches, matches, number_matches, packet_matches, part_matches}
 use Rattle.ofp_rules.specs.inner.Next.{IsNext, NoneMatches, all_ends, destination_of, ends_of, kind_ends, source_of}
-
-by_test : (b : Bool) → (b ≡ true → ⊥) → b ≡ false
-by_test true fails = absurd (fails refl)
-by_test false fails = refl
 
 part_needs : (part : Option Prefix) (a : ℕ) → part_matches part a ≡ true → part_covers part a ≡ true
 part_needs None a on = refl
@@ -40,7 +36,7 @@ kind_needs OfIp e (Ipv4 packet) on =
 kind_needs OfIp e Other on = cc
 
 not_covered : (frame : Frame) (e : Entry) → covers_both (source_of frame) (destination_of frame) (ends_of e) ≡ false → matches frame e ≡ false
-not_covered frame e off = by_test (matches frame e) (λ on. let covered = kind_needs e.kind e frame on in cc)
+not_covered frame e off = false_from_ne_true (matches frame e) (λ on. let covered = kind_needs e.kind e frame on in cc)
 
 ends_at : (entries : List Entry) (i : ℕ) (e : Entry) → slice_get entries i ≡ Some e → slice_get (all_ends entries) i ≡ Some (ends_of e)
 ends_at [] i e there = cc

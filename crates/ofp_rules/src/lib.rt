@@ -8,4 +8,4 @@ mod table;
 mod text;
 
 pub use entry::{Action, Entry, Frame, FrameKind};
-pub use table::{Table, TableRefusal};
+pub use table::{ENTRY_LIMIT, Table, TableRefusal};

@@ -18,7 +18,8 @@ use host_net::{Covers, Verdict};
 use std::alloc::{AllocError, Global};
 use std::marker::Model;
 
-const ENTRY_LIMIT: usize = 8192;
+/// How many entries a table may have.
+pub const ENTRY_LIMIT: u32 = 8192;
 
 // For how many entries a new table has room.
 const FIRST_ROOM: usize = 16;
@@ -92,11 +93,9 @@ impl Table {
         ensures table { IfOk result IsTable }
         ensures refused { IfErr result (IsRefused entries.items) }
     {
-        let count = entries.len();
+        let count = entries.len() as u32;
         if count > ENTRY_LIMIT {
-            return Err(TableRefusal::TooMany {
-                count: count as u32,
-            });
+            return Err(TableRefusal::TooMany { count });
         }
         let mut table = Table::new(alloc)?;
         for entry in &entries {
@@ -113,16 +112,14 @@ impl Table {
         ensures kept { OnErr result (self.new ≡ self.old) }
         ensures table { IsTable self.new }
     {
-        let count = self.entries.len();
+        let count = self.entries.len() as u32;
         if count >= ENTRY_LIMIT {
-            return Err(TableRefusal::TooMany {
-                count: count as u32 + 1,
-            });
+            return Err(TableRefusal::TooMany { count: count + 1 });
         }
         if let Some(first) = first_against(&self.entries, &entry) {
             return Err(TableRefusal::Ambiguous {
                 first: first as u32,
-                second: count as u32,
+                second: count,
             });
         }
         self.put(entry)?;

@@ -1,6 +1,7 @@
 -- The fields of a flow line, as a table: how each is named, whether it stood already, and what its value says
 -- (ovs-ofctl(8), "Flow Syntax"; ovs-fields(7)), as the reader reads them. Callers see none of it; they have `Grammar` and `Unwritten`.
 use Rattle.std.specs.Prelude.{ℕ, Bool, true, if◌then◌else◌, List, [], ◌∷◌, ◌||◌, Option, Some, None, Result, Err, is_some, codes, bytes_eq}
+use Rattle.std.specs.Map.{lookup}
 use Rattle.std.specs.Option.{option_map, ok_or}
 use Rattle.text_core.specs.inner.Decimal.{number}
 use Rattle.text_core.specs.inner.Pieces.{split_once}
@@ -16,23 +17,19 @@ use Rattle.ofp_read.specs.declared.given.Given.{Given}
 
 -- 1. How it is named: the name ends at the first `=` (61), and some names stand without one.
 
-abbrev pub named : {A : Type 0} → List ℕ → List (List ℕ × A) → Option A
-named name [] = None
-named name (entry ∷ others) = if bytes_eq name entry.0 then Some entry.1 else named name others
-
 abbrev pub keys_with_value : List (List ℕ × Key)
 keys_with_value =
     (codes "priority", Priority) ∷ (codes "table", Table) ∷ (codes "dl_type", FrameType) ∷ (codes "nw_src", Source) ∷
     (codes "nw_dst", Destination) ∷ (codes "nw_proto", Protocol) ∷ (codes "tp_src", SourcePort) ∷ (codes "tp_dst", DestinationPort) ∷ []
 
 unfoldable pub key_with_value : List ℕ → Option Key
-key_with_value name = named name keys_with_value
+key_with_value name = lookup (bytes_eq name) keys_with_value
 
 abbrev pub keys_alone : List (List ℕ × Key)
 keys_alone = (codes "ip", Ip) ∷ (codes "arp", Arp) ∷ (codes "icmp", Icmp) ∷ (codes "tcp", Tcp) ∷ (codes "udp", Udp) ∷ []
 
 unfoldable pub key_alone : List ℕ → Option Key
-key_alone name = named name keys_alone
+key_alone name = lookup (bytes_eq name) keys_alone
 
 -- the key of a field and its value, where its first `=` cuts it
 abbrev pub key_by : List ℕ → Option (List ℕ × List ℕ) → Option (Key × List ℕ)
@@ -66,7 +63,7 @@ frame_types =
     (codes "0x0800", IpFrames) ∷ (codes "0x800", IpFrames) ∷ (codes "0x0806", ArpFrames) ∷ (codes "0x806", ArpFrames) ∷ []
 
 unfoldable pub frame_type : List ℕ → Option FrameKind
-frame_type value = named value frame_types
+frame_type value = lookup (bytes_eq value) frame_types
 
 -- there is only table 0
 abbrev pub with_table : Given → List ℕ → Option Given

@@ -1,8 +1,8 @@
 -- A flow line as the reader goes through it, from left to right: the entry that it writes, or why it writes none. Callers see none
 -- of it; they have `Grammar` and `Unwritten`.
-use Rattle.std.specs.Prelude.{ℕ, true, false, if◌then◌else◌, List, [], ◌∷◌, Option, Some, None, Result, Ok, Err, codes}
+use Rattle.std.specs.Prelude.{ℕ, true, false, if◌then◌else◌, List, [], ◌∷◌, Option, Some, None, Result, Ok, Err, codes, bytes_eq, unwrap_or}
+use Rattle.std.specs.Map.{lookup}
 use Rattle.text_core.specs.Lines.{words}
-use Rattle.ofp_rules.specs.declared.entry.FrameKind.{FrameKind}
 use Rattle.ofp_rules.specs.declared.entry.FrameKind.TheVariants.{Any}
 use Rattle.ofp_rules.specs.declared.entry.Action.{Action}
 use Rattle.ofp_rules.specs.declared.entry.Action.TheVariants.{Normal, Drop}
@@ -11,7 +11,7 @@ use Rattle.ofp_rules.specs.Matching.{asks_of_ip}
 use Rattle.ofp_read.specs.declared.fault.OfpWhy.{OfpWhy}
 use Rattle.ofp_read.specs.declared.fault.OfpWhy.TheVariants.{BadLine, NeedsIp, UnknownAction}
 use Rattle.ofp_read.specs.declared.given.Given.{Given}
-use Rattle.ofp_read.specs.inner.FieldTable.{named, with_field}
+use Rattle.ofp_read.specs.inner.FieldTable.{with_field}
 use Rattle.ofp_read.specs.inner.Cut.{cut_action}
 use Rattle.ofp_read.specs.Grammar.{fields}
 
@@ -33,24 +33,15 @@ actions = (codes "actions=NORMAL", Normal) ∷ (codes "actions=normal", Normal) 
 
 -- the action: one word, with nothing but blanks behind it
 abbrev pub action_of : List (List ℕ) → Option Action
-action_of (word ∷ []) = named word actions
+action_of (word ∷ []) = lookup (bytes_eq word) actions
 action_of _ = None
 
--- the priority of an entry, 32768 where no field gives one
-abbrev pub priority_of : Option ℕ → ℕ
-priority_of None = 32768
-priority_of (Some n) = n
-
--- the kind of an entry, any frame where no field gives one
-abbrev pub kind_of : Option FrameKind → FrameKind
-kind_of None = Any
-kind_of (Some kind) = kind
-
+-- the entry of what fields give: where none gives a priority it is 32768, and where none gives a kind it is any frame
 abbrev pub entry_of : Given → Action → Entry
 entry_of given action =
     record {
-      priority = priority_of given.priority;
-      kind = kind_of given.kind;
+      priority = unwrap_or given.priority 32768;
+      kind = unwrap_or given.kind Any;
       src = given.src;
       dst = given.dst;
       proto = given.proto;

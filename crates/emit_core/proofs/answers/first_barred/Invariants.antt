@@ -1,11 +1,11 @@
-use Rattle.std.proofs.Common.{◌≡◌, ◌⊎◌, ◌<◌, false}
-use Rattle.flow_set.specs.declared.flow.Flow.{Flow}
-use Rattle.emit_core.specs.inner.FlowTableRefusals.{lacks_answer}
+use Rattle.std.proofs.Common.{◌≡◌, ◌++◌}
+use Rattle.std.specs.Prelude.{IsTrue}
+use Rattle.emit_core.specs.FlowTableEvents.{is_covered}
+use Rattle.emit_core.proofs.SearchSteps.{HoldsOfEach}
 use Rattle.emit_core.proofs.answers.first_barred.Given as goal
 
-abbrev pub invariant-loop-from : goal.invariant-loop-from
-invariant-loop-from l = (g : Flow) → g.to < l.count → g.from < l.from → lacks_answer l.services l.p.flows l.s.flows g ≡ false
-
-abbrev pub invariant-loop-to : goal.invariant-loop-to
-invariant-loop-to l =
-    (g : Flow) → g.to < l.count → (g.from < l.from) ⊎ ((g.from ≡ l.from) × (g.to < l.to)) → lacks_answer l.services l.p.flows l.s.flows g ≡ false
+abbrev pub invariant-loop-flow : goal.invariant-loop-flow
+invariant-loop-flow l = record {
+  walk : l.yielded ++ l.flow-iterator ≡ l.stateful.flows;
+  covered : HoldsOfEach (λ g. IsTrue (is_covered l.services l.permitted.flows g)) l.yielded;
+}

@@ -12,12 +12,12 @@ build_accepted-requires-clause-accepted c =
     let hosts = c.in-Ok.ensures.policy.site.hosts in
     let few = c.if-count-gt-RULE_LIMIT.false in
     ap refusal_of (c.in-Ok.ensures.counted.kept few)
-    ∙ layout_accepted c.args.policy.now.site c.args.policy.now.permitted c.args.policy.now.stateful (omega (arith, hosts.few)) (omega (arith, few, c.in-Ok.ensures.counted.counted))
+    ∙ layout_accepted c.args.policy.now.site c.args.policy.now.permitted c.args.policy.now.stateful c.in-Ok.ensures.policy.site.services (omega (arith, hosts.few)) (omega (arith, few, c.in-Ok.ensures.counted.counted))
 
 pub build_accepted-requires-clause-no_loop : goal.build_accepted-requires-clause-no_loop
 build_accepted-requires-clause-no_loop c =
     subst HasNoLoop (sym (c.in-Ok.ensures.counted.kept c.if-count-gt-RULE_LIMIT.false))
-    (layout_no_loop c.args.policy.now.site c.args.policy.now.permitted c.args.policy.now.stateful)
+    (layout_no_loop c.args.policy.now.site c.args.policy.now.permitted c.args.policy.now.stateful c.in-Ok.ensures.policy.site.services)
 
 pub returns-in-Ok-build_accepted-clause-enforces : goal.returns-in-Ok-build_accepted-clause-enforces
 returns-in-Ok-build_accepted-clause-enforces c =

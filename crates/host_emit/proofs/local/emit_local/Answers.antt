@@ -15,7 +15,7 @@ build_accepted-requires-clause-accepted c =
 
 pub build_accepted-requires-clause-no_loop : goal.build_accepted-requires-clause-no_loop
 build_accepted-requires-clause-no_loop c =
-    subst HasNoLoop (sym c.in_ok-chains.ensures.layout) (local_no_loop c.args.policy.now.site c.args.policy.now.permitted c.args.policy.now.stateful c.args.host)
+    subst HasNoLoop (sym c.in_ok-chains.ensures.layout) (local_no_loop c.args.policy.now.site c.args.policy.now.permitted c.args.policy.now.stateful c.args.host c.in_ok-chains.ensures.policy.site)
 
 pub returns-clause-guards : goal.returns-clause-guards
 returns-clause-guards c =
