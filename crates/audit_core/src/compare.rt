@@ -3,7 +3,7 @@
 ghost use Rattle.std.specs.Prelude.{◌≡◌, ◌↔◌, ◌≤◌, IfOk, IfErr, OnOk};
 ghost use Rattle.audit_core.specs.Findings.{DifferSomewhere};
 ghost use Rattle.audit_core.specs.inner.Findings.{IsFinding, IsRefused};
-ghost use Rattle.audit_core.specs.Places.{class_count};
+ghost use Rattle.audit_core.specs.Places.{class_count, most_classes};
 ghost use Rattle.audit_core.specs.inner.RulesView.{rules_of};
 ghost use Rattle.audit_core.specs.Sides.{sides_of};
 
@@ -27,7 +27,7 @@ pub fn audit(
     ensures found { IfOk result (IsFinding (sides_of policy.now.site policy.now.permitted policy.now.stateful (rules_of text.now))) }
     ensures exact { IfOk result (λ finding. (finding ≡ Finding.Equal) ↔
         (DifferSomewhere (sides_of policy.now.site policy.now.permitted policy.now.stateful (rules_of text.now)) → ⊥)) }
-    ensures few { OnOk result (class_count (sides_of policy.now.site policy.now.permitted policy.now.stateful (rules_of text.now)) ≤ 4000000) }
+    ensures few { OnOk result (class_count (sides_of policy.now.site policy.now.permitted policy.now.stateful (rules_of text.now)) ≤ most_classes) }
     ensures refused { IfErr result (IsRefused (class_count (sides_of policy.now.site policy.now.permitted policy.now.stateful (rules_of text.now)))) }
 {
     let named = named_between(alloc, policy, text)?;
