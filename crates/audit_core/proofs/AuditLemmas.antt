@@ -18,12 +18,12 @@ use Rattle.audit_core.specs.inner.Places.{AreLeasts}
 use Rattle.audit_core.proofs.LeastProtocols.{protocols_rise, some_protocol}
 use Rattle.audit_core.specs.Rules.{filter_of}
 use Rattle.audit_core.specs.inner.Rules.{GivesOne}
-use Rattle.audit_core.specs.inner.Searching.{ArePacketsAll, IsSearched}
+use Rattle.audit_core.specs.inner.Searching.{ArePacketsAll, IsFoundAmong, IsSearched}
 use Rattle.audit_core.specs.Sides.{Sides}
 use Rattle.audit_core.specs.inner.Thinning.{AreThinned}
 use Rattle.audit_core.specs.inner.Treatment.{AreMerged}
-use Rattle.audit_core.proofs.MergedLemmas.{merged_classes, merged_leasts, merged_represent}
-use Rattle.audit_core.proofs.StandingLemmas.{kept_classes, kept_leasts, kept_represent}
+use Rattle.audit_core.proofs.MergedLemmas.{merged_classes, merged_represent}
+use Rattle.audit_core.proofs.StandingLemmas.{kept_classes, kept_represent}
 use Rattle.flow_set.specs.FlowSet.{IsSubset}
 
 leasts_are : (sides : Sides) → AreLeasts (leasts_of (cuts_between sides))
@@ -64,25 +64,19 @@ module _ (sides : Sides) {named found : Found} {leasts : Leasts} (are : IsNamedB
   unfolding class_count
   count_is counted = counted ∙ ap class_total between
 
-  pub thinned_ascend : {thinned : Leasts} → AreThinned found leasts thinned → AreLeasts thinned
-  thinned_ascend {thinned} thin = kept_leasts found leasts thinned thin ascend
-
-  pub kept_ascend : {built : Sides} {thinned kept : Leasts} → AreThinned found leasts thinned → AreMerged built thinned kept → AreLeasts kept
-  kept_ascend {built} {thinned} {kept} thin merged = merged_leasts built thinned kept merged (thinned_ascend thin)
-
-  -- what is found in the kept classes
-  pub found_by_kept : {built : Sides} {thinned kept : Leasts} (finding : Finding) → built ≡ sides → AreThinned found leasts thinned → AreMerged built thinned kept
-      → GivesOne (filter_of sides.rules) → IsSubset sides.stateful sides.permitted → ArePacketsAll leasts → IsSearched built kept finding → IsFinding sides finding
-  found_by_kept {built} {thinned} {kept} finding is thin merging gives subset packets searched =
-      let merged = subst (λ (s : Sides). AreMerged s thinned kept) is merging in
-      let thinned_all : AreThinned named (leasts_of (cuts_between sides)) thinned =
-      subst (λ (l : Leasts). AreThinned named l thinned) between (thinned_same named found leasts thinned same thin) in
-      found_by_search sides kept finding
+  -- what is found by them
+  pub found_by_named : {built : Sides} (finding : Finding) → built ≡ sides → GivesOne (filter_of sides.rules) → IsSubset sides.stateful sides.permitted
+      → ArePacketsAll leasts → IsFoundAmong built found leasts finding → IsFinding sides finding
+  found_by_named finding is gives subset packets among =
+      let merged = subst (λ (s : Sides). AreMerged s among.thinned among.kept) is among.merged in
+      let thinned : AreThinned named (leasts_of (cuts_between sides)) among.thinned =
+      subst (λ (l : Leasts). AreThinned named l among.thinned) between (thinned_same named found leasts among.thinned same among.stands) in
+      found_by_search sides among.kept finding
       (record {
         gives = gives;
         subset = subset;
         packets = subst ArePacketsAll between packets;
-        some = λ q there. kept_classes named (leasts_of (cuts_between sides)) thinned thinned_all q (merged_classes sides thinned kept merged q there);
-        represent = merged_represent sides thinned kept gives merged (kept_represent sides named thinned are thinned_all);
+        some = λ q there. kept_classes named (leasts_of (cuts_between sides)) among.thinned thinned q (merged_classes sides among.thinned among.kept merged q there);
+        represent = merged_represent sides among.thinned among.kept gives merged (kept_represent sides named among.thinned are thinned);
       })
-      (subst (λ (s : Sides). IsSearched s kept finding) is searched)
+      (subst (λ (s : Sides). IsSearched s among.kept finding) is among.searched)
