@@ -1,5 +1,5 @@
 -- Whether something is named once or more often makes no difference.
-use Rattle.std.proofs.Common.{◌≡◌, ◌⊎◌, inl, inr, ℕ, nat_eq, true, List, [], ◌∷◌, ◌++◌, refl, sym, subst}
+use Rattle.std.proofs.Common.{◌≡◌, inl, inr, ℕ, nat_eq, true, List, [], ◌∷◌, refl, sym, subst}
 use Rattle.std.specs.List.{AllByRecursion, Contains, dedup, flat_map}
 use Rattle.std.specs.List.Sorted.{IsPermutation}
 use Rattle.std.proofs.lemmas.List.Filters.{dedup_is}
@@ -11,7 +11,7 @@ use Rattle.std.proofs.lemmas.Cmp.{and_equiv, on_equiv}
 use Rattle.std.specs.List.Retain.{DiffersFromLast, IsFiltered}
 use Rattle.std.proofs.lemmas.Bool.{and_parts}
 use Rattle.std.proofs.lemmas.Bool.Decides.{Decides-eqb}
-use Rattle.std.proofs.lemmas.List.Elements.{Contains-append_left, Contains-append_right}
+use Rattle.std.proofs.lemmas.List.Elements.{Contains-append_cases, Contains-append_left, Contains-append_right}
 use Rattle.audit_core.specs.declared.named.Found.{Found}
 use Rattle.audit_core.specs.Classes.{in_order, protocol_leasts}
 use Rattle.audit_core.specs.inner.Named.{HaveSame, NameSame}
@@ -23,17 +23,10 @@ use Rattle.audit_core.proofs.LeastProtocols.{protocol_leasts_same}
 
 -- 1. Elements of lists that are joined.
 
-append_cases : {X : Type 0} (xs ys : List X) (d : X) → Contains (xs ++ ys) d → Contains xs d ⊎ Contains ys d
-append_cases [] ys d there = inr there
-append_cases (x ∷ xs) ys d there = elim (contains_cases x (xs ++ ys) d there) [
-  | inl is ↦ inl (contains_first x xs d is)
-  | inr later ↦ elim (append_cases xs ys d later) [ inl front ↦ inl (contains_later x xs d front) | inr back ↦ inr back ]
-]
-
 -- what stands in the lists of elements stands in the list of one of them
 pick : {X Y : Type 0} (f : X → List Y) (xs : List X) (d : Y) → Contains (flat_map f xs) d → (x : X) × Contains xs x × Contains (f x) d
 pick f [] d there = absurd (contains_none d there)
-pick f (x ∷ xs) d there = elim (append_cases (f x) (flat_map f xs) d there) [
+pick f (x ∷ xs) d there = elim (Contains-append_cases (f x) (flat_map f xs) d there) [
   | inl here ↦ (x, contains_first x xs x refl, here)
   | inr later ↦ let one = pick f xs d later in (one.0, contains_later x xs one.0 one.1, one.2)
 ]

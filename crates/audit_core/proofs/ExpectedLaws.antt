@@ -15,8 +15,8 @@ use Rattle.audit_core.specs.inner.Findings.{IsFinding}
 use Rattle.audit_core.specs.laws.ListLaws.{agree_not_differ}
 use Rattle.audit_core.specs.Rules.{filter_of}
 use Rattle.audit_core.specs.inner.Rules.{GivesOne}
-use Rattle.audit_core.specs.Sides.{Sides, lets_answer, permits}
-use Rattle.audit_core.specs.inner.Sides.{AgreeAlways, AreAsExpected}
+use Rattle.audit_core.specs.Sides.{ForwardAlike, Sides, lets_answer, permits}
+use Rattle.audit_core.specs.inner.Sides.{AgreeAlways}
 
 -- from each state of its connections a filter that answers every packet has a run over packets
 some_run : (filter : Filter) → GivesOne filter → (kept : Kept) (events : List Event) → ArePackets events
@@ -31,11 +31,11 @@ some_run filter gives kept (Forget p ∷ events) packets =
     (None ∷ rest.0, rest.1)
 
 -- what forwards as expected agrees on every list of events
-pub agree_where_expected : (sides : Sides) → AreAsExpected sides → AgreeAlways sides
+pub agree_where_expected : (sides : Sides) → ForwardAlike sides → AgreeAlways sides
 agree_where_expected sides are events packets answers run = are.expected events answers packets run
 
 -- what agrees on every list of events forwards as expected, since it has one run over each
-pub expected_where_agree : (sides : Sides) → GivesOne (filter_of sides.rules) → AgreeAlways sides → AreAsExpected sides
+pub expected_where_agree : (sides : Sides) → GivesOne (filter_of sides.rules) → AgreeAlways sides → ForwardAlike sides
 expected_where_agree sides gives agree = record {
   expected = λ events answers packets run. agree events packets answers run;
   some = λ events packets. some_run (filter_of sides.rules) gives nothing_kept events packets;
@@ -44,10 +44,10 @@ expected_where_agree sides gives agree = record {
 }
 
 -- rules that forward what is expected differ from the policy on no list of events
-pub no_difference_where_expected : (sides : Sides) → AreAsExpected sides → DifferSomewhere sides → ⊥
+pub no_difference_where_expected : (sides : Sides) → ForwardAlike sides → DifferSomewhere sides → ⊥
 no_difference_where_expected sides are differ =
     agree_not_differ (filter_of sides.rules) (permits sides) (lets_answer sides) differ.0 (agree_where_expected sides are differ.0 differ.1) differ.2
 
 -- and whatever an audit finds of them is that they are equal
-pub equal_where_expected : (sides : Sides) (finding : Finding) → AreAsExpected sides → IsFinding sides finding → finding ≡ Equal
+pub equal_where_expected : (sides : Sides) (finding : Finding) → ForwardAlike sides → IsFinding sides finding → finding ≡ Equal
 equal_where_expected sides finding are found = (equal_exactly sides finding found).1 (no_difference_where_expected sides are)

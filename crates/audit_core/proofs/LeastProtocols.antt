@@ -6,7 +6,7 @@ use Rattle.std.proofs.lemmas.Bool.{cases_lt, or_cases, or_left, or_right}
 use Rattle.std.proofs.lemmas.Bool.Decides.{Decides-eqb}
 use Rattle.audit_core.specs.Classes.{named_and_first, protocol_leasts}
 use Rattle.audit_core.specs.inner.Classes.{Rises}
-use Rattle.audit_core.proofs.OrderLemmas.{contains_cases, contains_first, contains_later, contains_none}
+use Rattle.audit_core.proofs.OrderLemmas.{contains_cases, contains_first, contains_later, contains_none, contains_some}
 
 has_any : (named : List ℕ) (n : ℕ) → Contains named n → list_any (λ x. x == n) named ≡ true
 has_any [] n there = absurd (contains_none n there)
@@ -75,10 +75,7 @@ unfolding protocol_leasts
 protocol_there named c fits least = has_least named 256 0 false c (omega arith) (omega arith) (elim least [ inl there ↦ inl there | inr first ↦ inr (refl, first) ])
 
 pub some_protocol : (named : List ℕ) → 0 < length (protocol_leasts named)
-some_protocol named = longer (protocol_leasts named) 0 (protocol_there named 0 (omega arith) (inr (λ d h. absurd (omega arith))))
-  where
-    longer : (xs : List ℕ) (c : ℕ) → Contains xs c → 0 < length xs
-    longer xs c there = let within = there.1 in omega arith
+some_protocol named = contains_some (protocol_leasts named) 0 (protocol_there named 0 (omega arith) (inr (λ d h. absurd (omega arith))))
 
 pub protocols_rise : (named : List ℕ) → Rises (protocol_leasts named)
 unfolding protocol_leasts

@@ -1,5 +1,5 @@
 -- What is left of rules behind a place.
-use Rattle.std.proofs.Common.{◌≡◌, inl, inr, ℕ, zero, suc, ◌+◌, ◌<◌, ◌≤◌, Bool, true, false, List, [], ◌∷◌, Some, None, length, get_or, drop, slice_get, refl, sym, ap, subst, ◌∙◌, arith}
+use Rattle.std.proofs.Common.{◌≡◌, inl, inr, ℕ, zero, suc, ◌+◌, ◌<◌, ◌≤◌, Bool, true, List, [], ◌∷◌, Some, length, get_or, drop, slice_get, refl, sym, ap, subst, ◌∙◌, arith}
 use Rattle.std.specs.Prelude.{if◌then◌else◌}
 use Rattle.std.proofs.lemmas.Bool.{cases_lt}
 use Rattle.std.proofs.lemmas.Option.{slice_get_read}
@@ -19,36 +19,15 @@ drop_at (x ∷ rs) (suc k) r at =
     let next : suc (k + 1) ≡ suc k + 1 = omega arith in
     drop_at rs k r at ∙ ap (λ (n : ℕ). r ∷ drop n (x ∷ rs)) next
 
--- behind the last there is none
-pub drop_all : (rs : List Rule) (k : ℕ) → length rs ≤ k → drop k rs ≡ []
-drop_all [] zero h = refl
-drop_all [] (suc k) h = refl
-drop_all (x ∷ rs) zero h = absurd (omega arith)
-drop_all (x ∷ rs) (suc k) h = drop_all rs k (omega arith)
-
-module _ (end : End) (a : ℕ) (rs : List Rule) (k : ℕ) (r : Rule) (at : slice_get rs k ≡ Some r) where
-  -- a rule that does not fit is not left, and one that fits is
-  pub left_past : address_matches (part_at end r) a ≡ false → left_of end a (drop k rs) ≡ left_of end a (drop (k + 1) rs)
-  left_past past =
-      ap (left_of end a) (drop_at rs k r at)
-      ∙ ap (λ (b : Bool). if b then without_part end r ∷ left_of end a (drop (k + 1) rs) else left_of end a (drop (k + 1) rs)) past
-
-  pub left_with : address_matches (part_at end r) a ≡ true → left_of end a (drop k rs) ≡ without_part end r ∷ left_of end a (drop (k + 1) rs)
-  left_with there =
-      ap (left_of end a) (drop_at rs k r at)
-      ∙ ap (λ (b : Bool). if b then without_part end r ∷ left_of end a (drop (k + 1) rs) else left_of end a (drop (k + 1) rs)) there
-
--- a rule that fits both addresses or neither leaves the same before what is left behind it
-pub same_before : (end : End) (a b : ℕ) (rs : List Rule) (k : ℕ) (r : Rule) → slice_get rs k ≡ Some r
-    → address_matches (part_at end r) a ≡ address_matches (part_at end r) b
-    → left_of end a (drop (k + 1) rs) ≡ left_of end b (drop (k + 1) rs) → left_of end a (drop k rs) ≡ left_of end b (drop k rs)
-same_before end a b rs k r at both same =
+-- a rule that fits is left
+left_with : (end : End) (a : ℕ) (rs : List Rule) (k : ℕ) (r : Rule) → slice_get rs k ≡ Some r → address_matches (part_at end r) a ≡ true
+    → left_of end a (drop k rs) ≡ without_part end r ∷ left_of end a (drop (k + 1) rs)
+left_with end a rs k r at there =
     ap (left_of end a) (drop_at rs k r at)
-    ∙ (λ i. if both i then without_part end r ∷ same i else same i)
-    ∙ ap (left_of end b) (sym (drop_at rs k r at))
+    ∙ ap (λ (b : Bool). if b then without_part end r ∷ left_of end a (drop (k + 1) rs) else left_of end a (drop (k + 1) rs)) there
 
 -- two rules that leave the same, each of which fits its address
-pub same_with : (end : End) (a b : ℕ) (rs : List Rule) (i j : ℕ) (r s : Rule) → slice_get rs i ≡ Some r → slice_get rs j ≡ Some s
+same_with : (end : End) (a b : ℕ) (rs : List Rule) (i j : ℕ) (r s : Rule) → slice_get rs i ≡ Some r → slice_get rs j ≡ Some s
     → address_matches (part_at end r) a ≡ true → address_matches (part_at end s) b ≡ true → without_part end r ≡ without_part end s
     → left_of end a (drop (i + 1) rs) ≡ left_of end b (drop (j + 1) rs) → left_of end a (drop i rs) ≡ left_of end b (drop j rs)
 same_with end a b rs i j r s at bt there other rest same =

@@ -3,6 +3,7 @@ pub mod AuditLemmas
 pub mod ClassLemmas
 pub mod DistinctLemmas
 pub mod ExpectedLaws
+pub mod FindingOnceLaws
 pub mod JudgingLemmas
 pub mod LeastProtocols
 pub mod LeastsLemmas

@@ -2,7 +2,7 @@
 use Rattle.std.proofs.Common.{◌≡◌, ◌⊎◌, inl, inr, ℕ, zero, suc, ◌+◌, ◌<◌, List, [], ◌∷◌, ◌++◌, length, get_or, take, refl, sym, subst, arith, length-append}
 use Rattle.std.specs.List.{Contains}
 use Rattle.std.proofs.lemmas.List.{get_or_default}
-use Rattle.std.proofs.lemmas.List.Elements.{Contains-append_left, Contains-append_right}
+use Rattle.std.proofs.lemmas.List.Elements.{Contains-append_cases, Contains-append_left, Contains-append_right}
 use Rattle.audit_core.specs.declared.named.AddressRange.{AddressRange}
 use Rattle.audit_core.specs.declared.named.PortRange.{PortRange}
 use Rattle.audit_core.specs.declared.likeness.Likeness.{Likeness}
@@ -22,27 +22,19 @@ pub same_ports_itself : (ranges : List PortRange) (n : ℕ) → SamePorts ranges
 same_ports_itself [] n = tt
 same_ports_itself (r ∷ rs) n = (refl, same_ports_itself rs n)
 
-pub nothing_kept : (Same : ℕ → ℕ → Type 0) → IsThinned Same [] []
-nothing_kept Same = record {
-  rises = tt;
-  short = omega arith;
-  some = λ y there. there;
-  each = λ x there. absurd (contains_none x there);
-}
+-- what stands in a list with one more stands in the list, or is it
+last_cases : (xs : List ℕ) (x y : ℕ) → Contains (xs ++ x ∷ []) y → Contains xs y ⊎ (x ≡ y)
+last_cases xs x y there = elim (Contains-append_cases xs (x ∷ []) y there) [
+  | inl old ↦ inl old
+  | inr last ↦ elim (contains_cases x [] y last) [ inl is ↦ inr is | inr later ↦ absurd (contains_none y later) ]
+]
 
 rises_push : (xs : List ℕ) (x : ℕ) → Rises xs → ((y : ℕ) → Contains xs y → y < x) → Rises (xs ++ x ∷ [])
 rises_push [] x up below = ((λ y there. absurd (contains_none y there)), tt)
 rises_push (z ∷ zs) x up below = (
-  (λ y there. elim (append_cases zs x y there) [ inl old ↦ up.0 y old | inr is ↦ let first = below z (contains_first z zs z refl) in omega (arith, is) ]),
+  (λ y there. elim (last_cases zs x y there) [ inl old ↦ up.0 y old | inr is ↦ let first = below z (contains_first z zs z refl) in omega (arith, is) ]),
   rises_push zs x up.1 (λ y there. below y (contains_later z zs y there)),
 )
-  where
-    append_cases : (xs : List ℕ) (x y : ℕ) → Contains (xs ++ x ∷ []) y → Contains xs y ⊎ (x ≡ y)
-    append_cases [] x y there = elim (contains_cases x [] y there) [ inl is ↦ inr is | inr later ↦ absurd (contains_none y later) ]
-    append_cases (w ∷ ws) x y there = elim (contains_cases w (ws ++ x ∷ []) y there) [
-      | inl is ↦ inl (contains_first w ws y is)
-      | inr later ↦ elim (append_cases ws x y later) [ inl old ↦ inl (contains_later w ws y old) | inr is ↦ inr is ]
-    ]
 
 -- in an ascending list the numbers so far are below the next
 below_next : (xs : List ℕ) (i x : ℕ) → Rises xs → i < length xs → x ≡ get_or xs i x → (y : ℕ) → Contains (take i xs) y → y < x
@@ -55,13 +47,6 @@ below_next (z ∷ zs) (suc i) x up within at y there = elim (contains_cases z (t
 
 long_push : (xs : List ℕ) (x : ℕ) → length (xs ++ x ∷ []) ≡ length xs + 1
 long_push xs x = length-append xs (x ∷ [])
-
-last_cases : (xs : List ℕ) (x y : ℕ) → Contains (xs ++ x ∷ []) y → Contains xs y ⊎ (x ≡ y)
-last_cases [] x y there = elim (contains_cases x [] y there) [ inl is ↦ inr is | inr later ↦ absurd (contains_none y later) ]
-last_cases (w ∷ ws) x y there = elim (contains_cases w (ws ++ x ∷ []) y there) [
-  | inl is ↦ inl (contains_first w ws y is)
-  | inr later ↦ elim (last_cases ws x y later) [ inl old ↦ inl (contains_later w ws y old) | inr is ↦ inr is ]
-]
 
 module _ (Same : ℕ → ℕ → Type 0) (numbers : List ℕ) (i x : ℕ) (kept : List ℕ) (up : Rises numbers) (within : i < length numbers)
     (at : x ≡ get_or numbers i x) (before : IsThinned Same (take i numbers) kept) where

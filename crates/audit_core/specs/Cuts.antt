@@ -1,4 +1,4 @@
--- Where classes are cut, and packets that no cut parts. Between two neighbouring cuts stands an elementary interval, of which each range
+-- Where classes are cut. Between two neighbouring cuts stands an elementary interval, of which each range
 -- that is named has all numbers or none (M. de Berg et al., Computational Geometry, "Segment Trees").
 use Rattle.std.specs.Prelude.{ℕ, ◌^◌, List, [], ◌∷◌, ◌++◌}
 use Rattle.std.specs.List.{flat_map}

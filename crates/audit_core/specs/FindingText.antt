@@ -1,4 +1,4 @@
--- The printed findings of an audit (docs/TEXTS.md, audits). The line of a packet is that of an event.
+-- The printed difference of an audit, and the line of too many classes (docs/TEXTS.md, audits). The line of a packet is that of an event.
 use Rattle.std.specs.Prelude.{ℕ, Bool, true, false, List, [], ◌++◌, Option, Some, None, codes, decimal}
 use Rattle.host_net.specs.declared.packet.Packet.{Packet}
 use Rattle.host_net.specs.Prefix.{address_text}

@@ -1,4 +1,4 @@
--- What an audit finds: that rules do what a policy says, or the first short list on which they do not.
+-- What an audit tells where rules do not do what a policy says: the first short list on which they do not, in the order of kinds and of classes.
 use Rattle.std.specs.Prelude.{◌≡◌, ℕ, ◌<◌, Bool, List, [], ◌∷◌, Option, Some, None}
 use Rattle.host_net.specs.declared.packet.Packet.{Packet}
 use Rattle.host_net.specs.Packet.{IsPacket, swap_of}

@@ -1,4 +1,4 @@
--- The packets of all classes, each at its place.
+-- The packets of all classes, in their order, and how many there are.
 use Rattle.std.specs.Prelude.{◌≡◌, ◌⊎◌, ℕ, ◌*◌, ◌<◌, List, length}
 use Rattle.std.specs.List.{Contains}
 use Rattle.host_net.specs.declared.packet.Packet.{Packet}
@@ -39,3 +39,7 @@ leasts_of cuts = record { addresses = in_order cuts.addresses; protocols = proto
 -- how many classes of packets there are
 unfoldable pub class_count : Sides → ℕ
 class_count sides = class_total (leasts_of (cuts_between sides))
+
+-- how many an audit compares at most
+abbrev pub most_classes : ℕ
+most_classes = 4000000

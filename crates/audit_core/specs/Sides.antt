@@ -1,9 +1,10 @@
--- The two sides that are compared, and what it is that they agree or differ.
+-- The two sides that are compared, and what it is that they agree, differ or forward alike.
 use Rattle.std.specs.Prelude.{Bool, List}
 use Rattle.host_net.specs.declared.packet.Packet.{Packet}
 use Rattle.host_net.specs.Site.{Site}
 use Rattle.flow_set.specs.declared.flow.Flow.{Flow}
 use Rattle.pkt_core.specs.declared.event.Event.{Event}
+use Rattle.pkt_core.specs.Filter.{ForwardsExpected}
 use Rattle.pkt_core.specs.FlowPolicy.{is_of}
 use Rattle.audit_core.specs.Agreement.{AgreeOn, DifferOn}
 use Rattle.audit_core.specs.Lists.{DifferBehind}
@@ -36,3 +37,7 @@ Differ sides = DifferOn (filter_of sides.rules) (permits sides) (lets_answer sid
 -- they differ on one packet more: behind these events it passes, or not, and is not or is expected to
 abbrev pub DifferThen : Sides → List Event → Packet → Bool → Type 0
 DifferThen sides = DifferBehind (filter_of sides.rules) (permits sides) (lets_answer sides)
+
+-- Over every list of packets and forgettings, beginning with no connections, the rules forward exactly what the policy and its answers expect.
+abbrev pub ForwardAlike : Sides → Type 0
+ForwardAlike sides = ForwardsExpected (filter_of sides.rules) sides.site sides.permitted sides.stateful

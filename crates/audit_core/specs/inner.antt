@@ -1,7 +1,6 @@
 pub mod Agreement
 pub mod Classes
 pub mod Cuts
-pub mod FindingOnce
 pub mod FindingText
 pub mod Findings
 pub mod Judging

@@ -3,17 +3,19 @@
 ghost use Rattle.std.specs.Prelude.{◌≡◌, ◌↔◌, ◌≤◌, IfOk, IfErr, OnOk};
 ghost use Rattle.audit_core.specs.Findings.{DifferSomewhere};
 ghost use Rattle.audit_core.specs.inner.Findings.{IsFinding, IsRefused};
-ghost use Rattle.audit_core.specs.Places.{class_count};
+ghost use Rattle.audit_core.specs.Places.{class_count, class_total, most_classes};
+ghost use Rattle.audit_core.specs.inner.Places.{AreLeasts};
 ghost use Rattle.audit_core.specs.inner.RulesView.{rules_of};
+ghost use Rattle.audit_core.specs.inner.Searching.{IsFoundAmong};
 ghost use Rattle.audit_core.specs.Sides.{sides_of};
 
 use crate::finding::{AuditRefusal, Finding};
 use crate::leasts::Leasts;
-use crate::named::named_between;
+use crate::named::{Found, named_between};
 use crate::sides::Sides;
 use crate::text::Text;
 use pkt_core::FlowPolicy;
-use std::alloc::Global;
+use std::alloc::{AllocError, Global};
 
 const MOST_CLASSES: u128 = 4_000_000;
 
@@ -27,7 +29,7 @@ pub fn audit(
     ensures found { IfOk result (IsFinding (sides_of policy.now.site policy.now.permitted policy.now.stateful (rules_of text.now))) }
     ensures exact { IfOk result (λ finding. (finding ≡ Finding.Equal) ↔
         (DifferSomewhere (sides_of policy.now.site policy.now.permitted policy.now.stateful (rules_of text.now)) → ⊥)) }
-    ensures few { OnOk result (class_count (sides_of policy.now.site policy.now.permitted policy.now.stateful (rules_of text.now)) ≤ 4000000) }
+    ensures few { OnOk result (class_count (sides_of policy.now.site policy.now.permitted policy.now.stateful (rules_of text.now)) ≤ most_classes) }
     ensures refused { IfErr result (IsRefused (class_count (sides_of policy.now.site policy.now.permitted policy.now.stateful (rules_of text.now)))) }
 {
     let named = named_between(alloc, policy, text)?;
@@ -37,8 +39,21 @@ pub fn audit(
     if count > MOST_CLASSES {
         return Err(AuditRefusal::TooManyClasses { count });
     }
-    let sides = Sides::new(policy, *text);
-    let thinned = leasts.thinned(alloc, &found)?;
+    Ok(find_among(alloc, &Sides::new(policy, *text), &found, &leasts)?)
+}
+
+/// What is found among the classes that stand for all.
+fn find_among(
+    alloc: Global,
+    sides: &Sides<'_>,
+    named: &Found,
+    leasts: &Leasts,
+) -> Result<Finding, AllocError>
+    requires leasts { AreLeasts leasts.now }
+    requires few { class_total leasts.now ≤ most_classes }
+    ensures { IfOk result (IsFoundAmong sides.now named.now leasts.now) }
+{
+    let thinned = leasts.thinned(alloc, named)?;
     let kept = sides.merged(alloc, &thinned)?;
     let owners = sides.owners(alloc, &kept.addresses)?;
     Ok(sides.find(&kept, &owners, kept.total() as usize))

@@ -17,8 +17,8 @@ ghost use Rattle.audit_core.specs.inner.Findings.{IsFinding};
 ghost use Rattle.audit_core.specs.Places.{IsClassPacket, leasts_of};
 ghost use Rattle.audit_core.specs.Rules.{Entries, filter_of};
 ghost use Rattle.audit_core.specs.inner.Rules.{GivesOne};
-ghost use Rattle.audit_core.specs.Sides.{Agree, Sides, lets_answer, permits};
-ghost use Rattle.audit_core.specs.inner.Sides.{AgreeAlways, AgreeShortly, AreAsExpected};
+ghost use Rattle.audit_core.specs.Sides.{Agree, ForwardAlike, Sides, lets_answer, permits};
+ghost use Rattle.audit_core.specs.inner.Sides.{AgreeAlways, AgreeShortly};
 
 /// Rules that agree with a policy on the three short lists at each packet agree with it on every
 /// list of events. At a flow table, which knows no states, the first two suffice.
@@ -50,6 +50,6 @@ pub fn classes_are_uniform()
 /// Whatever is found of rules that forward what is expected of a policy, it is that they are equal;
 /// and rules that are found equal forward what is expected.
 pub fn equal_is_expected()
-    ensures equal { (sides : Sides) (finding : Finding) → AreAsExpected sides → IsFinding sides finding → finding ≡ Equal }
-    ensures expected { (sides : Sides) → GivesOne (filter_of sides.rules) → IsFinding sides Equal → AreAsExpected sides }
+    ensures equal { (sides : Sides) (finding : Finding) → ForwardAlike sides → IsFinding sides finding → finding ≡ Equal }
+    ensures expected { (sides : Sides) → GivesOne (filter_of sides.rules) → IsFinding sides Equal → ForwardAlike sides }
 {}

@@ -1,20 +1,18 @@
 -- What an audit gives is one, its three ends are apart, and rules that were written for a network audit as equal to it.
-use Rattle.std.proofs.Common.{◌≡◌, ◌↔◌, inl, inr, ℕ, zero, suc, List, [], ◌∷◌, ◌++◌, Option, Some, None, Bool, true, refl, sym, subst, ◌∙◌, ap, arith}
+use Rattle.std.proofs.Common.{◌≡◌, ◌↔◌, inl, inr, List, [], ◌∷◌, ◌++◌, ℕ, Bool, true, refl, sym, subst, ◌∙◌, ap, arith}
 use Rattle.audit_core.specs.laws.FindingLaws.{trace_packets}
-use Rattle.audit_core.specs.inner.FindingOnce.{finding_once}
+use Rattle.audit_core.proofs.ExpectedLaws.{expected_where_agree, no_difference_where_expected}
+use Rattle.audit_core.proofs.FindingOnceLaws.{finding_once}
 use Rattle.audit_core.specs.Cuts.{cuts_between}
 use Rattle.audit_core.specs.Findings.{DifferSomewhere, IsFirstTrace, events_of, trace_of}
-use Rattle.audit_core.specs.inner.Findings.{IsFinding, IsRefused}
-use Rattle.audit_core.specs.FindingText.{classes_line, trace_text}
+use Rattle.audit_core.specs.inner.Findings.{IsFinding}
+use Rattle.audit_core.specs.FindingText.{trace_text}
 use Rattle.audit_core.specs.inner.FindingText.{finding_text}
-use Rattle.audit_core.specs.laws.ListLaws.{agree_not_differ}
 use Rattle.audit_core.specs.Lists.{front_of}
-use Rattle.audit_core.specs.Places.{class_count, leasts_of}
+use Rattle.audit_core.specs.Places.{leasts_of}
 use Rattle.audit_core.specs.Rules.{Rules, filter_of}
 use Rattle.audit_core.specs.inner.Rules.{GivesOne}
-use Rattle.audit_core.specs.Sides.{Sides, lets_answer, permits, sides_of}
-use Rattle.audit_core.specs.inner.Sides.{AgreeAlways}
-use Rattle.audit_core.specs.declared.finding.AuditRefusal.TheVariants.{TooManyClasses}
+use Rattle.audit_core.specs.Sides.{ForwardAlike, Sides, sides_of}
 use Rattle.audit_core.specs.declared.finding.Finding.{Finding}
 use Rattle.audit_core.specs.declared.finding.Finding.TheVariants.{Equal, Differ as Differing}
 use Rattle.audit_core.specs.declared.finding.Trace.{Trace}
@@ -24,53 +22,22 @@ use Rattle.host_net.specs.declared.packet.Packet.{Packet}
 use Rattle.net_core.specs.inner.Fitting.{IsNetwork}
 use Rattle.net_core.specs.Network.{Network, site_of}
 use Rattle.net_core.specs.Policies.{IsPolicyOf, Policy}
-use Rattle.pkt_core.specs.declared.event.Event.{Event}
-use Rattle.pkt_core.specs.declared.event.Event.TheVariants.{Forget, Seen}
-use Rattle.pkt_core.proofs.ExpectedLaws.{expected_once}
+use Rattle.pkt_core.specs.declared.event.Event.TheVariants.{Seen}
 use Rattle.pkt_core.specs.Filter.{ArePackets, ForwardsExpected}
 use Rattle.pkt_core.specs.Firewall.{Filter}
-use Rattle.pkt_core.specs.Tracking.{Kept, Runs, after_forget, after_seen, nothing_kept, state_of}
-use Rattle.topos_top.specs.Audit.{FewClasses, ForwardAlike, HasManyClasses, OfSides, TellsDifference, audit_job, rules_in}
+use Rattle.topos_top.specs.Audit.{FewClasses, HasManyClasses, OfSides, TellsDifference, audit_job, rules_in}
 use Rattle.topos_top.specs.Dialects.{language_of}
 use Rattle.topos_top.specs.Job.{Answers}
-use Rattle.topos_top.specs.Reply.{Reply, error}
+use Rattle.topos_top.specs.Reply.{Reply}
 use Rattle.topos_top.specs.inner.JobReplies.{finding_reply}
 use Rattle.topos_top.specs.inner.Views.{reply_on}
 use Rattle.topos_top.specs.Rules.{IsRules, OfPolicy}
 use Rattle.topos_top.specs.declared.dialect.Dialect.{Dialect}
 use Rattle.topos_top.specs.declared.dialect.Dialect.TheVariants.{Iptables, OpenFlow}
-use Rattle.topos_top.specs.declared.status.Status.TheVariants.{Violated, NotEmittable, Done}
+use Rattle.topos_top.specs.declared.status.Status.TheVariants.{Violated, Done}
 use Rattle.topos_top.specs.declared.status.Stream.TheVariants.{Output}
 use Rattle.topos_top.proofs.DialectLaws.{keeps_policies}
 use Rattle.topos_top.proofs.RulesLaws.{moved as same_policy, rules_keep}
-
--- ---- agreement
-
--- a filter that gives each packet an answer has a run over every list of packets and forgettings
-some_run : (filter : Filter) → GivesOne filter → (kept : Kept) (events : List Event) → ArePackets events → (answers : List (Option Bool)) × Runs filter kept events answers
-some_run filter gives kept [] packets = ([], tt)
-some_run filter gives kept (Seen p ∷ events) packets =
-    let one = gives (state_of kept p) p (packets zero p refl) in
-    let rest = some_run filter gives (after_seen kept p one.0) events (λ k q there. packets (suc k) q there) in
-    (Some one.0 ∷ rest.0, (one.1, rest.1))
-some_run filter gives kept (Forget p ∷ events) packets =
-    let rest = some_run filter gives (after_forget kept p) events (λ k q there. packets (suc k) q there) in
-    (None ∷ rest.0, rest.1)
-
--- rules that agree with the policy on every list forward what it expects
-forwards_alike : (sides : Sides) → GivesOne (filter_of sides.rules) → AgreeAlways sides → ForwardAlike sides
-forwards_alike sides gives agree = record {
-  expected = λ events answers packets run. agree events packets answers run;
-  some = λ events packets. some_run (filter_of sides.rules) gives nothing_kept events packets;
-  one = λ events answers others packets run other.
-      expected_once (permits sides) (lets_answer sides) events answers others (agree events packets answers run) (agree events packets others other);
-}
-
--- and differ from it on none
-never_differ : (sides : Sides) → ForwardAlike sides → DifferSomewhere sides → ⊥
-never_differ sides alike differ =
-    agree_not_differ (filter_of sides.rules) (permits sides) (lets_answer sides) differ.0
-    (λ answers run. alike.expected differ.0 answers differ.1 run) differ.2
 
 few_not_many : (sides : Sides) (line : List ℕ) → FewClasses sides → HasManyClasses sides line → ⊥
 few_not_many sides line few many = omega (arith, few, many.0)
@@ -129,7 +96,7 @@ module _ (d : Network) (rules : Rules) where
 
   pub differ_or_agree : OfSides d rules (λ sides. FewClasses sides × DifferSomewhere sides) → OfSides d rules (λ sides. FewClasses sides × ForwardAlike sides) → ⊥
   differ_or_agree differ agree =
-      never_differ (sides_for d rules agree.policy) agree.so.1
+      no_difference_where_expected (sides_for d rules agree.policy) agree.so.1
       (moved (λ sides. FewClasses sides × DifferSomewhere sides) (λ sides. FewClasses sides × ForwardAlike sides) differ agree).1
 
 -- ---- both ways
@@ -156,7 +123,7 @@ equal_exactly d rules reply answers few = (alike_where_done, done_where_alike)
       | inr rest ↦ elim rest [
         | inl differ ↦
             let both = moved d rules ForwardAlike (λ sides. FewClasses sides × DifferSomewhere sides) alike differ.1 in
-            absurd (never_differ (sides_for d rules differ.1.policy) both differ.1.so.1)
+            absurd (no_difference_where_expected (sides_for d rules differ.1.policy) both differ.1.so.1)
         | inr last ↦ elim last [ inl equal ↦ equal.0 | inr none ↦ absurd none ]
       ]
     ]
@@ -183,17 +150,6 @@ written_alike dialect d text said network can is reading =
 -- ---- what the code answers
 
 module _ (d : Network) (rules : Rules) (policy : Policy) (is_policy : IsPolicyOf d policy) where
-  pub ends_many : (reply : Reply) (count : ℕ) → IsRefused (class_count (sides_for d rules policy)) (TooManyClasses count)
-      → reply ≡ error NotEmittable (classes_line count) → Answers true (audit_job d rules) reply
-  ends_many reply count many is =
-      subst (λ (r : Reply). Answers true (audit_job d rules) r) (sym is) (
-        refl,
-        inl (refl, (tt, classes_line count, has_many count many), has_many count many),
-      )
-    where
-      has_many : (count : ℕ) → IsRefused (class_count (sides_for d rules policy)) (TooManyClasses count) → OfSides d rules (λ sides. HasManyClasses sides (classes_line count))
-      has_many count many = record { policy = policy; is_policy = is_policy; so = (many.1, ap (λ (n : ℕ). classes_line n) many.0) }
-
   ends_different : (reply : Reply) (t : Trace) → FewClasses (sides_for d rules policy) → IsFinding (sides_for d rules policy) (Differing t)
       → reply ≡ reply_on Violated Output (finding_text (Differing t)) → Answers true (audit_job d rules) reply
   ends_different reply t few found is =
@@ -213,7 +169,7 @@ module _ (d : Network) (rules : Rules) (policy : Policy) (is_policy : IsPolicyOf
         refl,
         inr (inr (inl (
           refl,
-          record { policy = policy; is_policy = is_policy; so = (few, forwards_alike (sides_for d rules policy) gives found) },
+          record { policy = policy; is_policy = is_policy; so = (few, expected_where_agree (sides_for d rules policy) gives found) },
           refl,
         ))),
       )

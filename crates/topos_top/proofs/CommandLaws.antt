@@ -2,6 +2,7 @@
 use Rattle.std.proofs.Common.{◌≡◌, ℕ, List, true, refl, sym, ◌∙◌}
 use Rattle.audit_core.specs.Findings.{DifferSomewhere}
 use Rattle.audit_core.specs.Rules.{Rules as AuditedRules}
+use Rattle.audit_core.specs.Sides.{ForwardAlike}
 use Rattle.ipt_rules.specs.Meaning.{Passes as PassesChains}
 use Rattle.net_core.specs.inner.Fitting.{IsNetwork}
 use Rattle.net_core.specs.Network.{Network}
@@ -13,7 +14,7 @@ use Rattle.sample_core.proofs.SampleLaws.{sample_is_one}
 use Rattle.sample_core.proofs.SamplePromisesLaws.{tells_sample}
 use Rattle.report_core.proofs.TraceLaws.{any_known, chains_answer_once, table_answers_once, trace_is_one, tells_run}
 use Rattle.topos_top.specs.Ask.{Ask, Check, Policy, Rules, Repair, Trace, Sample, Migrate, Audit, Edit, Local}
-use Rattle.topos_top.specs.Audit.{ForwardAlike, audit_job, rules_in}
+use Rattle.topos_top.specs.Audit.{audit_job, rules_in}
 use Rattle.topos_top.specs.Check.{offences_when}
 use Rattle.topos_top.specs.Commands.{course_of}
 use Rattle.topos_top.specs.Course.{Course, reads, ends}

@@ -1,12 +1,13 @@
 -- The headline, from what was written by the commands that write rules and descriptions, and by the one that compares rules.
 use Rattle.std.proofs.Common.{◌≡◌, inl, inr, ℕ, List, Option, Some, subst}
 use Rattle.audit_core.specs.Rules.{Rules as AuditedRules}
+use Rattle.audit_core.specs.Sides.{ForwardAlike}
 use Rattle.edge_io.specs.Told.{Files}
 use Rattle.net_core.specs.Network.{Network}
 use Rattle.std.specs.FinMap.{get}
 use Rattle.std.specs.Prelude.{IfSome, codes}
 use Rattle.topos_top.specs.Ask.{Ask, Check, Policy, Rules, Repair, Trace, Sample, Migrate, Audit, Edit, Local, AskFor}
-use Rattle.topos_top.specs.Audit.{ForwardAlike, OfSides, audit_job, rules_in}
+use Rattle.topos_top.specs.Audit.{OfSides, audit_job, rules_in}
 use Rattle.topos_top.specs.Commands.{course_of}
 use Rattle.topos_top.specs.Course.{CameAlong}
 use Rattle.topos_top.specs.Dialects.{language_of}

@@ -1,5 +1,5 @@
 -- The rules for the machines of a host are one text, and do what is promised of them; so is the line that says why there are none.
-use Rattle.std.proofs.Common.{◌≡◌, inl, inr, ℕ, true, false, not, ◌==◌, List, None, Some, sym, ap, subst, ◌∙◌, true≢false, arith}
+use Rattle.std.proofs.Common.{◌≡◌, inl, inr, ℕ, true, false, not, ◌==◌, List, None, Some, refl, sym, ap, subst, ◌∙◌, true≢false, arith}
 use Rattle.std.specs.Prelude.{◌↔◌, Option}
 use Rattle.std.specs.Option.{option_map_or}
 use Rattle.std.proofs.lemmas.Bool.Decides.{nat_tests}
@@ -16,13 +16,16 @@ use Rattle.ipt_rules.specs.Chain.{Chain}
 use Rattle.ipt_rules.specs.Text.{text}
 use Rattle.net_core.specs.inner.Fitting.{IsNetwork}
 use Rattle.net_core.specs.Network.{Network, site_of}
+use Rattle.net_core.specs.Policies.{IsPolicyOf, Policy}
 use Rattle.net_core.proofs.PolicyLaws.{IsSubset-stateful, policy_is_one}
 use Rattle.topos_top.specs.Job.{Answers}
 use Rattle.topos_top.specs.Local.{IsBarred, NoHost, RestHost, IsLocal, IsSpecific, KeepLocal, local_job, machines_for}
 use Rattle.topos_top.specs.inner.Local.{machines_job}
+use Rattle.topos_top.specs.inner.Views.{reply_on}
 use Rattle.topos_top.specs.Reply.{Reply}
 use Rattle.topos_top.specs.Rules.{ListedHolds}
-use Rattle.topos_top.specs.declared.status.Status.TheVariants.{NotEmittable}
+use Rattle.topos_top.specs.declared.status.Status.TheVariants.{NotEmittable, Done}
+use Rattle.topos_top.specs.declared.status.Stream.TheVariants.{Output}
 use Rattle.topos_top.proofs.RulesLaws.{policy_keeps}
 
 some_number : (i j : ℕ) → Some i ≡ Some j → i ≡ j
@@ -93,6 +96,15 @@ module _ (d : Network) (host : List ℕ) where
         read = read;
         only_reading = λ others reading. one_reading rules others own reading read;
       }
+
+  -- the reply of the rules for the machines of a specific host
+  pub ends_with_rules : (reply : Reply) (policy : Policy) (rules : List Chain) → IsPolicyOf d policy → (found : IsSpecific d host) → rules ≡ machines_for d policy found.number
+      → reply ≡ reply_on Done Output (text rules) → Answers false (machines_job d host) reply
+  ends_with_rules reply policy rules is_policy found layout is =
+      subst (λ (r : Reply). Answers false (machines_job d host) r) (sym is) (
+        refl,
+        inr (inl (refl, (tt, found), record { policy = policy; is_policy = is_policy; so = (found, ap (λ (chains : List Chain). text chains) layout) })),
+      )
 
   -- the reply whatever was listed is that where a listed policy holds
   pub answers_listed : (reply : Reply) → ListedHolds d → Answers false (machines_job d host) reply → Answers false (local_job d host) reply

@@ -5,15 +5,15 @@ use Rattle.std.specs.Prelude.{◌≡◌, ℕ, ◌≤◌, ◌<◌, List, [], ◌�
 use Rattle.audit_core.specs.Cuts.{cuts_between}
 use Rattle.audit_core.specs.Findings.{DifferSomewhere, IsFirstTrace, events_of}
 use Rattle.audit_core.specs.FindingText.{classes_line, trace_text}
-use Rattle.audit_core.specs.Places.{class_count, leasts_of}
-use Rattle.audit_core.specs.Rules.{Rules, Chains, Entries, filter_of}
-use Rattle.audit_core.specs.Sides.{DifferThen, Sides, sides_of}
+use Rattle.audit_core.specs.Places.{class_count, leasts_of, most_classes}
+use Rattle.audit_core.specs.Rules.{Rules, Chains, Entries}
+use Rattle.audit_core.specs.Sides.{DifferThen, ForwardAlike, Sides, sides_of}
 use Rattle.audit_core.specs.declared.finding.Trace.{Trace}
 use Rattle.host_net.specs.declared.packet.Packet.{Packet}
 use Rattle.net_core.specs.Network.{Network}
 use Rattle.pkt_core.specs.declared.event.Event.{Event}
 use Rattle.pkt_core.specs.declared.event.Event.TheVariants.{Seen}
-use Rattle.pkt_core.specs.Filter.{ArePackets, ForwardsExpected}
+use Rattle.pkt_core.specs.Filter.{ArePackets}
 use Rattle.topos_top.specs.Dialects.{language_of}
 use Rattle.topos_top.specs.Job.{End, Job, says_why}
 use Rattle.topos_top.specs.Rules.{OfPolicy}
@@ -32,11 +32,7 @@ OfSides d rules Holds = OfPolicy d (λ site p s. Holds (sides_of site p s rules)
 
 -- there are few classes of packets
 abbrev pub FewClasses : Sides → Type 0
-FewClasses sides = class_count sides ≤ 4000000
-
--- Over every list of packets and forgettings, beginning with no connections, the rules forward exactly what the policy and its answers expect.
-abbrev pub ForwardAlike : Sides → Type 0
-ForwardAlike sides = ForwardsExpected (filter_of sides.rules) sides.site sides.permitted sides.stateful
+FewClasses sides = class_count sides ≤ most_classes
 
 -- The text is the first short list of packets on which the rules do not do what the policy says. What is told as a difference is one: run over the told packets,
 -- beginning with no connections, the rules do with the last of them what the text says, and the policy and its answers expect the other of it.
@@ -52,7 +48,7 @@ pub record TellsDifference (sides : Sides) (text : List ℕ) : Type 0 where
 
 -- There are so many classes of packets that they are not compared, and the line says how many.
 abbrev pub HasManyClasses : Sides → (line : List ℕ) → Type 0
-HasManyClasses sides line = (4000000 < class_count sides) × (line ≡ classes_line (class_count sides))
+HasManyClasses sides line = (most_classes < class_count sides) × (line ≡ classes_line (class_count sides))
 
 -- They differ on some list of packets and forgettings: the first short one is told.
 abbrev pub difference : Network → Rules → End

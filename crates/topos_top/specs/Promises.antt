@@ -1,10 +1,11 @@
 -- What an operator may rely on, each by itself. All of it follows from the one reply of a run.
 use Rattle.std.specs.Prelude.{◌≡◌, ℕ, ◌⊎◌, List, codes, Some, IfSome}
+use Rattle.audit_core.specs.Sides.{ForwardAlike}
 use Rattle.edge_io.specs.Counts.{Rose}
 use Rattle.sample_core.specs.Sample.{IsSample}
 use Rattle.sample_core.specs.SamplePromises.{TellsSample}
 use Rattle.topos_top.specs.Ask.{Ask, Rules, Repair, Migrate, Audit, Local, AskFor, reports_on_output}
-use Rattle.topos_top.specs.Audit.{ForwardAlike, OfSides, rules_in}
+use Rattle.topos_top.specs.Audit.{OfSides, rules_in}
 use Rattle.topos_top.specs.Commands.{course_of}
 use Rattle.topos_top.specs.Course.{CameAlong}
 use Rattle.topos_top.specs.Dialects.{language_of}

@@ -1,4 +1,5 @@
--- What it is that a filter and a policy agree on a list of events, or differ on it. The filter tracks connections, beginning with none.
+-- The three short lists at a packet, that a filter and a policy agree on them, and what a filter says of a packet for this. Callers see none of
+-- it; they have `Agreement`.
 use Rattle.std.specs.Prelude.{◌≡◌, Bool, ◌||◌, IsTrue, List, [], ◌∷◌}
 use Rattle.host_net.specs.declared.packet.Packet.{Packet}
 use Rattle.host_net.specs.declared.packet.CtState.{CtState}

@@ -1,4 +1,4 @@
--- The least numbers of classes, in ascending order.
+-- That a list of numbers ascends.
 use Rattle.std.specs.Prelude.{ℕ, ◌<◌, List, [], ◌∷◌}
 use Rattle.std.specs.List.{Contains}
 

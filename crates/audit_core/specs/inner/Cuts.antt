@@ -1,5 +1,4 @@
--- Where classes are cut, and packets that no cut parts. Between two neighbouring cuts stands an elementary interval, of which each range
--- that is named has all numbers or none (M. de Berg et al., Computational Geometry, "Segment Trees").
+-- Packets that no cut parts.
 use Rattle.host_net.specs.declared.packet.Packet.{Packet}
 use Rattle.audit_core.specs.inner.Ranges.{AreOneProtocol, AreTogether}
 use Rattle.audit_core.specs.Cuts.{Cuts}

@@ -1,4 +1,4 @@
--- The printed findings of an audit (docs/TEXTS.md, audits). The line of a packet is that of an event.
+-- The printed finding of an audit: `equal`, or the difference.
 use Rattle.std.specs.Prelude.{ℕ, List, codes}
 use Rattle.audit_core.specs.declared.finding.Finding.{Finding}
 use Rattle.audit_core.specs.declared.finding.Finding.TheVariants.{Equal, Differ as Differing}

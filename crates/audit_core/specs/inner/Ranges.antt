@@ -1,4 +1,4 @@
--- Ranges of numbers below a limit, and where they cut. Prefixes are ranges of addresses, and port parts are ranges of ports.
+-- Numbers of a range, numbers that no cut parts, and protocols that no name parts.
 use Rattle.std.specs.Prelude.{◌≡◌, ◌↔◌, ℕ, ◌≤◌, Bool, ◌&&◌, nat_le, List}
 use Rattle.std.specs.List.{Contains}
 

@@ -1,4 +1,4 @@
--- The two kinds of rules that are audited, as filters.
+-- A filter that has one verdict for every packet in each state.
 use Rattle.std.specs.Prelude.{◌≡◌, Bool}
 use Rattle.host_net.specs.declared.packet.Packet.{Packet}
 use Rattle.host_net.specs.declared.packet.CtState.{CtState}

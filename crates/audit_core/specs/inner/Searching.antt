@@ -7,6 +7,7 @@ use Rattle.host_net.specs.Packet.{IsPacket, swap_of}
 use Rattle.audit_core.specs.declared.classes.Fault.{Fault}
 use Rattle.audit_core.specs.declared.classes.Faults.{Faults}
 use Rattle.audit_core.specs.declared.leasts.Class.{Class}
+use Rattle.audit_core.specs.declared.named.Found.{Found}
 use Rattle.audit_core.specs.declared.kind.Kind.{Kind}
 use Rattle.audit_core.specs.declared.kind.Kind.TheVariants.{BehindSwap, BehindBoth}
 use Rattle.audit_core.specs.declared.finding.Finding.{Finding}
@@ -18,6 +19,8 @@ use Rattle.audit_core.specs.Places.{ComesBefore, IsClassPacket, Leasts}
 use Rattle.audit_core.specs.inner.Places.{packet_at}
 use Rattle.audit_core.specs.Rules.{filter_of}
 use Rattle.audit_core.specs.Sides.{Sides, lets_answer, permits}
+use Rattle.audit_core.specs.inner.Thinning.{AreThinned}
+use Rattle.audit_core.specs.inner.Treatment.{AreMerged}
 
 -- the rules are right about the packets of all classes
 abbrev pub AllRight : Sides → Leasts → Kind → Type 0
@@ -40,6 +43,14 @@ pub record IsFirstFault (sides : Sides) (leasts : Leasts) (trace : Trace) : Type
 abbrev pub IsSearched : Sides → Leasts → Finding → Type 0
 IsSearched sides leasts Equal = (kind : Kind) → AllRight sides leasts kind
 IsSearched sides leasts (Differing trace) = IsFirstFault sides leasts trace
+
+-- what is found by the named parts: that among kept classes, which stand for all
+pub record IsFoundAmong (sides : Sides) (named : Found) (leasts : Leasts) (finding : Finding) : Type 0 where
+  pub thinned : Leasts
+  pub kept : Leasts
+  pub stands : AreThinned named leasts thinned
+  pub merged : AreMerged sides thinned kept
+  pub searched : IsSearched sides kept finding
 
 -- what is found of a kind at the places before one: all are right, or this is the first fault
 abbrev pub IsFoundBefore : Sides → Leasts → Kind → ℕ → Option Fault → Type 0
