@@ -1,22 +1,20 @@
--- A line of edits is bad, in the format's words, exactly where its step refuses it; so a text has one reading or one first fault.
-use Rattle.std.proofs.Common.{◌≡◌, ℕ, ◌≤◌, true, List, [], ◌∷◌, Option, Some, None, ◌⊎◌, inl, inr, refl, sym, ap, ◌∙◌, arith, length, subst}
-use Rattle.std.specs.Prelude.{codes, decimal, Result, Ok, Err, bytes_eq, nat_lt}
+-- A line that is not read as an edit is bad, in the format's words, for the reason that is told; and a text has one reading or one first fault.
+use Rattle.std.proofs.Common.{◌≡◌, ℕ, true, List, [], ◌∷◌, Option, Some, None, ◌⊎◌, inl, inr, sym, ap, ◌∙◌, arith, subst}
+use Rattle.std.specs.Prelude.{codes, decimal, Result, Ok, Err, bytes_eq}
 use Rattle.std.specs.Option.{option_map, ok_or}
-use Rattle.std.proofs.lemmas.Bool.Decides.{nat_tests}
 use Rattle.text_core.specs.Lines.{words}
+use Rattle.text_core.specs.ListText.{IsBad, bad_line, bad_value, by_lines}
+use Rattle.text_core.specs.inner.ListAnswers.{TellsOne, TellsFormed}
+use Rattle.text_core.proofs.ListTextLaws.{list_settled}
+use Rattle.text_core.proofs.TextByLinesLaws.{IsSettled, same_ok}
 use Rattle.text_core.proofs.StepsLaws.{if_parts, bytes_same}
-use Rattle.text_core.specs.inner.TextAnswers.{HasReason}
-use Rattle.text_core.specs.declared.faults.LineFault.{LineFault}
-use Rattle.text_core.specs.declared.faults.LineFault.TheVariants.{Bad, Memory as NoMemory}
-use Rattle.text_core.proofs.TextByLinesLaws.{IsSettled, IsStep, settled_by_step}
 use Rattle.text_core.specs.declared.faults.ListWhy.{ListWhy}
-use Rattle.text_core.specs.declared.faults.ListWhy.TheVariants.{BadLine, BadValue, TooMany}
+use Rattle.text_core.specs.declared.faults.ListWhy.TheVariants.{BadLine, BadValue}
 use Rattle.edit_core.specs.Behind.{behind_word}
-use Rattle.edit_core.proofs.ChangeLaws.{change_told, told_change}
-use Rattle.edit_core.specs.inner.ChangeSteps.{add_of, assigned, change_of, change_of_words, edit_step, remove_of, removed, set_of, texts_of, unassigned, unset_of, with_change}
+use Rattle.edit_core.proofs.ChangeLaws.{told_change}
+use Rattle.edit_core.specs.inner.ChangeSteps.{add_of, assigned, change_of, change_of_words, remove_of, removed, set_of, texts_of, unassigned, unset_of}
 use Rattle.edit_core.specs.Edit.{Change, Add, Remove, Set, Unset, Edit}
-use Rattle.edit_core.specs.EditsText.{IsBad, IsForm, TellsChange, add, bad_line, bad_value, edits_text, remove, set, too_many, unset}
-use Rattle.edit_core.proofs.EditsTextLaws.{adds_step, step_adds}
+use Rattle.edit_core.specs.EditsText.{IsForm, TellsChange, add, edits_text, remove, set, unset}
 
 -- 1. Why words tell no change.
 
@@ -91,9 +89,11 @@ no_form : (line : List ℕ) → change_of line ≡ Err BadLine → IsForm (words
 unfolding change_of
 no_form line h form = form_read (words line) (behind_word (behind_word line)) form h
 
--- 2. A line is bad exactly where its step refuses it.
+-- 2. A line of edits tells one edit at most, and what tells one has its form.
 
--- what tells a change has its form
+tells_one : (line : List ℕ) (x y : Change) → TellsChange line x → TellsChange line y → x ≡ y
+tells_one line x y p q = same_ok (change_of line) x y (told_change line x p) (told_change line y q)
+
 told_form : (line : List ℕ) (c : Change) → TellsChange line c → IsForm (words line)
 told_form line (Add []) told = absurd (omega (arith, told.1))
 told_form line (Add (a ∷ [])) told = absurd (omega (arith, told.1))
@@ -102,66 +102,26 @@ told_form line (Remove from to) told = remove from to told.0
 told_form line (Set k assign) told = set (decimal k) told.word told.rest told.written
 told_form line (Unset k host) told = unset (decimal k) host told.0
 
+pub edit_lines_tell_one : TellsOne edits_text
+edit_lines_tell_one n line x y p q =
+    let number : x.line ≡ y.line = p.0 ∙ sym q.0 in
+    let change : x.change ≡ y.change = tells_one line x.change y.change p.1 q.1 in
+    λ i. record { line = number i; change = change i }
+
+pub edit_lines_have_form : TellsFormed edits_text
+edit_lines_have_form n line x told = told_form line x.change told.1
+
+-- a text has one reading or one first fault
+pub edits_settled : IsSettled (by_lines edits_text)
+edits_settled = list_settled edits_text edit_lines_tell_one edit_lines_have_form
+
+-- 3. A line that is refused is bad, whatever stands before it.
+
 not_told : (line : List ℕ) (why : ListWhy) → change_of line ≡ Err why → (c : Change) → TellsChange line c → ⊥
 not_told line why refused c told = let read : change_of line ≡ Ok c = told_change line c told in cc
 
-untold : (before : List Edit) (line : List ℕ) (why : ListWhy) → change_of line ≡ Err why → IsBad before line why
-untold before line why refused = elim (explained line why refused) [
-  | inl form ↦ subst (IsBad before line) (sym form) (bad_line (no_form line (refused ∙ ap (λ w. Err w) form)))
-  | inr value ↦ subst (IsBad before line) (sym value.0) (bad_value value.1 (not_told line why refused))
+pub refused_is_bad : (n : ℕ) (before : List Edit) (line : List ℕ) (why : ListWhy) → change_of line ≡ Err why → IsBad edits_text n before line why
+refused_is_bad n before line why refused = elim (explained line why refused) [
+  | inl form ↦ subst (IsBad edits_text n before line) (sym form) (bad_line (no_form line (refused ∙ ap (λ w. Err w) form)))
+  | inr value ↦ subst (IsBad edits_text n before line) (sym value.0) (bad_value value.1 (λ edit told. not_told line why refused edit.change told.1))
 ]
-
-bad_by : (n : ℕ) (before : List Edit) (line : List ℕ) (why : ListWhy) (r : Result Change ListWhy) → change_of line ≡ r
-    → with_change n before r ≡ Err why → IsBad before line why
-bad_by n before line why (Err cause) read h = let e : cause ≡ why = cc in untold before line why (read ∙ ap (λ w. Err w) e)
-bad_by n before line why (Ok c) read h = elim (if_parts (nat_lt 9999 (length before)) (Err TooMany) _ (Err why) h) [
-  | inl many ↦
-      let full : 10000 ≤ length before = grind (arith, nat_tests, many.0) in
-      let same : TooMany ≡ why = cc in
-      subst (IsBad before line) same (too_many c (change_told line c read) full)
-  | inr few ↦ cc
-]
-
-line_refused : (n : ℕ) (before : List Edit) (line : List ℕ) (r : Result Change ListWhy) → change_of line ≡ r → (IsForm (words line) → ⊥)
-    → with_change n before r ≡ Err BadLine
-line_refused n before line (Ok c) read none = absurd (none (told_form line c (change_told line c read)))
-line_refused n before line (Err why) read none = elim (explained line why read) [
-  | inl form ↦ ap (λ w. Err w) form
-  | inr value ↦ absurd (none value.1)
-]
-
-value_refused : (n : ℕ) (before : List Edit) (line : List ℕ) (r : Result Change ListWhy) → change_of line ≡ r → IsForm (words line)
-    → ((c : Change) → TellsChange line c → ⊥) → with_change n before r ≡ Err BadValue
-value_refused n before line (Ok c) read form none = absurd (none c (change_told line c read))
-value_refused n before line (Err why) read form none = elim (explained line why read) [
-  | inl other ↦ absurd (no_form line (read ∙ ap (λ w. Err w) other) form)
-  | inr value ↦ ap (λ w. Err w) value.0
-]
-
-full_step : (n : ℕ) (before : List Edit) (c : Change) → 10000 ≤ length before → with_change n before (Ok c) ≡ Err TooMany
-full_step n before c full = let many : nat_lt 9999 (length before) ≡ true = grind (arith, nat_tests) in rw many refl
-
-bad_step : (n : ℕ) (before : List Edit) (line : List ℕ) (why : ListWhy) → IsBad before line why → edit_step n before line ≡ Err why
-bad_step n before line why (bad_line none) = line_refused n before line (change_of line) refl none
-bad_step n before line why (bad_value form none) = value_refused n before line (change_of line) refl form none
-bad_step n before line why (too_many c told full) = ap (with_change n before) (told_change line c told) ∙ full_step n before c full
-
--- 3. The steps are those of the text.
-
-pub edits_step : IsStep edits_text edit_step
-edits_step = record {
-  reads = λ n es now line h. step_adds n es now line h;
-  read = λ n es now line adds. adds_step n es now line adds;
-  refuses = λ n es line why h. bad_by n es line why (change_of line) refl h;
-  refused = λ n es line why bad. bad_step n es line why bad;
-}
-
--- a text has one reading or one first fault
-pub edits_settled : IsSettled edits_text
-edits_settled = settled_by_step edits_text edit_step edits_step (λ n es line why none. none)
-
--- a reason of the step is one of the text
-pub has_reason : (n : ℕ) (es : List Edit) (line : List ℕ) (fault : LineFault ListWhy) → HasReason (λ why. edit_step n es line ≡ Err why) fault
-    → HasReason (edits_text.IsBadLine n es line) fault
-has_reason n es line (Bad why) refused = edits_step.refuses n es line why refused
-has_reason n es line NoMemory refused = tt

@@ -4,7 +4,6 @@ pub mod ChangeLaws
 pub mod CopyLemmas
 pub mod EditFaultLaws
 pub mod EditsRows
-pub mod EditsTextLaws
 pub mod FlowExact
 pub mod FlowLaws
 pub mod FlowLemmas

@@ -1,6 +1,6 @@
 //! One line of a text of edits: the change that it tells.
 
-ghost use Rattle.std.specs.Prelude.{◌≡◌, ◌++◌, codes, map, option_map, string_bytes};
+ghost use Rattle.std.specs.Prelude.{◌≡◌, ◌∷◌, [], ◌++◌, IfOk, IfErr, codes, map, option_map, string_bytes};
 ghost use Rattle.std.specs.Result.{result_map_both};
 ghost use Rattle.edit_core.specs.inner.ChangeSteps.{add_of, assign_of, change_of, invariant_said, remove_of, set_of, text_of, unset_of, value_in};
 ghost use Rattle.edit_core.specs.inner.EditsAnswers.{PutsTexts, Says, SaysValue};
@@ -24,9 +24,7 @@ pub(crate) fn read_change(alloc: Global, line: &[u8]) -> Result<Change, LineFaul
     ensures { Says (change_of line.now) result }
 {
     let mut words = Words::new(line);
-    let Some(verb) = words.next_word() else {
-        return Err(LineFault::Bad(ListWhy::BadLine));
-    };
+    let verb = next_of(&mut words)?;
     if verb == b"add".as_slice() {
         return read_add(alloc, words);
     }
@@ -42,16 +40,20 @@ pub(crate) fn read_change(alloc: Global, line: &[u8]) -> Result<Change, LineFaul
     Err(LineFault::Bad(ListWhy::BadLine))
 }
 
+/// The next word, where the form of a line asks for one.
+fn next_of<'a>(words: &mut Words<'a>) -> Result<&'a [u8], LineFault<ListWhy>>
+    ensures next { IfOk result (λ word. words.old ≡ word.now ∷ words.new) }
+    ensures end { IfErr result (λ fault. (words.old ≡ []) × (fault ≡ LineFault.Bad ListWhy.BadLine)) }
+{
+    words.next_word().ok_or(LineFault::Bad(ListWhy::BadLine))
+}
+
 /// A flow that is listed, by the words behind `add`.
 fn read_add(alloc: Global, mut words: Words<'_>) -> Result<Change, LineFault<ListWhy>>
     ensures { Says (add_of words.entry) result }
 {
-    let Some(from) = words.next_word() else {
-        return Err(LineFault::Bad(ListWhy::BadLine));
-    };
-    let Some(to) = words.next_word() else {
-        return Err(LineFault::Bad(ListWhy::BadLine));
-    };
+    let from = next_of(&mut words)?;
+    let to = next_of(&mut words)?;
     let mut texts = Vec::new(alloc);
     texts.push(read_text(alloc, from)?)?;
     texts.push(read_text(alloc, to)?)?;
@@ -77,12 +79,8 @@ fn read_texts(
 fn read_remove(alloc: Global, mut words: Words<'_>) -> Result<Change, LineFault<ListWhy>>
     ensures { Says (remove_of words.entry) result }
 {
-    let Some(from) = words.next_word() else {
-        return Err(LineFault::Bad(ListWhy::BadLine));
-    };
-    let Some(to) = words.next_word() else {
-        return Err(LineFault::Bad(ListWhy::BadLine));
-    };
+    let from = next_of(&mut words)?;
+    let to = next_of(&mut words)?;
     if words.next_word().is_some() {
         return Err(LineFault::Bad(ListWhy::BadLine));
     }
@@ -95,12 +93,8 @@ fn read_remove(alloc: Global, mut words: Words<'_>) -> Result<Change, LineFault<
 fn read_set(alloc: Global, mut words: Words<'_>, text: &[u8]) -> Result<Change, LineFault<ListWhy>>
     ensures { Says (set_of text.now words.entry) result }
 {
-    let Some(number) = words.next_word() else {
-        return Err(LineFault::Bad(ListWhy::BadLine));
-    };
-    if words.next_word().is_none() {
-        return Err(LineFault::Bad(ListWhy::BadLine));
-    }
+    let number = next_of(&mut words)?;
+    let _word = next_of(&mut words)?;
     let Some(number) = invariant_said(number) else {
         return Err(LineFault::Bad(ListWhy::BadValue));
     };
@@ -111,12 +105,8 @@ fn read_set(alloc: Global, mut words: Words<'_>, text: &[u8]) -> Result<Change, 
 fn read_unset(alloc: Global, mut words: Words<'_>) -> Result<Change, LineFault<ListWhy>>
     ensures { Says (unset_of words.entry) result }
 {
-    let Some(number) = words.next_word() else {
-        return Err(LineFault::Bad(ListWhy::BadLine));
-    };
-    let Some(host) = words.next_word() else {
-        return Err(LineFault::Bad(ListWhy::BadLine));
-    };
+    let number = next_of(&mut words)?;
+    let host = next_of(&mut words)?;
     if words.next_word().is_some() {
         return Err(LineFault::Bad(ListWhy::BadLine));
     }

@@ -1,18 +1,18 @@
 //! Reading the text of a list of edits: one line each, as `add web db`, `remove web db`,
 //! `set 1 { host = "web", level = 2 }` or `unset 1 web`.
 
-ghost use Rattle.std.specs.Prelude.{◌≡◌, ℕ, List, map, Ok, Err, IfOk, IfErr, OnOk, MatchResult};
-ghost use Rattle.text_core.specs.inner.TextAnswers.{HasCause, HasReason, IsFault};
+ghost use Rattle.std.specs.Prelude.{◌≡◌, ℕ, List, map, IfOk, IfErr, MatchResult};
+ghost use Rattle.text_core.specs.ListText.{by_lines};
+ghost use Rattle.text_core.specs.inner.TextAnswers.{HasCause, IsFault};
 ghost use Rattle.text_core.specs.declared.faults.ListWhy.{ListWhy};
 ghost use Rattle.edit_core.specs.Edit.{Edit as Meant};
-ghost use Rattle.edit_core.specs.inner.EditView.{change_view, edit_view};
+ghost use Rattle.edit_core.specs.inner.EditView.{edit_view};
 ghost use Rattle.edit_core.specs.EditsText.{IsReading, IsRefused, edits_text};
-ghost use Rattle.edit_core.specs.inner.ChangeSteps.{with_change};
 
-use crate::edit::{Change, Edit};
+use crate::edit::Edit;
 use crate::line::read_change;
 use std::alloc::Global;
-use text_core::{LineFault, LineReader, ListWhy, TextFault, read_lines};
+use text_core::{EntryReader, LineFault, ListWhy, TextFault, read_list};
 
 /// The most bytes that a text of edits may have.
 pub const EDITS_BYTE_LIMIT: usize = 1_048_576;
@@ -33,60 +33,35 @@ pub fn read_edits(alloc: Global, bytes: &[u8]) -> Result<Vec<Edit>, EditsFault>
     // A text that tells edits is refused for want of memory alone.
     ensures only { (told : List Meant) → IsReading bytes.now told →
         MatchResult result (λ edits. map edit_view edits.items ≡ told) (λ fault. fault ≡ TextFault.Memory) }
-    ensures refused { IfErr result (HasCause edits_text bytes.now) }
+    ensures refused { IfErr result (HasCause (by_lines edits_text) bytes.now) }
     // A text has one first fault at most, and none where it tells edits.
     ensures faulty { (line : ℕ) (why : ListWhy) → IsRefused bytes.now line why →
         MatchResult result (λ edits. ⊥) (IsFault line why) }
 {
-    let start = EditReader {
-        alloc,
-        edits: Vec::new(alloc),
-    };
-    match read_lines(start, bytes) {
-        Ok(reader) => Ok(reader.edits),
-        Err(fault) => Err(fault),
-    }
+    read_list(alloc, &EditLines { alloc }, bytes)
 }
 
-/// The edits of the lines so far.
+/// The lines of a text of edits.
 #[derive(Drop)]
-struct EditReader {
+struct EditLines {
     alloc: Global,
-    edits: Vec<Edit>,
 }
 
-impl LineReader for EditReader {
-    type Why = ListWhy;
+impl EntryReader for EditLines {
+    type Entry = Edit;
 
-    ghost Said = { List Meant };
+    ghost Told = { Meant };
 
-    ghost text = { edits_text };
+    ghost list = { edits_text };
 
-    ghost said = { λ reader. map edit_view reader.edits.items };
+    ghost told = { edit_view };
 
-    ghost holds = { λ reader. Unit {0} };
-
-    fn limit(&self) -> (usize, ListWhy) {
-        (EDITS_BYTE_LIMIT, ListWhy::TooLong)
+    fn limits(&self) -> (usize, usize) {
+        (EDITS_BYTE_LIMIT, EDIT_LIMIT)
     }
 
-    fn read_line(mut self, number: u32, line: &[u8]) -> Result<EditReader, LineFault<ListWhy>> {
+    fn read_entry(&self, number: u32, line: &[u8]) -> Result<Edit, LineFault<ListWhy>> {
         let change = read_change(self.alloc, line)?;
-        add_edit(&mut self.edits, number, change)?;
-        Ok(self)
+        Ok(Edit::on_line(number, change))
     }
-}
-
-/// Puts the edit on a line behind those before it.
-fn add_edit(edits: &mut Vec<Edit>, line: u32, change: Change) -> Result<(), LineFault<ListWhy>>
-    ensures ok { OnOk result
-        (with_change line (map edit_view edits.old.items) (Ok (change_view change)) ≡ Ok (map edit_view edits.new.items)) }
-    ensures err { IfErr result
-        (HasReason (λ why. with_change line (map edit_view edits.old.items) (Ok (change_view change)) ≡ Err why)) }
-{
-    if edits.len() >= EDIT_LIMIT {
-        return Err(LineFault::Bad(ListWhy::TooMany));
-    }
-    edits.push(Edit::on_line(line, change))?;
-    Ok(())
 }

@@ -23,6 +23,7 @@ use Rattle.pkt_core.proofs.ReadEventLaws.{packets_read}
 use Rattle.pkt_core.proofs.EventFaultLaws.{events_settled}
 use Rattle.pkt_core.specs.EventsText.{events_text, IsRefused as IsRefusedInEvents}
 use Rattle.text_core.specs.declared.faults.ListWhy.TheVariants.{TooLong as ListTooLong}
+use Rattle.text_core.specs.ListText.{by_lines}
 use Rattle.text_core.specs.TextByLines.{too_long}
 use Rattle.text_core.proofs.TextByLinesLaws.{one_reading as one_reading_by_lines, one_fault as one_fault_by_lines, no_reading_with_fault as no_reading_with_fault_by_lines}
 use Rattle.toml.specs.Data.{Members}
@@ -70,19 +71,19 @@ pub reads_once : (kind : Kind) (bytes : List ℕ) (a b : (contents_of kind).Said
 reads_once Description bytes a b p q = same_network bytes a b p q
 reads_once (Rules Iptables) bytes a b p q = one_reading bytes a b p q
 reads_once (Rules OpenFlow) bytes a b p q = one_reading_of_flows bytes a b p q
-reads_once Events bytes a b p q = one_reading_by_lines events_text events_settled bytes a b p q
+reads_once Events bytes a b p q = one_reading_by_lines (by_lines events_text) events_settled bytes a b p q
 reads_once Document bytes a b p q = migrated_once bytes a b p q
 reads_once Edited bytes a b p q = same_table bytes a b p.0 q.0
-reads_once Edits bytes a b p q = one_reading_by_lines edits_text edits_settled bytes a b p q
+reads_once Edits bytes a b p q = one_reading_by_lines (by_lines edits_text) edits_settled bytes a b p q
 
 pub reads_or_refuses : (kind : Kind) (bytes line : List ℕ) (said : (contents_of kind).Said) → (contents_of kind).Reads bytes said → (contents_of kind).Refuses bytes line → ⊥
 reads_or_refuses Description bytes line said p q = let why = q.1 in cc (p, why)
 reads_or_refuses (Rules Iptables) bytes line said p q = no_reading_with_fault bytes said q.number q.why q.fault p
 reads_or_refuses (Rules OpenFlow) bytes line said p q = no_flows_with_fault bytes said q.number q.why q.fault p
-reads_or_refuses Events bytes line said p q = no_reading_with_fault_by_lines events_text events_settled bytes said q.number q.why q.fault p
+reads_or_refuses Events bytes line said p q = no_reading_with_fault_by_lines (by_lines events_text) events_settled bytes said q.number q.why q.fault p
 reads_or_refuses Document bytes line said p q = let accepted = p.accepted in let why = q.1 in cc (accepted, why)
 reads_or_refuses Edited bytes line said p q = let accepted = p.1.1 in let why = q.1 in cc (accepted, why)
-reads_or_refuses Edits bytes line said p q = no_reading_with_fault_by_lines edits_text edits_settled bytes said q.number q.why q.fault p
+reads_or_refuses Edits bytes line said p q = no_reading_with_fault_by_lines (by_lines edits_text) edits_settled bytes said q.number q.why q.fault p
 
 same_refusal : (bytes l m : List ℕ) → IsNoDescription bytes l → IsNoDescription bytes m → l ≡ m
 same_refusal bytes l m p q =
@@ -102,10 +103,10 @@ pub refuses_once : (kind : Kind) (bytes a b : List ℕ) → (contents_of kind).R
 refuses_once Description bytes a b p q = same_refusal bytes a b p q
 refuses_once (Rules Iptables) bytes a b p q = same_line (codes "rules") rules_reason HasFaultInRules bytes (one_fault bytes) a b p q
 refuses_once (Rules OpenFlow) bytes a b p q = same_line (codes "rules") flows_reason HasFaultInFlows bytes (one_fault_in_flows bytes) a b p q
-refuses_once Events bytes a b p q = same_line (codes "events") list_reason IsRefusedInEvents bytes (one_fault_by_lines events_text events_settled bytes) a b p q
+refuses_once Events bytes a b p q = same_line (codes "events") list_reason IsRefusedInEvents bytes (one_fault_by_lines (by_lines events_text) events_settled bytes) a b p q
 refuses_once Document bytes a b p q = same_refusal bytes a b p q
 refuses_once Edited bytes a b p q = same_refusal bytes a b p q
-refuses_once Edits bytes a b p q = same_line (codes "edits") list_reason IsRefusedInEdits bytes (one_fault_by_lines edits_text edits_settled bytes) a b p q
+refuses_once Edits bytes a b p q = same_line (codes "edits") list_reason IsRefusedInEdits bytes (one_fault_by_lines (by_lines edits_text) edits_settled bytes) a b p q
 
 -- what is so of both statuses of refused files is so of each
 pub of_refused : (P : Status → Type 0) → P BadDescription → P BadText → (kind : Kind) → P (contents_of kind).refused_as

@@ -1,5 +1,5 @@
 -- A line of edits as the reader goes through it, step by step. Callers see none of it; they have the grammar and the reasons.
-use Rattle.std.specs.Prelude.{ℕ, ◌==◌, ◌++◌, nat_lt, if◌then◌else◌, List, [], ◌∷◌, Option, Some, None, Result, Ok, Err, codes, is_some, bytes_eq, length}
+use Rattle.std.specs.Prelude.{ℕ, ◌==◌, ◌++◌, if◌then◌else◌, List, [], ◌∷◌, Option, Some, None, Result, Err, codes, is_some, bytes_eq}
 use Rattle.std.specs.List.{list_all}
 use Rattle.std.specs.Option.{option_map, ok_or}
 use Rattle.std.specs.Str.{is_utf8}
@@ -7,13 +7,13 @@ use Rattle.text_core.specs.inner.Decimal.{number}
 use Rattle.text_core.specs.Lines.{words}
 use Rattle.text_core.specs.Steps.{◌>>=◌}
 use Rattle.text_core.specs.declared.faults.ListWhy.{ListWhy}
-use Rattle.text_core.specs.declared.faults.ListWhy.TheVariants.{BadLine, BadValue, TooMany}
+use Rattle.text_core.specs.declared.faults.ListWhy.TheVariants.{BadLine, BadValue}
 use Rattle.host_net.specs.Limits.{invariant_limit}
 use Rattle.table_core.specs.Tables.{text_at}
 use Rattle.toml.specs.Data.{Members, as_table, get_member}
 use Rattle.toml.specs.Parse.{parse_document}
 use Rattle.edit_core.specs.Behind.{behind_word}
-use Rattle.edit_core.specs.Edit.{Change, Add, Remove, Set, Unset, Edit}
+use Rattle.edit_core.specs.Edit.{Change, Add, Remove, Set, Unset}
 
 -- words that are UTF-8
 abbrev pub texts_of : List (List ℕ) → Option (List (List ℕ))
@@ -80,11 +80,3 @@ change_of_words (verb ∷ rest) text = change_by verb rest text
 
 unfoldable pub change_of : List ℕ → Result Change ListWhy
 change_of line = change_of_words (words line) (behind_word (behind_word line))
-
--- the edits with one more, of 10,000 at most
-abbrev pub with_change : ℕ → List Edit → Result Change ListWhy → Result (List Edit) ListWhy
-with_change n edits (Ok change) = if nat_lt 9999 (length edits) then Err TooMany else Ok (edits ++ record { line = n; change = change } ∷ [])
-with_change n edits (Err why) = Err why
-
-abbrev pub edit_step : ℕ → List Edit → List ℕ → Result (List Edit) ListWhy
-edit_step n edits line = with_change n edits (change_of line)
