@@ -6,7 +6,9 @@ use Rattle.desc_form.specs.Places.{assigns_of, listed}
 use Rattle.edit_core.specs.Edited.{◌>>=◌, assigns_edited, invariant_with, with_list}
 use Rattle.edit_core.specs.inner.EditFaults.{Gives}
 use Rattle.edit_core.specs.declared.fault.EditFault.{EditFault}
-use Rattle.edit_core.specs.declared.fault.EditFault.TheVariants.{NoPolicy, Absent, Refused, Memory}
+use Rattle.edit_core.specs.declared.fault.EditFault.TheVariants.{Refused, Memory}
+use Rattle.edit_core.specs.declared.fault.EditWhy.{EditWhy}
+use Rattle.edit_core.specs.declared.fault.EditWhy.TheVariants.{Absent}
 use Rattle.toml.specs.Data.{Data, Members}
 
 -- the table with other assigns in the place of those of an invariant
@@ -14,7 +16,7 @@ abbrev pub with_invariant : ℕ → Members → Data → List Data → Members
 with_invariant k document invariant assigns =
     with_list (codes "invariant") (slice_set (listed (codes "invariant") document) (k - 1) (invariant_with assigns invariant)) document
 
-module _ (k : ℕ) (document : Members) (change : List Data → Result (List Data) EditFault) (invariant : Data) (there : Some invariant ≡ slice_get (listed (codes "invariant") document) (k - 1)) where
+module _ (k : ℕ) (document : Members) (change : List Data → Result (List Data) EditWhy) (invariant : Data) (there : Some invariant ≡ slice_get (listed (codes "invariant") document) (k - 1)) where
   -- what is done with it
   edited_there : assigns_edited k document change ≡ (change (assigns_of invariant) >>= (λ assigns. Ok (with_invariant k document invariant assigns)))
   edited_there =
@@ -23,14 +25,12 @@ module _ (k : ℕ) (document : Members) (change : List Data → Result (List Dat
   pub assigns_made : (assigns : List Data) (new : Members) → change (assigns_of invariant) ≡ Ok assigns → new ≡ with_invariant k document invariant assigns
       → assigns_edited k document change ≡ Ok new
   assigns_made assigns new made is =
-      edited_there ∙ ap (λ (r : Result (List Data) EditFault). r >>= (λ ds. Ok (with_invariant k document invariant ds))) made ∙ ap (λ (ms : Members). Ok ms) (sym is)
+      edited_there ∙ ap (λ (r : Result (List Data) EditWhy). r >>= (λ ds. Ok (with_invariant k document invariant ds))) made ∙ ap (λ (ms : Members). Ok ms) (sym is)
 
-  assigns_refused : (fault : EditFault) → change (assigns_of invariant) ≡ Err fault → assigns_edited k document change ≡ Err fault
-  assigns_refused fault none =
-      edited_there ∙ ap (λ (r : Result (List Data) EditFault). r >>= (λ ds. Ok (with_invariant k document invariant ds))) none
+  assigns_refused : (why : EditWhy) → change (assigns_of invariant) ≡ Err why → assigns_edited k document change ≡ Err why
+  assigns_refused why none =
+      edited_there ∙ ap (λ (r : Result (List Data) EditWhy). r >>= (λ ds. Ok (with_invariant k document invariant ds))) none
 
   pub assigns_given : (fault : EditFault) → Gives {A = List Data} (change (assigns_of invariant)) (Err fault) → Gives {A = Members} (assigns_edited k document change) (Err fault)
-  assigns_given NoPolicy none = assigns_refused NoPolicy none
-  assigns_given Absent none = assigns_refused Absent none
-  assigns_given (Refused why) none = assigns_refused (Refused why) none
+  assigns_given (Refused why) none = assigns_refused why none
   assigns_given Memory none = tt

@@ -5,7 +5,7 @@ use Rattle.std.specs.BTreeMap.{BTreeMap}
 use Rattle.std.specs.Prelude.{IfOk, MatchResult, Result, Ok, Err}
 use Rattle.std.specs.List.{AllZip, list_any}
 use Rattle.edit_core.specs.Edited.{others}
-use Rattle.edit_core.specs.declared.fault.EditFault.TheVariants.{Absent}
+use Rattle.edit_core.specs.declared.fault.EditWhy.TheVariants.{Absent}
 use Rattle.text_core.proofs.StepsLaws.{split_bool}
 use Rattle.toml.specs.Data.{Data, string, member}
 use Rattle.toml.specs.View.{members_view, table_view, view}

@@ -30,7 +30,7 @@ use Rattle.edit_core.proofs.FlowLemmas.{AreEnds, all_apart, any_said, asked_more
 use Rattle.edit_core.proofs.FlowTables.{AreRightFlows, IsListing, described_with, listing, own_flows, with_flows}
 use Rattle.edit_core.specs.Edited.{◌>>=◌, after_edit, edited, if_described, is_between, others, text_list, with_list}
 use Rattle.edit_core.specs.inner.FlowEdits.{IsAskedFlow, IsRightFlow, asking_less, asking_more, without_services}
-use Rattle.edit_core.specs.declared.fault.EditFault.TheVariants.{Absent, NoPolicy}
+use Rattle.edit_core.specs.declared.fault.EditWhy.TheVariants.{Absent, NoPolicy}
 use Rattle.edit_core.proofs.SessionLemmas.{said_of}
 use Rattle.edit_core.specs.Edit.{Add, Remove}
 use Rattle.flow_set.specs.Flow.{same_flow}

@@ -7,7 +7,7 @@ use Rattle.edit_core.specs.Edited.{◌>>=◌, after_edit}
 use Rattle.edit_core.specs.Runs.{AreSummaries, after_edits}
 use Rattle.edit_core.specs.inner.Runs.{IsCause}
 use Rattle.edit_core.specs.Summaries.{IsSummary}
-use Rattle.edit_core.specs.declared.fault.EditFault.{EditFault}
+use Rattle.edit_core.specs.declared.fault.EditWhy.{EditWhy}
 use Rattle.edit_core.specs.declared.run.EditRefusal.{EditRefusal}
 use Rattle.edit_core.specs.declared.run.EditRefusal.TheVariants as refusal
 use Rattle.edit_core.specs.declared.summary.Summary.{Summary}
@@ -17,8 +17,8 @@ use Rattle.edit_core.specs.declared.edit.Edit.{Edit}
 use Rattle.toml.specs.Data.{Members}
 
 -- what comes of an edit that stands on a line
-abbrev on_line : ℕ → Result Members EditFault → Result Members (ℕ × EditFault)
-on_line line r = result_map_both (λ next. next) (λ fault. (line, fault)) r
+abbrev on_line : ℕ → Result Members EditWhy → Result Members (ℕ × EditWhy)
+on_line line r = result_map_both (λ next. next) (λ why. (line, why)) r
 
 -- the edits that are left, one by one
 left : (edits : List Edit) (i : ℕ) (e : Edit) → i < length edits → e ≡ get_or edits i e
@@ -26,9 +26,9 @@ left : (edits : List Edit) (i : ℕ) (e : Edit) → i < length edits → e ≡ g
 left edits i e within is = ap (map edit_view) (drop_more edits i e within ∙ ap (λ (x : Edit). x ∷ drop (i + 1) edits) (sym is))
 
 after_first : (e : meant.Edit) (es : List meant.Edit) (old new : Members) → after_edit e.change old ≡ Ok new → after_edits (e ∷ es) old ≡ after_edits es new
-after_first e es old new made = ap (λ (r : Result Members EditFault). on_line e.line r >>= after_edits es) made
+after_first e es old new made = ap (λ (r : Result Members EditWhy). on_line e.line r >>= after_edits es) made
 
-pub rest_next : (edits : List Edit) (i : ℕ) (e : Edit) (old new : Members) (whole : Result Members (ℕ × EditFault)) → i < length edits → e ≡ get_or edits i e
+pub rest_next : (edits : List Edit) (i : ℕ) (e : Edit) (old new : Members) (whole : Result Members (ℕ × EditWhy)) → i < length edits → e ≡ get_or edits i e
     → after_edit (edit_view e).change old ≡ Ok new → after_edits (map edit_view (drop i edits)) old ≡ whole
     → after_edits (map edit_view (drop (i + 1) edits)) new ≡ whole
 rest_next edits i e old new whole within is made so_far =
@@ -50,18 +50,18 @@ all_told edits i now first told past so_far =
     subst (AreSummaries (map edit_view edits) first) (append-nil told)
     (so_far [] (subst (λ (es : List Edit). AreSummaries (map edit_view es) now []) (sym (drop_all i edits past)) tt))
 
-refused_here : (line : ℕ) (r : Result Members EditFault) (others : Members → Result Members (ℕ × EditFault)) (x : ℕ × EditFault)
+refused_here : (line : ℕ) (r : Result Members EditWhy) (others : Members → Result Members (ℕ × EditWhy)) (x : ℕ × EditWhy)
     → on_line line r ≡ Err x → (on_line line r >>= others) ≡ Err x
 refused_here line (Ok table) others x is = cc
-refused_here line (Err fault) others x is = is
+refused_here line (Err why) others x is = is
 
-pub cause_now : (edits : List Edit) (i : ℕ) (e : Edit) (old : Members) (whole : Result Members (ℕ × EditFault)) (why : EditRefusal) → i < length edits
+pub cause_now : (edits : List Edit) (i : ℕ) (e : Edit) (old : Members) (whole : Result Members (ℕ × EditWhy)) (why : EditRefusal) → i < length edits
     → e ≡ get_or edits i e → IsCause {A = Members} (on_line (edit_view e).line (after_edit (edit_view e).change old)) why
     → after_edits (map edit_view (drop i edits)) old ≡ whole → IsCause whole why
 cause_now edits i e old whole refusal.Memory within is cause so_far = tt
-cause_now edits i e old whole (refusal.Refused line fault) within is cause so_far =
+cause_now edits i e old whole (refusal.Refused line reason) within is cause so_far =
     sym so_far ∙ ap (λ (es : List meant.Edit). after_edits es old) (left edits i e within is)
-    ∙ refused_here (edit_view e).line (after_edit (edit_view e).change old) (after_edits (map edit_view (drop (i + 1) edits))) (line, fault) cause
+    ∙ refused_here (edit_view e).line (after_edit (edit_view e).change old) (after_edits (map edit_view (drop (i + 1) edits))) (line, reason) cause
 
 -- a summary that was pushed
 pub pushed_one : {T E : Type 0} (r : Result T E) (failed : Bool) (old new : List Summary) (s : Summary) → failed ≡ is_err r → failed ≡ false

@@ -19,7 +19,9 @@ use Rattle.edit_core.specs.inner.Kept.{IsDescription, IsKept, Refuses, entries_o
 use Rattle.edit_core.specs.Summaries.{IsStarted, TellsOf}
 use Rattle.edit_core.specs.inner.Summaries.{IsApplied}
 use Rattle.edit_core.specs.declared.fault.EditFault.{EditFault}
-use Rattle.edit_core.specs.declared.fault.EditFault.TheVariants.{NoPolicy, Absent, Refused, Memory}
+use Rattle.edit_core.specs.declared.fault.EditFault.TheVariants.{Refused, Memory}
+use Rattle.edit_core.specs.declared.fault.EditWhy.{EditWhy}
+use Rattle.edit_core.specs.declared.fault.EditWhy.TheVariants as why
 use Rattle.edit_core.specs.declared.summary.Summary.{Summary}
 use Rattle.edit_core.specs.Edit.{Change}
 use Rattle.net_core.specs.Network.{Network}
@@ -57,17 +59,15 @@ started bytes table (Err desc.Memory) read is described none = tt
 -- ---- an edit
 
 -- an edit that goes on, and what is said of a table by its description
-abbrev goes_on : Result Members EditFault → Result Members EditFault
+abbrev goes_on : Result Members EditWhy → Result Members EditWhy
 goes_on r = r >>= if_described
 
-abbrev pub said_of : Members → Result Network Refusal → Result Members EditFault
-said_of table r = result_map_both (λ d. table) (λ refusal. Refused refusal.why) r
+abbrev pub said_of : Members → Result Network Refusal → Result Members EditWhy
+said_of table r = result_map_both (λ d. table) (λ refusal. why.Refused refusal.why) r
 
 pub not_edited : (change : Change) (old : Members) (fault : EditFault) → Gives (edited change old) (Err fault) → IsApplied change old old (Err fault)
 unfolding after_edit
-not_edited change old NoPolicy said = (ap goes_on said, refl)
-not_edited change old Absent said = (ap goes_on said, refl)
-not_edited change old (Refused why) said = (ap goes_on said, refl)
+not_edited change old (Refused reason) said = (ap goes_on said, refl)
 not_edited change old Memory said = refl
 
 pub not_described : (change : Change) (old new : Members) (fault : DescFault) → edited change old ≡ Ok new → Refuses new fault

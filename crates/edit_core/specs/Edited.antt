@@ -9,8 +9,8 @@ use Rattle.desc_core.specs.Description.{described_by_table}
 use Rattle.desc_core.specs.Migrated.{with_member}
 use Rattle.desc_form.specs.Places.{assigns_of, listed}
 use Rattle.desc_form.specs.Written.{text_in}
-use Rattle.edit_core.specs.declared.fault.EditFault.{EditFault}
-use Rattle.edit_core.specs.declared.fault.EditFault.TheVariants.{NoPolicy, Absent, Refused}
+use Rattle.edit_core.specs.declared.fault.EditWhy.{EditWhy}
+use Rattle.edit_core.specs.declared.fault.EditWhy.TheVariants.{NoPolicy, Absent, Refused}
 use Rattle.edit_core.specs.Edit.{Change, Add, Remove, Set, Unset}
 use Rattle.table_core.specs.Tables.{elements_of, list_at, text_at}
 use Rattle.toml.specs.Data.{Data, string, array, table, Members, as_str, as_table}
@@ -27,7 +27,7 @@ abbrev pub with_list : List ℕ → List Data → Members → Members
 with_list key ds document = with_member key (array (items_of ds)) document
 
 -- the elements that fail a test, which one of them has to pass
-abbrev pub others : (Data → Bool) → List Data → Result (List Data) EditFault
+abbrev pub others : (Data → Bool) → List Data → Result (List Data) EditWhy
 others test ds = if list_any test ds then Ok (filter (λ d. not (test d)) ds) else Err Absent
 
 -- ---- flows
@@ -48,7 +48,7 @@ abbrev pub is_between : (from to : List ℕ) → Data → Bool
 is_between from to d = option_map_or (begins_with from to) (elements_of d) false
 
 -- the table with its list of flows changed
-abbrev pub flows_edited : Members → (List Data → Result (List Data) EditFault) → Result Members EditFault
+abbrev pub flows_edited : Members → (List Data → Result (List Data) EditWhy) → Result Members EditWhy
 flows_edited document change = ok_or (list_at (codes "flow") document) NoPolicy >>= change >>= λ flows. Ok (with_list (codes "flow") flows document)
 
 -- ---- assigns
@@ -67,7 +67,7 @@ abbrev pub invariant_with : List Data → Data → Data
 invariant_with ds d = option_map_or (λ ms. table (with_list (codes "assign") ds ms)) (as_table d) d
 
 -- the table with the assigns of an invariant changed, by its number from 1
-abbrev pub assigns_edited : ℕ → Members → (List Data → Result (List Data) EditFault) → Result Members EditFault
+abbrev pub assigns_edited : ℕ → Members → (List Data → Result (List Data) EditWhy) → Result Members EditWhy
 assigns_edited k document change = do
   invariant ← ok_or (slice_get (listed (codes "invariant") document) (k - 1)) Absent
   assigns ← change (assigns_of invariant)
@@ -77,16 +77,16 @@ assigns_edited k document change = do
 
 -- the edited table: it may be no description. There is none where no flows are listed, where there is no such invariant, and where there
 -- is nothing to take out
-unfoldable pub edited : Change → Members → Result Members EditFault
+unfoldable pub edited : Change → Members → Result Members EditWhy
 edited (Add words) document = flows_edited document (λ flows. Ok (flows ++ text_list words ∷ []))
 edited (Remove from to) document = flows_edited document (others (is_between from to))
 edited (Set k assign) document = assigns_edited k document (λ assigns. Ok (assigned (text_in (codes "host") assign) assign assigns))
 edited (Unset k host) document = assigns_edited k document (others (is_of_host host))
 
 -- a table that is a description; one that is none is refused for the first condition that holds
-abbrev pub if_described : Members → Result Members EditFault
+abbrev pub if_described : Members → Result Members EditWhy
 if_described document = result_map_both (λ d. document) (λ refusal. Refused refusal.why) (described_by_table document)
 
 -- the table after an edit, or why the edit is refused
-unfoldable pub after_edit : Change → Members → Result Members EditFault
+unfoldable pub after_edit : Change → Members → Result Members EditWhy
 after_edit change document = edited change document >>= if_described

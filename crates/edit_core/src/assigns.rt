@@ -11,7 +11,7 @@ ghost use Rattle.edit_core.specs.inner.EditFaults.{Gives};
 ghost use Rattle.toml.specs.Data.{table};
 ghost use Rattle.toml.specs.View.{table_view, view};
 
-use crate::fault::EditFault;
+use crate::fault::{EditFault, EditWhy};
 use crate::values::{copy_table, copy_value, copy_values, with_list};
 use std::alloc::{AllocError, Global};
 use table_core::{list_at, text_at};
@@ -28,7 +28,7 @@ pub(crate) fn set_in(
     ensures { Gives (edited (Set number (table_view assign.now)) (table_view document.now)) (result_map_both table_view (λ fault. fault) result) }
 {
     let Some(invariant) = invariant_at(document, number) else {
-        return Err(EditFault::Absent);
+        return Err(EditFault::Refused(EditWhy::Absent));
     };
     let assigns = assigned(alloc, assigns_of(invariant), assign)?;
     Ok(with_assigns(alloc, document, number, invariant, assigns)?)
@@ -45,7 +45,7 @@ pub(crate) fn unset_in(
     ensures { Gives (edited (Unset number host.now) (table_view document.now)) (result_map_both table_view (λ fault. fault) result) }
 {
     let Some(invariant) = invariant_at(document, number) else {
-        return Err(EditFault::Absent);
+        return Err(EditFault::Refused(EditWhy::Absent));
     };
     let assigns = other_assigns(alloc, assigns_of(invariant), host)?;
     Ok(with_assigns(alloc, document, number, invariant, assigns)?)
@@ -191,7 +191,7 @@ fn other_assigns(alloc: Global, listed: &[Value], host: &str) -> Result<Vec<Valu
     let mut assigns = copy_values(alloc, listed)?;
     retain_others(&mut assigns, host);
     if assigns.len() == listed.len() {
-        return Err(EditFault::Absent);
+        return Err(EditFault::Refused(EditWhy::Absent));
     }
     Ok(assigns)
 }

@@ -7,15 +7,22 @@ ghost use Rattle.edit_core.specs.declared.fault.EditFault.TheVariants.{Memory};
 use desc_core::{DescFault, Why};
 use std::alloc::{AllocError, AllocFailed};
 
-/// Why an edit is refused. The table is then as it was.
+/// Why an edit is refused.
 #[derive(Clone, Copy, Debug, PartialEq, Eq)]
-pub enum EditFault {
+pub enum EditWhy {
     /// The description lists no flows.
     NoPolicy,
     /// There is no such invariant, or nothing to take out.
     Absent,
     /// The edited table would be no description.
     Refused(Why),
+}
+
+/// Why an edit is not made. The table is then as it was.
+#[derive(Clone, Copy, Debug)]
+pub enum EditFault {
+    /// The edit is refused.
+    Refused(EditWhy),
     /// Memory ran out.
     Memory,
 }
@@ -25,7 +32,7 @@ impl From<DescFault> for EditFault {
 
     fn from(fault: DescFault) -> EditFault {
         match fault {
-            DescFault::Refused(refusal) => EditFault::Refused(refusal.why),
+            DescFault::Refused(refusal) => EditFault::Refused(EditWhy::Refused(refusal.why)),
             DescFault::Memory => EditFault::Memory,
         }
     }

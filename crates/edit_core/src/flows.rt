@@ -7,7 +7,7 @@ ghost use Rattle.edit_core.specs.Edited.{edited, is_between, is_text, others};
 ghost use Rattle.edit_core.specs.inner.EditFaults.{Gives};
 ghost use Rattle.toml.specs.View.{table_view, view};
 
-use crate::fault::EditFault;
+use crate::fault::{EditFault, EditWhy};
 use crate::values::{copy_values, text_list, with_list};
 use std::alloc::Global;
 use table_core::{elements, list_at};
@@ -19,7 +19,7 @@ pub(crate) fn add_to(alloc: Global, table: &Table, words: &[String]) -> Result<T
     ensures { Gives (edited (Add (map string_bytes words.now)) (table_view table.now)) (result_map_both table_view (λ fault. fault) result) }
 {
     let Some(listed) = list_at(table, "flow") else {
-        return Err(EditFault::NoPolicy);
+        return Err(EditFault::Refused(EditWhy::NoPolicy));
     };
     let mut flows = copy_values(alloc, listed)?;
     flows.push(text_list(alloc, words)?)?;
@@ -37,7 +37,7 @@ pub(crate) fn remove_from(
     ensures { Gives (edited (Remove from.now to.now) (table_view table.now)) (result_map_both table_view (λ fault. fault) result) }
 {
     let Some(listed) = list_at(table, "flow") else {
-        return Err(EditFault::NoPolicy);
+        return Err(EditFault::Refused(EditWhy::NoPolicy));
     };
     let flows = other_flows(alloc, listed, from, to)?;
     Ok(with_list(alloc, table, "flow", flows)?)
@@ -55,7 +55,7 @@ fn other_flows(
     let mut flows = copy_values(alloc, listed)?;
     retain_others(&mut flows, from, to);
     if flows.len() == listed.len() {
-        return Err(EditFault::Absent);
+        return Err(EditFault::Refused(EditWhy::Absent));
     }
     Ok(flows)
 }

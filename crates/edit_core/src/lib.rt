@@ -17,7 +17,7 @@ mod text;
 mod values;
 
 pub use edit::{Change, Edit};
-pub use fault::EditFault;
+pub use fault::{EditFault, EditWhy};
 pub use run::EditRefusal;
 pub use session::Session;
 pub use summary::Summary;

@@ -10,7 +10,7 @@ ghost use Rattle.edit_core.specs.Summaries.{IsSummary};
 ghost use Rattle.edit_core.specs.inner.EditView.{edit_view};
 
 use crate::edit::Edit;
-use crate::fault::EditFault;
+use crate::fault::{EditFault, EditWhy};
 use crate::session::Session;
 use crate::summary::Summary;
 use std::alloc::Global;
@@ -18,7 +18,7 @@ use std::alloc::Global;
 /// The first edit that is refused, by its line, and why.
 #[derive(Clone, Copy, Debug, PartialEq, Eq)]
 pub enum EditRefusal {
-    Refused { line: u32, fault: EditFault },
+    Refused { line: u32, why: EditWhy },
     /// Memory ran out.
     Memory,
 }
@@ -45,15 +45,15 @@ impl Session {
     fn step(&mut self, edit: &Edit) -> Result<Summary, EditRefusal>
         ensures table { OnOk result (after_edit (edit_view edit.now).change (table_of self.old) ≡ Ok (table_of self.new)) }
         ensures summary { IfOk result (IsSummary (table_of self.new)) }
-        ensures refused { IfErr result (IsCause (result_map_both (λ next. next) (λ fault. ((edit_view edit.now).line, fault)) (after_edit (edit_view edit.now).change (table_of self.old)))) }
+        ensures refused { IfErr result (IsCause (result_map_both (λ next. next) (λ why. ((edit_view edit.now).line, why)) (after_edit (edit_view edit.now).change (table_of self.old)))) }
     {
         match self.apply(edit) {
             Ok(summary) => Ok(summary),
-            Err(EditFault::Memory) => Err(EditRefusal::Memory),
-            Err(fault) => Err(EditRefusal::Refused {
+            Err(EditFault::Refused(why)) => Err(EditRefusal::Refused {
                 line: edit.line(),
-                fault,
+                why,
             }),
+            Err(EditFault::Memory) => Err(EditRefusal::Memory),
         }
     }
 }

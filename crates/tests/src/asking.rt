@@ -10,15 +10,22 @@ use std::alloc::{AllocError, Global};
 /// For each host as the sender, whether its flows to each other host pass.
 pub(crate) fn answers_of<R: EdgeRule>(alloc: Global, rule: &R) -> Result<Vec<bool>, AllocError> {
     let mut all = Vec::new(alloc);
-    let hosts = rule.hosts();
-    for i in 0..hosts {
-        for j in 0..hosts {
-            if i != j {
-                all.push(rule.passes(i, j))?;
-            }
-        }
+    for sender in 0..rule.hosts() {
+        push_answers(&mut all, rule, sender)?;
     }
     Ok(all)
+}
+
+/// Puts for each other host whether the flow of the sender to it passes.
+fn push_answers<R: EdgeRule>(all: &mut Vec<bool>, rule: &R, sender: u16) -> Result<(), AllocError>
+    requires { sender < R.size_of rule.now }
+{
+    for receiver in 0..rule.hosts() {
+        if receiver != sender {
+            all.push(rule.passes(sender, receiver))?;
+        }
+    }
+    Ok(())
 }
 
 /// Whether the flow is admitted, and whether it is after the reset of the host.

@@ -45,11 +45,22 @@ impl Kind for NetKind {
 fn table_of<K: Kind>(alloc: Global, kinds: &[K]) -> Result<Vec<bool>, AllocError> {
     let mut all = Vec::new(alloc);
     for sender in kinds {
-        for receiver in kinds {
-            all.push(sender.passes_to(alloc, *receiver)?)?;
-        }
+        push_row(alloc, &mut all, *sender, kinds)?;
     }
     Ok(all)
+}
+
+// Puts for each kind whether a flow of the sender to it passes.
+fn push_row<K: Kind>(
+    alloc: Global,
+    all: &mut Vec<bool>,
+    sender: K,
+    kinds: &[K],
+) -> Result<(), AllocError> {
+    for receiver in kinds {
+        all.push(sender.passes_to(alloc, *receiver)?)?;
+    }
+    Ok(())
 }
 
 // The table of all kinds.

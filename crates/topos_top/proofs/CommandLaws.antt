@@ -72,7 +72,7 @@ settled_machines holds d host sound = record {
 }
 
 settled_trace : (dialect : Dialect) (rules : (language_of dialect).Rules) (events : List Event) → IsSound (kind.Rules dialect) rules → IsSound kind.Events events
-    → IsSettled (trace_job dialect rules events)
+    → IsSettled (trace_job ((language_of dialect).filter rules) events)
 settled_trace Iptables chains events sound packets =
     let once = chains_answer_once chains in
     settled_writes _ _ (trace_is_one _ (PassesChains chains) once events (any_known events)) (tells_run _ (PassesChains chains) once events (any_known events))

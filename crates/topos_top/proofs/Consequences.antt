@@ -14,7 +14,7 @@ use Rattle.topos_top.specs.Promises.{AtFile, AtJob, HasCause, IsComplete}
 use Rattle.topos_top.specs.Replies.{Replies, RepliesTo, NoMemory, Stopped, Stops, StopsAt, telling}
 use Rattle.topos_top.specs.Reply.{Reply}
 use Rattle.topos_top.specs.Shelf.{Shelf, ShelfChange, since}
-use Rattle.topos_top.specs.Taken.{SinkChange, Took, IsSaid, WentTo, IsGiven}
+use Rattle.topos_top.specs.Taken.{SinkChange, WentTo, IsGiven}
 use Rattle.topos_top.specs.declared.kind.Kind.{Kind}
 use Rattle.topos_top.specs.declared.status.Status.{Status}
 use Rattle.topos_top.specs.declared.status.Status.TheVariants as status
@@ -28,10 +28,6 @@ use Rattle.topos_top.proofs.KindLaws.{reads_once}
 pub given_whole : (out err : SinkChange) (reply : Reply) (ended : Status) → IsGiven out err reply ended → (Rose out.faults_before out.faults_after → ⊥)
     → (ended ≡ reply.status) × WentTo reply.stream out err reply.text
 given_whole out err reply ended given no_fault = elim given [ inl whole ↦ whole | inr cut ↦ absurd (no_fault cut.2.1) ]
-
--- where the error stream had none, it took its line whole
-pub heard_whole : (err : SinkChange) (line : List ℕ) → IsSaid err line → (Rose err.faults_before err.faults_after → ⊥) → Took err line
-heard_whole err line said no_fault = elim said.1 [ inl fault ↦ absurd (no_fault fault) | inr took ↦ took ]
 
 -- ---- how a command ends by what its told files say
 

@@ -9,7 +9,7 @@ use Rattle.topos_top.specs.Course.{Course, reads, ends, CameAlong}
 use Rattle.topos_top.specs.Job.{Job, Answers, AnswersFirst}
 use Rattle.topos_top.specs.Kinds.{contents_of}
 use Rattle.topos_top.specs.inner.Reads.{MayRead}
-use Rattle.topos_top.specs.Replies.{Stops, StopsAt, NoMemory, Stopped, MayReply}
+use Rattle.topos_top.specs.Replies.{Stops, NoMemory, Stopped, MayReply}
 use Rattle.topos_top.specs.Reply.{Reply, no_memory}
 use Rattle.topos_top.specs.Shelf.{Shelf, ShelfChange, SawFile, TookBytes, taken_of}
 use Rattle.topos_top.specs.inner.JobReplies.{job_reply}
@@ -25,11 +25,6 @@ use Rattle.topos_top.proofs.KindLaws.{IsSound-Reads, reads_once, reads_or_refuse
 -- a shelf between two moments
 abbrev pub between : Type 0 → (before after : Shelf) → ShelfChange
 between only before after = record { before = before; after = after; only_failures = only }
-
--- a file that was not accepted ends the run
-pub stopped : (on : Bool) (kind : Kind) (file : List ℕ) (next : (contents_of kind).Said → Course) (shelf : ShelfChange) (given : Reply)
-    → MayRead kind file shelf (Err given) → MayReply on (reads kind file next) shelf given
-stopped on kind file next shelf given stops = inl stops
 
 -- after one that was accepted the run goes on
 pub went_on : {only : Type 0} (on : Bool) (kind : Kind) (file : List ℕ) (next : (contents_of kind).Said → Course) (before mid after : Shelf) (said : (contents_of kind).Said) (given : Reply)
@@ -57,21 +52,6 @@ pub went_to_job : {only : Type 0} (on : Bool) (kind : Kind) (file : List ℕ) (j
     → MayReply on (reads kind file (λ x. ends (job x))) (between only before after) given
 went_to_job on kind file job before after said made given read answers is =
     went_on on kind file (λ x. ends (job x)) before after after said given read (refl, job_answers on (job said) made given answers is)
-
--- a second file stopped it
-pub then_stopped : {only : Type 0} (on : Bool) (kind other : Kind) (file second : List ℕ) (next : (x : (contents_of kind).Said) → (contents_of other).Said → Course) (before mid after : Shelf) (said : (contents_of kind).Said) (given : Reply)
-    → MayRead kind file (between only before mid) (Ok said) → StopsAt (between only mid after) other second given
-    → MayReply on (reads kind file (λ x. reads other second (next x))) (between only before after) given
-then_stopped on kind other file second next before mid after said given read stops =
-    went_on on kind file (λ x. reads other second (next x)) before mid after said given read (inl stops)
-
--- there was no memory for the job behind two files
-pub then_no_memory : {only : Type 0} (on : Bool) (kind other : Kind) (file second : List ℕ) (job : (contents_of kind).Said → (contents_of other).Said → Job) (before mid after : Shelf) (said : (contents_of kind).Said) (told : (contents_of other).Said) (given : Reply)
-    → MayRead kind file (between only before mid) (Ok said) → MayRead other second (between only mid after) (Ok told) → given ≡ no_memory
-    → MayReply on (reads kind file (λ x. reads other second (λ y. ends (job x y)))) (between only before after) given
-then_no_memory on kind other file second job before mid after said told given read read_second is =
-    went_on on kind file (λ x. reads other second (λ y. ends (job x y))) before mid after said given read
-    (went_on on other second (λ y. ends (job said y)) mid after after told given read_second (refl, inl is))
 
 -- ---- what is so at the end of a course
 

@@ -3,7 +3,7 @@ use Rattle.std.proofs.Common.{◌≡◌, ℕ, ◌+◌, List, [], ◌∷◌, ◌+
 use Rattle.desc_core.proofs.NetworkLaws.{IsNetwork-table}
 use Rattle.edit_core.specs.Runs.{AreSummaries, after_edits}
 use Rattle.edit_core.proofs.SummaryLaws.{summaries_are_one}
-use Rattle.edit_core.specs.declared.fault.EditFault.{EditFault}
+use Rattle.edit_core.specs.declared.fault.EditWhy.{EditWhy}
 use Rattle.edit_core.specs.declared.summary.Summary.{Summary}
 use Rattle.edit_core.specs.Edit.{Edit}
 use Rattle.net_core.specs.Network.{Network}
@@ -46,8 +46,8 @@ module _ (table : Members) (edits : List Edit) where
   line_is_one a b p q =
       let here = p.refused in
       let there = q.refused in
-      let same : ◌≡◌ {A = ℕ × EditFault} (p.number, p.fault) (q.number, q.fault) = cc (here, there) in
-      p.told ∙ ap (λ (why : ℕ × EditFault). edit_fault_line why.0 why.1) same ∙ sym q.told
+      let same : ◌≡◌ {A = ℕ × EditWhy} (p.number, p.why) (q.number, q.why) = cc (here, there) in
+      p.told ∙ ap (λ (told : ℕ × EditWhy). edit_fault_line told.0 told.1) same ∙ sym q.told
 
   pub text_is_one : (a b : List ℕ) → SaysEdits IsPolicyReport table edits a → SaysEdits IsPolicyReport table edits b → a ≡ b
   text_is_one a b p q =
@@ -75,11 +75,11 @@ module _ (table : Members) (edits : List Edit) where
 
   -- ---- what the code answers
 
-  pub ends_refused : (reply : Reply) (line : ℕ) (fault : EditFault) → after_edits edits table ≡ Err (line, fault)
-      → reply ≡ error BadText (edit_fault_line line fault) → Answers false (edit_job table edits) reply
-  ends_refused reply line fault refused is =
-      let says : SaysRefusal table edits (edit_fault_line line fault) = record { number = line; fault = fault; refused = refused; told = refl } in
-      subst (λ (r : Reply). Answers false (edit_job table edits) r) (sym is) (refl, inl (refl, (tt, edit_fault_line line fault, says), says))
+  pub ends_refused : (reply : Reply) (line : ℕ) (why : EditWhy) → after_edits edits table ≡ Err (line, why)
+      → reply ≡ error BadText (edit_fault_line line why) → Answers false (edit_job table edits) reply
+  ends_refused reply line why refused is =
+      let says : SaysRefusal table edits (edit_fault_line line why) = record { number = line; why = why; refused = refused; told = refl } in
+      subst (λ (r : Reply). Answers false (edit_job table edits) r) (sym is) (refl, inl (refl, (tt, edit_fault_line line why, says), says))
 
   pub ends_accepted : (reply : Reply) (last : Members) (summaries : List Summary) (text : List ℕ) → after_edits edits table ≡ Ok last
       → AreSummaries edits table summaries → SaysTable IsPolicyReport last summaries text → reply ≡ reply_on Done Output text

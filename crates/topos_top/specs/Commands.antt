@@ -4,6 +4,7 @@ use Rattle.topos_top.specs.Ask.{Ask, Check, Policy, Rules, Repair, Trace, Sample
 use Rattle.topos_top.specs.Audit.{audit_job, rules_in}
 use Rattle.topos_top.specs.Check.{check_job}
 use Rattle.topos_top.specs.Course.{Course, reads, ends, ReadsNothing}
+use Rattle.topos_top.specs.Dialects.{language_of}
 use Rattle.topos_top.specs.Edit.{edit_job}
 use Rattle.topos_top.specs.Local.{local_job}
 use Rattle.topos_top.specs.Migrate.{migrate_job}
@@ -19,7 +20,7 @@ course_of (Check file) = reads kind.Description file (λ d. ends (check_job d))
 course_of (Policy file) = reads kind.Description file (λ d. ends (policy_job d))
 course_of (Rules dialect file) = reads kind.Description file (λ d. ends (rules_job dialect d))
 course_of (Repair dialect file) = reads kind.Description file (λ d. ends (repair_job dialect d))
-course_of (Trace dialect rules events) = reads (kind.Rules dialect) rules (λ said. reads kind.Events events (λ es. ends (trace_job dialect said es)))
+course_of (Trace dialect rules events) = reads (kind.Rules dialect) rules (λ said. reads kind.Events events (λ es. ends (trace_job ((language_of dialect).filter said) es)))
 course_of (Sample hosts) = ends (sample_job hosts)
 course_of (Migrate file) = reads kind.Document file (λ text. ends (migrate_job text))
 course_of (Audit dialect file rules) = reads kind.Description file (λ d. reads (kind.Rules dialect) rules (λ said. ends (audit_job d (rules_in dialect said))))

@@ -2,7 +2,7 @@
 use Rattle.std.specs.Prelude.{◌≡◌, ℕ, ◌+◌, List, [], ◌∷◌, ◌++◌, Ok, Err, codes, decimal}
 use Rattle.desc_core.specs.Description.{described_by_table}
 use Rattle.edit_core.specs.Runs.{AreSummaries, after_edits}
-use Rattle.edit_core.specs.declared.fault.EditFault.{EditFault}
+use Rattle.edit_core.specs.declared.fault.EditWhy.{EditWhy}
 use Rattle.edit_core.specs.declared.summary.Summary.{Summary}
 use Rattle.edit_core.specs.Edit.{Edit}
 use Rattle.net_core.specs.Network.{Network}
@@ -47,9 +47,9 @@ pub record SaysEdits (Reports : Network → List ℕ → Type 0) (table : Member
 -- The line says which edit is the first that is refused, on the table that those before it leave, and why.
 pub record SaysRefusal (table : Members) (edits : List Edit) (line : List ℕ) : Type 0 where
   pub number : ℕ
-  pub fault : EditFault
-  pub refused : after_edits edits table ≡ Err (number, fault)
-  pub told : line ≡ edit_fault_line number fault
+  pub why : EditWhy
+  pub refused : after_edits edits table ≡ Err (number, why)
+  pub told : line ≡ edit_fault_line number why
 
 -- no edit is refused
 abbrev pub acceptance : Members → List Edit → End

@@ -1,8 +1,8 @@
 -- The line of a text of rules, of events or of edits that is refused, with its first line that is faulty and why (docs/TEXTS.md).
 use Rattle.std.specs.Prelude.{◌≡◌, ℕ, List, ◌++◌, codes, decimal}
 use Rattle.desc_form.specs.Refusals.{name}
-use Rattle.edit_core.specs.declared.fault.EditFault.{EditFault}
-use Rattle.edit_core.specs.declared.fault.EditFault.TheVariants as edit
+use Rattle.edit_core.specs.declared.fault.EditWhy.{EditWhy}
+use Rattle.edit_core.specs.declared.fault.EditWhy.TheVariants as edit
 use Rattle.ipt_read.specs.declared.fault.IptWhy.{IptWhy}
 use Rattle.ipt_read.specs.declared.fault.IptWhy.TheVariants as rules
 use Rattle.ofp_read.specs.declared.fault.OfpWhy.{OfpWhy}
@@ -42,12 +42,11 @@ list_reason list.BadLine = codes "BadLine"
 list_reason list.BadValue = codes "BadValue"
 list_reason list.TooMany = codes "TooMany"
 
--- Why an edit is refused on the table that it changes. Memory has a name as well, though no edit is refused for it.
-abbrev pub edit_reason : EditFault → List ℕ
+-- why an edit is refused on the table that it changes
+abbrev pub edit_reason : EditWhy → List ℕ
 edit_reason edit.NoPolicy = codes "NoPolicy"
 edit_reason edit.Absent = codes "Absent"
 edit_reason (edit.Refused why) = name why
-edit_reason edit.Memory = codes "Memory"
 
 -- a line by its number, from 1, and the reason; line 0 stands for the whole text
 abbrev pub fault_line : (text : List ℕ) → (line : ℕ) → (reason : List ℕ) → List ℕ
@@ -60,5 +59,5 @@ pub record TellsFault {Why : Type 0} (text : List ℕ) (reason_of : Why → List
   pub fault : HasFault bytes number why
   pub told : line ≡ fault_line text number (reason_of why)
 
-unfoldable pub edit_fault_line : (line : ℕ) → EditFault → List ℕ
-edit_fault_line line fault = fault_line (codes "edits") line (edit_reason fault)
+unfoldable pub edit_fault_line : (line : ℕ) → EditWhy → List ℕ
+edit_fault_line line why = fault_line (codes "edits") line (edit_reason why)

@@ -69,10 +69,9 @@ fn answer<'a>(
             let text = text_of(alloc, session, &summaries)?;
             Ok(Answer::done(Text::Bytes(text)))
         }
-        Err(EditRefusal::Refused { line, fault }) => Ok(Answer::error(
-            Status::BadText,
-            Text::RefusedEdit(line, fault),
-        )),
+        Err(EditRefusal::Refused { line, why }) => {
+            Ok(Answer::error(Status::BadText, Text::RefusedEdit(line, why)))
+        }
         Err(EditRefusal::Memory) => Err(AllocError),
     }
 }

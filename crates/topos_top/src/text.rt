@@ -13,7 +13,7 @@ use crate::lines::put_lines;
 use crate::text_fault::edit_reason;
 use desc_core::Refusal;
 use edge_io::{Sink, WriteFault, put_all, put_pieces};
-use edit_core::EditFault;
+use edit_core::EditWhy;
 use ipt_rules::Ruleset;
 use ofp_rules::Table;
 use report_core::{Report, refusal_line};
@@ -31,7 +31,7 @@ pub enum Text<'a> {
     /// or 0 for the whole of it, and why.
     Fault(&'static [u8], u32, &'static [u8]),
     /// The line of an edit that is refused: the number of its line, and why.
-    RefusedEdit(u32, EditFault),
+    RefusedEdit(u32, EditWhy),
     /// The line of want of memory.
     NoMemory,
     /// A report.
@@ -60,9 +60,7 @@ impl<'a> Text<'a> {
             }
             Text::Refusal(why) => put_refusal(sink, why),
             Text::Fault(text, line, reason) => put_fault(sink, text, *line, reason),
-            Text::RefusedEdit(line, fault) => {
-                put_fault(sink, b"edits", *line, edit_reason(fault))
-            }
+            Text::RefusedEdit(line, why) => put_fault(sink, b"edits", *line, edit_reason(why)),
             Text::NoMemory => put_all(sink, b"topos: out of memory\n"),
             Text::Report(report) => put_all(sink, report.bytes()),
             Text::Bytes(bytes) => put_all(sink, bytes),

@@ -3,7 +3,7 @@
 ghost use Rattle.std.specs.Prelude.{◌≡◌};
 ghost use Rattle.topos_top.specs.TextFault.{rules_reason, flows_reason, list_reason, edit_reason};
 
-use edit_core::EditFault;
+use edit_core::EditWhy;
 use ipt_read::IptWhy;
 use ofp_read::OfpWhy;
 use text_core::ListWhy;
@@ -58,13 +58,12 @@ pub fn list_reason(why: ListWhy) -> &'static [u8]
 }
 
 /// Why an edit is refused on the description that it changes.
-pub fn edit_reason(fault: &EditFault) -> &[u8]
-    ensures { result.now ≡ edit_reason fault.now }
+pub fn edit_reason(why: &EditWhy) -> &[u8]
+    ensures { result.now ≡ edit_reason why.now }
 {
-    match fault {
-        EditFault::NoPolicy => b"NoPolicy",
-        EditFault::Absent => b"Absent",
-        EditFault::Refused(why) => why.name().as_bytes(),
-        EditFault::Memory => b"Memory",
+    match why {
+        EditWhy::NoPolicy => b"NoPolicy",
+        EditWhy::Absent => b"Absent",
+        EditWhy::Refused(why) => why.name().as_bytes(),
     }
 }

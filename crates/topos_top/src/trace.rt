@@ -5,12 +5,16 @@ ghost use Rattle.audit_core.specs.Rules.{filter_of};
 ghost use Rattle.report_core.specs.Trace.{IsTrace};
 ghost use Rattle.topos_top.specs.Ask.{Trace};
 ghost use Rattle.topos_top.specs.Commands.{course_of};
+ghost use Rattle.topos_top.specs.Course.{reads, ends};
+ghost use Rattle.topos_top.specs.Job.{Answers};
 ghost use Rattle.topos_top.specs.Replies.{MayReply};
 ghost use Rattle.topos_top.specs.Shelf.{shelf_change};
-ghost use Rattle.topos_top.specs.inner.Views.{reply_in, rules_view};
+ghost use Rattle.topos_top.specs.Trace.{trace_job};
+ghost use Rattle.topos_top.specs.inner.Views.{reply_in, reply_view, rules_view};
 
 use crate::answer::Answer;
 use crate::dialect::{Dialect, Rules};
+use crate::kind::Kind;
 use crate::reading::{read_events, read_rules};
 use crate::text::Text;
 use edge_io::Shelf;
@@ -32,8 +36,30 @@ pub fn reply<'a, H: Shelf>(
         (shelf_change H.Shelf shelf.old shelf.new) (reply_in result) }
 {
     let rules = read_rules(alloc, dialect, rules, shelf)?;
+    reply_for(alloc, &rules, events, shelf)
+}
+
+/// The same for rules that were read: the answer to the events.
+fn reply_for<'a, H: Shelf>(
+    alloc: Global,
+    rules: &Rules,
+    events: &'a str,
+    shelf: &mut H,
+) -> Result<Answer<'a>, Answer<'a>>
+    ensures same_files { H.files shelf.new ≡ H.files shelf.old }
+    ensures faults_stay { H.faults shelf.old ≤ H.faults shelf.new }
+    ensures reply { MayReply false (reads Kind.Events events.now (λ es. ends (trace_job (filter_of (rules_view rules.now)) es)))
+        (shelf_change H.Shelf shelf.old shelf.new) (reply_in result) }
+{
     let events = read_events(alloc, events, shelf)?;
-    let text = trace_text(alloc, &rules, &events)?;
+    Answer::of_job(answer(alloc, rules, &events))
+}
+
+/// The lines of the events.
+fn answer<'a>(alloc: Global, rules: &Rules, events: &[Event]) -> Result<Answer<'a>, AllocError>
+    ensures { IfOk result (λ answer. Answers false (trace_job (filter_of (rules_view rules.now)) events.now) (reply_view answer)) }
+{
+    let text = trace_text(alloc, rules, events)?;
     Ok(Answer::done(Text::Bytes(text)))
 }
 

@@ -1,16 +1,19 @@
 -- What is answered to an edit, against what the definitions say; memory may run out instead at any time.
-use Rattle.std.specs.Prelude.{◌≡◌, Result, Err}
+use Rattle.std.specs.Prelude.{◌≡◌, Result, Ok, Err}
 use Rattle.desc_core.specs.declared.fault.DescFault.{DescFault}
 use Rattle.desc_core.specs.declared.fault.DescFault.TheVariants as desc
 use Rattle.edit_core.specs.declared.fault.EditFault.{EditFault}
 use Rattle.edit_core.specs.declared.fault.EditFault.TheVariants.{Refused, Memory}
+use Rattle.edit_core.specs.declared.fault.EditWhy.{EditWhy}
+use Rattle.edit_core.specs.declared.fault.EditWhy.TheVariants as why
 
 -- the fault of a table that is no description
 abbrev pub edit_fault : DescFault → EditFault
-edit_fault (desc.Refused refusal) = Refused refusal.why
+edit_fault (desc.Refused refusal) = Refused (why.Refused refusal.why)
 edit_fault desc.Memory = Memory
 
 -- what is given is what is said
-abbrev pub Gives : {A : Type 0} → Result A EditFault → Result A EditFault → Type 0
+abbrev pub Gives : {A : Type 0} → Result A EditWhy → Result A EditFault → Type 0
+Gives said (Ok x) = said ≡ Ok x
+Gives said (Err (Refused refused)) = said ≡ Err refused
 Gives said (Err Memory) = Unit {0}
-Gives said given = said ≡ given

@@ -6,5 +6,5 @@ use Rattle.topos_top.proofs.edit.answer.Goals as goal
 
 pub returns-in-Err-Refused : goal.returns-in-Err-Refused
 returns-in-Err-Refused c =
-    ends_refused (table_of c.args.session.now) (map edit_view c.args.edits.now) _ c.in-Err-Refused.line c.in-Err-Refused.fault
+    ends_refused (table_of c.args.session.now) (map edit_view c.args.edits.now) _ c.in-Err-Refused.line c.in-Err-Refused.why
     (rw c.in-Err-Refused.field-0-is at c.in-Err-Refused.ensures.refused) (rw c.in-Err-Refused.field-0-is at c.error.ensures)

@@ -1,0 +1,18 @@
+use Rattle.std.proofs.Common.{inl, false}
+use Rattle.std.proofs.lemmas.Result.{err_from_is_err_and}
+use Rattle.audit_core.specs.Rules.{filter_of}
+use Rattle.topos_top.specs.Trace.{trace_job}
+use Rattle.topos_top.specs.inner.Views.{reply_in, rules_view}
+use Rattle.topos_top.specs.declared.kind.Kind.TheVariants.{Events}
+use Rattle.topos_top.proofs.CourseLaws.{went_to_job}
+use Rattle.topos_top.proofs.trace.reply_for.Goals as goal
+
+pub returns-in_err-events-clause-reply : goal.returns-in_err-events-clause-reply
+returns-in_err-events-clause-reply g c =
+    let p = err_from_is_err_and c.from_residual.result c.from_residual.ensures.1 in
+    rw (p.1, p.2) (inl c.in_err-events.ensures.reading)
+
+pub returns-clause-reply : goal.returns-clause-reply
+returns-clause-reply g c =
+    went_to_job false Events c.args.events.now (trace_job (filter_of (rules_view c.args.rules.now))) _ _ c.in_ok-events.events.items c.answer.result (reply_in c.of_job.result)
+    c.in_ok-events.ensures.reading (rw c.deref.ensures.value at c.answer.ensures) c.of_job.ensures
