@@ -21,11 +21,6 @@ pub table_is : (t : WrittenTemplate) (name : List ℕ) (strategy : Strategy) (ki
 table_is t name strategy kinds default denied a b c d e =
     λ i. record { name = a i; strategy = b i; kinds = c i; default = d i; denied = e i }
 
--- a name that is one is kept
-pub name_kept : (legal : Bool) (text : List ℕ) → legal ≡ true → unwrap_or (if legal then Some text else None) [] ≡ text
-name_kept true text is = refl
-name_kept false text is = cc
-
 -- every number is one of a kind
 number_by : (kinds : List (List ℕ)) (word : List ℕ) (o : Option ℕ) → o ≡ kind_numbered kinds word → 1 ≤ length kinds → unwrap_or o 0 < length kinds
 number_by kinds word None is some = omega (arith, some)
