@@ -1,12 +1,12 @@
 -- The table that the code makes of a declared template.
-use Rattle.std.proofs.Common.{◌≡◌, ℕ, ◌≤◌, ◌<◌, ◌+◌, Bool, true, false, List, [], length, Option, Some, None, refl, sym, arith}
+use Rattle.std.proofs.Common.{◌≡◌, ℕ, ◌≤◌, ◌<◌, ◌+◌, List, length, Option, Some, None, refl, sym, arith}
 use Rattle.std.proofs.lemmas.List.Elements.{All-map}
 use Rattle.std.specs.List.{All}
 use Rattle.std.specs.Str.{bytes_eq}
 use Rattle.attr_core.specs.OwnTables.{kind_numbered}
 use Rattle.attr_core.proofs.OwnTablesLaws.{found_within}
 use Rattle.desc_form.specs.WrittenTemplate.{WrittenPair}
-use Rattle.std.specs.Prelude.{if◌then◌else◌, unwrap_or}
+use Rattle.std.specs.Prelude.{unwrap_or}
 use Rattle.desc_core.specs.Choices.{number_of_kind, strategy_said, table_said}
 use Rattle.desc_form.specs.WrittenTemplate.{WrittenTemplate}
 use Rattle.inv_law.specs.declared.strategy.Strategy.{Strategy}
