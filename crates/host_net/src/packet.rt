@@ -2,6 +2,7 @@
 
 ghost use Rattle.std.specs.Prelude.{◌≡◌};
 ghost use Rattle.host_net.specs.Packet.{swap_of};
+ghost use Rattle.host_net.specs.Verdict.{verdict_if};
 
 /// The header fields that rules look at. The ports mean something for protocols that have them, and
 /// are carried along for all others.
@@ -41,4 +42,16 @@ pub enum CtState {
 pub enum Verdict {
     Forward,
     Drop,
+}
+
+impl Verdict {
+    /// Whether the packet passes.
+    pub fn is_forward(self) -> bool
+        ensures { self ≡ verdict_if result }
+    {
+        match self {
+            Verdict::Forward => true,
+            Verdict::Drop => false,
+        }
+    }
 }
