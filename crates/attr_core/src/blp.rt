@@ -14,7 +14,7 @@ use toml::Table;
 
 const KEYS: [Key; 3] = [
     HOST,
-    Key::Optional("level", Kind::Number(65535)),
+    Key::Optional("level", Kind::Number(u16::MAX)),
     Key::Optional("trusted", Kind::Boolean),
 ];
 
@@ -36,7 +36,7 @@ impl Assigned for Blp {
 
     #[tactic(auto, unfolding(crate::specs::Blp::blp_attribute))]
     fn take(&mut self, _: Global, _: &Hosts, assign: &Assign<'_>) -> Result<bool, AllocError> {
-        let level = number_at(assign.table, "level", 65535).unwrap_or(0);
+        let level = number_at(assign.table, "level", u16::MAX).unwrap_or(0);
         let trusted = boolean_at(assign.table, "trusted").unwrap_or(false);
         self.set(assign.host, level, trusted);
         Ok(true)

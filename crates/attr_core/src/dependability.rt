@@ -11,7 +11,7 @@ use table_core::{Key, Kind, number_at};
 use tmpl_reach::Dependability;
 use toml::Table;
 
-const KEYS: [Key; 2] = [HOST, Key::Needed("limit", Kind::Number(65535))];
+const KEYS: [Key; 2] = [HOST, Key::Needed("limit", Kind::Number(u16::MAX))];
 
 impl Assigned for Dependability {
     ghost use Rattle.attr_core.specs.Dependability.{dependability_form};
@@ -30,7 +30,7 @@ impl Assigned for Dependability {
     }
 
     fn take(&mut self, _: Global, _: &Hosts, assign: &Assign<'_>) -> Result<bool, AllocError> {
-        let Some(limit) = number_at(assign.table, "limit", 65535) else {
+        let Some(limit) = number_at(assign.table, "limit", u16::MAX) else {
             return Ok(false);
         };
         self.set(assign.host, limit);

@@ -19,10 +19,13 @@ use table_core::{Key, Kind, number_at, text_at};
 use tmpl_domains::Domains;
 use toml::Table;
 
+/// The greatest trust of a host.
+const TRUST_LIMIT: u16 = 16;
+
 const KEYS: [Key; 3] = [
     HOST,
     Key::Needed("path", Kind::Text),
-    Key::Optional("trust", Kind::Number(16)),
+    Key::Optional("trust", Kind::Number(TRUST_LIMIT)),
 ];
 
 impl Assigned for Domains {
@@ -72,7 +75,7 @@ fn trust_in(table: &Table) -> u8
     ensures value { result ≡ unwrap_or (number_at 16 (codes "trust") (table_view table.now)) 0 }
     ensures small { result ≤ 16 }
 {
-    match number_at(table, "trust", 16) {
+    match number_at(table, "trust", TRUST_LIMIT) {
         Some(trust) => trust as u8,
         None => 0,
     }

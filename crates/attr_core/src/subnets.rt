@@ -16,7 +16,7 @@ use table_core::{Key, Kind, number_at, text_at};
 use tmpl_zones::{NetKind, Subnets};
 use toml::Table;
 
-const KEYS: [Key; 3] = [HOST, KIND, Key::Optional("number", Kind::Number(65535))];
+const KEYS: [Key; 3] = [HOST, KIND, Key::Optional("number", Kind::Number(u16::MAX))];
 
 impl Assigned for Subnets {
     ghost use Rattle.attr_core.specs.Subnets.{subnets_form};
@@ -52,7 +52,10 @@ impl Assigned for Subnets {
 fn read_kind(table: &Table) -> Option<NetKind>
     ensures { result ≡ subnets_attribute (table_view table.now) }
 {
-    kind_named(number_at(table, "number", 65535), text_at(table, "kind")?)
+    kind_named(
+        number_at(table, "number", u16::MAX),
+        text_at(table, "kind")?,
+    )
 }
 
 /// The kind of a word, with the number beside it or without one.

@@ -1,12 +1,10 @@
 //! The rules that are audited: those of a packet filter, or those of a switch.
 
-ghost use Rattle.std.specs.Prelude.{◌≡◌};
-ghost use Rattle.host_net.specs.Verdict.{verdict_if};
 ghost use Rattle.audit_core.specs.Rules.{filter_of};
 ghost use Rattle.audit_core.specs.inner.Rules.{GivesOne};
 ghost use Rattle.audit_core.specs.inner.RulesView.{rules_of};
 
-use host_net::{CtState, Packet, Verdict};
+use host_net::{CtState, Packet};
 use ipt_rules::Filter;
 use ofp_rules::{Frame, Table};
 
@@ -25,8 +23,8 @@ impl<'a> Text<'a> {
         ensures { filter_of (rules_of self.now) state packet.now result }
     {
         match self {
-            Text::Ipt(filter) => is_forwarded(filter.verdict(packet, state)),
-            Text::Ofp(table) => is_forwarded(table.verdict(&Frame::Ipv4(*packet))),
+            Text::Ipt(filter) => filter.verdict(packet, state).is_forward(),
+            Text::Ofp(table) => table.verdict(&Frame::Ipv4(*packet)).is_forward(),
         }
     }
 
@@ -38,14 +36,5 @@ impl<'a> Text<'a> {
             Text::Ipt(filter) => filter.ruleset().rules(),
             Text::Ofp(table) => table.len(),
         }
-    }
-}
-
-fn is_forwarded(verdict: Verdict) -> bool
-    ensures { verdict_if result ≡ verdict }
-{
-    match verdict {
-        Verdict::Forward => true,
-        Verdict::Drop => false,
     }
 }

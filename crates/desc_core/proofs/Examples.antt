@@ -1,5 +1,5 @@
 -- Small descriptions as TOML tables, from which the worked ones differ by one change.
-use Rattle.std.specs.Prelude.{ℕ, zero, suc, pos, true, List, [], ◌∷◌, ◌++◌, map, codes, decimal}
+use Rattle.std.specs.Prelude.{ℕ, pos, true, List, [], ◌∷◌, map, codes}
 use Rattle.toml.specs.Data.{Data, string, integer, boolean, array, table, Items, no_items, item, Members, no_members, member}
 
 abbrev pub items : List Data → Items
@@ -74,8 +74,3 @@ of_invariants invariants =
     (member (codes "host") (list (host_a ∷ host_b ∷ []))
     (member (codes "invariant") (list invariants)
     (member (codes "topos") (integer (pos 1)) no_members))))
-
--- n hosts with addresses of their own
-abbrev pub hosts_below : ℕ → List Data
-hosts_below zero = []
-hosts_below (suc n) = host_at (codes "h" ++ decimal n) (codes "10.0.0." ++ decimal n) ∷ hosts_below n

@@ -1,12 +1,12 @@
 -- The table that the code makes of a declared template.
-use Rattle.std.proofs.Common.{◌≡◌, ℕ, ◌≤◌, ◌<◌, ◌+◌, Bool, true, false, List, [], length, Option, Some, None, refl, sym, arith}
+use Rattle.std.proofs.Common.{◌≡◌, ℕ, ◌≤◌, ◌<◌, ◌+◌, List, length, Option, Some, None, refl, sym, arith}
 use Rattle.std.proofs.lemmas.List.Elements.{All-map}
 use Rattle.std.specs.List.{All}
 use Rattle.std.specs.Str.{bytes_eq}
 use Rattle.attr_core.specs.OwnTables.{kind_numbered}
 use Rattle.attr_core.proofs.OwnTablesLaws.{found_within}
 use Rattle.desc_form.specs.WrittenTemplate.{WrittenPair}
-use Rattle.std.specs.Prelude.{if◌then◌else◌, unwrap_or}
+use Rattle.std.specs.Prelude.{unwrap_or}
 use Rattle.desc_core.specs.Choices.{number_of_kind, strategy_said, table_said}
 use Rattle.desc_form.specs.WrittenTemplate.{WrittenTemplate}
 use Rattle.inv_law.specs.declared.strategy.Strategy.{Strategy}
@@ -20,11 +20,6 @@ pub table_is : (t : WrittenTemplate) (name : List ℕ) (strategy : Strategy) (ki
     → table_with name strategy kinds default denied ≡ table_said t
 table_is t name strategy kinds default denied a b c d e =
     λ i. record { name = a i; strategy = b i; kinds = c i; default = d i; denied = e i }
-
--- a name that is one is kept
-pub name_kept : (legal : Bool) (text : List ℕ) → legal ≡ true → unwrap_or (if legal then Some text else None) [] ≡ text
-name_kept true text is = refl
-name_kept false text is = cc
 
 -- every number is one of a kind
 number_by : (kinds : List (List ℕ)) (word : List ℕ) (o : Option ℕ) → o ≡ kind_numbered kinds word → 1 ≤ length kinds → unwrap_or o 0 < length kinds

@@ -1,6 +1,6 @@
 //! The flows of a description by their hosts: the refusals for them, and the set of those that are
 //! asked for.
-ghost use Rattle.std.specs.Prelude.{◌≡◌, ◌≤◌, Some, find, length, All, IsTrue, if◌then◌else◌};
+ghost use Rattle.std.specs.Prelude.{◌≡◌, ◌≤◌, Some, find, All, IsTrue, if◌then◌else◌};
 ghost use Rattle.desc_core.specs.Description.{refused_or};
 ghost use Rattle.desc_core.specs.inner.Parts.{self_found, twice_found};
 ghost use Rattle.desc_core.specs.inner.Reads.{Reads};

@@ -111,7 +111,7 @@ fn no_host(mention: &Mention<'_>) -> Refusal
     requires { IsTrue (is_name mention.now.name.now) }
     ensures { result ≡ refused_name UndeclaredHost mention.now.place mention.now.item mention.now.name.now }
 {
-    let name = Name::new(mention.name.as_bytes()).unwrap_or(Name::none());
+    let name = Name::of(mention.name.as_bytes());
     let refusal = Refusal::at(Why::UndeclaredHost, mention.place);
     refusal.with_item(mention.item).with_name(name)
 }

@@ -1,5 +1,5 @@
 //! The rule of a declared template: its kinds by their numbers.
-ghost use Rattle.std.specs.Prelude.{◌≡◌, ◌≤◌, ◌<◌, IfOk, length, map, replicate};
+ghost use Rattle.std.specs.Prelude.{◌≡◌, ◌≤◌, ◌<◌, IfOk, length, replicate};
 ghost use Rattle.desc_core.specs.Choices.{number_of_kind, strategy_said, table_said};
 ghost use Rattle.desc_core.specs.inner.Makeable.{IsMakeable};
 ghost use Rattle.desc_form.specs.inner.WrittenView.{pair_view, template_view};
@@ -24,7 +24,7 @@ pub(crate) fn rule_of(
     }) }
 {
     let denied = denied_pairs(alloc, template)?;
-    let name = Name::new(template.name.as_bytes()).unwrap_or(Name::none());
+    let name = Name::of(template.name.as_bytes());
     let strategy = strategy_said(template.strategy);
     let kinds = template.kinds.len() as u8;
     let default = number_of_kind(template, template.default);

@@ -4,7 +4,7 @@ ghost use Rattle.std.specs.List.{list_all};
 ghost use Rattle.desc_core.specs.inner.Parts.{many_found, narrowed_among, services_found, with_services};
 ghost use Rattle.desc_core.specs.UseConditions.{bad_service_of};
 ghost use Rattle.desc_core.specs.inner.Flows.{has_many_services};
-ghost use Rattle.desc_form.specs.Refusals.{refused, refused_item};
+ghost use Rattle.desc_form.specs.Refusals.{refused_item};
 ghost use Rattle.desc_form.specs.inner.WrittenView.{flow_view};
 ghost use Rattle.desc_form.specs.declared.refusal.Place.TheVariants.{FlowAt};
 ghost use Rattle.desc_form.specs.declared.refusal.Why.TheVariants.{BadService};

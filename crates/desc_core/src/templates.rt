@@ -1,11 +1,10 @@
 //! The refusals for the templates that a description declares.
-ghost use Rattle.std.specs.Prelude.{◌≡◌, ◌&&◌, ◌||◌, [], find, is_none, length, map, nat_le, nat_lt, not, option_map};
+ghost use Rattle.std.specs.Prelude.{◌≡◌, ◌&&◌, [], map, option_map};
 ghost use Rattle.std.specs.List.{list_all, list_any};
 ghost use Rattle.std.specs.Str.{bytes_eq};
-ghost use Rattle.attr_core.specs.Templates.{template_named};
 ghost use Rattle.desc_core.specs.inner.Parts.{templates_found};
-ghost use Rattle.desc_core.specs.TemplateConditions.{are_different, denies, first_bad, has_kinds, has_own_name, has_partner, has_strategy, is_good, is_kind, unlawful_at, uses_kinds};
-ghost use Rattle.desc_form.specs.Refusals.{refused, refused_item};
+ghost use Rattle.desc_core.specs.TemplateConditions.{are_different, denies, first_bad, has_kinds, has_own_name, has_partner, has_strategy, is_good, unlawful_at, uses_kinds};
+ghost use Rattle.desc_form.specs.Refusals.{refused};
 ghost use Rattle.desc_form.specs.inner.WrittenView.{pair_view, template_view, written_view};
 ghost use Rattle.desc_form.specs.declared.refusal.Place.TheVariants as place;
 ghost use Rattle.desc_form.specs.declared.refusal.Why.TheVariants.{BadTemplate, NotLawful};
@@ -14,6 +13,7 @@ ghost use Rattle.text_core.specs.Name.{is_name};
 
 use attr_core::Template;
 use desc_form::{Place, Refusal, Why, Written, WrittenPair, WrittenTemplate};
+use table_core::is_one_of;
 use text_core::is_name;
 
 /// How many kinds a template may have.
@@ -109,30 +109,18 @@ fn are_different(words: &[&str]) -> bool
     ensures { result ≡ are_different (map (λ word. word.now) words.now) }
 {
     for (index, word) in words.iter().enumerate() {
-        if is_among(word, &words[index + 1..]) {
+        if is_one_of(word, &words[index + 1..]) {
             return false;
         }
     }
     true
 }
 
-/// Whether the word is one of these.
-fn is_among(word: &str, words: &[&str]) -> bool
-    ensures { result ≡ list_any (bytes_eq word.now) (map (λ other. other.now) words.now) }
-{
-    for other in words {
-        if word == *other {
-            return true;
-        }
-    }
-    false
-}
-
 /// Whether the default and all words of the denied pairs are kinds of the template.
 fn uses_kinds(template: &WrittenTemplate<'_>) -> bool
     ensures { result ≡ uses_kinds (template_view template.now) }
 {
-    is_among(template.default, &template.kinds) && are_of_kinds(&template.kinds, &template.deny)
+    is_one_of(template.default, &template.kinds) && are_of_kinds(&template.kinds, &template.deny)
 }
 
 /// Whether all words of the pairs are among the kinds.
@@ -141,7 +129,7 @@ fn are_of_kinds(kinds: &[&str], pairs: &[WrittenPair<'_>]) -> bool
         && list_any (bytes_eq p.receiver) (map (λ kind. kind.now) kinds.now)) (map pair_view pairs.now) }
 {
     for pair in pairs {
-        if !(is_among(pair.sender, kinds) && is_among(pair.receiver, kinds)) {
+        if !(is_one_of(pair.sender, kinds) && is_one_of(pair.receiver, kinds)) {
             return false;
         }
     }

@@ -6,7 +6,7 @@ ghost use Rattle.desc_form.specs.inner.MentionView.{assign_name, mention_view};
 ghost use Rattle.desc_form.specs.Mentions.{assign_names_of, flow_names_of, used_names};
 
 use crate::refusal::Place;
-use crate::written::{Written, WrittenAssign, WrittenFlow, WrittenHost, WrittenInvariant};
+use crate::written::{Written, WrittenAssign, WrittenFlow, WrittenInvariant};
 use std::alloc::{AllocError, Global};
 
 /// A name, and the place where it stands: in a flow as item 1 or 2, elsewhere as item 0.

@@ -31,12 +31,13 @@ pub enum Why {
     TooLong,
     /// The file is no TOML document.
     NotToml,
-    /// The document, a host or an invariant has a key that a description does not know.
+    /// The document, a host, an invariant or a template has a key that a description does not know.
     UnknownKey,
     /// A key that has to be there is absent.
     MissingKey,
-    /// A value is of another type than its key asks for, the word for answers is unknown, or a flow
-    /// is not two texts, or in version 2 not two or more.
+    /// A value is of another type than its key asks for, the word for answers is unknown, an element
+    /// that should be a table is none, an element of `deny` is not two texts, or a flow is not two
+    /// texts, or in version 2 not two or more.
     WrongType,
     /// The version of the description is neither 1 nor 2.
     BadVersion,

@@ -1,5 +1,5 @@
 //! The refusals for a description with too many hosts, prefixes, invariants or templates.
-ghost use Rattle.std.specs.Prelude.{◌≡◌, length, map};
+ghost use Rattle.std.specs.Prelude.{◌≡◌, map};
 ghost use Rattle.desc_form.specs.inner.WrittenView.{host_view, invariant_view, template_view, written_view};
 ghost use Rattle.desc_form.specs.declared.refusal.Place.TheVariants.{Host, Invariant, Template};
 ghost use Rattle.desc_form.specs.inner.EntryView.{entry_view};

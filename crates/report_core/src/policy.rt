@@ -120,8 +120,8 @@ fn ruling_of(
     let invariants = description.invariants();
     match blame_by_steps(invariants, trials, policy.permitted(), flow) {
         Some(number) => Ruling::Denied(number),
-        // A flow that no invariant denies is permitted, and was told above.
-        None => Ruling::Allowed,
+        // What is asked for and not permitted is denied by some invariant.
+        None => unreachable!(),
     }
 }
 

@@ -1,7 +1,6 @@
 //! The runs of a rule set and of a flow table over a list of events, beginning with no connections.
 
-ghost use Rattle.std.specs.Prelude.{◌≡◌, ◌∷◌, List, Option, Bool, IfOk};
-ghost use Rattle.host_net.specs.Verdict.{verdict_if};
+ghost use Rattle.std.specs.Prelude.{◌∷◌, List, Option, Bool, IfOk};
 ghost use Rattle.ipt_rules.specs.Meaning.{Passes};
 ghost use Rattle.ofp_rules.specs.Meaning.{Passes as TablePasses};
 ghost use Rattle.pkt_core.specs.declared.event.Event.{Event as EventOf};
@@ -10,7 +9,6 @@ ghost use Rattle.pkt_core.specs.Tracking.{Runs, nothing_kept};
 ghost use Rattle.report_core.specs.Trace.{IsTrace};
 
 use crate::line::push_answer;
-use host_net::Verdict;
 use ipt_rules::{Filter, Ruleset};
 use ofp_rules::{Frame, Table};
 use pkt_core::{Event, Track};
@@ -59,7 +57,8 @@ fn answer(filter: &Filter<'_>, track: &mut Track, event: Event) -> Result<Option
     match event {
         Event::Seen(packet) => {
             let connection = track.connection_of(&packet);
-            let passes = is_forward(filter.verdict(&packet, connection.state()));
+            let verdict = filter.verdict(&packet, connection.state());
+            let passes = verdict.is_forward();
             track.step_in(connection, &packet, passes)?;
             Ok(Some(passes))
         }
@@ -77,16 +76,7 @@ fn table_answer(table: &Table, event: Event) -> Option<bool>
         → Runs (TablePasses table.now) nothing_kept (event ∷ events) (result ∷ answers) }
 {
     match event {
-        Event::Seen(packet) => Some(is_forward(table.verdict(&Frame::Ipv4(packet)))),
+        Event::Seen(packet) => Some(table.verdict(&Frame::Ipv4(packet)).is_forward()),
         Event::Forget(_) => None,
-    }
-}
-
-fn is_forward(verdict: Verdict) -> bool
-    ensures { verdict ≡ verdict_if result }
-{
-    match verdict {
-        Verdict::Forward => true,
-        Verdict::Drop => false,
     }
 }

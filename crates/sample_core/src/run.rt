@@ -2,7 +2,6 @@
 
 ghost use Rattle.std.specs.Prelude.{◌≡◌, ◌≤◌, ◌∷◌, Bool, List, [], Option, Some, IfOk, if◌then◌else◌, map};
 ghost use Rattle.host_net.specs.Limits.{host_limit};
-ghost use Rattle.host_net.specs.Verdict.{verdict_if};
 ghost use Rattle.ipt_rules.specs.Meaning.{Passes};
 ghost use Rattle.pkt_core.specs.inner.Kept.{kept_in};
 ghost use Rattle.pkt_core.specs.Tracking.{Runs};
@@ -13,7 +12,7 @@ ghost use Rattle.emit_core.specs.Layout.{layout};
 
 use crate::packets::sample_packets;
 use emit_core::{NoChains, emit_iptables};
-use host_net::{Packet, Verdict};
+use host_net::Packet;
 use ipt_rules::{Filter, Ruleset};
 use pkt_core::{FlowPolicy, Track};
 use std::alloc::{AllocError, Global};
@@ -80,7 +79,8 @@ fn is_forwarded(filter: &Filter<'_>, track: &mut Track, packet: &Packet) -> Resu
         → Runs (Passes filter.now) (kept_in track.new) events answers
         → Runs (Passes filter.now) (kept_in track.old) (Seen packet.now ∷ events) (Some passes ∷ answers)) }
 {
-    let passes = passes(filter.verdict(packet, track.state_of(packet)));
+    let verdict = filter.verdict(packet, track.state_of(packet));
+    let passes = verdict.is_forward();
     track.step(packet, passes)?;
     Ok(passes)
 }
@@ -89,13 +89,4 @@ fn one_if(counts: bool) -> usize
     ensures { result ≡ (if counts then 1 else 0) }
 {
     if counts { 1 } else { 0 }
-}
-
-fn passes(verdict: Verdict) -> bool
-    ensures { verdict ≡ verdict_if result }
-{
-    match verdict {
-        Verdict::Forward => true,
-        Verdict::Drop => false,
-    }
 }

@@ -1,23 +1,8 @@
 -- Laws of lists that are read element by element.
-use Rattle.std.proofs.Common.{◌≡◌, true, List, [], ◌∷◌, ◌++◌, append_assoc, Option, Some, None, option_map, option_and_then, is_some, refl, ap, ◌∙◌}
-use Rattle.std.proofs.lemmas.Bool.{and_parts}
-use Rattle.std.specs.List.{fold, list_all}
+use Rattle.std.proofs.Common.{◌≡◌, List, [], ◌∷◌, ◌++◌, append_assoc, Option, Some, None, option_map, option_and_then, refl, ap, ◌∙◌}
+use Rattle.std.specs.List.{fold}
 use Rattle.table_core.specs.Listing.{each}
 use Rattle.table_core.specs.inner.Listing.{grow}
-
-each_by : {B : Type 0} (here : Option B) (rest : Option (List B)) → is_some here ≡ true → is_some rest ≡ true
-    → is_some (option_and_then (λ y. option_map (λ ys. y ∷ ys) rest) here) ≡ true
-each_by None rest there behind = cc
-each_by (Some y) None there behind = cc
-each_by (Some y) (Some ys) there behind = refl
-
--- a list can be read where each of its elements can
-pub each_some : {D A : Type 0} (read : D → Option A) (ds : List D) → list_all (λ d. is_some (read d)) ds ≡ true
-    → is_some (each read ds) ≡ true
-each_some read [] all = refl
-each_some read (d ∷ ds) all =
-    let (here, behind) = and_parts (is_some (read d)) _ all in
-    each_by (read d) (each read ds) here (each_some read ds behind)
 
 listed_more : {A : Type 0} (xs : List A) (x : A) (rest : Option (List A))
     → option_map (λ ys. (xs ++ x ∷ []) ++ ys) rest ≡ option_map (λ ys. xs ++ ys) (option_map (λ ys. x ∷ ys) rest)

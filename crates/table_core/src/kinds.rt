@@ -29,7 +29,7 @@ pub enum Kind {
 }
 
 /// Whether a value of the kind stands at the key.
-pub fn stands_at(table: &Table, key: &str, kind: Kind) -> bool
+pub(crate) fn stands_at(table: &Table, key: &str, kind: Kind) -> bool
     ensures { result ≡ stands_at (kind_view kind) key.now (table_view table.now) }
 {
     match kind {
@@ -52,7 +52,8 @@ fn has_one_of(table: &Table, key: &str, words: &[&str]) -> bool
     }
 }
 
-fn is_one_of(word: &str, words: &[&str]) -> bool
+/// Whether the word is one of these.
+pub fn is_one_of(word: &str, words: &[&str]) -> bool
     ensures { result ≡ is_one_of (map (λ word. word.now) words.now) word.now }
 {
     is_among(word, words)

@@ -8,5 +8,5 @@ mod kinds;
 mod values;
 
 pub use keys::{Key, all_suit, has_key, has_only_keys, lacks_key};
-pub use kinds::{Kind, are_texts, stands_at};
+pub use kinds::{Kind, are_texts, is_one_of};
 pub use values::{boolean_at, elements, integer_at, list_at, list_or_empty, number_at, text_at};

@@ -1,11 +1,10 @@
 -- The attributes that assigns in turn leave are those that are assigned.
-use Rattle.std.proofs.Common.{◌≡◌, ◌≢◌, ℕ, suc, ◌+◌, ◌<◌, ◌==◌, Bool, true, false, not, List, [], ◌∷◌, ◌++◌, append_assoc, append-nil, length, length-set, get_or, map, Option, Some, None, is_some, refl, sym, ap, ◌∙◌, arith}
-use Rattle.std.proofs.lemmas.Bool.{and_parts}
+use Rattle.std.proofs.Common.{◌≡◌, ◌≢◌, ℕ, suc, ◌+◌, ◌<◌, ◌==◌, Bool, true, false, List, [], ◌∷◌, ◌++◌, length, length-set, get_or, map, Option, Some, None, is_some, refl, sym, ap, ◌∙◌, arith}
 use Rattle.std.proofs.lemmas.Bool.Decides.{nat_tests}
 use Rattle.std.proofs.lemmas.List.{ext_get_or, get_or-set_same, length-append}
 use Rattle.std.proofs.Common.{get_or-set_other}
 use Rattle.std.proofs.lemmas.List.FromFn.{get_or-map-range_with_len, length-map-range_with_len}
-use Rattle.std.specs.List.{list_all, range_with_len}
+use Rattle.std.specs.List.{range_with_len}
 use Rattle.std.specs.Option.{option_or}
 use Rattle.std.specs.Prelude.{if◌then◌else◌, slice_set, unwrap_or}
 use Rattle.attr_core.specs.Assigns.{Given}
@@ -84,26 +83,3 @@ pub attribute_at : {A : Type 0} (says : List Given → Given → Option A) (defa
     (d : A) → host < n
     → get_or (assigned says default n assigns) host d ≡ unwrap_or (last_said says [] host assigns) (default host)
 attribute_at says default n assigns host d within = get_or-map-range_with_len (λ i. unwrap_or (last_said says [] i assigns) (default i)) 0 n host host d within (omega arith)
-
--- a host that no assign names has its default; one that one assign names last has what that says
-pub said_none : {A : Type 0} (says : List Given → Given → Option A) (earlier : List Given) (host : ℕ) (rest : List Given)
-    → list_all (λ a. not (a.host == host)) rest ≡ true → last_said says earlier host rest ≡ None
-said_none says earlier host [] none = refl
-said_none says earlier host (a ∷ rest) none =
-    let (here, behind) = and_parts (not (a.host == host)) _ none in
-    ap (λ o. option_or o (if a.host == host then says earlier a else None)) (said_none says (earlier ++ a ∷ []) host rest behind) ∙ not_here (a.host == host) (says earlier a) here
-  where
-    not_here : {A : Type 0} (b : Bool) (o : Option A) → not b ≡ true → option_or None (if b then o else None) ≡ None
-    not_here true o h = cc
-    not_here false o h = refl
-
-pub said_last : {A : Type 0} (says : List Given → Given → Option A) (earlier : List Given) (host : ℕ) (before : List Given) (a : Given)
-    (rest : List Given) (x : A)
-    → (a.host == host) ≡ true → list_all (λ b. not (b.host == host)) rest ≡ true → says (earlier ++ before) a ≡ Some x
-    → last_said says earlier host (before ++ a ∷ rest) ≡ Some x
-said_last says earlier host [] a rest x here none is =
-    let said : says earlier a ≡ Some x = ap (λ all. says all a) (sym (append-nil earlier)) ∙ is in
-    rw (said_none says (earlier ++ a ∷ []) host rest none, here, said) refl
-said_last says earlier host (b ∷ before) a rest x here none is =
-    let later = said_last says (earlier ++ b ∷ []) host before a rest x here none (ap (λ all. says all a) (append_assoc earlier (b ∷ []) before) ∙ is) in
-    rw later refl

@@ -8,8 +8,8 @@ use Rattle.std.specs.Prelude.{codes, flat_map, if◌then◌else◌}
 use Rattle.toml.specs.Data.{Members}
 use Rattle.attr_core.specs.Assigns.{Given}
 use Rattle.attr_core.specs.laws.LabelBitsLaws.{among_is, bits_are, extends_self, key_bits}
-use Rattle.attr_core.specs.inner.LabelWalk.{LabelSet, Labelled, are_among, labelled, labels_at, tainting_reads}
-use Rattle.attr_core.specs.laws.LabelsLaws.{IsBad, bad_labels_are, labelled_read}
+use Rattle.attr_core.specs.inner.LabelWalk.{Labelled, are_among, labelled, labels_at, tainting_reads}
+use Rattle.attr_core.specs.laws.LabelsLaws.{IsBad, bad_labels_are, labelled_read, said_by}
 use Rattle.attr_core.specs.Tainting.{bits_of, different, is_listed, labels_in, labels_of, said_of, told, with_label}
 use Rattle.tmpl_levels.specs.declared.tainting.Labels.{Labels}
 
@@ -82,10 +82,6 @@ said_none labels table (inr (inr more)) =
     let (us, second, untaints) = key_bits (codes "untaints") more.taints.labels table more.untaints more.behind in
     takes_off (different labels (told table)) (labels_in (codes "taints") table) (labels_in (codes "untaints") table) ts us first second
     (sym (among_is labels ts us more.taints more.untaints taints untaints) ∙ more.more)
-
--- where it says something
-abbrev said_by : LabelSet → LabelSet → Labelled
-said_by t u = record { labels = u.labels; attribute = both_sets t.bits u.bits }
 
 pub if_among : {A : Type 0} (b : Bool) (x y : A) → (if b then Some x else None) ≡ Some y → (b ≡ true) × (x ≡ y)
 if_among true x y is = (refl, cc)

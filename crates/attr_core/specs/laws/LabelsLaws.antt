@@ -91,7 +91,7 @@ more_labels labels (l ∷ ls) = omega (arith, kept_by (is_listed labels l) label
 abbrev set_of : List (List ℕ) → ℕ → LabelSet
 set_of labels bits = record { labels = labels; bits = bits }
 
-abbrev said_by : LabelSet → LabelSet → Labelled
+abbrev pub said_by : LabelSet → LabelSet → Labelled
 said_by t u = record { labels = u.labels; attribute = record { taints = t.bits; untaints = u.bits } }
 
 one_read : (s : LabelSet) (d : Data) (u : LabelSet) → length s.labels ≤ 64 → and_label s d ≡ Some u

@@ -1,7 +1,7 @@
-use Rattle.std.proofs.Common.{◌≡◌, ◌<◌, ℕ, Bool, List, length, get_or, map, take, Some, None, ap, sym, subst, ◌∙◌, arith}
+use Rattle.std.proofs.Common.{◌≡◌, ◌<◌, ℕ, Bool, List, length, get_or, map, take, Some, None, option_map, ap, sym, subst, ◌∙◌, arith}
 use Rattle.std.proofs.lemmas.List.{get_or-map, length-map}
 use Rattle.std.proofs.lemmas.List.FromFn.{length-map-range_with_len}
-use Rattle.std.specs.Prelude.{if◌then◌else◌}
+use Rattle.std.specs.Prelude.{if◌then◌else◌, slice_set}
 use Rattle.attr_core.proofs.AssignWalk.{length_on, up_to, walked_all, walked_none, walked_on, walked_to}
 use Rattle.attr_core.specs.Assigns.{Given}
 use Rattle.attr_core.specs.Forms.{says}
@@ -39,8 +39,9 @@ returns-then-not-branch-clause-first g c k is =
     let same : c.loop-place.place ≡ k = cc in
     walked_to (says form hosts) (defaults form (length hosts)) (map given_of assigns) place (g.T.Assigned.attributes c.loop-place.taken) (given_of item)
     c.loop-place.invariant.walked (in_all assigns place c.loop-place-test.true) (at_place assigns place item c.loop-place-test.true c.index-assigns-place.is)
-    (c.in_ok-take_one.ensures.taken (take place (map given_of assigns)) c.loop-place.invariant.keeps
-    ∙ ap (λ (good : Bool). if good then Some (g.T.Assigned.attributes c.take_one.new.taken) else None) c.if-not-branch.true)
+    (◌∙◌ {a = option_map (slice_set (g.T.Assigned.attributes c.loop-place.taken) item.host) (says form hosts (take place (map given_of assigns)) (given_of item))}
+    (c.in_ok-take_one.ensures.taken (take place (map given_of assigns)) c.loop-place.invariant.keeps)
+    (ap (λ (good : Bool). if good then Some (g.T.Assigned.attributes c.take_one.new.taken) else None) c.if-not-branch.true))
     ∙ ap Some same
 
 pub loop-place-preserved : goal.loop-place-preserved
@@ -56,8 +57,8 @@ loop-place-preserved g c =
     let within = in_all assigns place c.loop-place-test.true in
     let here = at_place assigns place item c.loop-place-test.true c.index-assigns-place.is in
     let said =
-    c.in_ok-take_one.ensures.taken (take place all) c.loop-place.invariant.keeps
-    ∙ ap (λ (good : Bool). if good then Some after else None) c.if-not-branch.false in
+    ◌∙◌ {a = option_map (slice_set before item.host) (says form hosts (take place all) (given_of item))} (c.in_ok-take_one.ensures.taken (take place all) c.loop-place.invariant.keeps)
+    (ap (λ (good : Bool). if good then Some after else None) c.if-not-branch.false) in
     record {
       sized = length_on (says form hosts (take place all) (given_of item)) before after item.host said ∙ c.loop-place.invariant.sized;
       keeps = subst (λ (earlier : List Given). g.T.Assigned.keeps earlier c.take_one.new.taken) (sym (up_to all place (given_of item) within here))

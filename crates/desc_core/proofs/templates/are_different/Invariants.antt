@@ -1,4 +1,4 @@
-use Rattle.std.proofs.Common.{◌≡◌, [], map, drop, Bor, List, ℕ}
+use Rattle.std.proofs.Common.{◌≡◌, map, drop, Bor, List, ℕ}
 use Rattle.desc_core.specs.TemplateConditions.{are_different}
 use Rattle.desc_core.proofs.templates.are_different.Given as goal
 

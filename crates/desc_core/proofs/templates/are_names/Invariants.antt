@@ -1,4 +1,4 @@
-use Rattle.std.proofs.Common.{◌≡◌, [], map, drop, Bor, List, ℕ}
+use Rattle.std.proofs.Common.{◌≡◌, map, drop, Bor, List, ℕ}
 use Rattle.std.specs.List.{list_all}
 use Rattle.text_core.specs.Name.{is_name}
 use Rattle.desc_core.proofs.templates.are_names.Given as goal

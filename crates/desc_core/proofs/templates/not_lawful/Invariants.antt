@@ -1,4 +1,4 @@
-use Rattle.std.proofs.Common.{◌≡◌, ◌+◌, [], map, drop}
+use Rattle.std.proofs.Common.{◌≡◌, ◌+◌, map, drop}
 use Rattle.desc_form.specs.inner.WrittenView.{template_view}
 use Rattle.desc_core.specs.TemplateConditions.{unlawful_at}
 use Rattle.text_core.specs.Firsts.{first_found, numbered_from}

@@ -1,4 +1,4 @@
-use Rattle.std.proofs.Common.{◌≡◌, ◌+◌, [], map, drop, not, option_map}
+use Rattle.std.proofs.Common.{◌≡◌, ◌+◌, map, drop, not, option_map}
 use Rattle.std.specs.Prelude.{find}
 use Rattle.desc_form.specs.WrittenTemplate.{WrittenPair}
 use Rattle.desc_form.specs.inner.WrittenView.{pair_view, template_view}

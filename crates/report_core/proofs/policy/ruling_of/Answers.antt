@@ -16,8 +16,8 @@ has-requires-2 c =
     (c.requires.policy.permitted_size ∙ c.asked-asked.ensures.size) c.requires.flow
 
 -- some invariant denies a flow that was asked for and is not permitted
-pub returns-in-None-clause-ruling : goal.returns-in-None-clause-ruling
-returns-in-None-clause-ruling c =
+pub unreachable-requires : goal.unreachable-requires
+unreachable-requires c =
     let f = c.args.flow in
     let wanted : IsTrue (has c.args.description.now.asked.flows f) =
     subst (λ (s : SetOfFlows). IsTrue (has s.flows f)) c.asked-asked.ensures.value (sym c.has-3.ensures ∙ c.if-not-has.false) in
