@@ -42,6 +42,9 @@ fn main(rt: HostRuntime) -> Result<()> {
             before = case;
             case = Case::new(alloc, name)?;
         } else if line.as_str() == "again" {
+            if case.name().is_none() || before.name().is_none() {
+                bail!("again without a case before");
+            }
             if !case.is_empty() {
                 bail!("lines before again");
             }
