@@ -20,9 +20,10 @@ mod written;
 pub use host_conditions::host_refusal;
 pub use hosts::read_hosts;
 pub use mentions::{Mention, used_names};
+pub use places::{assigns_of, listed};
 pub use refusal::{Place, Refusal, Why};
 pub use well_formed::form_refusal;
 pub use written::{
     Written, WrittenAssign, WrittenFlow, WrittenHost, WrittenInvariant, WrittenPair,
-    WrittenTemplate, read_written,
+    WrittenTemplate, read_written, text_in,
 };

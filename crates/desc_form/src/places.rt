@@ -43,7 +43,7 @@ impl Row {
 
 /// The elements at a key, none where no list stands there.
 #[tactic(auto, unfolding(crate::specs::Places::listed))]
-pub(crate) fn listed<'a>(table: &'a Table, key: &str) -> &'a [Value]
+pub fn listed<'a>(table: &'a Table, key: &str) -> &'a [Value]
     ensures { map view result.now ≡ listed key.now (table_view table.now) }
 {
     match list_at(table, key) {
@@ -52,8 +52,9 @@ pub(crate) fn listed<'a>(table: &'a Table, key: &str) -> &'a [Value]
     }
 }
 
+/// The assigns of an invariant.
 #[tactic(auto, unfolding(crate::specs::Places::assigns_of, crate::specs::Places::listed))]
-fn assigns_of(value: &Value) -> &[Value]
+pub fn assigns_of(value: &Value) -> &[Value]
     ensures { map view result.now ≡ assigns_of (view value.now) }
 {
     match value.as_table() {

@@ -9,10 +9,7 @@ ghost use Rattle.host_net.specs.Limits.{invariant_limit, host_limit};
 use crate::entries::{Entry, too_many_prefixes};
 use crate::refusal::{Place, Refusal, Why};
 use crate::written::{Written, WrittenHost, WrittenInvariant, WrittenTemplate};
-use host_net::HOST_LIMIT;
-
-/// How many invariants there may be.
-const INVARIANT_LIMIT: usize = 16;
+use host_net::{HOST_LIMIT, INVARIANT_LIMIT};
 
 /// How many templates may be declared.
 const TEMPLATE_LIMIT: usize = 16;

@@ -81,7 +81,7 @@ pub struct Written<'a> {
 }
 
 /// The text at a key, empty where none stands there.
-fn text_in<'a>(table: &'a Table, key: &str) -> &'a str
+pub fn text_in<'a>(table: &'a Table, key: &str) -> &'a str
     ensures { result.now ≡ text_in key.now (table_view table.now) }
 {
     match text_at(table, key) {

@@ -13,8 +13,9 @@ ghost use Rattle.toml.specs.View.{table_view, view};
 
 use crate::fault::{EditFault, EditWhy};
 use crate::values::{copy_table, copy_value, copy_values, with_list};
+use desc_form::{assigns_of, listed, text_in};
 use std::alloc::{AllocError, Global};
-use table_core::{list_at, text_at};
+use table_core::text_at;
 use toml::{Table, Value};
 
 /// The table in which an invariant, by its number from 1, assigns to a host what a table says.
@@ -51,36 +52,11 @@ pub(crate) fn unset_in(
     Ok(with_assigns(alloc, document, number, invariant, assigns)?)
 }
 
-/// The invariants that the table lists.
-#[tactic(auto, unfolding(desc_form::specs::Places::listed))]
-fn invariants_of(document: &Table) -> &[Value]
-    ensures { map view result.now ≡ listed (codes "invariant") (table_view document.now) }
-{
-    match list_at(document, "invariant") {
-        Some(invariants) => invariants,
-        None => &[],
-    }
-}
-
 /// The invariant with a number, from 1.
 fn invariant_at(document: &Table, number: u8) -> Option<&Value>
     ensures { option_map (λ value. view value.now) result ≡ slice_get (listed (codes "invariant") (table_view document.now)) (number - 1) }
 {
-    invariants_of(document).get(number.saturating_sub(1) as usize)
-}
-
-/// The assigns of an invariant.
-#[tactic(auto, unfolding(desc_form::specs::Places::assigns_of))]
-fn assigns_of(invariant: &Value) -> &[Value]
-    ensures { map view result.now ≡ assigns_of (view invariant.now) }
-{
-    let Some(invariant) = invariant.as_table() else {
-        return &[];
-    };
-    match list_at(invariant, "assign") {
-        Some(assigns) => assigns,
-        None => &[],
-    }
+    listed(document, "invariant").get(number.saturating_sub(1) as usize)
 }
 
 /// The table in which the invariant with a number, from 1, has these assigns.
@@ -95,7 +71,7 @@ fn with_assigns(
         (invariant_with (map view assigns.items) (view invariant.now))) (table_view document.now)) }
 {
     let changed = invariant_with(alloc, invariant, assigns)?;
-    let mut invariants = copy_values(alloc, invariants_of(document))?;
+    let mut invariants = copy_values(alloc, listed(document, "invariant"))?;
     put_at(&mut invariants, number.saturating_sub(1) as usize, changed);
     with_list(alloc, document, "invariant", invariants)
 }
@@ -127,23 +103,13 @@ fn put_at(values: &mut Vec<Value>, place: usize, value: Value)
 fn assigned(alloc: Global, assigns: &[Value], assign: &Table) -> Result<Vec<Value>, AllocError>
     ensures { IfOk result (λ values. map view values.items ≡ assigned (text_in (codes "host") (table_view assign.now)) (table_view assign.now) (map view assigns.now)) }
 {
-    let host = host_of(assign);
+    let host = text_in(assign, "host");
     if has_host(assigns, host) {
         return replaced(alloc, assigns, host, assign);
     }
     let mut values = copy_values(alloc, assigns)?;
     values.push(Value::Table(copy_table(assign)?))?;
     Ok(values)
-}
-
-/// The name of the host of an assign.
-fn host_of(assign: &Table) -> &str
-    ensures { result.now ≡ text_in (codes "host") (table_view assign.now) }
-{
-    match text_at(assign, "host") {
-        Some(host) => host,
-        None => "",
-    }
 }
 
 fn has_host(assigns: &[Value], host: &str) -> bool

@@ -10,13 +10,12 @@ ghost use Rattle.toml.specs.View.{table_view, view};
 
 use crate::behind::behind_word;
 use crate::edit::Change;
+use host_net::INVARIANT_LIMIT;
 use std::alloc::Global;
 use std::str;
 use table_core::text_at;
 use text_core::{LineFault, ListWhy, Words, read_number};
 use toml::{Table, Value};
-
-const INVARIANT_LIMIT: u32 = 16;
 
 /// The change that a line tells, or why it tells none.
 #[tactic(auto, unfolding(crate::specs::inner::ChangeSteps::change_of))]
@@ -120,7 +119,7 @@ fn read_unset(alloc: Global, mut words: Words<'_>) -> Result<Change, LineFault<L
 fn invariant_said(word: &[u8]) -> Option<u8>
     ensures { result ≡ invariant_said word.now }
 {
-    let number = read_number(INVARIANT_LIMIT, word)?;
+    let number = read_number(INVARIANT_LIMIT as u32, word)?;
     if number == 0 {
         return None;
     }

@@ -12,6 +12,7 @@ mod ruling;
 mod run;
 
 pub use check::check_report;
+pub use line::push_numbered;
 pub use names::push_flow;
 pub use policy::policy_report;
 pub use refusal::refusal_line;

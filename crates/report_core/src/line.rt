@@ -20,7 +20,8 @@ pub(crate) fn push_answer(
     }
 }
 
-fn push_numbered(text: &mut Vec<u8>, number: usize, words: &[u8]) -> Result<(), AllocError>
+/// Puts a number and the words behind it.
+pub fn push_numbered(text: &mut Vec<u8>, number: usize, words: &[u8]) -> Result<(), AllocError>
     ensures { OnOk result (text.new.items ≡ text.old.items ++ (decimal number ++ words.now)) }
 {
     let mut digits = itoa::Buffer::new();

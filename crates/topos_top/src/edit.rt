@@ -1,7 +1,7 @@
 //! `edit FILE EDITS`: what becomes of a network as its description is edited, and its policy in the
 //! end.
 
-ghost use Rattle.std.specs.Prelude.{◌≡◌, ◌≤◌, ◌++◌, OnOk, IfOk, decimal, false, map};
+ghost use Rattle.std.specs.Prelude.{◌≡◌, ◌≤◌, ◌++◌, OnOk, IfOk, false, map};
 ghost use Rattle.edit_core.specs.inner.Kept.{table_of};
 ghost use Rattle.edit_core.specs.inner.EditView.{edit_view};
 ghost use Rattle.report_core.specs.PolicyReport.{IsPolicyReport};
@@ -21,7 +21,7 @@ use crate::status::Status;
 use crate::text::Text;
 use edge_io::Shelf;
 use edit_core::{EditRefusal, Session, Summary};
-use report_core::policy_report;
+use report_core::{policy_report, push_numbered};
 use std::alloc::{AllocError, Global};
 
 /// The answer to the files of those names.
@@ -105,13 +105,4 @@ fn push_summary(text: &mut Vec<u8>, number: usize, summary: &Summary) -> Result<
     push_numbered(text, summary.permitted as usize, b" stateful ")?;
     push_numbered(text, summary.stateful as usize, b" failing ")?;
     push_numbered(text, summary.failing as usize, b"\n")
-}
-
-/// Puts a number and the words behind it.
-fn push_numbered(text: &mut Vec<u8>, number: usize, words: &[u8]) -> Result<(), AllocError>
-    ensures { OnOk result (text.new.items ≡ text.old.items ++ (decimal number ++ words.now)) }
-{
-    let mut digits = itoa::Buffer::new();
-    text.extend_from_slice(digits.format(number).as_bytes())?;
-    text.extend_from_slice(words)
 }
