@@ -55,8 +55,8 @@ pub struct Covers {
     guide: Vec<u32>,
 }
 
-/// So many places of a guide there are for each key.
-const PLACES_FOR_KEY: usize = 2;
+/// So many places of a guide there are for all keys of the same bits.
+const PLACES_FOR_BITS: usize = 2;
 
 /// So many places of a guide are tried for a key, one after another. What is not among them is found
 /// by halving.
@@ -345,9 +345,8 @@ fn groups_of(alloc: Global, keys: &[Key]) -> Result<Vec<Group>, AllocError>
 
 /// A guide to keys that stand in order.
 fn guide_of(alloc: Global, keys: &[Key]) -> Result<Vec<u32>, AllocError> {
-    let len = keys
-        .len()
-        .saturating_mul(PLACES_FOR_KEY)
+    let len = count_of_bits(keys)
+        .saturating_mul(PLACES_FOR_BITS)
         .saturating_add(TRIES);
     let mut guide = vec![in alloc; NOWHERE; len]?;
     for (place, key) in keys.iter().enumerate() {
@@ -357,6 +356,17 @@ fn guide_of(alloc: Global, keys: &[Key]) -> Result<Vec<u32>, AllocError> {
         }
     }
     Ok(guide)
+}
+
+/// How many different bits keys ask for that stand in order.
+fn count_of_bits(keys: &[Key]) -> usize {
+    let mut count: usize = 0;
+    for (place, key) in keys.iter().enumerate() {
+        if place == 0 || !key.shares_bits(&keys[place - 1]) {
+            count = count.saturating_add(1);
+        }
+    }
+    count
 }
 
 /// Points to the first key of some bits, where one of the places that are tried for it is free.
