@@ -5,26 +5,15 @@ use Rattle.audit_core.specs.declared.named.Found.{Found}
 use Rattle.audit_core.specs.Classes.{in_order, protocol_leasts}
 use Rattle.audit_core.specs.Cuts.{cuts_between, cuts_by, named_protocols, parts_between}
 use Rattle.audit_core.specs.inner.Named.{IsNamedBy, NameSame}
-use Rattle.audit_core.proofs.DistinctLemmas.{leasts_by, leasts_same, thinned_same}
+use Rattle.audit_core.proofs.DistinctLemmas.{leasts_by, leasts_same}
 use Rattle.audit_core.specs.Parts.{Part}
 use Rattle.audit_core.specs.inner.RangeCuts.{address_cuts, port_cuts}
 use Rattle.audit_core.proofs.NamedLemmas.{address_cuts_are, port_cuts_are}
-use Rattle.audit_core.proofs.SearchLemmas.{found_by_search}
-use Rattle.audit_core.specs.inner.Findings.{IsFinding}
-use Rattle.audit_core.specs.declared.finding.Finding.{Finding}
 use Rattle.audit_core.proofs.OrderLemmas.{contains_some, in_order-has, in_order-rises}
 use Rattle.audit_core.specs.Places.{Leasts, class_count, class_total, leasts_of}
 use Rattle.audit_core.specs.inner.Places.{AreLeasts}
 use Rattle.audit_core.proofs.LeastProtocols.{protocols_rise, some_protocol}
-use Rattle.audit_core.specs.Rules.{filter_of}
-use Rattle.audit_core.specs.inner.Rules.{GivesOne}
-use Rattle.audit_core.specs.inner.Searching.{ArePacketsAll, IsFoundAmong, IsSearched}
 use Rattle.audit_core.specs.Sides.{Sides}
-use Rattle.audit_core.specs.inner.Thinning.{AreThinned}
-use Rattle.audit_core.specs.inner.Treatment.{AreMerged}
-use Rattle.audit_core.proofs.MergedLemmas.{merged_classes, merged_represent}
-use Rattle.audit_core.proofs.StandingLemmas.{kept_classes, kept_represent}
-use Rattle.flow_set.specs.FlowSet.{IsSubset}
 
 leasts_are : (sides : Sides) → AreLeasts (leasts_of (cuts_between sides))
 leasts_are sides =
@@ -54,7 +43,7 @@ leasts_named parts found named =
 -- the classes that an audit has read of what the sides name, be it named once or more often
 module _ (sides : Sides) {named found : Found} {leasts : Leasts} (are : IsNamedBy (parts_between sides) named) (same : NameSame named found)
     (read : leasts ≡ leasts_by found) where
-  between : leasts ≡ leasts_of (cuts_between sides)
+  pub between : leasts ≡ leasts_of (cuts_between sides)
   between = read ∙ leasts_same named found same ∙ leasts_named (parts_between sides) named are
 
   pub ascend : AreLeasts leasts
@@ -63,20 +52,3 @@ module _ (sides : Sides) {named found : Found} {leasts : Leasts} (are : IsNamedB
   pub count_is : {count : ℕ} → count ≡ class_total leasts → count ≡ class_count sides
   unfolding class_count
   count_is counted = counted ∙ ap class_total between
-
-  -- what is found by them
-  pub found_by_named : {built : Sides} (finding : Finding) → built ≡ sides → GivesOne (filter_of sides.rules) → IsSubset sides.stateful sides.permitted
-      → ArePacketsAll leasts → IsFoundAmong built found leasts finding → IsFinding sides finding
-  found_by_named finding is gives subset packets among =
-      let merged = subst (λ (s : Sides). AreMerged s among.thinned among.kept) is among.merged in
-      let thinned : AreThinned named (leasts_of (cuts_between sides)) among.thinned =
-      subst (λ (l : Leasts). AreThinned named l among.thinned) between (thinned_same named found leasts among.thinned same among.stands) in
-      found_by_search sides among.kept finding
-      (record {
-        gives = gives;
-        subset = subset;
-        packets = subst ArePacketsAll between packets;
-        some = λ q there. kept_classes named (leasts_of (cuts_between sides)) among.thinned thinned q (merged_classes sides among.thinned among.kept merged q there);
-        represent = merged_represent sides among.thinned among.kept gives merged (kept_represent sides named among.thinned are thinned);
-      })
-      (subst (λ (s : Sides). IsSearched s among.kept finding) is among.searched)

@@ -1,6 +1,6 @@
 -- Whether something is named once or more often makes no difference.
 use Rattle.std.proofs.Common.{◌≡◌, inl, inr, ℕ, nat_eq, true, List, [], ◌∷◌, refl, sym, subst}
-use Rattle.std.specs.List.{AllByRecursion, Contains, dedup, flat_map}
+use Rattle.std.specs.List.{Contains, dedup, flat_map}
 use Rattle.std.specs.List.Sorted.{IsPermutation}
 use Rattle.std.proofs.lemmas.List.Filters.{dedup_is}
 use Rattle.std.proofs.lemmas.List.Kept.{Contains-dedup, Contains-from_dedup}
@@ -17,7 +17,6 @@ use Rattle.audit_core.specs.Classes.{in_order, protocol_leasts}
 use Rattle.audit_core.specs.inner.Named.{HaveSame, NameSame}
 use Rattle.audit_core.specs.Places.{Leasts}
 use Rattle.audit_core.specs.inner.RangeCuts.{address_cuts, cuts_of_addresses, cuts_of_ports, port_cuts}
-use Rattle.audit_core.specs.inner.Thinning.{AreThinned, IsThinned, SameAddresses, SamePorts}
 use Rattle.audit_core.proofs.OrderLemmas.{contains_cases, contains_first, contains_later, contains_none, in_order_same}
 use Rattle.audit_core.proofs.LeastProtocols.{protocol_leasts_same}
 
@@ -51,15 +50,6 @@ cons_same x xs ys same d there = elim (contains_cases x xs d there) [
   | inr later ↦ contains_later x ys d (same d later)
 ]
 
-all_there : {X : Type 0} (P : X → Type 0) (xs : List X) (x : X) → AllByRecursion P xs → Contains xs x → P x
-all_there P [] x all there = absurd (contains_none x there)
-all_there P (y ∷ xs) x all there = elim (contains_cases y xs x there) [ inl is ↦ subst P is all.0 | inr later ↦ all_there P xs x all.1 later ]
-
-all_same : {X : Type 0} (P : X → Type 0) (xs ys : List X) → ((x : X) → Contains xs x → Contains ys x) → AllByRecursion P ys → AllByRecursion P xs
-all_same P [] ys same all = tt
-all_same P (x ∷ xs) ys same all =
-    (all_there P ys x all (same x (contains_first x xs x refl)), all_same P xs ys (λ d there. same d (contains_later x xs d there)) all)
-
 -- 2. The same cuts make the same classes.
 
 cuts_same : {X : Type 0} (f : X → List ℕ) (xs ys : List X) → HaveSame xs ys → in_order (0 ∷ flat_map f xs) ≡ in_order (0 ∷ flat_map f ys)
@@ -83,27 +73,7 @@ leasts_same found less same =
     let ports = cuts_same cuts_of_ports found.ports.items less.ports.items same.ports in
     sym (λ i. record { addresses = addresses i; protocols = protocols i; ports = ports i })
 
--- 3. Numbers that lie in the same ranges, and those that stand for others.
-
-thinned_by : (Same Other : ℕ → ℕ → Type 0) (numbers kept : List ℕ) → ((a b : ℕ) → Same a b → Other a b) → IsThinned Same numbers kept
-    → IsThinned Other numbers kept
-thinned_by Same Other numbers kept to thinned = record {
-  rises = thinned.rises;
-  short = thinned.short;
-  some = thinned.some;
-  each = λ x there. let by = thinned.each x there in record { by = by.by; there = by.there; low = by.low; same = to by.by x by.same };
-}
-
-pub thinned_same : (found less : Found) (leasts kept : Leasts) → NameSame found less → AreThinned less leasts kept → AreThinned found leasts kept
-thinned_same found less leasts kept same thinned = record {
-  addresses = thinned_by (SameAddresses less.addresses.items) (SameAddresses found.addresses.items) leasts.addresses kept.addresses
-      (λ a b. all_same _ found.addresses.items less.addresses.items (λ x. (same.addresses x).0)) thinned.addresses;
-  protocols = thinned.protocols;
-  ports = thinned_by (SamePorts less.ports.items) (SamePorts found.ports.items) leasts.ports kept.ports
-      (λ a b. all_same _ found.ports.items less.ports.items (λ x. (same.ports x).0)) thinned.ports;
-}
-
--- 4. What is left of ranges in order where neighbours are the same.
+-- 3. What is left of ranges in order where neighbours are the same.
 
 -- two ranges by their ends
 ends_same : {X : Type 0} (low high : X → ℕ) → ((x y : X) → low x ≡ low y → high x ≡ high y → x ≡ y) → (x y : X)

@@ -1,18 +1,15 @@
 pub mod AlikeLemmas
 pub mod AuditLemmas
-pub mod ClassLemmas
 pub mod DistinctLemmas
 pub mod ExpectedLaws
+pub mod FaultLaws
 pub mod FindingOnceLaws
 pub mod JudgingLemmas
 pub mod LeastProtocols
 pub mod LeastsLemmas
-pub mod LeftLemmas
-pub mod MergedLemmas
 pub mod NamedLemmas
 pub mod OrderLemmas
 pub mod PartLemmas
-pub mod PlaceLemmas
 pub mod ProtocolLemmas
 pub mod RangeLemmas
 pub mod RulesLaws
@@ -21,6 +18,4 @@ pub mod SearchLemmas
 pub mod ShortLaws
 pub mod SideLemmas
 pub mod SiteLemmas
-pub mod StandingLemmas
-pub mod ThinningLemmas
-pub mod TreatmentLemmas
+pub mod SoughtLaws

@@ -155,25 +155,6 @@ alike_back parts p q alike = record {
   dport = each_back (SamePort p.dport q.dport) (SamePort q.dport p.dport) parts (λ x same. port_back x p.dport q.dport same) alike.dport;
 }
 
-pub alike_through : (parts : List Part) (p q r : Packet) → AreAlikeFor parts p q → AreAlikeFor parts q r → AreAlikeFor parts p r
-alike_through parts p q r first second = record {
-  src =
-      each_through (SameAddress p.src q.src) (SameAddress q.src r.src) (SameAddress p.src r.src) parts
-      (λ x one two. address_through x p.src q.src r.src one two) first.src second.src;
-  dst =
-      each_through (SameAddress p.dst q.dst) (SameAddress q.dst r.dst) (SameAddress p.dst r.dst) parts
-      (λ x one two. address_through x p.dst q.dst r.dst one two) first.dst second.dst;
-  proto =
-      each_through (SameProtocol p.proto q.proto) (SameProtocol q.proto r.proto) (SameProtocol p.proto r.proto) parts
-      (λ x one two. protocol_through x p.proto q.proto r.proto one two) first.proto second.proto;
-  sport =
-      each_through (SamePort p.sport q.sport) (SamePort q.sport r.sport) (SamePort p.sport r.sport) parts
-      (λ x one two. port_through x p.sport q.sport r.sport one two) first.sport second.sport;
-  dport =
-      each_through (SamePort p.dport q.dport) (SamePort q.dport r.dport) (SamePort p.dport r.dport) parts
-      (λ x one two. port_through x p.dport q.dport r.dport one two) first.dport second.dport;
-}
-
 -- their swaps are alike too
 pub alike_swapped : (parts : List Part) (p q : Packet) → AreAlikeFor parts p q → AreAlikeFor parts (swap_of p) (swap_of q)
 alike_swapped parts p q alike = record { src = alike.dst; dst = alike.src; proto = alike.proto; sport = alike.dport; dport = alike.sport }

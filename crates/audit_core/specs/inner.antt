@@ -1,10 +1,10 @@
 pub mod Agreement
 pub mod Classes
 pub mod Cuts
+pub mod Faults
 pub mod FindingText
 pub mod Findings
 pub mod Judging
-pub mod Likeness
 pub mod Named
 pub mod Places
 pub mod RangeCuts
@@ -13,5 +13,4 @@ pub mod Rules
 pub mod RulesView
 pub mod Searching
 pub mod Sides
-pub mod Thinning
-pub mod Treatment
+pub mod Sought

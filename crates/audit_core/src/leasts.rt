@@ -1,43 +1,16 @@
-//! The classes of packets, one after another.
+//! The classes of packets: the least numbers of each, and how many there are.
 
-ghost use Rattle.std.specs.Prelude.{◌≡◌, ◌<◌, IfOk, List, length, map};
-ghost use Rattle.host_net.specs.Host.{Host, owner_of};
-ghost use Rattle.host_net.specs.Packet.{IsPacket, swap_of};
+ghost use Rattle.std.specs.Prelude.{◌≡◌, IfOk};
 ghost use Rattle.audit_core.specs.Classes.{in_order, protocol_leasts};
 ghost use Rattle.audit_core.specs.Places.{class_total};
-ghost use Rattle.audit_core.specs.inner.Places.{AreLeasts, packet_at};
+ghost use Rattle.audit_core.specs.inner.Places.{AreLeasts};
 ghost use Rattle.audit_core.specs.inner.RangeCuts.{address_cuts, port_cuts};
-ghost use Rattle.audit_core.specs.inner.Searching.{AreOwners, ArePacketsAll};
-ghost use Rattle.audit_core.specs.inner.Thinning.{AreThinned};
+ghost use Rattle.audit_core.specs.inner.Searching.{ArePacketsAll};
 
 use crate::cuts::{least_addresses, least_ports};
-use crate::likeness::Likeness;
 use crate::named::Found;
-use crate::thinning::{thin, thin_ports};
-use host_net::Packet;
 use std::alloc::{AllocError, Global};
 use std::marker::Model;
-
-/// The packet of a class, with the owners of its source and its destination.
-#[derive(Clone, Copy)]
-pub(crate) struct Class {
-    pub(crate) packet: Packet,
-    pub(crate) from: Option<u16>,
-    pub(crate) to: Option<u16>,
-}
-
-impl Class {
-    pub(crate) fn swap(&self) -> Class
-        ensures packet { result.packet ≡ swap_of self.now.packet }
-        ensures owners { (hosts : List Host) → AreOwners hosts self.now → AreOwners hosts result }
-    {
-        Class {
-            packet: self.packet.swap(),
-            from: self.to,
-            to: self.from,
-        }
-    }
-}
 
 /// The least numbers of the classes of addresses, protocols and ports.
 #[derive(Drop)]
@@ -71,22 +44,6 @@ impl Leasts {
         })
     }
 
-    /// Classes of them that stand for all: of those that lie in the same ranges the first.
-    pub(crate) fn thinned(&self, alloc: Global, found: &Found) -> Result<Leasts, AllocError>
-        requires { AreLeasts self.now }
-        ensures { IfOk result (AreThinned found.now self.now) }
-    {
-        Ok(Leasts {
-            addresses: thin(
-                alloc,
-                &self.addresses,
-                Likeness::Addresses(&found.addresses),
-            )?,
-            protocols: Vec::from_slice(alloc, &self.protocols)?,
-            ports: thin_ports(alloc, &self.ports, &found.ports)?,
-        })
-    }
-
     /// How many classes there are.
     pub(crate) fn total(&self) -> u128
         requires { AreLeasts self.now }
@@ -94,18 +51,6 @@ impl Leasts {
         ensures packets { ArePacketsAll self.now }
     {
         total(&self.addresses, &self.protocols, &self.ports)
-    }
-
-    /// The class at a place. With the owners of the addresses go those of its packet.
-    pub(crate) fn class_at(&self, owners: &[Option<u16>], place: usize) -> Class
-        requires leasts { AreLeasts self.now }
-        requires there { place < class_total self.now }
-        requires owners { length owners.now ≡ length self.now.addresses }
-        ensures packet { result.packet ≡ packet_at self.now place }
-        ensures known { IsPacket result.packet }
-        ensures owners { (hosts : List Host) → owners.now ≡ map (owner_of hosts) self.now.addresses → AreOwners hosts result }
-    {
-        class_at(&self.addresses, owners, &self.protocols, &self.ports, place)
     }
 }
 
@@ -117,37 +62,6 @@ fn total(addresses: &[u32], protocols: &[u8], ports: &[u16]) -> u128
     let pairs = addresses.len() as u128 * addresses.len() as u128;
     let ends = ports.len() as u128;
     ends * (ends * (protocols.len() as u128 * pairs))
-}
-
-fn class_at(
-    addresses: &[u32],
-    owners: &[Option<u16>],
-    protocols: &[u8],
-    ports: &[u16],
-    place: usize,
-) -> Class
-    requires leasts { AreLeasts (record { addresses = addresses.now; protocols = protocols.now; ports = ports.now }) }
-    requires there { place < class_total (record { addresses = addresses.now; protocols = protocols.now; ports = ports.now }) }
-    requires owners { length owners.now ≡ length addresses.now }
-    ensures packet { result.packet ≡ packet_at (record { addresses = addresses.now; protocols = protocols.now; ports = ports.now }) place }
-    ensures known { IsPacket result.packet }
-    ensures owners { (hosts : List Host) → owners.now ≡ map (owner_of hosts) addresses.now → AreOwners hosts result }
-{
-    let behind_port = place / ports.len();
-    let behind_ports = behind_port / ports.len();
-    let pair = behind_ports / protocols.len();
-    let (from, to) = (pair / addresses.len(), pair % addresses.len());
-    Class {
-        packet: Packet {
-            src: addresses[from],
-            dst: addresses[to],
-            proto: protocols[behind_ports % protocols.len()],
-            sport: ports[behind_port % ports.len()],
-            dport: ports[place % ports.len()],
-        },
-        from: owners[from],
-        to: owners[to],
-    }
 }
 
 /// The protocols that are named and the least other one, in ascending order.

@@ -1,9 +1,13 @@
 //! The rules that are audited: those of a packet filter, or those of a switch.
 
+ghost use Rattle.std.specs.Prelude.{◌≡◌};
+ghost use Rattle.host_net.specs.declared.packet.Packet.{Packet};
+ghost use Rattle.header_space.specs.Boxes.{IsBox, IsIn, Narrows};
 ghost use Rattle.audit_core.specs.Rules.{filter_of};
 ghost use Rattle.audit_core.specs.inner.Rules.{GivesOne};
 ghost use Rattle.audit_core.specs.inner.RulesView.{rules_of};
 
+use header_space::PacketBox;
 use host_net::{CtState, Packet};
 use ipt_rules::Filter;
 use ofp_rules::{Frame, Table};
@@ -25,6 +29,19 @@ impl<'a> Text<'a> {
         match self {
             Text::Ipt(filter) => filter.verdict(packet, state).is_forward(),
             Text::Ofp(table) => table.verdict(&Frame::Ipv4(*packet)).is_forward(),
+        }
+    }
+
+    /// Whether it lets the packets of a box pass in a state. The box is narrowed, so that this is so for all
+    /// packets that it has then.
+    pub(crate) fn passes_within(&self, within: &mut PacketBox, state: CtState) -> bool
+        requires { IsBox within.old }
+        ensures part { Narrows within.old within.new }
+        ensures passes { (p : Packet) → IsIn within.new p → filter_of (rules_of self.now) state p result }
+    {
+        match self {
+            Text::Ipt(filter) => filter.verdict_within(within, state).is_forward(),
+            Text::Ofp(table) => table.verdict_within(within).is_forward(),
         }
     }
 

@@ -17,4 +17,5 @@ pub mod ServiceTextLaws
 pub mod ServicesLaws
 pub mod ServicesLemmas
 pub mod TextRows
+pub mod UntilLemmas
 pub mod VerdictLaws

@@ -24,7 +24,7 @@ pub record IsFirstOf (r : Range) (rs : List Range) : Type 0 where
   pub before : list_all (λ s. nat_lt r.last s.first) rs ≡ true
   pub behind : is_ordered rs ≡ true
 
-first_of : (r : Range) (rs : List Range) → is_ordered (r ∷ rs) ≡ true → IsFirstOf r rs
+pub first_of : (r : Range) (rs : List Range) → is_ordered (r ∷ rs) ≡ true → IsFirstOf r rs
 first_of r rs h =
     let (some, others) = and_parts (nat_le r.first r.last) _ h in
     let (before, behind) = and_parts (list_all (λ (s : Range). nat_lt r.last s.first) rs) _ others in

@@ -1,6 +1,6 @@
 //! The hosts of a network, by name and by address.
 
-ghost use Rattle.std.specs.Prelude.{◌≡◌, ℕ, ◌<◌, ◌^◌, ◌++◌, ◌∷◌, [], Some, None, Ok, Err, IsTrue, IsFalse, OnOk, OnErr, MatchResult, length, slice_get};
+ghost use Rattle.std.specs.Prelude.{◌≡◌, ℕ, ◌<◌, ◌≤◌, ◌^◌, ◌++◌, ◌∷◌, [], Some, None, Ok, Err, IsTrue, IsFalse, OnOk, OnErr, MatchResult, length, slice_get};
 ghost use Rattle.std.specs.List.{list_all};
 ghost use Rattle.std.specs.Option.{option_map, ForSome};
 ghost use Rattle.host_net.specs.Host.{Host, covers_any, host_named, owner_of, rest_of};
@@ -14,7 +14,7 @@ use crate::addresses::{Addresses, prefix_count, rest_host};
 use crate::name::Name;
 use crate::overlap::overlap;
 use crate::prefix::Prefix;
-use crate::ranges::{Range, holder, with_host};
+use crate::ranges::{Held, Range, holder, holder_until, with_host};
 use crate::refusal::{HOST_LIMIT, HostRefusal, PREFIX_LIMIT};
 use indexmap::IndexMap;
 use std::alloc::{AllocError, Global};
@@ -195,6 +195,22 @@ impl Hosts {
         ensures uncovered { IsFalse (covers_any (all_prefixes self.now) addr) → result ≡ rest_of self.now }
     {
         holder(&self.ranges, addr).or(self.rest())
+    }
+
+    /// The owner of an address, if it has one, and the last address, at most `last`, up to which all have
+    /// the same.
+    #[tactic(auto, unfolding(crate::specs::Host::owner_of))]
+    pub fn owner_until(&self, addr: u32, last: u32) -> Held
+        requires { addr ≤ last }
+        ensures first { addr ≤ result.last }
+        ensures last { result.last ≤ last }
+        ensures owned { (a : ℕ) → addr ≤ a → a ≤ result.last → owner_of self.now a ≡ result.host }
+    {
+        let held = holder_until(&self.ranges, addr, last);
+        Held {
+            host: held.host.or(self.rest()),
+            last: held.last,
+        }
     }
 }
 

@@ -21,6 +21,7 @@ pub use hosts::Hosts;
 pub use name::Name;
 pub use packet::{CtState, Packet, Verdict};
 pub use prefix::{Prefix, put_prefix, read_address, read_prefix};
+pub use ranges::Held;
 pub use refusal::{HOST_LIMIT, HostRefusal, INVARIANT_LIMIT, PREFIX_LIMIT};
 pub use service::{LAST_PORT, Service, read_port, read_protocol, read_service};
 pub use services::{SERVICE_LIMIT, Services};

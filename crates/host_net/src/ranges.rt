@@ -19,6 +19,50 @@ pub struct Range {
     pub host: u16,
 }
 
+/// The host of an address, if it has one, and the last address up to which it is that of all.
+#[derive(Clone, Copy)]
+pub struct Held {
+    pub host: Option<u16>,
+    pub last: u32,
+}
+
+/// The host of the range in which the address lies, up to an address that no other range begins before.
+pub fn holder_until(ranges: &[Range], addr: u32, last: u32) -> Held
+    requires ordered { IsTrue (is_ordered ranges.now) }
+    requires last { addr ≤ last }
+    ensures first { addr ≤ result.last }
+    ensures last { result.last ≤ last }
+    ensures held { (a : ℕ) → addr ≤ a → a ≤ result.last → holder_among ranges.now a ≡ result.host }
+{
+    let begun = begun(ranges, addr);
+    let end = free_until(ranges, begun, addr, last);
+    match ranges[..begun].last() {
+        Some(range) if addr <= range.last => Held {
+            host: Some(range.host),
+            last: end.min(range.last),
+        },
+        _ => Held {
+            host: None,
+            last: end,
+        },
+    }
+}
+
+/// The last address before the range at a place, and `last` where there is none or it begins later.
+fn free_until(ranges: &[Range], place: usize, addr: u32, last: u32) -> u32
+    requires ordered { IsTrue (is_ordered ranges.now) }
+    requires last { addr ≤ last }
+    requires behind { IsTrue (list_all (λ r. nat_lt addr r.first) (drop place ranges.now)) }
+    ensures first { addr ≤ result }
+    ensures last { result ≤ last }
+    ensures behind { (a : ℕ) → a ≤ result → IsTrue (list_all (λ r. nat_lt a r.first) (drop place ranges.now)) }
+{
+    match ranges.get(place) {
+        None => last,
+        Some(next) => last.min(next.first.saturating_sub(1)),
+    }
+}
+
 /// The host of the range in which the address lies.
 pub fn holder(ranges: &[Range], addr: u32) -> Option<u16>
     requires { IsTrue (is_ordered ranges.now) }

@@ -2,6 +2,7 @@ pub mod BuildLemmas
 pub mod ChainLaws
 pub mod ChainLemmas
 pub mod Gets
+pub mod HeaderLemmas
 pub mod LoopLaws
 pub mod LoopLemmas
 pub mod MeaningLaws

@@ -1,4 +1,5 @@
 pub mod Addresses
+pub mod BoxWalking
 pub mod Build
 pub mod ChainTable
 pub mod Head

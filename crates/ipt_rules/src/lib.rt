@@ -3,9 +3,11 @@
 //! stand on this crate.
 #![tactic(auto)]
 
+mod box_walk;
 mod chain;
 mod chains;
 mod filter;
+mod header;
 mod jumps;
 mod loops;
 mod name;

@@ -115,7 +115,7 @@ pub fn address_matches(part: Option<AddrMatch>, address: u32) -> bool
     }
 }
 
-fn state_matches(part: Option<StateMatch>, state: CtState) -> bool
+pub(crate) fn state_matches(part: Option<StateMatch>, state: CtState) -> bool
     ensures { result ≡ state_matches part state }
 {
     match part {

@@ -25,7 +25,7 @@ use host_net::{Covers, CtState, Packet, Verdict};
 
 /// The built-in chains and one for each of 256 hosts. For up to so many a packet needs less room, and
 /// less time to clear it.
-const FEW_CHAINS: usize = 259;
+pub(crate) const FEW_CHAINS: usize = 259;
 
 /// Seldom do more walks than these wait at once. For no more of them a packet needs less room as well.
 const FEW_WALKS: usize = 16;
@@ -43,8 +43,8 @@ pub(crate) enum Step {
 /// A chain that is walked, and the place of the next of its rules to be looked at.
 #[derive(Clone, Copy, Default)]
 pub(crate) struct Walk {
-    chain: u16,
-    from: usize,
+    pub(crate) chain: u16,
+    pub(crate) from: usize,
 }
 
 /// Where a walk along a chain stops: at a verdict; where the chain returns; or at a rule that jumps to
@@ -58,15 +58,22 @@ pub(crate) enum Stop {
 
 /// More walks would wait at once than there is room for.
 #[derive(Debug, Drop)]
-struct NoRoom;
+pub(crate) struct NoRoom;
 
 fn step_at(rule: &Rule, packet: &Packet, state: CtState) -> Step
     ensures { step_view result ≡ step_of (matches packet.now state rule.now) rule.now.target }
 {
-    if !rule.matches(packet, state) {
+    step_by(rule.matches(packet, state), rule.target)
+}
+
+/// What a rule does, by whether it fits.
+pub(crate) fn step_by(fits: bool, target: Target) -> Step
+    ensures { step_view result ≡ step_of fits target }
+{
+    if !fits {
         return Step::GoesOn;
     }
-    match rule.target {
+    match target {
         Target::Accept => Step::Decides(Verdict::Forward),
         Target::Drop | Target::Reject => Step::Decides(Verdict::Drop),
         Target::Return => Step::Returns,
@@ -84,7 +91,7 @@ pub(crate) fn rules_of(chains: &[Chain], number: u16) -> &[Rule]
 }
 
 /// Whether it is known that a chain returns.
-fn returns_at(returning: &[bool], chain: u16) -> bool
+pub(crate) fn returns_at(returning: &[bool], chain: u16) -> bool
     ensures { result ≡ returns_at returning.now chain }
 {
     returning.get(chain as usize).copied().unwrap_or(false)

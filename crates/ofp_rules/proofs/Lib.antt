@@ -1,4 +1,5 @@
 pub mod AddingLaws
+pub mod BoxLemmas
 pub mod EntryLemmas
 pub mod HighestLaws
 pub mod LineLaws

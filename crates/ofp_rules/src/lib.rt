@@ -1,6 +1,7 @@
 //! Flow tables of OpenFlow: entries, what becomes of a frame, and the text that `ovs-ofctl` loads.
 #![tactic(auto)]
 
+mod box_table;
 mod entry;
 mod meeting;
 mod next;

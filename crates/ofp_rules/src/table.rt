@@ -201,7 +201,7 @@ fn higher<'a>(frame: &Frame, found: Option<&'a Entry>, entry: &'a Entry) -> Opti
     }
 }
 
-fn is_above(priority: u16, found: Option<&Entry>) -> bool
+pub(crate) fn is_above(priority: u16, found: Option<&Entry>) -> bool
     ensures { result ≡ is_above priority (option_copied found.entry) }
 {
     match found {
@@ -210,7 +210,7 @@ fn is_above(priority: u16, found: Option<&Entry>) -> bool
     }
 }
 
-fn verdict_by(found: Option<&Entry>) -> Verdict
+pub(crate) fn verdict_by(found: Option<&Entry>) -> Verdict
     ensures { result ≡ verdict_by (option_copied found.entry) }
 {
     match found {

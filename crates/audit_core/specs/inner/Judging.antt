@@ -39,12 +39,3 @@ Right sides = IsRight (filter_of sides.rules) (permits sides) (lets_answer sides
 
 abbrev pub Wrong : Sides → Kind → Packet → Bool → Type 0
 Wrong sides = IsWrongIn (filter_of sides.rules) (permits sides) (lets_answer sides)
-
--- in a state, the rules say of a packet what the policy says
-abbrev pub SaySame : Sides → CtState → Packet → Type 0
-SaySame sides state p = (passes : Bool) → filter_of sides.rules state p passes → passes ≡ may_pass (permits sides) (lets_answer sides) state p
-
--- they say this of it, which the policy does not
-pub record SayOther (sides : Sides) (state : CtState) (p : Packet) (passes : Bool) : Type 0 where
-  pub said : filter_of sides.rules state p passes
-  pub wrong : passes ≢ may_pass (permits sides) (lets_answer sides) state p

@@ -1,26 +1,17 @@
 -- What the search through the classes answers, said of the verdicts on their packets. Callers see none of it; they have `Findings`.
-use Rattle.std.specs.Prelude.{◌≡◌, ℕ, ◌<◌, ◌≤◌, Bool, List, Option, Some, None}
-use Rattle.host_net.specs.Host.{Host, owner_of}
+use Rattle.std.specs.Prelude.{◌≡◌, ◌<◌, ◌≤◌, Bool}
 use Rattle.host_net.specs.declared.packet.Packet.{Packet}
 use Rattle.host_net.specs.declared.packet.CtState.{CtState}
 use Rattle.host_net.specs.Packet.{IsPacket, swap_of}
-use Rattle.audit_core.specs.declared.classes.Fault.{Fault}
-use Rattle.audit_core.specs.declared.classes.Faults.{Faults}
-use Rattle.audit_core.specs.declared.leasts.Class.{Class}
-use Rattle.audit_core.specs.declared.named.Found.{Found}
 use Rattle.audit_core.specs.declared.kind.Kind.{Kind}
-use Rattle.audit_core.specs.declared.kind.Kind.TheVariants.{BehindSwap, BehindBoth}
 use Rattle.audit_core.specs.declared.finding.Finding.{Finding}
 use Rattle.audit_core.specs.declared.finding.Finding.TheVariants.{Equal, Differ as Differing}
 use Rattle.audit_core.specs.declared.finding.Trace.{Trace}
 use Rattle.audit_core.specs.Findings.{place_of, trace_of}
 use Rattle.audit_core.specs.inner.Judging.{Right, Wrong}
 use Rattle.audit_core.specs.Places.{ComesBefore, IsClassPacket, Leasts}
-use Rattle.audit_core.specs.inner.Places.{packet_at}
 use Rattle.audit_core.specs.Rules.{filter_of}
 use Rattle.audit_core.specs.Sides.{Sides, lets_answer, permits}
-use Rattle.audit_core.specs.inner.Thinning.{AreThinned}
-use Rattle.audit_core.specs.inner.Treatment.{AreMerged}
 
 -- the rules are right about the packets of all classes
 abbrev pub AllRight : Sides → Leasts → Kind → Type 0
@@ -43,45 +34,6 @@ pub record IsFirstFault (sides : Sides) (leasts : Leasts) (trace : Trace) : Type
 abbrev pub IsSearched : Sides → Leasts → Finding → Type 0
 IsSearched sides leasts Equal = (kind : Kind) → AllRight sides leasts kind
 IsSearched sides leasts (Differing trace) = IsFirstFault sides leasts trace
-
--- what is found by the named parts: that among kept classes, which stand for all
-pub record IsFoundAmong (sides : Sides) (named : Found) (leasts : Leasts) (finding : Finding) : Type 0 where
-  pub thinned : Leasts
-  pub kept : Leasts
-  pub stands : AreThinned named leasts thinned
-  pub merged : AreMerged sides thinned kept
-  pub searched : IsSearched sides kept finding
-
--- what is found of a kind at the places before one: all are right, or this is the first fault
-abbrev pub IsFoundBefore : Sides → Leasts → Kind → ℕ → Option Fault → Type 0
-IsFoundBefore sides leasts kind place None = (n : ℕ) → n < place → Right sides kind (packet_at leasts n)
-IsFoundBefore sides leasts kind place (Some fault) = IsFirstWrong sides leasts kind fault.packet fault.forwards
-
--- of the two kinds on connections; of the second only where nothing is found of the first
-pub record AreFaultsBefore (sides : Sides) (leasts : Leasts) (place : ℕ) (faults : Faults) : Type 0 where
-  pub behind_swap : IsFoundBefore sides leasts BehindSwap place faults.behind_swap
-  pub behind_both : faults.behind_swap ≡ None → IsFoundBefore sides leasts BehindBoth place faults.behind_both
-
--- what one more packet adds: where there is a fault, nothing; else it is right, or the fault
-abbrev pub FindsMore : Sides → Kind → Packet → Option Fault → Option Fault → Type 0
-FindsMore sides kind p (Some fault) new = new ≡ Some fault
-FindsMore sides kind p None None = Right sides kind p
-FindsMore sides kind p None (Some fault) = (fault.packet ≡ p) × Wrong sides kind p fault.forwards
-
-pub record FindMore (sides : Sides) (p : Packet) (old new : Faults) : Type 0 where
-  pub behind_swap : FindsMore sides BehindSwap p old.behind_swap new.behind_swap
-  pub behind_both : new.behind_swap ≡ None → FindsMore sides BehindBoth p old.behind_both new.behind_both
-
--- what is found by these faults, where all packets are right alone
-abbrev pub finding_by : Option Fault → Option Fault → Finding
-finding_by (Some fault) behind_both = Differing (trace_of BehindSwap fault.packet fault.forwards)
-finding_by None (Some fault) = Differing (trace_of BehindBoth fault.packet fault.forwards)
-finding_by None None = Equal
-
--- a class has the owners of its packet's addresses
-pub record AreOwners (hosts : List Host) (class : Class) : Type 0 where
-  pub from : class.from ≡ owner_of hosts class.packet.src
-  pub to : class.to ≡ owner_of hosts class.packet.dst
 
 -- the class packets are packets
 abbrev pub ArePacketsAll : Leasts → Type 0

@@ -1,0 +1,101 @@
+-- Faults of packets: what tells that there is one, and that there is none.
+use Rattle.std.proofs.Common.{◌≡◌, ◌≢◌, ◌↔◌, ℕ, ◌+◌, ◌≤◌, ◌<◌, ◌^◌, Bool, true, false, IsTrue, refl, sym, subst, ◌∙◌, true≢false, arith}
+use Rattle.std.proofs.Math.Bool.{beq}
+use Rattle.std.specs.Prelude.{not}
+use Rattle.host_net.specs.declared.packet.Packet.{Packet}
+use Rattle.host_net.specs.declared.packet.CtState.{CtState}
+use Rattle.host_net.specs.Packet.{IsPacket}
+use Rattle.header_space.specs.Boxes.{IsIn, every_packet}
+use Rattle.pkt_core.specs.Firewall.{may_pass}
+use Rattle.audit_core.specs.declared.kind.Kind.{Kind}
+use Rattle.audit_core.specs.declared.kind.Kind.TheVariants.{Alone, BehindSwap, BehindBoth}
+use Rattle.audit_core.specs.Findings.{trace_of}
+use Rattle.audit_core.specs.Rules.{filter_of}
+use Rattle.audit_core.specs.Sides.{Sides, lets_answer, permits}
+use Rattle.audit_core.specs.inner.Faults.{IsExpected, IsFault, SaysOther}
+use Rattle.audit_core.specs.inner.Judging.{Right, Wrong, is_asked, state_in}
+use Rattle.audit_core.specs.inner.Rules.{GivesOne}
+
+-- ---- packets are those of the box of all
+
+at_most : (a : ℕ) (n m : ℕ) → n ≡ m + 1 → a < n → a ≤ m
+at_most a n m is less = omega (arith, is, less)
+
+pub in_every : (p : Packet) → IsPacket p → IsIn every_packet p
+in_every p is = record {
+  above = record { src = omega arith; dst = omega arith; proto = omega arith; sport = omega arith; dport = omega arith };
+  below = record {
+    src = at_most p.src (2 ^ 32) 4294967295 refl is.0;
+    dst = at_most p.dst (2 ^ 32) 4294967295 refl is.1;
+    proto = at_most p.proto (2 ^ 8) 255 refl is.2;
+    sport = at_most p.sport (2 ^ 16) 65535 refl is.3;
+    dport = at_most p.dport (2 ^ 16) 65535 refl is.4;
+  };
+}
+
+less_than : (a n m : ℕ) → n ≡ m + 1 → a ≤ m → a < n
+less_than a n m is low = omega (arith, is, low)
+
+pub packet_in_every : (p : Packet) → IsIn every_packet p → IsPacket p
+packet_in_every p inside = (
+  less_than p.src (2 ^ 32) 4294967295 refl inside.below.src,
+  less_than p.dst (2 ^ 32) 4294967295 refl inside.below.dst,
+  less_than p.proto (2 ^ 8) 255 refl inside.below.proto,
+  less_than p.sport (2 ^ 16) 65535 refl inside.below.sport,
+  less_than p.dport (2 ^ 16) 65535 refl inside.below.dport,
+)
+
+-- ---- right and wrong
+
+same_where_not : (a b : Bool) → (a ≢ b → ⊥) → a ≡ b
+same_where_not true true h = refl
+same_where_not false false h = refl
+same_where_not true false h = absurd (h (λ e. true≢false e))
+same_where_not false true h = absurd (h (λ e. true≢false (sym e)))
+
+pub right_where : (sides : Sides) (kind : Kind) (p : Packet) → (IsFault sides kind p → ⊥) → Right sides kind p
+right_where sides kind p none asked passes said =
+    same_where_not passes (may_pass (permits sides) (lets_answer sides) (state_in kind) p)
+    (λ wrong. none (passes, record { asked = asked; said = said; wrong = wrong }))
+
+pub fault_said : (sides : Sides) (kind : Kind) (p : Packet) (f : Bool) → GivesOne (filter_of sides.rules) → IsPacket p
+    → filter_of sides.rules (state_in kind) p f → IsFault sides kind p → Wrong sides kind p f
+fault_said sides kind p f gives is said fault =
+    let one = gives (state_in kind) p is in
+    let same : fault.0 ≡ f = one.2 fault.0 fault.1.said ∙ sym (one.2 f said) in
+    subst (λ (b : Bool). Wrong sides kind p b) same fault.1
+
+-- ---- the answer of a box
+
+pub fault_by : (sides : Sides) (kind : Kind) (p : Packet) (expected answer : Bool) → IsTrue (is_asked (permits sides) kind p)
+    → IsExpected sides (state_in kind) p expected → IsTrue answer ↔ SaysOther sides (state_in kind) expected p → IsTrue answer ↔ IsFault sides kind p
+fault_by sides kind p expected answer asked is tells = (
+  (λ yes'. let other = tells.0 yes' in (other.0, record { asked = asked; said = other.1; wrong = λ e. other.2 (e ∙ is) })),
+  (λ fault. tells.1 (fault.0, fault.1.said, (λ e. fault.1.wrong (e ∙ sym is)))),
+)
+
+pub not_asked : (sides : Sides) (kind : Kind) (p : Packet) → is_asked (permits sides) kind p ≡ false → IsTrue false ↔ IsFault sides kind p
+not_asked sides kind p is = (
+  (λ yes'. absurd (true≢false (sym yes'))),
+  (λ fault. absurd (true≢false (sym fault.1.asked ∙ is))),
+)
+
+pub says_by : (sides : Sides) (state : CtState) (p : Packet) (said expected answer : Bool) → GivesOne (filter_of sides.rules) → IsPacket p
+    → filter_of sides.rules state p said → (IsTrue answer → said ≢ expected) → (said ≢ expected → IsTrue answer)
+    → IsTrue answer ↔ SaysOther sides state expected p
+says_by sides state p said expected answer gives is is_said to from =
+    let one = gives state p is in (
+      (λ yes'. (said, is_said, to yes')),
+      (λ other. from (λ e. other.2 (one.2 other.0 other.1 ∙ sym (one.2 said is_said) ∙ e))),
+    )
+
+pub differs : (a b : Bool) → (IsTrue (not (beq a b)) → a ≢ b) × (a ≢ b → IsTrue (not (beq a b)))
+differs true true = ((λ h. absurd (true≢false (sym h))), (λ h. absurd (h refl)))
+differs false false = ((λ h. absurd (true≢false (sym h))), (λ h. absurd (h refl)))
+differs true false = ((λ h e. true≢false e), (λ h. refl))
+differs false true = ((λ h e. true≢false (sym e)), (λ h. refl))
+
+pub trace_forwards : (kind : Kind) (p : Packet) (f : Bool) → (trace_of kind p f).forwards ≡ f
+trace_forwards Alone p f = refl
+trace_forwards BehindSwap p f = refl
+trace_forwards BehindBoth p f = refl

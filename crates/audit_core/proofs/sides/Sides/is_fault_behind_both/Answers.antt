@@ -1,0 +1,17 @@
+use Rattle.std.proofs.Common.{true, ◌||◌, ◌∙◌}
+use Rattle.host_net.specs.Packet.{swap_of}
+use Rattle.header_space.proofs.BoxLaws.{narrows_in}
+use Rattle.audit_core.specs.declared.kind.Kind.TheVariants.{BehindBoth}
+use Rattle.audit_core.specs.Sides.{lets_answer, permits}
+use Rattle.audit_core.proofs.FaultLaws.{fault_by}
+use Rattle.audit_core.proofs.JudgingLemmas.{says_established}
+use Rattle.audit_core.proofs.sides.Sides.is_fault_behind_both.Goals as goal
+
+pub returns-clause-alike : goal.returns-clause-alike
+returns-clause-alike c = λ p inside.
+    let sides = c.args.self.now in
+    let asked = c.permits_within.ensures.alike p (narrows_in c.permits_within.new.within c.says_other.new.within p c.says_other.ensures.part inside)
+    ∙ c.if-not-permits_within.false in
+    fault_by sides BehindBoth p true c.says_other.result asked
+    (says_established (permits sides) (lets_answer sides) p ∙ (λ i. asked i || lets_answer sides (swap_of p)))
+    (c.says_other.ensures.alike p inside)

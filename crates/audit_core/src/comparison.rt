@@ -1,0 +1,90 @@
+//! The audit: whether rules do what a policy says, over every list of packets and forgettings.
+
+ghost use Rattle.std.specs.Prelude.{◌≡◌, ◌↔◌, ◌≤◌, IfOk, IfErr, OnOk};
+ghost use Rattle.audit_core.specs.Findings.{DifferSomewhere};
+ghost use Rattle.audit_core.specs.inner.Findings.{IsFinding, IsRefused};
+ghost use Rattle.audit_core.specs.inner.Sought.{IsSought};
+ghost use Rattle.audit_core.specs.Places.{class_count, leasts_of, most_classes};
+ghost use Rattle.audit_core.specs.Cuts.{cuts_between};
+ghost use Rattle.audit_core.specs.inner.RulesView.{rules_of};
+ghost use Rattle.audit_core.specs.inner.Searching.{ArePacketsAll};
+ghost use Rattle.audit_core.specs.Sides.{sides_of};
+
+use crate::fault::fault_of;
+use crate::finding::{AuditRefusal, Finding};
+use crate::kind::Kind;
+use crate::leasts::Leasts;
+use crate::named::named_between;
+use crate::sides::Sides;
+use crate::text::Text;
+use pkt_core::FlowPolicy;
+use std::alloc::{AllocError, Global};
+
+const MOST_CLASSES: u128 = 4_000_000;
+
+/// Compares what rules do with what a policy expects, where there are not too many classes of packets.
+pub fn audit(
+    alloc: Global,
+    policy: &FlowPolicy<'_>,
+    text: &Text<'_>,
+) -> Result<Finding, AuditRefusal>
+    // They agree on every list of events, or this is the first short list on which they differ.
+    ensures found { IfOk result (IsFinding (sides_of policy.now.site policy.now.permitted policy.now.stateful (rules_of text.now))) }
+    ensures exact { IfOk result (λ finding. (finding ≡ Finding.Equal) ↔
+        (DifferSomewhere (sides_of policy.now.site policy.now.permitted policy.now.stateful (rules_of text.now)) → ⊥)) }
+    ensures few { OnOk result (class_count (sides_of policy.now.site policy.now.permitted policy.now.stateful (rules_of text.now)) ≤ most_classes) }
+    ensures refused { IfErr result (IsRefused (class_count (sides_of policy.now.site policy.now.permitted policy.now.stateful (rules_of text.now)))) }
+{
+    let count = count_classes(alloc, policy, text)?;
+    if count > MOST_CLASSES {
+        return Err(AuditRefusal::TooManyClasses { count });
+    }
+    Ok(find(alloc, &Sides::new(policy, *text))?)
+}
+
+/// Compares what rules do with what a policy expects, however many classes of packets there are.
+pub fn compare(
+    alloc: Global,
+    policy: &FlowPolicy<'_>,
+    text: &Text<'_>,
+) -> Result<Finding, AllocError>
+    // They agree on every list of events, or this is the first short list on which they differ.
+    ensures found { IfOk result (IsFinding (sides_of policy.now.site policy.now.permitted policy.now.stateful (rules_of text.now))) }
+    ensures exact { IfOk result (λ finding. (finding ≡ Finding.Equal) ↔
+        (DifferSomewhere (sides_of policy.now.site policy.now.permitted policy.now.stateful (rules_of text.now)) → ⊥)) }
+{
+    // That the packets of classes are packets is known by this.
+    let _count = count_classes(alloc, policy, text)?;
+    find(alloc, &Sides::new(policy, *text))
+}
+
+/// How many classes of packets there are.
+fn count_classes(
+    alloc: Global,
+    policy: &FlowPolicy<'_>,
+    text: &Text<'_>,
+) -> Result<u128, AllocError>
+    ensures count { IfOk result (λ count. count ≡ class_count (sides_of policy.now.site policy.now.permitted policy.now.stateful (rules_of text.now))) }
+    ensures packets { IfOk result (λ _. ArePacketsAll (leasts_of (cuts_between (sides_of policy.now.site policy.now.permitted policy.now.stateful (rules_of text.now))))) }
+{
+    let named = named_between(alloc, policy, text)?;
+    let found = named.distinct();
+    let leasts = Leasts::of(alloc, &found)?;
+    Ok(leasts.total())
+}
+
+/// The least fault of the first kind of list that has one.
+fn find(alloc: Global, sides: &Sides<'_>) -> Result<Finding, AllocError>
+    ensures { IfOk result (IsSought sides.now) }
+{
+    if let Some(trace) = fault_of(alloc, sides, Kind::Alone)? {
+        return Ok(Finding::Differ(trace));
+    }
+    if let Some(trace) = fault_of(alloc, sides, Kind::BehindSwap)? {
+        return Ok(Finding::Differ(trace));
+    }
+    match fault_of(alloc, sides, Kind::BehindBoth)? {
+        Some(trace) => Ok(Finding::Differ(trace)),
+        None => Ok(Finding::Equal),
+    }
+}

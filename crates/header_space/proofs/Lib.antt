@@ -1,0 +1,4 @@
+pub mod BoxLaws
+pub mod NarrowLaws
+pub mod SeekLaws
+pub mod SplitLaws

@@ -1,0 +1,31 @@
+-- Walks of all packets of a box. Callers see none of it; they have `Meaning`.
+use Rattle.std.specs.Prelude.{ℕ, List, Bool, Option}
+use Rattle.host_net.specs.declared.packet.Packet.{Packet}
+use Rattle.host_net.specs.declared.packet.CtState.{CtState}
+use Rattle.host_net.specs.declared.packet.Verdict.{Verdict}
+use Rattle.header_space.specs.declared.packet_box.PacketBox.{PacketBox}
+use Rattle.header_space.specs.Boxes.{IsIn}
+use Rattle.ipt_rules.specs.declared.rule.Rule.{Rule}
+use Rattle.ipt_rules.specs.declared.walk.Stop.{Stop}
+use Rattle.ipt_rules.specs.declared.walk.Walk.{Walk}
+use Rattle.ipt_rules.specs.Chain.{Chain, rules_of}
+use Rattle.ipt_rules.specs.Matching.{matches}
+use Rattle.ipt_rules.specs.Meaning.{Gives}
+use Rattle.ipt_rules.specs.inner.Walking.{DoReturn, IsWalk, StopsAt}
+
+-- it holds for all packets of a box, by which rules fit them
+abbrev pub ForAll : CtState → PacketBox → ((Rule → Bool) → Type 0) → Type 0
+ForAll state b Holds = (p : Packet) → IsIn b p → Holds (matches p state)
+
+abbrev pub AreWalks : CtState → PacketBox → List Chain → Walk → Type 0
+AreWalks state b chains walk = ForAll state b (λ fits. IsWalk fits chains walk)
+
+abbrev pub AllReturn : CtState → PacketBox → List Chain → List Bool → Type 0
+AllReturn state b chains returning = ForAll state b (λ fits. DoReturn fits chains returning)
+
+abbrev pub AllStopAt : CtState → PacketBox → List Chain → List Bool → ℕ → Stop → Type 0
+AllStopAt state b chains returning c stop = ForAll state b (λ fits. StopsAt fits chains returning c stop)
+
+-- the chain gives all packets of the box this outcome
+abbrev pub AllGive : CtState → PacketBox → List Chain → ℕ → Option Verdict → Type 0
+AllGive state b chains c outcome = ForAll state b (λ fits. Gives fits chains (rules_of chains c) outcome)
