@@ -4,14 +4,19 @@ ghost use Rattle.std.specs.Prelude.{◌≡◌};
 ghost use Rattle.host_net.specs.Packet.{swap_of};
 ghost use Rattle.host_net.specs.Verdict.{verdict_if};
 
-/// The header fields that rules look at. The ports mean something for protocols that have them, and
-/// are carried along for all others.
+/// The header fields that rules match. Addresses are numbers in host byte order: `10.0.0.1` is
+/// `0x0a000001`. Ports have a meaning only for protocols that have ports, and are kept for all others.
 #[derive(Clone, Copy, Debug, PartialEq, Eq, PartialOrd, Ord)]
 pub struct Packet {
+    /// The source address.
     pub src: u32,
+    /// The destination address.
     pub dst: u32,
+    /// The IP protocol number.
     pub proto: u8,
+    /// The source port.
     pub sport: u16,
+    /// The destination port.
     pub dport: u16,
 }
 

@@ -17,32 +17,8 @@ pub record IsSettled {S W : Type 0} (text : TextByLines S W) : Type 0 where
   pub one_end : (n : ℕ) (s : S) (l m : ℕ) (w v : W) → text.EndsBadly n s l w → text.EndsBadly n s m v → (l ≡ m) × (w ≡ v)
   pub ends_or_not : (n : ℕ) (s : S) (l : ℕ) (w : W) → text.MayEnd s → text.EndsBadly n s l w → ⊥
 
--- a step that answers what the format says of a line
-pub record IsStep {S W : Type 0} (text : TextByLines S W) (step : ℕ → S → List ℕ → Result S W) : Type 0 where
-  pub reads : (n : ℕ) (s t : S) (l : List ℕ) → step n s l ≡ Ok t → text.IsLine n s l t
-  pub read : (n : ℕ) (s t : S) (l : List ℕ) → text.IsLine n s l t → step n s l ≡ Ok t
-  pub refuses : (n : ℕ) (s : S) (l : List ℕ) (w : W) → step n s l ≡ Err w → text.IsBadLine n s l w
-  pub refused : (n : ℕ) (s : S) (l : List ℕ) (w : W) → text.IsBadLine n s l w → step n s l ≡ Err w
-
 pub same_ok : {S W : Type 0} (r : Result S W) (t u : S) → r ≡ Ok t → r ≡ Ok u → t ≡ u
 same_ok r t u p q = cc (p, q)
-
-same_err : {S W : Type 0} (r : Result S W) (w v : W) → r ≡ Err w → r ≡ Err v → w ≡ v
-same_err r w v p q = cc (p, q)
-
-ok_or_err : {S W : Type 0} (r : Result S W) (t : S) (w : W) → r ≡ Ok t → r ≡ Err w → ⊥
-ok_or_err r t w p q = cc (p, q)
-
--- a format whose lines a step reads, and whose texts never end badly
-pub settled_by_step : {S W : Type 0} (text : TextByLines S W) (step : ℕ → S → List ℕ → Result S W) → IsStep text step
-    → ((n : ℕ) (s : S) (l : ℕ) (w : W) → text.EndsBadly n s l w → ⊥) → IsSettled text
-settled_by_step text step is never_badly = record {
-  one_next = λ n s l t u p q. same_ok (step n s l) t u (is.read n s t l p) (is.read n s u l q);
-  one_reason = λ n s l w v p q. same_err (step n s l) w v (is.refused n s l w p) (is.refused n s l v q);
-  good_or_bad = λ n s l t w p q. ok_or_err (step n s l) t w (is.read n s t l p) (is.refused n s l w q);
-  one_end = λ n s l m w v p q. absurd (never_badly n s l w p);
-  ends_or_not = λ n s l w p q. never_badly n s l w q;
-}
 
 -- 2. One line more.
 

@@ -4,6 +4,8 @@ ghost use Rattle.std.specs.Prelude.{◌≡◌};
 ghost use Rattle.text_core.specs.declared.faults.LineFault.TheVariants.{Memory};
 
 use std::alloc::{AllocError, AllocFailed};
+use std::fmt::Display;
+use thiserror::Error;
 
 /// Why one line is not read.
 #[derive(Clone, Copy, Debug, PartialEq, Eq)]
@@ -14,24 +16,32 @@ pub enum LineFault<W> {
     Memory,
 }
 
-/// Why a text that lists entries, one on each line, is refused. Each reader says what its entries are.
-#[derive(Clone, Copy, Debug, PartialEq, Eq)]
+/// Why a text that lists one entry on each line is refused. Each reader defines its entries.
+#[derive(Clone, Copy, Debug, PartialEq, Eq, Error)]
 pub enum ListWhy {
-    /// More bytes than such a text may have.
+    /// The text has more bytes than its limit.
+    #[error("TooLong")]
     TooLong,
-    /// Words that have the form of no entry.
+    /// The words of the line have the form of no entry.
+    #[error("BadLine")]
     BadLine,
-    /// The form of an entry, and a word that has none of its values.
+    /// The line has the form of an entry, but one of its words is not a valid value.
+    #[error("BadValue")]
     BadValue,
-    /// One entry more than such a text may have.
+    /// The line is one entry more than the text may have.
+    #[error("TooMany")]
     TooMany,
 }
 
-/// The first line that is refused, from 1, and why; line 0 stands for the whole text.
-#[derive(Clone, Copy, Debug, PartialEq, Eq)]
+/// Why a text is refused: the first line at fault, counted from 1, and the reason. Line 0 stands for the whole text.
+#[derive(Clone, Copy, Debug, PartialEq, Eq, Error)]
+#[error_bound(W: Display)]
 pub enum TextFault<W> {
+    /// The text has no reading.
+    #[error("line {line}: {why}")]
     Refused { line: u32, why: W },
     /// Memory ran out.
+    #[error("out of memory")]
     Memory,
 }
 
