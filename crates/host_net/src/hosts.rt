@@ -1,6 +1,6 @@
 //! The hosts of a network, by name and by address.
 
-ghost use Rattle.std.specs.Prelude.{◌≡◌, ℕ, ◌<◌, ◌≤◌, ◌^◌, ◌++◌, ◌∷◌, [], Some, None, Ok, Err, IsTrue, IsFalse, OnOk, OnErr, MatchResult, length, slice_get};
+ghost use Rattle.std.specs.Prelude.{◌≡◌, ℕ, ◌<◌, ◌≤◌, ◌^◌, ◌++◌, ◌∷◌, [], Some, None, Ok, Err, IsTrue, IsFalse, IfSome, OnOk, OnErr, MatchResult, length, slice_get};
 ghost use Rattle.std.specs.List.{list_all};
 ghost use Rattle.std.specs.Option.{option_map, ForSome};
 ghost use Rattle.host_net.specs.Host.{Host, covers_any, host_named, owner_of, rest_of};
@@ -14,7 +14,7 @@ use crate::addresses::{Addresses, prefix_count, rest_host};
 use crate::name::Name;
 use crate::overlap::overlap;
 use crate::prefix::Prefix;
-use crate::ranges::{Held, Range, holder, holder_until, with_host};
+use crate::ranges::{Held, Range, boundary_between, holder, holder_until, with_host};
 use crate::refusal::{HOST_LIMIT, HostRefusal, PREFIX_LIMIT};
 use indexmap::IndexMap;
 use std::alloc::{AllocError, Global};
@@ -211,6 +211,14 @@ impl Hosts {
             host: held.host.or(self.rest()),
             last: held.last,
         }
+    }
+
+    /// An address from `first` on and before `last` after which the owner may change, if there is one. Of
+    /// several it is about the middle one, so that cutting at it again and again takes few steps.
+    pub fn boundary_between(&self, first: u32, last: u32) -> Option<u32>
+        ensures { IfSome result (λ at. (first ≤ at) × (at < last)) }
+    {
+        boundary_between(&self.ranges, first, last)
     }
 }
 

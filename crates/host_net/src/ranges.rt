@@ -1,7 +1,7 @@
 //! The addresses of the hosts as ranges in order, among which the owner of an address is found by
 //! halving.
 
-ghost use Rattle.std.specs.Prelude.{◌≡◌, ℕ, ◌≤◌, ◌<◌, IsTrue, IfOk, OnOk, Some, None, length, take, drop, nat_le, nat_lt, if◌then◌else◌};
+ghost use Rattle.std.specs.Prelude.{◌≡◌, ℕ, ◌≤◌, ◌<◌, IsTrue, IfOk, IfSome, OnOk, Some, None, length, take, drop, nat_le, nat_lt, if◌then◌else◌};
 ghost use Rattle.std.specs.List.{list_all};
 ghost use Rattle.text_core.specs.inner.Pairs.{no_pair};
 ghost use Rattle.host_net.specs.Host.{covers_any};
@@ -60,6 +60,25 @@ fn free_until(ranges: &[Range], place: usize, addr: u32, last: u32) -> u32
     match ranges.get(place) {
         None => last,
         Some(next) => last.min(next.first.saturating_sub(1)),
+    }
+}
+
+/// An address between two others after which the owner may change, if there is one: the middle one of the
+/// addresses after which a range begins, or else the end of a range.
+pub fn boundary_between(ranges: &[Range], first: u32, last: u32) -> Option<u32>
+    requires { IsTrue (is_ordered ranges.now) }
+    ensures { IfSome result (λ at. (first ≤ at) × (at < last)) }
+{
+    let (low, high) = (begun(ranges, first), begun(ranges, last));
+    let at = if low < high {
+        ranges.get(low + (high - low) / 2)?.first.saturating_sub(1)
+    } else {
+        ranges[..low].last()?.last
+    };
+    if first <= at && at < last {
+        Some(at)
+    } else {
+        None
     }
 }
 
