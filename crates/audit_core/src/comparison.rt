@@ -1,6 +1,8 @@
 //! The audit: whether rules do what a policy says, over every list of packets and forgettings.
 
-ghost use Rattle.std.specs.Prelude.{◌≡◌, ◌↔◌, ◌≤◌, IfOk, IfErr, OnOk};
+ghost use Rattle.std.specs.Prelude.{◌≡◌, ◌↔◌, ◌≤◌, IfOk, IfErr, OnOk, length};
+ghost use Rattle.host_net.specs.Site.{site_with};
+ghost use Rattle.flow_set.specs.FlowSet.{IsSubset};
 ghost use Rattle.audit_core.specs.Findings.{DifferSomewhere};
 ghost use Rattle.audit_core.specs.inner.Findings.{IsFinding, IsRefused};
 ghost use Rattle.audit_core.specs.inner.Sought.{IsSought};
@@ -17,13 +19,41 @@ use crate::leasts::Leasts;
 use crate::named::named_between;
 use crate::sides::Sides;
 use crate::text::Text;
+use flow_set::FlowSet;
+use host_net::{Hosts, Services};
 use pkt_core::FlowPolicy;
 use std::alloc::{AllocError, Global};
 
 const MOST_CLASSES: u128 = 4_000_000;
 
-/// Compares what rules do with what a policy expects, where there are not too many classes of packets.
+/// Compares rules with the policy of these permitted flows `p` and stateful flows `s` between hosts, as
+/// `audit_policy` does.
 pub fn audit(
+    alloc: Global,
+    hosts: &Hosts,
+    services: &Services,
+    p: &FlowSet,
+    s: &FlowSet,
+    text: &Text<'_>,
+) -> Result<Finding, AuditRefusal>
+    requires permitted { p.now.size ≡ length hosts.now }
+    requires stateful { s.now.size ≡ length hosts.now }
+    requires within { IsSubset s.now.flows p.now.flows }
+    // They agree on every list of events, or this is the first short list on which they differ.
+    ensures found { IfOk result (IsFinding (sides_of (site_with hosts.now services.now) p.now.flows s.now.flows (rules_of text.now))) }
+    ensures exact { IfOk result (λ finding. (finding ≡ Finding.Equal) ↔
+        (DifferSomewhere (sides_of (site_with hosts.now services.now) p.now.flows s.now.flows (rules_of text.now)) → ⊥)) }
+    ensures few { OnOk result
+        (class_count (sides_of (site_with hosts.now services.now) p.now.flows s.now.flows (rules_of text.now)) ≤ most_classes) }
+    ensures refused { IfErr result
+        (IsRefused (class_count (sides_of (site_with hosts.now services.now) p.now.flows s.now.flows (rules_of text.now)))) }
+{
+    let policy = FlowPolicy::new(hosts, services, p, s);
+    audit_policy(alloc, &policy, text)
+}
+
+/// Compares rules with a policy, if there are at most 4,000,000 classes of packets.
+pub fn audit_policy(
     alloc: Global,
     policy: &FlowPolicy<'_>,
     text: &Text<'_>,
@@ -42,8 +72,8 @@ pub fn audit(
     Ok(find(alloc, &Sides::new(policy, *text))?)
 }
 
-/// Compares what rules do with what a policy expects, however many classes of packets there are.
-pub fn compare(
+/// Compares rules with a policy. The number of classes of packets has no limit.
+pub fn compare_policy(
     alloc: Global,
     policy: &FlowPolicy<'_>,
     text: &Text<'_>,
@@ -53,7 +83,7 @@ pub fn compare(
     ensures exact { IfOk result (λ finding. (finding ≡ Finding.Equal) ↔
         (DifferSomewhere (sides_of policy.now.site policy.now.permitted policy.now.stateful (rules_of text.now)) → ⊥)) }
 {
-    // That the packets of classes are packets is known by this.
+    // This tells that the packets of classes are packets.
     let _count = count_classes(alloc, policy, text)?;
     find(alloc, &Sides::new(policy, *text))
 }

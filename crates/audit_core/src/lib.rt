@@ -15,7 +15,7 @@ mod report;
 mod sides;
 mod text;
 
-pub use comparison::{audit, compare};
+pub use comparison::{audit, audit_policy, compare_policy};
 pub use finding::{AuditRefusal, Finding, Trace};
 pub use kind::Kind;
 pub use laws::{classes_are_uniform, equal_is_expected, short_lists_suffice};

@@ -124,7 +124,7 @@ fn push_text(found: &mut Found, text: &Text<'_>) -> Result<(), AllocError>
     ensures { OnOk result (AreMore (rules_parts (rules_of text.now)) found.old found.new) }
 {
     match text {
-        Text::Ipt(filter) => push_rules(found, filter.ruleset()),
+        Text::Ipt(rules) => push_rules(found, rules),
         Text::Ofp(table) => push_entries(found, table),
     }
 }

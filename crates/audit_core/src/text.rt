@@ -9,14 +9,14 @@ ghost use Rattle.audit_core.specs.inner.RulesView.{rules_of};
 
 use header_space::PacketBox;
 use host_net::{CtState, Packet};
-use ipt_rules::Filter;
+use ipt_rules::Ruleset;
 use ofp_rules::{Frame, Table};
 
 /// A rules text, as what it says.
 #[derive(Clone, Copy)]
 pub enum Text<'a> {
     /// Chains of iptables. Packets that are forwarded run through FORWARD.
-    Ipt(&'a Filter<'a>),
+    Ipt(&'a Ruleset),
     /// A flow table of OpenFlow. It looks at no connections.
     Ofp(&'a Table),
 }
@@ -27,7 +27,7 @@ impl<'a> Text<'a> {
         ensures { filter_of (rules_of self.now) state packet.now result }
     {
         match self {
-            Text::Ipt(filter) => filter.verdict(packet, state).is_forward(),
+            Text::Ipt(rules) => rules.verdict(packet, state).is_forward(),
             Text::Ofp(table) => table.verdict(&Frame::Ipv4(*packet)).is_forward(),
         }
     }
@@ -40,7 +40,7 @@ impl<'a> Text<'a> {
         ensures passes { (p : Packet) → IsIn within.new p → filter_of (rules_of self.now) state p result }
     {
         match self {
-            Text::Ipt(filter) => filter.verdict_within(within, state).is_forward(),
+            Text::Ipt(rules) => rules.verdict_within(within, state).is_forward(),
             Text::Ofp(table) => table.verdict_within(within).is_forward(),
         }
     }
@@ -50,7 +50,7 @@ impl<'a> Text<'a> {
         ensures gives { GivesOne (filter_of (rules_of self.now)) }
     {
         match self {
-            Text::Ipt(filter) => filter.ruleset().rules(),
+            Text::Ipt(rules) => rules.rules(),
             Text::Ofp(table) => table.len(),
         }
     }

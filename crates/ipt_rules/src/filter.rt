@@ -1,16 +1,12 @@
 //! A rule set that packets run through: what becomes of each of them.
 
 ghost use Rattle.std.specs.Prelude.{◌≡◌, ◌<◌, ◌≤◌, IfOk, Some, None};
-ghost use Rattle.host_net.specs.declared.packet.Packet.{Packet};
-ghost use Rattle.header_space.specs.Boxes.{IsBox, IsIn, Narrows};
 ghost use Rattle.ipt_rules.specs.Meaning.{HasVerdictIn};
 ghost use Rattle.ipt_rules.specs.inner.OneOutcome.{HasVerdict};
 
-use crate::box_walk::outcome_within;
 use crate::next::indexes_of;
 use crate::ruleset::{FORWARD, Ruleset};
 use crate::walk::{outcome, policy_of, policy_verdict};
-use header_space::PacketBox;
 use host_net::{Covers, CtState, Packet, Verdict};
 use std::alloc::{AllocError, Global};
 use std::marker::Model;
@@ -76,20 +72,6 @@ impl<'a> Filter<'a> {
         match outcome(chains, &self.indexes, chain, packet, state) {
             Some(verdict) => verdict,
             None => policy_verdict(policy_of(chains, chain)),
-        }
-    }
-    /// What becomes of the packets of a box that run through FORWARD in that state. The box is narrowed,
-    /// so that this becomes of all packets that it has then.
-    pub fn verdict_within(&self, within: &mut PacketBox, state: CtState) -> Verdict
-        requires { IsBox within.old }
-        ensures part { Narrows within.old within.new }
-        ensures verdict { (p : Packet) → IsIn within.new p → HasVerdict self.now p state result }
-    {
-        let rules: &Ruleset = self.rules;
-        let chains = rules.chains.as_slice();
-        match outcome_within(chains, FORWARD, within, state) {
-            Some(verdict) => verdict,
-            None => policy_verdict(policy_of(chains, FORWARD)),
         }
     }
 }

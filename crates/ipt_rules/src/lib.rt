@@ -20,6 +20,7 @@ mod ruleset;
 mod services;
 mod starts;
 mod text;
+mod verdicts;
 mod walk;
 
 pub use chains::Chains;

@@ -127,6 +127,7 @@ fn walk_on(
         }
         from = at + 1;
     }
+    // The end of a chain returns.
     Stop::Returns
 }
 

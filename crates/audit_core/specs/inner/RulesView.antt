@@ -4,5 +4,5 @@ use Rattle.audit_core.specs.declared.text.Text.TheVariants.{Ipt, Ofp}
 use Rattle.audit_core.specs.Rules.{Rules, Chains, Entries}
 
 abbrev pub rules_of : Text → Rules
-rules_of (Ipt filter) = Chains filter.now
+rules_of (Ipt rules) = Chains rules.now
 rules_of (Ofp table) = Entries table.now

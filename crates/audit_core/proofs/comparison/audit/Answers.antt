@@ -1,22 +1,13 @@
+use Rattle.std.proofs.Common.{◌≡◌, ◌↔◌, subst}
+use Rattle.std.specs.Prelude.{IfOk}
 use Rattle.pkt_core.specs.inner.FlowPolicy.{FlowPolicy}
-use Rattle.audit_core.specs.declared.text.Text.{Text}
+use Rattle.audit_core.specs.declared.finding.Finding.TheVariants.{Equal}
+use Rattle.audit_core.specs.Findings.{DifferSomewhere}
 use Rattle.audit_core.specs.inner.RulesView.{rules_of}
-use Rattle.audit_core.specs.laws.FindingLaws.{equal_exactly}
-use Rattle.audit_core.specs.Sides.{Sides, sides_of}
-use Rattle.audit_core.proofs.SoughtLaws.{found_by_sought}
+use Rattle.audit_core.specs.Sides.{sides_of}
 use Rattle.audit_core.proofs.comparison.audit.Goals as goal
-
--- the two sides that are compared
-abbrev compared : FlowPolicy → Text → Sides
-compared policy text = sides_of policy.site policy.permitted policy.stateful (rules_of text)
-
-pub returns-clause-found : goal.returns-clause-found
-returns-clause-found c =
-    found_by_sought (compared c.args.policy.now c.args.text.now) c.in_ok-count.ensures.packets c.new.result c.in_ok-find.field-0
-    c.new.ensures.sides c.new.ensures.gives c.new.ensures.policy.within c.in_ok-find.ensures
 
 pub returns-clause-exact : goal.returns-clause-exact
 returns-clause-exact c =
-    equal_exactly (compared c.args.policy.now c.args.text.now) c.in_ok-find.field-0
-    (found_by_sought (compared c.args.policy.now c.args.text.now) c.in_ok-count.ensures.packets c.new.result c.in_ok-find.field-0
-    c.new.ensures.sides c.new.ensures.gives c.new.ensures.policy.within c.in_ok-find.ensures)
+    subst (λ (policy : FlowPolicy). IfOk c.audit_policy.result (λ finding. (finding ≡ Equal) ↔
+    (DifferSomewhere (sides_of policy.site policy.permitted policy.stateful (rules_of c.args.text.now)) → ⊥))) c.new-policy.ensures c.audit_policy.ensures.exact

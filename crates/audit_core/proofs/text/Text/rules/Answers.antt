@@ -1,7 +1,6 @@
 use Rattle.std.proofs.Common.{subst, sym}
 use Rattle.audit_core.specs.declared.text.Text.{Text}
 use Rattle.audit_core.proofs.RulesLaws.{chains_give, table_gives}
-use Rattle.ipt_rules.specs.inner.OneOutcome.{EachGivesOne}
 use Rattle.audit_core.specs.Rules.{filter_of}
 use Rattle.audit_core.specs.inner.Rules.{GivesOne}
 use Rattle.audit_core.specs.inner.RulesView.{rules_of}
@@ -9,7 +8,7 @@ use Rattle.audit_core.proofs.text.Text.rules.Goals as goal
 
 pub returns-in-Ipt : goal.returns-in-Ipt
 returns-in-Ipt c =
-    record { gives = subst (λ (t : Text). GivesOne (filter_of (rules_of t))) (sym c.in-Ipt.is) (chains_give c.in-Ipt.filter.now (subst EachGivesOne c.ruleset.ensures c.rules.ensures.one_outcome)) }
+    record { gives = subst (λ (t : Text). GivesOne (filter_of (rules_of t))) (sym c.in-Ipt.is) (chains_give c.in-Ipt.rules.now c.rules.ensures.one_outcome) }
 
 pub returns-in-Ofp : goal.returns-in-Ofp
 returns-in-Ofp c =

@@ -10,7 +10,7 @@ use Rattle.audit_core.specs.laws.FindingLaws.{equal_exactly}
 use Rattle.audit_core.specs.Sides.{Sides, sides_of}
 use Rattle.std.proofs.lemmas.Result.{IfOk-weaker}
 use Rattle.audit_core.proofs.SoughtLaws.{found_by_sought}
-use Rattle.audit_core.proofs.comparison.compare.Goals as goal
+use Rattle.audit_core.proofs.comparison.compare_policy.Goals as goal
 
 -- the two sides that are compared
 abbrev compared : FlowPolicy → Text → Sides

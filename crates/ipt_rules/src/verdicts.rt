@@ -1,0 +1,50 @@
+//! What becomes of packets, and of boxes of packets, that run through a rule set.
+
+ghost use Rattle.std.specs.Prelude.{◌≡◌, ◌<◌};
+ghost use Rattle.host_net.specs.declared.packet.Packet.{Packet};
+ghost use Rattle.header_space.specs.Boxes.{IsBox, IsIn, Narrows};
+ghost use Rattle.ipt_rules.specs.Meaning.{HasVerdictIn};
+ghost use Rattle.ipt_rules.specs.inner.OneOutcome.{HasVerdict};
+
+use crate::box_walk::outcome_within;
+use crate::ruleset::{FORWARD, Ruleset};
+use crate::walk::{outcome, policy_of, policy_verdict};
+use header_space::PacketBox;
+use host_net::{CtState, Packet, Verdict};
+
+impl Ruleset {
+    /// Returns the verdict on a packet that runs through `FORWARD` in that state. For many packets a
+    /// `Filter` is faster.
+    pub fn verdict(&self, packet: &Packet, state: CtState) -> Verdict
+        ensures { HasVerdict self.now packet.now state result }
+    {
+        self.verdict_in(FORWARD, packet, state)
+    }
+
+    /// Returns the verdict on a packet that runs through a built-in chain in that state: `INPUT`,
+    /// `FORWARD` or `OUTPUT`.
+    pub fn verdict_in(&self, chain: u16, packet: &Packet, state: CtState) -> Verdict
+        requires { chain < 3 }
+        ensures { HasVerdictIn self.now chain packet.now state result }
+    {
+        let chains = self.chains.as_slice();
+        match outcome(chains, &[], chain, packet, state) {
+            Some(verdict) => verdict,
+            None => policy_verdict(policy_of(chains, chain)),
+        }
+    }
+
+    /// Returns the verdict on the least packet of a box that runs through `FORWARD` in that state.
+    /// Narrows the box until all of its packets have this verdict.
+    pub fn verdict_within(&self, within: &mut PacketBox, state: CtState) -> Verdict
+        requires { IsBox within.old }
+        ensures part { Narrows within.old within.new }
+        ensures verdict { (p : Packet) → IsIn within.new p → HasVerdict self.now p state result }
+    {
+        let chains = self.chains.as_slice();
+        match outcome_within(chains, FORWARD, within, state) {
+            Some(verdict) => verdict,
+            None => policy_verdict(policy_of(chains, FORWARD)),
+        }
+    }
+}
