@@ -3,3 +3,4 @@ pub mod Interferences
 pub mod NoReach
 pub mod NoReachView
 pub mod Resets
+pub mod Trials

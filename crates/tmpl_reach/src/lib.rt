@@ -11,4 +11,4 @@ mod trial;
 pub use dependability::Dependability;
 pub use no_reach::NoReach;
 pub use non_interference::NonInterference;
-pub use trial::{JoinTrial, ReachTrial};
+pub use trial::ReachTrial;

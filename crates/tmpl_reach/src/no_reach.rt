@@ -7,10 +7,11 @@ ghost use Rattle.inv_law.specs.declared.strategy.Strategy.TheVariants.{Access};
 ghost use Rattle.tmpl_reach.specs.NoReach.{others, denied_by, ReachesNoDenied};
 ghost use Rattle.tmpl_reach.specs.inner.NoReach.{ReachesNone};
 ghost use Rattle.tmpl_reach.specs.inner.Resets.{all_others, ReachesNoDeniedAfterReset};
+ghost use Rattle.tmpl_reach.specs.inner.Trials.{FitsReach};
 ghost use Rattle.tmpl_reach.specs.laws.NoReachLaws.{ReachesNoDenied-downward, ReachesNoDenied-none, ReachesNoDenied-reset};
 
 use crate::host_wise::{HostWise, all_allowed, still_allowed};
-use crate::trial::ReachTrial;
+use crate::trial::{Half, ReachTrial};
 use flow_set::{Flow, FlowSet, HostSet};
 use inv_law::{Invariant, Stepwise, Strategy};
 use reach_core::ReachClosure;
@@ -149,30 +150,43 @@ impl Invariant for NoReach {
 impl Stepwise for NoReach {
     type Tried = ReachTrial;
 
-    ghost fits = { λ x tried. tried.size ≡ length x };
+    ghost fits = { λ x tried. FitsReach (length x) tried.half };
 
     fn trial(&self, alloc: Global, e: &FlowSet) -> Result<ReachTrial, AllocError> {
         Ok(ReachTrial {
-            closure: ReachClosure::of(alloc, e)?,
+            half: Half::Reach(ReachClosure::of(alloc, e)?),
         })
     }
 
     fn step(&self, tried: &mut ReachTrial, f: Flow) -> bool {
-        let holds = still_allowed(self, &tried.closure, f);
-        tried.closure.try_add(f);
-        holds
+        match &mut tried.half {
+            Half::Reach(closure) => {
+                let holds = still_allowed(self, closure, f);
+                closure.try_add(f);
+                holds
+            }
+            _ => false,
+        }
     }
 
     fn back(&self, tried: &mut ReachTrial) {
-        tried.closure.undo();
+        match &mut tried.half {
+            Half::Reach(closure) => closure.undo(),
+            _ => (),
+        }
     }
 
     fn holds_with(&self, tried: &mut ReachTrial, f: Flow) -> bool {
-        tried.closure.forget();
-        still_allowed(self, &tried.closure, f)
+        match &mut tried.half {
+            Half::Reach(closure) => {
+                closure.forget();
+                still_allowed(self, closure, f)
+            }
+            _ => false,
+        }
     }
 
-    ghost fits_size = { λ x tried fits. fits };
+    ghost fits_size = { λ x tried fits. fits.size };
 }
 
 // All hosts of `n` but this one.

@@ -12,10 +12,11 @@ ghost use Rattle.tmpl_reach.specs.inner.EachOf.{EachOf};
 ghost use Rattle.tmpl_reach.specs.inner.Interferences.{HasOneAtMost, NoneInterferes, IsNextInterfering};
 ghost use Rattle.tmpl_reach.specs.NonInterference.{IsInterfering, IsNonInterfering};
 ghost use Rattle.tmpl_reach.specs.inner.Resets.{IsNonInterferingAfterReset};
+ghost use Rattle.tmpl_reach.specs.inner.Trials.{FitsJoin};
 ghost use Rattle.tmpl_reach.specs.laws.NonInterferenceLaws.{IsNonInterfering-downward, IsNonInterfering-none, IsNonInterfering-reset};
 ghost use Rattle.tmpl_reach.specs.declared.non_interference.Interference.TheVariants.{Interfering, Unrelated};
 
-use crate::trial::JoinTrial;
+use crate::trial::{Half, ReachTrial};
 use flow_set::{Flow, FlowSet, HostSet};
 use inv_law::{Invariant, Stepwise, Strategy};
 use reach_core::JoinClosure;
@@ -211,30 +212,43 @@ impl Invariant for NonInterference {
 }
 
 impl Stepwise for NonInterference {
-    type Tried = JoinTrial;
+    type Tried = ReachTrial;
 
-    ghost fits = { λ x tried. tried.size ≡ length x };
+    ghost fits = { λ x tried. FitsJoin (length x) tried.half };
 
-    fn trial(&self, alloc: Global, e: &FlowSet) -> Result<JoinTrial, AllocError> {
-        Ok(JoinTrial {
-            closure: JoinClosure::of(alloc, e)?,
+    fn trial(&self, alloc: Global, e: &FlowSet) -> Result<ReachTrial, AllocError> {
+        Ok(ReachTrial {
+            half: Half::Join(JoinClosure::of(alloc, e)?),
         })
     }
 
-    fn step(&self, tried: &mut JoinTrial, f: Flow) -> bool {
-        let holds = self.still_apart(&tried.closure, f);
-        tried.closure.try_add(f);
-        holds
+    fn step(&self, tried: &mut ReachTrial, f: Flow) -> bool {
+        match &mut tried.half {
+            Half::Join(closure) => {
+                let holds = self.still_apart(closure, f);
+                closure.try_add(f);
+                holds
+            }
+            _ => false,
+        }
     }
 
-    fn back(&self, tried: &mut JoinTrial) {
-        tried.closure.undo();
+    fn back(&self, tried: &mut ReachTrial) {
+        match &mut tried.half {
+            Half::Join(closure) => closure.undo(),
+            _ => (),
+        }
     }
 
-    fn holds_with(&self, tried: &mut JoinTrial, f: Flow) -> bool {
-        tried.closure.forget();
-        self.still_apart(&tried.closure, f)
+    fn holds_with(&self, tried: &mut ReachTrial, f: Flow) -> bool {
+        match &mut tried.half {
+            Half::Join(closure) => {
+                closure.forget();
+                self.still_apart(closure, f)
+            }
+            _ => false,
+        }
     }
 
-    ghost fits_size = { λ x tried fits. fits };
+    ghost fits_size = { λ x tried fits. fits.size };
 }

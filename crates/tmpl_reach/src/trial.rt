@@ -1,51 +1,33 @@
-//! The trials of the invariants that look at walks: the closure that each asks, which takes one step back.
+//! The trial of the templates that look at walks: the half of the closure that the template asks, which takes
+//! one step back.
 
 ghost use Rattle.std.specs.Prelude.{◌≡◌};
+ghost use Rattle.tmpl_reach.specs.inner.Trials.{tried_half};
 
 use inv_law::Trial;
 use reach_core::{JoinClosure, ReachClosure};
-use std::marker::Model;
 
-/// A set of flows that is tried in steps by a template on what hosts reach.
+// The half of a closure that a template asks: whom each host reaches, or with whom it is joined.
 #[derive(Drop)]
-pub struct ReachTrial {
-    pub(crate) closure: ReachClosure,
+pub(crate) enum Half {
+    Reach(ReachClosure),
+    Join(JoinClosure),
 }
 
-impl Model for ReachTrial {
-    ghost use Rattle.flow_set.specs.inner.Steps.{TriedFlows};
-
-    ghost Value = { TriedFlows };
-
-    ghost view = { λ t. t.closure };
+/// A set of flows that is tried in steps by a template that looks at walks. It keeps what its template asks of the
+/// walks, and fits no template that asks the other half.
+#[derive(Drop)]
+pub struct ReachTrial {
+    pub(crate) half: Half,
 }
 
 impl Trial for ReachTrial {
-    ghost tried = { λ t. t };
+    ghost tried = { λ t. tried_half t.half };
 
     fn size(&self) -> u16 {
-        self.closure.size()
-    }
-}
-
-/// A set of flows that is tried in steps by a template on which hosts are joined.
-#[derive(Drop)]
-pub struct JoinTrial {
-    pub(crate) closure: JoinClosure,
-}
-
-impl Model for JoinTrial {
-    ghost use Rattle.flow_set.specs.inner.Steps.{TriedFlows};
-
-    ghost Value = { TriedFlows };
-
-    ghost view = { λ t. t.closure };
-}
-
-impl Trial for JoinTrial {
-    ghost tried = { λ t. t };
-
-    fn size(&self) -> u16 {
-        self.closure.size()
+        match &self.half {
+            Half::Reach(closure) => closure.size(),
+            Half::Join(closure) => closure.size(),
+        }
     }
 }
