@@ -1,6 +1,6 @@
 -- Any attribute but the default lets off a host that is to blame, template by template.
 use Rattle.std.proofs.Common.{◌≡◌, ◌≢◌, ℕ, suc, zero, ◌≤◌, ◌<◌, ◌-◌, ◌/◌, ◌%◌, Bool, true, false, not, ◌||◌, nat_eq, nat_lt, List, [], ◌∷◌, length, replicate, get_or, set, drop, Some, None, inl, inr, refl, sym, ap, ◌∙◌, subst, arith, get_or-set_same, get_or-set_other, length-set}
-use Rattle.std.specs.Prelude.{◌⊎◌, slice_index, slice_index_or}
+use Rattle.std.specs.Prelude.{◌⊎◌, ◌↔◌, slice_index, slice_index_or}
 use Rattle.std.specs.Int.{bit_at}
 use Rattle.std.specs.FinSet as fin
 use Rattle.std.proofs.lemmas.Bool.{false≢true, cases_eq, cases_Bool, or_cases, or_parts, and_parts, and_from, eqb-false, eq-eqb, not_from_true, not_from_false, ne_eqb, lt-ltb, ltb-true, false_from_ne_true}
@@ -14,8 +14,12 @@ use Rattle.flow_set.specs.declared.flow.Flow.{Flow}
 use Rattle.flow_set.specs.HostSet.{HostNumbers}
 use Rattle.flow_set.specs.laws.HostSetLaws.{hosts_ext}
 use Rattle.inv_any.specs.inner.OtherDefaults.{LetsOff, OnlyDefaultIsSecure}
+use Rattle.inv_law.specs.inner.Invariants.{blamed_host}
 use Rattle.inv_law.specs.laws.RuleLaws.{AllFlowsPass-none, AllFlowsPass-one, passes_alone}
 use Rattle.inv_law.specs.Rules.{AllFlowsPass}
+use Rattle.inv_law.specs.Template.{Template}
+use Rattle.inv_law.specs.inner.Template.{AllMayHave}
+use Rattle.inv_law.specs.laws.TemplateLaws.{AllMayHave-set}
 use Rattle.inv_law.specs.declared.strategy.Strategy.TheVariants.{Access, Information}
 use Rattle.tmpl_domains.specs.Domains.{DomainsPass, domains}
 use Rattle.tmpl_levels.specs.Blp.{BlpPasses, blp}
@@ -24,7 +28,7 @@ use Rattle.tmpl_levels.specs.declared.blp.Clearance.{Clearance}
 use Rattle.tmpl_reach.specs.Dependability.{IsDependable, dependability}
 use Rattle.tmpl_reach.specs.laws.DependabilityLaws.{IsDependable-none, IsDependable-one}
 use Rattle.tmpl_reach.specs.NoReach.{ReachesNoDenied, no_reach, others}
-use Rattle.tmpl_reach.specs.laws.NoReachLaws.{ReachesNoDenied-none, ReachesNoDenied-one, contains-others}
+use Rattle.tmpl_reach.specs.laws.NoReachLaws.{AreOthers-none, ReachesNoDenied-none, ReachesNoDenied-one, contains-others, no_reach_default}
 use Rattle.tmpl_reach.specs.NonInterference.{IsNonInterfering, non_interference}
 use Rattle.tmpl_reach.specs.laws.NonInterferenceLaws.{IsNonInterfering-none, IsNonInterfering-one}
 use Rattle.tmpl_reach.specs.declared.non_interference.Interference.{Interference}
@@ -90,60 +94,99 @@ module _ {A : Type 0} (n host : ℕ) (o : Another n host) (y z d : A) (is_host :
   pub given_at_host : (x : A) → get_or (set pair_of host x) host d ≡ x
   given_at_host x = get_or-set_same pair_of host x d (subst (λ m. host < m) (sym length-pair_of) is_host)
 
--- a rule on two attributes, and on the number of the sender
+-- Hosts that all have the attribute z may have it.
+AllMayHave-same : (t : Template) (n : ℕ) (z : t.Attribute) → ((k : ℕ) → t.MayHave n k z) → AllMayHave t (replicate n z)
+AllMayHave-same t n z may host within =
+    let sized : length (replicate n z) ≡ n = length-replicate n z in
+    let below : host < n = subst (λ m. host < m) sized within in
+    subst (λ m. t.MayHave m host (slice_index_or (replicate n z) host (t.default m host))) (sym sized)
+    (subst (t.MayHave n host) (sym (get_or-replicate n host z (t.default n host) below)) (may host))
+
+-- Hosts that all have the attribute z, but for one that has y, may have them.
+AllMayHave-one : (t : Template) (n one : ℕ) (y z : t.Attribute) → t.MayHave n one y → ((k : ℕ) → t.MayHave n k z)
+    → AllMayHave t (set (replicate n z) one y)
+AllMayHave-one t n one y z may_y may_z =
+    AllMayHave-set t (replicate n z) one y (AllMayHave-same t n z may_z)
+    (subst (λ m. t.MayHave m one y) (sym (length-replicate n z)) may_y)
+
+-- The two attributes are ones that the hosts may have.
+AllMayHave-pair_of : (t : Template) (n host : ℕ) (o : Another n host) (y z d : t.Attribute) (is_host : host < n) → t.MayHave n o.other y
+    → ((k : ℕ) → t.MayHave n k z) → AllMayHave t (pair_of n host o y z d is_host)
+unfolding pair_of
+AllMayHave-pair_of t n host o y z d is_host may_y may_z = AllMayHave-one t n o.other y z may_y may_z
+
+-- A rule on two attributes, and on the number of the sender.
 abbrev AllPass : {A : Type 0} → A → (ℕ → A → A → Type 0) → List A → List Flow → Type 0
 AllPass d Passes hosts = AllFlowsPass (λ i j. Passes i (slice_index_or hosts i d) (slice_index_or hosts j d))
 
+-- The template judges each flow by such a rule.
+abbrev JudgesBy : (t : Template) → t.Attribute → (ℕ → t.Attribute → t.Attribute → Type 0) → Type 0
+JudgesBy t d Passes = (hosts : List t.Attribute) (e : List Flow) → AllPass d Passes hosts e ↔ t.Holds hosts e
+
+itself : {P : Type 0} → P ↔ P
+itself = (λ p. p, λ p. p)
+
 -- y denies z and takes x
-sender_lets_off : {A : Type 0} (d : A) (Passes : ℕ → A → A → Type 0) (x y z : A) → ((i : ℕ) → Passes i z y → ⊥) → ((i : ℕ) → Passes i x y)
-    → (n host : ℕ) → 2 ≤ n → host < n → LetsOff Access (AllPass d Passes) n host x
-sender_lets_off {A} d Passes x y z denies takes n host two is_host =
+sender_lets_off : (t : Template) → t.strategy ≡ Access → (d : t.Attribute) (Passes : ℕ → t.Attribute → t.Attribute → Type 0)
+    → JudgesBy t d Passes → (x y z : t.Attribute) → ((n k : ℕ) → t.MayHave n k y) → ((n k : ℕ) → t.MayHave n k z)
+    → ((i : ℕ) → Passes i z y → ⊥) → ((i : ℕ) → Passes i x y)
+    → (n host : ℕ) → 2 ≤ n → host < n → LetsOff t n host x
+sender_lets_off t access d Passes judges x y z may_y may_z denies takes n host two is_host =
     let o : Another n host = another n host two in
-    let hosts : List A = pair_of n host o y z d is_host in
+    let hosts : List t.Attribute = pair_of n host o y z d is_host in
     let f : Flow = record { from = host; to = o.other } in
     record {
       hosts = hosts;
       sized = length-pair_of n host o y z d is_host;
+      may = AllMayHave-pair_of t n host o y z d is_host (may_y n o.other) (may_z n);
       flow = f;
       is_flow = (is_host, o.within, λ same. o.apart (sym same));
-      offends = one_offends (AllPass d Passes hosts) f (AllFlowsPass-none (λ i j. Passes i (slice_index_or hosts i d) (slice_index_or hosts j d)))
+      offends = one_offends (t.Holds hosts) f
+          ((judges hosts []).0 (AllFlowsPass-none (λ i j. Passes i (slice_index_or hosts i d) (slice_index_or hosts j d))))
           (λ holds. denies host
-          (subst (λ (v : A). Passes host v y) (at_host n host o y z d is_host)
-          (subst (λ (w : A). Passes host (get_or hosts host d) w) (at_other n host o y z d is_host)
-          (passes_alone (λ i j. Passes i (slice_index_or hosts i d) (slice_index_or hosts j d)) f holds))));
-      blamed = record { flow = f; offends = has_first f []; blamed = refl };
-      mended = AllFlowsPass-one (λ i j. Passes i (slice_index_or (set hosts host x) i d) (slice_index_or (set hosts host x) j d)) f
-          (subst (λ (v : A). Passes host v (get_or (set hosts host x) o.other d)) (sym (given_at_host n host o y z d is_host x))
-          (subst (λ (w : A). Passes host x w) (sym (other_stays n host o y z d is_host x)) (takes host)));
+          (subst (λ (v : t.Attribute). Passes host v y) (at_host n host o y z d is_host)
+          (subst (λ (w : t.Attribute). Passes host (get_or hosts host d) w) (at_other n host o y z d is_host)
+          (passes_alone (λ i j. Passes i (slice_index_or hosts i d) (slice_index_or hosts j d)) f ((judges hosts (f ∷ [])).1 holds)))));
+      blamed = record { flow = f; offends = has_first f []; blamed = ap (λ s. blamed_host s f) access };
+      mended = (judges (set hosts host x) (f ∷ [])).0
+          (AllFlowsPass-one (λ i j. Passes i (slice_index_or (set hosts host x) i d) (slice_index_or (set hosts host x) j d)) f
+          (subst (λ (v : t.Attribute). Passes host v (get_or (set hosts host x) o.other d)) (sym (given_at_host n host o y z d is_host x))
+          (subst (λ (w : t.Attribute). Passes host x w) (sym (other_stays n host o y z d is_host x)) (takes host))));
     }
 
 -- y sends nothing to z, and to x
-receiver_lets_off : {A : Type 0} (d : A) (Passes : ℕ → A → A → Type 0) (x y z : A) → ((i : ℕ) → Passes i y z → ⊥) → ((i : ℕ) → Passes i y x)
-    → (n host : ℕ) → 2 ≤ n → host < n → LetsOff Information (AllPass d Passes) n host x
-receiver_lets_off {A} d Passes x y z denies takes n host two is_host =
+receiver_lets_off : (t : Template) → t.strategy ≡ Information → (d : t.Attribute) (Passes : ℕ → t.Attribute → t.Attribute → Type 0)
+    → JudgesBy t d Passes → (x y z : t.Attribute) → ((n k : ℕ) → t.MayHave n k y) → ((n k : ℕ) → t.MayHave n k z)
+    → ((i : ℕ) → Passes i y z → ⊥) → ((i : ℕ) → Passes i y x)
+    → (n host : ℕ) → 2 ≤ n → host < n → LetsOff t n host x
+receiver_lets_off t information d Passes judges x y z may_y may_z denies takes n host two is_host =
     let o : Another n host = another n host two in
-    let hosts : List A = pair_of n host o y z d is_host in
+    let hosts : List t.Attribute = pair_of n host o y z d is_host in
     let f : Flow = record { from = o.other; to = host } in
     record {
       hosts = hosts;
       sized = length-pair_of n host o y z d is_host;
+      may = AllMayHave-pair_of t n host o y z d is_host (may_y n o.other) (may_z n);
       flow = f;
       is_flow = (o.within, is_host, o.apart);
-      offends = one_offends (AllPass d Passes hosts) f (AllFlowsPass-none (λ i j. Passes i (slice_index_or hosts i d) (slice_index_or hosts j d)))
+      offends = one_offends (t.Holds hosts) f
+          ((judges hosts []).0 (AllFlowsPass-none (λ i j. Passes i (slice_index_or hosts i d) (slice_index_or hosts j d))))
           (λ holds. denies o.other
-          (subst (λ (v : A). Passes o.other v z) (at_other n host o y z d is_host)
-          (subst (λ (w : A). Passes o.other (get_or hosts o.other d) w) (at_host n host o y z d is_host)
-          (passes_alone (λ i j. Passes i (slice_index_or hosts i d) (slice_index_or hosts j d)) f holds))));
-      blamed = record { flow = f; offends = has_first f []; blamed = refl };
-      mended = AllFlowsPass-one (λ i j. Passes i (slice_index_or (set hosts host x) i d) (slice_index_or (set hosts host x) j d)) f
-          (subst (λ (v : A). Passes o.other v (get_or (set hosts host x) host d)) (sym (other_stays n host o y z d is_host x))
-          (subst (λ (w : A). Passes o.other y w) (sym (given_at_host n host o y z d is_host x)) (takes o.other)));
+          (subst (λ (v : t.Attribute). Passes o.other v z) (at_other n host o y z d is_host)
+          (subst (λ (w : t.Attribute). Passes o.other (get_or hosts o.other d) w) (at_host n host o y z d is_host)
+          (passes_alone (λ i j. Passes i (slice_index_or hosts i d) (slice_index_or hosts j d)) f ((judges hosts (f ∷ [])).1 holds)))));
+      blamed = record { flow = f; offends = has_first f []; blamed = ap (λ s. blamed_host s f) information };
+      mended = (judges (set hosts host x) (f ∷ [])).0
+          (AllFlowsPass-one (λ i j. Passes i (slice_index_or (set hosts host x) i d) (slice_index_or (set hosts host x) j d)) f
+          (subst (λ (v : t.Attribute). Passes o.other v (get_or (set hosts host x) host d)) (sym (other_stays n host o y z d is_host x))
+          (subst (λ (w : t.Attribute). Passes o.other y w) (sym (given_at_host n host o y z d is_host x)) (takes o.other))));
     }
 
 -- a sender of level 1 may not send to a host of level 0 that is not trusted
 pub blp_only : OnlyDefaultIsSecure blp
 blp_only n host x two is_host may other =
-    receiver_lets_off untrusted (λ i. BlpPasses) x (record { level = 1; trusted = false }) untrusted
+    receiver_lets_off blp refl untrusted (λ i. BlpPasses) (λ hosts e. itself) x (record { level = 1; trusted = false }) untrusted
+    (λ n k. tt) (λ n k. tt)
     (λ i passes. elim passes [
       | inl trusts ↦ false≢true trusts
       | inr low ↦ omega arith
@@ -178,7 +221,8 @@ zero_or_one bit none one = absurd (omega arith)
 pub tainting_only : OnlyDefaultIsSecure tainting
 tainting_only n host x two is_host may other =
     let (label, has) = some_label in
-    receiver_lets_off untainted (λ i. TaintsPass) x (record { taints = x.taints; untaints = 0 }) untainted
+    receiver_lets_off tainting refl untainted (λ i. TaintsPass) (λ hosts e. itself) x (record { taints = x.taints; untaints = 0 }) untainted
+    (λ n k l off. zero_or_one (bit_at 0 l) (bit_at-zero l) off) (λ n k l off. off)
     (λ i passes. zero_or_one (bit_at 0 label) (bit_at-zero label) (passes label has (λ off. zero_or_one (bit_at 0 label) (bit_at-zero label) off)))
     (λ i l has keeps. has) n host two is_host
   where
@@ -201,45 +245,56 @@ tainting_only n host x two is_host may other =
 -- a pool sends to sinks and pools
 pub sinks_only : OnlyDefaultIsSecure sinks
 sinks_only n host sink.Sink two is_host may other =
-    receiver_lets_off sink.Unassigned (λ i. TablePasses sink_passes) sink.Sink sink.Pool sink.Unassigned (λ i passes. false≢true passes) (λ i. refl) n host two is_host
+    receiver_lets_off sinks refl sink.Unassigned (λ i. TablePasses sink_passes) (λ hosts e. itself) sink.Sink sink.Pool sink.Unassigned
+    (λ n k. tt) (λ n k. tt) (λ i passes. false≢true passes) (λ i. refl) n host two is_host
 sinks_only n host sink.Pool two is_host may other =
-    receiver_lets_off sink.Unassigned (λ i. TablePasses sink_passes) sink.Pool sink.Pool sink.Unassigned (λ i passes. false≢true passes) (λ i. refl) n host two is_host
+    receiver_lets_off sinks refl sink.Unassigned (λ i. TablePasses sink_passes) (λ hosts e. itself) sink.Pool sink.Pool sink.Unassigned
+    (λ n k. tt) (λ n k. tt) (λ i passes. false≢true passes) (λ i. refl) n host two is_host
 sinks_only n host sink.Unassigned two is_host may other = absurd (other refl)
 
 -- all but unassigned hosts reach a gateway
 pub gateways_only : OnlyDefaultIsSecure gateways
 gateways_only n host gate.Gateway two is_host may other =
-    sender_lets_off gate.Unassigned (λ i. TablePasses gateway_passes) gate.Gateway gate.Gateway gate.Unassigned (λ i passes. false≢true passes) (λ i. refl) n host two is_host
+    sender_lets_off gateways refl gate.Unassigned (λ i. TablePasses gateway_passes) (λ hosts e. itself) gate.Gateway gate.Gateway gate.Unassigned
+    (λ n k. tt) (λ n k. tt) (λ i passes. false≢true passes) (λ i. refl) n host two is_host
 gateways_only n host gate.GatewayIn two is_host may other =
-    sender_lets_off gate.Unassigned (λ i. TablePasses gateway_passes) gate.GatewayIn gate.Gateway gate.Unassigned (λ i passes. false≢true passes) (λ i. refl) n host two is_host
+    sender_lets_off gateways refl gate.Unassigned (λ i. TablePasses gateway_passes) (λ hosts e. itself) gate.GatewayIn gate.Gateway gate.Unassigned
+    (λ n k. tt) (λ n k. tt) (λ i passes. false≢true passes) (λ i. refl) n host two is_host
 gateways_only n host gate.Member two is_host may other =
-    sender_lets_off gate.Unassigned (λ i. TablePasses gateway_passes) gate.Member gate.Gateway gate.Unassigned (λ i passes. false≢true passes) (λ i. refl) n host two is_host
+    sender_lets_off gateways refl gate.Unassigned (λ i. TablePasses gateway_passes) (λ hosts e. itself) gate.Member gate.Gateway gate.Unassigned
+    (λ n k. tt) (λ n k. tt) (λ i passes. false≢true passes) (λ i. refl) n host two is_host
 gateways_only n host gate.Accessible two is_host may other =
-    sender_lets_off gate.Unassigned (λ i. TablePasses gateway_passes) gate.Accessible gate.Gateway gate.Unassigned (λ i passes. false≢true passes) (λ i. refl) n host two is_host
+    sender_lets_off gateways refl gate.Unassigned (λ i. TablePasses gateway_passes) (λ hosts e. itself) gate.Accessible gate.Gateway gate.Unassigned
+    (λ n k. tt) (λ n k. tt) (λ i passes. false≢true passes) (λ i. refl) n host two is_host
 gateways_only n host gate.Unassigned two is_host may other = absurd (other refl)
 
 -- subnets reach their own hosts, and borders reach borders
 pub subnets_only : OnlyDefaultIsSecure subnets
 subnets_only n host (net.Subnet a) two is_host may other =
-    sender_lets_off net.Unassigned (λ i. TablePasses subnets_passes) (net.Subnet a) (net.Subnet a) net.Unassigned (λ i passes. false≢true passes) (λ i. eq-eqb a a refl) n host two is_host
+    sender_lets_off subnets refl net.Unassigned (λ i. TablePasses subnets_passes) (λ hosts e. itself) (net.Subnet a) (net.Subnet a) net.Unassigned
+    (λ n k. tt) (λ n k. tt) (λ i passes. false≢true passes) (λ i. eq-eqb a a refl) n host two is_host
 subnets_only n host (net.Border a) two is_host may other =
-    sender_lets_off net.Unassigned (λ i. TablePasses subnets_passes) (net.Border a) (net.Border a) net.Unassigned (λ i passes. false≢true passes) (λ i. refl) n host two is_host
+    sender_lets_off subnets refl net.Unassigned (λ i. TablePasses subnets_passes) (λ hosts e. itself) (net.Border a) (net.Border a) net.Unassigned
+    (λ n k. tt) (λ n k. tt) (λ i passes. false≢true passes) (λ i. refl) n host two is_host
 subnets_only n host net.Unassigned two is_host may other = absurd (other refl)
 
 -- all but those that do not care reach one that cares
 pub partners_only : OnlyDefaultIsSecure partners
 partners_only n host DontCare two is_host may other = absurd (other refl)
 partners_only n host Care two is_host may other =
-    sender_lets_off DontCare (λ i. TablePasses (partners_passes i)) Care Care DontCare (λ i passes. false≢true passes) (λ i. refl) n host two is_host
+    sender_lets_off partners refl DontCare (λ i. TablePasses (partners_passes i)) (λ hosts e. itself) Care Care DontCare
+    (λ n k. tt) (λ n k. tt) (λ i passes. false≢true passes) (λ i. refl) n host two is_host
 partners_only n host (Master from) two is_host may other =
-    sender_lets_off DontCare (λ i. TablePasses (partners_passes i)) (Master from) Care DontCare (λ i passes. false≢true passes) (λ i. refl) n host two is_host
+    sender_lets_off partners refl DontCare (λ i. TablePasses (partners_passes i)) (λ hosts e. itself) (Master from) Care DontCare
+    (λ n k. tt) (λ n k. tt) (λ i passes. false≢true passes) (λ i. refl) n host two is_host
 
 -- a host with a place reaches that place
 pub domains_only : OnlyDefaultIsSecure domains
 domains_only n host None two is_host may other = absurd (other refl)
 domains_only n host (Some place) two is_host may other =
     let kept : ℕ = length place.path - place.trust in
-    sender_lets_off None (λ i. DomainsPass) (Some place) (Some place) None (λ i passes. passes) (λ i. (drop kept place.path, sym (take-append-drop kept place.path))) n host two is_host
+    sender_lets_off domains refl None (λ i. DomainsPass) (λ hosts e. itself) (Some place) (Some place) None
+    (λ n k. may) (λ n k. tt) (λ i passes. passes) (λ i. (drop kept place.path, sym (take-append-drop kept place.path))) n host two is_host
 
 -- a host with a limit above 0 may reach one other
 pub dependability_only : OnlyDefaultIsSecure dependability
@@ -253,6 +308,7 @@ dependability_only n host x two is_host may other =
     record {
       hosts = hosts;
       sized = sized;
+      may = λ k within. tt;
       flow = f;
       is_flow = (is_host, o.within, apart);
       offends = one_offends (IsDependable hosts) f (IsDependable-none hosts) (λ holds.
@@ -277,6 +333,7 @@ interference_only n host Unrelated two is_host may other =
     record {
       hosts = hosts;
       sized = sized;
+      may = λ k within. tt;
       flow = f;
       is_flow = (o.within, is_host, o.apart);
       offends = one_offends (IsNonInterfering hosts) f (IsNonInterfering-none hosts) (λ holds.
@@ -327,21 +384,24 @@ no_reach_only n host x two is_host may other =
               ]
         ]
 
-    free : (j : ℕ) → j < n → j ≢ host → fin.contains x j ≡ false → LetsOff Access ReachesNoDenied n host x
+    free : (j : ℕ) → j < n → j ≢ host → fin.contains x j ≡ false → LetsOff no_reach n host x
     free j within apart passes =
-        let hosts : List HostNumbers = replicate n (others n host) in
+        let none : List HostNumbers = replicate n fin.empty in
+        let hosts : List HostNumbers = set none host (others n host) in
         let f : Flow = record { from = host; to = j } in
-        let sized : length hosts ≡ n = length-replicate n (others n host) in
+        let at_none : host < length none = subst (λ m. host < m) (sym (length-replicate n fin.empty)) is_host in
+        let sized : length hosts ≡ n = length-set none host (others n host) ∙ length-replicate n fin.empty in
         let after : length (set hosts host x) ≡ n = length-set hosts host x ∙ sized in
         let away : host ≢ j = λ same. apart (sym same) in
         record {
           hosts = hosts;
           sized = sized;
+          may = AllMayHave-one no_reach n host (others n host) fin.empty (no_reach_default n host is_host) (AreOthers-none n);
           flow = f;
           is_flow = (is_host, within, away);
           offends = one_offends (ReachesNoDenied hosts) f (ReachesNoDenied-none hosts) (λ holds.
               (ReachesNoDenied-one hosts f (omega (arith, sized), omega (arith, sized), away)).1 holds
-              (ap (λ s. fin.contains s j) (get_or-replicate n host (others n host) fin.empty is_host)
+              (ap (λ s. fin.contains s j) (get_or-set_same none host (others n host) fin.empty at_none)
               ∙ contains-others n host j ∙ and_from _ _ (lt-ltb j n within) (not_from_false _ (ne_eqb j host apart))));
           blamed = record { flow = f; offends = has_first f []; blamed = refl };
           mended = (ReachesNoDenied-one (set hosts host x) f (omega (arith, after), omega (arith, after), away)).0

@@ -1,5 +1,4 @@
-//! The trial of an invariant of any template. It knows no template, but only what a template looks at: single
-//! flows, whom hosts reach, or who is joined.
+//! The trial of an invariant of any template: the trial of that template, which fits no invariant of another.
 
 ghost use Rattle.std.specs.Prelude.{◌≡◌};
 ghost use Rattle.inv_any.specs.inner.AnyTrials.{tried_of, FitsAny};
@@ -8,13 +7,57 @@ use crate::any_inv::AnyInv;
 use flow_set::{Flow, FlowSet};
 use inv_law::{EdgeTrial, Stepwise, Trial};
 use std::alloc::{AllocError, Global};
-use tmpl_reach::{JoinTrial, ReachTrial};
+use tmpl_reach::ReachTrial;
 
+// A trial, by the template of the invariant that made it.
 #[derive(Drop)]
 enum Case {
-    Edge(EdgeTrial),
-    Reach(ReachTrial),
-    Join(JoinTrial),
+    Blp(EdgeTrial),
+    Tainting(EdgeTrial),
+    Sink(EdgeTrial),
+    Gateway(EdgeTrial),
+    Subnets(EdgeTrial),
+    Partners(EdgeTrial),
+    Domains(EdgeTrial),
+    Dependability(ReachTrial),
+    NonInterference(ReachTrial),
+    NoReach(ReachTrial),
+    Table(EdgeTrial),
+}
+
+// The templates, for the macros below: what the trial in `case` answers, a trial of the invariant in `any`, and what
+// that invariant answers of the trial in `case`. A trial that fits is of the template's case.
+macro_rules! each_trial {
+    ($say:ident, $($args:tt)*) => {
+        $say!($($args)*; Blp Tainting Sink Gateway Subnets Partners Domains Dependability NonInterference NoReach Table)
+    };
+}
+
+macro_rules! of_trial {
+    ($case:expr, $tried:ident => $answer:expr; $($template:ident)*) => {
+        match $case {
+            $(Case::$template($tried) => $answer,)*
+        }
+    };
+}
+
+macro_rules! begin_trial {
+    ($any:expr, $inv:ident => $trial:expr; $($template:ident)*) => {
+        match $any {
+            $(AnyInv::$template($inv) => Case::$template($trial),)*
+        }
+    };
+}
+
+macro_rules! ask_trial {
+    ($any:expr, $case:expr, $inv:ident, $tried:ident => $answer:expr, $other:expr; $($template:ident)*) => {
+        match $any {
+            $(AnyInv::$template($inv) => match $case {
+                Case::$template($tried) => $answer,
+                _ => $other,
+            },)*
+        }
+    };
 }
 
 /// A set of flows that is tried in steps by an invariant of any template.
@@ -27,40 +70,8 @@ impl Trial for AnyTrial {
     ghost tried = { λ t. tried_of t.case };
 
     fn size(&self) -> u16 {
-        match &self.case {
-            Case::Edge(tried) => tried.size(),
-            Case::Reach(tried) => tried.size(),
-            Case::Join(tried) => tried.size(),
-        }
+        each_trial!(of_trial, &self.case, tried => tried.size())
     }
-}
-
-// The templates with their trials, for the two macros below: a trial of the invariant in `any`, here `inv`, and
-// what that invariant answers of the trial in `case`, here `tried`. A trial that fits is of the template's case.
-macro_rules! each_trial {
-    ($say:ident, $($args:tt)*) => {
-        $say!($($args)*; Blp Edge, Tainting Edge, Sink Edge, Gateway Edge, Subnets Edge, Partners Edge, Domains Edge,
-            Dependability Reach, NonInterference Join, NoReach Reach, Table Edge)
-    };
-}
-
-macro_rules! begin_trial {
-    ($any:expr, $inv:ident => $trial:expr; $($template:ident $kind:ident),*) => {
-        match $any {
-            $(AnyInv::$template($inv) => Case::$kind($trial),)*
-        }
-    };
-}
-
-macro_rules! ask_trial {
-    ($any:expr, $case:expr, $inv:ident, $tried:ident => $answer:expr, $other:expr; $($template:ident $kind:ident),*) => {
-        match $any {
-            $(AnyInv::$template($inv) => match $case {
-                Case::$kind($tried) => $answer,
-                _ => $other,
-            },)*
-        }
-    };
 }
 
 impl Stepwise for AnyInv {

@@ -6,20 +6,21 @@ use Rattle.flow_set.specs.Flow.{IsFlow}
 use Rattle.flow_set.specs.declared.flow.Flow.{Flow}
 use Rattle.inv_law.specs.inner.Invariants.{IsOffendingHost}
 use Rattle.inv_law.specs.Template.{Template}
-use Rattle.inv_law.specs.declared.strategy.Strategy.{Strategy}
+use Rattle.inv_law.specs.inner.Template.{AllMayHave}
 
--- some hosts of this number, and a flow between them that is a minimal offending set of itself, for which the host is to blame: with
--- this attribute at the host, the invariant holds on the flow
-pub record LetsOff {A : Type 0} (strategy : Strategy) (Holds : List A → List Flow → Type 0) (n host : ℕ) (x : A) : Type 0 where
-  pub hosts : List A
+-- Some n hosts, each with an attribute that it may have, and a flow between them that is a minimal offending set of itself, for which the
+-- host is to blame: with the attribute x at the host, the invariant holds on the flow.
+pub record LetsOff (t : Template) (n host : ℕ) (x : t.Attribute) : Type 0 where
+  pub hosts : List t.Attribute
   pub sized : length hosts ≡ n
+  pub may : AllMayHave t hosts
   pub flow : Flow
   pub is_flow : IsFlow n flow
-  pub offends : IsMinimalOffending (Holds hosts) (flow ∷ []) (flow ∷ [])
-  pub blamed : IsOffendingHost strategy (flow ∷ []) host
-  pub mended : Holds (slice_set hosts host x) (flow ∷ [])
+  pub offends : IsMinimalOffending (t.Holds hosts) (flow ∷ []) (flow ∷ [])
+  pub blamed : IsOffendingHost t.strategy (flow ∷ []) host
+  pub mended : t.Holds (slice_set hosts host x) (flow ∷ [])
 
--- no attribute that a host may have, but the default, is a secure default: of two hosts or more, at each of them
+-- No attribute that a host may have, but the default, is a secure default: of two hosts or more, at each of them.
 abbrev pub OnlyDefaultIsSecure : Template → Type 0
 OnlyDefaultIsSecure t =
-    (n host : ℕ) (x : t.Attribute) → 2 ≤ n → host < n → t.MayHave n host x → x ≢ t.default n host → LetsOff t.strategy t.Holds n host x
+    (n host : ℕ) (x : t.Attribute) → 2 ≤ n → host < n → t.MayHave n host x → x ≢ t.default n host → LetsOff t n host x
