@@ -34,6 +34,9 @@ impl<'a> Model for FlowPolicy<'a> {
 }
 
 impl<'a> FlowPolicy<'a> {
+    /// Returns the policy of these hosts: what is permitted between them, by which services, and which
+    /// flows are stateful. Both sets of flows have the size of the hosts, and each stateful flow is
+    /// permitted.
     pub fn new(
         hosts: &'a Hosts,
         services: &'a Services,
@@ -55,6 +58,7 @@ impl<'a> FlowPolicy<'a> {
         }
     }
 
+    /// Returns the hosts of the policy, of which each has its number by its place.
     pub fn hosts(&self) -> &'a Hosts
         ensures value { result.now ≡ self.now.site.hosts }
         ensures policy { IsFlowPolicy self.now }
@@ -62,12 +66,15 @@ impl<'a> FlowPolicy<'a> {
         self.hosts
     }
 
+    /// Returns the services of flows: a permitted flow with services permits the packets that one of
+    /// them serves, and a permitted flow without services permits all its packets.
     pub fn services(&self) -> &'a Services
         ensures value { result.now ≡ self.now.site.services }
     {
         self.services
     }
 
+    /// Returns the permitted flows.
     pub fn permitted(&self) -> &'a FlowSet
         ensures flows { result.now.flows ≡ self.now.permitted }
         ensures size { result.now.size ≡ length self.now.site.hosts }
@@ -75,6 +82,8 @@ impl<'a> FlowPolicy<'a> {
         self.permitted
     }
 
+    /// Returns the stateful flows: the permitted flows of which answers may pass as well, on
+    /// established connections.
     pub fn stateful(&self) -> &'a FlowSet
         ensures flows { result.now.flows ≡ self.now.stateful }
         ensures size { result.now.size ≡ length self.now.site.hosts }

@@ -13,4 +13,6 @@ pub use connection::Connection;
 pub use event::Event;
 pub use events::{EVENTS_BYTE_LIMIT, EventFault, read_events};
 pub use flow_policy::FlowPolicy;
+/// Why a text of events is refused.
+pub use text_core::ListWhy as EventWhy;
 pub use track::Track;
