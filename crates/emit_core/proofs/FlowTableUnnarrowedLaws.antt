@@ -14,27 +14,7 @@ use Rattle.ofp_rules.specs.declared.entry.Entry.{Entry}
 use Rattle.emit_core.specs.FlowTable.{ip_entry, for_each_host, rest_drop, pair_entries, between, to_rest_host, from_rest_host, with_rest, arp_entry, other_entry, flow_entries}
 use Rattle.emit_core.specs.FlowTableEvents.{is_covered, AnswersAreCovered}
 use Rattle.emit_core.specs.Sides.{permits}
-
--- the entry from the prefix q to the prefix t: a permitted flow is forwarded; where there is a rest host, another is dropped
-abbrev pub whole_pair : Bool → Option ℕ → Prefix → Prefix → List Entry
-whole_pair true rest q t = ip_entry 40 (Some q) (Some t) Normal ∷ []
-whole_pair false rest q t = rest_drop rest 40 q t
-
-abbrev pub whole_between : List Host → List Flow → Option ℕ → List Entry
-whole_between hosts p rest =
-    for_each_host (λ i qs. for_each_host (λ j ts. flat_map (λ q. flat_map (whole_pair (permits p i j) rest q) ts) qs) 0 hosts) 0 hosts
-
--- from the prefixes of a host to the rest host, and from there to them
-abbrev pub whole_to_rest : Bool → List Prefix → List Entry
-whole_to_rest permitted qs = if permitted then map (λ q. ip_entry 30 (Some q) None Normal) qs else []
-
-abbrev pub whole_from_rest : Bool → List Prefix → List Entry
-whole_from_rest permitted qs = if permitted then map (λ q. ip_entry 30 None (Some q) Normal) qs else []
-
-abbrev pub whole_with_rest : List Host → List Flow → Option ℕ → List Entry
-whole_with_rest hosts p None = []
-whole_with_rest hosts p (Some r) =
-    for_each_host (λ i qs. whole_to_rest (permits p i r) qs) 0 hosts ++ for_each_host (λ i qs. whole_from_rest (permits p r i) qs) 0 hosts
+use Rattle.emit_core.specs.inner.UnnarrowedFlowTable.{whole_pair, whole_between, whole_to_rest, whole_from_rest, whole_with_rest, whole_entries}
 
 pair_same : (permitted : Bool) (rest : Option ℕ) (q t : Prefix) → pair_entries permitted [] rest q t ≡ whole_pair permitted rest q t
 pair_same true rest q t = refl
@@ -61,9 +41,9 @@ with_rest_same hosts p None = refl
 with_rest_same hosts p (Some r) =
     λ k. for_each_host (λ i qs. to_rest_same (permits p i r) qs k) 0 hosts ++ for_each_host (λ i qs. from_rest_same (permits p r i) qs k) 0 hosts
 
--- the table has these entries, one for ARP, and a last one that drops the rest
+-- the whole table
 pub flow_entries-unnarrowed : (hosts : List Host) (p : List Flow)
-    → flow_entries (unnarrowed hosts) p ≡ whole_between hosts p (rest_of hosts) ++ (whole_with_rest hosts p (rest_of hosts) ++ arp_entry ∷ other_entry ∷ [])
+    → flow_entries (unnarrowed hosts) p ≡ whole_entries hosts p
 unfolding flow_entries
 flow_entries-unnarrowed hosts p = λ k. between_same hosts p (rest_of hosts) k ++ (with_rest_same hosts p (rest_of hosts) k ++ arp_entry ∷ other_entry ∷ [])
 

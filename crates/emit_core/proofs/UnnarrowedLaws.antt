@@ -18,6 +18,7 @@ use Rattle.pkt_core.specs.FlowPolicy.{flow_of, is_of}
 use Rattle.emit_core.specs.declared.side.Side.{Side}
 use Rattle.emit_core.specs.Layout.{for_each_prefix, at_other, answering, accepts, is_open, drops, to_rest, host_rules}
 use Rattle.emit_core.specs.Sides.{links, other_side}
+use Rattle.emit_core.specs.inner.UnnarrowedLayout.{whole_accepts, whole_drops, whole_to_rest, whole_host_rules}
 
 of_flow : (flows : List Flow) (o : Option Flow) (packet : Packet)
     → option_map_or (λ f. has flows f && is_served [] packet) o false ≡ option_map_or (λ f. has flows f) o false
@@ -28,21 +29,6 @@ of_flow flows (Some f) packet = and-true (has flows f)
 pub is_of-unnarrowed : (hosts : List Host) (flows : List Flow) (packet : Packet)
     → is_of (unnarrowed hosts) flows packet ≡ option_map_or (λ f. has flows f) (flow_of hosts packet) false
 is_of-unnarrowed hosts flows packet = of_flow flows (flow_of hosts packet) packet
-
--- the rules for whole flows at the prefix q of host j: all packets of host i, answers alone, or none
-abbrev pub whole_accepts : Side → List Flow → List Flow → ℕ → ℕ → Option Prefix → List Rule
-whole_accepts side p s i j q =
-    if links side p i j then at_other side q None Accept ∷ []
-    else (if links (other_side side) s i j then at_other side q answering Accept ∷ [] else [])
-
--- and what an open chain drops there
-abbrev pub whole_drops : Side → List Flow → List Flow → ℕ → Option ℕ → ℕ → Prefix → List Rule
-whole_drops side p s i rest j q =
-    if is_open side p s i rest && not (links side p i j) then at_other side (Some q) None Drop ∷ [] else []
-
-abbrev pub whole_to_rest : Side → List Flow → List Flow → ℕ → Option ℕ → List Rule
-whole_to_rest side p s i None = []
-whole_to_rest side p s i (Some r) = whole_accepts side p s i r None
 
 accepted : (flow answer : List Rule) (b c : Bool) → (if b then flow else []) ++ (if c && not (b && true) then answer else [])
     ≡ (if b then flow else (if c then answer else []))
@@ -66,11 +52,9 @@ rest_same : (side : Side) (hosts : List Host) (p s : List Flow) (i : ℕ) (rest 
 rest_same side hosts p s i None = refl
 rest_same side hosts p s i (Some r) = accepts-unnarrowed side hosts p s i r None
 
--- the chain of a host has these rules, and a last one that drops the rest
+-- the chain of a host
 pub host_rules-unnarrowed : (side : Side) (hosts : List Host) (p s : List Flow) (i : ℕ)
-    → host_rules side (unnarrowed hosts) p s i
-    ≡ for_each_prefix (λ j q. whole_accepts side p s i j (Some q) ++ whole_drops side p s i (rest_of hosts) j q) 0 hosts
-    ++ (whole_to_rest side p s i (rest_of hosts) ++ at_other side None None Drop ∷ [])
+    → host_rules side (unnarrowed hosts) p s i ≡ whole_host_rules side hosts p s i
 host_rules-unnarrowed side hosts p s i =
     λ k. for_each_prefix (λ j q. accepts-unnarrowed side hosts p s i j (Some q) k ++ drops-unnarrowed side hosts p s i (rest_of hosts) j q k) 0 hosts
     ++ (rest_same side hosts p s i (rest_of hosts) k ++ at_other side None None Drop ∷ [])

@@ -17,7 +17,8 @@ use Rattle.emit_core.specs.EmitRefusals.{rule_limit}
 use Rattle.emit_core.specs.Layout.{answering, at_other, for_each_prefix, host_chain, host_rules, is_open, layout}
 use Rattle.emit_core.proofs.LayoutLaws.{few_for_all, few_forward_rules}
 use Rattle.emit_core.specs.Sides.{links, other_side}
-use Rattle.emit_core.proofs.UnnarrowedLaws.{host_rules-unnarrowed, whole_accepts, whole_drops, whole_to_rest}
+use Rattle.emit_core.specs.inner.UnnarrowedLayout.{whole_accepts, whole_drops, whole_to_rest}
+use Rattle.emit_core.proofs.UnnarrowedLaws.{host_rules-unnarrowed}
 
 one_at_most : (b c : Bool) (x y : Rule) → length (if b then x ∷ [] else (if c then y ∷ [] else [])) ≤ 1
 one_at_most true c x y = omega arith

@@ -11,7 +11,8 @@ ghost use Rattle.emit_core.specs.inner.Filling.{with_rules};
 use ipt_rules::{Chains, Rule, Ruleset};
 use std::alloc::{AllocError, Global};
 
-/// Adds the rules at the end of a chain.
+/// Adds the rules at the end of a chain. If memory runs out, the chain may have a part of the rules, and
+/// the chains are of no further use.
 pub fn fill(chains: &mut Chains, chain: u16, rules: &[Rule]) -> Result<(), AllocError>
     requires there { chain < length chains.old }
     requires room { rule_count chains.old + length rules.now < 2 ^ 32 }

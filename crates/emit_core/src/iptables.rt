@@ -30,7 +30,7 @@ const RULE_LIMIT: u32 = 600_000;
 
 /// The rules of a policy: permitted flows pass, and the answers of stateful ones where their
 /// connection is established.
-pub fn emit_iptables(alloc: Global, policy: &FlowPolicy<'_>) -> Result<Ruleset, NoChains>
+pub fn iptables_layout(alloc: Global, policy: &FlowPolicy<'_>) -> Result<Ruleset, NoChains>
     ensures layout { IfOk result (λ rules. rules ≡ layout policy.now.site policy.now.permitted policy.now.stateful) }
     ensures few { OnOk result (rule_count (layout policy.now.site policy.now.permitted policy.now.stateful) ≤ rule_limit) }
     ensures refused { IfErr result (HasNoChains policy.now.site policy.now.permitted policy.now.stateful) }

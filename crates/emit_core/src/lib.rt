@@ -5,6 +5,7 @@
 #![tactic(auto)]
 
 mod answers;
+mod emit;
 mod entries;
 mod filling;
 mod flow_entry;
@@ -12,6 +13,7 @@ mod flows;
 mod forward;
 mod host_chain;
 mod iptables;
+mod laws;
 mod narrowing;
 mod openflow;
 mod parts;
@@ -23,10 +25,12 @@ mod rest_flows;
 mod side;
 
 pub use answers::needs_state;
+pub use emit::{emit_iptables, emit_openflow};
 pub use filling::{build_accepted, fill};
 pub use host_chain::host_rules;
-pub use iptables::emit_iptables;
-pub use openflow::emit_openflow;
+pub use iptables::iptables_layout;
+pub use laws::unnarrowed_flows_are_whole;
+pub use openflow::flow_table_layout;
 pub use parts::{at_other, in_prefix};
-pub use refusal::{NoChains, NoTable};
+pub use refusal::{EmitRefusal, NoChains, NoTable};
 pub use side::Side;

@@ -24,7 +24,7 @@ use std::alloc::{AllocError, Global};
 
 /// The flow table of a policy: permitted flows pass, and answers to them only where they are of
 /// permitted flows themselves, since a table keeps no connections.
-pub fn emit_openflow(alloc: Global, policy: &FlowPolicy<'_>) -> Result<Table, NoTable>
+pub fn flow_table_layout(alloc: Global, policy: &FlowPolicy<'_>) -> Result<Table, NoTable>
     ensures layout { IfOk result (λ table. table ≡ flow_entries policy.now.site policy.now.permitted) }
     ensures ports { OnOk result (HasNoRange policy.now.site.services policy.now.permitted) }
     ensures few { OnOk result (length (flow_entries policy.now.site policy.now.permitted) ≤ most_entries) }

@@ -22,3 +22,15 @@ pub enum NoTable {
     /// There was no memory.
     Memory,
 }
+
+/// Why `emit_iptables` or `emit_openflow` emits nothing.
+#[derive(Clone, Copy, Debug, PartialEq, Eq)]
+pub enum EmitRefusal {
+    /// A permitted flow has a service with a range of ports, and this flow is the first. Only a flow
+    /// table is refused for this reason: an entry matches one port, or every port.
+    RangeOfPorts { flow: Flow },
+    /// The layout has more than 600,000 rules, or more than 8,192 entries of a flow table: `count`.
+    TooManyRules { count: u32 },
+    /// Memory ran out.
+    Memory,
+}

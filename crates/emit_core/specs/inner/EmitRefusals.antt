@@ -1,9 +1,11 @@
--- Why a policy has no chains, or no flow table.
+-- Why a policy has no chains, or no flow table, and why nothing is emitted for it.
 use Rattle.std.specs.Prelude.{◌≡◌, ◌<◌, List, length}
 use Rattle.host_net.specs.Site.{Site}
 use Rattle.flow_set.specs.declared.flow.Flow.{Flow}
 use Rattle.ipt_rules.specs.ChainTable.{rule_count}
 use Rattle.ofp_rules.specs.Ambiguity.{most_entries}
+use Rattle.emit_core.specs.declared.refusal.EmitRefusal.{EmitRefusal}
+use Rattle.emit_core.specs.declared.refusal.EmitRefusal.TheVariants as emit
 use Rattle.emit_core.specs.declared.refusal.NoChains.{NoChains}
 use Rattle.emit_core.specs.declared.refusal.NoChains.TheVariants.{TooManyRules, Memory}
 use Rattle.emit_core.specs.declared.refusal.NoTable.{NoTable}
@@ -23,3 +25,15 @@ abbrev pub HasNoTable : Site → List Flow → NoTable → Type 0
 HasNoTable site p (RangeOfPorts flow) = IsFirstRange site.services p flow
 HasNoTable site p (TooManyEntries count) = HasNoRange site.services p × (most_entries < length (flow_entries site p)) × (count ≡ length (flow_entries site p))
 HasNoTable site p NoMemory = Unit {0}
+
+-- An EmitRefusal of iptables rules is the reason why there are no chains. It is no range of ports.
+abbrev pub IsIptablesRefusal : Site → List Flow → List Flow → EmitRefusal → Type 0
+IsIptablesRefusal site p s (emit.RangeOfPorts flow) = ⊥
+IsIptablesRefusal site p s (emit.TooManyRules count) = HasNoChains site p s (TooManyRules count)
+IsIptablesRefusal site p s emit.Memory = HasNoChains site p s Memory
+
+-- An EmitRefusal of a flow table is the reason why there is no table.
+abbrev pub IsOpenflowRefusal : Site → List Flow → EmitRefusal → Type 0
+IsOpenflowRefusal site p (emit.RangeOfPorts flow) = HasNoTable site p (RangeOfPorts flow)
+IsOpenflowRefusal site p (emit.TooManyRules count) = HasNoTable site p (TooManyEntries count)
+IsOpenflowRefusal site p emit.Memory = HasNoTable site p NoMemory

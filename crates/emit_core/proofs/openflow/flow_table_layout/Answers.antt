@@ -14,7 +14,7 @@ use Rattle.emit_core.proofs.FlowTableLaws.{ForwardsFlows, unambiguous}
 use Rattle.emit_core.proofs.FlowTableRangeLaws.{all_ask}
 use Rattle.emit_core.proofs.FlowTableVerdictLaws.{forwards_flows}
 use Rattle.emit_core.specs.PortRanges.{HasNoRange}
-use Rattle.emit_core.proofs.openflow.emit_openflow.Goals as goal
+use Rattle.emit_core.proofs.openflow.flow_table_layout.Goals as goal
 
 pub build-requires-clause-asks : goal.build-requires-clause-asks
 build-requires-clause-asks c =

@@ -5,7 +5,7 @@ use Rattle.ipt_rules.specs.Loops.{HasNoLoop}
 use Rattle.ipt_rules.specs.Meaning.{Passes}
 use Rattle.emit_core.proofs.ForwardingLaws.{layout_enforces, layout_expected}
 use Rattle.emit_core.proofs.LayoutLaws.{layout_accepted, layout_no_loop}
-use Rattle.emit_core.proofs.iptables.emit_iptables.Goals as goal
+use Rattle.emit_core.proofs.iptables.iptables_layout.Goals as goal
 
 pub build_accepted-requires-clause-accepted : goal.build_accepted-requires-clause-accepted
 build_accepted-requires-clause-accepted c =

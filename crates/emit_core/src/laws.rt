@@ -1,0 +1,29 @@
+//! What a policy without services means and how it is written, over the definitions alone.
+
+ghost use Rattle.std.specs.Prelude.{◌≡◌, ◌↔◌, ℕ, false, List, [], IsTrue};
+ghost use Rattle.std.specs.Option.{option_map_or};
+ghost use Rattle.host_net.specs.declared.packet.Packet.{Packet};
+ghost use Rattle.host_net.specs.Host.{Host};
+ghost use Rattle.host_net.specs.inner.Site.{unnarrowed};
+ghost use Rattle.flow_set.specs.declared.flow.Flow.{Flow};
+ghost use Rattle.flow_set.specs.Flow.{back_of};
+ghost use Rattle.flow_set.specs.FlowSet.{has};
+ghost use Rattle.pkt_core.specs.FlowPolicy.{flow_of, is_of};
+ghost use Rattle.emit_core.specs.declared.side.Side.{Side as HostSide};
+ghost use Rattle.emit_core.specs.FlowTable.{flow_entries};
+ghost use Rattle.emit_core.specs.FlowTableEvents.{AnswersAreCovered};
+ghost use Rattle.emit_core.specs.Layout.{host_rules};
+ghost use Rattle.emit_core.specs.inner.UnnarrowedFlowTable.{whole_entries};
+ghost use Rattle.emit_core.specs.inner.UnnarrowedLayout.{whole_host_rules};
+
+/// Where no flow is narrowed to services, the owners of its addresses alone decide the flow of a packet,
+/// each rule and each entry is about whole flows, and an answer is covered if its flow is permitted.
+pub fn unnarrowed_flows_are_whole()
+    ensures meaning { (hosts : List Host) (flows : List Flow) (packet : Packet) →
+        is_of (unnarrowed hosts) flows packet ≡ option_map_or (λ f. has flows f) (flow_of hosts packet) false }
+    ensures chains { (side : HostSide) (hosts : List Host) (p s : List Flow) (i : ℕ) →
+        host_rules side (unnarrowed hosts) p s i ≡ whole_host_rules side hosts p s i }
+    ensures entries { (hosts : List Host) (p : List Flow) → flow_entries (unnarrowed hosts) p ≡ whole_entries hosts p }
+    ensures answers { (p s : List Flow) →
+        AnswersAreCovered [] p s ↔ ((f : Flow) → IsTrue (has s f) → IsTrue (has p (back_of f))) }
+{}
