@@ -2,6 +2,10 @@
 //! specific host has its own.
 #![tactic(auto)]
 
+mod emit;
+mod laws;
 mod local;
 
-pub use local::{emit_local, is_specific};
+pub use emit::emit_local;
+pub use laws::firewalls_pass_as_one;
+pub use local::{is_specific, local_rules};

@@ -19,7 +19,7 @@ const LOOPBACK: u32 = 0x7f000000;
 
 /// The rules for the machines of one specific host, by a policy: permitted flows pass, and the answers
 /// of stateful ones where their connection is established.
-pub fn emit_local(alloc: Global, policy: &FlowPolicy<'_>, host: u16) -> Result<Ruleset, AllocError>
+pub fn local_rules(alloc: Global, policy: &FlowPolicy<'_>, host: u16) -> Result<Ruleset, AllocError>
     requires there { host < length policy.now.site.hosts }
     requires specific { IsTrue (is_specific policy.now.site.hosts host) }
     ensures layout { IfOk result (λ rules. rules ≡ local_layout policy.now.site policy.now.permitted policy.now.stateful host) }

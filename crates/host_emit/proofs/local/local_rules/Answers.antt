@@ -6,7 +6,7 @@ use Rattle.host_emit.specs.Guarding.{Guards}
 use Rattle.host_emit.proofs.GuardingLaws.{layout_guards}
 use Rattle.host_emit.proofs.LocalEventsLaws.{layouts_expected}
 use Rattle.host_emit.proofs.LocalLayoutLaws.{local_accepted, local_no_loop}
-use Rattle.host_emit.proofs.local.emit_local.Goals as goal
+use Rattle.host_emit.proofs.local.local_rules.Goals as goal
 
 pub build_accepted-requires-clause-accepted : goal.build_accepted-requires-clause-accepted
 build_accepted-requires-clause-accepted c =

@@ -1,0 +1,22 @@
+//! What the hosts' own firewalls let pass, against a firewall between all hosts, over the definitions
+//! alone.
+
+ghost use Rattle.std.specs.Prelude.{◌≡◌, Bool, List, Option};
+ghost use Rattle.host_net.specs.inner.Hosts.{IsHosts};
+ghost use Rattle.host_net.specs.Site.{Site};
+ghost use Rattle.flow_set.specs.declared.flow.Flow.{Flow};
+ghost use Rattle.flow_set.specs.FlowSet.{IsSubset};
+ghost use Rattle.ipt_rules.specs.Meaning.{Passes};
+ghost use Rattle.pkt_core.specs.declared.event.Event.{Event};
+ghost use Rattle.pkt_core.specs.Filter.{RunsFromNothing};
+ghost use Rattle.emit_core.specs.Layout.{layout};
+ghost use Rattle.host_emit.specs.LocalEvents.{AreExternal, LocalRuns};
+ghost use Rattle.host_emit.specs.LocalLayout.{local_layout};
+
+/// Over every list of events, if each specific host has the rules of its own layout, the same packets pass
+/// between the hosts as through one firewall with the layout of the whole network.
+pub fn firewalls_pass_as_one()
+    ensures { (site : Site) (p s : List Flow) → IsHosts site.hosts → IsSubset s p → (events : List Event) → AreExternal events →
+        (passes forwards : List (Option Bool)) → LocalRuns (local_layout site p s) site.hosts events passes →
+        RunsFromNothing (Passes (layout site p s)) events forwards → passes ≡ forwards }
+{}
