@@ -3,10 +3,10 @@
 use text_core::TextFault;
 use thiserror::Error;
 
-/// Why a line adds no entry to those before it.
+/// Why a line that is no comment adds no entry to those before it, or why a text is refused as a whole.
 #[derive(Clone, Copy, Debug, PartialEq, Eq, Error)]
 pub enum OfpWhy {
-    /// More than 67,108,864 bytes.
+    /// The text has more than 67,108,864 bytes. The line is 0.
     #[error("TooLong")]
     TooLong,
     /// A field that stood already, a second frame kind or protocol, or no action.
@@ -33,5 +33,6 @@ pub enum OfpWhy {
     TooMany,
 }
 
-/// The first line that adds no entry, and why.
+/// Why a text is no flow table: the first line that is neither a comment nor adds an entry, counted from 1,
+/// and the reason. Line 0 stands for the whole text, which is too long.
 pub type OfpFault = TextFault<OfpWhy>;

@@ -30,6 +30,8 @@ pub fn read(alloc: Global, bytes: &[u8]) -> Result<Table, OfpFault>
     // A text has one first fault at most, and none where it has a reading.
     ensures faulty { (line : ℕ) (why : OfpWhy) → HasFault bytes.now line why →
         MatchResult result (λ table. ⊥) (IsFault line why) }
+    // The text of a table has its entries as its reading.
+    ensures written { (entries : List Entry) → IsTable entries → bytes.now ≡ text entries → IsReading bytes.now entries }
     // What is written of a table is read again.
     ensures again { (entries : List Entry) → IsTable entries → bytes.now ≡ text entries →
         MatchResult result (λ table. table ≡ entries) (λ fault. fault ≡ TextFault.Memory) }

@@ -44,6 +44,15 @@ returns-in-Ok-read_lines-clause-again c = λ entries table is.
     only c.args.bytes.now (Ok c.in-Ok-read_lines.reader.table) entries (found c.args.bytes.now c.in-Ok-read_lines.reader.table c.in-Ok-read_lines.ensures.read) tt
     (written c.args.bytes.now entries table is)
 
+pub returns-in_default-clause-written : goal.returns-in_default-clause-written
+returns-in_default-clause-written c = written c.args.bytes.now
+
+pub returns-in-Ok-read_lines-clause-written : goal.returns-in-Ok-read_lines-clause-written
+returns-in-Ok-read_lines-clause-written c = written c.args.bytes.now
+
+pub returns-in-Err-clause-written : goal.returns-in-Err-clause-written
+returns-in-Err-clause-written c = written c.args.bytes.now
+
 pub returns-in-Err-clause-only : goal.returns-in-Err-clause-only
 returns-in-Err-clause-only c = λ entries reading. only c.args.bytes.now (Err c.in-Err.fault) entries tt c.in-Err.ensures.refused reading
 
