@@ -31,6 +31,9 @@ pub fn read(alloc: Global, bytes: &[u8]) -> Result<Ruleset, IptFault>
     // A text has one first fault at most, and none where it has a reading.
     ensures faulty { (line : ℕ) (why : IptWhy) → HasFault bytes.now line why →
         MatchResult result (λ rules. ⊥) (IsFault line why) }
+    // The text of a rule set has this rule set as its reading, if it has no more bytes than a text may have.
+    ensures written { (chains : List Chain) → IsWritable chains → bytes.now ≡ text chains → length bytes.now ≤ 67108864 →
+        IsReading bytes.now chains }
     // What is written of a rule set is read again, where it has no more bytes than a text may have.
     ensures again { (chains : List Chain) → IsWritable chains → bytes.now ≡ text chains → length bytes.now ≤ 67108864 →
         MatchResult result (λ rules. rules ≡ chains) (λ fault. fault ≡ TextFault.Memory) }

@@ -48,6 +48,15 @@ pub returns-in-Ok-read_counted_lines-clause-again : goal.returns-in-Ok-read_coun
 returns-in-Ok-read_counted_lines-clause-again c = λ chains fine is short.
     only c.args.bytes.now c.end.result chains c.end.ensures.found c.end.ensures.refused (written c.args.bytes.now chains fine is short)
 
+pub returns-in_default-clause-written : goal.returns-in_default-clause-written
+returns-in_default-clause-written c = written c.args.bytes.now
+
+pub returns-in-Ok-read_counted_lines-clause-written : goal.returns-in-Ok-read_counted_lines-clause-written
+returns-in-Ok-read_counted_lines-clause-written c = written c.args.bytes.now
+
+pub returns-in-Err-clause-written : goal.returns-in-Err-clause-written
+returns-in-Err-clause-written c = written c.args.bytes.now
+
 pub returns-in-Err-clause-only : goal.returns-in-Err-clause-only
 returns-in-Err-clause-only c = λ chains reading. only c.args.bytes.now (Err c.in-Err.fault) chains tt c.in-Err.ensures.refused reading
 
