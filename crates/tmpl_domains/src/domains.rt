@@ -14,7 +14,9 @@ use inv_law::{EdgeRule, Strategy};
 use std::alloc::{AllocError, Global};
 use std::marker::Model;
 
-/// Keeps what a domain takes to the hosts at its place and above it.
+/// Closes a host with a place to all hosts but those at its place and above it. Trust lets a sender act as if it
+/// stood that many places higher. A host without a place takes packets from all hosts, and sends to no host with a
+/// place.
 #[derive(Drop)]
 pub struct Domains {
     alloc: Global,

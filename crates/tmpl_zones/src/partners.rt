@@ -63,7 +63,7 @@ impl Partners {
         Ok(Partners { hosts })
     }
 
-    /// Lets the host take from all that care.
+    /// Lets the host take packets from masters and from hosts that care, and from no host that does not care.
     pub fn set_care(&mut self, host: u16)
         requires { host < length self.old }
         ensures { self.new ≡ slice_set self.old host Care }
