@@ -5,7 +5,7 @@ ghost use Rattle.sample_core.specs.Sample.{IsTableLines, offence_size};
 ghost use Rattle.sample_core.specs.inner.SampleCounts.{AreOffending};
 
 use desc_core::Description;
-use emit_core::{NoTable, emit_openflow, needs_state};
+use emit_core::{NoTable, flow_table_layout, needs_state};
 use flow_set::FlowSet;
 use permit_core::offending_by_steps;
 use pkt_core::FlowPolicy;
@@ -30,7 +30,7 @@ pub(crate) fn table_lines(alloc: Global, policy: &FlowPolicy<'_>) -> Result<Tabl
     if needs_state(policy).is_some() {
         return Ok(TableLines::NeedsState);
     }
-    match emit_openflow(alloc, policy) {
+    match flow_table_layout(alloc, policy) {
         Ok(table) => Ok(TableLines::Lines(table.lines())),
         Err(NoTable::RangeOfPorts { .. }) => unreachable!(),
         Err(NoTable::TooManyEntries { .. }) => Ok(TableLines::TooMany),

@@ -11,7 +11,7 @@ ghost use Rattle.sample_core.specs.inner.SampleCounts.{AreForwarded, AreRunCount
 ghost use Rattle.emit_core.specs.Layout.{layout};
 
 use crate::packets::sample_packets;
-use emit_core::{NoChains, emit_iptables};
+use emit_core::{NoChains, iptables_layout};
 use host_net::Packet;
 use ipt_rules::{Filter, Ruleset};
 use pkt_core::{FlowPolicy, Track};
@@ -52,7 +52,7 @@ fn rules_of(alloc: Global, policy: &FlowPolicy<'_>) -> Result<Ruleset, AllocErro
     ensures { IfOk result (λ rules. rules ≡ layout policy.now.site policy.now.permitted policy.now.stateful) }
 {
     let _count = policy.count();
-    match emit_iptables(alloc, policy) {
+    match iptables_layout(alloc, policy) {
         Ok(rules) => Ok(rules),
         Err(NoChains::TooManyRules { .. }) => unreachable!(),
         Err(NoChains::Memory) => Err(AllocError),
