@@ -4,3 +4,4 @@ pub mod LocalEventsLaws
 pub mod LocalLayoutLaws
 pub mod LocalWritableLaws
 pub mod PassingLaws
+pub mod PassingRows
