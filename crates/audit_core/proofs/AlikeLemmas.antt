@@ -18,10 +18,11 @@ use Rattle.audit_core.specs.laws.FindingLaws.{swaps_known}
 use Rattle.audit_core.specs.Cuts.{cut_addresses, cut_ports, cuts_between, named_protocols, parts_between}
 use Rattle.audit_core.specs.inner.Cuts.{AreOneClass}
 use Rattle.audit_core.specs.inner.Judging.{Right, is_asked, state_in}
-use Rattle.audit_core.proofs.OrderLemmas.{contains_cases, contains_later, contains_none, in_order-has}
+use Rattle.audit_core.proofs.OrderLemmas.{contains_cases, contains_later, contains_none}
 use Rattle.audit_core.specs.Parts.{rules_parts, site_parts}
+use Rattle.audit_core.specs.Classes.{is_among, numbers_where, represents_protocol}
 use Rattle.audit_core.specs.Places.{IsClassPacket, leasts_of}
-use Rattle.audit_core.proofs.LeastProtocols.{protocol_there}
+use Rattle.audit_core.proofs.RepresentativeLemmas.{among_has, represents, where_has}
 use Rattle.audit_core.specs.inner.Ranges.{AreTogether}
 use Rattle.audit_core.proofs.RangeLemmas.{is_in, protocol_of}
 use Rattle.audit_core.specs.Rules.{Rules, Entries, filter_of}
@@ -155,12 +156,12 @@ class_of_packet sides p known =
         at_most dport.0 p.dport (2 ^ 16) dport.1 known.4,
       ),
       record {
-        src = in_order-has (0 ∷ addresses) src.0 src.2;
-        dst = in_order-has (0 ∷ addresses) dst.0 dst.2;
-        proto = protocol_there named proto.0 (at_most proto.0 p.proto (2 ^ 8) proto.1 known.2)
-            (elim (is_in named proto.0) [ inl there ↦ inl there | inr none ↦ inr (below named proto.0 (proto.3.least none)) ]);
-        sport = in_order-has (0 ∷ ports) sport.0 sport.2;
-        dport = in_order-has (0 ∷ ports) dport.0 dport.2;
+        src = cut_there (0 ∷ addresses) (2 ^ 32) src.0 p.src src.1 known.0 src.2;
+        dst = cut_there (0 ∷ addresses) (2 ^ 32) dst.0 p.dst dst.1 known.1 dst.2;
+        proto = where_has (represents_protocol named) (2 ^ 8) proto.0 (at_most proto.0 p.proto (2 ^ 8) proto.1 known.2)
+            (represents named proto.0 (elim (is_in named proto.0) [ inl there ↦ inl there | inr none ↦ inr (below named proto.0 (proto.3.least none)) ]));
+        sport = cut_there (0 ∷ ports) (2 ^ 16) sport.0 p.sport sport.1 known.3 sport.2;
+        dport = cut_there (0 ∷ ports) (2 ^ 16) dport.0 p.dport dport.1 known.4 dport.2;
       },
       record { src = src.3; dst = dst.3; proto = proto.2; sport = sport.3; dport = dport.3 },
       record { src = src.1; dst = dst.1; proto = proto.1; sport = sport.1; dport = dport.1 },
@@ -168,6 +169,9 @@ class_of_packet sides p known =
   where
     at_most : (c a n : ℕ) → c ≤ a → a < n → c < n
     at_most c a n low below = omega arith
+
+    cut_there : (cuts : List ℕ) (limit c a : ℕ) → c ≤ a → a < limit → Contains cuts c → Contains (numbers_where (is_among cuts) limit) c
+    cut_there cuts limit c a low fits there = where_has (is_among cuts) limit c (at_most c a limit low fits) (among_has cuts c there)
 
     below : (named : List ℕ) (c : ℕ) → ((d : ℕ) → (Contains named d → ⊥) → c ≤ d) → (d : ℕ) → d < c → Contains named d
     below named c least d less = elim (is_in named d) [ inl there ↦ there | inr none ↦ let high = least d none in absurd (omega arith) ]

@@ -1,5 +1,5 @@
 -- Whether something is named once or more often makes no difference.
-use Rattle.std.proofs.Common.{◌≡◌, inl, inr, ℕ, nat_eq, true, List, [], ◌∷◌, refl, sym, subst}
+use Rattle.std.proofs.Common.{◌≡◌, inl, inr, ℕ, ◌^◌, nat_eq, true, List, [], ◌∷◌, refl, sym, subst}
 use Rattle.std.specs.List.{Contains, dedup, flat_map}
 use Rattle.std.specs.List.Sorted.{IsPermutation}
 use Rattle.std.proofs.lemmas.List.Filters.{dedup_is}
@@ -13,12 +13,12 @@ use Rattle.std.proofs.lemmas.Bool.{and_parts}
 use Rattle.std.proofs.lemmas.Bool.Decides.{Decides-eqb}
 use Rattle.std.proofs.lemmas.List.Elements.{Contains-append_cases, Contains-append_left, Contains-append_right}
 use Rattle.audit_core.specs.declared.named.Found.{Found}
-use Rattle.audit_core.specs.Classes.{in_order, protocol_leasts}
+use Rattle.audit_core.specs.Classes.{is_among, numbers_where, represents_protocol}
 use Rattle.audit_core.specs.inner.Named.{HaveSame, NameSame}
-use Rattle.audit_core.specs.Places.{Leasts}
-use Rattle.audit_core.specs.inner.RangeCuts.{address_cuts, cuts_of_addresses, cuts_of_ports, port_cuts}
-use Rattle.audit_core.proofs.OrderLemmas.{contains_cases, contains_first, contains_later, contains_none, in_order_same}
-use Rattle.audit_core.proofs.LeastProtocols.{protocol_leasts_same}
+use Rattle.audit_core.specs.Places.{leasts_of}
+use Rattle.audit_core.specs.inner.RangeCuts.{cuts_found, cuts_of_addresses, cuts_of_ports}
+use Rattle.audit_core.proofs.OrderLemmas.{contains_cases, contains_first, contains_later, contains_none}
+use Rattle.audit_core.proofs.RepresentativeLemmas.{among_same, represents_same, where_same}
 
 -- 1. Elements of lists that are joined.
 
@@ -52,25 +52,25 @@ cons_same x xs ys same d there = elim (contains_cases x xs d there) [
 
 -- 2. The same cuts make the same classes.
 
-cuts_same : {X : Type 0} (f : X → List ℕ) (xs ys : List X) → HaveSame xs ys → in_order (0 ∷ flat_map f xs) ≡ in_order (0 ∷ flat_map f ys)
-cuts_same f xs ys same =
-    in_order_same (0 ∷ flat_map f xs) (0 ∷ flat_map f ys)
-    (cons_same 0 (flat_map f xs) (flat_map f ys) (flat_map_same f xs ys (λ x. (same x).0)))
-    (cons_same 0 (flat_map f ys) (flat_map f xs) (flat_map_same f ys xs (λ x. (same x).1)))
+cuts_same : {X : Type 0} (f : X → List ℕ) (xs ys : List X) → HaveSame xs ys → HaveSame (0 ∷ flat_map f xs) (0 ∷ flat_map f ys)
+cuts_same f xs ys same d = (
+  cons_same 0 (flat_map f xs) (flat_map f ys) (flat_map_same f xs ys (λ x. (same x).0)) d,
+  cons_same 0 (flat_map f ys) (flat_map f xs) (flat_map_same f ys xs (λ x. (same x).1)) d,
+)
 
--- the least numbers of the classes of what is named
-abbrev pub leasts_by : Found → Leasts
-leasts_by found = record {
-  addresses = in_order (address_cuts found.addresses.items);
-  protocols = protocol_leasts found.protocols.items;
-  ports = in_order (port_cuts found.ports.items);
-}
+among_where : (xs ys : List ℕ) (limit : ℕ) → HaveSame xs ys → numbers_where (is_among xs) limit ≡ numbers_where (is_among ys) limit
+among_where xs ys limit same = where_same (is_among xs) (is_among ys) limit (among_same xs ys same)
 
-pub leasts_same : (found less : Found) → NameSame found less → leasts_by less ≡ leasts_by found
+represents_where : (xs ys : List ℕ) (limit : ℕ) → HaveSame xs ys → numbers_where (represents_protocol xs) limit ≡ numbers_where (represents_protocol ys) limit
+represents_where xs ys limit same = where_same (represents_protocol xs) (represents_protocol ys) limit (represents_same xs ys same)
+
+pub leasts_same : (found less : Found) → NameSame found less → leasts_of (cuts_found less) ≡ leasts_of (cuts_found found)
 leasts_same found less same =
-    let addresses = cuts_same cuts_of_addresses found.addresses.items less.addresses.items same.addresses in
-    let protocols = protocol_leasts_same found.protocols.items less.protocols.items (λ n. (same.protocols n).0) (λ n. (same.protocols n).1) in
-    let ports = cuts_same cuts_of_ports found.ports.items less.ports.items same.ports in
+    let old = cuts_found found in
+    let new = cuts_found less in
+    let addresses = among_where old.addresses new.addresses (2 ^ 32) (cuts_same cuts_of_addresses found.addresses.items less.addresses.items same.addresses) in
+    let protocols = represents_where old.protocols new.protocols (2 ^ 8) same.protocols in
+    let ports = among_where old.ports new.ports (2 ^ 16) (cuts_same cuts_of_ports found.ports.items less.ports.items same.ports) in
     sym (λ i. record { addresses = addresses i; protocols = protocols i; ports = ports i })
 
 -- 3. What is left of ranges in order where neighbours are the same.

@@ -5,13 +5,12 @@ pub mod ExpectedLaws
 pub mod FaultLaws
 pub mod FindingOnceLaws
 pub mod JudgingLemmas
-pub mod LeastProtocols
 pub mod LeastsLemmas
 pub mod NamedLemmas
 pub mod OrderLemmas
 pub mod PartLemmas
-pub mod ProtocolLemmas
 pub mod RangeLemmas
+pub mod RepresentativeLemmas
 pub mod RulesLaws
 pub mod RulesLemmas
 pub mod SearchLemmas

@@ -1,23 +1,16 @@
--- The least numbers of classes, in ascending order.
-use Rattle.std.specs.Prelude.{ℕ, ◌+◌, nat_lt, ◌==◌, if◌then◌else◌, Bool, true, false, zero, suc, List, [], ◌∷◌}
-use Rattle.std.specs.List.{list_any}
+-- Representatives of classes. A class of addresses or ports goes from a cut to the number before the next cut. A class of protocols
+-- is one protocol that is named, or it is all protocols that are not named. The least number of a class represents the class.
+use Rattle.std.specs.Prelude.{ℕ, ◌==◌, ◌||◌, Bool, List}
+use Rattle.std.specs.List.{filter, list_all, list_any, range_with_len}
 
--- numbers in ascending order, each once
-abbrev pub put_in : ℕ → List ℕ → List ℕ
-put_in c [] = c ∷ []
-put_in c (x ∷ xs) = if nat_lt c x then c ∷ x ∷ xs else (if c == x then x ∷ xs else x ∷ put_in c xs)
+-- The list contains the number.
+abbrev pub is_among : List ℕ → ℕ → Bool
+is_among numbers n = list_any (λ x. x == n) numbers
 
-abbrev pub in_order : List ℕ → List ℕ
-in_order [] = []
-in_order (c ∷ cs) = put_in c (in_order cs)
+-- The numbers below a limit for which a test is true, in ascending order.
+unfoldable pub numbers_where : (test : ℕ → Bool) → (limit : ℕ) → List ℕ
+numbers_where test limit = filter test (range_with_len 0 limit)
 
--- of k numbers from n on: those that are named and, unless one was found before, the first that is not
-unfoldable pub named_and_first : List ℕ → ℕ → ℕ → Bool → List ℕ
-named_and_first named zero n found = []
-named_and_first named (suc k) n found =
-    if list_any (λ x. x == n) named then n ∷ named_and_first named k (n + 1) found
-    else (if found then named_and_first named k (n + 1) true else n ∷ named_and_first named k (n + 1) true)
-
--- the least protocols of classes: each that is named, and the least other one, where there is one
-unfoldable pub protocol_leasts : List ℕ → List ℕ
-protocol_leasts named = named_and_first named 256 0 false
+-- A protocol represents its class if and only if it is named, or all protocols below it are named: then it is the least that is not named.
+abbrev pub represents_protocol : (named : List ℕ) → ℕ → Bool
+represents_protocol named n = is_among named n || list_all (is_among named) (range_with_len 0 n)

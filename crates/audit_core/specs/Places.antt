@@ -1,22 +1,22 @@
--- The packets of all classes, in their order, and how many there are.
-use Rattle.std.specs.Prelude.{◌≡◌, ◌⊎◌, ℕ, ◌*◌, ◌<◌, List, length}
+-- The packets that represent classes, their order, and the number of classes.
+use Rattle.std.specs.Prelude.{◌≡◌, ◌⊎◌, ℕ, ◌*◌, ◌^◌, ◌<◌, List, length}
 use Rattle.std.specs.List.{Contains}
 use Rattle.host_net.specs.declared.packet.Packet.{Packet}
-use Rattle.audit_core.specs.Classes.{in_order, protocol_leasts}
+use Rattle.audit_core.specs.Classes.{is_among, numbers_where, represents_protocol}
 use Rattle.audit_core.specs.Cuts.{Cuts, cuts_between}
 use Rattle.audit_core.specs.Sides.{Sides}
 
--- the least numbers of the classes of addresses, protocols and ports
+-- The representatives of the classes of addresses, protocols and ports.
 pub record Leasts : Type 0 where
   pub addresses : List ℕ
   pub protocols : List ℕ
   pub ports : List ℕ
 
--- how many classes of packets there are
+-- The number of classes of packets: a class is a pair of classes of addresses, a class of protocols and a pair of classes of ports.
 abbrev pub class_total : Leasts → ℕ
 class_total l = length l.ports * (length l.ports * (length l.protocols * (length l.addresses * length l.addresses)))
 
--- the packet has the least member of each of its five classes
+-- A packet represents its class: each of its five numbers is a representative.
 pub record IsClassPacket (l : Leasts) (p : Packet) : Type 0 where
   pub src : Contains l.addresses p.src
   pub dst : Contains l.addresses p.dst
@@ -32,11 +32,15 @@ comes_first a b Later = (a < b) ⊎ ((a ≡ b) × Later)
 abbrev pub ComesBefore : Packet → Packet → Type 0
 ComesBefore p q = comes_first p.src q.src (comes_first p.dst q.dst (comes_first p.proto q.proto (comes_first p.sport q.sport (p.dport < q.dport))))
 
--- the least numbers of the classes between cuts
+-- The representatives of all classes: the addresses that are cuts, the protocols that represent their classes, the ports that are cuts.
 abbrev pub leasts_of : Cuts → Leasts
-leasts_of cuts = record { addresses = in_order cuts.addresses; protocols = protocol_leasts cuts.protocols; ports = in_order cuts.ports }
+leasts_of cuts = record {
+  addresses = numbers_where (is_among cuts.addresses) (2 ^ 32);
+  protocols = numbers_where (represents_protocol cuts.protocols) (2 ^ 8);
+  ports = numbers_where (is_among cuts.ports) (2 ^ 16);
+}
 
--- how many classes of packets there are
+-- The number of classes of packets between two sides.
 unfoldable pub class_count : Sides → ℕ
 class_count sides = class_total (leasts_of (cuts_between sides))
 

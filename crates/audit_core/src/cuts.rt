@@ -1,18 +1,18 @@
 //! Where ranges cut addresses and ports into classes.
 
-ghost use Rattle.std.specs.Prelude.{◌≡◌, ◌++◌, IfOk, OnOk};
-ghost use Rattle.audit_core.specs.Classes.{in_order};
+ghost use Rattle.std.specs.Prelude.{◌≡◌, ◌++◌, ◌^◌, IfOk, OnOk};
+ghost use Rattle.audit_core.specs.Classes.{is_among, numbers_where};
 ghost use Rattle.audit_core.specs.inner.RangeCuts.{address_cuts, cuts_of_addresses, cuts_of_ports, port_cuts};
 
 use crate::named::{AddressRange, PortRange};
 use std::alloc::{AllocError, Global};
 
-/// The least address of each class, in ascending order.
-pub(crate) fn least_addresses(
+/// Returns the representatives of the classes of addresses that the ranges cut, in ascending order.
+pub(crate) fn address_representatives(
     alloc: Global,
     ranges: &[AddressRange],
 ) -> Result<Vec<u32>, AllocError>
-    ensures { IfOk result (λ leasts. leasts.items ≡ in_order (address_cuts ranges.now)) }
+    ensures { IfOk result (λ addresses. addresses.items ≡ numbers_where (is_among (address_cuts ranges.now)) (2 ^ 32)) }
 {
     let mut cuts = Vec::new(alloc);
     cuts.push(0)?;
@@ -23,9 +23,12 @@ pub(crate) fn least_addresses(
     Ok(cuts)
 }
 
-/// The least port of each class, in ascending order.
-pub(crate) fn least_ports(alloc: Global, ranges: &[PortRange]) -> Result<Vec<u16>, AllocError>
-    ensures { IfOk result (λ leasts. leasts.items ≡ in_order (port_cuts ranges.now)) }
+/// Returns the representatives of the classes of ports that the ranges cut, in ascending order.
+pub(crate) fn port_representatives(
+    alloc: Global,
+    ranges: &[PortRange],
+) -> Result<Vec<u16>, AllocError>
+    ensures { IfOk result (λ ports. ports.items ≡ numbers_where (is_among (port_cuts ranges.now)) (2 ^ 16)) }
 {
     let mut cuts = Vec::new(alloc);
     cuts.push(0)?;
@@ -56,17 +59,17 @@ fn push_ports(cuts: &mut Vec<u16>, range: PortRange) -> Result<(), AllocError>
     Ok(())
 }
 
-/// Sorts numbers, and keeps one of those that are equal.
+/// Sorts the addresses and removes duplicates.
 fn sort_addresses(numbers: &mut Vec<u32>)
-    ensures { numbers.new.items ≡ in_order numbers.old.items }
+    ensures { numbers.new.items ≡ numbers_where (is_among numbers.old.items) (2 ^ 32) }
 {
     numbers.sort_unstable();
     numbers.dedup();
 }
 
-/// The same for ports.
+/// Sorts the ports and removes duplicates.
 fn sort_ports(numbers: &mut Vec<u16>)
-    ensures { numbers.new.items ≡ in_order numbers.old.items }
+    ensures { numbers.new.items ≡ numbers_where (is_among numbers.old.items) (2 ^ 16) }
 {
     numbers.sort_unstable();
     numbers.dedup();

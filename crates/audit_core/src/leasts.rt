@@ -1,18 +1,17 @@
-//! The classes of packets: the least numbers of each, and how many there are.
+//! The representatives of the classes of packets, and the number of classes.
 
-ghost use Rattle.std.specs.Prelude.{◌≡◌, IfOk};
-ghost use Rattle.audit_core.specs.Classes.{in_order, protocol_leasts};
-ghost use Rattle.audit_core.specs.Places.{class_total};
+ghost use Rattle.std.specs.Prelude.{◌≡◌, ◌^◌, IfOk};
+ghost use Rattle.audit_core.specs.Classes.{numbers_where, represents_protocol};
+ghost use Rattle.audit_core.specs.Places.{class_total, leasts_of};
 ghost use Rattle.audit_core.specs.inner.Places.{AreLeasts};
-ghost use Rattle.audit_core.specs.inner.RangeCuts.{address_cuts, port_cuts};
-ghost use Rattle.audit_core.specs.inner.Searching.{ArePacketsAll};
+ghost use Rattle.audit_core.specs.inner.RangeCuts.{cuts_found};
 
-use crate::cuts::{least_addresses, least_ports};
+use crate::cuts::{address_representatives, port_representatives};
 use crate::named::Found;
 use std::alloc::{AllocError, Global};
 use std::marker::Model;
 
-/// The least numbers of the classes of addresses, protocols and ports.
+/// The representatives of the classes of addresses, protocols and ports, in ascending order.
 #[derive(Drop)]
 pub(crate) struct Leasts {
     pub(crate) addresses: Vec<u32>,
@@ -29,26 +28,21 @@ impl Model for Leasts {
 }
 
 impl Leasts {
-    /// The least numbers of the classes that these make.
+    /// Returns the representatives of the classes that the ranges and the protocols make.
     pub(crate) fn of(alloc: Global, found: &Found) -> Result<Leasts, AllocError>
-        ensures { IfOk result (λ leasts. leasts ≡ record {
-          addresses = in_order (address_cuts found.now.addresses.items);
-          protocols = protocol_leasts found.now.protocols.items;
-          ports = in_order (port_cuts found.now.ports.items);
-        }) }
+        ensures { IfOk result (λ leasts. leasts ≡ leasts_of (cuts_found found.now)) }
     {
         Ok(Leasts {
-            addresses: least_addresses(alloc, &found.addresses)?,
-            protocols: protocol_leasts(alloc, &found.protocols)?,
-            ports: least_ports(alloc, &found.ports)?,
+            addresses: address_representatives(alloc, &found.addresses)?,
+            protocols: protocol_representatives(alloc, &found.protocols)?,
+            ports: port_representatives(alloc, &found.ports)?,
         })
     }
 
-    /// How many classes there are.
+    /// Returns the number of classes of packets.
     pub(crate) fn total(&self) -> u128
         requires { AreLeasts self.now }
-        ensures count { result ≡ class_total self.now }
-        ensures packets { ArePacketsAll self.now }
+        ensures { result ≡ class_total self.now }
     {
         total(&self.addresses, &self.protocols, &self.ports)
     }
@@ -56,28 +50,27 @@ impl Leasts {
 
 fn total(addresses: &[u32], protocols: &[u8], ports: &[u16]) -> u128
     requires { AreLeasts (record { addresses = addresses.now; protocols = protocols.now; ports = ports.now }) }
-    ensures count { result ≡ class_total (record { addresses = addresses.now; protocols = protocols.now; ports = ports.now }) }
-    ensures packets { ArePacketsAll (record { addresses = addresses.now; protocols = protocols.now; ports = ports.now }) }
+    ensures { result ≡ class_total (record { addresses = addresses.now; protocols = protocols.now; ports = ports.now }) }
 {
     let pairs = addresses.len() as u128 * addresses.len() as u128;
     let ends = ports.len() as u128;
     ends * (ends * (protocols.len() as u128 * pairs))
 }
 
-/// The protocols that are named and the least other one, in ascending order.
-fn protocol_leasts(alloc: Global, named: &[u8]) -> Result<Vec<u8>, AllocError>
-    ensures { IfOk result (λ leasts. leasts.items ≡ protocol_leasts named.now) }
+/// Returns the representatives of the classes of protocols, in ascending order.
+fn protocol_representatives(alloc: Global, named: &[u8]) -> Result<Vec<u8>, AllocError>
+    ensures { IfOk result (λ protocols. protocols.items ≡ numbers_where (represents_protocol named.now) (2 ^ 8)) }
 {
-    let mut leasts = Vec::new(alloc);
-    let mut found = false;
+    let mut protocols = Vec::new(alloc);
+    let mut all_named = true;
     for number in 0..256u16 {
         let protocol = number as u8;
         if named.contains(&protocol) {
-            leasts.push(protocol)?;
-        } else if !found {
-            leasts.push(protocol)?;
-            found = true;
+            protocols.push(protocol)?;
+        } else if all_named {
+            protocols.push(protocol)?;
+            all_named = false;
         }
     }
-    Ok(leasts)
+    Ok(protocols)
 }

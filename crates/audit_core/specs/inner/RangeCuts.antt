@@ -1,8 +1,10 @@
 -- Where the code's ranges cut. Callers see none of it; they have `Cuts`.
 use Rattle.std.specs.Prelude.{ℕ, ◌^◌, List, ◌∷◌}
 use Rattle.std.specs.List.{flat_map}
+use Rattle.audit_core.specs.declared.named.Found.{Found}
 use Rattle.audit_core.specs.declared.named.PortRange.{PortRange}
 use Rattle.audit_core.specs.declared.named.AddressRange.{AddressRange}
+use Rattle.audit_core.specs.Cuts.{Cuts}
 use Rattle.audit_core.specs.Ranges.{range_cuts}
 
 abbrev pub cuts_of_addresses : AddressRange → List ℕ
@@ -17,3 +19,11 @@ address_cuts ranges = 0 ∷ flat_map cuts_of_addresses ranges
 
 abbrev pub port_cuts : List PortRange → List ℕ
 port_cuts ranges = 0 ∷ flat_map cuts_of_ports ranges
+
+-- The cuts by the ranges that were found, and the protocols that were found.
+abbrev pub cuts_found : Found → Cuts
+cuts_found found = record {
+  addresses = address_cuts found.addresses.items;
+  protocols = found.protocols.items;
+  ports = port_cuts found.ports.items;
+}
