@@ -1,6 +1,6 @@
 -- Where no flow is narrowed, services change nothing: between two prefixes stands one entry, or none, and answers are covered where they are permitted.
 use Rattle.std.proofs.Common.{◌≡◌, ◌↔◌, ℕ, Bool, true, false, List, [], ◌∷◌, ◌++◌, Option, Some, None, map, refl, sym, ap, ◌∙◌}
-use Rattle.std.specs.Prelude.{IsTrue, if◌then◌else◌}
+use Rattle.std.specs.Prelude.{IsTrue}
 use Rattle.std.specs.List.{flat_map}
 use Rattle.std.proofs.Math.Bool.{and-true}
 use Rattle.host_net.specs.declared.prefix.Prefix.{Prefix}
@@ -11,7 +11,7 @@ use Rattle.flow_set.specs.Flow.{back_of}
 use Rattle.flow_set.specs.FlowSet.{has}
 use Rattle.ofp_rules.specs.declared.entry.Action.TheVariants.{Normal}
 use Rattle.ofp_rules.specs.declared.entry.Entry.{Entry}
-use Rattle.emit_core.specs.FlowTable.{ip_entry, for_each_host, rest_drop, pair_entries, between, to_rest_host, from_rest_host, with_rest, arp_entry, other_entry, flow_entries}
+use Rattle.emit_core.specs.FlowTable.{ip_entry, for_each_host, pair_entries, between, to_rest_host, from_rest_host, with_rest, arp_entry, other_entry, flow_entries}
 use Rattle.emit_core.specs.FlowTableEvents.{is_covered, AnswersAreCovered}
 use Rattle.emit_core.specs.Sides.{permits}
 use Rattle.emit_core.specs.inner.UnnarrowedFlowTable.{whole_pair, whole_between, whole_to_rest, whole_from_rest, whole_with_rest, whole_entries}
