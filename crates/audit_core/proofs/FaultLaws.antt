@@ -1,7 +1,7 @@
 -- Faults of packets: what tells that there is one, and that there is none.
-use Rattle.std.proofs.Common.{◌≡◌, ◌≢◌, ◌↔◌, ℕ, ◌+◌, ◌≤◌, ◌<◌, ◌^◌, Bool, true, false, IsTrue, refl, sym, subst, ◌∙◌, true≢false, arith}
+use Rattle.std.proofs.Common.{◌≡◌, ◌≢◌, ◌↔◌, ℕ, ◌+◌, ◌≤◌, ◌<◌, ◌^◌, Bool, true, false, IsTrue, List, Option, Some, None, refl, sym, subst, ◌∙◌, true≢false, arith}
 use Rattle.std.proofs.Math.Bool.{beq}
-use Rattle.std.specs.Prelude.{not}
+use Rattle.std.specs.Prelude.{not, IfSome}
 use Rattle.host_net.specs.declared.packet.Packet.{Packet}
 use Rattle.host_net.specs.declared.packet.CtState.{CtState}
 use Rattle.host_net.specs.Packet.{IsPacket}
@@ -10,8 +10,13 @@ use Rattle.pkt_core.specs.Firewall.{may_pass}
 use Rattle.audit_core.specs.declared.kind.Kind.{Kind}
 use Rattle.audit_core.specs.declared.kind.Kind.TheVariants.{Alone, BehindSwap, BehindBoth}
 use Rattle.audit_core.specs.Findings.{trace_of}
-use Rattle.audit_core.specs.Rules.{filter_of}
-use Rattle.audit_core.specs.Sides.{Sides, lets_answer, permits}
+use Rattle.header_space.specs.declared.packet_box.PacketBox.{PacketBox}
+use Rattle.host_net.specs.Verdict.{verdict_if}
+use Rattle.ipt_rules.specs.Chain.{Chain}
+use Rattle.ipt_rules.specs.Slices.{HaveSameVerdicts as HaveSameChainVerdicts}
+use Rattle.audit_core.specs.Rules.{Rules, Chains, filter_of}
+use Rattle.audit_core.specs.Sides.{Sides, lets_answer, permits, sides_of}
+use Rattle.audit_core.specs.inner.Parts.{HaveSameFaults, HaveSameVerdicts}
 use Rattle.audit_core.specs.inner.Faults.{IsExpected, IsFault, SaysOther}
 use Rattle.audit_core.specs.inner.Judging.{Right, Wrong, is_asked, state_in}
 use Rattle.audit_core.specs.inner.Rules.{GivesOne}
@@ -99,3 +104,19 @@ pub trace_forwards : (kind : Kind) (p : Packet) (f : Bool) → (trace_of kind p 
 trace_forwards Alone p f = refl
 trace_forwards BehindSwap p f = refl
 trace_forwards BehindBoth p f = refl
+
+-- ---- rules that say the same of the packets of a box
+
+pub same_faults : (b : PacketBox) (sides : Sides) (rules : Rules) → HaveSameVerdicts b sides.rules rules
+    → HaveSameFaults b sides (sides_of sides.site sides.permitted sides.stateful rules)
+same_faults b sides rules same = λ p inside kind. (
+  (λ fault. (fault.0, record { asked = fault.1.asked; said = (same p inside (state_in kind) fault.0).1 fault.1.said; wrong = fault.1.wrong })),
+  (λ fault. (fault.0, record { asked = fault.1.asked; said = (same p inside (state_in kind) fault.0).0 fault.1.said; wrong = fault.1.wrong })),
+)
+
+pub same_chains : (b : PacketBox) (xs ys : List Chain) → HaveSameChainVerdicts b xs ys → HaveSameVerdicts b (Chains xs) (Chains ys)
+same_chains b xs ys same = λ p inside state passes. same p inside state (verdict_if passes)
+
+pub same_slice : (b : PacketBox) (xs : List Chain) (slice : Option (List Chain)) → IfSome slice (HaveSameChainVerdicts b xs) → IfSome slice (λ ys. HaveSameVerdicts b (Chains xs) (Chains ys))
+same_slice b xs None same = same
+same_slice b xs (Some ys) same = same_chains b xs ys same

@@ -10,6 +10,7 @@ mod kind;
 mod laws;
 mod leasts;
 mod named;
+mod part;
 mod policy_box;
 mod report;
 mod sides;

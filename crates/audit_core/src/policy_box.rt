@@ -23,9 +23,10 @@ pub(crate) fn is_of_within(policy: &FlowPolicy<'_>, flows: &FlowSet, within: &mu
     ensures part { Narrows within.old within.new }
     ensures alike { (p : Packet) → IsIn within.new p → is_of policy.now.site flows.now.flows p ≡ result }
 {
-    let from = source_owner(policy.hosts(), within);
-    let to = destination_owner(policy.hosts(), within);
-    let (Some(from), Some(to)) = (from, to) else {
+    let Some(from) = source_owner(policy.hosts(), within) else {
+        return false;
+    };
+    let Some(to) = destination_owner(policy.hosts(), within) else {
         return false;
     };
     from != to

@@ -1,16 +1,18 @@
 //! The rules that are audited: those of a packet filter, or those of a switch.
 
-ghost use Rattle.std.specs.Prelude.{◌≡◌};
+ghost use Rattle.std.specs.Prelude.{◌≡◌, IfOk, IfSome};
 ghost use Rattle.host_net.specs.declared.packet.Packet.{Packet};
 ghost use Rattle.header_space.specs.Boxes.{IsBox, IsIn, Narrows};
-ghost use Rattle.audit_core.specs.Rules.{filter_of};
+ghost use Rattle.audit_core.specs.Rules.{Chains, filter_of};
+ghost use Rattle.audit_core.specs.inner.Parts.{HaveSameVerdicts};
 ghost use Rattle.audit_core.specs.inner.Rules.{GivesOne};
 ghost use Rattle.audit_core.specs.inner.RulesView.{rules_of};
 
 use header_space::PacketBox;
 use host_net::{CtState, Packet};
-use ipt_rules::Ruleset;
+use ipt_rules::{Ruleset, Slice};
 use ofp_rules::{Frame, Table};
+use std::alloc::{AllocError, Global};
 
 /// A rules text, as what it says.
 #[derive(Clone, Copy)]
@@ -42,6 +44,20 @@ impl<'a> Text<'a> {
         match self {
             Text::Ipt(rules) => rules.verdict_within(within, state).is_forward(),
             Text::Ofp(table) => table.verdict_within(within).is_forward(),
+        }
+    }
+
+    /// Returns the slice of the rules for the packets of a box, if there is one that is worth its cost.
+    pub(crate) fn slice(
+        &self,
+        alloc: Global,
+        within: &PacketBox,
+    ) -> Result<Option<Slice>, AllocError>
+        ensures { IfOk result (λ slice. IfSome slice (λ chains. HaveSameVerdicts within.now (rules_of self.now) (Chains chains))) }
+    {
+        match self {
+            Text::Ipt(rules) => rules.slice(alloc, within),
+            Text::Ofp(_) => Ok(None),
         }
     }
 

@@ -1,4 +1,6 @@
 pub mod BoxLaws
+pub mod CutLaws
+pub mod MayFitLaws
 pub mod NarrowLaws
 pub mod SeekLaws
 pub mod SplitLaws

@@ -16,14 +16,14 @@ Tells asked first alike = (n : ℕ) → first ≤ n → n ≤ alike.last → fie
 and_all : (a b c d e : Bool) → a ≡ true → b ≡ true → c ≡ true → d ≡ true → e ≡ true → (a && (b && (c && (d && e)))) ≡ true
 and_all a b c d e one two three four five = λ i. one i && (two i && (three i && (four i && five i)))
 
-first_false : (a b : Bool) → a ≡ false → (a && b) ≡ false
+pub first_false : (a b : Bool) → a ≡ false → (a && b) ≡ false
 first_false a b is = ap (λ (x : Bool). x && b) is
 
 and_false : (a : Bool) → (a && false) ≡ false
 and_false true = refl
 and_false false = refl
 
-second_false : (a b : Bool) → b ≡ false → (a && b) ≡ false
+pub second_false : (a b : Bool) → b ≡ false → (a && b) ≡ false
 second_false a b is = ap (λ (x : Bool). a && x) is ∙ and_false a
 
 known : (asked : Option FieldMatch) (first n : ℕ) (alike : End) (b : Bool) → Tells asked first alike → alike.fits ≡ b → Known first alike n → field_fits asked n ≡ b

@@ -8,7 +8,7 @@ use Rattle.header_space.specs.declared.packet_box.PacketBox.{PacketBox}
 use Rattle.header_space.specs.Boxes.{IsBox, IsIn}
 use Rattle.header_space.specs.inner.Splitting.{AreWithin, IsAmong, IsWithin, Splits, behind_dport, behind_dst, behind_proto, behind_sport, behind_src, volume, volumes, width, with_dport, with_dst, with_proto, with_sport, with_src}
 
-le_or_lt : (a b : ℕ) → (a ≤ b) ⊎ (b < a)
+pub le_or_lt : (a b : ℕ) → (a ≤ b) ⊎ (b < a)
 le_or_lt a b = elim (leb_tells a b) [ inl h ↦ inl h.1 | inr h ↦ inr h.1 ]
 
 -- ---- boxes that are put to those that wait

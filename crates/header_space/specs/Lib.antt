@@ -1,4 +1,5 @@
 pub mod Boxes
+pub mod Cuts
 pub mod Matching
 pub mod Order
 pub mod Searching

@@ -4,7 +4,7 @@
 ghost use Rattle.std.specs.Prelude.{◌≡◌, ◌≤◌, ◌<◌, ◌^◌, ℕ, true, false};
 ghost use Rattle.host_net.specs.declared.packet.Packet.{Packet};
 ghost use Rattle.header_space.specs.Boxes.{IsBox, IsIn, Narrows};
-ghost use Rattle.header_space.specs.Matching.{field_fits, fits, range_fits};
+ghost use Rattle.header_space.specs.Matching.{field_fits, field_may_fit, fits, may_fit, range_fits, range_may_fit};
 ghost use Rattle.header_space.specs.inner.Narrowing.{AllFit, AreEnds, OneFails};
 
 use crate::packet_box::PacketBox;
@@ -72,6 +72,26 @@ fn alike_by(asked: FieldMatch, first: u32, last: u32) -> End
     }
 }
 
+/// Whether a number of an interval may fit.
+fn field_may_fit(asked: Option<FieldMatch>, first: u32, last: u32) -> bool
+    ensures { result ≡ field_may_fit asked first last }
+{
+    match asked {
+        None => true,
+        Some(asked) => range_may_fit(asked, first, last),
+    }
+}
+
+fn range_may_fit(asked: FieldMatch, first: u32, last: u32) -> bool
+    ensures { result ≡ range_may_fit asked first last }
+{
+    if asked.negated {
+        first < asked.low || asked.high < last
+    } else {
+        first <= asked.high && asked.low <= last
+    }
+}
+
 /// Whether no number up to the last fits.
 fn rules_out(alike: End, last: u32) -> bool
     ensures { result ≡ true → (alike.fits ≡ false) × (alike.last ≡ last) }
@@ -87,6 +107,20 @@ struct Ends {
     proto: End,
     sport: End,
     dport: End,
+}
+
+impl HeaderMatch {
+    /// Whether a packet of the box may fit: each field has a number that fits.
+    pub fn may_fit(&self, within: &PacketBox) -> bool
+        ensures { result ≡ may_fit self.now within.now }
+    {
+        let (least, greatest) = (within.least, within.greatest);
+        field_may_fit(self.src, least.src, greatest.src)
+            && field_may_fit(self.dst, least.dst, greatest.dst)
+            && field_may_fit(self.proto, least.proto as u32, greatest.proto as u32)
+            && field_may_fit(self.sport, least.sport as u32, greatest.sport as u32)
+            && field_may_fit(self.dport, least.dport as u32, greatest.dport as u32)
+    }
 }
 
 impl PacketBox {

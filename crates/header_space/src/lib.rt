@@ -2,12 +2,14 @@
 //! holds.
 #![tactic(auto)]
 
+mod cut;
 mod header_match;
 mod order;
 mod packet_box;
 mod search;
 mod split;
 
+pub use cut::Cut;
 pub use header_match::{FieldMatch, HeaderMatch};
 pub use packet_box::PacketBox;
 pub use search::{Question, least_where};

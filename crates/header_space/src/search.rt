@@ -2,20 +2,29 @@
 //! packet and narrowed until all of its packets are judged alike; what is left of it is split into
 //! boxes that wait. Boxes whose least packet does not come before the one that is found are passed over.
 
-ghost use Rattle.std.specs.Prelude.{◌↔◌, Bool, IsTrue, IfOk};
+ghost use Rattle.std.specs.Prelude.{◌↔◌, Bool, IsTrue, IfOk, IfSome};
 ghost use Rattle.host_net.specs.declared.packet.Packet.{Packet};
 ghost use Rattle.header_space.specs.Boxes.{IsBox, IsIn, Narrows};
+ghost use Rattle.header_space.specs.Cuts.{IsCutOf};
 ghost use Rattle.header_space.specs.Searching.{IsLeastWhere};
+ghost use Rattle.header_space.specs.inner.Cutting.{Improves};
 ghost use Rattle.header_space.specs.inner.Splitting.{Tries};
 
+use crate::cut::{Cut, lower, upper};
 use crate::order::{found_then, is_earlier};
 use crate::packet_box::PacketBox;
 use crate::split::split;
 use host_net::Packet;
 use std::alloc::{AllocError, Global};
 
+/// The most cuts of one box into another. Halving at the middle boundary needs far fewer.
+const DEPTH_LIMIT: u32 = 64;
+
+/// After so many restrictions in a row that were not worth their cost, none is tried any more.
+const TRIES: u32 = 3;
+
 /// A question about packets, which is answered for boxes of them.
-pub trait Question {
+pub trait Question: Sized + Drop {
     ghost holds_of: { Self → Packet → Type 0 };
 
     /// Whether it holds of the least packet of a box. The box is narrowed, so that this is the answer
@@ -24,10 +33,95 @@ pub trait Question {
         requires { IsBox within.old }
         ensures part { Narrows within.old within.new }
         ensures alike { (p : Packet) → IsIn within.new p → (IsTrue result ↔ holds_of self.now p) };
+
+    /// Returns the question for the packets of a box alone, if this makes it cheaper to ask. It holds of
+    /// the same packets of the box.
+    fn restrict(&self, alloc: Global, within: &PacketBox) -> Result<Option<Self>, AllocError>
+        requires { IsBox within.now }
+        ensures { IfOk result (λ part. IfSome part (λ part. (p : Packet) → IsIn within.now p → (holds_of part p ↔ holds_of self.now p))) };
+
+    /// Returns where a box is cut before the question is asked, or None if it is asked of the whole box.
+    fn cut(&self, within: &PacketBox) -> Option<Cut>
+        ensures { IfSome result (IsCutOf within.now) };
 }
 
-/// The least packet of a box of which it holds, if there is one.
+/// Returns the least packet of a box of which it holds, or None if it holds of none.
 pub fn least_where<Q: Question>(
+    alloc: Global,
+    question: &Q,
+    whole: PacketBox,
+) -> Result<Option<Packet>, AllocError>
+    requires { IsBox whole }
+    ensures { IfOk result (IsLeastWhere (Q.holds_of question.now) whole) }
+{
+    least_after(alloc, question, whole, None, DEPTH_LIMIT, TRIES)
+}
+
+/// Searches a box for a packet that comes before the one found so far. Cuts the box, at most `depth` times
+/// one into the other, and restricts the question to the parts. Stops to cut after so many restrictions in
+/// a row that were not worth their cost.
+fn least_after<Q: Question>(
+    alloc: Global,
+    question: &Q,
+    whole: PacketBox,
+    found: Option<Packet>,
+    depth: u32,
+    tries: u32,
+) -> Result<Option<Packet>, AllocError>
+    requires { IsBox whole }
+    ensures { IfOk result (Improves (Q.holds_of question.now) whole found) }
+{
+    if !is_earlier(&whole.least, found) {
+        return Ok(found);
+    }
+    if depth == 0 || tries == 0 {
+        return search_after(alloc, question, whole, found);
+    }
+    if let Some(part) = question.restrict(alloc, &whole)? {
+        return least_after(alloc, &part, whole, found, depth - 1, TRIES);
+    }
+    let Some(cut) = question.cut(&whole) else {
+        return search_after(alloc, question, whole, found);
+    };
+    let first = least_after(
+        alloc,
+        question,
+        lower(whole, cut),
+        found,
+        depth - 1,
+        tries - 1,
+    )?;
+    least_after(
+        alloc,
+        question,
+        upper(whole, cut),
+        first,
+        depth - 1,
+        tries - 1,
+    )
+}
+
+/// Searches a box, without cuts, for a packet that comes before the one found so far.
+fn search_after<Q: Question>(
+    alloc: Global,
+    question: &Q,
+    whole: PacketBox,
+    found: Option<Packet>,
+) -> Result<Option<Packet>, AllocError>
+    requires { IsBox whole }
+    ensures { IfOk result (Improves (Q.holds_of question.now) whole found) }
+{
+    match search(alloc, question, whole)? {
+        None => Ok(found),
+        Some(least) => {
+            let earlier = is_earlier(&least, found);
+            Ok(found_then(earlier, least, found))
+        }
+    }
+}
+
+/// Returns the least packet of a box of which it holds, without cuts.
+fn search<Q: Question>(
     alloc: Global,
     question: &Q,
     whole: PacketBox,

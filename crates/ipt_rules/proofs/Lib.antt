@@ -13,6 +13,7 @@ pub mod RankLemmas
 pub mod RuleLemmas
 pub mod SayingLaws
 pub mod SearchLemmas
+pub mod SliceLaws
 pub mod StartLemmas
 pub mod TableLaws
 pub mod TableLemmas

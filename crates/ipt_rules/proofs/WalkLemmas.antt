@@ -21,7 +21,7 @@ use Rattle.ipt_rules.specs.Meaning.{RuleStep, GoesOn, Ends, Walks, step_of, Give
 use Rattle.ipt_rules.specs.inner.OneOutcome.{EachGivesOne}
 use Rattle.ipt_rules.specs.inner.Walking.{GivesAlso}
 
-rules_at : (rules : List Rule) (i : ℕ) (r : Rule) → i < length rules → r ≡ get_or rules i r → drop i rules ≡ r ∷ drop (i + 1) rules
+pub rules_at : (rules : List Rule) (i : ℕ) (r : Rule) → i < length rules → r ≡ get_or rules i r → drop i rules ≡ r ∷ drop (i + 1) rules
 rules_at rules i r h is = rw (add-one i) (drop-cons rules i r h ∙ ap (λ y. y ∷ drop (suc i) rules) (sym is))
 
 module _ (fits : Rule → Bool) (chains : List Chain) (rules : List Rule) (i : ℕ) (r : Rule) (h : i < length rules) (is : r ≡ get_or rules i r) (also : GivesAlso fits chains (drop i rules) rules) where

@@ -6,5 +6,6 @@ pub mod Meaning
 pub mod Name
 pub mod RuleParts
 pub mod Rules
+pub mod Slices
 pub mod Text
 pub mod inner

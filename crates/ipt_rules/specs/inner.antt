@@ -10,6 +10,7 @@ pub mod Ranked
 pub mod Ranks
 pub mod RuleParts
 pub mod Saying
+pub mod Slicing
 pub mod Starts
 pub mod WalkView
 pub mod Walking

@@ -15,7 +15,7 @@ ghost use Rattle.ipt_rules.specs.inner.BoxWalking.{AllGive, AllStopAt, AllReturn
 use crate::chain::Chain;
 use crate::rule::Rule;
 use crate::ruleset::CHAIN_LIMIT;
-use crate::walk::{FEW_CHAINS, NoRoom, Step, Stop, Walk, returns_at, rules_of, step_by};
+use crate::walk::{FEW_CHAINS, FEW_WALKS, NoRoom, Step, Stop, Walk, returns_at, rules_of, step_by};
 use arrayvec::ArrayVec;
 use header_space::PacketBox;
 use host_net::{CtState, Verdict};
@@ -102,6 +102,28 @@ fn outcome_among<const N: usize, const D: usize>(
     Ok(None)
 }
 
+/// What a chain gives the packets of a box from its first rule, with room for a few walks.
+fn outcome_soon(
+    chains: &[Chain],
+    number: u16,
+    within: &mut PacketBox,
+    state: CtState,
+) -> Result<Option<Verdict>, NoRoom>
+    requires there { number < length chains.now }
+    requires few_chains { length chains.now ≤ 4096 }
+    requires few_rules { rule_count chains.now ≤ 1000000 }
+    requires ranking { HasRanking chains.now }
+    requires is_box { IsBox within.old }
+    ensures part { IfOk result (λ _. Narrows within.old within.new) }
+    ensures given { IfOk result (AllGive state within.new chains.now number) }
+{
+    if chains.len() <= FEW_CHAINS {
+        outcome_among::<FEW_CHAINS, FEW_WALKS>(chains, number, within, state)
+    } else {
+        outcome_among::<CHAIN_LIMIT, FEW_WALKS>(chains, number, within, state)
+    }
+}
+
 /// What a chain gives the packets of a box from its first rule.
 pub(crate) fn outcome_within(
     chains: &[Chain],
@@ -117,10 +139,14 @@ pub(crate) fn outcome_within(
     ensures part { Narrows within.old within.new }
     ensures given { AllGive state within.new chains.now number result }
 {
-    let outcome = if chains.len() <= FEW_CHAINS {
-        outcome_among::<FEW_CHAINS, FEW_CHAINS>(chains, number, within, state)
-    } else {
-        outcome_among::<CHAIN_LIMIT, CHAIN_LIMIT>(chains, number, within, state)
-    };
-    outcome.unwrap()
+    let mut narrowed = *within;
+    match outcome_soon(chains, number, &mut narrowed, state) {
+        Ok(outcome) => {
+            *within = narrowed;
+            outcome
+        }
+        Err(NoRoom) => {
+            outcome_among::<CHAIN_LIMIT, CHAIN_LIMIT>(chains, number, within, state).unwrap()
+        }
+    }
 }

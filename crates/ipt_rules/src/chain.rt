@@ -83,6 +83,13 @@ impl Chain {
         }
     }
 
+    /// The same chain without rules.
+    pub(crate) fn emptied(&self, alloc: Global) -> Chain
+        ensures { result ≡ record { name = self.now.name; policy = self.now.policy; rules = [] } }
+    {
+        Chain::new(alloc, self.head)
+    }
+
     pub(crate) fn name(&self) -> &[u8]
         ensures value { result.now ≡ self.now.name }
         ensures short { length result.now ≤ 64 }

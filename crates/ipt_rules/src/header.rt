@@ -1,9 +1,10 @@
 //! What rules ask of the fields of headers, and which packets of a box they fit.
 
-ghost use Rattle.std.specs.Prelude.{◌≡◌, ◌&&◌, ℕ};
+ghost use Rattle.std.specs.Prelude.{◌≡◌, ◌&&◌, ℕ, false};
 ghost use Rattle.host_net.specs.declared.packet.Packet.{Packet};
 ghost use Rattle.header_space.specs.Boxes.{IsBox, IsIn, Narrows};
 ghost use Rattle.header_space.specs.Matching.{field_fits, fits};
+ghost use Rattle.ipt_rules.specs.inner.Slicing.{FitsNone};
 ghost use Rattle.ipt_rules.specs.Matching.{matches, address_matches, port_matches, protocol_matches, state_matches};
 
 use crate::rule::{AddrMatch, PortMatch, ProtoMatch, Rule, state_matches};
@@ -22,6 +23,13 @@ impl Rule {
             return false;
         }
         within.narrow_by(&self.header())
+    }
+
+    /// Whether it may fit a packet of the box, in some state.
+    pub(crate) fn may_match(&self, within: &PacketBox) -> bool
+        ensures { result ≡ false → FitsNone within.now self.now }
+    {
+        self.header().may_fit(within)
     }
 
     /// What it asks of the fields of a header.

@@ -14,10 +14,12 @@ mod name;
 mod next;
 mod pieces;
 mod ranking;
+mod reached;
 mod rule;
 mod rules;
 mod ruleset;
 mod services;
+mod slice;
 mod starts;
 mod text;
 mod verdicts;
@@ -31,3 +33,4 @@ pub use rule::{
     AddrMatch, Policy, PortMatch, ProtoMatch, Rule, StateMatch, Target, address_matches,
 };
 pub use ruleset::{BuildRefusal, CHAIN_LIMIT, FORWARD, INPUT, OUTPUT, RULE_LIMIT, Ruleset};
+pub use slice::Slice;

@@ -28,7 +28,7 @@ use host_net::{Covers, CtState, Packet, Verdict};
 pub(crate) const FEW_CHAINS: usize = 259;
 
 /// Seldom do more walks than these wait at once. For no more of them a packet needs less room as well.
-const FEW_WALKS: usize = 16;
+pub(crate) const FEW_WALKS: usize = 16;
 
 /// What one rule does with a packet: it goes on to the next rule, decides, returns from its chain, or
 /// walks another chain.

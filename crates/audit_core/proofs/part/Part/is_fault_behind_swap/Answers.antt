@@ -6,7 +6,7 @@ use Rattle.pkt_core.specs.FlowPolicy.{is_of}
 use Rattle.audit_core.specs.declared.kind.Kind.TheVariants.{BehindSwap}
 use Rattle.audit_core.specs.Sides.{Sides, permits}
 use Rattle.audit_core.proofs.FaultLaws.{fault_by}
-use Rattle.audit_core.proofs.sides.Sides.is_fault_behind_swap.Goals as goal
+use Rattle.audit_core.proofs.part.Part.is_fault_behind_swap.Goals as goal
 
 pub returns-clause-alike : goal.returns-clause-alike
 returns-clause-alike c = λ p inside.

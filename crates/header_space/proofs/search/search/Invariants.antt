@@ -1,5 +1,5 @@
 use Rattle.header_space.specs.inner.Splitting.{Seeks, volumes}
-use Rattle.header_space.proofs.search.least_where.Given as goal
+use Rattle.header_space.proofs.search.search.Given as goal
 
 abbrev pub invariant-loop-next : goal.invariant-loop-next
 invariant-loop-next g l = Seeks (g.Q.Question.holds_of l.question) l.fn.whole l.boxes.items l.found

@@ -4,7 +4,7 @@ use Rattle.audit_core.specs.declared.kind.Kind.TheVariants.{Alone}
 use Rattle.audit_core.specs.Sides.{lets_answer, permits}
 use Rattle.audit_core.proofs.FaultLaws.{fault_by}
 use Rattle.audit_core.proofs.JudgingLemmas.{says_new}
-use Rattle.audit_core.proofs.sides.Sides.is_fault_alone.Goals as goal
+use Rattle.audit_core.proofs.part.Part.is_fault_alone.Goals as goal
 
 pub returns-clause-alike : goal.returns-clause-alike
 returns-clause-alike c = λ p inside.

@@ -5,7 +5,7 @@ use Rattle.audit_core.specs.declared.kind.Kind.TheVariants.{BehindBoth}
 use Rattle.audit_core.specs.Sides.{lets_answer, permits}
 use Rattle.audit_core.proofs.FaultLaws.{fault_by}
 use Rattle.audit_core.proofs.JudgingLemmas.{says_established}
-use Rattle.audit_core.proofs.sides.Sides.is_fault_behind_both.Goals as goal
+use Rattle.audit_core.proofs.part.Part.is_fault_behind_both.Goals as goal
 
 pub returns-clause-alike : goal.returns-clause-alike
 returns-clause-alike c = λ p inside.

@@ -1,0 +1,200 @@
+//! The two sides as they are compared for the packets of a box: rules that can decide none of them may be
+//! left out.
+
+ghost use Rattle.std.specs.Prelude.{◌≡◌, ◌↔◌, ◌≤◌, ◌<◌, Bool, IsTrue, IfOk, IfSome};
+ghost use Rattle.host_net.specs.declared.packet.Packet.{Packet};
+ghost use Rattle.header_space.specs.Boxes.{IsBox, IsIn, Narrows};
+ghost use Rattle.header_space.specs.Cuts.{IsCutOf};
+ghost use Rattle.audit_core.specs.inner.Faults.{IsExpected, IsFault, SaysOther};
+ghost use Rattle.audit_core.specs.inner.Rules.{GivesOne};
+ghost use Rattle.audit_core.specs.inner.Parts.{HaveSameFaults, HaveSameVerdicts};
+ghost use Rattle.audit_core.specs.Rules.{Chains, filter_of};
+ghost use Rattle.audit_core.specs.Sides.{permits};
+
+use crate::kind::Kind;
+use crate::policy_box::{answers_are_of_within, is_of_within};
+use crate::sides::Sides;
+use crate::text::Text;
+use header_space::{Cut, PacketBox};
+use host_net::CtState;
+use ipt_rules::Slice;
+use pkt_core::FlowPolicy;
+use std::alloc::{AllocError, Global};
+use std::marker::Model;
+
+/// The two sides, with all rules or with those of a slice.
+#[derive(Drop)]
+pub(crate) struct Part<'a> {
+    policy: &'a FlowPolicy<'a>,
+    text: Text<'a>,
+    slice: Option<Slice>,
+}
+
+impl<'a> Model for Part<'a> {
+    ghost use Rattle.audit_core.specs.Rules.{filter_of};
+    ghost use Rattle.audit_core.specs.inner.Rules.{GivesOne};
+    ghost use Rattle.audit_core.specs.inner.RulesView.{part_rules};
+    ghost use Rattle.audit_core.specs.Sides.{Sides, sides_of};
+
+    ghost Value = { Sides };
+
+    ghost view = { λ s. sides_of s.policy.now.site s.policy.now.permitted s.policy.now.stateful (part_rules s.text s.slice) };
+
+    ghost invariant = { λ s. GivesOne (filter_of (part_rules s.text s.slice)) };
+}
+
+impl<'a> Part<'a> {
+    /// The sides with all rules.
+    pub(crate) fn whole(sides: &Sides<'a>) -> Part<'a>
+        ensures { result ≡ sides.now }
+    {
+        Part {
+            policy: sides.policy,
+            text: sides.text,
+            slice: None,
+        }
+    }
+
+    /// Returns the sides with the slice of the rules for the packets of a box, if it is worth its cost.
+    pub(crate) fn restrict(
+        &self,
+        alloc: Global,
+        within: &PacketBox,
+    ) -> Result<Option<Part<'a>>, AllocError>
+        ensures { IfOk result (λ part. IfSome part (HaveSameFaults within.now self.now)) }
+    {
+        match self.slice(alloc, within)? {
+            None => Ok(None),
+            Some(slice) => {
+                // This tells that a packet passes by the slice or does not.
+                let _rules = slice.rules();
+                Ok(Some(Part {
+                    policy: self.policy,
+                    text: self.text,
+                    slice: Some(slice),
+                }))
+            }
+        }
+    }
+
+    /// Returns the slice of the rules for the packets of a box, if it is worth its cost.
+    fn slice(&self, alloc: Global, within: &PacketBox) -> Result<Option<Slice>, AllocError>
+        ensures { IfOk result (λ slice. IfSome slice (λ chains. HaveSameVerdicts within.now self.now.rules (Chains chains))) }
+    {
+        match &self.slice {
+            None => self.text.slice(alloc, within),
+            Some(slice) => slice.slice(alloc, within),
+        }
+    }
+
+    /// Returns where a box is cut: where the owner changes, of its sources or of its destinations.
+    pub(crate) fn cut(&self, within: &PacketBox) -> Option<Cut>
+        ensures { IfSome result (IsCutOf within.now) }
+    {
+        let hosts = self.policy.hosts();
+        let src = hosts.boundary_between(within.least.src, within.greatest.src);
+        let dst = hosts.boundary_between(within.least.dst, within.greatest.dst);
+        longer_cut(within, src, dst)
+    }
+
+    /// Whether the rules let the packets of a box pass in a state.
+    fn passes_within(&self, within: &mut PacketBox, state: CtState) -> bool
+        requires { IsBox within.old }
+        ensures part { Narrows within.old within.new }
+        ensures passes { (p : Packet) → IsIn within.new p → filter_of self.now.rules state p result }
+        ensures gives { GivesOne (filter_of self.now.rules) }
+    {
+        match &self.slice {
+            None => self.text.passes_within(within, state),
+            Some(slice) => slice.verdict_within(within, state).is_forward(),
+        }
+    }
+
+    fn permits_within(&self, within: &mut PacketBox) -> bool
+        requires { IsBox within.old }
+        ensures part { Narrows within.old within.new }
+        ensures alike { (p : Packet) → IsIn within.new p → permits self.now p ≡ result }
+    {
+        is_of_within(self.policy, self.policy.permitted(), within)
+    }
+
+    pub(crate) fn is_fault_alone(&self, within: &mut PacketBox) -> bool
+        requires { IsBox within.old }
+        ensures part { Narrows within.old within.new }
+        ensures alike { (p : Packet) → IsIn within.new p → (IsTrue result ↔ IsFault self.now Kind.Alone p) }
+    {
+        let expected = self.permits_within(within);
+        self.says_other(CtState::New, expected, within)
+    }
+
+    pub(crate) fn is_fault_behind_swap(&self, within: &mut PacketBox) -> bool
+        requires { IsBox within.old }
+        ensures part { Narrows within.old within.new }
+        ensures alike { (p : Packet) → IsIn within.new p → (IsTrue result ↔ IsFault self.now Kind.BehindSwap p) }
+    {
+        if !answers_are_of_within(self.policy, self.policy.permitted(), within) {
+            return false;
+        }
+        let expected = self.lets_pass_within(within);
+        self.says_other(CtState::Established, expected, within)
+    }
+
+    pub(crate) fn is_fault_behind_both(&self, within: &mut PacketBox) -> bool
+        requires { IsBox within.old }
+        ensures part { Narrows within.old within.new }
+        ensures alike { (p : Packet) → IsIn within.new p → (IsTrue result ↔ IsFault self.now Kind.BehindBoth p) }
+    {
+        if !self.permits_within(within) {
+            return false;
+        }
+        self.says_other(CtState::Established, true, within)
+    }
+
+    /// Whether the policy lets the packets of a box pass on established connections.
+    fn lets_pass_within(&self, within: &mut PacketBox) -> bool
+        requires { IsBox within.old }
+        ensures part { Narrows within.old within.new }
+        ensures alike { (p : Packet) → IsIn within.new p → IsExpected self.now CtState.Established p result }
+    {
+        self.permits_within(within)
+            || answers_are_of_within(self.policy, self.policy.stateful(), within)
+    }
+
+    /// Whether the rules do with the packets of a box in a state what is not expected.
+    fn says_other(&self, state: CtState, expected: bool, within: &mut PacketBox) -> bool
+        requires { IsBox within.old }
+        ensures part { Narrows within.old within.new }
+        ensures alike { (p : Packet) → IsIn within.new p → (IsTrue result ↔ SaysOther self.now state expected p) }
+    {
+        let passes = self.passes_within(within, state);
+        // That packets of a box are packets is known by this.
+        let _last = within.last();
+        passes != expected
+    }
+}
+
+/// Returns the cut of the field that has more addresses, if both fields can be cut.
+fn longer_cut(within: &PacketBox, src: Option<u32>, dst: Option<u32>) -> Option<Cut>
+    requires src { IfSome src (λ n. (within.now.least.src ≤ n) × (n < within.now.greatest.src)) }
+    requires dst { IfSome dst (λ n. (within.now.least.dst ≤ n) × (n < within.now.greatest.dst)) }
+    ensures { IfSome result (IsCutOf within.now) }
+{
+    match (src, dst) {
+        (None, None) => None,
+        (Some(src), None) => Some(Cut::Src(src)),
+        (None, Some(dst)) => Some(Cut::Dst(dst)),
+        (Some(src), Some(dst)) => {
+            if is_wider(within) {
+                Some(Cut::Dst(dst))
+            } else {
+                Some(Cut::Src(src))
+            }
+        }
+    }
+}
+
+/// Whether a box has more destinations than sources.
+fn is_wider(within: &PacketBox) -> bool {
+    let (least, greatest) = (within.least, within.greatest);
+    greatest.dst.saturating_sub(least.dst) > greatest.src.saturating_sub(least.src)
+}

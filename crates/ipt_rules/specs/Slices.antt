@@ -1,0 +1,14 @@
+-- Slices: the part of a rule set that can decide packets of a box.
+use Rattle.std.specs.Prelude.{◌↔◌, List}
+use Rattle.host_net.specs.declared.packet.Packet.{Packet}
+use Rattle.host_net.specs.declared.packet.CtState.{CtState}
+use Rattle.host_net.specs.declared.packet.Verdict.{Verdict}
+use Rattle.header_space.specs.declared.packet_box.PacketBox.{PacketBox}
+use Rattle.header_space.specs.Boxes.{IsIn}
+use Rattle.ipt_rules.specs.Chain.{Chain}
+use Rattle.ipt_rules.specs.Meaning.{HasVerdictIn}
+
+-- Two lists of chains have the same verdict on each packet of the box that runs through FORWARD, in each state.
+abbrev pub HaveSameVerdicts : PacketBox → List Chain → List Chain → Type 0
+HaveSameVerdicts b chains others =
+    (p : Packet) → IsIn b p → (state : CtState) (v : Verdict) → (HasVerdictIn chains 1 p state v ↔ HasVerdictIn others 1 p state v)
