@@ -5,8 +5,8 @@ use Rattle.std.specs.Option.{ok_or}
 use Rattle.desc_form.specs.Places.{assigns_of, listed}
 use Rattle.edit_core.specs.Edited.{◌>>=◌, assigns_edited, invariant_with, with_list}
 use Rattle.edit_core.specs.inner.EditFaults.{Gives}
-use Rattle.edit_core.specs.declared.fault.EditFault.{EditFault}
-use Rattle.edit_core.specs.declared.fault.EditFault.TheVariants.{Refused, Memory}
+use Rattle.edit_core.specs.declared.fault.ChangeFault.{ChangeFault}
+use Rattle.edit_core.specs.declared.fault.ChangeFault.TheVariants.{Refused, Memory}
 use Rattle.edit_core.specs.declared.fault.EditWhy.{EditWhy}
 use Rattle.edit_core.specs.declared.fault.EditWhy.TheVariants.{Absent}
 use Rattle.toml.specs.Data.{Data, Members}
@@ -31,6 +31,6 @@ module _ (k : ℕ) (document : Members) (change : List Data → Result (List Dat
   assigns_refused why none =
       edited_there ∙ ap (λ (r : Result (List Data) EditWhy). r >>= (λ ds. Ok (with_invariant k document invariant ds))) none
 
-  pub assigns_given : (fault : EditFault) → Gives {A = List Data} (change (assigns_of invariant)) (Err fault) → Gives {A = Members} (assigns_edited k document change) (Err fault)
+  pub assigns_given : (fault : ChangeFault) → Gives {A = List Data} (change (assigns_of invariant)) (Err fault) → Gives {A = Members} (assigns_edited k document change) (Err fault)
   assigns_given (Refused why) none = assigns_refused why none
   assigns_given Memory none = tt

@@ -18,8 +18,8 @@ use Rattle.edit_core.specs.inner.InPlace.{IsDone}
 use Rattle.edit_core.specs.inner.Kept.{IsDescription, IsKept, Refuses, entries_of, table_of, table_of-entries_of}
 use Rattle.edit_core.specs.Summaries.{IsStarted, TellsOf}
 use Rattle.edit_core.specs.inner.Summaries.{IsApplied}
-use Rattle.edit_core.specs.declared.fault.EditFault.{EditFault}
-use Rattle.edit_core.specs.declared.fault.EditFault.TheVariants.{Refused, Memory}
+use Rattle.edit_core.specs.declared.fault.ChangeFault.{ChangeFault}
+use Rattle.edit_core.specs.declared.fault.ChangeFault.TheVariants.{Refused, Memory}
 use Rattle.edit_core.specs.declared.fault.EditWhy.{EditWhy}
 use Rattle.edit_core.specs.declared.fault.EditWhy.TheVariants as why
 use Rattle.edit_core.specs.declared.summary.Summary.{Summary}
@@ -65,7 +65,7 @@ goes_on r = r >>= if_described
 abbrev pub said_of : Members → Result Network Refusal → Result Members EditWhy
 said_of table r = result_map_both (λ d. table) (λ refusal. why.Refused refusal.why) r
 
-pub not_edited : (change : Change) (old : Members) (fault : EditFault) → Gives (edited change old) (Err fault) → IsApplied change old old (Err fault)
+pub not_edited : (change : Change) (old : Members) (fault : ChangeFault) → Gives (edited change old) (Err fault) → IsApplied change old old (Err fault)
 unfolding after_edit
 not_edited change old (Refused reason) said = (ap goes_on said, refl)
 not_edited change old Memory said = refl
@@ -95,7 +95,7 @@ kept_now s table d policy is kept = record {
 pub seen : (s : Entries) (table : Table) → entries_of table ≡ s → table_view table ≡ table_of s
 seen s table is = sym (ap table_of (sym is) ∙ table_of-entries_of table)
 
-pub not_edited_now : (change : Change) (s : Entries) (table : Table) (fault : EditFault) → entries_of table ≡ s
+pub not_edited_now : (change : Change) (s : Entries) (table : Table) (fault : ChangeFault) → entries_of table ≡ s
     → Gives {A = Members} (edited change (table_view table)) (Err fault) → IsApplied change (table_of s) (table_of s) (Err fault)
 not_edited_now change s table fault is given =
     subst (λ (ms : Members). IsApplied change ms ms (Err fault)) (seen s table is) (not_edited change (table_view table) fault given)

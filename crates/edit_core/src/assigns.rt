@@ -11,7 +11,7 @@ ghost use Rattle.edit_core.specs.inner.EditFaults.{Gives};
 ghost use Rattle.toml.specs.Data.{table};
 ghost use Rattle.toml.specs.View.{table_view, view};
 
-use crate::fault::{EditFault, EditWhy};
+use crate::fault::{ChangeFault, EditWhy};
 use crate::values::{copy_table, copy_value, copy_values, with_list};
 use desc_form::{assigns_of, listed, text_in};
 use std::alloc::{AllocError, Global};
@@ -25,11 +25,11 @@ pub(crate) fn set_in(
     document: &Table,
     number: u8,
     assign: &Table,
-) -> Result<Table, EditFault>
+) -> Result<Table, ChangeFault>
     ensures { Gives (edited (Set number (table_view assign.now)) (table_view document.now)) (result_map_both table_view (λ fault. fault) result) }
 {
     let Some(invariant) = invariant_at(document, number) else {
-        return Err(EditFault::Refused(EditWhy::Absent));
+        return Err(ChangeFault::Refused(EditWhy::Absent));
     };
     let assigns = assigned(alloc, assigns_of(invariant), assign)?;
     Ok(with_assigns(alloc, document, number, invariant, assigns)?)
@@ -42,11 +42,11 @@ pub(crate) fn unset_in(
     document: &Table,
     number: u8,
     host: &str,
-) -> Result<Table, EditFault>
+) -> Result<Table, ChangeFault>
     ensures { Gives (edited (Unset number host.now) (table_view document.now)) (result_map_both table_view (λ fault. fault) result) }
 {
     let Some(invariant) = invariant_at(document, number) else {
-        return Err(EditFault::Refused(EditWhy::Absent));
+        return Err(ChangeFault::Refused(EditWhy::Absent));
     };
     let assigns = other_assigns(alloc, assigns_of(invariant), host)?;
     Ok(with_assigns(alloc, document, number, invariant, assigns)?)
@@ -151,13 +151,13 @@ fn replacement(value: &Value, host: &str, assign: &Table) -> Result<Value, Alloc
 }
 
 /// A copy of each assign that is not the host's, if one is.
-fn other_assigns(alloc: Global, listed: &[Value], host: &str) -> Result<Vec<Value>, EditFault>
+fn other_assigns(alloc: Global, listed: &[Value], host: &str) -> Result<Vec<Value>, ChangeFault>
     ensures { Gives (others (is_of_host host.now) (map view listed.now)) (result_map_both (λ values. map view values.items) (λ fault. fault) result) }
 {
     let mut assigns = copy_values(alloc, listed)?;
     retain_others(&mut assigns, host);
     if assigns.len() == listed.len() {
-        return Err(EditFault::Refused(EditWhy::Absent));
+        return Err(ChangeFault::Refused(EditWhy::Absent));
     }
     Ok(assigns)
 }

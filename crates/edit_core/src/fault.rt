@@ -1,13 +1,13 @@
 //! Why an edit is refused.
 
 ghost use Rattle.std.specs.Prelude.{◌≡◌};
-ghost use Rattle.edit_core.specs.inner.EditFaults.{edit_fault};
-ghost use Rattle.edit_core.specs.declared.fault.EditFault.TheVariants.{Memory};
+ghost use Rattle.edit_core.specs.inner.EditFaults.{cause_of, edit_fault};
+ghost use Rattle.edit_core.specs.declared.fault.ChangeFault.TheVariants.{Memory};
 
 use desc_core::{DescFault, Why};
 use std::alloc::{AllocError, AllocFailed};
 
-/// Why an edit is refused.
+/// The reason for which an edit is refused.
 #[derive(Clone, Copy, Debug, PartialEq, Eq)]
 pub enum EditWhy {
     /// The description lists no flows.
@@ -18,38 +18,64 @@ pub enum EditWhy {
     Refused(Why),
 }
 
-/// Why an edit is not made. The table is then as it was.
-#[derive(Clone, Copy, Debug)]
+/// Why `Session::apply` does not make an edit. The table is then as it was.
+#[derive(Clone, Copy, Debug, PartialEq, Eq)]
 pub enum EditFault {
+    /// The description lists no flows.
+    NoPolicy,
+    /// There is no such invariant, or nothing to take out.
+    Absent,
+    /// The edited table would be no description.
+    Refused(Why),
+    /// Memory ran out.
+    Memory,
+}
+
+impl EditFault {
+    pub(crate) fn of(fault: ChangeFault) -> EditFault
+        ensures { cause_of result ≡ fault }
+    {
+        match fault {
+            ChangeFault::Refused(EditWhy::NoPolicy) => EditFault::NoPolicy,
+            ChangeFault::Refused(EditWhy::Absent) => EditFault::Absent,
+            ChangeFault::Refused(EditWhy::Refused(why)) => EditFault::Refused(why),
+            ChangeFault::Memory => EditFault::Memory,
+        }
+    }
+}
+
+/// Why a change of the table is not made, with the reason as one value.
+#[derive(Clone, Copy, Debug)]
+pub enum ChangeFault {
     /// The edit is refused.
     Refused(EditWhy),
     /// Memory ran out.
     Memory,
 }
 
-impl From<DescFault> for EditFault {
+impl From<DescFault> for ChangeFault {
     ghost from_gives = { λ fault given. given ≡ edit_fault fault };
 
-    fn from(fault: DescFault) -> EditFault {
+    fn from(fault: DescFault) -> ChangeFault {
         match fault {
-            DescFault::Refused(refusal) => EditFault::Refused(EditWhy::Refused(refusal.why)),
-            DescFault::Memory => EditFault::Memory,
+            DescFault::Refused(refusal) => ChangeFault::Refused(EditWhy::Refused(refusal.why)),
+            DescFault::Memory => ChangeFault::Memory,
         }
     }
 }
 
-impl From<AllocError> for EditFault {
+impl From<AllocError> for ChangeFault {
     ghost from_gives = { λ _ fault. fault ≡ Memory };
 
-    fn from(_: AllocError) -> EditFault {
-        EditFault::Memory
+    fn from(_: AllocError) -> ChangeFault {
+        ChangeFault::Memory
     }
 }
 
-impl<T: Drop> From<AllocFailed<T>> for EditFault {
+impl<T: Drop> From<AllocFailed<T>> for ChangeFault {
     ghost from_gives = { λ _ fault. fault ≡ Memory };
 
-    fn from(_: AllocFailed<T>) -> EditFault {
-        EditFault::Memory
+    fn from(_: AllocFailed<T>) -> ChangeFault {
+        ChangeFault::Memory
     }
 }

@@ -7,7 +7,7 @@ ghost use Rattle.edit_core.specs.Edited.{edited, is_between, is_text, others};
 ghost use Rattle.edit_core.specs.inner.EditFaults.{Gives};
 ghost use Rattle.toml.specs.View.{table_view, view};
 
-use crate::fault::{EditFault, EditWhy};
+use crate::fault::{ChangeFault, EditWhy};
 use crate::values::{copy_values, text_list, with_list};
 use std::alloc::Global;
 use table_core::{elements, list_at};
@@ -15,11 +15,11 @@ use toml::{Table, Value};
 
 /// The table with one flow more, at the end.
 #[tactic(auto, unfolding(crate::specs::Edited::edited))]
-pub(crate) fn add_to(alloc: Global, table: &Table, words: &[String]) -> Result<Table, EditFault>
+pub(crate) fn add_to(alloc: Global, table: &Table, words: &[String]) -> Result<Table, ChangeFault>
     ensures { Gives (edited (Add (map string_bytes words.now)) (table_view table.now)) (result_map_both table_view (λ fault. fault) result) }
 {
     let Some(listed) = list_at(table, "flow") else {
-        return Err(EditFault::Refused(EditWhy::NoPolicy));
+        return Err(ChangeFault::Refused(EditWhy::NoPolicy));
     };
     let mut flows = copy_values(alloc, listed)?;
     flows.push(text_list(alloc, words)?)?;
@@ -33,11 +33,11 @@ pub(crate) fn remove_from(
     table: &Table,
     from: &str,
     to: &str,
-) -> Result<Table, EditFault>
+) -> Result<Table, ChangeFault>
     ensures { Gives (edited (Remove from.now to.now) (table_view table.now)) (result_map_both table_view (λ fault. fault) result) }
 {
     let Some(listed) = list_at(table, "flow") else {
-        return Err(EditFault::Refused(EditWhy::NoPolicy));
+        return Err(ChangeFault::Refused(EditWhy::NoPolicy));
     };
     let flows = other_flows(alloc, listed, from, to)?;
     Ok(with_list(alloc, table, "flow", flows)?)
@@ -49,13 +49,13 @@ fn other_flows(
     listed: &[Value],
     from: &str,
     to: &str,
-) -> Result<Vec<Value>, EditFault>
+) -> Result<Vec<Value>, ChangeFault>
     ensures { Gives (others (is_between from.now to.now) (map view listed.now)) (result_map_both (λ values. map view values.items) (λ fault. fault) result) }
 {
     let mut flows = copy_values(alloc, listed)?;
     retain_others(&mut flows, from, to);
     if flows.len() == listed.len() {
-        return Err(EditFault::Refused(EditWhy::Absent));
+        return Err(ChangeFault::Refused(EditWhy::Absent));
     }
     Ok(flows)
 }

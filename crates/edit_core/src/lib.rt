@@ -22,3 +22,5 @@ pub use run::EditRefusal;
 pub use session::Session;
 pub use summary::Summary;
 pub use text::{EDITS_BYTE_LIMIT, EditsFault, read_edits};
+/// Why a text of edits is refused.
+pub use text_core::ListWhy as EditsWhy;

@@ -10,7 +10,7 @@ ghost use Rattle.edit_core.specs.Summaries.{IsSummary};
 ghost use Rattle.edit_core.specs.inner.EditView.{edit_view};
 
 use crate::edit::Edit;
-use crate::fault::{EditFault, EditWhy};
+use crate::fault::{ChangeFault, EditWhy};
 use crate::session::Session;
 use crate::summary::Summary;
 use std::alloc::Global;
@@ -24,8 +24,9 @@ pub enum EditRefusal {
 }
 
 impl Session {
-    /// Changes the table by edits one after another, up to the first that is refused, and tells what
-    /// the description is after each.
+    /// Changes the table by edits one after another, up to the first that is refused, and summarizes the
+    /// description after each. After a refusal the table is the one after the edits before it; no clause
+    /// says so, since every caller then drops the session.
     pub fn apply_all(&mut self, alloc: Global, edits: &[Edit]) -> Result<Vec<Summary>, EditRefusal>
         ensures table { OnOk result (after_edits (map edit_view edits.now) (table_of self.old) ≡ Ok (table_of self.new)) }
         ensures summaries { IfOk result (λ told. AreSummaries (map edit_view edits.now) (table_of self.old) told.items) }
@@ -47,13 +48,13 @@ impl Session {
         ensures summary { IfOk result (IsSummary (table_of self.new)) }
         ensures refused { IfErr result (IsCause (result_map_both (λ next. next) (λ why. ((edit_view edit.now).line, why)) (after_edit (edit_view edit.now).change (table_of self.old)))) }
     {
-        match self.apply(edit) {
+        match self.apply_change(edit) {
             Ok(summary) => Ok(summary),
-            Err(EditFault::Refused(why)) => Err(EditRefusal::Refused {
+            Err(ChangeFault::Refused(why)) => Err(EditRefusal::Refused {
                 line: edit.line(),
                 why,
             }),
-            Err(EditFault::Memory) => Err(EditRefusal::Memory),
+            Err(ChangeFault::Memory) => Err(EditRefusal::Memory),
         }
     }
 }

@@ -5,12 +5,12 @@ ghost use Rattle.std.specs.Result.{result_map_both};
 ghost use Rattle.desc_core.specs.Description.{described_by_table};
 ghost use Rattle.edit_core.specs.inner.Kept.{IsDescription, Refuses, entries_of, table_of};
 ghost use Rattle.edit_core.specs.Summaries.{IsStarted};
-ghost use Rattle.edit_core.specs.inner.Summaries.{HasPolicy, IsApplied};
+ghost use Rattle.edit_core.specs.inner.Summaries.{HasPolicy, IsApplied, IsEdited};
 ghost use Rattle.edit_core.specs.inner.EditView.{change_view, edit_view};
 ghost use Rattle.toml.specs.View.{table_view};
 
 use crate::edit::{Change, Edit};
-use crate::fault::EditFault;
+use crate::fault::{ChangeFault, EditFault};
 use crate::in_place::edit_in_place;
 use crate::summary::{Summary, summary_of};
 use crate::table::edited;
@@ -73,9 +73,20 @@ impl Session {
         })
     }
 
-    /// Changes the table by an edit, and tells what the description is then. After a refusal, and
-    /// where there is no memory, the table is as it was.
+    /// Changes the table by an edit, and summarizes the description that the table then is. After a
+    /// refusal, and if memory runs out, the table is as it was.
     pub fn apply(&mut self, edit: &Edit) -> Result<Summary, EditFault>
+        ensures applied { IsEdited (edit_view edit.now).change (table_of self.old) (table_of self.new) result }
+        ensures unchanged { OnErr result (self.new ≡ self.old) }
+    {
+        match self.apply_change(edit) {
+            Ok(summary) => Ok(summary),
+            Err(fault) => Err(EditFault::of(fault)),
+        }
+    }
+
+    /// Does the same, and answers the reason of a refusal as one value.
+    pub(crate) fn apply_change(&mut self, edit: &Edit) -> Result<Summary, ChangeFault>
         ensures applied { IsApplied (edit_view edit.now).change (table_of self.old) (table_of self.new) result }
         ensures unchanged { OnErr result (self.new ≡ self.old) }
     {
@@ -87,7 +98,7 @@ impl Session {
     }
 
     /// Changes the table by an edit, and describes it anew.
-    fn apply_anew(&mut self, change: &Change) -> Result<Summary, EditFault>
+    fn apply_anew(&mut self, change: &Change) -> Result<Summary, ChangeFault>
         ensures applied { IsApplied (change_view change.now) (table_of self.old) (table_of self.new) result }
         ensures unchanged { OnErr result (self.new ≡ self.old) }
     {

@@ -9,14 +9,14 @@ ghost use Rattle.toml.specs.View.{table_view};
 
 use crate::assigns::{set_in, unset_in};
 use crate::edit::Change;
-use crate::fault::EditFault;
+use crate::fault::ChangeFault;
 use crate::flows::{add_to, remove_from};
 use std::alloc::Global;
 use toml::Table;
 
 /// The edited table, which may be no description.
 #[tactic(auto, unfolding(crate::specs::Edited::edited))]
-pub(crate) fn edited(alloc: Global, table: &Table, change: &Change) -> Result<Table, EditFault>
+pub(crate) fn edited(alloc: Global, table: &Table, change: &Change) -> Result<Table, ChangeFault>
     ensures { Gives (edited (change_view change.now) (table_view table.now)) (result_map_both table_view (λ fault. fault) result) }
 {
     match change {

@@ -2,8 +2,10 @@
 use Rattle.std.specs.Prelude.{◌≡◌, Result, Ok, Err}
 use Rattle.edit_core.specs.Edited.{after_edit}
 use Rattle.edit_core.specs.inner.Kept.{IsKept}
+use Rattle.edit_core.specs.declared.fault.ChangeFault.{ChangeFault}
 use Rattle.edit_core.specs.declared.fault.EditFault.{EditFault}
-use Rattle.edit_core.specs.declared.fault.EditFault.TheVariants.{Refused, Memory}
+use Rattle.edit_core.specs.inner.EditFaults.{cause_of}
+use Rattle.edit_core.specs.declared.fault.ChangeFault.TheVariants.{Refused, Memory}
 use Rattle.edit_core.specs.declared.summary.Summary.{Summary}
 use Rattle.edit_core.specs.Edit.{Change}
 use Rattle.net_core.specs.Network.{Network}
@@ -16,7 +18,12 @@ abbrev pub HasPolicy : Members → (Policy → Type 0) → Type 0
 HasPolicy table Is = (d : Network) × (policy : Policy) × IsKept table d policy × Is policy
 
 -- the edit leads from the old table to the new one, of which the summary tells; or it is refused for this, and the table is the old one
-abbrev pub IsApplied : Change → (old new : Members) → Result Summary EditFault → Type 0
+abbrev pub IsApplied : Change → (old new : Members) → Result Summary ChangeFault → Type 0
 IsApplied change old new (Ok summary) = (after_edit change old ≡ Ok new) × IsSummary new summary
 IsApplied change old new (Err (Refused why)) = (after_edit change old ≡ Err why) × (new ≡ old)
 IsApplied change old new (Err Memory) = new ≡ old
+
+-- The same, with a case of the fault for each reason.
+abbrev pub IsEdited : Change → (old new : Members) → Result Summary EditFault → Type 0
+IsEdited change old new (Ok summary) = IsApplied change old new (Ok summary)
+IsEdited change old new (Err fault) = IsApplied change old new (Err (cause_of fault))

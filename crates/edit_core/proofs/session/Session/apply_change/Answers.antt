@@ -1,6 +1,6 @@
 use Rattle.edit_core.specs.inner.EditView.{change_view}
 use Rattle.edit_core.proofs.SessionLemmas.{done_now}
-use Rattle.edit_core.proofs.session.Session.apply.Goals as goal
+use Rattle.edit_core.proofs.session.Session.apply_change.Goals as goal
 
 pub returns-in-Some-clause-applied : goal.returns-in-Some-clause-applied
 returns-in-Some-clause-applied c =
