@@ -23,7 +23,6 @@ use crate::text::Text;
 use audit_core::{AuditRefusal, Finding, classes_line, finding_text};
 use desc_core::Description;
 use edge_io::Shelf;
-use ipt_rules::Filter;
 use net_core::policy_of;
 use std::alloc::{AllocError, Global};
 
@@ -71,10 +70,7 @@ fn answer<'a>(
     ensures { IfOk result (λ answer. Answers true (audit_job description.now (rules_view rules.now)) (reply_view answer)) }
 {
     match rules {
-        Rules::Chains(chains) => {
-            let filter = Filter::of(alloc, chains, usize::MAX)?;
-            finding(alloc, description, audit_core::Text::Ipt(&filter))
-        }
+        Rules::Chains(chains) => finding(alloc, description, audit_core::Text::Ipt(chains)),
         Rules::Table(table) => finding(alloc, description, audit_core::Text::Ofp(table)),
     }
 }
@@ -89,7 +85,7 @@ fn finding<'a>(
     ensures { IfOk result (λ answer. Answers true (audit_job description.now (rules_of rules.entry)) (reply_view answer)) }
 {
     let policy = policy_of(alloc, description)?;
-    match audit_core::audit(alloc, &policy_between(description, &policy), &rules) {
+    match audit_core::audit_policy(alloc, &policy_between(description, &policy), &rules) {
         Ok(finding) => told(alloc, &finding),
         Err(AuditRefusal::TooManyClasses { count }) => {
             Ok(Answer::not_emittable(classes_line(alloc, count)?))

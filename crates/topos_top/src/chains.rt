@@ -12,7 +12,7 @@ use crate::flow_policy::policy_between;
 use crate::hindrance::rules_line;
 use crate::text::Text;
 use desc_core::Description;
-use emit_core::{NoChains, emit_iptables};
+use emit_core::{NoChains, iptables_layout};
 use net_core::Policy;
 use std::alloc::{AllocError, Global};
 
@@ -27,7 +27,7 @@ pub fn answer<'a>(
     requires stateful { policy.now.stateful.size ≡ length description.now.hosts }
     ensures { IfOk result (λ answer. Answers false (repair_job Iptables description.now) (reply_view answer)) }
 {
-    match emit_iptables(alloc, &policy_between(description, policy)) {
+    match iptables_layout(alloc, &policy_between(description, policy)) {
         Ok(rules) => Ok(Answer::done(Text::Rules(rules))),
         Err(NoChains::TooManyRules { count }) => {
             Ok(Answer::not_emittable(rules_line(alloc, count)?))

@@ -12,7 +12,7 @@ use crate::flow_policy::policy_between;
 use crate::hindrance::{answers_line, flows_line, ports_line};
 use crate::text::Text;
 use desc_core::Description;
-use emit_core::{NoTable, emit_openflow, needs_state};
+use emit_core::{NoTable, flow_table_layout, needs_state};
 use net_core::Policy;
 use std::alloc::{AllocError, Global};
 
@@ -34,7 +34,7 @@ pub fn answer<'a>(
         let line = answers_line(alloc, hosts, flow)?;
         return Ok(Answer::not_emittable(line));
     }
-    match emit_openflow(alloc, &asked) {
+    match flow_table_layout(alloc, &asked) {
         Ok(table) => Ok(Answer::done(Text::Table(table))),
         Err(NoTable::RangeOfPorts { flow }) => {
             let line = ports_line(alloc, hosts, policy.permitted(), flow)?;

@@ -21,7 +21,7 @@ use crate::status::Status;
 use crate::text::Text;
 use desc_core::Description;
 use edge_io::Shelf;
-use host_emit::{emit_local, is_specific};
+use host_emit::{is_specific, local_rules};
 use net_core::policy_of;
 use std::alloc::{AllocError, Global};
 
@@ -85,7 +85,7 @@ fn specific_machines<'a>(
     ensures { IfOk result (λ answer. Answers false (machines_job description.now host.now) (reply_view answer)) }
 {
     let policy = policy_of(alloc, description)?;
-    let rules = emit_local(alloc, &policy_between(description, &policy), number)?;
+    let rules = local_rules(alloc, &policy_between(description, &policy), number)?;
     Ok(Answer::done(Text::Rules(rules)))
 }
 

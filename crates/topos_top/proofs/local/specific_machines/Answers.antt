@@ -5,8 +5,8 @@ use Rattle.topos_top.specs.inner.Views.{reply_view}
 use Rattle.topos_top.proofs.LocalLaws.{ends_with_rules}
 use Rattle.topos_top.proofs.local.specific_machines.Goals as goal
 
-pub emit_local-requires-clause-there : goal.emit_local-requires-clause-there
-emit_local-requires-clause-there c =
+pub local_rules-requires-clause-there : goal.local_rules-requires-clause-there
+local_rules-requires-clause-there c =
     subst (λ (policy : FlowPolicy). c.args.number < length policy.site.hosts) (sym c.policy_between.ensures)
     (host_named_within c.args.description.now.hosts c.args.host.now c.args.number c.requires.named)
 
