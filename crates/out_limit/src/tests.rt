@@ -74,6 +74,18 @@ fn flows_that_break_a_template(rt: HostRuntime) -> Result<(), Fail> {
     Ok(())
 }
 
+#[test]
+fn a_host_is_reset(rt: HostRuntime) -> Result<(), Fail> {
+    let template = three_hosts(rt.alloc(), 1, 1)?;
+    let mut asked = FlowSet::empty(rt.alloc(), 3)?;
+    asked.insert(FIRST);
+    assert!(rt; template.holds(rt.alloc(), &asked)?);
+    let reset = template.with_default(rt.alloc(), 0)?;
+    assert!(rt; !reset.holds(rt.alloc(), &asked)? && !reset.admits(FIRST));
+    assert!(rt; reset.admits(ANSWER));
+    Ok(())
+}
+
 // The limits of three hosts, asked by steps alone.
 fn limited(
     alloc: Global,

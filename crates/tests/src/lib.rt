@@ -21,6 +21,8 @@ mod kind_tables;
 #[cfg(test)]
 mod levels;
 #[cfg(test)]
+mod policies;
+#[cfg(test)]
 mod shelves;
 #[cfg(test)]
 mod walks;

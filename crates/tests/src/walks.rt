@@ -1,12 +1,12 @@
 //! Walks along a round trip, one step that is taken back, and each template on walks: asked of sets, also
-//! with the default at a host.
+//! with the default at a host, and asked by steps.
 
 ghost use Rattle.std.specs.Prelude.{◌≡◌, ◌<◌};
 ghost use Rattle.flow_set.specs.Flow.{IsFlow};
 
-use crate::flows::{A_TO_B, B_TO_A, B_TO_C};
+use crate::flows::{A_TO_B, A_TO_C, B_TO_A, B_TO_C};
 use flow_set::{Flow, FlowSet};
-use inv_law::Invariant;
+use inv_law::{Invariant, Stepwise};
 use reach_core::Closure;
 use std::alloc::{AllocError, Global};
 use std::test::Fail;
@@ -32,6 +32,7 @@ fn one_step_and_back(rt: HostRuntime) -> Result<(), Fail> {
     assert!(rt; walks.reaches(0, 2) && walks.joined(2, 0));
     assert_eq!(rt; walks.count(0), 2);
     walks.undo();
+    assert!(rt; !walks.reaches(0, 2));
     assert_eq!(rt; walks.count(0), 1);
     Ok(())
 }
@@ -102,5 +103,28 @@ fn denied_hosts_are_not_reached(rt: HostRuntime) -> Result<(), Fail> {
         answers(rt.alloc(), &inv, &e, 1, A_TO_B)?,
         (true, false, false)
     );
+    inv.clear(2);
+    e.insert(A_TO_B);
+    assert_eq!(rt;
+        answers(rt.alloc(), &inv, &e, 0, B_TO_C)?,
+        (false, false, true)
+    );
+    Ok(())
+}
+
+#[test]
+fn a_step_of_a_trial_is_taken_back(rt: HostRuntime) -> Result<(), Fail> {
+    let mut inv = Dependability::new(rt.alloc(), 3)?;
+    inv.set(0, 1);
+    inv.set(1, 1);
+    let none = FlowSet::empty(rt.alloc(), 3)?;
+    let mut tried = inv.trial(rt.alloc(), &none)?;
+    assert!(rt; inv.step(&mut tried, A_TO_B));
+    assert!(rt; !inv.step(&mut tried, B_TO_C));
+    inv.back(&mut tried);
+    // Without the second flow host 1 may reach host 0, and with the first host 0 may not reach host 2.
+    assert!(rt; inv.step(&mut tried, B_TO_A));
+    inv.back(&mut tried);
+    assert!(rt; !inv.step(&mut tried, A_TO_C));
     Ok(())
 }
