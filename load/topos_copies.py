@@ -6,7 +6,10 @@ no services: invariants look at none of these. It goes to the program by its sta
 """
 import json
 import os
+import resource
 import shutil
+import signal
+import stat
 import string
 import subprocess
 import sys
@@ -19,6 +22,8 @@ except ModuleNotFoundError:
 
 USAGE, REFUSED = 64, 69  # exit statuses, beside those of the program
 LONGEST = 1_048_576  # bytes of a description
+MEMORY = 2 << 30  # bytes that a script may use
+SECONDS = 600  # that a script may take
 STRICT = {'blp', 'tainting', 'sink', 'dependability', 'noninterference', 'noreach'}  # those that count answers
 WAYS = {'dependability', 'noninterference', 'noreach'}
 DIGITS = string.ascii_letters + string.digits
@@ -33,9 +38,9 @@ class Stopped(Exception):
 
 
 def find_program(given):
-    """The one that is named, else the one that is built beside this file, else that of the path."""
+    """The one that is named, else the one that is built beside this file, else that of `TOPOS`, else that of the path."""
     built = os.path.join(os.path.dirname(os.path.dirname(os.path.realpath(__file__))), 'out', 'topos')
-    name = given or (built if os.access(built, os.X_OK) else 'topos')
+    name = given or (built if os.access(built, os.X_OK) else os.environ.get('TOPOS') or 'topos')
     if not shutil.which(name):
         raise Stopped(f'{name} is missing here: name the program with --program')
     return name
@@ -43,18 +48,40 @@ def find_program(given):
 
 def answered(words, text):
     """What the program prints of a text on its standard input. `check` ends with 2 where an invariant fails."""
-    ended = subprocess.run(words, input=text, capture_output=True, check=False)
+    try:
+        ended = subprocess.run(words, input=text, capture_output=True, check=False, timeout=SECONDS,
+                               preexec_fn=unlimited)
+    except (OSError, subprocess.TimeoutExpired) as error:
+        raise Stopped(f'{words[0]} does not run: {error}') from None
     if ended.returncode not in ((0, 2) if words[1] == 'check' else (0,)):
         raise Stopped(ended.stderr.decode().strip() or f'{" ".join(words[:2])} says nothing', ended.returncode)
     return ended.stdout.decode()
 
 
 def read_bytes(path):
+    """The bytes of a plain file, at most one more than a description may have. A device or a pipe is refused."""
     try:
-        with open(path, 'rb') as file:
-            return file.read()
+        opened = os.open(path, os.O_RDONLY | os.O_NONBLOCK)
+        with open(opened, 'rb') as file:
+            if not stat.S_ISREG(os.fstat(opened).st_mode):
+                raise Stopped(f'{path} is no plain file', 6)
+            return file.read(LONGEST + 1)
     except OSError:
         raise Stopped(f'cannot read {path}', 6) from None
+
+
+def limit(seconds=SECONDS):
+    """Bounds the memory of this process, and its time."""
+    def end(*_):
+        raise Stopped(f'this took longer than {seconds} seconds')
+    resource.setrlimit(resource.RLIMIT_AS, (MEMORY, resource.RLIM_INFINITY))
+    signal.signal(signal.SIGALRM, end)
+    signal.alarm(seconds)
+
+
+def unlimited():
+    """Takes the bound of the memory off a program that is started: topos has bounds of its own."""
+    resource.setrlimit(resource.RLIMIT_AS, (resource.RLIM_INFINITY, resource.RLIM_INFINITY))
 
 
 def toml(value):
@@ -160,15 +187,23 @@ def is_allowed(words):
 def run(name, usage, main):
     """The words of the command line to a function, and its end as the end of the script."""
     try:
-        sys.exit(main(sys.argv[1:]))
+        limit()
+        status = main(sys.argv[1:])
+        sys.stdout.flush()
+        sys.exit(status)
+    except (RecursionError, MemoryError):
+        sys.stderr.write(f'{name}: the file is nested too deeply, or needs too much memory\n')
+        sys.exit(REFUSED)
     except Stopped as stopped:
         line = str(stopped)
         sys.stderr.write((line if line.startswith('topos: ') else f'{name}: {line}') + '\n')
         if stopped.status == USAGE:
             sys.stderr.write(usage)
         sys.exit(stopped.status)
-    except BrokenPipeError:
+    except OSError as error:  # of the standard output
         os.dup2(os.open(os.devnull, os.O_WRONLY), sys.stdout.fileno())
+        if not isinstance(error, BrokenPipeError):
+            sys.stderr.write(f'{name}: the output cannot be written: {error.strerror}\n')
         sys.exit(1)
 
 
