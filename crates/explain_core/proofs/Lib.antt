@@ -1,0 +1,4 @@
+pub mod FindingLaws
+pub mod MinimalLaws
+pub mod NumberLaws
+pub mod TrialLaws

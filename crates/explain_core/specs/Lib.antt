@@ -1,0 +1,4 @@
+pub mod Failing
+pub mod Findings
+pub mod Reasons
+pub mod inner

@@ -1,0 +1,20 @@
+-- The search for a minimal failing set by transition flows.
+use Rattle.std.specs.Prelude.{◌≡◌, List, ◌∷◌, ◌++◌, IsTrue, IsFalse}
+use Rattle.std.specs.List.{fold}
+use Rattle.flow_set.specs.declared.flow.Flow.{Flow}
+use Rattle.flow_set.specs.FlowSet.{has, IsOrdered, IsSubset, with_flow}
+
+-- g is the transition flow of `rest`: beside the needed flows the condition holds with the flows of `rest` before g, and fails with g.
+pub record IsTransition (Holds : List Flow → Type 0) (needed rest : List Flow) (g : Flow) (before : List Flow) : Type 0 where
+  pub left : List Flow
+  pub place : before ++ g ∷ left ≡ rest
+  pub holds : Holds (fold with_flow needed before)
+  pub fails : Holds (with_flow (fold with_flow needed before) g) → ⊥
+
+-- Of the flows e the needed flows and the rest remain: the condition fails on them, and holds on every subset of them that lacks a
+-- needed flow.
+pub record AreNarrowed (Holds : List Flow → Type 0) (e needed rest : List Flow) : Type 0 where
+  pub ordered : IsOrdered needed
+  pub within : IsSubset (fold with_flow needed rest) e
+  pub fails : Holds (fold with_flow needed rest) → ⊥
+  pub minimal : (s : List Flow) → IsSubset s (fold with_flow needed rest) → (f : Flow) → IsTrue (has needed f) → IsFalse (has s f) → Holds s
