@@ -87,12 +87,16 @@ impl<'a> Part<'a> {
         }
     }
 
-    /// Returns where a box is cut: where the owner changes, of its sources or of its destinations.
+    /// Returns where a box is cut: where the owner changes, of its sources or of its destinations. A box
+    /// whose sources nobody owns is not cut: its packets are of no flow.
     pub(crate) fn cut(&self, within: &PacketBox) -> Option<Cut>
         ensures { IfSome result (IsCutOf within.now) }
     {
         let hosts = self.policy.hosts();
         let src = hosts.boundary_between(within.least.src, within.greatest.src);
+        if src.is_none() && hosts.owner(within.least.src).is_none() {
+            return None;
+        }
         let dst = hosts.boundary_between(within.least.dst, within.greatest.dst);
         longer_cut(within, src, dst)
     }

@@ -70,7 +70,7 @@ impl Slice {
         }
     }
 
-    /// Returns the slice for the packets of a box, or None if it has more than half of the rules.
+    /// Returns the slice for the packets of a box, or None if it has more than five eighths of the rules.
     pub fn slice(&self, alloc: Global, within: &PacketBox) -> Result<Option<Slice>, AllocError>
         ensures { IfOk result (λ slice. IfSome slice (HaveSameVerdicts within.now self.now)) }
     {
@@ -79,7 +79,7 @@ impl Slice {
 }
 
 impl Ruleset {
-    /// Returns the slice for the packets of a box, or None if it has more than half of the rules.
+    /// Returns the slice for the packets of a box, or None if it has more than five eighths of the rules.
     pub fn slice(&self, alloc: Global, within: &PacketBox) -> Result<Option<Slice>, AllocError>
         ensures { IfOk result (λ slice. IfSome slice (HaveSameVerdicts within.now self.now)) }
     {
@@ -107,7 +107,7 @@ fn slice_of(
         return Ok(None);
     }
     let reached = reached_by(alloc, chains, within)?;
-    if reached.rules > rules / 2 {
+    if reached.rules > rules / 8 * 5 {
         return Ok(None);
     }
     closed_slice(alloc, chains, reached, within)
