@@ -34,10 +34,20 @@ pub fn shelf_begin<H: Shelf>(shelf: &mut H, name: &str) -> Result<(), Failed> {
     shelf.begin(name)
 }
 
-/// Pins `Shelf::read`. The condition is that a file is begun.
+/// Pins `Shelf::read`. The condition is that a file is open.
 pub fn shelf_read<H: Shelf>(shelf: &mut H, into: &mut [u8]) -> Result<usize, Failed>
     requires { IsTrue (H.begun shelf.old) }
 {
+    shelf.read(into)
+}
+
+/// Pins the condition of `Shelf::read`: it holds after each `begin` that succeeds.
+pub fn shelf_begin_and_read<H: Shelf>(
+    shelf: &mut H,
+    name: &str,
+    into: &mut [u8],
+) -> Result<usize, Failed> {
+    shelf.begin(name)?;
     shelf.read(into)
 }
 

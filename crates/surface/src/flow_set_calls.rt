@@ -1,6 +1,6 @@
 //! Pins the crate `flow_set`: flows, and sets of them.
 
-ghost use Rattle.std.specs.Prelude.{◌≡◌, ◌≤◌};
+ghost use Rattle.std.specs.Prelude.{◌≡◌, ◌≢◌, ◌<◌, ◌≤◌};
 ghost use Rattle.flow_set.specs.Flow.{IsFlow};
 
 use crate::bounds::is_copy;
@@ -22,6 +22,13 @@ pub fn flow_fields(flow: Flow) -> (u16, u16) {
     let Flow { from, to } = flow;
     (from, to)
 }
+
+/// Pins the condition of all calls on a flow: its two hosts differ and are below `n`.
+pub fn is_flow(n: u16, f: Flow)
+    requires hosts { (f.from < n) × (f.to < n) }
+    requires differ { f.from ≢ f.to }
+    ensures { IsFlow n f }
+{}
 
 /// Pins `FlowSet::empty`.
 pub fn flow_set_empty(alloc: Global, n: u16) -> Result<FlowSet, AllocError>

@@ -1,7 +1,8 @@
 //! Pins the crate `host_net`: prefixes, packets, names, hosts, and the services of flows.
 
-ghost use Rattle.std.specs.Prelude.{◌<◌, IsTrue, length};
+ghost use Rattle.std.specs.Prelude.{◌≡◌, ◌<◌, ◌≤◌, ◌⊎◌, IsTrue, length};
 ghost use Rattle.std.specs.List.{list_all};
+ghost use Rattle.host_net.specs.Prefix.{is_exact};
 ghost use Rattle.host_net.specs.Services.{services_of};
 ghost use Rattle.host_net.specs.inner.Hosts.{is_network};
 ghost use Rattle.host_net.specs.inner.Service.{is_service};
@@ -111,7 +112,14 @@ pub fn hosts_new(alloc: Global) -> Hosts {
     Hosts::new(alloc)
 }
 
-/// Pins `Hosts::add`. The condition is that each prefix is exact and of length 1 at least.
+/// Pins the condition of `Hosts::add` on a prefix: it is exact and of length 1 at least.
+pub fn is_host_prefix(prefix: Prefix)
+    requires exact { IsTrue (is_exact prefix) }
+    requires length { 1 ≤ prefix.len }
+    ensures { IsTrue (is_network prefix) }
+{}
+
+/// Pins `Hosts::add`. The condition is the one on each prefix.
 pub fn hosts_add(
     hosts: &mut Hosts,
     name: &[u8],
@@ -196,8 +204,16 @@ pub fn services_new(alloc: Global) -> Services {
     Services::new(alloc)
 }
 
-/// Pins `Services::add`. The conditions are that the flow has fewer than 16 services, and that the protocol has
-/// services and the ports are in order, all of them for `icmp`.
+/// Pins the condition of `Services::add` on a service: the ports are in order and the protocol is 1, 6 or 17, and
+/// for protocol 1 the ports are 0 to 65535.
+pub fn is_added(service: Service)
+    requires order { service.low ≤ service.high }
+    requires protocol { (service.proto ≡ 6) ⊎ (service.proto ≡ 17) ⊎
+        ((service.proto ≡ 1) × (service.low ≡ 0) × (service.high ≡ 65535)) }
+    ensures { IsTrue (is_service service) }
+{}
+
+/// Pins `Services::add`. Besides the one on the service, the condition is that the flow has fewer than 16 services.
 pub fn services_add(
     services: &mut Services,
     from: u16,

@@ -145,3 +145,21 @@ pub fn stepwise_back<I: Stepwise>(inv: &I, tried: &mut I::Tried)
 {
     inv.back(tried);
 }
+
+/// Pins the conditions of `Stepwise::step` and `Stepwise::back`: they hold of each new trial of flows on which the
+/// invariant holds, and after each step.
+pub fn stepwise_trial_step_and_back<I: Stepwise>(
+    inv: &I,
+    alloc: Global,
+    e: &FlowSet,
+    f: Flow,
+) -> Result<bool, AllocError>
+    requires size { e.now.size ≡ I.size_of inv.now }
+    requires flow { IsFlow (I.size_of inv.now) f }
+    requires held { I.holds_on inv.now e.now.flows }
+{
+    let mut tried = inv.trial(alloc, e)?;
+    let holds = inv.step(&mut tried, f);
+    inv.back(&mut tried);
+    Ok(holds)
+}

@@ -51,7 +51,7 @@ pub fn event_fault(fault: EventFault) -> Option<(u32, EventWhy)> {
     }
 }
 
-/// Pins that the fault is an error.
+/// Pins that `EventFault` is an error.
 pub fn event_fault_is_error() {
     is_error::<EventFault>();
 }

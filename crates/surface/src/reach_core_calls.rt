@@ -48,3 +48,11 @@ pub fn closure_undo(closure: &mut Closure)
 {
     closure.undo();
 }
+
+/// Pins the condition of `Closure::undo`: it holds after each `try_add`.
+pub fn closure_try_add_and_undo(closure: &mut Closure, f: Flow)
+    requires { IsFlow closure.old.size f }
+{
+    closure.try_add(f);
+    closure.undo();
+}

@@ -4,6 +4,7 @@ ghost use Rattle.std.specs.Prelude.{◌≡◌, All};
 
 use flow_set::FlowSet;
 use inv_law::{Invariant, Stepwise};
+use permit_core::permit;
 use state_core::{refine, refine_by_steps, with_answers};
 use std::alloc::{AllocError, Global};
 
@@ -29,6 +30,18 @@ pub fn refine_by_steps_of<I: Stepwise>(
     requires permitted { All (λ inv. I.holds_on inv p.now.flows) invs.now }
 {
     refine_by_steps(alloc, invs, p)
+}
+
+/// Pins the condition of `refine` on `p`: it holds of what `permit` returns.
+pub fn permit_and_refine<I: Invariant>(
+    alloc: Global,
+    invs: &[I],
+    asked: &FlowSet,
+) -> Result<FlowSet, AllocError>
+    requires { All (λ inv. I.size_of inv ≡ asked.now.size) invs.now }
+{
+    let p = permit(alloc, invs, asked)?;
+    refine(alloc, invs, &p)
 }
 
 /// Pins `with_answers`.

@@ -108,3 +108,12 @@ pub fn partners_allow(partners: &mut Partners, sender: u16, master: u16)
 {
     partners.allow(sender, master);
 }
+
+/// Pins the condition of `Partners::allow` on the master: it holds after `set_master`.
+pub fn partners_set_master_and_allow(partners: &mut Partners, sender: u16, master: u16)
+    requires hosts { (sender < length partners.old) × (master < length partners.old) }
+    requires differ { sender ≢ master }
+{
+    partners.set_master(master);
+    partners.allow(sender, master);
+}
