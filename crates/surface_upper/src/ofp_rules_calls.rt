@@ -1,0 +1,141 @@
+//! Pins `ofp_rules`: frames, entries, and flow tables with their verdicts and texts.
+
+ghost use Rattle.std.specs.Prelude.{◌<◌, length, IsTrue};
+ghost use Rattle.std.specs.List.{list_all};
+ghost use Rattle.ofp_rules.specs.Matching.{asks_of_ip};
+ghost use Rattle.ofp_rules.specs.Text.{text_lines};
+
+use host_net::{Packet, Prefix};
+use ipt_rules::Verdict;
+use ofp_rules::{Action, Entry, Frame, FrameKind, Table, TableRefusal};
+use std::alloc::Global;
+
+fn is_copy<T: Copy>() {}
+
+/// Pins the types that are `Copy`.
+pub fn copy_types() {
+    is_copy::<Frame>();
+    is_copy::<FrameKind>();
+    is_copy::<Action>();
+    is_copy::<Entry>();
+}
+
+/// Pins the variants of `Frame`, and the packet of an IPv4 frame.
+pub fn frame_variants(frame: Frame) -> (u8, Option<Packet>) {
+    match frame {
+        Frame::Arp => (0, None),
+        Frame::Ipv4(packet) => (1, Some(packet)),
+        Frame::Other => (2, None),
+    }
+}
+
+/// Pins the variants of `FrameKind`.
+pub fn frame_kind_variants(kind: FrameKind) -> u8 {
+    match kind {
+        FrameKind::Any => 0,
+        FrameKind::Arp => 1,
+        FrameKind::Ip => 2,
+    }
+}
+
+/// Pins the variants of `Action`.
+pub fn action_variants(action: Action) -> u8 {
+    match action {
+        Action::Normal => 0,
+        Action::Drop => 1,
+    }
+}
+
+/// Pins the fields of `Entry`.
+pub fn entry(
+    priority: u16,
+    kind: FrameKind,
+    addresses: (Option<Prefix>, Option<Prefix>),
+    proto: Option<u8>,
+    ports: (Option<u16>, Option<u16>),
+    action: Action,
+) -> Entry {
+    let (src, dst) = addresses;
+    let (tp_src, tp_dst) = ports;
+    Entry {
+        priority,
+        kind,
+        src,
+        dst,
+        proto,
+        tp_src,
+        tp_dst,
+        action,
+    }
+}
+
+/// Pins that `Entry` is taken apart into its fields: the priority, the kind, the addresses, the protocol, the ports and
+/// the action.
+pub fn entry_fields(
+    entry: Entry,
+) -> (
+    u16,
+    FrameKind,
+    (Option<Prefix>, Option<Prefix>),
+    Option<u8>,
+    (Option<u16>, Option<u16>),
+    Action,
+) {
+    let Entry {
+        priority,
+        kind,
+        src,
+        dst,
+        proto,
+        tp_src,
+        tp_dst,
+        action,
+    } = entry;
+    (priority, kind, (src, dst), proto, (tp_src, tp_dst), action)
+}
+
+/// Pins `Table::build`.
+pub fn table_build(alloc: Global, entries: Vec<Entry>) -> Result<Table, TableRefusal>
+    requires asks { IsTrue (list_all asks_of_ip entries.items) }
+    requires counted { length entries.items < 4294967296 }
+{
+    Table::build(alloc, entries)
+}
+
+/// Pins the variants of `TableRefusal`, and the number and the two entries that they have.
+pub fn table_refusal_variants(refusal: TableRefusal) -> (u8, u32, u32, u32) {
+    match refusal {
+        TableRefusal::TooMany { count } => (0, count, 0, 0),
+        TableRefusal::Ambiguous { first, second } => (1, 0, first, second),
+        TableRefusal::Memory => (2, 0, 0, 0),
+    }
+}
+
+/// Pins `Table::verdict`, and that its verdict is the one of `ipt_rules`.
+pub fn table_verdict(table: &Table, frame: &Frame) -> Verdict {
+    table.verdict(frame)
+}
+
+/// Pins `Table::lines`.
+pub fn table_lines(table: &Table) -> u32 {
+    table.lines()
+}
+
+/// Pins `Table::write_line`.
+pub fn table_write_line(table: &Table, i: u32, buffer: &mut [u8; 256]) -> usize
+    requires { i < length (text_lines table.now) }
+{
+    table.write_line(i, buffer)
+}
+
+/// Pins `Table::len`.
+pub fn table_len(table: &Table) -> u32 {
+    table.len()
+}
+
+/// Pins `Table::entry`.
+pub fn table_entry(table: &Table, k: u32) -> Entry
+    requires { k < length table.now }
+{
+    table.entry(k)
+}
