@@ -1,6 +1,6 @@
 //! Pins `ipt_rules`: the parts of a rule, chains, and rule sets with their verdicts and texts.
 
-ghost use Rattle.std.specs.Prelude.{◌<◌, ◌+◌, ◌^◌, length, IsNone, IsTrue};
+ghost use Rattle.std.specs.Prelude.{◌<◌, ◌≤◌, length, IsNone, IsTrue};
 ghost use Rattle.ipt_rules.specs.Chain.{number_of};
 ghost use Rattle.ipt_rules.specs.ChainTable.{rule_count};
 ghost use Rattle.ipt_rules.specs.Rules.{all_rules};
@@ -189,6 +189,82 @@ pub fn chains_rule(chains: &mut Chains, chain: u16, rule: Rule) -> Result<(), Al
     requires parts { IsTrue (is_rule rule) }
 {
     chains.rule(chain, rule)
+}
+
+/// Pins that a rule may ask for addresses and a state alone.
+pub fn rule_of_addresses(
+    src: Option<AddrMatch>,
+    dst: Option<AddrMatch>,
+    state: Option<StateMatch>,
+    target: Target,
+) -> Rule
+    ensures { IsTrue (is_rule result) }
+{
+    Rule {
+        src,
+        dst,
+        proto: None,
+        sport: None,
+        dport: None,
+        state,
+        target,
+    }
+}
+
+/// Pins that a rule may ask for each protocol but 0, or for any other protocol than it.
+pub fn rule_of_protocol(proto: u8, negated: bool, target: Target) -> Rule
+    requires { 0 < proto }
+    ensures { IsTrue (is_rule result) }
+{
+    Rule {
+        src: None,
+        dst: None,
+        proto: Some(ProtoMatch { proto, negated }),
+        sport: None,
+        dport: None,
+        state: None,
+        target,
+    }
+}
+
+/// Pins that a rule may ask for ports in order beside the protocol 6.
+pub fn rule_of_tcp(sport: PortMatch, dport: PortMatch, target: Target) -> Rule
+    requires sport { sport.low ≤ sport.high }
+    requires dport { dport.low ≤ dport.high }
+    ensures { IsTrue (is_rule result) }
+{
+    Rule {
+        src: None,
+        dst: None,
+        proto: Some(ProtoMatch {
+            proto: 6,
+            negated: false,
+        }),
+        sport: Some(sport),
+        dport: Some(dport),
+        state: None,
+        target,
+    }
+}
+
+/// Pins that a rule may ask for ports in order beside the protocol 17.
+pub fn rule_of_udp(sport: PortMatch, dport: PortMatch, target: Target) -> Rule
+    requires sport { sport.low ≤ sport.high }
+    requires dport { dport.low ≤ dport.high }
+    ensures { IsTrue (is_rule result) }
+{
+    Rule {
+        src: None,
+        dst: None,
+        proto: Some(ProtoMatch {
+            proto: 17,
+            negated: false,
+        }),
+        sport: Some(sport),
+        dport: Some(dport),
+        state: None,
+        target,
+    }
 }
 
 /// Pins `Ruleset::build`.

@@ -94,6 +94,86 @@ pub fn entry_fields(
     (priority, kind, (src, dst), proto, (tp_src, tp_dst), action)
 }
 
+/// Pins that an entry of each kind may ask for nothing else.
+pub fn entry_of_kind(priority: u16, kind: FrameKind, action: Action) -> Entry
+    ensures { IsTrue (asks_of_ip result) }
+{
+    Entry {
+        priority,
+        kind,
+        src: None,
+        dst: None,
+        proto: None,
+        tp_src: None,
+        tp_dst: None,
+        action,
+    }
+}
+
+/// Pins that an entry for IPv4 frames may ask for addresses and any protocol.
+pub fn entry_of_ip(
+    priority: u16,
+    src: Option<Prefix>,
+    dst: Option<Prefix>,
+    proto: Option<u8>,
+    action: Action,
+) -> Entry
+    ensures { IsTrue (asks_of_ip result) }
+{
+    Entry {
+        priority,
+        kind: FrameKind::Ip,
+        src,
+        dst,
+        proto,
+        tp_src: None,
+        tp_dst: None,
+        action,
+    }
+}
+
+/// Pins that an entry for IPv4 frames may ask for ports beside the protocol 6.
+pub fn entry_of_tcp(
+    priority: u16,
+    tp_src: Option<u16>,
+    tp_dst: Option<u16>,
+    action: Action,
+) -> Entry
+    ensures { IsTrue (asks_of_ip result) }
+{
+    Entry {
+        priority,
+        kind: FrameKind::Ip,
+        src: None,
+        dst: None,
+        proto: Some(6),
+        tp_src,
+        tp_dst,
+        action,
+    }
+}
+
+/// Pins that an entry for IPv4 frames may ask for ports beside the protocol 17.
+pub fn entry_of_udp(
+    priority: u16,
+    tp_src: Option<u16>,
+    tp_dst: Option<u16>,
+    action: Action,
+) -> Entry
+    ensures { IsTrue (asks_of_ip result) }
+{
+    Entry {
+        priority,
+        kind: FrameKind::Ip,
+        src: None,
+        dst: None,
+        proto: Some(17),
+        tp_src,
+        tp_dst,
+        action,
+    }
+}
+
 /// Pins `Table::build`.
 pub fn table_build(alloc: Global, entries: Vec<Entry>) -> Result<Table, TableRefusal>
     requires asks { IsTrue (list_all asks_of_ip entries.items) }
