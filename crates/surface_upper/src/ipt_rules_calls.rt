@@ -317,3 +317,19 @@ pub fn ruleset_rule_at(rules: &Ruleset, k: u32) -> Rule
 {
     rules.rule_at(k)
 }
+
+/// Pins that each line below `lines` may be written, as the two calls count them.
+pub fn ruleset_line_below(rules: &Ruleset, i: u32, buffer: &mut [u8; 320]) -> Option<usize> {
+    if i < rules.lines() {
+        return Some(rules.write_line(i, buffer));
+    }
+    None
+}
+
+/// Pins that each rule below `rules` may be asked for, as the two calls count them.
+pub fn ruleset_rule_below(rules: &Ruleset, k: u32) -> Option<Rule> {
+    if k < rules.rules() {
+        return Some(rules.rule_at(k));
+    }
+    None
+}

@@ -219,3 +219,19 @@ pub fn table_entry(table: &Table, k: u32) -> Entry
 {
     table.entry(k)
 }
+
+/// Pins that each line below `lines` may be written, as the two calls count them.
+pub fn table_line_below(table: &Table, i: u32, buffer: &mut [u8; 256]) -> Option<usize> {
+    if i < table.lines() {
+        return Some(table.write_line(i, buffer));
+    }
+    None
+}
+
+/// Pins that each entry below `len` may be asked for, as the two calls count them.
+pub fn table_entry_below(table: &Table, k: u32) -> Option<Entry> {
+    if k < table.len() {
+        return Some(table.entry(k));
+    }
+    None
+}
