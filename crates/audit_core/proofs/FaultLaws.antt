@@ -1,11 +1,12 @@
 -- Faults of packets: what tells that there is one, and that there is none.
 use Rattle.std.proofs.Common.{◌≡◌, ◌≢◌, ◌↔◌, ℕ, ◌+◌, ◌≤◌, ◌<◌, ◌^◌, Bool, true, false, IsTrue, List, Option, Some, None, refl, sym, subst, ◌∙◌, true≢false, arith}
 use Rattle.std.proofs.Math.Bool.{beq}
-use Rattle.std.specs.Prelude.{not, IfSome}
+use Rattle.std.specs.Prelude.{not, is_some, IfSome}
 use Rattle.host_net.specs.declared.packet.Packet.{Packet}
 use Rattle.host_net.specs.declared.packet.CtState.{CtState}
 use Rattle.host_net.specs.Packet.{IsPacket}
 use Rattle.header_space.specs.Boxes.{IsIn, every_packet}
+use Rattle.header_space.specs.Searching.{IsLeastWhere}
 use Rattle.pkt_core.specs.Firewall.{may_pass}
 use Rattle.audit_core.specs.declared.kind.Kind.{Kind}
 use Rattle.audit_core.specs.declared.kind.Kind.TheVariants.{Alone, BehindSwap, BehindBoth}
@@ -17,9 +18,10 @@ use Rattle.ipt_rules.specs.Slices.{HaveSameVerdicts as HaveSameChainVerdicts}
 use Rattle.audit_core.specs.Rules.{Rules, Chains, filter_of}
 use Rattle.audit_core.specs.Sides.{Sides, lets_answer, permits, sides_of}
 use Rattle.audit_core.specs.inner.Parts.{HaveSameFaults, HaveSameVerdicts}
-use Rattle.audit_core.specs.inner.Faults.{IsExpected, IsFault, SaysOther}
+use Rattle.audit_core.specs.inner.Faults.{IsAnyFault, IsExpected, IsFault, SaysOther}
 use Rattle.audit_core.specs.inner.Judging.{Right, Wrong, is_asked, state_in}
 use Rattle.audit_core.specs.inner.Rules.{GivesOne}
+use Rattle.audit_core.specs.inner.Sought.{AreRight}
 
 -- ---- packets are those of the box of all
 
@@ -63,6 +65,13 @@ right_where sides kind p none asked passes said =
     same_where_not passes (may_pass (permits sides) (lets_answer sides) (state_in kind) p)
     (λ wrong. none (passes, record { asked = asked; said = said; wrong = wrong }))
 
+pub right_where_none : (sides built : Sides) (b : PacketBox) (found : Option Packet) → built ≡ sides → b ≡ every_packet
+    → IsLeastWhere (IsAnyFault built) b found → is_some found ≡ false → (kind : Kind) → AreRight sides kind
+right_where_none sides built b None same whole none is = λ kind p packet.
+    right_where sides kind p (λ fault.
+    none p (subst (λ (x : PacketBox). IsIn x p) (sym whole) (in_every p packet)) (kind, subst (λ (s : Sides). IsFault s kind p) (sym same) fault))
+right_where_none sides built b (Some q) same whole found is = absurd (true≢false is)
+
 pub fault_said : (sides : Sides) (kind : Kind) (p : Packet) (f : Bool) → GivesOne (filter_of sides.rules) → IsPacket p
     → filter_of sides.rules (state_in kind) p f → IsFault sides kind p → Wrong sides kind p f
 fault_said sides kind p f gives is said fault =
@@ -84,6 +93,20 @@ not_asked sides kind p is = (
   (λ yes'. absurd (true≢false (sym yes'))),
   (λ fault. absurd (true≢false (sym fault.1.asked ∙ is))),
 )
+
+-- a packet that is at fault by neither of the first two kinds is at fault by some kind exactly if it is by the third
+pub any_fault_by : (sides : Sides) (p : Packet) (alone swapped both : Bool)
+    → alone ≡ false → IsTrue alone ↔ IsFault sides Alone p → swapped ≡ false → IsTrue swapped ↔ IsFault sides BehindSwap p
+    → IsTrue both ↔ IsFault sides BehindBoth p → IsTrue both ↔ IsAnyFault sides p
+any_fault_by sides p alone swapped both not_alone first not_swapped second third = (
+  (λ yes'. (BehindBoth, third.0 yes')),
+  (λ any. by_kind any.0 any.1),
+)
+  where
+    by_kind : (kind : Kind) → IsFault sides kind p → IsTrue both
+    by_kind Alone fault = absurd (true≢false (sym (first.1 fault) ∙ not_alone))
+    by_kind BehindSwap fault = absurd (true≢false (sym (second.1 fault) ∙ not_swapped))
+    by_kind BehindBoth fault = third.1 fault
 
 pub says_by : (sides : Sides) (state : CtState) (p : Packet) (said expected answer : Bool) → GivesOne (filter_of sides.rules) → IsPacket p
     → filter_of sides.rules state p said → (IsTrue answer → said ≢ expected) → (said ≢ expected → IsTrue answer)

@@ -12,7 +12,7 @@ ghost use Rattle.audit_core.specs.inner.RulesView.{rules_of};
 ghost use Rattle.audit_core.specs.inner.Searching.{ArePacketsAll};
 ghost use Rattle.audit_core.specs.Sides.{sides_of};
 
-use crate::fault::fault_of;
+use crate::fault::{are_right, fault_of};
 use crate::finding::{AuditRefusal, Finding};
 use crate::kind::Kind;
 use crate::leasts::Leasts;
@@ -107,6 +107,9 @@ fn count_classes(
 fn find(alloc: Global, sides: &Sides<'_>) -> Result<Finding, AllocError>
     ensures { IfOk result (IsSought sides.now) }
 {
+    if are_right(alloc, sides)? {
+        return Ok(Finding::Equal);
+    }
     if let Some(trace) = fault_of(alloc, sides, Kind::Alone)? {
         return Ok(Finding::Differ(trace));
     }

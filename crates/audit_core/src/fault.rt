@@ -1,15 +1,16 @@
 //! Where rules do not do what a policy says: for each kind of list, the packets at the end of whose list
 //! the two differ, found by boxes of packets.
 
-ghost use Rattle.std.specs.Prelude.{◌≡◌, IfOk};
+ghost use Rattle.std.specs.Prelude.{◌≡◌, IfOk, IsTrue};
 ghost use Rattle.host_net.specs.declared.packet.Packet.{Packet};
 ghost use Rattle.header_space.specs.Boxes.{every_packet};
 ghost use Rattle.header_space.specs.Searching.{IsLeastWhere};
 ghost use Rattle.host_net.specs.Packet.{IsPacket};
 ghost use Rattle.audit_core.specs.Findings.{trace_of};
-ghost use Rattle.audit_core.specs.inner.Faults.{IsFault};
+ghost use Rattle.audit_core.specs.inner.Faults.{IsAnyFault, IsFault};
 ghost use Rattle.audit_core.specs.inner.Judging.{Wrong, state_in};
-ghost use Rattle.audit_core.specs.inner.Sought.{IsFaultOf};
+ghost use Rattle.audit_core.specs.inner.Sought.{AreRight, IsFaultOf};
+ghost use Rattle.audit_core.specs.declared.kind.Kind.{Kind};
 
 use crate::finding::Trace;
 use crate::kind::Kind;
@@ -52,6 +53,55 @@ impl<'a> Question for Fault<'a> {
     fn cut(&self, within: &PacketBox) -> Option<Cut> {
         self.part.cut(within)
     }
+}
+
+/// Whether the rules do other than the policy says at the end of the list of some kind.
+#[derive(Drop)]
+struct AnyFault<'a> {
+    part: Part<'a>,
+}
+
+impl<'a> Question for AnyFault<'a> {
+    ghost use Rattle.audit_core.specs.inner.Faults.{IsAnyFault};
+
+    ghost holds_of = { λ q p. IsAnyFault q.part p };
+
+    fn ask(&self, within: &mut PacketBox) -> bool {
+        if self.part.is_fault_alone(within) {
+            return true;
+        }
+        if self.part.is_fault_behind_swap(within) {
+            return true;
+        }
+        self.part.is_fault_behind_both(within)
+    }
+
+    fn restrict(
+        &self,
+        alloc: Global,
+        within: &PacketBox,
+    ) -> Result<Option<AnyFault<'a>>, AllocError> {
+        match self.part.restrict(alloc, within)? {
+            None => Ok(None),
+            Some(part) => Ok(Some(AnyFault { part })),
+        }
+    }
+
+    fn cut(&self, within: &PacketBox) -> Option<Cut> {
+        self.part.cut(within)
+    }
+}
+
+/// Whether the rules are right about all packets. One search for all kinds of lists is faster than one for
+/// each kind.
+pub(crate) fn are_right(alloc: Global, sides: &Sides<'_>) -> Result<bool, AllocError>
+    ensures { IfOk result (λ right. IsTrue right → (kind : Kind) → AreRight sides.now kind) }
+{
+    let fault = AnyFault {
+        part: Part::whole(sides),
+    };
+    let found = least_where(alloc, &fault, PacketBox::every())?;
+    Ok(found.is_none())
 }
 
 /// The least packet at the end of whose list of that kind the two sides differ.

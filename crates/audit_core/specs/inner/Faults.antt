@@ -12,6 +12,10 @@ use Rattle.audit_core.specs.Sides.{Sides, lets_answer, permits}
 abbrev pub IsFault : Sides → Kind → Packet → Type 0
 IsFault sides kind p = (passes : Bool) × Wrong sides kind p passes
 
+-- the packet is at fault by some kind of list
+abbrev pub IsAnyFault : Sides → Packet → Type 0
+IsAnyFault sides p = (kind : Kind) × IsFault sides kind p
+
 -- what the policy says of a packet in a state
 abbrev pub IsExpected : Sides → CtState → Packet → Bool → Type 0
 IsExpected sides state p expected = may_pass (permits sides) (lets_answer sides) state p ≡ expected
