@@ -1,7 +1,7 @@
 -- What chains are while rules are added to one of them, and when its rules are all there.
-use Rattle.std.proofs.Common.{◌≡◌, ℕ, ◌+◌, ◌^◌, ◌<◌, List, [], ◌∷◌, ◌++◌, Option, None, length, drop, get_or, refl, sym, ap, subst, ◌∙◌, arith, append_assoc}
+use Rattle.std.proofs.Common.{◌≡◌, ℕ, ◌+◌, ◌^◌, ◌<◌, List, [], ◌∷◌, ◌++◌, Option, None, length, drop, get_or, take, refl, sym, ap, subst, ◌∙◌, arith, append_assoc}
 use Rattle.std.specs.Prelude.{IsNone}
-use Rattle.std.proofs.lemmas.List.{append-nil, at_drop_more}
+use Rattle.std.proofs.lemmas.List.{append-nil, at_drop_more, take_more}
 use Rattle.host_net.specs.Host.{Host}
 use Rattle.host_net.specs.Site.{Site}
 use Rattle.flow_set.specs.declared.flow.Flow.{Flow}
@@ -18,8 +18,13 @@ use Rattle.emit_core.proofs.FillingLaws.{with_rules-changed}
 -- some of the rules are added
 pub record IsFilling (c : ℕ) (rules : List Rule) (start now : List Chain) (done : ℕ) : Type 0 where
   pub left : with_rules now c (drop done rules) ≡ with_rules start c rules
+  pub led : now ≡ with_rules start c (take done rules)
   pub counted : rule_count now ≡ rule_count start + done
   pub kept : length now ≡ length start
+
+with_rules-then : (xs : List Chain) (c : ℕ) (rules : List Rule) (r : Rule) → with_rules xs c (rules ++ r ∷ []) ≡ with_rule (with_rules xs c rules) c r
+with_rules-then xs c [] r = refl
+with_rules-then xs c (x ∷ rules) r = with_rules-then (with_rule xs c x) c rules r
 
 -- one rule more is added
 pub filling_more : (c : ℕ) (rules : List Rule) (start old new : List Chain) (done : ℕ) (rule : Rule)
@@ -29,6 +34,11 @@ filling_more c rules start old new done rule below read there added before = rec
   left = ap (λ (x : List Chain). with_rules x c (drop (done + 1) rules)) (added ∙ ap (with_rule old c) read)
       ∙ sym (at_drop_more (with_rules old c) rules done rule below)
       ∙ before.left;
+  led = added
+      ∙ ap (λ (xs : List Chain). with_rule xs c rule) before.led
+      ∙ sym (with_rules-then start c (take done rules) rule)
+      ∙ ap (λ (rs : List Rule). with_rules start c rs)
+      (ap (λ (r : Rule). take done rules ++ r ∷ []) read ∙ sym (take_more rules done rule below));
   counted = let kept = before.kept in let counted = before.counted in
       omega (arith, ap rule_count added, rule_count_with_rule old c rule (omega arith));
   kept = let kept = before.kept in omega (arith, ap length added, length_with_rule old c rule);

@@ -1,6 +1,6 @@
 //! Chains that are filled with rules, and made a rule set.
 
-ghost use Rattle.std.specs.Prelude.{◌≡◌, ◌+◌, ◌<◌, ◌^◌, length, IfOk, OnOk, IsTrue, None};
+ghost use Rattle.std.specs.Prelude.{◌≡◌, ◌+◌, ◌<◌, ◌^◌, ℕ, length, take, IfOk, OnErr, OnOk, IsTrue, None};
 ghost use Rattle.std.specs.List.{list_all};
 ghost use Rattle.ipt_rules.specs.inner.Build.{refusal_of};
 ghost use Rattle.ipt_rules.specs.ChainTable.{rule_count};
@@ -11,13 +11,14 @@ ghost use Rattle.emit_core.specs.inner.Filling.{with_rules};
 use ipt_rules::{Chains, Rule, Ruleset};
 use std::alloc::{AllocError, Global};
 
-/// Adds the rules at the end of a chain. If memory runs out, the chain may have a part of the rules, and
-/// the chains are of no further use.
+/// Adds the rules at the end of a chain. If memory runs out, the chain has some of the rules, from the first
+/// on.
 pub fn fill(chains: &mut Chains, chain: u16, rules: &[Rule]) -> Result<(), AllocError>
     requires there { chain < length chains.old }
     requires room { rule_count chains.old + length rules.now < 2 ^ 32 }
     requires parts { IsTrue (list_all is_rule rules.now) }
-    ensures { OnOk result (chains.new ≡ with_rules chains.old chain rules.now) }
+    ensures added { OnOk result (chains.new ≡ with_rules chains.old chain rules.now) }
+    ensures part { OnErr result ((count : ℕ) × (chains.new ≡ with_rules chains.old chain (take count rules.now))) }
 {
     chains.reserve(chain, rules.len())?;
     for rule in rules {
