@@ -1,10 +1,10 @@
 //! Edits one after another.
 
-ghost use Rattle.std.specs.Prelude.{◌≡◌, IfErr, IfOk, OnOk, Ok, map};
+ghost use Rattle.std.specs.Prelude.{◌≡◌, IfErr, IfOk, OnErr, OnOk, Ok, map};
 ghost use Rattle.std.specs.Result.{result_map_both};
 ghost use Rattle.edit_core.specs.Edited.{after_edit};
 ghost use Rattle.edit_core.specs.inner.Kept.{table_of};
-ghost use Rattle.edit_core.specs.Runs.{AreSummaries, after_edits};
+ghost use Rattle.edit_core.specs.Runs.{AreSummaries, StopsAt, after_edits};
 ghost use Rattle.edit_core.specs.inner.Runs.{IsCause};
 ghost use Rattle.edit_core.specs.Summaries.{IsSummary};
 ghost use Rattle.edit_core.specs.inner.EditView.{edit_view};
@@ -25,12 +25,12 @@ pub enum EditRefusal {
 
 impl Session {
     /// Changes the table by edits one after another, up to the first that is refused, and summarizes the
-    /// description after each. After a refusal the table is the one after the edits before it; no clause
-    /// says so, since every caller then drops the session.
+    /// description after each. After a refusal the table is the one after the edits before it.
     pub fn apply_all(&mut self, alloc: Global, edits: &[Edit]) -> Result<Vec<Summary>, EditRefusal>
         ensures table { OnOk result (after_edits (map edit_view edits.now) (table_of self.old) ≡ Ok (table_of self.new)) }
         ensures summaries { IfOk result (λ told. AreSummaries (map edit_view edits.now) (table_of self.old) told.items) }
         ensures refused { IfErr result (IsCause (after_edits (map edit_view edits.now) (table_of self.old))) }
+        ensures stopped { IfErr result (StopsAt (map edit_view edits.now) (table_of self.old) (table_of self.new)) }
     {
         let mut told = Vec::new(alloc);
         for edit in edits {
@@ -47,6 +47,7 @@ impl Session {
         ensures table { OnOk result (after_edit (edit_view edit.now).change (table_of self.old) ≡ Ok (table_of self.new)) }
         ensures summary { IfOk result (IsSummary (table_of self.new)) }
         ensures refused { IfErr result (IsCause (result_map_both (λ next. next) (λ why. ((edit_view edit.now).line, why)) (after_edit (edit_view edit.now).change (table_of self.old)))) }
+        ensures kept { OnErr result (table_of self.new ≡ table_of self.old) }
     {
         match self.apply_change(edit) {
             Ok(summary) => Ok(summary),
