@@ -4,3 +4,4 @@ pub mod MayFitLaws
 pub mod NarrowLaws
 pub mod SeekLaws
 pub mod SplitLaws
+pub mod VisitLaws

@@ -3,4 +3,5 @@ pub mod Cuts
 pub mod Matching
 pub mod Order
 pub mod Searching
+pub mod Visits
 pub mod inner

@@ -1,3 +1,4 @@
 pub mod Cutting
 pub mod Narrowing
 pub mod Splitting
+pub mod Visiting

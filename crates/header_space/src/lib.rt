@@ -8,8 +8,10 @@ mod order;
 mod packet_box;
 mod search;
 mod split;
+mod visit;
 
 pub use cut::Cut;
 pub use header_match::{FieldMatch, HeaderMatch};
 pub use packet_box::PacketBox;
 pub use search::{Question, least_where};
+pub use visit::{Visitor, visit_all};
