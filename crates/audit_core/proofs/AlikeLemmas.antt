@@ -26,7 +26,7 @@ use Rattle.audit_core.proofs.RepresentativeLemmas.{among_has, represents, where_
 use Rattle.audit_core.specs.inner.Ranges.{AreTogether}
 use Rattle.audit_core.proofs.RangeLemmas.{is_in, protocol_of}
 use Rattle.audit_core.specs.Rules.{Rules, Entries, filter_of}
-use Rattle.audit_core.specs.inner.Rules.{GivesOne}
+use Rattle.audit_core.specs.Verdicts.{GivesOne}
 use Rattle.audit_core.specs.inner.Searching.{AreAlike, IsNoHigher}
 use Rattle.audit_core.proofs.ShortLaws.{agree_where_judged, judged_stateless, short_lists_suffice}
 use Rattle.audit_core.specs.Sides.{Agree, Sides, lets_answer, permits}

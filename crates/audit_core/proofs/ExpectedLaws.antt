@@ -14,7 +14,7 @@ use Rattle.audit_core.specs.Findings.{DifferSomewhere}
 use Rattle.audit_core.specs.inner.Findings.{IsFinding}
 use Rattle.audit_core.specs.laws.ListLaws.{agree_not_differ}
 use Rattle.audit_core.specs.Rules.{filter_of}
-use Rattle.audit_core.specs.inner.Rules.{GivesOne}
+use Rattle.audit_core.specs.Verdicts.{GivesOne}
 use Rattle.audit_core.specs.Sides.{ForwardAlike, Sides, lets_answer, permits}
 use Rattle.audit_core.specs.inner.Sides.{AgreeAlways}
 

@@ -17,10 +17,10 @@ use Rattle.ipt_rules.specs.Chain.{Chain}
 use Rattle.ipt_rules.specs.Slices.{HaveSameVerdicts as HaveSameChainVerdicts}
 use Rattle.audit_core.specs.Rules.{Rules, Chains, filter_of}
 use Rattle.audit_core.specs.Sides.{Sides, lets_answer, permits, sides_of}
-use Rattle.audit_core.specs.inner.Parts.{HaveSameFaults, HaveSameVerdicts}
+use Rattle.audit_core.specs.Verdicts.{GivesOne, HaveSameVerdicts}
+use Rattle.audit_core.specs.inner.Parts.{HaveSameFaults}
 use Rattle.audit_core.specs.inner.Faults.{IsAnyFault, IsExpected, IsFault, SaysOther}
 use Rattle.audit_core.specs.inner.Judging.{Right, Wrong, is_asked, state_in}
-use Rattle.audit_core.specs.inner.Rules.{GivesOne}
 use Rattle.audit_core.specs.inner.Sought.{AreRight}
 
 -- ---- packets are those of the box of all

@@ -14,7 +14,7 @@ use Rattle.ofp_rules.specs.declared.entry.Frame.TheVariants.{Ipv4}
 use Rattle.ofp_rules.specs.inner.Build.{IsTable}
 use Rattle.ofp_rules.specs.Meaning.{HasVerdict}
 use Rattle.audit_core.specs.Rules.{Chains, Entries, filter_of}
-use Rattle.audit_core.specs.inner.Rules.{GivesOne}
+use Rattle.audit_core.specs.Verdicts.{GivesOne}
 
 -- every verdict says that the packet passes, or that it does not
 said_by : (v : Verdict) → (b : Bool) × (v ≡ verdict_if b)

@@ -21,7 +21,7 @@ use Rattle.audit_core.specs.laws.ListLaws.{differ_on}
 use Rattle.audit_core.specs.Lists.{front_of, list_of}
 use Rattle.audit_core.specs.Places.{ComesBefore, IsClassPacket, Leasts, comes_first, leasts_of}
 use Rattle.audit_core.specs.Rules.{filter_of}
-use Rattle.audit_core.specs.inner.Rules.{GivesOne}
+use Rattle.audit_core.specs.Verdicts.{GivesOne}
 use Rattle.audit_core.specs.inner.Searching.{AllRight, ArePacketsAll, IsFirstWrong, IsNoHigher, IsSearched, Represent}
 use Rattle.audit_core.proofs.ShortLaws.{agree_where_judged}
 use Rattle.audit_core.specs.Sides.{Agree, Differ, DifferThen, Sides, lets_answer, permits}

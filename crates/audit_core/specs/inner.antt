@@ -10,8 +10,6 @@ pub mod Parts
 pub mod Places
 pub mod RangeCuts
 pub mod Ranges
-pub mod Rules
-pub mod RulesView
 pub mod Searching
 pub mod Sides
 pub mod Sought

@@ -8,7 +8,7 @@ ghost use Rattle.audit_core.specs.inner.Findings.{IsFinding, IsRefused};
 ghost use Rattle.audit_core.specs.inner.Sought.{IsSought};
 ghost use Rattle.audit_core.specs.Places.{class_count, leasts_of, most_classes};
 ghost use Rattle.audit_core.specs.Cuts.{cuts_between};
-ghost use Rattle.audit_core.specs.inner.RulesView.{rules_of};
+ghost use Rattle.audit_core.specs.RulesView.{rules_of};
 ghost use Rattle.audit_core.specs.inner.Searching.{ArePacketsAll};
 ghost use Rattle.audit_core.specs.Sides.{sides_of};
 

@@ -16,7 +16,7 @@ ghost use Rattle.audit_core.specs.inner.Cuts.{AreOneClass};
 ghost use Rattle.audit_core.specs.inner.Findings.{IsFinding};
 ghost use Rattle.audit_core.specs.Places.{IsClassPacket, leasts_of};
 ghost use Rattle.audit_core.specs.Rules.{Entries, filter_of};
-ghost use Rattle.audit_core.specs.inner.Rules.{GivesOne};
+ghost use Rattle.audit_core.specs.Verdicts.{GivesOne};
 ghost use Rattle.audit_core.specs.Sides.{Agree, ForwardAlike, Sides, lets_answer, permits};
 ghost use Rattle.audit_core.specs.inner.Sides.{AgreeAlways, AgreeShortly};
 

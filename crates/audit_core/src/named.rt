@@ -7,7 +7,7 @@ ghost use Rattle.host_net.specs.Services.{services_of};
 ghost use Rattle.ipt_rules.specs.Rules.{all_rules};
 ghost use Rattle.audit_core.specs.inner.Named.{AreMore, IsNamedBy};
 ghost use Rattle.audit_core.specs.Parts.{Addresses, Protocol, Ports, address_parts, entry_parts, flow_services, number_parts, one_port_parts, port_parts, prefix_parts, protocol_parts, rule_parts, rules_parts, service_parts, site_parts};
-ghost use Rattle.audit_core.specs.inner.RulesView.{rules_of};
+ghost use Rattle.audit_core.specs.RulesView.{rules_of};
 
 use crate::text::Text;
 use flow_set::FlowSet;

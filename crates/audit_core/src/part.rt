@@ -6,8 +6,9 @@ ghost use Rattle.host_net.specs.declared.packet.Packet.{Packet};
 ghost use Rattle.header_space.specs.Boxes.{IsBox, IsIn, Narrows};
 ghost use Rattle.header_space.specs.Cuts.{IsCutOf};
 ghost use Rattle.audit_core.specs.inner.Faults.{IsExpected, IsFault, SaysOther};
-ghost use Rattle.audit_core.specs.inner.Rules.{GivesOne};
-ghost use Rattle.audit_core.specs.inner.Parts.{HaveSameFaults, HaveSameVerdicts};
+ghost use Rattle.audit_core.specs.Verdicts.{GivesOne};
+ghost use Rattle.audit_core.specs.Verdicts.{HaveSameVerdicts};
+ghost use Rattle.audit_core.specs.inner.Parts.{HaveSameFaults};
 ghost use Rattle.audit_core.specs.Rules.{Chains, filter_of};
 ghost use Rattle.audit_core.specs.Sides.{permits};
 
@@ -32,8 +33,8 @@ pub(crate) struct Part<'a> {
 
 impl<'a> Model for Part<'a> {
     ghost use Rattle.audit_core.specs.Rules.{filter_of};
-    ghost use Rattle.audit_core.specs.inner.Rules.{GivesOne};
-    ghost use Rattle.audit_core.specs.inner.RulesView.{part_rules};
+    ghost use Rattle.audit_core.specs.Verdicts.{GivesOne};
+    ghost use Rattle.audit_core.specs.RulesView.{part_rules};
     ghost use Rattle.audit_core.specs.Sides.{Sides, sides_of};
 
     ghost Value = { Sides };

@@ -3,8 +3,8 @@
 ghost use Rattle.std.specs.Prelude.{◌≡◌};
 ghost use Rattle.pkt_core.specs.inner.FlowPolicy.{IsFlowPolicy};
 ghost use Rattle.audit_core.specs.Rules.{filter_of};
-ghost use Rattle.audit_core.specs.inner.Rules.{GivesOne};
-ghost use Rattle.audit_core.specs.inner.RulesView.{rules_of};
+ghost use Rattle.audit_core.specs.Verdicts.{GivesOne};
+ghost use Rattle.audit_core.specs.RulesView.{rules_of};
 ghost use Rattle.audit_core.specs.Sides.{sides_of};
 
 use crate::text::Text;
@@ -20,8 +20,8 @@ pub(crate) struct Sides<'a> {
 
 impl<'a> Model for Sides<'a> {
     ghost use Rattle.audit_core.specs.Rules.{filter_of};
-    ghost use Rattle.audit_core.specs.inner.Rules.{GivesOne};
-    ghost use Rattle.audit_core.specs.inner.RulesView.{rules_of};
+    ghost use Rattle.audit_core.specs.Verdicts.{GivesOne};
+    ghost use Rattle.audit_core.specs.RulesView.{rules_of};
     ghost use Rattle.audit_core.specs.Sides.{Sides, sides_of};
 
     ghost Value = { Sides };

@@ -4,9 +4,9 @@ ghost use Rattle.std.specs.Prelude.{◌≡◌, IfOk, IfSome};
 ghost use Rattle.host_net.specs.declared.packet.Packet.{Packet};
 ghost use Rattle.header_space.specs.Boxes.{IsBox, IsIn, Narrows};
 ghost use Rattle.audit_core.specs.Rules.{Chains, filter_of};
-ghost use Rattle.audit_core.specs.inner.Parts.{HaveSameVerdicts};
-ghost use Rattle.audit_core.specs.inner.Rules.{GivesOne};
-ghost use Rattle.audit_core.specs.inner.RulesView.{rules_of};
+ghost use Rattle.audit_core.specs.Verdicts.{HaveSameVerdicts};
+ghost use Rattle.audit_core.specs.Verdicts.{GivesOne};
+ghost use Rattle.audit_core.specs.RulesView.{rules_of};
 
 use header_space::PacketBox;
 use host_net::{CtState, Packet};
@@ -25,7 +25,7 @@ pub enum Text<'a> {
 
 impl<'a> Text<'a> {
     /// Whether it lets a packet pass in a state.
-    pub(crate) fn passes(&self, packet: &Packet, state: CtState) -> bool
+    pub fn passes(&self, packet: &Packet, state: CtState) -> bool
         ensures { filter_of (rules_of self.now) state packet.now result }
     {
         match self {
@@ -36,7 +36,7 @@ impl<'a> Text<'a> {
 
     /// Whether it lets the packets of a box pass in a state. The box is narrowed, so that this is so for all
     /// packets that it has then.
-    pub(crate) fn passes_within(&self, within: &mut PacketBox, state: CtState) -> bool
+    pub fn passes_within(&self, within: &mut PacketBox, state: CtState) -> bool
         requires { IsBox within.old }
         ensures part { Narrows within.old within.new }
         ensures passes { (p : Packet) → IsIn within.new p → filter_of (rules_of self.now) state p result }
@@ -48,11 +48,7 @@ impl<'a> Text<'a> {
     }
 
     /// Returns the slice of the rules for the packets of a box, if there is one that is worth its cost.
-    pub(crate) fn slice(
-        &self,
-        alloc: Global,
-        within: &PacketBox,
-    ) -> Result<Option<Slice>, AllocError>
+    pub fn slice(&self, alloc: Global, within: &PacketBox) -> Result<Option<Slice>, AllocError>
         ensures { IfOk result (λ slice. IfSome slice (λ chains. HaveSameVerdicts within.now (rules_of self.now) (Chains chains))) }
     {
         match self {
@@ -62,7 +58,7 @@ impl<'a> Text<'a> {
     }
 
     /// How many rules it has. Whatever they are, a packet passes in a state or does not.
-    pub(crate) fn rules(&self) -> u32
+    pub fn rules(&self) -> u32
         ensures gives { GivesOne (filter_of (rules_of self.now)) }
     {
         match self {

@@ -11,7 +11,7 @@ use Rattle.audit_core.specs.inner.FindingText.{finding_text}
 use Rattle.audit_core.specs.Lists.{front_of}
 use Rattle.audit_core.specs.Places.{leasts_of}
 use Rattle.audit_core.specs.Rules.{Rules, filter_of}
-use Rattle.audit_core.specs.inner.Rules.{GivesOne}
+use Rattle.audit_core.specs.Verdicts.{GivesOne}
 use Rattle.audit_core.specs.Sides.{ForwardAlike, Sides, sides_of}
 use Rattle.audit_core.specs.declared.finding.Finding.{Finding}
 use Rattle.audit_core.specs.declared.finding.Finding.TheVariants.{Equal, Differ as Differing}

@@ -2,8 +2,8 @@
 
 ghost use Rattle.std.specs.Prelude.{◌≡◌, ◌≤◌, IfOk, true};
 ghost use Rattle.audit_core.specs.Rules.{filter_of};
-ghost use Rattle.audit_core.specs.inner.Rules.{GivesOne};
-ghost use Rattle.audit_core.specs.inner.RulesView.{rules_of};
+ghost use Rattle.audit_core.specs.Verdicts.{GivesOne};
+ghost use Rattle.audit_core.specs.RulesView.{rules_of};
 ghost use Rattle.topos_top.specs.Ask.{Audit};
 ghost use Rattle.topos_top.specs.Audit.{audit_job, rules_in};
 ghost use Rattle.topos_top.specs.Commands.{course_of};

@@ -2,7 +2,7 @@
 
 ghost use Rattle.std.specs.Prelude.{◌≡◌, ◌≤◌, IfOk};
 ghost use Rattle.audit_core.specs.Rules.{filter_of};
-ghost use Rattle.audit_core.specs.inner.Rules.{GivesOne};
+ghost use Rattle.audit_core.specs.Verdicts.{GivesOne};
 ghost use Rattle.topos_top.specs.inner.Reads.{MayTake, MayRead, MayReadRules};
 ghost use Rattle.topos_top.specs.Shelf.{shelf_change};
 ghost use Rattle.topos_top.specs.inner.Views.{outcome_view, items_view, rules_view, rules_outcome, session_view, edits_view};

@@ -1,18 +1,11 @@
 -- Sides that say the same of the packets of a box. Callers see none of it; they have `Findings`.
-use Rattle.std.specs.Prelude.{◌↔◌, Bool}
+use Rattle.std.specs.Prelude.{◌↔◌}
 use Rattle.host_net.specs.declared.packet.Packet.{Packet}
-use Rattle.host_net.specs.declared.packet.CtState.{CtState}
 use Rattle.header_space.specs.declared.packet_box.PacketBox.{PacketBox}
 use Rattle.header_space.specs.Boxes.{IsIn}
 use Rattle.audit_core.specs.declared.kind.Kind.{Kind}
-use Rattle.audit_core.specs.Rules.{Rules, filter_of}
 use Rattle.audit_core.specs.Sides.{Sides}
 use Rattle.audit_core.specs.inner.Faults.{IsFault}
-
--- In each state the rules let the same packets of a box pass.
-abbrev pub HaveSameVerdicts : PacketBox → Rules → Rules → Type 0
-HaveSameVerdicts b rules others =
-    (p : Packet) → IsIn b p → (state : CtState) (passes : Bool) → (filter_of rules state p passes ↔ filter_of others state p passes)
 
 -- The same packets of a box are at fault, by each kind of list.
 abbrev pub HaveSameFaults : PacketBox → Sides → Sides → Type 0

@@ -1,6 +1,6 @@
 use Rattle.pkt_core.specs.inner.FlowPolicy.{FlowPolicy}
 use Rattle.audit_core.specs.declared.text.Text.{Text}
-use Rattle.audit_core.specs.inner.RulesView.{rules_of}
+use Rattle.audit_core.specs.RulesView.{rules_of}
 use Rattle.audit_core.specs.laws.FindingLaws.{equal_exactly}
 use Rattle.audit_core.specs.Sides.{Sides, sides_of}
 use Rattle.audit_core.proofs.SoughtLaws.{found_by_sought}

@@ -4,7 +4,7 @@ use Rattle.audit_core.specs.declared.finding.Finding.TheVariants.{Equal}
 use Rattle.audit_core.specs.declared.text.Text.{Text}
 use Rattle.audit_core.specs.Findings.{DifferSomewhere}
 use Rattle.audit_core.specs.inner.Findings.{IsFinding}
-use Rattle.audit_core.specs.inner.RulesView.{rules_of}
+use Rattle.audit_core.specs.RulesView.{rules_of}
 use Rattle.audit_core.specs.inner.Sought.{IsSought}
 use Rattle.audit_core.specs.laws.FindingLaws.{equal_exactly}
 use Rattle.audit_core.specs.Sides.{Sides, sides_of}

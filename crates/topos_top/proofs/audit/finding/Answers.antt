@@ -1,5 +1,5 @@
 use Rattle.std.proofs.lemmas.Result.{IfOk-weaker}
-use Rattle.audit_core.specs.inner.RulesView.{rules_of}
+use Rattle.audit_core.specs.RulesView.{rules_of}
 use Rattle.topos_top.proofs.AuditLaws.{ends_found}
 use Rattle.topos_top.proofs.audit.finding.Goals as goal
 

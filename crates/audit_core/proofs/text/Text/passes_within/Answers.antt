@@ -4,7 +4,7 @@ use Rattle.ofp_rules.specs.declared.entry.Frame.TheVariants.{Ipv4}
 use Rattle.ofp_rules.specs.Meaning.{HasVerdict}
 use Rattle.audit_core.specs.declared.text.Text.{Text}
 use Rattle.audit_core.specs.Rules.{filter_of}
-use Rattle.audit_core.specs.inner.RulesView.{rules_of}
+use Rattle.audit_core.specs.RulesView.{rules_of}
 use Rattle.audit_core.proofs.text.Text.passes_within.Goals as goal
 
 pub returns-in-Ofp-clause-passes : goal.returns-in-Ofp-clause-passes

@@ -2,8 +2,8 @@ use Rattle.std.proofs.Common.{subst, sym}
 use Rattle.audit_core.specs.declared.text.Text.{Text}
 use Rattle.audit_core.proofs.RulesLaws.{chains_give, table_gives}
 use Rattle.audit_core.specs.Rules.{filter_of}
-use Rattle.audit_core.specs.inner.Rules.{GivesOne}
-use Rattle.audit_core.specs.inner.RulesView.{rules_of}
+use Rattle.audit_core.specs.Verdicts.{GivesOne}
+use Rattle.audit_core.specs.RulesView.{rules_of}
 use Rattle.audit_core.proofs.text.Text.rules.Goals as goal
 
 pub returns-in-Ipt : goal.returns-in-Ipt

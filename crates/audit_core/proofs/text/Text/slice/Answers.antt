@@ -4,8 +4,8 @@ use Rattle.std.proofs.lemmas.Result.{IfOk-weaker}
 use Rattle.ipt_rules.specs.Slices.{HaveSameVerdicts as HaveSameChainVerdicts}
 use Rattle.audit_core.specs.declared.text.Text.{Text}
 use Rattle.audit_core.specs.Rules.{Chains}
-use Rattle.audit_core.specs.inner.Parts.{HaveSameVerdicts}
-use Rattle.audit_core.specs.inner.RulesView.{rules_of}
+use Rattle.audit_core.specs.Verdicts.{HaveSameVerdicts}
+use Rattle.audit_core.specs.RulesView.{rules_of}
 use Rattle.audit_core.proofs.FaultLaws.{same_slice}
 use Rattle.audit_core.proofs.text.Text.slice.Goals as goal
 
