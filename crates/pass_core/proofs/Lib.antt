@@ -1,0 +1,4 @@
+mod AreaLemmas
+mod RangeLemmas
+mod SurveyLemmas
+mod SweepLemmas

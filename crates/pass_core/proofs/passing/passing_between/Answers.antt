@@ -1,0 +1,39 @@
+use Rattle.std.proofs.Common.{ℕ, ◌∙◌, sym, ap, subst}
+use Rattle.host_net.specs.declared.packet.CtState.TheVariants.{New}
+use Rattle.audit_core.specs.RulesView.{rules_of}
+use Rattle.pass_core.specs.Passing.{GoesBetween, new_packets}
+use Rattle.pass_core.specs.inner.Numbers.{number, number_before}
+use Rattle.pass_core.specs.inner.Sweeping.{IsSwept}
+use Rattle.pass_core.proofs.AreaLemmas.{are_areas, goes_between, in_areas, some_areas}
+use Rattle.pass_core.proofs.SweepLemmas.{next_number, swept_all, swept_on}
+use Rattle.pass_core.proofs.passing.passing_between.Goals as goal
+
+pub survey_areas-requires-clause-areas : goal.survey_areas-requires-clause-areas
+survey_areas-requires-clause-areas c =
+    are_areas c.args.from.now c.args.to.now c.deref.result.now (c.deref.ensures.value ∙ c.in_ok-areas.ensures) c.requires.from c.requires.to
+
+pub survey_areas-requires-clause-some : goal.survey_areas-requires-clause-some
+survey_areas-requires-clause-some c =
+    some_areas c.args.from.now c.args.to.now c.deref.result.now (c.deref.ensures.value ∙ c.in_ok-areas.ensures) c.requires.from c.requires.to
+
+pub loop-next-preserved : goal.loop-next-preserved
+loop-next-preserved c =
+    let Lets = new_packets (rules_of c.args.text.now) in
+    let from = c.args.from.now in
+    let to = c.args.to.now in
+    let areas = c.deref.result.now in
+    let same = c.deref.ensures.value ∙ c.in_ok-areas.ensures in
+    let found = c.in_ok-found.found in
+    let before = subst (λ (n : ℕ). IsSwept Lets (GoesBetween from to) c.loop-next.ranges.items n) (ap number_before c.in-Some.is) c.loop-next.invariant in
+    let after = swept_on Lets (GoesBetween from to) areas (number c.in-Some.first) found c.in_ok-found.ensures
+    (λ p is there. goes_between from to areas p same is there) (λ p goes. goes.packet) (λ p goes. in_areas from to areas p same goes)
+    (λ p goes. c.rules-rules.ensures.gives New p goes.packet) c.next-next.ensures.small c.loop-next.ranges.items c.append.new.ranges.items before c.in_ok-append.ensures in
+    subst (λ (n : ℕ). IsSwept Lets (GoesBetween from to) c.append.new.ranges.items n)
+    (sym (next_number c.next-next.result (number found.last) c.next-next.ensures.next c.next-next.ensures.last)) after
+
+pub returns : goal.returns
+returns c =
+    let Lets = new_packets (rules_of c.args.text.now) in
+    let Between = GoesBetween c.args.from.now c.args.to.now in
+    swept_all Lets Between c.loop-next.ranges.items
+    (subst (λ (n : ℕ). IsSwept Lets Between c.loop-next.ranges.items n) (ap number_before c.in_default.is) c.loop-next.invariant)

@@ -1,0 +1,4 @@
+pub mod Passing
+pub mod Services
+pub mod inner
+pub mod laws

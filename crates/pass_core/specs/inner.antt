@@ -1,0 +1,5 @@
+pub mod Areas
+pub mod Joining
+pub mod Numbers
+pub mod Surveying
+pub mod Sweeping
