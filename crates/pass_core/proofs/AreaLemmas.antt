@@ -1,20 +1,17 @@
 -- Areas between two sets of addresses.
-use Rattle.std.proofs.Common.{◌≡◌, ◌⊎◌, inl, inr, ℕ, zero, suc, ◌<◌, List, [], ◌∷◌, ◌++◌, map, drop, length, subst, sym, arith}
+use Rattle.std.proofs.Common.{◌≡◌, ◌⊎◌, inl, inr, ℕ, ◌<◌, List, [], ◌∷◌, ◌++◌, map, length, ap, subst, sym, arith}
 use Rattle.std.specs.List.{All}
 use Rattle.std.proofs.lemmas.List.Elements.{All-append, All-head, All-map, All-nil, All-tail, All-weaker}
 use Rattle.host_net.specs.declared.packet.Packet.{Packet}
 use Rattle.host_net.specs.Packet.{IsPacket}
 use Rattle.pass_core.specs.declared.address_range.AddressRange.{AddressRange}
 use Rattle.pass_core.specs.declared.area.Area.{Area}
+use Rattle.pass_core.specs.declared.sliced_area.SlicedArea.{SlicedArea}
 use Rattle.pass_core.specs.Passing.{AreRanges, GoesBetween, IsRange, LiesIn, LiesInOne}
 use Rattle.pass_core.specs.inner.Areas.{IsArea, IsInOne, area_between, areas_between}
+use Rattle.pass_core.specs.inner.Slices.{area_of}
 
 -- ---- packets in areas
-
-pub in_dropped : (i : ℕ) (areas : List Area) (p : Packet) → IsInOne (drop i areas) p → IsInOne areas p
-in_dropped zero areas p there = there
-in_dropped (suc i) [] p there = absurd there
-in_dropped (suc i) (a ∷ areas) p there = inr (in_dropped i areas p there)
 
 -- only the addresses of a packet count
 pub in_same : (areas : List Area) (p q : Packet) → q.src ≡ p.src → q.dst ≡ p.dst → IsInOne areas p → IsInOne areas q
@@ -89,5 +86,10 @@ some_between [] to sources targets = absurd (omega (arith, sources))
 some_between (s ∷ from) [] sources targets = absurd (omega (arith, targets))
 some_between (s ∷ from) (t ∷ to) sources targets = omega arith
 
-pub some_areas : (from to : List AddressRange) (areas : List Area) → areas ≡ areas_between from to → AreRanges from → AreRanges to → 0 < length areas
-some_areas from to areas same sources targets = subst (λ (xs : List Area). 0 < length xs) (sym same) (some_between from to sources.0 targets.0)
+pub some_sliced : (from to : List AddressRange) (sliced : List SlicedArea) → map area_of sliced ≡ areas_between from to → AreRanges from → AreRanges to
+    → 0 < length sliced
+some_sliced from to [] same sources targets =
+    let none : 0 < length (areas_between from to) = some_between from to sources.0 targets.0 in
+    let empty : 0 ≡ length (areas_between from to) = ap length same in
+    absurd (omega (arith, none, empty))
+some_sliced from to (s ∷ sliced) same sources targets = omega arith

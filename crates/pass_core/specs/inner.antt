@@ -1,5 +1,6 @@
 pub mod Areas
 pub mod Joining
 pub mod Numbers
+pub mod Slices
 pub mod Surveying
 pub mod Sweeping

@@ -4,7 +4,7 @@ ghost use Rattle.std.specs.Prelude.{◌≡◌, ◌++◌, IfOk, OnOk, map};
 ghost use Rattle.host_net.specs.declared.packet.Packet.{Packet};
 ghost use Rattle.host_net.specs.Packet.{IsPacket};
 ghost use Rattle.header_space.specs.Boxes.{IsBox, IsIn};
-ghost use Rattle.pass_core.specs.inner.Areas.{IsArea, area_between, areas_between, box_of};
+ghost use Rattle.pass_core.specs.inner.Areas.{IsArea, area_between, areas_between, box_of, every_box_of};
 
 use crate::address_range::AddressRange;
 use crate::service::Service;
@@ -20,6 +20,28 @@ pub(crate) struct Area {
 }
 
 impl Area {
+    /// All packets in the area.
+    pub(crate) fn packets(&self) -> PacketBox
+        ensures { result ≡ every_box_of self.now }
+    {
+        PacketBox {
+            least: Packet {
+                src: self.from.first,
+                dst: self.to.first,
+                proto: 0,
+                sport: 0,
+                dport: 0,
+            },
+            greatest: Packet {
+                src: self.from.last,
+                dst: self.to.last,
+                proto: u8::MAX,
+                sport: u16::MAX,
+                dport: u16::MAX,
+            },
+        }
+    }
+
     /// The packets of a service in the area.
     pub(crate) fn packets_of(&self, service: Service) -> PacketBox
         requires { IsArea self.now }

@@ -7,6 +7,7 @@ mod area;
 mod passing;
 mod passing_range;
 mod service;
+mod sliced_area;
 mod survey;
 
 pub use address_range::AddressRange;

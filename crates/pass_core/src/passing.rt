@@ -9,6 +9,7 @@ use crate::address_range::AddressRange;
 use crate::area::areas_between;
 use crate::passing_range::{PassingRange, join};
 use crate::service::Service;
+use crate::sliced_area::slice_areas;
 use crate::survey::{Survey, survey_areas};
 use audit_core::Text;
 use std::alloc::{AllocError, Global};
@@ -26,12 +27,13 @@ pub fn passing_between(
     ensures { IfOk result (λ ranges. ArePassing (new_packets (rules_of text.now)) (GoesBetween from.now to.now) ranges.items) }
 {
     let areas = areas_between(alloc, from, to)?;
+    let sliced = slice_areas(alloc, text, &areas)?;
     // This tells that each packet passes by the rules or does not.
     let _rules = text.rules();
     let mut ranges = Vec::new(alloc);
     let mut next = Some(Service::first());
     while let Some(first) = next {
-        let found = survey_areas(alloc, text, &areas, first)?;
+        let found = survey_areas(alloc, text, &sliced, first)?;
         append(&mut ranges, &found)?;
         next = found.last.next();
     }
@@ -39,7 +41,7 @@ pub fn passing_between(
 }
 
 /// Appends the range of a survey, if packets of its services pass.
-fn append(ranges: &mut Vec<PassingRange>, found: &Survey<'_>) -> Result<(), AllocError>
+fn append(ranges: &mut Vec<PassingRange>, found: &Survey<'_, '_>) -> Result<(), AllocError>
     ensures { IfOk result (λ _. Appends found.now ranges.old.items ranges.new.items) }
 {
     let Some(passes) = found.passes else {

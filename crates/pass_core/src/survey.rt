@@ -1,7 +1,7 @@
 //! Surveys: whether packets of a service pass and whether some do not, and up to which service this is
 //! so. A packet is tested for all later services at once, as long as the rules treat it alike.
 
-ghost use Rattle.std.specs.Prelude.{◌≡◌, ◌≤◌, ◌<◌, Bool, IfOk, length};
+ghost use Rattle.std.specs.Prelude.{◌≡◌, ◌≤◌, ◌<◌, Bool, IfOk, length, map};
 ghost use Rattle.std.specs.List.{All};
 ghost use Rattle.host_net.specs.declared.packet.Packet.{Packet};
 ghost use Rattle.host_net.specs.Packet.{IsPacket};
@@ -9,21 +9,21 @@ ghost use Rattle.header_space.specs.Boxes.{IsBox, IsIn, Narrows};
 ghost use Rattle.audit_core.specs.RulesView.{rules_of};
 ghost use Rattle.pass_core.specs.Passing.{new_packets};
 ghost use Rattle.pass_core.specs.Services.{service_of};
-ghost use Rattle.pass_core.specs.inner.Areas.{IsArea};
 ghost use Rattle.pass_core.specs.inner.Numbers.{number};
+ghost use Rattle.pass_core.specs.inner.Slices.{IsSliced, area_of, rules_by};
 ghost use Rattle.pass_core.specs.inner.Surveying.{AreFellows, HasService, IsSurvey, Raises, noted};
 
-use crate::area::Area;
 use crate::service::Service;
+use crate::sliced_area::{AreaRules, SlicedArea};
 use audit_core::Text;
 use header_space::{PacketBox, Visitor, visit_all};
-use host_net::{CtState, Packet};
+use host_net::Packet;
 use std::alloc::{AllocError, Global};
 
 /// What is found out about the packets of a service, and of all services up to the last one.
 #[derive(Drop)]
-pub(crate) struct Survey<'a> {
-    text: Text<'a>,
+pub(crate) struct Survey<'a, 'b> {
+    rules: AreaRules<'a, 'b>,
     pub(crate) first: Service,
     pub(crate) last: Service,
     /// A packet that passes.
@@ -39,7 +39,7 @@ struct Answer {
     last: Service,
 }
 
-impl<'a> Survey<'a> {
+impl<'a, 'b> Survey<'a, 'b> {
     /// Whether the rules let the least packet of a box pass. Narrows the box until they treat the fellows of
     /// all its packets alike, for all services up to the last one.
     fn ask(&self, within: &mut PacketBox) -> Answer
@@ -47,10 +47,10 @@ impl<'a> Survey<'a> {
         ensures part { Narrows within.old within.new }
         ensures low { service_of within.old.least ≤ number result.last }
         ensures alike { (q f : Packet) → IsIn within.new q → AreFellows q f → IsPacket f → service_of within.old.least ≤ service_of f
-            → service_of f ≤ number result.last → new_packets (rules_of self.now.text) f result.passes }
+            → service_of f ≤ number result.last → new_packets (rules_by self.now.rules) f result.passes }
     {
         let mut part = raised(within, self.last);
-        let passes = self.text.passes_within(&mut part, CtState::New);
+        let passes = self.rules.passes_within(&mut part);
         within.greatest.src = part.greatest.src;
         within.greatest.dst = part.greatest.dst;
         within.greatest.sport = part.greatest.sport;
@@ -111,7 +111,7 @@ fn last_alike(part: &PacketBox) -> Service
     }
 }
 
-impl<'a> Visitor for Survey<'a> {
+impl<'a, 'b> Visitor for Survey<'a, 'b> {
     ghost use Rattle.pass_core.specs.inner.Surveying.{Grows, IsKnown};
     ghost use Rattle.pass_core.specs.laws.SurveyLaws.{grows_by_none, grows_by_both, grows_by_more, keeps};
 
@@ -141,25 +141,26 @@ impl<'a> Visitor for Survey<'a> {
 }
 
 /// Surveys the packets of the areas, from a service on.
-pub(crate) fn survey_areas<'a>(
+pub(crate) fn survey_areas<'a, 'b>(
     alloc: Global,
     text: &Text<'a>,
-    areas: &[Area],
+    areas: &'b [SlicedArea],
     first: Service,
-) -> Result<Survey<'a>, AllocError>
-    requires areas { All IsArea areas.now }
+) -> Result<Survey<'a, 'b>, AllocError>
+    requires areas { All (IsSliced (rules_of text.now)) areas.now }
     requires some { 0 < length areas.now }
-    ensures { IfOk result (IsSurvey (new_packets (rules_of text.now)) areas.now (number first)) }
+    ensures { IfOk result (IsSurvey (new_packets (rules_of text.now)) (map area_of areas.now) (number first)) }
 {
     let mut survey = Survey {
-        text: *text,
+        rules: AreaRules::All(*text),
         first,
         last: first.end(),
         passes: None,
         stays: None,
     };
     for area in areas {
-        visit_all(alloc, &mut survey, area.packets_of(first))?;
+        survey.rules = area.rules(text);
+        visit_all(alloc, &mut survey, area.area.packets_of(first))?;
     }
     Ok(survey)
 }

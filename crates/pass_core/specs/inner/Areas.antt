@@ -28,6 +28,13 @@ area_between from to = record { from = from; to = to }
 abbrev pub areas_between : List AddressRange → List AddressRange → List Area
 areas_between from to = flat_map (λ source. map (area_between source) to) from
 
+-- All packets in an area.
+abbrev pub every_box_of : Area → PacketBox
+every_box_of a = record {
+  least = record { src = a.from.first; dst = a.to.first; proto = 0; sport = 0; dport = 0 };
+  greatest = record { src = a.from.last; dst = a.to.last; proto = 255; sport = 65535; dport = 65535 };
+}
+
 -- The packets of a service in an area.
 abbrev pub box_of : Area → Service → PacketBox
 box_of a s = record {

@@ -4,13 +4,13 @@ use Rattle.host_net.specs.declared.packet.Packet.{Packet}
 use Rattle.host_net.specs.Packet.{IsPacket}
 use Rattle.header_space.specs.declared.packet_box.PacketBox.{PacketBox}
 use Rattle.header_space.specs.Boxes.{IsBox, IsIn}
-use Rattle.audit_core.specs.RulesView.{rules_of}
 use Rattle.pass_core.specs.declared.area.Area.{Area}
 use Rattle.pass_core.specs.declared.survey.Survey.{Survey}
 use Rattle.pass_core.specs.Passing.{new_packets}
 use Rattle.pass_core.specs.Services.{service_of}
 use Rattle.pass_core.specs.inner.Areas.{IsInOne}
 use Rattle.pass_core.specs.inner.Numbers.{number}
+use Rattle.pass_core.specs.inner.Slices.{rules_by}
 
 -- The packets differ at most in their services.
 pub record AreFellows (p q : Packet) : Type 0 where
@@ -54,7 +54,7 @@ IsSurveyed s n = (number s.first ≤ n) × (n ≤ number s.last)
 -- If the packet has the first service, it is recorded what becomes of its fellows.
 abbrev pub IsKnown : Survey → Packet → Type 0
 IsKnown s p =
-    service_of p ≡ number s.first → (f : Packet) → AreFellows p f → IsPacket f → IsSurveyed s (service_of f) → IsRecorded (new_packets (rules_of s.text)) s f
+    service_of p ≡ number s.first → (f : Packet) → AreFellows p f → IsPacket f → IsSurveyed s (service_of f) → IsRecorded (new_packets (rules_by s.rules)) s f
 
 -- The fellows of a packet, with services from a first to a last one, pass like it.
 abbrev pub AreAlike : (Packet → Bool → Type 0) → (first last : ℕ) → Bool → Packet → Type 0
@@ -64,7 +64,7 @@ AreAlike Lets first last passes p = (f : Packet) → AreFellows p f → IsPacket
 pub record IsFoundIn (b : PacketBox) (s : Survey) (passes : Bool) (p : Packet) : Type 0 where
   pub inside : IsIn b p
   pub service : service_of p ≡ number s.first
-  pub alike : AreAlike (new_packets (rules_of s.text)) (number s.first) (number s.last) passes p
+  pub alike : AreAlike (new_packets (rules_by s.rules)) (number s.first) (number s.last) passes p
 
 -- The noted packet stays, or one of the box is noted.
 abbrev pub Notes : PacketBox → Survey → Bool → (old new : Option Packet) → Type 0
@@ -72,7 +72,7 @@ Notes b s passes old new = (new ≡ old) ⊎ ((p : Packet) × (new ≡ Some p) �
 
 -- A survey goes on by packets of the box.
 pub record Grows (b : PacketBox) (old new : Survey) : Type 0 where
-  pub text : new.text ≡ old.text
+  pub rules : new.rules ≡ old.rules
   pub first : new.first ≡ old.first
   pub last : number new.last ≤ number old.last
   pub some : number old.first ≤ number old.last → number old.first ≤ number new.last

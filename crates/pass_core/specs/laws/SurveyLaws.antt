@@ -3,18 +3,18 @@ use Rattle.std.proofs.Common.{◌≡◌, inl, inr, ℕ, ◌≤◌, Bool, true, f
 use Rattle.host_net.specs.declared.packet.Packet.{Packet}
 use Rattle.header_space.specs.declared.packet_box.PacketBox.{PacketBox}
 use Rattle.header_space.specs.Visits.{HasOnlyPacketsOf}
-use Rattle.audit_core.specs.declared.text.Text.{Text}
-use Rattle.audit_core.specs.RulesView.{rules_of}
 use Rattle.pass_core.specs.declared.service.Service.{Service}
+use Rattle.pass_core.specs.declared.sliced_area.AreaRules.{AreaRules}
 use Rattle.pass_core.specs.declared.survey.Survey.{Survey}
 use Rattle.pass_core.specs.Passing.{new_packets}
 use Rattle.pass_core.specs.Services.{service_of}
 use Rattle.pass_core.specs.inner.Numbers.{number}
+use Rattle.pass_core.specs.inner.Slices.{rules_by}
 use Rattle.pass_core.specs.inner.Surveying.{AreAlike, Grows, IsFoundIn, IsKnown, IsRecorded, IsThere, Notes}
 
 pub grows_by_none : (b : PacketBox) (x : Survey) → Grows b x x
 grows_by_none b x = record {
-  text = refl;
+  rules = refl;
   first = refl;
   last = omega arith;
   some = λ low. low;
@@ -28,37 +28,37 @@ fewer_alike : (Lets : Packet → Bool → Type 0) (first last less : ℕ) (passe
     → AreAlike Lets first less passes p
 fewer_alike Lets first last less passes p low alike = λ f fellows is from to. alike f fellows is from (omega (arith, low, to))
 
-found_later : (b : PacketBox) (y z : Survey) (passes : Bool) (p : Packet) → z.text ≡ y.text → z.first ≡ y.first → number z.last ≤ number y.last
+found_later : (b : PacketBox) (y z : Survey) (passes : Bool) (p : Packet) → z.rules ≡ y.rules → z.first ≡ y.first → number z.last ≤ number y.last
     → IsFoundIn b y passes p → IsFoundIn b z passes p
-found_later b y z passes p text first last found = record {
+found_later b y z passes p rules first last found = record {
   inside = found.inside;
   service = found.service ∙ ap number (sym first);
   alike =
-      subst (λ (t : Text). AreAlike (new_packets (rules_of t)) (number z.first) (number z.last) passes p) (sym text)
-      (subst (λ (s : Service). AreAlike (new_packets (rules_of y.text)) (number s) (number z.last) passes p) (sym first)
-      (fewer_alike (new_packets (rules_of y.text)) (number y.first) (number y.last) (number z.last) passes p last found.alike));
+      subst (λ (t : AreaRules). AreAlike (new_packets (rules_by t)) (number z.first) (number z.last) passes p) (sym rules)
+      (subst (λ (s : Service). AreAlike (new_packets (rules_by y.rules)) (number s) (number z.last) passes p) (sym first)
+      (fewer_alike (new_packets (rules_by y.rules)) (number y.first) (number y.last) (number z.last) passes p last found.alike));
 }
 
-notes_both : (b : PacketBox) (y z : Survey) (passes : Bool) (one two three : Option Packet) → z.text ≡ y.text → z.first ≡ y.first
+notes_both : (b : PacketBox) (y z : Survey) (passes : Bool) (one two three : Option Packet) → z.rules ≡ y.rules → z.first ≡ y.first
     → number z.last ≤ number y.last → Notes b y passes one two → Notes b z passes two three → Notes b z passes one three
-notes_both b y z passes one two three text first last before after = elim after [
+notes_both b y z passes one two three rules first last before after = elim after [
   | inl same ↦ elim before [
     | inl also ↦ inl (same ∙ also)
-    | inr found ↦ inr (found.0, same ∙ found.1, found_later b y z passes found.0 text first last found.2)
+    | inr found ↦ inr (found.0, same ∙ found.1, found_later b y z passes found.0 rules first last found.2)
   ]
   | inr found ↦ inr found
 ]
 
 pub grows_by_both : (b : PacketBox) (x y z : Survey) → Grows b x y → Grows b y z → Grows b x z
 grows_by_both b x y z one two = record {
-  text = two.text ∙ one.text;
+  rules = two.rules ∙ one.rules;
   first = two.first ∙ one.first;
   last = omega (arith, one.last, two.last);
   some = λ low.
       let mid = one.some low in
       subst (λ (s : Service). number s ≤ number z.last) one.first (two.some (subst (λ (s : Service). number s ≤ number y.last) (sym one.first) mid));
-  passes = notes_both b y z true x.passes y.passes z.passes two.text two.first two.last one.passes two.passes;
-  stays = notes_both b y z false x.stays y.stays z.stays two.text two.first two.last one.stays two.stays;
+  passes = notes_both b y z true x.passes y.passes z.passes two.rules two.first two.last one.passes two.passes;
+  stays = notes_both b y z false x.stays y.stays z.stays two.rules two.first two.last one.stays two.stays;
 }
 
 notes_more : (b part : PacketBox) (s : Survey) (passes : Bool) (old new : Option Packet) → HasOnlyPacketsOf b part → Notes part s passes old new
@@ -70,7 +70,7 @@ notes_more b part s passes old new only notes = elim notes [
 
 pub grows_by_more : (b part : PacketBox) (x y : Survey) → HasOnlyPacketsOf b part → Grows part x y → Grows b x y
 grows_by_more b part x y only grows = record {
-  text = grows.text;
+  rules = grows.rules;
   first = grows.first;
   last = grows.last;
   some = grows.some;
@@ -97,6 +97,6 @@ keeps b x y p grows known = λ service f fellows is between.
     let lasts = grows.last in
     let to = between.1 in
     let from : number x.first ≤ service_of f = subst (λ (s : Service). number s ≤ service_of f) grows.first between.0 in
-    let before : IsRecorded (new_packets (rules_of x.text)) x f = known (service ∙ ap number grows.first) f fellows is (from, omega (arith, lasts, to)) in
-    subst (λ (t : Text). IsRecorded (new_packets (rules_of t)) y f) (sym grows.text)
-    (recorded_still (new_packets (rules_of x.text)) b x y f grows before)
+    let before : IsRecorded (new_packets (rules_by x.rules)) x f = known (service ∙ ap number grows.first) f fellows is (from, omega (arith, lasts, to)) in
+    subst (λ (t : AreaRules). IsRecorded (new_packets (rules_by t)) y f) (sym grows.rules)
+    (recorded_still (new_packets (rules_by x.rules)) b x y f grows before)

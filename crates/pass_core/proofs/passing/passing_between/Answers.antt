@@ -1,28 +1,30 @@
-use Rattle.std.proofs.Common.{ℕ, ◌∙◌, sym, ap, subst}
+use Rattle.std.proofs.Common.{ℕ, map, ◌∙◌, sym, ap, subst}
 use Rattle.host_net.specs.declared.packet.CtState.TheVariants.{New}
 use Rattle.audit_core.specs.RulesView.{rules_of}
 use Rattle.pass_core.specs.Passing.{GoesBetween, new_packets}
 use Rattle.pass_core.specs.inner.Numbers.{number, number_before}
+use Rattle.pass_core.specs.inner.Slices.{area_of}
 use Rattle.pass_core.specs.inner.Sweeping.{IsSwept}
-use Rattle.pass_core.proofs.AreaLemmas.{are_areas, goes_between, in_areas, some_areas}
+use Rattle.pass_core.proofs.AreaLemmas.{are_areas, goes_between, in_areas, some_sliced}
 use Rattle.pass_core.proofs.SweepLemmas.{next_number, swept_all, swept_on}
 use Rattle.pass_core.proofs.passing.passing_between.Goals as goal
 
-pub survey_areas-requires-clause-areas : goal.survey_areas-requires-clause-areas
-survey_areas-requires-clause-areas c =
+pub slice_areas-requires : goal.slice_areas-requires
+slice_areas-requires c =
     are_areas c.args.from.now c.args.to.now c.deref.result.now (c.deref.ensures.value ∙ c.in_ok-areas.ensures) c.requires.from c.requires.to
 
 pub survey_areas-requires-clause-some : goal.survey_areas-requires-clause-some
 survey_areas-requires-clause-some c =
-    some_areas c.args.from.now c.args.to.now c.deref.result.now (c.deref.ensures.value ∙ c.in_ok-areas.ensures) c.requires.from c.requires.to
+    some_sliced c.args.from.now c.args.to.now c.deref-in-Some.result.now
+    (ap (map area_of) c.deref-in-Some.ensures.value ∙ c.in_ok-sliced.ensures.areas ∙ c.deref.ensures.value ∙ c.in_ok-areas.ensures) c.requires.from c.requires.to
 
 pub loop-next-preserved : goal.loop-next-preserved
 loop-next-preserved c =
     let Lets = new_packets (rules_of c.args.text.now) in
     let from = c.args.from.now in
     let to = c.args.to.now in
-    let areas = c.deref.result.now in
-    let same = c.deref.ensures.value ∙ c.in_ok-areas.ensures in
+    let areas = map area_of c.deref-in-Some.result.now in
+    let same = ap (map area_of) c.deref-in-Some.ensures.value ∙ c.in_ok-sliced.ensures.areas ∙ c.deref.ensures.value ∙ c.in_ok-areas.ensures in
     let found = c.in_ok-found.found in
     let before = subst (λ (n : ℕ). IsSwept Lets (GoesBetween from to) c.loop-next.ranges.items n) (ap number_before c.in-Some.is) c.loop-next.invariant in
     let after = swept_on Lets (GoesBetween from to) areas (number c.in-Some.first) found c.in_ok-found.ensures
