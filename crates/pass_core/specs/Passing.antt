@@ -60,7 +60,7 @@ PassesNot Lets Between n = (p : Packet) → Between p → service_of p ≡ n →
 
 -- ---- ranges of services
 
--- The services of the range pass wholly. Those of each other range pass in part.
+-- The services of the range pass wholly. If not, they pass in part: the range shows a packet that does not pass.
 abbrev pub is_wholly : PassingRange → Bool
 is_wholly r = is_none r.stays
 

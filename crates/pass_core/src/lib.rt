@@ -9,6 +9,8 @@ mod passing_range;
 mod service;
 mod sliced_area;
 mod survey;
+#[cfg(test)]
+mod tests;
 
 pub use address_range::AddressRange;
 pub use passing::passing_between;

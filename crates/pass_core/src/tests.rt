@@ -1,0 +1,113 @@
+//! Rules for one destination, and the services that they let pass.
+
+ghost use Rattle.std.specs.Prelude.{◌≡◌, ◌+◌, ◌<◌, ◌≤◌, ◌⊎◌, length, IsTrue};
+ghost use Rattle.ipt_rules.specs.ChainTable.{rule_count};
+ghost use Rattle.ipt_rules.specs.inner.RuleParts.{is_rule};
+
+use crate::{AddressRange, passing_between};
+use audit_core::Text;
+use host_net::Prefix;
+use ipt_rules::{AddrMatch, Chains, Policy, PortMatch, ProtoMatch, Rule, Ruleset, Target};
+use std::alloc::Global;
+use std::process::Abort;
+
+const SERVER: u32 = 0x0a00_0001;
+
+/// The three built-in chains, of which `FORWARD` drops.
+#[tactic(auto, using(ipt_rules::proofs::ChainLaws::length_with_policy, ipt_rules::proofs::ChainLaws::rule_count_with_policy))]
+fn dropping(alloc: Global, rt: &impl Abort) -> Chains
+    ensures length { length result ≡ 3 }
+    ensures rules { rule_count result ≡ 0 }
+{
+    let mut chains = Chains::new(alloc).expect(rt, "memory");
+    chains.set_policy(1, Policy::Drop);
+    chains
+}
+
+#[tactic(auto, using(ipt_rules::proofs::ChainLaws::length_with_rule, ipt_rules::proofs::ChainLaws::rule_count_with_rule))]
+fn push(rt: &impl Abort, chains: &mut Chains, rule: Rule)
+    requires there { length chains.old ≡ 3 }
+    requires room { rule_count chains.old < 100 }
+    requires parts { IsTrue (is_rule rule) }
+    ensures length { length chains.new ≡ 3 }
+    ensures rules { rule_count chains.new ≡ rule_count chains.old + 1 }
+{
+    chains.rule(1, rule).expect(rt, "memory");
+}
+
+/// Accepts packets with a destination port in a range.
+fn accepting(dst: Prefix, proto: u8, low: u16, high: u16) -> Rule
+    requires ports { (proto ≡ 6) ⊎ (proto ≡ 17) }
+    requires order { low ≤ high }
+    requires small { high < 65536 }
+    ensures { IsTrue (is_rule result) }
+{
+    Rule {
+        src: None,
+        dst: Some(AddrMatch {
+            prefix: dst,
+            negated: false,
+        }),
+        proto: Some(ProtoMatch {
+            proto,
+            negated: false,
+        }),
+        sport: None,
+        dport: Some(PortMatch {
+            low,
+            high,
+            negated: false,
+        }),
+        state: None,
+        target: Target::Accept,
+    }
+}
+
+/// Accepts TCP packets to the server with ports from 22 to 25, and UDP packets with port 53.
+fn rules(alloc: Global, rt: &impl Abort) -> Ruleset {
+    let server = Prefix::new(SERVER, 32).expect(rt, "a prefix");
+    let mut chains = dropping(alloc, rt);
+    push(rt, &mut chains, accepting(server, 17, 53, 53));
+    push(rt, &mut chains, accepting(server, 6, 24, 25));
+    push(rt, &mut chains, accepting(server, 6, 22, 23));
+    Ruleset::build(alloc, chains).expect(rt, "a rule set")
+}
+
+/// Services are in the order of protocols and ports, and ranges without a gap are one range.
+#[test]
+fn services_of_one_destination(rt: HostRuntime) {
+    let rules = rules(rt.alloc(), &rt);
+    let from = [AddressRange {
+        first: 0,
+        last: u32::MAX,
+    }];
+    let to = [AddressRange {
+        first: SERVER,
+        last: SERVER,
+    }];
+    let found = passing_between(rt.alloc(), &Text::Ipt(&rules), &from, &to).expect(&rt, "memory");
+    assert_eq!(rt; found.len(), 2);
+    let tcp = &found[0];
+    assert_eq!(rt; (tcp.low, tcp.high), (6 * 65536 + 22, 6 * 65536 + 25));
+    assert!(rt; tcp.stays.is_none());
+    let udp = &found[1];
+    assert_eq!(rt; (udp.low, udp.high), (17 * 65536 + 53, 17 * 65536 + 53));
+    assert!(rt; udp.stays.is_none());
+}
+
+/// Services that pass to one of two destinations pass in part.
+#[test]
+fn services_of_two_destinations(rt: HostRuntime) {
+    let rules = rules(rt.alloc(), &rt);
+    let from = [AddressRange { first: 1, last: 1 }];
+    let to = [AddressRange {
+        first: SERVER,
+        last: SERVER + 1,
+    }];
+    let found = passing_between(rt.alloc(), &Text::Ipt(&rules), &from, &to).expect(&rt, "memory");
+    assert_eq!(rt; found.len(), 2);
+    let tcp = &found[0];
+    assert_eq!(rt; (tcp.low, tcp.high), (6 * 65536 + 22, 6 * 65536 + 25));
+    assert_eq!(rt; tcp.passes.dst, SERVER);
+    assert!(rt; tcp.stays.is_some_and(|packet| packet.dst == SERVER + 1));
+}
