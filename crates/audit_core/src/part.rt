@@ -6,9 +6,8 @@ ghost use Rattle.host_net.specs.declared.packet.Packet.{Packet};
 ghost use Rattle.header_space.specs.Boxes.{IsBox, IsIn, Narrows};
 ghost use Rattle.header_space.specs.Cuts.{IsCutOf};
 ghost use Rattle.audit_core.specs.inner.Faults.{IsExpected, IsFault, SaysOther};
-ghost use Rattle.audit_core.specs.Verdicts.{GivesOne};
-ghost use Rattle.audit_core.specs.Verdicts.{HaveSameVerdicts};
-ghost use Rattle.audit_core.specs.inner.Parts.{HaveSameFaults};
+ghost use Rattle.audit_core.specs.Verdicts.{GivesOne, HaveSameVerdicts};
+ghost use Rattle.audit_core.specs.inner.Parts.{HaveSameFaults, IsPartOf};
 ghost use Rattle.audit_core.specs.Rules.{Chains, filter_of};
 ghost use Rattle.audit_core.specs.Sides.{permits};
 
@@ -23,12 +22,19 @@ use pkt_core::FlowPolicy;
 use std::alloc::{AllocError, Global};
 use std::marker::Model;
 
+/// All rules, or those of a slice.
+#[derive(Drop)]
+enum Held<'a> {
+    Whole(Text<'a>),
+    Own(Slice),
+    Lent(&'a Slice),
+}
+
 /// The two sides, with all rules or with those of a slice.
 #[derive(Drop)]
 pub(crate) struct Part<'a> {
     policy: &'a FlowPolicy<'a>,
-    text: Text<'a>,
-    slice: Option<Slice>,
+    rules: Held<'a>,
 }
 
 impl<'a> Model for Part<'a> {
@@ -39,9 +45,9 @@ impl<'a> Model for Part<'a> {
 
     ghost Value = { Sides };
 
-    ghost view = { λ s. sides_of s.policy.now.site s.policy.now.permitted s.policy.now.stateful (part_rules s.text s.slice) };
+    ghost view = { λ s. sides_of s.policy.now.site s.policy.now.permitted s.policy.now.stateful (part_rules s.rules) };
 
-    ghost invariant = { λ s. GivesOne (filter_of (part_rules s.text s.slice)) };
+    ghost invariant = { λ s. GivesOne (filter_of (part_rules s.rules)) };
 }
 
 impl<'a> Part<'a> {
@@ -51,8 +57,32 @@ impl<'a> Part<'a> {
     {
         Part {
             policy: sides.policy,
-            text: sides.text,
-            slice: None,
+            rules: Held::Whole(sides.text),
+        }
+    }
+
+    /// Returns the same sides, which borrow their slice of the rules.
+    pub(crate) fn by_ref(&self) -> Part<'_>
+        ensures { result ≡ self.now }
+    {
+        Part {
+            policy: self.policy,
+            rules: match &self.rules {
+                Held::Whole(text) => Held::Whole(*text),
+                Held::Own(slice) => Held::Lent(slice),
+                Held::Lent(slice) => Held::Lent(slice),
+            },
+        }
+    }
+
+    /// Returns about how many rules it has. Each packet has one verdict by them.
+    pub(crate) fn rules(&self) -> u32
+        ensures gives { GivesOne (filter_of self.now.rules) }
+    {
+        match &self.rules {
+            Held::Whole(text) => text.rules(),
+            Held::Own(slice) => slice.rules(),
+            Held::Lent(slice) => slice.rules(),
         }
     }
 
@@ -62,7 +92,8 @@ impl<'a> Part<'a> {
         alloc: Global,
         within: &PacketBox,
     ) -> Result<Option<Part<'a>>, AllocError>
-        ensures { IfOk result (λ part. IfSome part (HaveSameFaults within.now self.now)) }
+        ensures faults { IfOk result (λ part. IfSome part (HaveSameFaults within.now self.now)) }
+        ensures part { IfOk result (λ part. IfSome part (IsPartOf within.now self.now)) }
     {
         match self.slice(alloc, within)? {
             None => Ok(None),
@@ -71,8 +102,7 @@ impl<'a> Part<'a> {
                 let _rules = slice.rules();
                 Ok(Some(Part {
                     policy: self.policy,
-                    text: self.text,
-                    slice: Some(slice),
+                    rules: Held::Own(slice),
                 }))
             }
         }
@@ -82,9 +112,10 @@ impl<'a> Part<'a> {
     fn slice(&self, alloc: Global, within: &PacketBox) -> Result<Option<Slice>, AllocError>
         ensures { IfOk result (λ slice. IfSome slice (λ chains. HaveSameVerdicts within.now self.now.rules (Chains chains))) }
     {
-        match &self.slice {
-            None => self.text.slice(alloc, within),
-            Some(slice) => slice.slice(alloc, within),
+        match &self.rules {
+            Held::Whole(text) => text.slice(alloc, within),
+            Held::Own(slice) => slice.slice(alloc, within),
+            Held::Lent(slice) => slice.slice(alloc, within),
         }
     }
 
@@ -103,19 +134,20 @@ impl<'a> Part<'a> {
     }
 
     /// Whether the rules let the packets of a box pass in a state.
-    fn passes_within(&self, within: &mut PacketBox, state: CtState) -> bool
+    pub(crate) fn passes_within(&self, within: &mut PacketBox, state: CtState) -> bool
         requires { IsBox within.old }
         ensures part { Narrows within.old within.new }
         ensures passes { (p : Packet) → IsIn within.new p → filter_of self.now.rules state p result }
         ensures gives { GivesOne (filter_of self.now.rules) }
     {
-        match &self.slice {
-            None => self.text.passes_within(within, state),
-            Some(slice) => slice.verdict_within(within, state).is_forward(),
+        match &self.rules {
+            Held::Whole(text) => text.passes_within(within, state),
+            Held::Own(slice) => slice.verdict_within(within, state).is_forward(),
+            Held::Lent(slice) => slice.verdict_within(within, state).is_forward(),
         }
     }
 
-    fn permits_within(&self, within: &mut PacketBox) -> bool
+    pub(crate) fn permits_within(&self, within: &mut PacketBox) -> bool
         requires { IsBox within.old }
         ensures part { Narrows within.old within.new }
         ensures alike { (p : Packet) → IsIn within.new p → permits self.now p ≡ result }
@@ -156,7 +188,7 @@ impl<'a> Part<'a> {
     }
 
     /// Whether the policy lets the packets of a box pass on established connections.
-    fn lets_pass_within(&self, within: &mut PacketBox) -> bool
+    pub(crate) fn lets_pass_within(&self, within: &mut PacketBox) -> bool
         requires { IsBox within.old }
         ensures part { Narrows within.old within.new }
         ensures alike { (p : Packet) → IsIn within.new p → IsExpected self.now CtState.Established p result }
