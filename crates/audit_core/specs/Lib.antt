@@ -4,6 +4,7 @@ pub mod Cuts
 pub mod FindingText
 pub mod Findings
 pub mod Lists
+pub mod Pairs
 pub mod Parts
 pub mod Places
 pub mod Ranges

@@ -6,6 +6,7 @@ pub mod FindingText
 pub mod Findings
 pub mod Judging
 pub mod Named
+pub mod Pairs
 pub mod Parts
 pub mod Places
 pub mod RangeCuts

@@ -1,24 +1,32 @@
 //! Whether rules do what a policy says.
 #![tactic(auto)]
 
+mod between;
 mod comparison;
 mod cuts;
+mod difference;
 mod distinct;
 mod fault;
 mod finding;
 mod kind;
 mod laws;
 mod leasts;
+mod list_end;
 mod named;
+mod owners;
+mod pairs;
 mod part;
 mod policy_box;
 mod report;
 mod sides;
+mod sources;
 mod text;
 
 pub use comparison::{audit, audit_policy, compare_policy};
+pub use difference::Difference;
 pub use finding::{AuditRefusal, Finding, Trace};
 pub use kind::Kind;
 pub use laws::{classes_are_uniform, equal_is_expected, short_lists_suffice};
+pub use pairs::compare_pairs;
 pub use report::{classes_line, finding_text};
 pub use text::Text;

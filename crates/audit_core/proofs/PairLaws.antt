@@ -1,0 +1,196 @@
+-- Differences that are listed for cases, one case after another, and what such a list tells.
+use Rattle.std.proofs.Common.{◌≡◌, ◌⊎◌, inl, inr, ℕ, zero, suc, ◌+◌, ◌<◌, Bool, true, false, List, [], ◌∷◌, ◌++◌, Option, Some, None, length, refl, sym, ap, subst, ◌∙◌, arith, append_assoc, append-nil}
+use Rattle.std.specs.List.{Contains, flat_map}
+use Rattle.std.proofs.lemmas.List.Elements.{Contains-append_left, Contains-append_right}
+use Rattle.host_net.specs.declared.packet.Packet.{Packet}
+use Rattle.host_net.specs.Host.{Host, owner_of}
+use Rattle.audit_core.specs.declared.difference.Difference.{Difference}
+use Rattle.audit_core.specs.declared.kind.Kind.{Kind}
+use Rattle.audit_core.specs.declared.kind.Kind.TheVariants.{Alone, BehindSwap, BehindBoth}
+use Rattle.audit_core.specs.inner.Pairs.{AreAdded, AreSame}
+use Rattle.audit_core.specs.Pairs.{AreDifferences, AreListedFor, Case, DiffersAt, HasDifference, IsComplete, IsDifference, IsListedFor, IsOfPair, all_cases, case_of, cases_between, owners_from, owners_of}
+use Rattle.audit_core.specs.Sides.{Sides}
+use Rattle.audit_core.proofs.OrderLemmas.{contains_cases, contains_first, contains_later, contains_none}
+use Rattle.audit_core.proofs.SiteLemmas.{owner_below}
+
+module _ (sides : Sides) where
+  -- 1. One list after another.
+
+  pub listed_append : (cs es : List Case) (xs ys : List Difference) → AreListedFor sides cs xs → AreListedFor sides es ys
+      → AreListedFor sides (cs ++ es) (xs ++ ys)
+  listed_append [] es xs ys first second = subst (λ (l : List Difference). AreListedFor sides es (l ++ ys)) (sym first) second
+  listed_append (c ∷ cs) es xs ys first second = (
+    first.0,
+    first.1 ++ ys,
+    ap (λ (l : List Difference). l ++ ys) first.2 ∙ append_assoc first.0 first.1 ys,
+    first.3,
+    listed_append cs es first.1 ys first.4 second,
+  )
+
+  -- what is listed for one case
+  pub listed_one : (c : Case) (ds : List Difference) → IsListedFor sides c ds → AreListedFor sides (c ∷ []) ds
+  listed_one c ds listed = (ds, [], sym (append-nil ds), listed, refl)
+
+  pub added_none : (cs : List Case) (old : List Difference) → AreListedFor sides cs [] → AreAdded sides cs old old
+  added_none cs old listed = ([], sym (append-nil old), listed)
+
+  pub added_then : (cs es : List Case) (a b c : List Difference) → AreAdded sides cs a b → AreAdded sides es b c → AreAdded sides (cs ++ es) a c
+  added_then cs es a b c first second = (
+    first.0 ++ second.0,
+    second.1 ∙ ap (λ (l : List Difference). l ++ second.0) first.1 ∙ append_assoc a first.0 second.0,
+    listed_append cs es first.0 second.0 first.2 second.2,
+  )
+
+  -- what is added for each case of a pair
+  pub six_added : (from to : Option ℕ) (a b c d e f g : List Difference) → AreAdded sides (case_of from to Alone true ∷ []) a b
+      → AreAdded sides (case_of from to Alone false ∷ []) b c → AreAdded sides (case_of from to BehindSwap true ∷ []) c d
+      → AreAdded sides (case_of from to BehindSwap false ∷ []) d e → AreAdded sides (case_of from to BehindBoth true ∷ []) e f
+      → AreAdded sides (case_of from to BehindBoth false ∷ []) f g → AreAdded sides (cases_between from to) a g
+  six_added from to a b c d e f g first second third fourth fifth sixth =
+      let six = case_of from to BehindBoth false ∷ [] in
+      let five = case_of from to BehindBoth true ∷ six in
+      let four = case_of from to BehindSwap false ∷ five in
+      let three = case_of from to BehindSwap true ∷ four in
+      let two = case_of from to Alone false ∷ three in
+      let last = added_then (case_of from to BehindBoth true ∷ []) six e f g fifth sixth in
+      let later = added_then (case_of from to BehindSwap false ∷ []) five d e g fourth last in
+      let middle = added_then (case_of from to BehindSwap true ∷ []) four c d g third later in
+      let early = added_then (case_of from to Alone false ∷ []) three b c g second middle in
+      added_then (case_of from to Alone true ∷ []) two a b g first early
+
+  -- one step of a loop that adds all
+  pub added_step : (cs es all : List Case) (a b c : List Difference) → AreAdded sides cs a b → AreAdded sides es b c → cs ++ es ≡ all → AreAdded sides all a c
+  added_step cs es all a b c first second is = subst (λ (l : List Case). AreAdded sides l a c) is (added_then cs es a b c first second)
+
+  pub listed_step : (cs es all : List Case) (b c : List Difference) → AreListedFor sides cs b → AreAdded sides es b c → cs ++ es ≡ all → AreListedFor sides all c
+  listed_step cs es all b c first second is =
+      subst (λ (l : List Case). AreListedFor sides l c) is
+      (subst (λ (l : List Difference). AreListedFor sides (cs ++ es) l) (sym second.1) (listed_append cs es b second.0 first second.2))
+
+  -- where no packet of a pair differs nothing is listed for the pair
+  pub listed_nothing : (from to : Option ℕ) → ((c : Case) → c.from ≡ from → c.to ≡ to → IsListedFor sides c []) → AreListedFor sides (cases_between from to) []
+  listed_nothing from to none = (
+    [],
+    [],
+    refl,
+    none (case_of from to Alone true) refl refl,
+    (
+      [],
+      [],
+      refl,
+      none (case_of from to Alone false) refl refl,
+      (
+        [],
+        [],
+        refl,
+        none (case_of from to BehindSwap true) refl refl,
+        (
+          [],
+          [],
+          refl,
+          none (case_of from to BehindSwap false) refl refl,
+          (
+            [],
+            [],
+            refl,
+            none (case_of from to BehindBoth true) refl refl,
+            ([], [], refl, none (case_of from to BehindBoth false) refl refl, refl),
+          ),
+        ),
+      ),
+    ),
+  )
+
+  -- where no packet differs nothing is listed
+  pub listed_same : AreSame sides → (cs : List Case) → AreListedFor sides cs []
+  listed_same same [] = refl
+  listed_same same (c ∷ cs) =
+      ([], [], refl, (λ p of differs. same p of.packet (c.kind, c.forwards, differs)), listed_same same cs)
+
+  -- 2. What is in a list.
+
+  has_one : (c : Case) (one rest : List Difference) → IsListedFor sides c one → (p : Packet) → IsOfPair sides.site.hosts c.from c.to p
+      → DiffersAt sides c.kind p c.forwards → HasDifference (one ++ rest) c.from c.to c.kind c.forwards
+  has_one c [] rest none p of differs = absurd (none p of differs)
+  has_one c (d ∷ []) rest is p of differs =
+      (d, contains_first d rest d refl, ap (λ (e : Difference). e.from) is.is, ap (λ (e : Difference). e.to) is.is, is.packet, ap (λ (e : Difference). e.trace) is.is)
+  has_one c (d ∷ e ∷ ds) rest not p of differs = absurd not
+
+  has_listed : (cs : List Case) (ds : List Difference) → AreListedFor sides cs ds → (c : Case) → Contains cs c → (p : Packet)
+      → IsOfPair sides.site.hosts c.from c.to p → DiffersAt sides c.kind p c.forwards → HasDifference ds c.from c.to c.kind c.forwards
+  has_listed [] ds listed c there p of differs = absurd (contains_none c there)
+  has_listed (x ∷ cs) ds listed c there p of differs = elim (contains_cases x cs c there) [
+    | inl is ↦
+        subst (λ (l : List Difference). HasDifference l c.from c.to c.kind c.forwards) (sym listed.2)
+        (has_one c listed.0 listed.1 (subst (λ (y : Case). IsListedFor sides y listed.0) is listed.3) p of differs)
+    | inr later ↦
+        let has = has_listed cs listed.1 listed.4 c later p of differs in
+        subst (λ (l : List Difference). HasDifference l c.from c.to c.kind c.forwards) (sym listed.2)
+        (has.0, Contains-append_right listed.0 listed.1 has.0 has.1, has.2, has.3, has.4, has.5)
+  ]
+
+  -- the first difference of a list is one
+  first_of : (one rest : List Difference) (c : Case) (d : Difference) (ds : List Difference) → IsListedFor sides c one → d ∷ ds ≡ one ++ rest
+      → IsDifference sides c d ⊎ (d ∷ ds ≡ rest)
+  first_of [] rest c d ds listed is = inr is
+  first_of (e ∷ []) rest c d ds listed is = inl (let same : e ≡ d = cc in subst (λ (x : Difference). IsDifference sides c x) same listed)
+  first_of (e ∷ f ∷ es) rest c d ds listed is = absurd listed
+
+  pub first_is : (cs : List Case) (d : Difference) (ds : List Difference) → AreListedFor sides cs (d ∷ ds) → (c : Case) × IsDifference sides c d
+  first_is [] d ds listed = let no : ⊥ = cc in absurd no
+  first_is (c ∷ cs) d ds listed = elim (first_of listed.0 listed.1 c d ds listed.3 listed.2) [
+    | inl is ↦ (c, is)
+    | inr rest ↦ first_is cs d ds (subst (λ (l : List Difference). AreListedFor sides cs l) (sym rest) listed.4)
+  ]
+
+-- 3. All cases are listed.
+
+place : {X Y : Type 0} (f : X → List Y) (xs : List X) (x : X) (d : Y) → Contains xs x → Contains (f x) d → Contains (flat_map f xs) d
+place f [] x d there here = absurd (contains_none x there)
+place {Y = Y} f (y ∷ xs) x d there here = elim (contains_cases y xs x there) [
+  | inl is ↦ Contains-append_left (f y) (flat_map f xs) d (moved is)
+  | inr later ↦ Contains-append_right (f y) (flat_map f xs) d (place f xs x d later here)
+]
+  where
+    moved : y ≡ x → Contains (f y) d
+    moved is = subst (λ (l : List Y). Contains l d) (ap f (sym is)) here
+
+case_between : (from to : Option ℕ) (kind : Kind) (forwards : Bool) → Contains (cases_between from to) (case_of from to kind forwards)
+case_between from to Alone true = (0, omega arith, refl)
+case_between from to Alone false = (1, omega arith, refl)
+case_between from to BehindSwap true = (2, omega arith, refl)
+case_between from to BehindSwap false = (3, omega arith, refl)
+case_between from to BehindBoth true = (4, omega arith, refl)
+case_between from to BehindBoth false = (5, omega arith, refl)
+
+case_there : (froms tos : List (Option ℕ)) (from to : Option ℕ) (kind : Kind) (forwards : Bool) → Contains froms from → Contains tos to
+    → Contains (all_cases froms tos) (case_of from to kind forwards)
+case_there froms tos from to kind forwards here there =
+    place (λ f. flat_map (λ t. cases_between f t) tos) froms from (case_of from to kind forwards) here
+    (place (λ t. cases_between from t) tos to (case_of from to kind forwards) there (case_between from to kind forwards))
+
+nobody_among : (i : ℕ) (hosts : List Host) → Contains (owners_from i hosts) None
+nobody_among i [] = contains_first None [] None refl
+nobody_among i (h ∷ hs) = contains_later (Some i) (owners_from (i + 1) hs) None (nobody_among (i + 1) hs)
+
+host_among : (i : ℕ) (hosts : List Host) (k n : ℕ) → k < length hosts → n ≡ i + k → Contains (owners_from i hosts) (Some n)
+host_among i [] k n low is = absurd (omega (arith, low))
+host_among i (h ∷ hs) zero n low is = contains_first (Some i) (owners_from (i + 1) hs) (Some n) (let same : i ≡ n = omega (arith, is) in ap (λ (x : ℕ). Some x) same)
+host_among i (h ∷ hs) (suc k) n low is =
+    contains_later (Some i) (owners_from (i + 1) hs) (Some n) (host_among (i + 1) hs k n (omega (arith, low)) (omega (arith, is)))
+
+owner_among : (hosts : List Host) (a : ℕ) → Contains (owners_of hosts) (owner_of hosts a)
+owner_among hosts a = by_owner (owner_of hosts a) refl
+  where
+    by_owner : (o : Option ℕ) → owner_of hosts a ≡ o → Contains (owners_of hosts) o
+    by_owner None is = nobody_among 0 hosts
+    by_owner (Some k) is = host_among 0 hosts k k (owner_below hosts a k is) (omega arith)
+
+pub complete_where : (sides : Sides) (ds : List Difference) → AreDifferences sides ds → IsComplete sides ds
+complete_where sides ds listed kind p forwards is differs =
+    let hosts = sides.site.hosts in
+    let from = owner_of hosts p.src in
+    let to = owner_of hosts p.dst in
+    has_listed sides (all_cases (owners_of hosts) (owners_of hosts)) ds listed (case_of from to kind forwards)
+    (case_there (owners_of hosts) (owners_of hosts) from to kind forwards (owner_among hosts p.src) (owner_among hosts p.dst))
+    p (record { packet = is; src = refl; dst = refl }) differs

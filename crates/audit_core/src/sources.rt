@@ -1,0 +1,140 @@
+//! The sources of an owner whose packets differ, with the rules for their packets alone.
+
+ghost use Rattle.std.specs.Prelude.{◌≡◌, ◌∷◌, [], IfOk, IfSome};
+ghost use Rattle.std.specs.List.{All};
+ghost use Rattle.audit_core.specs.Sides.{Sides};
+ghost use Rattle.audit_core.specs.inner.Pairs.{AreSources, DiffersSo, HoldsOf, IsFoundBetween, IsFoundFrom, IsOwned, IsRange, IsSender, IsSource, HasRange, SaysWhether, every_address, ranges_in};
+
+use crate::between::{box_between, find_from};
+use crate::difference::Direction;
+use crate::list_end::{Ends, ListEnd};
+use crate::named::AddressRange;
+use crate::owners::Owned;
+use crate::sides::Sides;
+use header_space::least_where;
+use host_net::Packet;
+use std::alloc::{AllocError, Global};
+
+/// A range of sources, and the two sides for their packets.
+#[derive(Drop)]
+pub(crate) struct Source<'a> {
+    pub(crate) range: AddressRange,
+    pub(crate) ends: Ends<'a>,
+}
+
+/// An owner with the ranges of its addresses from which some packet differs.
+#[derive(Drop)]
+pub(crate) struct Sender<'a> {
+    pub(crate) owner: Option<u16>,
+    pub(crate) sources: Vec<Source<'a>>,
+}
+
+impl<'a> Sides<'a> {
+    /// Returns an owner with its ranges from which some packet differs.
+    pub(crate) fn sender(&self, alloc: Global, owned: &Owned) -> Result<Sender<'a>, AllocError>
+        requires { IsOwned self.now.site.hosts owned.now }
+        ensures sender { IfOk result (IsSender self.now) }
+        ensures owner { IfOk result (λ sender. sender.owner ≡ owned.now.owner) }
+        ensures ranges { IfOk result (λ sender. All HasRange sender.sources.items) }
+    {
+        let sources = self.sources(alloc, &owned.ranges)?;
+        Ok(Sender {
+            owner: owned.owner,
+            sources,
+        })
+    }
+
+    fn sources(&self, alloc: Global, ranges: &[AddressRange]) -> Result<Vec<Source<'a>>, AllocError>
+        requires { All IsRange ranges.now }
+        ensures { IfOk result (λ sources. AreSources self.now ranges.now sources.items) }
+    {
+        let mut sources = Vec::new(alloc);
+        for range in ranges {
+            let source = self.source(alloc, *range)?;
+            if source.differs(alloc)? {
+                sources.push(source)?;
+            }
+        }
+        Ok(sources)
+    }
+
+    /// Returns a range with the rules for the packets from it.
+    fn source(&self, alloc: Global, range: AddressRange) -> Result<Source<'a>, AllocError>
+        requires { IsRange range }
+        ensures source { IfOk result (IsSource self.now) }
+        ensures range { IfOk result (λ source. source.range ≡ range) }
+    {
+        let whole = self.ends();
+        let ends = match whole.restrict(alloc, &box_between(range, every_address()))? {
+            None => whole,
+            Some(ends) => ends,
+        };
+        Ok(Source { range, ends })
+    }
+}
+
+impl<'a> Source<'a> {
+    /// Whether the two sides differ at some packet from the range.
+    fn differs(&self, alloc: Global) -> Result<bool, AllocError>
+        requires { HasRange self.now }
+        ensures { IfOk result (SaysWhether self.now) }
+    {
+        let question = ListEnd {
+            ends: self.ends.by_ref(),
+            direction: None,
+        };
+        let found = least_where(alloc, &question, box_between(self.range, every_address()))?;
+        Ok(found.is_some())
+    }
+
+    /// Returns a packet from the range to one of the others that differs in that direction, if there is one.
+    fn find(
+        &self,
+        alloc: Global,
+        direction: Option<Direction>,
+        to: &[AddressRange],
+    ) -> Result<Option<Packet>, AllocError>
+        requires from { HasRange self.now }
+        requires to { All IsRange to.now }
+        ensures { IfOk result (IsFoundFrom (HoldsOf self.now.ends direction) self.now.range to.now) }
+    {
+        let question = ListEnd {
+            ends: self.ends.by_ref(),
+            direction,
+        };
+        find_from(alloc, &question, self.range, to)
+    }
+}
+
+impl<'a> Sender<'a> {
+    /// Returns a packet from the owner to one of the ranges that differs in that direction, if there is one.
+    pub(crate) fn find(
+        &self,
+        alloc: Global,
+        direction: Option<Direction>,
+        to: &[AddressRange],
+    ) -> Result<Option<Packet>, AllocError>
+        requires from { All HasRange self.now.sources.items }
+        requires to { All IsRange to.now }
+        ensures { IfOk result (λ found. (sides : Sides) → All (IsSource sides) self.now.sources.items →
+            IsFoundBetween (DiffersSo sides direction) (ranges_in self.now.sources.items) to.now found) }
+    {
+        for source in &self.sources {
+            let found = source.find(alloc, direction, to)?;
+            if found.is_some() {
+                return Ok(found);
+            }
+        }
+        Ok(None)
+    }
+}
+
+/// Returns the range of all addresses.
+fn every_address() -> AddressRange
+    ensures { result ≡ every_address }
+{
+    AddressRange {
+        first: 0,
+        last: u32::MAX,
+    }
+}
