@@ -22,8 +22,9 @@ use Rattle.audit_core.specs.declared.kind.Kind.{Kind}
 use Rattle.audit_core.specs.declared.kind.Kind.TheVariants.{Alone, BehindSwap, BehindBoth}
 use Rattle.audit_core.specs.declared.list_end.Ends.{Ends}
 use Rattle.audit_core.specs.inner.Pairs.{DiffersBy, DiffersSo, EndsBy, HaveSameEnds, HoldsOf, expected_at, state_after}
-use Rattle.audit_core.specs.inner.Parts.{HaveSameVerdicts, IsPartOf}
-use Rattle.audit_core.specs.inner.Rules.{GivesOne}
+use Rattle.audit_core.specs.Verdicts.{HaveSameVerdicts}
+use Rattle.audit_core.specs.inner.Parts.{IsPartOf}
+use Rattle.audit_core.specs.Verdicts.{GivesOne}
 use Rattle.audit_core.specs.laws.FindingLaws.{swaps_known}
 use Rattle.audit_core.specs.laws.ListLaws.{differ_more}
 use Rattle.audit_core.specs.Lists.{front_of}

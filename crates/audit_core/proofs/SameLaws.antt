@@ -1,19 +1,18 @@
 -- No packet differs at the end of a list exactly where the two sides differ on no list of events.
-use Rattle.std.proofs.Common.{◌≡◌, ◌↔◌, Bool, true, List, [], ◌∷◌, Option, refl, sym, subst, ◌∙◌, true≢false, arith, false, Some, None, is_some}
+use Rattle.std.proofs.Common.{◌≡◌, ◌↔◌, Bool, true, List, [], ◌∷◌, refl, sym, subst, ◌∙◌, true≢false, arith, false}
 use Rattle.host_net.specs.declared.packet.Packet.{Packet}
 use Rattle.host_net.specs.declared.packet.CtState.TheVariants.{New, Established}
 use Rattle.host_net.specs.Packet.{IsPacket, swap_of}
 use Rattle.flow_set.specs.FlowSet.{IsSubset}
 use Rattle.pkt_core.specs.Filter.{ArePackets}
 use Rattle.audit_core.specs.declared.difference.Difference.{Difference}
-use Rattle.audit_core.specs.declared.finding.Trace.{Trace}
 use Rattle.audit_core.specs.declared.kind.Kind.{Kind}
 use Rattle.audit_core.specs.declared.kind.Kind.TheVariants.{Alone, BehindSwap, BehindBoth}
 use Rattle.audit_core.specs.Findings.{DifferSomewhere}
 use Rattle.audit_core.specs.inner.Pairs.{AreSame, IsDifferent}
-use Rattle.audit_core.specs.inner.Rules.{GivesOne}
+use Rattle.audit_core.specs.Verdicts.{GivesOne}
 use Rattle.audit_core.specs.inner.Sides.{AgreeAlways}
-use Rattle.audit_core.specs.inner.Sought.{AreRight, IsFaultOf}
+use Rattle.audit_core.specs.inner.Sought.{AreRight}
 use Rattle.audit_core.specs.laws.FindingLaws.{swaps_known, trace_packets}
 use Rattle.audit_core.specs.laws.ListLaws.{agree_not_differ, differ_on}
 use Rattle.audit_core.specs.Lists.{front_of, list_of}
@@ -25,16 +24,6 @@ use Rattle.audit_core.proofs.FaultLaws.{right_where}
 use Rattle.audit_core.proofs.JudgingLemmas.{differ_alone, differ_behind_both, differ_behind_swap, judged_by, right_new}
 use Rattle.audit_core.proofs.PairLaws.{complete_where, first_is, listed_same}
 use Rattle.audit_core.proofs.ShortLaws.{agree_where_judged}
-
--- where no fault is found the rules are right
-pub right_none : (sides : Sides) (kind : Kind) (found : Option Trace) → is_some found ≡ false → IsFaultOf sides kind found → AreRight sides kind
-right_none sides kind None none right = right
-right_none sides kind (Some trace) none fault = absurd (true≢false none)
-
-pub right_all : (sides : Sides) → AreRight sides Alone → AreRight sides BehindSwap → AreRight sides BehindBoth → (kind : Kind) → AreRight sides kind
-right_all sides first second third Alone = first
-right_all sides first second third BehindSwap = second
-right_all sides first second third BehindBoth = third
 
 module _ (sides : Sides) (gives : GivesOne (filter_of sides.rules)) (subset : IsSubset sides.stateful sides.permitted) where
   -- 1. Rules that are right about all packets agree on all lists.

@@ -6,12 +6,10 @@ ghost use Rattle.audit_core.specs.Findings.{DifferSomewhere};
 ghost use Rattle.audit_core.specs.Pairs.{AreDifferences, IsComplete, case_of, cases_between};
 ghost use Rattle.audit_core.specs.Sides.{Sides, sides_of};
 ghost use Rattle.audit_core.specs.inner.Pairs.{AreAdded, AreOwned, HasRange, HasRanges, IsOwned, IsSender};
-ghost use Rattle.audit_core.specs.inner.RulesView.{rules_of};
-ghost use Rattle.audit_core.specs.inner.Sought.{AreRight};
-ghost use Rattle.audit_core.specs.declared.kind.Kind.{Kind};
+ghost use Rattle.audit_core.specs.RulesView.{rules_of};
 
 use crate::difference::{Difference, Direction};
-use crate::fault::fault_of;
+use crate::fault::are_right;
 use crate::finding::Trace;
 use crate::kind::Kind;
 use crate::owners::{Owned, all_owned};
@@ -41,22 +39,6 @@ pub fn compare_pairs(
     }
     let owned = all_owned(alloc, policy.hosts())?;
     differences_between(alloc, &sides, &owned)
-}
-
-/// Whether the rules do what the policy expects of all packets.
-fn are_right(alloc: Global, sides: &Sides<'_>) -> Result<bool, AllocError>
-    ensures { IfOk result (λ right. right ≡ true → (kind : Kind) → AreRight sides.now kind) }
-{
-    let alone = fault_of(alloc, sides, Kind::Alone)?;
-    if alone.is_some() {
-        return Ok(false);
-    }
-    let behind_swap = fault_of(alloc, sides, Kind::BehindSwap)?;
-    if behind_swap.is_some() {
-        return Ok(false);
-    }
-    let behind_both = fault_of(alloc, sides, Kind::BehindBoth)?;
-    Ok(behind_both.is_none())
 }
 
 fn differences_between(

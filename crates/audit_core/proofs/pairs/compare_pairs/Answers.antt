@@ -4,7 +4,7 @@ use Rattle.pkt_core.specs.inner.FlowPolicy.{FlowPolicy}
 use Rattle.audit_core.specs.declared.difference.Difference.{Difference}
 use Rattle.audit_core.specs.declared.text.Text.{Text}
 use Rattle.audit_core.specs.Findings.{DifferSomewhere}
-use Rattle.audit_core.specs.inner.RulesView.{rules_of}
+use Rattle.audit_core.specs.RulesView.{rules_of}
 use Rattle.audit_core.specs.Pairs.{AreDifferences, IsComplete}
 use Rattle.audit_core.specs.Sides.{Sides, sides_of}
 use Rattle.audit_core.proofs.SameLaws.{compared_built, same_built}

@@ -1,7 +1,7 @@
 use Rattle.std.proofs.Common.{◌≡◌, sym, ap, subst, ◌∙◌}
 use Rattle.audit_core.specs.Rules.{Rules, filter_of}
-use Rattle.audit_core.specs.inner.Rules.{GivesOne}
-use Rattle.audit_core.specs.inner.RulesView.{part_rules}
+use Rattle.audit_core.specs.Verdicts.{GivesOne}
+use Rattle.audit_core.specs.RulesView.{part_rules}
 use Rattle.audit_core.proofs.part.Part.by_ref.Goals as goal
 use Rattle.audit_core.proofs.part.Part.by_ref.Goals.{in-Whole, in-Own, in-Lent}
 

@@ -1,7 +1,7 @@
 use Rattle.std.proofs.Common.{◌↔◌, sym, subst}
 use Rattle.audit_core.specs.declared.list_end.Ends.{Ends}
 use Rattle.audit_core.specs.inner.Pairs.{DiffersSo, HoldsOf}
-use Rattle.audit_core.specs.inner.Rules.{GivesOne}
+use Rattle.audit_core.specs.Verdicts.{GivesOne}
 use Rattle.audit_core.specs.Rules.{filter_of}
 use Rattle.audit_core.specs.Sides.{Sides}
 use Rattle.audit_core.proofs.ListEndLaws.{whole_holds}
