@@ -1,5 +1,6 @@
 pub mod AddingLaws
 pub mod BoxLemmas
+pub mod DeciderLaws
 pub mod EntryLemmas
 pub mod HighestLaws
 pub mod LineLaws

@@ -1,4 +1,5 @@
 pub mod Ambiguity
+pub mod Deciders
 pub mod Matching
 pub mod Meaning
 pub mod Text

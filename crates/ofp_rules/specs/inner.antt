@@ -1,4 +1,5 @@
 pub mod Build
+pub mod Deciding
 pub mod Highest
 pub mod Meeting
 pub mod Next

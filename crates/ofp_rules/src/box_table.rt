@@ -63,7 +63,7 @@ fn higher_within<'a>(
 impl Entry {
     /// Whether it matches the packets of a box. The box is narrowed, so that this is the answer for all
     /// packets that it has then.
-    fn matches_within(&self, within: &mut PacketBox) -> bool
+    pub(crate) fn matches_within(&self, within: &mut PacketBox) -> bool
         requires { IsBox within.old }
         ensures part { Narrows within.old within.new }
         ensures alike { (p : Packet) → IsIn within.new p → matches (Ipv4 p) self.now ≡ result }

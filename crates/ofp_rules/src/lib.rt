@@ -2,6 +2,7 @@
 #![tactic(auto)]
 
 mod box_table;
+mod deciders;
 mod entry;
 mod meeting;
 mod next;
