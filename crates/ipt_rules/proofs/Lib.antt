@@ -5,7 +5,11 @@ pub mod Gets
 pub mod HeaderLemmas
 pub mod LoopLaws
 pub mod LoopLemmas
+pub mod MarkLemmas
 pub mod MeaningLaws
+pub mod MeetWaitLemmas
+pub mod MeetWalkLemmas
+pub mod MeetsLaws
 pub mod NameLemmas
 pub mod NextLemmas
 pub mod NoLoopLemmas

@@ -18,7 +18,7 @@ use Rattle.ipt_rules.proofs.Gets.{get_set_same, get_set_other, get_front, get_la
 set_same : (returning : List Bool) (c : ℕ) → c < length returning → returns_at (set returning c true) c ≡ true
 set_same returning c low = ap (λ (o : Option Bool). unwrap_or o false) (get_set_same returning c true low)
 
-set_other : (returning : List Bool) (c k : ℕ) → (k ≡ c → ⊥) → returns_at (set returning c true) k ≡ returns_at returning k
+pub set_other : (returning : List Bool) (c k : ℕ) → (k ≡ c → ⊥) → returns_at (set returning c true) k ≡ returns_at returning k
 set_other returning c k other = ap (λ (o : Option Bool). unwrap_or o false) (get_set_other returning c k true other)
 
 pub none_returns : (n c : ℕ) → returns_at (replicate n false) c ≡ false

@@ -1,8 +1,10 @@
 pub mod Chain
 pub mod ChainTable
 pub mod Loops
+pub mod Marks
 pub mod Matching
 pub mod Meaning
+pub mod Meets
 pub mod Name
 pub mod RuleParts
 pub mod Rules

@@ -4,6 +4,8 @@ pub mod Build
 pub mod ChainTable
 pub mod Head
 pub mod Jumps
+pub mod Marking
+pub mod MeetWalking
 pub mod Next
 pub mod OneOutcome
 pub mod Ranked

@@ -10,6 +10,9 @@ mod filter;
 mod header;
 mod jumps;
 mod loops;
+mod marks;
+mod meet_walk;
+mod meets;
 mod name;
 mod next;
 mod pieces;
@@ -28,6 +31,7 @@ mod walk;
 pub use chains::Chains;
 pub use filter::Filter;
 pub use host_net::Verdict;
+pub use marks::{Marks, Place};
 pub use name::ChainName;
 pub use rule::{
     AddrMatch, Policy, PortMatch, ProtoMatch, Rule, StateMatch, Target, address_matches,

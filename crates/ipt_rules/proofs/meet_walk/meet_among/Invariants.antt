@@ -1,0 +1,22 @@
+use Rattle.std.proofs.Common.{◌≡◌, ◌+◌, ◌-◌, ◌*◌, length}
+use Rattle.std.specs.Prelude.{count_by, not}
+use Rattle.host_net.specs.declared.packet.Packet.{Packet}
+use Rattle.header_space.specs.Boxes.{IsIn, Narrows}
+use Rattle.ipt_rules.specs.Marks.{AreMarksOf}
+use Rattle.ipt_rules.specs.Matching.{matches}
+use Rattle.ipt_rules.proofs.MeetWaitLemmas.{Marking}
+use Rattle.ipt_rules.proofs.WalkingLemmas.{Waiting}
+use Rattle.ipt_rules.proofs.meet_walk.meet_among.Given as goal
+
+-- each step tells of one more chain that it returns, or begins the walk of one
+abbrev pub decreases-loop-walk : goal.decreases-loop-walk
+decreases-loop-walk g l = 2 * count_by not l.returning + (g.row.N - length l.walks.items)
+
+abbrev pub invariant-loop-walk : goal.invariant-loop-walk
+invariant-loop-walk g l = record {
+  long : length l.returning ≡ g.row.N;
+  narrows : Narrows l.fn.within l.within;
+  marks : AreMarksOf l.met l.chains;
+  waiting : (p : Packet) → IsIn l.within p → Waiting (matches p l.state) l.chains l.number l.returning l.walks.items;
+  marking : (p : Packet) → IsIn l.within p → Marking (matches p l.state) l.chains l.number l.fn.met l.met l.returning l.walks.items;
+}

@@ -1,0 +1,65 @@
+-- Which rules a packet meets on its walk through the chains, and which of them decides it (iptables(8), "TARGETS").
+use Rattle.std.specs.Prelude.{◌≡◌, ℕ, ◌+◌, Bool, true, IsSome, List, ◌∷◌, Option, Some, None, slice_get}
+use Rattle.std.specs.Option.{option_and_then}
+use Rattle.host_net.specs.declared.packet.Packet.{Packet}
+use Rattle.host_net.specs.declared.packet.CtState.{CtState}
+use Rattle.host_net.specs.declared.packet.Verdict.{Verdict}
+use Rattle.host_net.specs.declared.packet.Verdict.TheVariants.{Forward as Forwarded, Drop as Dropped}
+use Rattle.ipt_rules.specs.declared.marks.Place.{Place}
+use Rattle.ipt_rules.specs.declared.rule.Rule.{Rule}
+use Rattle.ipt_rules.specs.declared.rule.Target.{Target}
+use Rattle.ipt_rules.specs.declared.rule.Target.TheVariants.{Accept, Drop, Reject}
+use Rattle.ipt_rules.specs.Chain.{Chain, rules_of, policy_of}
+use Rattle.ipt_rules.specs.Matching.{matches}
+use Rattle.ipt_rules.specs.Meaning.{GoesOn, Walks, step_of, Gives, verdict_by}
+
+-- The walk through rules, which are those of chain c from rule n on, meets the rule at a place: the walk comes to the
+-- rule, and the rule fits. The walk leaves the rules at the first verdict; it comes to the rules of a chain that a
+-- fitting rule jumps to, and goes on behind the jump if that chain returns.
+pub data MeetsFrom (fits : Rule → Bool) (chains : List Chain) (place : Place) : ℕ → ℕ → List Rule → Type 0 where
+  meets_here : {c n : ℕ} {r : Rule} {rs : List Rule} → place ≡ record { chain = c; rule = n } → fits r ≡ true
+      → MeetsFrom fits chains place c n (r ∷ rs)
+  meets_later : {c n : ℕ} {r : Rule} {rs : List Rule} → step_of (fits r) r.target ≡ GoesOn
+      → MeetsFrom fits chains place c (n + 1) rs → MeetsFrom fits chains place c n (r ∷ rs)
+  meets_inside : {c n d : ℕ} {r : Rule} {rs : List Rule} → step_of (fits r) r.target ≡ Walks d
+      → MeetsFrom fits chains place d 0 (rules_of chains d) → MeetsFrom fits chains place c n (r ∷ rs)
+  meets_behind : {c n d : ℕ} {r : Rule} {rs : List Rule} → step_of (fits r) r.target ≡ Walks d
+      → Gives fits chains (rules_of chains d) None
+      → MeetsFrom fits chains place c (n + 1) rs → MeetsFrom fits chains place c n (r ∷ rs)
+
+-- The walk from the first rule of chain c on meets the rule at a place.
+abbrev pub Meets : (Rule → Bool) → List Chain → ℕ → Place → Type 0
+Meets fits chains c place = MeetsFrom fits chains place c 0 (rules_of chains c)
+
+-- A packet that is forwarded meets the rule at a place: its walk through FORWARD, chain 1, does.
+abbrev pub IsMet : List Chain → Packet → CtState → Place → Type 0
+IsMet chains packet state = Meets (matches packet state) chains 1
+
+-- The rule at a place.
+abbrev pub rule_at : List Chain → Place → Option Rule
+rule_at chains place = slice_get (rules_of chains place.chain) place.rule
+
+-- The verdict with which a target ends the walk.
+abbrev pub target_verdict : Target → Option Verdict
+target_verdict Accept = Some Forwarded
+target_verdict Drop = Some Dropped
+target_verdict Reject = Some Dropped
+target_verdict _ = None
+
+-- The verdict of the rule at a place.
+abbrev pub verdict_at : List Chain → Place → Option Verdict
+verdict_at chains place = option_and_then (λ r. target_verdict r.target) (rule_at chains place)
+
+-- What decides the walk of chain c: the rule at a place that is met and whose target is a verdict, or None, the policy,
+-- if no rule that is met has such a target.
+abbrev pub DecidesWalk : (Rule → Bool) → List Chain → ℕ → Option Place → Type 0
+DecidesWalk fits chains c None = (place : Place) → Meets fits chains c place → verdict_at chains place ≡ None
+DecidesWalk fits chains c (Some place) = Meets fits chains c place × IsSome (verdict_at chains place)
+
+-- What decides a packet that is forwarded.
+abbrev pub IsDecider : List Chain → Packet → CtState → Option Place → Type 0
+IsDecider chains packet state = DecidesWalk (matches packet state) chains 1
+
+-- The verdict of a decider on a packet that is forwarded: that of the rule, or the policy of FORWARD.
+abbrev pub decided : List Chain → Option Place → Verdict
+decided chains decider = verdict_by (policy_of chains 1) (option_and_then (verdict_at chains) decider)
