@@ -9,10 +9,11 @@ use Rattle.flow_set.specs.FlowSet.{has, IsOrdered, IsSubset, with_flow}
 use Rattle.flow_set.specs.inner.FlowSetView.{IsFlowSet}
 use Rattle.flow_set.specs.inner.Downward.{IsDownward, IsEdgeWise}
 use Rattle.flow_set.proofs.ConditionLaws.{edge_wise-with_flow}
-use Rattle.flow_set.specs.laws.FlowLaws.{flows_ext, has-append, has-with_flow, has_nothing, or_swap, same_fact, same_test, same_flow_self, IsOrdered-with_flow}
+use Rattle.flow_set.specs.laws.FlowLaws.{flows_ext, has-append, has-with_flow, has_nothing, or_swap, same_fact, same_test, same_flow_self, IsOrdered-front, IsOrdered-with_flow}
 use Rattle.flow_set.proofs.SubsetLaws.{IsFlowSet-subset, subset_both, subset_self, subset_trans}
 use Rattle.flow_set.proofs.ListedLaws.{has-fold_with_flow}
 use Rattle.explain_core.specs.Failing.{IsMinimalFailing}
+use Rattle.explain_core.proofs.LeastLaws.{least_next}
 use Rattle.explain_core.specs.inner.Transitions.{AreNarrowed, IsTransition}
 
 -- ---- flows added one by one
@@ -96,12 +97,14 @@ narrowed_start n Holds e f set downward holds fails =
     let whole : fold with_flow (f ∷ []) e ≡ with_flow e f = fold-one e f set.ordered in
     record {
       ordered = (λ g h. has_nothing g h, tt);
+      rest_ordered = set.ordered;
       within = subst (λ (xs : List Flow). IsSubset xs (with_flow e f)) (sym whole) (subset_self (with_flow e f) (IsOrdered-with_flow e f set.ordered));
       fails = λ still. fails (subst Holds whole still);
       minimal = λ s sub g there absent. elim (or_cases (same_flow f g) false there) [
         | inl same ↦ downward e s set (within_without e s f g (subst (IsSubset s) whole sub) same absent) holds
         | inr impossible ↦ absurd (false≢true impossible)
       ];
+      least = λ s sub failed. inl (subst (IsSubset s) (sym whole) sub);
     }
 
 pub narrowed_next : (n : ℕ) (Holds : List Flow → Type 0) (e needed rest before : List Flow) (g : Flow) → IsFlowSet n e → IsDownward n Holds
@@ -118,6 +121,7 @@ narrowed_next n Holds e needed rest before g set downward narrowed transition =
     IsFlowSet-subset n front e set (subset_trans front (with_flow front g) e (with_flow_more front g front_set) inside) in
     record {
       ordered = IsOrdered-with_flow needed g narrowed.ordered;
+      rest_ordered = IsOrdered-front before (g ∷ transition.left) (subst IsOrdered (sym transition.place) narrowed.rest_ordered);
       within = subst (λ (xs : List Flow). IsSubset xs e) (sym same) inside;
       fails = λ still. transition.fails (subst Holds same still);
       minimal = λ s sub f there absent.
@@ -126,6 +130,7 @@ narrowed_next n Holds e needed rest before g set downward narrowed transition =
             | inl this ↦ downward front s front_inside (within_without front s g f under this absent) transition.holds
             | inr earlier ↦ narrowed.minimal s (subset_trans s (with_flow front g) all under smaller) f earlier absent
           ];
+      least = λ s sub failed. least_next Holds e needed rest before g s narrowed transition sub failed;
     }
 
 -- A transition flow is one of the flows.

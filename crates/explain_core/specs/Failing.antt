@@ -1,7 +1,7 @@
 -- The invariants that deny a flow or its answers, and minimal failing sets. The definitions are generic over the type of invariants.
-use Rattle.std.specs.Prelude.{◌≡◌, ◌<◌, ◌==◌, ◌||◌, ℕ, Bool, true, false, List, [], ◌∷◌, IsTrue, IsFalse, slice_get, Some}
+use Rattle.std.specs.Prelude.{◌≡◌, ◌<◌, ◌==◌, ◌||◌, ◌⊎◌, ℕ, Bool, true, false, List, [], ◌∷◌, IsTrue, IsFalse, slice_get, Some}
 use Rattle.flow_set.specs.declared.flow.Flow.{Flow}
-use Rattle.flow_set.specs.Flow.{back_of}
+use Rattle.flow_set.specs.Flow.{back_of, before}
 use Rattle.flow_set.specs.FlowSet.{has, IsSubset, with_flow, with_back}
 use Rattle.inv_law.specs.declared.strategy.Strategy.{Strategy}
 use Rattle.state_core.specs.Stateful.{is_strict}
@@ -50,3 +50,17 @@ pub record IsMinimalFailing (Holds : List Flow → Type 0) (e w : List Flow) : T
   pub within : IsSubset w e
   pub fails : Holds w → ⊥
   pub minimal : (s : List Flow) → IsSubset s w → (f : Flow) → IsTrue (has w f) → IsFalse (has s f) → Holds s
+
+-- xs has a flow that ys lacks, and the two have the same flows after it in the order of flows.
+pub record DiffersLastIn (xs ys : List Flow) : Type 0 where
+  pub flow : Flow
+  pub here : IsTrue (has xs flow)
+  pub not_there : IsFalse (has ys flow)
+  pub same_after : (f : Flow) → IsTrue (before flow f) → has xs f ≡ has ys f
+
+-- w is the least failing set of e in the colexicographic order: the condition fails on this subset of e, and every other subset of e
+-- on which it fails has the last flow in which the two differ. There is one such set (LeastLaws: least_is_one).
+pub record IsLeastFailing (Holds : List Flow → Type 0) (e w : List Flow) : Type 0 where
+  pub within : IsSubset w e
+  pub fails : Holds w → ⊥
+  pub least : (s : List Flow) → IsSubset s e → (Holds s → ⊥) → (s ≡ w) ⊎ DiffersLastIn s w

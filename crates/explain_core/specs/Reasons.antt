@@ -5,13 +5,15 @@ use Rattle.flow_set.specs.Flow.{back_of}
 use Rattle.flow_set.specs.FlowSet.{with_flow, with_back}
 use Rattle.inv_law.specs.declared.strategy.Strategy.{Strategy}
 use Rattle.state_core.specs.Stateful.{is_strict}
-use Rattle.explain_core.specs.Failing.{AreFailing, IsMinimalFailing}
+use Rattle.explain_core.specs.Failing.{AreFailing, IsLeastFailing, IsMinimalFailing}
 use Rattle.explain_core.specs.declared.reason.Reason.{Reason}
 
--- The reasons are all chosen invariants that fail on e, each with a minimal failing set of e.
+-- The reasons are all chosen invariants that fail on e, in ascending order, each with the least failing set of e, which is minimal. So e
+-- has one list of reasons (ReasonLaws: reasons_are_one).
 pub record AreReasons {X : Type 0} (chosen : X → Bool) (HoldsOn : X → List Flow → Type 0) (invs : List X) (e : List Flow) (reasons : List Reason) : Type 0 where
   pub failing : AreFailing chosen HoldsOn invs e (map (λ reason. reason.number) reasons)
   pub minimal : All (λ reason. (inv : X) → slice_get invs reason.number ≡ Some inv → IsMinimalFailing (HoldsOn inv) e reason.by.flows) reasons
+  pub least : All (λ reason. (inv : X) → slice_get invs reason.number ≡ Some inv → IsLeastFailing (HoldsOn inv) e reason.by.flows) reasons
 
 -- The reasons deny the flow f beside the permitted flows p: they are all invariants that fail on p with f.
 abbrev pub DenyFlow : {X : Type 0} → (X → List Flow → Type 0) → List X → (p : List Flow) → (f : Flow) → List Reason → Type 0

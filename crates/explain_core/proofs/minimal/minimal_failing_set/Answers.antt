@@ -9,6 +9,7 @@ use Rattle.flow_set.specs.laws.FlowLaws.{has_first, has-with_flow}
 use Rattle.flow_set.proofs.SubsetLaws.{IsFlowSet-subset, IsFlowSet-with_flow}
 use Rattle.std.proofs.lemmas.Bool.{or_right}
 use Rattle.explain_core.specs.inner.Transitions.{AreNarrowed}
+use Rattle.explain_core.proofs.LeastLaws.{least_end}
 use Rattle.explain_core.proofs.MinimalLaws.{minimal_alone, narrowed_start, narrowed_next, narrowed_end, transition_member}
 use Rattle.explain_core.proofs.minimal.minimal_failing_set.Goals as goal
 
@@ -68,6 +69,14 @@ pub returns-clause-minimal : goal.returns-clause-minimal
 returns-clause-minimal g c =
     let Holds = g.I.Invariant.holds_on c.args.inv.now in
     narrowed_end Holds (with_flow c.args.e.now.flows c.args.f) c.loop-rest.needed.flows c.loop-rest.rest.flows c.loop-rest.invariant.narrowed (rw c.in_default.is at c.in_ok-found.ensures.none)
+
+pub returns-clause-least : goal.returns-clause-least
+returns-clause-least g c =
+    let Holds = g.I.Invariant.holds_on c.args.inv.now in
+    let fails = rw c.in_default.is at c.in_ok-found.ensures.none in
+    least_end Holds (with_flow c.args.e.now.flows c.args.f) c.loop-rest.needed.flows c.loop-rest.rest.flows c.loop-rest.invariant.narrowed
+    (narrowed_end Holds (with_flow c.args.e.now.flows c.args.f) c.loop-rest.needed.flows c.loop-rest.rest.flows c.loop-rest.invariant.narrowed fails).within
+    fails
 
 pub returns-clause-alone : goal.returns-clause-alone
 returns-clause-alone g c marked =

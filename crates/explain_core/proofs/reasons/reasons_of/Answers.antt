@@ -5,7 +5,7 @@ use Rattle.std.proofs.lemmas.List.{map_push}
 use Rattle.std.proofs.lemmas.List.Elements.{All-push}
 use Rattle.std.proofs.lemmas.Option.{slice_get_within, get_or_from_slice_get}
 use Rattle.flow_set.specs.FlowSet.{with_flow}
-use Rattle.explain_core.specs.Failing.{IsMinimalFailing}
+use Rattle.explain_core.specs.Failing.{IsLeastFailing, IsMinimalFailing}
 use Rattle.explain_core.specs.declared.reason.Reason.{Reason}
 use Rattle.explain_core.proofs.NumberLaws.{among-read}
 use Rattle.explain_core.proofs.reasons.reasons_of.Goals as goal
@@ -57,6 +57,7 @@ loop-number-preserved g c =
     let e = with_flow c.args.set.now.flows c.args.f in
     let reason : Reason = record { number = number; by = c.in_ok-by.by } in
     let Minimal : Reason → Type 0 = λ r. (inv : g.row.I.Denot) → slice_get invs r.number ≡ Some inv → IsMinimalFailing (g.I.Invariant.holds_on inv) e r.by.flows in
+    let Least : Reason → Type 0 = λ r. (inv : g.row.I.Denot) → slice_get invs r.number ≡ Some inv → IsLeastFailing (g.I.Invariant.holds_on inv) e r.by.flows in
     let next : index + 1 ≡ suc index = omega arith in
     let pushed : c.push.new.self.items ≡ c.loop-number.reasons.items ++ reason ∷ [] = c.in_ok-push.ensures.items in
     record {
@@ -69,4 +70,8 @@ loop-number-preserved g c =
           (All-push Minimal c.loop-number.reasons.items reason c.loop-number.invariant.minimal
           (λ inv place. subst (λ x. IsMinimalFailing (g.I.Invariant.holds_on x) e c.in_ok-by.by.flows)
           (c.index-invs-number.is ∙ get_or_from_slice_get invs number inv this place) c.in_ok-by.ensures.minimal));
+      least = subst (All Least) (sym pushed)
+          (All-push Least c.loop-number.reasons.items reason c.loop-number.invariant.least
+          (λ inv place. subst (λ x. IsLeastFailing (g.I.Invariant.holds_on x) e c.in_ok-by.by.flows)
+          (c.index-invs-number.is ∙ get_or_from_slice_get invs number inv this place) c.in_ok-by.ensures.least));
     }
