@@ -1,0 +1,4 @@
+pub mod ArrayLaws
+pub mod ExplanationLaws
+pub mod OffenceLaws
+pub mod OneAnswerLaws

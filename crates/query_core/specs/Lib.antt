@@ -1,0 +1,7 @@
+pub mod Explanations
+pub mod Json
+pub mod NetworkText
+pub mod Offences
+pub mod OneAnswer
+pub mod Standings
+pub mod inner
