@@ -1,19 +1,24 @@
 -- Laws of explanations: no denial lacks a reason, and reasons name invariants and flows of the network.
-use Rattle.std.proofs.Common.{◌≡◌, ℕ, zero, suc, ◌<◌, length, get_or, arith, Bool, true, false, ◌||◌, List, [], ◌∷◌, map, refl, sym, ◌∙◌, ap, subst}
+use Rattle.std.proofs.Common.{◌≡◌, ℕ, zero, suc, ◌<◌, length, get_or, arith, Bool, true, false, ◌||◌, inl, inr, List, [], ◌∷◌, map, refl, sym, ◌∙◌, ap, subst}
 use Rattle.std.specs.Prelude.{All, IsTrue, IsFalse}
-use Rattle.std.proofs.lemmas.Option.{slice_get-get_or, slice_get_within}
+use Rattle.std.proofs.lemmas.Bool.{cases_Bool}
+use Rattle.std.proofs.lemmas.Option.{get_or_from_slice_get, slice_get-get_or, slice_get_within}
 use Rattle.std.proofs.lemmas.List.{get_or-map, length-map}
 use Rattle.flow_set.specs.inner.FlowSetView.{IsFlowSet}
 use Rattle.flow_set.proofs.SubsetLaws.{IsFlow-back_of, IsFlowSet-subset, IsFlowSet-with_back, IsFlowSet-with_flow}
 use Rattle.inv_any.specs.declared.any_inv.AnyInv.{AnyInv}
-use Rattle.explain_core.specs.Failing.{AreFailing, among}
+use Rattle.explain_core.specs.Failing.{AreFailing, IsMinimalFailing, among}
+use Rattle.explain_core.proofs.MinimalLaws.{within_without}
+use Rattle.flow_set.specs.inner.Downward.{IsDownward}
+use Rattle.inv_any.specs.Templates.{meaning_of}
+use Rattle.inv_any.specs.laws.TemplateLaws.{lawful}
 use Rattle.explain_core.specs.Findings.{AreFindings}
 use Rattle.explain_core.specs.declared.finding.Finding.{Finding}
 use Rattle.explain_core.proofs.NumberLaws.{among-read}
 use Rattle.flow_set.specs.declared.flow.Flow.{Flow}
 use Rattle.flow_set.specs.Flow.{IsFlow, back_of, same_flow}
 use Rattle.flow_set.specs.FlowSet.{has, IsOrdered, IsSubset, with_flow, with_back}
-use Rattle.flow_set.specs.laws.FlowLaws.{flows_ext, has_first, has_later, has_nothing, has-with_flow, has-with_back, or_swap, same_flow_back, IsOrdered-with_flow, IsOrdered-with_back}
+use Rattle.flow_set.specs.laws.FlowLaws.{flows_ext, has_first, has_later, has_nothing, has-with_flow, has-with_back, or_swap, same_flow_back, same_flow_self, IsOrdered-with_flow, IsOrdered-with_back}
 use Rattle.permit_core.specs.inner.Trials.{ChosenHold}
 use Rattle.permit_core.proofs.FirstLaws.{first_with}
 use Rattle.net_core.specs.Network.{Network}
@@ -21,7 +26,7 @@ use Rattle.net_core.specs.Policies.{IsPermitted, IsPolicyOf, IsStateful, Policy,
 use Rattle.explain_core.specs.declared.reason.Reason.{Reason}
 use Rattle.explain_core.specs.Reasons.{AreReasons, DenyFlow, DenyAnswers}
 use Rattle.state_core.specs.Stateful.{is_strict}
-use Rattle.query_core.specs.Explanations.{HasReasons, IsExplanation}
+use Rattle.query_core.specs.Explanations.{HasReasons, IsExplanation, ReasonsHaveFlow}
 use Rattle.query_core.specs.declared.explanation.Explanation.{Explanation}
 use Rattle.query_core.specs.declared.standing.Standing.{Standing}
 use Rattle.query_core.specs.inner.Fitting.{FitsExplanation, FitsFinding, FitsPair, FitsReason}
@@ -115,6 +120,50 @@ explained_reasons d policy f x is_policy is =
       answers_denied = λ answers permits left.
           answers_denied_explained d p s f x.answers_denied_by.items is_policy.permitted.within.ordered is_policy.stateful is.answers_denied answers
           (sym permitted ∙ permits) (sym answered ∙ left);
+    }
+
+-- A minimal failing set of a set with one flow more has this flow, if the condition holds on the set.
+has_new_flow : (n : ℕ) (Holds : List Flow → Type 0) (p w : List Flow) (f : Flow) → IsDownward n Holds → IsFlowSet n p → Holds p
+    → IsMinimalFailing Holds (with_flow p f) w → IsTrue (has w f)
+has_new_flow n Holds p w f downward set holds minimal = elim (cases_Bool (has w f)) [
+  | inl there ↦ there
+  | inr absent ↦ absurd (minimal.fails (downward p w set (within_without p w f f minimal.within (same_flow_self f) absent) holds))
+]
+
+-- The sets of all reasons have the new flow, if the chosen invariants hold on the set before it.
+reasons_have : (d : Network) (chosen : AnyInv → Bool) (p : List Flow) (f : Flow) (reasons : List Reason) → All (λ inv. (meaning_of inv).size ≡ length d.hosts) d.invariants
+    → IsFlowSet (length d.hosts) p → ChosenHold chosen holds_on d.invariants p → AreReasons chosen holds_on d.invariants (with_flow p f) reasons
+    → All (λ r. IsTrue (has r.by.flows f)) reasons
+reasons_have d chosen p f reasons sizes set held are k r below =
+    let number : Reason → ℕ = λ x. x.number in
+    let x : Reason = get_or reasons k r in
+    let there : k < length (map number reasons) = omega (arith, below, length-map reasons number) in
+    let found = are.failing.failing (number x)
+    (subst (λ m. IsTrue (among (map number reasons) m)) (get_or-map number reasons k r (number r) below) (among-read (map number reasons) k (number r) there)) in
+    let inv : AnyInv = found.inv in
+    let within : number x < length d.invariants = slice_get_within d.invariants (number x) inv found.place in
+    let same : get_or d.invariants (number x) inv ≡ inv = get_or_from_slice_get d.invariants (number x) inv inv found.place in
+    let size : (meaning_of inv).size ≡ length d.hosts = subst (λ (y : AnyInv). (meaning_of y).size ≡ length d.hosts) same (sizes (number x) inv within) in
+    let holds : holds_on inv p =
+    subst (λ (y : AnyInv). holds_on y p) same (held (number x) inv within (subst (λ (y : AnyInv). IsTrue (chosen y)) (sym same) found.counts)) in
+    has_new_flow (length d.hosts) (holds_on inv) p x.by.flows f (subst (λ m. IsDownward m (holds_on inv)) size (lawful inv).downward) set holds
+    (are.minimal k r below inv found.place)
+
+pub reasons_have_flow : (d : Network) (policy : Policy) (f : Flow) (x : Explanation) → All (λ inv. (meaning_of inv).size ≡ length d.hosts) d.invariants
+    → IsFlowSet (length d.hosts) d.asked.flows → IsPolicyOf d policy → IsExplanation d policy f x → ReasonsHaveFlow x
+reasons_have_flow d policy f x sizes asked is_policy is =
+    let n = length d.hosts in
+    let p : List Flow = policy.permitted.flows in
+    let s : List Flow = policy.stateful.flows in
+    let permitted : IsFlowSet n p = IsFlowSet-subset n p d.asked.flows asked is_policy.permitted.within in
+    let stateful : IsFlowSet n s = IsFlowSet-subset n s p permitted (answerable_within d.answers p s is_policy.stateful.within) in
+    let flow : x.standing.flow ≡ f = ap (λ (y : Standing). y.flow) is.standing in
+    record {
+      denied = subst (λ (g : Flow). All (λ r. IsTrue (has r.by.flows g)) x.denied_by.items) (sym flow)
+          (reasons_have d (λ _. true) p f x.denied_by.items sizes permitted (λ k inv below counts. is_policy.permitted.holds k inv below) is.denied);
+      answers_denied = subst (λ (g : Flow). All (λ r. IsTrue (has r.by.flows (back_of g))) x.answers_denied_by.items) (sym flow)
+          (reasons_have d (λ inv. is_strict (strategy_of inv) (edge_mark inv)) (with_back p s) (back_of f) x.answers_denied_by.items sizes
+          (IsFlowSet-with_back n p s permitted stateful) is_policy.stateful.holds is.answers_denied);
     }
 
 -- ---- findings

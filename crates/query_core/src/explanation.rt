@@ -3,7 +3,7 @@
 ghost use Rattle.std.specs.Prelude.{◌≡◌, IfOk, length};
 ghost use Rattle.flow_set.specs.Flow.{IsFlow};
 ghost use Rattle.net_core.specs.Policies.{IsPolicyOf};
-ghost use Rattle.query_core.specs.Explanations.{HasReasons, IsExplanation};
+ghost use Rattle.query_core.specs.Explanations.{HasReasons, IsExplanation, ReasonsHaveFlow};
 ghost use Rattle.query_core.specs.Json.{why_json};
 ghost use Rattle.query_core.specs.OneAnswer.{IsOnlyWhyText};
 ghost use Rattle.query_core.specs.inner.Fitting.{FitsExplanation};
@@ -38,10 +38,13 @@ pub fn explain(
     ensures fits { IfOk result (FitsExplanation description.now) }
     // No denial lacks a reason.
     ensures reasons { IfOk result (HasReasons description.now) }
+    // Each reason is about the flow.
+    ensures flow { IfOk result ReasonsHaveFlow }
     // Every explanation of the flow is written as the same text.
     ensures one { IfOk result (λ x. IsOnlyWhyText description.now policy.now flow (why_json description.now x)) }
 {
     let _ = description.asked();
+    let _ = description.invariants();
     explanation_of(alloc, description, policy, flow)
 }
 

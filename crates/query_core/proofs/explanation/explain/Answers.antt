@@ -1,11 +1,11 @@
 use Rattle.std.proofs.Common.{length, subst}
 use Rattle.std.proofs.lemmas.Result.{IfOk-weaker}
 use Rattle.flow_set.specs.inner.FlowSetView.{IsFlowSet}
-use Rattle.query_core.specs.Explanations.{HasReasons, IsExplanation}
+use Rattle.query_core.specs.Explanations.{HasReasons, IsExplanation, ReasonsHaveFlow}
 use Rattle.query_core.specs.Json.{why_json}
 use Rattle.query_core.specs.OneAnswer.{IsOnlyWhyText}
 use Rattle.query_core.specs.inner.Fitting.{FitsExplanation}
-use Rattle.query_core.proofs.ExplanationLaws.{explained_reasons, fits_explanation}
+use Rattle.query_core.proofs.ExplanationLaws.{explained_reasons, fits_explanation, reasons_have_flow}
 use Rattle.query_core.proofs.OneAnswerLaws.{why_is_one}
 use Rattle.query_core.proofs.explanation.explain.Goals as goal
 
@@ -22,6 +22,14 @@ returns-clause-reasons c =
     let d = c.args.description.now in
     IfOk-weaker c.explanation_of.result (IsExplanation d c.args.policy.now c.args.flow) (HasReasons d)
     (λ x is. explained_reasons d c.args.policy.now c.args.flow x c.requires.policy is)
+    c.explanation_of.ensures
+
+pub returns-clause-flow : goal.returns-clause-flow
+returns-clause-flow c =
+    let d = c.args.description.now in
+    let asked : IsFlowSet (length d.hosts) d.asked.flows = subst (λ n. IsFlowSet n d.asked.flows) c.asked.ensures.size c.asked.ensures.set in
+    IfOk-weaker c.explanation_of.result (IsExplanation d c.args.policy.now c.args.flow) ReasonsHaveFlow
+    (λ x is. reasons_have_flow d c.args.policy.now c.args.flow x c.invariants.ensures.sizes asked c.requires.policy is)
     c.explanation_of.ensures
 
 pub returns-clause-one : goal.returns-clause-one
