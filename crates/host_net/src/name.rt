@@ -1,6 +1,6 @@
 //! The name of a host, kept without memory so that refusals and reports can carry it.
 
-ghost use Rattle.std.specs.Prelude.{◌≡◌, ◌≤◌, Some, None, [], IsTrue, length, if◌then◌else◌, nat_eq};
+ghost use Rattle.std.specs.Prelude.{◌≡◌, ◌≤◌, Some, None, [], IsAscii, IsTrue, length, if◌then◌else◌, nat_eq};
 ghost use Rattle.std.proofs.Common.{rules};
 ghost use Rattle.std.specs.Cmp.{partial_equiv_from_equiv};
 ghost use Rattle.std.specs.Cmp.Lexicographic.{nat_list_eq_equiv, pointwise};
@@ -10,6 +10,7 @@ ghost use Rattle.text_core.specs.Name.{is_name};
 
 use std::hash::{Hash, Hasher};
 use std::marker::Model;
+use std::str::from_utf8;
 use text_core::{is_name, padded};
 
 /// A text of at most 32 bytes: the name of a host, or the empty text where no name is given.
@@ -20,18 +21,18 @@ pub struct Name {
 }
 
 impl Model for Name {
-    ghost use Rattle.std.specs.Prelude.{ℕ, List, take, length};
+    ghost use Rattle.std.specs.Prelude.{ℕ, IsAscii, List, take, length};
     ghost use Rattle.text_core.specs.inner.Padded.{IsPadded, padded, padded_bytes, padded_len};
 
     ghost Value = { List ℕ };
 
     ghost view = { λ n. take n.len n.bytes };
 
-    ghost invariant = { λ n. IsPadded 32 n.len n.bytes };
+    ghost invariant = { λ n. IsPadded 32 n.len n.bytes × IsAscii (take n.len n.bytes) };
 
     ghost inverse = { λ text. record { bytes = padded 32 text; len = length text } };
 
-    ghost inverse_ok = { λ n short i. record { bytes = padded_bytes 32 n.len n.bytes short i; len = padded_len 32 n.len n.bytes short i } };
+    ghost inverse_ok = { λ n stored i. record { bytes = padded_bytes 32 n.len n.bytes stored.0 i; len = padded_len 32 n.len n.bytes stored.0 i } };
 }
 
 impl Name {
@@ -68,10 +69,18 @@ impl Name {
         }
     }
 
+    /// The text as a string slice.
+    pub fn as_str(&self) -> &str
+        ensures { result.now ≡ self.now }
+    {
+        from_utf8(self.bytes()).unwrap()
+    }
+
     /// The text.
     pub fn bytes(&self) -> &[u8]
         ensures value { result.now ≡ self.now }
         ensures short { length result.now ≤ 32 }
+        ensures ascii { IsAscii result.now }
     {
         &self.bytes[..self.len as usize]
     }
