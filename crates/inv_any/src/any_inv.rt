@@ -57,10 +57,10 @@ macro_rules! keep {
 
 impl AnyInv {
     /// The name of the template, as a description writes it.
-    pub fn template_name(&self) -> &[u8]
+    pub fn template_name(&self) -> &str
         ensures { result.now ≡ template_name self.now }
     {
-        let name = match self {
+        match self {
             AnyInv::Blp(_) => "blp",
             AnyInv::Tainting(_) => "tainting",
             AnyInv::Sink(_) => "sink",
@@ -71,9 +71,8 @@ impl AnyInv {
             AnyInv::Dependability(_) => "dependability",
             AnyInv::NonInterference(_) => "noninterference",
             AnyInv::NoReach(_) => "noreach",
-            AnyInv::Table(inv) => return inv.rule().name().bytes(),
-        };
-        name.as_bytes()
+            AnyInv::Table(inv) => inv.rule().name().as_str(),
+        }
     }
 }
 

@@ -36,5 +36,5 @@ pub(crate) fn push_invariant(
     let mut digits = itoa::Buffer::new();
     text.extend_from_slice(digits.format(number).as_bytes())?;
     text.extend_from_slice(b" ")?;
-    text.extend_from_slice(invariant.template_name())
+    text.extend_from_slice(invariant.template_name().as_bytes())
 }

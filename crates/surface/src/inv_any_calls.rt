@@ -32,7 +32,7 @@ pub fn any_inv_traits() {
     is_stepwise::<AnyInv, AnyTrial>();
 }
 
-/// Pins `AnyInv::template_name`. It returns bytes and no `&str`: docs/DECISIONS.md records why.
-pub fn any_inv_template_name(inv: &AnyInv) -> &[u8] {
+/// Pins `AnyInv::template_name`.
+pub fn any_inv_template_name(inv: &AnyInv) -> &str {
     inv.template_name()
 }
