@@ -1,6 +1,6 @@
 -- The law of classes at a description: packets that it does not part are of the same flow, by its services.
 use Rattle.std.proofs.Common.{◌≡◌, ◌≢◌, ℕ, suc, ◌+◌, ◌<◌, Bool, true, false, cond, ◌&&◌, ◌||◌, ◌==◌, List, [], ◌∷◌, Option, Some, None, map, length, refl, sym, ap, subst, ◌∙◌, arith, true≢false}
-use Rattle.std.specs.Prelude.{if◌then◌else◌}
+use Rattle.std.specs.Prelude.{if◌then◌else◌, is_some}
 use Rattle.std.specs.List.{AllByRecursion, flat_map, list_any, position_from}
 use Rattle.std.specs.Option.{option_or, option_map_or}
 use Rattle.std.proofs.lemmas.Bool.Decides.{nat_tests}
@@ -140,3 +140,15 @@ is_of_alike site flows p q alike =
     of_flow_alike site flows p q (flow_of site.hosts p) (services_alike (flow_services site) p q both.1)
     (λ f is. flow_between (owner_of site.hosts p.src) (owner_of site.hosts p.dst) (length site.hosts) f (owner_below site.hosts p.src) (owner_below site.hosts p.dst) is)
     ∙ ap (λ (o : Option Flow). option_map_or (λ f. has flows f && is_served (services_of site.services f.from f.to) q) o false) (flow_alike site p q alike)
+
+-- a packet whose destination nobody owns is of no flow
+pub of_none_without_owner : (site : Site) (flows : List Flow) (p : Packet) (to : Option ℕ) → owner_of site.hosts p.dst ≡ to → is_some to ≡ false
+    → is_of site flows p ≡ false
+of_none_without_owner site flows p (Some n) is none = absurd (true≢false none)
+of_none_without_owner site flows p None is none =
+    ap (λ (f : Option Flow). option_map_or (λ g. has flows g && is_served (services_of site.services g.from g.to) p) f false)
+    (ap (flow_of_owners (owner_of site.hosts p.src)) is ∙ nowhere (owner_of site.hosts p.src))
+  where
+    nowhere : (from : Option ℕ) → flow_of_owners from None ≡ None
+    nowhere None = refl
+    nowhere (Some i) = refl

@@ -45,6 +45,10 @@ pub(crate) fn answers_are_of_within(
     ensures part { Narrows within.old within.new }
     ensures alike { (p : Packet) → IsIn within.new p → is_of policy.now.site flows.now.flows (swap_of p) ≡ result }
 {
+    // With this test first, a box whose sources nobody owns is not narrowed to the owner of its destinations.
+    if source_owner(policy.hosts(), within).is_none() {
+        return false;
+    }
     let mut answers = within.swap();
     let are = is_of_within(policy, flows, &mut answers);
     *within = answers.swap();
