@@ -121,6 +121,7 @@ impl<'a, 'b> Visitor for Survey<'a, 'b> {
 
     fn visit(&mut self, within: &mut PacketBox) {
         let packet = within.least;
+        // Nothing is asked about packets of another service.
         if !self.first.is_of(&packet) {
             within.greatest.proto = packet.proto;
             within.greatest.dport = packet.dport;
