@@ -1,6 +1,7 @@
 pub mod BuildLemmas
 pub mod ChainLaws
 pub mod ChainLemmas
+pub mod DeadRuleLaws
 pub mod Gets
 pub mod HeaderLemmas
 pub mod LoopLaws

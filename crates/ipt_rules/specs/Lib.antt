@@ -1,5 +1,6 @@
 pub mod Chain
 pub mod ChainTable
+pub mod DeadRules
 pub mod Loops
 pub mod Marks
 pub mod Matching
