@@ -1,10 +1,11 @@
 -- Chains without some of their rules, such as those that no packet meets.
-use Rattle.std.specs.Prelude.{◌≡◌, ℕ, ◌+◌, Bool, true, if◌then◌else◌, IsTrue, List, [], ◌∷◌}
+use Rattle.std.specs.Prelude.{◌≡◌, ℕ, ◌+◌, Bool, true, if◌then◌else◌, IsFalse, IsTrue, List, [], ◌∷◌}
 use Rattle.host_net.specs.declared.packet.Packet.{Packet}
 use Rattle.host_net.specs.declared.packet.CtState.{CtState}
 use Rattle.ipt_rules.specs.declared.marks.Place.{Place}
 use Rattle.ipt_rules.specs.declared.rule.Rule.{Rule}
 use Rattle.ipt_rules.specs.Chain.{Chain}
+use Rattle.ipt_rules.specs.Marks.{is_marked}
 use Rattle.ipt_rules.specs.Meets.{IsMet}
 
 -- The rules of chain c from rule n on, without those at the places.
@@ -25,3 +26,7 @@ without_places places chains = without_from places 0 chains
 -- The packet meets none of the rules at the places.
 abbrev pub MeetsNone : (Place → Bool) → List Chain → Packet → CtState → Type 0
 MeetsNone places chains packet state = (place : Place) → IsTrue (places place) → IsMet chains packet state place → ⊥
+
+-- None of the rules at the places is marked.
+abbrev pub AreUnmarked : List (List Bool) → (Place → Bool) → Type 0
+AreUnmarked marks places = (place : Place) → IsTrue (places place) → IsFalse (is_marked marks place)

@@ -1,10 +1,12 @@
 //! Which rules packets meet that run through a rule set, and which of them decides.
 
-ghost use Rattle.std.specs.Prelude.{◌≡◌, ◌⊎◌, ◌↔◌, ◌<◌, ◌≤◌, length, IsTrue, Option};
+ghost use Rattle.std.specs.Prelude.{◌≡◌, ◌⊎◌, ◌↔◌, ◌<◌, ◌≤◌, length, Bool, IsTrue, Option};
 ghost use Rattle.host_net.specs.declared.packet.Packet.{Packet};
+ghost use Rattle.host_net.specs.declared.packet.Verdict.{Verdict};
 ghost use Rattle.header_space.specs.Boxes.{IsBox, IsIn, Narrows};
 ghost use Rattle.ipt_rules.specs.declared.marks.Place.{Place};
 ghost use Rattle.ipt_rules.specs.ChainTable.{rule_count};
+ghost use Rattle.ipt_rules.specs.DeadRules.{AreUnmarked, without_places};
 ghost use Rattle.ipt_rules.specs.Marks.{AreMarksOf, is_marked};
 ghost use Rattle.ipt_rules.specs.Meets.{IsMet, IsDecider, decided};
 ghost use Rattle.ipt_rules.specs.inner.OneOutcome.{HasVerdict};
@@ -36,6 +38,8 @@ impl Ruleset {
         // Nothing else decides, and the verdict is that of the decider.
         ensures only { (p : Packet) → IsIn within.new p → (other : Option Place) → IsDecider self.now p state other → other ≡ result }
         ensures verdict { (p : Packet) → IsIn within.new p → HasVerdict self.now p state (decided self.now result) }
+        // Without rules that stay unmarked the verdicts are the same.
+        ensures unmarked { (p : Packet) → IsIn within.new p → (places : Place → Bool) → AreUnmarked met.new places → (v : Verdict) → (HasVerdict self.now p state v ↔ HasVerdict (without_places places self.now) p state v) }
     {
         let chains = self.chains.as_slice();
         meet_forward(chains, met, within, state)
@@ -61,6 +65,8 @@ fn meet_forward(
     ensures decider { (p : Packet) → IsIn within.new p → IsDecider chains.now p state result }
     ensures only { (p : Packet) → IsIn within.new p → (other : Option Place) → IsDecider chains.now p state other → other ≡ result }
     ensures verdict { (p : Packet) → IsIn within.new p → HasVerdict chains.now p state (decided chains.now result) }
+    // Without rules that stay unmarked the verdicts are the same.
+    ensures unmarked { (p : Packet) → IsIn within.new p → (places : Place → Bool) → AreUnmarked met.new places → (v : Verdict) → (HasVerdict chains.now p state v ↔ HasVerdict (without_places places chains.now) p state v) }
 {
     meet_chain(chains, FORWARD, met, within, state)
 }
