@@ -11,7 +11,7 @@ use Rattle.ipt_rules.specs.declared.rule.Target.{Target}
 use Rattle.ipt_rules.specs.Chain.{Chain, rules_of, policy_of}
 use Rattle.ipt_rules.specs.DeadRules.{MeetsNone, without_from, without_places, without_rules}
 use Rattle.ipt_rules.specs.Matching.{matches}
-use Rattle.ipt_rules.specs.Meaning.{GoesOn, Ends, Walks, step_of, Gives, at_end, goes_on, ends, decides, comes_back, verdict_by, HasVerdictIn}
+use Rattle.ipt_rules.specs.Meaning.{GoesOn, Walks, step_of, Gives, at_end, goes_on, ends, decides, comes_back, verdict_by}
 use Rattle.ipt_rules.specs.Meets.{MeetsFrom, meets_here, meets_later, meets_inside, meets_behind}
 use Rattle.ipt_rules.specs.inner.OneOutcome.{EachGivesOne, HasVerdict}
 use Rattle.ipt_rules.proofs.MeaningLaws.{verdict_once}
