@@ -1,4 +1,5 @@
 pub mod ArrayLaws
 pub mod ExplanationLaws
+pub mod GapLaws
 pub mod OffenceLaws
 pub mod OneAnswerLaws

@@ -1,4 +1,5 @@
 pub mod Explanations
+pub mod Gaps
 pub mod Json
 pub mod NetworkText
 pub mod Offences

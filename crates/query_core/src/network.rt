@@ -4,6 +4,7 @@ ghost use Rattle.std.specs.Prelude.{◌≡◌, ◌++◌, All, IfOk, OnOk, length
 ghost use Rattle.flow_set.specs.EveryFlow.{every_flow};
 ghost use Rattle.net_core.specs.Policies.{IsPolicyOf, edge_mark, holds_on, strategy_of};
 ghost use Rattle.explain_core.specs.Findings.{AreAnswerDenials, AreDenials};
+ghost use Rattle.query_core.specs.Gaps.{GapsArePermitted};
 ghost use Rattle.query_core.specs.Json.{answer_denial_json, array_json, is_gap, network_json, number_json, pair_json};
 ghost use Rattle.query_core.specs.NetworkText.{IsNetworkText};
 ghost use Rattle.query_core.specs.OneAnswer.{IsOnlyNetworkText};
@@ -27,8 +28,12 @@ pub fn network_json(
 ) -> Result<Vec<u8>, AllocError>
     requires { IsPolicyOf description.now policy.now }
     ensures text { IfOk result (λ text. IsNetworkText description.now policy.now text.items) }
+    ensures gaps { IfOk result (λ text. (is : IsNetworkText description.now policy.now text.items)
+        → GapsArePermitted description.now policy.now is.denials) }
     ensures one { IfOk result (λ text. IsOnlyNetworkText description.now policy.now text.items) }
 {
+    let _ = description.asked();
+    let _ = description.invariants();
     let offences = offences_of(alloc, description)?;
     let denied = denials_of(alloc, description, policy)?;
     let without_answers = answer_denials_of(alloc, description, policy)?;

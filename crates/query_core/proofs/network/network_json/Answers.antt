@@ -1,5 +1,7 @@
-use Rattle.std.proofs.Common.{◌++◌, ◌∙◌, List, ℕ, ap}
+use Rattle.std.proofs.Common.{◌++◌, ◌∙◌, List, ℕ, ap, length, subst}
+use Rattle.flow_set.specs.inner.FlowSetView.{IsFlowSet}
 use Rattle.query_core.specs.Json.{network_json}
+use Rattle.query_core.proofs.GapLaws.{gaps_permitted}
 use Rattle.query_core.proofs.OneAnswerLaws.{network_is_one}
 use Rattle.query_core.proofs.network.network_json.Goals as goal
 
@@ -19,6 +21,12 @@ returns-clause-text c =
           ∙ ap (λ (t : List ℕ). t ++ network_json d policy c.deref.result.now c.deref-2.result.now c.deref-3.result.now) c.new-text.ensures.items
           ∙ (λ i. network_json d policy (c.deref.ensures.value i) (c.deref-2.ensures.value i) (c.deref-3.ensures.value i));
     }
+
+pub returns-clause-gaps : goal.returns-clause-gaps
+returns-clause-gaps c is =
+    let d = c.args.description.now in
+    let asked : IsFlowSet (length d.hosts) d.asked.flows = subst (λ n. IsFlowSet n d.asked.flows) c.asked.ensures.size c.asked.ensures.set in
+    gaps_permitted d c.args.policy.now is.denials c.invariants.ensures.sizes asked c.requires is.are_denials
 
 pub returns-clause-one : goal.returns-clause-one
 returns-clause-one c other also = network_is_one c.args.description.now c.args.policy.now other c.push_network.new.text.items also (returns-clause-text c)
