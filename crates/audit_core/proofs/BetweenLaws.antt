@@ -65,8 +65,5 @@ module _ (Holds : Packet → Type 0) where
   some_to from to i d (Some p) low found some =
       (record { packet = found.0.packet; src = found.0.src; dst = covered_at to i d p.dst low (only (get_or to i d) p.dst found.0.dst) }, found.1)
 
-  pub nothing_goes : (to : List AddressRange) (p : Packet) → GoesBetween [] to p → Holds p → ⊥
-  nothing_goes to p goes holds = goes.src
-
   pub nothing_arrives : (from : List AddressRange) (p : Packet) → GoesBetween from [] p → Holds p → ⊥
   nothing_arrives from p goes holds = goes.dst

@@ -15,10 +15,9 @@ use Rattle.header_space.specs.declared.packet_box.PacketBox.{PacketBox}
 use Rattle.host_net.specs.Verdict.{verdict_if}
 use Rattle.ipt_rules.specs.Chain.{Chain}
 use Rattle.ipt_rules.specs.Slices.{HaveSameVerdicts as HaveSameChainVerdicts}
-use Rattle.audit_core.specs.Rules.{Rules, Chains, filter_of}
-use Rattle.audit_core.specs.Sides.{Sides, lets_answer, permits, sides_of}
+use Rattle.audit_core.specs.Rules.{Chains, filter_of}
+use Rattle.audit_core.specs.Sides.{Sides, lets_answer, permits}
 use Rattle.audit_core.specs.Verdicts.{GivesOne, HaveSameVerdicts}
-use Rattle.audit_core.specs.inner.Parts.{HaveSameFaults}
 use Rattle.audit_core.specs.inner.Faults.{IsAnyFault, IsExpected, IsFault, SaysOther}
 use Rattle.audit_core.specs.inner.Judging.{Right, Wrong, is_asked, state_in}
 use Rattle.audit_core.specs.inner.Sought.{AreRight}
@@ -129,13 +128,6 @@ trace_forwards BehindSwap p f = refl
 trace_forwards BehindBoth p f = refl
 
 -- ---- rules that say the same of the packets of a box
-
-pub same_faults : (b : PacketBox) (sides : Sides) (rules : Rules) → HaveSameVerdicts b sides.rules rules
-    → HaveSameFaults b sides (sides_of sides.site sides.permitted sides.stateful rules)
-same_faults b sides rules same = λ p inside kind. (
-  (λ fault. (fault.0, record { asked = fault.1.asked; said = (same p inside (state_in kind) fault.0).1 fault.1.said; wrong = fault.1.wrong })),
-  (λ fault. (fault.0, record { asked = fault.1.asked; said = (same p inside (state_in kind) fault.0).0 fault.1.said; wrong = fault.1.wrong })),
-)
 
 pub same_chains : (b : PacketBox) (xs ys : List Chain) → HaveSameChainVerdicts b xs ys → HaveSameVerdicts b (Chains xs) (Chains ys)
 same_chains b xs ys same = λ p inside state passes. same p inside state (verdict_if passes)

@@ -114,13 +114,6 @@ kind_differs_where e gives others kind p is passes expected answer ends expects 
       (one_end e.part.rules e.swaps.rules gives others kind p is differs.0 passes differs.1.ends ends ∙ same ∙ sym expects))),
 )
 
-pub differs_not : (e : Ends) (kind : Kind) (p : Packet) (expected forwards : Bool) → expected_at e.part kind p ≡ expected → expected ≡ forwards
-    → IsTrue false ↔ DiffersBy e kind p forwards
-differs_not e kind p expected forwards expects same = (
-  (λ yes'. absurd (true≢false (sym yes'))),
-  (λ differs. absurd (differs.other (sym (expects ∙ same)))),
-)
-
 pub differs_where : (e : Ends) → GivesOne (filter_of e.part.rules) → GivesOne (filter_of e.swaps.rules) → (kind : Kind) (p : Packet) → IsPacket p
     → (passes expected forwards answer : Bool) → EndsBy e.part.rules e.swaps.rules kind p passes → expected_at e.part kind p ≡ expected
     → expected ≢ forwards → (IsTrue answer → passes ≡ forwards) × (passes ≡ forwards → IsTrue answer) → IsTrue answer ↔ DiffersBy e kind p forwards

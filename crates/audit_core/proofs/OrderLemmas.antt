@@ -16,9 +16,6 @@ contains_none d (k, within, is) = omega arith
 pub contains_first : {X : Type 0} (x : X) (xs : List X) (d : X) → x ≡ d → Contains (x ∷ xs) d
 contains_first x xs d is = (0, omega arith, is)
 
-pub contains_some : {X : Type 0} (xs : List X) (d : X) → Contains xs d → 0 < length xs
-contains_some xs d (k, within, is) = omega arith
-
 pub rises_by_pairs : (xs : List ℕ) → AllPairs (λ x y. x < y) xs → Rises xs
 rises_by_pairs [] pairs = tt
 rises_by_pairs (x ∷ xs) pairs = (head, rises_by_pairs xs (λ i j d before within. pairs (suc i) (suc j) d (omega arith) (omega arith)))

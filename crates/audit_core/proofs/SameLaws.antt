@@ -1,5 +1,5 @@
 -- No packet differs at the end of a list exactly where the two sides differ on no list of events.
-use Rattle.std.proofs.Common.{◌≡◌, ◌↔◌, Bool, true, List, [], ◌∷◌, refl, sym, subst, ◌∙◌, true≢false, arith, false}
+use Rattle.std.proofs.Common.{◌≡◌, ◌↔◌, Bool, true, List, [], ◌∷◌, refl, sym, subst, ◌∙◌, arith}
 use Rattle.host_net.specs.declared.packet.Packet.{Packet}
 use Rattle.host_net.specs.declared.packet.CtState.TheVariants.{New, Established}
 use Rattle.host_net.specs.Packet.{IsPacket, swap_of}

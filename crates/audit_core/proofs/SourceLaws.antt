@@ -23,9 +23,6 @@ use Rattle.audit_core.proofs.OwnedLaws.{covered_cases, covered_left, covered_own
 -- 1. Sources, one after another.
 
 module _ (sides : Sides) where
-  pub sources_none : AreSources sides [] []
-  sources_none = record { each = λ k d low. absurd (omega (arith, low)); within = λ a covered. covered; covered = λ p is covered differs. covered }
-
   -- a range from which no packet differs has no source
   pub sources_same : (ranges all : List AddressRange) (sources : List Source) (range : AddressRange) (s : Source) (answer : Bool)
       → AreSources sides ranges sources → IsSource sides s → s.range ≡ range → SaysWhether s answer → answer ≡ false → all ≡ ranges ++ range ∷ []

@@ -6,10 +6,8 @@ ghost use Rattle.flow_set.specs.FlowSet.{IsSubset};
 ghost use Rattle.audit_core.specs.Findings.{DifferSomewhere};
 ghost use Rattle.audit_core.specs.inner.Findings.{IsFinding, IsRefused};
 ghost use Rattle.audit_core.specs.inner.Sought.{IsSought};
-ghost use Rattle.audit_core.specs.Places.{class_count, leasts_of, most_classes};
-ghost use Rattle.audit_core.specs.Cuts.{cuts_between};
+ghost use Rattle.audit_core.specs.Places.{class_count, most_classes};
 ghost use Rattle.audit_core.specs.RulesView.{rules_of};
-ghost use Rattle.audit_core.specs.inner.Searching.{ArePacketsAll};
 ghost use Rattle.audit_core.specs.Sides.{sides_of};
 
 use crate::fault::{are_right, fault_of};
@@ -83,8 +81,6 @@ pub fn compare_policy(
     ensures exact { IfOk result (λ finding. (finding ≡ Finding.Equal) ↔
         (DifferSomewhere (sides_of policy.now.site policy.now.permitted policy.now.stateful (rules_of text.now)) → ⊥)) }
 {
-    // This tells that the packets of classes are packets.
-    let _count = count_classes(alloc, policy, text)?;
     find(alloc, &Sides::new(policy, *text))
 }
 
@@ -94,8 +90,7 @@ fn count_classes(
     policy: &FlowPolicy<'_>,
     text: &Text<'_>,
 ) -> Result<u128, AllocError>
-    ensures count { IfOk result (λ count. count ≡ class_count (sides_of policy.now.site policy.now.permitted policy.now.stateful (rules_of text.now))) }
-    ensures packets { IfOk result (λ _. ArePacketsAll (leasts_of (cuts_between (sides_of policy.now.site policy.now.permitted policy.now.stateful (rules_of text.now))))) }
+    ensures { IfOk result (λ count. count ≡ class_count (sides_of policy.now.site policy.now.permitted policy.now.stateful (rules_of text.now))) }
 {
     let named = named_between(alloc, policy, text)?;
     let found = named.distinct();

@@ -1,9 +1,8 @@
 use Rattle.pkt_core.specs.inner.FlowPolicy.{FlowPolicy}
 use Rattle.audit_core.specs.declared.text.Text.{Text}
 use Rattle.audit_core.specs.RulesView.{rules_of}
-use Rattle.audit_core.specs.Cuts.{cuts_between}
 use Rattle.audit_core.specs.Sides.{Sides, sides_of}
-use Rattle.audit_core.proofs.AuditLemmas.{ascend, class_packets, count_is}
+use Rattle.audit_core.proofs.AuditLemmas.{ascend, count_is}
 use Rattle.audit_core.proofs.comparison.count_classes.Goals as goal
 
 -- the two sides that are compared
@@ -13,8 +12,5 @@ compared policy text = sides_of policy.site policy.permitted policy.stateful (ru
 pub total-requires : goal.total-requires
 total-requires c = ascend (compared c.args.policy.now c.args.text.now) c.in_ok-named.ensures c.distinct-found.ensures c.in_ok-leasts.ensures
 
-pub returns-clause-count : goal.returns-clause-count
-returns-clause-count c = count_is (compared c.args.policy.now c.args.text.now) c.in_ok-named.ensures c.distinct-found.ensures c.in_ok-leasts.ensures c.total.ensures
-
-pub returns-clause-packets : goal.returns-clause-packets
-returns-clause-packets c = class_packets (cuts_between (compared c.args.policy.now c.args.text.now))
+pub returns : goal.returns
+returns c = count_is (compared c.args.policy.now c.args.text.now) c.in_ok-named.ensures c.distinct-found.ensures c.in_ok-leasts.ensures c.total.ensures
