@@ -16,7 +16,8 @@ use Rattle.audit_core.specs.inner.Findings.{IsFinding}
 use Rattle.audit_core.specs.laws.FindingLaws.{trace_packets}
 use Rattle.audit_core.specs.laws.ListLaws.{agree_not_differ, differ_on}
 use Rattle.audit_core.specs.Lists.{front_of, list_of}
-use Rattle.audit_core.specs.Places.{ComesBefore, IsClassPacket, Leasts, comes_first, leasts_of}
+use Rattle.header_space.specs.Order.{ComesBefore, comes_first}
+use Rattle.audit_core.specs.Places.{IsClassPacket, Leasts, leasts_of}
 use Rattle.audit_core.specs.Rules.{filter_of}
 use Rattle.audit_core.specs.Sides.{Agree, Sides, lets_answer, permits}
 

@@ -19,7 +19,8 @@ use Rattle.audit_core.specs.inner.Judging.{Right}
 use Rattle.audit_core.proofs.JudgingLemmas.{agree_alone, agree_behind_both, agree_behind_swap, differ_alone, differ_behind_both, differ_behind_swap, judged_by, right_new}
 use Rattle.audit_core.specs.laws.ListLaws.{differ_on}
 use Rattle.audit_core.specs.Lists.{front_of, list_of}
-use Rattle.audit_core.specs.Places.{ComesBefore, IsClassPacket, Leasts, comes_first, leasts_of}
+use Rattle.header_space.specs.Order.{ComesBefore, comes_first}
+use Rattle.audit_core.specs.Places.{IsClassPacket, Leasts, leasts_of}
 use Rattle.audit_core.specs.Rules.{filter_of}
 use Rattle.audit_core.specs.Verdicts.{GivesOne}
 use Rattle.audit_core.specs.inner.Searching.{AllRight, ArePacketsAll, IsFirstWrong, IsNoHigher, IsSearched, Represent}

@@ -9,7 +9,8 @@ use Rattle.audit_core.specs.declared.finding.Finding.TheVariants.{Equal, Differ 
 use Rattle.audit_core.specs.declared.finding.Trace.{Trace}
 use Rattle.audit_core.specs.declared.kind.Kind.{Kind}
 use Rattle.audit_core.specs.Cuts.{cuts_between}
-use Rattle.audit_core.specs.Places.{ComesBefore, IsClassPacket, leasts_of}
+use Rattle.header_space.specs.Order.{ComesBefore}
+use Rattle.audit_core.specs.Places.{IsClassPacket, leasts_of}
 use Rattle.audit_core.specs.Rules.{filter_of}
 use Rattle.audit_core.specs.Sides.{Sides}
 use Rattle.audit_core.specs.inner.Findings.{IsFinding}

@@ -9,7 +9,8 @@ use Rattle.audit_core.specs.declared.kind.Kind.{Kind}
 use Rattle.audit_core.specs.declared.kind.Kind.TheVariants.{Alone, BehindSwap, BehindBoth}
 use Rattle.audit_core.specs.declared.finding.Trace.{Trace}
 use Rattle.audit_core.specs.Lists.{front_of, list_of}
-use Rattle.audit_core.specs.Places.{ComesBefore, IsClassPacket, Leasts}
+use Rattle.header_space.specs.Order.{ComesBefore}
+use Rattle.audit_core.specs.Places.{IsClassPacket, Leasts}
 use Rattle.audit_core.specs.Sides.{Agree, Differ, DifferThen, Sides}
 
 -- the list of that kind at a packet, with what the rules do at its end

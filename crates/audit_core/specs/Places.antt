@@ -1,5 +1,5 @@
--- The packets that represent classes, their order, and the number of classes.
-use Rattle.std.specs.Prelude.{◌≡◌, ◌⊎◌, ℕ, ◌*◌, ◌^◌, ◌<◌, List, length}
+-- The packets that represent classes, and the number of classes.
+use Rattle.std.specs.Prelude.{ℕ, ◌*◌, ◌^◌, List, length}
 use Rattle.std.specs.List.{Contains}
 use Rattle.host_net.specs.declared.packet.Packet.{Packet}
 use Rattle.audit_core.specs.Classes.{is_among, numbers_where, represents_protocol}
@@ -23,14 +23,6 @@ pub record IsClassPacket (l : Leasts) (p : Packet) : Type 0 where
   pub proto : Contains l.protocols p.proto
   pub sport : Contains l.ports p.sport
   pub dport : Contains l.ports p.dport
-
--- by the first number that differs: the numbers come before the others
-abbrev pub comes_first : ℕ → ℕ → Type 0 → Type 0
-comes_first a b Later = (a < b) ⊎ ((a ≡ b) × Later)
-
--- a packet comes before another: by source, destination, protocol, source port and destination port
-abbrev pub ComesBefore : Packet → Packet → Type 0
-ComesBefore p q = comes_first p.src q.src (comes_first p.dst q.dst (comes_first p.proto q.proto (comes_first p.sport q.sport (p.dport < q.dport))))
 
 -- The representatives of all classes: the addresses that are cuts, the protocols that represent their classes, the ports that are cuts.
 abbrev pub leasts_of : Cuts → Leasts

@@ -9,7 +9,8 @@ use Rattle.audit_core.specs.declared.finding.Finding.TheVariants.{Equal, Differ 
 use Rattle.audit_core.specs.declared.finding.Trace.{Trace}
 use Rattle.audit_core.specs.Findings.{place_of, trace_of}
 use Rattle.audit_core.specs.inner.Judging.{Right, Wrong}
-use Rattle.audit_core.specs.Places.{ComesBefore, IsClassPacket, Leasts}
+use Rattle.header_space.specs.Order.{ComesBefore}
+use Rattle.audit_core.specs.Places.{IsClassPacket, Leasts}
 use Rattle.audit_core.specs.Rules.{filter_of}
 use Rattle.audit_core.specs.Sides.{Sides, lets_answer, permits}
 

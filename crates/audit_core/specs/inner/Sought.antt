@@ -7,7 +7,7 @@ use Rattle.audit_core.specs.declared.finding.Finding.{Finding}
 use Rattle.audit_core.specs.declared.finding.Finding.TheVariants.{Equal, Differ as Differing}
 use Rattle.audit_core.specs.declared.finding.Trace.{Trace}
 use Rattle.audit_core.specs.Findings.{place_of, trace_of}
-use Rattle.audit_core.specs.Places.{ComesBefore}
+use Rattle.header_space.specs.Order.{ComesBefore}
 use Rattle.audit_core.specs.inner.Judging.{Right, Wrong}
 use Rattle.audit_core.specs.Sides.{Sides}
 
