@@ -86,7 +86,7 @@ fn ask_after<'a>(verb: &str, rest: &'a [String]) -> Option<Ask<'a>>
 }
 
 /// The words, where there are just as many.
-fn one_word(words: &[String]) -> Option<&str>
+pub fn one_word(words: &[String]) -> Option<&str>
     ensures { option_map (λ word. word.now) result ≡ one_word (map string_bytes words.now) }
 {
     match words {
@@ -104,7 +104,7 @@ fn two_words(words: &[String]) -> Option<(&str, &str)>
     }
 }
 
-fn three_words(words: &[String]) -> Option<(&str, &str, &str)>
+pub fn three_words(words: &[String]) -> Option<(&str, &str, &str)>
     ensures { option_map (λ all. (all.0.now, all.1.now, all.2.now)) result ≡ three_words (map string_bytes words.now) }
 {
     match words {

@@ -90,7 +90,7 @@ fn specific_machines<'a>(
 }
 
 /// The line that there is no host of that name.
-fn no_host_line(alloc: Global, host: &str) -> Result<Vec<u8>, AllocError>
+pub fn no_host_line(alloc: Global, host: &str) -> Result<Vec<u8>, AllocError>
     ensures { IfOk result (λ line. line.items ≡ no_host_line host.now) }
 {
     let mut line = Vec::new(alloc);
