@@ -1,0 +1,67 @@
+use Rattle.std.proofs.Common.{map, string_bytes}
+use Rattle.topos_top.specs.Shelf.{shelf_change}
+use Rattle.topos_top.specs.Taken.{sink_change}
+use Rattle.topos_top.specs.declared.status.Status.TheVariants as status
+use Rattle.query_top.specs.Promises.{GaveReply}
+use Rattle.query_top.specs.inner.Views.{ending_view}
+use Rattle.query_top.proofs.AnsweredLaws.{answered_law, other_law}
+use Rattle.query_top.proofs.AskLaws.{may_give, not_read}
+use Rattle.query_top.proofs.CompleteLaws.{complete_law}
+use Rattle.query_top.proofs.RunLaws.{usage_law, caused, no_fault, nothing_to_write, something_to_write}
+use Rattle.query_top.proofs.program.run.Given as given
+use Rattle.query_top.proofs.program.run.Goals as goal
+
+-- The one reply of the run, from which each clause follows.
+gave : (g : given.Over) (c : goal.Joined-ending g) → GaveReply (map string_bytes c.args.words.now)
+    (shelf_change g.H.Shelf c.args.shelf.now c.ending_for-ending.new.shelf)
+    (sink_change g.O.Sink c.args.out.now c.give.new.out) (sink_change g.E.Sink c.args.err.now c.give.new.err) c.give.result
+gave g c = record {
+  reply = ending_view c.ending_for-ending.result;
+  allowed = may_give _ _ _ c.ending_for-ending.ensures.reply;
+  given = c.give.ensures.given;
+}
+
+pub returns-clause-reply : goal.returns-clause-reply
+returns-clause-reply g c = gave g c
+
+pub returns-clause-usage : goal.returns-clause-usage
+returns-clause-usage g c = usage_law _ _ _ _ _ (gave g c)
+
+pub returns-clause-usage_reads_nothing : goal.returns-clause-usage_reads_nothing
+returns-clause-usage_reads_nothing g c = λ is. c.ending_for-ending.ensures.reads_nothing (not_read _ ((usage_law _ _ _ _ _ (gave g c)).0 is))
+
+pub returns-clause-read_fault : goal.returns-clause-read_fault
+returns-clause-read_fault g c = caused _ _ _ _ _ (gave g c) status.ReadFault (λ e. cc e)
+
+pub returns-clause-bad_description : goal.returns-clause-bad_description
+returns-clause-bad_description g c = caused _ _ _ _ _ (gave g c) status.BadDescription (λ e. cc e)
+
+pub returns-clause-not_emittable : goal.returns-clause-not_emittable
+returns-clause-not_emittable g c = caused _ _ _ _ _ (gave g c) status.NotEmittable (λ e. cc e)
+
+pub returns-clause-write_fault : goal.returns-clause-write_fault
+returns-clause-write_fault g c = caused _ _ _ _ _ (gave g c) status.WriteFault (λ e. cc e)
+
+pub returns-clause-memory : goal.returns-clause-memory
+returns-clause-memory g c = caused _ _ _ _ _ (gave g c) status.Memory (λ e. cc e)
+
+pub returns-clause-done : goal.returns-clause-done
+returns-clause-done g c = caused _ _ _ _ _ (gave g c) status.Done (λ e. cc e)
+
+pub returns-clause-other_statuses : goal.returns-clause-other_statuses
+returns-clause-other_statuses g c = other_law _ _ _ _ _ (gave g c)
+
+pub returns-clause-answered : goal.returns-clause-answered
+returns-clause-answered g c = λ is.
+    answered_law _ _ _ (sink_change g.E.Sink c.args.err.now c.give.new.err) (caused _ _ _ _ _ (gave g c) status.Done (λ e. cc e) is)
+
+pub returns-clause-untouched : goal.returns-clause-untouched
+unfolding gave
+returns-clause-untouched g c = λ not_done not_cut. c.give.ensures.untouched (nothing_to_write _ _ _ _ _ (gave g c) not_done not_cut)
+
+pub returns-clause-silent : goal.returns-clause-silent
+unfolding gave
+returns-clause-silent g c = λ done. c.give.ensures.silent (no_fault c.give.result done) (something_to_write _ _ _ _ _ (gave g c) done)
+
+pub returns-clause-complete : goal.returns-clause-complete
+returns-clause-complete g c = complete_law _ _ _ _ _ (gave g c)

@@ -1,0 +1,41 @@
+//! The question of a command line.
+
+ghost use Rattle.std.specs.Prelude.{◌≡◌, map, string_bytes, option_map};
+ghost use Rattle.query_top.specs.inner.Ask.{among, ask_of, forms};
+ghost use Rattle.query_top.specs.inner.Views.{ask_view};
+
+use topos_top::{one_word, three_words};
+
+/// A question: a variant for each form, with all its words.
+#[derive(Clone, Copy)]
+pub enum Ask<'a> {
+    /// `why FILE FROM TO`: why a flow is permitted, denied or without answers.
+    Why(&'a str, &'a str, &'a str),
+    /// `network FILE`: all that the description and its policy say of hosts, invariants and flows.
+    Network(&'a str),
+}
+
+/// Returns the question of the words, or `None` if they are no form.
+#[tactic(auto, unfolding(crate::specs::inner::Ask::ask_of))]
+pub fn ask_of_words(words: &[String]) -> Option<Ask<'_>>
+    ensures { option_map ask_view result ≡ ask_of (map string_bytes words.now) }
+{
+    match words {
+        [verb, rest @ ..] => ask_after(verb.as_str(), rest),
+        [] => None,
+    }
+}
+
+// Returns the question of a verb with the words after it.
+fn ask_after<'a>(verb: &str, rest: &'a [String]) -> Option<Ask<'a>>
+    ensures { option_map ask_view result ≡ among forms verb.now (map string_bytes rest.now) }
+{
+    match verb {
+        "why" => {
+            let (file, from, to) = three_words(rest)?;
+            Some(Ask::Why(file, from, to))
+        }
+        "network" => Some(Ask::Network(one_word(rest)?)),
+        _ => None,
+    }
+}

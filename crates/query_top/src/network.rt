@@ -1,0 +1,46 @@
+//! `network FILE`: all that the description and its policy say of hosts, invariants and flows.
+
+ghost use Rattle.std.specs.Prelude.{◌≡◌, ◌≤◌, IfOk, false};
+ghost use Rattle.topos_top.specs.Job.{Answers};
+ghost use Rattle.topos_top.specs.Replies.{MayReply};
+ghost use Rattle.topos_top.specs.Shelf.{shelf_change};
+ghost use Rattle.topos_top.specs.inner.Views.{reply_in, reply_view};
+ghost use Rattle.query_top.specs.Ask.{Network};
+ghost use Rattle.query_top.specs.Commands.{course_of};
+ghost use Rattle.query_top.specs.Network.{IsNetworkAnswer, network_job};
+
+use desc_core::Description;
+use edge_io::Shelf;
+use net_core::policy_of;
+use query_core::network_json;
+use std::alloc::{AllocError, Global};
+use topos_top::{Answer, Text, read_description};
+
+/// Returns the answer for the network that the file describes.
+pub fn reply<'a, H: Shelf>(
+    alloc: Global,
+    file: &'a str,
+    shelf: &mut H,
+) -> Result<Answer<'a>, Answer<'a>>
+    ensures same_files { H.files shelf.new ≡ H.files shelf.old }
+    ensures faults_stay { H.faults shelf.old ≤ H.faults shelf.new }
+    ensures reply { MayReply false (course_of (Network file.now))
+        (shelf_change H.Shelf shelf.old shelf.new) (reply_in result) }
+{
+    let description = read_description(alloc, file, shelf)?;
+    Answer::of_job(answer(alloc, &description))
+}
+
+fn answer<'a>(alloc: Global, description: &Description) -> Result<Answer<'a>, AllocError>
+    ensures { IfOk result (λ answer. Answers false (network_job description.now) (reply_view answer)) }
+{
+    let text = network_text(alloc, description)?;
+    Ok(Answer::done(Text::Bytes(text)))
+}
+
+fn network_text(alloc: Global, description: &Description) -> Result<Vec<u8>, AllocError>
+    ensures { IfOk result (λ text. IsNetworkAnswer description.now text.items) }
+{
+    let policy = policy_of(alloc, description)?;
+    network_json(alloc, description, &policy)
+}

@@ -1,0 +1,94 @@
+//! The whole program, over any shelf of files and any two sinks.
+
+ghost use Rattle.std.specs.Prelude.{◌≡◌, ◌≢◌, ◌≤◌, ◌↔◌, None, map, string_bytes};
+ghost use Rattle.topos_top.specs.Shelf.{shelf_change};
+ghost use Rattle.topos_top.specs.Taken.{sink_change};
+ghost use Rattle.query_top.specs.Ask.{Ask, AskFor, AskNothing};
+ghost use Rattle.query_top.specs.Promises.{GaveReply, HasCause, IsComplete, Keeps};
+ghost use Rattle.query_top.specs.inner.Ask.{ask_of};
+ghost use Rattle.query_top.specs.inner.Replies.{MayGiveBy};
+ghost use Rattle.query_top.specs.inner.Views.{ending_view};
+
+use crate::ask::ask_of_words;
+use crate::commands::reply;
+use crate::ending::{Ending, give};
+use edge_io::{Shelf, Sink};
+use std::alloc::Global;
+use topos_top::Status;
+
+/// Answers the question of the words: reads its file off the shelf, and writes the answer to `out`, or to `err` the
+/// line that says why there is none. All memory is taken before the first byte is written.
+pub fn run<H: Shelf, O: Sink, E: Sink>(
+    alloc: Global,
+    words: &[String],
+    shelf: &mut H,
+    out: &mut O,
+    err: &mut E,
+) -> Status
+    ensures same_files { H.files shelf.new ≡ H.files shelf.old }
+    ensures faults_stay { (H.faults shelf.old ≤ H.faults shelf.new) × (O.faults out.old ≤ O.faults out.new)
+        × (E.faults err.old ≤ E.faults err.new) }
+
+    // The run gives one reply that has its cause: its status, its text on its stream.
+    ensures reply { GaveReply (map string_bytes words.now) (shelf_change H.Shelf shelf.old shelf.new)
+        (sink_change O.Sink out.old out.new) (sink_change E.Sink err.old err.new) result }
+
+    // The usage is given exactly for words that are no form, and reads nothing.
+    ensures usage { (result ≡ Status.Usage) ↔ AskNothing (map string_bytes words.now) }
+    ensures usage_reads_nothing { result ≡ Status.Usage → shelf.new ≡ shelf.old }
+
+    // Each other status has its cause.
+    ensures read_fault { result ≡ Status.ReadFault → HasCause Status.ReadFault (map string_bytes words.now)
+        (shelf_change H.Shelf shelf.old shelf.new)
+        (sink_change O.Sink out.old out.new) (sink_change E.Sink err.old err.new) }
+    ensures bad_description { result ≡ Status.BadDescription → HasCause Status.BadDescription (map string_bytes words.now)
+        (shelf_change H.Shelf shelf.old shelf.new)
+        (sink_change O.Sink out.old out.new) (sink_change E.Sink err.old err.new) }
+    ensures not_emittable { result ≡ Status.NotEmittable → HasCause Status.NotEmittable (map string_bytes words.now)
+        (shelf_change H.Shelf shelf.old shelf.new)
+        (sink_change O.Sink out.old out.new) (sink_change E.Sink err.old err.new) }
+    ensures write_fault { result ≡ Status.WriteFault → HasCause Status.WriteFault (map string_bytes words.now)
+        (shelf_change H.Shelf shelf.old shelf.new)
+        (sink_change O.Sink out.old out.new) (sink_change E.Sink err.old err.new) }
+    ensures memory { result ≡ Status.Memory → HasCause Status.Memory (map string_bytes words.now)
+        (shelf_change H.Shelf shelf.old shelf.new)
+        (sink_change O.Sink out.old out.new) (sink_change E.Sink err.old err.new) }
+    ensures done { result ≡ Status.Done → HasCause Status.Done (map string_bytes words.now)
+        (shelf_change H.Shelf shelf.old shelf.new)
+        (sink_change O.Sink out.old out.new) (sink_change E.Sink err.old err.new) }
+
+    // No question ends in one of the other two statuses of `topos`.
+    ensures other_statuses { (result ≢ Status.Violated) × (result ≢ Status.BadText) }
+
+    // An answer on the output is the one to the question, for the network that the file describes.
+    ensures answered { result ≡ Status.Done → (ask : Ask) → AskFor (map string_bytes words.now) ask
+        → Keeps ask (shelf_change H.Shelf shelf.old shelf.new) (sink_change O.Sink out.old out.new) }
+
+    // Without an answer the output is as it was, and with one the error stream is.
+    ensures untouched { result ≢ Status.Done → result ≢ Status.WriteFault → out.new ≡ out.old }
+    ensures silent { result ≡ Status.Done → err.new ≡ err.old }
+
+    // The words and the known files decide the reply, and so the answer, byte by byte.
+    ensures complete { IsComplete (map string_bytes words.now) (shelf_change H.Shelf shelf.old shelf.new)
+        (sink_change O.Sink out.old out.new) (sink_change E.Sink err.old err.new) result }
+{
+    let ending = ending_for(alloc, words, shelf);
+    give(&ending, out, err)
+}
+
+// Returns how the run ends for the words, with their file taken off the shelf.
+fn ending_for<'a, H: Shelf>(alloc: Global, words: &'a [String], shelf: &mut H) -> Ending<'a>
+    ensures same_files { H.files shelf.new ≡ H.files shelf.old }
+    ensures faults_stay { H.faults shelf.old ≤ H.faults shelf.new }
+    ensures reply { MayGiveBy (ask_of (map string_bytes words.now))
+        (shelf_change H.Shelf shelf.old shelf.new) (ending_view result) }
+    ensures reads_nothing { ask_of (map string_bytes words.now) ≡ None → shelf.new ≡ shelf.old }
+{
+    match ask_of_words(words) {
+        None => Ending::Usage,
+        Some(ask) => match reply(alloc, ask, shelf) {
+            Ok(answer) => Ending::Answer(answer),
+            Err(answer) => Ending::Answer(answer),
+        },
+    }
+}
