@@ -1,0 +1,30 @@
+//! The program `topos-query`: the words of its command line, the files of the system, and both streams.
+#![tactic(auto)]
+
+use edge_io::{DirShelf, StreamSink};
+use query_top::Status;
+use std::process::ExitCode;
+use std::rt::Env;
+use std::{env, io};
+
+fn main(rt: HostRuntime) -> ExitCode {
+    let words = match words_after_name(&rt) {
+        Ok(words) => words,
+        Err(error) if error.kind() == io::ErrorKind::OutOfMemory => {
+            return ExitCode::from(Status::Memory.number());
+        }
+        // A word that is not UTF-8: the command line is faulty, as one without words is.
+        Err(_) => Vec::new(rt.alloc()),
+    };
+    let mut shelf = DirShelf::new(&rt);
+    let mut out = StreamSink::new(rt.stdout());
+    let mut err = StreamSink::new(rt.stderr());
+    let status = query_top::run(rt.alloc(), &words, &mut shelf, &mut out, &mut err);
+    ExitCode::from(status.number())
+}
+
+/// Returns the words after the program's own name.
+fn words_after_name<R: Env + AllocGlobal>(rt: &R) -> io::Result<Vec<String>> {
+    let words = env::args(rt)?.skip(1).collect(rt.alloc())?;
+    Ok(words)
+}
