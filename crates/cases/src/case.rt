@@ -23,6 +23,7 @@ struct File {
 #[derive(Drop)]
 pub struct Case {
     name: Option<String>,
+    asks: bool,
     words: Vec<String>,
     files: Vec<File>,
     shelf_fails: Vec<u32>,
@@ -48,6 +49,7 @@ impl Case {
     pub fn none(alloc: Global) -> Case {
         Case {
             name: None,
+            asks: false,
             words: Vec::new(alloc),
             files: Vec::new(alloc),
             shelf_fails: Vec::new(alloc),
@@ -76,6 +78,10 @@ impl Case {
         match key {
             "" | "#" => Ok(()),
             _ if self.name.is_none() => bail!("outside a case: {line}"),
+            "query" => {
+                self.asks = true;
+                Ok(())
+            }
             "word" => Ok(self.words.push(value.to_string(alloc)?)?),
             "file" => self.begin(alloc, value),
             "fill" => self.fill(value, b""),
@@ -153,7 +159,8 @@ impl Case {
 
     /// Whether no line has said anything of the case but its name.
     pub fn is_empty(&self) -> bool {
-        self.words.is_empty()
+        !self.asks
+            && self.words.is_empty()
             && self.files.is_empty()
             && self.shelf_fails.is_empty()
             && self.out_fails.is_empty()
@@ -166,13 +173,14 @@ impl Case {
     pub fn again(self, alloc: Global, before: Case) -> Case {
         Case {
             name: self.name,
+            asks: before.asks,
             words: before.words,
             files: before.files,
             ..Case::none(alloc)
         }
     }
 
-    /// Runs the program on the case.
+    /// Runs the program of the case on it.
     pub fn run(&self, alloc: Global) -> Result<Ending> {
         let mut shelf = MemShelf::new(alloc, self.shelf_fails.clone()?);
         for file in &self.files {
@@ -180,7 +188,11 @@ impl Case {
         }
         let mut out = MemSink::new(alloc, self.room, self.grain.max(1), self.out_fails.clone()?)?;
         let mut err = MemSink::new(alloc, AMPLE, AMPLE, self.err_fails.clone()?)?;
-        let status = topos_top::run(alloc, &self.words, &mut shelf, &mut out, &mut err);
+        let status = if self.asks {
+            query_top::run(alloc, &self.words, &mut shelf, &mut out, &mut err)
+        } else {
+            topos_top::run(alloc, &self.words, &mut shelf, &mut out, &mut err)
+        };
         Ok(Ending { status, out, err })
     }
 }

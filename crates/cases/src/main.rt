@@ -1,4 +1,4 @@
-//! Runs many cases of the program in memory. The input lists the cases by subject; what each gives is
+//! Runs many cases of the two programs in memory. The input lists the cases by subject; what each gives is
 //! printed in the same form, so that an expected output is written by hand from the rules of the formats.
 //!
 //! | Line | What it says |
@@ -6,7 +6,8 @@
 //! | `section TITLE` | the cases below are about this |
 //! | `case NAME` | a case begins, of which the lines below tell |
 //! | `# ..`, an empty line | nothing |
-//! | `again` | its words and files are those of the case before; the first line of a case |
+//! | `query` | the program is `topos-query`, and without this line `topos` |
+//! | `again` | its program, words and files are those of the case before; the first line of a case |
 //! | `word TEXT` | the next word of its command line |
 //! | `file NAME` | a file, with the bytes of the lines below |
 //! | `\|TEXT`, `>TEXT` | bytes of the file, with and without the end of a line |
