@@ -91,13 +91,13 @@ never_violated : (shelf : ShelfChange) (out err : SinkChange) (file : List ℕ) 
 never_violated shelf out err file job two (inl stopped) =
     stop_of (since shelf.before shelf) file (λ t. t ≡ status.Violated → ⊥) stopped.0 (λ e. cc e) (λ e. cc e) (λ e. cc e) stopped.1 stopped.2
 never_violated shelf out err file job two (inr on) =
-    elim (two on.said status.Violated on.next.1.0 on.next.1.1) [ | inl is ↦ cc is | inr is ↦ cc is ]
+    elim (two on.said status.Violated on.next.1.0 on.next.1.1) [ inl is ↦ cc is | inr is ↦ cc is ]
 
 never_bad_text : (shelf : ShelfChange) (out err : SinkChange) (file : List ℕ) (job : Described → Job) → ((d : Described) → EndsInTwo (job d)) → Came status.BadText shelf out err file job → ⊥
 never_bad_text shelf out err file job two (inl stopped) =
     stop_of (since shelf.before shelf) file (λ t. t ≡ status.BadText → ⊥) stopped.0 (λ e. cc e) (λ e. cc e) (λ e. cc e) stopped.1 stopped.2
 never_bad_text shelf out err file job two (inr on) =
-    elim (two on.said status.BadText on.next.1.0 on.next.1.1) [ | inl is ↦ cc is | inr is ↦ cc is ]
+    elim (two on.said status.BadText on.next.1.0 on.next.1.1) [ inl is ↦ cc is | inr is ↦ cc is ]
 
 module _ (words : List (List ℕ)) (shelf : ShelfChange) (out err : SinkChange) where
   no_violated : HasCause status.Violated words shelf out err → ⊥
