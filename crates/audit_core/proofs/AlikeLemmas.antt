@@ -27,7 +27,8 @@ use Rattle.audit_core.specs.inner.Ranges.{AreTogether}
 use Rattle.audit_core.proofs.RangeLemmas.{is_in, protocol_of}
 use Rattle.audit_core.specs.Rules.{Rules, Entries, filter_of}
 use Rattle.audit_core.specs.Verdicts.{GivesOne}
-use Rattle.audit_core.specs.inner.Searching.{AreAlike, IsNoHigher}
+use Rattle.header_space.specs.Boxes.{IsNoHigher}
+use Rattle.audit_core.specs.inner.Searching.{AreAlike}
 use Rattle.audit_core.proofs.ShortLaws.{agree_where_judged, judged_stateless, short_lists_suffice}
 use Rattle.audit_core.specs.Sides.{Agree, Sides, lets_answer, permits}
 use Rattle.audit_core.specs.inner.Sides.{AgreeAlways, AgreeShortly}

@@ -23,7 +23,8 @@ use Rattle.header_space.specs.Order.{ComesBefore, comes_first}
 use Rattle.audit_core.specs.Places.{IsClassPacket, Leasts, leasts_of}
 use Rattle.audit_core.specs.Rules.{filter_of}
 use Rattle.audit_core.specs.Verdicts.{GivesOne}
-use Rattle.audit_core.specs.inner.Searching.{AllRight, ArePacketsAll, IsFirstWrong, IsNoHigher, IsSearched, Represent}
+use Rattle.header_space.specs.Boxes.{IsNoHigher}
+use Rattle.audit_core.specs.inner.Searching.{AllRight, ArePacketsAll, IsFirstWrong, IsSearched, Represent}
 use Rattle.audit_core.proofs.ShortLaws.{agree_where_judged}
 use Rattle.audit_core.specs.Sides.{Agree, Differ, DifferThen, Sides, lets_answer, permits}
 use Rattle.audit_core.specs.inner.Sides.{AgreeAlways}

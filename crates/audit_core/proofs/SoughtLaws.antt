@@ -15,7 +15,8 @@ use Rattle.audit_core.specs.Rules.{filter_of}
 use Rattle.audit_core.specs.Sides.{Sides}
 use Rattle.audit_core.specs.inner.Findings.{IsFinding}
 use Rattle.audit_core.specs.Verdicts.{GivesOne}
-use Rattle.audit_core.specs.inner.Searching.{ArePacketsAll, IsNoHigher, IsSearched, IsStoodFor, Represent}
+use Rattle.header_space.specs.Boxes.{IsNoHigher}
+use Rattle.audit_core.specs.inner.Searching.{ArePacketsAll, IsSearched, IsStoodFor, Represent}
 use Rattle.audit_core.specs.inner.Sought.{IsLeastFault, IsSought}
 use Rattle.audit_core.proofs.AlikeLemmas.{alike_by_parts, class_of_packet, right_alike}
 use Rattle.audit_core.proofs.PartLemmas.{one_class_alike}

@@ -1,5 +1,5 @@
 -- What the search through the classes answers, said of the verdicts on their packets. Callers see none of it; they have `Findings`.
-use Rattle.std.specs.Prelude.{◌≡◌, ◌<◌, ◌≤◌, Bool}
+use Rattle.std.specs.Prelude.{◌≡◌, ◌<◌, Bool}
 use Rattle.host_net.specs.declared.packet.Packet.{Packet}
 use Rattle.host_net.specs.declared.packet.CtState.{CtState}
 use Rattle.host_net.specs.Packet.{IsPacket, swap_of}
@@ -9,6 +9,7 @@ use Rattle.audit_core.specs.declared.finding.Finding.TheVariants.{Equal, Differ 
 use Rattle.audit_core.specs.declared.finding.Trace.{Trace}
 use Rattle.audit_core.specs.Findings.{place_of, trace_of}
 use Rattle.audit_core.specs.inner.Judging.{Right, Wrong}
+use Rattle.header_space.specs.Boxes.{IsNoHigher}
 use Rattle.header_space.specs.Order.{ComesBefore}
 use Rattle.audit_core.specs.Places.{IsClassPacket, Leasts}
 use Rattle.audit_core.specs.Rules.{filter_of}
@@ -46,14 +47,6 @@ pub record AreAlike (sides : Sides) (p q : Packet) : Type 0 where
   pub own : permits sides p ≡ permits sides q
   pub other : permits sides (swap_of p) ≡ permits sides (swap_of q)
   pub answers : lets_answer sides (swap_of p) ≡ lets_answer sides (swap_of q)
-
--- no number of the one is greater than that of the other
-pub record IsNoHigher (p q : Packet) : Type 0 where
-  pub src : p.src ≤ q.src
-  pub dst : p.dst ≤ q.dst
-  pub proto : p.proto ≤ q.proto
-  pub sport : p.sport ≤ q.sport
-  pub dport : p.dport ≤ q.dport
 
 -- a class packet that stands for a packet
 pub record IsStoodFor (sides : Sides) (leasts : Leasts) (p : Packet) : Type 0 where
