@@ -220,7 +220,7 @@ fn push_invariant(text: &mut Vec<u8>, number: u16, invariant: &AnyInv) -> Result
     push(text, b"{\"invariant\":")?;
     push_number(text, number)?;
     push(text, b",\"template\":")?;
-    push_string(text, invariant.template_name())?;
+    push_string(text, invariant.template_name().as_bytes())?;
     push(text, b",\"strategy\":")?;
     push_string(text, strategy_text(invariant.strategy()))
 }

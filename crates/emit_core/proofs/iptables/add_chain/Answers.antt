@@ -20,7 +20,7 @@ returns c =
     let chains = c.args.chains.now in
     let rules = c.args.rules.now in
     let name = c.in_ok-host_chain_name.field-0 in
-    c.in_ok-fill.ensures
+    c.in_ok-fill.ensures.added
     ∙ ap (λ (x : List Chain). with_rules x c.in_ok-chain.chain rules) c.in_ok-chain.ensures.ok
     ∙ ap (λ (n : ℕ). with_rules (chains ++ user_chain name ∷ []) n rules) c.in_ok-chain.ensures.number
     ∙ with_rules-last chains (user_chain name) rules

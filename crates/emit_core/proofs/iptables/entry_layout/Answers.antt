@@ -34,7 +34,7 @@ overflow_cast-result c =
 
 pub returns-clause-chains : goal.returns-clause-chains
 returns-clause-chains c =
-    c.in_ok-fill.ensures
+    c.in_ok-fill.ensures.added
     ∙ forward_filled c.args.hosts.now c.set_policy.new.self c.deref.result.now
     (c.set_policy.ensures ∙ ap (λ (x : List Chain). with_policy x 1 Dropping) c.in_ok-chains.ensures)
     (c.deref.ensures.value ∙ c.in_ok-rules.ensures)

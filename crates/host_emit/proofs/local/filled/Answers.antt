@@ -15,7 +15,7 @@ fill-requires-clause-room c =
 
 pub fill-requires-2-clause-there : goal.fill-requires-2-clause-there
 fill-requires-2-clause-there c =
-    let is = c.in_ok-fill.ensures
+    let is = c.in_ok-fill.ensures.added
     ∙ incoming_filled c.in_ok-chains.chains c.chain_for.result c.args.input.now c.args.output.now c.args.incoming.now c.in_ok-chains.ensures c.chain_for.ensures in
     omega (arith, ap length is, c.chain_for-2.ensures)
 
@@ -25,7 +25,7 @@ fill-requires-2-clause-room c =
     let output_few = c.requires.output.few in
     let incoming_few = c.requires.incoming.few in
     let outgoing_few = c.requires.outgoing.few in
-    let is = c.in_ok-fill.ensures
+    let is = c.in_ok-fill.ensures.added
     ∙ incoming_filled c.in_ok-chains.chains c.chain_for.result c.args.input.now c.args.output.now c.args.incoming.now c.in_ok-chains.ensures c.chain_for.ensures in
     omega (
       arith,
@@ -39,7 +39,7 @@ fill-requires-2-clause-room c =
 
 pub returns : goal.returns
 returns c =
-    let is = c.in_ok-fill.ensures
+    let is = c.in_ok-fill.ensures.added
     ∙ incoming_filled c.in_ok-chains.chains c.chain_for.result c.args.input.now c.args.output.now c.args.incoming.now c.in_ok-chains.ensures c.chain_for.ensures in
-    c.in_ok-fill-2.ensures
+    c.in_ok-fill-2.ensures.added
     ∙ outgoing_filled c.fill.new.chains c.chain_for-2.result c.args.input.now c.args.output.now c.args.incoming.now c.args.outgoing.now is c.chain_for-2.ensures

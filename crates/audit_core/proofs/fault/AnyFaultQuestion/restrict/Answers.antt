@@ -6,5 +6,5 @@ use Rattle.audit_core.proofs.fault.AnyFaultQuestion.restrict.Goals as goal
 
 pub returns-in-Some : goal.returns-in-Some
 returns-in-Some c =
-    let same = subst (λ (part : Option Sides). IfSome part (HaveSameFaults c.args.within.now c.args.self.now.part)) c.in-Some.is c.in_ok-restrict.ensures in
+    let same = subst (λ (part : Option Sides). IfSome part (HaveSameFaults c.args.within.now c.args.self.now.part)) c.in-Some.is c.in_ok-restrict.ensures.faults in
     λ p inside. ((λ any. (any.0, (same p inside any.0).0 any.1)), (λ any. (any.0, (same p inside any.0).1 any.1)))
