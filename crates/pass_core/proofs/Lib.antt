@@ -1,4 +1,6 @@
 mod AreaLemmas
+mod DeadLemmas
+mod MeetingLemmas
 mod RangeLemmas
 mod SurveyLemmas
 mod SweepLemmas

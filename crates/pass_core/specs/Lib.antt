@@ -1,3 +1,4 @@
+pub mod Dead
 pub mod Passing
 pub mod Services
 pub mod inner

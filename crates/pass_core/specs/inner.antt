@@ -1,5 +1,6 @@
 pub mod Areas
 pub mod Joining
+pub mod Meeting
 pub mod Numbers
 pub mod Slices
 pub mod Surveying

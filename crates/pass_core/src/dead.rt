@@ -1,0 +1,78 @@
+//! The rules of a rule set that no forwarded packet meets.
+
+ghost use Rattle.std.specs.Prelude.{◌≡◌, ◌+◌, ◌<◌, length, IfOk};
+ghost use Rattle.pass_core.specs.Dead.{AreDead, AreRemovable};
+ghost use Rattle.pass_core.specs.inner.Meeting.{AreUnmarkedBefore, with_unmarked};
+
+use crate::met_rules::MetRules;
+use header_space::{PacketBox, visit_all};
+use ipt_rules::{INPUT, Marks, OUTPUT, Place, Ruleset};
+use std::alloc::{AllocError, Global};
+
+/// Returns the places of the dead rules, which no forwarded packet meets, new or established. They are in
+/// ascending order, by chain and then by rule.
+///
+/// Only rules of `FORWARD` and of user chains are listed: no forwarded packet meets a rule of `INPUT` or of
+/// `OUTPUT`. A user chain that no jump from `FORWARD` leads to has only dead rules, also if `INPUT` or
+/// `OUTPUT` uses it: its rules may count packets that are not forwarded.
+///
+/// Takes two walks for each box of packets that the rules tell apart.
+pub fn dead_rules(alloc: Global, rules: &Ruleset) -> Result<Vec<Place>, AllocError>
+    ensures dead { IfOk result (λ places. AreDead rules.now places.items) }
+    ensures removable { IfOk result (λ places. AreRemovable rules.now places.items) }
+{
+    // This tells that each chain gives a packet one outcome.
+    let _count = rules.rules();
+    let mut met = MetRules::none(alloc, rules)?;
+    visit_all(alloc, &mut met, PacketBox::every())?;
+    let places = unmarked(alloc, rules, met.marks())?;
+    Ok(places)
+}
+
+/// Returns the places of the rules without a mark, in all chains but `INPUT` and `OUTPUT`.
+fn unmarked(alloc: Global, rules: &Ruleset, marks: &Marks) -> Result<Vec<Place>, AllocError>
+    ensures { IfOk result (λ places. AreUnmarkedBefore rules.now marks.now (record { chain = length rules.now; rule = 0 }) places.items) }
+{
+    let mut places = Vec::new(alloc);
+    for chain in 0..rules.chains() {
+        push_unmarked(&mut places, rules, marks, chain)?;
+    }
+    Ok(places)
+}
+
+/// Appends the places of the rules of a chain without a mark, unless it is `INPUT` or `OUTPUT`.
+fn push_unmarked(
+    places: &mut Vec<Place>,
+    rules: &Ruleset,
+    marks: &Marks,
+    chain: u16,
+) -> Result<(), AllocError>
+    requires there { chain < length rules.now }
+    requires before { AreUnmarkedBefore rules.now marks.now (record { chain = chain; rule = 0 }) places.old.items }
+    ensures { IfOk result (λ _. AreUnmarkedBefore rules.now marks.now (record { chain = chain + 1; rule = 0 }) places.new.items) }
+{
+    if chain == INPUT || chain == OUTPUT {
+        return Ok(());
+    }
+    // This tells that the rules can be counted.
+    let _count = rules.rules();
+    let count = rules.rules_in(chain).len();
+    for rule in 0..count {
+        let place = Place {
+            chain,
+            rule: rule as u32,
+        };
+        push_unless(places, place, marks.is_marked(place))?;
+    }
+    Ok(())
+}
+
+/// Appends a place, unless its rule is marked.
+fn push_unless(places: &mut Vec<Place>, place: Place, marked: bool) -> Result<(), AllocError>
+    ensures { IfOk result (λ _. places.new.items ≡ with_unmarked places.old.items place marked) }
+{
+    if !marked {
+        places.push(place)?;
+    }
+    Ok(())
+}
