@@ -1,13 +1,16 @@
-//! Rules for one destination, and the services that they let pass.
+//! Rules for one destination with the services that they let pass, and rules of which one is dead.
 
 ghost use Rattle.std.specs.Prelude.{◌≡◌, ◌+◌, ◌<◌, ◌≤◌, ◌⊎◌, length, IsTrue};
 ghost use Rattle.ipt_rules.specs.ChainTable.{rule_count};
 ghost use Rattle.ipt_rules.specs.inner.RuleParts.{is_rule};
 
-use crate::{AddressRange, passing_between};
+use crate::{AddressRange, dead_rules, passing_between};
 use audit_core::Text;
 use host_net::Prefix;
-use ipt_rules::{AddrMatch, Chains, Policy, PortMatch, ProtoMatch, Rule, Ruleset, Target};
+use ipt_rules::{
+    AddrMatch, Chains, FORWARD, Place, Policy, PortMatch, ProtoMatch, Rule, Ruleset, StateMatch,
+    Target,
+};
 use std::alloc::Global;
 use std::process::Abort;
 
@@ -110,4 +113,82 @@ fn services_of_two_destinations(rt: HostRuntime) {
     assert_eq!(rt; (tcp.low, tcp.high), (6 * 65536 + 22, 6 * 65536 + 25));
     assert_eq!(rt; tcp.passes.dst, SERVER);
     assert!(rt; tcp.stays.is_some_and(|packet| packet.dst == SERVER + 1));
+}
+
+/// A rule for all packets.
+fn rule_for_all(target: Target) -> Rule
+    ensures { IsTrue (is_rule result) }
+{
+    Rule {
+        src: None,
+        dst: None,
+        proto: None,
+        sport: None,
+        dport: None,
+        state: None,
+        target,
+    }
+}
+
+/// A rule for the packets of a source.
+fn rule_for_source(src: Prefix, target: Target) -> Rule
+    ensures { IsTrue (is_rule result) }
+{
+    Rule {
+        src: Some(AddrMatch {
+            prefix: src,
+            negated: false,
+        }),
+        ..rule_for_all(target)
+    }
+}
+
+/// A rule for established packets.
+fn rule_for_established(target: Target) -> Rule
+    ensures { IsTrue (is_rule result) }
+{
+    Rule {
+        state: Some(StateMatch {
+            new: false,
+            established: true,
+            negated: false,
+        }),
+        ..rule_for_all(target)
+    }
+}
+
+/// A rule is dead if an earlier one drops the packets of its source. One for established packets is not,
+/// and neither is one for new packets behind it.
+#[test]
+fn dead_rule_of_a_dropped_source(rt: HostRuntime) {
+    let client = Prefix::new(SERVER + 1, 32).expect(&rt, "a prefix");
+    let mut chains = dropping(rt.alloc(), &rt);
+    push(&rt, &mut chains, rule_for_source(client, Target::Drop));
+    push(&rt, &mut chains, rule_for_source(client, Target::Accept));
+    push(&rt, &mut chains, rule_for_established(Target::Accept));
+    push(&rt, &mut chains, rule_for_all(Target::Accept));
+    let rules = Ruleset::build(rt.alloc(), chains).expect(&rt, "a rule set");
+    let dead = dead_rules(rt.alloc(), &rules).expect(&rt, "memory");
+    assert_eq!(rt; dead.len(), 1);
+    let place = Place {
+        chain: FORWARD,
+        rule: 1,
+    };
+    assert_eq!(rt; dead[0], place);
+}
+
+/// The last of the rules is dead behind one for all packets.
+#[test]
+fn dead_rule_at_the_end(rt: HostRuntime) {
+    let mut chains = dropping(rt.alloc(), &rt);
+    push(&rt, &mut chains, rule_for_all(Target::Accept));
+    push(&rt, &mut chains, rule_for_established(Target::Drop));
+    let rules = Ruleset::build(rt.alloc(), chains).expect(&rt, "a rule set");
+    let dead = dead_rules(rt.alloc(), &rules).expect(&rt, "memory");
+    assert_eq!(rt; dead.len(), 1);
+    let place = Place {
+        chain: FORWARD,
+        rule: 1,
+    };
+    assert_eq!(rt; dead[0], place);
 }
