@@ -1,8 +1,5 @@
-"""Copies of a description, and what the program topos says of them.
-
-What `topos-why`, `topos-gaps` and `topos-rest` share. A copy has the hosts and the invariants of a description, other
-flows, and sometimes another entry of an invariant. In a copy the hosts have short names and one address each, and flows
-no services: invariants look at none of these. It goes to the program by its standard input; no file is written.
+"""What `topos-why`, `topos-gaps` and `topos-rest` share: they ask `topos` and `topos-query` about a description, and about
+copies of it with a change. A copy goes to a program by its standard input; no file is written.
 """
 import json
 import os
@@ -10,7 +7,6 @@ import resource
 import shutil
 import signal
 import stat
-import string
 import subprocess
 import sys
 
@@ -20,13 +16,11 @@ except ModuleNotFoundError:
     sys.stderr.write(f'{os.path.basename(sys.argv[0])}: Python 3.11 or newer is needed, for tomllib\n')
     sys.exit(69)
 
-USAGE, REFUSED = 64, 69  # exit statuses, beside those of the program
+USAGE, REFUSED = 64, 69  # exit statuses, beside those of the programs
 LONGEST = 1_048_576  # bytes of a description
 MEMORY = 2 << 30  # bytes that a script may use
 SECONDS = 600  # that a script may take
-STRICT = {'blp', 'tainting', 'sink', 'dependability', 'noninterference', 'noreach'}  # those that count answers
-WAYS = {'dependability', 'noninterference', 'noreach'}
-DIGITS = string.ascii_letters + string.digits
+VERSION = 1  # of the answers of `topos-query`
 
 
 class Stopped(Exception):
@@ -46,16 +40,43 @@ def find_program(given):
     return name
 
 
+def find_query(program):
+    """The `topos-query` of `TOPOS_QUERY`, else the one beside the program, else that of the path."""
+    beside = os.path.join(os.path.dirname(shutil.which(program)), 'topos-query')
+    name = os.environ.get('TOPOS_QUERY') or (beside if os.access(beside, os.X_OK) else 'topos-query')
+    if not shutil.which(name):
+        raise Stopped(f'{name} is missing here: name the program with TOPOS_QUERY')
+    return name
+
+
 def answered(words, text):
-    """What the program prints of a text on its standard input. `check` ends with 2 where an invariant fails."""
+    """What the program prints of a text on its standard input."""
     try:
         ended = subprocess.run(words, input=text, capture_output=True, check=False, timeout=SECONDS,
                                preexec_fn=unlimited)
     except (OSError, subprocess.TimeoutExpired) as error:
         raise Stopped(f'{words[0]} does not run: {error}') from None
-    if ended.returncode not in ((0, 2) if words[1] == 'check' else (0,)):
+    if ended.returncode != 0:
         raise Stopped(ended.stderr.decode().strip() or f'{" ".join(words[:2])} says nothing', ended.returncode)
     return ended.stdout.decode()
+
+
+def table_of(program, text):
+    """The table of a description that the program accepts, as the program prints it, whatever version of TOML it is in."""
+    return tomllib.loads(answered([program, 'migrate', '/dev/stdin'], text))
+
+
+def ask(query, text, form, *names):
+    """The answer of `topos-query` to a question on a description."""
+    answer = json.loads(answered([query, form, '/dev/stdin', *names], text))
+    if answer['version'] != VERSION:
+        raise Stopped(f'{query} answers in version {answer["version"]} of its format: version {VERSION} is read')
+    return answer
+
+
+def text_of(table):
+    """A table as the text of a description."""
+    return '\n'.join(f'{key} = {toml(value)}' for key, value in table.items()).encode()
 
 
 def read_bytes(path):
@@ -91,97 +112,6 @@ def toml(value):
     if isinstance(value, list):
         return '[' + ', '.join(map(toml, value)) + ']'
     return json.dumps(value)
-
-
-def short(number):
-    """A name for the host of this number."""
-    first, last = divmod(number, len(DIGITS))
-    return (DIGITS[first - 1] if first else '') + DIGITS[last]
-
-
-class Description:
-    """A description that the program accepts. Hosts are numbers, in the order of the file; a flow is a pair of them."""
-
-    def __init__(self, program, path):
-        self.program = program
-        # the table as the program prints it, whatever version of TOML the file is written in
-        self.table = tomllib.loads(answered([program, 'migrate', '/dev/stdin'], read_bytes(path)))
-        self.names = [host['name'] for host in self.table['host']]
-        self.number = {name: host for host, name in enumerate(self.names)}
-        self.invariants = self.table.get('invariant', [])
-        self.templates = {template['name']: template for template in self.table.get('template', [])}
-        self.answers = self.table.get('answers', 'all')
-        listed = self.table.get('flow')
-        self.services = None if listed is None else {
-            (self.number[sender], self.number[receiver]): services for sender, receiver, *services in listed}
-        self.asked = self.pairs() if listed is None else list(self.services)
-
-    def pairs(self):
-        hosts = range(len(self.names))
-        return [(sender, receiver) for sender in hosts for receiver in hosts if sender != receiver]
-
-    def is_strict(self, invariant):
-        name = invariant['template']
-        return name in STRICT or self.templates.get(name, {}).get('strategy') == 'information'
-
-    def say(self, flow):
-        return f'{self.names[flow[0]]} -> {self.names[flow[1]]}'
-
-    def entry(self, invariant, host):
-        """What an invariant assigns to a host, or nothing."""
-        return next((entry for entry in invariant.get('assign', []) if entry['host'] == self.names[host]), {})
-
-    def changed(self, place, entries):
-        """The invariants, with other entries for some hosts in one of them; None takes an entry out."""
-        invariant = self.invariants[place]
-        assign = [entry for entry in invariant.get('assign', []) if self.number[entry['host']] not in entries]
-        assign += [{'host': self.names[host], **entry} for host, entry in entries.items() if entry is not None]
-        return [{**each, 'assign': assign} if each is invariant else each for each in self.invariants]
-
-    def copy(self, flows, invariants=None, answers=None):
-        """The text of a copy with these flows, or without the key `flow` where they are None."""
-        chosen, hosts = self.invariants if invariants is None else invariants, len(self.names)
-        lines = ['topos = 2', f'answers = {toml(answers or self.answers)}']
-        if flows is not None and len(flows) < hosts * (hosts - 1):
-            listed = ','.join(f'["{short(sender)}","{short(receiver)}"]' for sender, receiver in flows)
-            lines.append(f'flow = [{listed}]')
-        lines.append('host = [' + ','.join(map(self.copied_host, range(hosts))) + ']')
-        lines.append(f'template = {toml(list(self.templates.values()))}')
-        lines.append('invariant = [' + ','.join(map(self.copied_invariant, chosen)) + ']')
-        text = '\n'.join(lines).encode()
-        if len(text) > LONGEST:
-            raise Stopped('with more flows the description would be longer than topos reads')
-        return text
-
-    def copied_host(self, host):
-        at = toml([f'10.0.{host // 256}.{host % 256}'])
-        return f'{{name="{short(host)}",at={at}}}'
-
-    def copied_invariant(self, invariant):
-        assign = [{key: self.renamed(key, value) for key, value in entry.items()}
-                  for entry in invariant.get('assign', [])]
-        return toml({'template': invariant['template'], 'assign': assign})
-
-    def renamed(self, key, value):
-        if key == 'host':
-            return short(self.number[value])
-        if key in ('from', 'deny'):
-            return [short(self.number[name]) for name in value]
-        return value
-
-    def policy(self, *copied, **more):
-        """What `policy` says of each flow of a copy: `denied by 1 sink`, as an example."""
-        lines = answered([self.program, 'policy', '/dev/stdin'], self.copy(*copied, **more)).splitlines()
-        return {flow: line.split(' ', 3)[3] for flow, line in zip(self.pairs(), lines, strict=True)}
-
-    def failing(self, flows, invariants=None):
-        """The places of the invariants of which `check` says that they fail on these flows."""
-        lines = answered([self.program, 'check', '/dev/stdin'], self.copy(flows, invariants)).splitlines()
-        return [int(line.split()[1]) - 1 for line in lines if line.endswith(' fails') and line.startswith('invariant')]
-
-
-def is_allowed(words):
-    return words.startswith('allowed')
 
 
 def run(name, usage, main):
