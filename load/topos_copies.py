@@ -1,5 +1,5 @@
-"""What `topos-why`, `topos-gaps` and `topos-rest` share: they ask `topos` and `topos-query` about a description, and about
-copies of it with a change. A copy goes to a program by its standard input; no file is written.
+"""What `topos-why`, `topos-gaps` and `topos-rest` share: they ask `topos` and `topos-query` about a description, and
+about copies of it with a change. A copy goes to a program by its standard input; no file is written.
 """
 import json
 import os
@@ -62,7 +62,7 @@ def answered(words, text):
 
 
 def table_of(program, text):
-    """The table of a description that the program accepts, as the program prints it, whatever version of TOML it is in."""
+    """The table of a description that the program accepts, as it prints it, whatever version of TOML the file is in."""
     return tomllib.loads(answered([program, 'migrate', '/dev/stdin'], text))
 
 
