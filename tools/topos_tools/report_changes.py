@@ -1,0 +1,78 @@
+"""What changed since an older description: hosts, flows and invariants, each by name."""
+from dataclasses import dataclass
+from typing import Any
+
+from .report_model import Flow, Network, Source
+from .report_words import DENIED, PERMITTED
+
+SHOWN = PERMITTED + DENIED
+
+
+@dataclass
+class FlowChange:
+    """A flow whose state or services changed. An empty state: one of its hosts does not exist."""
+    flow: Flow
+    before: str
+    after: str
+    services_before: list[str]
+    services_after: list[str]
+
+
+@dataclass
+class Changes:
+    """The differences from the older description to the newer one."""
+    name: str
+    sha256: str
+    hosts_added: list[str]
+    hosts_removed: list[str]
+    hosts_moved: list[str]  # other addresses
+    flows: list[FlowChange]
+    invariants_added: list[int]  # numbers in the newer description
+    invariants_removed: list[tuple[int, str]]  # numbers in the older one, and templates
+    holds: list[tuple[int, bool]]  # numbers of unchanged invariants that hold now and did not, or the reverse
+
+    def is_empty(self) -> bool:
+        return not any((self.hosts_added, self.hosts_removed, self.hosts_moved, self.flows, self.invariants_added,
+                        self.invariants_removed, self.holds))
+
+
+def flow_changes(old: Network, new: Network) -> list[FlowChange]:
+    """Lists the flows that differ. A flow of a new or a removed host counts if it is asked for."""
+    found = []
+    for flow in dict.fromkeys([*new.states, *old.states]):
+        before, after = old.states.get(flow, ''), new.states.get(flow, '')
+        services = [each.services(flow) if flow in each.states else [] for each in (old, new)]
+        is_shown = bool(before and after) or (before or after) in SHOWN
+        if is_shown and (before != after or services[0] != services[1]):
+            found.append(FlowChange(flow, before, after, *services))
+    return found
+
+
+def matched(old: list[dict[str, Any]], new: list[dict[str, Any]]) -> dict[int, int]:
+    """Returns for the number of each invariant of the newer description that of the same one in the older one."""
+    free = list(range(len(old)))
+    found = {}
+    for number, invariant in enumerate(new, 1):
+        same = next((place for place in free if old[place] == invariant), None)
+        if same is not None:
+            free.remove(same)
+            found[number] = same + 1
+    return found
+
+
+def changes_between(old: Source, new: Source) -> Changes:
+    """Compares two descriptions by their answers and tables."""
+    before, after = old.network, new.network
+    at = [{host['name']: (sorted(host['at']), host['rest']) for host in each.hosts} for each in (before, after)]
+    tables = [each.table.get('invariant', []) for each in (old, new)]
+    same = matched(*tables)
+    return Changes(
+        old.name, old.digest(),
+        [name for name in after.names if name not in before.number],
+        [name for name in before.names if name not in after.number],
+        [name for name in after.names if name in before.number and at[0][name] != at[1][name]],
+        flow_changes(before, after),
+        [number for number in range(1, len(tables[1]) + 1) if number not in same],
+        [(number, each['template']) for number, each in enumerate(tables[0], 1) if number not in same.values()],
+        [(number, after.invariants[number - 1]['holds']) for number, other in same.items()
+         if after.invariants[number - 1]['holds'] != before.invariants[other - 1]['holds']])

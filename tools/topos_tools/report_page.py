@@ -1,0 +1,89 @@
+"""The page of a report: one HTML text that loads nothing."""
+import json
+import os
+
+from . import report_graph, report_hosts, report_invariants, report_matrix, report_summary
+from .report_model import Report
+from .report_script import script_data
+from .report_view import View, table
+from .report_words import esc
+
+HERE = os.path.dirname(os.path.realpath(__file__))
+POLICY = "default-src 'none'; style-src 'unsafe-inline'; script-src 'unsafe-inline'; img-src data:"
+
+
+def read_part(name: str) -> str:
+    with open(os.path.join(HERE, name), encoding='utf-8') as file:
+        return file.read()
+
+
+def script_json(value: object) -> str:
+    """Returns JSON that cannot end a script element."""
+    return json.dumps(value, separators=(',', ':')).replace('<', '\\u003c')
+
+
+def head(view: View, title: str) -> str:
+    """Returns the head of the page: the file, the date and the programs."""
+    report = view.report
+    listed = ('The list <code>topos.proved</code> beside the program has this digest: the program is proved.'
+              if report.program['proved'] else
+              'No list <code>topos.proved</code> beside the program has this digest: a trial build is not excluded.')
+    answers = 'pass unless an invariant denies them' if report.source.table.get('answers', 'all') == 'all' else \
+        'never pass (<code>answers = "none"</code>)'
+    return f'''<header class="head">
+<p class="kicker">Network policy, as topos-query answers it</p>
+<h1>{esc(title)}</h1>
+<dl class="facts">
+<dt>Description</dt><dd>{esc(report.source.name)}, {len(report.source.data):,} bytes</dd>
+<dt>SHA-256</dt><dd class="mono">{report.source.digest()}</dd>
+<dt>Date</dt><dd>{esc(report.made)}</dd>
+<dt>topos-query</dt><dd>SHA-256 <span class="mono">{report.program['sha256']}</span><br>{listed}</dd>
+<dt>Answers</dt><dd>Answers of a flow {answers}.</dd>
+</dl>
+</header>'''
+
+
+def proved(view: View) -> str:
+    """Returns the section on what the parts of the page rest on."""
+    name = esc(view.report.source.name)
+    lines = 'they are shown' if view.report.source.page.is_known else 'the two differ here, so none are shown'
+    rows = f'''<tr><th scope="row">{view.tag('fact')}</th><td>The answer of <code>topos-query network</code> to this file: the
+state and the services of each flow, all invariants that deny it, gaps, and the minimal offending sets.</td>
+<td>Proved of a program that <code>./topos prove</code> builds. The head of the page says whether the program is one.</td></tr>
+<tr><th scope="row">{view.tag('copy')}</th><td>Answers of <code>topos-query</code> to copies of the file in which a part of an
+entry is left out: exceptions, and which flows use them.</td>
+<td>Each answer is proved of its copy. The choice of the copies is only tested.</td></tr>
+<tr><th scope="row">{view.tag('page')}</th><td>Counts, orders, groups, the graph, lines, titles and comments of the file, the
+words on templates, defaults, and the points to check.</td><td>Only tested.</td></tr>'''
+    return f'''<section id="proved" aria-labelledby="proved-title">
+<h2 id="proved-title">What is proved</h2>
+{table(('Mark', 'Meaning', 'Trust'), rows)}
+<p>It is trusted that kernels and switches do what the definitions say, and that the description says what is meant.
+Lines of the file are shown if the reader of this page finds the same hosts, flows, invariants and entries as topos:
+{lines}.</p>
+<p>The same answers on the command line: <code>topos policy {name}</code>, <code>topos check {name}</code>,
+<code>topos-query network {name}</code>, <code>topos-why {name} FROM TO</code>.</p>
+</section>'''
+
+
+def page_text(report: Report) -> str:
+    """Returns the page."""
+    view = View(report)
+    title = f'Network report: {report.source.name}'
+    drawn, graph_section = report_graph.section(view)
+    sections = {'summary': ('Summary', report_summary.section(view)), 'changes': ('Changes', report_summary.changes(view)),
+                'matrix': ('Matrix', report_matrix.section(view)), 'graph': ('Graph', graph_section),
+                'invariants': ('Invariants', report_invariants.section(view)),
+                'hosts': ('Hosts', report_hosts.section(view)), 'proved': ('What is proved', proved(view))}
+    shown = {name: each for name, each in sections.items() if each[1]}
+    links = ''.join(f'<li><a href="#{name}">{words}</a></li>' for name, (words, _) in shown.items())
+    return '\n'.join([
+        '<!DOCTYPE html>', '<html lang="en">', '<head>', '<meta charset="utf-8">',
+        '<meta name="viewport" content="width=device-width, initial-scale=1">',
+        f'<meta http-equiv="Content-Security-Policy" content="{POLICY}">',
+        f'<title>{esc(title)}</title>', f'<style>\n{read_part("report.css")}</style>', '</head>', '<body>',
+        '<a class="skip" href="#matrix">Skip to the matrix</a>', head(view, title),
+        f'<nav aria-label="Sections"><ul>{links}</ul></nav>', '<main>', *(text for _, text in shown.values()), '</main>',
+        '<footer>Written by topos-report. The page is one file and loads nothing.</footer>',
+        f'<script type="application/json" id="data">{script_json(script_data(view, drawn))}</script>',
+        f'<script>\n{read_part("report.js")}</script>', '</body>', '</html>', ''])

@@ -1,0 +1,164 @@
+"""The summary of the page: counts, points to check, and what changed since an older description."""
+from collections.abc import Iterator
+
+from .report_changes import FlowChange
+from .report_model import Flow
+from .report_view import FEW, View, table
+from .report_words import BARRED, GAP, PERMITTED, STATES, counted, esc, verb
+
+MOST_CHANGES = 400
+
+
+def section(view: View) -> str:
+    points = ''.join(f'<li>{each}</li>' for each in points_to_check(view)) or '<li>None.</li>'
+    style, sentence = verdict(view)
+    return f'''<section id="summary" aria-labelledby="summary-title">
+<h2 id="summary-title">Summary {view.tag('fact')}</h2>
+<p class="verdict {style}">{sentence}</p>
+<ul class="tiles">{tiles(view)}</ul>
+<h3>Points to check {view.tag('page')}</h3>
+<ul class="look">{points}</ul>
+</section>'''
+
+
+def verdict(view: View) -> tuple[str, str]:
+    """Returns the sentence on the invariants, and whether it is good news."""
+    invariants = view.report.invariants
+    failing = [each.number for each in invariants if not each.holds]
+    if failing:
+        listed = ', '.join(map(view.invariant_link, failing))
+        return 'bad', (f'{counted(len(failing), "invariant")} of {len(invariants)} {verb(len(failing), "fails", "fail")} on '
+                       f'the flows that are asked for: {listed}. <code>topos rules</code> writes nothing; '
+                       '<code>topos repair</code> leaves the denied flows out.')
+    if not invariants:
+        return 'bad', 'There are no invariants: only the list of flows restricts the network.'
+    return 'good', f'All {counted(len(invariants), "invariant")} hold on the flows that are asked for.' \
+        if len(invariants) > 1 else 'The invariant holds on the flows that are asked for.'
+
+
+def tiles(view: View) -> str:
+    counts = view.report.counts()
+    alarm, care = ('alarm' if counts['denied'] else ''), ('care' if counts['gaps'] else '')
+    listed = [('hosts', 'host', 'hosts', ''), ('asked', 'flow asked for', 'flows asked for', ''),
+              ('permitted', 'permitted', 'permitted', ''), ('with_answers', 'with answers', 'with answers', ''),
+              ('without_answers', 'without answers', 'without answers', ''), ('denied', 'denied', 'denied', alarm),
+              ('holding', 'invariant holds', 'invariants hold', ''),
+              ('failing', 'invariant fails', 'invariants fail', 'alarm' if counts['failing'] else ''),
+              ('gaps', 'gap: not asked for, not denied', 'gaps: not asked for, not denied', care),
+              ('barred', 'not asked for, denied', 'not asked for, denied', '')]
+    return ''.join(f'<li class="{style}"><b data-count="{key}">{counts[key]:,}</b>'
+                   f'<span>{one if counts[key] == 1 else many}</span></li>' for key, one, many, style in listed)
+
+
+def points_to_check(view: View) -> Iterator[str]:
+    """Yields sentences on what an operator or an auditor would ask about."""
+    if not view.report.source.has_flow_key:
+        yield ('The file has no key <code>flow</code>, so <b>every flow is asked for</b>. Do not load rules from such a '
+               'file.')
+    denied = view.denied_flows()
+    if denied:
+        yield f'<b>{counted(len(denied), "flow")} asked for and denied</b>: {view.few_flows(denied)}.'
+    silent = [flow for flow in view.network.silent if view.network.lacks_tcp(flow)]
+    if silent:
+        yield f'<b>TCP passes and gets no answers</b> on {counted(len(silent), "flow")}: {view.few_flows(silent)}.'
+    yield from rest_points(view)
+    yield from gap_points(view)
+    yield from exception_points(view)
+    yield from host_points(view)
+
+
+def rest_points(view: View) -> Iterator[str]:
+    for number, host in enumerate(view.report.hosts):
+        if not host.rest:
+            continue
+        gaps, reached = view.receivers(number, GAP), view.receivers(number, PERMITTED)
+        if gaps:
+            yield (f'No invariant prevents flows from <b>{view.link(host.name)}</b> (all addresses of no other host) to '
+                   f'{counted(len(gaps), "host")} that it does not reach today: {view.few(gaps)}.')
+        yield f'{view.link(host.name)} opens connections to {counted(len(reached), "host")}: {view.few(reached)}.'
+
+
+def gap_points(view: View) -> Iterator[str]:
+    gaps = view.network.of_state(GAP)
+    if gaps:
+        widest = sorted(((len(view.senders(host, GAP)), -host) for host in range(view.size)), reverse=True)
+        told = ', '.join(f'{view.link(view.names[-host])} (from {number})' for number, host in widest[:5] if number)
+        yield (f'Only the list of flows prevents {counted(len(gaps), "flow")}, no invariant does. '
+               f'The widest gaps: {told}.')
+    whole = [each.flow for each in view.report.flows if not each.services and each.state in PERMITTED]
+    if whole:
+        yield f'{counted(len(whole), "permitted flow")} without services, for all traffic: {view.few_flows(whole)}.'
+
+
+def exception_points(view: View) -> Iterator[str]:
+    unused = [(each.number, part) for each in view.report.invariants for part in each.exceptions if part.in_use is False]
+    if unused:
+        told = ', '.join(f'{view.link(part.host)} ({esc(part.part)}, {view.invariant_link(number)})'
+                         for number, part in unused[:FEW])
+        more = f' and {len(unused) - FEW} more' if len(unused) > FEW else ''
+        yield f'{counted(len(unused), "exception")} that no permitted flow uses: {told}{more}.'
+    late = [each.number for each in view.report.invariants
+            if each.unjudged or any(part.in_use is None for part in each.exceptions)]
+    if late:
+        yield ('There was no time to judge all exceptions of ' + ', '.join(map(view.invariant_link, late))
+               + ' (option <code>--seconds</code>).')
+
+
+def host_points(view: View) -> Iterator[str]:
+    invariants = view.report.invariants
+    named = {entry.host for each in invariants for entry in each.entries}
+    forgotten = [name for name in view.names if name not in named]
+    if forgotten and invariants:
+        yield f'{counted(len(forgotten), "host")} without an entry in any invariant: {view.few(forgotten)}.'
+    lonely = [name for number, name in enumerate(view.names) if not view.degree(number)]
+    if lonely:
+        yield f'{counted(len(lonely), "host")} without a permitted flow: {view.few(lonely)}.'
+
+
+# Changes.
+
+def changes(view: View) -> str:
+    """Returns the section on what changed, or nothing without an older description."""
+    found = view.report.changes
+    if not found:
+        return ''
+    lines = [
+        ('Hosts added', view.few(found.hosts_added, 60) if found.hosts_added else ''),
+        ('Hosts removed', esc(' '.join(found.hosts_removed))),
+        ('Hosts with other addresses', view.few(found.hosts_moved, 60) if found.hosts_moved else ''),
+        ('Invariants added or changed', ', '.join(map(view.invariant_link, found.invariants_added))),
+        ('Invariants removed or changed, by their old numbers',
+         ', '.join(f'{number} {esc(template)}' for number, template in found.invariants_removed)),
+        ('Invariants that hold now', ', '.join(view.invariant_link(number) for number, holds in found.holds if holds)),
+        ('Invariants that fail now', ', '.join(view.invariant_link(number) for number, holds in found.holds if not holds))]
+    listed = ''.join(f'<li>{words}: {said}.</li>' for words, said in lines if said)
+    nothing = '<p>Nothing changed.</p>' if found.is_empty() else ''
+    rows = ''.join(change_row(view, each) for each in found.flows[:MOST_CHANGES])
+    flows = table(('Flow', 'Before', 'Now', 'Services before', 'Services now'), rows,
+                  f'{counted(len(found.flows), "flow")} changed.') if rows else ''
+    return f'''<section id="changes" aria-labelledby="changes-title">
+<h2 id="changes-title">Changes since {esc(found.name)} {view.tag('fact')}</h2>
+<p class="soft">SHA-256 of {esc(found.name)}: <span class="mono">{found.sha256}</span></p>
+{nothing}<ul>{listed}</ul>
+{flows}{view.more(len(found.flows), MOST_CHANGES, 'flow')}
+</section>'''
+
+
+def change_row(view: View, change: FlowChange) -> str:
+    style = f'{mark(change.before)}-{mark(change.after)}'
+    def said(services: list[str], state: str) -> str:
+        return esc(' '.join(services)) or ('all traffic' if state and state not in GAP + BARRED else '')
+    return (f'<tr class="change {style}"><th scope="row">{view.arrow(change.flow)}</th>'
+            f'<td>{esc(STATES.get(change.before, "no such host"))}</td><td>{esc(STATES.get(change.after, "no such host"))}</td>'
+            f'<td class="mono wrap">{said(change.services_before, change.before)}</td>'
+            f'<td class="mono wrap">{said(change.services_after, change.after)}</td></tr>')
+
+
+def mark(state: str) -> str:
+    return 'open' if state and state in PERMITTED else 'shut'
+
+
+def changed_flows(view: View) -> dict[Flow, FlowChange]:
+    """Returns the changes by flow, without those of removed hosts."""
+    found = view.report.changes
+    return {each.flow: each for each in found.flows if each.after} if found else {}
