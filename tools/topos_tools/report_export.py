@@ -4,7 +4,7 @@ import io
 import json
 
 from .report_model import Flow, Report
-from .report_words import ANSWERED, DENIED, ONE_WAY, PERMITTED, STATES
+from .report_words import ANSWERED, DENIED, ONE_WAY, PERMITTED, SHORT
 
 EDGE = {ANSWERED: 'color="#0072b2"', ONE_WAY: 'color="#0072b2", style=dashed',
         DENIED: 'color="#c8420b", penwidth=2.5'}
@@ -19,10 +19,10 @@ def csv_text(report: Report) -> str:
                     *(['before'] if before is not None else [])])
     for flow, each in network.flows.items():
         place = report.source.page.flow(*flow)
-        row = [*flow, STATES[network.states[flow]], *(str(each[key]).lower() for key in ('asked', 'permitted', 'answered')),
-               ' '.join(each['services']), ' '.join(map(str, each['denied_by'])), place.line or '', place.title]
+        row = [*flow, SHORT[network.states[flow]],
+               *(str(each[key]).lower() for key in ('asked', 'permitted', 'answered')), ' '.join(each['services']), ' '.join(map(str, each['denied_by'])), place.line or '', place.title]
         if before is not None:
-            row.append(STATES.get(before.get(flow, network.states[flow]), 'no such host'))
+            row.append(SHORT.get(before.get(flow, network.states[flow]), ''))
         lines.writerow(row)
     return output.getvalue()
 

@@ -23,12 +23,13 @@ def section(view: View) -> str:
 
 def overview_row(view: View, one: Invariant) -> str:
     used = sum(bool(part.in_use) for part in one.exceptions)
+    late = sum(part.in_use is None for part in one.exceptions) + one.unjudged
     name = one.name if len(one.name) <= TITLE else one.name[:TITLE - 2].rsplit(' ', 1)[0] + ' ..'
     numbers = (len(one.entries), len(one.default_hosts), len(one.denied), len(one.denied_asked))
     cells = ''.join(f'<td class="n">{number:,}</td>' for number in numbers)
     return (f'<tr><th scope="row">{view.invariant_link(one.number)}</th>'
             f'<td>{"hold" if one.holds else "<b class=unused>fail</b>"}</td>{cells}'
-            f'<td class="n">{used} of {len(one.exceptions)}</td><td>{esc(name)}</td></tr>')
+            f'<td class="n">{used} of {len(one.exceptions)}{f", {late} not judged" if late else ""}</td><td>{esc(name)}</td></tr>')
 
 
 def card(view: View, one: Invariant) -> str:

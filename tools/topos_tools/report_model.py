@@ -6,6 +6,7 @@ import datetime
 import functools
 import hashlib
 import os
+import time
 from dataclasses import asdict, dataclass, field
 from typing import Any
 
@@ -242,8 +243,8 @@ class Report:
             'counts': self.counts(), 'hosts': [placed(each) for each in self.hosts],
             'flows': [placed(each) for each in self.flows],
             'states': network.rows,
-            'denied_by': {f'{flow[0]} {flow[1]}': each['denied_by']
-                          for flow, each in network.flows.items() if each['denied_by']},
+            'denied': [{'flow': flow, 'denied_by': each['denied_by']}
+                       for flow, each in network.flows.items() if each['denied_by']],
             'without_answers': [{'flow': flow, 'denied_by': by, 'lacks_tcp': network.lacks_tcp(flow)}
                                 for flow, by in network.silent.items()],
             'reasons': [{'flow': flow, 'invariant': number, 'flows': flows}
@@ -280,13 +281,14 @@ def read_report(programs: Programs, path: str) -> Report:
     return Report(source, made, program, hosts, listed, [invariant_of(source, each) for each in network.invariants])
 
 
-def read_reasons(programs: Programs, report: Report, most: int) -> dict[Flow, dict[int, list[Flow]]]:
-    """Asks why the first denied flows are denied, and returns the minimal failing sets of more than one flow."""
-    found: dict[Flow, dict[int, list[Flow]]] = {}
-    for flow in report.network.of_state(DENIED)[:most]:
+def read_reasons(programs: Programs, report: Report, seconds: float) -> None:
+    """Sets the minimal failing sets of more than one flow, of as many denied flows as the time allows."""
+    until = time.monotonic() + seconds
+    for flow in report.network.of_state(DENIED):
+        if time.monotonic() > until:
+            return
         answer = programs.ask(report.source.data, 'why', *flow)
         sets = {each['invariant']: [tuple(step) for step in each['flows']] for each in answer['denied_by']
                 if len(each['flows']) > 1}
         if sets:
-            found[flow] = sets
-    return found
+            report.reasons[flow] = sets

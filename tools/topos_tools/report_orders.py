@@ -37,30 +37,37 @@ def groups_of(network: Network) -> list[list[int]]:
     """Returns the hosts in groups. The members of a group have the same flows, and the same one to each other."""
     hosts, grid = range(len(network.names)), marks_of(network)
     columns = [list(each) for each in zip(*grid)]
-    alike: dict[tuple[int, tuple[int, ...], tuple[int, ...]], list[int]] = {}
-    for inner in sorted({number for row in grid for number in row}):
-        for host in hosts:
-            row, column = grid[host][:], columns[host][:]
-            row[host] = column[host] = inner
-            alike.setdefault((inner, tuple(row), tuple(column)), []).append(host)
+    sums = [sum(map(hash, zip(hosts, grid[host], columns[host]))) - hash((host, -1, -1)) for host in hosts]
+    alike: dict[tuple[int, int], list[int]] = {}
+    for host in hosts:
+        # a member of the same group has the same sum if both have the mark between the two at their own place
+        for inner in {mark for mark, back in zip(grid[host], columns[host]) if mark == back and mark >= 0}:
+            alike.setdefault((inner, sums[host] + hash((host, inner, inner))), []).append(host)
     group_of: dict[int, list[int]] = {}
     for members in sorted(alike.values(), key=lambda each: (-len(each), each)):
         free = [host for host in members if host not in group_of]
-        for host in free:
-            group_of[host] = free
-    return sorted({group[0]: group for group in group_of.values()}.values())
+        if len(free) > 1 and all(is_alike(grid, columns, free[0], host) for host in free[1:]):
+            group_of.update(dict.fromkeys(free, free))
+    return sorted({id(group): group for group in (group_of.get(host, [host]) for host in hosts)}.values())
 
 
-def bits(states: str, wanted: str) -> int:
-    """Returns a number with a bit for each state, which is set for a wanted one."""
-    return int('1' + ''.join('1' if each in wanted else '0' for each in states), 2)
+def is_alike(grid: list[list[int]], columns: list[list[int]], one: int, other: int) -> bool:
+    """Whether two hosts have the same marks to and from all others, and to each other."""
+    return grid[one][other] == grid[other][one] and all(
+        lines[one][host] == lines[other][host] for lines in (grid, columns) for host in range(len(grid))
+        if host not in (one, other))
+
+
+def bits(states: str, wanted: str) -> str:
+    return ''.join('1' if each in wanted else '0' for each in states)
 
 
 def distances(first: list[int], rows: list[str]) -> list[list[float]]:
     """Returns for each two groups the number of pairs in which they differ."""
     columns = [''.join(column) for column in zip(*rows)]
-    marks = [tuple(bits(rows[host] + columns[host], wanted) for wanted in (PERMITTED, DENIED)) for host in first]
-    return [[float(sum((one ^ other).bit_count() for one, other in zip(a, b))) for b in marks] for a in marks]
+    marks = [int('1' + ''.join(bits(rows[host] + columns[host], wanted) for wanted in (PERMITTED, DENIED)), 2)
+             for host in first]
+    return [[float((one ^ other).bit_count()) for other in marks] for one in marks]
 
 
 class Tree:

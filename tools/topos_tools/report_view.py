@@ -38,6 +38,8 @@ class View:
         self.rows = report.network.rows
         self.columns = [''.join(column) for column in zip(*self.rows)]
         self.is_small = self.size <= MOST_LINKED
+        self.links = {name: f'<a href="#host-{esc(name)}">{esc(name)}</a>' if self.is_small else esc(name)
+                      for name in self.names}
 
     def tag(self, kind: str) -> str:
         """Returns the mark that says on what a part of the page rests."""
@@ -49,9 +51,8 @@ class View:
         return {each.flow: each.place for each in self.report.flows}
 
     def link(self, name: str) -> str:
-        if not self.is_small or name not in self.number:
-            return esc(name)
-        return f'<a href="#host-{esc(name)}">{esc(name)}</a>'
+        """Returns a link to the section of a host; of a large network, or of another one, the name alone."""
+        return self.links.get(name) or esc(name)
 
     def some(self, names: Iterable[str], nobody: str = 'no host', besides: int = 1) -> str:
         """Returns a list of hosts; a long one by the hosts that are not in it. `besides`: hosts that cannot be in it."""

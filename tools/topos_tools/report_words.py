@@ -12,6 +12,7 @@ STATES = {
     GAP: 'not asked for, and no invariant denies it (a gap)',
     BARRED: 'not asked for, and an invariant denies it',
 }
+SHORT = {ANSWERED: 'answered', ONE_WAY: 'unanswered', DENIED: 'denied', GAP: 'gap', BARRED: 'barred'}
 
 # A sentence on each template, after docs/FORMATS.md.
 TEMPLATES = {
@@ -52,12 +53,12 @@ def template_words(name: str, own: dict[str, Any] | None) -> str:
 
 
 def attribute_words(values: dict[str, Any]) -> str:
-    """Returns an attribute as its entry has it, without quotes."""
-    said = []
+    """Returns an attribute as its entry has it, without quotes, and the kind first."""
+    said = [str(values['kind'])] if 'kind' in values else []
     for key, value in values.items():
         if key == 'kind':
-            said.append(str(value))
-        elif isinstance(value, bool):
+            continue
+        if isinstance(value, bool):
             said += [key] if value else []
         elif isinstance(value, list):
             said.append(f'{key} {" ".join(map(str, value)) or "nobody"}')
