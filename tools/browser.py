@@ -83,8 +83,8 @@ class Browser:
         """Opens a file, and waits until it is loaded."""
         self.requests.clear()
         self.send('Page.navigate', url='file://' + path)
-        self.value("new Promise(done => document.readyState === 'complete' && location.protocol === 'file:' ? done(1) : "
-                   "addEventListener('load', () => done(1)))")
+        self.value("new Promise(done => document.readyState === 'complete' && location.protocol === 'file:' ? "
+                   "done(1) : addEventListener('load', () => done(1)))")
 
     def value(self, script: str) -> Any:
         """Returns the value of an expression in the page, after its promise."""
@@ -100,15 +100,17 @@ class Browser:
             self.send('Input.dispatchKeyEvent', type=kind, key=key, code=key, windowsVirtualKeyCode=KEYS[key], **more)
 
     def size(self, width: int, height: int, scale: float = 1) -> None:
-        self.send('Emulation.setDeviceMetricsOverride', width=width, height=height, deviceScaleFactor=scale, mobile=False)
+        self.send('Emulation.setDeviceMetricsOverride', width=width, height=height, deviceScaleFactor=scale,
+                  mobile=False)
 
     def picture(self, selector: str | None = None) -> bytes:
         """Returns a PNG of what is visible, or of an element."""
         clip: dict[str, Any] = {}
         if selector:
-            box = self.value(f"(() => {{ const box = document.querySelector({json.dumps(selector)}).getBoundingClientRect(); "
-                             "return [box.x + scrollX, box.y + scrollY, box.width, box.height]; })()")
-            clip = {'clip': {**dict(zip(('x', 'y', 'width', 'height'), box)), 'scale': 1}, 'captureBeyondViewport': True}
+            box = self.value(f'(box => [box.x + scrollX, box.y + scrollY, box.width, box.height])('
+                             f'document.querySelector({json.dumps(selector)}).getBoundingClientRect())')
+            clip = {'clip': {**dict(zip(('x', 'y', 'width', 'height'), box)), 'scale': 1},
+                    'captureBeyondViewport': True}
         return base64.b64decode(self.send('Page.captureScreenshot', format='png', **clip)['data'])
 
     def pdf(self) -> bytes:

@@ -6,7 +6,8 @@ from topos_tools.query import toml
 
 LABELS, PATHS = ['red', 'blue', 'card'], ['a', 'a/b', 'a/c', 'd']
 KINDS = {'sink': ['sink', 'pool', 'unassigned'], 'noninterference': ['interfering', 'unrelated', 'unrelated'],
-         'gateway': ['gateway', 'gateway-in', 'member', 'accessible', 'unassigned'], 'tenants': ['red', 'blue', 'shared']}
+         'gateway': ['gateway', 'gateway-in', 'member', 'accessible', 'unassigned'],
+         'tenants': ['red', 'blue', 'shared']}
 TEMPLATES = ['blp', 'tainting', 'sink', 'gateway', 'subnets', 'partners', 'domains', 'dependability', 'noninterference',
              'noreach', 'tenants']
 WIDE = ('dependability', 'noreach', 'noninterference')  # those that deny nearly all without entries
@@ -57,7 +58,8 @@ def flow_lines(chance: random.Random, pairs: list[tuple[str, str]]) -> list[str]
 def host_lines(chance: random.Random, names: list[str]) -> list[str]:
     lines = ['host = [']
     for number, name in enumerate(names):
-        at = 'rest = true' if not number and chance.random() < .7 else f'at = ["10.{number // 200}.{number % 200}.0/24"]'
+        is_rest = not number and chance.random() < .7
+        at = 'rest = true' if is_rest else f'at = ["10.{number // 200}.{number % 200}.0/24"]'
         lines += [f'  # topos: title host {name} <b>', f'  # topos: why why {name},', '  # topos: why twice',
                   f'  {{ name = "{name}", {at} }},']
     return [*lines, ']']
@@ -66,8 +68,8 @@ def host_lines(chance: random.Random, names: list[str]) -> list[str]:
 def invariant_lines(chance: random.Random, number: int, names: list[str]) -> list[str]:
     template = chance.choice(TEMPLATES if len(names) <= 64 else [each for each in TEMPLATES if each not in WIDE])
     chosen = names if template in WIDE else chance.sample(names, chance.randrange(1, len(names) + 1))
-    lines = [f'# {number + 1}. a comment with <b>, & and "quotes"', f'# topos: title invariant {number}', '[[invariant]]',
-             f'template = "{template}"', 'assign = [']
+    lines = [f'# {number + 1}. a comment with <b>, & and "quotes"', f'# topos: title invariant {number}',
+             '[[invariant]]', f'template = "{template}"', 'assign = [']
     for name in chosen:
         others = [each for each in names if each != name]
         lines.append(f'  {toml({"host": name, **entry(chance, template, others, len(names))})},')

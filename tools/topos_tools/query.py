@@ -40,7 +40,7 @@ class Stopped(Exception):
 
 
 def find_program(given: str | None) -> str:
-    """Returns the path of `topos`: the given one, that of TOPOS, one beside the tool, the built one, or that of PATH."""
+    """Returns the path of `topos`: the given one, that of TOPOS, beside the tool, built here, or that of PATH."""
     return _find(given or os.environ.get('TOPOS'), 'topos', _beside_tool(), 'name the program with --program')
 
 
@@ -85,7 +85,8 @@ class Programs:
         """Returns the answer of `topos-query` to a question on a description."""
         answer = json.loads(answered([self.query, form, '/dev/stdin', *names], text))
         if answer['version'] != VERSION:
-            raise Stopped(f'{self.query} answers in version {answer["version"]} of its format: version {VERSION} is read')
+            raise Stopped(f'{self.query} answers in version {answer["version"]} of its format: '
+                          f'version {VERSION} is read')
         return answer
 
     def ask_if_accepted(self, text: bytes, form: str, *names: str) -> dict[str, Any] | None:

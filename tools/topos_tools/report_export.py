@@ -20,7 +20,8 @@ def csv_text(report: Report) -> str:
     for flow, each in network.flows.items():
         place = report.source.page.flow(*flow)
         row = [*flow, SHORT[network.states[flow]],
-               *(str(each[key]).lower() for key in ('asked', 'permitted', 'answered')), ' '.join(each['services']), ' '.join(map(str, each['denied_by'])), place.line or '', place.title]
+               *(str(each[key]).lower() for key in ('asked', 'permitted', 'answered')), ' '.join(each['services']),
+               ' '.join(map(str, each['denied_by'])), place.line or '', place.title]
         if before is not None:
             row.append(SHORT.get(before.get(flow, network.states[flow]), ''))
         lines.writerow(row)

@@ -77,9 +77,10 @@ def line_key() -> str:
     lines = (('', 'e eA', '', 'with answers'), ('', 'e ea', '', 'without answers'),
              ('js-only', '', 'stroke="#00795a" stroke-width="2"', 'into the chosen node'),
              ('', '', 'stroke="#c8420b" stroke-width="2.6"', 'asked for and denied'))
-    return '<ul class="linekey">' + ''.join(
-        f'<li class="{style}"><svg viewBox="0 0 46 10" aria-hidden="true"><path class="{line} strong" {more} d="M0 5h46"/>'
-        f'</svg>{said}</li>' for style, line, more, said in lines) + '</ul>'
+    items = ''.join(f'<li class="{style}"><svg viewBox="0 0 46 10" aria-hidden="true">'
+                    f'<path class="{line} strong" {more} d="M0 5h46"/></svg>{said}</li>'
+                    for style, line, more, said in lines)
+    return f'<ul class="linekey">{items}</ul>'
 
 
 def ring(view: View, nodes: list[list[int]], edges: dict[tuple[int, int], str]) -> str:
@@ -91,7 +92,8 @@ def ring(view: View, nodes: list[list[int]], edges: dict[tuple[int, int], str]) 
            radius * math.sin(2 * math.pi * each / count - math.pi / 2)) for each in range(count)]
     ordered = sorted(edges.items(), key=lambda each: (ONE_WAY + ANSWERED + DENIED).index(each[1]))
     paths = ''.join(
-        f'<path class="e e{state}" data-from="{one}" data-to="{other}" d="{curve(at[one], at[other], radius, (other, one) in edges)}">'
+        f'<path class="e e{state}" data-from="{one}" data-to="{other}" '
+        f'd="{curve(at[one], at[other], radius, (other, one) in edges)}">'
         f'<title>{esc(f"{labels[one]} → {labels[other]}: {EDGE_WORDS[state]}")}</title></path>'
         for (one, other), state in ordered)
     drawn = ''.join(node_of(view, nodes[number], label, at[number]) for number, label in enumerate(labels))
@@ -120,8 +122,9 @@ def node_of(view: View, node: list[int], label: str, at: tuple[float, float]) ->
     is_flipped = abs(turn) > 90
     rest = ' rest' if view.report.hosts[node[0]].rest else ''
     members = ' '.join(view.names[host] for host in node)
+    radius = 5 + min(6.0, view.degree(node[0]) / 8)
     place = f'x="{-15 if is_flipped else 15}" y="4.5" text-anchor="{"end" if is_flipped else "start"}"'
     return (f'<g class="node{rest}" tabindex="0" role="button" aria-pressed="false" aria-label="{esc(label)}">'
-            f'<title>{esc(members)}</title><circle cx="{x:.1f}" cy="{y:.1f}" r="{5 + min(6.0, view.degree(node[0]) / 8):.1f}"/>'
+            f'<title>{esc(members)}</title><circle cx="{x:.1f}" cy="{y:.1f}" r="{radius:.1f}"/>'
             f'<text transform="translate({x:.1f} {y:.1f}) rotate({turn + 180 if is_flipped else turn:.1f})" {place}>'
             f'{esc(label)}</text></g>')

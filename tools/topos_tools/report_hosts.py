@@ -25,9 +25,11 @@ def host_details(view: View, number: int) -> str:
         more = f'<p class="soft wrap">All prefixes: {esc(" ".join(host.at))}</p>'
     title = f'<span>{esc(host.place.title)}</span>' if host.place.title else ''
     columns = (peers(view, number, True), peers(view, number, False), attributes(view, host.name), shut(view, number))
-    return f'''<details class="host" id="host-{esc(host.name)}"><summary><b>{esc(host.name)}</b>{title}<span class="mono soft">{esc(at)}</span><span>{numbers(view, number)}</span><span class="soft">{at_line(host.place)}</span></summary>
-<div>{note(host.place)}{more}<div class="two">{''.join(f'<div>{each}</div>' for each in columns if each)}</div></div></details>
-'''
+    facts = (f'<b>{esc(host.name)}</b>{title}<span class="mono soft">{esc(at)}</span>'
+             f'<span>{numbers(view, number)}</span><span class="soft">{at_line(host.place)}</span>')
+    parts = ''.join(f'<div>{each}</div>' for each in columns if each)
+    return (f'<details class="host" id="host-{esc(host.name)}"><summary>{facts}</summary>\n'
+            f'<div>{note(host.place)}{more}<div class="two">{parts}</div></div></details>\n')
 
 
 def numbers(view: View, host: int) -> str:
@@ -77,10 +79,13 @@ def attributes(view: View, name: str) -> str:
     rows = ''
     for one in view.report.invariants:
         entry = next((each for each in one.entries if each.host == name), None)
-        said = (f'<td class="wrap">{esc(entry.attribute)}</td><td class="soft">{at_line(entry.place)}</td>' if entry else
-                f'<td class="default">{esc(one.default)} (default)</td><td></td>')
+        said = f'<td class="default">{esc(one.default)} (default)</td><td></td>'
+        if entry:
+            said = f'<td class="wrap">{esc(entry.attribute)}</td><td class="soft">{at_line(entry.place)}</td>'
         rows += f'<tr><th scope="row">{view.invariant_link(one.number)}</th>{said}</tr>'
-    return f'<h4>Its attributes {view.tag("page")}</h4>' + table(('Invariant', 'Attribute', 'Line'), rows) if rows else ''
+    if not rows:
+        return ''
+    return f'<h4>Its attributes {view.tag("page")}</h4>' + table(('Invariant', 'Attribute', 'Line'), rows)
 
 
 def shut(view: View, host: int) -> str:

@@ -29,7 +29,8 @@ def overview_row(view: View, one: Invariant) -> str:
     cells = ''.join(f'<td class="n">{number:,}</td>' for number in numbers)
     return (f'<tr><th scope="row">{view.invariant_link(one.number)}</th>'
             f'<td>{"hold" if one.holds else "<b class=unused>fail</b>"}</td>{cells}'
-            f'<td class="n">{used} of {len(one.exceptions)}{f", {late} not judged" if late else ""}</td><td>{esc(name)}</td></tr>')
+            f'<td class="n">{used} of {len(one.exceptions)}{f", {late} not judged" if late else ""}</td>'
+            f'<td>{esc(name)}</td></tr>')
 
 
 def card(view: View, one: Invariant) -> str:
@@ -39,7 +40,8 @@ def card(view: View, one: Invariant) -> str:
     parts = [guards(view, one), exceptions(view, one), entries(view, one), square]
     columns = ''.join(f'<div>{part}</div>' for part in parts if part)
     return f'''<article class="card" id="invariant-{one.number}" aria-labelledby="invariant-{one.number}-title">
-<h3 id="invariant-{one.number}-title">Invariant {one.number}: {esc(one.template)}{title} {pill} <span class="soft">{at_line(one.place)}</span></h3>
+<h3 id="invariant-{one.number}-title">Invariant {one.number}: {esc(one.template)}{title} {pill}
+<span class="soft">{at_line(one.place)}</span></h3>
 {reasons_above(one)}<p>{esc(template_words(one.template, one.own))}</p>
 {offending(view, one)}<p>{denied_words(view, one)}</p>
 <div class="two">{columns}</div></article>
@@ -83,8 +85,9 @@ def guards(view: View, one: Invariant) -> str:
     rows = ''.join(guard_row(view, each) for each in one.guards[:MOST_ROWS])
     if not rows:
         return ''
-    titles = ('What it guards: knowledge of a sender', 'May flow to', 'Flows today', 'May flow, not asked for') \
-        if one.strategy == 'information' else ('What it guards: receivers', 'May enter', 'Enter today', 'May enter, not asked for')
+    titles = ('What it guards: receivers', 'May enter', 'Enter today', 'May enter, not asked for')
+    if one.strategy == 'information':
+        titles = ('What it guards: knowledge of a sender', 'May flow to', 'Flows today', 'May flow, not asked for')
     return (f'<h4>{titles[0]}</h4>' + table(('Host', *titles[1:]), rows)
             + view.more(len(one.guards), MOST_ROWS, 'host'))
 
@@ -101,7 +104,9 @@ def guard_row(view: View, guard: Guard) -> str:
 
 def exceptions(view: View, one: Invariant) -> str:
     rows = ''.join(exception_row(view, each) for each in one.exceptions[:MOST_ROWS])
-    late = f'<p class="soft">There was no time to judge {counted(one.unjudged, "part")} of entries.</p>' if one.unjudged else ''
+    late = ''
+    if one.unjudged:
+        late = f'<p class="soft">There was no time to judge {counted(one.unjudged, "part")} of entries.</p>'
     if not rows:
         return f'<h4>Exceptions {view.tag("copy")}</h4>{late}' if late else ''
     caption = 'Without an exception the invariant denies so many more flows, and no fewer.'
@@ -129,7 +134,8 @@ def entries(view: View, one: Invariant) -> str:
     others = counted(len(one.default_hosts), 'other host')
     rows += (f'<tr><th scope="row" class="default">{others}</th><td class="default">{esc(one.default)} (default)</td>'
              '<td></td></tr>')
-    listed = f'<p><span class="default">Default, {esc(one.default)}:</span> {view.some(one.default_hosts, besides=0)}</p>'
+    listed = (f'<p><span class="default">Default, {esc(one.default)}:</span> '
+              f'{view.some(one.default_hosts, besides=0)}</p>')
     return f'<h4>Entries {view.tag("page")}</h4>' + table(('Host', 'Attribute', 'Line'), rows) + listed
 
 
@@ -163,13 +169,15 @@ def classes(view: View, one: Invariant) -> str:
 
 def square(order: list[str], cells: list[list[list[int]]]) -> str:
     names = [each if len(each) <= 26 else each[:24] + '..' for each in order]
-    tops = ''.join(f'<th scope="col" title="{esc(full)}"><span>{esc(name)}</span></th>' for name, full in zip(names, order))
+    tops = ''.join(f'<th scope="col" title="{esc(full)}"><span>{esc(name)}</span></th>'
+                   for name, full in zip(names, order))
     rows = ''
     for place, full in enumerate(order):
         line = ''.join(square_cell(full, other, *cell) for other, cell in zip(order, cells[place]))
         rows += f'<tr><th scope="row" title="{esc(full)}">{esc(names[place])}</th>{line}</tr>'
-    return f'''<h4>From attribute to attribute</h4><table class="square"><caption>Senders are rows. &times;: the invariant
-denies all flows. A number: the permitted flows.</caption><thead><tr><td></td>{tops}</tr></thead><tbody>{rows}</tbody></table>'''
+    return f'''<h4>From attribute to attribute</h4>
+<table class="square"><caption>Senders are rows. &times;: the invariant denies all flows. A number: the permitted
+flows.</caption><thead><tr><td></td>{tops}</tr></thead><tbody>{rows}</tbody></table>'''
 
 
 def square_cell(sender: str, receiver: str, pairs: int, denied: int, used: int) -> str:

@@ -12,7 +12,8 @@ def section(view: View) -> str:
     side = next((side for size, side in SIDES if view.size <= size), 10)
     size = ('' if view.size <= 40 else ' low') + ('' if view.is_small else ' large')
     options = ''.join(f'<option value="{key}">{words}</option>' for key, words in ORDERS.items())
-    changed = '''<label><input type="checkbox" id="changed"> Changed flows alone</label>''' if view.report.changes else ''
+    box = '<label><input type="checkbox" id="changed"> Changed flows alone</label>'
+    changed = box if view.report.changes else ''
     return f'''<section id="matrix" aria-labelledby="matrix-title">
 <h2 id="matrix-title">Who may open connections to whom {view.tag('fact')}</h2>
 <p>A gap is a flow that nobody asks for and no invariant denies: if it is asked for, it passes.
@@ -23,7 +24,8 @@ def section(view: View) -> str:
 <label>Receivers <input type="search" id="receivers" placeholder="part of a name"></label>
 <label>Size <input type="range" id="zoom" min="6" max="34" value="{side}"></label>{changed}
 <span class="soft">A state of the legend, chosen, is shown alone. Arrow keys move from cell to cell.</span></div>
-<div class="board{size}"><div class="frame" tabindex="0" role="region" aria-label="Matrix of hosts">{grid(view, side)}</div>
+<div class="board{size}">
+<div class="frame" tabindex="0" role="region" aria-label="Matrix of hosts">{grid(view, side)}</div>
 <div class="panel" id="panel" role="status" aria-live="polite"><p class="soft js-only">Choose a cell: its services, the
 invariants that deny it, and the flow back appear here.</p></div></div>
 </section>'''
@@ -32,9 +34,10 @@ invariants that deny it, and the flow back appear here.</p></div></div>
 def legend(view: View) -> str:
     counts = view.report.counts()
     return ''.join(
-        f'<li><button type="button" data-state="{state}" aria-pressed="false" disabled><i class="{state}" aria-hidden="true">'
-        f'{"3" if state == DENIED else ""}</i><span>{esc(words)} <b>{counts[COUNT_KEYS[state]]:,}</b> '
-        f'<span class="soft">({"number of the first invariant" if state == DENIED else state})</span></span></button></li>'
+        f'<li><button type="button" data-state="{state}" aria-pressed="false" disabled>'
+        f'<i class="{state}" aria-hidden="true">{"3" if state == DENIED else ""}</i>'
+        f'<span>{esc(words)} <b>{counts[COUNT_KEYS[state]]:,}</b> <span class="soft">'
+        f'({"number of the first invariant" if state == DENIED else state})</span></span></button></li>'
         for state, words in STATES.items())
 
 
@@ -50,7 +53,8 @@ def grid(view: View, side: int) -> str:
     tops = ''.join(f'<th scope="col"{roles["columnheader"]} data-host="{number}"><span>{esc(name)}</span></th>'
                    for number, name in enumerate(view.names))
     rows = '\n'.join(row(view, number, roles) for number in range(view.size))
-    return f'''<table class="matrix"{roles['table']} id="cells" style="--c:{side}px;--print:{printed_side(view.size)}px">
+    sides = f'--c:{side}px;--print:{printed_side(view.size)}px'
+    return f'''<table class="matrix"{roles['table']} id="cells" style="{sides}">
 <caption>Rows open connections to columns.</caption>
 <thead{roles['rowgroup']}><tr{roles['row']}><th scope="col"{roles['columnheader']}>from / to</th>{tops}</tr></thead>
 <tbody{roles['rowgroup']}>
@@ -72,7 +76,8 @@ def row(view: View, sender: int, roles: dict[str, str]) -> str:
         title = f' title="{esc(cell_title(view, flow))}"' if view.is_small else ''
         text = view.network.denied_by(flow)[0] if state == DENIED else state
         cells.append(f'<td{role} class="{state}{" new" if flow in changed else ""}"{focus}{title}>{text}</td>')
-    return f'<tr{roles["row"]}><th scope="row"{roles["rowheader"]} data-host="{sender}">{esc(name)}</th>{"".join(cells)}</tr>'
+    head = f'<th scope="row"{roles["rowheader"]} data-host="{sender}">{esc(name)}</th>'
+    return f'<tr{roles["row"]}>{head}{"".join(cells)}</tr>'
 
 
 def cell_title(view: View, flow: tuple[str, str]) -> str:

@@ -39,7 +39,8 @@ class Network:
         self.number = {name: number for number, name in enumerate(self.names)}
         self.flows: dict[Flow, dict[str, Any]] = {tuple(each['flow']): each for each in answer['flows']}
         self.states: dict[Flow, str] = {flow: state_of(each) for flow, each in self.flows.items()}
-        self.silent: dict[Flow, list[int]] = {tuple(each['flow']): each['denied_by'] for each in answer['without_answers']}
+        self.silent: dict[Flow, list[int]] = {tuple(each['flow']): each['denied_by']
+                                              for each in answer['without_answers']}
 
     def of_state(self, states: str) -> list[Flow]:
         return [flow for flow, state in self.states.items() if state in states]
@@ -198,8 +199,8 @@ def invariant_of(source: Source, answer: dict[str, Any]) -> Invariant:
         place = Place(place.line, above.title, place.why or above.why, above.comment)
     denied = [flow for flow, each in network.flows.items() if number in each['denied_by']]
     return Invariant(
-        number, template, answer['strategy'], answer['holds'], [tuple(flow) for flow in answer['offending']], own, place,
-        entries, own['default'] if own else DEFAULTS.get(template, 'default'),
+        number, template, answer['strategy'], answer['holds'], [tuple(flow) for flow in answer['offending']], own,
+        place, entries, own['default'] if own else DEFAULTS.get(template, 'default'),
         [name for name in network.names if name not in named], denied,
         [flow for flow in denied if network.states[flow] == DENIED], guards_of(network, answer['strategy'], denied))
 

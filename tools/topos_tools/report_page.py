@@ -47,14 +47,19 @@ def proved(view: View) -> str:
     """Returns the section on what the parts of the page rest on."""
     name = esc(view.report.source.name)
     lines = 'they are shown' if view.report.source.page.is_known else 'the two differ here, so none are shown'
-    rows = f'''<tr><th scope="row">{view.tag('fact')}</th><td>The answer of <code>topos-query network</code> to this file: the
-state and the services of each flow, all invariants that deny it, gaps, and the minimal offending sets.</td>
-<td>Proved of a program that <code>./topos prove</code> builds. The head of the page says whether the program is one.</td></tr>
-<tr><th scope="row">{view.tag('copy')}</th><td>Answers of <code>topos-query</code> to copies of the file in which a part of an
-entry is left out: exceptions, and which flows use them.</td>
+    rows = f'''<tr><th scope="row">{view.tag('fact')}</th>
+<td>The answer of <code>topos-query network</code> to this file: the state and the services of each flow, all invariants
+that deny it, gaps, and the minimal offending sets.</td>
+<td>Proved of a program that <code>./topos prove</code> builds. The head of the page says whether the program is
+one.</td></tr>
+<tr><th scope="row">{view.tag('copy')}</th>
+<td>Answers of <code>topos-query</code> to copies of the file in which a part of an entry is left out: exceptions, and
+which flows use them.</td>
 <td>Each answer is proved of its copy. The choice of the copies is only tested.</td></tr>
-<tr><th scope="row">{view.tag('page')}</th><td>Counts, orders, groups, the graph, lines, titles and comments of the file, the
-words on templates, defaults, and the points to check.</td><td>Only tested.</td></tr>'''
+<tr><th scope="row">{view.tag('page')}</th>
+<td>Counts, orders, groups, the graph, lines, titles and comments of the file, the words on templates, defaults, and the
+points to check.</td>
+<td>Only tested.</td></tr>'''
     return f'''<section id="proved" aria-labelledby="proved-title">
 <h2 id="proved-title">What is proved</h2>
 {table(('Mark', 'Meaning', 'Trust'), rows)}
@@ -71,7 +76,8 @@ def page_text(report: Report) -> str:
     view = View(report)
     title = f'Network report: {report.source.name}'
     drawn, graph_section = report_graph.section(view)
-    sections = {'summary': ('Summary', report_summary.section(view)), 'changes': ('Changes', report_summary.changes(view)),
+    sections = {'summary': ('Summary', report_summary.section(view)),
+                'changes': ('Changes', report_summary.changes(view)),
                 'matrix': ('Matrix', report_matrix.section(view)), 'graph': ('Graph', graph_section),
                 'invariants': ('Invariants', report_invariants.section(view)),
                 'hosts': ('Hosts', report_hosts.section(view)), 'proved': ('What is proved', proved(view))}
@@ -83,7 +89,8 @@ def page_text(report: Report) -> str:
         f'<meta http-equiv="Content-Security-Policy" content="{POLICY}">',
         f'<title>{esc(title)}</title>', f'<style>\n{read_part("report.css")}</style>', '</head>', '<body>',
         '<a class="skip" href="#matrix">Skip to the matrix</a>', head(view, title),
-        f'<nav aria-label="Sections"><ul>{links}</ul></nav>', '<main>', *(text for _, text in shown.values()), '</main>',
+        f'<nav aria-label="Sections"><ul>{links}</ul></nav>',
+        '<main>', *(text for _, text in shown.values()), '</main>',
         '<footer>Written by topos-report. The page is one file and loads nothing.</footer>',
         f'<script type="application/json" id="data">{script_json(script_data(view, drawn))}</script>',
         f'<script>\n{read_part("report.js")}</script>', '</body>', '</html>', ''])

@@ -27,13 +27,14 @@ def verdict(view: View) -> tuple[str, str]:
     failing = [each.number for each in invariants if not each.holds]
     if failing:
         listed = ', '.join(map(view.invariant_link, failing))
-        return 'bad', (f'{counted(len(failing), "invariant")} of {len(invariants)} {verb(len(failing), "fails", "fail")} on '
-                       f'the flows that are asked for: {listed}. <code>topos rules</code> writes nothing; '
-                       '<code>topos repair</code> leaves the denied flows out.')
+        fail = verb(len(failing), 'fails', 'fail')
+        return 'bad', (f'{counted(len(failing), "invariant")} of {len(invariants)} {fail} on the flows that are asked '
+                       f'for: {listed}. <code>topos rules</code> writes nothing; <code>topos repair</code> leaves the '
+                       'denied flows out.')
     if not invariants:
         return 'bad', 'There are no invariants: only the list of flows restricts the network.'
-    return 'good', f'All {counted(len(invariants), "invariant")} hold on the flows that are asked for.' \
-        if len(invariants) > 1 else 'The invariant holds on the flows that are asked for.'
+    hold = f'All {len(invariants)} invariants hold' if len(invariants) > 1 else 'The invariant holds'
+    return 'good', f'{hold} on the flows that are asked for.'
 
 
 def tiles(view: View) -> str:
@@ -53,8 +54,8 @@ def tiles(view: View) -> str:
 def points_to_check(view: View) -> Iterator[str]:
     """Yields sentences on what an operator or an auditor would ask about."""
     if not view.report.source.has_flow_key:
-        yield ('The file has no key <code>flow</code>, so <b>every flow is asked for</b>. Do not load rules from such a '
-               'file.')
+        yield ('The file has no key <code>flow</code>, so <b>every flow is asked for</b>. Do not load rules from such '
+               'a file.')
     denied = view.denied_flows()
     if denied:
         yield f'<b>{counted(len(denied), "flow")} asked for and denied</b>: {view.few_flows(denied)}.'
@@ -73,8 +74,8 @@ def rest_points(view: View) -> Iterator[str]:
             continue
         gaps, reached = view.receivers(number, GAP), view.receivers(number, PERMITTED)
         if gaps:
-            yield (f'No invariant prevents flows from <b>{view.link(host.name)}</b> (all addresses of no other host) to '
-                   f'{counted(len(gaps), "host")} that it does not reach today: {view.few(gaps)}.')
+            yield (f'No invariant prevents flows from <b>{view.link(host.name)}</b> (all addresses of no other host) '
+                   f'to {counted(len(gaps), "host")} that it does not reach today: {view.few(gaps)}.')
         yield f'{view.link(host.name)} opens connections to {counted(len(reached), "host")}: {view.few(reached)}.'
 
 
@@ -91,7 +92,8 @@ def gap_points(view: View) -> Iterator[str]:
 
 
 def exception_points(view: View) -> Iterator[str]:
-    unused = [(each.number, part) for each in view.report.invariants for part in each.exceptions if part.in_use is False]
+    unused = [(each.number, part) for each in view.report.invariants
+              for part in each.exceptions if part.in_use is False]
     if unused:
         told = ', '.join(f'{view.link(part.host)} ({esc(part.part)}, {view.invariant_link(number)})'
                          for number, part in unused[:FEW])
@@ -129,8 +131,9 @@ def changes(view: View) -> str:
         ('Invariants added or changed', ', '.join(map(view.invariant_link, found.invariants_added))),
         ('Invariants removed or changed, by their old numbers',
          ', '.join(f'{number} {esc(template)}' for number, template in found.invariants_removed)),
-        ('Invariants that hold now', ', '.join(view.invariant_link(number) for number, holds in found.holds if holds)),
-        ('Invariants that fail now', ', '.join(view.invariant_link(number) for number, holds in found.holds if not holds))]
+        *((f'Invariants that {words} now', ', '.join(view.invariant_link(number) for number, holds in found.holds
+                                                     if holds is wanted))
+          for words, wanted in (('hold', True), ('fail', False)))]
     listed = ''.join(f'<li>{words}: {said}.</li>' for words, said in lines if said)
     nothing = '<p>Nothing changed.</p>' if found.is_empty() else ''
     rows = ''.join(change_row(view, each) for each in found.flows[:MOST_CHANGES])
@@ -149,7 +152,8 @@ def change_row(view: View, change: FlowChange) -> str:
     def said(services: list[str], state: str) -> str:
         return esc(' '.join(services)) or ('all traffic' if state and state not in GAP + BARRED else '')
     return (f'<tr class="change {style}"><th scope="row">{view.arrow(change.flow)}</th>'
-            f'<td>{esc(STATES.get(change.before, "no such host"))}</td><td>{esc(STATES.get(change.after, "no such host"))}</td>'
+            f'<td>{esc(STATES.get(change.before, "no such host"))}</td>'
+            f'<td>{esc(STATES.get(change.after, "no such host"))}</td>'
             f'<td class="mono wrap">{said(change.services_before, change.before)}</td>'
             f'<td class="mono wrap">{said(change.services_after, change.after)}</td></tr>')
 

@@ -55,7 +55,7 @@ class View:
         return self.links.get(name) or esc(name)
 
     def some(self, names: Iterable[str], nobody: str = 'no host', besides: int = 1) -> str:
-        """Returns a list of hosts; a long one by the hosts that are not in it. `besides`: hosts that cannot be in it."""
+        """Returns a list of hosts; a long one by those that are not in it. `besides`: how many cannot be in it."""
         found = list(names)
         if not found:
             return f'<span class="soft">{nobody}</span>'

@@ -16,8 +16,8 @@ SHORT = {ANSWERED: 'answered', ONE_WAY: 'unanswered', DENIED: 'denied', GAP: 'ga
 
 # A sentence on each template, after docs/FORMATS.md.
 TEMPLATES = {
-    'blp': 'Secrecy by levels: information flows only to trusted hosts and to hosts of at least the level of the sender. '
-           'Answers count as flows.',
+    'blp': 'Secrecy by levels: information flows only to trusted hosts and to hosts of at least the level of the '
+           'sender. Answers count as flows.',
     'tainting': 'Secrecy by labels: the receiver has every label that the sender has and does not untaint. '
                 'Answers count as flows.',
     'sink': 'Hosts that only receive: nothing leaves a sink, and a pool sends to the pool and to sinks. '
@@ -29,8 +29,8 @@ TEMPLATES = {
     'domains': 'A hierarchy: a host reaches its own domain and all below it. An answer opens no connection.',
     'dependability': 'Each host reaches, over any number of flows, at most as many others as its limit. '
                      'Answers count as flows.',
-    'noninterference': 'No two interfering hosts are joined by flows, in any direction and over any hosts between them. '
-                       'Answers count as flows.',
+    'noninterference': 'No two interfering hosts are joined by flows, in any direction and over any hosts between '
+                       'them. Answers count as flows.',
     'noreach': 'No host reaches, over any number of flows, a host that it denies. Answers count as flows.',
 }
 
