@@ -5,9 +5,11 @@ stands here: each part is left out in a copy of the description, and `topos-quer
 such a part the kind is replaced by one that another entry has. The copies are:
 
 1. the permitted flows alone, with up to 16 changed invariants: a part is in use if its invariant fails;
-2. the flows that all of these permit, with the invariant and its changes: which pairs only the part opens;
+2. the flows that all of these permit, with the invariants and their changes: which pairs only a part opens. If no
+   changed invariant fails in the first copy, its answer says so;
 3. the description with one part less, for a part that no flow uses: whether answers use it.
 """
+import functools
 import os
 import time
 from collections.abc import Iterator
@@ -78,7 +80,6 @@ class Judge:
     def __init__(self, programs: Programs, report: Report, seconds: float) -> None:
         self.programs, self.table, self.network = programs, report.source.table, report.network
         self.permitted = report.network.of_state(PERMITTED)
-        self.place = {flow: number for number, flow in enumerate(report.network.flows)}
         self.until = time.monotonic() + seconds
         self.step = 0.0  # seconds that the last question took
 
@@ -96,19 +97,31 @@ class Judge:
         return answers
 
     def read_use(self, batches: list[list[Part]]) -> list[Part]:
-        """Sets whether the invariants fail on the permitted flows, and returns the parts whose copy is accepted."""
-        accepted: list[Part] = []
+        """Sets whether the invariants fail on the permitted flows. Returns the parts that have to be judged on fewer."""
+        left: list[Part] = []
         texts = [self.copy(self.permitted, [part.invariant for part in parts]) for parts in batches]
         for parts, answer in zip(batches, self.ask(texts), strict=True):
             if answer is None:
                 half = len(parts) // 2
-                accepted += self.read_use([parts[:half], parts[half:]]) if half else []
+                left += self.read_use([parts[:half], parts[half:]]) if half else []
                 continue
             for part, told in zip(parts, answer['invariants'], strict=True):
                 part.fails = not told['holds']
                 part.uses = [tuple(flow) for flow in told['offending']]
-            accepted += parts
-        return accepted
+            if any(part.fails for part in parts):
+                left += parts
+            else:
+                compare(parts, self.denied, denied_places(answer))
+        return left
+
+    @functools.cached_property
+    def denied(self) -> dict[int, set[int]]:
+        """The flows that each invariant denies, by number."""
+        found: dict[int, set[int]] = {number: set() for number in range(1, len(self.network.invariants) + 1)}
+        for place, each in enumerate(self.network.flows.values()):
+            for number in each['denied_by']:
+                found[number].add(place)
+        return found
 
     def read_opened(self, batches: list[list[Part]]) -> None:
         """Sets which pairs only the parts open, beside flows on which the invariants hold with and without them."""
@@ -121,7 +134,8 @@ class Judge:
                                    [*invariants, *(part.invariant for part in parts)]))
         for parts, own, answer in zip(batches, numbers, self.ask(texts), strict=True):
             if answer:
-                compare(answer, own, parts)
+                denied = denied_places(answer)
+                compare(parts, dict(zip(own, denied)), denied[len(own):])
 
     def read_lost(self, parts: list[Part]) -> Iterator[tuple[list[Flow], list[Flow]]]:
         """Yields for each part the flows that are not permitted without it, and those that get no answers."""
@@ -137,14 +151,18 @@ class Judge:
                     and after.states[flow] != ANSWERED])
 
 
-def compare(answer: dict[str, Any], numbers: list[int], parts: list[Part]) -> None:
-    """Sets which pairs only the parts open: in the copy their invariants stand behind those of these numbers."""
-    denied: list[set[int]] = [set() for _ in range(len(numbers) + len(parts))]
+def denied_places(answer: dict[str, Any]) -> list[set[int]]:
+    """Returns for each invariant of an answer the flows that it denies, by their places."""
+    denied: list[set[int]] = [set() for _ in answer['invariants']]
     for place, each in enumerate(answer['flows']):
-        for one in each['denied_by']:
-            denied[one - 1].add(place)
-    before = dict(zip(numbers, denied))
-    for part, now in zip(parts, denied[len(numbers):], strict=True):
+        for number in each['denied_by']:
+            denied[number - 1].add(place)
+    return denied
+
+
+def compare(parts: list[Part], before: dict[int, set[int]], denied: list[set[int]]) -> None:
+    """Sets which pairs only the parts open, from what the invariants deny with them, and without each."""
+    for part, now in zip(parts, denied, strict=True):
         part.opens = frozenset(now - before[part.number])
         part.is_exception = bool(part.opens) and before[part.number] <= now
 
@@ -208,9 +226,8 @@ def judged_parts(judge: Judge, report: Report, parts: list[Part]) -> list[Part]:
     for wave in waves(list(batches_of(parts, False))):
         if judge.is_late(2):
             break
-        accepted = judge.read_use(wave)
-        for opened in waves(list(batches_of(accepted, True))):
-            judge.read_opened(opened)
+        for left in waves(list(batches_of(judge.read_use(wave), True))):
+            judge.read_opened(left)
         judged += sum(map(len, wave))
     for part in parts[judged:]:
         report.invariants[part.number - 1].unjudged += 1
