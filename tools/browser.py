@@ -104,7 +104,7 @@ class Browser:
                   mobile=False)
 
     def picture(self, selector: str | None = None) -> bytes:
-        """Returns a PNG of what is visible, or of an element."""
+        """Returns a PNG of the visible part of the page, or of an element."""
         clip: dict[str, Any] = {}
         if selector:
             box = self.value(f'(box => [box.x + scrollX, box.y + scrollY, box.width, box.height])('

@@ -8,7 +8,7 @@ CHANNELS = {2: 3, 6: 4}  # of the colour types that are read: 8 bits for each ch
 
 
 def chunks(data: bytes) -> dict[bytes, bytes]:
-    """Returns the contents of the chunks by kind; those of one kind are joined."""
+    """Returns the contents of the chunks by kind. Chunks of one kind are joined."""
     found: dict[bytes, bytes] = {}
     place = len(HEAD)
     while place < len(data):

@@ -77,7 +77,7 @@ def invariant_lines(chance: random.Random, number: int, names: list[str]) -> lis
 
 
 def network(seed: int, hosts: int = 0) -> str:
-    """Returns a random description; of so many hosts, else of two to eight."""
+    """Returns a random description, of two to eight hosts if no number is given."""
     chance = random.Random(seed)
     count = hosts or chance.randrange(2, 9)
     names = [f'{chance.choice(["web", "db", "Desk", "x_y"])}-{number}' for number in range(count)]

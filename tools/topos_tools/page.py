@@ -22,7 +22,7 @@ class Unread(Exception):
 
 @dataclass(frozen=True)
 class Place:
-    """The line of an element, counted from 1, and what the comment above it says."""
+    """The line of an element, counted from 1, and the contents of the comment above it."""
     line: int | None = None
     title: str = ''
     why: str = ''

@@ -1,6 +1,6 @@
 """Finds `topos` and `topos-query`, and asks them about a description.
 
-A description goes to a program by its standard input, so a changed copy needs no file. A program that refuses its
+A description goes to a program by its standard input: a changed copy needs no file. A program that refuses its
 input ends the tool with the same line and the same status. `run` is the frame of every tool.
 """
 import hashlib
@@ -40,12 +40,12 @@ class Stopped(Exception):
 
 
 def find_program(given: str | None) -> str:
-    """Returns the path of `topos`: the given one, that of TOPOS, beside the tool, built here, or that of PATH."""
+    """Returns the path of `topos`: as given, by TOPOS, beside the tool, built in the repository, or on the path."""
     return _find(given or os.environ.get('TOPOS'), 'topos', _beside_tool(), 'name the program with --program')
 
 
 def find_query(program: str) -> str:
-    """Returns the path of `topos-query`: that of TOPOS_QUERY, the one beside `topos`, or that of PATH."""
+    """Returns the path of `topos-query`: by TOPOS_QUERY, beside `topos`, or on the path."""
     return _find(os.environ.get('TOPOS_QUERY'), 'topos-query', [os.path.dirname(program)],
                  'name the program with TOPOS_QUERY')
 

@@ -49,7 +49,7 @@ def flow_changes(old: Network, new: Network) -> list[FlowChange]:
 
 
 def matched(old: list[dict[str, Any]], new: list[dict[str, Any]]) -> dict[int, int]:
-    """Returns for the number of each invariant of the newer description that of the same one in the older one."""
+    """Returns the number of each invariant of the newer description with its number in the older description."""
     free = list(range(len(old)))
     found = {}
     for number, invariant in enumerate(new, 1):

@@ -84,7 +84,7 @@ class Judge:
         self.step = 0.0  # seconds that the last question took
 
     def is_late(self, questions: int = 1) -> bool:
-        """Whether the time would be over before so many questions are answered."""
+        """Whether the time ends before a number of questions is answered."""
         return time.monotonic() + questions * self.step > self.until
 
     def copy(self, flows: list[Flow], invariants: list[dict[str, Any]]) -> bytes:
@@ -97,7 +97,7 @@ class Judge:
         return answers
 
     def read_use(self, batches: list[list[Part]]) -> list[Part]:
-        """Sets whether the invariants fail on the permitted flows. Returns the parts that have to be judged on fewer."""
+        """Sets whether the invariants fail on the permitted flows, and returns the parts to judge on fewer flows."""
         left: list[Part] = []
         texts = [self.copy(self.permitted, [part.invariant for part in parts]) for parts in batches]
         for parts, answer in zip(batches, self.ask(texts), strict=True):
@@ -181,14 +181,14 @@ def batches_of(parts: list[Part], has_originals: bool) -> Iterator[list[Part]]:
 
 
 def waves(items: list[Any]) -> Iterator[list[Any]]:
-    """Yields the items in lists of so many as are asked side by side."""
+    """Yields the items in lists. The items of a list are asked side by side."""
     size = os.cpu_count() or 1
     for start in range(0, len(items), size):
         yield items[start:start + size]
 
 
 def distinct(parts: list[Part]) -> list[Part]:
-    """Returns the exceptions; of those of one host with the same effect the first."""
+    """Returns the exceptions. If several of one host have the same effect, it returns the first."""
     found: dict[tuple[int, str, frozenset[int]], Part] = {}
     for part in parts:
         if part.is_exception:

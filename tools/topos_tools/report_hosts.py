@@ -47,7 +47,7 @@ def flow_of(view: View, host: int, other: str, is_inward: bool) -> Flow:
 
 
 def peers(view: View, host: int, is_inward: bool) -> str:
-    """Returns the permitted flows from or to a host; of a large network those of the same kind as one row."""
+    """Returns the permitted flows from or to a host. In a large network flows of the same kind are one row."""
     others = (view.senders if is_inward else view.receivers)(host, PERMITTED)
     title = f'{"Opens connections to it" if is_inward else "It opens connections to"} ({len(others)})'
     if not others:
@@ -89,7 +89,7 @@ def attributes(view: View, name: str) -> str:
 
 
 def shut(view: View, host: int) -> str:
-    """Returns what is asked for and denied, and the gaps."""
+    """Returns the flows of a host that are asked for and denied, and its gaps."""
     parts = ''
     for is_inward in (True, False):
         others = (view.senders if is_inward else view.receivers)(host, DENIED)

@@ -3,7 +3,7 @@ from .report_summary import changed_flows
 from .report_view import View
 from .report_words import BARRED, COUNT_KEYS, DENIED, GAP, PERMITTED, SELF, STATES, esc
 
-SIDES = ((16, 34), (40, 24), (64, 18), (128, 13))  # pixels of a cell, for so many hosts
+SIDES = ((16, 34), (40, 24), (64, 18), (128, 13))  # the largest number of hosts, and the pixels of a cell
 ROLES = ('cell', 'row', 'columnheader', 'rowheader', 'rowgroup', 'table')
 ORDERS = {'file': 'as in the file', 'address': 'by address', 'flows': 'by flows: similar hosts together'}
 

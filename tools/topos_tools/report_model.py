@@ -133,7 +133,7 @@ class Invariant:
 
     @property
     def name(self) -> str:
-        """The title, else what the comment says."""
+        """The title, or else the comment."""
         return self.place.title or self.place.comment
 
 
@@ -183,7 +183,7 @@ def guards_of(network: Network, strategy: str, denied: list[Flow]) -> list[Guard
 
 
 def invariant_of(source: Source, answer: dict[str, Any]) -> Invariant:
-    """Returns what the answer and the text say of an invariant."""
+    """Returns the facts on an invariant: those of the answer and those of the text."""
     network, page, number = source.network, source.page, answer['invariant']
     table = source.table['invariant'][number - 1]
     template = answer['template']

@@ -163,6 +163,6 @@ def mark(state: str) -> str:
 
 
 def changed_flows(view: View) -> dict[Flow, FlowChange]:
-    """Returns the changes by flow, without those of removed hosts."""
+    """Returns the changes by flow, without the flows of removed hosts."""
     found = view.report.changes
     return {each.flow: each for each in found.flows if each.after} if found else {}

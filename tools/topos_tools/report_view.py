@@ -42,7 +42,7 @@ class View:
                       for name in self.names}
 
     def tag(self, kind: str) -> str:
-        """Returns the mark that says on what a part of the page rests."""
+        """Returns the mark that names the source of a part of the page."""
         words = 'proved answer' if kind == 'fact' and self.report.program['proved'] else TAGS[kind]
         return f'<a class="tag {kind}" href="#proved">{words}</a>'
 

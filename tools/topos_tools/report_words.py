@@ -78,5 +78,5 @@ def counted(number: int, noun: str, nouns: str = '') -> str:
 
 
 def verb(number: int, one: str, many: str) -> str:
-    """Returns the verb of so many."""
+    """Returns the form of a verb for a number of subjects."""
     return one if number == 1 else many
