@@ -85,13 +85,48 @@
 
   // The matrix: a chosen cell, by mouse or by keys.
   const table = byId('cells'), body = table.tBodies[0], head = table.tHead.rows[0];
-  const rows = [...body.rows], grid = rows.map(row => [...row.cells].slice(1)), tops = [...head.cells].slice(1);
-  const placeOf = new Map();
-  grid.forEach((cells, from) => cells.forEach((cell, to) => placeOf.set(cell, [from, to])));
-  let order = data.orders.file, selected = null, hot = [];
+  const rows = [...body.rows], tops = [...head.cells].slice(1), grid = [], placeOf = new Map();
+  const isLarge = !!table.querySelector('.line');
+  let order = data.orders.file, selected = null, hot = [], starts = new Set();
+
+  function madeCell(from, to) {
+    const cell = document.createElement('td'), of = state(from, to);
+    cell.setAttribute('role', 'cell');
+    cell.className = of === '-' ? 's' : of;
+    cell.classList.toggle('new', key(from, to) in data.changed);
+    cell.classList.toggle('cut', starts.has(to));
+    cell.hidden = tops[to].hidden;
+    cell.textContent = of === 'D' ? deniedBy(from, to)[0] : of === '-' ? '' : of;
+    return cell;
+  }
+  // The cells of a row. In a large matrix they are made when they are wanted first.
+  function cellsOf(from) {
+    if (grid[from]) return grid[from];
+    if (isLarge) {
+      const cells = names.map((_, to) => madeCell(from, to));
+      rows[from].lastChild.replaceWith(...order.map(to => cells[to]));
+      grid[from] = cells;
+    } else {
+      grid[from] = [...rows[from].cells].slice(1);
+    }
+    grid[from].forEach((cell, to) => placeOf.set(cell, [from, to]));
+    return grid[from];
+  }
+  const column = to => [tops[to], ...grid.filter(Boolean).map(cells => cells[to])];
+  if (isLarge) {
+    const rowOf = new Map(rows.map((row, from) => [row, from]));
+    const seen = new IntersectionObserver(entries => entries.filter(each => each.isIntersecting).forEach(each => {
+      seen.unobserve(each.target);
+      cellsOf(rowOf.get(each.target));
+    }), { root: table.parentNode, rootMargin: '300px' });
+    rows.forEach(row => seen.observe(row));
+    addEventListener('beforeprint', () => rows.forEach((_, from) => cellsOf(from)));
+  } else {
+    rows.forEach((_, from) => cellsOf(from));
+  }
 
   function select(from, to, focus) {
-    const cell = grid[from][to];
+    const cell = cellsOf(from)[to];
     if (selected) { selected.classList.remove('sel'); selected.tabIndex = -1; }
     hot.forEach(each => each.classList.remove('hot'));
     selected = cell;
@@ -127,23 +162,23 @@
     };
     select(move(place[0], step[0], rows), move(place[1], step[1], tops), true);
   });
-  if (count) grid[0][0].tabIndex = 0;
+  if (count) cellsOf(0)[0].tabIndex = 0;
 
   // The matrix: orders and filters.
   // The hosts before which a line is drawn: a group of several hosts begins there, or has ended.
   function cuts() {
     const size = new Map(data.groups.map(group => [group[0], group.length]));
-    const starts = order.filter(host => size.has(host));
-    return starts.filter((host, place) => size.get(host) > 1 || (place && size.get(starts[place - 1]) > 1));
+    const first = order.filter(host => size.has(host));
+    return first.filter((host, place) => size.get(host) > 1 || (place && size.get(first[place - 1]) > 1));
   }
   function arrange() {
     order = data.orders[byId('order').value];
-    const starts = new Set(byId('order').value === 'flows' ? cuts() : []);
+    starts = new Set(byId('order').value === 'flows' ? cuts() : []);
     head.append(...order.map(host => tops[host]));
     for (const host of order) {
-      rows[host].append(...order.map(to => grid[host][to]));
+      if (grid[host]) rows[host].append(...order.map(to => grid[host][to]));
       rows[host].classList.toggle('cut', starts.has(host));
-      [tops[host], ...grid.map(cells => cells[host])].forEach(cell => cell.classList.toggle('cut', starts.has(host)));
+      column(host).forEach(cell => cell.classList.toggle('cut', starts.has(host)));
     }
     body.append(...order.map(host => rows[host]));
   }
@@ -156,7 +191,7 @@
     names.forEach((name, host) => {
       rows[host].hidden = !sends(name);
       if (tops[host].hidden !== receives(name)) return;
-      [tops[host], ...grid.map(cells => cells[host])].forEach(cell => { cell.hidden = !receives(name); });
+      column(host).forEach(cell => { cell.hidden = !receives(name); });
     });
   }
   const legend = all('.legend button'), changed = byId('changed');

@@ -7,6 +7,7 @@ from .report_view import View
 from .report_words import ANSWERED, DENIED, ONE_WAY, PERMITTED, counted, esc
 
 MOST_EDGES = 1500
+MANY_DENIED = 40  # edges that are faint beside those of a chosen node
 EDGE_WORDS = {ANSWERED: 'with answers', ONE_WAY: 'without answers', DENIED: 'denied'}
 TIPS = {'out': '#0072b2', 'in': '#00795a', 'no': '#c8420b'}
 
@@ -100,7 +101,8 @@ def ring(view: View, nodes: list[list[int]], edges: dict[tuple[int, int], str]) 
     tips = ''.join(f'<marker id="tip-{name}" viewBox="0 0 10 10" refX="8" refY="5" markerWidth="9" markerHeight="9" '
                    f'markerUnits="userSpaceOnUse" orient="auto"><path d="M0 0L10 5L0 10z" fill="{colour}"/></marker>'
                    for name, colour in TIPS.items())
-    return (f'<svg id="ring" class="ring" style="max-height:{min(900, 360 + 18 * count)}px" role="group" '
+    many = ' many' if sum(state == DENIED for state in edges.values()) > MANY_DENIED else ''
+    return (f'<svg id="ring" class="ring{many}" style="max-height:{min(900, 360 + 18 * count)}px" role="group" '
             f'viewBox="{-half:.0f} {-half:.0f} {2 * half:.0f} {2 * half:.0f}" aria-label="Hosts and flows">'
             f'<defs>{tips}</defs><g>{paths}</g>{drawn}</svg>')
 

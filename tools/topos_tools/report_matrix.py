@@ -48,7 +48,7 @@ def printed_side(size: int) -> float:
 
 
 def grid(view: View, side: int) -> str:
-    # The rows of a large matrix are laid out only if they are visible. As blocks they need roles.
+    # The script makes the cells of a large matrix row by row, where they are visible. As blocks its rows need roles.
     roles = {role: '' if view.is_small else f' role="{role}"' for role in ROLES}
     tops = ''.join(f'<th scope="col"{roles["columnheader"]} data-host="{number}"><span>{esc(name)}</span></th>'
                    for number, name in enumerate(view.names))
@@ -64,20 +64,23 @@ def grid(view: View, side: int) -> str:
 
 
 def row(view: View, sender: int, roles: dict[str, str]) -> str:
-    """Returns the cells of a sender. Of a large matrix the script adds the title of a cell when it is pointed at."""
-    name, role, changed = view.names[sender], roles['cell'], changed_flows(view)
-    focus = ' tabindex="-1"' if view.is_small else ''
-    cells = []
+    """Returns the row of a sender: a cell for each receiver, or in a large matrix one cell with all letters."""
+    head = f'<th scope="row"{roles["rowheader"]} data-host="{sender}">{esc(view.names[sender])}</th>'
+    cells = cells_of(view, sender) if view.is_small else f'<td role="cell" class="line">{view.rows[sender]}</td>'
+    return f'<tr{roles["row"]}>{head}{cells}</tr>'
+
+
+def cells_of(view: View, sender: int) -> str:
+    name, changed, cells = view.names[sender], changed_flows(view), ''
     for receiver, state in enumerate(view.rows[sender]):
         if state == SELF:
-            cells.append(f'<td{role} class="s"></td>')
+            cells += '<td class="s"></td>'
             continue
         flow = (name, view.names[receiver])
-        title = f' title="{esc(cell_title(view, flow))}"' if view.is_small else ''
         text = view.network.denied_by(flow)[0] if state == DENIED else state
-        cells.append(f'<td{role} class="{state}{" new" if flow in changed else ""}"{focus}{title}>{text}</td>')
-    head = f'<th scope="row"{roles["rowheader"]} data-host="{sender}">{esc(name)}</th>'
-    return f'<tr{roles["row"]}>{head}{"".join(cells)}</tr>'
+        style = f'{state} new' if flow in changed else state
+        cells += f'<td class="{style}" tabindex="-1" title="{esc(cell_title(view, flow))}">{text}</td>'
+    return cells
 
 
 def cell_title(view: View, flow: tuple[str, str]) -> str:
