@@ -77,7 +77,7 @@ def words(view: View, drawn: Drawn) -> str:
 def line_key() -> str:
     lines = (('', 'e eA', '', 'with answers'), ('', 'e ea', '', 'without answers'),
              ('js-only', '', 'stroke="#00795a" stroke-width="2"', 'into the chosen node'),
-             ('', '', 'stroke="#c8420b" stroke-width="2.6"', 'asked for and denied'))
+             ('', 'e eD', '', 'asked for and denied'))
     items = ''.join(f'<li class="{style}"><svg viewBox="0 0 46 10" aria-hidden="true">'
                     f'<path class="{line} strong" {more} d="M0 5h46"/></svg>{said}</li>'
                     for style, line, more, said in lines)
