@@ -54,7 +54,8 @@ class Node:
     def items(self, key: str) -> list['Node']:
         """Returns the elements of the array that a key has, or none if the key is absent."""
         found = self.value.get(key)
-        return found.value if found else []
+        nodes: list[Node] = found.value if found else []
+        return nodes
 
 
 class Tokens:
@@ -177,7 +178,8 @@ class Document:
                 notes[found[1]].append(found[2].strip())
             else:
                 plain.append(line)
-        return Place(node.line, *(' '.join(notes[key]) for key in ('title', 'why')), ' '.join(plain).strip())
+        title, why = (' '.join(notes[key]) for key in ('title', 'why'))
+        return Place(node.line, title, why, ' '.join(plain).strip())
 
 
 @dataclass

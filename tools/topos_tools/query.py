@@ -83,7 +83,7 @@ class Programs:
 
     def ask(self, text: bytes, form: str, *names: str) -> dict[str, Any]:
         """Returns the answer of `topos-query` to a question on a description."""
-        answer = json.loads(answered([self.query, form, '/dev/stdin', *names], text))
+        answer: dict[str, Any] = json.loads(answered([self.query, form, '/dev/stdin', *names], text))
         if answer['version'] != VERSION:
             raise Stopped(f'{self.query} answers in version {answer["version"]} of its format: '
                           f'version {VERSION} is read')
@@ -141,7 +141,8 @@ class _Question:
             if self.process.returncode:
                 raise Stopped(errors.decode().strip() or f'{self.words[0]} fails', self.process.returncode)
             output.seek(0)
-            return json.loads(output.read())
+            answer: dict[str, Any] = json.loads(output.read())
+            return answer
 
 
 def _memory_file(text: bytes) -> BinaryIO:
@@ -193,8 +194,7 @@ def read_bytes(path: str) -> bytes:
 def write_text(path: str | None, text: str) -> None:
     """Writes a text to a file, or to the output if no file is named."""
     if path is None:
-        sys.stdout.reconfigure(encoding='utf-8')  # type: ignore[union-attr]
-        sys.stdout.write(text)
+        sys.stdout.buffer.write(text.encode())
         return
     try:
         with open(path, 'w', encoding='utf-8') as file:
@@ -205,7 +205,10 @@ def write_text(path: str | None, text: str) -> None:
 
 def read_words(given: list[str], valued: set[str], plain: set[str]) -> tuple[dict[str, str], set[str], list[str]]:
     """Returns the values of the options with one, the options without, and the other words."""
-    values, options, others, words = {}, set(), [], list(given)
+    values: dict[str, str] = {}
+    options: set[str] = set()
+    others: list[str] = []
+    words = list(given)
     while words:
         word = words.pop(0)
         if word == '--':

@@ -17,7 +17,7 @@ from dataclasses import dataclass, field
 from typing import Any
 
 from .query import Programs, text_of
-from .report_model import Exempt, Flow, Network, Report
+from .report_model import Exempt, Flow, Network, Report, flow_of
 from .report_words import ANSWERED, PERMITTED, attribute_words
 
 AT_ONCE = 16  # invariants of a description
@@ -57,7 +57,7 @@ def parts_of(number: int, invariant: dict[str, Any]) -> Iterator[Part]:
     for entry in entries:
         values = {key: value for key, value in entry.items() if key != 'host'}
         for words, changed in smaller_entries(values):
-            assign = [other if other is not entry else {'host': entry['host'], **changed}
+            assign = [{'host': entry['host'], **(changed or {})} if other is entry else other
                       for other in entries if other is not entry or changed is not None]
             yield Part(number, entry['host'], words, {**invariant, 'assign': assign})
 
@@ -107,7 +107,7 @@ class Judge:
                 continue
             for part, told in zip(parts, answer['invariants'], strict=True):
                 part.fails = not told['holds']
-                part.uses = [tuple(flow) for flow in told['offending']]
+                part.uses = [flow_of(flow) for flow in told['offending']]
             if any(part.fails for part in parts):
                 left += parts
             else:

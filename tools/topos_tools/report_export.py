@@ -31,7 +31,8 @@ def csv_text(report: Report) -> str:
 def shown_edges(report: Report) -> dict[tuple[int, int], str]:
     """Returns the flows between groups, by the numbers of the groups. A denied flow hides a permitted one."""
     group_of = {host: place for place, group in enumerate(report.groups) for host in group}
-    network, found = report.network, {}
+    network = report.network
+    found: dict[tuple[int, int], str] = {}
     for (sender, receiver), state in network.states.items():
         key = group_of[network.number[sender]], group_of[network.number[receiver]]
         if state in PERMITTED + DENIED and (state == DENIED or found.get(key) != DENIED):

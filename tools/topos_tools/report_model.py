@@ -20,6 +20,12 @@ Flow = tuple[str, str]
 WHOLE_TCP = {'tcp', 'tcp/0-65535'}
 
 
+def flow_of(names: list[str]) -> Flow:
+    """Returns a flow of an answer."""
+    sender, receiver = names
+    return sender, receiver
+
+
 def state_of(answer: dict[str, Any]) -> str:
     """Returns the state of a flow of the answer."""
     if answer['permitted']:
@@ -37,19 +43,21 @@ class Network:
         self.invariants: list[dict[str, Any]] = answer['invariants']
         self.names: list[str] = [host['name'] for host in self.hosts]
         self.number = {name: number for number, name in enumerate(self.names)}
-        self.flows: dict[Flow, dict[str, Any]] = {tuple(each['flow']): each for each in answer['flows']}
+        self.flows: dict[Flow, dict[str, Any]] = {flow_of(each['flow']): each for each in answer['flows']}
         self.states: dict[Flow, str] = {flow: state_of(each) for flow, each in self.flows.items()}
-        self.silent: dict[Flow, list[int]] = {tuple(each['flow']): each['denied_by']
+        self.silent: dict[Flow, list[int]] = {flow_of(each['flow']): each['denied_by']
                                               for each in answer['without_answers']}
 
     def of_state(self, states: str) -> list[Flow]:
         return [flow for flow, state in self.states.items() if state in states]
 
     def services(self, flow: Flow) -> list[str]:
-        return self.flows[flow]['services']
+        services: list[str] = self.flows[flow]['services']
+        return services
 
     def denied_by(self, flow: Flow) -> list[int]:
-        return self.flows[flow]['denied_by']
+        numbers: list[int] = self.flows[flow]['denied_by']
+        return numbers
 
     @functools.cached_property
     def rows(self) -> list[str]:
@@ -199,7 +207,7 @@ def invariant_of(source: Source, answer: dict[str, Any]) -> Invariant:
         place = Place(place.line, above.title, place.why or above.why, above.comment)
     denied = [flow for flow, each in network.flows.items() if number in each['denied_by']]
     return Invariant(
-        number, template, answer['strategy'], answer['holds'], [tuple(flow) for flow in answer['offending']], own,
+        number, template, answer['strategy'], answer['holds'], [flow_of(flow) for flow in answer['offending']], own,
         place, entries, own['default'] if own else DEFAULTS.get(template, 'default'),
         [name for name in network.names if name not in named], denied,
         [flow for flow in denied if network.states[flow] == DENIED], guards_of(network, answer['strategy'], denied))
@@ -289,7 +297,7 @@ def read_reasons(programs: Programs, report: Report, seconds: float) -> None:
         if time.monotonic() > until:
             return
         answer = programs.ask(report.source.data, 'why', *flow)
-        sets = {each['invariant']: [tuple(step) for step in each['flows']] for each in answer['denied_by']
+        sets = {each['invariant']: [flow_of(step) for step in each['flows']] for each in answer['denied_by']
                 if len(each['flows']) > 1}
         if sets:
             report.reasons[flow] = sets
