@@ -76,7 +76,10 @@ def rest_points(view: View) -> Iterator[str]:
         if gaps:
             yield (f'No invariant prevents flows from <b>{view.link(host.name)}</b> (all addresses of no other host) '
                    f'to {counted(len(gaps), "host")} that it does not reach today: {view.few(gaps)}.')
-        yield f'{view.link(host.name)} opens connections to {counted(len(reached), "host")}: {view.few(reached)}.'
+        if reached:
+            yield f'{view.link(host.name)} opens connections to {counted(len(reached), "host")}: {view.few(reached)}.'
+        else:
+            yield f'{view.link(host.name)} opens no connection to another host.'
 
 
 def gap_points(view: View) -> Iterator[str]:
