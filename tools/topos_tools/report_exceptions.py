@@ -34,6 +34,7 @@ class Part:
     uses: list[Flow] = field(default_factory=list)
     opens: frozenset[int] = frozenset()  # pairs by their number
     is_exception: bool = False
+    is_judged: bool = False
 
 
 def smaller_entries(values: dict[str, Any]) -> Iterator[tuple[str, dict[str, Any] | None]]:
@@ -81,7 +82,9 @@ class Judge:
         self.programs, self.table, self.network = programs, report.source.table, report.network
         self.permitted = report.network.of_state(PERMITTED)
         self.until = time.monotonic() + seconds
-        self.step = 0.0  # seconds that the last question took
+        # The seconds of the last questions. A copy takes about as long as the file, and those asked side by side share
+        # this process.
+        self.step = report.source.seconds * (os.cpu_count() or 1)
 
     def is_late(self, questions: int = 1) -> bool:
         """Whether the time ends before a number of questions is answered."""
@@ -102,10 +105,10 @@ class Judge:
         texts = [self.copy(self.permitted, [part.invariant for part in parts]) for parts in batches]
         for parts, answer in zip(batches, self.ask(texts), strict=True):
             if answer is None:
-                half = len(parts) // 2
-                left += self.read_use([parts[:half], parts[half:]]) if half else []
+                left += self.read_halves(parts)
                 continue
             for part, told in zip(parts, answer['invariants'], strict=True):
+                part.is_judged = True
                 part.fails = not told['holds']
                 part.uses = [flow_of(flow) for flow in told['offending']]
             if any(part.fails for part in parts):
@@ -113,6 +116,14 @@ class Judge:
             else:
                 compare(parts, self.denied, denied_places(answer))
         return left
+
+    def read_halves(self, parts: list[Part]) -> list[Part]:
+        """Does the same for parts with which the copy is refused. A part that is refused by itself is no exception."""
+        half = len(parts) // 2
+        if half:
+            return [] if self.is_late() else self.read_use([parts[:half], parts[half:]])
+        parts[0].is_judged = True
+        return []
 
     @functools.cached_property
     def denied(self) -> dict[int, set[int]]:
@@ -222,16 +233,23 @@ def read_exceptions(programs: Programs, report: Report, seconds: float) -> None:
 
 def judged_parts(judge: Judge, report: Report, parts: list[Part]) -> list[Part]:
     """Judges the first parts, as many as the time allows, and returns them."""
-    judged = 0
     for wave in waves(list(batches_of(parts, False))):
         if judge.is_late(2):
             break
         for left in waves(list(batches_of(judge.read_use(wave), True))):
-            judge.read_opened(left)
-        judged += sum(map(len, wave))
-    for part in parts[judged:]:
-        report.invariants[part.number - 1].unjudged += 1
-    return parts[:judged]
+            if judge.is_late():
+                set_unjudged(left)
+            else:
+                judge.read_opened(left)
+    for part in parts:
+        report.invariants[part.number - 1].unjudged += not part.is_judged
+    return [part for part in parts if part.is_judged]
+
+
+def set_unjudged(batches: list[list[Part]]) -> None:
+    for parts in batches:
+        for part in parts:
+            part.is_judged = False
 
 
 def read_unused(judge: Judge, unused: list[tuple[Part, Exempt]]) -> None:

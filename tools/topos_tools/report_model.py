@@ -153,13 +153,16 @@ class Source:
     table: dict[str, Any]
     page: Page
     network: Network
+    seconds: float  # that the answer took
 
     @classmethod
     def read(cls, programs: Programs, path: str) -> 'Source':
         data = read_bytes(path)
+        began = time.monotonic()
         network = Network(programs.ask(data, 'network'))
+        seconds = time.monotonic() - began
         table = programs.table(data)
-        return cls(path, data, table, read_page(data, table), network)
+        return cls(path, data, table, read_page(data, table), network, seconds)
 
     @property
     def name(self) -> str:
