@@ -1,0 +1,200 @@
+"""Cases for import-test: rules with what both bounds do, texts that are refused, and wrong translations."""
+from typing import NamedTuple
+
+BOTH, DOUBT, NONE = 'both', 'doubt', 'none'  # both bounds forward the packet, upper alone does, none does
+ROUTES = ('default via 192.0.2.1 dev eth0 proto static\n10.0.0.0/8 via 10.1.0.1 dev eth1\n'
+          '10.1.0.0/24 dev eth2 proto kernel scope link\nblackhole 192.168.0.0/16\n')
+SETS = ('create a hash:net family inet hashsize 1024 maxelem 65536\nadd a 10.0.0.0/8\nadd a 10.1.0.0/16 nomatch\n'
+        'add a 10.1.0.7\ncreate t hash:ip timeout 60\nadd t 10.1.0.7 timeout 5\ncreate p hash:ip,port\n'
+        'add p 10.1.0.7,tcp:80\ncreate m hash:ip family inet netmask 24\nadd m 10.1.0.0\n'
+        'create b bitmap:ip range 10.1.0.0-10.1.0.255\nadd b 10.1.0.4-10.1.0.8\n')
+
+A, B, C = '10.1.0.7 8.8.8.8 tcp 1 80', '10.2.0.7 8.8.8.8 tcp 1 80', '8.8.8.8 10.1.0.7 tcp 1 80'
+SSH, DNS, HIGH = '10.1.0.7 8.8.8.8 tcp 1 22', '10.1.0.7 8.8.8.8 udp 1 53', '10.1.0.7 8.8.8.8 tcp 80 1'
+PING, ESP, OTHER = '10.1.0.7 8.8.8.8 icmp 0 0', '10.1.0.7 8.8.8.8 50 0 0', '8.1.1.1 2.2.2.2 icmp 0 0'
+LATER = f'{A};8.8.8.8 10.1.0.7 tcp 80 1'  # the verdict on the last packet counts
+LIMIT = '-m limit --limit 1/s'
+NOT_SYN = '-A FORWARD -p tcp -m state --state NEW -m tcp ! --tcp-flags FIN,SYN,RST,ACK SYN'
+
+
+class Case(NamedTuple):
+    rules: str
+    wanted: dict[str, str]
+    routes: str = ''
+    sets: str = ''
+    syn: bool = False
+
+
+CASES = (
+    Case('-A FORWARD -i eth2 -j ACCEPT', {A: BOTH, B: NONE, C: NONE}, ROUTES),
+    Case('-A FORWARD -i eth1 -j ACCEPT', {A: NONE, B: BOTH}, ROUTES),
+    Case('-A FORWARD -i eth0 -o eth2 -j ACCEPT', {A: NONE, C: BOTH}, ROUTES),
+    Case('-A FORWARD -o eth2 -j ACCEPT', {A: NONE, C: BOTH}, ROUTES),
+    Case('-A FORWARD ! -i eth0 -j ACCEPT', {A: BOTH, B: BOTH, C: NONE}, ROUTES),
+    Case('-A FORWARD -i eth+ -j ACCEPT', {A: BOTH, C: BOTH}, ROUTES),
+    Case('-A FORWARD -i lo -j ACCEPT', {A: NONE, C: NONE}, ROUTES),
+    Case('-A FORWARD -i ppp0 -j ACCEPT', {A: DOUBT}, ROUTES),
+    Case('-A FORWARD ! -i ppp0 -j DROP\n-A FORWARD -j ACCEPT', {A: DOUBT}, ROUTES),
+    Case('-A FORWARD -i eth2 -j ACCEPT', {A: DOUBT, C: DOUBT}),
+    Case('-A FORWARD -i eth2 -j ACCEPT', {A: BOTH, B: NONE}, 'eth0 rest\neth2 10.1.0.0/16 # office\n'),
+    Case('-A FORWARD -m set --match-set a src -j ACCEPT',
+         {A: BOTH, B: BOTH, '10.1.0.8 8.8.8.8 17 1 1': NONE, C: NONE}, sets=SETS),
+    Case('-A FORWARD -m set ! --match-set a src -j ACCEPT', {A: NONE, C: BOTH}, sets=SETS),
+    Case('-A FORWARD -m set --match-set b dst -j ACCEPT', {A: NONE, C: BOTH}, sets=SETS),
+    Case('-A FORWARD -m set --match-set a src,src -j ACCEPT', {A: DOUBT, C: DOUBT}, sets=SETS),
+    *(Case(f'-A FORWARD -m set --match-set {name} src -j ACCEPT', {A: DOUBT}, sets=SETS) for name in 'tpmx'),
+    Case('-A FORWARD -m set --match-set a src -j ACCEPT\n-A FORWARD -j SET --add-set a src', {A: DOUBT}, sets=SETS),
+    Case('-A FORWARD -s ! 10.1.0.0/255.255.0.0 -j ACCEPT', {A: NONE, B: BOTH}),
+    Case('-A FORWARD -s 10.1.0.0/255.0.255.0 -j ACCEPT', {A: DOUBT}),
+    Case('-A FORWARD -s 10.1.0.0/16,10.2.0.0/16 -p tcp --dport http -j ACCEPT', {A: BOTH, B: BOTH, C: NONE}),
+    Case('-A FORWARD -j ACCEPT -p tcp --dport 80', {A: BOTH, SSH: NONE, DNS: NONE}),
+    Case('-A FORWARD -p tcp -m multiport --dports 80,443 -j ACCEPT', {A: BOTH, SSH: NONE, HIGH: NONE}),
+    Case('-A FORWARD -p tcp -m multiport ! --dports 80,443 -j ACCEPT', {A: NONE, SSH: BOTH, HIGH: BOTH}),
+    Case('-A FORWARD -p tcp -m multiport --ports 80,443 -j ACCEPT', {A: BOTH, SSH: NONE, HIGH: BOTH, DNS: NONE}),
+    Case('-A FORWARD -p tcp -m multiport ! --ports 80,443 -j ACCEPT', {A: NONE, SSH: BOTH, HIGH: NONE, DNS: NONE}),
+    Case('-A FORWARD -p sctp -m sctp --dport 80 -j ACCEPT', {'10.1.0.7 8.8.8.8 132 1 80': DOUBT, A: NONE}),
+    Case('-A FORWARD -p sctp -m multiport --dports 80 -j ACCEPT', {'10.1.0.7 8.8.8.8 132 1 80': DOUBT, A: NONE}),
+    Case('-A FORWARD ! -p tcp -j ACCEPT', {A: NONE, DNS: BOTH, ESP: BOTH}),
+    Case('-A FORWARD -p gre -j ACCEPT', {'10.1.0.7 8.8.8.8 47 0 0': BOTH, ESP: NONE}),
+    Case('-A FORWARD -m iprange --src-range 10.1.0.3-10.1.0.7 -j ACCEPT',
+         {A: BOTH, B: NONE, '10.1.0.8 1.1.1.1 50 0 0': NONE}),
+    Case('-A FORWARD -m iprange ! --src-range 10.1.0.3-10.1.0.7 -j ACCEPT', {A: NONE, B: BOTH}),
+    Case('[3:120] -A FORWARD -m comment --comment "a \\" -j DROP" -j ACCEPT', {A: BOTH}),
+    Case('-A FORWARD -m comment --comment ! -j ACCEPT', {A: BOTH}),
+    Case('-A FORWARD -j NFQUEUE --queue-num 3 --queue-bypass', {A: DOUBT}),
+    Case('-A FORWARD -j NFQUEUE --queue-num 3\n-A FORWARD -j ACCEPT', {A: DOUBT}),
+    Case('-A FORWARD -j LOG --log-prefix "-j DROP "\n-A FORWARD -j MARK --set-xmark 0x1/0x1\n'
+         '-A FORWARD -s 10.1.0.0/16\n-A FORWARD -j ACCEPT', {A: BOTH}),
+    Case('-A FORWARD -s 10.1.0.0/16 -j REJECT --reject-with icmp-port-unreachable\n-A FORWARD -j ACCEPT',
+         {A: NONE, B: BOTH}),
+    Case('-A FORWARD -m string --string "-j DROP" --algo bm -j DROP\n-A FORWARD -j ACCEPT', {A: DOUBT}),
+    Case('-A FORWARD -m unheard --of 1 -j ACCEPT', {A: DOUBT}),
+    Case('-A FORWARD -g c\n-A FORWARD -j ACCEPT\n-A c -s 10.1.0.0/16 -j ACCEPT', {A: BOTH, B: NONE}),
+    Case('-A FORWARD -j c\n-A FORWARD -s 10.2.0.0/16 -j ACCEPT\n-A c -g d\n-A c -j ACCEPT\n'
+         '-A d -s 10.1.0.0/16 -j ACCEPT', {A: BOTH, B: BOTH, C: NONE}),
+    Case('-A FORWARD -j c\n-A FORWARD -j ACCEPT\n-A c -s 10.1.0.0/16 -j RETURN\n-A c -j DROP', {A: BOTH, B: NONE}),
+    Case('-A FORWARD -s 10.1.0.0/16 -j RETURN\n-A FORWARD -j ACCEPT', {A: NONE, B: BOTH}),
+    Case(f'-A FORWARD -j c\n-A FORWARD -p tcp -j ACCEPT\n-A c {LIMIT} -j RETURN\n-A c -j DROP', {A: DOUBT, DNS: NONE}),
+    Case(f'-A FORWARD -j c\n-A FORWARD -j DROP\n-A c {LIMIT} -j RETURN\n-A c -p tcp -j ACCEPT', {A: DOUBT, DNS: NONE}),
+    Case(f'-A FORWARD -j c\n-A FORWARD -j ACCEPT\n-A c {LIMIT} -j RETURN\n-A c -p tcp -j DROP', {A: DOUBT, DNS: BOTH}),
+    Case(f'-A FORWARD {LIMIT} -j c\n-A FORWARD -p tcp -j ACCEPT\n-A c -j DROP', {A: DOUBT, DNS: NONE}),
+    Case(f'-A FORWARD {LIMIT} -j c\n-A FORWARD -p tcp -j DROP\n-A c -j ACCEPT', {A: DOUBT, DNS: DOUBT}),
+    Case(f'-A FORWARD {LIMIT} -j c\n-A FORWARD -j ACCEPT\n-A c -j d\n-A c -j ACCEPT\n-A d -p tcp -j DROP',
+         {A: DOUBT, DNS: BOTH}),
+    Case(f'-A FORWARD {LIMIT} -j DROP\n-A FORWARD -p tcp -j ACCEPT', {A: DOUBT, DNS: NONE}),
+    Case(f'-A FORWARD -p tcp {LIMIT} -j ACCEPT\n-A FORWARD -s 10.2.0.0/16 -j ACCEPT', {A: DOUBT, B: BOTH, DNS: NONE}),
+    Case(f'{NOT_SYN} -j DROP\n-A FORWARD -j ACCEPT', {A: DOUBT, DNS: BOTH}),
+    Case(f'{NOT_SYN} -j DROP\n-A FORWARD -j ACCEPT', {A: BOTH}, syn=True),
+    Case('-A FORWARD -p tcp --syn -j ACCEPT', {A: BOTH, DNS: NONE}, syn=True),
+    Case('-A FORWARD -p tcp -m tcp --tcp-flags SYN,PSH SYN -j ACCEPT', {A: DOUBT}, syn=True),
+    Case('-A FORWARD -p icmp -m icmp --icmp-type 3 -j ACCEPT\n-A FORWARD -p icmp -m icmp --icmp-type any -s 8.0.0.0/8'
+         ' -j ACCEPT', {PING: NONE, OTHER: BOTH}),
+    Case('-A FORWARD -p icmp -m icmp --icmp-type 8 -j ACCEPT', {PING: DOUBT, A: NONE}),
+    Case('-A FORWARD -p icmp -m icmp ! --icmp-type echo-reply -j ACCEPT', {PING: BOTH}),
+    Case('-A FORWARD -m state --state RELATED,ESTABLISHED -j ACCEPT\n-A FORWARD -s 10.1.0.0/16 -j ACCEPT',
+         {A: BOTH, C: NONE, LATER: BOTH}),
+    Case('-A FORWARD -m conntrack ! --ctstate INVALID -j ACCEPT', {A: BOTH}),
+    Case('-A FORWARD -m conntrack --ctstate INVALID -j ACCEPT', {A: NONE}),
+    Case('-A FORWARD -m conntrack ! --ctstate NEW -j DROP\n-A FORWARD -j ACCEPT', {A: BOTH, LATER: NONE}),
+    Case('-A FORWARD -m conntrack --ctstate DNAT -j ACCEPT', {A: DOUBT}),
+    Case('-A FORWARD -m conntrack --ctstate NEW --ctdir ORIGINAL -j ACCEPT', {A: DOUBT}),
+    Case('-A FORWARD -m conntrack --ctstate NEW -j ACCEPT\nCOMMIT\n*raw\n-A PREROUTING -p udp -j NOTRACK',
+         {A: DOUBT, LATER: DOUBT}),
+    Case('-A FORWARD -f -j ACCEPT', {A: DOUBT}),
+    Case(f'-A FORWARD -i eth0 ! -o eth0 -p tcp -m multiport --dports 22,80 {LIMIT} -j c\n'
+         '-A c ! -s 8.8.0.0/16 -j DROP\n-A c -m multiport -p tcp --sports 1:5,7 -j ACCEPT',
+         {A: NONE, C: DOUBT, B: NONE}, ROUTES),
+)
+
+ODD = ','.join(str(port) for port in range(1, 2000, 2))
+EST = '-m state --state ESTABLISHED'
+ACCEPTING = (  # whether every established packet is seen to be accepted
+    (f'-A FORWARD {EST} -j ACCEPT', True), (f'-A FORWARD -s 10.0.0.0/8 {EST} -j ACCEPT', False), ('', False),
+    (f'-A FORWARD -m state --state NEW -j DROP\n-A FORWARD -p tcp -j ACCEPT\n-A FORWARD {EST} -j ACCEPT', True),
+    (f'-A FORWARD -p tcp -j DROP\n-A FORWARD {EST} -j ACCEPT', False),
+    (f'-A FORWARD {LIMIT} {EST} -j ACCEPT', False), (f'-A FORWARD -j c\n-A c -j LOG\n-A c {EST} -j ACCEPT', True),
+    (f'-A FORWARD -p tcp -j c\n-A c {EST} -j ACCEPT', False), (f'-A FORWARD {LIMIT} -j c\n-A c {EST} -j ACCEPT', False),
+    (f'-A FORWARD -j c\n-A c -p tcp -j RETURN\n-A c {EST} -j ACCEPT', False),
+    (f'-A FORWARD -p tcp -j c\n-A FORWARD {EST} -j ACCEPT\n-A c -p tcp -j ACCEPT', True),
+    (f'-A FORWARD -p tcp -j c\n-A FORWARD {EST} -j ACCEPT\n-A c -p tcp -j DROP', False),
+    (f'-A FORWARD -j NFQUEUE\n-A FORWARD {EST} -j ACCEPT', False))
+HEAD = '*filter\n:FORWARD DROP [0:0]\n:c - [0:0]\n'
+REFUSED = (
+    ('', 'no table filter'), ('*nat\nCOMMIT\n', 'no table filter'), ('iptables -A FORWARD -j DROP\n', 'not in a table'),
+    (HEAD, 'no COMMIT'), ('*nat\n' + HEAD + 'COMMIT\n', 'no COMMIT'),
+    (f'{HEAD}:c - [0:0]\nCOMMIT\n', 'has one'), (f'{HEAD}:d\nCOMMIT\n', 'without a policy'),
+    ('*filter\n:FORWARD - [0:0]\nCOMMIT\n', 'the policy -'),
+    ('# Generated by ip6tables-save v1.8.9\n', 'IPv6'),
+    *((f'{HEAD}{line}\nCOMMIT\n', cause) for line, cause in (
+        ('-A x -j DROP', 'chain x'), ('-I FORWARD -j DROP', 'no line of a save'), ('-A', 'no line of a save'),
+        ('[1:2]', 'no line of a save'), ('-A FORWARD -s fe80::/64 -j DROP', 'a wrong value'),
+        ('-A FORWARD -s 10.0.0.300 -j DROP', 'a wrong value'), ('-A FORWARD -s 10.0.0.0/33 -j DROP', 'a wrong value'),
+        ('-A FORWARD -s ! 10.0.0.1,10.0.0.2 -j DROP', '! before a list'),
+        ('-A FORWARD -s 1.1.1.1 -s 1.1.1.2', 'second -s'),
+        ('-A FORWARD -p 256 -j DROP', 'a wrong value'), ('-A FORWARD -p nothing -j DROP', 'a wrong value'),
+        ('-A FORWARD ! -p all -j DROP', 'all protocols'), ('-A FORWARD -p tcp --dport 65536', 'a wrong value'),
+        ('-A FORWARD -p tcp --dport 80:22', 'a wrong value'), ('-A FORWARD -p tcp --dport \u0661', 'a wrong value'),
+        ('-A FORWARD -m conntrack --ctstate OPEN -j DROP', 'a wrong value'),
+        ('-A FORWARD -m icmp --icmp-type 256', 'wrong'),
+        ('-A FORWARD -m iprange --src-range 10.0.0.2-10.0.0.1', 'a wrong value'), ('-A FORWARD -g x', 'no user chain'),
+        ('-A FORWARD -j INPUT', 'no user chain'), ('-A FORWARD -jACCEPT', 'no option'),
+        ('-A FORWARD --jump=ACCEPT', 'no option'),
+        ('-A FORWARD --jum ACCEPT', 'a short spelling'), ('-A FORWARD ACCEPT', 'no option'),
+        ('-A FORWARD -', 'no option'),
+        ('-A FORWARD -j DROP -j ACCEPT', 'second target'), ('-A FORWARD -s', 'missing'), ('-A FORWARD !', 'missing'),
+        ('-A FORWARD -m comment --comment "a', 'a quote'), ('-A FORWARD -j c\n-A c -j c', 'cycle'),
+        (':d - [0:0]\n-A FORWARD -j c\n-A c -j d\n-A d -g c', 'cycle'),
+        (f'-A FORWARD -j c\n-A c -p tcp -m multiport --ports {ODD} -m iprange --src-range 1.0.0.1-223.255.255.254'
+         ' -m iprange --dst-range 1.0.0.1-223.255.255.254 -j RETURN', 'would be written'))))
+BAD_TABLES = ('eth0', 'eth0 10.0.0.0/33', 'eth0 x', 'default dev', 'eth0 rest\neth1 rest',
+              'eth0 10.0.0.0/8\neth1 10.0.0.0/8')
+
+# Each replaces code by other code, in a module of topos_tools. The test has to fail.
+WRONG = (
+    ('multiport without !', 'options',
+     'given = complement(numbers, greatest) if self.is_negated else numbers', 'given = numbers'),
+    ('iprange is one short', 'words', 'return (bounds,)', 'return ((bounds[0], bounds[1] - 1),)'),
+    ('-o is the sender', 'options', "reader.read_interface('destinations')", "reader.read_interface('sources')"),
+    ('--ports asks for both', 'options',
+     'restricted(with_source if is_negated else self.pieces,', 'restricted(with_source,'),
+    ('! --ports asks for one', 'options', 'self.pieces = of_destination if is_negated else', 'self.pieces ='),
+    ('goto continues below', 'bounds', ", Step(rule, returned, '', rule.pieces)]", ']'),
+    ('RETURN of FORWARD returns', 'bounds', "policy if chain == 'FORWARD' else Action.RETURN", 'Action.DROP'),
+    ('a doubt is forgotten', 'options',
+     "self.pieces = in_doubt(self.pieces, ' '.join([module, *options]).strip())", 'pass'),
+    ('a RETURN in doubt is sure', 'bounds', 'if any(map(self.takes, self.steps[chain][place + 1:])):', 'if False:'),
+    ('a RETURN in doubt is left out', 'bounds',
+     'elif copy.is_plain:\n            self.write', 'elif False:\n            self.write'),
+    ('a chain in doubt gives both verdicts', 'bounds',
+     'self.name(Copy(step.target, False))', 'self.name(Copy(step.target, True))'),
+    ('a jump in doubt is left out', 'bounds',
+     'elif self.may_take[step.target]:', 'elif is_sure and self.may_take[step.target]:'),
+    ('a copy in doubt gives both verdicts', 'bounds', 'self.other if copy.is_plain else Action.RETURN', 'self.other'),
+    ('both verdicts are taken in doubt', 'bounds',
+     'if is_sure:\n                self.add(name, piece, self.other',
+     'if True:\n                self.add(name, piece, self.other'),
+    ('no verdict is taken in doubt', 'bounds',
+     'if step.action is self.taken:', 'if step.action is self.taken and is_sure:'),
+    ('no copy differs', 'bounds',
+     'self.is_same[chain] = all(map(self.stays, self.steps[chain]))', 'self.is_same[chain] = True'),
+    ('NFQUEUE accepts', 'bounds', "pieces = in_doubt(rule.pieces, f'target {rule.target}')", 'pieces = rule.pieces'),
+    ('exceptions are left out', 'text', "self.add_line(helper, (exception,), 'RETURN', rule, ())", 'pass'),
+    ('INVALID is new', 'options',
+     'matching = frozenset(BOTH & names)',
+     "matching = frozenset(BOTH & names | ({NEW} if 'INVALID' in names else set()))"),
+    ('a query of ICMP is sure', 'options',
+     "split_states(BOTH - unsure if self.is_negated else frozenset(), unsure, f'icmp",
+     "split_states(BOTH, frozenset(), f'icmp"),
+    ('the policy is ACCEPT', 'text', "f':FORWARD {self.policy} [0:0]'", "':FORWARD ACCEPT [0:0]'"),
+    ('options behind a target are skipped', 'options',
+     'return self.rule.action not in (Action.CONTINUE, Action.UNKNOWN)', 'return False'),
+    ('the shortest prefix has an address', 'tables',
+     'sorted(routes.items(), key=lambda route:', 'sorted(routes.items(), key=lambda route: -1 *'),
+    ('nomatch is taken first', 'tables',
+     'key=lambda each: each[0][0][0] - each[0][0][1]', 'key=lambda each: each[0][0][1] - each[0][0][0]'),
+    ('a mask of a set is forgotten', 'tables', 'WITH_VALUE = {', "WITH_VALUE = {'netmask', "),
+    ('a changed set is sure', 'save', 'if name not in changed}', '}'),
+    ('untracked packets have a state', 'save', 'any(NOT_TRACKED.search(each.text) for each in self.others)', 'False'),
+    ('ports of SCTP are forgotten', 'options', "self.doubt(f'{option} {word}')\n            return", 'return'),
+    ('a flag of a later packet is decided', 'options', 'or masked - DECIDED_FLAGS:', 'and masked - DECIDED_FLAGS:'),
+)

@@ -1,0 +1,33 @@
+"""Reads the files of an import."""
+import os
+
+from .import_save import Save
+from .import_tables import Interfaces, read_sets
+from .import_words import Refused
+from .query import NO_FILE, Stopped
+
+LONGEST_RULES = 67_108_864  # bytes of a text of rules that `topos` reads
+
+
+def read_text(path: str) -> str:
+    """Returns the text of a file, or of the standard input for `-`. Bytes that are no UTF-8 stay apart."""
+    try:
+        with open(0, 'rb', closefd=False) if path == '-' else open(path, 'rb') as file:
+            data = file.read(LONGEST_RULES + 1)
+    except OSError:
+        raise Stopped(f'cannot read {path}', NO_FILE) from None
+    if len(data) > LONGEST_RULES:
+        raise Refused(f'{path} is longer than {LONGEST_RULES} bytes')
+    return data.decode('utf-8', errors='surrogateescape')
+
+
+def file_name(path: str) -> str:
+    """Returns the name of a file for a line of a text."""
+    name = 'the input' if path == '-' else os.path.basename(path)
+    return ''.join(letter if letter.isprintable() else '?' for letter in name)
+
+
+def import_save(text: str, interfaces: str | None, sets: str | None, is_syn_first: bool) -> Save:
+    """Reads a save with the tables in the two files, if they are named."""
+    return Save(text, Interfaces(read_text(interfaces)) if interfaces else None,
+                read_sets(read_text(sets)) if sets else None, is_syn_first)

@@ -1,0 +1,112 @@
+"""Reports what became of each line of a save."""
+from collections.abc import Iterator
+
+from .import_pieces import Action, Piece, Rule
+from .import_save import OtherRule, Save
+
+IN_DOUBT = {
+    Action.ACCEPT: 'taken in upper, left out in lower', Action.DROP: 'left out in upper, taken in lower',
+    Action.UNKNOWN: 'ACCEPT in upper, DROP in lower'}
+VERDICTS = {Action.ACCEPT, Action.DROP, Action.RETURN, Action.GOTO}
+REWRITES = {
+    **dict.fromkeys(('DNAT', 'REDIRECT', 'NETMAP', 'TPROXY', 'DNPT'), 'FORWARD sees the address behind it'),
+    **dict.fromkeys(('SNAT', 'MASQUERADE', 'SNPT'), 'FORWARD sees the address before it'),
+    **dict.fromkeys(('MARK', 'CONNMARK'), 'matches of marks are in doubt')}
+STOPPING = {'DROP', 'REJECT', 'policy DROP', 'TARPIT', 'QUEUE', 'NFQUEUE', 'SYNPROXY'}
+LONGEST = 110  # letters of a rule
+MOST_COMPARED = 1000  # pieces of a chain, each with each
+
+
+def report(save: Save, name: str) -> list[str]:
+    """Returns the lines of the report."""
+    rules = save.all_rules()
+    idle = [rule for rule in rules if rule.action is Action.CONTINUE]
+    never = [rule for rule in rules if rule not in idle and not rule.pieces]
+    doubtful = [rule for rule in rules if rule not in idle and rule.pieces and rule.doubts()]
+    exact = len(rules) - len(idle) - len(never) - len(doubtful)
+    return [f'{name}: rules that FORWARD leads to: exact {exact}, in doubt {len(doubtful)}, never {len(never)}, '
+            f'without effect {len(idle)}',
+            *left_lines(save), *doubtful_lines(doubtful), *never_lines(never), *idle_lines(idle),
+            *related_lines(rules), *shadowed_lines(save), *other_lines(save), *save.notes,
+            *list_lines(save)]
+
+
+def shown(rule: Rule) -> str:
+    text = ''.join(letter if letter.isprintable() else '?' for letter in rule.text)
+    return text if len(text) < LONGEST else text[:LONGEST - 2] + '..'
+
+
+def numbers_of(rules: list[Rule]) -> str:
+    return ('lines ' if len(rules) > 1 else 'line ') + ' '.join(str(rule.line) for rule in rules)
+
+
+def left_lines(save: Save) -> Iterator[str]:
+    counts = ', '.join(f'{chain} ({count})' for chain, count in save.left.items() if count)
+    if counts:
+        yield f'not read, FORWARD does not lead there: {counts}'
+
+
+def doubtful_lines(rules: list[Rule]) -> Iterator[str]:
+    for rule in rules:
+        taken = IN_DOUBT.get(rule.action, 'both are possible')
+        yield f'in doubt: line {rule.line}: {", ".join(rule.doubts())}: {taken}: {shown(rule)}'
+    doubts = {doubt.removeprefix('! ') for rule in rules for doubt in rule.doubts()}
+    unknown = sorted(doubt for doubt in doubts if doubt.startswith('interface '))
+    if unknown:
+        yield f'{", ".join(unknown)}: not in the table of interfaces (--interfaces)'
+
+
+def never_lines(rules: list[Rule]) -> Iterator[str]:
+    for rule in rules:
+        yield f'never: line {rule.line}: {rule.never or "no packet meets all conditions"}: {shown(rule)}'
+
+
+def idle_lines(rules: list[Rule]) -> Iterator[str]:
+    for target in dict.fromkeys(rule.target for rule in rules):
+        of_target = [rule for rule in rules if rule.target == target]
+        yield f'without effect: {target or "no target"}: {numbers_of(of_target)}'
+
+
+def related_lines(rules: list[Rule]) -> Iterator[str]:
+    related = [rule for rule in rules if rule.pieces and any('RELATED' in word for word in rule.text.split())]
+    if related:
+        yield f'RELATED never matches, the other states do: {numbers_of(related)}'
+
+
+def shadowed_lines(save: Save) -> Iterator[str]:
+    """Yields a line for each rule that rules above it in its chain leave no packet."""
+    for rules in save.rules.values():
+        above: list[tuple[Piece, int]] = []
+        for rule in rules:
+            if rule.action is Action.CONTINUE or not rule.pieces:
+                continue
+            if len(above) > MOST_COMPARED:
+                yield f'not looked for below line {above[-1][1]}: rules that others shadow in its chain'
+                break
+            covering = [next((line for piece, line in above if piece.covers(part)), None) for part in rule.pieces]
+            if None not in covering:
+                yield f'shadowed: line {rule.line}: by ' + ' '.join(map(str, dict.fromkeys(covering)))
+            if rule.action in VERDICTS:
+                above += [(piece, rule.line) for piece in rule.sure_pieces()]
+
+
+def other_lines(save: Save) -> Iterator[str]:
+    """Yields a line for each rule of another table that changes what the bounds say."""
+    for each in save.others:
+        effect = effect_of(each)
+        if effect:
+            yield f'table {each.table}, line {each.line}: {each.target} in {each.chain}: {effect}'
+
+
+def effect_of(rule: OtherRule) -> str | None:
+    if rule.target in STOPPING and rule.chain not in ('INPUT', 'OUTPUT'):
+        return 'drops packets, so the box may forward less than lower'
+    if rule.target == 'NOTRACK' or rule.target == 'CT' and '--notrack' in rule.text:
+        return 'exempts packets from tracking, so states are in doubt'
+    return REWRITES.get(rule.target)
+
+
+def list_lines(save: Save) -> Iterator[str]:
+    if not save.accepts_established():
+        yield ('not all established packets are seen to be accepted: the bounds hold for each packet in its state, and '
+               'for lists of packets only if each packet that passes as new passes as established')

@@ -1,0 +1,101 @@
+"""Reads the table of interfaces, and the sets that `ipset save` prints."""
+from collections.abc import Iterable
+
+from .import_sets import ALL_ADDRESSES, MOST_ADDRESS, Numbers, complement, intersection, joined
+from .import_words import Refused, address, address_range, words_of
+
+NO_INTERFACE = {'local', 'broadcast', 'multicast', 'anycast', 'unreachable', 'blackhole', 'prohibit', 'throw', 'nat'}
+REST = {'rest', 'default', '0.0.0.0/0'}
+KINDS = {'hash:ip', 'hash:net', 'bitmap:ip'}
+WITHOUT_VALUE = {'counters', 'comment', 'skbinfo', 'forceadd'}
+WITH_VALUE = {'hashsize', 'maxelem', 'bucketsize', 'initval', 'range'}
+
+
+class Interfaces:
+    """The addresses behind each interface.
+
+    The lines are `IFACE NET ..` and `IFACE rest`, or those of `ip -4 route`. An address is behind the interface with
+    the longest prefix that has it.
+    """
+
+    def __init__(self, text: str) -> None:
+        routes: dict[tuple[tuple[int, int], ...], str] = {}
+        for number, line in enumerate(text.splitlines(), 1):
+            words = line.split('#')[0].split()
+            try:
+                for interface, network in _routes(words):
+                    if routes.setdefault(network, interface) != interface:
+                        raise ValueError
+            except (ValueError, IndexError):
+                raise Refused(f'interfaces: line {number}: {line.strip()[:100]!r}') from None
+        self.networks: dict[str, Numbers] = {interface: () for interface in routes.values()}
+        taken: Numbers = ()
+        for network, interface in sorted(routes.items(), key=lambda route: route[0][0][1] - route[0][0][0]):
+            free = intersection(network, complement(taken, MOST_ADDRESS))
+            self.networks[interface] = joined(self.networks[interface] + free)
+            taken = joined(taken + network)
+
+    def behind(self, name: str) -> Numbers | None:
+        """Returns the addresses behind the interfaces of a name, which may end with `+`; None if there are none."""
+        if name.endswith('+'):
+            found = [part for each, part in self.networks.items() if each.startswith(name[:-1])]
+            return joined(interval for part in found for interval in part) if found else None
+        return self.networks.get(name, () if name == 'lo' else None)  # the box forwards nothing from or to itself
+
+
+def _routes(words: list[str]) -> Iterable[tuple[str, Numbers]]:
+    """Yields the interface and the networks of a line. Fails with ValueError or IndexError."""
+    if not words or words[0] in NO_INTERFACE:
+        return
+    if len(words) < 2:
+        raise ValueError(words[0])
+    is_route = 'dev' in words[1:]
+    interface = words[words.index('dev', 1) + 1] if is_route else words[0]
+    for word in words[:1] if is_route else words[1:]:
+        network = ALL_ADDRESSES if word in REST else address(word)
+        if network is None:
+            raise ValueError(word)
+        yield interface, network
+
+
+def read_sets(text: str) -> dict[str, Numbers]:
+    """Returns the sets of addresses alone that have no timeout. Other sets are absent."""
+    kinds: dict[str, str] = {}
+    entries: dict[str, list[tuple[Numbers, bool]]] = {}
+    for line in text.splitlines():
+        words = [word.text for word in words_of(line)]
+        if words[:1] == ['create'] and len(words) > 2 and _is_plain(words[2], words[3:]):
+            kinds[words[1]], entries[words[1]] = words[2], []
+        elif words[:1] == ['add'] and len(words) > 2 and words[1] in entries:
+            entry = _entry(kinds[words[1]], words[2])
+            if entry is None:
+                del entries[words[1]]
+            else:
+                entries[words[1]].append((entry, 'nomatch' in words[3:]))
+    return {name: _addresses(given) for name, given in entries.items()}
+
+
+def _is_plain(kind: str, options: list[str]) -> bool:
+    """Whether a set has addresses that neither a mask nor a timeout changes."""
+    words = iter(options)
+    for word in words:
+        if word in WITH_VALUE:
+            next(words, None)
+        elif not (word in WITHOUT_VALUE or word == 'family' and next(words, None) == 'inet'):
+            return False
+    return kind in KINDS
+
+
+def _entry(kind: str, word: str) -> Numbers | None:
+    try:
+        return address_range(word) if '-' in word and kind != 'hash:net' else address(word)
+    except ValueError:
+        return None
+
+
+def _addresses(entries: list[tuple[Numbers, bool]]) -> Numbers:
+    """Returns the addresses of the entries. The longest prefix with an address decides, so it is taken last."""
+    found: Numbers = ()
+    for entry, is_exception in sorted(entries, key=lambda each: each[0][0][0] - each[0][0][1]):
+        found = intersection(found, complement(entry, MOST_ADDRESS)) if is_exception else joined(found + entry)
+    return found
