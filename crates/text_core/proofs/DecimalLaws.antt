@@ -1,4 +1,4 @@
--- Laws of decimal numbers: a text is read as a number exactly where it is the number's decimal text.
+-- Lemmas on decimal numbers: a string is parsed to a number if and only if it is the decimal notation of the number.
 use Rattle.std.proofs.Common.{◌≡◌, ℕ, ◌≤◌, ◌<◌, ◌^◌, true, false, ◌&&◌, nat_eq, nat_le, Option, IfSome, List, [], ◌∷◌, Some, None, refl, sym, ◌∙◌, ap, arith, rules}
 use Rattle.std.specs.Prelude.{bytes_eq}
 use Rattle.std.specs.Fmt.{decimal}
@@ -16,11 +16,11 @@ use Rattle.text_core.proofs.FirstsLaws.{where_parts}
 use Rattle.text_core.proofs.PiecesLaws.{lacks}
 use Rattle.text_core.proofs.StepsLaws.{bytes_same, bytes_own}
 
--- digits in the words of the reader
+-- Digits, in terms of the parser.
 pub own : IsNumeralModel (λ ds. all_ascii_digits ds ≡ true) (value_from 0)
 own = numerals_by_fold _ (search rules) value_from (search rules)
 
--- a number, where a text is its decimal
+-- A number, if a string is its decimal notation.
 abbrev told : ℕ → List ℕ → ℕ → Option ℕ
 told most text n = where_holds (bytes_eq text (decimal n) && nat_le n most) n
 
@@ -29,7 +29,7 @@ told_own most n h =
     let small : nat_le n most ≡ true = grind (arith, nat_tests) in
     rw (bytes_own (decimal n), small) refl
 
--- what is written is read
+-- A formatted number is parsed.
 pub number-decimal : (most n : ℕ) → n ≤ most → n < 2 ^ 64 → number most (decimal n) ≡ Some n
 unfolding number
 number-decimal most n h fits = ap (told most (decimal n)) (decimal_is_IsNumeral n fits).1 ∙ told_own most n h
@@ -37,7 +37,7 @@ number-decimal most n h fits = ap (told most (decimal n)) (decimal_is_IsNumeral 
 within : (n most : ℕ) → nat_le n most ≡ true → n ≤ most
 within n most h = grind (arith, nat_tests)
 
--- what is read was written
+-- A parsed number is formatted as the string.
 pub decimal_of_number : (most : ℕ) (bs : List ℕ) (n : ℕ) → most < 2 ^ 64 → number most bs ≡ Some n → (bs ≡ decimal n) × (n ≤ most)
 unfolding number
 decimal_of_number most bs n small read =
@@ -46,7 +46,7 @@ decimal_of_number most bs n small read =
     let (same, bounded) = and_parts (bytes_eq bs (decimal m)) (nat_le m most) parts.0 in
     (bytes_same bs (decimal m) same ∙ ap decimal parts.1, within n most (ap (λ k. nat_le k most) (sym parts.1) ∙ bounded))
 
--- a decimal text has digits alone
+-- A decimal string consists of digits.
 pub decimal_digits : (n : ℕ) → n < 2 ^ 64 → all_ascii_digits (decimal n) ≡ true
 decimal_digits n fits = digits_decimal own n fits
 
@@ -56,7 +56,7 @@ digits_parts b bs digits = grind (arith, nat_tests)
 digit_apart : (mark b : ℕ) → is_ascii_digit mark ≡ false → is_ascii_digit b ≡ true → nat_eq b mark ≡ false
 digit_apart mark b other digit = grind (arith, nat_tests)
 
--- a mark that is no digit stands in no digits
+-- A string of digits does not contain a separator that is no digit.
 pub digits_lack : (mark : ℕ) (bs : List ℕ) → is_ascii_digit mark ≡ false → all_ascii_digits bs ≡ true → lacks mark bs ≡ true
 digits_lack mark [] other digits = refl
 digits_lack mark (b ∷ bs) other digits =
@@ -67,7 +67,7 @@ digits_lack mark (b ∷ bs) other digits =
 pub decimal_lacks : (mark n : ℕ) → is_ascii_digit mark ≡ false → n < 2 ^ 64 → lacks mark (decimal n) ≡ true
 decimal_lacks mark n other fits = digits_lack mark (decimal n) other (decimal_digits n fits)
 
--- the two directions for an answer that is the number of a text
+-- The two directions for a result that is the number of a string.
 pub number_said : (most : ℕ) (bs : List ℕ) (r : Option ℕ) → most < 2 ^ 64 → r ≡ number most bs → IfSome r (λ n. bs ≡ decimal n)
 number_said most bs None small e = tt
 number_said most bs (Some n) small e = (decimal_of_number most bs n small (sym e)).0

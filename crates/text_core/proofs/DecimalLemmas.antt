@@ -1,4 +1,4 @@
--- How reading goes on over one more byte, and where it ends.
+-- Parsing one more byte, and the end of parsing.
 use Rattle.std.proofs.Common.{◌≡◌, ℕ, suc, ◌+◌, ◌*◌, ◌-◌, ◌≤◌, ◌<◌, ◌^◌, true, false, List, [], ◌∷◌, Option, Some, None, refl, sym, ap, ◌∙◌, inl, inr, length, get_or, drop, drop-cons, add-one, arith, nat_eq}
 use Rattle.std.proofs.Math.ListN.{drop_of_length-le}
 use Rattle.std.specs.Char.{is_ascii_digit}
@@ -32,7 +32,7 @@ pub bounded_value_large : (most n : ℕ) (bs : List ℕ) → most < n → bounde
 unfolding bounded_value
 bounded_value_large most n bs h = grind (arith, nat_tests, value_from_le n bs)
 
--- the same at a place in a text
+-- The same at an index of a string.
 pub digit_read : (most n i : ℕ) (bs : List ℕ) → i < length bs → is_ascii_digit (get_or bs i 0) ≡ true → bounded_value most (10 * n + (get_or bs i 0 - 48)) (drop (i + 1) bs) ≡ bounded_value most n (drop i bs)
 digit_read most n i bs h digit =
     sym (rw (drop-cons bs i 0, ← add-one i) (bounded_value_digit most n (get_or bs i 0) (drop (i + 1) bs) digit))
@@ -44,7 +44,7 @@ other_read most n i bs h other =
 pub end_read : (most n i : ℕ) (bs : List ℕ) → length bs ≤ i → n ≤ most → bounded_value most n (drop i bs) ≡ Some n
 end_read most n i bs h bounded = rw (drop_of_length-le bs h) (bounded_value_end most n bounded)
 
--- an empty text, one byte, and more
+-- An empty string, one byte, and more.
 pub padded_none : (bs : List ℕ) → length bs ≡ 0 → is_empty_or_padded bs ≡ true
 padded_none [] h = refl
 padded_none (b ∷ bs) h = absurd (omega arith)
@@ -59,7 +59,7 @@ padded_more [] h = absurd (omega arith)
 padded_more (b ∷ []) h = absurd (omega arith)
 padded_more (b ∷ c ∷ bs) h = refl
 
--- a decimal text has no zero in front of more
+-- A decimal string has no leading zero.
 not_padded : (bs : List ℕ) → 0 < length bs → 48 < get_or bs 0 0 → is_empty_or_padded bs ≡ false
 not_padded [] h high = absurd (omega arith)
 not_padded (b ∷ []) h high = refl
@@ -75,7 +75,7 @@ bounded_gives : (most n : ℕ) (bs : List ℕ) → all_ascii_digits bs ≡ true 
 unfolding bounded_value
 bounded_gives most n bs digits value h = grind (arith, nat_tests)
 
--- what digits that were read say
+-- The number of the digits parsed so far.
 record IsRead (most : ℕ) (bs : List ℕ) (n : ℕ) : Type 0 where
   digits : all_ascii_digits bs ≡ true
   value : value_from 0 bs ≡ n
@@ -108,7 +108,7 @@ written_read most bs n small said =
     let fits : n < 2 ^ 64 = omega (arith, told.1, small) in
     ap (bounded_value most 0) told.0 ∙ bounded_gives most n (decimal n) (digits_decimal own n fits) (digits_value-decimal own n fits) told.1
 
--- the two cases of a number's text
+-- The two cases of a number's string.
 pub number_plain : (most : ℕ) (bs : List ℕ) → most < 2 ^ 64 → is_empty_or_padded bs ≡ false → bounded_value most 0 bs ≡ number most bs
 number_plain most bs small front =
     same_options (bounded_value most 0 bs) (number most bs) (λ n. digits_written most bs n small front) (λ n. written_read most bs n small)

@@ -1,4 +1,5 @@
--- Laws of the first pair: it is what its definition says, and among what was made of elements it is made of the first pair of elements.
+-- Lemmas on the first conflict: it agrees with its definition, and the first conflict of mapped elements is the image of the first conflict
+-- of the elements.
 use Rattle.std.proofs.Common.{◌≡◌, ℕ, ◌+◌, Bool, true, false, cond, not, List, [], ◌∷◌, ◌++◌, map, Option, Some, None, option_map, refl, sym, ap, subst, ◌∙◌, append_assoc}
 use Rattle.std.proofs.lemmas.List.{map-append}
 use Rattle.std.specs.List.{find, list_all}
@@ -9,7 +10,7 @@ use Rattle.text_core.specs.inner.Pairs.{IsFirstPair, no_pair}
 use Rattle.text_core.proofs.FirstsLaws.{no_pair_numbered, none_barred, none_found, some_same}
 use Rattle.text_core.proofs.PairLaws.{no_pair-push}
 
--- a pair among what was made of elements is made of the pair of elements
+-- A conflict of mapped elements is the image of a conflict of the elements.
 abbrev pub pair_made : {A B : Type 0} → (A → B) → Pair A → Pair B
 pair_made f p = record { later = f p.later; earlier = f p.earlier }
 
@@ -53,7 +54,7 @@ first_numbered_pair-map {A} {B} bars f xs =
     ap (first_pair (λ (x y : Numbered B). bars x.what y.what)) (numbered_from-map f 1 xs)
     ∙ first_pair-map (λ (x y : Numbered B). bars x.what y.what) (numbered_made f) (numbered xs)
 
--- the elements of a pair that was found among numbered ones
+-- The elements of a conflict among numbered elements.
 whats_from : {A : Type 0} (k : ℕ) (xs : List A) → map (λ (n : Numbered A). n.what) (numbered_from k xs) ≡ xs
 whats_from k [] = refl
 whats_from k (x ∷ xs) = ap (λ ys. x ∷ ys) (whats_from (k + 1) xs)
@@ -67,7 +68,7 @@ option_map_twice : {A B C : Type 0} (g : B → C) (f : A → B) (o : Option A) �
 option_map_twice g f None = refl
 option_map_twice g f (Some x) = refl
 
--- what is told of a pair among what was made of elements
+-- The report of a conflict among mapped elements.
 pub told_numbered : {A B C : Type 0} (bars : B → B → Bool) (f : A → B) (tell : Pair (Numbered B) → C) (xs : List A) (o : Option (Pair (Numbered A)))
     → o ≡ first_pair (λ (x y : Numbered A). bars (f x.what) (f y.what)) (numbered xs)
     → option_map (λ p. tell (pair_made (numbered_made f) p)) o ≡ option_map tell (first_pair (λ (x y : Numbered B). bars x.what y.what) (numbered (map f xs)))
@@ -86,7 +87,7 @@ told {A} bars f tell xs o h =
     ∙ sym (option_map_twice tell (pair_made f) (first_pair (λ x y. bars (f x) (f y)) xs))
     ∙ ap (option_map tell) (sym (first_pair-map bars f xs))
 
--- an element that is found, between those before it that do not pass and the others
+-- An element that is found, between those before it that fail the test and the others.
 record IsFound {A : Type 0} (p : A → Bool) (xs : List A) (y : A) : Type 0 where
   before : List A
   behind : List A
@@ -112,7 +113,7 @@ is_found : {A : Type 0} (p : A → Bool) (xs : List A) (y : A) → find p xs ≡
 is_found p [] y found = cc
 is_found p (x ∷ xs) y found = found_step p x xs y (p x) refl found (is_found p xs y)
 
--- the pair, after elements of which none bars a later one
+-- The conflict, after elements that have none.
 pair_step : {A : Type 0} (bars : A → A → Bool) (before : List A) (x : A) (xs : List A) (p : Pair A) (found : Option A) → find (bars x) before ≡ found → no_pair bars before ≡ true
     → option_or (option_map (λ y. record { later = x; earlier = y }) found) (first_pair_behind bars (before ++ x ∷ []) xs) ≡ Some p
     → (no_pair bars (before ++ x ∷ []) ≡ true → first_pair_behind bars (before ++ x ∷ []) xs ≡ Some p → IsFirstPair bars ((before ++ x ∷ []) ++ xs) p)
@@ -141,7 +142,7 @@ pair_behind bars before (x ∷ xs) p apart is =
 pub IsFirstPair-first_pair : {A : Type 0} (bars : A → A → Bool) (xs : List A) (p : Pair A) → first_pair bars xs ≡ Some p → IsFirstPair bars xs p
 IsFirstPair-first_pair bars xs p is = pair_behind bars [] xs p refl is
 
--- of a pair that is seen as something else
+-- For a conflict that is mapped to something else.
 pub IfSome-first_pair : {A B : Type 0} (seen : B → Pair A) (bars : A → A → Bool) (xs : List A) (r : Option B) → option_map seen r ≡ first_pair bars xs → IfSome r (λ p. IsFirstPair bars xs (seen p))
 IfSome-first_pair seen bars xs None is = tt
 IfSome-first_pair seen bars xs (Some p) is = IsFirstPair-first_pair bars xs (seen p) (sym is)

@@ -1,4 +1,4 @@
--- Laws of firsts: where there is no first, there is none at all: no element meets the condition, and no element is barred.
+-- Lemmas on first matches: if there is no first match, no element satisfies the condition, and no two elements conflict.
 use Rattle.std.proofs.Common.{◌≡◌, ℕ, ◌+◌, Bool, true, false, cond, not, ◌&&◌, List, [], ◌∷◌, ◌++◌, Option, Some, None, option_map, refl, sym, ◌∙◌}
 use Rattle.std.proofs.lemmas.Bool.{and_parts}
 use Rattle.std.proofs.lemmas.List.Folds.{list_all-append}
@@ -15,7 +15,7 @@ pub none_mapped : {A B : Type 0} (f : A → B) (o : Option A) → option_map f o
 none_mapped f None h = refl
 none_mapped f (Some x) h = cc
 
--- the condition does not hold
+-- The condition does not hold.
 pub holds_not : {A : Type 0} (holds : Bool) (x : A) → where_holds holds x ≡ None → holds ≡ false
 holds_not true x h = cc
 holds_not false x h = refl
@@ -23,7 +23,7 @@ holds_not false x h = refl
 pub some_same : {A : Type 0} (x y : A) → Some x ≡ Some y → x ≡ y
 some_same x y h = cc
 
--- the condition holds, and the answer is this one
+-- The condition holds, and this is the result.
 pub where_parts : {A : Type 0} (holds : Bool) (x y : A) → where_holds holds x ≡ Some y → (holds ≡ true) × (x ≡ y)
 where_parts true x y h = (refl, some_same x y h)
 where_parts false x y h = cc
@@ -32,7 +32,7 @@ missed : {A : Type 0} (t : Bool) (x : A) (o : Option A) → cond t (Some x) o �
 missed true x o h = cc
 missed false x o h = (refl, h)
 
--- no element meets the condition
+-- No element satisfies the condition.
 pub none_found : {A : Type 0} (p : A → Bool) (xs : List A) → find p xs ≡ None → list_all (λ x. not (p x)) xs ≡ true
 none_found p [] h = refl
 none_found p (x ∷ xs) h =
@@ -50,7 +50,7 @@ all_true : {A : Type 0} (xs : List A) → list_all (λ x. true) xs ≡ true
 all_true [] = refl
 all_true (x ∷ xs) = all_true xs
 
--- no element bars a later one, and none of those before does
+-- No element conflicts with a later one, and none of those before does.
 unbarred_behind : {A : Type 0} (bars : A → A → Bool) (before xs : List A) → first_pair_behind bars before xs ≡ None
     → (no_pair bars xs ≡ true) × (list_all (λ y. list_all (λ x. not (bars x y)) xs) before ≡ true)
 unbarred_behind bars before [] h = (refl, all_true before)
@@ -64,11 +64,11 @@ unbarred_behind {A} bars before (x ∷ xs) h =
     let (own, _) = and_parts (unbarring x) true last in
     (rw (own, rest), both (λ y. not (bars x y)) unbarring before unbarred earlier)
 
--- no element bars a later one
+-- No element conflicts with a later one.
 pub none_barred : {A : Type 0} (bars : A → A → Bool) (xs : List A) → first_pair bars xs ≡ None → no_pair bars xs ≡ true
 none_barred bars xs h = (unbarred_behind bars [] xs h).0
 
--- tests of numbered elements that do not look at their numbers
+-- Tests of numbered elements that do not depend on the numbers.
 pub all_numbered : {A : Type 0} (p : A → Bool) (k : ℕ) (xs : List A) → list_all (λ (x : Numbered A). p x.what) (numbered_from k xs) ≡ list_all p xs
 all_numbered p k [] = refl
 all_numbered p k (x ∷ xs) = rw (all_numbered p (k + 1) xs)

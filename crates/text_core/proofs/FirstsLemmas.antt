@@ -1,10 +1,10 @@
--- How the search for an element that bars another goes on over one more element.
+-- The search for a conflicting element, extended by one element.
 use Rattle.std.proofs.Common.{◌≡◌, ℕ, suc, ◌+◌, ◌<◌, ◌≤◌, Bool, true, false, List, [], ◌∷◌, ◌++◌, get_or, length, take, drop, drop-cons, add-one, find, Some, None, refl, sym, ap, ◌∙◌, arith}
 use Rattle.std.proofs.Math.ListN.{drop_of_length-le}
 use Rattle.std.proofs.lemmas.List.{length-take-le, take_more}
 use Rattle.text_core.specs.Firsts.{Numbered, first_pair_behind, numbered, numbered_from}
 
--- the rest of a list begins with the element at its place
+-- The rest of a list begins with the element at the index.
 pub drop_is : {A : Type 0} (xs : List A) (i : ℕ) (x : A) → i < length xs → x ≡ get_or xs i x → drop i xs ≡ x ∷ drop (suc i) xs
 drop_is xs i x within e = drop-cons xs i x within ∙ ap (λ y. y ∷ drop (suc i) xs) (sym e)
 
@@ -36,7 +36,7 @@ front_is xs i x within e =
     ∙ numbered_from-push 1 (take i xs) x
     ∙ ap (λ n. numbered (take i xs) ++ record { number = n; what = x } ∷ []) (omega (arith, length-take-le i xs (omega arith)))
 
--- the step of the search for a pair
+-- The step of the search for a conflict.
 pub pair_here : {A : Type 0} (test : A → A → Bool) (xs : List A) (i : ℕ) (x : A) (y : Numbered A) → i < length xs → x ≡ get_or xs i x
     → find (λ (z : Numbered A). test x z.what) (numbered (take i xs)) ≡ Some y
     → first_pair_behind (λ (a b : Numbered A). test a.what b.what) (numbered (take i xs)) (numbered_from (i + 1) (drop i xs)) ≡ Some (record { later = record { number = i + 1; what = x }; earlier = y })

@@ -1,4 +1,4 @@
--- What stands at a place of a list with more behind it.
+-- The element at an index of a list with more elements at the end.
 use Rattle.std.proofs.Common.{◌≡◌, ℕ, zero, suc, ◌<◌, ◌⊎◌, inl, inr, List, [], ◌∷◌, ◌++◌, length, slice_get, Some, refl, ap, arith}
 use Rattle.std.proofs.lemmas.Option.{same_Some}
 

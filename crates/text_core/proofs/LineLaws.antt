@@ -1,4 +1,4 @@
--- Laws of lines: pieces that are cut one after another are the whole text, cut once.
+-- Lemmas on lines: parts that are truncated in sequence are the whole string, truncated once.
 use Rattle.std.proofs.Common.{◌≡◌, ℕ, zero, suc, ◌≤◌, ◌∙◌, List, [], ◌∷◌, ◌++◌, take, length, refl, sym, ap, arith, append-nil, length-take}
 use Rattle.std.proofs.lemmas.List.{take_all}
 use Rattle.text_core.specs.inner.Line.{cut}
@@ -12,18 +12,18 @@ pub cut_cut : (room : ℕ) (a b : List ℕ) → cut room (cut room a ++ b) ≡ c
 unfolding cut
 cut_cut room a b = take_front room a b
 
--- a text that fits is whole
+-- A string that fits is complete.
 pub cut_whole : (room : ℕ) (a : List ℕ) → length a ≤ room → cut room a ≡ a
 unfolding cut
 cut_whole room a fits = take_all room a fits
 
--- a piece of no bytes leaves the line as it was
+-- An empty part leaves the line unchanged.
 pub nothing_put : (room at : ℕ) (buffer : List ℕ) → at ≤ room → take at buffer ≡ cut room (take at buffer ++ [])
 nothing_put room at buffer h =
     let short : length (take at buffer) ≤ room = omega (arith, length-take at buffer) in
     sym (ap (cut room) (append-nil (take at buffer)) ∙ cut_whole room (take at buffer) short)
 
--- a line of at most `most` bytes stands whole in the buffer
+-- A line of at most `most` bytes is complete in the buffer.
 pub record IsWhole (most : ℕ) (buffer line : List ℕ) (end : ℕ) : Type 0 where
   pub same : take end buffer ≡ line
   pub short : end ≤ most

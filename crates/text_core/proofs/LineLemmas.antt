@@ -1,4 +1,4 @@
--- What one piece of a line leaves in the buffer.
+-- The effect of one part of a line on the buffer.
 use Rattle.std.proofs.Common.{◌≡◌, ℕ, ◌+◌, ◌-◌, ◌<◌, ◌≤◌, min, List, [], ◌∷◌, ◌++◌, take, set, length, ap, sym, ◌∙◌, arith, length-append, length-take}
 use Rattle.std.proofs.lemmas.List.{take_all, take_min, take_more_set, take-append-le, length-take-le}
 use Rattle.std.proofs.lemmas.Slice.{take-put_mid}
@@ -7,7 +7,7 @@ use Rattle.text_core.specs.inner.Line.{cut}
 use Rattle.text_core.proofs.LineLaws.{cut_whole}
 use borrow.Rule.Slice.PartMut.{put_mid}
 
--- a piece goes in as far as there is room after what stands already
+-- A part is written as far as it fits after the bytes so far.
 pub cut_piece : (room at : ℕ) (front piece : List ℕ) → length front ≡ at → at ≤ room
     → cut room (front ++ piece) ≡ front ++ take (room - at) piece
 unfolding cut
@@ -25,14 +25,14 @@ piece_put room at fits old piece new h whole e written =
     ∙ ap (λ bs. take at old ++ bs) taken
     ∙ sym (cut_piece room at (take at old) piece front h)
 
--- a byte goes in where there is room for it
+-- A byte is written if it fits.
 pub byte_put : (room at byte : ℕ) (old : List ℕ) → length old ≡ room → at < room → take (at + 1) (set old at byte) ≡ cut room (take at old ++ byte ∷ [])
 byte_put room at byte old whole there =
     let front = take at old in
     let short : length (front ++ byte ∷ []) ≤ room = omega (arith, length-append front (byte ∷ []), length-take-le at old (omega arith)) in
     take_more_set old at byte (omega arith) ∙ sym (cut_whole room (front ++ byte ∷ []) short)
 
--- and is left out where the buffer is full
+-- It is dropped if the buffer is full.
 pub byte_left : (room at byte : ℕ) (old : List ℕ) → length old ≡ room → at ≡ room → take at old ≡ cut room (take at old ++ byte ∷ [])
 unfolding cut
 byte_left room at byte old whole full =

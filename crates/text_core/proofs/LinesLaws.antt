@@ -1,4 +1,4 @@
--- Laws of lines and words: how the first is taken off.
+-- Lemmas on lines and tokens: removal of the first one.
 use Rattle.std.proofs.Common.{◌≡◌, ℕ, ◌+◌, zero, suc, ◌<◌, ◌≤◌, Bool, true, false, nat_eq, not, ◌&&◌, cond, append-nil, List, [], ◌∷◌, ◌++◌, Option, Some, None, length, get_or, take, drop, refl, sym, ap, ◌∙◌, arith}
 use Rattle.std.specs.List.{onto_first, position, position_or_len}
 use Rattle.std.specs.Option.{option_map}
@@ -11,25 +11,25 @@ use Rattle.text_core.specs.inner.Pieces.{split_once}
 use Rattle.text_core.proofs.PiecesLaws.{lacks, lacks_parts, split_once_joined, split_once_front}
 use Rattle.text_core.specs.Lines.{lines, is_blank, ends_word, words}
 
--- a line and what stands after its end
+-- A line and the rest after its end.
 pub lines_ended : (l bs : List ℕ) → lacks 10 l ≡ true → lines (l ++ 10 ∷ bs) ≡ l ∷ lines bs
 lines_ended [] bs h = refl
 lines_ended (b ∷ l) bs h =
     let parts = lacks_parts 10 b l h in
     rw (parts.0, lines_ended l bs parts.1) refl
 
--- a last line without its end
+-- A last line without its end.
 pub lines_last : (b : ℕ) (l : List ℕ) → lacks 10 (b ∷ l) ≡ true → lines (b ∷ l) ≡ (b ∷ l) ∷ []
 lines_last b [] h = let parts = lacks_parts 10 b [] h in rw parts.0 refl
 lines_last b (c ∷ l) h =
     let parts = lacks_parts 10 b (c ∷ l) h in
     rw (parts.0, lines_last c l parts.1) refl
 
--- the lines by the first cut at byte 10
+-- The lines, by splitting at the first byte 10.
 pub lines_cut : (bs l rest : List ℕ) → split_once 10 bs ≡ Some (l, rest) → lines bs ≡ l ∷ lines rest
 lines_cut bs l rest cut = ap lines (split_once_joined 10 bs l rest cut) ∙ lines_ended l rest (split_once_front 10 bs l rest cut)
 
--- a text that is not cut is one line
+-- A string that is not split is one line.
 none_parts : (t : Bool) (p : List ℕ × List ℕ) (f : List ℕ × List ℕ → List ℕ × List ℕ) (r : Option (List ℕ × List ℕ)) → cond t (Some p) (option_map f r) ≡ None → (t ≡ false) × (r ≡ None)
 none_parts true p f r h = cc
 none_parts false p f None h = (refl, refl)
@@ -45,14 +45,14 @@ pub lines_whole : (bs : List ℕ) → 0 < length bs → split_once 10 bs ≡ Non
 lines_whole [] some h = absurd (omega arith)
 lines_whole (b ∷ bs) some h = lines_last b bs (none_lacks 10 (b ∷ bs) h)
 
--- blanks in front are passed over
+-- Leading blanks are skipped.
 pub words_past_blanks : (i : ℕ) (bs : List ℕ) → ((k : ℕ) → k < i → is_blank (get_or bs k 0) ≡ true) → i ≤ length bs → words (drop i bs) ≡ words bs
 words_past_blanks zero bs h within = refl
 words_past_blanks (suc i) [] h within = refl
 words_past_blanks (suc i) (b ∷ bs) h within =
     rw (h 0 (omega arith)) (words_past_blanks i bs (λ k below. h (suc k) (omega arith)) (omega arith))
 
--- no byte of the text is a blank
+-- No byte of the string is a blank.
 abbrev pub has_no_blank : List ℕ → Bool
 has_no_blank [] = true
 has_no_blank (b ∷ bs) = not (is_blank b) && has_no_blank bs
@@ -60,7 +60,7 @@ has_no_blank (b ∷ bs) = not (is_blank b) && has_no_blank bs
 pub no_blank_parts : (b : ℕ) (bs : List ℕ) → has_no_blank (b ∷ bs) ≡ true → (is_blank b ≡ false) × (has_no_blank bs ≡ true)
 no_blank_parts b bs h = grind (arith, nat_tests)
 
--- a word in front of a blank or at the end
+-- A token before a blank or at the end.
 pub words_of_word : (b : ℕ) (w rest : List ℕ) → has_no_blank (b ∷ w) ≡ true → ends_word rest ≡ true → words ((b ∷ w) ++ rest) ≡ (b ∷ w) ∷ words rest
 words_of_word b [] rest h ends = let parts = no_blank_parts b [] h in rw (parts.0, ends) refl
 words_of_word b (c ∷ w) rest h ends =
@@ -69,7 +69,7 @@ words_of_word b (c ∷ w) rest h ends =
     let others = words_of_word c w rest parts.1 ends in
     rw (parts.0, next.0) (ap (onto_first b) (rw next.0 at others))
 
--- the first place of a blank ends the word
+-- The first index of a blank ends the token.
 no_blank_before : (i : ℕ) (bs : List ℕ) → ((k : ℕ) → k < i → is_blank (get_or bs k 0) ≡ false) → i ≤ length bs → has_no_blank (take i bs) ≡ true
 no_blank_before zero bs h within = refl
 no_blank_before (suc i) [] h within = refl
@@ -102,7 +102,7 @@ words_nothing (b ∷ bs) h = rw (h 0 (omega arith)) (words_nothing bs (λ k belo
 unblank : (b : ℕ) → not (is_blank b) ≡ false → is_blank b ≡ true
 unblank b h = grind (arith, nat_tests)
 
--- the same with the place that a search gives
+-- The same with the index that a search returns.
 pub lines_none : (bs : List ℕ) → length bs ≡ 0 → lines bs ≡ []
 lines_none [] h = refl
 lines_none (b ∷ bs) h = absurd (omega arith)
@@ -143,7 +143,7 @@ words_first i bs word h =
 pub words_only : (bs : List ℕ) → 0 < length bs → position is_blank bs ≡ None → words bs ≡ bs ∷ []
 words_only bs some h = words_last bs some (λ k below. fails_before_first is_blank bs k 0 (omega (arith, far is_blank bs h)))
 
--- a text has no more lines than bytes
+-- A text has at most as many lines as bytes.
 onto_first_length : (b : ℕ) (ls : List (List ℕ)) → length (onto_first b ls) ≤ length ls + 1
 onto_first_length b [] = omega arith
 onto_first_length b (l ∷ ls) = omega arith

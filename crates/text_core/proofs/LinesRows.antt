@@ -1,16 +1,16 @@
--- Worked rows: lines, words and comments of small texts.
+-- Test vectors: lines, tokens and comments of small texts.
 use Rattle.std.proofs.Common.{◌≡◌, true, false, [], ◌∷◌, ◌++◌, refl}
 use Rattle.std.specs.Prelude.{codes}
 use Rattle.text_core.specs.Lines.{lines, words, is_comment}
 
--- a last line may lack its end
+-- A last line may lack its end.
 row_last : lines (codes "a" ++ (10 ∷ (10 ∷ codes "b"))) ≡ codes "a" ∷ [] ∷ codes "b" ∷ []
 row_last = refl
 
 row_ended : lines (codes "a" ++ (10 ∷ [])) ≡ codes "a" ∷ []
 row_ended = refl
 
--- runs of blanks part words; byte 13 is none
+-- Runs of blanks separate tokens; byte 13 is no blank.
 row_words : words (codes " a  b" ++ (9 ∷ (codes "c" ++ (13 ∷ [])))) ≡ codes "a" ∷ codes "b" ∷ (codes "c" ++ (13 ∷ [])) ∷ []
 row_words = refl
 

@@ -1,4 +1,4 @@
--- A text that lists entries has one reading or one first fault, where a line tells one entry at most, and what tells one has its form.
+-- A list file has either a parse result or a first error, if a line encodes at most one entry, and a line that encodes one has its shape.
 use Rattle.std.proofs.Common.{◌≡◌, ℕ, List, [], ◌∷◌, ◌++◌, sym, ap, ◌∙◌, refl, arith}
 use Rattle.text_core.specs.declared.faults.ListWhy.{ListWhy}
 use Rattle.text_core.specs.ListText.{ListText, AddsEntry, IsBad, bad_line, bad_value, too_many, by_lines}
@@ -28,7 +28,7 @@ good_or_bad list formed n before line now _ adds (bad_line none) = none (formed 
 good_or_bad list formed n before line now _ adds (bad_value form untold) = untold adds.entry adds.told
 good_or_bad list formed n before line now _ adds (too_many e told full) = let few = adds.few in absurd (omega (arith, few, full))
 
--- a text has one reading or one first fault
+-- A file has either a parse result or a first error.
 pub list_settled : {E : Type 0} (list : ListText E) → TellsOne list → TellsFormed list → IsSettled (by_lines list)
 list_settled list one formed = record {
   one_next = one_next list one;

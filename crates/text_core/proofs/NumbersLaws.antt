@@ -1,4 +1,4 @@
--- The numbers that stand in a text that was put together of decimals and of bytes that are no digits.
+-- The numbers in a string that is built from decimal numbers and bytes that are no digits.
 use Rattle.std.proofs.Common.{◌≡◌, ℕ, ◌<◌, ◌^◌, Bool, true, false, not, nat_lt, List, [], ◌∷◌, ◌++◌, length, map, filter, All, ap, ◌∙◌, arith}
 use Rattle.std.specs.Fmt.{decimal}
 use Rattle.std.specs.List.{slice_split}
@@ -13,7 +13,7 @@ use Rattle.std.proofs.lemmas.List.Splits.{slice_split_none, slice_split_at}
 use Rattle.text_core.specs.Decimal.{numbers_in}
 use Rattle.text_core.proofs.DecimalLaws.{decimal_digits}
 
--- what parts a text at bytes that are no digits, and the numbers of the parts
+-- A function that splits a string at bytes that are no digits, and the numbers of the parts.
 abbrev parts_digits : ℕ → Bool
 parts_digits b = not (is_ascii_digit b)
 
@@ -26,7 +26,7 @@ unparted (b ∷ bs) digits =
     let (here, behind) = and_parts (is_ascii_digit b) (all_ascii_digits bs) digits in
     All-cons (λ b. parts_digits b ≡ false) b bs (ap not here) (unparted bs behind)
 
--- a decimal in front of other parts is their first number
+-- A decimal number before other parts is their first number.
 first_number : (n : ℕ) (parts : List (List ℕ)) → n < 2 ^ 64 → numbers_of (decimal n ∷ parts) ≡ n ∷ numbers_of parts
 first_number n parts fits =
     let some : nat_lt 0 (length (decimal n)) ≡ true = grind (arith, nat_tests, decimal_nonempty n fits) in

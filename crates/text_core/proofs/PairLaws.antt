@@ -1,11 +1,11 @@
--- Laws of lists without a pair, and of tests of all elements: parts of a list, and one element more.
+-- Lemmas on lists without conflicts, and on tests of all elements: parts of a list, and one more element.
 use Rattle.std.proofs.Common.{◌≡◌, Bool, true, not, ◌&&◌, List, [], ◌∷◌, ◌++◌, map, refl, sym, ◌∙◌}
 use Rattle.std.proofs.lemmas.Bool.{and_from, and_parts}
 use Rattle.std.proofs.lemmas.List.Folds.{list_all-append, list_all-map}
 use Rattle.std.specs.List.{list_all}
 use Rattle.text_core.specs.inner.Pairs.{no_pair}
 
--- a list with one more element at its end has no pair, where the element makes none
+-- A list with one more element at its end has no conflict, if the element causes none.
 pub no_pair-push : {A : Type 0} (r : A → A → Bool) (xs : List A) (y : A) → no_pair r xs ≡ true → list_all (λ x. not (r y x)) xs ≡ true → no_pair r (xs ++ y ∷ []) ≡ true
 no_pair-push r [] y h new = refl
 no_pair-push r (x ∷ xs) y h new =
@@ -20,7 +20,7 @@ pub list_all-push : {A : Type 0} (p : A → Bool) (xs : List A) (y : A) → list
 list_all-push p xs y h new =
     list_all-append p xs (y ∷ []) ∙ and_from (list_all p xs) (p y && true) h (and_from (p y) true new refl)
 
--- the element after others is barred by none of them
+-- The element after others conflicts with none of them.
 pub alone_behind : {A : Type 0} (r : A → A → Bool) (xs : List A) (x : A) (ys : List A) → no_pair r (xs ++ x ∷ ys) ≡ true → list_all (λ y. not (r x y)) xs ≡ true
 alone_behind r [] x ys h = refl
 alone_behind r (z ∷ xs) x ys h =
@@ -45,7 +45,7 @@ pub no_pair-behind : {A : Type 0} (r : A → A → Bool) (xs ys : List A) → no
 no_pair-behind r [] ys h = h
 no_pair-behind r (x ∷ xs) ys h = no_pair-behind r xs ys (and_parts (list_all (λ y. not (r y x)) (xs ++ ys)) (no_pair r (xs ++ ys)) h).1
 
--- of what was made of elements
+-- For mapped elements.
 pub no_pair-map : {A B : Type 0} (r : B → B → Bool) (f : A → B) (xs : List A) → no_pair r (map f xs) ≡ no_pair (λ x y. r (f x) (f y)) xs
 no_pair-map r f [] = refl
 no_pair-map r f (x ∷ xs) = rw (list_all-map (λ y. not (r y (f x))) f xs, no_pair-map r f xs)

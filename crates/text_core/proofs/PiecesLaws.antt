@@ -1,4 +1,4 @@
--- Laws of cutting: a text is put together again, and what was put together is cut where it was.
+-- Lemmas on splitting: the parts of a split join to the string, and a joined string is split at the separator.
 use Rattle.std.proofs.Common.{◌≡◌, ◌≢◌, ℕ, Bool, cond, true, false, nat_eq, ◌==◌, not, ◌&&◌, List, [], ◌∷◌, ◌++◌, Option, Some, None, refl, sym, ap, ◌∙◌, arith}
 use Rattle.std.specs.Option.{option_map}
 use Rattle.std.specs.List.{All}
@@ -6,7 +6,7 @@ use Rattle.std.proofs.lemmas.Bool.Decides.{nat_tests}
 use Rattle.std.proofs.lemmas.List.Elements.{All-nil, All-cons}
 use Rattle.text_core.specs.inner.Pieces.{split_once}
 
--- no byte of the text is the mark
+-- The string does not contain the separator.
 abbrev pub lacks : ℕ → List ℕ → Bool
 lacks mark [] = true
 lacks mark (b ∷ bs) = not (b == mark) && lacks mark bs
@@ -20,7 +20,7 @@ lacks-append mark (b ∷ front) rest first second =
     let parts = lacks_parts mark b front first in
     rw (parts.0, lacks-append mark front rest parts.1 second) refl
 
--- what is joined by a mark is cut there
+-- A string that is joined by a separator is split there.
 pub split_once-append : (mark : ℕ) (front rest : List ℕ) → lacks mark front ≡ true → split_once mark (front ++ (mark ∷ rest)) ≡ Some (front, rest)
 split_once-append mark [] rest h = grind (arith, nat_tests)
 split_once-append mark (b ∷ front) rest h =
@@ -52,7 +52,7 @@ joined_by_first mark b bs front rest r true before e h =
     ap (λ x. x ∷ bs) is_mark ∙ joined_same mark ([], bs) (front, rest) same
 joined_by_first mark b bs front rest r false before e h = joined_behind mark b bs front rest r before h
 
--- the parts, joined by the mark, are the text
+-- The parts joined by the separator are the string.
 pub split_once_joined : (mark : ℕ) (bs front rest : List ℕ) → split_once mark bs ≡ Some (front, rest) → bs ≡ front ++ (mark ∷ rest)
 split_once_joined mark [] front rest h = cc
 split_once_joined mark (b ∷ bs) front rest h =
@@ -61,7 +61,7 @@ split_once_joined mark (b ∷ bs) front rest h =
 differs : (b mark : ℕ) → nat_eq b mark ≡ false → b ≢ mark
 differs b mark other same = grind (arith, nat_tests)
 
--- the same in std's words
+-- The same in terms of std.
 pub lacks_all : (mark : ℕ) (bs : List ℕ) → lacks mark bs ≡ true → All (λ b. b ≢ mark) bs
 lacks_all mark [] h = All-nil (λ b. b ≢ mark)
 lacks_all mark (b ∷ bs) h =
@@ -80,7 +80,7 @@ front_by_first mark b bs front rest r true before e h =
     ap (λ q. lacks mark q.0) (sym same)
 front_by_first mark b bs front rest r false before e h = front_behind mark b front rest r e before h
 
--- the first part has no mark
+-- The first part does not contain the separator.
 pub split_once_front : (mark : ℕ) (bs front rest : List ℕ) → split_once mark bs ≡ Some (front, rest) → lacks mark front ≡ true
 split_once_front mark [] front rest h = cc
 split_once_front mark (b ∷ bs) front rest h =

@@ -1,4 +1,4 @@
--- The first place of a mark is where the text is cut.
+-- A string is split at the first index of the separator.
 use Rattle.std.proofs.Common.{◌≡◌, ℕ, zero, suc, ◌+◌, ◌<◌, ◌≤◌, ◌-◌, cond, not, ◌&&◌, true, false, nat_eq, ◌==◌, List, [], ◌∷◌, Some, None, length, get_or, take, drop, add-one, length-drop, refl, sym, arith}
 use Rattle.std.proofs.lemmas.Bool.Decides.{nat_tests}
 use Rattle.std.specs.List.{position, position_or_len}
@@ -27,7 +27,7 @@ past_end mark bs h = grind (arith, nat_tests)
 pub nowhere_lacks : (mark : ℕ) (bs : List ℕ) → position (λ b. b == mark) bs ≡ None → lacks mark bs ≡ true
 nowhere_lacks mark bs h = lacks_far mark bs (past_end mark bs h)
 
--- the same with the place that a search gives, in the code's words
+-- The same with the index that a search returns, in terms of the code.
 pub split_somewhere : (mark at : ℕ) (bs : List ℕ) → position (λ b. b == mark) bs ≡ Some at → Some (take at bs, take (length bs - (at + 1)) (drop (at + 1) bs)) ≡ split_once mark bs
 split_somewhere mark at bs h =
     let found = position-Some (λ b. b == mark) bs at 0 h in

@@ -1,4 +1,4 @@
--- A text of which some lines were read: what one line more makes of it.
+-- A file of which some lines were parsed, and the effect of one more line.
 use Rattle.std.proofs.Common.{◌≡◌, ◌≤◌, ◌<◌, ℕ, ◌+◌, List, [], ◌∷◌, ◌++◌, length, length-append, append_assoc, append-nil, refl, sym, ap, subst, ◌∙◌, arith}
 use Rattle.std.proofs.lemmas.List.{length_push}
 use Rattle.text_core.specs.Lines.{lines}
@@ -9,7 +9,7 @@ use Rattle.text_core.proofs.TextByLinesLaws.{lines_more}
 use Rattle.text_core.specs.declared.faults.TextFault.{TextFault}
 use Rattle.text_core.specs.declared.faults.TextFault.TheVariants.{Refused, Memory}
 
--- `number` lines were read, which say this, and these are left
+-- `number` lines were parsed, with this state, and these lines remain.
 pub record IsSoFar {S W : Type 0} (text : TextByLines S W) (whole left : List (List ℕ)) (s : S) (number : ℕ) : Type 0 where
   pub front : List (List ℕ)
   pub parts : whole ≡ front ++ left
@@ -57,7 +57,7 @@ one_bad text bytes left rest s number l (Refused line why) short next so_far sto
       bad = subst (λ (n : ℕ). text.IsBadLine n s l why) (sym stops.0) stops.2;
     })
 
--- no more lines are read than a text has bytes
+-- The number of parsed lines is at most the number of bytes.
 pub count_within : {S W : Type 0} (text : TextByLines S W) (bytes : List ℕ) (left rest : List (List ℕ)) (s : S) (number : ℕ) (l : List ℕ)
     → left ≡ l ∷ rest → IsSoFar text (lines bytes) left s number → number + 1 ≤ length bytes
 count_within text bytes left rest s number l next so_far =

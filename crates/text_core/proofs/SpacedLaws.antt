@@ -1,4 +1,4 @@
--- Texts that are put together from words and lines are read as these words and lines.
+-- A text that is built from tokens and lines is parsed to these tokens and lines.
 use Rattle.std.proofs.Common.{◌≡◌, ℕ, Bool, true, false, List, [], ◌∷◌, ◌++◌, append_assoc, refl, sym, ap, ◌∙◌, arith, nat_eq}
 use Rattle.std.specs.Prelude.{nat_lt}
 use Rattle.std.specs.List.{list_all}
@@ -8,17 +8,17 @@ use Rattle.text_core.proofs.PiecesLaws.{lacks, lacks-append}
 use Rattle.text_core.specs.Lines.{words, is_blank, ends_word}
 use Rattle.text_core.proofs.LinesLaws.{has_no_blank, words_of_word}
 
--- words after a word: a blank (32) in front of each
+-- Tokens after a token, each preceded by a blank (32).
 abbrev pub behind : List (List ℕ) → List ℕ
 behind [] = []
 behind (w ∷ ws) = 32 ∷ (w ++ behind ws)
 
--- words with one blank between two
+-- Tokens separated by one blank.
 abbrev pub spaced : List (List ℕ) → List ℕ
 spaced [] = []
 spaced (w ∷ ws) = w ++ behind ws
 
--- a word: not empty, and without blanks
+-- A token: nonempty, and without blanks.
 abbrev pub is_word : List ℕ → Bool
 is_word [] = false
 is_word (b ∷ bs) = has_no_blank (b ∷ bs)
@@ -37,7 +37,7 @@ words_behind (w ∷ ws) h =
     let parts = and_parts (is_word w) (list_all is_word ws) h in
     word_then w (behind ws) parts.0 (behind_ends ws) ∙ ap (λ vs. w ∷ vs) (words_behind ws parts.1)
 
--- spaced words are read as these words
+-- Spaced tokens are parsed to these tokens.
 pub words_spaced : (ws : List (List ℕ)) → list_all is_word ws ≡ true → words (spaced ws) ≡ ws
 words_spaced [] h = refl
 words_spaced (w ∷ ws) h =
@@ -49,7 +49,7 @@ behind-append [] ys = refl
 behind-append (x ∷ xs) ys =
     ap (λ bs. 32 ∷ bs) (ap (λ bs. x ++ bs) (behind-append xs ys) ∙ sym (append_assoc x (behind xs) (behind ys)))
 
--- spaced words without byte 10 are a line
+-- Spaced tokens without byte 10 are a line.
 lacks_behind : (ws : List (List ℕ)) → list_all (lacks 10) ws ≡ true → lacks 10 (behind ws) ≡ true
 lacks_behind [] h = refl
 lacks_behind (w ∷ ws) h =
@@ -62,7 +62,7 @@ lacks_spaced (w ∷ ws) h =
     let parts = and_parts (lacks 10 w) (list_all (lacks 10) ws) h in
     lacks-append 10 w (behind ws) parts.0 (lacks_behind ws parts.1)
 
--- a text of printing bytes alone is a word, and no line ends in it
+-- A string of printable bytes is a token, and it contains no line end.
 abbrev pub prints : ℕ → Bool
 prints b = nat_lt 32 b
 

@@ -1,4 +1,5 @@
--- Laws of texts by lines: a text has one reading or one first fault, and not both, where each of its lines does so.
+-- Lemmas on line-oriented formats: a file has either a parse result or a first error, and not both, if this holds for
+-- each of its lines.
 use Rattle.std.proofs.Common.{◌≡◌, ℕ, ◌+◌, List, [], ◌∷◌, ◌++◌, length, refl, sym, subst, ◌∙◌, arith, ◌⊎◌, inl, inr}
 use Rattle.std.specs.Prelude.{Result, Ok, Err, IfOk, IfErr, MatchResult, IsTrue, IsFalse}
 use Rattle.text_core.specs.Lines.{lines, is_comment}
@@ -8,7 +9,7 @@ use Rattle.text_core.specs.inner.TextAnswers.{HasCause, IsFault, Passes}
 use Rattle.text_core.specs.declared.faults.TextFault.{TextFault}
 use Rattle.text_core.specs.declared.faults.TextFault.TheVariants.{Refused, Memory}
 
--- 1. What is asked of a format: a line has one next state or one reason, and the end is good or has one reason.
+-- 1. Requirements on a format: a line has one next state or one reason, and the end is accepted or has one reason.
 
 pub record IsSettled {S W : Type 0} (text : TextByLines S W) : Type 0 where
   pub one_next : (n : ℕ) (s : S) (l : List ℕ) (t u : S) → text.IsLine n s l t → text.IsLine n s l u → t ≡ u
@@ -20,9 +21,9 @@ pub record IsSettled {S W : Type 0} (text : TextByLines S W) : Type 0 where
 pub same_ok : {S W : Type 0} (r : Result S W) (t u : S) → r ≡ Ok t → r ≡ Ok u → t ≡ u
 same_ok r t u p q = cc (p, q)
 
--- 2. One line more.
+-- 2. One more line.
 
--- the step of one line behind others, as a number of a line
+-- The step of one line after others, as the number of a line.
 next_number : {S : Type 0} (IsLine : ℕ → S → List ℕ → S → Type 0) (n m : ℕ) (s t : S) (l : List ℕ) → n ≡ m
     → (IsTrue (is_comment l) × (s ≡ t)) ⊎ (IsFalse (is_comment l) × IsLine n s l t)
     → (IsTrue (is_comment l) × (s ≡ t)) ⊎ (IsFalse (is_comment l) × IsLine m s l t)
@@ -47,7 +48,7 @@ pub lines_more : {S W : Type 0} (text : TextByLines S W) (front : List (List ℕ
     → Passes text (1 + length front) s l t → AreLines text (front ++ l ∷ []) t
 lines_more text front s t l told passes = follows_more text.IsLine 1 text.start s t front l told passes
 
--- 3. Lines say one thing, or have one first bad one.
+-- 3. Lines lead to one state, or have one first bad line.
 
 passes_once : {S W : Type 0} (text : TextByLines S W) → IsSettled text → (n : ℕ) (s t u : S) (l : List ℕ) → Passes text n s l t → Passes text n s l u → t ≡ u
 passes_once text once n s t u l (inl a) (inl b) = sym a.1 ∙ b.1
@@ -60,7 +61,7 @@ past_first : {S W : Type 0} (text : TextByLines S W) (n : ℕ) (s t : S) (l : Li
 past_first text n s t l ls (inl comment) = (s, inl (comment.0, refl), comment.1)
 past_first text n s t l ls (inr line) = (line.0, inr (line.1, line.2), line.3)
 
--- two lists of lines with the same first line go on alike
+-- Two lists of lines with the same first line continue with the same state.
 both_past : {S W : Type 0} (text : TextByLines S W) → IsSettled text → (n : ℕ) (s t u : S) (l : List ℕ) (ls ks : List (List ℕ))
     → Follows text.IsLine n s (l ∷ ls) t → Follows text.IsLine n s (l ∷ ks) u
     → (x : S) × Follows text.IsLine (n + 1) x ls t × Follows text.IsLine (n + 1) x ks u
@@ -76,7 +77,7 @@ next_same text once n s t u (l ∷ ls) p q =
     let (x, a, b) = both_past text once n s t u l ls ls p q in
     next_same text once (n + 1) x t u ls a b
 
--- line n is no comment, and bad
+-- Line n is no comment, and bad.
 abbrev IsBadAt : {S W : Type 0} → TextByLines S W → ℕ → S → List ℕ → W → Type 0
 IsBadAt text n s l why = IsFalse (is_comment l) × text.IsBadLine n s l why
 
@@ -120,7 +121,7 @@ bad_once {S = S} text once n i j s t u (x ∷ f) (y ∷ g) k l b c w v same p q 
     let (z, a, d) = both_past text once n s t u y f g (subst (λ (h : List ℕ). Follows text.IsLine n s (h ∷ f) t) here p) q in
     bad_once text once (n + 1) i j z t u f g k l b c w v behind a d (omega (arith, first)) (omega (arith, second)) bad worse
 
--- 4. Texts have one reading at most, one first fault at most, and not both.
+-- 4. A file has at most one parse result, at most one first error, and not both.
 
 pub one_reading : {S W : Type 0} (text : TextByLines S W) → IsSettled text → (bytes : List ℕ) (s t : S) → IsReading text bytes s → IsReading text bytes t → s ≡ t
 one_reading text once bytes s t p q = next_same text once 1 text.start s t (lines bytes) p.told q.told
@@ -165,9 +166,9 @@ no_reading_with_fault text once bytes s line why (at_line short first) reading =
 no_reading_with_fault text once bytes s line why (at_end t through bad) reading =
     ends_same text once (1 + length (lines bytes)) s t line why (next_same text once 1 text.start s t (lines bytes) reading.told through.told) reading.ends bad
 
--- 5. What a reader answers.
+-- 5. The results of a parser.
 
--- a text with a reading is not refused, and read as this
+-- A file with a parse result is accepted with this result.
 pub told_reading : {V S W : Type 0} (text : TextByLines S W) → IsSettled text → (view : V → S) (bytes : List ℕ) (r : Result V (TextFault W)) (s : S)
     → IfOk r (λ v. IsReading text bytes (view v)) → IfErr r (HasCause text bytes) → IsReading text bytes s
     → MatchResult r (λ v. view v ≡ s) (λ fault. fault ≡ Memory)
@@ -175,7 +176,7 @@ told_reading text once view bytes (Ok v) s found cause reading = one_reading tex
 told_reading text once view bytes (Err (Refused line why)) s found cause reading = absurd (no_reading_with_fault text once bytes s line why cause reading)
 told_reading text once view bytes (Err Memory) s found cause reading = refl
 
--- a text with a fault is not read, and refused with this
+-- A file with an error is rejected with this error.
 pub told_fault : {V S W : Type 0} (text : TextByLines S W) → IsSettled text → (view : V → S) (bytes : List ℕ) (r : Result V (TextFault W)) (line : ℕ) (why : W)
     → IfOk r (λ v. IsReading text bytes (view v)) → IfErr r (HasCause text bytes) → HasFault text bytes line why
     → MatchResult r (λ v. ⊥) (IsFault line why)

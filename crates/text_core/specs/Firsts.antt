@@ -1,44 +1,46 @@
--- The first of several answers, and the first element that an earlier one bars.
+-- The first of several results, and the first element that conflicts with an earlier one.
 use Rattle.std.specs.Prelude.{ℕ, ◌+◌, Bool, if◌then◌else◌, List, [], ◌∷◌, ◌++◌, Option, Some, None, find}
 use Rattle.std.specs.Option.{option_map, option_or}
 
--- an answer, where a condition holds
+-- The value, if a condition holds.
 abbrev pub where_holds : {A : Type 0} → Bool → A → Option A
 where_holds holds x = if holds then Some x else None
 
--- the first answer that is there
+-- The first value that is present.
 abbrev pub first_of : {A : Type 0} → List (Option A) → Option A
 first_of [] = None
 first_of (answer ∷ answers) = option_or answer (first_of answers)
 
--- the answer for the first element for which there is one
+-- The result of the first element that has one.
 abbrev pub first_found : {A B : Type 0} → (A → Option B) → List A → Option B
 first_found f [] = None
 first_found f (x ∷ xs) = option_or (f x) (first_found f xs)
 
--- an element and its number in the list, from 1
+-- An element and its number in the list, from 1.
 pub record Numbered (A : Type 0) : Type 0 where
   pub number : ℕ
   pub what : A
 
+-- The elements with their numbers, from a given number on.
 abbrev pub numbered_from : {A : Type 0} → ℕ → List A → List (Numbered A)
 numbered_from k [] = []
 numbered_from k (x ∷ xs) = record { number = k; what = x } ∷ numbered_from (k + 1) xs
 
+-- The elements with their numbers, from 1.
 abbrev pub numbered : {A : Type 0} → List A → List (Numbered A)
 numbered xs = numbered_from 1 xs
 
--- an element, and the earliest one that bars it
+-- An element, and the earliest one with which it conflicts.
 pub record Pair (A : Type 0) : Type 0 where
   pub later : A
   pub earlier : A
 
--- the first of xs that one of `before` bars, or an earlier one of xs
+-- The first element of xs that conflicts with one of `before` or with an earlier one of xs.
 abbrev pub first_pair_behind : {A : Type 0} → (A → A → Bool) → List A → List A → Option (Pair A)
 first_pair_behind bars before [] = None
 first_pair_behind bars before (x ∷ xs) =
     option_or (option_map (λ y. record { later = x; earlier = y }) (find (bars x) before)) (first_pair_behind bars (before ++ x ∷ []) xs)
 
--- the first element that an earlier one bars, and the earliest one that does
+-- The first element that conflicts with an earlier one, and the earliest such one.
 abbrev pub first_pair : {A : Type 0} → (A → A → Bool) → List A → Option (Pair A)
 first_pair bars xs = first_pair_behind bars [] xs

@@ -1,16 +1,16 @@
-//! Reading decimal numbers: digits alone, no sign, no leading zero.
+//! Parsing decimal numbers: only digits, no sign, no leading zero.
 
 ghost use Rattle.std.specs.Prelude.{◌≡◌, ℕ, ◌≤◌, Some, IfSome, decimal};
 ghost use Rattle.text_core.specs.inner.Decimal.{number};
 ghost use Rattle.text_core.specs.inner.DecimalSteps.{bounded_value, is_empty_or_padded};
 
-/// The number that the whole text says, or None where the text is no number or says more than
-/// `most`. A text of any length is read; reading ends as soon as the value passes `most`.
+/// Returns the number that the whole text denotes, or `None` if the text is no number or the number
+/// exceeds `most`. The text may have any length; parsing stops as soon as the value exceeds `most`.
 pub fn read_number(most: u32, text: &[u8]) -> Option<u32>
     ensures value { result ≡ number most text.now }
     ensures bounded { IfSome result (λ n. n ≤ most) }
 
-    // The number whose decimal text it is, both ways.
+    // The result is the number whose decimal notation the text is, and conversely.
     ensures said { IfSome result (λ n. text.now ≡ decimal n) }
     ensures read { (n : ℕ) → n ≤ most → text.now ≡ decimal n → result ≡ Some n }
 {

@@ -1,4 +1,4 @@
-//! Why a text that is read line by line is refused.
+//! The errors of parsing a line-oriented file.
 
 ghost use Rattle.std.specs.Prelude.{◌≡◌};
 ghost use Rattle.text_core.specs.declared.faults.LineFault.TheVariants.{Memory};
@@ -7,40 +7,41 @@ use std::alloc::{AllocError, AllocFailed};
 use std::fmt::Display;
 use thiserror::Error;
 
-/// Why one line is not read.
+/// The reason why one line is not parsed.
 #[derive(Clone, Copy, Debug, PartialEq, Eq)]
 pub enum LineFault<W> {
-    /// The line cannot stand where it stands.
+    /// The line is rejected.
     Bad(W),
-    /// Memory ran out.
+    /// Memory allocation failed.
     Memory,
 }
 
-/// Why a text that lists one entry on each line is refused. Each reader defines its entries.
+/// The reason why a list file with one entry per line is rejected. Each format defines its entries.
 #[derive(Clone, Copy, Debug, PartialEq, Eq, Error)]
 pub enum ListWhy {
-    /// The text has more bytes than its limit.
+    /// The file exceeds its size limit.
     #[error("TooLong")]
     TooLong,
-    /// The words of the line have the form of no entry.
+    /// The tokens of the line do not have the shape of an entry.
     #[error("BadLine")]
     BadLine,
-    /// The line has the form of an entry, but one of its words is not a valid value.
+    /// The line has the shape of an entry, but one of its tokens is not a valid value.
     #[error("BadValue")]
     BadValue,
-    /// The line is one entry more than the text may have.
+    /// The line exceeds the limit on entries.
     #[error("TooMany")]
     TooMany,
 }
 
-/// Why a text is refused: the first line at fault, counted from 1, and the reason. Line 0 stands for the whole text.
+/// The reason why a file is rejected: the first bad line, counted from 1, and the reason. Line 0
+/// means the whole file.
 #[derive(Clone, Copy, Debug, PartialEq, Eq, Error)]
 #[error_bound(W: Display)]
 pub enum TextFault<W> {
-    /// The text has no reading.
+    /// The file has no parse result.
     #[error("line {line}: {why}")]
     Refused { line: u32, why: W },
-    /// Memory ran out.
+    /// Memory allocation failed.
     #[error("out of memory")]
     Memory,
 }

@@ -1,25 +1,25 @@
-//! The first element of a list that an earlier one bars, as one that has its name.
+//! The first element of a list that conflicts with an earlier one, for example by having its name.
 ghost use Rattle.std.specs.Prelude.{◌≡◌, Bool, IfSome, IsTrue, None, find, option_map};
 ghost use Rattle.text_core.specs.Firsts.{first_pair, numbered};
 ghost use Rattle.text_core.specs.inner.Pairs.{no_pair, IsFirstPair};
 ghost use Rattle.text_core.specs.inner.FirstsView.{numbered_seen, pair_seen, Tests};
 
-/// An element of a list and its number there, from 1.
+/// An element of a list and its number, from 1.
 #[derive(Drop)]
 pub struct Numbered<'a, T> {
     pub number: u64,
     pub what: &'a T,
 }
 
-/// An element, and the earliest one that bars it.
+/// An element, and the earliest one with which it conflicts.
 #[derive(Drop)]
 pub struct Pair<'a, T> {
     pub later: Numbered<'a, T>,
     pub earlier: Numbered<'a, T>,
 }
 
-/// The first element that an earlier one bars, and the earliest one that does. `bars` is asked of a
-/// later and an earlier element.
+/// Returns the first element that conflicts with an earlier one, and the earliest such one. `bars`
+/// is called with a later and an earlier element.
 pub fn first_pair<T, F: Fn(&T, &T) -> bool>(items: &[T], bars: F) -> Option<Pair<'_, T>>
     requires { F.IsAlwaysCallable bars }
     ensures exact { (test : T → T → Bool) → Tests F.Fn bars test → option_map pair_seen result ≡ first_pair (λ x y. test x.what y.what) (numbered items.now) }
@@ -45,7 +45,7 @@ fn found_pair<T, F: Fn(&T, &T) -> bool>(items: &[T], bars: F) -> Option<Pair<'_,
     None
 }
 
-/// The first of the elements before an element that bars it.
+/// Returns the first of the elements before an element with which it conflicts.
 fn first_barring<'a, T, F: Fn(&T, &T) -> bool>(
     before: &'a [T],
     item: &T,

@@ -1,8 +1,8 @@
-//! Texts that are read and written byte by byte: names, decimal numbers, cutting at a mark, texts by
-//! lines and lines by words, texts that list an entry on each line, texts padded to a fixed size, and
-//! lines in a buffer of fixed size. Beside these stands the first element of a list that an earlier
-//! one bars. The readers and writers above share all this, so that a number is spelled in one way
-//! only, and a name is one everywhere.
+//! Byte-level parsing and formatting: names, decimal numbers, splitting at a separator, lines and
+//! tokens, list files with one entry per line, strings padded to a fixed size, and lines in a
+//! buffer of fixed size. The crate also finds the first element of a list that conflicts with an
+//! earlier one. All parsers and formatters above share these calls, so numbers and names have the
+//! same notation everywhere.
 #![tactic(auto)]
 
 mod decimals;

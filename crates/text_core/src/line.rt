@@ -1,11 +1,11 @@
-//! One line of text in a buffer of fixed size, put together piece by piece and without memory. What
-//! does not fit is left out, so a writer whose lines are short enough has them whole.
+//! One line of text in a buffer of fixed size, assembled in parts and without allocation. Bytes
+//! that do not fit are dropped, so a line is complete if it is short enough.
 
 ghost use Rattle.std.specs.Prelude.{◌≡◌, ◌+◌, ◌<◌, ◌≤◌, ◌++◌, ◌∷◌, [], take, decimal};
 ghost use Rattle.text_core.specs.inner.Line.{cut};
 
-/// Puts a piece after the first `at` bytes, and answers where the text now ends. What the buffer
-/// holds after that place is left open.
+/// Writes a piece after the first `at` bytes, and returns the end of the text. The rest of the
+/// buffer is unspecified.
 #[inline(always)]
 pub fn put<const N: usize>(buffer: &mut [u8; N], at: usize, piece: &[u8]) -> usize
     requires { at ≤ N }
@@ -14,7 +14,7 @@ pub fn put<const N: usize>(buffer: &mut [u8; N], at: usize, piece: &[u8]) -> usi
 {
     let line = &mut buffer[..];
     let room = line.len() - at;
-    // A piece that fits is copied by its own length, so that a literal needs no loop.
+    // A piece that fits is copied by its own length, so a literal needs no loop.
     if piece.len() <= room {
         line[at..at + piece.len()].copy_from_slice(piece);
         return at + piece.len();
@@ -23,7 +23,7 @@ pub fn put<const N: usize>(buffer: &mut [u8; N], at: usize, piece: &[u8]) -> usi
     at + room
 }
 
-/// Puts a number in decimal digits after the first `at` bytes, as `put` does.
+/// Writes a number in decimal digits after the first `at` bytes, like `put`.
 #[inline(always)]
 pub fn put_number<const N: usize>(buffer: &mut [u8; N], at: usize, number: u64) -> usize
     requires { at ≤ N }
@@ -36,7 +36,7 @@ pub fn put_number<const N: usize>(buffer: &mut [u8; N], at: usize, number: u64) 
     put_long(buffer, at, number)
 }
 
-/// The same for a number of any length.
+/// The same for a number with any number of digits.
 fn put_long<const N: usize>(buffer: &mut [u8; N], at: usize, number: u64) -> usize
     requires { at ≤ N }
     ensures text { take result buffer.new ≡ cut N (take at buffer.old ++ decimal number) }
@@ -49,7 +49,7 @@ fn put_long<const N: usize>(buffer: &mut [u8; N], at: usize, number: u64) -> usi
     put_byte(buffer, front, digit(number % 10))
 }
 
-/// The same for a number of up to three digits.
+/// The same for a number with up to three digits.
 #[inline(always)]
 fn put_short<const N: usize>(buffer: &mut [u8; N], at: usize, number: u64) -> usize
     requires fits { at ≤ N }
@@ -64,7 +64,7 @@ fn put_short<const N: usize>(buffer: &mut [u8; N], at: usize, number: u64) -> us
     put_byte(buffer, front, digit(number % 10))
 }
 
-/// The same for a number of one or two digits.
+/// The same for a number with one or two digits.
 #[inline(always)]
 fn put_pair<const N: usize>(buffer: &mut [u8; N], at: usize, number: u64) -> usize
     requires fits { at ≤ N }
@@ -79,7 +79,7 @@ fn put_pair<const N: usize>(buffer: &mut [u8; N], at: usize, number: u64) -> usi
     put_byte(buffer, front, digit(number % 10))
 }
 
-/// Puts a single byte, as `put` does, but by its value: one store and no piece in memory.
+/// Writes a single byte, like `put`, but by its value: one store, without a slice.
 #[inline(always)]
 fn put_byte<const N: usize>(buffer: &mut [u8; N], at: usize, byte: u8) -> usize
     requires { at ≤ N }

@@ -1,4 +1,5 @@
-//! A text by lines, and a line by words. Nothing is copied: each line and each word is a part of the text.
+//! The lines of a text, and the tokens of a line. Nothing is copied: each line and each token is a
+//! slice of the text.
 
 ghost use Rattle.std.specs.Prelude.{◌≡◌, ◌∷◌, [], ◌<◌, false, IfNone, IfSome, length, not, slice_index_or};
 ghost use Rattle.std.specs.Option.{option_map_or};
@@ -8,7 +9,7 @@ ghost use Rattle.text_core.specs.Lines.{lines, words, is_blank, is_comment, begi
 use crate::pieces::split_once;
 use std::marker::Model;
 
-/// The lines of a text that are left.
+/// The remaining lines of a text.
 #[derive(Drop)]
 pub struct Lines<'a> {
     rest: &'a [u8],
@@ -24,14 +25,14 @@ impl<'a> Model for Lines<'a> {
 }
 
 impl<'a> Lines<'a> {
-    /// The lines of a text, of which none is taken off yet.
+    /// Returns all lines of a text.
     pub fn new(text: &'a [u8]) -> Lines<'a>
         ensures { result ≡ lines text.now }
     {
         Lines { rest: text }
     }
 
-    /// Takes the next line off, without the byte that ends it.
+    /// Removes and returns the next line, without the byte that ends it.
     pub fn next_line(&mut self) -> Option<&'a [u8]>
         ensures next { self.old ≡ option_map_or (λ line. line.now ∷ self.new) result [] }
         ensures end { IfNone result (self.new ≡ []) }
@@ -56,7 +57,7 @@ fn first_line(text: &[u8]) -> Option<(&[u8], &[u8])>
     }
 }
 
-/// The words of a line that are left.
+/// The remaining tokens of a line.
 #[derive(Drop)]
 pub struct Words<'a> {
     rest: &'a [u8],
@@ -72,14 +73,14 @@ impl<'a> Model for Words<'a> {
 }
 
 impl<'a> Words<'a> {
-    /// The words of a line, of which none is taken off yet.
+    /// Returns all tokens of a line.
     pub fn new(line: &'a [u8]) -> Words<'a>
         ensures { result ≡ words line.now }
     {
         Words { rest: line }
     }
 
-    /// Takes the next word off.
+    /// Removes and returns the next token.
     pub fn next_word(&mut self) -> Option<&'a [u8]>
         ensures next { self.old ≡ option_map_or (λ word. word.now ∷ self.new) result [] }
         ensures end { IfNone result (self.new ≡ []) }
@@ -128,14 +129,14 @@ fn place_of_blank(line: &[u8]) -> Option<usize>
     line.iter().position(|byte| is_blank(*byte))
 }
 
-/// Whether the byte parts words: a space or a tab.
+/// Whether the byte separates tokens: a space or a tab.
 pub fn is_blank(byte: u8) -> bool
     ensures { result ≡ is_blank byte }
 {
     byte == b' ' || byte == b'\t'
 }
 
-/// Whether a line is a comment: it has no word, or its first word begins with `#`.
+/// Whether a line is a comment: it has no token, or its first token begins with `#`.
 #[tactic(auto, unfolding(crate::specs::Lines::is_comment))]
 pub fn is_comment(line: &[u8]) -> bool
     ensures { result ≡ is_comment line.now }
@@ -146,7 +147,7 @@ pub fn is_comment(line: &[u8]) -> bool
     }
 }
 
-/// Whether the first byte of the text is the mark.
+/// Whether the first byte of the text is `mark`.
 pub fn begins_with(text: &[u8], mark: u8) -> bool
     ensures { result ≡ begins_with mark text.now }
 {

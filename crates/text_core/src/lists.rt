@@ -1,5 +1,5 @@
-//! Reading a text that lists entries, one on each line: one reader for all such texts. A format says how
-//! an entry is read from its line, and how many there may be.
+//! Parsing a list file with one entry per line: one parser for all such formats. A format defines
+//! the parser of a line, and the limits.
 
 ghost use Rattle.std.specs.Prelude.{◌≡◌, ◌<◌, ◌^◌, ℕ, List, map, IfOk, IfErr, MatchResult};
 ghost use Rattle.text_core.specs.ListText.{ListText, IsBad, by_lines};
@@ -12,30 +12,31 @@ use crate::faults::{LineFault, ListWhy, TextFault};
 use crate::texts::{LineReader, read_lines};
 use std::alloc::Global;
 
-/// A format of texts that list entries.
+/// A list format.
 pub trait EntryReader {
-    /// What a line tells, as the code holds it.
+    /// The entry of a line, as the code represents it.
     type Entry: Drop;
 
-    /// What an entry stands for, and the format that tells it.
+    /// The model of an entry, and the format that defines it.
     ghost Told: { Type 0 };
 
     ghost list: { ListText Told };
 
     ghost told: { Self.Entry → Told };
 
-    /// The most bytes that a text may have, and the most entries.
+    /// Returns the size limit in bytes, and the limit on entries.
     fn limits(&self) -> (usize, usize)
         ensures limits { result ≡ (list.byte_limit, list.most) }
         ensures small { list.byte_limit < 2 ^ 32 };
 
-    /// The entry that a line tells, which is no comment, or why it tells none, however many stand before it.
+    /// Parses the entry of a line that is no comment, or returns the reason why it encodes none,
+    /// regardless of the number of entries before it.
     fn read_entry(&self, number: u32, line: &[u8]) -> Result<Self::Entry, LineFault<ListWhy>>
         ensures ok { IfOk result (λ entry. list.Tells number line.now (told entry)) }
         ensures err { (before : List Told) → IfErr result (HasReason (IsBad list number before line.now)) };
 }
 
-/// The entries that a text lists, or its first fault. A line tells one entry at most.
+/// Returns the entries of a file, or its first error. A line encodes at most one entry.
 pub fn read_list<R: EntryReader>(
     alloc: Global,
     reader: &R,
@@ -44,11 +45,11 @@ pub fn read_list<R: EntryReader>(
     requires one { TellsOne R.list }
     requires formed { TellsFormed R.list }
     ensures found { IfOk result (λ entries. IsReading (by_lines R.list) bytes.now (map R.told entries.items)) }
-    // A text that lists entries is refused for want of memory alone.
+    // A file of entries is rejected only if allocation fails.
     ensures only { (said : List R.Told) → IsReading (by_lines R.list) bytes.now said →
         MatchResult result (λ entries. map R.told entries.items ≡ said) (λ fault. fault ≡ TextFault.Memory) }
     ensures refused { IfErr result (HasCause (by_lines R.list) bytes.now) }
-    // A text has one first fault at most, and none where it lists entries.
+    // A file has at most one first error, and none if it parses to entries.
     ensures faulty { (line : ℕ) (why : Why) → HasFault (by_lines R.list) bytes.now line why →
         MatchResult result (λ entries. ⊥) (IsFault line why) }
 {

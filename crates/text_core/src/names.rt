@@ -1,4 +1,4 @@
-//! Names: one rule for hosts, labels and the segments of paths.
+//! Names: one rule for hosts, labels and path segments.
 
 ghost use Rattle.std.specs.Prelude.{◌≡◌, ◌==◌, ◌||◌};
 ghost use Rattle.std.specs.List.{list_all};

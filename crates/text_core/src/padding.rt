@@ -1,9 +1,9 @@
-//! A short text kept in an array of fixed size, so that it is copied without memory.
+//! A short string in an array of fixed size, so it is copied without allocation.
 
 ghost use Rattle.std.specs.Prelude.{◌≡◌, ◌≤◌, ◌++◌, drop, length};
 ghost use Rattle.text_core.specs.inner.Padded.{padded};
 
-/// The bytes of a text, and zeros after them.
+/// Returns the bytes of a text, followed by zeros.
 pub fn padded<const N: usize>(text: &[u8]) -> [u8; N]
     requires { length text.now ≤ N }
     ensures { result ≡ padded N text.now }

@@ -1,5 +1,5 @@
-//! Reading a text line by line: one loop for all readers. A reader says what a line adds, or why it
-//! cannot stand where it stands; the first line that cannot ends the reading.
+//! Parsing a file line by line: one loop for all parsers. A parser defines the effect of a line, or
+//! the reason why the line is rejected; the first rejected line ends the loop.
 
 ghost use Rattle.std.specs.Prelude.{◌≡◌, ◌<◌, ◌^◌, length, Ok, Err, IfOk, IfErr, IsFalse};
 ghost use Rattle.text_core.specs.Lines.{lines, is_comment};
@@ -9,27 +9,27 @@ ghost use Rattle.text_core.specs.inner.TextAnswers.{HasCause, HasReason, Passes,
 use crate::faults::{LineFault, TextFault};
 use crate::lines::{Lines, is_comment};
 
-/// What a reader holds between two lines.
+/// The state of a parser between two lines.
 pub trait LineReader: Sized + Drop {
-    /// Why a text is refused.
+    /// The reason to reject a file.
     type Why: Drop;
 
-    /// What lines have said, and the format that says it.
+    /// The model of the parser state, and the format that defines it.
     ghost Said: { Type 0 };
 
     ghost text: { TextByLines Said Self.Why };
 
     ghost said: { Self → Said };
 
-    /// What holds between two lines, for the reader's own use.
+    /// The invariant between two lines, private to the parser.
     ghost holds: { Self → Type 0 };
 
-    /// The most bytes that a text may have, and why a longer one is refused.
+    /// Returns the size limit in bytes, and the reason to reject a longer file.
     fn limit(&self) -> (usize, Self::Why)
         ensures limit { result ≡ (text.byte_limit, text.when_longer) }
         ensures small { text.byte_limit < 2 ^ 32 };
 
-    /// Reads one line more, which is no comment.
+    /// Parses one more line, which is no comment.
     fn read_line(self, number: u32, line: &[u8]) -> Result<Self, LineFault<Self::Why>>
         requires holds { holds self }
         requires not_comment { IsFalse (is_comment line.now) }
@@ -38,7 +38,7 @@ pub trait LineReader: Sized + Drop {
         ensures err { IfErr result (HasReason (text.IsBadLine number (said self) line.now)) };
 }
 
-/// Reads a text to its last line. Whether it may end there is for the caller to see.
+/// Parses a file to its last line. The caller checks whether the file may end there.
 pub fn read_lines<R: LineReader>(start: R, bytes: &[u8]) -> Result<R, TextFault<R::Why>>
     requires holds { R.holds start }
     requires start { R.said start ≡ R.text.start }
@@ -52,7 +52,7 @@ pub fn read_lines<R: LineReader>(start: R, bytes: &[u8]) -> Result<R, TextFault<
     }
 }
 
-/// Reads a text to its last line, as `read_lines` does, and answers how many lines it has beside.
+/// Parses a file to its last line, like `read_lines`, and also returns the number of lines.
 pub fn read_counted_lines<R: LineReader>(
     start: R,
     bytes: &[u8],
@@ -78,7 +78,7 @@ pub fn read_counted_lines<R: LineReader>(
     Ok((reader, number))
 }
 
-/// One line more, or a comment.
+/// Parses one more line, or skips a comment.
 fn read_one<R: LineReader>(reader: R, number: u32, line: &[u8]) -> Result<R, TextFault<R::Why>>
     requires { R.holds reader }
     ensures holds { IfOk result R.holds }

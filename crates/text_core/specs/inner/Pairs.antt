@@ -1,14 +1,15 @@
--- When no element is barred by an earlier one, and what the first is that is.
+-- Absence of conflicts between elements, and the first conflict.
 use Rattle.std.specs.Prelude.{◌≡◌, Bool, true, not, ◌&&◌, IsTrue, List, [], ◌∷◌, ◌++◌}
 use Rattle.std.specs.List.{list_all}
 use Rattle.text_core.specs.Firsts.{Pair}
 
--- no two stand in the relation, a later one to an earlier one
+-- No later element is in the relation with an earlier one.
 abbrev pub no_pair : {A : Type 0} → (A → A → Bool) → List A → Bool
 no_pair r [] = true
 no_pair r (x ∷ xs) = list_all (λ y. not (r y x)) xs && no_pair r xs
 
--- p is this pair: no element before p.later is barred by an earlier one, and p.earlier is the first element that bars p.later
+-- p is the first conflict: no element before p.later conflicts with an earlier one, and p.earlier is the first element with which p.later
+-- conflicts.
 pub record IsFirstPair {A : Type 0} (bars : A → A → Bool) (xs : List A) (p : Pair A) : Type 0 where
   pub before : List A
   pub between : List A
