@@ -1,16 +1,16 @@
--- Laws on what a sink took in several steps.
+-- Lemmas on the bytes that a sink accepted in several steps.
 use Rattle.std.proofs.Common.{◌≡◌, ℕ, ◌+◌, Option, None, Some, List, ◌++◌, refl, sym, ap, ◌∙◌, length, take, arith, append_assoc, length-append}
 use Rattle.std.proofs.Math.Seq.{take-append-add}
 use Rattle.std.proofs.lemmas.List.{take-append-le}
 use Rattle.std.specs.Io.KnownBytes.{append_known}
 use Rattle.edge_io.specs.Told.{TookPrefix}
 
--- two gains are one
+-- Two extensions are one.
 pub append_known-append : (known : Option (List ℕ)) (xs ys : List ℕ) → append_known (append_known known xs) ys ≡ append_known known (xs ++ ys)
 append_known-append None xs ys = refl
 append_known-append (Some bytes) xs ys = ap Some (append_assoc bytes xs ys)
 
--- a prefix of some bytes, after all that stands in front of them
+-- A prefix of some bytes, after all bytes that precede them.
 pub TookPrefix-after : (old now new : Option (List ℕ)) (front bytes rest : List ℕ) → now ≡ append_known old front
     → TookPrefix now new bytes → TookPrefix old new (front ++ (bytes ++ rest))
 TookPrefix-after old now new front bytes rest before p =

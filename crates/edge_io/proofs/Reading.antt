@@ -1,4 +1,4 @@
--- A read of the begun file takes the front of what was left.
+-- A read of the open file returns a prefix of the unread bytes.
 use Rattle.std.proofs.Common.{◌≡◌, ℕ, ◌+◌, Option, None, Some, List, [], ◌++◌, sym, ap, ◌∙◌, take, drop, take-append-drop, arith}
 use Rattle.std.proofs.Math.ListN.{drop_of_length-le}
 use Rattle.std.proofs.Math.Seq.{drop-drop}

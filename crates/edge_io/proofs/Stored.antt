@@ -1,4 +1,4 @@
--- The map of stored files, where one of them is sought, replaced or added.
+-- The map of stored files, if one of them is looked up, replaced or added.
 use Rattle.std.proofs.Common.{◌≡◌, ℕ, ◌+◌, ◌<◌, ◌≤◌, Bool, true, false, cond, not, Option, None, Some, List, [], ◌∷◌, ◌++◌, suc, IfSome, IfNone, IsSomeAnd, inl, inr, refl, subst, nat_lt, sym, ap, ◌∙◌, length, bytes_eq, string_bytes, arith}
 use Rattle.std.proofs.lemmas.Bool.Decides.{Decides-ltb, nat_tests}
 use Rattle.std.proofs.lemmas.Option.{slice_get_cases, slice_get_past}
@@ -14,12 +14,12 @@ use Rattle.edge_io.specs.Told.{Files}
 use Rattle.edge_io.specs.inner.StoredFiles.{is_named, files_in}
 use Rattle.edge_io.specs.declared.stored_files.StoredFile.{StoredFile}
 
--- the bytes of the first file of that name
+-- The bytes of the first file of that name.
 abbrev pub bytes_named : List ℕ → List StoredFile → Option (List ℕ)
 bytes_named name [] = None
 bytes_named name (file ∷ files) = cond (is_named name file) (Some file.bytes.items) (bytes_named name files)
 
--- ---- the map says what the files say
+-- ---- the map agrees with the files
 
 get-insert_text : (files : Files) (name bytes q : List ℕ) → get (insert files name bytes) q ≡ cond (bytes_eq q name) (Some bytes) (get files q)
 get-insert_text files name bytes q =
@@ -31,14 +31,14 @@ get-files_in (file ∷ files) q =
     get-insert_text (files_in files) (string_bytes file.name) file.bytes.items q
     ∙ ap (cond (is_named q file) (Some file.bytes.items)) (get-files_in files q)
 
--- the map of the new files is the old one with that entry, where each name says so
+-- The map of the new files is the old one with that entry, if this holds for each name.
 pub same_files : (new old : List StoredFile) (name bytes : List ℕ)
     → ((q : List ℕ) → bytes_named q new ≡ cond (bytes_eq q name) (Some bytes) (bytes_named q old)) → files_in new ≡ insert (files_in old) name bytes
 same_files new old name bytes says =
     same_map nat_list_cmp_total (slice_cmp-IsAntisymmetric nat_cmp-IsAntisymmetric) _ _
     (λ q. get-files_in new q ∙ says q ∙ sym (get-insert_text (files_in old) name bytes q ∙ ap (cond (bytes_eq q name) (Some bytes)) (get-files_in old q)))
 
--- ---- where the first file of a name stands
+-- ---- the index of the first file of a name
 
 later : (n : ℕ) → 1 + n ≡ suc n
 later n = omega arith
@@ -54,9 +54,9 @@ bytes_named-at name (file ∷ files) =
           ∙ sym (ap (λ place. option_map (λ (one : StoredFile). one.bytes.items) (slice_get (file ∷ files) place)) (later (position_or_len (is_named name) files)))
     ]
 
--- ---- a file of a name in place of the first one
+-- ---- a file that replaces the first one of its name
 
--- two tests that do not both hold may be made in either order
+-- Two tests that do not both hold may be evaluated in either order.
 swapped : {A : Type 0} (a b : Bool) (u v w : A) → (a ≡ true → b ≡ true → ⊥) → cond a u (cond b v w) ≡ cond b v (cond a u w)
 swapped true true u v w apart = absurd (apart refl refl)
 swapped true false u v w apart = refl
@@ -67,7 +67,7 @@ shadowed : {A : Type 0} (b : Bool) (u v w : A) → cond b u w ≡ cond b u (cond
 shadowed true u v w = refl
 shadowed false u v w = refl
 
--- a name is not that of a file with another name
+-- A name is not that of a file with another name.
 apart : (name q : List ℕ) (file : StoredFile) → is_named name file ≡ false → is_named q file ≡ true → bytes_eq q name ≡ true → ⊥
 apart name q file other this that =
     let here : q ≡ string_bytes file.name = (bytes_eq-Decides q (string_bytes file.name)).0 this in
@@ -75,7 +75,7 @@ apart name q file other this that =
     let named : is_named name file ≡ true = (bytes_eq-Decides name (string_bytes file.name)).1 (sym same ∙ here) in
     cc
 
--- in front of the files stands one, which has the name (`here`) or has not
+-- The first file has the name (`here`) or not.
 replaced_behind : (one : StoredFile) (files : List StoredFile) (name : List ℕ) (file : StoredFile) (q : List ℕ) (here : Bool)
     → string_bytes file.name ≡ name → is_named name one ≡ here
     → (here ≡ false → bytes_named q (slice_set files (position_or_len (is_named name) files) file) ≡ cond (bytes_eq q name) (Some file.bytes.items) (bytes_named q files))
@@ -102,7 +102,7 @@ bytes_named-replaced (one ∷ files) name file q named inside =
     let within : 1 + position_or_len (is_named name) files < length (one ∷ files) = subst P other inside in
     bytes_named-replaced files name file q named (omega arith))
 
--- ---- a file of a name that no other has, at the end
+-- ---- a file with a new name, at the end
 
 added_behind : (one : StoredFile) (files : List StoredFile) (name : List ℕ) (file : StoredFile) (q : List ℕ) (here : Bool)
     → is_named name one ≡ here → length (one ∷ files) ≤ cond (not here) (1 + position_or_len (is_named name) files) 0
@@ -120,7 +120,7 @@ bytes_named-added [] name file q named outside = ap (λ known. cond (bytes_eq q 
 bytes_named-added (one ∷ files) name file q named outside =
     added_behind one files name file q (is_named name one) refl outside (bytes_named-added files name file q named)
 
--- ---- what `position` says
+-- ---- the result of `position`
 
 position_cases : (b : Bool) (j i : ℕ) → Some i ≡ cond b (Some j) None → (b ≡ true) × (i ≡ j)
 position_cases true j i is = (refl, cc)
@@ -157,7 +157,7 @@ files_in-added stored shown new name bytes file named held same is grown =
     ∙ same_files (stored ++ file ∷ []) stored name file.bytes.items (λ q. bytes_named-added stored name file q named missing)
     ∙ ap (insert (files_in stored) name) held
 
--- ---- what a place says of the map
+-- ---- an index, in terms of the map
 
 named_at : (stored : List StoredFile) (name : List ℕ) (place : ℕ) (there : Option StoredFile) → place < length stored → slice_get stored place ≡ there
     → get (files_in stored) name ≡ option_map (λ (file : StoredFile). file.bytes.items) there

@@ -1,10 +1,10 @@
--- Counts of 64 bits that stand still at their last value.
+-- Saturating 64-bit counts.
 use Rattle.std.specs.Prelude.{ℕ, ◌+◌, ◌-◌, ◌^◌, ◌≤◌, min}
 
--- the count after n more; its last value is 18,446,744,073,709,551,615
+-- The count after n more. It saturates at 18,446,744,073,709,551,615.
 abbrev pub more : ℕ → ℕ → ℕ
 more count n = min (count + n) (2 ^ 64 - 1)
 
--- the count rose: it is greater than before, or it stands at its last value
+-- The count increased: it is greater than before, or it is saturated.
 abbrev pub Rose : ℕ → ℕ → Type 0
 Rose before now = more before 1 ≤ now

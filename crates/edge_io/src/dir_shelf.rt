@@ -1,4 +1,5 @@
-//! The files of the system as a shelf. Names are paths, and nothing is told of their content.
+//! The files of the operating system as a shelf. Names are paths, and the contents are not
+//! observable.
 ghost use Rattle.std.specs.Prelude.{◌≡◌, false, None, is_some, refl};
 ghost use Rattle.std.specs.Option.{option_and_then};
 ghost use Rattle.std.specs.Io.KnownBytes.{ReadConsumes};
@@ -21,8 +22,7 @@ pub struct DirShelf<'a, R: Files> {
 }
 
 impl<'a, R: Files> DirShelf<'a, R> {
-    /// A shelf of which no file is begun yet. Names that are not absolute start at the directory
-    /// that the program runs in.
+    /// Returns a shelf without open file. Relative names start at the working directory.
     pub fn new(rt: &'a R) -> DirShelf<'a, R>
         ensures none_begun { ⟦<DirShelf<'a, R> as Shelf>⟧.begun result ≡ false }
         ensures no_begins { ⟦<DirShelf<'a, R> as Shelf>⟧.begins result ≡ 0 }
@@ -54,7 +54,7 @@ impl<'a, R: Files> Shelf for DirShelf<'a, R> {
 
     ghost begin_gives = { λ old _ result new. CountsFault result old.faults new.faults };
 
-    // What is answered as moved came from the file, where the file tells what it has left.
+    // The bytes that are returned come from the file, if the file's remaining bytes are observable.
     ghost read_gives = { λ old into result new.
         ReadConsumes (option_and_then R.File.remaining old.file) (option_and_then R.File.remaining new.file) result into
         × CountsFault result old.faults new.faults };

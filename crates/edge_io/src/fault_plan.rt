@@ -1,5 +1,5 @@
-//! Planned faults, for the objects in memory: their calls are numbered from 1, and the calls of
-//! given numbers fail. Numbers and faults have 64 bits and stand still at their last value.
+//! Planned faults for the objects in memory: their calls are numbered from 1, and the calls with
+//! given numbers fail. Numbers and faults are saturating 64-bit counts.
 ghost use Rattle.std.specs.Prelude.{◌≡◌, ◌==◌, ◌≤◌, is_err, OnOk};
 ghost use Rattle.std.specs.List.{list_any};
 
@@ -24,7 +24,7 @@ impl Model for FaultPlan {
 impl FaultPlan {
     ghost use Rattle.edge_io.specs.inner.FaultPlan.{fresh, fails_next, after_call, with_fault};
 
-    /// A plan before the first call, with the numbers of the calls that fail.
+    /// Returns a plan before the first call, with the numbers of the calls that fail.
     pub(crate) fn new(fails: Vec<u32>) -> FaultPlan
         ensures { result ≡ fresh fails.items }
     {
@@ -35,7 +35,7 @@ impl FaultPlan {
         }
     }
 
-    /// Numbers a call, and fails it where its number is listed.
+    /// Numbers a call, and fails if its number is listed.
     pub(crate) fn count_call(&mut self) -> Result<(), Failed>
         ensures answer { is_err result ≡ fails_next self.old }
         ensures after { self.new ≡ after_call self.old }

@@ -1,20 +1,20 @@
-//! How reading and writing fail.
+//! The errors of reading and writing.
 
-/// An outside object failed. Its count of faults says so, or a shelf has no file of the name.
+/// The underlying file or stream failed and counted a fault, or the shelf has no file of this name.
 #[derive(Clone, Copy, Debug, PartialEq, Eq)]
 pub struct Failed;
 
-/// A sink failed before it had taken everything.
+/// A sink failed before it accepted all bytes.
 #[derive(Clone, Copy, Debug, PartialEq, Eq)]
 pub struct WriteFault;
 
-/// Why a file was not taken whole.
+/// The reason why reading a whole file failed.
 #[derive(Clone, Copy, Debug, PartialEq, Eq)]
 pub enum TakeFault {
-    /// The shelf failed, or has no file of the name.
+    /// The shelf failed, or has no file of this name.
     Read,
     /// The file has more bytes than the limit.
     TooLong,
-    /// There is no memory for the bytes.
+    /// Memory allocation failed.
     Memory,
 }

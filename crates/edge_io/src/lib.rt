@@ -1,7 +1,7 @@
-//! Where files come from and where texts go. A shelf gives named files and a sink takes bytes; both
-//! count their faults, so that a caller's contract can say that a fault was met and not made up.
-//! `take_all` takes a whole file and `put_all` puts a whole piece. There are shelves and sinks in
-//! memory, which tell all that they hold, and over the files and streams of the system.
+//! Input and output. A shelf provides named files and a sink accepts bytes; both count their
+//! faults, so the contract of a caller can state that an error is genuine. `take_all` reads a whole
+//! file and `put_all` writes a whole piece. There are shelves and sinks in memory, whose contents
+//! are observable, and over the files and streams of the operating system.
 #![tactic(auto)]
 
 mod begun;

@@ -1,5 +1,5 @@
-//! A shelf in memory, for tests and for runs on given files. It tells all its files, and fails as it
-//! was told to: calls of certain numbers.
+//! A shelf in memory, for tests and for runs on given files. All its files are observable, and
+//! calls with given numbers fail.
 ghost use Rattle.std.specs.Prelude.{◌≡◌, Some, OnOk, OnErr};
 
 use crate::begun::{Begun, bytes_left, move_front};
@@ -9,7 +9,7 @@ use crate::{Failed, Shelf};
 use std::alloc::{AllocError, Global};
 use std::marker::Model;
 
-/// Named files in memory. A name that was not put is no fault: `begin` fails and counts none.
+/// Named files in memory. A missing name is not a fault: `begin` fails and counts none.
 #[derive(Drop)]
 pub struct MemShelf {
     alloc: Global,
@@ -48,8 +48,8 @@ impl MemShelf {
     ghost use Rattle.edge_io.specs.Failures.{ShelfCountsOnlyFailures};
     ghost use Rattle.edge_io.specs.inner.MemShelf.{fresh_shelf, with_file};
 
-    /// A shelf without files. `fails` has the numbers of the calls of `begin` and `read` that fail;
-    /// the first call has number 1.
+    /// Returns a shelf without files. `fails` has the numbers of the calls of `begin` and `read`
+    /// that fail; the first call has number 1.
     pub fn new(alloc: Global, fails: Vec<u32>) -> MemShelf
         ensures fresh { result ≡ fresh_shelf fails.items }
         ensures counts { ShelfCountsOnlyFailures ⟦<MemShelf as Shelf>⟧ }
@@ -64,7 +64,7 @@ impl MemShelf {
         }
     }
 
-    /// Puts a file on the shelf, in place of the one that had the name.
+    /// Puts a file on the shelf, and replaces an existing file with the name.
     pub fn put(&mut self, name: &str, bytes: &[u8]) -> Result<(), AllocError>
         ensures ok { OnOk result (self.new ≡ with_file self.old name.now bytes.now) }
         ensures err { OnErr result (self.new ≡ self.old) }

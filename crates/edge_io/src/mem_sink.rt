@@ -1,5 +1,5 @@
-//! A sink in memory, for tests and for runs on given files. It tells all that it took, and fails as
-//! it was told to: writes of certain numbers, and writes that find no room.
+//! A sink in memory, for tests and for runs on given files. Its bytes are observable. Writes with
+//! given numbers fail, and so do writes to a full sink.
 ghost use Rattle.std.specs.Prelude.{◌≡◌, ◌<◌, Some, IfOk};
 
 use crate::fault_plan::FaultPlan;
@@ -7,7 +7,7 @@ use crate::{Failed, Sink};
 use std::alloc::{AllocError, Global};
 use std::marker::Model;
 
-/// A sink of limited room that takes at most `grain` bytes in one write.
+/// A sink of limited capacity that accepts at most `grain` bytes in one write.
 #[derive(Drop)]
 pub struct MemSink {
     bytes: Vec<u8>,
@@ -32,8 +32,8 @@ impl MemSink {
     ghost use Rattle.edge_io.specs.inner.Calls.{CountsOnce};
     ghost use Rattle.edge_io.specs.inner.MemSink.{fresh_sink};
 
-    /// A sink with room for `room` bytes. `fails` has the numbers of the writes that fail; the first
-    /// write has number 1.
+    /// Returns a sink with a capacity of `room` bytes. `fails` has the numbers of the writes that
+    /// fail; the first write has number 1.
     pub fn new(
         alloc: Global,
         room: usize,
@@ -53,7 +53,7 @@ impl MemSink {
         })
     }
 
-    /// What the sink took.
+    /// Returns the accepted bytes.
     pub fn bytes(&self) -> &[u8]
         ensures { result.now ≡ self.now.bytes }
     {

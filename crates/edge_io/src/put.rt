@@ -1,4 +1,4 @@
-//! Putting pieces into a sink, whole or up to a fault.
+//! Writing pieces to a sink, completely or up to a fault.
 ghost use Rattle.std.specs.Prelude.{◌≡◌, ◌≤◌, OnOk, OnErr};
 ghost use Rattle.std.specs.Io.KnownBytes.{append_known};
 ghost use Rattle.edge_io.specs.Counts.{Rose};
@@ -8,7 +8,8 @@ ghost use Rattle.edge_io.specs.inner.Calls.{CountsFault, CountsOnce, joined};
 
 use crate::{Sink, WriteFault};
 
-/// Puts the whole piece into the sink, in as many writes as it takes, and stops at the first fault.
+/// Writes the whole piece to the sink, in as many writes as necessary, and stops at the first
+/// fault.
 pub fn put_all<O: Sink>(sink: &mut O, piece: &[u8]) -> Result<(), WriteFault>
     ensures prefix { TookPrefix (O.held sink.old) (O.held sink.new) piece.now }
     ensures whole { OnOk result (O.held sink.new ≡ append_known (O.held sink.old) piece.now) }
@@ -17,7 +18,7 @@ pub fn put_all<O: Sink>(sink: &mut O, piece: &[u8]) -> Result<(), WriteFault>
     ensures no_fault { CountsOnlyFailures O.faults O.write_gives →
         OnOk result (O.faults sink.new ≡ O.faults sink.old) }
 
-    // No write after the one that failed.
+    // There is no write after the one that failed.
     ensures first_fault { CountsOnce O.faults O.write_gives →
         CountsFault result (O.faults sink.old) (O.faults sink.new) }
 {
@@ -31,7 +32,7 @@ pub fn put_all<O: Sink>(sink: &mut O, piece: &[u8]) -> Result<(), WriteFault>
     Ok(())
 }
 
-/// Puts the pieces into the sink one after the other, as one text, and stops at the first fault.
+/// Writes the pieces to the sink in order, as one text, and stops at the first fault.
 pub fn put_pieces<O: Sink>(sink: &mut O, pieces: &[&[u8]]) -> Result<(), WriteFault>
     ensures prefix { TookPrefix (O.held sink.old) (O.held sink.new) (joined pieces.now) }
     ensures whole { OnOk result (O.held sink.new ≡ append_known (O.held sink.old) (joined pieces.now)) }
@@ -40,11 +41,11 @@ pub fn put_pieces<O: Sink>(sink: &mut O, pieces: &[&[u8]]) -> Result<(), WriteFa
     ensures no_fault { CountsOnlyFailures O.faults O.write_gives →
         OnOk result (O.faults sink.new ≡ O.faults sink.old) }
 
-    // No write after the one that failed.
+    // There is no write after the one that failed.
     ensures first_fault { CountsOnce O.faults O.write_gives →
         CountsFault result (O.faults sink.old) (O.faults sink.new) }
 
-    // Whole too where the answer is not looked at, as long as there was no fault.
+    // The text is complete if there was no fault, even if the result is not checked.
     ensures whole_without_fault { ¬ Rose (O.faults sink.old) (O.faults sink.new) →
         O.held sink.new ≡ append_known (O.held sink.old) (joined pieces.now) }
 {

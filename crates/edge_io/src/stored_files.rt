@@ -1,4 +1,4 @@
-//! The files of a shelf in memory, each name once.
+//! The files of a shelf in memory; names are unique.
 ghost use Rattle.std.specs.Prelude.{◌≡◌, IfSome, IsSomeAnd, IfNone, OnOk, OnErr, slice_get};
 ghost use Rattle.std.specs.List.{position};
 ghost use Rattle.std.specs.FinMap.{get, insert};
@@ -12,7 +12,7 @@ pub(crate) struct StoredFile {
     pub(crate) bytes: Vec<u8>,
 }
 
-/// Where the file of that name stands. It has the bytes that the map has under the name.
+/// Returns the index of the file of that name. Its bytes are those of the map under the name.
 pub(crate) fn place_of(stored: &[StoredFile], name: &str) -> Option<usize>
     ensures found { IfSome result (λ place. IsSomeAnd (slice_get stored.now place) (λ file.
         get (files_in stored.now) name.now ≡ Some file.bytes.items)) }
@@ -27,7 +27,7 @@ fn position_of(stored: &[StoredFile], name: &str) -> Option<usize>
     stored.iter().position(|file| name == file.name.as_str())
 }
 
-/// Keeps the bytes under that name, in place of those that it had.
+/// Stores the bytes under that name, and replaces existing ones.
 pub(crate) fn put_file(
     alloc: Global,
     stored: &mut Vec<StoredFile>,

@@ -1,4 +1,4 @@
-//! A stream of the system as a sink. Nothing is told of what it took.
+//! A stream of the operating system as a sink. The accepted bytes are not observable.
 ghost use Rattle.std.specs.Prelude.{◌≡◌, None};
 ghost use Rattle.std.specs.Io.KnownBytes.{WriteAppends};
 ghost use Rattle.edge_io.specs.Failures.{CountsOnlyFailures};
@@ -7,8 +7,8 @@ ghost use Rattle.edge_io.specs.inner.Calls.{CountsFault, CountsOnce};
 use crate::{Failed, Sink};
 use std::io::Write;
 
-/// A sink over a stream. Each error of the stream is a fault, and so is a write that took nothing of
-/// a piece that is not empty. The stream is not flushed: give one that holds nothing back.
+/// A sink over a stream. Each error of the stream is a fault, and so is a write that accepts
+/// nothing of a nonempty piece. The stream is not flushed, so it must be unbuffered.
 #[derive(Drop)]
 pub struct StreamSink<W: Write + Drop> {
     inner: W,
@@ -16,7 +16,7 @@ pub struct StreamSink<W: Write + Drop> {
 }
 
 impl<W: Write + Drop> StreamSink<W> {
-    /// A sink over `inner`, without faults yet.
+    /// Returns a sink over `inner`, without faults so far.
     pub fn new(inner: W) -> StreamSink<W>
         ensures no_faults { ⟦<StreamSink<W> as Sink>⟧.faults result ≡ 0 }
         ensures counts_once { CountsOnce ⟦<StreamSink<W> as Sink>⟧.faults ⟦<StreamSink<W> as Sink>⟧.write_gives }
@@ -31,7 +31,8 @@ impl<W: Write + Drop> Sink for StreamSink<W> {
 
     ghost faults = { λ s. s.faults };
 
-    // What is answered as taken went to the stream, where the stream tells what it holds.
+    // The bytes that are reported as accepted went to the stream, if the stream's bytes are
+    // observable.
     ghost write_gives = { λ old piece result new.
         WriteAppends (W.contents old.inner) (W.contents new.inner) result piece × CountsFault result old.faults new.faults };
 

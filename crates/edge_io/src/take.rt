@@ -1,4 +1,4 @@
-//! Taking a whole file off a shelf, piece by piece and never past a limit.
+//! Reading a whole file of a shelf in chunks, within a limit.
 ghost use Rattle.std.specs.Prelude.{◌≡◌, ◌+◌, ◌^◌, ◌≤◌, ◌<◌, ◌↔◌, ◌⊎◌, IsTrue, IfOk, IfSome, IsSomeAnd, OnOk, IsErrOf, length, vec_len};
 ghost use Rattle.std.specs.Io.KnownBytes.{IsAtEnd};
 ghost use Rattle.std.specs.FinMap.{get};
@@ -10,8 +10,8 @@ ghost use Rattle.edge_io.specs.inner.Take.{answer_for, outcome_of};
 use crate::{Shelf, TakeFault};
 use std::alloc::Global;
 
-/// Begins the file of that name and reads it to its end. Of a file that is longer than `limit`, at
-/// most 64 MiB, it takes one byte too many and no more.
+/// Opens the file of that name and reads it to its end. `limit` is at most 64 MiB. Of a longer file
+/// it reads at most one byte more than `limit`.
 pub fn take_all<H: Shelf>(
     alloc: Global,
     shelf: &mut H,
@@ -24,26 +24,28 @@ pub fn take_all<H: Shelf>(
     ensures faults_stay { H.faults shelf.old ≤ H.faults shelf.new }
     ensures most { H.taken shelf.new ≤ limit + 1 }
 
-    // The bytes that were taken, up to the end of the file.
+    // The number of bytes that were read, up to the end of the file.
     ensures count { IfOk result (λ bytes. vec_len bytes ≡ H.taken shelf.new) }
     ensures within { IfOk result (λ bytes. vec_len bytes ≤ limit) }
     ensures at_end { OnOk result (IsTrue (H.begun shelf.new) × IsAtEnd (H.left shelf.new)) }
     ensures whole { IfOk result (λ bytes. IfSome (H.files shelf.old) (λ files.
         get files name.now ≡ Some bytes.items)) }
 
-    // Each refusal has its cause.
+    // Each error has its cause.
     ensures read { IsErrOf result TakeFault.Read →
         Rose (H.faults shelf.old) (H.faults shelf.new) ⊎ Lacks (H.files shelf.old) name.now }
     ensures too_long { IsErrOf result TakeFault.TooLong ↔ (H.taken shelf.new ≡ limit + 1) }
     ensures longer { IsErrOf result TakeFault.TooLong → IfSome (H.files shelf.old) (λ files.
         IsSomeAnd (get files name.now) (λ bytes. limit < length bytes)) }
 
-    // Only Read counts a fault, where only failures do, and only a begun file finds no memory.
+    // Only `Read` counts a fault, if faults are counted only for failures, and memory can run out
+    // only for an open file.
     ensures no_fault { ShelfCountsOnlyFailures H.Shelf →
         IsErrOf result TakeFault.Read ⊎ (H.faults shelf.new ≡ H.faults shelf.old) }
     ensures memory { IsErrOf result TakeFault.Memory → IsTrue (H.begun shelf.new) }
 
-    // Without a fault, what a told file calls for is answered, or there is no memory.
+    // Without a fault, the result is the one that the observable file determines, or memory ran
+    // out.
     ensures complete { ¬ Rose (H.faults shelf.old) (H.faults shelf.new) → IfSome (H.files shelf.old) (λ files.
         (outcome_of result ≡ answer_for limit (get files name.now)) ⊎ IsErrOf result TakeFault.Memory) }
 {
@@ -53,7 +55,7 @@ pub fn take_all<H: Shelf>(
     take_rest(alloc, shelf, limit)
 }
 
-/// Reads the begun file, of which nothing is taken yet, to its end.
+/// Reads the open file, of which nothing is read yet, to its end.
 fn take_rest<H: Shelf>(alloc: Global, shelf: &mut H, limit: usize) -> Result<Vec<u8>, TakeFault>
     requires small { limit ≤ 2 ^ 26 }
     requires begun { IsTrue (H.begun shelf.old) }
@@ -91,5 +93,5 @@ fn take_rest<H: Shelf>(alloc: Global, shelf: &mut H, limit: usize) -> Result<Vec
     }
 }
 
-/// How many bytes one read asks for at most.
+/// The greatest number of bytes that one read requests.
 const PIECE: usize = 4096;

@@ -1,4 +1,4 @@
--- A shelf in memory as contracts see it, and what its calls do.
+-- The model of a shelf in memory, and the effects of its calls.
 use Rattle.std.specs.Prelude.{◌≡◌, ℕ, ◌||◌, Bool, false, not, Option, None, Some, Result, min, if◌then◌else◌, List, [], length, drop, is_none, is_err, IfOk}
 use Rattle.std.specs.FinMap.{empty, get, insert}
 use Rattle.edge_io.specs.declared.faults.Failed.{Failed}
@@ -6,7 +6,7 @@ use Rattle.edge_io.specs.Counts.{more}
 use Rattle.edge_io.specs.inner.FaultPlan.{Plan, fresh, fails_next, after_call}
 use Rattle.edge_io.specs.Told.{Files}
 
--- its files, whether one is begun, the bytes of that one that are left, its counts, and its planned faults
+-- The model: its files, whether one is open, the unread bytes of the open file, its counts, and its planned faults.
 pub record Shelved : Type 0 where
   pub files : Files
   pub begun : Bool
@@ -15,24 +15,24 @@ pub record Shelved : Type 0 where
   pub begins : ℕ
   pub plan : Plan
 
--- a shelf without files, before the first call
+-- A shelf without files, before the first call.
 abbrev pub fresh_shelf : List ℕ → Shelved
 fresh_shelf fails = record { files = empty; begun = false; left = []; taken = 0; begins = 0; plan = fresh fails }
 
--- the shelf after a file was put: no file is begun
+-- The shelf after a file was put: no file is open.
 abbrev pub with_file : Shelved → List ℕ → List ℕ → Shelved
 with_file shelf name bytes = record shelf { files = insert shelf.files name bytes; begun = false; left = [] }
 
--- a call of `begin` fails by its number, and for a name that was not put
+-- A call of `begin` fails by its number, or if no file has the name.
 abbrev pub fails_to_begin : Shelved → List ℕ → Bool
 fails_to_begin shelf name = fails_next shelf.plan || is_none (get shelf.files name)
 
--- the bytes that are left after a call of `begin`
+-- The unread bytes after a call of `begin`.
 abbrev pub left_of : Option (List ℕ) → List ℕ
 left_of None = []
 left_of (Some bytes) = bytes
 
--- the shelf after a call of `begin`: a name that was not put leaves the count of faults as it was
+-- The shelf after a call of `begin`. A missing name does not change the count of faults.
 abbrev pub after_begin : Shelved → List ℕ → Shelved
 after_begin shelf name =
     record {
@@ -44,17 +44,18 @@ after_begin shelf name =
       plan = after_call shelf.plan;
     }
 
--- what `begin` answers and leaves
+-- The result and the effect of `begin`.
 pub record Begins (old : Shelved) (name : List ℕ) (result : Result (Unit {0}) Failed) (new : Shelved) : Type 0 where
   pub fails : is_err result ≡ fails_to_begin old name
   pub after : new ≡ after_begin old name
 
--- the shelf after a read that does not fail, into so much room
+-- The shelf after a successful read into a buffer of this size.
 abbrev pub after_read : Shelved → ℕ → Shelved
 after_read shelf room =
     record shelf { left = drop room shelf.left; taken = more shelf.taken (min room (length shelf.left)); plan = after_call shelf.plan }
 
--- what `read` answers and leaves: it fails by its number alone, and else fills `into` as far as there are bytes
+-- The result and the effect of `read`: it fails only by its number, and otherwise fills `into` as far as there are
+-- bytes.
 pub record Reads (old : Shelved) (into : List ℕ) (result : Result ℕ Failed) (new : Shelved) : Type 0 where
   pub fails : is_err result ≡ fails_next old.plan
   pub count : IfOk result (λ n. n ≡ min (length into) (length old.left))

@@ -1,4 +1,4 @@
--- How the value of a shelf in memory is stored, by which proofs tell two such values apart.
+-- The stored form of a shelf in memory, by which proofs distinguish two such values.
 use Rattle.std.specs.Prelude.{ℕ, Bool, List, refl}
 use Rattle.std.specs.Coded.{Coded, code_by, coded×, coded_ℕ, coded_bool, coded_list}
 use Rattle.std.specs.FinMap.{code}

@@ -3,7 +3,7 @@ use Rattle.std.proofs.Math.Seq.{take_all}
 use Rattle.edge_io.proofs.Pieces.{took_more}
 use Rattle.edge_io.proofs.put.put_all.Goals as goal
 
--- the write takes the next bytes after those that are put
+-- The write accepts the next bytes after those written.
 pub loop-done-preserved : goal.loop-done-preserved
 loop-done-preserved g c =
     let piece = c.args.piece.now in

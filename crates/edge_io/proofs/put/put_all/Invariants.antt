@@ -1,4 +1,4 @@
--- The first `done` bytes of the piece are put.
+-- The first `done` bytes of the piece are written.
 use Rattle.std.proofs.Common.{◌≡◌, ◌≤◌, ◌-◌, length, take}
 use Rattle.std.specs.Io.KnownBytes.{append_known}
 use Rattle.edge_io.specs.Failures.{CountsOnlyFailures}

@@ -7,14 +7,14 @@ use Rattle.edge_io.proofs.PutLaws.{TookPrefix-after}
 use Rattle.edge_io.proofs.Pieces.{joined_at, TookPrefix-all}
 use Rattle.edge_io.proofs.put.put_pieces.Goals as goal
 
--- a fault stops within a piece, after those that are put
+-- A fault stops within a piece, after those that are written.
 pub returns-in_err-put_all-clause-prefix : goal.returns-in_err-put_all-clause-prefix
 returns-in_err-put_all-clause-prefix g c =
     subst (λ (bytes : List ℕ). TookPrefix (g.O.Sink.held c.args.sink.now) (g.O.Sink.held c.put_all.new.sink) bytes)
     (sym (joined_at c.args.pieces.now c.loop-piece.piece-index _ c.loop-piece-test.true))
     (TookPrefix-after _ _ _ _ _ _ c.loop-piece.invariant.taken c.in_err-put_all.ensures.prefix)
 
--- after the last piece all of them are put
+-- After the last piece all of them are written.
 pub returns-clause-prefix : goal.returns-clause-prefix
 returns-clause-prefix g c =
     TookPrefix-all _ _ _ (c.loop-piece.invariant.taken

@@ -1,4 +1,4 @@
--- The pieces before `piece` are put.
+-- The pieces before `piece` are written.
 use Rattle.std.proofs.Common.{◌≡◌, ◌≤◌, take}
 use Rattle.std.specs.Io.KnownBytes.{append_known}
 use Rattle.edge_io.specs.Failures.{CountsOnlyFailures}

@@ -1,4 +1,4 @@
--- What was taken so far stands in `bytes`, in front of what is left, and fits the limit.
+-- The bytes read so far are in `bytes`, before the unread ones, and are within the limit.
 use Rattle.std.proofs.Common.{◌≡◌, ◌≤◌, ◌-◌, IsTrue, vec_len}
 use Rattle.std.specs.Io.KnownBytes.{prepend_known}
 use Rattle.edge_io.specs.Failures.{ShelfCountsOnlyFailures}

@@ -3,7 +3,7 @@ use Rattle.edge_io.specs.inner.MemShelf.{Shelved}
 use Rattle.edge_io.proofs.Reading.{front_moved}
 use Rattle.edge_io.proofs.mem_shelf.MemShelfShelf.read.Goals as goal
 
--- what was left is what was moved, in front of what is left now
+-- The unread bytes before are the bytes that were moved, followed by the unread bytes now.
 pub returns-clause-moved : goal.returns-clause-moved
 returns-clause-moved c =
     ap Some
