@@ -1,4 +1,4 @@
--- Hosts that are hosts together are not refused one after the other.
+-- Each host of a valid network is accepted after the hosts before it.
 use Rattle.std.proofs.Common.{◌≡◌, ℕ, suc, ◌+◌, ◌≤◌, ◌<◌, Bool, true, false, not, ◌&&◌, ◌||◌, nat_lt, nat_le, List, [], ◌∷◌, ◌++◌, length, None, refl, sym, ap, ◌∙◌, arith, append-nil, append_assoc, length-append}
 use Rattle.std.proofs.lemmas.Bool.{and_parts, not-true}
 use Rattle.std.proofs.lemmas.Bool.Decides.{nat_tests}
@@ -21,14 +21,14 @@ use Rattle.host_net.specs.inner.Refusal.{is_full, overlap, overlap_from, refusal
 use Rattle.host_net.specs.declared.prefix.Prefix.{Prefix}
 use Rattle.host_net.specs.declared.refusal.HostRefusal.TheVariants.{TooMany, BadName, Duplicate, NoAddress, TwoRests}
 
--- a search finds nothing where no element passes
+-- A search finds nothing if no element passes.
 none_placed : {A : Type 0} (p : A → Bool) (k : ℕ) (xs : List A) → list_all (λ x. not (p x)) xs ≡ true → position_from p k xs ≡ None
 none_placed p k [] h = refl
 none_placed p k (x ∷ xs) h =
     let (here, behind) = and_parts (not (p x)) _ h in
     rw (not-true (p x) here) (none_placed p (k + 1) xs behind)
 
--- the search for a prefix that meets p among those of others and its own
+-- The search for a prefix that overlaps p, in the lists of the others and in its own list.
 none_in : (t : Prefix → Bool) (ps : List Prefix) → list_all (λ q. not (t q)) ps ≡ true → list_any t ps ≡ false
 none_in t [] h = refl
 none_in t (p ∷ ps) h =
@@ -52,12 +52,12 @@ no_overlap owned own (p ∷ ps) h =
     sym (append_assoc (others ++ own) (p ∷ []) ps) ∙ ap (λ qs. qs ++ ps) (append_assoc others own (p ∷ [])) in
     rw alone (no_overlap owned (own ++ p ∷ []) ps (ap (no_pair meets) (sym regrouped) ∙ h))
 
--- the prefixes of all, host by host
+-- The prefixes of all, host by host.
 pub joined_lists : (hs : List Host) → flat_map (λ ps. ps) (prefix_lists hs) ≡ all_prefixes hs
 joined_lists [] = refl
 joined_lists (h ∷ hs) = ap (λ qs. h.prefixes ++ qs) (joined_lists hs)
 
--- the prefixes of a host between others
+-- The prefixes of a host between others.
 prefixes_around : (before : List Host) (h : Host) (after : List Host) → all_prefixes (before ++ h ∷ after) ≡ all_prefixes before ++ (h.prefixes ++ all_prefixes after)
 prefixes_around before h after = flat_map-append (λ (g : Host). g.prefixes) before (h ∷ after)
 
@@ -71,14 +71,14 @@ apart before h after known =
     ap (λ qs. qs ++ h.prefixes) (append-nil (flat_map (λ (ps : List Prefix). ps) (prefix_lists before)) ∙ joined_lists before) in
     no_overlap (prefix_lists before) [] h.prefixes (ap (no_pair meets) listed ∙ front)
 
--- the networks of a host between others
+-- The networks of a host between others.
 pub networks_of : (before : List Host) (h : Host) (after : List Host) → IsHosts (before ++ h ∷ after) → list_all is_network h.prefixes ≡ true
 networks_of before h after known =
     let whole = list_all-append is_network (all_prefixes before) (h.prefixes ++ all_prefixes after) in
     let (_, behind) = and_parts (list_all is_network (all_prefixes before)) _ (sym whole ∙ ap (list_all is_network) (sym (prefixes_around before h after)) ∙ known.networks) in
     let (here, _) = and_parts (list_all is_network h.prefixes) _ (sym (list_all-append is_network h.prefixes (all_prefixes after)) ∙ behind) in here
 
--- cause by cause
+-- Cause by cause.
 room_by : (a b c d : ℕ) → b < a → d ≤ c → (nat_le a b || nat_lt c d) ≡ false
 room_by a b c d fewer within = grind (arith, nat_tests)
 
@@ -93,7 +93,7 @@ rest_alone : (before : List Host) (rest : Bool) → list_all (λ g. not (rest &&
 rest_alone before true h = ap (option_map TwoRests) (none_placed (λ (g : Host). g.rest) 0 before h)
 rest_alone before false h = refl
 
--- a host between others has no cause to be refused after those before it
+-- A host of a valid network has no cause to be refused after those before it.
 pub accepted : (before : List Host) (h : Host) (after : List Host) → IsHosts (before ++ h ∷ after) → refusal_of before h.name h.prefixes h.rest ≡ None
 unfolding refusal_of
 accepted before h after known =

@@ -1,4 +1,4 @@
--- Keys in order, the first of them that has the bits of two addresses, and an index with one more key.
+-- Sorted keys, the first key with the bits of two addresses, and an index with one more key.
 use Rattle.std.proofs.Common.{◌≡◌, ℕ, zero, suc, ◌+◌, ◌-◌, ◌*◌, ◌^◌, ◌≤◌, ◌<◌, ◌⊎◌, inl, inr, Bool, true, false, List, [], ◌∷◌, ◌++◌, length, get_or, drop, append_assoc, slice_get, slice_index_or, Option, Some, None, Result, Ok, Err, OnErr, refl, sym, ap, ◌∙◌, subst, arith, length-append, true≢false}
 use Rattle.std.specs.Prelude.{Contains, ◌==◌, ◌&&◌, nat_le, if◌then◌else◌}
 use Rattle.std.specs.Bool.{Decides}
@@ -22,7 +22,7 @@ use Rattle.host_net.specs.inner.CoverView.{AreFirst, AreInOrder, AreIndexOf, Are
 use Rattle.host_net.specs.Prefix.{front}
 use Rattle.host_net.proofs.PrefixLaws.{covers_front, front_covers}
 
--- what a loop reads at a place that is not there
+-- The value that a loop reads at an index out of bounds.
 abbrev pub no_group : Group
 no_group = record { lengths = record { src = 0; dst = 0 }; first = 0 }
 
@@ -31,7 +31,7 @@ no_key = record { lengths = record { src = 0; dst = 0 }; src = 0; dst = 0; place
 
 -- ---- the order of keys
 
--- with the same bits the place decides
+-- Among keys with the same bits the index decides.
 pub rank_later : (p k : Key) → SameBits k p → p.place ≤ k.place → rank p ≤ rank k
 unfolding rank
 rank_later p k same later = omega (arith, same.src_length, same.dst_length, same.src, same.dst, later)
@@ -40,7 +40,7 @@ pub later_rank : (p k : Key) → SameBits k p → rank p ≤ rank k → p.place 
 unfolding rank
 later_rank p k same above = omega (arith, same.src_length, same.dst_length, same.src, same.dst, above)
 
--- what lies between two numbers that share all digits but the last shares them too
+-- A number between two that share all digits but the last also shares them.
 digits : (a x r s t : ℕ) → s < 2 ^ 32 → t < 2 ^ 32 → a * 2 ^ 32 + r ≤ x * 2 ^ 32 + s → x * 2 ^ 32 + s ≤ a * 2 ^ 32 + t → x ≡ a
 digits a x r s t small_s small_t above below = omega arith
 
@@ -50,7 +50,7 @@ same_digits a x s t small_s small_t same = omega arith
 same_lengths : (a x s t : ℕ) → s < 2 ^ 8 → t < 2 ^ 8 → x * 2 ^ 8 + s ≡ a * 2 ^ 8 + t → x ≡ a
 same_lengths a x s t small_s small_t same = omega arith
 
--- what is left of a key, digit by digit
+-- The remaining part of a key, digit by digit.
 lengths_part : Key → ℕ
 lengths_part k = k.lengths.src * 2 ^ 8 + k.lengths.dst
 
@@ -81,7 +81,7 @@ parts_same q p small_q small_p bits =
       dst = omega (arith, bits, src_parts);
     }
 
--- the bits of a key have room where those of another do that shares them
+-- If a key shares its bits with a key that fits, its bits fit too.
 small_too : (k p : Key) → SameBits k p → IsSmall k → p.place < 2 ^ 32 → IsSmall p
 small_too k p same small place = record {
   dst_length = let s = small.dst_length in omega (arith, s, same.dst_length);
@@ -90,7 +90,7 @@ small_too k p same small place = record {
   place = place;
 }
 
--- a key between two of the same bits has these bits
+-- A key between two keys with the same bits has these bits.
 pub between : (p q k : Key) → SameBits k p → IsSmall k → IsSmall q → p.place < 2 ^ 32 → rank p ≤ rank q → rank q ≤ rank k → SameBits q p
 between p q k same small_k small_q place above below =
     let of_p = rank_parts p in
@@ -104,7 +104,7 @@ between p q k same small_k small_q place above below =
 -- ---- a search
 
 module _ (keys : List Key) (p : Key) (at : ℕ) (order : AreInOrder keys) (point : IsPartitionPoint (λ k. rank k < rank p) (λ k. rank p ≤ rank k) keys at) where
-  -- what is no lower stands there or behind
+  -- A key of no lower rank is at this index or after it.
   no_earlier : (k : Key) → (c : Contains keys k) → rank p ≤ rank k → at ≤ c.0
   no_earlier k c above = elim (cases_lt c.0 at) [
     | inl before ↦
@@ -114,7 +114,7 @@ module _ (keys : List Key) (p : Key) (at : ℕ) (order : AreInOrder keys) (point
     | inr behind ↦ omega (arith, behind)
   ]
 
-  -- nor lower than the key that stands there
+  -- Its rank is at least that of the key at this index.
   above_found : (found k : Key) → slice_get keys at ≡ Some found → (c : Contains keys k) → rank p ≤ rank k → rank found ≤ rank k
   above_found found k there c above =
       let rises : rank (get_or keys at k) ≤ rank (get_or keys c.0 k) = order.rise at c.0 k (no_earlier k c above) c.1 in
@@ -160,12 +160,12 @@ module _ (keys : List Key) (p : Key) (at : ℕ) (order : AreInOrder keys) (point
       let within = c.1 in
       omega (arith, behind, within, past)
 
--- ---- a place that was guessed
+-- ---- a guessed index
 
 any_default : (keys : List Key) (i : ℕ) (d : Key) → i < length keys → slice_index_or keys i d ≡ slice_index_or keys i no_key
 any_default keys i d within = get_or_from_slice_get keys i (slice_index_or keys i no_key) d (slice_get-get_or keys i no_key within)
 
--- where the keys rise, two that stand beside each other tell which place it is
+-- In strictly sorted keys, two adjacent keys determine the partition point.
 pub point_at : (keys : List Key) (n at : ℕ) → at < length keys → n ≤ rank (slice_index_or keys at no_key)
     → (at ≡ 0) ⊎ (rank (slice_index_or keys (at - 1) no_key) < n) → IsNonDecreasingBy rank keys → IsPartitionPoint (λ k. rank k < n) (λ k. n ≤ rank k) keys at
 point_at keys n at within above below rises = (
@@ -293,7 +293,7 @@ module _ (seen : List Group) (g : Group) (src dst from : ℕ) where
   first_next keys =
       earlier_is (Begins seen src dst) (λ k. SameBits k (key_at g.lengths src dst from)) (Begins (seen ++ g ∷ []) src dst) keys from begins_old begins_new begins_more
 
-  -- a group that comes first only behind what is found changes nothing
+  -- A group whose first index is after the match found so far does not change the result.
   pub first_kept : (keys : List Key) (found : Option ℕ) → comes_before found g.first ≡ true → IsFirstOf g keys → IsFirstKey (Begins seen src dst) keys from found
       → IsFirstKey (Begins (seen ++ g ∷ []) src dst) keys from found
   first_kept keys None before is first = absurd (true≢false (sym before))
@@ -312,7 +312,7 @@ module _ (seen : List Group) (g : Group) (src dst from : ℕ) where
     ];
   }
 
--- ---- what an index answers
+-- ---- the results of an index
 
 part_bits : (part : Option Prefix) (a : ℕ) → a < 2 ^ 32 → part_covers part a ≡ true → front (length_of part) (own_address part) ≡ front (length_of part) a
 part_bits None a small on = omega (arith, small)
@@ -323,7 +323,7 @@ bits_part_covers None a same = refl
 bits_part_covers (Some p) a same = front_covers p a same
 
 module _ (all : List Ends) (keys : List Key) (groups : List Group) (is : AreIndexOf all keys groups) (src dst : ℕ) (small_src : src < 2 ^ 32) (small_dst : dst < 2 ^ 32) where
-  -- what covers both has a key with their bits
+  -- An entry that covers both addresses has a key with their bits.
   begins_there : (i : ℕ) (e : Ends) → slice_get all i ≡ Some e → covers_both src dst e ≡ true → Begins groups src dst (key_of e i)
   begins_there i e there on =
       let both = and_parts (part_covers e.src src) (part_covers e.dst dst) on in
@@ -333,7 +333,7 @@ module _ (all : List Ends) (keys : List Key) (groups : List Group) (is : AreInde
         dst_bits = part_bits e.dst dst small_dst both.1;
       }
 
-  -- and what has them covers both
+  -- An entry whose key has their bits covers both addresses.
   covers_there : (k : Key) (e : Ends) → k ≡ key_of e k.place → Begins groups src dst k → covers_both src dst e ≡ true
   covers_there k e same begun =
       let src_length : k.lengths.src ≡ length_of e.src = ap (λ (l : Key). l.lengths.src) same in
@@ -358,13 +358,13 @@ module _ (all : List Ends) (keys : List Key) (groups : List Group) (is : AreInde
             omega (arith, least, high));
       }
 
--- no place is so late
+-- Every index is below the limit.
 pub none_so_late : (all : List Ends) (keys : List Key) (groups : List Group) (from src dst : ℕ) → AreIndexOf all keys groups → 2 ^ 32 ≤ from → IsFirstFrom all from src dst None
 none_so_late all keys groups from src dst is late i e low high there =
     let small = (is.order.small (key_of e i) (is.every i e there)).place in
     absurd (omega (arith, small, low, late))
 
--- ---- an index as it is made
+-- ---- building an index
 
 key_there : (n : ℕ) (all : List Ends) (i : ℕ) (e : Ends) → slice_get all i ≡ Some e → slice_get (keys_from n all) i ≡ Some (key_of e (n + i))
 key_there n [] i e there = cc
@@ -396,7 +396,7 @@ small_more keys now key so_far small more k c = elim (Contains-push_cases keys k
   | inr new ↦ subst IsSmall new small
 ]
 
--- a key stands at its place among those that are not in order yet
+-- The key of an entry has its index in the list that is not yet sorted.
 place_in : (all : List Ends) (keys : List Key) (j : ℕ) (k : Key) → keys ≡ keys_from 0 all → j < length keys → get_or keys j k ≡ k → k.place ≡ j
 place_in all keys j k are within is =
     let there : slice_get (keys_from 0 all) j ≡ Some k = ap (λ (ks : List Key). slice_get ks j) (sym are) ∙ slice_get-get_or keys j k within ∙ ap (λ (l : Key). Some l) is in
@@ -428,7 +428,7 @@ module _ (groups : List Group) (key : Key) where
       by_bool true there c = inl c
       by_bool false none c = elim (Contains-push_cases groups (record { lengths = key.lengths; first = key.place }) g c) [ inl old ↦ inl old | inr new ↦ inr (new, none) ]
 
-  -- each key has the lengths of a group already, or no earlier place than the one that is noted
+  -- The lengths of each key have a group already, or its index is no earlier than that of the noted key.
   pub first_noted : (keys : List Key) → AreFirst groups keys → key.place ≤ length keys → ((k : Key) → Contains keys k → (has_lengths groups k.lengths ≡ true) ⊎ (key.place ≤ k.place))
       → AreFirst (noted groups key) keys
   first_noted keys are low either = record {
@@ -564,7 +564,7 @@ module _ (all : List Ends) (keys : List Key) (groups : List Group) (e : Ends) (n
     };
   }
 
--- a group of the key that comes next does no harm before it is there
+-- A group of the next key is harmless before the key is inserted.
 pub index_noted : (all : List Ends) (keys : List Key) (groups : List Group) (key : Key) → key.place ≡ length keys → AreIndexOf all keys groups → AreIndexOf all keys (noted groups key)
 index_noted all keys groups key last is = record {
   order = is.order;

@@ -1,4 +1,4 @@
--- What is true of hosts stays true with a host that there was no cause to refuse.
+-- Valid hosts stay valid after a host without a cause for refusal is added.
 use Rattle.std.proofs.Common.{◌≡◌, ℕ, ◌+◌, ◌<◌, ◌≤◌, Bool, true, false, cond, not, ◌&&◌, ◌||◌, List, [], ◌∷◌, ◌++◌, map, length, Option, Some, None, refl, sym, ap, ◌∙◌, arith, length-append, append_assoc, nat_le, nat_lt}
 use Rattle.std.proofs.lemmas.List.{append-nil}
 use Rattle.std.specs.List.{position_from, list_all, list_any, flat_map}
@@ -30,7 +30,7 @@ use Rattle.host_net.specs.declared.prefix.Prefix.{Prefix}
 use Rattle.host_net.specs.declared.refusal.HostRefusal.{HostRefusal}
 use Rattle.host_net.specs.declared.refusal.HostRefusal.TheVariants.{TooMany, BadName, Duplicate, NoAddress, TwoRests, Overlap}
 
--- what holds where there is no cause
+-- What holds if there is no cause for refusal.
 pub record IsWelcome (hs : List Host) (name : List ℕ) (at : List Prefix) (rest : Bool) : Type 0 where
   pub room : is_full hs (length at) ≡ false
   pub named : is_name name ≡ true
@@ -57,7 +57,7 @@ welcome hs name at rest none =
       apart = six.0;
     }
 
--- nothing is found: no element passes
+-- Nothing is found: no element passes.
 no_place_by : {A : Type 0} (t : A → Bool) (i : ℕ) (x : A) (xs : List A) (b : Bool) → cond b (Some i) (position_from t (i + 1) xs) ≡ None → (position_from t (i + 1) xs ≡ None → list_all (λ y. not (t y)) xs ≡ true) → (not b && list_all (λ y. not (t y)) xs) ≡ true
 no_place_by t i x xs true h rest = cc
 no_place_by t i x xs false h rest = rest h
@@ -70,12 +70,12 @@ all_true : (hs : List Host) → list_all (λ h. true) hs ≡ true
 all_true [] = refl
 all_true (h ∷ hs) = all_true hs
 
--- the later rest host
+-- The later rest host.
 no_rest_pair : (hs : List Host) (rest : Bool) → two_rests hs rest ≡ None → list_all (λ h. not (rest && h.rest)) hs ≡ true
 no_rest_pair hs true h = no_place (λ (g : Host). g.rest) 0 hs (none_mapped TwoRests (rest_of hs) h)
 no_rest_pair hs false h = all_true hs
 
--- no list has a prefix that meets p: no prefix of all does
+-- If no list has a prefix that overlaps p, no prefix of all lists does.
 none_of_list_by : (t : Prefix → Bool) (xs : List Prefix) (b : Bool) → not (b || list_any t xs) ≡ true → (not (list_any t xs) ≡ true → list_all (λ x. not (t x)) xs ≡ true) → (not b && list_all (λ x. not (t x)) xs) ≡ true
 none_of_list_by t xs true h rest = cc
 none_of_list_by t xs false h rest = rest h
@@ -91,7 +91,7 @@ none_of_lists t (ps ∷ owned) h =
     list_all-append (λ x. not (t x)) ps (flat_map (λ qs. qs) owned)
     ∙ and_from (list_all (λ x. not (t x)) ps) (list_all (λ x. not (t x)) (flat_map (λ qs. qs) owned)) (none_of_list t ps parts.0) (none_of_lists t owned parts.1)
 
--- no earlier prefix meets p: none of the others' and none of its own before it
+-- No earlier prefix overlaps p: neither one of the others nor an earlier one of the same host.
 none_meets : (owned : List (List Prefix)) (own : List Prefix) (p : Prefix) → meeting owned own p ≡ None → list_all (λ q. not (meets p q)) (flat_map (λ ps. ps) owned ++ own) ≡ true
 none_meets owned own p none =
     let lists : list_all (λ ps. not (list_any (meets p) ps)) (owned ++ own ∷ []) ≡ true = no_place (λ (ps : List Prefix). list_any (meets p) ps) 0 (owned ++ own ∷ []) none in
@@ -123,7 +123,7 @@ still_apart hs at none h =
 room_parts : (a b c d : ℕ) → (nat_le a b || nat_lt c d) ≡ false → (b < a) × (d ≤ c)
 room_parts a b c d h = grind (arith, nat_tests)
 
--- a host that there was no cause to refuse may stand after the others
+-- A host without a cause for refusal may follow the others.
 pub kept : (hs : List Host) (name : List ℕ) (at : List Prefix) (rest : Bool) → IsHosts hs → refusal_of hs name at rest ≡ None → list_all is_network at ≡ true → IsHosts (hs ++ record { name = name; prefixes = at; rest = rest } ∷ [])
 kept hs name at rest known none networks =
     let ok = welcome hs name at rest none in
@@ -141,7 +141,7 @@ kept hs name at rest known none networks =
       apart = ap (no_pair meets) joined ∙ still_apart hs at ok.apart known.apart;
     }
 
--- a new name goes after the others
+-- A new name is inserted after the others.
 entry_pushed_by : (e : List ℕ × Addresses) (es : List (List ℕ × Addresses)) (name : List ℕ) (v : Addresses) (i : ℕ) (b : Bool) → cond b (Some i) (position_from (λ h. bytes_eq name h.name) (i + 1) (hosts_view es)) ≡ None → (position_from (λ h. bytes_eq name h.name) (i + 1) (hosts_view es) ≡ None → hosts_view (insert_entry bytes_eq es name v) ≡ hosts_view es ++ host_view (name, v) ∷ []) → hosts_view (cond b ((e.0, v) ∷ es) (e ∷ insert_entry bytes_eq es name v)) ≡ host_view e ∷ (hosts_view es ++ host_view (name, v) ∷ [])
 entry_pushed_by e es name v i true h rest = cc
 entry_pushed_by e es name v i false h rest = ap (λ hs. host_view e ∷ hs) (rest h)
@@ -150,7 +150,7 @@ entry_pushed : (es : List (List ℕ × Addresses)) (name : List ℕ) (v : Addres
 entry_pushed [] name v i h = refl
 entry_pushed (e ∷ es) name v i h = entry_pushed_by e es name v i (bytes_eq name e.0) h (entry_pushed es name v (i + 1))
 
--- the hosts after an insertion that there was no cause to refuse
+-- The hosts after the insertion of a host without a cause for refusal.
 pub pushed : (hs : List Host) (es fs : List (List ℕ × Addresses)) (name : List ℕ) (v : Addresses) (at : List Prefix) (rest : Bool) → hosts_view es ≡ hs → refusal_of hs name at rest ≡ None → fs ≡ insert_entry bytes_eq es name v → v.prefixes.items ≡ at → v.rest ≡ rest → hosts_view fs ≡ hs ++ record { name = name; prefixes = at; rest = rest } ∷ []
 pushed hs es fs name v at rest seen none inserted items mark =
     let fresh : host_named (hosts_view es) name ≡ None = ap (λ gs. host_named gs name) seen ∙ (welcome hs name at rest none).fresh in
@@ -162,7 +162,7 @@ pub still_hosts : (hs : List Host) (es fs : List (List ℕ × Addresses)) (name 
 still_hosts hs es fs name at rest seen known none networks grown =
     rw grown (kept hs name at rest (rw seen at known) none networks)
 
--- the first of five causes, asked one after the other
+-- The first of five causes, tested in order.
 causes_joined : (a b c d e : Option HostRefusal) → option_or (option_or (option_or (option_or a b) c) d) e ≡ first_of (a ∷ b ∷ c ∷ d ∷ e ∷ [])
 causes_joined (Some x) b c d e = refl
 causes_joined None (Some x) c d e = refl
@@ -177,7 +177,7 @@ causes_behind_room hs name at rest room =
     causes_joined (bad_name name) (duplicate hs name) (no_address at rest) (two_rests hs rest) (overlap hs at)
     ∙ ap (λ b. option_or (where_holds b TooMany) (first_of (bad_name name ∷ duplicate hs name ∷ no_address at rest ∷ two_rests hs rest ∷ overlap hs at ∷ []))) (sym room)
 
--- the values' prefixes are the hosts'
+-- The values' prefixes are the hosts'.
 pub values_lists : (es : List (List ℕ × Addresses)) → map (λ h. h.prefixes.items) (values_of es) ≡ prefix_lists (hosts_view es)
 values_lists [] = refl
 values_lists (e ∷ es) = ap (λ ps. e.1.prefixes.items ∷ ps) (values_lists es)

@@ -1,4 +1,4 @@
--- How the map from names to addresses answers for the list of hosts.
+-- The results of the map from names to addresses agree with the list of hosts.
 use Rattle.std.proofs.Common.{◌≡◌, ℕ, zero, suc, ◌+◌, ◌<◌, Bool, true, false, cond, List, [], ◌∷◌, map, length, get_or, slice_get, position, Option, Some, None, refl, sym, ap, ◌∙◌, arith}
 use Rattle.std.proofs.Common.{true≢false}
 use Rattle.std.proofs.lemmas.Bool.Decides.{nat_tests}
@@ -16,12 +16,12 @@ use Rattle.host_net.specs.declared.addresses.Addresses.{Addresses}
 pub all_parts : {A : Type 0} (p : A → Bool) (x : A) (xs : List A) → list_all p (x ∷ xs) ≡ true → (p x ≡ true) × (list_all p xs ≡ true)
 all_parts p x xs h = grind (arith, nat_tests)
 
--- a search over what was made of a list is one over the list
+-- A search over a mapped list is a search over the list.
 pub position_from-map : {A B : Type 0} (f : A → B) (t : B → Bool) (i : ℕ) (xs : List A) → position_from t i (map f xs) ≡ position_from (λ x. t (f x)) i xs
 position_from-map f t i [] = refl
 position_from-map f t i (x ∷ xs) = ap (λ o. cond (t (f x)) (Some i) o) (position_from-map f t (i + 1) xs)
 
--- a search over the values, or over the keys, finds the host
+-- A search over the values, or over the keys, finds the host.
 pub value_place : (t : Host → Bool) (u : Addresses → Bool) → ((e : List ℕ × Addresses) → u e.1 ≡ t (host_view e)) → (es : List (List ℕ × Addresses)) → position u (values_of es) ≡ position_from t 0 (hosts_view es)
 value_place t u same es =
     position_from-zero u (values_of es)
@@ -35,7 +35,7 @@ key_place name es =
     ∙ position_from-map (λ e. e.0) (bytes_eq name) 0 es
     ∙ sym (position_from-map host_view (λ h. bytes_eq name h.name) 0 es)
 
--- the key, or the value, at a place is that of the host there
+-- The key, or the value, at an index is that of the host at this index.
 pub key_at : (es : List (List ℕ × Addresses)) (i : ℕ) (n : List ℕ) → i < length (hosts_view es) → n ≡ get_or (keys_of es) i n → option_map (λ (h : Host). h.name) (slice_get (hosts_view es) i) ≡ Some n
 key_at [] i n h e = absurd (omega arith)
 key_at (x ∷ es) zero n h e = ap (λ bs. Some bs) (sym e)
@@ -46,7 +46,7 @@ value_at [] i v h e = absurd (omega arith)
 value_at (x ∷ es) zero v h e = ap (λ (d : Addresses). Some d.prefixes.items) (sym e)
 value_at (x ∷ es) (suc i) v h e = value_at es i v (omega arith) e
 
--- a text that is no name is no host's name
+-- A text that is not a valid name is no host's name.
 other_text_by : (name other : List ℕ) (t : Bool) → is_name name ≡ false → is_name other ≡ true → bytes_eq name other ≡ t → bytes_eq name other ≡ false
 other_text_by name other true bad good e = absurd (true≢false (sym good ∙ sym (ap is_name ((bytes_decides name other).0 e)) ∙ bad))
 other_text_by name other false bad good e = e
@@ -57,7 +57,7 @@ unnamed name (h ∷ hs) i bad good =
     let parts = all_parts (λ h. is_name h.name) h hs good in
     rw (other_text_by name h.name (bytes_eq name h.name) bad parts.0 refl) (unnamed name hs (i + 1) bad parts.1)
 
--- what the answer of `Name::new` says of its text
+-- What the result of `Name::new` states about its text.
 given_by : (text name : List ℕ) (t : Bool) → (cond t (Some text) None) ≡ Some name → name ≡ text
 given_by text name true e = cc
 given_by text name false e = cc

@@ -1,4 +1,4 @@
--- Laws of names: a host with a name is one of the hosts, and two names of one host are one.
+-- Lemmas on names: a host with a name is one of the hosts, and two names of one host are equal.
 use Rattle.std.proofs.Common.{◌≡◌, ℕ, suc, ◌+◌, ◌<◌, ◌≤◌, Bool, true, false, List, [], ◌∷◌, length, Option, Some, refl, sym, ◌∙◌, arith}
 use Rattle.std.proofs.lemmas.Slice.Eq.{bytes_eq-Decides}
 use Rattle.std.specs.List.{position_from}
@@ -15,7 +15,7 @@ position_within p n k [] is = cc
 position_within p n k (x ∷ xs) is =
     found_below (p x) n k (n + suc (length xs)) (position_from p (n + 1) xs) is (omega arith) (λ later. omega (arith, position_within p (n + 1) k xs later))
 
--- a host with a name is one of the hosts
+-- A host with a name is one of the hosts.
 pub host_named_within : (hosts : List Host) (name : List ℕ) (k : ℕ) → host_named hosts name ≡ Some k → k < length hosts
 host_named_within hosts name k is = omega (arith, position_within (λ h. bytes_eq name h.name) 0 k hosts is)
 
@@ -39,7 +39,7 @@ one_by false true a b name n k later_a later_b is_a is_b at_a at_b after_a after
     absurd (omega (arith, after_a at_a))
 one_by false false a b name n k later_a later_b is_a is_b at_a at_b after_a after_b behind = behind at_a at_b
 
--- two names of one host are the same
+-- Two names of one host are equal.
 one_name_from : (n k : ℕ) (hosts : List Host) (a b : List ℕ) → position_from (λ h. bytes_eq a h.name) n hosts ≡ Some k → position_from (λ h. bytes_eq b h.name) n hosts ≡ Some k → a ≡ b
 one_name_from n k [] a b at_a at_b = cc
 one_name_from n k (h ∷ hosts) a b at_a at_b =

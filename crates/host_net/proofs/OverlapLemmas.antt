@@ -1,4 +1,4 @@
--- How the search for an overlap goes on over one more prefix.
+-- The search for an overlap, extended by one more prefix.
 use Rattle.std.proofs.Common.{◌≡◌, ℕ, suc, ◌+◌, ◌<◌, ◌≤◌, Bool, true, false, cond, List, [], ◌∷◌, ◌++◌, map, length, get_or, take, drop, drop-cons, add-one, position, Some, None, refl, sym, ap, ◌∙◌, arith}
 use Rattle.std.specs.List.{position_from}
 use Rattle.std.specs.Option.{option_map, option_or}
@@ -12,7 +12,7 @@ use Rattle.host_net.specs.declared.addresses.Addresses.{Addresses}
 use Rattle.host_net.specs.declared.prefix.Prefix.{Prefix}
 use Rattle.host_net.specs.declared.refusal.HostRefusal.TheVariants.{Overlap}
 
--- a search over a list with one more element at its end
+-- A search over a list with one more element at its end.
 pub position_from-push : {A : Type 0} (t : A → Bool) (i : ℕ) (xs : List A) (y : A) → position_from t i (xs ++ y ∷ []) ≡ option_or (position_from t i xs) (cond (t y) (Some (i + length xs)) None)
 position_from-push t i [] y = ap (λ n. cond (t y) (Some n) None) (omega arith)
 position_from-push t i (x ∷ xs) y =
@@ -24,7 +24,7 @@ position_from-push t i (x ∷ xs) y =
       | false ↦ behind
     ]
 
--- the earliest host that meets a prefix: among the others, or else the one after them
+-- The earliest host with a prefix that overlaps the given one: among the others, or else the one after them.
 pub meeting_is : (hosts : List Addresses) (own : List Prefix) (p : Prefix) → meeting (map (λ h. h.prefixes.items) hosts) own p ≡ option_or (position (λ h. meets_any h.prefixes.items p) hosts) (cond (meets_any own p) (Some (length hosts)) None)
 meeting_is hosts own p =
     let lists : List (List Prefix) = map (λ (h : Addresses). h.prefixes.items) hosts in
@@ -35,7 +35,7 @@ meeting_is hosts own p =
     position_from-push (λ ps. meets_any ps p) 0 lists own
     ∙ (λ i. option_or (place i) (cond (meets_any own p) (Some (many i)) None))
 
--- in the words of its three answers
+-- The same, for each of its three results.
 pub meeting_other : (hosts : List Addresses) (own : List Prefix) (p : Prefix) (host : ℕ) → position (λ h. meets_any h.prefixes.items p) hosts ≡ Some host → Some host ≡ meeting (map (λ h. h.prefixes.items) hosts) own p
 meeting_other hosts own p host found =
     sym (meeting_is hosts own p ∙ ap (λ o. option_or o (cond (meets_any own p) (Some (length hosts)) None)) found)
@@ -45,11 +45,11 @@ meeting_own hosts own p t none own_is =
     sym (meeting_is hosts own p
     ∙ (λ i. option_or (none i) (cond (own_is i) (Some (length hosts)) None)))
 
--- the rest of the prefixes begins with the one at the place
+-- The rest of the prefixes begins with the one at the index.
 drop_is : (at : List Prefix) (i : ℕ) (x : Prefix) → i < length at → x ≡ get_or at i x → drop i at ≡ x ∷ drop (suc i) at
 drop_is at i x within e = drop-cons at i x within ∙ ap (λ y. y ∷ drop (suc i) at) (sym e)
 
--- the step of the search
+-- The step of the search.
 pub overlap_met : (owned : List (List Prefix)) (at : List Prefix) (i other : ℕ) (x : Prefix) → i < length at → x ≡ get_or at i x → meeting owned (take i at) x ≡ Some other → overlap_from owned (take i at) (drop i at) ≡ Some (Overlap i other)
 overlap_met owned at i other x within e met =
     ap (overlap_from owned (take i at)) (drop_is at i x within e)

@@ -1,4 +1,4 @@
--- An overlap that is told is the first one, in the plain words of Overlaps.
+-- A reported overlap is the first one, in the terms of `Overlaps`.
 use Rattle.std.proofs.Common.{◌≡◌, ℕ, zero, suc, ◌+◌, ◌<◌, ◌≤◌, inl, inr, Bool, true, false, cond, List, [], ◌∷◌, ◌++◌, length, take, Option, Some, None, slice_get, refl, sym, ap, ◌∙◌, arith, append_assoc, length-append}
 use Rattle.std.proofs.Math.Seq.{take-append_seam}
 use Rattle.std.proofs.lemmas.Bool.{cases_lt}
@@ -17,7 +17,7 @@ use Rattle.host_net.specs.declared.prefix.Prefix.{Prefix}
 use Rattle.host_net.specs.declared.refusal.HostRefusal.{HostRefusal}
 use Rattle.host_net.specs.declared.refusal.HostRefusal.TheVariants.{TooMany, BadName, Duplicate, NoAddress, TwoRests, Overlap}
 
--- an element that a search finds, at its place
+-- An element that a search finds, at its index.
 record IsPlaced {A : Type 0} (t : A → Bool) (xs : List A) (n : ℕ) : Type 0 where
   what : A
   there : slice_get xs n ≡ Some what
@@ -59,7 +59,7 @@ nowhere : {A : Type 0} (t : A → Bool) (i j : ℕ) (xs : List A) (y : A) → po
 nowhere t i j [] y is there passes = cc
 nowhere t i j (x ∷ xs) y is there passes = nowhere_by t i j x xs (t x) refl is y there passes (λ m found at_m. nowhere t (i + 1) m xs y found at_m passes)
 
--- the search among the prefixes of a new host, of which `own` were passed
+-- The state of the search among the prefixes of a new host, after `own`.
 record IsPassed (hs : List Host) (at : List Prefix) (n : ℕ) : Type 0 where
   none : (k j : ℕ) → k < n → HasPartner hs at k j → ⊥
 
@@ -131,7 +131,7 @@ pub overlap_first : (hs : List Host) (at : List Prefix) (item other : ℕ) → o
     → IsFirstOverlap hs at item other
 overlap_first hs at item other is = told_from hs at [] at item other refl (record { none = λ k j below partner. absurd (omega arith) }) is
 
--- no other cause is told as an overlap
+-- No other cause is reported as an overlap.
 past : (o rest : Option HostRefusal) (item other : ℕ) → (o ≡ Some (Overlap item other) → ⊥)
     → option_or o rest ≡ Some (Overlap item other) → rest ≡ Some (Overlap item other)
 past None rest item other not_this is = is

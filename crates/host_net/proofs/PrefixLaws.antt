@@ -1,5 +1,4 @@
--- Laws of prefixes: what follows where two of them cover one address, or one front is shared, and between which addresses a
--- prefix lies.
+-- Lemmas on prefixes: two prefixes that cover one address, two that share their leading bits, and the bounds of the addresses of a prefix.
 use Rattle.std.proofs.Common.{◌≡◌, ℕ, ◌/◌, ◌^◌, ◌*◌, ◌+◌, ◌-◌, ◌≤◌, ◌<◌, min, IsTrue, ap, sym, ◌∙◌, refl, arith, ◌↔◌, inl, inr}
 use Rattle.std.proofs.Math.Nat.{div-lt_iff_lt-mul, div-mul-le_self, lt-div-mul-add, mul-le-mul_right}
 use Rattle.std.proofs.lemmas.Nat.{div-mul-add, pow-add, pow_pos, shr-shr}
@@ -10,13 +9,13 @@ use Rattle.host_net.specs.Prefix.{front, covers, meets}
 use Rattle.host_net.specs.PrefixView.{first_address, last_address}
 use Rattle.host_net.specs.inner.PrefixView.{ShareAddress}
 
--- the first bits are the first of more bits
+-- Leading bits of a longer list of leading bits.
 pub front_of_longer : (k m a : ℕ) → k ≤ m → m ≤ 32 → front k a ≡ front m a / 2 ^ (m - k)
 front_of_longer k m a shorter fits =
     let places : (32 - m) + (m - k) ≡ 32 - k = omega arith in
     sym (shr-shr a (32 - m) (m - k) ∙ ap (λ n. a / 2 ^ n) places)
 
--- addresses that agree in more bits agree in fewer
+-- Addresses that agree in more bits agree in fewer.
 pub front_shorter : (k m a b : ℕ) → k ≤ m → m ≤ 32 → front m a ≡ front m b → front k a ≡ front k b
 front_shorter k m a b shorter fits same =
     front_of_longer k m a shorter fits ∙ ap (λ n. n / 2 ^ (m - k)) same ∙ sym (front_of_longer k m b shorter fits)
@@ -37,11 +36,11 @@ pub front_meets : (p q : Prefix) → front (min p.len q.len) p.addr ≡ front (m
 unfolding meets
 front_meets p q h = grind (arith, nat_tests)
 
--- a prefix covers its own address
+-- A prefix covers its own address.
 pub covers_own : (p : Prefix) → IsTrue (covers p p.addr)
 covers_own p = front_covers p p.addr refl
 
--- prefixes that cover one number meet
+-- Prefixes that cover a common number overlap.
 pub covered_by_both : (p q : Prefix) (a : ℕ) → IsTrue (covers p a) → IsTrue (covers q a) → IsTrue (meets p q)
 covered_by_both p q a by_p by_q =
     let shorter_p : min p.len q.len ≤ p.len = omega arith in
@@ -55,7 +54,7 @@ meets_comm p q h =
     let same : min p.len q.len ≡ min q.len p.len = omega arith in
     front_meets q p (rw (← same) (sym (meets_front p q h)))
 
--- where the first is no longer, it covers the address of the second
+-- If two prefixes overlap and the first is no longer than the second, it covers the address of the second.
 pub meets_covers : (p q : Prefix) → p.len ≤ q.len → IsTrue (meets p q) → IsTrue (covers p q.addr)
 meets_covers p q shorter h =
     let len : min p.len q.len ≡ p.len = omega arith in
@@ -67,12 +66,12 @@ share_where_meets p q in_p in_q h = elim (cases_lt p.len q.len) [
   | inr longer ↦ (p.addr, in_p, covers_own p, meets_covers q p longer (meets_comm p q h))
 ]
 
--- two prefixes meet exactly where some address is covered by both
+-- Two prefixes overlap if and only if both cover some address.
 pub meets_ShareAddress : (p q : Prefix) → p.addr < 2 ^ 32 → q.addr < 2 ^ 32 → IsTrue (meets p q) ↔ ShareAddress p q
 meets_ShareAddress p q in_p in_q =
     (share_where_meets p q in_p in_q, λ shared. covered_by_both p q shared.0 shared.2 shared.3)
 
--- the numbers that a division by m takes to q are the m numbers from q * m on
+-- The numbers whose quotient by m is q are the m numbers from q * m on.
 taken_to : (q m a : ℕ) → 0 < m → q ≡ a / m → (q * m ≤ a) × (a ≤ q * m + (m - 1))
 taken_to q m a some same =
     rw same (div-mul-le_self a m, let above : a < a / m * m + m = lt-div-mul-add some in omega arith)
@@ -82,7 +81,7 @@ taken_from q m a some from to =
     let place : q * m + (a - q * m) ≡ a = omega arith in
     sym (div-mul-add q m (a - q * m) (omega arith)) ∙ ap (λ n. n / m) place
 
--- a prefix covers the addresses from its first to its last
+-- A prefix covers the addresses from its first to its last.
 pub covers_between : (p : Prefix) (a : ℕ) → IsTrue (covers p a) ↔ ((first_address p ≤ a) × (a ≤ last_address p))
 unfolding first_address last_address
 covers_between p a =

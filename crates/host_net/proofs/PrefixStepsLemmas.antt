@@ -1,4 +1,4 @@
--- What is read piece by piece as a prefix is the prefix that the text stands for.
+-- The step-by-step parser returns the prefix that the text denotes.
 use Rattle.std.proofs.Common.{◌≡◌, ℕ, ◌^◌, ◌<◌, min, List, ◌∷◌, ◌++◌, Option, Some, None, inl, inr, refl, sym, ap, ◌∙◌, arith, subst}
 use Rattle.std.specs.Fmt.{decimal}
 use Rattle.text_core.specs.inner.Decimal.{number}
@@ -12,7 +12,7 @@ use Rattle.host_net.specs.PrefixView.{IsSpelling}
 use Rattle.host_net.specs.inner.PrefixSteps.{address_of, prefix_of_parts, prefix_by_parts}
 use Rattle.host_net.proofs.PrefixTextLaws.{prefix_same, prefix_with_own, address_lacks, address_of-address_text, address_text-address_of, prefix_of-read, prefix_of-spelled, prefix_of-fits}
 
--- every spelling is read
+-- Every notation of a prefix is parsed.
 read_with_length : (p : Prefix) → p.addr < 2 ^ 32 → prefix_by_parts (prefix_text p) ≡ Some p
 unfolding prefix_by_parts prefix_text
 read_with_length p fits =
@@ -57,12 +57,12 @@ spelled_parts text (Some parts) p cut read =
     ∙ ap (λ front. front ++ (47 ∷ parts.1)) (written.0 ∙ ap (λ q. address_text q.addr) same)
     ∙ ap (λ rest. address_text p.addr ++ (47 ∷ rest)) (said.0 ∙ ap decimal (sym capped ∙ ap (λ q. q.len) same)))
 
--- only spellings are read
+-- Only notations of a prefix are parsed.
 by_parts_spelled : (text : List ℕ) (p : Prefix) → prefix_by_parts text ≡ Some p → IsSpelling text p
 unfolding prefix_by_parts
 by_parts_spelled text p read = spelled_parts text (split_once 47 text) p refl read
 
--- and the address that is read has 32 bits
+-- The parsed address has 32 bits.
 parts_fit : (text : List ℕ) (o : Option (List ℕ × List ℕ)) (p : Prefix) → prefix_of_parts text o ≡ Some p → p.addr < 2 ^ 32
 parts_fit text None p read =
     let address = bind_some (address_of text) _ p read in

@@ -1,4 +1,4 @@
--- Laws of the texts of prefixes: a text is read as a prefix exactly where it is a spelling of it.
+-- Lemmas on the notation of prefixes: a text is parsed to a prefix if and only if it denotes it.
 use Rattle.std.proofs.Common.{◌≡◌, ℕ, ◌+◌, ◌*◌, ◌/◌, ◌%◌, ◌^◌, ◌≤◌, ◌<◌, length, length-append, min, nat_eq, ◌==◌, Bool, true, false, ◌&&◌, ◌||◌, List, [], ◌∷◌, ◌++◌, take, slice_index_or, Option, Some, None, inl, inr, refl, sym, ap, ap₂, ◌∙◌, arith, subst, append_assoc, append-nil}
 use Rattle.std.proofs.Math.Bridge.{le_prop}
 use Rattle.std.specs.Char.{is_ascii_digit}
@@ -22,7 +22,7 @@ use Rattle.host_net.specs.Prefix.{octet, address_text, address_with, prefix_text
 use Rattle.host_net.specs.PrefixView.{IsSpelling}
 use Rattle.host_net.specs.inner.PrefixSteps.{address_of}
 
--- a prefix is its address and its length
+-- A prefix is its address and its length.
 pub prefix_same : (p q : Prefix) → p.addr ≡ q.addr → p.len ≡ q.len → p ≡ q
 prefix_same p q e f =
     subst (λ (a : ℕ). (fits : q.len ≤ 32) → p ≡ record { addr = a; len = q.len; fits = fits }) e
@@ -48,7 +48,7 @@ octets_apart : (a b c d : ℕ) → a ≤ 255 → b ≤ 255 → c ≤ 255 → d �
 unfolding octet
 octets_apart a b c d ha hb hc hd = (omega arith, omega arith, omega arith, omega arith)
 
--- a number in front of a mark is cut off there
+-- A number before a separator is cut at the separator.
 number_cut : (mark n : ℕ) (rest : List ℕ) → is_ascii_digit mark ≡ false → n ≤ 255
     → split_once mark (decimal n ++ (mark ∷ rest)) ≡ Some (decimal n, rest)
 number_cut mark n rest other small = split_once-append mark (decimal n) rest (decimal_lacks mark n other (omega arith))
@@ -56,7 +56,7 @@ number_cut mark n rest other small = split_once-append mark (decimal n) rest (de
 octet_read : (a place : ℕ) → number 255 (decimal (octet a place)) ≡ Some (octet a place)
 octet_read a place = number-decimal 255 (octet a place) (octet_fits a place) (omega (arith, octet_fits a place))
 
--- a written address is read
+-- A formatted address is parsed.
 pub address_of-address_text : (a : ℕ) → a < 2 ^ 32 → address_of (address_text a) ≡ Some a
 unfolding address_of address_text
 address_of-address_text a fits =
@@ -74,7 +74,7 @@ address_of-address_text a fits =
 octet_lacks : (mark a place : ℕ) → is_ascii_digit mark ≡ false → lacks mark (decimal (octet a place)) ≡ true
 octet_lacks mark a place other = decimal_lacks mark (octet a place) other (omega (arith, octet_fits a place))
 
--- no mark but a dot stands in an address
+-- An address contains no separator except dots.
 dotted_lacks : (mark a place : ℕ) (rest : List ℕ) → is_ascii_digit mark ≡ false → nat_eq 46 mark ≡ false → lacks mark rest ≡ true
     → lacks mark (decimal (octet a place) ++ (46 ∷ rest)) ≡ true
 dotted_lacks mark a place rest other no_dot h =
@@ -89,7 +89,7 @@ address_lacks mark a other no_dot =
     let three = dotted_lacks mark a 16 (decimal (octet a 8) ++ (46 ∷ decimal (octet a 0))) other no_dot two in
     dotted_lacks mark a 24 (decimal (octet a 16) ++ (46 ∷ (decimal (octet a 8) ++ (46 ∷ decimal (octet a 0))))) other no_dot three
 
--- the text of the address of four octets
+-- The text of the address of four octets.
 address_text-joined : (a b c d : ℕ) → a ≤ 255 → b ≤ 255 → c ≤ 255 → d ≤ 255
     → address_text (a * 2 ^ 24 + b * 2 ^ 16 + c * 2 ^ 8 + d) ≡ decimal a ++ (46 ∷ (decimal b ++ (46 ∷ (decimal c ++ (46 ∷ decimal d)))))
 unfolding address_text
@@ -97,14 +97,14 @@ address_text-joined a b c d ha hb hc hd =
     let apart = octets_apart a b c d ha hb hc hd in
     rw (apart.0, apart.1, apart.2, apart.3) refl
 
--- a piece that was cut off, where it says a number
+-- A part that was cut off, if it is a number.
 piece_of_number : (bs : List ℕ) (parts : List ℕ × List ℕ) (n : ℕ) → split_once 46 bs ≡ Some parts → number 255 parts.0 ≡ Some n
     → (bs ≡ decimal n ++ (46 ∷ parts.1)) × (n ≤ 255)
 piece_of_number bs parts n cut said =
     let number_text = decimal_of_number 255 parts.0 n (omega arith) said in
     (split_once_joined 46 bs parts.0 parts.1 cut ∙ ap (λ front. front ++ (46 ∷ parts.1)) number_text.0, number_text.1)
 
--- a text that is read as an address is the address, written
+-- A text that is parsed to an address is the formatted address.
 pub address_text-address_of : (text : List ℕ) (a : ℕ) → address_of text ≡ Some a → (text ≡ address_text a) × (a < 2 ^ 32)
 unfolding address_of
 address_text-address_of text a read =
@@ -124,7 +124,7 @@ address_text-address_of text a read =
     one.0 ∙ ap (λ bs. decimal first.0 ++ (46 ∷ bs)) (two.0 ∙ ap (λ bs. decimal second.0 ++ (46 ∷ bs)) (three.0 ∙ ap (λ bs. decimal third.0 ++ (46 ∷ bs)) four.0)) in
     (whole ∙ sym (address_text-joined first.0 second.0 third.0 fourth.0 one.1 two.1 three.1 four.1) ∙ ap address_text sum, omega (arith, sum, one.1, two.1, three.1, four.1))
 
--- the numbers in a text that begins with an address
+-- The numbers in a text that begins with an address.
 octet_small : (a place : ℕ) → octet a place < 2 ^ 64
 octet_small a place = omega (arith, octet_fits a place)
 
@@ -162,7 +162,7 @@ numbers_in_prefix p =
     (numbers_in-append (octet p.addr 0) 47 (decimal p.len) (octet_small p.addr 0) refl
     ∙ ap (λ ns. octet p.addr 0 ∷ ns) (numbers_in-decimal p.len (omega (arith, p.fits))))
 
--- the one prefix that a text may stand for, by its numbers
+-- The only prefix that a text may denote, by its numbers.
 abbrev prefix_in : List ℕ → Prefix
 prefix_in ns = prefix_with (address_with (take 4 ns)) (slice_index_or ns 4 32)
 
@@ -172,7 +172,7 @@ prefix_in_is p ns addr len = ap₂ prefix_with addr len ∙ prefix_with_own p
 octets_with : (a : ℕ) (behind : List ℕ) → a < 2 ^ 32 → address_with (take 4 (octets a behind)) ≡ a
 octets_with a behind fits = omega (arith, octets_joined a fits)
 
--- every spelling is read
+-- Every notation of a prefix is parsed.
 found : (text : List ℕ) (p : Prefix) → prefix_in (numbers_in text) ≡ p → spells text p ≡ true → prefix_of text ≡ Some p
 unfolding prefix_of
 found text p is holds = ap (λ q. where_holds (spells text q) q) is ∙ rw holds refl
@@ -199,7 +199,7 @@ prefix_of-read text p fits spelling = elim spelling [
   | inr alone ↦ ap prefix_of alone.1 ∙ read_alone p fits alone.0
 ]
 
--- only spellings are read
+-- Only notations of a prefix are parsed.
 is_whole : (n : ℕ) → (n == 32) ≡ true → n ≡ 32
 is_whole n h = grind (arith, nat_tests)
 
@@ -224,7 +224,7 @@ pub prefix_of-IfSome : (text : List ℕ) (r : Option Prefix) → r ≡ prefix_of
 prefix_of-IfSome text None e = tt
 prefix_of-IfSome text (Some p) e = prefix_of-spelled text p (sym e)
 
--- and the address that is read has 32 bits
+-- The parsed address has 32 bits.
 octets_fit : (a : ℕ) (behind : List ℕ) → address_with (take 4 (octets a behind)) < 2 ^ 32
 octets_fit a behind = omega (arith, octet_fits a 24, octet_fits a 16, octet_fits a 8, octet_fits a 0)
 
@@ -239,7 +239,7 @@ prefix_of-fits text p read =
     let is = read_is text p read in
     subst (λ (q : Prefix). q.addr < 2 ^ 32) is.1 (spelling_fits text p (spelling_told text p is.0))
 
--- the two directions for an answer that is the address of a text
+-- The two directions for a result that is the address of a text.
 pub address_said : (text : List ℕ) (r : Option ℕ) → r ≡ address_of text → IfSome r (λ a. text ≡ address_text a)
 address_said text None e = tt
 address_said text (Some a) e = (address_text-address_of text a (sym e)).0
@@ -247,7 +247,7 @@ address_said text (Some a) e = (address_text-address_of text a (sym e)).0
 pub address_read : (text : List ℕ) (r : Option ℕ) (a : ℕ) → r ≡ address_of text → a < 2 ^ 32 → text ≡ address_text a → r ≡ Some a
 address_read text r a e fits written = e ∙ ap address_of written ∙ address_of-address_text a fits
 
--- how long the text of a prefix is
+-- The length of the text of a prefix.
 octet_short : (a place : ℕ) → length (decimal (octet a place)) ≤ 3
 unfolding octet
 octet_short a place =

@@ -1,4 +1,4 @@
--- The ranges that are kept stay those of the hosts, with one more host that there was no cause to refuse.
+-- The stored ranges remain those of the hosts after a host without a cause for refusal is added.
 use Rattle.std.proofs.Common.{◌≡◌, ℕ, ◌+◌, Bool, true, false, cond, List, [], ◌∷◌, ◌++◌, length, Option, Some, None, refl, sym, ap, ◌∙◌, arith}
 use Rattle.std.specs.Option.{option_or}
 use Rattle.std.proofs.lemmas.Bool.{false_from_ne_true}
@@ -21,7 +21,7 @@ all_apart : (hs : List Host) (name : List ℕ) (at : List Prefix) (rest : Bool) 
     → no_pair meets (all_prefixes hs ++ at) ≡ true
 all_apart hs name at rest known none = still_apart hs at (welcome hs name at rest none).apart known.apart
 
--- the new prefixes are apart, and cover no address that has a host
+-- The new prefixes are disjoint, and cover no address that has an owner.
 pub new_apart : (hs : List Host) (name : List ℕ) (at : List Prefix) (rest : Bool) → IsHosts hs → refusal_of hs name at rest ≡ None
     → no_pair meets at ≡ true
 new_apart hs name at rest known none = no_pair-behind meets (all_prefixes hs) at (all_apart hs name at rest known none)

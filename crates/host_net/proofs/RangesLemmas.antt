@@ -1,4 +1,4 @@
--- Ranges in order: the one that may hold an address, and one range more among them.
+-- Sorted ranges: the range that may contain an address, and the insertion of a range.
 use Rattle.std.proofs.Common.{◌≡◌, ℕ, zero, suc, ◌-◌, ◌≤◌, ◌<◌, Bool, true, false, cond, ◌||◌, nat_le, nat_lt, List, [], ◌∷◌, ◌++◌, length, get_or, take, drop, drop-cons, slice_get, slice_index_or, Option, Some, None, refl, sym, ap, ◌∙◌, arith, inl, inr}
 use Rattle.std.specs.List.{insert, list_all}
 use Rattle.std.specs.Option.{option_or}
@@ -18,7 +18,7 @@ use Rattle.host_net.specs.declared.prefix.Prefix.{Prefix}
 use Rattle.host_net.specs.inner.Ranges.{holder_among, holds, is_ordered}
 use Rattle.host_net.specs.declared.ranges.Range.{Range}
 
--- what the order says of the first range
+-- What the order states about the first range.
 pub record IsFirstOf (r : Range) (rs : List Range) : Type 0 where
   pub some : nat_le r.first r.last ≡ true
   pub before : list_all (λ s. nat_lt r.last s.first) rs ≡ true
@@ -34,7 +34,7 @@ in_order : (r : Range) (rs : List Range) → IsFirstOf r rs → is_ordered (r �
 in_order r rs is = and_from (nat_le r.first r.last) _ is.some
     (and_from (list_all (λ (s : Range). nat_lt r.last s.first) rs) _ is.before is.behind)
 
--- the element at a place passes a test that all pass
+-- The element at an index passes a test that all elements pass.
 passes_at : {A : Type 0} (p : A → Bool) (xs : List A) (j : ℕ) (d : A) → list_all p xs ≡ true → j < length xs
     → p (slice_index_or xs j d) ≡ true
 passes_at p [] j d h within = absurd (omega arith)
@@ -54,7 +54,7 @@ firsts_rise (r ∷ rs) h zero (suc j) d le within =
 firsts_rise (r ∷ rs) h (suc i) zero d le within = absurd (omega arith)
 firsts_rise (r ∷ rs) h (suc i) (suc j) d le within = firsts_rise rs (first_of r rs h).behind i j d (omega arith) (omega arith)
 
--- tests by place are tests of a part of the list
+-- Tests by index are tests of a part of the list.
 pub all_before : {A : Type 0} (p : A → Bool) (xs : List A) (i : ℕ) → i ≤ length xs
     → ((k : ℕ) (d : A) → 0 ≤ k → k < i → p (slice_index_or xs k d) ≡ true) → list_all p (take i xs) ≡ true
 all_before p xs zero within passes = refl
@@ -80,7 +80,7 @@ all_behind p q turned (x ∷ xs) (suc i) fails =
 pub not_begun : (a f : ℕ) → nat_le f a ≡ false → nat_lt a f ≡ true
 not_begun a f h = grind (arith, nat_tests)
 
--- ranges in two parts
+-- Ranges in two parts.
 pub holder_among-append : (rs ss : List Range) (a : ℕ) → holder_among (rs ++ ss) a ≡ option_or (holder_among rs a) (holder_among ss a)
 holder_among-append [] ss a = refl
 holder_among-append (r ∷ rs) ss a =
@@ -98,7 +98,7 @@ ordered_front (r ∷ rs) ss h =
     (sym (list_all-append (λ s. nat_lt r.last s.first) rs ss) ∙ is.before) in
     in_order r rs (record { some = is.some; before = near; behind = ordered_front rs ss is.behind })
 
--- no range that begins behind an address holds it
+-- A range that begins after an address does not contain it.
 passed_over : (r : Range) (a : ℕ) → nat_lt a r.first ≡ true → holds r a ≡ false
 passed_over r a behind = grind (arith, nat_tests)
 
@@ -108,7 +108,7 @@ none_behind (r ∷ rs) a h =
     let (here, behind) = and_parts (nat_lt a r.first) _ h in
     rw (passed_over r a here) (none_behind rs a behind)
 
--- of ranges that all begin at an address or before it, the last one alone may hold it
+-- Of ranges that all begin at an address or before it, only the last may contain it.
 ended : (r s : Range) (a : ℕ) → nat_lt r.last s.first ≡ true → nat_le s.first a ≡ true → holds r a ≡ false
 ended r s a before begun = grind (arith, nat_tests)
 
@@ -145,7 +145,7 @@ none_held (x ∷ y ∷ ys) a is = absurd (some_last y ys (sym (one_fewer x y ys)
     some_last y [] none = cc
     some_last y (z ∷ zs) none = some_last z zs (sym (one_fewer y z zs) ∙ none)
 
--- so a search among those is one among all
+-- So a search among those is a search among all.
 pub held_in_front : (rs : List Range) (i a : ℕ) → list_all (λ r. nat_lt a r.first) (drop i rs) ≡ true
     → holder_among rs a ≡ holder_among (take i rs) a
 held_in_front rs i a behind =
@@ -161,7 +161,7 @@ held_in_front rs i a behind =
 pub front_in_order : (rs : List Range) (i : ℕ) → is_ordered rs ≡ true → is_ordered (take i rs) ≡ true
 front_in_order rs i h = ordered_front (take i rs) (drop i rs) (ap is_ordered (take-append-drop i rs) ∙ h)
 
--- what is told of the last range that begins at the address or before it, where there is one
+-- The result for the last range that begins at the address or before it, if there is one.
 abbrev pub told : ℕ → Option Range → Option ℕ
 told a None = None
 told a (Some r) = cond (nat_le a r.last) (Some r.host) None
@@ -188,7 +188,7 @@ pub holder_told : (rs : List Range) (i a : ℕ) (o : Option Range) → is_ordere
 holder_told rs i a o h before behind is =
     held_in_front rs i a behind ∙ told_of_last (take i rs) a o (front_in_order rs i h) before is
 
--- a range none of whose addresses is held lies apart from all
+-- A range of addresses without a holder is disjoint from all ranges.
 abbrev pub IsFree : Range → List Range → Type 0
 IsFree r rs = (a : ℕ) → holds r a ≡ true → holder_among rs a ≡ None
 
@@ -231,7 +231,7 @@ free_apart r (s ∷ rs) some h free =
     and_from (is_apart r s) (list_all (is_apart r) rs) (true_from_ne_false (is_apart r s) (not_together r s rs some is.some free))
     (free_apart r rs some is.behind (λ a own. none_later (holds s a) s.host (holder_among rs a) (free a own)))
 
--- a range between those that begin before it and those that begin behind it
+-- A range between those that begin before it and those that begin after it.
 later : (r s : Range) → nat_lt r.first s.first ≡ true → nat_le s.first s.last ≡ true → is_apart r s ≡ true → nat_lt r.last s.first ≡ true
 later r s behind some apart = grind (arith, nat_tests)
 
@@ -287,7 +287,7 @@ put_held r rs i a free =
     ∙ held_between r (take i rs) (drop i rs) a (holds r a) refl (λ own. ap (λ ss. holder_among ss a) whole ∙ free a own)
     ∙ ap (λ ss. cond (holds r a) (Some r.host) (holder_among ss a)) whole
 
--- the range of a prefix holds what the prefix covers
+-- The range of a prefix contains the addresses that the prefix covers.
 pub same_test : (b c : Bool) → (b ≡ true → c ≡ true) → (c ≡ true → b ≡ true) → b ≡ c
 same_test true c to from = sym (to refl)
 same_test false true to from = from refl
@@ -309,7 +309,7 @@ pub first_to_last : (p : Prefix) → first_address p ≤ last_address p
 unfolding first_address last_address
 first_to_last p = omega arith
 
--- one prefix more of a host
+-- One more prefix of a host.
 abbrev pub IsHeldWith : List Range → List Prefix → ℕ → List Range → Type 0
 IsHeldWith rs at host all = (a : ℕ) → holder_among all a ≡ cond (covers_any at a) (Some host) (holder_among rs a)
 

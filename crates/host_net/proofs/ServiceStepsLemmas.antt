@@ -1,4 +1,4 @@
--- What is read piece by piece as a service is a spelling of it, and each spelling is read.
+-- The step-by-step parser accepts exactly the notations of a service.
 use Rattle.std.proofs.Common.{◌≡◌, ℕ, ◌≤◌, ◌<◌, true, nat_lt, nat_le, List, ◌∷◌, ◌++◌, Option, Some, None, ◌⊎◌, inl, inr, refl, sym, ap, ◌∙◌, arith, subst}
 use Rattle.std.specs.Prelude.{IsTrue, codes, decimal, bytes_eq}
 use Rattle.std.proofs.lemmas.Bool.Decides.{nat_tests}
@@ -19,7 +19,7 @@ use Rattle.host_net.specs.inner.ServiceText.{IsServiceSpelling}
 pub service_same : (s t : Service) → s.proto ≡ t.proto → s.low ≡ t.low → s.high ≡ t.high → s ≡ t
 service_same s t proto low high = λ i. record { proto = proto i; low = low i; high = high i }
 
--- what a service is, in facts
+-- The bounds of a valid service.
 pub service_bounds : (s : Service) → IsTrue (is_service s) → (s.low ≤ s.high) × (s.high ≤ last_port)
 service_bounds s valid = grind (arith, nat_tests)
 
@@ -32,7 +32,7 @@ with_ports_of proto counts = grind (arith, nat_tests)
 pub all_ports : (s : Service) → IsTrue (has_all_ports s) → (s.low ≡ 0) × (s.high ≡ last_port)
 all_ports s all = grind (arith, nat_tests)
 
--- every spelling is read: a protocol
+-- Every notation is parsed: a protocol.
 protocol_read : (proto : ℕ) → (proto ≡ icmp) ⊎ ((proto ≡ tcp) ⊎ (proto ≡ udp))
     → service_by_parts (protocol_text proto) ≡ Some (record { proto = proto; low = 0; high = last_port })
 unfolding service_by_parts
@@ -40,7 +40,7 @@ protocol_read proto (inl one) = subst (λ (n : ℕ). service_by_parts (protocol_
 protocol_read proto (inr (inl six)) = subst (λ (n : ℕ). service_by_parts (protocol_text n) ≡ Some (record { proto = n; low = 0; high = last_port })) (sym six) refl
 protocol_read proto (inr (inr other)) = subst (λ (n : ℕ). service_by_parts (protocol_text n) ≡ Some (record { proto = n; low = 0; high = last_port })) (sym other) refl
 
--- behind the protocol and a slash come the ports
+-- The ports follow the protocol and a slash.
 abbrev IsCut : List ℕ → ℕ → Type 0
 IsCut rest proto = service_by_parts (protocol_text proto ++ (47 ∷ rest)) ≡ (ports_of rest >>= with_ports proto)
 
@@ -88,7 +88,7 @@ by_parts_read text s spelling = elim spelling.written [
       ∙ read_behind s (decimal s.low ++ (45 ∷ decimal s.high)) ports.0 (ports_read s.low s.high ports.1 (service_bounds s spelling.service).1)
 ]
 
--- only spellings are read: what a protocol's name says
+-- Only notations are parsed: the name of a protocol.
 abbrev pub IsNameOf : List ℕ → ℕ → Type 0
 IsNameOf name proto = (name ≡ protocol_text proto) × ((proto ≡ icmp) ⊎ IsTrue (has_ports proto))
 
@@ -104,7 +104,7 @@ protocol_told name proto read = elim (if_parts (bytes_eq name (codes "icmp")) (S
   ]
 ]
 
--- and what its ports say
+-- And its ports.
 abbrev TellsPorts : List ℕ → ℕ × ℕ → Type 0
 TellsPorts text ports =
     (ports.1 ≤ last_port) × (((ports.0 ≡ ports.1) × (text ≡ decimal ports.0)) ⊎ ((ports.0 < ports.1) × (text ≡ decimal ports.0 ++ (45 ∷ decimal ports.1))))
@@ -142,7 +142,7 @@ some_are_services proto low high counts order fits =
     let last : nat_le high last_port ≡ true = grind (arith, nat_tests) in
     rw (first, last, counts) refl
 
--- a protocol whose ports are told
+-- A protocol with ports.
 behind_spelled : (text name rest : List ℕ) (proto : ℕ) (ports : ℕ × ℕ) → text ≡ name ++ (47 ∷ rest) → name ≡ protocol_text proto → IsTrue (has_ports proto) → TellsPorts rest ports
     → IsServiceSpelling text (record { proto = proto; low = ports.0; high = ports.1 })
 behind_spelled text name rest proto ports whole named counts told = elim told.1 [

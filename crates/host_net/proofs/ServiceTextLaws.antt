@@ -1,4 +1,4 @@
--- Laws of the texts of services: a text is read as a service exactly where it is a spelling of it.
+-- Lemmas on the notation of services: a text is parsed to a service if and only if it denotes it.
 use Rattle.std.proofs.Common.{◌≡◌, ℕ, ◌<◌, Bool, true, false, cond, nat_le, ◌==◌, ◌&&◌, List, [], ◌∷◌, ◌++◌, find, Option, Some, None, ◌⊎◌, ◌↔◌, inl, inr, refl, sym, ap, ◌∙◌, arith, subst}
 use Rattle.std.specs.Prelude.{IsTrue, IsNone, IfSome, decimal, bytes_eq}
 use Rattle.std.proofs.lemmas.Bool.{and_parts, or_cases, or_right}
@@ -18,7 +18,7 @@ use Rattle.host_net.proofs.ServiceStepsLemmas.{service_same, service_bounds, ser
 abbrev IsNamed : Service → Type 0
 IsNamed s = (s.proto ≡ icmp) ⊎ ((s.proto ≡ tcp) ⊎ (s.proto ≡ udp))
 
--- 1. The test says what a spelling is.
+-- 1. The test is equivalent to the definition of a notation.
 
 ports_one : (low high : ℕ) → low ≡ high → ports_text low high ≡ decimal low
 ports_one low high same =
@@ -85,7 +85,7 @@ test_told text s named holds = elim (or_cases (has_all_ports s && bytes_eq text 
       ]
 ]
 
--- 2. The numbers in a spelling are those of its service.
+-- 2. The numbers in a notation are those of its service.
 
 no_numbers : (s : Service) → IsNamed s → numbers_in (protocol_text s.proto) ≡ []
 no_numbers s (inl one) = subst (λ (n : ℕ). numbers_in (protocol_text n) ≡ []) (sym one) refl
@@ -167,14 +167,14 @@ service_of-spelled text s read =
     read in
     test_told text s named holds
 
--- what is read piece by piece is the service that the text stands for
+-- The step-by-step parser returns the service that the text denotes.
 pub by_parts_same : (text : List ℕ) → service_by_parts text ≡ service_of text
 by_parts_same text =
     same_options (service_by_parts text) (service_of text)
     (λ s read. service_of-read text s (by_parts_spelled text s read))
     (λ s said. by_parts_read text s (service_of-spelled text s said))
 
--- the same for an answer that is the service of a text
+-- The same for a result that is the service of a text.
 pub service_spelled : (text : List ℕ) (r : Option Service) → r ≡ service_of text → IfSome r (IsServiceSpelling text)
 service_spelled text None e = tt
 service_spelled text (Some s) e = service_of-spelled text s (sym e)

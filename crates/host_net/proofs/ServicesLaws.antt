@@ -1,4 +1,4 @@
--- Laws of services: what a further one changes, and what stays true.
+-- Lemmas on services: what adding a service changes, and what it preserves.
 use Rattle.std.proofs.Common.{◌≡◌, ◌≢◌, ℕ, ◌≤◌, ◌<◌, true, false, ◌&&◌, List, [], ◌∷◌, ◌++◌, length, length-append, ◌⊎◌, refl, arith}
 use Rattle.std.specs.Prelude.{IsTrue, ◌==◌}
 use Rattle.std.specs.List.{list_all}
@@ -10,7 +10,7 @@ use Rattle.host_net.specs.inner.Service.{is_service}
 use Rattle.host_net.specs.Services.{NarrowedFlow, is_between, services_of, service_limit}
 use Rattle.host_net.specs.inner.Services.{with_service, AreServices}
 
--- the same ends are found, and others are not
+-- The flow with the same hosts is found, and others are not.
 pub own_ends : (from to : ℕ) → ((from == from) && (to == to)) ≡ true
 own_ends from to = grind (arith, nat_tests)
 
@@ -23,13 +23,13 @@ other_flow i j from to n apart same = grind (arith, nat_tests)
 same_ends : (i j from to : ℕ) → ((i == from) && (j == to)) ≡ true → (i ≡ from) × (j ≡ to)
 same_ends i j from to same = grind (arith, nat_tests)
 
--- a further service is the last of its flow
+-- The added service is the last of its flow.
 pub services_of-with_service : (ns : List NarrowedFlow) (from to : ℕ) (s : Service) → services_of (with_service ns from to s) from to ≡ services_of ns from to ++ s ∷ []
 services_of-with_service [] from to s = rw (own_ends from to) refl
 services_of-with_service (n ∷ ns) from to s =
     split_bool (is_between from to n) (λ same. rw (same, same) refl) (λ other. rw (other, other) (services_of-with_service ns from to s))
 
--- and other flows have what they had
+-- Other flows are unchanged.
 others_kept : (ns : List NarrowedFlow) (from to : ℕ) (s : Service) (i j : ℕ) → ((i == from) && (j == to)) ≡ false
     → services_of (with_service ns from to s) i j ≡ services_of ns i j
 others_kept [] from to s i j apart = rw apart refl
@@ -41,7 +41,7 @@ pub services_of-others : (ns : List NarrowedFlow) (from to : ℕ) (s : Service) 
     → services_of (with_service ns from to s) i j ≡ services_of ns i j
 services_of-others ns from to s i j apart = others_kept ns from to s i j (other_ends i j from to apart)
 
--- a flow has its services where every flow has those of services
+-- The services of a flow are valid if those of all flows are.
 abbrev IsFewValid : List Service → Type 0
 IsFewValid ss = (length ss ≤ service_limit) × IsTrue (list_all is_service ss)
 

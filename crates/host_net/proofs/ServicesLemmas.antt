@@ -1,4 +1,4 @@
--- How the map from flows to services answers for the services of flows.
+-- The results of the map from flows to services agree with the services of flows.
 use Rattle.std.proofs.Common.{◌≡◌, ◌↔◌, ℕ, Bool, ◌&&◌, List, [], ◌∷◌, ◌++◌, length, refl, sym, ap, ◌∙◌}
 use Rattle.std.specs.Prelude.{◌==◌}
 use Rattle.std.specs.Map.{lookup}
@@ -15,18 +15,18 @@ use Rattle.host_net.specs.inner.ServicesView.{narrowed_view, services_view}
 abbrev pub same_ends : ℕ × ℕ → ℕ × ℕ → Bool
 same_ends k l = (k.0 == l.0) && (k.1 == l.1)
 
--- the map has no entries where no flow is narrowed
+-- The map has no entries if all flows are unrestricted.
 pub none_narrowed : (es : List ((ℕ × ℕ) × Vec Service Global)) → (length es ≡ 0) ↔ (services_view es ≡ [])
 none_narrowed [] = (λ none. refl, λ none. refl)
 none_narrowed (e ∷ es) = (λ none. cc, λ none. cc)
 
--- what is found at a flow are its services
+-- The entry of a flow has its services.
 pub services_found : (es : List ((ℕ × ℕ) × Vec Service Global)) (from to : ℕ)
     → services_of (services_view es) from to ≡ option_map_or (λ v. v.items) (lookup (same_ends (from, to)) es) []
 services_found [] from to = refl
 services_found (e ∷ es) from to = split_bool (same_ends (from, to) e.0) (λ same. rw same refl) (λ other. rw other (services_found es from to))
 
--- services that take the place of those at a flow, with one more
+-- The services of a flow are replaced by those with one more.
 pub services_inserted : (es : List ((ℕ × ℕ) × Vec Service Global)) (from to : ℕ) (v : Vec Service Global) (s : Service)
     → v.items ≡ services_of (services_view es) from to ++ s ∷ []
     → services_view (insert_entry same_ends es (from, to) v) ≡ with_service (services_view es) from to s

@@ -1,4 +1,4 @@
--- Worked rows: which texts stand for a prefix, and which for a service.
+-- Test vectors: the texts that denote a prefix, and those that denote a service.
 use Rattle.std.proofs.Common.{◌≡◌, [], ◌∷◌, map, None, refl}
 use Rattle.std.specs.Prelude.{codes, Some}
 use Rattle.std.specs.Fmt.{digits}
@@ -13,7 +13,7 @@ row_address : prefix_of (codes "10.0.0.1") ≡ Some (prefix_with 167772161 32)
 unfolding prefix_of prefix_text address_text octet digits
 row_address = refl
 
--- a zero in front, a number too many or too few, an octet or a length that is too great, another byte, nothing
+-- A leading zero, a number too many or too few, an octet or a length out of range, another byte, nothing.
 rows_of_none : map prefix_of (codes "10.0.0.01" ∷ codes "10.0.0.1.2" ∷ codes "10.0.1" ∷ codes "10.0.0.256" ∷ codes "10.0.0.1/33" ∷ codes "10.0.0.1/" ∷ codes "10.0.0.1 " ∷ [] ∷ [])
     ≡ None ∷ None ∷ None ∷ None ∷ None ∷ None ∷ None ∷ None ∷ []
 unfolding prefix_of prefix_text address_text octet digits
@@ -28,7 +28,7 @@ rows_of_services : map service_of (codes "icmp" ∷ codes "udp/53" ∷ codes "tc
 unfolding service_of digits
 rows_of_services = refl
 
--- ports of a protocol that has none, one port twice, a dash alone, a port that is too great, nothing behind the slash, another name
+-- Ports of a protocol without ports, one port twice, a dash only, a port out of range, nothing after the slash, another name.
 rows_of_no_service : map service_of (codes "icmp/1" ∷ codes "tcp/80-80" ∷ codes "tcp/80-" ∷ codes "tcp/65536" ∷ codes "tcp/" ∷ codes "TCP" ∷ [])
     ≡ None ∷ None ∷ None ∷ None ∷ None ∷ None ∷ []
 unfolding service_of digits

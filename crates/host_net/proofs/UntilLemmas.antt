@@ -1,4 +1,4 @@
--- Up to which address the ranges before an address, and those behind it, stay so.
+-- The addresses up to which the ranges before an address, and those after it, are the same.
 use Rattle.std.proofs.Common.{◌≡◌, ℕ, zero, suc, ◌≤◌, ◌<◌, true, nat_le, nat_lt, List, [], ◌∷◌, drop, slice_get, Some, None, refl, ap, arith}
 use Rattle.std.specs.List.{list_all}
 use Rattle.std.proofs.lemmas.Bool.{and_from, and_parts}
@@ -22,7 +22,7 @@ behind_less (r ∷ rs) a b less h =
     let own : nat_lt a r.first ≡ true = grind (arith, nat_tests) in
     and_from (nat_lt a r.first) (list_all (λ (s : Range). nat_lt a s.first) rs) own (behind_less rs a b less later)
 
--- what lies before the range at a place lies before all behind it
+-- An address before the range at an index is before all ranges after it.
 pub behind_at : (rs : List Range) (i a : ℕ) (next : Range) → is_ordered rs ≡ true → slice_get rs i ≡ Some next → a < next.first
     → list_all (λ r. nat_lt a r.first) (drop i rs) ≡ true
 behind_at [] i a next h there less = cc
@@ -41,7 +41,7 @@ none_at [] (suc i) a none = refl
 none_at (r ∷ rs) zero a none = cc
 none_at (r ∷ rs) (suc i) a none = none_at rs i a none
 
--- the range at a place lies behind an address that lies before all from there on
+-- The range at an index begins after an address that is before all ranges from there on.
 pub next_behind : (rs : List Range) (i a : ℕ) (next : Range) → slice_get rs i ≡ Some next → list_all (λ r. nat_lt a r.first) (drop i rs) ≡ true
     → a < next.first
 next_behind [] i a next there behind = cc

@@ -1,4 +1,4 @@
--- A verdict says whether the packet passes.
+-- A verdict determines whether the packet passes.
 use Rattle.std.proofs.Common.{◌≡◌, Bool, true, false, refl}
 use Rattle.host_net.specs.Verdict.{verdict_if}
 

@@ -1,4 +1,4 @@
--- The prefixes of hosts, of all together.
+-- The prefixes of all hosts, in one list.
 use Rattle.std.specs.Prelude.{List}
 use Rattle.std.specs.List.{flat_map}
 use Rattle.host_net.specs.Host.{Host}

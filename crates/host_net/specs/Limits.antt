@@ -1,13 +1,14 @@
--- How large a network may be.
+-- Size limits of a network.
 use Rattle.std.specs.Prelude.{ℕ}
 
--- how many hosts there may be, and how many prefixes all of them may have together
+-- The greatest number of hosts.
 abbrev pub host_limit : ℕ
 host_limit = 256
 
+-- The greatest number of prefixes of all hosts together.
 abbrev pub prefix_limit : ℕ
 prefix_limit = 1024
 
--- how many invariants there may be
+-- The greatest number of invariants.
 abbrev pub invariant_limit : ℕ
 invariant_limit = 16

@@ -1,9 +1,9 @@
-//! Which of many rules can fit the two addresses of a packet: an index of the prefixes that they ask
-//! for. Those that ask for equally many bits of each address stand together, in the order of these
-//! bits and then of their places, so that the next that asks for the bits of a packet is found by
-//! halving, once for each two lengths that are in use. Those that come first with their lengths only
-//! behind the one that is found already are passed over. A guide tells of most bits where they begin,
-//! so that halving is seldom needed.
+//! Tuple space search (Srinivasan, Suri, Varghese 1999): an index of the source and destination
+//! prefixes of rules. It finds the first rule whose prefixes cover both addresses of a packet. Keys
+//! with equal prefix lengths are adjacent, sorted by their significant bits and then by index. A
+//! lookup does one search for each pair of lengths in use, and skips the pairs whose first rule
+//! comes after the best match. A hash table locates most keys directly, so binary search is rarely
+//! needed.
 
 ghost use Rattle.std.specs.Prelude.{◌≡◌, ◌<◌, ◌≤◌, ◌^◌, ◌+◌, ◌++◌, ◌∷◌, [], List, IfOk, OnOk, OnErr, Contains, IsTrue, ◌↔◌, length};
 ghost use Rattle.std.specs.List.Sorted.{IsNonDecreasingBy, IsPartitionPoint};
@@ -16,21 +16,21 @@ ghost use Rattle.host_net.specs.inner.CoverView.{AreFirst, AreInOrder, AreListed
 use crate::prefix::{Prefix, front};
 use std::alloc::{AllocError, Global};
 
-/// What a rule asks of the two addresses of a packet: that each prefix that is given covers its own.
+/// The prefixes that a rule matches on. A missing prefix covers every address.
 #[derive(Clone, Copy, Debug, PartialEq, Eq)]
 pub struct Ends {
     pub src: Option<Prefix>,
     pub dst: Option<Prefix>,
 }
 
-/// How many bits of each address count.
+/// The number of significant bits of each address.
 #[derive(Clone, Copy, PartialEq, Eq)]
 struct Lengths {
     src: u8,
     dst: u8,
 }
 
-/// The bits that count, and the place of what asks for them.
+/// The significant bits of both addresses, and the index of the entry.
 #[derive(Clone, Copy)]
 struct Key {
     lengths: Lengths,
@@ -39,7 +39,7 @@ struct Key {
     place: u32,
 }
 
-/// Lengths that are in use, and the first place of what asks for so many bits.
+/// A pair of lengths in use, and the index of the first entry with these lengths.
 #[derive(Clone, Copy)]
 struct Group {
     lengths: Lengths,
@@ -51,22 +51,23 @@ struct Group {
 pub struct Covers {
     keys: Vec<Key>,
     groups: Vec<Group>,
-    /// Where the keys of some bits begin, by a hash of these. Keys are compared: it is but a guide.
+    /// A hash table from significant bits to their first key. It is only a hint: each lookup
+    /// compares the key.
     guide: Vec<u32>,
 }
 
-/// So many places of a guide there are for all keys of the same bits.
+/// The number of slots in the hash table for each distinct combination of bits.
 const PLACES_FOR_BITS: usize = 2;
 
-/// So many places of a guide are tried for a key, one after another. What is not among them is found
-/// by halving.
+/// The number of consecutive slots that are probed for a key. Other keys are found by binary
+/// search.
 const TRIES: usize = 8;
 
-/// What stands in a guide where no key begins.
+/// The content of an empty slot.
 const NOWHERE: u32 = u32::MAX;
 
-/// 2^64 over the golden ratio, by which products of numbers that are close to each other lie far
-/// apart (multiplicative hashing: Knuth, The Art of Computer Programming, volume 3, section 6.4).
+/// 2^64 divided by the golden ratio. Multiplication by it spreads adjacent numbers (multiplicative
+/// hashing: Knuth, The Art of Computer Programming, volume 3, section 6.4).
 const MULTIPLIER: u64 = 0x9e37_79b9_7f4a_7c15;
 
 fn length_of(part: Option<Prefix>) -> u8
@@ -120,7 +121,7 @@ fn key_of(ends: Ends, place: u32) -> Key
 }
 
 impl Key {
-    /// The number by which keys are in order.
+    /// Returns the number by which keys are sorted.
     #[tactic(auto, unfolding(crate::specs::inner::CoverView::rank))]
     fn rank(&self) -> u128
         ensures { result ≡ rank self.now }
@@ -130,7 +131,7 @@ impl Key {
         bits * (1 << 32) + self.place as u128
     }
 
-    /// Whether both ask for the same bits.
+    /// Whether both keys have the same significant bits.
     fn shares_bits(&self, other: &Key) -> bool
         ensures { IsTrue result ↔ SameBits self.now other.now }
     {
@@ -138,7 +139,7 @@ impl Key {
     }
 }
 
-/// The place in a guide of that length for the bits of a key.
+/// Returns the first slot to probe for the bits of a key, in a hash table of length `len`.
 fn slot_of(key: &Key, len: usize) -> usize {
     let lengths = (key.lengths.src as u64) << 8 | key.lengths.dst as u64;
     let bits = (key.src as u64) << 32 | key.dst as u64;
@@ -146,7 +147,7 @@ fn slot_of(key: &Key, len: usize) -> usize {
     (hash.wrapping_mul(len as u64) >> 32) as usize
 }
 
-/// The places of a guide that are tried for the bits of a key.
+/// Returns the slots that are probed for the bits of a key.
 fn tries_of<'a>(guide: &'a [u32], key: &Key) -> &'a [u32] {
     let slot = slot_of(key, guide.len().saturating_sub(TRIES));
     match guide.get(slot..slot.saturating_add(TRIES)) {
@@ -155,7 +156,7 @@ fn tries_of<'a>(guide: &'a [u32], key: &Key) -> &'a [u32] {
     }
 }
 
-/// Whether the first key whose rank is no lower stands there.
+/// Whether `at` is the partition point: the index of the first key with rank at least `least`.
 fn is_place(keys: &[Key], at: usize, least: u128) -> bool
     ensures within { IsTrue result → at ≤ length keys.now }
     ensures point { IsTrue result → IsNonDecreasingBy rank keys.now → IsPartitionPoint (λ k. rank k < least) (λ k. least ≤ rank k) keys.now at }
@@ -166,7 +167,7 @@ fn is_place(keys: &[Key], at: usize, least: u128) -> bool
     at == 0 || keys[at - 1].rank() < least
 }
 
-/// How many keys stand before the first whose rank is no lower than that of a key.
+/// Returns the number of keys before the first one with at least the rank of `key`.
 fn place_of(keys: &[Key], guide: &[u32], key: &Key) -> usize
     ensures bound { result ≤ length keys.now }
     ensures point { IsNonDecreasingBy rank keys.now → IsPartitionPoint (λ k. rank k < rank key.now) (λ k. rank key.now ≤ rank k) keys.now result }
@@ -183,7 +184,7 @@ fn place_of(keys: &[Key], guide: &[u32], key: &Key) -> usize
     searched(keys, least)
 }
 
-/// How many keys stand before the first whose rank is no lower.
+/// Returns the number of keys before the first one with rank at least `least`, by binary search.
 fn searched(keys: &[Key], least: u128) -> usize
     ensures bound { result ≤ length keys.now }
     ensures point { IsNonDecreasingBy rank keys.now → IsPartitionPoint (λ k. rank k < least) (λ k. least ≤ rank k) keys.now result }
@@ -191,7 +192,7 @@ fn searched(keys: &[Key], least: u128) -> usize
     keys.partition_point(|key| key.rank() < least)
 }
 
-/// The first place, from that of the key on, of a key with the same bits.
+/// Returns the index of the first key with the same bits, from that of `from` on.
 fn next_of(keys: &[Key], guide: &[u32], from: &Key) -> Option<usize>
     ensures { AreInOrder keys.now → IsFirstKey (λ k. SameBits k from.now) keys.now from.now.place result }
 {
@@ -218,7 +219,7 @@ fn earlier(first: Option<usize>, second: Option<usize>) -> Option<usize>
 }
 
 impl Covers {
-    /// The index of no `Ends`.
+    /// Returns an empty index.
     #[tactic(auto, using(crate::proofs::CoverLemmas::no_index))]
     pub fn new(alloc: Global) -> Covers
         ensures { IsIndexOf [] result }
@@ -230,7 +231,7 @@ impl Covers {
         }
     }
 
-    /// The index of these `Ends`.
+    /// Builds the index of a list.
     pub fn of(alloc: Global, all: &[Ends]) -> Result<Covers, AllocError>
         requires { length all.now < 2 ^ 32 }
         ensures { IfOk result (IsIndexOf all.now) }
@@ -246,7 +247,7 @@ impl Covers {
         })
     }
 
-    /// Puts one more behind the others.
+    /// Appends one entry.
     pub fn add(&mut self, ends: Ends) -> Result<(), AllocError>
         requires { count_in self.old + 1 < 2 ^ 32 }
         ensures added { OnOk result ((all : List Ends) → IsIndexOf all self.old → IsIndexOf (all ++ ends ∷ []) self.new) }
@@ -259,7 +260,7 @@ impl Covers {
         Ok(())
     }
 
-    /// The first place, from `from` on, whose prefixes cover both addresses.
+    /// Returns the first index, from `from` on, whose prefixes cover both addresses.
     pub fn first(&self, from: usize, src: u32, dst: u32) -> Option<usize>
         ensures { (all : List Ends) → IsIndexOf all self.now → IsFirstFrom all from src dst result }
     {
@@ -288,7 +289,7 @@ fn first_among(
     first
 }
 
-/// The earlier of what was found before and of what the group has.
+/// Returns the earlier of the match found so far and the first match of the group.
 fn first_with(
     keys: &[Key],
     guide: &[u32],
@@ -330,7 +331,7 @@ fn keys_of(alloc: Global, all: &[Ends]) -> Result<Vec<Key>, AllocError>
     Ok(keys)
 }
 
-/// The groups of keys that stand in the order of their places.
+/// Returns the groups of keys that are in order of their indices.
 fn groups_of(alloc: Global, keys: &[Key]) -> Result<Vec<Group>, AllocError>
     ensures listed { IfOk result (λ groups. AreListed groups.items keys.now) }
     ensures first { (all : List Ends) → keys.now ≡ keys_from 0 all
@@ -343,7 +344,7 @@ fn groups_of(alloc: Global, keys: &[Key]) -> Result<Vec<Group>, AllocError>
     Ok(groups)
 }
 
-/// A guide to keys that stand in order.
+/// Builds the hash table of sorted keys.
 fn guide_of(alloc: Global, keys: &[Key]) -> Result<Vec<u32>, AllocError> {
     let len = count_of_bits(keys)
         .saturating_mul(PLACES_FOR_BITS)
@@ -358,7 +359,7 @@ fn guide_of(alloc: Global, keys: &[Key]) -> Result<Vec<u32>, AllocError> {
     Ok(guide)
 }
 
-/// How many different bits keys ask for that stand in order.
+/// Returns the number of distinct bit combinations of sorted keys.
 fn count_of_bits(keys: &[Key]) -> usize {
     let mut count: usize = 0;
     for (place, key) in keys.iter().enumerate() {
@@ -369,7 +370,7 @@ fn count_of_bits(keys: &[Key]) -> usize {
     count
 }
 
-/// Points to the first key of some bits, where one of the places that are tried for it is free.
+/// Stores the first key of some bits, if one of the slots probed for it is empty.
 fn point_to(guide: &mut [u32], key: &Key, place: u32) {
     let slot = slot_of(key, guide.len().saturating_sub(TRIES));
     if let Some(places) = guide.get_mut(slot..slot.saturating_add(TRIES)) {
@@ -379,7 +380,7 @@ fn point_to(guide: &mut [u32], key: &Key, place: u32) {
     }
 }
 
-/// Puts a group of the key behind the others where its lengths are new.
+/// Appends a group for the key if its lengths are new.
 fn note(groups: &mut Vec<Group>, key: &Key) -> Result<(), AllocError>
     ensures ok { OnOk result (groups.new.items ≡ noted groups.old.items key.now) }
     ensures err { OnErr result (groups.new.items ≡ groups.old.items) }

@@ -21,7 +21,7 @@ use std::alloc::{AllocError, Global};
 use std::marker::Model;
 use text_core::is_name;
 
-/// Hosts in order of declaration. A host has the number of its place, from 0.
+/// Hosts in order of declaration. The number of a host is its index, from 0.
 #[derive(Drop)]
 pub struct Hosts {
     known: IndexMap<Name, Addresses>,
@@ -43,7 +43,7 @@ impl Model for Hosts {
 }
 
 impl Hosts {
-    /// No hosts.
+    /// Returns an empty list of hosts.
     pub fn new(alloc: Global) -> Hosts
         ensures { result ≡ [] }
     {
@@ -53,21 +53,23 @@ impl Hosts {
         }
     }
 
-    /// Adds a host after the others and answers its number.
+    /// Appends a host and returns its number.
     ///
-    /// The host owns the addresses that its prefixes `at` cover or, with `rest` set and without
-    /// prefixes, those that no prefix covers. Each prefix must be exact and of length 1 at least.
+    /// The host owns the addresses that its prefixes `at` cover. With `rest` set and no prefixes,
+    /// it owns the addresses that no prefix covers. Each prefix must be exact and have a length of
+    /// at least 1.
     pub fn add(&mut self, name: &[u8], at: &[Prefix], rest: bool) -> Result<u16, HostRefusal>
         requires { IsTrue (list_all is_network at.now) }
 
-        // The first cause is answered; without a cause only memory can be wanting.
+        // The first cause is returned. Without a cause, only allocation can fail.
         ensures refused { (why : HostRefusal) → refusal_of self.old name.now at.now rest ≡ Some why → result ≡ Err why }
         ensures accepted { refusal_of self.old name.now at.now rest ≡ None →
             MatchResult result (λ number. number ≡ length self.old) (λ why. why ≡ HostRefusal.Memory) }
         ensures added { OnOk result (self.new ≡ self.old ++ record { name = name.now; prefixes = at.now; rest = rest } ∷ []) }
         ensures unchanged { OnErr result (self.new ≡ self.old) }
 
-        // The prefix at `item` meets one of host `other`, and no prefix before it meets an earlier one.
+        // The prefix at `item` overlaps one of host `other`, and no prefix before it overlaps an
+        // earlier one.
         ensures overlaps { (item other : ℕ) → result ≡ Err (HostRefusal.Overlap item other) → IsFirstOverlap self.old at.now item other }
     {
         if let Some(why) = self.refusal(name, at, rest) {
@@ -78,7 +80,7 @@ impl Hosts {
         Ok(number)
     }
 
-    /// The first cause to refuse a host.
+    /// Returns the first cause to refuse a host.
     #[tactic(auto, unfolding(crate::specs::inner::Refusal::refusal_of))]
     fn refusal(&self, name: &[u8], at: &[Prefix], rest: bool) -> Option<HostRefusal>
         ensures { result ≡ refusal_of self.now name.now at.now rest }
@@ -125,7 +127,7 @@ impl Hosts {
         overlap(self.known.values().as_slice(), at)
     }
 
-    /// Adds a host that nothing speaks against, as `add` does.
+    /// Appends a host that has no cause to be refused, like `add`.
     pub fn push(&mut self, name: Name, at: &[Prefix], rest: bool) -> Result<(), AllocError>
         requires cause { refusal_of self.old name at.now rest ≡ None }
         requires networks { IsTrue (list_all is_network at.now) }
@@ -141,7 +143,7 @@ impl Hosts {
         Ok(())
     }
 
-    /// How many hosts there are.
+    /// Returns the number of hosts.
     pub fn count(&self) -> u16
         ensures value { result ≡ length self.now }
         ensures hosts { IsHosts self.now }
@@ -149,7 +151,7 @@ impl Hosts {
         self.known.len() as u16
     }
 
-    /// The name of the host with this number.
+    /// Returns the name of host `host`.
     pub fn name(&self, host: u16) -> Name
         requires { host < length self.now }
         ensures { option_map (λ h. h.name) (slice_get self.now host) ≡ Some result }
@@ -157,7 +159,7 @@ impl Hosts {
         self.known.keys().as_slice()[host as usize]
     }
 
-    /// The prefixes of the host with this number.
+    /// Returns the prefixes of host `host`.
     pub fn prefixes(&self, host: u16) -> &[Prefix]
         requires { host < length self.now }
         ensures { option_map (λ h. h.prefixes) (slice_get self.now host) ≡ Some result.now }
@@ -166,14 +168,14 @@ impl Hosts {
         &addresses.prefixes
     }
 
-    /// The rest host, or None where there is none.
+    /// Returns the rest host, or `None` if there is none.
     pub fn rest(&self) -> Option<u16>
         ensures { result ≡ rest_of self.now }
     {
         number(rest_host(self.known.values().as_slice()))
     }
 
-    /// The host with the name, or None where no host has it.
+    /// Returns the host with the name, or `None` if no host has it.
     pub fn find(&self, name: &[u8]) -> Option<u16>
         ensures { result ≡ host_named self.now name.now }
     {
@@ -183,22 +185,22 @@ impl Hosts {
         }
     }
 
-    /// The host that owns the address, or None where it belongs to nobody.
+    /// Returns the owner of the address, or `None` if it has none.
     #[tactic(auto, unfolding(crate::specs::Host::owner_of))]
     pub fn owner(&self, addr: u32) -> Option<u16>
         ensures exact { result ≡ owner_of self.now addr }
 
-        // The prefixes of one host at most cover the address, and it is that host's.
+        // At most one host has prefixes that cover the address, and this host owns it.
         ensures sole { (host : ℕ) (h : Host) → slice_get self.now host ≡ Some h → IsTrue (covers_any h.prefixes addr) → result ≡ Some host }
 
-        // Where no prefix covers the address, it is the rest host's, or nobody's.
+        // If no prefix covers the address, the rest host owns it, or no host.
         ensures uncovered { IsFalse (covers_any (all_prefixes self.now) addr) → result ≡ rest_of self.now }
     {
         holder(&self.ranges, addr).or(self.rest())
     }
 
-    /// The owner of an address, if it has one, and the last address, at most `last`, up to which all have
-    /// the same.
+    /// Returns the owner of an address, if it has one, and the last address, at most `last`, up to
+    /// which the owner is the same.
     #[tactic(auto, unfolding(crate::specs::Host::owner_of))]
     pub fn owner_until(&self, addr: u32, last: u32) -> Held
         requires { addr ≤ last }
@@ -213,8 +215,9 @@ impl Hosts {
         }
     }
 
-    /// An address from `first` on and before `last` after which the owner may change, if there is one. Of
-    /// several it is about the middle one, so that cutting at it again and again takes few steps.
+    /// Returns an address from `first` on and before `last` after which the owner may change, if
+    /// there is one. It is near the middle of the candidates, so that repeated bisection takes few
+    /// steps.
     pub fn boundary_between(&self, first: u32, last: u32) -> Option<u32>
         ensures { IfSome result (λ at. (first ≤ at) × (at < last)) }
     {
@@ -222,7 +225,7 @@ impl Hosts {
     }
 }
 
-/// The number of the host at a place.
+/// Returns the number of the host at an index.
 fn number(place: Option<usize>) -> Option<u16>
     requires { ForSome place (λ host. host < 2 ^ 16) }
     ensures { result ≡ place }

@@ -1,7 +1,6 @@
-//! Hosts of a network and the packets between them: IPv4 prefixes, packets, host names, the list
-//! of hosts with the owner of each address, the services to which flows are narrowed, and an index
-//! of what can fit the addresses of a packet. Everything above speaks of addresses through these
-//! types.
+//! Hosts of a network and the packets between them: IPv4 prefixes, packets, host names, the list of
+//! hosts with the owner of each address, the services to which flows are restricted, and an index
+//! of the prefixes of rules. All crates above use these types for addresses.
 #![tactic(auto)]
 
 mod addresses;

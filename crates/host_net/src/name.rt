@@ -1,4 +1,4 @@
-//! The name of a host, kept without memory so that refusals and reports can carry it.
+//! The name of a host, stored without allocation, so refusals and reports can contain it.
 
 ghost use Rattle.std.specs.Prelude.{◌≡◌, ◌≤◌, Some, None, [], IsAscii, IsTrue, length, if◌then◌else◌, nat_eq};
 ghost use Rattle.std.proofs.Common.{rules};
@@ -13,7 +13,7 @@ use std::marker::Model;
 use std::str::from_utf8;
 use text_core::{is_name, padded};
 
-/// A text of at most 32 bytes: the name of a host, or the empty text where no name is given.
+/// A string of at most 32 bytes: the name of a host, or the empty string if no name is given.
 #[derive(Clone, Copy, Debug)]
 pub struct Name {
     bytes: [u8; 32],
@@ -36,8 +36,8 @@ impl Model for Name {
 }
 
 impl Name {
-    /// The text as a name, or None where it is no name: a name has 1 to 32 bytes, each a letter
-    /// A to Z or a to z, a digit, `_` or `-`.
+    /// Returns the text as a name, or `None` if it is not a valid name. A name has 1 to 32 bytes,
+    /// each a letter A to Z or a to z, a digit, `_` or `-`.
     pub fn new(text: &[u8]) -> Option<Name>
         ensures { result ≡ (if is_name text.now then Some text.now else None) }
     {
@@ -48,7 +48,7 @@ impl Name {
         }
     }
 
-    /// A text that was tested, as a name.
+    /// Returns a validated text as a name.
     pub fn of(text: &[u8]) -> Name
         requires { IsTrue (is_name text.now) }
         ensures { result ≡ text.now }
@@ -59,7 +59,7 @@ impl Name {
         }
     }
 
-    /// The empty name, which says that no name is given.
+    /// Returns the empty name, which means that no name is given.
     pub fn none() -> Name
         ensures { result ≡ [] }
     {
@@ -69,14 +69,14 @@ impl Name {
         }
     }
 
-    /// The text as a string slice.
+    /// Returns the name as a string slice.
     pub fn as_str(&self) -> &str
         ensures { result.now ≡ self.now }
     {
         from_utf8(self.bytes()).unwrap()
     }
 
-    /// The text.
+    /// Returns the bytes of the name.
     pub fn bytes(&self) -> &[u8]
         ensures value { result.now ≡ self.now }
         ensures short { length result.now ≤ 32 }

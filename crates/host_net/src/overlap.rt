@@ -1,4 +1,4 @@
-//! The first prefix of a host to be added that has an address in common with an earlier prefix.
+//! The first prefix of a new host that shares an address with an earlier prefix.
 
 ghost use Rattle.std.specs.Prelude.{◌≡◌, ◌≤◌, ◌<◌, ◌^◌, [], length, map, position, IfSome};
 ghost use Rattle.host_net.specs.inner.Hosts.{meets_any};
@@ -8,7 +8,8 @@ use crate::addresses::{Addresses, meets_any};
 use crate::prefix::Prefix;
 use crate::refusal::HostRefusal;
 
-/// The refusal for the first of the prefixes `at` that meets one of `hosts`, or one before it.
+/// Returns the refusal for the first of the prefixes `at` that overlaps a prefix of `hosts`, or an
+/// earlier one of `at`.
 pub fn overlap(hosts: &[Addresses], at: &[Prefix]) -> Option<HostRefusal>
     requires few { length hosts.now < 2 ^ 16 }
     requires short { length at.now < 2 ^ 16 }
@@ -25,8 +26,8 @@ pub fn overlap(hosts: &[Addresses], at: &[Prefix]) -> Option<HostRefusal>
     None
 }
 
-/// The place of the host of the earliest prefix that meets the prefix: one of `hosts`, or the one
-/// after them, of whose prefixes `own` stand before.
+/// Returns the index of the host of the earliest prefix that overlaps `prefix`: a host in `hosts`,
+/// or the new host after them, whose earlier prefixes are `own`.
 fn neighbour(hosts: &[Addresses], own: &[Prefix], prefix: &Prefix) -> Option<usize>
     ensures place { result ≡ meeting (map (λ h. h.prefixes.items) hosts.now) own.now prefix.now }
     ensures within { IfSome result (λ host. host ≤ length hosts.now) }

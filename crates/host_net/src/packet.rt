@@ -1,11 +1,11 @@
-//! A packet as a firewall sees it, the state of its connection, and what becomes of it.
+//! A packet as seen by a firewall, the connection state of a packet, and the verdict on it.
 
 ghost use Rattle.std.specs.Prelude.{◌≡◌};
 ghost use Rattle.host_net.specs.Packet.{swap_of};
 ghost use Rattle.host_net.specs.Verdict.{verdict_if};
 
 /// The header fields that rules match. Addresses are numbers in host byte order: `10.0.0.1` is
-/// `0x0a000001`. Ports have a meaning only for protocols that have ports, and are kept for all others.
+/// `0x0a000001`. Ports have a meaning only for protocols with ports, and are stored for all others.
 #[derive(Clone, Copy, Debug, PartialEq, Eq, PartialOrd, Ord)]
 pub struct Packet {
     /// The source address.
@@ -21,7 +21,7 @@ pub struct Packet {
 }
 
 impl Packet {
-    /// The packet that answers this one.
+    /// Returns the reply packet: addresses and ports are exchanged.
     pub fn swap(&self) -> Packet
         ensures { result ≡ swap_of self.now }
     {
@@ -35,14 +35,14 @@ impl Packet {
     }
 }
 
-/// What connection tracking says of a packet.
+/// The state of a packet in connection tracking.
 #[derive(Clone, Copy, Debug, PartialEq, Eq)]
 pub enum CtState {
     New,
     Established,
 }
 
-/// What becomes of a packet.
+/// The verdict on a packet.
 #[derive(Clone, Copy, Debug, PartialEq, Eq)]
 pub enum Verdict {
     Forward,
@@ -50,7 +50,7 @@ pub enum Verdict {
 }
 
 impl Verdict {
-    /// Whether the packet goes on to where it is sent.
+    /// Whether the packet is forwarded.
     pub fn is_forward(self) -> bool
         ensures { self ≡ verdict_if result }
     {

@@ -1,5 +1,5 @@
-//! An IPv4 prefix: an address of which the first bits count. Its calls are in `covering`; its text is
-//! read in `spelling` and written in `writing`.
+//! An IPv4 prefix: an address and the number of its significant bits. Its calls are in `covering`,
+//! the parser is in `spelling`, and the formatter in `writing`.
 
 ghost use Rattle.std.specs.Prelude.{◌≤◌};
 
@@ -11,8 +11,8 @@ pub(crate) use covering::front;
 pub use spelling::{read_address, read_prefix};
 pub use writing::put_prefix;
 
-/// An address in host byte order, and how many of its bits count, at most 32. Bits after the
-/// length are kept, and mean nothing.
+/// An address in host byte order, and the number of its significant bits, at most 32. Bits after
+/// the length are stored and ignored.
 #[derive(Clone, Copy, Debug, PartialEq, Eq)]
 pub struct Prefix {
     addr: u32,

@@ -1,5 +1,4 @@
-//! The addresses of the hosts as ranges in order, among which the owner of an address is found by
-//! halving.
+//! The addresses of the hosts as sorted ranges. The owner of an address is found by binary search.
 
 ghost use Rattle.std.specs.Prelude.{◌≡◌, ℕ, ◌≤◌, ◌<◌, IsTrue, IfOk, IfSome, OnOk, Some, None, length, take, drop, nat_le, nat_lt, if◌then◌else◌};
 ghost use Rattle.std.specs.List.{list_all};
@@ -19,14 +18,15 @@ pub struct Range {
     pub host: u16,
 }
 
-/// The host of an address, if it has one, and the last address up to which it is that of all.
+/// The owner of an address, if it has one, and the last address up to which the owner is the same.
 #[derive(Clone, Copy)]
 pub struct Held {
     pub host: Option<u16>,
     pub last: u32,
 }
 
-/// The host of the range in which the address lies, up to an address that no other range begins before.
+/// Returns the host of the range that contains the address, and an address up to which no other
+/// range begins.
 pub fn holder_until(ranges: &[Range], addr: u32, last: u32) -> Held
     requires ordered { IsTrue (is_ordered ranges.now) }
     requires last { addr ≤ last }
@@ -48,7 +48,8 @@ pub fn holder_until(ranges: &[Range], addr: u32, last: u32) -> Held
     }
 }
 
-/// The last address before the range at a place, and `last` where there is none or it begins later.
+/// Returns the last address before the range at an index, or `last` if there is no such range or it
+/// begins later.
 fn free_until(ranges: &[Range], place: usize, addr: u32, last: u32) -> u32
     requires ordered { IsTrue (is_ordered ranges.now) }
     requires last { addr ≤ last }
@@ -63,8 +64,8 @@ fn free_until(ranges: &[Range], place: usize, addr: u32, last: u32) -> u32
     }
 }
 
-/// An address between two others after which the owner may change, if there is one: the middle one of the
-/// addresses after which a range begins, or else the end of a range.
+/// Returns an address between two others after which the owner may change, if there is one: of the
+/// addresses after which a range begins the middle one, otherwise the end of a range.
 pub fn boundary_between(ranges: &[Range], first: u32, last: u32) -> Option<u32>
     requires { IsTrue (is_ordered ranges.now) }
     ensures { IfSome result (λ at. (first ≤ at) × (at < last)) }
@@ -82,7 +83,7 @@ pub fn boundary_between(ranges: &[Range], first: u32, last: u32) -> Option<u32>
     }
 }
 
-/// The host of the range in which the address lies.
+/// Returns the host of the range that contains the address.
 pub fn holder(ranges: &[Range], addr: u32) -> Option<u16>
     requires { IsTrue (is_ordered ranges.now) }
     ensures { result ≡ holder_among ranges.now addr }
@@ -93,7 +94,7 @@ pub fn holder(ranges: &[Range], addr: u32) -> Option<u16>
     }
 }
 
-/// The ranges with those of one more host, whose prefixes are `at`.
+/// Returns the ranges together with those of one more host, whose prefixes are `at`.
 pub fn with_host(
     alloc: Global,
     ranges: &[Range],
@@ -113,7 +114,7 @@ pub fn with_host(
     Ok(all)
 }
 
-/// The addresses that the prefix covers.
+/// Returns the range of a prefix.
 fn covered(prefix: &Prefix, host: u16) -> Range
     ensures some { result.first ≤ result.last }
     ensures held { (a : ℕ) → holds result a ≡ covers prefix.now a }
@@ -126,7 +127,7 @@ fn covered(prefix: &Prefix, host: u16) -> Range
     }
 }
 
-/// Puts a range in its place among the others.
+/// Inserts a range in order.
 fn put(ranges: &mut Vec<Range>, range: Range) -> Result<(), AllocError>
     requires ordered { IsTrue (is_ordered ranges.old.items) }
     requires some { range.first ≤ range.last }
@@ -139,7 +140,7 @@ fn put(ranges: &mut Vec<Range>, range: Range) -> Result<(), AllocError>
     Ok(())
 }
 
-/// How many of the ranges begin at the address or before it.
+/// Returns the number of ranges that begin at the address or before it.
 fn begun(ranges: &[Range], addr: u32) -> usize
     requires { IsTrue (is_ordered ranges.now) }
     ensures bound { result ≤ length ranges.now }

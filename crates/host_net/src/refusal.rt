@@ -1,34 +1,34 @@
-//! Why a host is not added, and how large a network may be.
+//! The causes to refuse a host, and the size limits of a network.
 
 use std::alloc::AllocError;
 
-/// How many hosts there may be.
+/// The greatest number of hosts.
 pub const HOST_LIMIT: usize = 256;
 
-/// How many prefixes all hosts may have together.
+/// The greatest number of prefixes of all hosts together.
 pub const PREFIX_LIMIT: usize = 1024;
 
-/// How many invariants there may be.
+/// The greatest number of invariants.
 pub const INVARIANT_LIMIT: usize = 16;
 
-/// Why a host was not added, the first cause in this order. Hosts and prefixes are named by their
-/// places, from 0.
+/// The cause to refuse a host: the first one in this order. Hosts and prefixes are identified by
+/// their indices, from 0.
 #[derive(Clone, Copy, Debug, PartialEq, Eq)]
 pub enum HostRefusal {
-    /// There are as many hosts as there may be, or there would be too many prefixes.
+    /// The host limit is reached, or the prefix limit would be exceeded.
     TooMany,
-    /// The text is no name.
+    /// The text is not a valid name.
     BadName,
-    /// The host `other` has the name.
+    /// Host `other` already has the name.
     Duplicate { other: u16 },
-    /// There are neither prefixes nor the rest mark, or both.
+    /// The host has neither prefixes nor the rest mark, or both.
     NoAddress,
-    /// There is a rest host, `other`, already.
+    /// A rest host, `other`, already exists.
     TwoRests { other: u16 },
-    /// The prefix at place `item` has an address in common with an earlier one. `other` is the host
-    /// of the earliest of these, the host that was to be added where it is its own.
+    /// The prefix at index `item` shares an address with an earlier prefix. `other` is the host of
+    /// the earliest of these; it may be the new host.
     Overlap { item: u16, other: u16 },
-    /// There was no memory.
+    /// Memory allocation failed.
     Memory,
 }
 

@@ -1,4 +1,4 @@
-//! A service: what a flow between two hosts may be narrowed to. Its text is read in `spelling`.
+//! A service, to which a flow between two hosts may be restricted. The parser is in `spelling`.
 
 ghost use Rattle.std.specs.Prelude.{◌≡◌, ◌≤◌, ◌↔◌, IsTrue};
 ghost use Rattle.host_net.specs.Service.{serves};
@@ -8,7 +8,7 @@ mod spelling;
 use crate::packet::Packet;
 pub use spelling::{LAST_PORT, read_port, read_protocol, read_service};
 
-/// A protocol by its number, and the destination ports from `low` to `high`, both included.
+/// The number of a protocol, and the destination ports from `low` to `high`, inclusive.
 #[derive(Clone, Copy, Debug, PartialEq, Eq)]
 pub struct Service {
     pub proto: u8,
@@ -17,7 +17,7 @@ pub struct Service {
 }
 
 impl Service {
-    /// Whether the packet is one of the protocol, to one of the ports.
+    /// Whether the service matches the packet: by its protocol and its destination port.
     pub fn serves(&self, p: &Packet) -> bool
         ensures exact { result ≡ serves self.now p.now }
         ensures meaning { IsTrue result ↔ ((self.now.proto ≡ p.now.proto) × (self.now.low ≤ p.now.dport) × (p.now.dport ≤ self.now.high)) }

@@ -10,11 +10,10 @@ use indexmap::IndexMap;
 use std::alloc::{AllocError, Global};
 use std::marker::Model;
 
-/// How many services a flow may have.
+/// The greatest number of services of one flow.
 pub const SERVICE_LIMIT: usize = 16;
 
-/// Which flows are narrowed to services, and to which. A flow goes from the host of one number to
-/// that of another.
+/// The flows that are restricted to services, and their services. A flow is a pair of host numbers.
 #[derive(Drop)]
 pub struct Services {
     narrowed: IndexMap<(u16, u16), Vec<Service>>,
@@ -34,7 +33,7 @@ impl Model for Services {
 }
 
 impl Services {
-    /// No flow is narrowed.
+    /// Returns the services of a network with unrestricted flows only.
     pub fn new(alloc: Global) -> Services
         ensures { result ≡ [] }
     {
@@ -43,7 +42,7 @@ impl Services {
         }
     }
 
-    /// Whether no flow is narrowed.
+    /// Whether all flows are unrestricted.
     pub fn is_empty(&self) -> bool
         ensures empty { IsTrue result ↔ (self.now ≡ []) }
         ensures services { AreServices self.now }
@@ -51,14 +50,14 @@ impl Services {
         self.narrowed.is_empty()
     }
 
-    /// Adds a service to those of a flow.
+    /// Adds a service to a flow.
     pub fn add(&mut self, from: u16, to: u16, service: Service) -> Result<(), AllocError>
         requires room { length (services_of self.old from to) < service_limit }
         requires service { IsTrue (is_service service) }
         ensures added { OnOk result (self.new ≡ with_service self.old from to service) }
         ensures unchanged { OnErr result (self.new ≡ self.old) }
 
-        // The service is the last of its flow, and every other flow has what it had.
+        // The service is the last one of its flow. Every other flow is unchanged.
         ensures last { OnOk result (services_of self.new from to ≡ services_of self.old from to ++ service ∷ []) }
         ensures others { OnOk result ((i j : ℕ) → (i ≢ from) ⊎ (j ≢ to) → services_of self.new i j ≡ services_of self.old i j) }
     {
@@ -67,8 +66,8 @@ impl Services {
         Ok(())
     }
 
-    /// The services of a flow, and one more behind them. They are a new list, so that a refusal of
-    /// memory leaves the old one as it was.
+    /// Returns a new list: the services of a flow, followed by one more. The old list is unchanged
+    /// if allocation fails.
     fn grown(&self, from: u16, to: u16, service: Service) -> Result<Vec<Service>, AllocError>
         ensures { IfOk result (λ services. services.items ≡ services_of self.now from to ++ service ∷ []) }
     {
@@ -77,8 +76,8 @@ impl Services {
         Ok(services)
     }
 
-    /// The services of a flow in the order in which they were added. A flow that has none is not
-    /// narrowed: every packet is of it.
+    /// Returns the services of a flow in the order of their addition. A flow without services is
+    /// unrestricted: every packet belongs to it.
     pub fn of(&self, from: u16, to: u16) -> &[Service]
         ensures list { result.now ≡ services_of self.now from to }
         ensures services { AreServices self.now }

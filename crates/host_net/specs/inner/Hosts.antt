@@ -1,4 +1,4 @@
--- What is true of the hosts of a network, however they were added (the description's format, docs/FORMATS.md).
+-- Invariants of the hosts of a network, regardless of how they were added (the description's format, docs/FORMATS.md).
 use Rattle.std.specs.Prelude.{◌≤◌, Bool, not, ◌&&◌, nat_le, nat_lt, ◌^◌, IsTrue, List, length, ℕ, map}
 use Rattle.std.specs.List.{list_all, list_any, sum_by}
 use Rattle.std.specs.Str.{bytes_eq}
@@ -10,24 +10,24 @@ use Rattle.host_net.specs.Prefix.{is_exact, meets}
 use Rattle.host_net.specs.declared.prefix.Prefix.{Prefix}
 use Rattle.host_net.specs.Hosts.{all_prefixes}
 
--- one of the prefixes has an address in common with this one
+-- One of the prefixes shares an address with p.
 abbrev pub meets_any : List Prefix → Prefix → Bool
 meets_any ps p = list_any (meets p) ps
 
--- the prefixes of each host, and of all together, in order
+-- The prefixes of each host, in order of the hosts.
 abbrev pub prefix_lists : List Host → List (List Prefix)
 prefix_lists hs = map (λ h. h.prefixes) hs
 
--- how many prefixes all hosts have
+-- The number of prefixes of all hosts.
 abbrev pub prefix_count : List Host → ℕ
 prefix_count hs = sum_by (λ h. length h.prefixes) hs
 
--- a prefix that a host may own: its address has 32 bits, none of them is set after its length, and it is no whole address space
+-- A prefix that a host may own: its address has 32 bits, no bit is set after its length, and its length is at least 1.
 abbrev pub is_network : Prefix → Bool
 is_network p = nat_lt p.addr (2 ^ 32) && (is_exact p && nat_le 1 p.len)
 
--- few hosts with few prefixes; each has a name of its own, and prefixes or the rest mark; one at most has the mark; the
--- prefixes are networks, and no two of them have an address in common
+-- The hosts are valid: their number and the number of their prefixes are within the limits; names are distinct; each
+-- host has either prefixes or the rest mark; at most one has the mark; the prefixes are networks and pairwise disjoint.
 pub record IsHosts (hs : List Host) : Type 0 where
   pub few : length hs ≤ host_limit
   pub few_prefixes : prefix_count hs ≤ prefix_limit

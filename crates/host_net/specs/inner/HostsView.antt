@@ -1,4 +1,4 @@
--- The hosts that the private map from names to addresses stands for.
+-- The model of `Hosts`: the list of hosts that the private map from names to addresses represents.
 use Rattle.std.specs.Prelude.{ℕ, List, map}
 use Rattle.host_net.specs.Host.{Host}
 use Rattle.host_net.specs.declared.addresses.Addresses.{Addresses}

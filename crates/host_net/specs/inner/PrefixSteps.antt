@@ -1,4 +1,4 @@
--- An address and a prefix as they are read, piece by piece.
+-- Parsing an address and a prefix, step by step.
 use Rattle.std.specs.Prelude.{ℕ, ◌+◌, ◌*◌, ◌^◌, List, Option, Some, None}
 use Rattle.text_core.specs.inner.Decimal.{number}
 use Rattle.text_core.specs.Steps.{◌>>=◌}
@@ -6,7 +6,7 @@ use Rattle.text_core.specs.inner.Pieces.{split_once}
 use Rattle.host_net.specs.Prefix.{prefix_with}
 use Rattle.host_net.specs.declared.prefix.Prefix.{Prefix}
 
--- the address that four numbers between dots (46) say, each at most 255
+-- The address that four numbers, separated by dots (46), denote; each is at most 255.
 unfoldable pub address_of : List ℕ → Option ℕ
 address_of text = do
   first ← split_once 46 text
@@ -18,7 +18,7 @@ address_of text = do
   d ← number 255 third.1
   Some (a * 2 ^ 24 + b * 2 ^ 16 + c * 2 ^ 8 + d)
 
--- the prefix that a text says, given its address and its length where a slash cuts it
+-- The prefix that a string denotes, given its address and its length if a slash separates them.
 abbrev pub prefix_of_parts : List ℕ → Option (List ℕ × List ℕ) → Option Prefix
 prefix_of_parts text None = do
   a ← address_of text
@@ -28,6 +28,6 @@ prefix_of_parts text (Some parts) = do
   len ← number 32 parts.1
   Some (prefix_with a len)
 
--- an address, a slash (47) and a length, or an address, of which all bits count
+-- An address, a slash (47) and a length; or an address only, with all bits significant.
 unfoldable pub prefix_by_parts : List ℕ → Option Prefix
 prefix_by_parts text = prefix_of_parts text (split_once 47 text)

@@ -1,25 +1,25 @@
--- The addresses of hosts as ranges, and how the ranges that are kept beside the hosts stand for them.
+-- The addresses of hosts as ranges, and the relation between the hosts and their sorted ranges.
 use Rattle.std.specs.Prelude.{◌≡◌, ℕ, Bool, true, ◌&&◌, nat_le, nat_lt, if◌then◌else◌, IsTrue, List, [], ◌∷◌, Option, Some, None}
 use Rattle.std.specs.List.{list_all}
 use Rattle.host_net.specs.Host.{Host, holder_of}
 use Rattle.host_net.specs.declared.ranges.Range.{Range}
 
--- the address lies in the range
+-- The address is in the range.
 abbrev pub holds : Range → ℕ → Bool
 holds r a = nat_le r.first a && nat_le a r.last
 
--- the host of the first range that holds the address
+-- The host of the first range that contains the address.
 abbrev pub holder_among : List Range → ℕ → Option ℕ
 holder_among [] a = None
 holder_among (r ∷ rs) a = if holds r a then Some r.host else holder_among rs a
 
--- each range has addresses, and lies before all that follow it
+-- Each range is nonempty and precedes all ranges that follow it.
 abbrev pub is_ordered : List Range → Bool
 is_ordered [] = true
 is_ordered (r ∷ rs) = nat_le r.first r.last && (list_all (λ s. nat_lt r.last s.first) rs && is_ordered rs)
 
--- the ranges of all prefixes of the hosts, sorted by first address and apart: an address lies in one of them exactly where a
--- prefix covers it, and then in one of the prefix's host
+-- The sorted, disjoint ranges of all prefixes of the hosts: a range contains an address if and only if a prefix covers it, and the range
+-- has the number of the prefix's host.
 pub record AreRanges (hs : List Host) (rs : List Range) : Type 0 where
   pub ordered : IsTrue (is_ordered rs)
   pub held : (a : ℕ) → holder_among rs a ≡ holder_of hs a

@@ -1,4 +1,4 @@
--- A service as it is read, piece by piece.
+-- Parsing a service, step by step.
 use Rattle.std.specs.Prelude.{ℕ, nat_lt, if◌then◌else◌, List, codes, bytes_eq, Option, Some, None}
 use Rattle.text_core.specs.inner.Decimal.{number}
 use Rattle.text_core.specs.Steps.{◌>>=◌}
@@ -10,7 +10,7 @@ abbrev pub protocol_of : List ℕ → Option ℕ
 protocol_of name =
     if bytes_eq name (codes "icmp") then Some icmp else if bytes_eq name (codes "tcp") then Some tcp else if bytes_eq name (codes "udp") then Some udp else None
 
--- the ports of a text, given the two that a dash separates, or else one alone
+-- The ports that a string denotes, given the two parts that a dash separates, or a single port.
 abbrev pub ports_of_parts : List ℕ → Option (List ℕ × List ℕ) → Option (ℕ × ℕ)
 ports_of_parts text None = do
   port ← number last_port text
@@ -20,15 +20,15 @@ ports_of_parts text (Some parts) = do
   high ← number last_port parts.1
   if nat_lt low high then Some (low, high) else None
 
--- a port, or two with a dash (45) between them of which the first is the lesser
+-- A port; or two ports separated by a dash (45), the first less than the second.
 unfoldable pub ports_of : List ℕ → Option (ℕ × ℕ)
 ports_of text = ports_of_parts text (split_once 45 text)
 
--- the service of a protocol with these ports
+-- The service of a protocol with these ports.
 abbrev pub with_ports : ℕ → ℕ × ℕ → Option Service
 with_ports proto ports = if has_ports proto then Some (record { proto = proto; low = ports.0; high = ports.1 }) else None
 
--- the service of a text, given the protocol and the ports that a slash separates, or else a protocol alone
+-- The service that a string denotes, given the protocol and the ports that a slash separates, or a protocol only.
 abbrev pub service_of_parts : List ℕ → Option (List ℕ × List ℕ) → Option Service
 service_of_parts text None = do
   proto ← protocol_of text
@@ -38,6 +38,6 @@ service_of_parts text (Some parts) = do
   ports ← ports_of parts.1
   with_ports proto ports
 
--- a protocol, or a protocol, a slash (47) and its ports
+-- A protocol; or a protocol, a slash (47) and its ports.
 unfoldable pub service_by_parts : List ℕ → Option Service
 service_by_parts text = service_of_parts text (split_once 47 text)

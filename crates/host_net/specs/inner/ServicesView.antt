@@ -1,4 +1,4 @@
--- The services of flows that the private map from flows to services stands for.
+-- The model of `Services`: the flows with services that the private map represents.
 use Rattle.std.specs.Prelude.{ℕ, List, map}
 use Rattle.std.specs.Global.{Global}
 use Rattle.std.specs.declared.vec.Vec.{Vec}

@@ -1,4 +1,4 @@
-//! Reading the text of a prefix, `a.b.c.d/len`.
+//! Parsing a prefix, `a.b.c.d/len`.
 
 ghost use Rattle.std.specs.Prelude.{◌≡◌, ℕ, ◌<◌, ◌≤◌, ◌+◌, ◌*◌, ◌^◌, Some, IfSome};
 ghost use Rattle.host_net.specs.Prefix.{address_text, prefix_of, prefix_with};
@@ -9,8 +9,8 @@ ghost use Rattle.host_net.specs.declared.prefix.Prefix.{Prefix};
 use crate::prefix::Prefix;
 use text_core::{read_number, split_once};
 
-/// Reads `a.b.c.d/len` or `a.b.c.d`, whose length is 32. No number has a leading zero, and bits
-/// after the length may be set.
+/// Parses `a.b.c.d/len` or `a.b.c.d`, whose length is 32. Leading zeros are rejected. Bits after
+/// the length may be set.
 pub fn read_prefix(text: &[u8]) -> Option<Prefix>
     ensures exact { result ≡ prefix_of text.now }
     ensures spelled { IfSome result (IsSpelling text.now) }
@@ -29,7 +29,7 @@ fn read_parts(text: &[u8]) -> Option<Prefix>
     }
 }
 
-/// Reads `a.b.c.d`, four numbers of at most 255, none with a leading zero.
+/// Parses `a.b.c.d`, four numbers of at most 255, without leading zeros.
 pub fn read_address(text: &[u8]) -> Option<u32>
     ensures exact { result ≡ address_of text.now }
     ensures said { IfSome result (λ a. text.now ≡ address_text a) }

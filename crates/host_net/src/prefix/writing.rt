@@ -1,4 +1,4 @@
-//! The text of a prefix, put into a line: every text of rules spells prefixes by these calls.
+//! Formatting a prefix into a buffer. All emitted rules use these calls.
 
 ghost use Rattle.std.specs.Prelude.{◌≡◌, ◌<◌, ◌≤◌, ◌++◌, take};
 ghost use Rattle.text_core.specs.inner.Line.{cut};
@@ -7,7 +7,8 @@ ghost use Rattle.host_net.specs.Prefix as spelled;
 use crate::prefix::Prefix;
 use text_core::{put, put_number};
 
-/// Puts a prefix as `a.b.c.d/len` after the first `at` bytes, and answers where the text now ends.
+/// Writes a prefix as `a.b.c.d/len` into `buffer` from index `at` on, and returns the index after
+/// it.
 #[tactic(auto, unfolding(crate::specs::Prefix::prefix_text))]
 pub fn put_prefix<const N: usize>(buffer: &mut [u8; N], at: usize, prefix: Prefix) -> usize
     requires { at ≤ N }

@@ -1,4 +1,4 @@
-//! Reading the text of a service: `icmp`, `tcp`, `udp/53`, `tcp/8000-8080`.
+//! Parsing a service: `icmp`, `tcp`, `udp/53`, `tcp/8000-8080`.
 
 ghost use Rattle.std.specs.Prelude.{◌≡◌, ◌↔◌, Some, None, IfSome, IsNone, if◌then◌else◌, nat_lt};
 ghost use Rattle.text_core.specs.inner.Decimal.{number};
@@ -20,11 +20,11 @@ const TCP: u8 = 6;
 /// The number of the user datagram protocol (RFC 768).
 const UDP: u8 = 17;
 
-/// The greatest port.
+/// The greatest port number.
 pub const LAST_PORT: u16 = 65535;
 
-/// Reads `icmp`, `tcp` or `udp`, which have all ports, or behind `tcp/` or `udp/` a port or a range
-/// of ports `80-90`, whose first is less than its last. No number has a leading zero.
+/// Parses `icmp`, `tcp` or `udp`, which select all ports; or, after `tcp/` or `udp/`, a port or a
+/// range of ports `80-90` whose first is less than its last. Leading zeros are rejected.
 pub fn read_service(text: &[u8]) -> Option<Service>
     ensures exact { result ≡ service_of text.now }
     ensures spelled { IfSome result (IsServiceSpelling text.now) }
@@ -44,7 +44,7 @@ fn read_parts(text: &[u8]) -> Option<Service>
     }
 }
 
-/// The number of the protocol with this name, of the three that have one: `icmp`, `tcp` and `udp`.
+/// Returns the number of the protocol with this name: `icmp`, `tcp` or `udp`.
 pub fn read_protocol(name: &[u8]) -> Option<u8>
     ensures { result ≡ protocol_of name.now }
 {
@@ -73,7 +73,7 @@ fn read_ports(text: &[u8]) -> Option<(u16, u16)>
     }
 }
 
-/// The port whose number the whole text says.
+/// Parses a port number.
 pub fn read_port(text: &[u8]) -> Option<u16>
     ensures { result ≡ number last_port text.now }
 {
@@ -86,7 +86,7 @@ fn in_order(low: u16, high: u16) -> Option<(u16, u16)>
     if low < high { Some((low, high)) } else { None }
 }
 
-/// Every packet of a protocol.
+/// Returns the service of every packet of a protocol.
 fn whole(proto: u8) -> Service
     ensures { result ≡ record { proto = proto; low = 0; high = last_port } }
 {
@@ -97,7 +97,7 @@ fn whole(proto: u8) -> Service
     }
 }
 
-/// The service of the ports, where the protocol has some.
+/// Returns the service with these ports, if the protocol has ports.
 fn with_ports(proto: u8, ports: (u16, u16)) -> Option<Service>
     ensures { result ≡ with_ports proto ports }
 {

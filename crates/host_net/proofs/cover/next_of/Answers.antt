@@ -5,7 +5,7 @@ use Rattle.host_net.specs.inner.CoverView.{SameBits}
 use Rattle.host_net.proofs.CoverLemmas.{no_key, next_found, next_none, next_other}
 use Rattle.host_net.proofs.cover.next_of.Goals as goal
 
--- the key that stands there
+-- The key at this index.
 stands : (keys : List Key) (at : ℕ) → at < length keys → slice_get keys at ≡ Some (slice_index_or keys at no_key)
 stands keys at within = slice_get-get_or keys at no_key within
 
