@@ -1,4 +1,4 @@
--- Two sets of hosts from their bits: no host is in both exactly where they have no bit in common.
+-- Two sets of hosts, given by their bits, are disjoint if and only if they have no bit in common.
 use Rattle.std.proofs.Common.{◌≡◌, ℕ, ◌+◌, ◌-◌, ◌^◌, ◌<◌, Bool, true, false, zero, suc, lit<, cond, nat_eq, nat_lt, min, sym, ◌∙◌, ap, bit_and, arith}
 use Rattle.std.proofs.lemmas.Bool.{and_from, and_parts, cond-true, cond-false, eqb-true, eq-eqb, lt-ltb, le-ltb}
 use Rattle.std.proofs.lemmas.Nat.Bits.{bit_at-lt, bit_at-zero, bit_at_and, same_from_bits_below}
@@ -48,7 +48,7 @@ within_256 test host below shown = contains-hosts_below 256 test host ∙ and_fr
 shown_of : (test : ℕ → Bool) (host : ℕ) → set.contains (hosts_below 256 test) host ≡ true → test host ≡ true
 shown_of test host there = (and_parts _ _ (sym (contains-hosts_below 256 test host) ∙ there)).1
 
--- the set that the bits make
+-- The set that the bits represent.
 pub record HasBits (low high : ℕ) (s : HostNumbers) : Type 0 where
   pub made : hosts_below 256 (is_marked low high) ≡ s
 

@@ -1,4 +1,4 @@
--- The flows of rows: which they are, that they are in order, and what a change of a row does to them.
+-- The flows of rows: their members, their order, and the effect of a change of a row.
 use Rattle.std.proofs.Common.{◌≡◌, ◌≢◌, ℕ, zero, suc, ◌+◌, ◌<◌, ◌≤◌, Bool, true, false, not, ◌&&◌, ◌||◌, ◌==◌, cond, nat_eq, nat_lt, nat_cmp, List, [], ◌∷◌, length, replicate, refl, sym, ◌∙◌, ap, arith, inl, inr}
 use Rattle.std.specs.Prelude.{IsTrue, slice_set}
 use Rattle.std.specs.FinSet as set
@@ -16,7 +16,7 @@ use Rattle.flow_set.specs.HostSet.{HostNumbers, hosts_below}
 use Rattle.flow_set.specs.inner.HostSet.{row_of}
 use Rattle.flow_set.specs.laws.HostSetLaws.{contains-insert, contains-remove, contains-hosts_below, hosts_ext, len_more}
 
--- ---- which flows
+-- ---- members
 
 has-where_so : (b : Bool) (f g : Flow) → has (where_so b f) g ≡ (b && same_flow f g)
 has-where_so true f g = or_false (same_flow f g)
@@ -117,7 +117,7 @@ IsFlowSet-flows_of n rows are = record {
   flows = λ f there. marked_flow n rows f are (sym (has-flows_of n rows f are) ∙ there);
 }
 
--- sets with the same flows are equal
+-- Sets with the same flows are equal.
 pub flows_of-is : (n : ℕ) (rows : List HostNumbers) (fs : List Flow) → AreRows n rows → IsOrdered fs
     → ((g : Flow) → marks rows g ≡ has fs g) → flows_of rows n ≡ fs
 flows_of-is n rows fs are ordered same =
@@ -254,7 +254,7 @@ pub length-rows_none : (n : ℕ) (rows : List HostNumbers) → length (rows_flow
 unfolding rows_flows
 length-rows_none n rows = refl
 
--- ---- a row as it is read
+-- ---- reading a row
 
 pub row_read : (rows : List HostNumbers) (i : ℕ) (row : HostNumbers) → i < length rows → row ≡ get_or rows i row → row ≡ row_of rows i
 row_read rows i row within read = get_or_read rows i row within read set.empty

@@ -1,4 +1,4 @@
--- Laws of conditions on sets of flows.
+-- Lemmas on conditions on flow sets.
 use Rattle.std.proofs.Common.{ℕ, inl, inr, List, [], ◌∷◌, sym, ◌∙◌}
 use Rattle.std.specs.Prelude.{◌↔◌}
 use Rattle.std.proofs.lemmas.Bool.{or_cases, or_left}
@@ -10,7 +10,7 @@ use Rattle.flow_set.specs.inner.Downward.{IsDownward, IsEdgeWise}
 use Rattle.flow_set.specs.laws.FlowLaws.{has-with_flow, same_fact, same_flow_self}
 use Rattle.flow_set.proofs.SubsetLaws.{IsFlowSet-with_flow, IsFlowSet-with_back, with_back_grows}
 
--- where a condition on single flows holds of a set, it holds of one more flow alone exactly where it holds of the set with this flow
+-- If an edge-wise condition holds for a set, it holds for one more flow individually if and only if it holds for the set with this flow.
 pub edge_wise-with_flow : (n : ℕ) (Holds : List Flow → Type 0) (e : List Flow) (f : Flow) → IsEdgeWise n Holds → IsFlowSet n e
     → IsFlow n f → Holds e → Holds (f ∷ []) ↔ Holds (with_flow e f)
 edge_wise-with_flow n Holds e f edge_wise set is_flow holds =
@@ -23,7 +23,7 @@ edge_wise-with_flow n Holds e f edge_wise set is_flow holds =
       λ together. (edge_wise (with_flow e f) more).0 together f (has-with_flow e f f ∙ or_left _ _ (same_flow_self f)),
     )
 
--- a condition on a fixed set with the reverse of some flows is kept by fewer of these
+-- A condition on a fixed set with the reverse of some flows is preserved if fewer flows are reversed.
 pub IsDownward-with_back : (n : ℕ) (Holds : List Flow → Type 0) (p : List Flow) → IsFlowSet n p → IsDownward n Holds
     → IsDownward n (λ s. Holds (with_back p s))
 IsDownward-with_back n Holds p set downward e s within sub holds =

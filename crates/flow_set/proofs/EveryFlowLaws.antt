@@ -1,4 +1,4 @@
--- The list of every flow between n hosts is a set, and no other set has every flow.
+-- The list of every flow between n hosts is a set, and it is the only set with every flow.
 use Rattle.std.proofs.Common.{refl, ◌≡◌, ◌≢◌, ℕ, zero, suc, sym, ◌==◌, ◌<◌, ◌+◌, ◌≤◌, Bool, true, false, not, ◌&&◌, ◌||◌, List, [], ◌∷◌, ◌++◌, ◌∙◌, arith}
 use Rattle.std.proofs.lemmas.Bool.Decides.{nat_tests}
 use Rattle.std.specs.List.{flat_map, range_with_len}
@@ -11,14 +11,14 @@ use Rattle.flow_set.specs.inner.FlowSetView.{IsFlowSet}
 use Rattle.flow_set.specs.laws.FlowLaws.{IsOrdered-append, has-append}
 use Rattle.flow_set.proofs.SubsetLaws.{full_is_one}
 
--- the flows from one host to the m hosts from k on, and those from the m hosts from k on to all n
+-- The flows from one host to the m hosts from k on, and the flows from the m hosts from k on to all n hosts.
 abbrev row : ℕ → ℕ → ℕ → List Flow
 row i k m = flat_map (flow_or_none i) (range_with_len k m)
 
 abbrev rows : ℕ → ℕ → ℕ → List Flow
 rows n k m = flat_map (λ i. row i 0 n) (range_with_len k m)
 
--- which flows these are
+-- The members of these lists.
 abbrev in_row : ℕ → ℕ → ℕ → Flow → Bool
 in_row i k m f = (f.from == i) && ((nat_le k f.to && nat_lt f.to (k + m)) && not (f.from == f.to))
 
@@ -103,6 +103,6 @@ pub IsFlowSet-every_flow : (n : ℕ) → n ≤ 256 → IsFlowSet n (every_flow n
 unfolding every_flow
 IsFlowSet-every_flow n small = record { small = small; ordered = IsOrdered-rows n 0 n; flows = λ f h. (IsFull-every_flow n f).0 h }
 
--- a set that has every flow is that list
+-- A set that has every flow is equal to that list.
 pub every_flow_is : (n : ℕ) (fs : List Flow) → IsFlowSet n fs → IsFull n fs → fs ≡ every_flow n
 every_flow_is n fs set full = full_is_one n fs (every_flow n) set (IsFlowSet-every_flow n set.small) full (IsFull-every_flow n)

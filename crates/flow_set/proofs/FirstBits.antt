@@ -1,4 +1,4 @@
--- The first bit that is set from a place on, and the first host of a set from a number on.
+-- The first bit that is set from an index on, and the first host of a set from a number on.
 use Rattle.std.proofs.Common.{◌≡◌, ℕ, ◌+◌, ◌-◌, ◌/◌, ◌%◌, ◌^◌, ◌<◌, ◌≤◌, nat_lt, inl, inr, sym, ◌∙◌, ap, subst, arith}
 use Rattle.std.specs.Prelude.{IsFalse}
 use Rattle.std.specs.FinSet as set
@@ -13,7 +13,7 @@ use Rattle.flow_set.specs.inner.HostBits.{is_set, IsFirstBit}
 use Rattle.flow_set.proofs.Apart.{HasBits}
 use Rattle.flow_set.proofs.HostSets.{contains-marked}
 
--- ---- the bits from a place on
+-- ---- the bits from an index on
 
 bit_further : (bits from i : ℕ) → bit_at (bits / 2 ^ from) i ≡ bit_at bits (from + i)
 bit_further bits from i =
@@ -62,7 +62,7 @@ host_high low high s q bits below =
     ap (λ (x : HostNumbers). set.contains x (128 + q)) (sym bits.made) ∙ contains-marked low high (128 + q) (omega (arith, below))
     ∙ cond-false (nat_lt (128 + q) 128) _ _ (le-ltb (128 + q) 128 (omega arith)) ∙ ap (is_set high) place
 
--- a host from 128 on, by its place in the upper half
+-- A host from 128 on, by its index in the upper half.
 upper : (P : ℕ → Type 0) (k : ℕ) → 128 ≤ k → P (128 + (k - 128)) → P k
 upper P k from holds = subst P (omega (arith, from)) holds
 
@@ -91,7 +91,7 @@ first_lower_place low high s from place bits first = record {
   none_before = λ k late before. host_low low high s k bits (omega (arith, before, first.below)) ∙ first.none_before k late before;
 }
 
--- none below 128, and from there on
+-- No host below 128, and the search from there on.
 none_lower : (low high : ℕ) (s : HostNumbers) (from end : ℕ) → HasBits low high s → HasNone (is_set low) from 128
     → HasNone (set.contains s) (128 + 0) end → HasNone (set.contains s) from end
 none_lower low high s from end bits none further k late below =

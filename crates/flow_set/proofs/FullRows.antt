@@ -1,4 +1,4 @@
--- The rows of every flow: that of a host has each host but itself.
+-- The rows of the full set: the row of a host has every other host.
 use Rattle.std.proofs.Common.{◌≡◌, ◌≢◌, ℕ, ◌<◌, ◌≤◌, true, not, ◌&&◌, nat_eq, nat_lt, List, length, sym, ◌∙◌, ap, arith}
 use Rattle.std.specs.Prelude.{IsTrue}
 use Rattle.std.specs.FinSet as set
@@ -12,11 +12,11 @@ use Rattle.flow_set.specs.laws.HostSetLaws.{contains-remove, contains-hosts_belo
 use Rattle.flow_set.proofs.BitRows.{has-flows_of, IsFlowSet-flows_of, marked_flow}
 use Rattle.flow_set.proofs.EveryFlowLaws.{every_flow_is}
 
--- each host below n but this one
+-- Every host below n except this one.
 abbrev pub others : ℕ → ℕ → HostNumbers
 others n host = set.remove (hosts_below n (λ _. true)) host
 
--- the rows of the first k hosts
+-- The rows of the first k hosts.
 pub record AreOthers (n k : ℕ) (hosts : List HostNumbers) : Type 0 where
   pub counted : length hosts ≡ k
   pub rows : (i : ℕ) → i < k → row_of hosts i ≡ others n i

@@ -1,4 +1,4 @@
--- Sets of hosts from their bits: what a change of the bits does, and how many hosts there are.
+-- Sets of hosts, given by their bits: the effect of a change of the bits, and the number of hosts.
 use Rattle.std.proofs.Common.{◌≡◌, ℕ, zero, suc, ◌+◌, ◌-◌, ◌*◌, ◌/◌, ◌%◌, ◌^◌, ◌<◌, ◌≤◌, Bool, true, false, not, ◌&&◌, ◌||◌, cond, nat_eq, nat_lt, nat_cmp, sym, ◌∙◌, ap, bit_or, bit_and, arith, add-suc, add-zero, zero-add, max, min, inl, inr}
 use Rattle.std.specs.Prelude.{count_ones}
 use Rattle.std.proofs.lemmas.Bool.{cond_both, cond-true, cond-false, cases_eq, eq-eqb, ne_eqb, lt-ltb, le-ltb}
@@ -14,7 +14,7 @@ use Rattle.flow_set.specs.HostSet.{hosts_below}
 use Rattle.flow_set.specs.inner.HostBits.{is_marked}
 use Rattle.flow_set.specs.laws.HostSetLaws.{contains-insert, contains-remove, hosts_ext, below_none, contains-hosts_below, len_more}
 
--- ---- what a change of the test does to the set
+-- ---- the effect of a change of the test on the set
 
 pub hosts_below-empty : (n : ℕ) (test : ℕ → Bool) → ((q : ℕ) → q < n → test q ≡ false) → hosts_below n test ≡ set.empty
 hosts_below-empty n test none =
@@ -69,7 +69,7 @@ no_bits q =
     cond_both (nat_lt q 128) _ _ (λ b. b ≡ false) (λ _. ap (λ b. nat_eq b 1) (bit_at-zero q))
     (λ _. ap (λ b. nat_eq b 1) (bit_at-zero (q - 128)))
 
--- to set bit k of n
+-- Setting bit k of n.
 is_set : (n k q : ℕ) → k < 128 → nat_eq (bit_at (bit_or n (1 * 2 ^ k % 2 ^ 128)) q) 1 ≡ (nat_eq q k || nat_eq (bit_at n q) 1)
 is_set n k q within =
     elim (cases_eq q k) [
@@ -97,7 +97,7 @@ pub is_marked-high : (low high host q : ℕ) → 128 ≤ host → host < 256
     → is_marked low (bit_or high (1 * 2 ^ (host - 128) % 2 ^ 128)) q ≡ (nat_eq q host || is_marked low high q)
 is_marked-high low high host q from below = high_case host q _ _ _ from (is_set high (host - 128) (q - 128) (omega arith))
 
--- to clear bit k of n
+-- Clearing bit k of n.
 is_cleared : (n k q : ℕ) → k < 128 → q < 128
     → nat_eq (bit_at (bit_and n (bit_not w128 (1 * 2 ^ k % 2 ^ 128))) q) 1 ≡ (not (nat_eq q k) && nat_eq (bit_at n q) 1)
 is_cleared n k q within below =
@@ -166,7 +166,7 @@ in_range q b below = grind (arith, nat_tests)
 pub contains-marked : (low high q : ℕ) → q < 256 → set.contains (hosts_below 256 (is_marked low high)) q ≡ is_marked low high q
 contains-marked low high q below = contains-hosts_below 256 (is_marked low high) q ∙ in_range q _ below
 
--- the test of one bit
+-- The test of one bit.
 pub bit-low : (low high q : ℕ) → q < 128 → nat_eq (bit_and (low / 2 ^ q) 1) 1 ≡ set.contains (hosts_below 256 (is_marked low high)) q
 bit-low low high q below =
     ap (λ b. nat_eq b 1) (shr_and_one low q)
@@ -178,14 +178,14 @@ bit-high low high q from below =
     ap (λ b. nat_eq b 1) (shr_and_one high (q - 128))
     ∙ sym (contains-marked low high q below ∙ cond-false (nat_lt q 128) _ _ (le-ltb q 128 from))
 
--- ---- how many there are
+-- ---- the size
 
 bit_count : (b : ℕ) → b < 2 → count_ones b ≡ cond (nat_eq b 1) 1 0
 bit_count zero below = ones-ones 0
 bit_count (suc zero) below = ones-ones 1
 bit_count (suc (suc b)) below = absurd (omega arith)
 
--- the ones of the lowest k bits are the hosts from `start` on that they name
+-- The number of ones among the lowest k bits is the number of hosts from `start` on that they represent.
 len-bits : (start : ℕ) (test : ℕ → Bool) (bits k : ℕ) → ((h : ℕ) → h < k → test (start + h) ≡ nat_eq (bit_at bits h) 1)
     → set.len (hosts_below (start + k) test) ≡ set.len (hosts_below start test) + count_ones (bits % 2 ^ k)
 len-bits start test bits zero named =

@@ -1,4 +1,4 @@
--- Laws of sets that are made of listed flows, put in one by one: which flows such a set has, that it is a set, and how many flows it has.
+-- Lemmas on sets that are built from listed flows by insertion: their members, that they are sets, and their size.
 use Rattle.std.proofs.Common.{◌≡◌, ℕ, ◌+◌, ◌≤◌, true, not, ◌||◌, List, [], ◌∷◌, length, refl, sym, ◌∙◌, ap, arith}
 use Rattle.std.proofs.Math.Bool.{or_assoc, or_comm, or-false}
 use Rattle.std.proofs.lemmas.Bool.{and_parts, both_ways, false_from_ne_true, not-true, or_from}
@@ -28,7 +28,7 @@ IsFlowSet-fold_with_flow n fs (g ∷ gs) set each =
     IsFlowSet-fold_with_flow n (with_flow fs g) gs (IsFlowSet-with_flow n fs g set (each g (has_first g gs)))
     (λ f there. each f (has_later g gs f there))
 
--- where no flow is listed twice or there already, the set grows by as many flows as are listed
+-- If no flow is listed twice or already present, the size of the set increases by the length of the list.
 pub length-fold_with_flow : (fs listed : List Flow) → ((f : Flow) → IsTrue (has listed f) → IsFalse (has fs f)) → AreDifferent listed
     → length (fold with_flow fs listed) ≡ length fs + length listed
 length-fold_with_flow fs [] apart different = omega arith
@@ -40,25 +40,25 @@ length-fold_with_flow fs (g ∷ gs) apart different =
 
 -- ---- the set of the listed flows
 
--- it has them and no other
+-- It contains exactly these flows.
 pub has-set_of : (listed : List Flow) (f : Flow) → has (set_of listed) f ≡ has listed f
 unfolding set_of
 has-set_of listed f = has-fold_with_flow [] listed f ∙ or-false (has listed f)
 
--- flows between n hosts make a set of flows between n hosts
+-- Inserting flows between n hosts results in a set of flows between n hosts.
 pub IsFlowSet-set_of : (n : ℕ) (listed : List Flow) → n ≤ 256 → ((f : Flow) → IsTrue (has listed f) → IsFlow n f)
     → IsFlowSet n (set_of listed)
 unfolding set_of
 IsFlowSet-set_of n listed small each = IsFlowSet-fold_with_flow n [] listed (IsFlowSet-nothing n small) each
 
--- it has as many flows as are listed, where none is listed twice
+-- Its size is the length of the list if the list has no duplicates.
 pub length-set_of : (listed : List Flow) → AreDifferent listed → length (set_of listed) ≡ length listed
 unfolding set_of
 length-set_of listed different = omega (arith, length-fold_with_flow [] listed (λ f _. refl) different)
 
--- ---- flows that are different, by a test
+-- ---- distinct flows, by a test
 
--- a flow that is none of these is not among them
+-- A flow that differs from all of these is not among them.
 pub absent_from : (f : Flow) (fs : List Flow) → list_all (λ g. not (same_flow g f)) fs ≡ true → IsFalse (has fs f)
 absent_from f [] none = refl
 absent_from f (g ∷ gs) none =

@@ -1,4 +1,4 @@
--- Walks over a set from place to place.
+-- Iteration over a set from position to position.
 use Rattle.std.proofs.Common.{◌≡◌, ℕ, ◌+◌, ◌<◌, ◌≤◌, not, List, [], ◌∷◌, refl, sym, ◌∙◌, ap, subst, arith, inl, inr}
 use Rattle.std.specs.Prelude.{IsTrue, IsFalse, Some, None}
 use Rattle.std.proofs.lemmas.Bool.{both_ways, cases_Bool, not_from_true, not_from_false, cond-true, cond-false, cases_lt}
@@ -16,7 +16,7 @@ use Rattle.flow_set.specs.HostSet.{HostNumbers}
 use Rattle.flow_set.specs.inner.HostSet.{row_of}
 use Rattle.flow_set.specs.inner.Calls.{HasNone, IsFirstFrom}
 
--- ---- the first flow from a place on
+-- ---- the first flow from a position on
 
 pub first_from_found : (fs : List Flow) (p f : Flow) → IsOrdered fs → IsTrue (has fs f) → IsFalse (before f p)
     → ((g : Flow) → IsTrue (has fs g) → IsFalse (before g p) → IsFalse (before g f)) → first_from fs p ≡ Some f
@@ -37,7 +37,7 @@ first_from_lost fs p all =
       | Some h ↦ λ found. absurd (both_ways _ (first_from_late fs p h found) (all h (first_from_member fs p h found)))
     ] refl
 
--- ---- what is left
+-- ---- the remaining flows
 
 at_start : (f : Flow) → IsFalse (before f (record { from = 0; to = 0 }))
 at_start f = grind (arith, nat_tests)
@@ -57,7 +57,7 @@ own_is_before f = grind (arith, nat_tests)
 still_before : (f x p : Flow) → IsTrue (before x p) → IsFalse (before f p) → IsTrue (before x (record { from = f.from; to = f.to + 1 }))
 still_before f x p early late = grind (arith, nat_tests)
 
--- all that comes after a flow of an ordered set is left at a place that this flow is not before
+-- All flows after a flow of a sorted set remain at a position that this flow is not before.
 all_left : (x : Flow) (xs : List Flow) (p : Flow) → IsOrdered (x ∷ xs) → IsFalse (before x p) → flows_from xs p ≡ xs
 all_left x xs p ordered late =
     filter_everything (λ f. not (before f p)) xs (λ f there. not_from_false _ (not_before_from x f p late (ordered.0 f there)))
@@ -88,13 +88,13 @@ flows_from-next (x ∷ xs) p f ordered found =
           ∙ ap (λ zs. x ∷ zs) (sym (cond-false (not (before x (record { from = x.from; to = x.to + 1 }))) _ _ (not_from_true _ (own_is_before x)) ∙ all_after x xs ordered)))
     ]
 
--- ---- a walk over the rows
+-- ---- an iteration over the rows
 
 row_passed : (a b row start : ℕ) → (a ≡ row → b < start)
     → before (record { from = a; to = b }) (record { from = row; to = start }) ≡ before (record { from = a; to = b }) (record { from = row + 1; to = 0 })
 row_passed a b row start small = grind (arith, nat_tests)
 
--- no flow is left in this row
+-- No flow remains in this row.
 pub as_far_more : (n : ℕ) (rows : List HostNumbers) (p : Flow) (row start : ℕ) → AreRows n rows
     → IsAsFar (flows_of rows n) p (record { from = row; to = start }) → HasNone (set.contains (row_of rows row)) start 256
     → IsAsFar (flows_of rows n) p (record { from = row + 1; to = 0 })
@@ -113,7 +113,7 @@ not_earlier : (a b row start first : ℕ) → IsFalse (before (record { from = a
     → (a ≡ row → start ≤ b → first ≤ b) → IsFalse (before (record { from = a; to = b }) (record { from = row; to = first }))
 not_earlier a b row start first late least = grind (arith, nat_tests)
 
--- the first flow that is left is in this row
+-- The first remaining flow is in this row.
 pub found_in_row : (n : ℕ) (rows : List HostNumbers) (p : Flow) (row start first : ℕ) → AreRows n rows
     → IsAsFar (flows_of rows n) p (record { from = row; to = start }) → IsFirstFrom (set.contains (row_of rows row)) start first
     → first_from (flows_of rows n) p ≡ Some (record { from = row; to = first })
@@ -130,7 +130,7 @@ found_in_row n rows p row start first are far is =
 lower : (a b row start : ℕ) → a < row → IsTrue (before (record { from = a; to = b }) (record { from = row; to = start }))
 lower a b row start below = grind (arith, nat_tests)
 
--- no flow is left after the last row
+-- No flow remains after the last row.
 pub none_in_rows : (n : ℕ) (rows : List HostNumbers) (p : Flow) (row start : ℕ) → AreRows n rows
     → IsAsFar (flows_of rows n) p (record { from = row; to = start }) → n ≤ row → first_from (flows_of rows n) p ≡ None
 none_in_rows n rows p row start are far over =

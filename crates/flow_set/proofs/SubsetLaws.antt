@@ -1,4 +1,4 @@
--- Laws of sets of flows between n hosts and of their subsets.
+-- Lemmas on sets of flows between n hosts and on their subsets.
 use Rattle.std.proofs.Common.{◌≡◌, ℕ, ◌≤◌, Bool, true, false, not, List, [], ◌++◌, inl, inr, refl, sym, ◌∙◌}
 use Rattle.std.specs.Prelude.{IsTrue, filter, ◌↔◌, ◌⊎◌}
 use Rattle.std.proofs.lemmas.Bool.{and_parts, or_cases, or_left, or_right}
@@ -57,7 +57,7 @@ IsFlowSet-with_back n fs gs p q = record {
   ];
 }
 
--- a flow of a set with answers is one of the set or an answer
+-- A flow of a set with answers is a member of the set or an answer.
 pub with_back_members : (fs gs : List Flow) (f : Flow)
     → IsTrue (has (with_back fs gs) f) ↔ (IsTrue (has fs f) ⊎ IsTrue (has gs (back_of f)))
 with_back_members fs gs f = (
@@ -82,7 +82,7 @@ subset_self fs o = record {
   within = λ f h. h;
 }
 
--- a set that has every flow contains every other set
+-- A set that has every flow contains every other set.
 pub subset_full : (n : ℕ) (xs full : List Flow) → IsFlowSet n xs → IsFull n full → IsSubset xs full
 subset_full n xs full set is_full = record {
   ordered = set.ordered;
@@ -95,7 +95,7 @@ subset_trans xs ys zs p q = record {
   within = λ f h. q.within f (p.within f h);
 }
 
--- sets that are subsets of each other are equal
+-- Sets that are subsets of each other are equal.
 pub subset_both : (xs ys : List Flow) → IsSubset xs ys → IsSubset ys xs → xs ≡ ys
 subset_both xs ys p q = flows_ext xs ys p.ordered q.ordered (λ f. same_answer (has xs f) (has ys f) (p.within f) (q.within f))
   where
@@ -104,7 +104,7 @@ subset_both xs ys p q = flows_ext xs ys p.ordered q.ordered (λ f. same_answer (
     same_answer false true h k = k refl
     same_answer false false h k = refl
 
--- one set alone has every flow between n hosts
+-- The set with every flow between n hosts is unique.
 pub full_is_one : (n : ℕ) (xs ys : List Flow) → IsFlowSet n xs → IsFlowSet n ys → IsFull n xs → IsFull n ys → xs ≡ ys
 full_is_one n xs ys p q full other = subset_both xs ys (subset_full n xs ys p other) (subset_full n ys xs q full)
 
@@ -117,7 +117,7 @@ subset_filter p fs o = record {
 pub subset_without : (fs gs : List Flow) → IsOrdered fs → IsSubset (without fs gs) fs
 subset_without fs gs o = subset_filter (λ f. not (has gs f)) fs o
 
--- a subset with one more flow of the set is a subset
+-- A subset with one more flow of the set is a subset.
 pub with_flow_within : (xs ys : List Flow) (f : Flow) → IsSubset xs ys → IsTrue (has ys f) → IsSubset (with_flow xs f) ys
 with_flow_within xs ys f sub member = record {
   ordered = IsOrdered-with_flow xs f sub.ordered;
@@ -127,7 +127,7 @@ with_flow_within xs ys f sub member = record {
   ];
 }
 
--- fewer answers make a smaller set
+-- Fewer answers result in a smaller set.
 pub with_back_grows : (fs xs ys : List Flow) → IsOrdered fs → IsSubset xs ys → IsSubset (with_back fs xs) (with_back fs ys)
 with_back_grows fs xs ys o sub = record {
   ordered = IsOrdered-with_back fs xs o;
@@ -140,7 +140,7 @@ with_back_grows fs xs ys o sub = record {
 pub subset_without_flow : (fs : List Flow) (f : Flow) → IsOrdered fs → IsSubset (without_flow fs f) fs
 subset_without_flow fs f o = subset_filter (λ g. not (same_flow f g)) fs o
 
--- the front of a set is a subset of it
+-- A prefix of a set is a subset of it.
 pub subset_front : (xs ys : List Flow) → IsOrdered (xs ++ ys) → IsSubset xs (xs ++ ys)
 subset_front xs ys o = record {
   ordered = IsOrdered-front xs ys o;

@@ -1,10 +1,10 @@
-//! A flow goes from one host to another; hosts are known by their numbers. Flows compare by their
-//! senders first and their receivers second, and whatever goes over flows goes in this order.
+//! Flows between hosts, which are identified by their numbers. Flows are ordered by sender first
+//! and receiver second, and every iteration over flows uses this order.
 
 ghost use Rattle.std.specs.Prelude.{◌≡◌};
 ghost use Rattle.flow_set.specs.Flow.{back_of};
 
-/// Packets from the host `from` to the host `to`.
+/// Packets from host `from` to host `to`.
 #[derive(Clone, Copy, PartialEq, Eq, PartialOrd, Ord, Debug)]
 pub struct Flow {
     pub from: u16,
@@ -12,7 +12,7 @@ pub struct Flow {
 }
 
 impl Flow {
-    /// The flow in the other direction.
+    /// Returns the flow in the other direction.
     pub fn back(self) -> Flow
         ensures { result ≡ back_of self }
     {

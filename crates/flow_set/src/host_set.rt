@@ -1,5 +1,5 @@
-//! A set of hosts, one bit for each number below 256. A row of a closure is such
-//! a set, and so is a list of hosts that must not be reached.
+//! A set of hosts, one bit for each number below 256. It represents a row of a closure, or a list
+//! of hosts that must not be reached.
 
 ghost use Rattle.std.specs.Prelude.{◌≡◌, ◌<◌, ◌≤◌, ◌+◌, ◌↔◌, true, IsTrue, IfOk, MatchOption};
 ghost use Rattle.std.specs.FinSet as set;
@@ -10,7 +10,7 @@ ghost use Rattle.flow_set.specs.inner.HostBits.{is_set, IsFirstBit};
 use std::alloc::{AllocError, Global};
 use std::marker::Model;
 
-// How many hosts each of the two numbers has a bit for.
+// The number of hosts whose bits one integer has.
 const HALF: u16 = 128;
 
 /// A set of hosts with numbers below 256.
@@ -40,7 +40,7 @@ impl HostSet {
         HostSet { low: 0, high: 0 }
     }
 
-    /// The hosts with numbers below this one.
+    /// Returns the hosts with numbers below `count`.
     #[tactic(auto, unfolding(crate::specs::HostSet::hosts_below))]
     pub fn below(count: u16) -> HostSet
         requires { count ≤ 256 }
@@ -86,7 +86,7 @@ impl HostSet {
         }
     }
 
-    /// The first host of the set from this one on.
+    /// Returns the first host of the set from `from` on.
     pub fn first_from(&self, from: u16) -> Option<u16>
         ensures { MatchOption result (HasNone (set.contains self.now) from 256) (IsFirstFrom (set.contains self.now) from) }
     {
@@ -99,7 +99,7 @@ impl HostSet {
         }
     }
 
-    // The first host from the one at this place of the upper half on.
+    // Returns the first host in the upper half, from this index of the upper half on.
     fn first_upper(&self, from: u16) -> Option<u16>
         ensures { MatchOption result
             (HasNone (set.contains self.now) (128 + from) 256)
@@ -114,14 +114,14 @@ impl HostSet {
         }
     }
 
-    /// Whether no host is in both sets.
+    /// Whether the two sets are disjoint.
     pub fn is_apart(&self, other: &HostSet) -> bool
         ensures { IsTrue result ↔ AreApart self.now other.now }
     {
         self.low & other.low == 0 && self.high & other.high == 0
     }
 
-    /// Puts in every host of the other set.
+    /// Inserts every host of the other set.
     pub fn insert_all(&mut self, other: &HostSet)
         ensures { self.new ≡ set.union self.old other.now }
     {
@@ -129,7 +129,7 @@ impl HostSet {
         self.high |= other.high;
     }
 
-    /// Takes out every host of the other set.
+    /// Removes every host of the other set.
     pub fn remove_all(&mut self, other: &HostSet)
         ensures { self.new ≡ set.difference self.old other.now }
     {
@@ -146,14 +146,14 @@ impl HostSet {
         }
     }
 
-    /// A copy of each of these sets, in their order.
+    /// Returns a copy of each of these sets, in order.
     pub fn copies(alloc: Global, sets: &[HostSet]) -> Result<Vec<HostSet>, AllocError>
         ensures { IfOk result (λ copies. copies.items ≡ sets.now) }
     {
         sets.iter().map(|hosts| hosts.copy()).collect(alloc)
     }
 
-    /// The number of hosts in the set.
+    /// Returns the number of hosts in the set.
     pub fn len(&self) -> u16
         ensures { result ≡ set.len self.now }
     {
@@ -161,7 +161,7 @@ impl HostSet {
     }
 }
 
-// The place of the first bit that is set, from this place on.
+// Returns the index of the first bit that is set, from `from` on.
 fn first_bit(bits: u128, from: u16) -> Option<u16>
     requires { from < 128 }
     ensures { MatchOption result (HasNone (is_set bits) from 128) (IsFirstBit bits from) }

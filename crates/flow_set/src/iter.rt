@@ -1,5 +1,5 @@
-//! Going over a set of flows in order, by an iterator of this crate's own, so that callers do not
-//! see how a set keeps its flows.
+//! Iteration over a flow set in order. The iterator is a type of this crate, so callers do not
+//! depend on the representation of a set.
 
 ghost use Rattle.std.specs.Prelude.{◌≡◌};
 ghost use Rattle.std.specs.Iterator.{YieldsFirst, item_count};
@@ -8,11 +8,11 @@ use crate::flow::Flow;
 use crate::set::FlowSet;
 use std::marker::Model;
 
-/// The flows of a set that are left, in order.
+/// The remaining flows of a set, in order.
 #[derive(Drop)]
 pub struct Iter<'a> {
     set: &'a FlowSet,
-    // The place from which on flows are left.
+    // The position of the first remaining flow.
     from: u16,
     to: u16,
 }

@@ -1,5 +1,5 @@
-//! Flows between numbered hosts and sets of them. A policy, the flows that break a rule and the
-//! flows whose answers pass are all such sets, so every layer above speaks of this crate's lists.
+//! Flows between numbered hosts, and sets of flows. Policies, offending flows and stateful flows
+//! are such sets, so every layer above is specified in terms of this crate's lists.
 #![tactic(auto)]
 
 mod flow;

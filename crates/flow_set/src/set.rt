@@ -1,5 +1,5 @@
-//! A set of flows between `size` hosts, kept as one row of bits for each sender. All rows are made with
-//! the set, so that putting in and taking out never ask for memory.
+//! A set of flows between `size` hosts, stored as one row of bits for each sender. All rows are
+//! allocated with the set, so insertion and removal never allocate.
 
 ghost use Rattle.std.specs.Prelude.{◌≡◌, ◌<◌, ◌≤◌, ◌⊎◌, ◌↔◌, [], length, not, IsTrue, IfOk};
 ghost use Rattle.flow_set.specs.EveryFlow.{every_flow};
@@ -13,7 +13,7 @@ use crate::iter::Iter;
 use std::alloc::{AllocError, Global};
 use std::marker::Model;
 
-/// A set of flows between `size` hosts. A call on two sets wants both of the same size.
+/// A set of flows between `size` hosts. A call on two sets requires both to have the same size.
 #[derive(Drop)]
 pub struct FlowSet {
     size: u16,
@@ -32,7 +32,7 @@ impl Model for FlowSet {
 }
 
 impl FlowSet {
-    /// The set without flows.
+    /// Returns the empty set.
     pub fn empty(alloc: Global, size: u16) -> Result<FlowSet, AllocError>
         requires { size ≤ 256 }
         ensures { IfOk result (λ set. set ≡ record { size = size; flows = [] }) }
@@ -44,7 +44,7 @@ impl FlowSet {
         Ok(FlowSet { size, rows })
     }
 
-    /// The set of all flows between `size` hosts.
+    /// Returns the set of all flows between `size` hosts.
     pub fn full(alloc: Global, size: u16) -> Result<FlowSet, AllocError>
         requires { size ≤ 256 }
         ensures every { IfOk result (λ set. set ≡ record { size = size; flows = every_flow size }) }
@@ -61,7 +61,7 @@ impl FlowSet {
         Ok(FlowSet { size, rows })
     }
 
-    /// The number of hosts.
+    /// Returns the number of hosts.
     pub fn size(&self) -> u16
         ensures size { result ≡ self.now.size }
         ensures set { IsFlowSet self.now.size self.now.flows }
@@ -69,7 +69,7 @@ impl FlowSet {
         self.size
     }
 
-    /// The number of flows.
+    /// Returns the number of flows.
     pub fn len(&self) -> u32
         ensures { result ≡ length self.now.flows }
     {
@@ -94,7 +94,7 @@ impl FlowSet {
         self.rows[f.from as usize].has(f.to)
     }
 
-    /// Puts the flow into the set, and answers whether it was not there.
+    /// Inserts the flow, and returns whether it was absent.
     pub fn insert(&mut self, f: Flow) -> bool
         requires { IsFlow self.old.size f }
         ensures set { self.new ≡ record self.old { flows = with_flow self.old.flows f } }
@@ -108,7 +108,7 @@ impl FlowSet {
         true
     }
 
-    /// Takes the flow out of the set, and answers whether it was there.
+    /// Removes the flow, and returns whether it was present.
     pub fn remove(&mut self, f: Flow) -> bool
         requires { IsFlow self.old.size f }
         ensures set { self.new ≡ record self.old { flows = without_flow self.old.flows f } }
@@ -122,8 +122,8 @@ impl FlowSet {
         true
     }
 
-    /// The first flow of the set from the place (`from`, `to`) on. The place need not be a flow
-    /// between the hosts.
+    /// Returns the first flow of the set from position (`from`, `to`) on. The position need not be
+    /// a flow between the hosts.
     pub fn at_or_after(&self, from: u16, to: u16) -> Option<Flow>
         ensures flow { result ≡ first_from self.now.flows (record { from = from; to = to }) }
         ensures set { IsFlowSet self.now.size self.now.flows }
@@ -142,7 +142,7 @@ impl FlowSet {
         None
     }
 
-    /// The flows in order.
+    /// Returns the flows in order.
     pub fn iter(&self) -> Iter<'_>
         ensures flows { result ≡ self.now.flows }
         ensures set { IsFlowSet self.now.size self.now.flows }
@@ -151,7 +151,7 @@ impl FlowSet {
         Iter::new(self)
     }
 
-    /// A copy with room of its own.
+    /// Returns a copy in newly allocated memory.
     pub fn copy(&self, alloc: Global) -> Result<FlowSet, AllocError>
         ensures same { IfOk result (λ copy. copy ≡ self.now) }
         ensures set { IsFlowSet self.now.size self.now.flows }
@@ -164,7 +164,7 @@ impl FlowSet {
         })
     }
 
-    /// The set and, for each flow of `s`, the flow in the other direction.
+    /// Returns the set together with the reverse of each flow of `s`.
     pub fn with_back(&self, alloc: Global, s: &FlowSet) -> Result<FlowSet, AllocError>
         requires { s.now.size ≡ self.now.size }
         ensures size { IfOk result (λ all. all.size ≡ self.now.size) }

@@ -1,4 +1,4 @@
--- How a set of flows remembers its last step. No clause of a public call speaks of it.
+-- The undo record of a flow set. No clause of a public call mentions it.
 use Rattle.std.specs.Prelude.{ℕ, List, Option, Some, None}
 use Rattle.flow_set.specs.declared.flow.Flow.{Flow}
 use Rattle.flow_set.specs.Flow.{IsFlow}
@@ -8,17 +8,17 @@ use Rattle.flow_set.specs.inner.Steps.{TriedFlows}
 use Rattle.flow_set.specs.declared.steps.LastStep.{LastStep}
 use Rattle.flow_set.specs.declared.steps.LastStep.TheVariants.{Never, Nothing, Added}
 
--- the flows before the last step, of those that are there now
+-- The flows before the last step, computed from the current flows.
 abbrev pub flows_before_last : LastStep → List Flow → Option (List Flow)
 flows_before_last Never fs = None
 flows_before_last Nothing fs = Some fs
 flows_before_last (Added f) fs = Some (without_flow fs f)
 
--- what these flows and this last step are seen as
+-- The model of the current flows together with the undo record.
 abbrev pub seen_as : SetOfFlows → LastStep → TriedFlows
 seen_as e last = record { size = e.size; flows = e.flows; before_step = flows_before_last last e.flows }
 
--- the flow of the last step is one between the hosts
+-- The flow of the last step is a flow between the hosts.
 abbrev pub CanTakeBack : LastStep → ℕ → Type 0
 CanTakeBack Never n = Unit {0}
 CanTakeBack Nothing n = Unit {0}

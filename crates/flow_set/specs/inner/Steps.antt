@@ -1,27 +1,27 @@
--- Sets of flows that are tried in steps: each step puts in one flow, and the last one can be taken back.
+-- Flow sets that grow in steps: each step inserts one flow, and the last step can be undone.
 use Rattle.std.specs.Prelude.{ℕ, List, Option, Some, None}
 use Rattle.flow_set.specs.declared.flow.Flow.{Flow}
 use Rattle.flow_set.specs.FlowSet.{SetOfFlows, with_flow}
 
--- the number of hosts, the flows in order, and those before the last step where it was not taken back
+-- The number of hosts, the flows in order, and the flows before the last step unless it was undone or committed.
 pub record TriedFlows : Type 0 where
   pub size : ℕ
   pub flows : List Flow
   pub before_step : Option (List Flow)
 
--- a set before any step
+-- A set before any step.
 abbrev pub untried : SetOfFlows → TriedFlows
 untried e = record { size = e.size; flows = e.flows; before_step = None }
 
--- one step further
+-- The set after one more step.
 abbrev pub stepped : TriedFlows → Flow → TriedFlows
 stepped t f = record { size = t.size; flows = with_flow t.flows f; before_step = Some t.flows }
 
--- the flows before the last step, which are those of now where there is none
+-- The flows before the last step; the current flows if there is no step to undo.
 abbrev pub flows_before_step : Option (List Flow) → List Flow → List Flow
 flows_before_step (Some before) now = before
 flows_before_step None now = now
 
--- the last step taken back
+-- The set after the last step is undone.
 abbrev pub taken_back : TriedFlows → TriedFlows
 taken_back t = record { size = t.size; flows = flows_before_step t.before_step t.flows; before_step = None }

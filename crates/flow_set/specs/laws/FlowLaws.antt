@@ -1,5 +1,5 @@
--- Laws of flows and sets of flows, by subject: the order of flows, members, equal sets, sets that stay in order,
--- filters, flows taken out one by one, a flow that is there or is not, the front of a set.
+-- Lemmas on flows and flow sets, by subject: the order of flows, members, equality, sorted lists, filters, removal and
+-- insertion of single flows, prefixes of a set.
 use Rattle.std.proofs.Common.{◌≡◌, Bool, true, false, not, ◌&&◌, ◌||◌, cond, List, [], ◌∷◌, ◌++◌, inl, inr, refl, sym, ◌∙◌, ap, subst, arith}
 use Rattle.std.specs.Prelude.{IsTrue, IsFalse, filter}
 use Rattle.std.proofs.lemmas.Bool.{eqb-true, and_parts, or_cases, or_left, or_right, cond_both, false≢true, both_ways, false_from_ne_true, cond-true, cond-false, not_from_false}
@@ -41,17 +41,17 @@ before_not_back f g p = grind (arith, nat_tests)
 pub after_not_same : (f g : Flow) → IsTrue (before f g) → IsFalse (same_flow g f)
 after_not_same f g p = grind (arith, nat_tests)
 
--- two flows of which neither is before the other are one
+-- Two flows of which neither is before the other are equal.
 pub same_flow_from_order : (f g : Flow) → IsFalse (before f g) → IsFalse (before g f) → IsTrue (same_flow f g)
 same_flow_from_order f g p q = grind (arith, nat_tests)
 
--- where f is not before p, neither is what comes after f
+-- If f is not before p, neither is a flow after f.
 pub not_before_from : (f g p : Flow) → IsFalse (before f p) → IsTrue (before f g) → IsFalse (before g p)
 not_before_from f g p a b = grind (arith, nat_tests)
 
 -- ---- members
 
--- a test answers the same at two flows that are the same
+-- A test has the same result for equal flows.
 pub same_test : (P : Flow → Bool) (f g : Flow) → IsTrue (same_flow f g) → P f ≡ P g
 same_test P f g s = ap P (same_flow-true f g s)
 
@@ -64,7 +64,7 @@ has_first f fs = or_left _ _ (same_flow_self f)
 pub has_later : (g : Flow) (fs : List Flow) (f : Flow) → IsTrue (has fs f) → IsTrue (has (g ∷ fs) f)
 has_later g fs f h = or_right _ _ h
 
--- whatever holds of a flow holds of one that is the same
+-- A fact that holds for a flow holds for an equal flow.
 pub same_fact : (P : Flow → Type 0) (f g : Flow) → IsTrue (same_flow f g) → P f → P g
 same_fact P f g s h = subst P (same_flow-true f g s) h
 
@@ -138,7 +138,7 @@ has-with_back fs (g ∷ gs) f =
 
 -- ---- equal sets
 
--- a flow that is before all of a list is not in it
+-- A flow that is before all flows of a list is not in the list.
 pub has_below : (f : Flow) (fs : List Flow) → ((g : Flow) → IsTrue (has fs g) → IsTrue (before f g)) → IsFalse (has fs f)
 has_below f fs below = false_from_ne_true _ (λ h. both_ways _ (before_self f) (below f h))
 
@@ -159,7 +159,7 @@ same_rests x y xs ys e p q same f =
       | false ↦ λ s. ap (λ b. b || has xs f) (sym s) ∙ same f ∙ ap (λ b. b || has ys f) (ap (λ z. same_flow z f) (sym e) ∙ s)
     ] refl
 
--- ordered lists with the same members are equal: every equation of sets goes through this law
+-- Sorted lists with the same members are equal. Every equation between sets uses this lemma.
 pub flows_ext : (xs ys : List Flow) → IsOrdered xs → IsOrdered ys → ((f : Flow) → has xs f ≡ has ys f) → xs ≡ ys
 flows_ext [] [] p q same = refl
 flows_ext [] (y ∷ ys) p q same = has_nothing y (same y ∙ has_first y ys)
@@ -170,11 +170,11 @@ flows_ext (x ∷ xs) (y ∷ ys) p q same =
     let rests : xs ≡ ys = flows_ext xs ys p.1 q.1 (same_rests x y xs ys e p q same) in
     λ i. e i ∷ rests i
 
--- so are whole sets, with the number of hosts
+-- Sets with the same number of hosts and the same flows are equal.
 pub set_ext : (s t : SetOfFlows) → s.size ≡ t.size → s.flows ≡ t.flows → s ≡ t
 set_ext s t p q = λ i. record { size = p i; flows = q i }
 
--- ---- sets that stay in order
+-- ---- sorted lists
 
 pub IsOrdered-filter : (p : Flow → Bool) (fs : List Flow) → IsOrdered fs → IsOrdered (filter p fs)
 IsOrdered-filter p [] o = tt
@@ -214,7 +214,7 @@ pub IsOrdered-with_back : (fs gs : List Flow) → IsOrdered fs → IsOrdered (wi
 IsOrdered-with_back fs [] o = o
 IsOrdered-with_back fs (g ∷ gs) o = IsOrdered-with_flow (with_back fs gs) (back_of g) (IsOrdered-with_back fs gs o)
 
--- two sets, of which the one stands wholly before the other
+-- The concatenation of two sets is sorted if all flows of the first are before those of the second.
 pub IsOrdered-append : (xs ys : List Flow) → IsOrdered xs → IsOrdered ys
     → ((f g : Flow) → IsTrue (has xs f) → IsTrue (has ys g) → IsTrue (before f g)) → IsOrdered (xs ++ ys)
 IsOrdered-append [] ys o p apart = p
@@ -248,21 +248,21 @@ with_back-push fs gs g o =
     or_last false false true = refl
     or_last false false false = refl
 
--- ---- filters of a whole set
+-- ---- filters of a set
 
--- where none passes, a filter leaves nothing
+-- If no flow satisfies the test, the filtered list is empty.
 pub filter_nothing : (p : Flow → Bool) (fs : List Flow) → ((f : Flow) → IsTrue (has fs f) → IsFalse (p f)) → filter p fs ≡ []
 filter_nothing p [] fails = refl
 filter_nothing p (f ∷ fs) fails =
     cond-false (p f) _ _ (fails f (has_first f fs)) ∙ filter_nothing p fs (λ g h. fails g (has_later f fs g h))
 
--- where all pass, a filter leaves the list
+-- If all flows satisfy the test, the filtered list is unchanged.
 pub filter_everything : (p : Flow → Bool) (fs : List Flow) → ((f : Flow) → IsTrue (has fs f) → IsTrue (p f)) → filter p fs ≡ fs
 filter_everything p [] passed = refl
 filter_everything p (f ∷ fs) passed =
     cond-true (p f) _ _ (passed f (has_first f fs)) ∙ ap (λ zs. f ∷ zs) (filter_everything p fs (λ g h. passed g (has_later f fs g h)))
 
--- ---- flows taken out one by one
+-- ---- removal of single flows
 
 pub without_nothing : (fs : List Flow) → without fs [] ≡ fs
 without_nothing fs = filter_everything (λ f. not (has [] f)) fs (λ f there. refl)
@@ -279,7 +279,7 @@ without-push (f ∷ fs) gs g =
           ])
     ] refl
 
--- ---- a flow that is there, or is not
+-- ---- a flow that is present or absent
 
 pub with_flow_there : (fs : List Flow) (f : Flow) → IsOrdered fs → IsTrue (has fs f) → with_flow fs f ≡ fs
 with_flow_there fs f o there =
@@ -289,7 +289,7 @@ with_flow_there fs f o there =
       | false ↦ λ _. refl
     ] refl))
 
--- a flow that comes after all of a set is put at its end
+-- A flow that is after all flows of a set is inserted at the end.
 pub with_flow-last : (fs : List Flow) (f : Flow) → ((g : Flow) → IsTrue (has fs g) → IsTrue (before g f)) → with_flow fs f ≡ fs ++ f ∷ []
 with_flow-last [] f after = refl
 with_flow-last (g ∷ gs) f after =
@@ -302,7 +302,7 @@ without_flow_absent fs f absent =
     filter_everything (λ g. not (same_flow f g)) fs
     (λ g h. not_from_false _ (false_from_ne_true _ (λ same. both_ways _ absent (same_test (has fs) f g same ∙ h))))
 
--- a flow that was taken out, put in again
+-- Inserting a removed flow restores the set.
 pub with_flow-without_flow : (fs : List Flow) (f : Flow) → IsOrdered fs → IsTrue (has fs f) → with_flow (without_flow fs f) f ≡ fs
 with_flow-without_flow fs f o there =
     flows_ext (with_flow (without_flow fs f) f) fs (IsOrdered-with_flow (without_flow fs f) f (IsOrdered-without_flow fs f o)) o
@@ -316,7 +316,7 @@ with_flow-without_flow fs f o there =
     put_back false true h = refl
     put_back false false h = refl
 
--- a flow that was put in, taken out again
+-- Removing an inserted flow restores the set.
 pub without_flow-with_flow : (fs : List Flow) (f : Flow) → IsOrdered fs → IsFalse (has fs f) → without_flow (with_flow fs f) f ≡ fs
 without_flow-with_flow fs f o absent =
     flows_ext (without_flow (with_flow fs f) f) fs (IsOrdered-without_flow (with_flow fs f) f (IsOrdered-with_flow fs f o)) o
@@ -330,13 +330,13 @@ without_flow-with_flow fs f o absent =
     taken_out false true h = refl
     taken_out false false h = refl
 
--- ---- the front of a set
+-- ---- a prefix of a set
 
 pub IsOrdered-front : (xs ys : List Flow) → IsOrdered (xs ++ ys) → IsOrdered xs
 IsOrdered-front [] ys o = tt
 IsOrdered-front (x ∷ xs) ys o = (λ g h. o.0 g (has-append xs ys g ∙ or_left _ _ h), IsOrdered-front xs ys o.1)
 
--- a flow of the front is before every flow of the rest
+-- A flow of the prefix is before every flow of the rest.
 pub front_before : (xs ys : List Flow) (f g : Flow) → IsOrdered (xs ++ ys) → IsTrue (has xs f) → IsTrue (has ys g) → IsTrue (before f g)
 front_before [] ys f g o p q = has_nothing f p
 front_before (x ∷ xs) ys f g o p q =

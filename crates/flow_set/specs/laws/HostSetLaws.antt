@@ -1,4 +1,4 @@
--- Laws of sets of hosts: their members, and that sets with the same members are equal.
+-- Lemmas on sets of hosts: members, and extensionality.
 use Rattle.std.proofs.Common.{◌≡◌, ℕ, zero, suc, ◌<◌, Bool, true, false, not, ◌&&◌, ◌||◌, ◌+◌, cond, add-zero, nat_eq, nat_lt, nat_cmp, sym, ◌∙◌, ap, arith}
 use Rattle.std.proofs.lemmas.Bool.{cond_both}
 use Rattle.std.proofs.lemmas.Bool.Decides.{nat_tests}
@@ -12,7 +12,7 @@ contains-insert s k q = set.contains-insert nat_cmp_total s k q ∙ ap (λ b. b 
 pub contains-remove : (s : HostNumbers) (k q : ℕ) → set.contains (set.remove s k) q ≡ (not (nat_eq q k) && set.contains s q)
 contains-remove s k q = set.contains-remove nat_cmp_total s k q ∙ ap (λ b. not b && set.contains s q) (unsigned_tied q k)
 
--- sets with the same members are equal
+-- Sets with the same members are equal.
 pub hosts_ext : (s t : HostNumbers) → ((q : ℕ) → set.contains s q ≡ set.contains t q) → s ≡ t
 hosts_ext s t alike = set.same_set nat_cmp_total set.nat_cmp-IsAntisymmetric s t alike
 
@@ -33,7 +33,7 @@ contains-hosts_below (suc n) test q =
     (λ passes. contains-insert (hosts_below n test) n q ∙ ap (λ b. nat_eq q n || b) (contains-hosts_below n test q) ∙ below_suc_in n q (test q) (test n) passes (ap test))
     (λ fails. contains-hosts_below n test q ∙ below_suc_out n q (test q) (test n) fails (ap test))
 
--- one more host below n
+-- The number of hosts below n + 1.
 pub len_more : (n : ℕ) (test : ℕ → Bool) → set.len (hosts_below (suc n) test) ≡ set.len (hosts_below n test) + cond (test n) 1 0
 unfolding hosts_below
 len_more n test =

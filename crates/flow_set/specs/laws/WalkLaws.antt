@@ -1,4 +1,4 @@
--- Laws of places in a set of flows, of how many flows there can be, and of loops that go over a set.
+-- Lemmas on positions in a flow set, on the size of a flow set, and on loops over a flow set.
 use Rattle.std.proofs.Common.{◌≡◌, ℕ, suc, ◌+◌, ◌*◌, ◌<◌, ◌≤◌, Bool, true, false, not, ◌&&◌, cond, List, [], ◌∷◌, ◌++◌, length, refl, sym, ◌∙◌, ap, subst, arith, inl, inr, append_assoc, append-nil}
 use Rattle.std.proofs.Math.Bool.{and-false}
 use Rattle.std.proofs.Math.Nat.{mul-le-mul_right}
@@ -11,8 +11,8 @@ use Rattle.flow_set.specs.FlowSet.{has, IsOrdered, IsSubset, with_flow}
 use Rattle.flow_set.specs.inner.FlowSetView.{IsFlowSet, first_from}
 use Rattle.flow_set.specs.laws.FlowLaws.{before_self, before_not_back, has_nothing, has_first, has_later, has-append, has-filter, same_fact, same_flow_from_order, flows_ext, IsOrdered-filter}
 
--- ---- the first flow from a place on: it is in the set and not before the place, no other such flow is before it, and
--- where there is none every flow is before the place
+-- ---- the first flow from a position on: it is in the set and not before the position, and no other such flow is before it
+-- If there is no such flow, every flow is before the position.
 
 pub first_from_member : (fs : List Flow) (p f : Flow) → first_from fs p ≡ Some f → IsTrue (has fs f)
 first_from_member [] p f found = cc
@@ -58,7 +58,7 @@ first_from_none (x ∷ xs) p none g there =
 
 -- ---- lengths
 
--- a subset has no more flows than the set
+-- A subset has at most as many flows as the set.
 pub length-IsSubset : (xs ys : List Flow) → IsSubset xs ys → IsOrdered ys → length xs ≤ length ys
 length-IsSubset xs ys sub o =
     let picked : filter (has xs) ys ≡ xs =
@@ -72,7 +72,7 @@ length-IsSubset xs ys sub o =
     and_within true b h = ap (λ c. c && true) (h refl)
     and_within false b h = and-false b
 
--- the number of a flow in the order of all pairs of n hosts
+-- The number of a flow in the order of all pairs of n hosts.
 code_of : ℕ → Flow → ℕ
 code_of n f = f.from * n + f.to
 
@@ -100,13 +100,13 @@ codes_from n c (f ∷ fs) o above within =
     (λ g m. ((above g (has_later f fs g m)).0, omega (arith, code_rises n f g here.0 (o.0 g m)))) (omega (arith, code_below n f here.0)) in
     omega (arith, h, here.1)
 
--- no set has more flows than there are pairs of hosts
+-- A set has at most as many flows as there are pairs of hosts.
 pub length-IsFlowSet : (n : ℕ) (fs : List Flow) → IsFlowSet n fs → length fs ≤ n * n
 length-IsFlowSet n fs set =
     let h : 0 + length fs ≤ n * n = codes_from n 0 fs set.ordered (λ f h. (set.flows f h, omega arith)) (omega arith) in
     omega (arith, h)
 
--- a flow that a set has not is one more
+-- Inserting an absent flow increases the size by one.
 pub length-with_flow : (fs : List Flow) (f : Flow) → IsFalse (has fs f) → length (with_flow fs f) ≡ suc (length fs)
 length-with_flow [] f absent = refl
 length-with_flow (x ∷ xs) f absent =
@@ -117,7 +117,7 @@ length-with_flow (x ∷ xs) f absent =
     (λ _. ap suc (length-with_flow xs f parts.1))
     (λ not_later. absurd (both_ways _ parts.0 (same_flow_from_order x f not_later not_earlier))))
 
--- ---- a loop over a set, which has gone over xs and has `left` before it
+-- ---- a loop over a set: xs has been visited, and `left` remains
 
 pub walk_next : (xs left rest whole : List Flow) (f : Flow) → xs ++ left ≡ whole → left ≡ f ∷ rest → (xs ++ f ∷ []) ++ rest ≡ whole
 walk_next xs left rest whole f walk next = append_assoc xs (f ∷ []) rest ∙ ap (λ ys. xs ++ ys) (sym next) ∙ walk

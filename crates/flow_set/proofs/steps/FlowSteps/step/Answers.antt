@@ -11,14 +11,14 @@ use Rattle.flow_set.specs.declared.steps.LastStep.TheVariants.{Nothing, Added}
 use Rattle.flow_set.proofs.steps.FlowSteps.step.Goals as goal
 use Rattle.flow_set.proofs.steps.FlowSteps.step.Goals.{then-insert, else-insert}
 
--- a new flow is taken out again
+-- A new flow is removed again.
 added : (e : SetOfFlows) (last : LastStep) (f : Flow) → IsOrdered e.flows → IsFalse (has e.flows f)
     → seen_as (record e { flows = with_flow e.flows f }) (Added f) ≡ stepped (seen_as e last) f
 added e last f ordered absent =
     ap (λ fs. record { size = e.size; flows = with_flow e.flows f; before_step = Some fs })
     (without_flow-with_flow e.flows f ordered absent)
 
--- a flow that was there stays
+-- A flow that was present stays.
 was_there : (e : SetOfFlows) (last : LastStep) (f : Flow) → IsOrdered e.flows → IsTrue (has e.flows f)
     → seen_as (record e { flows = with_flow e.flows f }) Nothing ≡ stepped (seen_as e last) f
 was_there e last f ordered there =
