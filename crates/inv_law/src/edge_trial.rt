@@ -1,4 +1,4 @@
-//! The steps of an invariant that judges flows alone: it looks at the new flow and at nothing else.
+//! The steps of an edge-wise invariant: it evaluates only the new flow.
 
 ghost use Rattle.std.specs.Prelude.{◌≡◌};
 
@@ -10,7 +10,7 @@ use flow_set::{Flow, FlowSet, FlowSteps};
 use std::alloc::{AllocError, Global};
 use std::marker::Model;
 
-/// A set of flows that is tried in steps by an edge-wise invariant.
+/// An undoable set of flows for an edge-wise invariant.
 #[derive(Drop)]
 pub struct EdgeTrial {
     steps: FlowSteps,

@@ -1,4 +1,4 @@
-//! The invariant that holds where every flow passes a rule. Its laws are proved here once, for every
+//! The invariant that holds if every flow passes a rule. Its laws are proved here once, for every
 //! lawful rule.
 
 ghost use Rattle.std.specs.Prelude.{◌≡◌, ◌↔◌, true, IsTrue};
@@ -12,7 +12,7 @@ use flow_set::{Flow, FlowSet};
 use std::alloc::{AllocError, Global};
 use std::marker::Model;
 
-/// The invariant of a rule. It is edge-wise, and lawful where the rule is.
+/// The invariant of a rule. It is edge-wise, and lawful if the rule is.
 #[derive(Drop)]
 pub struct EdgeWise<R> {
     rule: R,

@@ -1,6 +1,6 @@
-//! The trait of all invariants, with the laws that each of them proves. The engines above use
-//! nothing of an invariant but this trait, and `Stepwise` where they go by steps, so they serve
-//! templates that are not in this workspace.
+//! The trait of all invariants, with the laws that each of them proves. The crates above use only
+//! this trait, and `Stepwise` if they evaluate by steps, so they work with templates outside this
+//! workspace.
 
 ghost use Rattle.std.specs.Prelude.{◌≡◌, ℕ, ◌<◌, ◌↔◌, ⊤, Bool, List, [], ◌∷◌, IsTrue, IfOk};
 ghost use Rattle.flow_set.specs.inner.Downward.{IsDownward, IsEdgeWise};
@@ -16,10 +16,10 @@ use std::alloc::{AllocError, Global};
 
 /// A predicate on the sets of flows between `hosts` hosts, each of which has an attribute.
 ///
-/// Sets, flows and hosts that are handed in are of this size.
+/// The sets, flows and hosts of arguments are of this size.
 pub trait Invariant: Sized {
-    // The number of hosts, whom an offending flow is blamed on, and whether each flow is judged
-    // alone.
+    // The number of hosts, the strategy, which determines the offending host, and whether the
+    // invariant is edge-wise.
     ghost size_of: { Self → ℕ };
 
     ghost strategy_of: { Self → Strategy };
@@ -31,31 +31,32 @@ pub trait Invariant: Sized {
 
     ghost holds_after_reset: { Self → ℕ → List Flow → Type 0 };
 
-    // What `with_default` promises of the invariant that it answers, beyond its meaning.
+    // An additional guarantee of `with_default` about the returned invariant.
     ghost reset_gives: { Self → ℕ → Self → Type 0 } = { λ _ _ _. ⊤ };
 
     fn strategy(&self) -> Strategy
         ensures { result ≡ strategy_of self.now };
 
-    /// Whether a set is judged flow by flow, so that `admits` says all.
+    /// Whether the invariant is edge-wise: a set satisfies it if and only if `admits` holds for
+    /// each of its flows.
     fn edge_wise(&self) -> bool
         ensures { result ≡ edge_mark self.now };
 
-    /// The number of hosts.
+    /// Returns the number of hosts.
     fn hosts(&self) -> u16
         ensures { result ≡ size_of self.now };
 
-    /// Whether the predicate holds of the flow alone.
+    /// Whether the predicate holds for the single flow.
     fn admits(&self, f: Flow) -> bool
         requires { IsFlow (size_of self.now) f }
         ensures { IsTrue result ↔ holds_on self.now (f ∷ []) };
 
-    /// Whether the predicate holds of the set.
+    /// Whether the predicate holds for the set.
     fn holds(&self, alloc: Global, e: &FlowSet) -> Result<bool, AllocError>
         requires { e.now.size ≡ size_of self.now }
         ensures { IfOk result (λ answer. IsTrue answer ↔ holds_on self.now e.now.flows) };
 
-    /// The same invariant with the default attribute at the host.
+    /// Returns the same invariant with the default attribute at the host.
     fn with_default(&self, alloc: Global, host: u16) -> Result<Self, AllocError>
         requires { host < size_of self.now }
         ensures size { IfOk result (λ new. size_of new ≡ size_of self.now) }
@@ -65,17 +66,18 @@ pub trait Invariant: Sized {
             → (holds_on new e ↔ holds_after_reset self.now host e)) }
         ensures given { IfOk result (λ new. reset_gives self.now host new) };
 
-    // What holds of a set holds of its subsets.
+    // The predicate is downward closed.
     ghost downward: { (x : Self) → IsDownward (size_of x) (holds_on x) };
 
-    // It holds of the set without flows.
+    // The predicate holds for the empty set.
     ghost holds_on_none: { (x : Self) → holds_on x [] };
 
-    // The reset of an offending host mends nothing.
+    // The reset of an offending host cannot hide a violation.
     ghost reset_mends_nothing: { (x : Self)
         → ResetMendsNothing (size_of x) (strategy_of x) (holds_on x) (holds_after_reset x) };
 
-    // Where the mark is set, it holds of a set exactly where it holds of each flow alone.
+    // If the mark is set, the predicate holds for a set if and only if it holds for each of its
+    // flows individually.
     ghost mark_is_right: { (x : Self) → IsTrue (edge_mark x)
         → IsEdgeWise (size_of x) (holds_on x) };
 }

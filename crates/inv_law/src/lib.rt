@@ -1,6 +1,6 @@
-//! Security invariants: what the flows of a network must keep to. An [`Invariant`] is a predicate on
-//! sets of flows with its laws; an [`EdgeRule`] is a test of single flows with one law, and
-//! [`EdgeWise`] makes an invariant of every lawful rule.
+//! Security invariants of the flows of a network. An [`Invariant`] is a predicate on sets of flows
+//! with its laws; an [`EdgeRule`] is a test of single flows with one law, and [`EdgeWise`] makes an
+//! invariant of every lawful rule.
 #![tactic(auto)]
 
 mod edge_rule;

@@ -1,10 +1,11 @@
-//! Whom an offending flow is blamed on.
+//! The strategy of an invariant, which determines the offending host of a flow.
 
-/// What an invariant protects.
+/// The asset that an invariant protects.
 #[derive(Clone, Copy, Debug, PartialEq, Eq)]
 pub enum Strategy {
-    /// A receiver is protected from its senders: a flow is blamed on the sender.
+    /// A receiver is protected from its senders: the offending host of a flow is the sender.
     Access,
-    /// A sender's information is protected from its receivers: a flow is blamed on the receiver.
+    /// A sender's information is protected from its receivers: the offending host of a flow is the
+    /// receiver.
     Information,
 }

@@ -1,11 +1,11 @@
--- A rule on attributes is lawful where its default is secure, whatever the attributes are.
+-- A rule on attributes is lawful if its default is secure, for all attributes.
 use Rattle.std.proofs.Common.{◌≡◌, ℕ, suc, zero, List, [], ◌∷◌, get_or, set, refl, sym, get_or-set_other}
 use Rattle.inv_law.specs.Attributes.{PassesBetween}
 use Rattle.inv_law.specs.inner.Resets.{PassesAfterReset, IsSecureDefault, ResetPassesNoMore}
 use Rattle.inv_law.specs.declared.strategy.Strategy.{Strategy}
 use Rattle.inv_law.specs.declared.strategy.Strategy.TheVariants.{Access, Information}
 
--- a host has the default after its reset
+-- A host has the default after its reset.
 pub get_or-set_default : {A : Type 0} (xs : List A) (i : ℕ) (d : A) → get_or (set xs i d) i d ≡ d
 get_or-set_default [] i d = refl
 get_or-set_default (x ∷ xs) zero d = refl

@@ -1,4 +1,4 @@
--- The laws of an invariant that holds where every flow passes a rule, from the law of the rule alone.
+-- The laws of an invariant that holds if every flow passes a rule, derived from the single law of the rule.
 use Rattle.std.proofs.Common.{ℕ, ⊎_elim, List, [], ◌∷◌, ◌++◌, ◌∙◌, subst, sym}
 use Rattle.std.specs.Prelude.{IsTrue, ◌↔◌}
 use Rattle.std.proofs.lemmas.Bool.{false≢true, or_cases, or_left}
@@ -17,7 +17,7 @@ AllFlowsPass-downward n Passes e s is_set subset passes = λ f in_s. passes f (s
 pub AllFlowsPass-none : (Passes : ℕ → ℕ → Type 0) → AllFlowsPass Passes []
 AllFlowsPass-none Passes f in_none = absurd (false≢true in_none)
 
--- one more flow passes where it does and the others do
+-- All flows of a set with one more flow pass if this flow and the others do.
 pub AllFlowsPass-with : (Passes : ℕ → ℕ → Type 0) (f : Flow) (e : List Flow) → Passes f.from f.to → AllFlowsPass Passes e
     → AllFlowsPass Passes (f ∷ e)
 AllFlowsPass-with Passes f e pass passes g in_both =
@@ -34,7 +34,7 @@ AllFlowsPass-push Passes e f passes pass g in_both =
 pub passes_alone : (Passes : ℕ → ℕ → Type 0) (f : Flow) → AllFlowsPass Passes (f ∷ []) → Passes f.from f.to
 passes_alone Passes f passes = passes f (has_first f [])
 
--- where all flows pass, one more flow passes alone exactly where they all pass with it
+-- If all flows pass, one more flow passes individually if and only if all pass with it.
 pub AllFlowsPass-with_flow : (Passes : ℕ → ℕ → Type 0) (e : List Flow) (f : Flow) → AllFlowsPass Passes e
     → AllFlowsPass Passes (f ∷ []) ↔ AllFlowsPass Passes (with_flow e f)
 AllFlowsPass-with_flow Passes e f passes = (

@@ -1,4 +1,4 @@
--- A template is lawful where an invariant of it is, whatever attributes the hosts have.
+-- A template is lawful if an invariant of it is, for all attributes of the hosts.
 use Rattle.std.proofs.Common.{◌<◌, ℕ, List, [], length, length-set, get_or-set_other, get_or-set_same, inl, inr, sym, subst}
 use Rattle.std.specs.Prelude.{IsTrue, slice_index_or, slice_set}
 use Rattle.std.proofs.lemmas.Bool.{cases_eq, false≢true}
@@ -13,7 +13,7 @@ use Rattle.inv_law.specs.Template.{Template, Meaning, edge_template, meaning, wa
 use Rattle.inv_law.specs.inner.Template.{AllMayHave}
 use Rattle.inv_law.specs.declared.strategy.Strategy.{Strategy}
 
--- the laws of an invariant
+-- The laws of an invariant.
 pub record IsLawful (m : Meaning) : Type 0 where
   pub downward : IsDownward m.size m.holds_on
   pub holds_on_none : m.holds_on []
@@ -23,7 +23,7 @@ pub record IsLawful (m : Meaning) : Type 0 where
 abbrev pub IsLawfulTemplate : Template → Type 0
 IsLawfulTemplate t = (hosts : List t.Attribute) → IsLawful (meaning t hosts)
 
--- a template on single flows is lawful where its default is secure
+-- An edge-wise template is lawful if its default is secure.
 pub lawful_edge : {A : Type 0} (name : List ℕ) (strategy : Strategy) (MayHave : A → Type 0) (default : A) (Passes : A → A → Type 0)
     → IsSecureDefault strategy default Passes
     → IsLawfulTemplate (edge_template name strategy MayHave default Passes)
@@ -36,7 +36,7 @@ lawful_edge name strategy MayHave default Passes secure hosts = record {
   mark_is_right = λ marked. AllFlowsPass-edge_wise (length hosts) (PassesBetween default Passes hosts);
 }
 
--- a template on walks is lawful where it holds of subsets and of none, and a reset mends nothing
+-- A template on paths is lawful if it is downward closed, holds for the empty set, and a reset cannot hide a violation.
 pub lawful_walk : {A : Type 0} (name : List ℕ) (strategy : Strategy) (MayHave : ℕ → ℕ → A → Type 0) (default : ℕ → ℕ → A) (Holds : List A → List Flow → Type 0)
     → ((n : ℕ) (hosts : List A) → IsDownward n (Holds hosts)) → ((hosts : List A) → Holds hosts [])
     → ((hosts : List A) → ResetMendsNothing (length hosts) strategy (Holds hosts) (meaning (walk_template name strategy MayHave default Holds) hosts).holds_after_reset)
@@ -48,7 +48,7 @@ lawful_walk name strategy MayHave default Holds downward none reset hosts = reco
   mark_is_right = λ marked. absurd (false≢true marked);
 }
 
--- one host given another attribute that it may have
+-- One host is given another attribute that it may have.
 pub AllMayHave-set : (t : Template) (hosts : List t.Attribute) (host : ℕ) (x : t.Attribute) → AllMayHave t hosts
     → t.MayHave (length hosts) host x → AllMayHave t (slice_set hosts host x)
 AllMayHave-set t hosts host x all may i within =
