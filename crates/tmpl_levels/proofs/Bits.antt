@@ -1,11 +1,11 @@
--- A set of labels as a number: what a mask of it says of each label.
+-- A set of labels as a number: the meaning of a mask for each label.
 use Rattle.std.proofs.Common.{◌≡◌, ℕ, ◌-◌, ◌^◌, ◌<◌, min, bit_and, inl, inr, sym, ◌∙◌, ap, arith}
 use Rattle.std.proofs.lemmas.Bool.{cases_eq, cases_lt}
 use Rattle.std.proofs.lemmas.Nat.Bits.{bit_at_and, bit_at_not, bit_at_above, bit_at-lt, same_from_bits}
 use Rattle.std.specs.Int.{bit_at, bit_not, w64}
 use Rattle.tmpl_levels.specs.Tainting.{HasLabel}
 
--- the labels of a that b does not take off
+-- The labels of a without those that b removes.
 abbrev pub kept_of : ℕ → ℕ → ℕ
 kept_of a b = bit_and a (bit_not w64 b)
 

@@ -1,5 +1,4 @@
-//! Bell-LaPadula: information flows to hosts of the same level or a higher one, and to trusted
-//! hosts.
+//! Bell-LaPadula: information flows to hosts of the same or a higher level, and to trusted hosts.
 
 ghost use Rattle.std.specs.Prelude.{◌≡◌, ◌<◌, IfOk, length, replicate, slice_set};
 ghost use Rattle.inv_law.specs.Attributes.{PassesBetween};
@@ -13,7 +12,8 @@ use inv_law::{EdgeRule, Strategy};
 use std::alloc::{AllocError, Global};
 use std::marker::Model;
 
-// The level of what a host knows, and whether it is trusted with what is above it.
+// The level of the information of a host, and whether it is trusted with information above its
+// level.
 #[derive(Clone, Copy)]
 struct Clearance {
     level: u16,
@@ -25,7 +25,7 @@ const UNCLASSIFIED: Clearance = Clearance {
     trusted: false,
 };
 
-/// Keeps what hosts of a level know from hosts of a lower one.
+/// Protects the information of hosts of a level from hosts of a lower level.
 #[derive(Drop)]
 pub struct Blp {
     hosts: Vec<Clearance>,
@@ -43,7 +43,7 @@ impl Model for Blp {
 }
 
 impl Blp {
-    /// The rule for `n` hosts of level 0, none of them trusted.
+    /// Returns the rule for `n` hosts of level 0, none of them trusted.
     pub fn new(alloc: Global, n: u16) -> Result<Self, AllocError>
         ensures { IfOk result (λ blp. blp ≡ replicate n unclassified) }
     {
@@ -52,7 +52,7 @@ impl Blp {
         Ok(Blp { hosts })
     }
 
-    /// Gives the host this level. A trusted host may learn what is above its level.
+    /// Sets the level of the host. A trusted host may receive information above its level.
     pub fn set(&mut self, host: u16, level: u16, trusted: bool)
         requires { host < length self.old }
         ensures { self.new ≡ slice_set self.old host (record { level = level; trusted = trusted }) }

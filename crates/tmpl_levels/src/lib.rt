@@ -1,5 +1,5 @@
-//! Two templates that rank what hosts know: Bell-LaPadula with levels, and tainting with labels.
-//! Both protect information, so a flow that does not pass is blamed on its receiver.
+//! Two information-flow templates: Bell-LaPadula with levels, and tainting with labels. The
+//! offending host of a flow that does not pass is its receiver.
 #![tactic(auto)]
 
 mod blp;

@@ -1,4 +1,4 @@
-//! Tainting: what a host knows has labels, which it passes on unless it takes them off.
+//! Tainting: the information of a host has labels, which it propagates unless it removes them.
 
 ghost use Rattle.std.specs.Prelude.{◌≡◌, ◌<◌, ◌↔◌, IsTrue, IfOk, length, replicate, slice_set};
 ghost use Rattle.inv_law.specs.Attributes.{PassesBetween};
@@ -12,7 +12,8 @@ use inv_law::{EdgeRule, Strategy};
 use std::alloc::{AllocError, Global};
 use std::marker::Model;
 
-// Sets of labels, one bit a label: those that a host has, and those that it takes off what it sends.
+// Sets of labels, one bit per label: the labels that a host has, and those that it removes from the
+// data it sends.
 #[derive(Clone, Copy)]
 struct Labels {
     taints: u64,
@@ -20,7 +21,7 @@ struct Labels {
 }
 
 impl Labels {
-    // Whether each label that the sender keeps on is one of the receiver's.
+    // Whether each label that the sender propagates is a label of the receiver.
     fn pass_to(self, receiver: Labels) -> bool
         ensures { IsTrue result ↔ TaintsPass self receiver }
     {
@@ -34,7 +35,7 @@ const UNTAINTED: Labels = Labels {
     untaints: 0,
 };
 
-/// Keeps what has a label from hosts that lack the label.
+/// Protects information with a label from hosts without the label.
 #[derive(Drop)]
 pub struct Tainting {
     hosts: Vec<Labels>,
@@ -53,7 +54,7 @@ impl Model for Tainting {
 }
 
 impl Tainting {
-    /// The rule for `n` hosts without labels.
+    /// Returns the rule for `n` hosts without labels.
     pub fn new(alloc: Global, n: u16) -> Result<Self, AllocError>
         ensures { IfOk result (λ tainting. tainting ≡ replicate n untainted) }
     {
@@ -62,7 +63,7 @@ impl Tainting {
         Ok(Tainting { hosts })
     }
 
-    /// Gives the host these labels, one bit a label. It can only take off labels that it has.
+    /// Sets the labels of the host, one bit per label. It can only remove labels that it has.
     pub fn set(&mut self, host: u16, taints: u64, untaints: u64)
         requires host { host < length self.old }
         requires may { tainting.MayHave (length self.old) host (record { taints = taints; untaints = untaints }) }

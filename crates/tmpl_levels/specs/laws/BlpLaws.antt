@@ -1,4 +1,4 @@
--- The default of the Bell-LaPadula template hides no fault.
+-- The default of the Bell-LaPadula template is secure.
 use Rattle.std.proofs.Common.{inl, inr, arith}
 use Rattle.std.proofs.lemmas.Bool.{false≢true}
 use Rattle.inv_law.specs.inner.Resets.{IsSecureDefault}
@@ -8,7 +8,7 @@ use Rattle.inv_law.specs.laws.TemplateLaws.{IsLawfulTemplate, lawful_edge}
 use Rattle.inv_law.specs.declared.strategy.Strategy.TheVariants.{Information}
 use Rattle.tmpl_levels.specs.Blp.{blp, unclassified, BlpPasses}
 
--- what passes to an unclassified receiver is of level 0, and passes to every receiver
+-- A sender that may send to an unclassified receiver has level 0, and may send to every receiver.
 pub blp_secure : IsSecureDefault Information unclassified BlpPasses
 blp_secure sender receiver (inl trusted) = absurd (false≢true trusted)
 blp_secure sender receiver (inr low) = inr (omega arith)

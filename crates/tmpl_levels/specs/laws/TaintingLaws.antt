@@ -1,4 +1,4 @@
--- The default of the tainting template hides no fault.
+-- The default of the tainting template is secure.
 use Rattle.std.proofs.Common.{◌≡◌, ℕ, min, bit_and, sym, ap, ◌∙◌, arith}
 use Rattle.std.proofs.lemmas.Nat.Bits.{bit_at-lt, bit_at-zero, bit_at_and}
 use Rattle.std.specs.Int.{bit_at}
@@ -8,7 +8,7 @@ use Rattle.inv_law.specs.laws.TemplateLaws.{IsLawfulTemplate, lawful_edge}
 use Rattle.inv_law.specs.declared.strategy.Strategy.TheVariants.{Information}
 use Rattle.tmpl_levels.specs.Tainting.{TakesOffItsOwn, tainting, untainted, TaintsPass}
 
--- what passes to an untainted receiver has no label left, and passes to every receiver
+-- A sender that may send to an untainted receiver propagates no label, and may send to every receiver.
 pub tainting_secure : IsSecureDefault Information untainted TaintsPass
 tainting_secure sender receiver passes label has keeps =
     nothing_has (bit_at 0 label) (bit_at-zero label) (passes label has keeps)
@@ -22,7 +22,7 @@ tainting_lawful = lawful_edge tainting.name tainting.strategy TakesOffItsOwn unt
 pub tainting_default : MayHaveDefault tainting
 tainting_default n host within label off = off
 
--- a host whose mask keeps all that it takes off takes off only its own labels
+-- If masking the removed labels by the labels of a host changes nothing, the host removes only labels that it has.
 pub own_by_mask : (taints untaints : ℕ) → bit_and untaints taints ≡ untaints
     → TakesOffItsOwn (record { taints = taints; untaints = untaints })
 own_by_mask taints untaints same label off =
