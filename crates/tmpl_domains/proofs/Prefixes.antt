@@ -1,4 +1,4 @@
--- What `starts_with` answers of two paths that are kept segment by segment.
+-- The result of `starts_with` for two paths that are stored segment by segment.
 use Rattle.std.proofs.Common.{◌≡◌, ℕ, ◌-◌, Bool, List, [], ◌∷◌, ◌++◌, length, take, drop, eqb, refl, sym, ◌∙◌, ap, subst}
 use Rattle.std.specs.Prelude.{IsTrue, ◌↔◌}
 use Rattle.std.specs.Cmp.Lexicographic.{pointwise}
@@ -14,7 +14,7 @@ use Rattle.tmpl_domains.specs.inner.DomainView.{segment_bytes}
 use Rattle.tmpl_domains.specs.Domains.{trusted_path}
 use Rattle.tmpl_domains.specs.Path.{IsPrefix}
 
--- whether two segments are the same, as `==` answers it
+-- Whether two segments are equal, by `==`.
 abbrev pub same_segment : Vec ℕ Global → Vec ℕ Global → Bool
 same_segment x y = pointwise eqb x.items y.items
 
@@ -46,7 +46,7 @@ IsPrefix-starts_with path front =
       λ p. same.1 (sym (cut_front (segment_bytes front) p.0 (length-map front _)) ∙ ap (take (length front)) (sym p.1) ∙ cut),
     )
 
--- the kept segments of a path are its trusted path
+-- The retained segments of a path are its trusted path.
 pub segment_bytes-take : (xs path : List (Vec ℕ Global)) (kept trust : ℕ) → xs ≡ path → kept ≡ length path - trust
     → segment_bytes (take kept xs) ≡ trusted_path (record { path = segment_bytes path; trust = trust })
 segment_bytes-take xs path kept trust same count =

@@ -1,4 +1,4 @@
-//! One host's place in the hierarchy: the segments of its path, and its trust.
+//! The position of one host in the hierarchy: the segments of its path, and its trust.
 
 ghost use Rattle.std.specs.Prelude.{◌≡◌, ◌↔◌, IsTrue, IfOk};
 ghost use Rattle.tmpl_domains.specs.Domains.{IsPlace, Place, trusted_path};
@@ -8,7 +8,7 @@ ghost use Rattle.tmpl_domains.specs.inner.DomainView.{segment_bytes};
 use std::alloc::{AllocError, Global};
 use std::marker::Model;
 
-// A path, cut into its segments, and how many of the last of them trust takes off.
+// A path, split into its segments, and the number of trailing segments that trust removes.
 #[derive(Drop)]
 pub(crate) struct Domain {
     path: Vec<Vec<u8>>,
@@ -45,7 +45,7 @@ impl Domain {
         })
     }
 
-    // Whether the receiver is at or below the place that trust raises this host to.
+    // Whether the receiver is at or below the position to which trust raises this host.
     pub(crate) fn sends_to(&self, receiver: &Domain) -> bool
         ensures { IsTrue result ↔ IsPrefix (trusted_path self.now) receiver.now.path }
     {
@@ -54,7 +54,7 @@ impl Domain {
     }
 }
 
-// The segments of a path.
+// Returns the segments of a path.
 fn cut(alloc: Global, path: &[u8]) -> Result<Vec<Vec<u8>>, AllocError>
     ensures { IfOk result (λ cut. segment_bytes cut.items ≡ segments path.now) }
 {

@@ -1,4 +1,4 @@
-//! The rule of the hierarchy, for hosts that each have a place or none.
+//! The rule of the hierarchy, for hosts with optional positions.
 
 ghost use Rattle.std.specs.Prelude.{◌≡◌, ◌<◌, IfOk, Some, OnOk, OnErr, length, replicate, slice_set};
 ghost use Rattle.inv_law.specs.Attributes.{PassesBetween};
@@ -14,9 +14,9 @@ use inv_law::{EdgeRule, Strategy};
 use std::alloc::{AllocError, Global};
 use std::marker::Model;
 
-/// Closes a host with a place to all hosts but those at its place and above it. Trust lets a sender act as if it
-/// stood that many places higher. A host without a place takes packets from all hosts, and sends to no host with a
-/// place.
+/// Lets a host with a position receive only from hosts at its position and above it. Trust lets a
+/// sender act as if it were that many levels higher. A host without a position receives from all
+/// hosts, and sends to no host with a position.
 #[derive(Drop)]
 pub struct Domains {
     alloc: Global,
@@ -36,7 +36,7 @@ impl Model for Domains {
 }
 
 impl Domains {
-    /// The rule for `n` hosts without a place.
+    /// Returns the rule for `n` hosts without positions.
     pub fn new(alloc: Global, n: u16) -> Result<Self, AllocError>
         ensures { IfOk result (λ domains. domains ≡ replicate n None) }
     {
@@ -47,7 +47,8 @@ impl Domains {
         Ok(Domains { alloc, hosts })
     }
 
-    /// Gives the host this place, where it acts as if its path had `trust` segments less.
+    /// Sets the position of the host. With `trust`, it acts as if its path had that many segments
+    /// fewer.
     pub fn set(&mut self, host: u16, path: &[u8], trust: u8) -> Result<(), AllocError>
         requires host { host < length self.old }
         requires may { domains.MayHave (length self.old) host (Some (record { path = segments path.now; trust = trust })) }

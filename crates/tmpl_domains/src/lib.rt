@@ -1,6 +1,6 @@
-//! The domain hierarchy template, as of an organisation's departments: a host sends to its own
-//! domain and to those below it. A receiver is protected, so a flow that does not pass is blamed on
-//! its sender.
+//! The domain hierarchy template, for example for the departments of an organisation: a host sends
+//! to its own domain and to those below it. The template is access control: the offending host of a
+//! flow that does not pass is its sender.
 #![tactic(auto)]
 
 mod domain;

@@ -1,4 +1,4 @@
--- The default of the domain hierarchy template hides no fault.
+-- The default of the domain hierarchy template is secure.
 use Rattle.std.specs.Prelude.{IfSome, Some, None}
 use Rattle.inv_law.specs.inner.Resets.{IsSecureDefault}
 use Rattle.inv_law.specs.inner.Template.{MayHaveDefault}
@@ -6,7 +6,7 @@ use Rattle.inv_law.specs.laws.TemplateLaws.{IsLawfulTemplate, lawful_edge}
 use Rattle.inv_law.specs.declared.strategy.Strategy.TheVariants.{Access}
 use Rattle.tmpl_domains.specs.Domains.{DomainsPass, IsPlace, domains}
 
--- a sender without a place reaches only receivers without one, whom all senders reach
+-- A sender without a position reaches only receivers without one, which all senders reach.
 pub domains_secure : IsSecureDefault Access None DomainsPass
 domains_secure sender None passes = tt
 domains_secure sender (Some receiver) passes = absurd passes
