@@ -1,4 +1,4 @@
--- A master takes from the hosts that were added to its list, and from no other.
+-- A master receives exactly from the hosts that were added to its list.
 use Rattle.std.proofs.Common.{◌≡◌, ℕ, ◌<◌, Bool, true, false, List, [], length, length-set, replicate, get_or, set, inl, inr, sym, ◌∙◌, subst, get_or-set_other}
 use Rattle.std.specs.Prelude.{◌⊎◌, ◌↔◌, IsTrue}
 use Rattle.std.proofs.lemmas.Bool.{false≢true, cases_eq}
@@ -6,13 +6,13 @@ use Rattle.std.proofs.lemmas.List.{get_or-set_same, get_or-replicate, length-rep
 use Rattle.tmpl_zones.specs.Partners.{Partner, DontCare, Care, Master, PartnersPass, TakesFromOthers, partners_passes, with_sender}
 use Rattle.tmpl_zones.specs.inner.PartnersView.{IsMaster}
 
--- a mark for each host
+-- A mark for each host.
 abbrev pub marks_of : Partner → List Bool
 marks_of DontCare = []
 marks_of Care = []
 marks_of (Master takes_from) = takes_from
 
--- one more mark
+-- One more mark.
 marked : (marks : List Bool) (sender number : ℕ) → sender < length marks
     → IsTrue (get_or (set marks sender true) number false) ↔ ((number ≡ sender) ⊎ IsTrue (get_or marks number false))
 marked marks sender number within = elim (cases_eq number sender) [
@@ -35,7 +35,7 @@ takes-with_sender number sender DontCare a b is_master within = absurd is_master
 takes-with_sender number sender Care a b is_master within = absurd is_master
 takes-with_sender number sender (Master marks) a b is_master within = marked marks sender number within
 
--- a master takes from one more sender, and from those before
+-- A master receives from one more sender, and from those before.
 pub PartnersPass-with_sender : (partners : List Partner) (sender master : ℕ) → master < length partners
     → IsMaster (get_or partners master DontCare) → sender < length (marks_of (get_or partners master DontCare)) → (number : ℕ)
     → PartnersPass (set partners master (with_sender (get_or partners master DontCare) sender)) number master ↔
@@ -47,7 +47,7 @@ PartnersPass-with_sender partners sender master within is_master room number =
     (sym (get_or-set_same partners master (with_sender p sender) DontCare within))
     (takes-with_sender number sender p (get_or new number DontCare) (get_or partners number DontCare) is_master room)
 
--- a new master takes from nobody
+-- A new master receives from no host.
 pub PartnersPass-nobody : (partners : List Partner) (n host : ℕ) → host < length partners → (sender : ℕ) → sender < n
     → PartnersPass (set partners host (Master (replicate n false))) sender host → ⊥
 PartnersPass-nobody partners n host within sender is_host passes =
@@ -58,7 +58,7 @@ PartnersPass-nobody partners n host within sender is_host passes =
     (get_or-set_same partners host none DontCare within) passes in
     false≢true (sym (get_or-replicate n sender false false is_host) ∙ taken)
 
--- a master without marks, and one with another host marked
+-- A master without marks, and a master with another host marked.
 pub TakesFromOthers-nobody : (n host : ℕ) → host < n → TakesFromOthers n host (Master (replicate n false))
 TakesFromOthers-nobody n host within = (length-replicate n false, get_or-replicate n host false false within)
 

@@ -1,6 +1,5 @@
--- The security gateway template: four pairs of kinds fail, and all others pass.
--- In the manner of the template of this name of Network_Security_Policy_Verification in the Archive of Formal Proofs,
--- with the table of docs/FORMATS.md.
+-- The security gateway template: four pairs of kinds fail, and all others pass. Based on the template of this name of
+-- Network_Security_Policy_Verification in the Archive of Formal Proofs, with the table of docs/FORMATS.md.
 use Rattle.std.specs.Prelude.{Bool, true, false, codes}
 use Rattle.inv_law.specs.Template.{Anything, Template, edge_template}
 use Rattle.inv_law.specs.declared.strategy.Strategy.TheVariants.{Access}
@@ -8,7 +7,7 @@ use Rattle.tmpl_zones.specs.Kinds.{TablePasses}
 use Rattle.tmpl_zones.specs.declared.gateway.GateKind.{GateKind}
 use Rattle.tmpl_zones.specs.declared.gateway.GateKind.TheVariants.{Gateway, Member, Accessible, Unassigned}
 
--- whether a flow passes, by the kinds of its sender and its receiver
+-- Whether a flow passes, by the kinds of its sender and its receiver.
 abbrev pub gateway_passes : GateKind → GateKind → Bool
 gateway_passes Member Member = false
 gateway_passes Accessible Member = false
@@ -16,5 +15,6 @@ gateway_passes Unassigned Gateway = false
 gateway_passes Unassigned Member = false
 gateway_passes sender receiver = true
 
+-- The template `gateway`.
 abbrev pub gateways : Template
 gateways = edge_template (codes "gateway") Access Anything Unassigned (TablePasses gateway_passes)

@@ -1,26 +1,26 @@
-//! The security gateway template: members are reached by gateways alone, and not by each other. An
-//! unassigned host reaches what is meant to be reached from outside: accessible members, gateways of
-//! the kind `GatewayIn`, and other unassigned hosts.
+//! The security gateway template: members are reached only by gateways, and not by each other. An
+//! unassigned host reaches the hosts that are intended to be reached from outside: accessible
+//! members, gateways of the kind `GatewayIn`, and other unassigned hosts.
 
 use crate::kinds::{Kind, KindRule};
 use inv_law::Strategy;
 
-/// The place of a host before or behind the gateway.
+/// The role of a host with respect to the gateway.
 #[derive(Clone, Copy, Debug, PartialEq, Eq)]
 pub enum GateKind {
     /// Sends to all, and is not reached by unassigned hosts.
     Gateway,
     /// Sends to all, and is reached by all.
     GatewayIn,
-    /// Is reached by gateways alone.
+    /// Is reached only by gateways.
     Member,
     /// A member that is reached by all.
     Accessible,
-    /// Sends to all but members and gateways of the kind `Gateway`.
+    /// Sends to all except members and gateways of the kind `Gateway`.
     Unassigned,
 }
 
-/// Keeps members behind their gateways.
+/// Protects members by their gateways.
 pub type Gateway = KindRule<GateKind>;
 
 impl Kind for GateKind {

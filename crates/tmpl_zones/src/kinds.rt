@@ -1,4 +1,5 @@
-//! The shape of the zone rules: each host has a kind, and a table of kinds says what passes.
+//! The common form of the zone rules: each host has a kind, and a table of kinds determines the
+//! flows that pass.
 
 ghost use Rattle.std.specs.Prelude.{◌≡◌, ◌<◌, Bool, IfOk, length, replicate, slice_set};
 ghost use Rattle.inv_law.specs.Attributes.{PassesBetween};
@@ -11,10 +12,10 @@ use inv_law::{EdgeRule, Strategy};
 use std::alloc::{AllocError, Global};
 use std::marker::Model;
 
-/// A kind of host, with the table of what a host of one kind may send to one of another.
+/// A kind of host, with the table of the flows that may pass between kinds.
 pub trait Kind: Copy {
-    // The kind of a host that is given none, whom a flow that does not pass is blamed on, and the
-    // table, by the kinds of sender and receiver.
+    // The default kind, the strategy, which determines the offending host of a flow that does not
+    // pass, and the table, by the kinds of sender and receiver.
     ghost default_kind: { Self };
 
     ghost kinds_strategy: { Strategy };
@@ -30,11 +31,11 @@ pub trait Kind: Copy {
     fn passes_to(self, receiver: Self) -> bool
         ensures { result ≡ kind_passes self receiver };
 
-    // The default hides no fault.
+    // The default is secure.
     ghost secure: { IsSecureDefault kinds_strategy default_kind (TablePasses kind_passes) };
 }
 
-/// The rule of a table of kinds, for hosts that each have a kind.
+/// The rule of a table of kinds, for hosts with one kind each.
 #[derive(Drop)]
 pub struct KindRule<K> {
     kinds: Vec<K>,
@@ -51,7 +52,7 @@ impl<K> Model for KindRule<K> {
 }
 
 impl<K: Kind> KindRule<K> {
-    /// The rule for `n` hosts, each unassigned.
+    /// Returns the rule for `n` hosts, each unassigned.
     pub fn new(alloc: Global, n: u16) -> Result<Self, AllocError>
         ensures { IfOk result (λ rule. rule ≡ replicate n K.default_kind) }
     {
@@ -60,7 +61,7 @@ impl<K: Kind> KindRule<K> {
         Ok(KindRule { kinds })
     }
 
-    /// Gives the host this kind.
+    /// Sets the kind of the host.
     pub fn set(&mut self, host: u16, kind: K)
         requires { host < length self.old }
         ensures { self.new ≡ slice_set self.old host kind }

@@ -1,7 +1,7 @@
-//! Four templates that sort the hosts of a network into zones, each a rule on single flows: sinks,
-//! security gateways, subnets, and communication partners. A host without an attribute of its own
-//! has the template's default, which hides no fault: a flow that does not pass still does not where
-//! the host that it is blamed on has the default.
+//! Four templates that divide the hosts of a network into zones, each a rule on single flows:
+//! sinks, security gateways, subnets, and communication partners. A host without an attribute has
+//! the template's default, which is secure: a flow that does not pass still does not pass with the
+//! default at its offending host.
 #![tactic(auto)]
 
 mod gateway;

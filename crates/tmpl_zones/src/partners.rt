@@ -1,5 +1,5 @@
-//! The communication partners template: a master takes packets only from the hosts in its list, and
-//! a host that cares from all hosts but those that do not.
+//! The communication partners template: a master receives packets only from the hosts in its list,
+//! and a host with `Care` from all hosts except those with `DontCare`.
 
 ghost use Rattle.std.specs.Prelude.{◌≡◌, ◌≢◌, ◌<◌, ◌↔◌, ◌⊎◌, ℕ, true, false, IfOk, length, replicate, slice_index_or, slice_set};
 ghost use Rattle.inv_law.specs.declared.strategy.Strategy.TheVariants.{Access};
@@ -12,7 +12,7 @@ use inv_law::{EdgeRule, Strategy};
 use std::alloc::{AllocError, Global};
 use std::marker::Model;
 
-// Whom a host takes packets from.
+// The hosts from which a host receives packets.
 #[derive(Clone, Copy)]
 enum Taking {
     DontCare,
@@ -20,15 +20,16 @@ enum Taking {
     Master,
 }
 
-// A host's attribute. A master takes from the hosts marked in `from`, which has room for every
-// host and is of no meaning elsewhere.
+// A host's attribute. A master receives from the hosts marked in `from`, which has an element for
+// every host and is ignored for other kinds.
 #[derive(Drop)]
 struct Receiver {
     taking: Taking,
     from: Vec<bool>,
 }
 
-/// Closes masters to all but the hosts in their lists, and hosts that care to those that do not.
+/// Lets masters receive only from the hosts in their lists, and hosts with `Care` only from hosts
+/// without `DontCare`.
 #[derive(Drop)]
 pub struct Partners {
     hosts: Vec<Receiver>,
@@ -47,7 +48,7 @@ impl Model for Partners {
 }
 
 impl Partners {
-    /// The rule for `n` hosts that do not care.
+    /// Returns the rule for `n` hosts with `DontCare`.
     pub fn new(alloc: Global, n: u16) -> Result<Self, AllocError>
         ensures { IfOk result (λ partners. partners ≡ replicate n DontCare) }
     {
@@ -63,7 +64,8 @@ impl Partners {
         Ok(Partners { hosts })
     }
 
-    /// Lets the host take packets from masters and from hosts that care, and from no host that does not care.
+    /// Lets the host receive packets from masters and from hosts with `Care`, and from no host with
+    /// `DontCare`.
     pub fn set_care(&mut self, host: u16)
         requires { host < length self.old }
         ensures { self.new ≡ slice_set self.old host Care }
@@ -72,7 +74,7 @@ impl Partners {
         receiver.taking = Taking::Care;
     }
 
-    /// Makes the host a master that takes from nobody.
+    /// Makes the host a master with an empty list.
     pub fn set_master(&mut self, host: u16)
         requires { host < length self.old }
         ensures list { self.new ≡ slice_set self.old host (Master (replicate (length self.old) false)) }
@@ -83,7 +85,7 @@ impl Partners {
         receiver.from.fill(false);
     }
 
-    /// Lets the master take from the sender too.
+    /// Adds the sender to the list of the master.
     pub fn allow(&mut self, sender: u16, master: u16)
         requires hosts { (sender < length self.old) × (master < length self.old) }
         requires differ { sender ≢ master }

@@ -3,10 +3,10 @@
 use crate::kinds::{Kind, KindRule};
 use inv_law::Strategy;
 
-/// What a host may send.
+/// The hosts to which a host may send.
 #[derive(Clone, Copy, Debug, PartialEq, Eq)]
 pub enum SinkKind {
-    /// Sends to nobody.
+    /// Sends to no host.
     Sink,
     /// Sends to pools and sinks.
     Pool,
@@ -14,7 +14,7 @@ pub enum SinkKind {
     Unassigned,
 }
 
-/// Keeps what pools and sinks receive among them.
+/// Confines the data of pools and sinks to these hosts.
 pub type SinkRule = KindRule<SinkKind>;
 
 impl Kind for SinkKind {

@@ -1,22 +1,22 @@
 //! The subnets template: hosts of a subnet send to each other and to the border of their subnet,
-//! borders send to borders, and every host sends to unassigned hosts. No border sends into a subnet,
-//! its own included.
+//! borders send to borders, and every host sends to unassigned hosts. No border sends into a
+//! subnet, not even into its own.
 
 use crate::kinds::{Kind, KindRule};
 use inv_law::Strategy;
 
-/// The place of a host in the subnets.
+/// The position of a host in the subnets.
 #[derive(Clone, Copy, Debug, PartialEq, Eq)]
 pub enum NetKind {
-    /// In the subnet of this number.
+    /// In the subnet with this number.
     Subnet(u16),
-    /// At the border of the subnet of this number.
+    /// At the border of the subnet with this number.
     Border(u16),
-    /// Outside, where it sends to unassigned hosts alone.
+    /// Outside: it sends only to unassigned hosts.
     Unassigned,
 }
 
-/// Closes subnets to each other and to hosts outside.
+/// Isolates subnets from each other and from hosts outside.
 pub type Subnets = KindRule<NetKind>;
 
 impl Kind for NetKind {

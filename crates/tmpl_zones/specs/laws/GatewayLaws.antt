@@ -1,4 +1,4 @@
--- The default of the security gateway template hides no fault.
+-- The default of the security gateway template is secure.
 use Rattle.std.specs.Prelude.{refl}
 use Rattle.inv_law.specs.inner.Resets.{IsSecureDefault}
 use Rattle.inv_law.specs.Template.{Anything}
@@ -9,7 +9,7 @@ use Rattle.tmpl_zones.specs.Kinds.{TablePasses}
 use Rattle.tmpl_zones.specs.Gateway.{gateways, gateway_passes}
 use Rattle.tmpl_zones.specs.declared.gateway.GateKind.TheVariants.{Member, Accessible, Unassigned}
 
--- whom an unassigned sender reaches, every sender reaches
+-- A receiver that an unassigned sender reaches is reached by every sender.
 pub gateway_secure : IsSecureDefault Access Unassigned (TablePasses gateway_passes)
 gateway_secure Member Member passes = passes
 gateway_secure Accessible Member passes = passes

@@ -1,4 +1,4 @@
--- The default of the partners template hides no fault.
+-- The default of the partners template is secure.
 use Rattle.std.proofs.Common.{ℕ, List, length, refl}
 use Rattle.std.proofs.lemmas.Bool.{false≢true}
 use Rattle.inv_law.specs.laws.AttributeLaws.{ResetPassesNoMore-attributes}
@@ -11,7 +11,7 @@ use Rattle.tmpl_zones.specs.Kinds.{TablePasses}
 use Rattle.tmpl_zones.specs.Partners.{Partner, DontCare, Care, Master, PartnersPass, partners, partners_passes}
 use Rattle.tmpl_zones.specs.inner.Resets.{PartnersPassAfterReset}
 
--- whom a sender that does not care reaches, every sender of its number reaches
+-- A receiver that a sender with `DontCare` reaches is reached by every sender with its number.
 pub partners_secure : (from : ℕ) → IsSecureDefault Access DontCare (TablePasses (partners_passes from))
 partners_secure from sender DontCare passes = refl
 partners_secure from sender Care passes = absurd (false≢true passes)

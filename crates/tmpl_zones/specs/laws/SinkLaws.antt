@@ -1,4 +1,4 @@
--- The default of the sink template hides no fault.
+-- The default of the sink template is secure.
 use Rattle.std.specs.Prelude.{refl}
 use Rattle.std.proofs.lemmas.Bool.{false≢true}
 use Rattle.inv_law.specs.inner.Resets.{IsSecureDefault}
@@ -10,7 +10,7 @@ use Rattle.tmpl_zones.specs.Kinds.{TablePasses}
 use Rattle.tmpl_zones.specs.Sink.{sinks, sink_passes}
 use Rattle.tmpl_zones.specs.declared.sink.SinkKind.TheVariants.{Sink, Pool, Unassigned}
 
--- only unassigned senders reach an unassigned receiver, and they reach all
+-- Only unassigned senders reach an unassigned receiver, and they reach all.
 pub sink_secure : IsSecureDefault Information Unassigned (TablePasses sink_passes)
 sink_secure Sink receiver passes = passes
 sink_secure Pool receiver passes = absurd (false≢true passes)

@@ -1,4 +1,4 @@
--- The default of the subnets template hides no fault.
+-- The default of the subnets template is secure.
 use Rattle.std.specs.Prelude.{refl}
 use Rattle.std.proofs.lemmas.Bool.{false≢true}
 use Rattle.inv_law.specs.inner.Resets.{IsSecureDefault}
@@ -10,7 +10,7 @@ use Rattle.tmpl_zones.specs.Kinds.{TablePasses}
 use Rattle.tmpl_zones.specs.Subnets.{subnets, subnets_passes}
 use Rattle.tmpl_zones.specs.declared.subnets.NetKind.TheVariants.{Subnet, Border, Unassigned}
 
--- an unassigned sender reaches unassigned receivers alone, whom all senders reach
+-- An unassigned sender reaches only unassigned receivers, which all senders reach.
 pub subnets_secure : IsSecureDefault Access Unassigned (TablePasses subnets_passes)
 subnets_secure sender (Subnet b) passes = absurd (false≢true passes)
 subnets_secure sender (Border b) passes = absurd (false≢true passes)
