@@ -1,17 +1,17 @@
-//! Why there is no rule of a table.
+//! The reasons why a table has no rule.
 
 ghost use Rattle.std.specs.Prelude.{◌≡◌};
 ghost use Rattle.tmpl_table.specs.declared.fault.TableFault.TheVariants.{Memory};
 
 use std::alloc::AllocError;
 
-/// Why there is no rule of a table.
+/// The reason why a table has no rule.
 #[derive(Clone, Copy, PartialEq, Eq, Debug)]
 pub enum TableFault {
-    /// A denied pair has no partner: the same with the default at the host that is blamed. It is the
-    /// first such pair, by its place from 0.
+    /// A denied pair has no denied partner: the same pair with the default at the offending host.
+    /// `pair` is the index of the first such pair, from 0.
     NotLawful { pair: u64 },
-    /// Memory ran out.
+    /// Memory allocation failed.
     Memory,
 }
 

@@ -1,6 +1,6 @@
-//! Templates that are declared as tables: each host has a kind, and some pairs of kinds are denied. A
-//! table is taken only where its default hides no fault: each denied pair is denied too where the host
-//! that is blamed has the default.
+//! Templates that are declared as tables: each host has a kind, and some pairs of kinds are denied.
+//! A table is accepted only if its default is secure: each denied pair is also denied with the
+//! default at the offending host.
 #![tactic(auto)]
 
 mod fault;

@@ -1,4 +1,5 @@
-//! Pairs of kinds: those that are denied, and what becomes of one where its blamed host has another kind.
+//! Pairs of kinds: the denied pairs, and the effect of another kind at the offending host of a
+//! pair.
 
 ghost use Rattle.std.specs.Prelude.{◌≡◌, find};
 ghost use Rattle.std.specs.List.{position_from};
@@ -9,7 +10,7 @@ use inv_law::Strategy;
 /// The kinds of a sender and a receiver.
 pub(crate) type Pair = (u8, u8);
 
-/// Whether the pair is one of the list.
+/// Whether the pair is in the list.
 pub(crate) fn lists(pairs: &[Pair], pair: Pair) -> bool
     ensures { result ≡ lists pairs.now pair }
 {
@@ -18,7 +19,7 @@ pub(crate) fn lists(pairs: &[Pair], pair: Pair) -> bool
         .any(|other| other.0 == pair.0 && other.1 == pair.1)
 }
 
-/// The pair with this kind at the host that is blamed.
+/// Returns the pair with this kind at the offending host.
 fn with_kind(strategy: Strategy, kind: u8, pair: Pair) -> Pair
     ensures { result ≡ with_kind strategy kind pair }
 {
@@ -28,14 +29,15 @@ fn with_kind(strategy: Strategy, kind: u8, pair: Pair) -> Pair
     }
 }
 
-/// Whether the pair passes once its blamed host is given this kind.
+/// Whether the pair passes after its offending host is given this kind.
 fn passes_with(strategy: Strategy, denied: &[Pair], kind: u8, pair: Pair) -> bool
     ensures { result ≡ passes_with strategy denied.now kind pair }
 {
     !lists(denied, with_kind(strategy, kind, pair))
 }
 
-/// The place, from 0, of the first denied pair that passes once its blamed host is given this kind.
+/// Returns the index, from 0, of the first denied pair that passes after its offending host is
+/// given this kind.
 pub(crate) fn first_place(strategy: Strategy, denied: &[Pair], kind: u8) -> Option<usize>
     ensures { result ≡ position_from (passes_with strategy denied.now kind) 0 denied.now }
 {
@@ -44,7 +46,7 @@ pub(crate) fn first_place(strategy: Strategy, denied: &[Pair], kind: u8) -> Opti
         .position(|pair| passes_with(strategy, denied, kind, *pair))
 }
 
-/// The first denied pair that passes once its blamed host is given this kind.
+/// Returns the first denied pair that passes after its offending host is given this kind.
 pub(crate) fn first_pair(strategy: Strategy, denied: &[Pair], kind: u8) -> Option<Pair>
     ensures { result ≡ find (passes_with strategy denied.now kind) denied.now }
 {

@@ -1,4 +1,5 @@
-//! The rule of a declared table: a flow passes where the pair of the kinds of its two hosts is not denied.
+//! The rule of a declared table: a flow passes if the pair of the kinds of its two hosts is not
+//! denied.
 
 ghost use Rattle.std.specs.Prelude.{◌≡◌, ◌<◌, All, IfOk, IfErr, IsTrue, None, length, replicate, slice_set};
 ghost use Rattle.inv_law.specs.laws.AttributeLaws.{ResetPassesNoMore-attributes};
@@ -45,8 +46,8 @@ impl Model for TableRule {
 }
 
 impl TableRule {
-    /// The rule for `n` hosts that have the default kind. A table whose default would hide a fault is
-    /// refused, at its first denied pair without a partner.
+    /// Returns the rule for `n` hosts that have the default kind. A table whose default is not
+    /// secure is refused, at its first denied pair without a partner.
     pub fn new(
         alloc: Global,
         n: u16,
@@ -80,14 +81,14 @@ impl TableRule {
         })
     }
 
-    /// The name under which the template is declared.
+    /// Returns the name under which the template is declared.
     pub fn name(&self) -> &Name
         ensures { result.now ≡ self.now.table.name }
     {
         &self.name
     }
 
-    /// Gives the host this kind.
+    /// Sets the kind of the host.
     pub fn set(&mut self, host: u16, kind: u8)
         requires host { host < length self.old.hosts }
         requires may { (declared self.old.table).MayHave (length self.old.hosts) host kind }
@@ -96,8 +97,8 @@ impl TableRule {
         self.hosts[host as usize] = kind;
     }
 
-    /// The first denied pair that passes once its blamed host is given this kind. Where there is none,
-    /// the kind would be as secure a default as the default is.
+    /// Returns the first denied pair that passes after its offending host is given this kind. If
+    /// there is none, the kind would be as secure a default as the default is.
     pub fn weaker(&self, kind: u8) -> Option<(u8, u8)>
         requires { kind < self.now.table.kinds }
         ensures exact { result ≡ first_weaker self.now.table kind }
@@ -149,7 +150,7 @@ impl EdgeRule for TableRule {
     ghost reset_passes_no_more = { λ rule. ResetPassesNoMore-attributes rule.table.strategy rule.table.default (TablePasses rule.table) (table_secure rule.table) (length rule.hosts) rule.hosts };
 }
 
-// The kinds of `n` hosts that have the same.
+// Returns the kinds of `n` hosts that all have the same kind.
 fn same_kind(alloc: Global, n: u16, kind: u8) -> Result<Vec<u8>, AllocError>
     ensures { IfOk result (λ kinds. kinds.items ≡ replicate n kind) }
 {

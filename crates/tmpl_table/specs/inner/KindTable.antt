@@ -1,21 +1,21 @@
--- When the default of a table hides no fault, and the first pair that another default would let pass.
+-- The condition that the default of a table is secure, and the first pair that another default would let pass.
 use Rattle.std.specs.Prelude.{◌≤◌, ◌<◌, ℕ, not, List, length, find, Option, IsTrue}
 use Rattle.std.specs.List.{All}
 use Rattle.inv_law.specs.Attributes.{PassesBetween}
 use Rattle.inv_law.specs.inner.Resets.{PassesAfterReset, ResetPassesNoMore}
 use Rattle.tmpl_table.specs.KindTable.{KindTable, lists, passes_with}
 
--- a flow passes from one kind to another where their pair is not denied
+-- A flow passes from one kind to another if their pair is not denied.
 abbrev pub PairPasses : List (ℕ × ℕ) → ℕ → ℕ → Type 0
 PairPasses denied sender receiver = IsTrue (not (lists denied (sender, receiver)))
 
--- the default hides no fault: whatever kinds the hosts of a network have, a flow that does not pass still does not once the host that
--- it is blamed on has the default
+-- The default is secure: for all kinds of the hosts, a flow that does not pass still does not pass after its offending host is given the
+-- default.
 abbrev pub HidesNoFault : KindTable → Type 0
 HidesNoFault table =
     (hosts : List ℕ) → 2 ≤ length hosts → All (λ kind. kind < table.kinds) hosts
     → ResetPassesNoMore (length hosts) table.strategy (PassesBetween table.default (PairPasses table.denied) hosts) (PassesAfterReset table.default (PairPasses table.denied) hosts)
 
--- the first denied pair that passes once its blamed host is given this kind
+-- The first denied pair that passes after its offending host is given this kind.
 abbrev pub first_weaker : KindTable → ℕ → Option (ℕ × ℕ)
 first_weaker table kind = find (passes_with table.strategy table.denied kind) table.denied

@@ -1,4 +1,5 @@
--- How a rule of a table is kept: fewer than 65,536 hosts, each with a kind of the table, as the default is, and the table is lawful.
+-- The representation of a rule of a table: fewer than 65,536 hosts, each with a kind of the table; the default is a kind of the table; and
+-- the table is lawful.
 use Rattle.std.specs.Prelude.{◌<◌, ◌^◌, length, IsTrue}
 use Rattle.std.specs.List.{All}
 use Rattle.tmpl_table.specs.KindTable.{TableHosts, is_lawful}

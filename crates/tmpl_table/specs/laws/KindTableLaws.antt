@@ -1,4 +1,4 @@
--- A table is lawful exactly where its default hides no fault; then the default is weaker in no pair.
+-- A table is lawful if and only if its default is secure; then the default lets no denied pair pass.
 use Rattle.std.proofs.Common.{◌≡◌, ℕ, ◌+◌, ◌<◌, Bool, true, false, not, ◌&&◌, ◌==◌, List, [], ◌∷◌, length, Option, Some, None, is_none, inl, inr, refl, sym, ap, ◌∙◌, subst, arith}
 use Rattle.std.specs.Prelude.{find, if◌then◌else◌}
 use Rattle.std.specs.List.{All, list_all, position_from}
@@ -21,7 +21,7 @@ same_pair p q same =
     let both = and_parts (p.0 == q.0) (p.1 == q.1) same in
     λ i. (eqb-true p.0 q.0 both.0 i, eqb-true p.1 q.1 both.1 i)
 
--- what is true of all pairs of a list is true of each that it lists
+-- A property of all pairs of a list is a property of each listed pair.
 listed_has : (test : ℕ × ℕ → Bool) (pairs : List (ℕ × ℕ)) (pair : ℕ × ℕ) → lists pairs pair ≡ true → list_all test pairs ≡ true
     → test pair ≡ true
 listed_has test [] pair listed all = absurd (false≢true listed)
@@ -32,7 +32,7 @@ listed_has test (p ∷ pairs) pair listed all =
       | inr later ↦ listed_has test pairs pair later behind
     ]
 
--- in a lawful table the partner of a denied pair is denied
+-- In a lawful table the partner of a denied pair is denied.
 partner_listed : (table : KindTable) → is_lawful table ≡ true → (pair : ℕ × ℕ) → lists table.denied pair ≡ true
     → lists table.denied (with_kind table.strategy table.default pair) ≡ true
 partner_listed table lawful pair listed =
@@ -43,7 +43,7 @@ partner_listed table lawful pair listed =
     not-not true h = refl
     not-not false h = h
 
--- a pair whose partner passes is not denied
+-- A pair whose partner passes is not denied.
 passes_by_partner : (table : KindTable) → is_lawful table ≡ true → (pair : ℕ × ℕ)
     → not (lists table.denied (with_kind table.strategy table.default pair)) ≡ true → not (lists table.denied pair) ≡ true
 passes_by_partner table lawful pair passes =
@@ -59,7 +59,7 @@ secure_pairs table lawful = secure_by table.strategy refl
     secure_by Access is = λ sender receiver passes. passes_by_partner table lawful (sender, receiver) (subst (λ (t : Strategy). not (lists table.denied (with_kind t table.default (sender, receiver))) ≡ true) (sym is) passes)
     secure_by Information is = λ sender receiver passes. passes_by_partner table lawful (sender, receiver) (subst (λ (t : Strategy). not (lists table.denied (with_kind t table.default (sender, receiver))) ≡ true) (sym is) passes)
 
--- the guard of a lawful table falls away, and that of another lets all pass
+-- For a lawful table the test for lawfulness is redundant. With a table that is not lawful, all pairs pass.
 guarded : (b x : Bool) → b ≡ true → not (b && x) ≡ not x
 guarded true x is = refl
 guarded false x is = absurd (false≢true is)
@@ -68,7 +68,7 @@ unguarded : (b x : Bool) → b ≡ false → not (b && x) ≡ true
 unguarded true x is = absurd (false≢true (sym is))
 unguarded false x is = refl
 
--- what passes with the default at the blamed host passes with any kind there
+-- A pair that passes with the default at the offending host passes with any kind there.
 pub table_secure : (table : KindTable) → IsSecureDefault table.strategy table.default (TablePasses table)
 table_secure table = secure_by table.strategy refl
   where
@@ -91,12 +91,12 @@ declared_lawful table = lawful_edge table.name table.strategy (λ kind. kind < t
 pub declared_default : (table : KindTable) → table.default < table.kinds → MayHaveDefault (declared table)
 declared_default table is_kind n host within = is_kind
 
--- a lawful table hides no fault
+-- The default of a lawful table is secure.
 pub HidesNoFault-lawful : (table : KindTable) → is_lawful table ≡ true → HidesNoFault table
 HidesNoFault-lawful table lawful hosts two kinds =
     ResetPassesNoMore-attributes table.strategy table.default (PairPasses table.denied) (secure_pairs table lawful) (length hosts) hosts
 
--- every denied pair is one of two kinds of the table
+-- Every denied pair consists of two kinds of the table.
 abbrev pub AreKinds : ℕ → List (ℕ × ℕ) → Type 0
 AreKinds kinds pairs = All (λ pair. (pair.0 < kinds) × (pair.1 < kinds)) pairs
 
@@ -115,7 +115,7 @@ all_listed test kinds (pair ∷ pairs) below each =
     (all_listed test kinds pairs (All-tail (λ (p : ℕ × ℕ). (p.0 < kinds) × (p.1 < kinds)) pair pairs below)
     (λ q left right listed. each q left right (listed_later pair q pairs listed)))
 
--- two hosts of a denied pair: the flow between them fails, so it fails after the reset, and the partner is denied
+-- Two hosts of a denied pair: the flow between them fails, so it fails after the reset, and the partner is denied.
 partner_by_two : (table : KindTable) → HidesNoFault table → (pair : ℕ × ℕ) → pair.0 < table.kinds → pair.1 < table.kinds
     → lists table.denied pair ≡ true → not (passes_with table.strategy table.denied table.default pair) ≡ true
 partner_by_two table hides pair left right listed = not_from_false _ (false_from_ne_true _ (after table.strategy refl))
@@ -140,12 +140,12 @@ partner_by_two table hides pair left right listed = not_from_false _ (false_from
         (subst (λ (t : Strategy). PassesAfterReset table.default (PairPasses table.denied) hosts (blamed_host t first) 0 1) (sym is)
         (subst (λ (t : Strategy). passes_with t table.denied table.default pair ≡ true) is passes))
 
--- a table that hides no fault is lawful
+-- A table with a secure default is lawful.
 pub lawful-HidesNoFault : (table : KindTable) → AreKinds table.kinds table.denied → HidesNoFault table → is_lawful table ≡ true
 lawful-HidesNoFault table below hides =
     all_listed (λ pair. not (passes_with table.strategy table.denied table.default pair)) table.kinds table.denied below (partner_by_two table hides)
 
--- the first pair that passes a test is there exactly where not all fail it
+-- A pair that passes a test exists if and only if not all pairs fail it.
 by_test : (b : Bool) (i : ℕ) (o : Option ℕ) (all : Bool) → is_none o ≡ all → is_none (if b then Some i else o) ≡ (not b && all)
 by_test true i o all is = refl
 by_test false i o all is = is
@@ -162,11 +162,11 @@ pub find-none : {A : Type 0} (test : A → Bool) (xs : List A) → list_all (λ 
 find-none test [] all = refl
 find-none test (x ∷ xs) all = find_by (test x) x (find test xs) (list_all (λ y. not (test y)) xs) (find-none test xs) all
 
--- in a lawful table no denied pair passes once its blamed host has the default
+-- In a lawful table no denied pair passes after its offending host is given the default.
 pub default_weakens_nothing : (table : KindTable) → is_lawful table ≡ true → first_weaker table table.default ≡ None
 default_weakens_nothing table lawful = find-none (passes_with table.strategy table.denied table.default) table.denied lawful
 
--- what a search for a pair without a partner says of the table
+-- The result of the search for a pair without a partner determines whether the table is lawful.
 pub accepted : (table : KindTable) → position_from (passes_with table.strategy table.denied table.default) 0 table.denied ≡ None
     → (is_lawful table ≡ true) × HidesNoFault table
 accepted table none =
