@@ -1,4 +1,5 @@
--- What a row of a closure tells of walks: with its own host, in other words, and of no flows.
+-- The meaning of a row of a closure in terms of walks: including its own host, in equivalent forms, and for the empty
+-- set.
 use Rattle.std.proofs.Common.{◌≡◌, ℕ, ◌<◌, Bool, false, ◌||◌, nat_eq, nat_cmp, ◌↔◌, inl, inr, [], replicate, sym, ◌∙◌, ap, subst}
 use Rattle.std.specs.Prelude.{IsTrue}
 use Rattle.std.specs.FinSet as set
@@ -41,7 +42,7 @@ path_from test k j s tells =
       | inr walk ↦ or_right _ _ (tells.1 walk)
     ] in (λ there. path (sym (contains-insert s k j) ∙ there), λ way. contains-insert s k j ∙ shown way)
 
--- ---- other words for the same
+-- ---- equivalent forms
 
 pub tells_bool : (shown is : Bool) (P : Type 0) → shown ≡ is → (IsTrue is ↔ P) → IsTrue shown ↔ P
 tells_bool shown is P same tells = subst (λ b. IsTrue b ↔ P) (sym same) tells
@@ -49,9 +50,9 @@ tells_bool shown is P same tells = subst (λ b. IsTrue b ↔ P) (sym same) tells
 pub tells_as : (s t : HostNumbers) (j : ℕ) (P : Type 0) → s ≡ t → (IsTrue (set.contains t j) ↔ P) → IsTrue (set.contains s j) ↔ P
 tells_as s t j P same tells = subst (λ (x : HostNumbers). IsTrue (set.contains x j) ↔ P) (sym same) tells
 
--- ---- no flows
+-- ---- the empty set
 
--- the empty row of a host shows nothing, and nothing walks
+-- The empty row of a host is correct, since there are no walks.
 pub tells_nothing : (n : ℕ) (test : Flow → Bool) (h k i j : ℕ) → ((f : Flow) → test f ≡ false) → h < n
     → IsTrue (set.contains (row_of (replicate n set.empty) h) k) ↔ HasWalk test i j
 tells_nothing n test h k i j none below = (

@@ -1,4 +1,4 @@
--- How many other hosts a row has, against lists of different hosts.
+-- The number of other hosts in a row, compared with lists of distinct hosts.
 use Rattle.std.proofs.Common.{◌≡◌, ℕ, zero, suc, ◌-◌, ◌<◌, ◌≤◌, nat_cmp, ◌↔◌, inl, inr, List, [], ◌∷◌, length, refl, sym, ◌∙◌, ap, arith}
 use Rattle.std.specs.Prelude.{IsTrue, ◌≢◌, All, AllPairs}
 use Rattle.std.specs.FinSet as set
@@ -36,7 +36,7 @@ was_with s h q shown =
     let parts = and_parts _ _ (sym (contains-remove s h q) ∙ shown) in
     (eqb-false q h (not-true _ parts.0), parts.1)
 
--- a set that is not empty has a host
+-- A nonempty set has a host.
 some_host : (s : HostNumbers) (n : ℕ) (hosts : List ℕ) → set.items s ≡ hosts → set.len s ≡ suc n → (h : ℕ) × IsTrue (set.contains s h)
 some_host s n [] items counted =
     let none : s ≡ set.empty =
@@ -46,7 +46,7 @@ some_host s n [] items counted =
 some_host s n (h ∷ hosts) items counted =
     (h, set.contains-items s h ∙ ap (list_any (eq_by_cmp nat_cmp h)) items ∙ or_left _ _ (unsigned_tied h h ∙ eq-eqb h h refl))
 
--- ---- lists of different hosts
+-- ---- lists of distinct hosts
 
 pairs_cons : (h : ℕ) (hosts : List ℕ) → All (λ j. j ≢ h) hosts → AllPairs (λ a b. a ≢ b) hosts → AllPairs (λ a b. a ≢ b) (h ∷ hosts)
 pairs_cons h hosts others pairs zero zero d before below = absurd (omega arith)
@@ -60,7 +60,7 @@ pairs_tail h hosts pairs i j d before below = pairs (suc i) (suc j) d (omega ari
 pairs_head : (h : ℕ) (hosts : List ℕ) → AllPairs (λ a b. a ≢ b) (h ∷ hosts) → All (λ j. j ≢ h) hosts
 pairs_head h hosts pairs k d below = λ same. pairs 0 (suc k) d (omega arith) (omega arith) (sym same)
 
--- different hosts of a set are no more than it has
+-- A list of distinct hosts of a set is at most as long as the set is large.
 pub length-different : (hosts : List ℕ) (s : HostNumbers) → AllPairs (λ a b. a ≢ b) hosts
     → All (λ j. IsTrue (set.contains s j)) hosts → length hosts ≤ set.len s
 length-different [] s different within = omega arith
@@ -74,7 +74,7 @@ length-different (h ∷ hosts) s different within =
     let one_more = len-without s h shown in
     omega arith
 
--- a list of all the hosts of a set
+-- A list of all the hosts of a set.
 pub record Lists (s : HostNumbers) (n : ℕ) : Type 0 where
   pub hosts : List ℕ
   pub different : AllPairs (λ a b. a ≢ b) hosts
@@ -94,7 +94,7 @@ lists_all (suc n) s counted =
       counted = ap suc rest.counted;
     }
 
--- ---- the others that a host reaches
+-- ---- the other hosts that a host reaches
 
 pub reaches_exactly : (e : List Flow) (i : ℕ) (row : HostNumbers) → ((j : ℕ) → IsTrue (set.contains row j) ↔ Reaches e i j)
     → ReachesExactly e i (set.len (set.remove row i))

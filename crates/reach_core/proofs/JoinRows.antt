@@ -1,4 +1,4 @@
--- The rows of who is joined with whom: of no flows, after one more flow, and after a step back.
+-- The rows of joined hosts: for the empty set, after one more flow, and after an undo.
 use Rattle.std.proofs.Common.{◌≡◌, ℕ, ◌<◌, ◌≤◌, Bool, ◌||◌, nat_eq, nat_cmp, ◌↔◌, ◌⊎◌, inl, inr, List, [], Option, Some, None, length, replicate, refl, sym, ◌∙◌, ap, subst, arith}
 use Rattle.std.specs.Prelude.{IsTrue, IsSome, IfSome}
 use Rattle.std.specs.FinSet as set
@@ -23,7 +23,7 @@ use Rattle.reach_core.specs.declared.stepped.SteppedRows.{SteppedRows}
 use Rattle.reach_core.proofs.Closes.{tells_as, tells_bool, tells_nothing}
 use Rattle.reach_core.proofs.Widened.{contains-widened, before-widened, before-kept, fits_same, fits_widened}
 
--- ---- other rows that say the same
+-- ---- equivalent rows
 
 ShowsJoin-as : (n : ℕ) (fs : List Flow) (joined other : ℕ → HostNumbers) → ShowsJoin n fs joined
     → ((i : ℕ) → i < n → other i ≡ joined i) → ShowsJoin n fs other
@@ -46,7 +46,7 @@ ShowsJoin-nothing_new n fs f joined is_flow there shows = record {
 
 -- ---- one more flow
 
--- the hosts that a new flow touches
+-- The hosts that a new flow touches.
 pub record AreTouched (fs : List Flow) (f : Flow) (all : HostNumbers) : Type 0 where
   pub touched : (i : ℕ) → IsTrue (set.contains all i) ↔ Touches fs f i
 
@@ -59,7 +59,7 @@ contains-joined_by f from to all i is =
     (contains-insert (set.union from to) f.from i
     ∙ ap (λ b. nat_eq i f.from || b) (set.contains-union nat_cmp_total from to i))
 
--- a path to the host of a row, by the row
+-- A path to the host of a row, by the row.
 shown_by : (fs : List Flow) (k i : ℕ) (row : HostNumbers) → (IsTrue (set.contains row i) ↔ Joined fs k i)
     → IsTrue (set.contains row i) → HasPath (has_either fs) i k
 shown_by fs k i row tells there = path_of_walk (has_either fs) i k (Joined-back fs k i (tells.0 there))
@@ -98,7 +98,7 @@ touched fs f from to all tells_from tells_to is i = (
   ],
 )
 
--- they are those that are joined with its sender once it is there
+-- They are the hosts that are joined with its sender after the flow is added.
 pub joined_as_touched : (fs : List Flow) (f : Flow) (i : ℕ) (shown : Bool) → (IsTrue shown ↔ Touches fs f i)
     → IsTrue shown ↔ Joined (with_flow fs f) f.from i
 joined_as_touched fs f i shown tells =
@@ -132,7 +132,7 @@ ShowsJoin-with_flow n fs f joined joined' was all is_flow counted shows are wide
 
 -- ---- steps
 
--- its hosts are joined already where the row of its sender has its receiver
+-- Its hosts are joined already if the row of its sender contains its receiver.
 pub joined_already : (t : TriedFlows) (f : Flow) (joined : SteppedRows) (row : HostNumbers) (shown : Bool) → IsFlow t.size f
     → HasJoinRows t joined → row ≡ row_of joined.rows f.from → shown ≡ set.contains row f.to → IsTrue shown → Joined t.flows f.from f.to
 joined_already t f joined row shown is_flow rows row_is shown_is there =
@@ -166,7 +166,7 @@ HasJoinRows-widened t f joined joined' all is_flow rows are widened changed = re
       (λ i below. before-widened joined.rows joined' all all i widened changed (omega (arith, below, rows.joined_fits.rows_length)));
 }
 
--- the last step forgotten
+-- The last step committed.
 pub HasJoinRows-forgotten : (t new : TriedFlows) (joined : SteppedRows) → new ≡ record t { before_step = None } → HasJoinRows t joined
     → HasJoinRows new joined
 HasJoinRows-forgotten t new joined is rows =
@@ -187,7 +187,7 @@ HasJoinRows-back t joined joined' some rows back room changed = record {
   before = tt;
 }
 
--- ---- no flows
+-- ---- the empty set
 
 pub HasJoinRows-nothing : (n : ℕ) (t : TriedFlows) (joined : SteppedRows) → n ≤ 256
     → t ≡ record { size = n; flows = []; before_step = None }

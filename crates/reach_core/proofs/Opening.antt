@@ -1,4 +1,4 @@
--- What one more flow opens, by rows.
+-- The effect of one more flow on reachability, by rows.
 use Rattle.std.proofs.Common.{◌≡◌, ℕ, Bool, nat_eq, not, ◌&&◌, ◌||◌, ◌↔◌, inl, inr, List, [], refl, sym, ◌∙◌, ap, subst}
 use Rattle.std.specs.Prelude.{IsFalse, IsTrue}
 use Rattle.std.specs.FinSet as set
@@ -18,7 +18,7 @@ contains-left : (row other : HostNumbers) (host q : ℕ)
     → set.contains (set.difference (set.insert row host) other) q ≡ (set.contains (set.insert row host) q && not (set.contains other q))
 contains-left row other host q = set.contains-difference nat_cmp_total (set.insert row host) other q
 
--- the hosts that come to its sender, and not to its receiver, come to its receiver with it
+-- The hosts that reach its sender, and not its receiver, reach its receiver with it.
 pub opens_from : (e : List Flow) (f : Flow) (from to hosts : HostNumbers) → ((i : ℕ) → IsTrue (set.contains from i) ↔ Reaches e i f.from)
     → ((i : ℕ) → IsTrue (set.contains to i) ↔ Reaches e i f.to) → hosts ≡ set.difference (set.insert from f.from) to
     → (i : ℕ) → IsTrue (set.contains hosts i) ↔ ReachesOnlyWith f e i f.to
@@ -34,7 +34,7 @@ opens_from e f from to hosts come arrive is i =
       ],
     )
 
--- no other host reaches more with it
+-- No other host reaches more with it.
 pub opens_no_other : (e : List Flow) (f : Flow) (from to hosts : HostNumbers)
     → ((i : ℕ) → IsTrue (set.contains from i) ↔ Reaches e i f.from) → ((i : ℕ) → IsTrue (set.contains to i) ↔ Reaches e i f.to)
     → hosts ≡ set.difference (set.insert from f.from) to
@@ -49,7 +49,7 @@ opens_no_other e f from to hosts come arrive is i j out walk =
       ]
     ]
 
--- and those that its receiver reaches, and not its sender, are reached by its sender with it
+-- The hosts that its receiver reaches, and its sender does not, are reached by its sender with it.
 pub opens_to : (e : List Flow) (f : Flow) (to from hosts : HostNumbers) → ((j : ℕ) → IsTrue (set.contains to j) ↔ Reaches e f.to j)
     → ((j : ℕ) → IsTrue (set.contains from j) ↔ Reaches e f.from j) → hosts ≡ set.difference (set.insert to f.to) from
     → (j : ℕ) → IsTrue (set.contains hosts j) ↔ ReachesOnlyWith f e f.from j
@@ -65,8 +65,8 @@ opens_to e f to from hosts go leave is j =
       ],
     )
 
--- with the flow a host reaches what it reached, or both ends of the way are opened: `to` says whether the host came to its receiver, and
--- `from` whether its sender reached the other host
+-- With the flow a host reaches what it reached before, or both parts of the walk are new: `to` states whether the host reached its
+-- receiver, and `from` whether its sender reached the other host.
 pub reaches_opened : (e : List Flow) (f : Flow) (i j : ℕ) (was opens opened to from : Bool) → (IsTrue was ↔ Reaches e i j)
     → (IsTrue opens ↔ ReachesOnlyWith f e i f.to) → (IsTrue opened ↔ ReachesOnlyWith f e f.from j)
     → (IsTrue to ↔ Reaches e i f.to) → (IsTrue from ↔ Reaches e f.from j)
@@ -99,7 +99,7 @@ reaches_opened e f i j was opens opened to from tells at_i at_j comes leaves = (
   ],
 )
 
--- a host that comes to its receiver reaches what it reached, and what its receiver reaches
+-- A host that reaches its receiver reaches the hosts that it reached before, and those that its receiver reaches.
 pub reaches_with : (e : List Flow) (f : Flow) (i : ℕ) (row beyond both hosts : HostNumbers) → Reaches (with_flow e f) i f.to
     → ((j : ℕ) → IsTrue (set.contains row j) ↔ Reaches e i j) → ((j : ℕ) → IsTrue (set.contains beyond j) ↔ Reaches e f.to j)
     → both ≡ set.union row beyond → hosts ≡ set.insert both f.to → (j : ℕ) → IsTrue (set.contains hosts j) ↔ Reaches (with_flow e f) i j

@@ -1,4 +1,4 @@
--- The rows of who reaches whom: of no flows, after one more flow, and after a step back.
+-- The rows of reachability: for the empty set, after one more flow, and after an undo.
 use Rattle.std.proofs.Common.{◌≡◌, ℕ, ◌<◌, ◌≤◌, Bool, true, false, ◌&&◌, ◌||◌, nat_cmp, ◌↔◌, List, [], Option, Some, None, length, replicate, refl, sym, ◌∙◌, ap, subst, arith}
 use Rattle.std.specs.Prelude.{IsTrue, IsSome, IfSome}
 use Rattle.std.specs.FinSet as set
@@ -21,7 +21,7 @@ use Rattle.reach_core.proofs.Closes.{tells_as, tells_bool, tells_nothing}
 use Rattle.reach_core.proofs.Opening.{reaches_opened}
 use Rattle.reach_core.proofs.Widened.{contains-widened, before-widened, before-kept, fits_same, fits_widened}
 
--- ---- other rows that say the same
+-- ---- equivalent rows
 
 ShowsReach-as : (n : ℕ) (fs : List Flow) (reached coming other_reached other_coming : ℕ → HostNumbers)
     → ShowsReach n fs reached coming → ((i : ℕ) → i < n → other_reached i ≡ reached i)
@@ -32,7 +32,7 @@ ShowsReach-as n fs reached coming other_reached other_coming shows forth back = 
   back = λ i j below. tells_as (other_coming j) (coming j) i (Reaches fs i j) (back j below) (shows.back i j below);
 }
 
--- ---- a flow whose sender comes to its receiver already
+-- ---- a flow whose sender reaches its receiver already
 
 nothing_new : (fs : List Flow) (f : Flow) (i j : ℕ) (P : Type 0) → Reaches fs f.from f.to → (P ↔ Reaches fs i j)
     → P ↔ Reaches (with_flow fs f) i j
@@ -56,7 +56,7 @@ and_swap false true false = refl
 and_swap false false true = refl
 and_swap false false false = refl
 
--- the hosts from which a new flow opens ways, and those to which it does
+-- The hosts that reach more with a new flow, and the hosts that are newly reached.
 pub record AreOpened (fs : List Flow) (f : Flow) (senders beyond : HostNumbers) : Type 0 where
   pub by : (i : ℕ) → IsTrue (set.contains senders i) ↔ ReachesOnlyWith f fs i f.to
   pub to : (j : ℕ) → IsTrue (set.contains beyond j) ↔ ReachesOnlyWith f fs f.from j
@@ -87,7 +87,7 @@ ShowsReach-with_flow n fs f reached reached' was coming coming' was' senders bey
 
 -- ---- steps
 
--- its receiver is reached already where the row of its sender has it
+-- Its receiver is reached already if the row of its sender contains it.
 pub reached_already : (t : TriedFlows) (f : Flow) (reached coming : SteppedRows) (row : HostNumbers) (shown : Bool) → IsFlow t.size f
     → HasReachRows t reached coming → row ≡ row_of reached.rows f.from → shown ≡ set.contains row f.to → IsTrue shown
     → Reaches t.flows f.from f.to
@@ -135,7 +135,7 @@ HasReachRows-widened t f reached coming reached' coming' senders beyond is_flow 
           (λ i below. before-widened coming.rows coming' beyond senders i widened_back changed_back (omega (arith, below, rows.coming_fits.rows_length)));
     }
 
--- the last step forgotten
+-- The last step committed.
 pub HasReachRows-forgotten : (t new : TriedFlows) (reached coming : SteppedRows) → new ≡ record t { before_step = None }
     → HasReachRows t reached coming → HasReachRows new reached coming
 HasReachRows-forgotten t new reached coming is rows =
@@ -161,7 +161,7 @@ HasReachRows-back t reached coming reached' coming' some rows back room changed 
   before = tt;
 }
 
--- ---- no flows
+-- ---- the empty set
 
 pub HasReachRows-nothing : (n : ℕ) (t : TriedFlows) (reached coming : SteppedRows) → n ≤ 256
     → t ≡ record { size = n; flows = []; before_step = None }

@@ -1,4 +1,4 @@
--- What a row of a closure shows.
+-- The meaning of a row of a closure.
 use Rattle.std.proofs.Common.{◌≡◌, ℕ, ◌<◌, ◌↔◌, sym, ap, subst, arith}
 use Rattle.std.specs.Prelude.{IsTrue}
 use Rattle.std.specs.FinSet as set
@@ -9,7 +9,7 @@ use Rattle.reach_core.specs.inner.Rows.{HasReachRows, HasJoinRows}
 use Rattle.reach_core.specs.Walks.{Reaches, Joined}
 use Rattle.reach_core.specs.declared.stepped.SteppedRows.{SteppedRows}
 
--- a row has the hosts that are reached
+-- A row contains the hosts that are reached.
 pub shows_reached : (t now : TriedFlows) (reached coming : SteppedRows) (i : ℕ) (row : HostNumbers) → HasReachRows t reached coming
     → t ≡ now → row ≡ row_of reached.rows i → i < now.size → (j : ℕ) → IsTrue (set.contains row j) ↔ Reaches now.flows i j
 shows_reached t now reached coming i row rows same is below j =
@@ -17,7 +17,7 @@ shows_reached t now reached coming i row rows same is below j =
     subst (λ (s : HostNumbers). IsTrue (set.contains s j) ↔ Reaches now.flows i j) (sym is)
     (subst (λ (s : TriedFlows). IsTrue (set.contains (row_of reached.rows i) j) ↔ Reaches s.flows i j) same (rows.now.forth i j within))
 
--- or those that come
+-- A row contains the hosts that reach its host.
 pub shows_coming : (t now : TriedFlows) (reached coming : SteppedRows) (j : ℕ) (row : HostNumbers) → HasReachRows t reached coming
     → t ≡ now → row ≡ row_of coming.rows j → j < now.size → (i : ℕ) → IsTrue (set.contains row i) ↔ Reaches now.flows i j
 shows_coming t now reached coming j row rows same is below i =
@@ -25,7 +25,7 @@ shows_coming t now reached coming j row rows same is below i =
     subst (λ (s : HostNumbers). IsTrue (set.contains s i) ↔ Reaches now.flows i j) (sym is)
     (subst (λ (s : TriedFlows). IsTrue (set.contains (row_of coming.rows j) i) ↔ Reaches s.flows i j) same (rows.now.back i j within))
 
--- or those that are joined with its host
+-- A row contains the hosts that are joined with its host.
 pub shows_joined : (t now : TriedFlows) (joined : SteppedRows) (i : ℕ) (row : HostNumbers) → HasJoinRows t joined
     → t ≡ now → row ≡ row_of joined.rows i → i < now.size → (j : ℕ) → IsTrue (set.contains row j) ↔ Joined now.flows i j
 shows_joined t now joined i row rows same is below j =

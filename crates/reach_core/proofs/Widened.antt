@@ -1,4 +1,4 @@
--- Rows that are widened, one after the other: what the step changes, and the way back.
+-- Rows that are extended in order: the effect of the step, and its undo.
 use Rattle.std.proofs.Common.{◌≡◌, ℕ, ◌<◌, ◌≤◌, Bool, true, false, ◌&&◌, ◌||◌, cond, nat_cmp, List, length, refl, sym, ◌∙◌, ap, subst}
 use Rattle.std.specs.Prelude.{IsTrue, IsFalse}
 use Rattle.std.specs.FinSet as fin
@@ -11,7 +11,7 @@ use Rattle.reach_core.specs.declared.stepped.SteppedRows.{SteppedRows}
 
 -- ---- rows that change at the hosts of a set, from the first on
 
--- the rows of the hosts below `from` are done: they are as they are to be, and the others as they were
+-- The rows of the hosts below `from` are done: they have their final contents, and the others are unchanged.
 pub record AreDone (old new : List HostNumbers) (wanted : ℕ → HostNumbers) (hosts : HostNumbers) (from : ℕ) : Type 0 where
   pub same_length : length new ≡ length old
   pub done : (i : ℕ) → i < from → IsTrue (fin.contains hosts i) → row_of new i ≡ wanted i
@@ -40,13 +40,13 @@ before-widened old r hosts by i widened changed below =
     ∙ cond_both (fin.contains hosts i) (row_of r.before i) (row_of r.rows i) (λ s. s ≡ row_of old i) (λ there. widened.was i there)
     (λ out. widened.now i below ∙ cond-false _ _ _ out)
 
--- where nothing changed, the rows before are those of now
+-- If nothing changed, the rows before are the current rows.
 pub before-kept : (r : SteppedRows) (i : ℕ) → r.changed ≡ fin.empty → row_before r i ≡ row_of r.rows i
 before-kept r i changed =
     ap (λ (hs : HostNumbers). cond (fin.contains hs i) (row_of r.before i) (row_of r.rows i)) changed
     ∙ cond-false _ _ _ (fin.contains-empty nat_cmp i)
 
--- ---- room for the next step
+-- ---- space for the next step
 
 none_below : (n : ℕ) (hosts : HostNumbers) → hosts ≡ fin.empty → AreBelow hosts n
 none_below n hosts none i there =

@@ -1,4 +1,5 @@
-//! The closure of a set of flows: whom each host reaches, and with whom it is joined.
+//! The closure of a set of flows: the hosts that each host reaches, and those with which it is
+//! joined.
 
 ghost use Rattle.std.specs.Prelude.{◌≡◌, ℕ, ◌<◌, ◌↔◌, IsTrue, IfOk, IsSome};
 ghost use Rattle.std.specs.FinSet as set;
@@ -14,8 +15,8 @@ use flow_set::{Flow, FlowSet, HostSet};
 use std::alloc::{AllocError, Global};
 use std::marker::Model;
 
-/// The walks along a set of flows, in their direction and in whatever direction, for a template of one's own
-/// that asks both. The templates of this workspace ask one kind alone, and take that closure.
+/// The walks along a set of flows, directed and undirected, for a custom template that uses both.
+/// The templates of this workspace use one kind only, and its closure.
 #[derive(Drop)]
 pub struct Closure {
     reach: ReachClosure,
@@ -34,7 +35,7 @@ impl Model for Closure {
 }
 
 impl Closure {
-    /// The closure of the flows of `e`.
+    /// Returns the closure of the flows of `e`.
     pub fn of(alloc: Global, e: &FlowSet) -> Result<Closure, AllocError>
         ensures { IfOk result (λ closure. closure ≡ untried e.now) }
     {
@@ -44,7 +45,7 @@ impl Closure {
         })
     }
 
-    /// One more flow, which may be there already.
+    /// Adds a flow, which may be present already.
     pub fn try_add(&mut self, f: Flow)
         requires { IsFlow self.old.size f }
         ensures { self.new ≡ stepped self.old f }
@@ -53,7 +54,7 @@ impl Closure {
         self.join.try_add(f);
     }
 
-    /// Takes the last `try_add` back.
+    /// Undoes the last `try_add`.
     pub fn undo(&mut self)
         requires { IsSome self.old.before_step }
         ensures { self.new ≡ taken_back self.old }
@@ -62,7 +63,7 @@ impl Closure {
         self.join.undo();
     }
 
-    /// The number of hosts.
+    /// Returns the number of hosts.
     pub fn size(&self) -> u16
         ensures size { result ≡ self.now.size }
         ensures set { IsFlowSet self.now.size self.now.flows }
@@ -70,7 +71,7 @@ impl Closure {
         self.reach.size()
     }
 
-    /// The hosts that one gets to from `i` along flows. A host gets back to itself by a round trip only.
+    /// Returns the hosts that `i` reaches along flows. A host reaches itself only by a cycle.
     pub fn reached_from(&self, i: u16) -> &HostSet
         requires { i < self.now.size }
         ensures { (j : ℕ) → IsTrue (set.contains result.now j) ↔ Reaches self.now.flows i j }
@@ -78,7 +79,7 @@ impl Closure {
         self.reach.reached_from(i)
     }
 
-    /// Whether one gets from `i` to `j` along flows.
+    /// Whether `i` reaches `j` along flows.
     pub fn reaches(&self, i: u16, j: u16) -> bool
         requires i { i < self.now.size }
         requires j { j < self.now.size }
@@ -87,7 +88,7 @@ impl Closure {
         self.reach.reaches(i, j)
     }
 
-    /// How many other hosts `i` reaches. A round trip adds nothing.
+    /// Returns the number of other hosts that `i` reaches. A cycle adds nothing.
     pub fn count(&self, i: u16) -> u16
         requires { i < self.now.size }
         ensures { ReachesExactly self.now.flows i result }
@@ -95,7 +96,7 @@ impl Closure {
         self.reach.count(i)
     }
 
-    /// The hosts that flows join with `i`, taken forwards or backwards.
+    /// Returns the hosts that are joined with `i` by flows, forwards or backwards.
     pub fn joined_with(&self, i: u16) -> &HostSet
         requires { i < self.now.size }
         ensures { (j : ℕ) → IsTrue (set.contains result.now j) ↔ Joined self.now.flows i j }
@@ -103,7 +104,7 @@ impl Closure {
         self.join.joined_with(i)
     }
 
-    /// Whether flows join `i` and `j`, taken forwards or backwards.
+    /// Whether `i` and `j` are joined by flows, forwards or backwards.
     pub fn joined(&self, i: u16, j: u16) -> bool
         requires i { i < self.now.size }
         requires j { j < self.now.size }

@@ -1,5 +1,5 @@
-//! Which hosts are joined along a set of flows, in whatever direction: for each host a row of those that
-//! it is joined with. The rows begin empty and grow by one flow at a time.
+//! The hosts that are joined along a set of flows, in any direction: for each host a row of the
+//! hosts that it is joined with. The rows are initially empty and grow by one flow at a time.
 
 ghost use Rattle.std.specs.Prelude.{◌≡◌, ℕ, ◌<◌, ◌≤◌, ◌↔◌, [], IsTrue, IfOk, IsSome, None};
 ghost use Rattle.std.specs.FinSet as set;
@@ -14,7 +14,7 @@ use flow_set::{Flow, FlowSet, FlowSteps, HostSet};
 use std::alloc::{AllocError, Global};
 use std::marker::Model;
 
-/// The walks along a set of flows, taken forwards or backwards.
+/// The walks along a set of flows, forwards or backwards.
 #[derive(Drop)]
 pub struct JoinClosure {
     steps: FlowSteps,
@@ -33,7 +33,7 @@ impl Model for JoinClosure {
 }
 
 impl JoinClosure {
-    // The closure of no flows.
+    // Returns the closure of the empty set.
     fn none(alloc: Global, size: u16) -> Result<JoinClosure, AllocError>
         requires { size ≤ 256 }
         ensures { IfOk result (λ closure. closure ≡ untried (record { size = size; flows = [] })) }
@@ -45,7 +45,7 @@ impl JoinClosure {
         })
     }
 
-    /// The closure of the flows of `e`.
+    /// Returns the closure of the flows of `e`.
     pub fn of(alloc: Global, e: &FlowSet) -> Result<JoinClosure, AllocError>
         ensures { IfOk result (λ closure. closure ≡ untried e.now) }
     {
@@ -58,8 +58,8 @@ impl JoinClosure {
         Ok(closure)
     }
 
-    /// One more flow, which may be there already: whoever is joined with one of its hosts is joined with
-    /// all who are. Where its hosts are joined already, that is nothing new.
+    /// Adds a flow, which may be present already: all hosts that are joined with one of its hosts
+    /// become joined with each other. If its hosts are joined already, nothing changes.
     pub fn try_add(&mut self, f: Flow)
         requires { IsFlow self.old.size f }
         ensures { self.new ≡ stepped self.old f }
@@ -74,7 +74,7 @@ impl JoinClosure {
         self.steps.step(f);
     }
 
-    /// Takes the last `try_add` back.
+    /// Undoes the last `try_add`.
     pub fn undo(&mut self)
         requires { IsSome self.old.before_step }
         ensures { self.new ≡ taken_back self.old }
@@ -83,14 +83,14 @@ impl JoinClosure {
         self.steps.back();
     }
 
-    /// Forgets the last `try_add`, so that it stays.
+    /// Commits the last `try_add`: it can no longer be undone.
     pub fn forget(&mut self)
         ensures { self.new ≡ record self.old { before_step = None } }
     {
         self.steps.forget();
     }
 
-    /// The number of hosts.
+    /// Returns the number of hosts.
     pub fn size(&self) -> u16
         ensures size { result ≡ self.now.size }
         ensures set { IsFlowSet self.now.size self.now.flows }
@@ -98,7 +98,7 @@ impl JoinClosure {
         self.steps.size()
     }
 
-    /// The hosts that flows join with `i`, taken forwards or backwards.
+    /// Returns the hosts that are joined with `i` by flows, forwards or backwards.
     pub fn joined_with(&self, i: u16) -> &HostSet
         requires { i < self.now.size }
         ensures { (j : ℕ) → IsTrue (set.contains result.now j) ↔ Joined self.now.flows i j }
@@ -106,7 +106,7 @@ impl JoinClosure {
         self.joined.row(i)
     }
 
-    /// The hosts that are joined with the sender of a flow once it is there.
+    /// Returns the hosts that are joined with the sender of a flow after the flow is added.
     pub fn joined_by(&self, f: Flow) -> HostSet
         requires { IsFlow self.now.size f }
         ensures { (i : ℕ) → IsTrue (set.contains result i) ↔ Joined (with_flow self.now.flows f) f.from i }
@@ -119,7 +119,7 @@ impl JoinClosure {
         all
     }
 
-    /// Whether flows join `i` and `j`, taken forwards or backwards.
+    /// Whether `i` and `j` are joined by flows, forwards or backwards.
     pub fn joined(&self, i: u16, j: u16) -> bool
         requires i { i < self.now.size }
         requires j { j < self.now.size }

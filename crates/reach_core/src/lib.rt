@@ -1,5 +1,5 @@
-//! Walks along flows: which hosts a host reaches, and which are joined. The closure of a set of
-//! flows answers both from rows of bits that grow flow by flow.
+//! Walks along flows: the hosts that a host reaches, and the hosts that are joined. The closure of
+//! a set of flows stores both as rows of bits that grow flow by flow.
 #![tactic(auto)]
 
 mod closure;

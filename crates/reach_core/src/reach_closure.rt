@@ -1,5 +1,5 @@
-//! Who reaches whom along a set of flows: for each host a row of the hosts that it reaches and a row of
-//! those that come to it. The rows begin empty and grow by one flow at a time.
+//! Reachability along a set of flows: for each host a row of the hosts that it reaches and a row of
+//! the hosts that reach it. The rows are initially empty and grow by one flow at a time.
 
 ghost use Rattle.std.specs.Prelude.{◌≡◌, ℕ, ◌<◌, ◌≤◌, ◌↔◌, [], IsFalse, IsTrue, IfOk, IsSome, None};
 ghost use Rattle.std.specs.FinSet as set;
@@ -36,7 +36,7 @@ impl Model for ReachClosure {
 }
 
 impl ReachClosure {
-    // The closure of no flows.
+    // Returns the closure of the empty set.
     fn none(alloc: Global, size: u16) -> Result<ReachClosure, AllocError>
         requires { size ≤ 256 }
         ensures { IfOk result (λ closure. closure ≡ untried (record { size = size; flows = [] })) }
@@ -49,7 +49,7 @@ impl ReachClosure {
         })
     }
 
-    /// The closure of the flows of `e`.
+    /// Returns the closure of the flows of `e`.
     pub fn of(alloc: Global, e: &FlowSet) -> Result<ReachClosure, AllocError>
         ensures { IfOk result (λ closure. closure ≡ untried e.now) }
     {
@@ -62,8 +62,8 @@ impl ReachClosure {
         Ok(closure)
     }
 
-    /// One more flow, which may be there already: it opens ways from some hosts to some. Where the sender
-    /// comes to the receiver already, there are none.
+    /// Adds a flow, which may be present already. If its sender reaches its receiver already,
+    /// nothing changes.
     pub fn try_add(&mut self, f: Flow)
         requires { IsFlow self.old.size f }
         ensures { self.new ≡ stepped self.old f }
@@ -81,7 +81,7 @@ impl ReachClosure {
         self.steps.step(f);
     }
 
-    /// Takes the last `try_add` back.
+    /// Undoes the last `try_add`.
     pub fn undo(&mut self)
         requires { IsSome self.old.before_step }
         ensures { self.new ≡ taken_back self.old }
@@ -91,14 +91,14 @@ impl ReachClosure {
         self.steps.back();
     }
 
-    /// Forgets the last `try_add`, so that it stays.
+    /// Commits the last `try_add`: it can no longer be undone.
     pub fn forget(&mut self)
         ensures { self.new ≡ record self.old { before_step = None } }
     {
         self.steps.forget();
     }
 
-    /// The number of hosts.
+    /// Returns the number of hosts.
     pub fn size(&self) -> u16
         ensures size { result ≡ self.now.size }
         ensures set { IsFlowSet self.now.size self.now.flows }
@@ -106,7 +106,7 @@ impl ReachClosure {
         self.steps.size()
     }
 
-    /// The hosts that one gets to from `i` along flows. A host gets back to itself by a round trip only.
+    /// Returns the hosts that `i` reaches along flows. A host reaches itself only by a cycle.
     pub fn reached_from(&self, i: u16) -> &HostSet
         requires { i < self.now.size }
         ensures { (j : ℕ) → IsTrue (set.contains result.now j) ↔ Reaches self.now.flows i j }
@@ -114,7 +114,7 @@ impl ReachClosure {
         self.reached.row(i)
     }
 
-    /// The hosts from which one gets to `j`.
+    /// Returns the hosts that reach `j`.
     pub fn coming_to(&self, j: u16) -> &HostSet
         requires { j < self.now.size }
         ensures { (i : ℕ) → IsTrue (set.contains result.now i) ↔ Reaches self.now.flows i j }
@@ -122,7 +122,8 @@ impl ReachClosure {
         self.coming.row(j)
     }
 
-    /// The hosts that come to the receiver of a flow only with it. No other host reaches more with it.
+    /// Returns the hosts that reach the receiver of a flow only with this flow. No other host
+    /// reaches more with it.
     pub fn opened_by(&self, f: Flow) -> HostSet
         requires { IsFlow self.now.size f }
         ensures hosts { (i : ℕ) → IsTrue (set.contains result i) ↔ ReachesOnlyWith f self.now.flows i f.to }
@@ -136,7 +137,7 @@ impl ReachClosure {
         hosts
     }
 
-    // The hosts to which one gets from the sender of a flow only with it.
+    // Returns the hosts that the sender of a flow reaches only with this flow.
     fn opened_to(&self, f: Flow) -> HostSet
         requires { IsFlow self.now.size f }
         ensures { (j : ℕ) → IsTrue (set.contains result j) ↔ ReachesOnlyWith f self.now.flows f.from j }
@@ -148,7 +149,8 @@ impl ReachClosure {
         hosts
     }
 
-    /// The hosts that one gets to with a flow more, from a host that comes to its receiver then.
+    /// Returns the hosts that `i` reaches with one more flow, for a host `i` that then reaches its
+    /// receiver.
     pub fn reached_with(&self, f: Flow, i: u16) -> HostSet
         requires flow { IsFlow self.now.size f }
         requires host { i < self.now.size }
@@ -162,7 +164,7 @@ impl ReachClosure {
         hosts
     }
 
-    /// Whether one gets from `i` to `j` along flows.
+    /// Whether `i` reaches `j` along flows.
     pub fn reaches(&self, i: u16, j: u16) -> bool
         requires i { i < self.now.size }
         requires j { j < self.now.size }
@@ -172,7 +174,7 @@ impl ReachClosure {
         self.reached_from(i).has(j)
     }
 
-    /// How many other hosts `i` reaches. A round trip adds nothing.
+    /// Returns the number of other hosts that `i` reaches. A cycle adds nothing.
     pub fn count(&self, i: u16) -> u16
         requires { i < self.now.size }
         ensures { ReachesExactly self.now.flows i result }

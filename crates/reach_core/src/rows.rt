@@ -8,7 +8,7 @@ use flow_set::HostSet;
 use std::alloc::{AllocError, Global};
 use std::marker::Model;
 
-// For each host a set of hosts.
+// A set of hosts for each host.
 #[derive(Drop)]
 pub struct Rows {
     rows: Vec<HostSet>,
@@ -28,7 +28,7 @@ impl Model for Rows {
 }
 
 impl Rows {
-    // The empty rows of `size` hosts.
+    // Returns the empty rows of `size` hosts.
     pub fn new(alloc: Global, size: u16) -> Result<Rows, AllocError>
         ensures { IfOk result (λ rows. rows ≡ replicate size set.empty) }
     {

@@ -1,5 +1,5 @@
-//! Rows that grow in steps, and remember those that the last step changed. So a step, and the way back,
-//! cost no more than what they change.
+//! Rows that grow in steps, and store the previous contents of the rows that the last step changed.
+//! So a step and its undo cost only what they change.
 
 ghost use Rattle.std.specs.Prelude.{◌≡◌, ◌<◌, ◌≤◌, length, replicate, IfOk};
 ghost use Rattle.std.specs.FinSet as set;
@@ -14,13 +14,13 @@ use std::alloc::{AllocError, Global};
 #[derive(Drop)]
 pub struct SteppedRows {
     rows: Rows,
-    // The rows of the changed hosts before the last step. Its other rows are room.
+    // The rows of the changed hosts before the last step. Its other rows are unused space.
     before: Rows,
     changed: HostSet,
 }
 
 impl SteppedRows {
-    // Empty rows, before any step.
+    // Returns empty rows, before any step.
     pub fn new(alloc: Global, size: u16) -> Result<SteppedRows, AllocError>
         ensures { IfOk result (λ new. new ≡ record { rows = replicate size set.empty; before = replicate size set.empty; changed = set.empty }) }
     {
@@ -38,14 +38,14 @@ impl SteppedRows {
         self.rows.row(host)
     }
 
-    // A step that changes nothing.
+    // Makes a step that changes nothing.
     pub fn keep(&mut self)
         ensures { self.new ≡ record self.old { changed = set.empty } }
     {
         self.changed = HostSet::empty();
     }
 
-    // A step that puts the hosts of `by` into the rows of `hosts`.
+    // Makes a step that inserts the hosts of `by` into the rows of `hosts`.
     pub fn widen(&mut self, hosts: &HostSet, by: &HostSet)
         requires room { length self.old.before ≡ length self.old.rows }
         requires small { length self.old.rows ≤ 256 }
@@ -64,7 +64,7 @@ impl SteppedRows {
         self.changed = hosts.copy();
     }
 
-    // Takes the last step back.
+    // Undoes the last step.
     pub fn back(&mut self)
         requires { FitsRows self.old (length self.old.rows) }
         ensures rows { IsBack self.old self.new.rows }

@@ -1,5 +1,5 @@
--- Rows of hosts, one for each host: what the rows of a closure say, and what a step changes. No clause of a public
--- call speaks of rows.
+-- Rows of hosts, one for each host: the meaning of the rows of a closure, and the effect of a step. No clause of a
+-- public call mentions rows.
 use Rattle.std.specs.Prelude.{◌≡◌, ℕ, ◌<◌, ◌≤◌, ◌↔◌, Bool, if◌then◌else◌, List, length, IsTrue, IfSome}
 use Rattle.std.specs.FinSet as set
 use Rattle.flow_set.specs.declared.flow.Flow.{Flow}
@@ -11,34 +11,34 @@ use Rattle.flow_set.specs.inner.HostSet.{row_of}
 use Rattle.reach_core.specs.declared.stepped.SteppedRows.{SteppedRows}
 use Rattle.reach_core.specs.Walks.{HasWalk, has_either}
 
--- ---- what rows say
+-- ---- the meaning of rows
 
--- each row of n hosts has the hosts that walks lead to from its host
+-- Each row of n hosts contains the hosts that its host reaches.
 abbrev pub Closes : (Flow → Bool) → ℕ → (ℕ → HostNumbers) → Type 0
 Closes test n row = (i j : ℕ) → i < n → IsTrue (set.contains (row i) j) ↔ HasWalk test i j
 
--- or the hosts from which walks lead to it
+-- Each row contains the hosts that reach its host.
 abbrev pub ClosesBack : (Flow → Bool) → ℕ → (ℕ → HostNumbers) → Type 0
 ClosesBack test n row = (i j : ℕ) → j < n → IsTrue (set.contains (row j) i) ↔ HasWalk test i j
 
--- the rows of those who are reached, and of those who come
+-- The rows of the reached hosts, and of the reaching hosts.
 pub record ShowsReach (n : ℕ) (fs : List Flow) (reached coming : ℕ → HostNumbers) : Type 0 where
   pub is_set : IsFlowSet n fs
   pub forth : Closes (has fs) n reached
   pub back : ClosesBack (has fs) n coming
 
--- the rows of those who are joined
+-- The rows of the joined hosts.
 pub record ShowsJoin (n : ℕ) (fs : List Flow) (joined : ℕ → HostNumbers) : Type 0 where
   pub is_set : IsFlowSet n fs
   pub either : Closes (has_either fs) n joined
 
--- ---- what a step changes
+-- ---- the effect of a step
 
--- each host of the set has a number below n
+-- Each host of the set has a number below n.
 abbrev pub AreBelow : HostNumbers → ℕ → Type 0
 AreBelow hosts n = (i : ℕ) → IsTrue (set.contains hosts i) → i < n
 
--- the rows after those of some hosts were widened, and what they were
+-- The rows after the rows of some hosts were extended, and their previous contents.
 pub record IsWidened (old new before : List HostNumbers) (hosts by : HostNumbers) : Type 0 where
   pub rows_length : length new ≡ length old
   pub before_length : length before ≡ length old
@@ -46,26 +46,27 @@ pub record IsWidened (old new before : List HostNumbers) (hosts by : HostNumbers
       → row_of new i ≡ (if set.contains hosts i then set.union (row_of old i) by else row_of old i)
   pub was : (i : ℕ) → IsTrue (set.contains hosts i) → row_of before i ≡ row_of old i
 
--- a row now, and before the last step
+-- A row now.
 abbrev pub row_now : SteppedRows → ℕ → HostNumbers
 row_now r i = row_of r.rows i
 
+-- A row before the last step.
 abbrev pub row_before : SteppedRows → ℕ → HostNumbers
 row_before r i = if set.contains r.changed i then row_of r.before i else row_of r.rows i
 
--- the rows after the last step was taken back
+-- The rows after the last step was undone.
 pub record IsBack (r : SteppedRows) (rows : List HostNumbers) : Type 0 where
   pub same_length : length rows ≡ length r.rows
   pub back : (i : ℕ) → i < length r.rows → row_of rows i ≡ row_before r i
 
--- rows of n hosts, with room to step back
+-- Rows of n hosts, with space for an undo record.
 pub record FitsRows (r : SteppedRows) (n : ℕ) : Type 0 where
   pub small : n ≤ 256
   pub rows_length : length r.rows ≡ n
   pub before_length : length r.before ≡ n
   pub changed_below : AreBelow r.changed n
 
--- ---- the rows of flows that are tried in steps, and those before the last step
+-- ---- the rows of an undoable set of flows, and those before the last step
 
 pub record HasReachRows (t : TriedFlows) (reached coming : SteppedRows) : Type 0 where
   pub reached_fits : FitsRows reached t.size

@@ -1,4 +1,5 @@
--- Laws of what a host reaches and of what it is joined with: over subsets, no flows, one flow and one more flow.
+-- Lemmas on the hosts that a host reaches and on those that it is joined with: for subsets, the empty set, one flow and
+-- one more flow.
 use Rattle.std.proofs.Common.{◌≡◌, ℕ, ◌<◌, ◌≤◌, Bool, true, false, ◌&&◌, ◌||◌, ◌⊎◌, ◌↔◌, inl, inr, List, [], ◌∷◌, ◌++◌, refl, sym, ◌∙◌, ap, arith}
 use Rattle.std.specs.Prelude.{IsTrue, IsFalse, ◌≢◌}
 use Rattle.std.proofs.lemmas.Bool.{or_cases, or_left, or_right, and_parts, and_from, both_ways, cases_Bool, false≢true}
@@ -12,7 +13,7 @@ use Rattle.reach_core.specs.Walks.{LeadsTo, HasWalk, Reaches, has_either, Joined
 use Rattle.reach_core.specs.inner.Counting.{ReachesExactly}
 use Rattle.reach_core.specs.laws.WalkLaws.{HasPath, HasWalk-weaker, HasPath-weaker, HasWalk-append, path_of_walk, cases_path, path_cut, walk_cut, walk_within, walk_without, walk_elsewhere, LeadsTo-append, walk_over, path_touch, walk_ends}
 
--- ---- over subsets
+-- ---- subsets
 
 pub Reaches-within : (s e : List Flow) → ((f : Flow) → IsTrue (has s f) → IsTrue (has e f)) → (i j : ℕ) → Reaches s i j → Reaches e i j
 Reaches-within s e within = HasWalk-weaker (has s) (has e) within
@@ -34,7 +35,7 @@ ReachesAtMost-within s e within i limit most hosts are =
     most hosts
     (record { different = are.different; others = are.others; reached = λ k d below. Reaches-within s e within i _ (are.reached k d below) })
 
--- walks stay between the hosts of a set
+-- Walks stay among the hosts of a set.
 pub Reaches-below : (n : ℕ) (e : List Flow) → IsFlowSet n e → (i j : ℕ) → Reaches e i j → (i < n) × (j < n)
 Reaches-below n e is_set i j walk =
     walk_ends (has e) (λ h. h < n) (λ h. h < n) (λ f here. ((is_set.flows f here).0, (is_set.flows f here).1)) i j walk.0 walk.1 walk.2
@@ -48,7 +49,7 @@ Joined-below n e is_set i j walk =
     ] in
     walk_ends (has_either e) (λ h. h < n) (λ h. h < n) each i j walk.0 walk.1 walk.2
 
--- ---- no flows
+-- ---- the empty set
 
 pub Reaches-none : (i j : ℕ) → Reaches [] i j → ⊥
 Reaches-none i j walk = false≢true walk.2.0
@@ -60,7 +61,7 @@ pub ReachesAtMost-none : (i limit : ℕ) → ReachesAtMost [] i limit
 ReachesAtMost-none i limit [] are = omega arith
 ReachesAtMost-none i limit (h ∷ hosts) are = absurd (Reaches-none i h (are.reached 0 h (omega arith)))
 
--- ---- along one flow
+-- ---- one flow
 
 pub reaches_over : (e : List Flow) (f : Flow) → IsTrue (has e f) → Reaches e f.from f.to
 reaches_over e f here = (f, [], (here, refl, refl))
@@ -75,7 +76,7 @@ Reaches-one f i j walk =
     walk_ends (has (f ∷ [])) (λ h. h ≡ f.from) (λ h. h ≡ f.to)
     (λ g h. (sym (ap (λ (x : Flow). x.from) (one g h)), sym (ap (λ (x : Flow). x.to) (one g h)))) i j walk.0 walk.1 walk.2
 
--- one of the two hosts of the flow
+-- One of the two hosts of the flow.
 abbrev pub IsEnd : Flow → ℕ → Type 0
 IsEnd f h = (h ≡ f.from) ⊎ (h ≡ f.to)
 
@@ -90,7 +91,7 @@ Joined-one f i j walk =
     ] in
     walk_ends (has_either (f ∷ [])) (IsEnd f) (IsEnd f) ends i j walk.0 walk.1 walk.2
 
--- ---- in either direction
+-- ---- both directions
 
 has_either-back : (e : List Flow) (f : Flow) → IsTrue (has_either e f) → IsTrue (has_either e (back_of f))
 has_either-back e f shown =
@@ -105,12 +106,12 @@ turned e i j (f ∷ fs) walk =
     let rest = turned e f.to j fs walk.2 in
     (rest.0 ++ back_of f ∷ [], LeadsTo-append (has_either e) j f.to i rest.0 (back_of f ∷ []) rest.1 (has_either-back e f walk.0, refl, walk.1))
 
--- hosts that are joined are joined both ways
+-- Being joined is symmetric.
 pub Joined-back : (e : List Flow) (i j : ℕ) → Joined e i j → Joined e j i
 Joined-back e i j (f, fs, walk) =
     walk_over (has_either e) (back_of f) (has_either-back e f walk.0) j i (turned e f.to j fs walk.2) ([], walk.1)
 
--- ---- how many others
+-- ---- the number of other hosts
 
 pub ReachesExactly-at_most : (e : List Flow) (i count limit : ℕ) → ReachesExactly e i count → (count ≤ limit) ↔ ReachesAtMost e i limit
 ReachesExactly-at_most e i count limit exactly = (
@@ -118,7 +119,7 @@ ReachesExactly-at_most e i count limit exactly = (
   λ most. let few = most exactly.hosts exactly.reached in omega (arith, exactly.counted),
 )
 
--- a sender reaches some other host
+-- A sender reaches some other host.
 pub sender_reaches : (e : List Flow) (f : Flow) → IsTrue (has e f) → f.from ≢ f.to → ReachesAtMost e f.from 0 → ⊥
 sender_reaches e f here apart none =
     let few : 1 ≤ 0 =
@@ -129,7 +130,7 @@ sender_reaches e f here apart none =
     }) in
     omega arith
 
--- along one flow its sender alone reaches another host
+-- Along a single flow only its sender reaches another host.
 pub ReachesAtMost-one : (f : Flow) (i limit : ℕ) → (i ≡ f.from → 0 < limit) → ReachesAtMost (f ∷ []) i limit
 ReachesAtMost-one f i limit allows [] are = omega arith
 ReachesAtMost-one f i limit allows (h ∷ []) are = allows (Reaches-one f i h (are.reached 0 h (omega arith))).0
@@ -138,7 +139,7 @@ ReachesAtMost-one f i limit allows (h ∷ k ∷ hosts) are =
 
 -- ---- one more flow
 
--- hosts that are joined with one more flow were joined before, or its receiver stands between them
+-- Hosts that are joined with one more flow were joined before, or its receiver is on a walk between them.
 pub joined_through : (e : List Flow) (g : Flow) (i j : ℕ) → Joined (with_flow e g) i j
     → Joined e i j ⊎ (HasPath (has_either (with_flow e g)) i g.to × HasPath (has_either (with_flow e g)) g.to j)
 joined_through e g i j (f, fs, walk) =
@@ -158,7 +159,7 @@ joined_through e g i j (f, fs, walk) =
       | inr parts ↦ inr parts
     ]
 
--- whoever is reached with one more flow was reached before, or stands behind it
+-- A host that is reached with one more flow was reached before, or is reached through this flow.
 pub Reaches-cut : (e : List Flow) (g : Flow) (i j : ℕ) → Reaches (with_flow e g) i j
     → Reaches e i j ⊎ (HasPath (has e) i g.from × HasPath (has e) g.to j)
 Reaches-cut e g i j walk =
@@ -167,14 +168,14 @@ Reaches-cut e g i j walk =
 pub Reaches-more : (e : List Flow) (g : Flow) (i j : ℕ) → Reaches e i j → Reaches (with_flow e g) i j
 Reaches-more e g = Reaches-within e (with_flow e g) (λ f here. has-with_flow e g f ∙ or_right (same_flow g f) (has e f) here)
 
--- a path to its sender and one from its receiver are a walk with it
+-- A path to its sender and a path from its receiver form a walk with the flow.
 pub Reaches-over : (e : List Flow) (g : Flow) (i j : ℕ) → HasPath (has e) i g.from → HasPath (has e) g.to j → Reaches (with_flow e g) i j
 Reaches-over e g i j before after =
     let more : (k l : ℕ) → HasPath (has e) k l → HasPath (has (with_flow e g)) k l =
     HasPath-weaker (has e) (has (with_flow e g)) (λ f here. has-with_flow e g f ∙ or_right (same_flow g f) (has e f) here) in
     walk_over (has (with_flow e g)) g (has-with_flow e g g ∙ or_left _ _ (same_flow_self g)) i j (more i g.from before) (more g.to j after)
 
--- a flow whose receiver is reached already lets nobody reach anything new
+-- A flow whose receiver is already reached by its sender lets no host reach anything new.
 pub Reaches-nothing_new : (e : List Flow) (g : Flow) → Reaches e g.from g.to → (i j : ℕ) → Reaches (with_flow e g) i j → Reaches e i j
 Reaches-nothing_new e g there i j walk =
     elim (Reaches-cut e g i j walk) [
@@ -182,7 +183,7 @@ Reaches-nothing_new e g there i j walk =
       | inr parts ↦ walk_within (has e) i g.from g.to j parts.0 there parts.1
     ]
 
--- whoever reaches no more than before reaches no more others
+-- A host that reaches no more hosts than before is within the same limit.
 pub ReachesAtMost-as_before : (s e : List Flow) (i limit : ℕ) → ((j : ℕ) → Reaches s i j → Reaches e i j) → ReachesAtMost e i limit
     → ReachesAtMost s i limit
 ReachesAtMost-as_before s e i limit before most hosts are =
@@ -202,7 +203,7 @@ has_either-with_flow fs g f =
     ∙ regroup (same_flow g f) (has fs f) (same_flow g (back_of f)) (has fs (back_of f))
     ∙ sym (λ i. has-with_flow fs g f i || has-with_flow fs g (back_of f) i)
 
--- a flow between hosts that are joined already joins nothing new
+-- A flow between hosts that are joined already joins nothing new.
 pub Joined-nothing_new : (e : List Flow) (g : Flow) → Joined e g.from g.to → (i j : ℕ) → Joined (with_flow e g) i j → Joined e i j
 Joined-nothing_new e g there i j walk =
     let one_way : Flow → Bool = λ f. same_flow g f || has_either e f in
@@ -212,13 +213,13 @@ Joined-nothing_new e g there i j walk =
     (walk_without one_way (back_of g) back i j
     (HasWalk-weaker (has_either (with_flow e g)) _ (λ f passes. has_either-with_flow e g f ∙ passes) i j walk))
 
--- ---- who is joined by one more flow
+-- ---- hosts that are joined by one more flow
 
--- i is one of the two hosts of the flow, or joined with one of them
+-- Host i is one of the two hosts of the flow, or joined with one of them.
 abbrev pub Touches : List Flow → Flow → ℕ → Type 0
 Touches e g i = HasPath (has_either e) i g.from ⊎ HasPath (has_either e) i g.to
 
--- the flow joins nobody with those that it does not touch
+-- The flow joins no host with a host that it does not touch.
 pub Joined-untouched : (e : List Flow) (g : Flow) (i j : ℕ) → (Touches e g i → ⊥) → Joined (with_flow e g) i j → Joined e i j
 Joined-untouched e g i j apart walk =
     let one_way : Flow → Bool = λ f. same_flow g f || has_either e f in
@@ -238,7 +239,7 @@ path_turned e i j path =
       | inr walk ↦ path_of_walk (has_either e) j i (Joined-back e i j walk)
     ]
 
--- and joins all that it touches
+-- A new flow joins all hosts that it touches.
 pub Joined-touching : (e : List Flow) (g : Flow) (i j : ℕ) → Touches e g i → Touches e g j → Joined (with_flow e g) i j
 Joined-touching e g i j first second =
     let s : List Flow = with_flow e g in
@@ -259,7 +260,7 @@ Joined-touching e g i j first second =
       ]
     ]
 
--- whoever is joined with its sender is touched
+-- A host that is joined with its sender is touched.
 pub touched_of : (e : List Flow) (g : Flow) (i : ℕ) → Joined (with_flow e g) g.from i → Touches e g i
 touched_of e g i joined =
     let one_way : Flow → Bool = λ f. same_flow g f || has_either e f in

@@ -1,4 +1,4 @@
--- Laws of walks: over more flows, put together, cut at a flow or at a host, and where they end.
+-- Lemmas on walks: for more flows, concatenation, splitting at a flow or at a host, and their ends.
 use Rattle.std.proofs.Common.{◌≡◌, ℕ, Bool, ◌||◌, ◌⊎◌, inl, inr, List, [], ◌∷◌, ◌++◌, refl, sym, ◌∙◌, ap, subst}
 use Rattle.std.specs.Prelude.{IsTrue}
 use Rattle.std.proofs.lemmas.Bool.{or_cases}
@@ -7,11 +7,11 @@ use Rattle.flow_set.specs.Flow.{same_flow}
 use Rattle.flow_set.specs.laws.FlowLaws.{same_flow-true}
 use Rattle.reach_core.specs.Walks.{LeadsTo, HasWalk}
 
--- i is j, or there is a walk from i to j
+-- Host i is j, or there is a walk from i to j.
 abbrev pub HasPath : (Flow → Bool) → ℕ → ℕ → Type 0
 HasPath test i j = (fs : List Flow) × LeadsTo test i j fs
 
--- ---- over more flows
+-- ---- more flows
 
 pub LeadsTo-weaker : (test wider : Flow → Bool) → ((f : Flow) → IsTrue (test f) → IsTrue (wider f)) → (i j : ℕ) (fs : List Flow)
     → LeadsTo test i j fs → LeadsTo wider i j fs
@@ -26,7 +26,7 @@ pub HasWalk-weaker : (test wider : Flow → Bool) → ((f : Flow) → IsTrue (te
     → HasWalk wider i j
 HasWalk-weaker test wider more i j walk = (walk.0, walk.1, LeadsTo-weaker test wider more i j (walk.0 ∷ walk.1) walk.2)
 
--- ---- put together
+-- ---- concatenation
 
 pub path_of_walk : (test : Flow → Bool) (i j : ℕ) → HasWalk test i j → HasPath test i j
 path_of_walk test i j walk = (walk.0 ∷ walk.1, walk.2)
@@ -40,21 +40,21 @@ pub LeadsTo-append : (test : Flow → Bool) (i k j : ℕ) (fs gs : List Flow) �
 LeadsTo-append test i k j [] gs here walk = let P : ℕ → Type 0 = λ h. LeadsTo test h j gs in subst P (sym here) walk
 LeadsTo-append test i k j (f ∷ fs) gs first second = (first.0, first.1, LeadsTo-append test f.to k j fs gs first.2 second)
 
--- a walk and a walk are a walk
+-- The concatenation of two walks is a walk.
 pub HasWalk-append : (test : Flow → Bool) (i k j : ℕ) → HasWalk test i k → HasWalk test k j → HasWalk test i j
 HasWalk-append test i k j (f, fs, before) (g, gs, after) =
     (f, fs ++ g ∷ gs, LeadsTo-append test i k j (f ∷ fs) (g ∷ gs) before after)
 
--- a path, a flow and a path are a walk
+-- A path, a flow and a path form a walk.
 pub walk_over : (test : Flow → Bool) (g : Flow) → IsTrue (test g) → (i j : ℕ) → HasPath test i g.from → HasPath test g.to j
     → HasWalk test i j
 walk_over test g passes i j ([], here) (gs, after) = (g, gs, (passes, sym here, after))
 walk_over test g passes i j (f ∷ fs, before) (gs, after) =
     (f, fs ++ g ∷ gs, LeadsTo-append test i g.from j (f ∷ fs) (g ∷ gs) before (passes, refl, after))
 
--- ---- cut in two
+-- ---- splitting
 
--- a walk over one more flow does without it, or leads to its sender and on from its receiver
+-- A walk that may use one more flow does not need it, or leads to its sender and continues from its receiver.
 pub path_cut : (test : Flow → Bool) (g : Flow) (i j : ℕ) (fs : List Flow) → LeadsTo (λ f. same_flow g f || test f) i j fs
     → LeadsTo test i j fs ⊎ (HasPath test i g.from × HasPath test g.to j)
 path_cut test g i j [] here = inl here
@@ -79,7 +79,7 @@ pub walk_cut : (test : Flow → Bool) (g : Flow) (i j : ℕ) → HasWalk (λ f. 
 walk_cut test g i j (f, fs, walk) =
     elim (path_cut test g i j (f ∷ fs) walk) [ inl stays ↦ inl (f, fs, stays) | inr parts ↦ inr parts ]
 
--- a path, a walk and a path are a walk
+-- A path, a walk and a path form a walk.
 pub walk_within : (test : Flow → Bool) (i k l j : ℕ) → HasPath test i k → HasWalk test k l → HasPath test l j → HasWalk test i j
 walk_within test i k l j before walk after =
     let onward : HasWalk test k j = elim (cases_path test l j after) [
@@ -91,7 +91,7 @@ walk_within test i k l j before walk after =
       | inr first ↦ HasWalk-append test i k j first onward
     ]
 
--- a flow between whose hosts there is a walk adds no walk
+-- A flow whose hosts are connected by a walk adds no walk.
 pub walk_without : (test : Flow → Bool) (g : Flow) → HasWalk test g.from g.to → (i j : ℕ)
     → HasWalk (λ f. same_flow g f || test f) i j → HasWalk test i j
 walk_without test g there i j walk =
@@ -100,13 +100,14 @@ walk_without test g there i j walk =
       | inr parts ↦ walk_within test i g.from g.to j parts.0 there parts.1
     ]
 
--- nor does any flow for whoever does not come to its sender
+-- Nor does any flow for a host without a path to its sender.
 pub walk_elsewhere : (test : Flow → Bool) (g : Flow) (i j : ℕ) → (HasPath test i g.from → ⊥)
     → HasWalk (λ f. same_flow g f || test f) i j → HasWalk test i j
 walk_elsewhere test g i j apart walk =
     elim (walk_cut test g i j walk) [ inl stays ↦ stays | inr parts ↦ absurd (apart parts.0) ]
 
--- where each further flow has an end at the host, a walk does without these flows, or leads to the host and on from it
+-- If each further flow has an end at the host, a walk does not need these flows, or leads to the host and continues
+-- from it.
 pub path_touch : (test wider : Flow → Bool) (host : ℕ)
     → ((f : Flow) → IsTrue (wider f) → IsTrue (test f) ⊎ ((f.from ≡ host) ⊎ (f.to ≡ host))) → (i j : ℕ) (fs : List Flow)
     → LeadsTo wider i j fs → LeadsTo test i j fs ⊎ (HasPath wider i host × HasPath wider host j)
@@ -126,7 +127,7 @@ path_touch test wider host further i j (f ∷ fs) walk =
       | inr parts ↦ inr ((f ∷ parts.0.0, (walk.0, walk.1, parts.0.1)), parts.1)
     ]
 
--- ---- where walks end
+-- ---- the ends of walks
 
 pub walk_ends : (test : Flow → Bool) (Begins Ends : ℕ → Type 0) → ((f : Flow) → IsTrue (test f) → Begins f.from × Ends f.to)
     → (i j : ℕ) (f : Flow) (fs : List Flow) → LeadsTo test i j (f ∷ fs) → Begins i × Ends j
