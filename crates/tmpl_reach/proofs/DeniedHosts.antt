@@ -1,4 +1,4 @@
--- The denied hosts of each host are others, from the first on.
+-- The denied hosts of each host are others, initially and after each change.
 use Rattle.std.proofs.Common.{◌≡◌, ℕ, ◌<◌, List, length, length-set, get_or, set, Some, sym, ◌∙◌, ap, subst, arith}
 use Rattle.std.specs.FinSet as fin
 use Rattle.std.proofs.lemmas.List.FromFn.{get_or-map-range_with_len, length-map-range_with_len}
@@ -19,7 +19,7 @@ AllMayHave-all_others n host within =
     subst (λ m. AreOthers m host (get_or (all_others n) host (others m host))) (sym sized)
     (λ j denies. ap (λ (s : HostNumbers). fin.contains s j) (sym here) ∙ denies)
 
--- those that a host denies
+-- The hosts that a host denies.
 pub AreOthers-row : (denied : List HostNumbers) (host : ℕ) (row : HostNumbers) → DenyOthers denied → host < length denied
     → row ≡ get_or denied host row → AreOthers (length denied) host row
 AreOthers-row denied host row are within here =
@@ -27,7 +27,7 @@ AreOthers-row denied host row are within here =
     subst (AreOthers (length denied) host) (get_or_from_slice_get denied host row d (slice_get-get_or denied host row within ∙ ap Some (sym here)))
     (are.may_have host within)
 
--- one host with others to deny
+-- One host is given other hosts to deny.
 pub DenyOthers-set : (denied : List HostNumbers) (host : ℕ) (hosts : HostNumbers) → DenyOthers denied
     → AreOthers (length denied) host hosts → DenyOthers (set denied host hosts)
 DenyOthers-set denied host hosts are may = record {

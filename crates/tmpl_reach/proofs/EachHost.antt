@@ -1,4 +1,4 @@
--- Going over the hosts of a set, from the first on.
+-- Iteration over the hosts of a set, from the first on.
 use Rattle.std.proofs.Common.{ℕ, ◌+◌, ◌<◌, ◌≤◌, inl, inr, sym, subst, arith}
 use Rattle.std.specs.Prelude.{IsTrue}
 use Rattle.std.specs.FinSet as set
@@ -7,7 +7,7 @@ use Rattle.flow_set.specs.HostSet.{HostNumbers}
 use Rattle.flow_set.specs.inner.Calls.{HasNone, IsFirstFrom}
 use Rattle.tmpl_reach.specs.inner.EachOf.{EachOf}
 
--- what is said of each host below `from`
+-- A property of each host below `from`.
 abbrev pub UpTo : HostNumbers → (ℕ → Type 0) → ℕ → Type 0
 UpTo hosts P from = (host : ℕ) → host < from → IsTrue (set.contains hosts host) → P host
 

@@ -1,4 +1,4 @@
--- Whether a row of hosts meets some others, the row's own host apart.
+-- Whether a row of hosts intersects some others, apart from the row's own host.
 use Rattle.std.proofs.Common.{◌≡◌, ◌≢◌, ℕ, not, nat_eq, ◌↔◌, sym, ◌∙◌, ap}
 use Rattle.std.specs.Prelude.{IsTrue}
 use Rattle.std.specs.FinSet as set
@@ -7,7 +7,7 @@ use Rattle.flow_set.specs.HostSet.{HostNumbers}
 use Rattle.flow_set.specs.inner.Calls.{AreApart}
 use Rattle.flow_set.specs.laws.HostSetLaws.{contains-remove}
 
--- the row without its host is apart from the others exactly where none of them stands in it, the host apart
+-- The row without its host is disjoint from the others if and only if none of them is in it, apart from the host.
 pub apart_but : (row rest hosts : HostNumbers) (host : ℕ) (Stands : ℕ → Type 0) → ((j : ℕ) → IsTrue (set.contains row j) ↔ Stands j)
     → rest ≡ set.remove row host
     → AreApart rest hosts ↔ ((j : ℕ) → host ≢ j → IsTrue (set.contains hosts j) → Stands j → ⊥)

@@ -1,4 +1,4 @@
--- What is left to ask with one more flow: of those that it opens ways for, or that it joins.
+-- The remaining tests with one more flow: of the hosts that it lets reach more, or that it joins.
 use Rattle.std.proofs.Common.{◌≡◌, ℕ, ◌+◌, ◌<◌, ◌≤◌, ◌↔◌, ◌∙◌, List, inl, inr, sym, arith}
 use Rattle.std.specs.Prelude.{IsFalse, IsTrue}
 use Rattle.std.specs.FinSet as set
@@ -14,7 +14,7 @@ use Rattle.tmpl_reach.specs.inner.Interferences.{HasOneAtMost, IsNextInterfering
 use Rattle.tmpl_reach.specs.NonInterference.{IsInterfering, IsNonInterfering}
 use Rattle.tmpl_reach.specs.declared.non_interference.Interference.{Interference}
 
--- what holds of each host of a set with one flow more holds of all hosts, where the others reach nothing new
+-- A property that holds for each host of a set with one more flow holds for all hosts, if the others reach nothing new.
 pub everywhere : (P : List Flow → ℕ → Type 0) (e : List Flow) (f : Flow) (hosts : HostNumbers)
     → ((s e : List Flow) (host : ℕ) → ((j : ℕ) → Reaches s host j → Reaches e host j) → P e host → P s host)
     → ((i j : ℕ) → IsFalse (set.contains hosts i) → Reaches (with_flow e f) i j → Reaches e i j)
@@ -38,7 +38,7 @@ still_apart kinds e from hosts joined elsewhere = (
       (HasWalk-append (has_either e) i from j (Joined-back e from i ((joined i).0 at_i)) ((joined j).0 at_j)),
 )
 
--- ---- one interfering host at most
+-- ---- at most one interfering host
 
 pub none_of_two : (kinds : List Interference) (hosts : HostNumbers) (n : ℕ) → n ≤ 256 → EachOf hosts (λ host. host < n)
     → NoneInterferes kinds hosts 0 256 → HasOneAtMost kinds hosts

@@ -1,5 +1,5 @@
--- The no-reach template: hosts that a host must not reach, on whatever way.
--- In the manner of the template of this name in the entry Network_Security_Policy_Verification of the Archive of Formal Proofs.
+-- The no-reach template: hosts that a host must not reach, on any path. Based on the template of this name in the entry
+-- Network_Security_Policy_Verification of the Archive of Formal Proofs.
 use Rattle.std.specs.Prelude.{◌≢◌, ℕ, not, ◌==◌, List, slice_index_or, IsTrue, codes}
 use Rattle.std.specs.FinSet as set
 use Rattle.flow_set.specs.declared.flow.Flow.{Flow}
@@ -8,21 +8,22 @@ use Rattle.inv_law.specs.Template.{Template, walk_template}
 use Rattle.inv_law.specs.declared.strategy.Strategy.TheVariants.{Access}
 use Rattle.reach_core.specs.Walks.{Reaches}
 
--- all hosts of n but this one: what a host without an entry denies
+-- All hosts below n except this one: the default of a host without an entry.
 abbrev pub others : ℕ → ℕ → HostNumbers
 others n host = hosts_below n (λ other. not (other == host))
 
--- of n hosts, each of these is another one than the host
+-- The denied hosts are among n hosts, and differ from the host.
 abbrev pub AreOthers : ℕ → ℕ → HostNumbers → Type 0
 AreOthers n host denied = (j : ℕ) → IsTrue (set.contains denied j) → IsTrue (set.contains (others n host) j)
 
--- the hosts that a host denies
+-- The hosts that a host denies.
 abbrev pub denied_by : List HostNumbers → ℕ → HostNumbers
 denied_by denied i = slice_index_or denied i set.empty
 
--- no host comes to another one that it denies
+-- No host reaches another host that it denies.
 abbrev pub ReachesNoDenied : List HostNumbers → List Flow → Type 0
 ReachesNoDenied denied e = (i j : ℕ) → i ≢ j → IsTrue (set.contains (denied_by denied i) j) → Reaches e i j → ⊥
 
+-- The template `noreach`.
 abbrev pub no_reach : Template
 no_reach = walk_template (codes "noreach") Access AreOthers others ReachesNoDenied

@@ -1,5 +1,5 @@
-//! Dependability: how many others a host may depend on. A host depends on those that it reaches
-//! along the flows, and never on itself.
+//! Dependability: a bound on the number of other hosts that a host depends on. A host depends on
+//! the hosts that it reaches along the flows, and never on itself.
 
 ghost use Rattle.std.specs.Prelude.{◌≡◌, ◌<◌, IfOk, false, length, replicate, slice_index, slice_set};
 ghost use Rattle.std.proofs.lemmas.Bool.{false≢true};
@@ -19,7 +19,7 @@ use reach_core::ReachClosure;
 use std::alloc::{AllocError, Global};
 use std::marker::Model;
 
-/// Keeps each host from reaching more other hosts than its limit allows.
+/// Bounds the number of other hosts that each host reaches.
 #[derive(Drop)]
 pub struct Dependability {
     limits: Vec<u16>,
@@ -36,7 +36,7 @@ impl Model for Dependability {
 }
 
 impl Dependability {
-    /// The invariant of `n` hosts of limit 0.
+    /// Returns the invariant of `n` hosts with limit 0.
     pub fn new(alloc: Global, n: u16) -> Result<Self, AllocError>
         ensures { IfOk result (λ x. x ≡ replicate n 0) }
     {
@@ -45,7 +45,7 @@ impl Dependability {
         Ok(Dependability { limits })
     }
 
-    /// Lets the host reach so many other hosts.
+    /// Sets the number of other hosts that the host may reach.
     pub fn set(&mut self, host: u16, limit: u16)
         requires { host < length self.old }
         ensures { self.new ≡ slice_set self.old host limit }

@@ -1,5 +1,5 @@
-//! The three templates that look at walks: dependability, non-interference and no-reach. Each is an
-//! invariant with a file of its own, and none of them judges flows one by one.
+//! The three templates that depend on paths: dependability, non-interference and no-reach. Each is
+//! an invariant with its own file, and none of them is edge-wise.
 #![tactic(auto)]
 
 mod dependability;

@@ -1,4 +1,4 @@
-//! No-reach: hosts that a host must not reach, on whatever way.
+//! No-reach: hosts that a host must not reach, on any path.
 
 ghost use Rattle.std.specs.Prelude.{◌≡◌, ◌≢◌, ◌<◌, ◌≤◌, IfOk, false, length, slice_set};
 ghost use Rattle.std.specs.FinSet as set;
@@ -18,7 +18,7 @@ use reach_core::ReachClosure;
 use std::alloc::{AllocError, Global};
 use std::marker::Model;
 
-/// Keeps each host from reaching the hosts that it denies.
+/// Forbids each host to reach the hosts that it denies.
 #[derive(Drop)]
 pub struct NoReach {
     denied: Vec<HostSet>,
@@ -41,7 +41,8 @@ impl Model for NoReach {
 }
 
 impl NoReach {
-    /// The invariant of `n` hosts that each deny all others. A set of flows has at most 256 hosts.
+    /// Returns the invariant of `n` hosts that each deny all others. A set of flows has at most 256
+    /// hosts.
     pub fn new(alloc: Global, n: u16) -> Result<Self, AllocError>
         requires { n ≤ 256 }
         ensures { IfOk result (λ x. x ≡ all_others n) }
@@ -61,7 +62,7 @@ impl NoReach {
         self.denied[host as usize] = HostSet::empty();
     }
 
-    /// Keeps the host from reaching one more.
+    /// Adds a host that the host must not reach.
     pub fn deny(&mut self, host: u16, other: u16)
         requires host { host < length self.old }
         requires other { other < length self.old }
@@ -189,7 +190,7 @@ impl Stepwise for NoReach {
     ghost fits_size = { λ x tried fits. fits.size };
 }
 
-// All hosts of `n` but this one.
+// Returns all hosts below `n` except this one.
 fn others(n: u16, host: u16) -> HostSet
     requires count { n ≤ 256 }
     requires host { host < 256 }

@@ -1,5 +1,5 @@
-//! Non-interference: hosts that must not learn of each other. Whatever joins two of them counts, in
-//! either direction.
+//! Non-interference: hosts that must not learn of each other. Two hosts are joined by any walk
+//! between them, regardless of the direction of its flows.
 
 ghost use Rattle.std.specs.Prelude.{◌≡◌, ◌≢◌, ℕ, ◌<◌, ◌≤◌, ◌↔◌, IfOk, IsTrue, MatchOption, false, length, replicate, slice_set};
 ghost use Rattle.std.specs.FinSet as set;
@@ -23,16 +23,16 @@ use reach_core::JoinClosure;
 use std::alloc::{AllocError, Global};
 use std::marker::Model;
 
-// What a host is to the interfering ones.
+// Whether a host is interfering.
 #[derive(Clone, Copy, PartialEq, Eq)]
 enum Interference {
-    // One of them.
+    // The host is interfering.
     Interfering,
-    // None of them: it may be joined with all.
+    // The host is not interfering: it may be joined with all hosts.
     Unrelated,
 }
 
-/// Keeps interfering hosts apart.
+/// Isolates interfering hosts from each other.
 #[derive(Drop)]
 pub struct NonInterference {
     kinds: Vec<Interference>,
@@ -50,7 +50,7 @@ impl Model for NonInterference {
 }
 
 impl NonInterference {
-    /// The invariant of `n` interfering hosts.
+    /// Returns the invariant of `n` interfering hosts.
     pub fn new(alloc: Global, n: u16) -> Result<Self, AllocError>
         ensures { IfOk result (λ x. x ≡ replicate n Interfering) }
     {
@@ -59,7 +59,7 @@ impl NonInterference {
         Ok(NonInterference { kinds })
     }
 
-    /// Lets the host be joined with all.
+    /// Lets the host be joined with all hosts.
     pub fn set_unrelated(&mut self, host: u16)
         requires { host < length self.old }
         ensures { self.new ≡ slice_set self.old host Unrelated }
@@ -74,7 +74,7 @@ impl NonInterference {
         self.kinds[host as usize] == Interference::Interfering
     }
 
-    // The interfering hosts.
+    // Returns the interfering hosts.
     fn interfering(&self) -> HostSet
         requires { length self.now ≤ 256 }
         ensures { (host : ℕ) → IsTrue (set.contains result host) ↔ IsInterfering self.now host }
@@ -88,7 +88,7 @@ impl NonInterference {
         hosts
     }
 
-    // Whether nothing joins an interfering host with another.
+    // Whether no interfering host is joined with another.
     fn all_apart(&self, closure: &JoinClosure) -> bool
         requires { closure.now.size ≡ length self.now }
         ensures { IsTrue result ↔ IsNonInterfering self.now closure.now.flows }
@@ -103,7 +103,8 @@ impl NonInterference {
         true
     }
 
-    // Whether nothing joins an interfering host with another with one flow more, where nothing does without it.
+    // Whether no interfering host is joined with another after one more flow, provided that none is
+    // without it.
     fn still_apart(&self, closure: &JoinClosure, f: Flow) -> bool
         requires size { closure.now.size ≡ length self.now }
         requires flow { IsFlow closure.now.size f }
@@ -118,7 +119,7 @@ impl NonInterference {
         self.has_one_at_most(&hosts)
     }
 
-    // Whether at most one of the hosts is an interfering one.
+    // Whether at most one of the hosts is interfering.
     fn has_one_at_most(&self, hosts: &HostSet) -> bool
         requires small { length self.now ≤ 256 }
         requires hosts { EachOf hosts.now (λ host. host < length self.now) }
@@ -133,7 +134,7 @@ impl NonInterference {
         }
     }
 
-    // The first of the hosts, from this one on, that is an interfering one.
+    // Returns the first interfering host of the set, from `from` on.
     fn next_interfering(&self, hosts: &HostSet, from: u16) -> Option<u16>
         requires { EachOf hosts.now (λ host. host < length self.now) }
         ensures { MatchOption result
@@ -151,7 +152,7 @@ impl NonInterference {
     }
 }
 
-// Whether nothing joins the host with another of these.
+// Whether the host is joined with no other host of the set.
 fn is_apart(hosts: &HostSet, closure: &JoinClosure, host: u16) -> bool
     requires host { host < closure.now.size }
     requires few { closure.now.size ≤ 256 }

@@ -1,5 +1,5 @@
-//! The trial of the templates that look at walks: the half of the closure that the template asks, which takes
-//! one step back.
+//! The trial of the templates that depend on paths: the half of the closure that the template uses,
+//! with one undoable step.
 
 ghost use Rattle.std.specs.Prelude.{◌≡◌};
 ghost use Rattle.tmpl_reach.specs.inner.Trials.{tried_half};
@@ -7,15 +7,16 @@ ghost use Rattle.tmpl_reach.specs.inner.Trials.{tried_half};
 use inv_law::Trial;
 use reach_core::{JoinClosure, ReachClosure};
 
-// The half of a closure that a template asks: whom each host reaches, or with whom it is joined.
+// The half of a closure that a template uses: the hosts that each host reaches, or the hosts with
+// which it is joined.
 #[derive(Drop)]
 pub(crate) enum Half {
     Reach(ReachClosure),
     Join(JoinClosure),
 }
 
-/// A set of flows that is tried in steps by a template that looks at walks. It keeps what its template asks of the
-/// walks, and fits no template that asks the other half.
+/// An undoable set of flows for a template that depends on paths. It stores the closure that its
+/// template uses, and belongs to no template that uses the other one.
 #[derive(Drop)]
 pub struct ReachTrial {
     pub(crate) half: Half,

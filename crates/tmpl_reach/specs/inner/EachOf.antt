@@ -1,4 +1,4 @@
--- What is said of each host of a set. No clause of a public call speaks of it.
+-- Properties of each host of a set. No clause of a public call mentions it.
 use Rattle.std.specs.Prelude.{ℕ, IsTrue}
 use Rattle.std.specs.FinSet as set
 use Rattle.flow_set.specs.HostSet.{HostNumbers}

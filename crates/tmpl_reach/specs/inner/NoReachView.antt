@@ -1,4 +1,4 @@
--- How the denied hosts are kept: there are at most 256 hosts, and each denies others alone.
+-- The representation of the denied hosts: there are at most 256 hosts, and each denies only others.
 use Rattle.std.specs.Prelude.{◌≤◌, List, length}
 use Rattle.flow_set.specs.HostSet.{HostNumbers}
 use Rattle.inv_law.specs.inner.Template.{AllMayHave}

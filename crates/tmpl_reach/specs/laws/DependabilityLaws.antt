@@ -1,4 +1,4 @@
--- Dependability holds of subsets and of no flows, and the limit 0 is secure.
+-- Dependability is downward closed and holds for the empty set, and the limit 0 is a secure default.
 use Rattle.std.proofs.Common.{◌≡◌, ℕ, ◌<◌, List, [], ◌∷◌, length, get_or, set, length-set, ◌↔◌, inl, inr, sym, subst, arith}
 use Rattle.std.specs.Prelude.{IsTrue, slice_index, slice_set}
 use Rattle.std.proofs.lemmas.Bool.{cases_eq}
@@ -25,7 +25,7 @@ IsDependable-downward n limits e s is_set subset holds host below =
 pub IsDependable-none : (limits : List ℕ) → IsDependable limits []
 IsDependable-none limits host below = ReachesAtMost-none host _
 
--- an offending host sends, so it reaches another, and the limit 0 allows none
+-- An offending host sends, so it reaches another host, and the limit 0 allows none.
 pub IsDependable-reset : (limits : List ℕ) → ResetMendsNothing (length limits) Access (IsDependable limits) (IsDependableAfterReset limits)
 IsDependable-reset limits e f host is_set minimal offending holds =
     let in_e : IsTrue (has e offending.flow) = minimal.within.within offending.flow offending.offends in
@@ -36,7 +36,7 @@ IsDependable-reset limits e f host is_set minimal offending holds =
     sender_reaches e offending.flow in_e is_flow.2
     (subst (ReachesAtMost e offending.flow.from) limit (after offending.flow.from (omega (arith, is_flow.0, length-set {A = ℕ}))))
 
--- one flow alone: its sender reaches one other host
+-- A single flow: its sender reaches one other host.
 pub IsDependable-one : (limits : List ℕ) (f : Flow) → IsFlow (length limits) f
     → (0 < slice_index limits f.from) ↔ IsDependable limits (f ∷ [])
 IsDependable-one limits f is_flow = (

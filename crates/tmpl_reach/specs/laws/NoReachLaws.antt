@@ -1,4 +1,4 @@
--- No-reach holds of subsets and of no flows, and to deny all others is secure.
+-- No-reach is downward closed and holds for the empty set, and denying all others is a secure default.
 use Rattle.std.proofs.Common.{◌≡◌, ◌≢◌, ℕ, not, ◌&&◌, nat_eq, nat_lt, List, [], ◌∷◌, length, ◌↔◌, inl, inr, refl, sym, ◌∙◌, ap, subst, get_or-set_same, arith}
 use Rattle.std.specs.Ordering.{nat_cmp}
 use Rattle.std.specs.Prelude.{◌<◌, IsTrue, slice_set}
@@ -29,7 +29,7 @@ ReachesNoDenied-none denied i j apart denies reaches = Reaches-none i j reaches
 pub contains-others : (n host j : ℕ) → set.contains (others n host) j ≡ (nat_lt j n && not (nat_eq j host))
 contains-others n host j = contains-hosts_below n (λ other. not (nat_eq other host)) j
 
--- one more host may be denied exactly where it is another one of the hosts
+-- One more host may be denied if and only if it is another one of the hosts.
 pub AreOthers-insert : (n host : ℕ) (denied : HostNumbers) (other : ℕ) → AreOthers n host denied
     → ((other < n) × (host ≢ other)) ↔ AreOthers n host (set.insert denied other)
 AreOthers-insert n host denied other may = (
@@ -47,14 +47,14 @@ AreOthers-insert n host denied other may = (
       (ltb-true other n below, λ same. false≢true (sym (not_from_true (nat_eq other host) (eq-eqb other host (sym same))) ∙ apart)),
 )
 
--- a host that denies none, and one with the default
+-- A host that denies none, and a host with the default.
 pub AreOthers-none : (n host : ℕ) → AreOthers n host set.empty
 AreOthers-none n host j denies = absurd (false≢true (sym (set.contains-empty nat_cmp j) ∙ denies))
 
 pub no_reach_default : MayHaveDefault no_reach
 no_reach_default n host within j denies = denies
 
--- an offending host sends, so it reaches another, and denies it after its reset
+-- An offending host sends, so it reaches another host, and denies it after its reset.
 pub ReachesNoDenied-reset : (denied : List HostNumbers)
     → ResetMendsNothing (length denied) Access (ReachesNoDenied denied) (ReachesNoDeniedAfterReset denied)
 ReachesNoDenied-reset denied e f host is_set minimal offending holds =
@@ -70,7 +70,7 @@ ReachesNoDenied-reset denied e f host is_set minimal offending holds =
     after g.from g.to is_flow.2 (ap (λ s. set.contains s g.to) (get_or-set_same denied g.from all set.empty is_flow.0) ∙ denies)
     (reaches_over e g in_e)
 
--- one flow alone: its sender reaches its receiver
+-- A single flow: its sender reaches its receiver.
 pub ReachesNoDenied-one : (denied : List HostNumbers) (f : Flow) → IsFlow (length denied) f
     → (IsTrue (set.contains (denied_by denied f.from) f.to) → ⊥) ↔ ReachesNoDenied denied (f ∷ [])
 ReachesNoDenied-one denied f is_flow = (
@@ -80,7 +80,7 @@ ReachesNoDenied-one denied f is_flow = (
   λ holds denies. holds f.from f.to is_flow.2 denies (reaches_over (f ∷ []) f (has_first f [])),
 )
 
--- An example: the first of three hosts denies the third, and comes to it by the second.
+-- An example: the first of three hosts denies the third, and reaches it by the second.
 
 abbrev chain : List Flow
 chain = record { from = 0; to = 1 } ∷ record { from = 1; to = 2 } ∷ []

@@ -1,4 +1,4 @@
--- Non-interference holds of subsets and of no flows, and to interfere is secure.
+-- Non-interference is downward closed and holds for the empty set, and to be interfering is a secure default.
 use Rattle.std.proofs.Common.{◌≢◌, ℕ, List, [], ◌∷◌, length, ◌↔◌, inl, inr, refl, sym, ◌∙◌, subst, arith, get_or-set_same, get_or-set_other}
 use Rattle.std.specs.Prelude.{IsTrue, slice_set}
 use Rattle.std.proofs.lemmas.Bool.{cases_eq, or_cases, and_parts}
@@ -28,7 +28,7 @@ IsNonInterfering-downward n hosts e s is_set subset holds i first j apart second
 pub IsNonInterfering-none : (hosts : List Interference) → IsNonInterfering hosts []
 IsNonInterfering-none hosts i first j apart second joined = Joined-none i j joined
 
--- put back, a flow of e makes walks of e alone
+-- Inserting a removed flow of e results in flows of e only.
 put_back-within : (e f : List Flow) (g : Flow) → IsTrue (has e g) → (x : Flow) → IsTrue (has (with_flow (without e f) g) x)
     → IsTrue (has e x)
 put_back-within e f g in_e x shown =
@@ -41,7 +41,7 @@ still_interfering : (hosts : List Interference) (host i : ℕ) → i ≢ host �
     → IsInterfering (slice_set hosts host Interfering) i
 still_interfering hosts host i other interferes = get_or-set_other hosts host i Interfering Unrelated other ∙ interferes
 
--- the receiver of an offending flow stands between two interfering hosts, and is another than one of them
+-- The receiver of an offending flow is on a walk between two interfering hosts, and differs from one of them.
 pub IsNonInterfering-reset : (hosts : List Interference)
     → ResetMendsNothing (length hosts) Information (IsNonInterfering hosts) (IsNonInterferingAfterReset hosts)
 IsNonInterfering-reset hosts e f host is_set minimal offending holds =
@@ -70,20 +70,20 @@ IsNonInterfering-reset hosts e f host is_set minimal offending holds =
       ]
     ])
 
--- a flow between hosts that are joined already breaks nothing
+-- A flow between hosts that are joined already violates nothing.
 pub IsNonInterfering-nothing_new : (hosts : List Interference) (e : List Flow) (f : Flow) → Joined e f.from f.to
     → IsNonInterfering hosts e → IsNonInterfering hosts (with_flow e f)
 IsNonInterfering-nothing_new hosts e f there holds i first j apart second joined =
     holds i first j apart second (Joined-nothing_new e f there i j joined)
 
--- one more flow changes nothing for those that are not joined with its sender then
+-- One more flow changes nothing for the hosts that are then not joined with its sender.
 pub StaysApart-with_flow : (hosts : List Interference) (e : List Flow) (f : Flow) → IsNonInterfering hosts e → (host : ℕ)
     → StaysApart hosts (with_flow e f) f.from host
 StaysApart-with_flow hosts e f holds host never first j apart second joined =
     holds host first j apart second
     (Joined-untouched e f host j (λ touches. never (Joined-touching e f f.from host (inl ([], refl)) touches)) joined)
 
--- one flow alone joins its two hosts
+-- A single flow joins its two hosts.
 pub IsNonInterfering-one : (hosts : List Interference) (f : Flow) → IsFlow (length hosts) f
     → (IsInterfering hosts f.from → IsInterfering hosts f.to → ⊥) ↔ IsNonInterfering hosts (f ∷ [])
 IsNonInterfering-one hosts f is_flow = (

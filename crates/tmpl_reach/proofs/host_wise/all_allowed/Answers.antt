@@ -19,7 +19,7 @@ loop-host-preserved g c i below =
           ((c.allows.ensures c.args.closure.now.flows c.reached_from.ensures).0 c.if-not-allows.false)
     ]
 
--- a number that is no host's reaches nothing
+-- A number that is no host's reaches nothing.
 pub returns : goal.returns
 returns g c =
     let e = c.args.closure.now in (

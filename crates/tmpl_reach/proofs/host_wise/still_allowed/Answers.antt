@@ -15,7 +15,7 @@ use Rattle.tmpl_reach.proofs.EachHost.{upto_end, upto_next}
 use Rattle.tmpl_reach.proofs.Still.{everywhere}
 use Rattle.tmpl_reach.proofs.host_wise.still_allowed.Goals as goal
 
--- whoever a flow opens a way for is a host
+-- A host that reaches more with a flow is one of the hosts.
 opened_below : (n : ℕ) (e : List Flow) (f : Flow) (hosts : HostNumbers) → IsFlowSet n e → IsFlow n f
     → ((host : ℕ) → IsTrue (set.contains hosts host) ↔ ReachesOnlyWith f e host f.to) → EachOf hosts (λ host. host < n)
 opened_below n e f hosts is_set is_flow opened host there =

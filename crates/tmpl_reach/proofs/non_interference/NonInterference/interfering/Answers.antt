@@ -8,7 +8,7 @@ use Rattle.tmpl_reach.specs.NonInterference.{IsInterfering}
 use Rattle.tmpl_reach.proofs.non_interference.NonInterference.interfering.Goals as goal
 use Rattle.tmpl_reach.proofs.non_interference.NonInterference.interfering.Goals.{then-interferes, else-interferes}
 
--- the next host is put in
+-- The next host is inserted.
 one_more : (hosts new : HostNumbers) (Marked : ℕ → Type 0) (host : ℕ) → new ≡ set.insert hosts host → Marked host
     → ((j : ℕ) → IsTrue (set.contains hosts j) ↔ ((j < host) × Marked j)) → (j : ℕ)
     → IsTrue (set.contains new j) ↔ ((j < host + 1) × Marked j)
@@ -24,7 +24,7 @@ one_more hosts new Marked host is marked sofar j =
       ],
     )
 
--- or passed over
+-- Or it is skipped.
 none_more : (hosts new : HostNumbers) (Marked : ℕ → Type 0) (host : ℕ) → new ≡ hosts → (Marked host → ⊥)
     → ((j : ℕ) → IsTrue (set.contains hosts j) ↔ ((j < host) × Marked j)) → (j : ℕ)
     → IsTrue (set.contains new j) ↔ ((j < host + 1) × Marked j)

@@ -6,7 +6,7 @@ use Rattle.tmpl_reach.specs.laws.NonInterferenceLaws.{IsNonInterfering-one}
 use Rattle.tmpl_reach.proofs.non_interference.NonInterferenceInvariant.admits.Goals as goal
 use Rattle.tmpl_reach.proofs.non_interference.NonInterferenceInvariant.admits.Goals.{then-interferes, else-interferes}
 
--- the negation of a test of two facts, where the two exclude each other exactly where X holds
+-- The negation of a test of two facts, if they exclude each other if and only if X holds.
 unless_both : (both : Bool) (P Q X : Type 0) → (IsTrue both ↔ (P × Q)) → ((P → Q → ⊥) ↔ X) → IsTrue (not both) ↔ X
 unless_both both P Q X tells law = (
   λ shown. law.0 (λ p q. both_ways both (not-true both shown) (tells.1 (p, q))),
