@@ -1,4 +1,4 @@
--- Any attribute but the default lets off a host that is to blame, template by template.
+-- Any attribute except the default exonerates an offending host, template by template.
 use Rattle.std.proofs.Common.{◌≡◌, ◌≢◌, ℕ, suc, zero, ◌≤◌, ◌<◌, ◌-◌, ◌/◌, ◌%◌, Bool, true, false, not, ◌||◌, nat_eq, nat_lt, List, [], ◌∷◌, length, replicate, get_or, set, drop, Some, None, inl, inr, refl, sym, ap, ◌∙◌, subst, arith, get_or-set_same, get_or-set_other, length-set}
 use Rattle.std.specs.Prelude.{◌⊎◌, ◌↔◌, slice_index, slice_index_or}
 use Rattle.std.specs.Int.{bit_at}
@@ -42,7 +42,7 @@ use Rattle.tmpl_zones.specs.declared.gateway.GateKind.TheVariants as gate
 use Rattle.tmpl_zones.specs.declared.sink.SinkKind.TheVariants as sink
 use Rattle.tmpl_zones.specs.declared.subnets.NetKind.TheVariants as net
 
--- a flow by itself
+-- A flow by itself.
 none_left : (f : Flow) → without (f ∷ []) (f ∷ []) ≡ []
 none_left f = filter_nothing (λ g. not (has (f ∷ []) g)) (f ∷ []) (λ g there. not_from_true (has (f ∷ []) g) there)
 
@@ -58,7 +58,7 @@ one_offends Holds f none fails = record {
       ];
 }
 
--- another host
+-- Another host.
 pub record Another (n host : ℕ) : Type 0 where
   pub other : ℕ
   pub within : other < n
@@ -71,7 +71,7 @@ another n host two =
       | inr later ↦ record { other = 0; within = omega arith; apart = λ same. later (sym same) }
     ]
 
--- hosts of which one has y, and all others z
+-- Hosts of which one has y, and all others have z.
 module _ {A : Type 0} (n host : ℕ) (o : Another n host) (y z d : A) (is_host : host < n) where
   pub pair_of : List A
   pair_of = set (replicate n z) o.other y
@@ -102,14 +102,14 @@ AllMayHave-same t n z may host within =
     subst (λ m. t.MayHave m host (slice_index_or (replicate n z) host (t.default m host))) (sym sized)
     (subst (t.MayHave n host) (sym (get_or-replicate n host z (t.default n host) below)) (may host))
 
--- Hosts that all have the attribute z, but for one that has y, may have them.
+-- Hosts that all have the attribute z, except one that has y, may have them.
 AllMayHave-one : (t : Template) (n one : ℕ) (y z : t.Attribute) → t.MayHave n one y → ((k : ℕ) → t.MayHave n k z)
     → AllMayHave t (set (replicate n z) one y)
 AllMayHave-one t n one y z may_y may_z =
     AllMayHave-set t (replicate n z) one y (AllMayHave-same t n z may_z)
     (subst (λ m. t.MayHave m one y) (sym (length-replicate n z)) may_y)
 
--- The two attributes are ones that the hosts may have.
+-- The hosts may have the two attributes.
 AllMayHave-pair_of : (t : Template) (n host : ℕ) (o : Another n host) (y z d : t.Attribute) (is_host : host < n) → t.MayHave n o.other y
     → ((k : ℕ) → t.MayHave n k z) → AllMayHave t (pair_of n host o y z d is_host)
 unfolding pair_of
@@ -119,14 +119,14 @@ AllMayHave-pair_of t n host o y z d is_host may_y may_z = AllMayHave-one t n o.o
 abbrev AllPass : {A : Type 0} → A → (ℕ → A → A → Type 0) → List A → List Flow → Type 0
 AllPass d Passes hosts = AllFlowsPass (λ i j. Passes i (slice_index_or hosts i d) (slice_index_or hosts j d))
 
--- The template judges each flow by such a rule.
+-- The template evaluates each flow by such a rule.
 abbrev JudgesBy : (t : Template) → t.Attribute → (ℕ → t.Attribute → t.Attribute → Type 0) → Type 0
 JudgesBy t d Passes = (hosts : List t.Attribute) (e : List Flow) → AllPass d Passes hosts e ↔ t.Holds hosts e
 
 itself : {P : Type 0} → P ↔ P
 itself = (λ p. p, λ p. p)
 
--- y denies z and takes x
+-- A receiver with y denies senders with z and accepts senders with x.
 sender_lets_off : (t : Template) → t.strategy ≡ Access → (d : t.Attribute) (Passes : ℕ → t.Attribute → t.Attribute → Type 0)
     → JudgesBy t d Passes → (x y z : t.Attribute) → ((n k : ℕ) → t.MayHave n k y) → ((n k : ℕ) → t.MayHave n k z)
     → ((i : ℕ) → Passes i z y → ⊥) → ((i : ℕ) → Passes i x y)
@@ -154,7 +154,7 @@ sender_lets_off t access d Passes judges x y z may_y may_z denies takes n host t
           (subst (λ (w : t.Attribute). Passes host x w) (sym (other_stays n host o y z d is_host x)) (takes host))));
     }
 
--- y sends nothing to z, and to x
+-- A sender with y may not send to receivers with z, but may send to receivers with x.
 receiver_lets_off : (t : Template) → t.strategy ≡ Information → (d : t.Attribute) (Passes : ℕ → t.Attribute → t.Attribute → Type 0)
     → JudgesBy t d Passes → (x y z : t.Attribute) → ((n k : ℕ) → t.MayHave n k y) → ((n k : ℕ) → t.MayHave n k z)
     → ((i : ℕ) → Passes i y z → ⊥) → ((i : ℕ) → Passes i y x)
@@ -182,7 +182,7 @@ receiver_lets_off t information d Passes judges x y z may_y may_z denies takes n
           (subst (λ (w : t.Attribute). Passes o.other y w) (sym (given_at_host n host o y z d is_host x)) (takes o.other))));
     }
 
--- a sender of level 1 may not send to a host of level 0 that is not trusted
+-- A sender of level 1 may not send to a host of level 0 that is not trusted.
 pub blp_only : OnlyDefaultIsSecure blp
 blp_only n host x two is_host may other =
     receiver_lets_off blp refl untrusted (λ i. BlpPasses) (λ hosts e. itself) x (record { level = 1; trusted = false }) untrusted
@@ -201,7 +201,7 @@ blp_only n host x two is_host may other =
     takes false zero is at = absurd (other (λ i. record { level = at i; trusted = is i }))
     takes false (suc l) is at = inr (omega (arith, at))
 
--- a number other than 0 has a bit
+-- A number other than 0 has a bit.
 lowest_or_higher : (k n : ℕ) → n ≤ k → 0 < n → (i : ℕ) × (bit_at n i ≡ 1)
 lowest_or_higher zero n few some = absurd (omega arith)
 lowest_or_higher (suc k) n few some =
@@ -217,7 +217,7 @@ lowest_or_higher (suc k) n few some =
 zero_or_one : {C : Type 0} (bit : ℕ) → bit ≡ 0 → bit ≡ 1 → C
 zero_or_one bit none one = absurd (omega arith)
 
--- a host with labels takes those labels
+-- A host with labels accepts those labels.
 pub tainting_only : OnlyDefaultIsSecure tainting
 tainting_only n host x two is_host may other =
     let (label, has) = some_label in
@@ -242,7 +242,7 @@ tainting_only n host x two is_host may other =
           | inr some ↦ lowest_or_higher x.taints x.taints (omega arith) (omega arith)
         ]
 
--- a pool sends to sinks and pools
+-- A pool sends to sinks and pools.
 pub sinks_only : OnlyDefaultIsSecure sinks
 sinks_only n host sink.Sink two is_host may other =
     receiver_lets_off sinks refl sink.Unassigned (λ i. TablePasses sink_passes) (λ hosts e. itself) sink.Sink sink.Pool sink.Unassigned
@@ -252,7 +252,7 @@ sinks_only n host sink.Pool two is_host may other =
     (λ n k. tt) (λ n k. tt) (λ i passes. false≢true passes) (λ i. refl) n host two is_host
 sinks_only n host sink.Unassigned two is_host may other = absurd (other refl)
 
--- all but unassigned hosts reach a gateway
+-- All hosts except unassigned ones reach a gateway.
 pub gateways_only : OnlyDefaultIsSecure gateways
 gateways_only n host gate.Gateway two is_host may other =
     sender_lets_off gateways refl gate.Unassigned (λ i. TablePasses gateway_passes) (λ hosts e. itself) gate.Gateway gate.Gateway gate.Unassigned
@@ -268,7 +268,7 @@ gateways_only n host gate.Accessible two is_host may other =
     (λ n k. tt) (λ n k. tt) (λ i passes. false≢true passes) (λ i. refl) n host two is_host
 gateways_only n host gate.Unassigned two is_host may other = absurd (other refl)
 
--- subnets reach their own hosts, and borders reach borders
+-- Subnets reach their own hosts, and borders reach borders.
 pub subnets_only : OnlyDefaultIsSecure subnets
 subnets_only n host (net.Subnet a) two is_host may other =
     sender_lets_off subnets refl net.Unassigned (λ i. TablePasses subnets_passes) (λ hosts e. itself) (net.Subnet a) (net.Subnet a) net.Unassigned
@@ -278,7 +278,7 @@ subnets_only n host (net.Border a) two is_host may other =
     (λ n k. tt) (λ n k. tt) (λ i passes. false≢true passes) (λ i. refl) n host two is_host
 subnets_only n host net.Unassigned two is_host may other = absurd (other refl)
 
--- all but those that do not care reach one that cares
+-- All hosts except those with `DontCare` reach a host with `Care`.
 pub partners_only : OnlyDefaultIsSecure partners
 partners_only n host DontCare two is_host may other = absurd (other refl)
 partners_only n host Care two is_host may other =
@@ -288,7 +288,7 @@ partners_only n host (Master from) two is_host may other =
     sender_lets_off partners refl DontCare (λ i. TablePasses (partners_passes i)) (λ hosts e. itself) (Master from) Care DontCare
     (λ n k. tt) (λ n k. tt) (λ i passes. false≢true passes) (λ i. refl) n host two is_host
 
--- a host with a place reaches that place
+-- A host with a place reaches that place.
 pub domains_only : OnlyDefaultIsSecure domains
 domains_only n host None two is_host may other = absurd (other refl)
 domains_only n host (Some place) two is_host may other =
@@ -296,7 +296,7 @@ domains_only n host (Some place) two is_host may other =
     sender_lets_off domains refl None (λ i. DomainsPass) (λ hosts e. itself) (Some place) (Some place) None
     (λ n k. may) (λ n k. tt) (λ i passes. passes) (λ i. (drop kept place.path, sym (take-append-drop kept place.path))) n host two is_host
 
--- a host with a limit above 0 may reach one other
+-- A host with a limit above 0 may reach one other.
 pub dependability_only : OnlyDefaultIsSecure dependability
 dependability_only n host x two is_host may other =
     let o : Another n host = another n host two in
@@ -321,7 +321,7 @@ dependability_only n host x two is_host may other =
           omega (arith, now));
     }
 
--- a host that does not interfere may learn of another
+-- A host that is not interfering may learn of another.
 pub interference_only : OnlyDefaultIsSecure non_interference
 interference_only n host Interfering two is_host may other = absurd (other refl)
 interference_only n host Unrelated two is_host may other =
@@ -347,7 +347,7 @@ interference_only n host Unrelated two is_host may other =
     unrelated : Unrelated ≡ Interfering → ⊥
     unrelated same = cc
 
--- a test is met by every number below n, or by one it is not
+-- A test is satisfied by every number below n, or there is one that fails it.
 all_or_one : (test : ℕ → Bool) (n : ℕ) → ((j : ℕ) → j < n → test j ≡ true) ⊎ ((j : ℕ) × (j < n) × (test j ≡ false))
 all_or_one test zero = inl (λ j below. absurd (omega arith))
 all_or_one test (suc n) =
@@ -362,7 +362,7 @@ all_or_one test (suc n) =
       ]
     ]
 
--- a host that does not deny all others may reach one of them
+-- A host that does not deny all others may reach one of them.
 pub no_reach_only : OnlyDefaultIsSecure no_reach
 no_reach_only n host x two is_host may other =
     elim (all_or_one (λ j. fin.contains x j || nat_eq j host) n) [

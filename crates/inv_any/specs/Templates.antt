@@ -1,5 +1,5 @@
--- An invariant of one of the ten templates, or of a template that is declared as a table: what it means, and its name, by the record of
--- its template.
+-- An invariant of one of the ten templates, or of a template that is declared as a table: its meaning and its name, derived from the record
+-- of its template.
 use Rattle.std.specs.Prelude.{ℕ, List}
 use Rattle.inv_any.specs.declared.any_inv.AnyInv.{AnyInv}
 use Rattle.inv_any.specs.declared.any_inv.AnyInv.TheVariants as any
@@ -16,9 +16,9 @@ use Rattle.tmpl_zones.specs.Partners.{partners}
 use Rattle.tmpl_zones.specs.Sink.{sinks}
 use Rattle.tmpl_zones.specs.Subnets.{subnets}
 
--- what is said of an invariant, by its template, the attributes of its hosts, and the way back from other attributes. What an
--- invariant means, its name and its reset are said over this list of the templates; how a description writes them, and why each has
--- its default, over lists of their own
+-- A case analysis on an invariant: its template, the attributes of its hosts, and the constructor for other attributes. The meaning of an
+-- invariant, its name and its reset are defined by this list of the templates; the attribute formats, and the reasons for the defaults, by
+-- separate lists.
 abbrev pub by_template {ℓ} : {C : Type ℓ} → ((t : Template) → List t.Attribute → (List t.Attribute → AnyInv) → C) → AnyInv → C
 by_template say (any.Blp hosts) = say blp hosts any.Blp
 by_template say (any.Tainting hosts) = say tainting hosts any.Tainting
@@ -32,10 +32,10 @@ by_template say (any.NonInterference hosts) = say non_interference hosts any.Non
 by_template say (any.NoReach hosts) = say no_reach hosts any.NoReach
 by_template say (any.Table rule) = say (declared rule.table) rule.hosts (λ hosts. any.Table (record { table = rule.table; hosts = hosts }))
 
--- what the invariant means
+-- The meaning of the invariant.
 abbrev pub meaning_of : AnyInv → Meaning
 meaning_of any = by_template (λ t hosts make. meaning t hosts) any
 
--- the name of the template in texts
+-- The name of the template in texts.
 abbrev pub template_name : AnyInv → List ℕ
 template_name any = by_template (λ t hosts make. t.name) any

@@ -1,5 +1,5 @@
-//! An invariant of any template. It means what the invariant in it means, and every call hands on to
-//! that one.
+//! An invariant of any template. It has the meaning of the invariant in it, and every call
+//! delegates to that invariant.
 
 ghost use Rattle.std.specs.Prelude.{◌≡◌};
 ghost use Rattle.inv_any.specs.Templates.{meaning_of, template_name};
@@ -31,7 +31,7 @@ pub enum AnyInv {
     Table(EdgeWise<TableRule>),
 }
 
-// The templates, for the two macros below: what the invariant in `any`, here `inv`, answers, and an
+// The templates, for the two macros below: the result of the invariant in `any`, here `inv`, and an
 // invariant of the same template.
 macro_rules! each {
     ($say:ident, $($args:tt)*) => {
@@ -56,7 +56,7 @@ macro_rules! keep {
 }
 
 impl AnyInv {
-    /// The name of the template, as a description writes it.
+    /// Returns the name of the template, as in a description.
     pub fn template_name(&self) -> &str
         ensures { result.now ≡ template_name self.now }
     {

@@ -1,4 +1,5 @@
-//! The trial of an invariant of any template: the trial of that template, which fits no invariant of another.
+//! The trial of an invariant of any template: the trial of that template, which belongs to no
+//! invariant of another template.
 
 ghost use Rattle.std.specs.Prelude.{◌≡◌};
 ghost use Rattle.inv_any.specs.inner.AnyTrials.{tried_of, FitsAny};
@@ -9,7 +10,7 @@ use inv_law::{EdgeTrial, Stepwise, Trial};
 use std::alloc::{AllocError, Global};
 use tmpl_reach::ReachTrial;
 
-// A trial, by the template of the invariant that made it.
+// A trial, by the template of the invariant that created it.
 #[derive(Drop)]
 enum Case {
     Blp(EdgeTrial),
@@ -25,8 +26,9 @@ enum Case {
     Table(EdgeTrial),
 }
 
-// The templates, for the macros below: what the trial in `case` answers, a trial of the invariant in `any`, and what
-// that invariant answers of the trial in `case`. A trial that fits is of the template's case.
+// The templates, for the macros below: the result of the trial in `case`, a trial of the invariant
+// in `any`, and the result of that invariant for the trial in `case`. A trial that belongs to the
+// invariant has the case of its template.
 macro_rules! each_trial {
     ($say:ident, $($args:tt)*) => {
         $say!($($args)*; Blp Tainting Sink Gateway Subnets Partners Domains Dependability NonInterference NoReach Table)
@@ -60,7 +62,7 @@ macro_rules! ask_trial {
     };
 }
 
-/// A set of flows that is tried in steps by an invariant of any template.
+/// An undoable set of flows for an invariant of any template.
 #[derive(Drop)]
 pub struct AnyTrial {
     case: Case,

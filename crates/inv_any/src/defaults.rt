@@ -1,4 +1,4 @@
-//! Why the templates have their defaults.
+//! The reasons for the defaults of the templates.
 
 ghost use Rattle.std.specs.Prelude.{◌<◌};
 ghost use Rattle.inv_any.specs.inner.OtherDefaults.{OnlyDefaultIsSecure};
@@ -15,8 +15,8 @@ ghost use Rattle.tmpl_zones.specs.Partners.{partners};
 ghost use Rattle.tmpl_zones.specs.Sink.{sinks};
 ghost use Rattle.tmpl_zones.specs.Subnets.{subnets};
 
-/// Of the attributes of the ten templates that a host may have, none but the default would be a secure
-/// default: given to a host that is to blame, it hides the fault of some flow.
+/// The default is the only secure default of each of the ten templates: any other attribute that a
+/// host may have, given to an offending host, hides the violation of some flow.
 pub fn only_default_is_secure()
     ensures blp { OnlyDefaultIsSecure blp }
     ensures tainting { OnlyDefaultIsSecure tainting }

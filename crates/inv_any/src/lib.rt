@@ -1,5 +1,5 @@
-//! One of the ten templates, or a declared one: the type of an invariant that is chosen when the
-//! program runs.
+//! One of the ten templates, or a declared one: the type of an invariant whose template is chosen
+//! at run time.
 #![tactic(auto)]
 
 mod any_inv;

@@ -9,7 +9,7 @@ use Rattle.inv_any.specs.declared.any_trial.Case.TheVariants as trial
 use Rattle.tmpl_reach.specs.declared.trial.Half.TheVariants.{Reach, Join}
 use Rattle.tmpl_reach.specs.inner.Trials.{tried_half}
 
--- The trial as every trial is seen, of each template.
+-- The common model of trials, for each template.
 abbrev pub tried_of : Case → TriedFlows
 tried_of (trial.Blp t) = t
 tried_of (trial.Tainting t) = t
@@ -23,7 +23,7 @@ tried_of (trial.NonInterference t) = tried_half t.half
 tried_of (trial.NoReach t) = tried_half t.half
 tried_of (trial.Table t) = t
 
--- The trial of these flows that the invariant's own template makes.
+-- The trial with these flows for the invariant's template.
 abbrev pub trial_like : AnyInv → TriedFlows → Case
 trial_like (inv.Blp hosts) t = trial.Blp t
 trial_like (inv.Tainting hosts) t = trial.Tainting t
@@ -37,7 +37,7 @@ trial_like (inv.NonInterference hosts) t = trial.NonInterference (record { half 
 trial_like (inv.NoReach hosts) t = trial.NoReach (record { half = Reach t })
 trial_like (inv.Table rule) t = trial.Table t
 
--- A trial fits an invariant if it is one of the invariant's template, and of its size. A trial of another template does not.
+-- A trial belongs to an invariant if it has the invariant's template and its size. A trial of another template does not.
 pub record FitsAny (any : AnyInv) (case : Case) : Type 0 where
   pub like : case ≡ trial_like any (tried_of case)
   pub size : (tried_of case).size ≡ (meaning_of any).size

@@ -3,6 +3,6 @@ use Rattle.inv_any.specs.declared.any_inv.AnyInv.{AnyInv}
 use Rattle.inv_law.specs.inner.Template.{AllMayHave}
 use Rattle.inv_any.specs.Templates.{by_template}
 
--- each host has an attribute that it may have
+-- Each host has an attribute that it may have.
 abbrev pub HostsMayHave : AnyInv → Type 0
 HostsMayHave any = by_template (λ t hosts make. AllMayHave t hosts) any
