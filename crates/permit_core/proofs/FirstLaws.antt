@@ -1,4 +1,4 @@
--- Laws of first subsets, by subject: there is one at most, one more flow in a pass, what is left out, the greatest subset.
+-- Lemmas on first subsets, by subject: uniqueness, one more flow in a pass, the omitted flows, the greatest subset.
 use Rattle.std.proofs.Common.{◌≡◌, ℕ, inl, inr, Bool, true, false, not, ◌&&◌, ◌||◌, List, [], ◌∷◌, ◌++◌, refl, sym, ◌∙◌, ap, subst}
 use Rattle.std.proofs.Math.Bool.{and-true}
 use Rattle.std.specs.Prelude.{IsTrue, IsFalse}
@@ -13,7 +13,7 @@ use Rattle.flow_set.proofs.ConditionLaws.{edge_wise-with_flow}
 use Rattle.flow_set.specs.laws.FlowLaws.{has_nothing, same_flow_self, same_fact, after_not_same, before_trans, same_flow_from_order, has-with_flow, has-without_flow, has-without, has-append, has_first, flows_ext, IsOrdered-without_flow, IsOrdered-without, front_before, with_flow-without_flow, without_flow_absent}
 use Rattle.flow_set.proofs.SubsetLaws.{IsFlowSet-subset, subset_self, subset_trans, subset_without, subset_without_flow, subset_front, with_flow_within, nothing_within}
 
--- ---- there is one at most
+-- ---- uniqueness
 
 pub first_unique : (Holds : List Flow → Type 0) (all xs ys : List Flow) → IsFirst Holds all xs → IsFirst Holds all ys → xs ≡ ys
 first_unique Holds all xs ys p q =
@@ -31,7 +31,7 @@ first_unique Holds all xs ys p q =
       ]
     ]
 
--- where the condition holds of the whole set, that is the first subset
+-- If the condition holds for the whole set, the first subset is the whole set.
 pub first_whole : (Holds : List Flow → Type 0) (all xs : List Flow) → IsOrdered all → IsFirst Holds all xs → Holds all → xs ≡ all
 first_whole Holds all xs o p holds =
     elim (p.first all (subset_self all o) holds) [
@@ -39,7 +39,7 @@ first_whole Holds all xs o p holds =
       | inr d ↦ absurd (both_ways _ d.not_there (p.within.within d.flow d.here))
     ]
 
--- ---- a pass, which has found the first subset kept of the flows xs and comes to f
+-- ---- a pass, which has found the first subset kept of the flows xs and proceeds to f
 
 pub first_of_nothing : (Holds : List Flow → Type 0) → Holds [] → IsFirst Holds [] []
 first_of_nothing Holds holds = record {
@@ -48,11 +48,11 @@ first_of_nothing Holds holds = record {
   first = λ ys sub h. inl (flows_ext ys [] sub.ordered tt (λ f. false_from_ne_true _ (λ there. has_nothing f (sub.within f there))));
 }
 
--- a flow of ys before f is one of ys without f
+-- A flow of ys before f is a flow of ys without f.
 same_but_last : (ys : List Flow) (f g : Flow) → IsTrue (before g f) → has ys g ≡ has (without_flow ys f) g
 same_but_last ys f g early = sym (has-without_flow ys f g ∙ ap (λ b. has ys g && not b) (after_not_same g f early) ∙ and-true (has ys g))
 
--- a flow of kept before f is one of kept with f
+-- A flow of kept before f is a flow of kept with f.
 same_but_new : (kept : List Flow) (f g : Flow) → IsTrue (before g f) → has (with_flow kept f) g ≡ has kept g
 same_but_new kept f g early = has-with_flow kept f g ∙ ap (λ b. b || has kept g) (after_not_same g f early)
 
@@ -75,7 +75,8 @@ rest_holds : (n : ℕ) (Holds : List Flow → Type 0) (xs ys : List Flow) (f : F
 rest_holds n Holds xs ys f set downward sub holds =
     downward ys (without_flow ys f) (IsFlowSet-subset n ys (xs ++ f ∷ []) set sub) (subset_without_flow ys f sub.ordered) holds
 
--- what differs from kept in a flow before f differs there from kept with f too, whether or not it has f
+-- A set that differs from kept in a flow before f also differs there from kept with f, regardless of whether it
+-- contains f.
 differs_earlier : (kept ys : List Flow) (f : Flow) (d : DiffersFirstIn kept (without_flow ys f)) → IsTrue (before d.flow f)
     → DiffersFirstIn kept ys
 differs_earlier kept ys f d early = record {
@@ -94,7 +95,7 @@ differs_still kept ys f d early = record {
   same_before = λ g earlier. same_but_new kept f g (before_trans g d.flow f earlier early) ∙ d.same_before g earlier;
 }
 
--- f differs where ys has not f and is kept otherwise
+-- f is the difference if ys lacks f and is otherwise equal to kept.
 differs_last : (kept ys : List Flow) (f : Flow) → without_flow ys f ≡ kept → IsFalse (has ys f) → DiffersFirstIn (with_flow kept f) ys
 differs_last kept ys f same absent = record {
   flow = f;
@@ -103,7 +104,7 @@ differs_last kept ys f same absent = record {
   same_before = λ g early. same_but_new kept f g early ∙ ap (λ zs. has zs g) (sym same) ∙ sym (same_but_last ys f g early);
 }
 
--- the pass keeps f where the condition holds with it
+-- The pass keeps f if the condition holds with it.
 pub first_kept : (n : ℕ) (Holds : List Flow → Type 0) (xs kept : List Flow) (f : Flow) → IsFlowSet n (xs ++ f ∷ [])
     → IsDownward n Holds → IsFirst Holds xs kept → Holds (with_flow kept f) → IsFirst Holds (xs ++ f ∷ []) (with_flow kept f)
 unfolding differs_earlier
@@ -122,7 +123,7 @@ first_kept n Holds xs kept f set downward p holds = record {
   ];
 }
 
--- the pass leaves f out where the condition fails with it
+-- The pass omits f if the condition fails with it.
 pub first_left : (n : ℕ) (Holds : List Flow → Type 0) (xs kept : List Flow) (f : Flow) → IsFlowSet n (xs ++ f ∷ [])
     → IsDownward n Holds → IsFirst Holds xs kept → (Holds (with_flow kept f) → ⊥) → IsFirst Holds (xs ++ f ∷ []) kept
 first_left n Holds xs kept f set downward p fails = record {
@@ -137,9 +138,9 @@ first_left n Holds xs kept f set downward p fails = record {
   ];
 }
 
--- ---- what is left out
+-- ---- the omitted flows
 
--- no first subset with one more flow of the set meets the condition
+-- No first subset with one more flow of the set satisfies the condition.
 pub first_with : (Holds : List Flow → Type 0) (all xs : List Flow) (f : Flow) → IsFirst Holds all xs → IsTrue (has all f)
     → IsFalse (has xs f) → Holds (with_flow xs f) → ⊥
 first_with Holds all xs f p there absent holds =
@@ -148,7 +149,7 @@ first_with Holds all xs f p there absent holds =
       | inr d ↦ both_ways _ d.not_there (has-with_flow xs f d.flow ∙ or_right _ _ d.here)
     ]
 
--- what is left without that which a subset leaves is the subset
+-- The set without the flows that a subset omits is the subset.
 pub without_first : (all xs : List Flow) → IsOrdered all → IsSubset xs all → without all (without all xs) ≡ xs
 without_first all xs o sub =
     flows_ext (without all (without all xs)) xs (IsOrdered-without all (without all xs) o) sub.ordered
@@ -160,7 +161,7 @@ without_first all xs o sub =
     twice false true h = h refl
     twice false false h = refl
 
--- what the first subset leaves out of a set that fails is a minimal offending set
+-- The flows that the first subset omits from a set that fails are a minimal offending set.
 pub first_offending : (Holds : List Flow → Type 0) (all xs : List Flow) → IsOrdered all → IsFirst Holds all xs → (Holds all → ⊥)
     → IsMinimalOffending Holds all (without all xs)
 first_offending Holds all xs o p fails =
@@ -176,7 +177,7 @@ first_offending Holds all xs o p fails =
 
 -- ---- the greatest subset
 
--- the first subset of a condition on single flows contains every other that meets it
+-- The first subset of an edge-wise condition contains every other subset that satisfies it.
 pub first_greatest : (n : ℕ) (Holds : List Flow → Type 0) (all xs : List Flow) → IsFlowSet n all → IsEdgeWise n Holds
     → IsFirst Holds all xs → IsGreatest Holds all xs
 first_greatest n Holds all xs set edge_wise p = record {

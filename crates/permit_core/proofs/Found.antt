@@ -1,4 +1,4 @@
--- What is found of conditions on single flows is the greatest set.
+-- For edge-wise conditions the result is the greatest set.
 use Rattle.std.proofs.Common.{ℕ, List, Result, Ok, Err}
 use Rattle.std.specs.Prelude.{IfOk}
 use Rattle.flow_set.specs.declared.flow.Flow.{Flow}

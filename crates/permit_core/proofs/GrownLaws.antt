@@ -1,4 +1,5 @@
--- Laws of sets that grew by one flow, for bodies of `meets`: what the old set met, and when it is enough to look at the new flow.
+-- Lemmas on sets that grew by one flow, for implementations of `meets`: what holds for the old set, and when it suffices to test the new
+-- flow.
 use Rattle.std.proofs.Common.{ℕ, List, [], ◌∷◌, sym, subst}
 use Rattle.std.specs.Prelude.{◌↔◌}
 use Rattle.flow_set.specs.declared.flow.Flow.{Flow}
@@ -6,7 +7,7 @@ use Rattle.flow_set.specs.inner.Downward.{IsEdgeWise}
 use Rattle.flow_set.proofs.ConditionLaws.{edge_wise-with_flow}
 use Rattle.permit_core.specs.inner.Grown.{IsGrown}
 
--- a condition on single flows holds of the set exactly where it holds of the new flow alone
+-- An edge-wise condition holds for the set if and only if it holds for the new flow individually.
 pub edge_wise-IsGrown : (n : ℕ) (Holds : List Flow → Type 0) (fs : List Flow) (added : Flow) → IsEdgeWise n Holds
     → IsGrown n Holds fs added → Holds (added ∷ []) ↔ Holds fs
 edge_wise-IsGrown n Holds fs added edge_wise grown =

@@ -1,4 +1,4 @@
--- A pass that has gone over the flows xs of a set and comes to f, with `left` before it.
+-- The state of a pass after the flows xs of a set, at f, with `left` remaining.
 use Rattle.std.proofs.Common.{◌≡◌, ℕ, List, [], ◌∷◌, ◌++◌, sym, ◌∙◌, ap, subst}
 use Rattle.std.specs.Prelude.{IsFalse}
 use Rattle.std.proofs.lemmas.Bool.{both_ways, false_from_ne_true, or_right}
@@ -12,7 +12,7 @@ use Rattle.flow_set.proofs.SubsetLaws.{IsFlowSet-subset, subset_trans, subset_fr
 use Rattle.flow_set.specs.laws.WalkLaws.{walk_next}
 use Rattle.permit_core.specs.inner.Grown.{IsGrown, IsNew}
 
--- the flows so far and f are a set
+-- The flows so far together with f are a set.
 pub walked : (n : ℕ) (xs left rest whole : List Flow) (f : Flow) → IsFlowSet n whole → xs ++ left ≡ whole → left ≡ f ∷ rest
     → IsFlowSet n (xs ++ f ∷ [])
 walked n xs left rest whole f set walk next =
@@ -23,7 +23,7 @@ walked n xs left rest whole f set walk next =
 pub flow_walked : (n : ℕ) (xs : List Flow) (f : Flow) → IsFlowSet n (xs ++ f ∷ []) → IsFlow n f
 flow_walked n xs f set = set.flows f (has-append xs (f ∷ []) f ∙ or_right _ _ (has_first f []))
 
--- f is new to what was kept of the flows so far
+-- f is not in the flows kept so far.
 pub kept_lacks : (n : ℕ) (xs kept : List Flow) (f : Flow) → IsFlowSet n (xs ++ f ∷ []) → IsSubset kept xs → IsFalse (has kept f)
 kept_lacks n xs kept f set sub =
     false_from_ne_true _
@@ -33,7 +33,7 @@ pub kept_set : (n : ℕ) (xs kept : List Flow) (f : Flow) → IsFlowSet n (xs ++
 kept_set n xs kept f set sub =
     IsFlowSet-subset n kept (xs ++ f ∷ []) set (subset_trans kept xs (xs ++ f ∷ []) sub (subset_front xs (f ∷ []) set.ordered))
 
--- f is one more flow for what was kept
+-- f is one more flow for the kept flows.
 pub kept_new : (n : ℕ) (xs kept : List Flow) (f : Flow) → IsFlowSet n (xs ++ f ∷ []) → IsSubset kept xs → IsNew n kept f
 kept_new n xs kept f set sub = record {
   set = kept_set n xs kept f set sub;
@@ -41,7 +41,7 @@ kept_new n xs kept f set sub = record {
   absent = kept_lacks n xs kept f set sub;
 }
 
--- what is kept, with f, is a set that met the condition with one more flow
+-- The kept flows together with f are a set that satisfied the condition, with one more flow.
 pub kept_grown : (n m : ℕ) (Holds : List Flow → Type 0) (xs kept fs : List Flow) (f : Flow) → n ≡ m → IsFlowSet n (xs ++ f ∷ [])
     → IsFirst Holds xs kept → fs ≡ with_flow kept f → IsGrown m Holds fs f
 kept_grown n m Holds xs kept fs f same set p grown = record {
@@ -53,7 +53,7 @@ kept_grown n m Holds xs kept fs f same set p grown = record {
   grown = grown;
 }
 
--- f put in and taken out again
+-- Inserting and removing f restores the set.
 pub kept_again : (n : ℕ) (xs kept fs gs : List Flow) (f : Flow) → IsFlowSet n (xs ++ f ∷ []) → IsSubset kept xs
     → fs ≡ with_flow kept f → gs ≡ without_flow fs f → gs ≡ kept
 kept_again n xs kept fs gs f set sub put taken =

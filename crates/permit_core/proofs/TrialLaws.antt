@@ -1,4 +1,4 @@
--- Laws of lists of invariants with their trials.
+-- Lemmas on lists of invariants with their trials.
 use Rattle.std.proofs.Common.{◌≡◌, ℕ, ◌<◌, List, length, set, get_or, None, inl, inr, sym, ◌∙◌, ap, subst, arith}
 use Rattle.flow_set.specs.declared.flow.Flow.{Flow}
 use Rattle.flow_set.specs.inner.Steps.{TriedFlows}
@@ -6,12 +6,12 @@ use Rattle.std.proofs.lemmas.Bool.{cases_eq}
 use Rattle.std.proofs.lemmas.List.{get_or-set_same, get_or-set_other, get_or_read, length-set}
 use Rattle.permit_core.specs.inner.Trials.{AreTried}
 
--- a trial that was read has the flows
+-- A trial in the list has the flows.
 pub flows_read : {X T : Type 0} (Fits : X → T → Type 0) (tried : T → TriedFlows) (invs : List X) (trials : List T) (e : List Flow) (i : ℕ) (inv : X) (t : T)
     → AreTried Fits tried invs trials e → i < length invs → t ≡ get_or trials i t → (tried t).flows ≡ e
 flows_read Fits tried invs trials e i inv t are within read = ap (λ u. (tried u).flows) read ∙ are.flows i inv t within
 
--- the trials where one of them took a step and gave it back
+-- The trials after one of them made a step and undid it.
 pub AreTried-asked : {X T : Type 0} (Fits : X → T → Type 0) (tried : T → TriedFlows) (invs : List X) (trials : List T) (e : List Flow) (i : ℕ) (inv : X) (old t : T)
     → AreTried Fits tried invs trials e → i < length invs → inv ≡ get_or invs i inv → old ≡ get_or trials i old → Fits inv t → tried t ≡ record (tried old) { before_step = None }
     → AreTried Fits tried invs (set trials i t) e

@@ -1,4 +1,4 @@
--- Laws of invariants with a trial of each: what they know of chosen invariants, and how they come to other flows.
+-- Lemmas on invariants with a trial of each: facts about chosen invariants, and changes of the flows of the trials.
 use Rattle.std.proofs.Common.{◌≡◌, ℕ, ◌<◌, ◌+◌, Bool, true, false, not, ◌&&◌, List, [], ◌∷◌, ◌++◌, length, cond, inl, inr, refl, sym, ◌∙◌, ap, append-nil, subst, arith, get_or, set, take}
 use Rattle.std.specs.Prelude.{◌↔◌, IsFalse, IsTrue, All, filter}
 use Rattle.std.proofs.Math.Seq.{map-set_same}
@@ -17,7 +17,7 @@ use Rattle.permit_core.specs.inner.Trials.{ChosenHold}
 
 -- ---- chosen invariants and those that have trials
 
--- what holds of each element that passes the test
+-- What holds for each element that satisfies the test.
 All-filtered : {X : Type 0} (test : X → Bool) (P : X → Type 0) (xs : List X) → All P (filter test xs) → All (λ x. IsTrue (test x) → P x) xs
 All-filtered test P [] all = λ k d below. absurd (omega arith)
 All-filtered test P (x ∷ xs) all =
@@ -28,7 +28,7 @@ All-filtered test P (x ∷ xs) all =
     split true ys all = (λ _. All-head P x ys all, All-tail P x ys all)
     split false ys all = (λ impossible. absurd (false≢true impossible), all)
 
--- what holds of each invariant that has a trial holds of each chosen one
+-- What holds for each invariant with a trial holds for each chosen invariant.
 pub All-tried : {X T : Type 0} (P : X → Type 0) (chosen : X → Bool) (invs : List X) (trials : List (Tried X T))
     → invariants_of trials ≡ filter chosen invs
     → All (λ t. P t.invariant) trials ↔ All (λ inv. IsTrue (chosen inv) → P inv) invs
@@ -40,9 +40,9 @@ All-tried P chosen invs trials same = (
       (subst (All P) (sym same) (λ j x within. All-filter chosen (λ inv. IsTrue (chosen inv) → P inv) invs all j x within (filter_passes chosen invs j x within)) k d.invariant there),
 )
 
--- ---- trials that come to other flows
+-- ---- changes of the flows of trials
 
--- one change after another
+-- One change followed by another.
 pub Became-then : {X T : Type 0} (Fits : X → T → Type 0) (tried : T → TriedFlows) (become : List Flow → List Flow) (old mid new : List (Tried X T))
     → Became Fits tried (λ fs. fs) old mid → Became Fits tried become mid new → Became Fits tried become old new
 Became-then Fits tried become old mid new first then = record {
@@ -52,13 +52,13 @@ Became-then Fits tried become old mid new first then = record {
   flows = λ k t below. then.flows k t (omega (arith, below, first.counted)) ∙ ap become (first.flows k t below);
 }
 
--- an invariant is at its place as before
+-- The invariant at an index is the same as before.
 same_invariant : {X T : Type 0} (old new : List (Tried X T)) (k : ℕ) (t : Tried X T) → invariants_of new ≡ invariants_of old
     → k < length new → k < length old → (get_or new k t).invariant ≡ (get_or old k t).invariant
 same_invariant old new k t same below there =
     sym (get_or-map (λ u. u.invariant) new k t t.invariant below) ∙ ap (λ xs. get_or xs k t.invariant) same ∙ get_or-map (λ u. u.invariant) old k t t.invariant there
 
--- the trials can take a flow as before where they have the flows that they had
+-- The trials can take a flow as before if their flows are unchanged.
 pub CanTake-again : {X T : Type 0} (size_of : X → ℕ) (HoldsOn : X → List Flow → Type 0) (Fits : X → T → Type 0) (tried : T → TriedFlows) (f : Flow) (old new : List (Tried X T))
     → Became Fits tried (λ fs. fs) old new → All (CanTake size_of HoldsOn Fits tried f) old → All (CanTake size_of HoldsOn Fits tried f) new
 CanTake-again size_of HoldsOn Fits tried f old new same can k t below =
@@ -70,7 +70,7 @@ CanTake-again size_of HoldsOn Fits tried f old new same can k t below =
       held = subst (λ x. HoldsOn x (tried (get_or new k t).trial).flows) (sym inv) (subst (HoldsOn (get_or old k t).invariant) (sym (same.flows k t there)) (can k t there).held);
     }
 
--- one invariant holds of one more flow where it did of the flows that its trial had
+-- An invariant holds for one more flow if it did for the previous flows of its trial.
 pub holds_again : {X T : Type 0} (HoldsOn : X → List Flow → Type 0) (Fits : X → T → Type 0) (tried : T → TriedFlows) (f : Flow) (old new : List (Tried X T)) (i : ℕ) (t : Tried X T)
     → Became Fits tried (λ fs. fs) old new → i < length old → t ≡ get_or new i t
     → HoldsOn t.invariant (with_flow (tried t.trial).flows f) ↔ HoldsOn (get_or old i t).invariant (with_flow (tried (get_or old i t).trial).flows f)
@@ -82,7 +82,7 @@ holds_again HoldsOn Fits tried f old new i t same below read =
       λ holds. subst (λ fs. HoldsOn t.invariant (with_flow fs f)) (sym flows) (subst (λ x. HoldsOn x (with_flow (tried (get_or old i t).trial).flows f)) (sym inv) holds),
     )
 
--- the trials where one was asked and has its flows again
+-- The trials after one of them was tested and its flows were restored.
 pub Became-asked : {X T : Type 0} (Fits : X → T → Type 0) (tried : T → TriedFlows) (old trials : List (Tried X T)) (i : ℕ) (t new : Tried X T)
     → Became Fits tried (λ fs. fs) old trials → i < length trials → t ≡ get_or trials i t → new.invariant ≡ t.invariant
     → Fits new.invariant new.trial → (tried new.trial).flows ≡ (tried t.trial).flows → Became Fits tried (λ fs. fs) old (set trials i new)
@@ -100,7 +100,7 @@ Became-asked Fits tried old trials i t new same within read inv fits flows = rec
   ];
 }
 
--- the trials of the chosen invariants after a step that they all take, or that they all do not
+-- The trials of the chosen invariants after a step that all of them take, or that none of them takes.
 pub ChosenTried-step : {X T : Type 0} (Fits : X → T → Type 0) (tried : T → TriedFlows) (chosen : X → Bool) (invs : List X) (old new : List (Tried X T)) (e : List Flow) (f : Flow) (b : Bool)
     → ChosenTried Fits tried chosen invs old e → Became Fits tried (λ fs. cond b (with_flow fs f) fs) old new
     → ChosenTried Fits tried chosen invs new (cond b (with_flow e f) e)
@@ -112,7 +112,7 @@ ChosenTried-step Fits tried chosen invs old new e f b are step = record {
       step.flows k t there ∙ ap (λ fs. cond b (with_flow fs f) fs) (are.flows k t there);
 }
 
--- ---- trials that are made
+-- ---- creation of trials
 
 pub ChosenTried-with : {X T : Type 0} (Fits : X → T → Type 0) (tried : T → TriedFlows) (chosen : X → Bool) (invs : List X) (trials : List (Tried X T)) (e : List Flow) (i : ℕ) (inv : X) (new : Tried X T)
     → ChosenTried Fits tried chosen (take i invs) trials e → i < length invs → inv ≡ get_or invs i inv → IsTrue (chosen inv)
@@ -138,9 +138,9 @@ ChosenTried-skip Fits tried chosen invs trials e i inv are within read out =
       flows = are.flows;
     }
 
--- ---- one flow more
+-- ---- one more flow
 
--- the chosen invariants that judge flows together can take a flow where all chosen ones hold so far
+-- The chosen invariants that are not edge-wise can take a flow if all chosen ones hold so far.
 pub CanTake-chosen : {X T : Type 0} (n : ℕ) (size_of : X → ℕ) (HoldsOn : X → List Flow → Type 0) (Fits : X → T → Type 0) (tried : T → TriedFlows) (chosen mark : X → Bool) (invs : List X) (trials : List (Tried X T)) (e : List Flow) (f : Flow)
     → All (λ inv. size_of inv ≡ n) invs → IsFlow n f → ChosenHold chosen HoldsOn invs e
     → ChosenTried Fits tried (λ inv. chosen inv && not (mark inv)) invs trials e → All (CanTake size_of HoldsOn Fits tried f) trials
@@ -156,8 +156,8 @@ CanTake-chosen n size_of HoldsOn Fits tried chosen mark invs trials e f sizes fl
       held = subst (HoldsOn (get_or trials k t).invariant) (sym (are.flows k t below)) (held k t below);
     }
 
--- the chosen invariants, which hold so far, hold of one more flow where those that judge flows alone hold of this flow alone, and
--- those that judge flows together hold of the flows of their trials with this one
+-- The chosen invariants, which hold so far, hold with one more flow if the edge-wise ones hold for this flow individually, and the others
+-- hold for the flows of their trials with this flow.
 pub ChosenHold-step : {X T : Type 0} (n : ℕ) (HoldsOn : X → List Flow → Type 0) (Fits : X → T → Type 0) (tried : T → TriedFlows) (chosen mark : X → Bool) (invs : List X) (trials : List (Tried X T)) (e : List Flow) (f : Flow)
     → All (λ inv. IsTrue (mark inv) → IsEdgeWise n (HoldsOn inv)) invs → IsFlowSet n e → IsFlow n f → ChosenHold chosen HoldsOn invs e
     → ChosenTried Fits tried (λ inv. chosen inv && not (mark inv)) invs trials e

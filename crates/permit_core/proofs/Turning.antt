@@ -1,4 +1,4 @@
--- A set of some of the flows of another that is turned, flow by flow, into the rest of these.
+-- Turning a set of flows, a subset of another set, into its complement flow by flow.
 use Rattle.std.proofs.Common.{◌≡◌, inl, inr, Bool, true, false, not, ◌&&◌, ◌||◌, List, [], ◌∷◌, ◌++◌, refl, sym, ◌∙◌, ap, subst}
 use Rattle.std.proofs.Math.Bool.{and-true, and-false}
 use Rattle.std.specs.Prelude.{IsTrue, IsFalse}
@@ -12,12 +12,12 @@ use Rattle.flow_set.specs.laws.FlowLaws.{before_self, has-append, has_first, has
 use Rattle.flow_set.proofs.SubsetLaws.{subset_both}
 use Rattle.permit_core.proofs.FirstLaws.{first_whole}
 
--- whether a flow is in the set that is being turned: reached by the pass or not, and in the old set or not
+-- Whether a flow is in the set during the complementation, by whether the pass has reached it and whether it was in the old set.
 abbrev pub turned : Bool → Bool → Bool
 turned true was = not was
 turned false was = was
 
--- the pass has not come to its next flow before
+-- The pass has not visited its next flow before.
 pub is_next : (xs rest whole : List Flow) (f : Flow) → IsOrdered whole → xs ++ f ∷ rest ≡ whole → IsFalse (has xs f)
 is_next xs rest whole f ordered walk =
     false_from_ne_true _
@@ -39,7 +39,7 @@ in_step true false false is fresh now absent = refl
 in_step false true was is fresh now absent = and-true is ∙ now
 in_step false false was is fresh now absent = and-true is ∙ now
 
--- the next flow was in the old set as it is in the set now
+-- The next flow is in the current set if and only if it was in the old set.
 was_as_now : (set xs was : List Flow) (f : Flow) → IsFalse (has xs f) → ((g : Flow) → has set g ≡ turned (has xs g) (has was g))
     → has was f ≡ has set f
 was_as_now set xs was f new now = sym (now f ∙ ap (λ b. turned b (has was f)) new)
@@ -68,22 +68,22 @@ turned_all true was within = refl
 turned_all false true within = absurd (false≢true (within refl))
 turned_all false false within = refl
 
--- turned by all flows it is the rest of them
+-- After all flows the set is the complement.
 pub turned_whole : (set xs all was : List Flow) → IsOrdered set → IsOrdered all → IsSubset was all → xs ≡ all
     → ((g : Flow) → has set g ≡ turned (has xs g) (has was g)) → set ≡ without all was
 turned_whole set xs all was ordered ordered_all within walk now =
     flows_ext set (without all was) ordered (IsOrdered-without all was ordered_all)
     (λ g. now g ∙ ap (λ zs. turned (has zs g) (has was g)) walk ∙ turned_all (has all g) (has was g) (within.within g) ∙ sym (has-without all was g))
 
--- ---- what a first subset leaves
+-- ---- the flows that a first subset omits
 
--- it leaves nothing where the condition holds of the whole set
+-- It omits nothing if the condition holds for the whole set.
 pub leaves_nothing : (Holds : List Flow → Type 0) (e kept : List Flow) → IsOrdered e → IsFirst Holds e kept → Holds e → without e kept ≡ []
 leaves_nothing Holds e kept ordered first holds =
     filter_nothing (λ f. not (has kept f)) e
     (λ f there. not_from_true _ (subst (λ (zs : List Flow). IsTrue (has zs f)) (sym (first_whole Holds e kept ordered first holds)) there))
 
--- and only there
+-- And only then.
 pub nothing_left : (Holds : List Flow → Type 0) (e kept : List Flow) → IsOrdered e → IsFirst Holds e kept → without e kept ≡ [] → Holds e
 nothing_left Holds e kept ordered first nothing =
     let whole : IsSubset e kept = record {

@@ -1,10 +1,10 @@
-//! Which invariants take part.
+//! The selection of invariants that are evaluated.
 
 ghost use Rattle.std.specs.Prelude.{◌≡◌, ◌&&◌, Bool, not, true};
 
 use inv_law::Invariant;
 
-/// A choice among invariants.
+/// A selection among invariants.
 pub trait Choice<I> {
     ghost chosen: { Self → I → Bool };
 
@@ -12,7 +12,7 @@ pub trait Choice<I> {
         ensures { result ≡ chosen self.now inv.now };
 }
 
-/// All of them.
+/// Selects all invariants.
 #[derive(Drop)]
 pub struct Every;
 
@@ -24,14 +24,14 @@ impl<I> Choice<I> for Every {
     }
 }
 
-/// Whether the invariant is chosen and judges flows alone.
+/// Whether the invariant is chosen and edge-wise.
 pub(crate) fn judges_alone<I: Invariant, C: Choice<I>>(choice: &C, inv: &I) -> bool
     ensures { result ≡ (C.chosen choice.now inv.now && I.edge_mark inv.now) }
 {
     choice.chooses(inv) && inv.edge_wise()
 }
 
-/// Whether the invariant is chosen and judges flows together.
+/// Whether the invariant is chosen and not edge-wise.
 pub(crate) fn judges_together<I: Invariant, C: Choice<I>>(choice: &C, inv: &I) -> bool
     ensures { result ≡ (C.chosen choice.now inv.now && not (I.edge_mark inv.now)) }
 {

@@ -1,5 +1,5 @@
-//! Chosen invariants on a set that grows by one flow at a time. Those that judge flows alone are asked
-//! about the new flow and remember nothing; those that judge flows together have a trial each.
+//! Chosen invariants on a set that grows by one flow at a time. An edge-wise invariant is evaluated
+//! on the new flow and has no state; every other invariant has a trial.
 
 ghost use Rattle.std.specs.Prelude.{◌≡◌, ◌↔◌, ◌&&◌, ◌∷◌, [], All, not, IsTrue, IfOk, if◌then◌else◌};
 ghost use Rattle.flow_set.specs.Flow.{IsFlow};
@@ -13,7 +13,7 @@ use flow_set::{Flow, FlowSet};
 use inv_law::{Invariant, Stepwise};
 use std::alloc::{AllocError, Global};
 
-/// A trial, with the flows of `e`, of each chosen invariant that judges flows together.
+/// Returns a trial, with the flows of `e`, of each chosen invariant that is not edge-wise.
 pub fn trials_together<'a, I: Stepwise, C: Choice<I>>(
     alloc: Global,
     choice: &C,
@@ -33,8 +33,8 @@ pub fn trials_together<'a, I: Stepwise, C: Choice<I>>(
     Ok(trials)
 }
 
-/// Whether the chosen invariants hold with the flow, which is put into the trials where they do. Where one
-/// does not, the trials have the flows that they had.
+/// Whether the chosen invariants hold with the flow. If they do, the flow is added to the trials;
+/// otherwise the trials have the same flows as before.
 pub fn step_chosen<'a, I: Stepwise, C: Choice<I>>(
     choice: &C,
     invs: &[I],
@@ -48,7 +48,7 @@ pub fn step_chosen<'a, I: Stepwise, C: Choice<I>>(
         × All (λ t. I.holds_on t.invariant (with_flow (I.Tried.tried t.trial).flows f)) trials.old.items) }
     ensures flows { Became I.fits I.Tried.tried (λ fs. if result then with_flow fs f else fs) trials.old.items trials.new.items }
 {
-    // Those that judge flows alone are asked first, for they cost least.
+    // Edge-wise invariants are evaluated first, because they are cheapest.
     if !chosen_admit(choice, invs, f) {
         return false;
     }
@@ -59,7 +59,7 @@ pub fn step_chosen<'a, I: Stepwise, C: Choice<I>>(
     true
 }
 
-// Whether the chosen invariants that judge flows alone admit the flow.
+// Whether the chosen edge-wise invariants admit the flow.
 fn chosen_admit<I: Invariant, C: Choice<I>>(choice: &C, invs: &[I], f: Flow) -> bool
     requires { All (λ inv. IsFlow (I.size_of inv) f) invs.now }
     ensures { IsTrue result
@@ -75,7 +75,7 @@ fn chosen_admit<I: Invariant, C: Choice<I>>(choice: &C, invs: &[I], f: Flow) -> 
     true
 }
 
-// Whether each invariant holds with one more flow. The trials keep their flows.
+// Whether each invariant holds with one more flow. The flows of the trials are unchanged.
 fn all_hold_with<'a, I: Stepwise>(
     trials: &mut Vec<TriedInvariant<'a, I, I::Tried>>,
     f: Flow,
@@ -93,7 +93,7 @@ fn all_hold_with<'a, I: Stepwise>(
     true
 }
 
-// Puts the flow into each trial.
+// Adds the flow to each trial.
 fn step_all<'a, I: Stepwise>(trials: &mut Vec<TriedInvariant<'a, I, I::Tried>>, f: Flow)
     requires { All (CanTake I.size_of I.holds_on I.fits I.Tried.tried f) trials.old.items }
     ensures { Became I.fits I.Tried.tried (λ fs. with_flow fs f) trials.old.items trials.new.items }

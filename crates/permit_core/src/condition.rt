@@ -1,4 +1,4 @@
-//! What a pass asks of a condition.
+//! The interface of a condition that a pass tests.
 
 ghost use Rattle.std.specs.Prelude.{◌≡◌, ◌↔◌, ℕ, List, IsTrue, IfOk};
 ghost use Rattle.flow_set.specs.declared.flow.Flow.{Flow};
@@ -12,13 +12,14 @@ pub trait Condition {
     /// The number of hosts.
     ghost size_of: { Self → ℕ };
 
-    /// What has to hold of the condition itself before it can be tested.
+    /// What the condition itself requires before it can be tested.
     ghost can_meet: { Self → Type 0 };
 
-    /// Of which sets the condition holds.
+    /// The sets for which the condition holds.
     ghost meets_on: { Self → List Flow → Type 0 };
 
-    /// Whether the condition holds of `set`, which is a set that met it with the flow `added`.
+    /// Whether the condition holds for `set`, which is a set that satisfied it with the flow
+    /// `added`.
     fn meets(&self, alloc: Global, set: &FlowSet, added: Flow) -> Result<bool, AllocError>
         requires can { can_meet self.now }
         requires size { set.now.size ≡ size_of self.now }

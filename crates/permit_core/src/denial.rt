@@ -1,4 +1,4 @@
-//! Which invariant denies a flow.
+//! The invariant that denies a flow.
 
 ghost use Rattle.std.specs.Prelude.{◌≡◌, ◌≤◌, All, length, IfOk, IsSome, MatchOption};
 ghost use Rattle.flow_set.specs.Flow.{IsFlow};
@@ -10,8 +10,8 @@ use flow_set::{Flow, FlowSet};
 use inv_law::Invariant;
 use std::alloc::{AllocError, Global};
 
-/// The number, from 0, of the first invariant that fails on `p` with the flow `f`, and `None` where
-/// all hold.
+/// Returns the index, from 0, of the first invariant that fails on `p` with the flow `f`, and
+/// `None` if all hold.
 pub fn blame<I: Invariant>(
     alloc: Global,
     invs: &[I],
@@ -25,7 +25,7 @@ pub fn blame<I: Invariant>(
         IfOk result (λ blamed. MatchOption blamed
         (AllHold I.holds_on invs.now with)
         (λ number. IsFirstFailing I.holds_on invs.now with number)) }
-    // A flow that was asked for and not permitted is blamed on an invariant.
+    // A flow that was asked for and not permitted is attributed to an invariant.
     ensures denied { IsDenied (AllHold I.holds_on invs.now) p.now.flows f → IfOk result IsSome }
 {
     let mut with = p.copy(alloc)?;
@@ -36,7 +36,7 @@ pub fn blame<I: Invariant>(
     }
 }
 
-// The number, from 0, of the first invariant that fails on the set, and `None` where all hold.
+// Returns the index, from 0, of the first invariant that fails on the set, and `None` if all hold.
 fn first_failing<I: Invariant>(
     alloc: Global,
     invs: &[I],

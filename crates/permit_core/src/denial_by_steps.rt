@@ -1,4 +1,4 @@
-//! Which invariant denies a flow, by trials of the policy.
+//! The invariant that denies a flow, found with trials of the policy.
 
 ghost use Rattle.std.specs.Prelude.{◌≡◌, ◌≤◌, All, length, IsSome, MatchOption};
 ghost use Rattle.flow_set.specs.Flow.{IsFlow};
@@ -10,9 +10,9 @@ ghost use Rattle.permit_core.specs.inner.Trials.{AreTried};
 use flow_set::{Flow, FlowSet};
 use inv_law::Stepwise;
 
-/// What `blame` answers of a permitted set, from trials with its flows. They have these flows again
-/// afterwards, so that they serve for every flow of a report. The set is not read: it stands here for the
-/// contract alone.
+/// Returns the result of `blame` for a permitted set, using trials with its flows. The call
+/// restores the flows of the trials, so they can be used for every flow of a report. The set is not
+/// read: it is a parameter only for the contract.
 pub fn blame_by_steps<I: Stepwise>(
     invs: &[I],
     trials: &mut Vec<I::Tried>,

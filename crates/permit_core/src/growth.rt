@@ -1,5 +1,5 @@
-//! Whether invariants still hold of a set that grew by one flow. One that judges flows alone is asked
-//! about the new flow alone, so that a pass does not go over the whole set for each flow.
+//! Invariants on a set that grew by one flow. An edge-wise invariant is evaluated on the new flow
+//! only, so a pass does not iterate over the whole set for each flow.
 
 ghost use Rattle.std.specs.Prelude.{◌≡◌, ◌↔◌, All, IsTrue, IfOk};
 ghost use Rattle.permit_core.specs.inner.Grown.{IsGrown};
@@ -10,7 +10,7 @@ use flow_set::{Flow, FlowSet};
 use inv_law::Invariant;
 use std::alloc::{AllocError, Global};
 
-/// Whether the chosen invariants hold of `set`, of which they all held without the flow `added`.
+/// Whether the chosen invariants hold for `set`. All of them held without the flow `added`.
 pub fn chosen_still_hold<I: Invariant, C: Choice<I>>(
     alloc: Global,
     choice: &C,
@@ -32,7 +32,7 @@ pub fn chosen_still_hold<I: Invariant, C: Choice<I>>(
     Ok(true)
 }
 
-/// Whether the invariant holds of `set`, of which it held without the flow `added`.
+/// Whether the invariant holds for `set`. It held without the flow `added`.
 pub fn still_holds<I: Invariant>(
     alloc: Global,
     inv: &I,

@@ -1,6 +1,6 @@
-//! The permitted policy and what explains it: the first subset of the asked flows on which every
-//! invariant holds, the flows that break one invariant, and the invariant that denies a flow. All of
-//! it stands over any lawful invariants, and knows no template.
+//! The permitted policy and its explanation: the first subset of the asked flows on which every
+//! invariant holds, the flows that violate one invariant, and the invariant that denies a flow. The
+//! crate is generic over lawful invariants and knows no template.
 #![tactic(auto)]
 
 mod choice;

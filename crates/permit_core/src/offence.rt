@@ -1,4 +1,4 @@
-//! The flows that break an invariant.
+//! The flows that violate an invariant.
 
 ghost use Rattle.std.specs.Prelude.{◌≡◌, List, IfOk, IfSome, IsNone, ◌↔◌};
 ghost use Rattle.flow_set.specs.declared.flow.Flow.{Flow};
@@ -12,8 +12,9 @@ use flow_set::{Flow, FlowSet};
 use inv_law::Invariant;
 use std::alloc::{AllocError, Global};
 
-/// Flows of `e` without which the invariant holds, none of which can stay. They are those outside
-/// the first subset of `e` on which it holds. `None` where it holds of `e`.
+/// Returns a minimal offending set of `e`: the invariant holds without these flows, and none of
+/// them can be retained. They are the flows outside the first subset of `e` on which it holds.
+/// Returns `None` if the invariant holds for `e`.
 pub fn offending<I: Invariant>(
     alloc: Global,
     inv: &I,
@@ -36,7 +37,7 @@ pub fn offending<I: Invariant>(
     Ok(Some(rest))
 }
 
-// Takes the flows of `others` out of the set.
+// Removes the flows of `others` from the set.
 fn take_out(set: &mut FlowSet, others: &FlowSet)
     requires { others.now.size ≡ set.old.size }
     ensures { set.new ≡ record set.old { flows = without set.old.flows others.now.flows } }

@@ -1,4 +1,4 @@
-//! The flows that break an invariant, by one trial.
+//! The flows that violate an invariant, found with one trial.
 
 ghost use Rattle.std.specs.Prelude.{◌≡◌, List, IfOk, IfSome, IsNone, ◌↔◌};
 ghost use Rattle.flow_set.specs.declared.flow.Flow.{Flow};
@@ -11,8 +11,8 @@ use flow_set::{Flow, FlowSet};
 use inv_law::{Stepwise, Trial};
 use std::alloc::{AllocError, Global};
 
-/// What `offending` answers, from one trial. It is made first, and after it only the answer takes
-/// memory.
+/// Returns the result of `offending`, using one trial. The trial is allocated first; after that
+/// only the result allocates memory.
 pub fn offending_by_steps<I: Stepwise>(
     alloc: Global,
     inv: &I,
@@ -37,7 +37,7 @@ pub fn offending_by_steps<I: Stepwise>(
     }
 }
 
-// Turns the set, which is one of flows of `all`, into the other flows of `all`, in the room of its own.
+// Replaces the set, a subset of `all`, by its complement in `all`, in place.
 fn turn_out(set: &mut FlowSet, all: &FlowSet)
     requires size { all.now.size ≡ set.old.size }
     requires within { IsSubset set.old.flows all.now.flows }

@@ -1,5 +1,5 @@
-//! The pass: flow by flow, in order, it keeps what the condition still allows. That no other
-//! subset has to be tried is what its proof shows.
+//! The pass: it visits the flows in order and keeps each flow that the condition still allows. Its
+//! proof shows that no other subset needs to be tried.
 
 ghost use Rattle.std.specs.Prelude.{◌≡◌, [], IfOk};
 ghost use Rattle.flow_set.specs.inner.FlowSetView.{IsFlowSet};
@@ -10,8 +10,8 @@ use crate::condition::Condition;
 use flow_set::FlowSet;
 use std::alloc::{AllocError, Global};
 
-/// The first subset of `all` that meets the condition, which holds of nothing and, where it holds
-/// of a set, of every subset.
+/// Returns the first subset of `all` that satisfies the condition. The condition holds for the
+/// empty set and is downward closed.
 pub fn first_subset<C: Condition>(
     alloc: Global,
     condition: &C,

@@ -1,4 +1,4 @@
-//! The permitted policy by trials: no invariant is asked about the whole set again.
+//! The permitted policy, found with trials: no invariant is evaluated on the whole set again.
 
 ghost use Rattle.std.specs.Prelude.{◌≡◌, All, not, IsTrue, IfOk};
 ghost use Rattle.flow_set.specs.inner.FlowSetView.{IsFlowSet};
@@ -15,8 +15,8 @@ use flow_set::{Flow, FlowSet};
 use inv_law::Stepwise;
 use std::alloc::{AllocError, Global};
 
-/// What `permit` answers, from one trial of each invariant that judges flows together. They are made first,
-/// and after them only the answer takes memory.
+/// Returns the result of `permit`, using one trial of each invariant that is not edge-wise. The
+/// trials are allocated first; after that only the result allocates memory.
 pub fn permit_by_steps<I: Stepwise>(
     alloc: Global,
     invs: &[I],

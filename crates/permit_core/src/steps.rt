@@ -1,5 +1,5 @@
-//! The pass over a condition that is tried in steps: it asks about one flow more at a time, and takes
-//! no memory but for its answer.
+//! The pass over a condition that is tested in steps. It tests one more flow at a time, and
+//! allocates only its result.
 
 ghost use Rattle.std.specs.Prelude.{◌≡◌, ◌↔◌, ℕ, List, [], IsTrue, IfOk, if◌then◌else◌};
 ghost use Rattle.flow_set.specs.declared.flow.Flow.{Flow};
@@ -12,21 +12,20 @@ ghost use Rattle.permit_core.specs.inner.Grown.{IsNew};
 use flow_set::{Flow, FlowSet};
 use std::alloc::{AllocError, Global};
 
-/// A condition on sets of flows that is tried in steps. What it remembers of the steps is a state of
-/// its own.
+/// A condition on sets of flows that is tested in steps. Its state is a separate value.
 pub trait SteppedCondition {
     type State;
 
     // The number of hosts.
     ghost size_of: { Self → ℕ };
 
-    // Of which sets the condition holds.
+    // The sets for which the condition holds.
     ghost meets_on: { Self → List Flow → Type 0 };
 
-    // Which states have come to which flows.
+    // The relation between a state and the flows that it has processed.
     ghost has_come_to: { Self → Self.State → List Flow → Type 0 };
 
-    /// Whether the condition holds with one more flow. Where it does, the state goes on with it.
+    /// Whether the condition holds with one more flow. If it does, the state advances by this flow.
     fn goes_on(&self, state: &mut Self::State, kept: &FlowSet, f: Flow) -> bool
         requires come { has_come_to self.now state.old kept.now.flows }
         requires new { IsNew (size_of self.now) kept.now.flows f }
@@ -35,8 +34,8 @@ pub trait SteppedCondition {
         ensures come { has_come_to self.now state.new (if result then with_flow kept.now.flows f else kept.now.flows) };
 }
 
-/// The first subset of `all` that meets the condition, as `first_subset` finds it. The state, which has
-/// come to no flow yet, comes to this subset.
+/// Returns the first subset of `all` that satisfies the condition, like `first_subset`. The state,
+/// initially without flows, advances to this subset.
 pub fn first_subset_by_steps<C: SteppedCondition>(
     alloc: Global,
     condition: &C,

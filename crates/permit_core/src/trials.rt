@@ -8,7 +8,7 @@ use flow_set::FlowSet;
 use inv_law::Stepwise;
 use std::alloc::{AllocError, Global};
 
-/// A trial of each invariant, with the flows of `e`.
+/// Returns a trial of each invariant, with the flows of `e`.
 pub fn trials_of<I: Stepwise>(
     alloc: Global,
     invs: &[I],

@@ -1,4 +1,4 @@
-//! An invariant that is tried with one more flow at a time.
+//! An invariant that is evaluated with one more flow at a time.
 
 ghost use Rattle.std.specs.Prelude.{◌≡◌, ◌↔◌, IsTrue, IfOk};
 ghost use Rattle.flow_set.specs.FlowSet.{with_flow};
@@ -9,7 +9,7 @@ use inv_law::Stepwise;
 use std::alloc::{AllocError, Global};
 use std::marker::Model;
 
-/// An invariant with a trial of its own.
+/// An invariant and its trial.
 #[derive(Drop)]
 pub struct TriedInvariant<'a, I, T> {
     invariant: &'a I,
@@ -25,7 +25,7 @@ impl<'a, I, T> Model for TriedInvariant<'a, I, T> {
 }
 
 impl<'a, I: Stepwise> TriedInvariant<'a, I, I::Tried> {
-    /// The invariant with a trial that has the flows of `e`.
+    /// Returns the invariant with a trial that has the flows of `e`.
     pub(crate) fn new(alloc: Global, invariant: &'a I, e: &FlowSet) -> Result<Self, AllocError>
         requires { e.now.size ≡ I.size_of invariant.now }
         ensures invariant { IfOk result (λ t. t.invariant ≡ invariant.now) }
@@ -38,7 +38,7 @@ impl<'a, I: Stepwise> TriedInvariant<'a, I, I::Tried> {
         })
     }
 
-    /// Whether the invariant holds with one more flow. The trial keeps its flows.
+    /// Whether the invariant holds with one more flow. The flows of the trial are unchanged.
     pub(crate) fn holds_with(&mut self, f: Flow) -> bool
         requires { CanTake I.size_of I.holds_on I.fits I.Tried.tried f self.old }
         ensures invariant { self.new.invariant ≡ self.old.invariant }
@@ -49,7 +49,7 @@ impl<'a, I: Stepwise> TriedInvariant<'a, I, I::Tried> {
         self.invariant.holds_with(&mut self.trial, f)
     }
 
-    /// Puts the flow into the trial.
+    /// Adds the flow to the trial.
     pub(crate) fn step(&mut self, f: Flow)
         requires { CanTake I.size_of I.holds_on I.fits I.Tried.tried f self.old }
         ensures invariant { self.new.invariant ≡ self.old.invariant }

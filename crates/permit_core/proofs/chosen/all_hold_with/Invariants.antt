@@ -4,7 +4,7 @@ use Rattle.flow_set.specs.FlowSet.{with_flow}
 use Rattle.permit_core.specs.inner.Tried.{Became}
 use Rattle.permit_core.proofs.chosen.all_hold_with.Given as goal
 
--- the trials have their flows, and the invariants so far hold with the flow
+-- The flows of the trials are unchanged, and the invariants so far hold with the flow.
 abbrev pub invariant-loop-i : goal.invariant-loop-i
 invariant-loop-i g l =
     let tried = g.I.Tried.Trial.tried in

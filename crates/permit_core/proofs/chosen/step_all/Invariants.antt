@@ -3,7 +3,7 @@ use Rattle.flow_set.specs.FlowSet.{with_flow}
 use Rattle.permit_core.specs.inner.Tried.{AllFit, invariants_of}
 use Rattle.permit_core.proofs.chosen.step_all.Given as goal
 
--- the trials so far have taken the flow
+-- The trials so far have taken the flow.
 abbrev pub invariant-loop-i : goal.invariant-loop-i
 invariant-loop-i g l =
     let tried = g.I.Tried.Trial.tried in

@@ -2,7 +2,7 @@ use Rattle.std.proofs.Common.{◌&&◌, not, take}
 use Rattle.permit_core.specs.inner.Tried.{ChosenTried}
 use Rattle.permit_core.proofs.chosen.trials_together.Given as goal
 
--- the chosen invariants so far that judge flows together have trials
+-- The chosen invariants so far that are not edge-wise have trials.
 abbrev pub invariant-loop-inv : goal.invariant-loop-inv
 invariant-loop-inv g l =
     ChosenTried g.I.Stepwise.fits g.I.Tried.Trial.tried

@@ -4,7 +4,7 @@ use Rattle.permit_core.specs.Policy.{AllHold}
 use Rattle.permit_core.proofs.PolicyLaws.{denied_fails}
 use Rattle.permit_core.proofs.denial.blame.Goals as goal
 
--- not all of them hold of the policy with a denied flow
+-- Not all of them hold for the policy with a denied flow.
 pub returns-clause-denied : goal.returns-clause-denied
 returns-clause-denied g c denied =
     let Holds = AllHold g.I.Invariant.holds_on c.args.invs.now in

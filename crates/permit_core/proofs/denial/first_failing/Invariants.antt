@@ -2,6 +2,6 @@ use Rattle.std.proofs.Common.{take}
 use Rattle.permit_core.specs.Policy.{AllHold}
 use Rattle.permit_core.proofs.denial.first_failing.Given as goal
 
--- the invariants so far hold
+-- The invariants so far hold.
 abbrev pub invariant-loop-number : goal.invariant-loop-number
 invariant-loop-number g l = AllHold g.I.Invariant.holds_on (take l.number l.invs) l.e.flows

@@ -4,7 +4,7 @@ use Rattle.permit_core.specs.Policy.{AllHold}
 use Rattle.permit_core.specs.inner.Trials.{AreTried}
 use Rattle.permit_core.proofs.denial_by_steps.blame_by_steps.Given as goal
 
--- the invariants so far hold with the flow, and all trials have the flows of the policy
+-- The invariants so far hold with the flow, and all trials have the flows of the policy.
 abbrev pub invariant-loop-number : goal.invariant-loop-number
 invariant-loop-number g l = record {
   tried : AreTried g.I.Stepwise.fits g.I.Tried.Trial.tried l.invs l.trials.items l._permitted.flows;

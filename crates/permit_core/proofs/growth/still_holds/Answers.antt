@@ -2,7 +2,7 @@ use Rattle.std.proofs.Common.{sym, ◌∙◌}
 use Rattle.permit_core.proofs.GrownLaws.{edge_wise-IsGrown}
 use Rattle.permit_core.proofs.growth.still_holds.Goals as goal
 
--- an invariant that judges flows alone holds of the set as it does of the new flow
+-- An edge-wise invariant holds for the set if and only if it holds for the new flow.
 pub returns-then-edge_wise : goal.returns-then-edge_wise
 returns-then-edge_wise g c =
     let inv = c.args.inv.now in

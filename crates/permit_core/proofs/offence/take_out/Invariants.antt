@@ -2,7 +2,7 @@ use Rattle.std.proofs.Common.{◌≡◌, ◌++◌}
 use Rattle.flow_set.specs.FlowSet.{without}
 use Rattle.permit_core.proofs.offence.take_out.Given as goal
 
--- the flows so far are taken out
+-- The flows so far are removed.
 abbrev pub invariant-loop-f : goal.invariant-loop-f
 invariant-loop-f l = record {
   walk : l.yielded ++ l.f-iterator ≡ l.others.flows;

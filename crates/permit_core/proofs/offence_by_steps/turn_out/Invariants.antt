@@ -4,7 +4,7 @@ use Rattle.flow_set.specs.FlowSet.{has, IsOrdered}
 use Rattle.permit_core.proofs.Turning.{turned}
 use Rattle.permit_core.proofs.offence_by_steps.turn_out.Given as goal
 
--- the flows so far are turned: those of the set are out, and the others in
+-- The flows so far are complemented: flows of the set are removed, and the others are inserted.
 abbrev pub invariant-loop-f : goal.invariant-loop-f
 invariant-loop-f l = record {
   walk : l.yielded ++ l.f-iterator ≡ l.all.flows;

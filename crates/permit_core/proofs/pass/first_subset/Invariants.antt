@@ -2,7 +2,7 @@ use Rattle.std.proofs.Common.{◌≡◌, ◌++◌}
 use Rattle.flow_set.specs.Conditions.{IsFirst}
 use Rattle.permit_core.proofs.pass.first_subset.Given as goal
 
--- what is kept is the first subset of the flows so far
+-- The kept flows are the first subset of the flows so far.
 abbrev pub invariant-loop-f : goal.invariant-loop-f
 invariant-loop-f g l = record {
   size : l.kept.size ≡ l.all.size;

@@ -2,7 +2,7 @@ use Rattle.std.proofs.Common.{◌≡◌, ◌++◌}
 use Rattle.flow_set.specs.Conditions.{IsFirst}
 use Rattle.permit_core.proofs.steps.first_subset_by_steps.Given as goal
 
--- what is kept is the first subset of the flows so far, and the state has come to it
+-- The kept flows are the first subset of the flows so far, and the state has processed them.
 abbrev pub invariant-loop-f : goal.invariant-loop-f
 invariant-loop-f g l = record {
   size : l.kept.size ≡ l.all.size;

@@ -2,7 +2,7 @@ use Rattle.std.proofs.Common.{◌≡◌, ℕ, ◌<◌, length, slice_index_or}
 use Rattle.flow_set.specs.inner.Steps.{untried}
 use Rattle.permit_core.proofs.trials.trials_of.Given as goal
 
--- the invariants so far have trials
+-- The invariants so far have trials.
 abbrev pub invariant-loop-inv : goal.invariant-loop-inv
 invariant-loop-inv g l = record {
   counted : length l.trials.items ≡ l.inv-index;
