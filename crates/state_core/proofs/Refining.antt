@@ -1,5 +1,5 @@
--- What refining rests on: which answers add nothing, what one answer more is, that the condition of stateful flows is
--- kept by fewer of them, and that what is found complies.
+-- Lemmas for refinement: the answers that add nothing, the effect of one more answer, downward closure of the condition
+-- of stateful flows, and compliance of the result.
 use Rattle.std.proofs.Common.{◌≡◌, ℕ, Bool, true, false, ◌||◌, cond, List, Result, Ok, Err, get_or, refl, sym, ◌∙◌, ap, subst}
 use Rattle.std.specs.Prelude.{IsTrue, IsFalse, All, IfOk}
 use Rattle.std.proofs.lemmas.Bool.{or_from}
@@ -17,7 +17,7 @@ use Rattle.inv_law.specs.declared.strategy.Strategy.{Strategy}
 use Rattle.state_core.specs.Stateful.{StrictHold, CompliesWithEach}
 use Rattle.state_core.proofs.StatefulLaws.{Complies-from_strict}
 
--- an answer that is a flow of the policy itself, as a test tells, adds nothing
+-- An answer that is itself a flow of the policy, by the test, adds nothing.
 pub permitted_answer : (p s : List Flow) (f answer : Flow) (test : Bool) → IsOrdered p → answer ≡ back_of f → test ≡ has p answer → IsTrue test
     → with_back p (with_flow s f) ≡ with_back p s
 permitted_answer p s f answer test ordered is tells passes =
@@ -40,7 +40,7 @@ swap true true c = refl
 swap true false c = refl
 swap false b c = refl
 
--- the answer of one more flow is one more flow
+-- The answer of one more flow is one more flow.
 pub answer_of_more : (p s : List Flow) (f : Flow) → IsOrdered p → with_flow (with_back p s) (back_of f) ≡ with_back p (with_flow s f)
 answer_of_more p s f ordered =
     flows_ext (with_flow (with_back p s) (back_of f)) (with_back p (with_flow s f))
@@ -52,13 +52,13 @@ answer_of_more p s f ordered =
     ∙ swap (same_flow f (back_of g)) (has p g) (has s (back_of g))
     ∙ sym (has-with_back p (with_flow s f) g ∙ ap (λ b. has p g || b) (has-with_flow s f (back_of g))))
 
--- the same of a flow that is taken or not
+-- The same for a flow that is added or not.
 pub answers_after : (taken : Bool) (p s : List Flow) (f : Flow) → IsOrdered p
     → cond taken (with_flow (with_back p s) (back_of f)) (with_back p s) ≡ with_back p (cond taken (with_flow s f) s)
 answers_after true p s f ordered = answer_of_more p s f ordered
 answers_after false p s f ordered = refl
 
--- where one flow more is asked about, its answer is one flow more of the policy with answers
+-- If the condition is tested with one more flow, its answer is one more flow of the policy with answers.
 pub answers-IsGrown : (n : ℕ) (Holds : List Flow → Type 0) (p fs : List Flow) (f : Flow) → IsFlowSet n p → IsFalse (has p (back_of f))
     → IsGrown n (λ s. Holds (with_back p s)) fs f → IsGrown n Holds (with_back p fs) (back_of f)
 answers-IsGrown n Holds p fs f set absent grown = record {
@@ -76,7 +76,7 @@ pub StrictHold-downward : {X : Type 0} (n : ℕ) (strategy_of : X → Strategy) 
 StrictHold-downward n strategy_of edge_mark HoldsOn invs p within downward e s set sub hold =
     λ k d below strict. IsDownward-with_back n (HoldsOn _) p within (downward k d below) e s set sub (hold k d below strict)
 
--- what is found complies, since it was found by the strict invariants
+-- The result complies, since it is found with the strict invariants.
 pub complies_found : {X E : Type 0} (n : ℕ) (strategy_of : X → Strategy) (edge_mark : X → Bool) (HoldsOn : X → List Flow → Type 0) (invs : List X) (p : List Flow) (found : Result SetOfFlows E)
     → IsFlowSet n p
     → All (λ inv. IsTrue (edge_mark inv) → IsEdgeWise n (HoldsOn inv)) invs → All (λ inv. HoldsOn inv p) invs

@@ -1,4 +1,5 @@
--- Laws of compliance: to hold on the permitted policy and, if strict, on the answers is to comply.
+-- Lemmas on compliance: an invariant that holds for the permitted policy and, if strict, for the answers is complied
+-- with.
 use Rattle.std.proofs.Common.{ℕ, inl, inr, Bool, true, false, List, refl, sym, ◌∙◌}
 use Rattle.std.specs.Prelude.{IsTrue, IsFalse}
 use Rattle.std.proofs.lemmas.Bool.{both_ways, or_cases, false_from_ne_true}
@@ -15,7 +16,7 @@ use Rattle.inv_law.specs.declared.strategy.Strategy.{Strategy}
 use Rattle.inv_law.specs.declared.strategy.Strategy.TheVariants.{Access, Information}
 use Rattle.state_core.specs.Stateful.{is_strict, AreAnswers, Complies}
 
--- what breaks an edge-wise invariant that holds of the policy is an answer
+-- A flow that violates an edge-wise invariant which holds for the policy is an answer.
 only_answers : (n : ℕ) (Holds : List Flow → Type 0) (p s : List Flow) → IsFlowSet n p → IsFlowSet n s → IsEdgeWise n Holds → Holds p
     → (f : List Flow) → IsMinimalOffending Holds (with_back p s) f → AreAnswers p s f
 only_answers n Holds p s p_set s_set edge_wise holds f offends g there =
@@ -31,7 +32,7 @@ only_answers n Holds p s p_set s_set edge_wise holds f offends g there =
       not_in_p,
     )
 
--- an invariant that holds of the policy, and of the answers too if it is strict, is complied with
+-- A policy complies with an invariant that holds for it, and for the answers too if the invariant is strict.
 pub Complies-from_strict : (n : ℕ) (strategy : Strategy) (edge_wise : Bool) (Holds : List Flow → Type 0) (p s : List Flow)
     → IsFlowSet n p → IsFlowSet n s → (IsTrue edge_wise → IsEdgeWise n Holds) → Holds p
     → (IsTrue (is_strict strategy edge_wise) → Holds (with_back p s)) → Complies strategy Holds p s

@@ -1,4 +1,4 @@
-//! A policy together with the answers that it lets back.
+//! A policy together with its answers.
 
 ghost use Rattle.std.specs.Prelude.{◌≡◌, ◌⊎◌, ◌↔◌, IsTrue, IfOk};
 ghost use Rattle.flow_set.specs.Flow.{back_of};
@@ -8,7 +8,7 @@ ghost use Rattle.flow_set.specs.declared.flow.Flow.{Flow};
 use flow_set::FlowSet;
 use std::alloc::{AllocError, Global};
 
-/// The flows of `p` and the answers of the flows of `s`, each of which goes the other way.
+/// Returns the flows of `p` and the answers of the flows of `s`: their reverse flows.
 pub fn with_answers(alloc: Global, p: &FlowSet, s: &FlowSet) -> Result<FlowSet, AllocError>
     requires { s.now.size ≡ p.now.size }
     ensures size { IfOk result (λ all. all.size ≡ p.now.size) }

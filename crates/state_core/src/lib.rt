@@ -1,5 +1,5 @@
-//! Flows whose answers may pass. A packet filter that tracks connections lets the answers of a
-//! stateful flow back through; this crate finds the flows for which no invariant forbids that.
+//! Flows whose answers may pass. A packet filter with connection tracking lets the answers of a
+//! stateful flow pass. This crate finds the flows whose answers no invariant forbids.
 #![tactic(auto)]
 
 mod answers;

@@ -12,8 +12,8 @@ use inv_law::{Invariant, Strategy};
 use permit_core::{Choice, Condition, chosen_still_hold, first_subset};
 use std::alloc::{AllocError, Global};
 
-/// The first flows of `p` whose answers break no strict invariant. Every invariant has to hold of
-/// `p`; then `p` with these answers complies with all of them.
+/// Returns the first subset of `p` whose answers violate no strict invariant. Every invariant has
+/// to hold for `p`; then `p` with these answers complies with all of them.
 pub fn refine<I: Invariant>(alloc: Global, invs: &[I], p: &FlowSet) -> Result<FlowSet, AllocError>
     requires sizes { All (λ inv. I.size_of inv ≡ p.now.size) invs.now }
     requires permitted { All (λ inv. I.holds_on inv p.now.flows) invs.now }
@@ -32,7 +32,7 @@ pub fn refine<I: Invariant>(alloc: Global, invs: &[I], p: &FlowSet) -> Result<Fl
     first_subset(alloc, &answered, p)
 }
 
-// The condition that the strict invariants hold of the permitted flows with answers.
+// The condition that the strict invariants hold for the permitted flows with answers.
 #[derive(Drop)]
 pub(crate) struct Answered<'a, I> {
     pub(crate) invs: &'a [I],
@@ -50,7 +50,7 @@ impl<'a, I: Invariant> Condition for Answered<'a, I> {
 
     fn meets(&self, alloc: Global, set: &FlowSet, added: Flow) -> Result<bool, AllocError> {
         let answer = added.back();
-        // An answer that is permitted as a flow of its own adds nothing.
+        // An answer that is itself a permitted flow adds nothing.
         if self.permitted.has(answer) {
             return Ok(true);
         }
@@ -59,7 +59,7 @@ impl<'a, I: Invariant> Condition for Answered<'a, I> {
     }
 }
 
-// The invariants that have to hold of answers too.
+// The invariants that have to hold for answers too.
 #[derive(Drop)]
 pub(crate) struct Strict;
 
@@ -71,7 +71,7 @@ impl<I: Invariant> Choice<I> for Strict {
     }
 }
 
-/// Whether the invariant has to hold of answers as of any flow.
+/// Whether the invariant has to hold for answers as for any flow.
 pub fn is_strict<I: Invariant>(inv: &I) -> bool
     ensures { result ≡ is_strict (I.strategy_of inv.now) (I.edge_mark inv.now) }
 {

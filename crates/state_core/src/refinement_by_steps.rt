@@ -1,4 +1,5 @@
-//! The stateful flows by trials: each begins with the permitted flows and takes the answers as steps.
+//! The stateful flows, found with trials. Each trial begins with the permitted flows and adds the
+//! answers as steps.
 
 ghost use Rattle.std.specs.Prelude.{◌≡◌, ◌&&◌, All, not, IfOk};
 ghost use Rattle.flow_set.specs.FlowSet.{with_back};
@@ -15,8 +16,8 @@ use permit_core::{
 };
 use std::alloc::{AllocError, Global};
 
-/// What `refine` answers, from one trial of each strict invariant that judges flows together. They are made
-/// first, and after them only the answer takes memory.
+/// Returns the result of `refine`, using one trial of each strict invariant that is not edge-wise.
+/// The trials are allocated first; after that only the result allocates memory.
 pub fn refine_by_steps<I: Stepwise>(
     alloc: Global,
     invs: &[I],
@@ -58,7 +59,7 @@ impl<'a, I: Stepwise> SteppedCondition for Answered<'a, I> {
         f: Flow,
     ) -> bool {
         let answer = f.back();
-        // An answer that is permitted as a flow of its own adds nothing.
+        // An answer that is itself a permitted flow adds nothing.
         if self.permitted.has(answer) {
             return true;
         }

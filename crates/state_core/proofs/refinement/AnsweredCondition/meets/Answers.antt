@@ -9,7 +9,7 @@ use Rattle.state_core.specs.Stateful.{StrictHold}
 use Rattle.state_core.proofs.Refining.{answers-IsGrown, permitted_answer}
 use Rattle.state_core.proofs.refinement.AnsweredCondition.meets.Goals as goal
 
--- the permitted flows with the answers so far held already, and one that is permitted adds nothing
+-- The invariants already hold for the permitted flows with the answers so far, and a permitted answer adds nothing.
 pub returns-then-has : goal.returns-then-has
 returns-then-has g c =
     let p : List Flow = c.args.self.now.permitted.now.flows in
@@ -19,7 +19,7 @@ returns-then-has g c =
       λ _. refl,
     )
 
--- what is asked about is the permitted flows with the answers so far and one more
+-- The tested set is the permitted flows with the answers so far and one more.
 grown_by : (n m : ℕ) (Holds : List Flow → Type 0) (p fs all : List Flow) (f answer : Flow) → m ≡ n → all ≡ with_back p fs
     → answer ≡ back_of f → IsFlowSet n p → IsFalse (has p answer)
     → IsGrown n (λ s. Holds (with_back p s)) fs f → IsGrown m Holds all answer

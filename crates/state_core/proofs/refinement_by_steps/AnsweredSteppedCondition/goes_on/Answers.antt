@@ -11,7 +11,7 @@ use Rattle.state_core.specs.Stateful.{is_strict, StrictHold}
 use Rattle.state_core.proofs.Refining.{answer_of_more, answers_after, permitted_answer}
 use Rattle.state_core.proofs.refinement_by_steps.AnsweredSteppedCondition.goes_on.Goals as goal
 
--- an answer that is permitted adds nothing
+-- An answer that is permitted adds nothing.
 pub returns-then-has-clause-answer : goal.returns-then-has-clause-answer
 returns-then-has-clause-answer g c =
     let inv = g.I.Invariant in
