@@ -9,7 +9,7 @@ use Rattle.flow_set.specs.FlowSet.{has, without}
 use Rattle.explain_core.specs.Findings.{AreFindings}
 use Rattle.explain_core.specs.declared.finding.Finding.{Finding}
 
--- One flow more that is not among the others, and one that is.
+-- Adding a flow that is not in the other list, and adding a flow that is.
 pub without-more : (xs ys : List Flow) (f : Flow) → IsFalse (has ys f) → without (xs ++ f ∷ []) ys ≡ without xs ys ++ f ∷ []
 without-more xs ys f absent =
     filter-append (λ g. not (has ys g)) xs (f ∷ []) ∙ ap (λ zs. without xs ys ++ zs) (cond-true (not (has ys f)) _ _ (not_from_false _ absent))

@@ -1,4 +1,4 @@
--- Laws of least failing sets: the last flow of a set that lies outside another, the steps of the search, and that there is one.
+-- Laws of least failing sets: the last flow of a set that is not in another set, the steps of the search, and uniqueness.
 use Rattle.std.proofs.Common.{◌≡◌, Bool, true, false, ◌||◌, inl, inr, List, [], ◌∷◌, ◌++◌, refl, sym, ◌∙◌, ap, subst}
 use Rattle.std.specs.Prelude.{IsTrue, IsFalse, ◌⊎◌}
 use Rattle.std.specs.List.{fold}
@@ -14,14 +14,14 @@ use Rattle.explain_core.specs.inner.Transitions.{AreNarrowed, Exceeds, IsTransit
 
 -- ---- the last flow outside a set
 
--- The last flow of xs outside ys.
+-- The last flow of xs that is not in ys.
 record IsLastOutside (xs ys : List Flow) : Type 0 where
   flow : Flow
   here : IsTrue (has xs flow)
   not_there : IsFalse (has ys flow)
   last : (f : Flow) → IsTrue (before flow f) → IsTrue (has xs f) → IsTrue (has ys f)
 
--- A set is within another, or has a last flow outside it.
+-- A set is a subset of another, or has a last flow that is not in it.
 last_outside : (xs ys : List Flow) → IsOrdered xs → ((f : Flow) → IsTrue (has xs f) → IsTrue (has ys f)) ⊎ IsLastOutside xs ys
 last_outside [] ys o = inl (λ f there. has_nothing f there)
 last_outside (x ∷ xs) ys o = elim (last_outside xs ys o.1) [
@@ -163,9 +163,9 @@ least_end Holds e needed rest narrowed inside fails = record {
   ];
 }
 
--- ---- there is one
+-- ---- uniqueness
 
--- Of two sets only one has the last flow in which they differ.
+-- Of two distinct sets, only one has the last flow in which they differ.
 differs_one_way : (xs ys : List Flow) → DiffersLastIn xs ys → DiffersLastIn ys xs → ⊥
 differs_one_way xs ys p q =
     elim (cases_Bool (before p.flow q.flow)) [

@@ -72,14 +72,14 @@ transition_within needed before left g o = record {
     more false false l true h = or_right _ _ refl
     more false false l false h = absurd (false≢true h)
 
--- A set is a subset of itself with one flow more.
+-- A set is a subset of itself with one more flow.
 pub with_flow_more : (fs : List Flow) (g : Flow) → IsOrdered fs → IsSubset fs (with_flow fs g)
 with_flow_more fs g o = record {
   ordered = o;
   within = λ h there. has-with_flow fs g h ∙ or_right _ _ there;
 }
 
--- A subset of a set with one flow more that lacks this flow is a subset of the set.
+-- A subset of a set with one more flow is a subset of the set if it lacks this flow.
 pub within_without : (xs s : List Flow) (g f : Flow) → IsSubset s (with_flow xs g) → IsTrue (same_flow g f) → IsFalse (has s f) → IsSubset s xs
 within_without xs s g f sub same absent = record {
   ordered = sub.ordered;
@@ -152,7 +152,7 @@ narrowed_end Holds e needed rest narrowed fails =
       minimal = λ s sub. narrowed.minimal s (subset_trans s needed (fold with_flow needed rest) sub inside);
     }
 
--- An edge-wise condition fails by the new flow alone.
+-- If a minimal failing set of an edge-wise condition has the new flow, it has no other flow.
 pub minimal_alone : (n : ℕ) (Holds : List Flow → Type 0) (e w : List Flow) (f : Flow) → IsEdgeWise n Holds → IsFlowSet n e → IsFlow n f
     → Holds e → (Holds (with_flow e f) → ⊥) → IsMinimalFailing Holds (with_flow e f) w → IsTrue (has w f) → w ≡ f ∷ []
 minimal_alone n Holds e w f edge_wise set is_flow holds fails minimal member =

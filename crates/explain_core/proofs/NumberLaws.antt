@@ -15,7 +15,7 @@ pub among-append : (ns ms : List ℕ) (k : ℕ) → among (ns ++ ms) k ≡ (amon
 among-append [] ms k = refl
 among-append (n ∷ ns) ms k = ap (λ b. (n == k) || b) (among-append ns ms k) ∙ sym (or_assoc (n == k) (among ns k) (among ms k))
 
--- A number in a list with one number more is this number, or is in the list.
+-- A number in a list with one more number is this number, or is in the list.
 pub among-last : (ns : List ℕ) (m k : ℕ) → IsTrue (among (ns ++ m ∷ []) k) → (m ≡ k) ⊎ IsTrue (among ns k)
 among-last ns m k there =
     elim (or_cases (among ns k) (among (m ∷ []) k) (sym (among-append ns (m ∷ []) k) ∙ there)) [
@@ -36,7 +36,7 @@ IsAscending-push (n ∷ ns) m ascending below = (
   IsAscending-push ns m ascending.1 (λ k there. below k (or_right _ _ there)),
 )
 
--- The numbers are those of the chosen invariants before the place `end` that fail.
+-- The numbers are those of the chosen invariants before the index `end` that fail.
 pub record AreFound {X : Type 0} (chosen : X → Bool) (HoldsOn : X → List Flow → Type 0) (invs : List X) (e : List Flow) (end : ℕ) (numbers : List ℕ) : Type 0 where
   pub ascending : IsAscending numbers
   pub below : (k : ℕ) → IsTrue (among numbers k) → k < end
@@ -99,7 +99,7 @@ found_all chosen HoldsOn invs e end numbers found all = record {
   others = λ k inv there. found.others k inv (omega (arith, slice_get_within invs k inv there, all)) there;
 }
 
--- The number at a place is in the list.
+-- The number at an index is in the list.
 pub among-read : (ns : List ℕ) (i d : ℕ) → i < length ns → IsTrue (among ns (get_or ns i d))
 among-read [] i d below = absurd (omega (arith, below))
 among-read (n ∷ ns) zero d below = or_left _ _ (same_number n)

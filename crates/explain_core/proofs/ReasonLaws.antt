@@ -1,4 +1,4 @@
--- A set of flows has one list of reasons, and flows have one list of findings.
+-- Uniqueness of the list of reasons of a set of flows, and of the list of findings of flows.
 use Rattle.std.proofs.Common.{◌≡◌, ◌<◌, ◌==◌, ℕ, Bool, inl, inr, List, [], ◌∷◌, length, map, get_or, refl, sym, ◌∙◌, ap, subst, arith}
 use Rattle.std.specs.Prelude.{IsTrue, slice_get, Some}
 use Rattle.std.proofs.lemmas.Bool.{cases_Bool, eqb-true, false≢true, or_cases, or_left, or_right}
@@ -18,7 +18,7 @@ use Rattle.explain_core.proofs.NumberLaws.{among-read}
 same_number : (n : ℕ) → IsTrue (n == n)
 same_number n = grind (arith, nat_tests)
 
--- Of two ascending lists with the same numbers, the first number is that of both.
+-- Two ascending lists with the same numbers have the same first number.
 same_first : (n m : ℕ) (ns ms : List ℕ) → IsAscending (n ∷ ns) → IsAscending (m ∷ ms) → ((k : ℕ) → among (n ∷ ns) k ≡ among (m ∷ ms) k) → n ≡ m
 same_first n m ns ms a b same =
     elim (or_cases (m == n) (among ms n) (sym (same n) ∙ or_left _ _ (same_number n))) [
@@ -29,7 +29,7 @@ same_first n m ns ms a b same =
       ]
     ]
 
--- A number behind the first of an ascending list is behind the first of another that has it.
+-- If two ascending lists have the same numbers, a number after the first number of one list is after the first number of the other.
 behind_first : (n m k : ℕ) (ns ms : List ℕ) → n ≡ m → IsAscending (n ∷ ns) → ((j : ℕ) → among (n ∷ ns) j ≡ among (m ∷ ms) j) → IsTrue (among ns k) → IsTrue (among ms k)
 behind_first n m k ns ms first a same there =
     elim (or_cases (m == k) (among ms k) (sym (same k) ∙ or_right _ _ there)) [
@@ -49,7 +49,7 @@ ascending_ext (n ∷ ns) (m ∷ ms) a b same =
     (λ k. both_imply (among ns k) (among ms k) (behind_first n m k ns ms first a same) (behind_first m n k ms ns (sym first) b (λ j. sym (same j)))) in
     ap (λ k. k ∷ ns) first ∙ ap (λ ks. m ∷ ks) rest
 
--- A number of failing invariants is in every list of the numbers of all failing invariants.
+-- The number of a failing invariant is in every list of the numbers of all failing invariants.
 failing_too : {X : Type 0} (chosen : X → Bool) (HoldsOn : X → List Flow → Type 0) (invs : List X) (e : List Flow) (ns ms : List ℕ)
     → AreFailing chosen HoldsOn invs e ns → AreFailing chosen HoldsOn invs e ms → (k : ℕ) → IsTrue (among ns k) → IsTrue (among ms k)
 failing_too chosen HoldsOn invs e ns ms a b k there =
@@ -70,7 +70,7 @@ failing_is_one chosen HoldsOn invs e ns ms a b =
 abbrev pub reason_parts : Reason → ℕ × List Flow
 reason_parts r = (r.number, r.by.flows)
 
--- Two reasons at one place have the same flows.
+-- Two reasons at the same index have the same flows.
 same_flows : {X : Type 0} (chosen : X → Bool) (HoldsOn : X → List Flow → Type 0) (invs : List X) (e : List Flow) (xs ys : List Reason) (k : ℕ) (d : Reason)
     → AreReasons chosen HoldsOn invs e xs → AreReasons chosen HoldsOn invs e ys → k < length xs → k < length ys
     → (get_or xs k d).number ≡ (get_or ys k d).number → (get_or xs k d).by.flows ≡ (get_or ys k d).by.flows

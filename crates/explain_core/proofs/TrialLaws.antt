@@ -6,7 +6,7 @@ use Rattle.std.proofs.lemmas.Bool.{cases_eq}
 use Rattle.std.proofs.lemmas.List.{get_or-set_same, get_or-set_other, get_or_read, length-set}
 use Rattle.permit_core.specs.inner.Trials.{AreTried}
 
--- The trials, of which one was used and has the same flows as before.
+-- The trials remain valid if one of them was used and has the same flows as before.
 pub AreTried-kept : {X T : Type 0} (Fits : X → T → Type 0) (tried : T → TriedFlows) (invs : List X) (trials : List T) (e : List Flow) (i : ℕ) (inv : X) (t : T)
     → AreTried Fits tried invs trials e → i < length invs → inv ≡ get_or invs i inv → Fits inv t → (tried t).flows ≡ e
     → AreTried Fits tried invs (set trials i t) e

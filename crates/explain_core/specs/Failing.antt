@@ -18,7 +18,7 @@ abbrev pub IsAscending : List ℕ → Type 0
 IsAscending [] = Unit {0}
 IsAscending (n ∷ ns) = ((k : ℕ) → IsTrue (among ns k) → n < k) × IsAscending ns
 
--- The invariant at the place `number`, from 0, is chosen and fails on e.
+-- The invariant at the index `number`, from 0, is chosen and fails on e.
 pub record FailsAt {X : Type 0} (chosen : X → Bool) (HoldsOn : X → List Flow → Type 0) (invs : List X) (e : List Flow) (number : ℕ) : Type 0 where
   pub inv : X
   pub place : slice_get invs number ≡ Some inv
@@ -32,11 +32,11 @@ pub record AreFailing {X : Type 0} (chosen : X → Bool) (HoldsOn : X → List F
   pub failing : (number : ℕ) → IsTrue (among numbers number) → FailsAt chosen HoldsOn invs e number
   pub others : (number : ℕ) (inv : X) → slice_get invs number ≡ Some inv → IsTrue (chosen inv) → IsFalse (among numbers number) → HoldsOn inv e
 
--- The numbers are those of all invariants that deny the flow f beside the permitted flows p: they fail on p with f.
+-- The numbers are those of all invariants that deny the flow f given the permitted flows p: they fail on p with f.
 abbrev pub AreDenying : {X : Type 0} → (X → List Flow → Type 0) → List X → (p : List Flow) → (f : Flow) → List ℕ → Type 0
 AreDenying HoldsOn invs p f numbers = AreFailing (λ _. true) HoldsOn invs (with_flow p f) numbers
 
--- The numbers are those of all invariants that deny the answers of the flow f beside the permitted flows p and the answers of the
+-- The numbers are those of all invariants that deny the answers of the flow f given the permitted flows p and the answers of the
 -- stateful flows s: they are strict, and fail on p and these answers with the answer of f.
 abbrev pub AreDenyingAnswers : {X : Type 0} → (X → Strategy) → (X → Bool) → (X → List Flow → Type 0) → List X → (p s : List Flow) → (f : Flow) → List ℕ → Type 0
 AreDenyingAnswers strategy_of edge_mark HoldsOn invs p s f numbers =
@@ -51,15 +51,15 @@ pub record IsMinimalFailing (Holds : List Flow → Type 0) (e w : List Flow) : T
   pub fails : Holds w → ⊥
   pub minimal : (s : List Flow) → IsSubset s w → (f : Flow) → IsTrue (has w f) → IsFalse (has s f) → Holds s
 
--- xs has a flow that ys lacks, and the two have the same flows after it in the order of flows.
+-- xs has a flow that ys lacks, and xs and ys have the same flows after it in the order of flows.
 pub record DiffersLastIn (xs ys : List Flow) : Type 0 where
   pub flow : Flow
   pub here : IsTrue (has xs flow)
   pub not_there : IsFalse (has ys flow)
   pub same_after : (f : Flow) → IsTrue (before flow f) → has xs f ≡ has ys f
 
--- w is the least failing set of e in the colexicographic order: the condition fails on this subset of e, and every other subset of e
--- on which it fails has the last flow in which the two differ. There is one such set (LeastLaws: least_is_one).
+-- w is the least failing set of e in the colexicographic order: the condition fails on this subset of e, and every other subset of e on
+-- which it fails has the last flow in which the two differ. The set is unique (LeastLaws: least_is_one).
 pub record IsLeastFailing (Holds : List Flow → Type 0) (e w : List Flow) : Type 0 where
   pub within : IsSubset w e
   pub fails : Holds w → ⊥

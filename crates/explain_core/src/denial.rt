@@ -1,4 +1,4 @@
-//! The invariants that deny a flow, or its answers.
+//! The invariants that deny a flow or its answers.
 
 ghost use Rattle.std.specs.Prelude.{◌≡◌, ◌≤◌, All, IfOk, length};
 ghost use Rattle.flow_set.specs.Flow.{IsFlow};
@@ -15,7 +15,8 @@ use permit_core::{Every, trials_of};
 use state_core::with_answers;
 use std::alloc::{AllocError, Global};
 
-/// Returns the numbers, from 0 and ascending, of all invariants that fail on the permitted flows with the flow.
+/// Returns the numbers, from 0 and ascending, of all invariants that fail on the permitted flows with the
+/// flow.
 pub fn invariants_denying<I: Stepwise>(
     alloc: Global,
     invs: &[I],
@@ -32,8 +33,8 @@ pub fn invariants_denying<I: Stepwise>(
     failing_with(alloc, &Every, invs, &mut trials, permitted, f)
 }
 
-/// Returns the numbers, from 0 and ascending, of all strict invariants that fail on the permitted flows and the
-/// answers of the stateful flows, with the answer of the flow.
+/// Returns the numbers, from 0 and ascending, of all strict invariants that fail on the permitted flows and
+/// the answers of the stateful flows, with the answer of the flow.
 pub fn invariants_denying_answers<I: Stepwise>(
     alloc: Global,
     invs: &[I],

@@ -5,12 +5,12 @@ ghost use Rattle.explain_core.specs.inner.Directions.{directed};
 
 use flow_set::Flow;
 
-/// The direction of packets, as connection tracking names it.
+/// The direction of packets, in the terms of connection tracking.
 #[derive(Clone, Copy)]
 pub(crate) enum Direction {
     /// The packets of the flow.
     Original,
-    /// The answers to them.
+    /// The answers to these packets.
     Reply,
 }
 

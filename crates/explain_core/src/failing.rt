@@ -1,4 +1,4 @@
-//! Every invariant that fails with one flow more.
+//! Every invariant that fails with one more flow.
 
 ghost use Rattle.std.specs.Prelude.{◌≡◌, ◌≤◌, All, IfOk, IsFalse, IsTrue, length};
 ghost use Rattle.flow_set.specs.Flow.{IsFlow};
@@ -13,7 +13,8 @@ use std::alloc::{AllocError, Global};
 
 /// Returns the numbers, from 0 and ascending, of the chosen invariants that fail on the set with the flow.
 ///
-/// The trials have the flows of the set, before and after the call. The set is not read: only the contract needs it.
+/// The trials have the flows of the set, before and after the call. The set is not read: only the contract
+/// refers to it.
 pub fn failing_with<I: Stepwise, C: Choice<I>>(
     alloc: Global,
     choice: &C,
@@ -40,7 +41,8 @@ pub fn failing_with<I: Stepwise, C: Choice<I>>(
     Ok(numbers)
 }
 
-// Whether the invariant is chosen and fails with one flow more. The trial has the same flows before and after the call.
+// Whether the invariant is chosen and fails with one more flow. The trial has the same flows before and after
+// the call.
 fn fails_with<I: Stepwise, C: Choice<I>>(choice: &C, inv: &I, trial: &mut I::Tried, f: Flow) -> bool
     requires flow { IsFlow (I.size_of inv.now) f }
     requires fits { I.fits inv.now trial.old }

@@ -1,6 +1,7 @@
-//! The invariants that deny each of many flows, or their answers.
+//! The invariants that deny each of many flows or their answers.
 //!
-//! One trial of each invariant serves all flows, so the cost is one step of a trial for each flow and invariant.
+//! All flows share one trial of each invariant, so the cost is one step of a trial for each flow and
+//! invariant.
 
 ghost use Rattle.std.specs.Prelude.{◌≡◌, ◌≤◌, All, IfOk, length};
 ghost use Rattle.flow_set.specs.Flow.{IsFlow};
@@ -22,9 +23,9 @@ use permit_core::{Choice, Every, trials_of};
 use state_core::with_answers;
 use std::alloc::{AllocError, Global};
 
-/// Returns the wanted flows in order, each with all invariants that deny it beside the permitted flows.
+/// Returns the wanted flows in order, each with all invariants that deny it given the permitted flows.
 ///
-/// A permitted flow is denied by no invariant.
+/// No invariant denies a permitted flow.
 pub fn denials<I: Stepwise>(
     alloc: Global,
     invs: &[I],
@@ -51,7 +52,8 @@ pub fn denials<I: Stepwise>(
     )
 }
 
-/// Returns the permitted flows that are not stateful, in order, each with all strict invariants that deny its answers.
+/// Returns the permitted flows that are not stateful, in order, each with all strict invariants that deny its
+/// answers.
 pub fn answer_denials<I: Stepwise>(
     alloc: Global,
     invs: &[I],
@@ -80,8 +82,8 @@ pub fn answer_denials<I: Stepwise>(
     )
 }
 
-// Returns the flows of `all` outside `others`, each with the chosen invariants that fail on the set with the
-// flow of its packets in this direction.
+// Returns the flows of `all` that are not in `others`, each with the chosen invariants that fail on the set
+// with the flow of its packets in this direction.
 fn findings<I: Stepwise, C: Choice<I>>(
     alloc: Global,
     choice: &C,
@@ -112,7 +114,8 @@ fn findings<I: Stepwise, C: Choice<I>>(
     Ok(found)
 }
 
-// Returns the flow with the chosen invariants that fail on the set with the flow of its packets in this direction.
+// Returns the flow with the chosen invariants that fail on the set with the flow of its packets in this
+// direction.
 fn find<I: Stepwise, C: Choice<I>>(
     alloc: Global,
     choice: &C,

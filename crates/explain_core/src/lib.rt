@@ -1,7 +1,7 @@
-//! Explains why a flow is denied, or its answers: every invariant that fails with it, and a minimal failing set of
-//! each (a minimal unsatisfiable core).
+//! Explains why a flow or its answers are denied: every invariant that fails with it, and a minimal failing
+//! set of each (a minimal unsatisfiable core).
 //!
-//! The crate is generic over lawful invariants (`Stepwise`), and knows no template.
+//! The crate is generic over lawful invariants (`Stepwise`), and independent of the templates.
 #![tactic(auto)]
 
 mod denial;

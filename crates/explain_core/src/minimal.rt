@@ -11,11 +11,12 @@ use flow_set::{Flow, FlowSet};
 use inv_law::Stepwise;
 use std::alloc::{AllocError, Global};
 
-/// Returns a minimal failing set of `e` with the flow `f`, for an invariant that holds on `e` and fails with `f`.
+/// Returns a minimal failing set of `e` with the flow `f`, for an invariant that holds on `e` and fails with
+/// `f`.
 ///
-/// Each pass adds the remaining flows one by one until the invariant fails. The last of them, the transition flow,
-/// is in the result, and the flows after it are dropped. So there is one pass for each flow of the result, and the
-/// result is the least failing set in the colexicographic order of the flows.
+/// Each pass adds the remaining flows one by one until the invariant fails. The last of them, the transition
+/// flow, is in the result, and the flows after it are dropped. So the number of passes is the number of flows
+/// of the result, and the result is the least failing set in the colexicographic order of the flows.
 pub fn minimal_failing_set<I: Stepwise>(
     alloc: Global,
     inv: &I,

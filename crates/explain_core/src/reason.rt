@@ -1,4 +1,4 @@
-//! An invariant that denies a flow, or its answers, with a minimal failing set.
+//! An invariant that denies a flow or its answers, with a minimal failing set.
 
 use flow_set::FlowSet;
 

@@ -1,4 +1,5 @@
-//! The reasons why a flow is denied, or its answers: all invariants that fail with it, each with a minimal failing set.
+//! The reasons why a flow or its answers are denied: all invariants that fail with it, each with a minimal
+//! failing set.
 
 ghost use Rattle.std.specs.Prelude.{◌≡◌, ◌≤◌, All, IfOk, length};
 ghost use Rattle.flow_set.specs.Flow.{IsFlow};
@@ -19,7 +20,7 @@ use permit_core::{Choice, Every};
 use state_core::with_answers;
 use std::alloc::{AllocError, Global};
 
-/// Returns the reasons why the flow is denied beside the permitted flows.
+/// Returns the reasons why the flow is denied given the permitted flows.
 pub fn why_denied<I: Stepwise>(
     alloc: Global,
     invs: &[I],
@@ -36,8 +37,8 @@ pub fn why_denied<I: Stepwise>(
     reasons_of(alloc, &Every, invs, permitted, f, &numbers)
 }
 
-/// Returns the reasons why the answers of the flow are denied beside the permitted flows and the answers of the
-/// stateful flows.
+/// Returns the reasons why the answers of the flow are denied given the permitted flows and the
+/// answers of the stateful flows.
 pub fn why_answers_denied<I: Stepwise>(
     alloc: Global,
     invs: &[I],
@@ -59,7 +60,8 @@ pub fn why_answers_denied<I: Stepwise>(
     reasons_of(alloc, &Strict, invs, &all, f.back(), &numbers)
 }
 
-// Returns the reasons for the invariants of these numbers. The choice is not read: only the contract needs it.
+// Returns the reasons for the invariants with these numbers. The choice is not read: only the contract refers
+// to it.
 fn reasons_of<I: Stepwise, C: Choice<I>>(
     alloc: Global,
     _choice: &C,

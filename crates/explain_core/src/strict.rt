@@ -1,4 +1,4 @@
-//! The choice of the strict invariants, which answers have to meet.
+//! The choice of the strict invariants, which also apply to answers.
 
 ghost use Rattle.std.specs.Prelude.{◌≡◌};
 ghost use Rattle.state_core.specs.Stateful.{is_strict};
@@ -7,7 +7,7 @@ use inv_law::Invariant;
 use permit_core::Choice;
 use state_core::is_strict;
 
-/// The strict invariants.
+/// The choice of the strict invariants.
 #[derive(Drop)]
 pub struct Strict;
 

@@ -1,4 +1,4 @@
-//! The transition flow of an invariant: the first flow with which it fails, when flows are added one by one.
+//! The transition flow of an invariant: the first flow with which it fails, if flows are added one by one.
 
 ghost use Rattle.std.specs.Prelude.{◌≡◌, IfNone, IfOk, IfSome};
 ghost use Rattle.std.specs.List.{fold};
@@ -17,7 +17,7 @@ pub(crate) struct Transition {
     pub(crate) before: FlowSet,
 }
 
-/// Returns the first flow of `rest` with which the invariant fails, when they are added to `needed` one by one.
+/// Returns the first flow of `rest` with which the invariant fails, if they are added to `needed` one by one.
 /// Returns `None` if it fails on `needed`.
 pub(crate) fn next_transition<I: Stepwise>(
     alloc: Global,

@@ -1,4 +1,4 @@
--- The packets of a flow by which an invariant is tested: those of the flow, or its answers.
+-- The packets of a flow for which an invariant is tested: the packets of the flow, or its answers.
 use Rattle.flow_set.specs.declared.flow.Flow.{Flow}
 use Rattle.flow_set.specs.Flow.{back_of}
 use Rattle.explain_core.specs.declared.direction.Direction.{Direction}
