@@ -1,5 +1,6 @@
-//! A template from outside: it bounds how many flows each host sends. It shows what the author of a
-//! template writes and proves, and that the permitted policy and its stateful flows need no more.
+//! An example of a template outside the ten: it bounds the number of flows that each host sends. It
+//! shows what the author of a template writes and proves, and that the permitted policy and its
+//! stateful flows need nothing else.
 #![tactic(auto)]
 
 mod limit;

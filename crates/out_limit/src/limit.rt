@@ -11,7 +11,7 @@ use inv_law::{Invariant, Strategy};
 use std::alloc::{AllocError, Global};
 use std::marker::Model;
 
-/// Keeps each host from sending more flows than its number. The default number is 0.
+/// Bounds the number of flows that each host sends. The default bound is 0.
 #[derive(Drop)]
 pub struct OutLimit {
     limits: Vec<u16>,
@@ -28,7 +28,7 @@ impl Model for OutLimit {
 }
 
 impl OutLimit {
-    /// The template for `n` hosts, none of which may send.
+    /// Returns the template for `n` hosts, none of which may send.
     pub fn new(alloc: Global, n: u16) -> Result<Self, AllocError>
         ensures { IfOk result (λ template. template ≡ replicate n 0) }
     {
@@ -37,7 +37,7 @@ impl OutLimit {
         Ok(OutLimit { limits })
     }
 
-    /// Lets the host send this many flows.
+    /// Sets the bound of the host.
     pub fn set(&mut self, host: u16, limit: u16)
         requires { host < length self.old }
         ensures { self.new ≡ slice_set self.old host limit }
@@ -105,7 +105,7 @@ fn keeps(limits: &[u16], e: &FlowSet) -> bool
     true
 }
 
-// How many flows the host sends.
+// Returns the number of flows that the host sends.
 fn sent(e: &FlowSet, host: usize) -> usize
     ensures { result ≡ length (sent_by host e.now.flows) }
 {

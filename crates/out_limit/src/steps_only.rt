@@ -1,5 +1,5 @@
-//! An invariant that answers by steps alone: nobody can ask it about a whole set, nor for a trial of a
-//! set that has not exactly `start` flows.
+//! An invariant that is evaluated only by steps: an evaluation on a whole set fails with an
+//! allocation error, and so does a trial of a set that does not have exactly `start` flows.
 
 ghost use Rattle.std.specs.Prelude.{◌≡◌};
 

@@ -1,5 +1,5 @@
-//! The template taken through the calls on invariants of any type. Those that go by steps are taken with
-//! `Dependability`, since the template has no steps.
+//! Tests of the template with the calls on invariants of any type. The calls that use steps are
+//! tested with `Dependability`, since the template has no steps.
 
 ghost use Rattle.std.specs.Prelude.{◌≡◌, ◌≤◌, All, length, IfOk};
 ghost use Rattle.flow_set.specs.Flow.{IsFlow};
@@ -24,7 +24,7 @@ const ANSWER: Flow = Flow { from: 1, to: 0 };
 
 const ONWARD: Flow = Flow { from: 1, to: 2 };
 
-// The template of three hosts.
+// Returns the template of three hosts.
 fn three_hosts(alloc: Global, first: u16, others: u16) -> Result<OutLimit, AllocError>
     ensures { IfOk result (λ template. length template ≡ 3) }
 {
@@ -86,7 +86,7 @@ fn a_host_is_reset(rt: HostRuntime) -> Result<(), Fail> {
     Ok(())
 }
 
-// The limits of three hosts, asked by steps alone.
+// Returns the limits of three hosts, evaluated only by steps.
 fn limited(
     alloc: Global,
     start: u32,
@@ -117,7 +117,8 @@ fn by_steps_alone(rt: HostRuntime) -> Result<(), Fail> {
     Ok(())
 }
 
-// Whom the flow is blamed on in the permitted policy, twice by the same trials and once anew.
+// Returns the invariant that denies the flow in the permitted policy: twice with the same trials
+// and once without.
 fn denied_by<I: Stepwise>(
     alloc: Global,
     invs: &[I],
@@ -148,7 +149,7 @@ fn blamed_by_steps(rt: HostRuntime) -> Result<(), Fail> {
     Ok(())
 }
 
-// The stateful flows of `p` by steps alone, where the limits hold of it.
+// Returns the stateful flows of `p` by steps only, if the limits hold for it.
 fn refined(alloc: Global, limits: Dependability, p: &FlowSet) -> Result<Option<FlowSet>, AllocError>
     requires { p.now.size ≡ length limits }
 {

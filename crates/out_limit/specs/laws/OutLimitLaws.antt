@@ -37,7 +37,7 @@ some_element : (xs : List Flow) (f : Flow) → IsTrue (has xs f) → 0 < length 
 some_element [] f there = has_nothing f there
 some_element (x ∷ xs) f there = omega arith
 
--- with the default number an offending host, which sends a flow, still sends too many
+-- With the default bound 0 an offending host, which sends a flow, still exceeds its bound.
 pub KeepsLimits-reset : (limits : List ℕ)
     → ResetMendsNothing (length limits) Access (KeepsLimits limits) (λ host. KeepsLimits (set limits host 0))
 KeepsLimits-reset limits e f host is_set minimal offending keeps =
