@@ -1,4 +1,4 @@
--- Laws of boxes that are narrowed.
+-- Lemmas on narrowed boxes.
 use Rattle.std.proofs.Common.{refl, ◌∙◌, subst, arith}
 use Rattle.host_net.specs.declared.packet.Packet.{Packet}
 use Rattle.host_net.specs.Packet.{swap_of}
@@ -17,7 +17,7 @@ low_trans p q r one two = record {
   dport = omega (arith, one.dport, two.dport);
 }
 
--- the least packet of a box is in each part that has it
+-- The least packet of a box is in each part that the box narrows to.
 pub least_in : (b part : PacketBox) → Narrows b part → IsIn part b.least
 least_in b part narrows = subst (λ (p : Packet). IsIn part p) narrows.least (record { above = self_low part.least; below = narrows.is_box })
 
@@ -31,7 +31,7 @@ narrows_then a b c one two = record {
   below = low_trans c.greatest b.greatest a.greatest two.below one.below;
 }
 
--- the packets of a narrowed box are packets of the box
+-- The packets of a narrowed box are packets of the box.
 pub narrows_in : (a b : PacketBox) (p : Packet) → Narrows a b → IsIn b p → IsIn a p
 narrows_in a b p narrows inside = record {
   above = subst (λ (q : Packet). IsNoHigher q p) narrows.least inside.above;
@@ -41,7 +41,7 @@ narrows_in a b p narrows inside = record {
 pub own_least : (b : PacketBox) → IsBox b → IsIn b b.least
 own_least b is = record { above = self_low b.least; below = is }
 
--- ---- boxes of answers
+-- ---- Boxes of reply packets
 
 pub low_swapped : (p q : Packet) → IsNoHigher p q → IsNoHigher (swap_of p) (swap_of q)
 low_swapped p q low = record { src = low.dst; dst = low.src; proto = low.proto; sport = low.dport; dport = low.sport }

@@ -1,5 +1,5 @@
--- Laws of cuts, and of searches of one box after another.
-use Rattle.std.proofs.Common.{◌≡◌, ◌⊎◌, ◌↔◌, inl, inr, ℕ, ◌<◌, ◌≤◌, ◌+◌, Bool, true, false, IsTrue, Option, Some, None, refl, sym, subst, ◌∙◌, arith}
+-- Lemmas on cuts, and on consecutive searches of boxes.
+use Rattle.std.proofs.Common.{◌≡◌, ◌⊎◌, ◌↔◌, inl, inr, ℕ, ◌<◌, Bool, true, false, IsTrue, Option, Some, None, refl, sym, subst, ◌∙◌, arith}
 use Rattle.std.specs.Prelude.{if◌then◌else◌}
 use Rattle.std.proofs.Math.Nat.{eq-or-lt_of_le}
 use Rattle.std.proofs.lemmas.Option.{same_Some}
@@ -7,62 +7,42 @@ use Rattle.host_net.specs.declared.packet.Packet.{Packet}
 use Rattle.header_space.specs.declared.packet_box.PacketBox.{PacketBox}
 use Rattle.header_space.specs.declared.cut.Cut.{Cut}
 use Rattle.header_space.specs.declared.cut.Cut.TheVariants.{Src, Dst}
-use Rattle.header_space.specs.Boxes.{IsBox, IsIn, IsNoHigher}
+use Rattle.header_space.specs.declared.field.Field.TheVariants.{Src as FieldSrc, Dst as FieldDst}
+use Rattle.header_space.specs.Boxes.{IsBox, IsIn}
 use Rattle.header_space.specs.Cuts.{IsCutOf}
 use Rattle.header_space.specs.Order.{ComesBefore, comes_first}
 use Rattle.header_space.specs.Searching.{IsLeast, IsLeastWhere}
-use Rattle.header_space.specs.inner.Cutting.{AreSameIn, Finds, Improves, lower, upper}
+use Rattle.header_space.specs.inner.Cutting.{AreSameIn, Improves, lower, upper}
 use Rattle.header_space.specs.inner.Splitting.{IsEarlier}
-use Rattle.header_space.proofs.SeekLaws.{before_low, before_trans}
+use Rattle.header_space.proofs.FieldLaws.{after_box, after_in, in_parts, up_to_box, up_to_in}
+use Rattle.header_space.proofs.SeekLaws.{earlier_low, earlier_trans}
 use Rattle.header_space.proofs.SplitLaws.{le_or_lt}
 
--- ---- the two parts
+-- ---- The two parts
 
 pub cut_in : (b : PacketBox) (cut : Cut) (p : Packet) → IsIn b p → IsIn (lower b cut) p ⊎ IsIn (upper b cut) p
-cut_in b (Src n) p inside = elim (le_or_lt p.src n) [
-  | inl under ↦ inl (record { above = inside.above; below = record { src = under; dst = inside.below.dst; proto = inside.below.proto; sport = inside.below.sport; dport = inside.below.dport } })
-  | inr over ↦ inr (record { above = record { src = omega (arith, over); dst = inside.above.dst; proto = inside.above.proto; sport = inside.above.sport; dport = inside.above.dport }; below = inside.below })
-]
-cut_in b (Dst n) p inside = elim (le_or_lt p.dst n) [
-  | inl under ↦ inl (record { above = inside.above; below = record { src = inside.below.src; dst = under; proto = inside.below.proto; sport = inside.below.sport; dport = inside.below.dport } })
-  | inr over ↦ inr (record { above = record { src = inside.above.src; dst = omega (arith, over); proto = inside.above.proto; sport = inside.above.sport; dport = inside.above.dport }; below = inside.below })
-]
+cut_in b (Src n) p inside = in_parts FieldSrc b n p inside
+cut_in b (Dst n) p inside = in_parts FieldDst b n p inside
 
 pub lower_in : (b : PacketBox) (cut : Cut) (p : Packet) → IsCutOf b cut → IsIn (lower b cut) p → IsIn b p
-lower_in b (Src n) p is inside =
-    let high = is.1 in let low = inside.below.src in
-    record { above = inside.above; below = record { src = omega (arith, high, low); dst = inside.below.dst; proto = inside.below.proto; sport = inside.below.sport; dport = inside.below.dport } }
-lower_in b (Dst n) p is inside =
-    let high = is.1 in let low = inside.below.dst in
-    record { above = inside.above; below = record { src = inside.below.src; dst = omega (arith, high, low); proto = inside.below.proto; sport = inside.below.sport; dport = inside.below.dport } }
+lower_in b (Src n) p is inside = let high = is.1 in up_to_in FieldSrc b n p (omega (arith, high)) inside
+lower_in b (Dst n) p is inside = let high = is.1 in up_to_in FieldDst b n p (omega (arith, high)) inside
 
 pub upper_in : (b : PacketBox) (cut : Cut) (p : Packet) → IsCutOf b cut → IsIn (upper b cut) p → IsIn b p
-upper_in b (Src n) p is inside =
-    let low = is.0 in let high = inside.above.src in
-    record { above = record { src = omega (arith, low, high); dst = inside.above.dst; proto = inside.above.proto; sport = inside.above.sport; dport = inside.above.dport }; below = inside.below }
-upper_in b (Dst n) p is inside =
-    let low = is.0 in let high = inside.above.dst in
-    record { above = record { src = inside.above.src; dst = omega (arith, low, high); proto = inside.above.proto; sport = inside.above.sport; dport = inside.above.dport }; below = inside.below }
+upper_in b (Src n) p is inside = after_in FieldSrc b n p is.0 inside
+upper_in b (Dst n) p is inside = after_in FieldDst b n p is.0 inside
 
 pub lower_box : (b : PacketBox) (cut : Cut) → IsBox b → IsCutOf b cut → IsBox (lower b cut)
-lower_box b (Src n) is cut = record { src = cut.0; dst = is.dst; proto = is.proto; sport = is.sport; dport = is.dport }
-lower_box b (Dst n) is cut = record { src = is.src; dst = cut.0; proto = is.proto; sport = is.sport; dport = is.dport }
+lower_box b (Src n) is cut = up_to_box FieldSrc b n is cut.0
+lower_box b (Dst n) is cut = up_to_box FieldDst b n is cut.0
 
 pub upper_box : (b : PacketBox) (cut : Cut) → IsBox b → IsCutOf b cut → IsBox (upper b cut)
-upper_box b (Src n) is cut = let high = cut.1 in record { src = omega (arith, high); dst = is.dst; proto = is.proto; sport = is.sport; dport = is.dport }
-upper_box b (Dst n) is cut = let high = cut.1 in record { src = is.src; dst = omega (arith, high); proto = is.proto; sport = is.sport; dport = is.dport }
+upper_box b (Src n) is cut = after_box FieldSrc b n is cut.1
+upper_box b (Dst n) is cut = after_box FieldDst b n is cut.1
 
--- ---- what is found
+-- ---- The packet found
 
-pub earlier_trans : (found : Option Packet) (p q : Packet) → ComesBefore p q → IsEarlier q found → IsEarlier p found
-earlier_trans None p q before early = tt
-earlier_trans (Some r) p q before early = before_trans p q r before early
-
-earlier_low : (found : Option Packet) (a p : Packet) → IsNoHigher a p → IsEarlier p found → IsEarlier a found
-earlier_low None a p low early = tt
-earlier_low (Some q) a p low early = before_low a p q low early
-
--- what does not come before one number but before another: the one comes before the other
+-- If a comes before r and not before p, then p comes before r.
 first_later : (a p r : ℕ) (A B C : Type 0) → (A → (B → ⊥) → C) → comes_first a r A → (comes_first a p B → ⊥) → comes_first p r C
 first_later a p r A B C later early late = elim (le_or_lt p a) [
   | inl low ↦ elim early [
@@ -88,14 +68,14 @@ earlier_later None a p early late not = not tt
 earlier_later (Some r) a p early late not = not (before_later a p r early late)
 
 module _ (Holds : Packet → Type 0) (b : PacketBox) where
-  -- a box is passed over whose least packet does not come before the one found
+  -- A search skips a box whose least packet does not come before the packet found.
   pub improves_passed : (found : Option Packet) → (IsEarlier b.least found → ⊥) → Improves Holds b found found
   improves_passed found late = record {
     found = inl refl;
     none = λ p inside holds early. late (earlier_low found b.least p inside.above early);
   }
 
-  -- the least packet of a box of which it holds is found, or the one found before stays
+  -- The search finds the least packet of the box that satisfies `Holds`, or the packet found before remains.
   pub improves_none : (found : Option Packet) → IsLeastWhere Holds b None → Improves Holds b found found
   improves_none found none = record { found = inl refl; none = λ p inside holds early. none p inside holds }
 
@@ -119,7 +99,7 @@ module _ (Holds : Packet → Type 0) (b : PacketBox) where
     none = λ p inside holds early. is.none p inside ((same p inside).1 holds) early;
   }
 
-  -- the search of the two parts of a box, one after the other, is that of the box
+  -- The searches of the two parts of a box, in order, are together a search of the box.
   pub improves_parts : (cut : Cut) (old mid new : Option Packet) → IsCutOf b cut → Improves Holds (lower b cut) old mid → Improves Holds (upper b cut) mid new
       → Improves Holds b old new
   improves_parts cut old mid new is one two = record {

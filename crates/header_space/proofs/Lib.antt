@@ -1,7 +1,9 @@
 pub mod BoxLaws
 pub mod CutLaws
+pub mod FieldLaws
 pub mod MayFitLaws
 pub mod NarrowLaws
+pub mod OwnersLaws
 pub mod SeekLaws
 pub mod SplitLaws
 pub mod VisitLaws

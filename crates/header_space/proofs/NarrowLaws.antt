@@ -1,5 +1,5 @@
--- How a match fits the packets of a narrowed box.
-use Rattle.std.proofs.Common.{◌≡◌, inl, inr, ℕ, ◌≤◌, Bool, true, false, Option, ◌&&◌, refl, ap, ◌∙◌}
+-- Which packets of a narrowed box match.
+use Rattle.std.proofs.Common.{◌≡◌, ◌⊎◌, inl, inr, ℕ, ◌≤◌, Bool, true, false, Option, ◌&&◌, refl, ap, ◌∙◌}
 use Rattle.host_net.specs.declared.packet.Packet.{Packet}
 use Rattle.header_space.specs.declared.packet_box.PacketBox.{PacketBox}
 use Rattle.header_space.specs.declared.header_match.FieldMatch.{FieldMatch}
@@ -9,7 +9,7 @@ use Rattle.header_space.specs.declared.header_match.Ends.{Ends}
 use Rattle.header_space.specs.Matching.{field_fits, fits}
 use Rattle.header_space.specs.inner.Narrowing.{AllFit, Fails, Known, OneFails}
 
--- it is known of the numbers up to an end how they fit
+-- The numbers from `first` to the end all match, or none of them does.
 abbrev pub Tells : Option FieldMatch → ℕ → End → Type 0
 Tells asked first alike = (n : ℕ) → first ≤ n → n ≤ alike.last → field_fits asked n ≡ alike.fits
 
@@ -25,6 +25,10 @@ and_false false = refl
 
 pub second_false : (a b : Bool) → b ≡ false → (a && b) ≡ false
 second_false a b is = ap (λ (x : Bool). a && x) is ∙ and_false a
+
+either_fails : (a b : Bool) (A B : Type 0) → (A → a ≡ false) → (B → b ≡ false) → A ⊎ B → (a && b) ≡ false
+either_fails a b A B one two (inl h) = first_false a b (one h)
+either_fails a b A B one two (inr h) = second_false a b (two h)
 
 known : (asked : Option FieldMatch) (first n : ℕ) (alike : End) (b : Bool) → Tells asked first alike → alike.fits ≡ b → Known first alike n → field_fits asked n ≡ b
 known asked first n alike b tells is between = tells n between.0 between.1 ∙ is
@@ -47,25 +51,11 @@ module _ (asked : HeaderMatch) (b : PacketBox) (ends : Ends) (src : Tells asked.
       (known asked.dport b.least.dport p.dport ends.dport true dport all.fit.4 all.dport)
 
   pub one_fails : (p : Packet) → OneFails b ends p → fits asked p ≡ false
-  one_fails p bad =
-      let one = field_fits asked.src p.src in
-      let two = field_fits asked.dst p.dst in
-      let three = field_fits asked.proto p.proto in
-      let four = field_fits asked.sport p.sport in
-      let five = field_fits asked.dport p.dport in
-      elim bad [
-        | inl bad ↦ first_false one (two && (three && (four && five))) (fails asked.src b.least.src p.src ends.src src bad)
-        | inr bad ↦ second_false one (two && (three && (four && five))) (elim bad [
-          | inl bad ↦ first_false two (three && (four && five)) (fails asked.dst b.least.dst p.dst ends.dst dst bad)
-          | inr bad ↦ second_false two (three && (four && five)) (elim bad [
-            | inl bad ↦ first_false three (four && five) (fails asked.proto b.least.proto p.proto ends.proto proto bad)
-            | inr bad ↦ second_false three (four && five) (elim bad [
-              | inl bad ↦ first_false four five (fails asked.sport b.least.sport p.sport ends.sport sport bad)
-              | inr bad ↦ second_false four five (fails asked.dport b.least.dport p.dport ends.dport dport bad)
-            ])
-          ])
-        ])
-      ]
+  one_fails p =
+      either_fails _ _ _ _ (fails asked.src b.least.src p.src ends.src src)
+      (either_fails _ _ _ _ (fails asked.dst b.least.dst p.dst ends.dst dst)
+      (either_fails _ _ _ _ (fails asked.proto b.least.proto p.proto ends.proto proto)
+      (either_fails _ _ _ _ (fails asked.sport b.least.sport p.sport ends.sport sport) (fails asked.dport b.least.dport p.dport ends.dport dport))))
 
   pub fits_as : (p : Packet) (answer : Bool) → (answer ≡ true → AllFit b ends p) → (answer ≡ false → OneFails b ends p) → fits asked p ≡ answer
   fits_as p answer all one = by_answer answer (fits asked p) (λ is. all_fit p (all is)) (λ is. one_fails p (one is))

@@ -1,4 +1,4 @@
--- Laws of the search: what a tried box tells, and what is left to be sought.
+-- Lemmas on the search: the answer for a tested box, and the packets that remain to be searched.
 use Rattle.std.proofs.Common.{◌≡◌, ◌⊎◌, ◌↔◌, inl, inr, ℕ, ◌+◌, ◌<◌, ◌≤◌, Bool, true, false, IsTrue, List, [], ◌∷◌, ◌++◌, Option, Some, None, refl, ap, subst, ◌∙◌, arith}
 use Rattle.std.specs.Prelude.{if◌then◌else◌}
 use Rattle.std.proofs.Math.Nat.{eq-or-lt_of_le, mul-pos}
@@ -12,7 +12,7 @@ use Rattle.header_space.specs.inner.Splitting.{AreWithin, IsAmong, IsEarlier, Is
 use Rattle.header_space.proofs.BoxLaws.{least_in, low_trans, self_low}
 use Rattle.header_space.proofs.SplitLaws.{among_cases, volumes_pushed, within_front}
 
--- ---- the order of packets
+-- ---- The order of packets
 
 first_low : (a p q : ℕ) (A P : Type 0) → a ≤ p → (P → A) → comes_first p q P → comes_first a q A
 first_low a p q A P low later h = elim h [
@@ -23,8 +23,8 @@ first_low a p q A P low later h = elim h [
   ]
 ]
 
--- what is no higher comes before as well
-pub before_low : (a p q : Packet) → IsNoHigher a p → ComesBefore p q → ComesBefore a q
+-- If a is no higher than p, and p comes before q, then a comes before q.
+before_low : (a p q : Packet) → IsNoHigher a p → ComesBefore p q → ComesBefore a q
 before_low a p q low h =
     first_low a.src p.src q.src _ _ low.src
     (first_low a.dst p.dst q.dst _ _ low.dst
@@ -33,7 +33,7 @@ before_low a p q low h =
 first_not : (a p : ℕ) (P : Type 0) → a ≤ p → (P → ⊥) → comes_first p a P → ⊥
 first_not a p P low later h = elim h [ inl less ↦ omega (arith, low, less) | inr same ↦ later same.1 ]
 
--- nothing comes before what is no higher
+-- If a is no higher than p, then p does not come before a.
 pub not_before : (a p : Packet) → IsNoHigher a p → ComesBefore p a → ⊥
 not_before a p low h =
     first_not a.src p.src _ low.src
@@ -45,11 +45,19 @@ first_trans p q r P Q R later one two = elim one [
   | inr same ↦ elim two [ inl less ↦ inl (let e = same.0 in omega (arith, e, less)) | inr also ↦ inr (same.0 ∙ also.0, later same.1 also.1) ]
 ]
 
-pub before_trans : (p q r : Packet) → ComesBefore p q → ComesBefore q r → ComesBefore p r
+before_trans : (p q r : Packet) → ComesBefore p q → ComesBefore q r → ComesBefore p r
 before_trans p q r =
     first_trans p.src q.src r.src _ _ _ (first_trans p.dst q.dst r.dst _ _ _ (first_trans p.proto q.proto r.proto _ _ _ (first_trans p.sport q.sport r.sport _ _ _ (λ one two. omega (arith, one, two)))))
 
--- ---- a box that is tried
+pub earlier_low : (found : Option Packet) (a p : Packet) → IsNoHigher a p → IsEarlier p found → IsEarlier a found
+earlier_low None a p low early = tt
+earlier_low (Some q) a p low early = before_low a p q low early
+
+pub earlier_trans : (found : Option Packet) (p q : Packet) → ComesBefore p q → IsEarlier q found → IsEarlier p found
+earlier_trans None p q before early = tt
+earlier_trans (Some r) p q before early = before_trans p q r before early
+
+-- ---- Testing a box
 
 wide : (first last : ℕ) → first ≤ last → 0 < width first last
 wide first last low = omega (arith, low)
@@ -72,7 +80,7 @@ tries_by Holds b part old new answer narrows alike splits = record {
   within = λ whole are own. (splits.within whole are own).0;
 }
 
--- ---- the search
+-- ---- The search
 
 pub in_whole : (whole b : PacketBox) (p : Packet) → IsWithin whole b → IsIn b p → IsIn whole p
 in_whole whole b p within inside = record {
@@ -102,7 +110,7 @@ module _ (Holds : Packet → Type 0) (whole : PacketBox) where
     there : (p : Packet) → IsIn whole p → Holds p → IsEarlier p found → IsAmong rest p ⊎ IsIn b p
     there p inside holds early = among_cases rest b p (subst (λ (xs : List PacketBox). IsAmong xs p) same (is.left p inside holds early))
 
-    -- no packet of a box comes before what is found, if its least one does not
+    -- If the least packet of a box does not come before the packet found, no packet of the box does.
     pub seeks_passed : (IsEarlier b.least found → ⊥) → Seeks Holds whole rest found
     seeks_passed late = record {
       are = both.0;
@@ -113,10 +121,6 @@ module _ (Holds : Packet → Type 0) (whole : PacketBox) where
         | inr own ↦ absurd (late (earlier_low found b.least p own.above early))
       ];
     }
-      where
-        earlier_low : (found : Option Packet) (a p : Packet) → IsNoHigher a p → IsEarlier p found → IsEarlier a found
-        earlier_low None a p low early = tt
-        earlier_low (Some q) a p low early = before_low a p q low early
 
     pub seeks_tried : (new : List PacketBox) (answer : Bool) → IsEarlier b.least found → Tries Holds b rest new answer
         → Seeks Holds whole new (if answer then Some b.least else found)
@@ -129,10 +133,6 @@ module _ (Holds : Packet → Type 0) (whole : PacketBox) where
         | inr own ↦ absurd (not_before b.least p own.above before)
       ];
     }
-      where
-        earlier_trans : (found : Option Packet) (p q : Packet) → ComesBefore p q → IsEarlier q found → IsEarlier p found
-        earlier_trans None p q before early = tt
-        earlier_trans (Some r) p q before early = before_trans p q r before early
     seeks_tried new false early tries = record {
       are = tries.within whole both.0 both.1;
       inside = is.inside;

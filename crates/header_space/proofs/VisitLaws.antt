@@ -1,10 +1,10 @@
--- Laws of visits: what a visited part leaves, and how far a visit of the whole has come.
-use Rattle.std.proofs.Common.{◌≡◌, ◌⊎◌, inl, inr, ◌+◌, ◌<◌, List, [], ◌∷◌, ◌++◌, ap, subst, ◌∙◌, arith}
+-- Lemmas on visits: the boxes that remain after the visit of a part, and the progress of a visit of the whole.
+use Rattle.std.proofs.Common.{◌≡◌, inl, inr, ◌<◌, List, [], ◌∷◌, ◌++◌, ap, subst, ◌∙◌, arith}
 use Rattle.host_net.specs.declared.packet.Packet.{Packet}
 use Rattle.header_space.specs.declared.packet_box.PacketBox.{PacketBox}
 use Rattle.header_space.specs.Boxes.{IsBox, IsIn, Narrows}
 use Rattle.header_space.specs.Visits.{HasOnlyPacketsOf}
-use Rattle.header_space.specs.inner.Splitting.{AreWithin, IsAmong, IsWithin, Splits, volume, volumes}
+use Rattle.header_space.specs.inner.Splitting.{AreWithin, IsAmong, IsWithin, Splits, volumes}
 use Rattle.header_space.specs.inner.Visiting.{IsUnderWay, Visits}
 use Rattle.header_space.proofs.SeekLaws.{in_whole, some_volume}
 use Rattle.header_space.proofs.SplitLaws.{among_cases, volumes_pushed, within_front}
@@ -18,7 +18,7 @@ visits_by Knows b part old new narrows knows splits = record {
   within = λ whole are own. (splits.within whole are own).0;
 }
 
--- ---- a box that is taken from those that wait
+-- ---- Removing a box from the pending boxes
 
 module _ (Knows : Packet → Type 0) (whole : PacketBox) (bs rest : List PacketBox) (b : PacketBox) (same : bs ≡ rest ++ b ∷ []) (is : IsUnderWay Knows whole bs) where
   both : AreWithin whole rest × IsWithin whole b

@@ -4,7 +4,7 @@ use Rattle.host_net.specs.declared.packet.Packet.{Packet}
 use Rattle.host_net.specs.Packet.{swap_of}
 use Rattle.header_space.specs.declared.packet_box.PacketBox.{PacketBox}
 
--- no field of the one packet is greater than that of the other
+-- Packet p is no higher than packet q: each field of p is at most the same field of q.
 pub record IsNoHigher (p q : Packet) : Type 0 where
   pub src : p.src ≤ q.src
   pub dst : p.dst ≤ q.dst
@@ -12,26 +12,26 @@ pub record IsNoHigher (p q : Packet) : Type 0 where
   pub sport : p.sport ≤ q.sport
   pub dport : p.dport ≤ q.dport
 
--- the packet is one of the box: each of its fields lies from that of the least to that of the greatest packet
+-- Packet p is in box b: each field of p is at least that field of `least`, and at most that field of `greatest`.
 pub record IsIn (b : PacketBox) (p : Packet) : Type 0 where
   pub above : IsNoHigher b.least p
   pub below : IsNoHigher p b.greatest
 
--- the box has packets
+-- The box is non-empty: each field of `least` is at most the same field of `greatest`.
 abbrev pub IsBox : PacketBox → Type 0
 IsBox b = IsNoHigher b.least b.greatest
 
--- the second box is a part of the first that has its least packet
+-- Box `new` is a non-empty part of box `old`, and both have the same least packet.
 pub record Narrows (old new : PacketBox) : Type 0 where
   pub least : new.least ≡ old.least
   pub is_box : IsBox new
   pub below : IsNoHigher new.greatest old.greatest
 
--- the packets that answer those of a box
+-- The swapped box contains the reply packets of a box: the swap exchanges source and destination.
 abbrev pub swapped : PacketBox → PacketBox
 swapped b = record { least = swap_of b.least; greatest = swap_of b.greatest }
 
--- the box of all packets
+-- The box of all packets.
 abbrev pub every_packet : PacketBox
 every_packet = record {
   least = record { src = 0; dst = 0; proto = 0; sport = 0; dport = 0 };

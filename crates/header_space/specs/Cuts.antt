@@ -1,10 +1,10 @@
--- Cuts of a box: after an address, the box falls into two boxes.
-use Rattle.std.specs.Prelude.{ℕ, ◌≤◌, ◌<◌}
+-- Cuts of a box: a cut divides a box into two boxes, after a source or destination address.
+use Rattle.std.specs.Prelude.{◌≤◌, ◌<◌}
 use Rattle.header_space.specs.declared.packet_box.PacketBox.{PacketBox}
 use Rattle.header_space.specs.declared.cut.Cut.{Cut}
 use Rattle.header_space.specs.declared.cut.Cut.TheVariants.{Src, Dst}
 
--- A cut lies inside a box: the box has packets up to the address and packets after it.
+-- The cut lies inside the box: the box has packets up to the address and packets after it.
 abbrev pub IsCutOf : PacketBox → Cut → Type 0
 IsCutOf b (Src n) = (b.least.src ≤ n) × (n < b.greatest.src)
 IsCutOf b (Dst n) = (b.least.dst ≤ n) × (n < b.greatest.dst)

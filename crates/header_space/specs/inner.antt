@@ -1,4 +1,5 @@
 pub mod Cutting
+pub mod Fields
 pub mod Narrowing
 pub mod Splitting
 pub mod Visiting

@@ -1,12 +1,12 @@
-//! Cuts: a box falls into two boxes after an address.
+//! Cuts: a cut divides a box into two boxes after an address.
 
 ghost use Rattle.std.specs.Prelude.{◌≡◌};
 ghost use Rattle.header_space.specs.Boxes.{IsBox};
 ghost use Rattle.header_space.specs.Cuts.{IsCutOf};
 ghost use Rattle.header_space.specs.inner.Cutting.{lower, upper};
 
+use crate::field::{Field, after, up_to};
 use crate::packet_box::PacketBox;
-use host_net::Packet;
 
 /// The address after which a box is cut: a source or a destination.
 #[derive(Clone, Copy, Debug, PartialEq, Eq)]
@@ -15,7 +15,7 @@ pub enum Cut {
     Dst(u32),
 }
 
-/// The packets of a box up to the cut.
+/// Returns the packets of a box up to the cut.
 pub(crate) fn lower(whole: PacketBox, cut: Cut) -> PacketBox
     requires is_box { IsBox whole }
     requires cut { IsCutOf whole cut }
@@ -23,24 +23,12 @@ pub(crate) fn lower(whole: PacketBox, cut: Cut) -> PacketBox
     ensures is_box { IsBox result }
 {
     match cut {
-        Cut::Src(src) => PacketBox {
-            least: whole.least,
-            greatest: Packet {
-                src,
-                ..whole.greatest
-            },
-        },
-        Cut::Dst(dst) => PacketBox {
-            least: whole.least,
-            greatest: Packet {
-                dst,
-                ..whole.greatest
-            },
-        },
+        Cut::Src(src) => up_to(Field::Src, whole, src),
+        Cut::Dst(dst) => up_to(Field::Dst, whole, dst),
     }
 }
 
-/// The packets of a box after the cut.
+/// Returns the packets of a box after the cut.
 pub(crate) fn upper(whole: PacketBox, cut: Cut) -> PacketBox
     requires is_box { IsBox whole }
     requires cut { IsCutOf whole cut }
@@ -48,19 +36,7 @@ pub(crate) fn upper(whole: PacketBox, cut: Cut) -> PacketBox
     ensures is_box { IsBox result }
 {
     match cut {
-        Cut::Src(src) => PacketBox {
-            least: Packet {
-                src: src + 1,
-                ..whole.least
-            },
-            greatest: whole.greatest,
-        },
-        Cut::Dst(dst) => PacketBox {
-            least: Packet {
-                dst: dst + 1,
-                ..whole.least
-            },
-            greatest: whole.greatest,
-        },
+        Cut::Src(src) => after(Field::Src, whole, src),
+        Cut::Dst(dst) => after(Field::Dst, whole, dst),
     }
 }

@@ -1,16 +1,17 @@
-//! Matches: what rules ask of the fields of a header. A box is narrowed by a match until it tells no
-//! packets of the box apart.
+//! Header matches: the ranges that a rule matches on. Narrowing by a match reduces a box until the
+//! match selects all of its packets or none of them.
 
 ghost use Rattle.std.specs.Prelude.{◌≡◌, ◌≤◌, ◌<◌, ◌^◌, ℕ, true, false};
 ghost use Rattle.host_net.specs.declared.packet.Packet.{Packet};
 ghost use Rattle.header_space.specs.Boxes.{IsBox, IsIn, Narrows};
-ghost use Rattle.header_space.specs.Matching.{field_fits, field_may_fit, fits, may_fit, range_fits, range_may_fit};
+ghost use Rattle.header_space.specs.Matching.{field_fits, field_may_fit, fits, range_fits, range_may_fit};
 ghost use Rattle.header_space.specs.inner.Narrowing.{AllFit, AreEnds, OneFails};
 
 use crate::packet_box::PacketBox;
 use host_net::Packet;
 
-/// That a number lies from `low` to `high`, both included, or that it does not.
+/// A match on one field: a number from `low` to `high`, both included. A negated match selects the
+/// other numbers.
 #[derive(Clone, Copy, Debug, PartialEq, Eq)]
 pub struct FieldMatch {
     pub low: u32,
@@ -18,7 +19,7 @@ pub struct FieldMatch {
     pub negated: bool,
 }
 
-/// What is asked of each field of a header; nothing, where there is none.
+/// A match on the fields of a header. `None` matches every number of the field.
 #[derive(Clone, Copy, Debug, PartialEq, Eq)]
 pub struct HeaderMatch {
     pub src: Option<FieldMatch>,
@@ -28,14 +29,15 @@ pub struct HeaderMatch {
     pub dport: Option<FieldMatch>,
 }
 
-/// Whether the first number of an interval fits, and up to which number all do as it does.
+/// Whether the first number of an interval matches, and the last number up to which this result is
+/// the same.
 #[derive(Clone, Copy)]
 struct End {
     fits: bool,
     last: u32,
 }
 
-/// How the numbers of an interval fit, from its first.
+/// Returns whether the first number of an interval matches, and up to which number this is the same.
 fn alike(asked: Option<FieldMatch>, first: u32, last: u32) -> End
     requires { first ≤ last }
     ensures first { first ≤ result.last }
@@ -72,8 +74,8 @@ fn alike_by(asked: FieldMatch, first: u32, last: u32) -> End
     }
 }
 
-/// Whether a number of an interval may fit.
-fn field_may_fit(asked: Option<FieldMatch>, first: u32, last: u32) -> bool
+/// Whether a number of an interval may match.
+pub fn field_may_fit(asked: Option<FieldMatch>, first: u32, last: u32) -> bool
     ensures { result ≡ field_may_fit asked first last }
 {
     match asked {
@@ -92,14 +94,14 @@ fn range_may_fit(asked: FieldMatch, first: u32, last: u32) -> bool
     }
 }
 
-/// Whether no number up to the last fits.
+/// Whether no number up to `last` matches.
 fn rules_out(alike: End, last: u32) -> bool
     ensures { result ≡ true → (alike.fits ≡ false) × (alike.last ≡ last) }
 {
     !alike.fits && alike.last == last
 }
 
-/// How the intervals of a box fit what is asked of each field.
+/// The end of each interval of a box for a match.
 #[derive(Clone, Copy)]
 struct Ends {
     src: End,
@@ -109,23 +111,9 @@ struct Ends {
     dport: End,
 }
 
-impl HeaderMatch {
-    /// Whether a packet of the box may fit: each field has a number that fits.
-    pub fn may_fit(&self, within: &PacketBox) -> bool
-        ensures { result ≡ may_fit self.now within.now }
-    {
-        let (least, greatest) = (within.least, within.greatest);
-        field_may_fit(self.src, least.src, greatest.src)
-            && field_may_fit(self.dst, least.dst, greatest.dst)
-            && field_may_fit(self.proto, least.proto as u32, greatest.proto as u32)
-            && field_may_fit(self.sport, least.sport as u32, greatest.sport as u32)
-            && field_may_fit(self.dport, least.dport as u32, greatest.dport as u32)
-    }
-}
-
 impl PacketBox {
-    /// Narrows the box, which keeps its least packet, until the match asks for all of its packets or
-    /// for none of them. Says whether it asks for all.
+    /// Narrows the box, which retains its least packet, until the match selects all of its packets or
+    /// none of them. Returns whether it selects all.
     pub fn narrow_by(&mut self, asked: &HeaderMatch) -> bool
         requires { IsBox self.old }
         ensures part { Narrows self.old self.new }
@@ -161,8 +149,8 @@ impl PacketBox {
         })
     }
 
-    /// Ends the box where a field that does not fit comes to fit or, where all fields fit, where one of
-    /// them does not any more. Of several fields that do not fit it ends the box in a port before an
+    /// Ends the box before a failing field starts to match. If all fields match, ends it before a field
+    /// starts to fail. Of several failing fields, chooses the protocol before a port and a port before an
     /// address, since this leaves fewer boxes.
     fn end(&mut self, ends: Ends) -> bool
         requires is_box { IsBox self.old }
@@ -172,16 +160,16 @@ impl PacketBox {
         ensures fit { result ≡ true → (p : Packet) → IsIn self.new p → AllFit self.old ends p }
         ensures fail { result ≡ false → (p : Packet) → IsIn self.new p → OneFails self.old ends p }
     {
+        if !ends.proto.fits {
+            self.greatest.proto = ends.proto.last as u8;
+            return false;
+        }
         if !ends.dport.fits {
             self.greatest.dport = ends.dport.last as u16;
             return false;
         }
         if !ends.sport.fits {
             self.greatest.sport = ends.sport.last as u16;
-            return false;
-        }
-        if !ends.proto.fits {
-            self.greatest.proto = ends.proto.last as u8;
             return false;
         }
         if !ends.dst.fits {

@@ -25,7 +25,7 @@ fn comes_before(p: &Packet, q: &Packet) -> bool
     p.dport < q.dport
 }
 
-/// Whether a packet comes before the one that is found, where there is one.
+/// Whether a packet comes before the packet found, or no packet is found.
 pub(crate) fn is_earlier(p: &Packet, found: Option<Packet>) -> bool
     ensures { IsTrue result ↔ IsEarlier p.now found }
 {
@@ -35,7 +35,7 @@ pub(crate) fn is_earlier(p: &Packet, found: Option<Packet>) -> bool
     }
 }
 
-/// What is found once it is known whether it holds of an earlier packet.
+/// Returns the packet found after a test of an earlier packet `p`: `p` if the property holds for it.
 pub(crate) fn found_then(holds: bool, p: Packet, found: Option<Packet>) -> Option<Packet>
     ensures { result ≡ (if holds then Some p else found) }
 {

@@ -7,7 +7,7 @@ ghost use Rattle.header_space.specs.Boxes.{IsBox, IsIn, swapped, every_packet};
 
 use host_net::Packet;
 
-/// The packets each of whose fields lies from that of the least to that of the greatest packet, both
+/// The packets whose fields are each between that field of `least` and that field of `greatest`, both
 /// included.
 #[derive(Clone, Copy, Debug, PartialEq, Eq)]
 pub struct PacketBox {
@@ -16,7 +16,7 @@ pub struct PacketBox {
 }
 
 impl PacketBox {
-    /// All packets.
+    /// Returns the box of all packets.
     pub fn every() -> PacketBox
         ensures value { result ≡ every_packet }
         ensures is_box { IsBox result }
@@ -39,7 +39,8 @@ impl PacketBox {
         }
     }
 
-    /// Its greatest packet. Each packet of a box is one that a header has room for.
+    /// Returns the greatest packet of the box. Each field of a packet in a box is within the range of that
+    /// header field.
     pub fn last(&self) -> Packet
         ensures value { result ≡ self.now.greatest }
         ensures packets { (p : Packet) → IsIn self.now p → IsPacket p }
@@ -53,7 +54,7 @@ impl PacketBox {
         }
     }
 
-    /// The packets that answer those of this box.
+    /// Returns the box of the reply packets: exchanges source and destination.
     pub fn swap(self) -> PacketBox
         ensures { result ≡ swapped self }
     {
@@ -64,7 +65,7 @@ impl PacketBox {
     }
 }
 
-// These tell how large a field is.
+// These functions state the width of a field.
 
 fn address(n: u32) -> u32
     ensures value { result ≡ n }

@@ -1,6 +1,7 @@
-//! The search for the least packet of a box of which something holds. A box is judged by its least
-//! packet and narrowed until all of its packets are judged alike; what is left of it is split into
-//! boxes that wait. Boxes whose least packet does not come before the one that is found are passed over.
+//! The search for the least packet of a box that satisfies a property. The search tests the least
+//! packet of a box and narrows the box until all of its packets have the same answer. It splits the
+//! rest of the box into pending boxes. It skips each box whose least packet does not come before the
+//! packet found.
 
 ghost use Rattle.std.specs.Prelude.{◌↔◌, Bool, IsTrue, IfOk, IfSome};
 ghost use Rattle.host_net.specs.declared.packet.Packet.{Packet};
@@ -17,35 +18,35 @@ use crate::split::split;
 use host_net::Packet;
 use std::alloc::{AllocError, Global};
 
-/// The most cuts of one box into another. Halving at the middle boundary needs far fewer.
+/// The maximum number of nested cuts of a box. Bisection at the middle boundary needs far fewer.
 const DEPTH_LIMIT: u32 = 64;
 
-/// After so many restrictions in a row that were not worth their cost, none is tried any more.
+/// The number of consecutive unprofitable restrictions after which the search tries no more.
 const TRIES: u32 = 3;
 
-/// A question about packets, which is answered for boxes of them.
+/// A property of packets that is decided for boxes.
 pub trait Question: Sized + Drop {
     ghost holds_of: { Self → Packet → Type 0 };
 
-    /// Whether it holds of the least packet of a box. The box is narrowed, so that this is the answer
-    /// for all packets that it has then.
+    /// Whether the property holds for the least packet of a box. Narrows the box until the answer is the
+    /// same for all of its packets.
     fn ask(&self, within: &mut PacketBox) -> bool
         requires { IsBox within.old }
         ensures part { Narrows within.old within.new }
         ensures alike { (p : Packet) → IsIn within.new p → (IsTrue result ↔ holds_of self.now p) };
 
-    /// Returns the question for the packets of a box alone, if this makes it cheaper to ask. It holds of
-    /// the same packets of the box.
+    /// Returns the question restricted to the packets of a box, if the restricted question is cheaper to
+    /// ask. Both hold for the same packets of the box.
     fn restrict(&self, alloc: Global, within: &PacketBox) -> Result<Option<Self>, AllocError>
         requires { IsBox within.now }
         ensures { IfOk result (λ part. IfSome part (λ part. (p : Packet) → IsIn within.now p → (holds_of part p ↔ holds_of self.now p))) };
 
-    /// Returns where a box is cut before the question is asked, or None if it is asked of the whole box.
+    /// Returns the cut of a box to make before the question is asked, or None to ask it of the whole box.
     fn cut(&self, within: &PacketBox) -> Option<Cut>
         ensures { IfSome result (IsCutOf within.now) };
 }
 
-/// Returns the least packet of a box of which it holds, or None if it holds of none.
+/// Returns the least packet of a box for which the question holds, or None if there is none.
 pub fn least_where<Q: Question>(
     alloc: Global,
     question: &Q,
@@ -57,9 +58,9 @@ pub fn least_where<Q: Question>(
     least_after(alloc, question, whole, None, DEPTH_LIMIT, TRIES)
 }
 
-/// Searches a box for a packet that comes before the one found so far. Cuts the box, at most `depth` times
-/// one into the other, and restricts the question to the parts. Stops to cut after so many restrictions in
-/// a row that were not worth their cost.
+/// Searches a box for a packet that comes before the packet found so far. Cuts the box, nested at most
+/// `depth` times, and restricts the question to the parts. Stops cutting after `tries` consecutive
+/// unprofitable restrictions.
 fn least_after<Q: Question>(
     alloc: Global,
     question: &Q,
@@ -101,7 +102,7 @@ fn least_after<Q: Question>(
     )
 }
 
-/// Searches a box, without cuts, for a packet that comes before the one found so far.
+/// Searches a box, without cuts, for a packet that comes before the packet found so far.
 fn search_after<Q: Question>(
     alloc: Global,
     question: &Q,
@@ -120,7 +121,7 @@ fn search_after<Q: Question>(
     }
 }
 
-/// Returns the least packet of a box of which it holds, without cuts.
+/// Returns the least packet of a box for which the question holds. Makes no cuts.
 fn search<Q: Question>(
     alloc: Global,
     question: &Q,
@@ -141,8 +142,8 @@ fn search<Q: Question>(
     Ok(found)
 }
 
-/// Whether it holds of the least packet of a box. The packets of which it is not known by this are put
-/// to the boxes that wait.
+/// Whether the question holds for the least packet of a box. Adds boxes of the packets that this answer
+/// does not cover to the pending boxes.
 fn try_box<Q: Question>(
     question: &Q,
     boxes: &mut Vec<PacketBox>,

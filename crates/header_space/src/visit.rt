@@ -1,5 +1,5 @@
-//! Visits of a box: a visitor is shown the packets of the box in parts, and records what it finds out
-//! about each part.
+//! Visits of a box: a visitor receives the packets of the box in parts, and records facts about each
+//! part.
 
 ghost use Rattle.std.specs.Prelude.{IfOk};
 ghost use Rattle.host_net.specs.declared.packet.Packet.{Packet};
@@ -12,37 +12,37 @@ use crate::packet_box::PacketBox;
 use crate::split::split;
 use std::alloc::{AllocError, Global};
 
-/// Something that records facts about packets, which it finds out for boxes of them.
+/// A visitor that records facts about packets, for a box of packets at a time.
 pub trait Visitor: Sized {
-    // It has recorded the facts about a packet.
+    // The visitor has recorded the facts about a packet.
     ghost knows: { Self → Packet → Type 0 };
 
-    // What it has recorded grows from the first to the second state by facts about packets of the box.
+    // From the first to the second state, the visitor records only facts about packets of the box.
     ghost grows: { PacketBox → Self → Self → Type 0 };
 
     /// Records the facts about the least packet of a box. Narrows the box until it has recorded the facts
-    /// about all packets that the box has then.
+    /// about all packets of the narrowed box.
     fn visit(&mut self, within: &mut PacketBox)
         requires { IsBox within.old }
         ensures part { Narrows within.old within.new }
         ensures grows { grows within.new self.old self.new }
         ensures knows { (p : Packet) → IsIn within.new p → knows self.new p };
 
-    // Without a visit nothing is recorded.
+    // Reflexivity: no visit records no facts.
     ghost grows_by_none: { (b : PacketBox) (x : Self) → grows b x x };
 
-    // What is recorded in two steps is recorded.
+    // Transitivity: two steps compose to one.
     ghost grows_by_both: { (b : PacketBox) (x y z : Self) → grows b x y → grows b y z → grows b x z };
 
-    // The packets of a box are packets of each box that has them.
+    // Monotonicity: a step for a part of a box is a step for the box.
     ghost grows_by_more: { (b part : PacketBox) (x y : Self) → HasOnlyPacketsOf b part → grows part x y → grows b x y };
 
-    // What is recorded stays recorded.
+    // Recorded facts remain recorded.
     ghost keeps: { (b : PacketBox) (x y : Self) (p : Packet) → grows b x y → knows x p → knows y p };
 }
 
-/// Shows a visitor all packets of a box. Takes a visit for each part of the box that the visitor narrows
-/// it to.
+/// Passes all packets of a box to a visitor. Makes one visit for each part to which the visitor narrows
+/// the box.
 pub fn visit_all<V: Visitor>(
     alloc: Global,
     visitor: &mut V,
@@ -60,7 +60,7 @@ pub fn visit_all<V: Visitor>(
     Ok(())
 }
 
-/// Shows a visitor the first part of a box. The other packets of the box are put to the boxes that wait.
+/// Passes the first part of a box to a visitor. Adds boxes of the other packets to the pending boxes.
 fn visit_box<V: Visitor>(
     visitor: &mut V,
     boxes: &mut Vec<PacketBox>,

@@ -1,11 +1,11 @@
--- How the intervals of a box fit a match. Callers see none of it; they have `Matching`.
+-- Which numbers of the intervals of a box match. Not visible to callers, which use `Matching`.
 use Rattle.std.specs.Prelude.{◌≡◌, ◌⊎◌, ℕ, ◌≤◌, false, true}
 use Rattle.host_net.specs.declared.packet.Packet.{Packet}
 use Rattle.header_space.specs.declared.packet_box.PacketBox.{PacketBox}
 use Rattle.header_space.specs.declared.header_match.End.{End}
 use Rattle.header_space.specs.declared.header_match.Ends.{Ends}
 
--- an end lies in the interval
+-- The end lies in the interval from `first` to `last`.
 abbrev pub IsEnd : ℕ → ℕ → End → Type 0
 IsEnd first last alike = (first ≤ alike.last) × (alike.last ≤ last)
 
@@ -16,7 +16,7 @@ pub record AreEnds (b : PacketBox) (ends : Ends) : Type 0 where
   pub sport : IsEnd b.least.sport b.greatest.sport ends.sport
   pub dport : IsEnd b.least.dport b.greatest.dport ends.dport
 
--- the number is one of those of which it is known how they fit, and they do or do not
+-- Number n is from `first` to the end: all of these numbers match, or none of them does.
 abbrev pub Known : ℕ → End → ℕ → Type 0
 Known first alike n = (first ≤ n) × (n ≤ alike.last)
 

@@ -1,9 +1,8 @@
-use Rattle.std.proofs.Common.{sym, ◌∙◌, true≢false, Option, subst}
+use Rattle.std.proofs.Common.{subst}
 use Rattle.std.proofs.lemmas.Result.{IfOk-weaker}
-use Rattle.host_net.specs.declared.packet.Packet.{Packet}
 use Rattle.header_space.specs.declared.packet_box.PacketBox.{PacketBox}
-use Rattle.header_space.specs.inner.Cutting.{Improves, lower, upper}
-use Rattle.header_space.proofs.CutLaws.{improves_passed, improves_parts, improves_same}
+use Rattle.header_space.specs.inner.Cutting.{Improves}
+use Rattle.header_space.proofs.CutLaws.{improves_parts}
 use Rattle.header_space.proofs.search.+least_after.Goals as goal
 
 pub returns : goal.returns

@@ -1,6 +1,8 @@
 use Rattle.std.proofs.Common.{sym, ap, subst, ◌∙◌}
 use Rattle.header_space.specs.declared.packet_box.PacketBox.{PacketBox}
-use Rattle.header_space.specs.inner.Splitting.{Splits, with_dport, with_dst, with_proto, with_sport}
+use Rattle.header_space.specs.declared.field.Field.TheVariants.{Dst, Proto, Sport, Dport}
+use Rattle.header_space.specs.inner.Fields.{up_to}
+use Rattle.header_space.specs.inner.Splitting.{Splits}
 use Rattle.header_space.proofs.SplitLaws.{splits_then}
 use Rattle.header_space.proofs.split.split.Goals as goal
 
@@ -14,14 +16,14 @@ returns c =
     let three = c.in_ok-left-3.left in
     let four = c.in_ok-left-4.left in
     let same = c.in_ok-_part.ensures.part
-    ∙ ap (λ (x : PacketBox). with_dport x part.greatest.dport) (c.in_ok-left-4.ensures.part
-    ∙ ap (λ (x : PacketBox). with_sport x part.greatest.sport) (c.in_ok-left-3.ensures.part
-    ∙ ap (λ (x : PacketBox). with_proto x part.greatest.proto) (c.in_ok-left-2.ensures.part
-    ∙ ap (λ (x : PacketBox). with_dst x part.greatest.dst) c.in_ok-left.ensures.part)))
+    ∙ ap (λ (x : PacketBox). up_to Dport x part.greatest.dport) (c.in_ok-left-4.ensures.part
+    ∙ ap (λ (x : PacketBox). up_to Sport x part.greatest.sport) (c.in_ok-left-3.ensures.part
+    ∙ ap (λ (x : PacketBox). up_to Proto x part.greatest.proto) (c.in_ok-left-2.ensures.part
+    ∙ ap (λ (x : PacketBox). up_to Dst x part.greatest.dst) c.in_ok-left.ensures.part)))
     ∙ (λ i. record { least = sym c.requires.part.least i; greatest = part.greatest }) in
-    subst (λ (x : PacketBox). Splits whole old c.split_dport.new.boxes.items x) same
-    (splits_then whole four c.in_ok-_part._part old c.split_sport.new.boxes.items c.split_dport.new.boxes.items
-    (splits_then whole three four old c.split_proto.new.boxes.items c.split_sport.new.boxes.items
-    (splits_then whole two three old c.split_dst.new.boxes.items c.split_proto.new.boxes.items
-    (splits_then whole one two old c.split_src.new.boxes.items c.split_dst.new.boxes.items c.in_ok-left.ensures.splits c.in_ok-left-2.ensures.splits)
+    subst (λ (x : PacketBox). Splits whole old c.split_at-5.new.boxes.items x) same
+    (splits_then whole four c.in_ok-_part._part old c.split_at-4.new.boxes.items c.split_at-5.new.boxes.items
+    (splits_then whole three four old c.split_at-3.new.boxes.items c.split_at-4.new.boxes.items
+    (splits_then whole two three old c.split_at-2.new.boxes.items c.split_at-3.new.boxes.items
+    (splits_then whole one two old c.split_at.new.boxes.items c.split_at-2.new.boxes.items c.in_ok-left.ensures.splits c.in_ok-left-2.ensures.splits)
     c.in_ok-left-3.ensures.splits) c.in_ok-left-4.ensures.splits) c.in_ok-_part.ensures.splits)
