@@ -1,4 +1,4 @@
--- Laws of connections: the first packets are kept as answered where their swap was seen after them.
+-- Lemmas on connections: the table marks a first packet as answered if its reverse was seen after it.
 use Rattle.std.proofs.Common.{◌≡◌, ◌≢◌, ◌⊎◌, inl, inr, ℕ, zero, suc, ◌<◌, Bool, true, false, not, ◌&&◌, List, [], ◌∷◌, ◌++◌, length, Some, None, refl, sym, ap, subst, ◌∙◌, append_assoc, append-nil, true≢false, arith}
 use Rattle.std.specs.Prelude.{is_some, if◌then◌else◌, Option, ⊤}
 use Rattle.std.proofs.lemmas.Option.{slice_get_within}
@@ -23,7 +23,7 @@ use Rattle.pkt_core.proofs.FirstPacketLaws.{IsFirstPacket-stays, IsNew, IsFirstP
 some_true : (o : Option Bool) → o ≡ Some true → is_some o ≡ true
 some_true o h = ap is_some h
 
--- what a packet marks
+-- The marks after a packet.
 marked_behind_seen : (kept : Kept) (p : Packet) (passes : Bool) (q : Packet) → after_seen kept p passes q ≡ Some true → (kept q ≡ Some true) ⊎ ((p ≡ swap_of q) × (is_some (kept q) ≡ true))
 marked_behind_seen kept p passes q = by_tests (kept (swap_of p)) (passes && not (is_some (kept p))) refl
   where
@@ -169,7 +169,7 @@ KeepsConnections-start permitted = record {
     unmarked : None ≡ Some true → ⊥
     unmarked h = cc
 
--- after every run from nothing kept, exactly the connections are kept
+-- After every run from the empty table, the table has exactly the connections.
 connections_behind : (filter : Filter) (Known : Packet → Type 0) (permitted stateful : Packet → Bool) → IsFirewallFor filter Known permitted stateful →
     (past : List Event) (kept : Kept) → Fits Known permitted past kept → KeepsConnections permitted past kept → (events : List Event) → AllKnown Known events → (answers : List (Option Bool)) → Runs filter kept events answers →
     KeepsConnections permitted (past ++ events) (kept_after kept events answers)
@@ -196,7 +196,7 @@ pub runs_keep_connections : (filter : Filter) (Known : Packet → Type 0) (permi
 runs_keep_connections filter Known permitted stateful firewall events known answers run =
     connections_behind filter Known permitted stateful firewall [] nothing_kept (Fits-start permitted) (KeepsConnections-start permitted) events known answers run
 
--- both laws at the verdicts of a policy
+-- Both lemmas for the verdicts of a policy.
 pub tracks_from_nothing : TracksAsExpected nothing_kept
 tracks_from_nothing = record {
   answers = λ permitted stateful policy events answers run. runs_as_expected _ (λ p. ⊤) permitted stateful (verdicts permitted stateful policy) events (λ k p there. tt) answers run;

@@ -1,4 +1,5 @@
--- A line that is not read as an event is bad, in the format's words, for the reason that is told; and a text has one reading or one first fault.
+-- A line that is not parsed as an event is bad in terms of the format, for the reported reason. A file has either a parse result or a first
+-- error.
 use Rattle.std.proofs.Common.{◌≡◌, ◌≢◌, ℕ, false, List, [], ◌∷◌, Option, Some, None, ◌⊎◌, inl, inr, refl, sym, ap, arith, length, subst}
 use Rattle.std.specs.Prelude.{codes, Result, Ok, Err, bytes_eq, slice_get}
 use Rattle.std.specs.Option.{option_map, ok_or}
@@ -17,9 +18,9 @@ use Rattle.pkt_core.specs.EventsText.{TellsEvent, AreVerbAndFive, events_text}
 use Rattle.pkt_core.specs.inner.EventSteps.{packet_of, event_by, event_of}
 use Rattle.pkt_core.proofs.EventsTextLaws.{told_event}
 
--- 1. Why words tell no event.
+-- 1. The reasons why tokens encode no event.
 
--- another number of words
+-- Any other number of tokens.
 not_six : (ws : List (List ℕ)) → length ws ≢ 6 → AreVerbAndFive ws → ⊥
 not_six ws other form = other form.0
 
@@ -71,7 +72,7 @@ explained (a ∷ b ∷ c ∷ d ∷ x ∷ []) why h = bad_count (a ∷ b ∷ c �
 explained (a ∷ b ∷ c ∷ d ∷ x ∷ y ∷ []) why h = explained_by a b c d x y (packet_of b c d x y) why h
 explained (a ∷ b ∷ c ∷ d ∷ x ∷ y ∷ z ∷ ws) why h = bad_count (a ∷ b ∷ c ∷ d ∷ x ∷ y ∷ z ∷ ws) why (λ e. absurd (omega (arith, e))) h
 
--- 2. A line of events tells one event at most, and what tells one has its verb and five words.
+-- 2. A line encodes at most one event. If it encodes one, it has a verb and five fields.
 
 tells_one : (ws : List (List ℕ)) (x y : Event) → TellsEvent ws x → TellsEvent ws y → x ≡ y
 tells_one ws x y p q = same_ok (event_of ws) x y (told_event ws x p) (told_event ws y q)
@@ -86,11 +87,11 @@ event_lines_tell_one n line x y p q = tells_one (words line) x y p q
 pub event_lines_have_form : TellsFormed events_text
 event_lines_have_form n line x told = told_form (words line) x told
 
--- a text has one reading or one first fault
+-- A file has either a parse result or a first error.
 pub events_settled : IsSettled (by_lines events_text)
 events_settled = list_settled events_text event_lines_tell_one event_lines_have_form
 
--- 3. A line that is refused is bad, whatever stands before it.
+-- 3. A rejected line is bad, regardless of the lines before it.
 
 not_told : (ws : List (List ℕ)) (why : ListWhy) → event_of ws ≡ Err why → (e : Event) → TellsEvent ws e → ⊥
 not_told ws why refused e told = let read : event_of ws ≡ Ok e = told_event ws e told in cc

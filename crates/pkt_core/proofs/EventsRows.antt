@@ -1,4 +1,4 @@
--- Worked rows: lines of events, as they are read.
+-- Test vectors: lines of event files, and their parse results.
 use Rattle.std.proofs.Common.{◌≡◌, refl}
 use Rattle.std.specs.Prelude.{codes, Ok, Err}
 use Rattle.std.specs.Fmt.{digits}
@@ -9,7 +9,7 @@ use Rattle.host_net.specs.inner.PrefixSteps.{address_of}
 use Rattle.pkt_core.specs.declared.event.Event.TheVariants.{Seen, Forget}
 use Rattle.pkt_core.specs.inner.EventSteps.{event_of, event_by, packet_of}
 
--- a packet with a named protocol; ports stand as they are, also of `icmp`
+-- A packet with a named protocol. Ports are taken unchanged, also those of `icmp`.
 row_packet : event_of (words (codes "packet 8.8.8.8 10.1.0.10 icmp 3333 443")) ≡ Ok (Seen record { src = 134744072; dst = 167837706; proto = 1; sport = 3333; dport = 443 })
 unfolding event_of event_by packet_of address_of number digits
 row_packet = refl
@@ -18,7 +18,7 @@ row_forget : event_of (words (codes "forget 0.0.0.1 0.0.0.2 255 0 65535")) ≡ O
 unfolding event_of event_by packet_of address_of number digits
 row_forget = refl
 
--- a bad line goes before every bad value
+-- A bad line takes precedence over every bad value.
 row_verb : event_of (words (codes "drop x x x x x")) ≡ Err BadLine
 unfolding event_of event_by packet_of address_of number digits
 row_verb = refl
@@ -27,7 +27,7 @@ row_count : event_of (words (codes "packet x x x x")) ≡ Err BadLine
 unfolding event_of
 row_count = refl
 
--- `esp` is no name here, an address takes no length, and no number has a leading zero
+-- `esp` is not a protocol name here, an address has no length, and leading zeros are rejected.
 row_esp : event_of (words (codes "packet 0.0.0.1 0.0.0.2 esp 1 2")) ≡ Err BadValue
 unfolding event_of event_by packet_of address_of number digits
 row_esp = refl

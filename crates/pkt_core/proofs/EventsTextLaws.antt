@@ -1,4 +1,4 @@
--- Laws of the texts of events: a line is read as an event exactly where it tells it.
+-- Lemmas on event files: a line is parsed as an event if and only if it encodes it.
 use Rattle.std.proofs.Common.{◌≡◌, ℕ, ◌==◌, ◌<◌, ◌^◌, List, [], ◌∷◌, Option, Some, None, ◌⊎◌, inl, inr, refl, sym, ap, ◌∙◌, arith, subst}
 use Rattle.std.specs.Prelude.{codes, decimal, Ok, bytes_eq}
 use Rattle.std.specs.Option.{option_map, option_or}
@@ -21,7 +21,7 @@ use Rattle.pkt_core.specs.declared.event.Event.TheVariants.{Seen, Forget}
 use Rattle.pkt_core.specs.EventsText.{TellsPacket, TellsEvent}
 use Rattle.pkt_core.specs.inner.EventSteps.{protocol_of, packet_of, event_by, event_of}
 
--- the word of a protocol
+-- The token of a protocol.
 protocol_by : (word : List ℕ) (n : ℕ) (named : Option ℕ) → named_protocol word ≡ named → option_or named (number 255 word) ≡ Some n
     → ((word ≡ protocol_text n) ⊎ (word ≡ decimal n)) × (n < 2 ^ 8)
 protocol_by word n None none read = let said = decimal_of_number 255 word n (omega arith) read in (inr said.0, omega (arith, said.1))

@@ -1,5 +1,5 @@
--- The law of expected answers: a firewall with the verdicts of a policy that tracks connections lets pass exactly the packets that are
--- expected to pass.
+-- Expected results: a firewall that has the verdicts of a policy and tracks connections forwards exactly the packets that are expected to
+-- pass.
 use Rattle.std.proofs.Common.{◌≡◌, inl, inr, ◌↔◌, ℕ, zero, suc, Bool, true, false, ◌&&◌, IsTrue, List, [], ◌∷◌, ◌++◌, length, take, slice_get, Some, None, refl, sym, ap, subst, ◌∙◌, ◌<◌, append_assoc, append-nil, arith}
 use Rattle.std.specs.Prelude.{is_some, Option}
 use Rattle.std.proofs.lemmas.Bool.{and_from, and_parts, or_cases, or_left, or_right}
@@ -14,7 +14,7 @@ use Rattle.pkt_core.specs.inner.FirewallFor.{AllKnown, IsFirewallFor, StatefulAr
 use Rattle.pkt_core.specs.laws.KeptLaws.{Fits, Fits-forget, Fits-seen, Fits-start, answer_is_established, established_by}
 use Rattle.pkt_core.specs.Expected.{AreExpected, Expected}
 
--- so what passes is what is expected
+-- A packet passes if and only if it is expected.
 pub passes_as_expected : {Known : Packet → Type 0} (permitted stateful : Packet → Bool) → StatefulArePermitted Known permitted stateful →
     (past : List Event) (kept : Kept) → Fits Known permitted past kept → (p : Packet)
     → IsTrue (may_pass permitted stateful (state_of kept p) p) ↔ Expected permitted stateful past p
@@ -40,14 +40,14 @@ passes_as_expected permitted stateful policy past kept fits p = (λ h. sound h, 
       ]
     ]
 
--- the answers are as expected after the events that went before
+-- The results are as expected after the events that preceded.
 pub record AreExpectedBehind (permitted stateful : Packet → Bool) (past events : List Event) (answers : List (Option Bool)) : Type 0 where
   pub as_many : length answers ≡ length events
   pub seen : (k : ℕ) (p : Packet) → SeenAt events k p
       → (passes : Bool) × (slice_get answers k ≡ Some (Some passes)) × (IsTrue passes ↔ Expected permitted stateful (past ++ take k events) p)
   pub forgotten : (k : ℕ) (p : Packet) → ForgottenAt events k p → slice_get answers k ≡ Some None
 
--- one more event at the front
+-- One more event at the front.
 one_more : (permitted stateful : Packet → Bool) (past : List Event) (event : Event) (events : List Event) (answer : Option Bool)
     (answers : List (Option Bool)) →
     ((p : Packet) → event ≡ Seen p → (passes : Bool) × (answer ≡ Some passes) × (IsTrue passes ↔ Expected permitted stateful past p)) →
@@ -71,7 +71,7 @@ one_more permitted stateful past event events answer answers if_seen if_forgotte
     forgotten_at zero p there = ap (λ (a : Option Bool). Some a) (if_forgotten p (only (Forget p) there))
     forgotten_at (suc k) p there = rest.forgotten k p there
 
--- no events have no answers, as expected
+-- The empty list of events has the empty list of results, as expected.
 pub none_expected : (permitted stateful : Packet → Bool) (past : List Event) → AreExpectedBehind permitted stateful past [] []
 none_expected permitted stateful past = record {
   as_many = refl;
@@ -85,7 +85,7 @@ none_expected permitted stateful past = record {
     none_forgotten : (k : ℕ) (p : Packet) → ForgottenAt [] k p → ⊥
     none_forgotten k p h = cc
 
--- a packet seen, whose answer is as expected, in front of answers as expected
+-- A packet with the expected result, before expected results.
 pub seen_expected : (permitted stateful : Packet → Bool) (past : List Event) (p : Packet) (events : List Event) (passes : Bool)
     (answers : List (Option Bool)) →
     (IsTrue passes ↔ Expected permitted stateful past p) →
@@ -101,7 +101,7 @@ seen_expected permitted stateful past p events passes answers is rest =
     seen_is_not : (p q : Packet) → Seen p ≡ Forget q → ⊥
     seen_is_not p q h = cc
 
--- a forgetting in front of answers as expected
+-- A forget event before expected results.
 pub forgotten_expected : (permitted stateful : Packet → Bool) (past : List Event) (p : Packet) (events : List Event)
     (answers : List (Option Bool)) →
     AreExpectedBehind permitted stateful (past ++ Forget p ∷ []) events answers → AreExpectedBehind permitted stateful past (Forget p ∷ events) (None ∷ answers)
@@ -111,7 +111,7 @@ forgotten_expected permitted stateful past p events answers rest =
     forget_is_not : (p q : Packet) → Forget p ≡ Seen q → ⊥
     forget_is_not p q h = cc
 
--- what is as expected from the start on
+-- Results that are as expected from the start.
 pub all_expected : (permitted stateful : Packet → Bool) (events : List Event) (answers : List (Option Bool))
     → AreExpectedBehind permitted stateful [] events answers → AreExpected permitted stateful events answers
 all_expected permitted stateful events answers all = record { as_many = all.as_many; seen = all.seen; forgotten = all.forgotten }
@@ -140,7 +140,7 @@ some_place [] k below = absurd (omega arith)
 some_place (x ∷ xs) zero below = (x, refl)
 some_place (x ∷ xs) (suc k) below = some_place xs k (omega arith)
 
--- the expected answers are one list
+-- The expected results are unique.
 pub expected_once : (permitted stateful : Packet → Bool) (events : List Event) (answers others : List (Option Bool)) →
     AreExpected permitted stateful events answers → AreExpected permitted stateful events others → answers ≡ others
 expected_once permitted stateful events answers others first second =
@@ -176,7 +176,7 @@ run_behind filter Known permitted stateful firewall past kept fits (Forget p ∷
     (run_behind filter Known permitted stateful firewall (past ++ Forget p ∷ []) (after_forget kept p) (Fits-forget permitted past kept p fits)
     events (λ k q there. known (suc k) q there) answers run)
 
--- every run from nothing kept answers as expected
+-- Every run from the empty table has the expected results.
 pub runs_as_expected : (filter : Filter) (Known : Packet → Type 0) (permitted stateful : Packet → Bool)
     → IsFirewallFor filter Known permitted stateful →
     (events : List Event) → AllKnown Known events → (answers : List (Option Bool)) → Runs filter nothing_kept events answers
@@ -184,7 +184,7 @@ pub runs_as_expected : (filter : Filter) (Known : Packet → Type 0) (permitted 
 runs_as_expected filter Known permitted stateful firewall events known answers run =
     all_expected permitted stateful events answers (run_behind filter Known permitted stateful firewall [] nothing_kept (Fits-start permitted) events known answers run)
 
--- and there is one, whatever is kept
+-- A run exists, for every table.
 pub some_run : (filter : Filter) (Known : Packet → Type 0) (permitted stateful : Packet → Bool)
     → IsFirewallFor filter Known permitted stateful →
     (kept : Kept) (events : List Event) → AllKnown Known events → (answers : List (Option Bool)) × Runs filter kept events answers

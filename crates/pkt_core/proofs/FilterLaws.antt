@@ -1,4 +1,4 @@
--- What enforces a policy forwards what is expected of it.
+-- A filter that enforces a policy forwards what the policy expects.
 use Rattle.std.proofs.Common.{◌≡◌, Bool, true, false, ◌&&◌, List, Option, Some, None}
 use Rattle.std.specs.Option.{option_map_or}
 use Rattle.std.proofs.lemmas.Bool.{and_parts, and_from}
@@ -26,11 +26,11 @@ of_more services s p packet (Some f) subset h =
     let parts = and_parts (has s f) (is_served (services_of services f.from f.to) packet) h in
     and_from (has p f) (is_served (services_of services f.from f.to) packet) (subset.within f parts.0) parts.1
 
--- a packet of one of some flows is of one of more flows
+-- A packet that belongs to one of some flows belongs to one of more flows.
 pub is_of-within : (site : Site) (s p : List Flow) (packet : Packet) → IsSubset s p → is_of site s packet ≡ true → is_of site p packet ≡ true
 is_of-within site s p packet subset h = of_more site.services s p packet (flow_of site.hosts packet) subset h
 
--- a filter that enforces a policy is a firewall for it
+-- A filter that enforces a policy is a firewall for it.
 firewall_for : (filter : Filter) (site : Site) (p s : List Flow) → IsSubset s p → Enforces filter site p s
     → IsFirewallFor filter IsPacket (is_of site p) (is_of site s)
 firewall_for filter site p s subset enforces = record {

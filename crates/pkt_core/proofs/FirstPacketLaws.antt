@@ -1,4 +1,4 @@
--- Laws of first packets: exactly the permitted first packets are kept, event by event.
+-- Lemmas on first packets: after each event, the table tracks exactly the permitted first packets.
 use Rattle.std.proofs.Common.{◌≡◌, ◌≢◌, ◌⊎◌, inl, inr, ℕ, ◌<◌, ◌≤◌, Bool, true, false, IsTrue, List, [], ◌∷◌, ◌++◌, length, take, Some, sym, ap, subst, ◌∙◌, true≢false, arith}
 use Rattle.std.specs.Prelude.{is_some}
 use Rattle.std.proofs.lemmas.List.{take-append-le}
@@ -16,14 +16,14 @@ use Rattle.pkt_core.specs.Connections.{IsFirstPacket, KeepsFirst}
 use Rattle.pkt_core.specs.Firewall.{may_pass}
 use Rattle.pkt_core.specs.laws.KeptLaws.{Fits, begins_behind_seen, kept_behind_forget, kept_behind_seen, new_permitted, stays_behind_forget, stays_behind_seen}
 
--- the events before a place are the same after one more event
+-- The events before an index are unchanged by one more event.
 past_before : (past : List Event) (e : Event) (k : ℕ) (q : Packet) → SeenAt past k q → take k (past ++ e ∷ []) ≡ take k past
 past_before past e k q there = take-append-le k past (e ∷ []) (small k (slice_get_within past k (Seen q) there))
   where
     small : (k : ℕ) → k < length past → k ≤ length past
     small k h = omega arith
 
--- a first packet, with its events before the place named
+-- A first packet, with a name for the events before its index.
 first_by : (permitted : Packet → Bool) (past before : List Event) (k : ℕ) (q : Packet) → SeenAt past k q → UnforgottenSince past k q
     → IsTrue (permitted q) → take k past ≡ before →
     (WasSeen before q → ⊥) → (IsTrue (permitted (swap_of q)) → WasSeen before (swap_of q) → ⊥) → IsFirstPacket permitted past k q
@@ -48,13 +48,13 @@ IsFirstPacket-now permitted past p q is allowed begins answers =
     first_by permitted (past ++ Seen p ∷ []) past (length past) q (get_last past (Seen p) ∙ ap (λ (r : Packet). Some (Seen r)) is) (unforgotten_last past p q) allowed
     (take-append_seam past (Seen p ∷ [])) begins answers
 
--- a first packet after one more event at k, which stands among the earlier events
+-- A first packet after one more event at index k, where the packet is among the earlier events.
 IsFirstPacket-earlier : (permitted : Packet → Bool) (past : List Event) (e : Event) (k : ℕ) (q : Packet) → SeenAt past k q
     → IsFirstPacket permitted (past ++ e ∷ []) k q → IsFirstPacket permitted past k q
 IsFirstPacket-earlier permitted past e k q there first =
     first_by permitted past (take k (past ++ e ∷ [])) k q there (unforgotten_back past e k q first.unforgotten) first.allowed (sym (past_before past e k q there)) first.begins first.answers_none
 
--- what a first packet is after one more packet seen: a first packet before, or the new one
+-- A first packet after one more packet event: a first packet before, or the new packet.
 unfoldable pub IsNew : (Packet → Bool) → List Event → Packet → ℕ → Packet → Type 0
 IsNew permitted past p k q = (k ≡ length past) × (p ≡ q) × IsTrue (permitted q) × (WasSeen past q → ⊥) × (IsTrue (permitted (swap_of q)) → WasSeen past (swap_of q) → ⊥)
 
@@ -103,7 +103,7 @@ KeepsFirst-seen {Known} permitted stateful past kept p fits first q = ((λ h. be
     both : List Event
     both = past ++ Seen p ∷ []
 
-    -- nothing of a connection that is not kept was seen and is permitted
+    -- If a connection is not tracked, none of its packets was seen and is permitted.
     no_first : (q : Packet) → is_some (kept q) ≡ false → is_some (kept (swap_of q)) ≡ false → permitted q ≡ true → WasSeen past q → ⊥
     no_first q own other allowed was = elim (or_cases (is_some (kept q)) (is_some (kept (swap_of q))) (fits.is_kept q was allowed)) [
       | inl h ↦ true≢false (sym h ∙ own)
@@ -139,7 +139,7 @@ KeepsFirst-seen {Known} permitted stateful past kept p fits first q = ((λ h. be
       | inr new ↦ is_new q k new
     ]
 
--- exactly the first packets stay kept where a packet was seen that is not permitted, and is not tracked
+-- The table still tracks exactly the first packets after a packet that is not permitted and not tracked.
 pub KeepsFirst-untaken : (permitted : Packet → Bool) (past : List Event) (kept : Kept) (p : Packet) → permitted p ≡ false
     → KeepsFirst permitted past kept → KeepsFirst permitted (past ++ Seen p ∷ []) kept
 unfolding IsNew

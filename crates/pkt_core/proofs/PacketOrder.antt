@@ -1,4 +1,4 @@
--- The order of packets tells two apart just where a field differs, so the map is read by fields.
+-- The order of packets distinguishes two packets if and only if a field differs, so the map is keyed by the fields.
 use Rattle.std.proofs.Common.{◌≡◌, ℕ, Bool, true, false, cond, nat_lt, ◌==◌, ◌&&◌, Ordering, Less, Equal, Greater, List, refl, sym, ap, ◌∙◌, arith}
 use Rattle.std.specs.Prelude.{Option}
 use Rattle.std.specs.BTreeMap.{is_at}
@@ -41,7 +41,7 @@ is_at-cmp p q = by_fields p.src p.dst p.proto p.sport p.dport q.src q.dst q.prot
 read_by_fields : (entries : List (Packet × Bool)) (q : Packet) → lookup (is_at ((order.cmp-value).it q)) entries ≡ kept_in entries q
 read_by_fields entries q = ap (λ (test : Packet → Bool). lookup test entries) (λ i k. is_at-cmp q k i)
 
--- what a map answers after a change at p
+-- The lookups of a map after a change at p.
 pub kept_in-updates : (old new : List (Packet × Bool)) (p : Packet) (now : Option Bool) →
     ((q : Packet) → lookup (is_at ((order.cmp-value).it q)) new ≡ cond (is_at ((order.cmp-value).it p) q) now (lookup (is_at ((order.cmp-value).it q)) old)) →
     kept_in new ≡ with_kept (kept_in old) p now

@@ -1,4 +1,4 @@
--- What is read of a text of events are packets.
+-- The events parsed from a file contain packets.
 use Rattle.std.proofs.Common.{◌≡◌, inl, inr, ℕ, ◌+◌, List, [], ◌∷◌, subst}
 use Rattle.text_core.specs.Reading.{Follows}
 use Rattle.host_net.specs.declared.packet.Packet.{Packet}
@@ -11,7 +11,7 @@ use Rattle.text_core.specs.ListText.{AddsEntry}
 use Rattle.pkt_core.specs.EventsText.{TellsEvent, IsReading, events_text}
 use Rattle.pkt_core.specs.Filter.{ArePackets}
 
--- an event that is told of a packet seen
+-- A parsed event of a packet.
 seen_told : (ws : List (List ℕ)) (event : Event) (p : Packet) → TellsEvent ws event → event ≡ Seen p → IsPacket p
 seen_told ws (Seen q) p told same = subst IsPacket (only q p same) told.is_packet
   where

@@ -1,4 +1,4 @@
--- The text of a list of events: one line each, a verb and five words of a packet.
+-- The format of event files: one event per line, a verb and the five fields of a packet.
 use Rattle.std.specs.Prelude.{◌≡◌, ℕ, List, [], ◌∷◌, length, slice_get, Some, ◌⊎◌, codes, decimal}
 use Rattle.text_core.specs.Lines.{words}
 use Rattle.text_core.specs.ListText.{ListText, by_lines}
@@ -11,28 +11,29 @@ use Rattle.host_net.specs.ServiceText.{protocol_text}
 use Rattle.pkt_core.specs.declared.event.Event.{Event}
 use Rattle.pkt_core.specs.declared.event.Event.TheVariants.{Seen, Forget}
 
--- A. The grammar: which events a text tells.
+-- A. The grammar: the events that a file contains.
 
--- a verb and the words of a packet: two addresses, the protocol by its name or its number, two ports
+-- A verb and the fields of a packet: two addresses, the protocol by its name or its number, two ports.
 pub record TellsPacket (verb : List ℕ) (ws : List (List ℕ)) (p : Packet) : Type 0 where
   pub protocol : List ℕ
   pub named : (protocol ≡ protocol_text p.proto) ⊎ (protocol ≡ decimal p.proto)
   pub written : ws ≡ verb ∷ address_text p.src ∷ address_text p.dst ∷ protocol ∷ decimal p.sport ∷ decimal p.dport ∷ []
   pub is_packet : IsPacket p
 
--- the words of a line tell an event
+-- The tokens of a line encode an event.
 abbrev pub TellsEvent : List (List ℕ) → Event → Type 0
 TellsEvent ws (Seen p) = TellsPacket (codes "packet") ws p
 TellsEvent ws (Forget p) = TellsPacket (codes "forget") ws p
 
--- B. The form of a line that tells one.
+-- B. The shape of a line that encodes an event.
 
--- six words, the first of which is a verb
+-- Six tokens, the first of which is a verb.
 abbrev pub AreVerbAndFive : List (List ℕ) → Type 0
 AreVerbAndFive ws = (length ws ≡ 6) × ((slice_get ws 0 ≡ Some (codes "packet")) ⊎ (slice_get ws 0 ≡ Some (codes "forget")))
 
--- C. The text lists events, 1,000,000 at most.
+-- C. The file contains at most 1,000,000 events.
 
+-- The list format of event files: at most 1,000,000 events, and at most 16,777,216 bytes.
 abbrev pub events_text : ListText Event
 events_text = record {
   byte_limit = 16777216;
@@ -41,9 +42,10 @@ events_text = record {
   Tells = λ n line event. TellsEvent (words line) event;
 }
 
--- the reading of a text, and its first fault
+-- The parse result of a file.
 abbrev pub IsReading : List ℕ → List Event → Type 0
 IsReading bytes events = IsReadingOf (by_lines events_text) bytes events
 
+-- The first error of a file.
 abbrev pub IsRefused : List ℕ → ℕ → ListWhy → Type 0
 IsRefused bytes line why = HasFault (by_lines events_text) bytes line why

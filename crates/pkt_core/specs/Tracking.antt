@@ -1,5 +1,5 @@
--- Connection tracking: what is kept of the events, and the state that it gives a packet. The states NEW and ESTABLISHED are those of the
--- match conntrack in iptables-extensions(8), without ageing and related connections.
+-- Connection tracking: the connection table after a list of events, and the state that it assigns to a packet. The states NEW and
+-- ESTABLISHED are those of the match conntrack in iptables-extensions(8), without timeouts and related connections.
 use Rattle.std.specs.Prelude.{Bool, true, false, not, ◌==◌, ◌&&◌, ◌||◌, if◌then◌else◌, List, [], ◌∷◌, Option, Some, None, is_some, ⊤}
 use Rattle.std.specs.Option.{unwrap_or}
 use Rattle.host_net.specs.declared.packet.Packet.{Packet}
@@ -10,35 +10,41 @@ use Rattle.pkt_core.specs.declared.event.Event.{Event}
 use Rattle.pkt_core.specs.declared.event.Event.TheVariants.{Seen, Forget}
 use Rattle.pkt_core.specs.Firewall.{Filter}
 
--- the connections that are kept, each by its first packet: whether it was answered, None for any other packet
+-- The connection table. It maps the first packet of each tracked connection to whether the connection was answered, and
+-- every other packet to `None`.
 abbrev pub Kept : Type 0
 Kept = Packet → Option Bool
 
+-- The empty connection table.
 abbrev pub nothing_kept : Kept
 nothing_kept p = None
 
+-- The two packets are equal in all fields.
 abbrev pub same_packet : Packet → Packet → Bool
 same_packet p q = (p.src == q.src) && ((p.dst == q.dst) && ((p.proto == q.proto) && ((p.sport == q.sport) && (p.dport == q.dport))))
 
--- the same but for p
+-- The connection table with a new entry for p.
 abbrev pub with_kept : Kept → Packet → Option Bool → Kept
 with_kept kept p now q = if same_packet p q then now else kept q
 
--- established where p answers a connection, or is of one that was answered
+-- A packet is established if it answers a tracked connection, or if it belongs to a tracked connection that was
+-- answered.
 abbrev pub state_of : Kept → Packet → CtState
 state_of kept p = if is_some (kept (swap_of p)) || unwrap_or (kept p) false then Established else New
 
--- after a packet: the connection that it answers is answered; else it begins one, where it passes and is of none
+-- The table after a packet: if the packet answers a connection, the connection is marked as answered; otherwise, if it passes and belongs
+-- to no connection, it begins a connection.
 abbrev pub after_seen : Kept → Packet → Bool → Kept
 after_seen kept p passes =
     if is_some (kept (swap_of p)) then with_kept kept (swap_of p) (Some true)
     else (if passes && not (is_some (kept p)) then with_kept kept p (Some false) else kept)
 
--- a connection is forgotten in both directions
+-- The table after a connection is forgotten, in both directions.
 abbrev pub after_forget : Kept → Packet → Kept
 after_forget kept p = with_kept (with_kept kept p None) (swap_of p) None
 
--- a run of a filter: each packet seen passes or not in its state, and is tracked so; a forgetting has no answer
+-- A run of a filter: each packet passes or not in its current state, and the table tracks it accordingly. A forget
+-- event has no result.
 abbrev pub Runs : Filter → Kept → List Event → List (Option Bool) → Type 0
 Runs filter kept [] [] = ⊤
 Runs filter kept (Seen p ∷ events) (Some passes ∷ answers) =

@@ -1,23 +1,24 @@
-//! What is kept of the connection that a packet is of.
+//! The tracked connection to which a packet belongs.
 
 ghost use Rattle.std.specs.Prelude.{◌≡◌};
 ghost use Rattle.pkt_core.specs.inner.Kept.{state_by};
 
 use host_net::CtState;
 
-/// The connection of a packet, which is kept under its first packet, with whether it is answered.
+/// The connection of a packet. A connection is stored under its first packet, with a flag for
+/// whether it is answered.
 #[derive(Clone, Copy, Debug, PartialEq, Eq)]
 pub enum Connection {
-    /// The packet goes the other way than the first one.
+    /// The packet goes in the reverse direction of the first packet.
     Answers(bool),
-    /// The packet is like the first one.
+    /// The packet equals the first packet.
     Begun(bool),
-    /// None is kept.
+    /// No connection of the packet is tracked.
     Unknown,
 }
 
 impl Connection {
-    /// The state in which such a packet comes.
+    /// Returns the state of a packet of this connection.
     pub fn state(self) -> CtState
         ensures { result ≡ state_by self }
     {

@@ -1,12 +1,12 @@
-//! What happens at a firewall, one thing after another.
+//! The events at a firewall.
 
 use host_net::Packet;
 
-/// A packet comes, or the firewall forgets a connection.
+/// A packet arrives, or the firewall forgets a connection.
 #[derive(Clone, Copy, Debug, PartialEq, Eq)]
 pub enum Event {
     /// The packet is seen.
     Seen(Packet),
-    /// The connection of the packet ends, in both directions.
+    /// The connection of the packet is forgotten, in both directions.
     Forget(Packet),
 }

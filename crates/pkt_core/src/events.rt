@@ -1,5 +1,5 @@
-//! Reading the text of a list of events: one line each, as
-//! `packet 10.0.0.1 10.0.0.2 tcp 1024 80` or `forget` with the same five words.
+//! Parsing an event file: one event per line, `packet 10.0.0.1 10.0.0.2 tcp 1024 80`, or `forget`
+//! with the same five fields.
 
 ghost use Rattle.std.specs.Prelude.{◌≡◌, ℕ, List, IfOk, IfErr, MatchResult};
 ghost use Rattle.text_core.specs.Lines.{words};
@@ -16,27 +16,27 @@ use host_net::{Packet, read_address, read_port, read_protocol};
 use std::alloc::Global;
 use text_core::{EntryReader, LineFault, ListWhy, TextFault, Words, read_list, read_number};
 
-/// The most bytes that a text of events may have.
+/// The greatest size of an event file, in bytes.
 pub const EVENTS_BYTE_LIMIT: usize = 16_777_216;
 
 const EVENT_LIMIT: usize = 1_000_000;
 
-/// The first line that tells no event, from 1, and why; line 0 stands for the whole text.
+/// The first line that encodes no event, from 1, and the reason. Line 0 means the whole file.
 ///
 /// - `TooLong`: more than 16,777,216 bytes.
 /// - `BadLine`: not six words, or a first word other than `packet` and `forget`.
-/// - `BadValue`: an address, a protocol or a port that is none.
+/// - `BadValue`: an invalid address, protocol or port.
 /// - `TooMany`: the 1,000,001st event.
 pub type EventFault = TextFault<ListWhy>;
 
-/// The events that a text tells.
+/// Parses the events of a file.
 pub fn read_events(alloc: Global, bytes: &[u8]) -> Result<Vec<Event>, EventFault>
     ensures found { IfOk result (λ events. IsReading bytes.now events.items) }
-    // A text that tells events is refused for want of memory alone.
+    // A file of events is rejected only if allocation fails.
     ensures only { (told : List Meant) → IsReading bytes.now told →
         MatchResult result (λ events. events.items ≡ told) (λ fault. fault ≡ TextFault.Memory) }
     ensures refused { IfErr result (HasCause (by_lines events_text) bytes.now) }
-    // A text has one first fault at most, and none where it tells events.
+    // A file has at most one first error, and none if it parses to events.
     ensures faulty { (line : ℕ) (why : ListWhy) → IsRefused bytes.now line why →
         MatchResult result (λ events. ⊥) (IsFault line why) }
     ensures packets { IfOk result (λ events. ArePackets events.items) }
@@ -44,7 +44,7 @@ pub fn read_events(alloc: Global, bytes: &[u8]) -> Result<Vec<Event>, EventFault
     read_list(alloc, &EventLines, bytes)
 }
 
-/// The lines of a text of events.
+/// The line format of event files.
 #[derive(Drop)]
 struct EventLines;
 
@@ -124,7 +124,7 @@ fn read_packet(
     })
 }
 
-/// A protocol by its name, or by its number.
+/// Parses a protocol, by its name or by its number.
 fn protocol_of(word: &[u8]) -> Option<u8>
     ensures { result ≡ protocol_of word.now }
 {

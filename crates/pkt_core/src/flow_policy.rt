@@ -1,4 +1,4 @@
-//! A policy between hosts in one piece: what rules are written for, and compared with.
+//! A policy between hosts: the input for rule generation and for audits.
 
 ghost use Rattle.std.specs.Prelude.{◌≡◌, ◌<◌, Some, length, option_map, slice_get};
 ghost use Rattle.host_net.specs.Host.{rest_of};
@@ -10,8 +10,8 @@ use flow_set::FlowSet;
 use host_net::{Hosts, Prefix, Services};
 use std::marker::Model;
 
-/// The hosts and the services of flows between them, the permitted flows, each narrowed to its
-/// services where it has some, and the stateful ones: those of them whose answers may pass.
+/// The hosts and the services of flows between them; the permitted flows, each restricted to its
+/// services if it has any; and the stateful flows, the permitted flows whose answers may pass.
 #[derive(Drop)]
 pub struct FlowPolicy<'a> {
     hosts: &'a Hosts,
@@ -34,9 +34,8 @@ impl<'a> Model for FlowPolicy<'a> {
 }
 
 impl<'a> FlowPolicy<'a> {
-    /// Returns the policy of these hosts: what is permitted between them, by which services, and which
-    /// flows are stateful. Both sets of flows have the size of the hosts, and each stateful flow is
-    /// permitted.
+    /// Returns the policy of these hosts, services, permitted flows and stateful flows. Both sets
+    /// of flows have the size of the hosts, and each stateful flow is permitted.
     pub fn new(
         hosts: &'a Hosts,
         services: &'a Services,
@@ -48,7 +47,7 @@ impl<'a> FlowPolicy<'a> {
         requires within { IsSubset stateful.now.flows permitted.now.flows }
         ensures { result ≡ policy_with (site_with hosts.now services.now) permitted.now.flows stateful.now.flows }
     {
-        // What holds of hosts and services at all times is known by looking at them.
+        // The calls establish the invariants of hosts and services.
         let (_count, _services) = (hosts.count(), services.of(0, 0));
         FlowPolicy {
             hosts,
@@ -58,7 +57,7 @@ impl<'a> FlowPolicy<'a> {
         }
     }
 
-    /// Returns the hosts of the policy, of which each has its number by its place.
+    /// Returns the hosts of the policy. The number of a host is its index.
     pub fn hosts(&self) -> &'a Hosts
         ensures value { result.now ≡ self.now.site.hosts }
         ensures policy { IsFlowPolicy self.now }
@@ -66,8 +65,8 @@ impl<'a> FlowPolicy<'a> {
         self.hosts
     }
 
-    /// Returns the services of flows: a permitted flow with services permits the packets that one of
-    /// them serves, and a permitted flow without services permits all its packets.
+    /// Returns the services of flows. A permitted flow with services permits the packets that one
+    /// of them matches. A permitted flow without services permits all its packets.
     pub fn services(&self) -> &'a Services
         ensures value { result.now ≡ self.now.site.services }
     {
@@ -82,7 +81,7 @@ impl<'a> FlowPolicy<'a> {
         self.permitted
     }
 
-    /// Returns the stateful flows: the permitted flows of which answers may pass as well, on
+    /// Returns the stateful flows: the permitted flows whose answers may pass as well, on
     /// established connections.
     pub fn stateful(&self) -> &'a FlowSet
         ensures flows { result.now.flows ≡ self.now.stateful }
@@ -91,7 +90,7 @@ impl<'a> FlowPolicy<'a> {
         self.stateful
     }
 
-    /// How many hosts there are.
+    /// Returns the number of hosts.
     pub fn count(&self) -> u16
         ensures value { result ≡ length self.now.site.hosts }
         ensures policy { IsFlowPolicy self.now }
@@ -99,7 +98,7 @@ impl<'a> FlowPolicy<'a> {
         self.hosts.count()
     }
 
-    /// The prefixes of a host.
+    /// Returns the prefixes of a host.
     pub fn prefixes(&self, host: u16) -> &'a [Prefix]
         requires { host < length self.now.site.hosts }
         ensures { option_map (λ h. h.prefixes) (slice_get self.now.site.hosts host) ≡ Some result.now }
@@ -107,7 +106,7 @@ impl<'a> FlowPolicy<'a> {
         self.hosts.prefixes(host)
     }
 
-    /// The rest host, or None where there is none.
+    /// Returns the rest host, or `None` if there is none.
     pub fn rest(&self) -> Option<u16>
         ensures { result ≡ rest_of self.now.site.hosts }
     {

@@ -1,6 +1,6 @@
-//! Connections between packets: the events that a firewall meets, and the tracking by which it
-//! tells the answers of a connection from new packets. What a policy expects of each packet is
-//! said over the events alone, and tracking is proved to give just this.
+//! Events at a firewall and connection tracking, which distinguishes the answers of a connection
+//! from new packets. The expected result for each packet is defined over the events only, and
+//! tracking is proved to produce exactly this result.
 #![tactic(auto)]
 
 mod connection;
@@ -13,6 +13,6 @@ pub use connection::Connection;
 pub use event::Event;
 pub use events::{EVENTS_BYTE_LIMIT, EventFault, read_events};
 pub use flow_policy::FlowPolicy;
-/// Why a text of events is refused.
+/// The reason why an event file is rejected.
 pub use text_core::ListWhy as EventWhy;
 pub use track::Track;

@@ -1,5 +1,5 @@
-//! Connection tracking. A connection is kept under its first packet, in an ordered map, with a mark
-//! that is set once a packet the other way was seen.
+//! Connection tracking. A connection is stored under its first packet, in an ordered map, with a
+//! flag that is set when a packet in the reverse direction is seen.
 
 ghost use Rattle.std.specs.Prelude.{◌≡◌, [], Some, None, OnOk, OnErr};
 ghost use Rattle.pkt_core.specs.inner.Kept.{kept_in, Begins, connection_of, state_by};
@@ -12,7 +12,7 @@ use std::alloc::{AllocError, Global};
 use std::collections::BTreeMap;
 use std::marker::Model;
 
-/// The connections that are kept.
+/// The connection table.
 #[derive(Drop)]
 pub struct Track {
     kept: BTreeMap<Packet, bool>,
@@ -28,11 +28,12 @@ impl Model for Track {
 }
 
 impl Track {
-    /// Keeps no connection.
+    /// Returns an empty connection table.
     pub fn new(alloc: Global) -> Track
         ensures empty { result ≡ [] }
 
-        // With the verdicts of a policy, each packet has the answer that the events alone say.
+        // With the verdicts of a policy, each packet has the result that is defined over the events
+        // only.
         ensures expected { TracksAsExpected (kept_in result) }
     {
         Track {
@@ -40,7 +41,7 @@ impl Track {
         }
     }
 
-    /// The connection of a packet.
+    /// Returns the connection of a packet.
     #[tactic(auto, using(crate::proofs::ConnectionLemmas::state_is))]
     pub fn connection_of(&self, packet: &Packet) -> Connection
         ensures found { result ≡ connection_of (kept_in self.now) packet.now }
@@ -55,28 +56,28 @@ impl Track {
         }
     }
 
-    /// The state in which a packet comes: established where it answers a connection, or is of one
-    /// that was answered.
+    /// Returns the state of a packet: established if it answers a connection, or if it belongs to a
+    /// connection that was answered.
     pub fn state_of(&self, packet: &Packet) -> CtState
         ensures { result ≡ state_of (kept_in self.now) packet.now }
     {
         self.connection_of(packet).state()
     }
 
-    /// Tracks a packet that was seen, where `accepted` says that it was let pass.
+    /// Tracks a packet that was seen. `accepted` states whether it was forwarded.
     pub fn step(&mut self, packet: &Packet, accepted: bool) -> Result<(), AllocError>
         ensures tracked { OnOk result (
             kept_in self.new ≡ after_seen (kept_in self.old) packet.now accepted) }
         ensures unchanged { OnErr result (self.new ≡ self.old) }
 
-        // Only a connection that begins takes memory.
+        // Only a new connection allocates memory.
         ensures begins { OnErr result (Begins (kept_in self.old) packet.now accepted) }
     {
         let connection = self.connection_of(packet);
         self.step_in(connection, packet, accepted)
     }
 
-    /// The same, where the connection of the packet was looked up already.
+    /// Does the same as `step`, for a packet whose connection is already looked up.
     pub fn step_in(
         &mut self,
         connection: Connection,
@@ -96,7 +97,7 @@ impl Track {
         }
     }
 
-    /// Forgets the connection of a packet, in both directions.
+    /// Removes the connection of a packet, in both directions.
     pub fn forget(&mut self, packet: &Packet)
         ensures { kept_in self.new ≡ after_forget (kept_in self.old) packet.now }
     {
@@ -105,14 +106,15 @@ impl Track {
     }
 }
 
-/// Whether the connection that the packet began is answered, where it is kept.
+/// Returns whether the connection that the packet began is answered, or `None` if it is not
+/// tracked.
 fn mark(kept: &BTreeMap<Packet, bool>, packet: &Packet) -> Option<bool>
     ensures { result ≡ kept_in kept.now.entries packet.now }
 {
     kept.get(packet).copied()
 }
 
-/// Keeps a connection with this mark.
+/// Stores a connection with this flag.
 fn keep(
     kept: &mut BTreeMap<Packet, bool>,
     packet: &Packet,

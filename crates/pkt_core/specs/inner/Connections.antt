@@ -1,4 +1,4 @@
--- Answered connections, said over the events alone, and that tracking marks just these.
+-- Answered connections, defined over the events only, and a connection table that marks exactly these.
 use Rattle.std.specs.Prelude.{◌≡◌, ◌↔◌, ℕ, ◌<◌, Bool, true, List, Some}
 use Rattle.host_net.specs.declared.packet.Packet.{Packet}
 use Rattle.host_net.specs.Packet.{swap_of}
@@ -7,12 +7,12 @@ use Rattle.pkt_core.specs.Events.{SeenAt}
 use Rattle.pkt_core.specs.Tracking.{Kept}
 use Rattle.pkt_core.specs.Connections.{IsFirstPacket, KeepsFirst}
 
--- q began a connection, and its swap was seen after it
+-- q is the first packet of a connection, and its reverse was seen after it.
 abbrev pub WasAnswered : (Packet → Bool) → List Event → Packet → Type 0
 WasAnswered permitted past q =
     (place : ℕ) × IsFirstPacket permitted past place q × ((later : ℕ) × (place < later) × SeenAt past later (swap_of q))
 
--- exactly the first packets are kept, and as answered where they were answered
+-- The connection table tracks exactly the first packets, and marks exactly those that were answered.
 pub record KeepsConnections (permitted : Packet → Bool) (past : List Event) (kept : Kept) : Type 0 where
   pub first : KeepsFirst permitted past kept
   pub answered : (q : Packet) → (kept q ≡ Some true) ↔ WasAnswered permitted past q

@@ -1,11 +1,11 @@
--- A policy between hosts in one piece, as contracts see it.
+-- The model of a policy between hosts.
 use Rattle.std.specs.Prelude.{List}
 use Rattle.host_net.specs.Site.{Site}
 use Rattle.host_net.specs.inner.Site.{IsSite}
 use Rattle.flow_set.specs.declared.flow.Flow.{Flow}
 use Rattle.flow_set.specs.FlowSet.{IsSubset}
 
--- the hosts and the services of flows between them, the permitted flows, and the stateful ones
+-- The hosts and the services of flows between them, the permitted flows, and the stateful flows.
 pub record FlowPolicy : Type 0 where
   pub site : Site
   pub permitted : List Flow
@@ -14,7 +14,7 @@ pub record FlowPolicy : Type 0 where
 abbrev pub policy_with : Site → (permitted stateful : List Flow) → FlowPolicy
 policy_with site permitted stateful = record { site = site; permitted = permitted; stateful = stateful }
 
--- its hosts are those of a network, and its stateful flows are permitted
+-- A policy is valid: its hosts are those of a network, and its stateful flows are permitted.
 pub record IsFlowPolicy (policy : FlowPolicy) : Type 0 where
   pub site : IsSite policy.site
   pub within : IsSubset policy.stateful policy.permitted

@@ -1,4 +1,4 @@
--- The kept connections as a list, how one begins, and what a run leaves of them.
+-- The connection table as a list, the start of a connection, and the table after a run.
 use Rattle.std.specs.Prelude.{Bool, List, ◌≡◌, ◌∷◌, Option, Some, None, IsTrue, if◌then◌else◌}
 use Rattle.std.specs.Map.{lookup}
 use Rattle.host_net.specs.declared.packet.Packet.{Packet}
@@ -11,11 +11,11 @@ use Rattle.pkt_core.specs.declared.connection.Connection.TheVariants.{Answers, B
 use Rattle.pkt_core.specs.declared.event.Event.{Event}
 use Rattle.pkt_core.specs.declared.event.Event.TheVariants.{Seen, Forget}
 
--- what a list of first packets, each with its mark, keeps
+-- The connection table of a list of first packets, each with its mark.
 abbrev pub kept_in : List (Packet × Bool) → Kept
 kept_in connections q = lookup (same_packet q) connections
 
--- the connection of a packet, by what is kept of its answer and of itself
+-- The connection of a packet, from the table entries of its reverse and of the packet itself.
 abbrev pub connection_by : Option Bool → Option Bool → Connection
 connection_by (Some answered) own = Answers answered
 connection_by None (Some answered) = Begun answered
@@ -24,17 +24,17 @@ connection_by None None = Unknown
 abbrev pub connection_of : Kept → Packet → Connection
 connection_of kept p = connection_by (kept (swap_of p)) (kept p)
 
--- the state of a packet of it
+-- The state of a packet of this connection.
 abbrev pub state_by : Connection → CtState
 state_by (Answers answered) = Established
 state_by (Begun answered) = if answered then Established else New
 state_by Unknown = New
 
--- p begins a connection: it passes and is of none
+-- The packet p begins a connection: it passes and belongs to no tracked connection.
 abbrev pub Begins : Kept → Packet → Bool → Type 0
 Begins kept p passes = IsTrue passes × (kept p ≡ None) × (kept (swap_of p) ≡ None)
 
--- what is kept after a run with these answers
+-- The connection table after a run with these results.
 abbrev pub kept_after : Kept → List Event → List (Option Bool) → Kept
 kept_after kept (Seen p ∷ events) (Some passes ∷ answers) = kept_after (after_seen kept p passes) events answers
 kept_after kept (Forget p ∷ events) (None ∷ answers) = kept_after (after_forget kept p) events answers

@@ -1,4 +1,4 @@
--- Runs of a firewall that tracks connections and gives the verdicts of a policy.
+-- Runs of a firewall that tracks connections and has the verdicts of a policy.
 use Rattle.std.specs.Prelude.{◌≡◌, Bool, List, Option, ⊤}
 use Rattle.host_net.specs.declared.packet.Packet.{Packet}
 use Rattle.pkt_core.specs.declared.event.Event.{Event}
@@ -9,11 +9,11 @@ use Rattle.pkt_core.specs.inner.FirewallFor.{StatefulArePermitted}
 use Rattle.pkt_core.specs.Tracking.{Kept, Runs}
 use Rattle.pkt_core.specs.inner.Kept.{kept_after}
 
--- a run of a firewall with the verdicts of a policy
+-- A run of a firewall with the verdicts of a policy.
 abbrev pub RunsBy : (permitted stateful : Packet → Bool) → Kept → List Event → List (Option Bool) → Type 0
 RunsBy permitted stateful = Runs (λ state p passes. passes ≡ may_pass permitted stateful state p)
 
--- whatever the policy and the events: a run from here answers what is expected and keeps the connections, and there is one
+-- For every policy and all events, a run from this table has the expected results and tracks the connections, and such a run exists.
 pub record TracksAsExpected (kept : Kept) : Type 0 where
   pub answers : (permitted stateful : Packet → Bool) → StatefulArePermitted (λ p. ⊤) permitted stateful
       → (events : List Event) (answers : List (Option Bool)) →

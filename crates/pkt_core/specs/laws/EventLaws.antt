@@ -1,4 +1,4 @@
--- Laws of lists of events: what one more event changes in what was seen.
+-- Lemmas on lists of events: the effect of one more event on the packets that were seen.
 use Rattle.std.proofs.Common.{◌≡◌, ◌≢◌, ◌⊎◌, inl, inr, ℕ, zero, suc, ◌<◌, List, [], ◌∷◌, ◌++◌, length, slice_get, Some, refl, ap, ◌∙◌, arith}
 use Rattle.std.proofs.lemmas.Option.{slice_get_within}
 use Rattle.host_net.specs.declared.packet.Packet.{Packet}
@@ -7,7 +7,7 @@ use Rattle.pkt_core.specs.declared.event.Event.{Event}
 use Rattle.pkt_core.specs.declared.event.Event.TheVariants.{Seen, Forget}
 use Rattle.pkt_core.specs.Events.{SeenAt, UnforgottenSince, WasSeen}
 
--- an element stays at its place, and one more comes at the end
+-- Appending an element preserves the elements at earlier indices.
 pub get_before : {A : Type 0} (xs ys : List A) (k : ℕ) (x : A) → slice_get xs k ≡ Some x → slice_get (xs ++ ys) k ≡ Some x
 get_before [] ys k x there = cc
 get_before (z ∷ xs) ys zero x there = there
@@ -28,7 +28,7 @@ pub unforgotten_back : (past : List Event) (e : Event) (k : ℕ) (q : Packet) �
     → UnforgottenSince past k q
 unforgotten_back past e k q none j r later there = none j r later (get_before past (e ∷ []) j (Forget r) there)
 
--- a packet that is seen forgets nothing
+-- A packet event forgets no connection.
 pub unforgotten-seen : (past : List Event) (p : Packet) (k : ℕ) (q : Packet) → UnforgottenSince past k q
     → UnforgottenSince (past ++ Seen p ∷ []) k q
 unforgotten-seen past p k q none j r later there =
@@ -48,7 +48,7 @@ unforgotten-forget past p k q none apart turned j r later there =
     other : (r : Packet) → p ≡ r → (r ≢ q) × (r ≢ swap_of q)
     other r is = ((λ h. apart (is ∙ h)), (λ h. turned (is ∙ h)))
 
--- one more packet seen: what was seen stays so, and the packet is seen
+-- After one more packet event, the packets seen before are still seen, and so is the packet.
 pub WasSeen-stays : (past : List Event) (p q : Packet) → WasSeen past q → WasSeen (past ++ Seen p ∷ []) q
 WasSeen-stays past p q was = record {
   place = was.place;
@@ -56,7 +56,7 @@ WasSeen-stays past p q was = record {
   unforgotten = unforgotten-seen past p was.place q was.unforgotten;
 }
 
--- nothing stands after the last event
+-- No event follows the last one.
 pub unforgotten_last : (past : List Event) (p q : Packet) → UnforgottenSince (past ++ Seen p ∷ []) (length past) q
 unforgotten_last past p q j r later there =
     elim (get_back past (Seen p) (Forget r) j there) [ inl h ↦ absurd (before j (slice_get_within past j (Forget r) h) later) | inr h ↦ absurd (last j h.0 later) ]
@@ -84,7 +84,7 @@ WasSeen-behind_seen past p q was =
     same : (p q : Packet) → Seen p ≡ Seen q → p ≡ q
     same p q h = cc
 
--- one more forgetting: what was seen stays so but for the forgotten connection
+-- After one more forget event, the packets seen before are still seen, except those of the forgotten connection.
 pub WasSeen-kept : (past : List Event) (p q : Packet) → WasSeen past q → p ≢ q → p ≢ swap_of q → WasSeen (past ++ Forget p ∷ []) q
 WasSeen-kept past p q was apart turned = record {
   place = was.place;

@@ -1,4 +1,4 @@
--- Laws of what is kept after the events of a run.
+-- Lemmas on the connection table after the events of a run.
 use Rattle.std.proofs.Common.{◌≡◌, ◌≢◌, ◌⊎◌, inl, inr, Bool, true, false, not, ◌&&◌, ◌||◌, List, [], ◌∷◌, ◌++◌, Some, None, refl, sym, ap, subst, ◌∙◌, true≢false}
 use Rattle.std.specs.Prelude.{is_some, if◌then◌else◌, Option}
 use Rattle.std.specs.Option.{unwrap_or}
@@ -14,15 +14,15 @@ use Rattle.pkt_core.specs.Tracking.{Kept, after_forget, after_seen, nothing_kept
 use Rattle.pkt_core.specs.laws.TrackingLaws.{keys-after_forget, keys-after_seen, not_same_packet, same_packet-is, same_packet-not, same_packet-self}
 use Rattle.pkt_core.specs.Firewall.{is_established, may_pass}
 
--- what is kept belongs to what was seen: kept packets are permitted and were seen, and of a permitted packet that was seen the connection
--- is kept
+-- The table agrees with the events: tracked packets are permitted and were seen, and the connection of each permitted packet that was seen
+-- is tracked.
 pub record Fits (Known : Packet → Type 0) (permitted : Packet → Bool) (past : List Event) (kept : Kept) : Type 0 where
   pub allowed : (q : Packet) → is_some (kept q) ≡ true → permitted q ≡ true
   pub was_seen : (q : Packet) → is_some (kept q) ≡ true → WasSeen past q
   pub is_kept : (q : Packet) → WasSeen past q → permitted q ≡ true → (is_some (kept q) || is_some (kept (swap_of q))) ≡ true
   pub known : (q : Packet) → WasSeen past q → Known q
 
--- a packet in an established state is of a kept connection
+-- An established packet belongs to a tracked connection.
 pub established_by : (kept : Kept) (p : Packet) → is_established (state_of kept p) ≡ true
     → is_some (kept (swap_of p)) ≡ true ⊎ is_some (kept p) ≡ true
 established_by kept p h = by_marks (kept (swap_of p)) (kept p) h
@@ -40,7 +40,7 @@ answer_is_established kept p h = by_test (is_some (kept (swap_of p))) h
     by_test true h = refl
     by_test false h = absurd (true≢false (sym h))
 
--- a packet that begins a connection is permitted: an answer to a kept packet begins none
+-- A packet that begins a connection is permitted: an answer to a tracked packet begins none.
 pub new_permitted : {Known : Packet → Type 0} (permitted stateful : Packet → Bool) (past : List Event) (kept : Kept)
     → Fits Known permitted past kept → (p : Packet) →
     may_pass permitted stateful (state_of kept p) p ≡ true → is_some (kept (swap_of p)) ≡ false → permitted p ≡ true
@@ -53,7 +53,7 @@ new_permitted permitted stateful past kept fits p passes none =
       ]
     ]
 
--- what a packet adds to the kept ones, as a choice
+-- The packets that a packet event adds to the table, as a disjunction.
 pub kept_behind_seen : (kept : Kept) (p : Packet) (passes : Bool) (q : Packet) → is_some (after_seen kept p passes q) ≡ true →
     (is_some (kept q) ≡ true) ⊎ ((p ≡ q) × (passes ≡ true) × (is_some (kept p) ≡ false) × (is_some (kept (swap_of p)) ≡ false))
 kept_behind_seen kept p passes q h =
@@ -74,7 +74,7 @@ pub begins_behind_seen : (kept : Kept) (p : Packet) → is_some (kept p) ≡ fal
     → is_some (after_seen kept p true p) ≡ true
 begins_behind_seen kept p own other = keys-after_seen kept p true p ∙ or_right (is_some (kept p)) _ (and_from (same_packet p p) _ (same_packet-self p) (and_from (not (is_some (kept p))) _ (ap not own) (ap not other)))
 
--- of a permitted packet that passes the connection is kept
+-- The connection of a permitted packet that passes is tracked.
 kept_once_seen : (kept : Kept) (p : Packet) → (is_some (after_seen kept p true p) || is_some (after_seen kept p true (swap_of p))) ≡ true
 kept_once_seen kept p =
     elim (cases_Bool (is_some (kept p))) [
@@ -118,7 +118,7 @@ Fits-seen {Known} permitted stateful past kept p is_known fits = record {
     kept_now true h = kept_once_seen kept p
     kept_now false h = absurd (true≢false (sym h))
 
--- what was kept still fits where a packet was seen that is not permitted, and is not tracked
+-- The table still agrees after a packet that is not permitted and not tracked.
 pub Fits-untaken : {Known : Packet → Type 0} (permitted : Packet → Bool) (past : List Event) (kept : Kept) (p : Packet)
     → permitted p ≡ false → Known p → Fits Known permitted past kept → Fits Known permitted (past ++ Seen p ∷ []) kept
 Fits-untaken {Known} permitted past kept p barred is_known fits = record {

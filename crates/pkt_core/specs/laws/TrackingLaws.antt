@@ -1,4 +1,4 @@
--- Laws of tracking: which packets are kept after an event.
+-- Lemmas on tracking: the packets in the connection table after an event.
 use Rattle.std.proofs.Common.{◌≡◌, ◌≢◌, Bool, true, false, not, ◌==◌, ◌&&◌, ◌||◌, Some, None, refl, sym, ap, ◌∙◌, true≢false}
 use Rattle.std.specs.Prelude.{is_some, if◌then◌else◌, Option}
 use Rattle.std.specs.Bool.{Decides}
@@ -35,7 +35,7 @@ same_packet-not p q apart = by_test (same_packet p q) refl
 pub not_same_packet : (p q : Packet) → same_packet p q ≡ false → p ≢ q
 not_same_packet p q h is = true≢false (sym (same_packet-self q) ∙ ap (λ (r : Packet). same_packet r q) (sym is) ∙ h)
 
--- both directions turned: the same test
+-- Reversing both packets preserves the test.
 pub same_packet-swap : (p q : Packet) → same_packet (swap_of p) q ≡ same_packet p (swap_of q)
 same_packet-swap p q = by_bools (p.dst == q.src) (p.src == q.dst) (p.proto == q.proto) (p.dport == q.sport) (p.sport == q.dport)
   where
@@ -59,7 +59,7 @@ none_begins b s true true = no_more b s
 none_begins b s true false = no_more b s
 none_begins b s false n = no_more b s
 
--- a mark at a kept packet keeps no other
+-- Marking a tracked packet adds no other packet.
 marked : (kept : Kept) (r q : Packet) → is_some (kept r) ≡ true → is_some (with_kept kept r (Some true) q) ≡ is_some (kept q)
 marked kept r q is = by_test (same_packet r q) refl
   where
@@ -67,7 +67,7 @@ marked kept r q is = by_test (same_packet r q) refl
     by_test true h = sym (ap (λ (x : Packet). is_some (kept x)) (sym (same_packet-is r q h)) ∙ is)
     by_test false h = refl
 
--- what is kept after a packet: what was, and the packet where it begins a connection
+-- The table after a packet: the tracked packets, and the packet if it begins a connection.
 pub keys-after_seen : (kept : Kept) (p : Packet) (accepted : Bool) (q : Packet) →
     is_some (after_seen kept p accepted q) ≡ (is_some (kept q) || (same_packet p q && (accepted && (not (is_some (kept p)) && not (is_some (kept (swap_of p)))))))
 keys-after_seen kept p accepted q = by_tests (kept (swap_of p)) (kept p) accepted refl
@@ -85,7 +85,7 @@ keys-after_seen kept p accepted q = by_tests (kept (swap_of p)) (kept p) accepte
     by_tests None (Some m) true is = no_more (is_some (kept q)) (same_packet p q)
     by_tests None own false is = no_more (is_some (kept q)) (same_packet p q)
 
--- what is kept after a forgetting: what was, but for the connection
+-- The table after a forget event: the tracked packets without the connection.
 pub keys-after_forget : (kept : Kept) (p q : Packet)
     → is_some (after_forget kept p q) ≡ (not (same_packet p q || same_packet p (swap_of q)) && is_some (kept q))
 keys-after_forget kept p q = ap (λ b. is_some (if b then None else (if same_packet p q then None else kept q))) (same_packet-swap p q) ∙ by_tests (same_packet p (swap_of q)) (same_packet p q) (kept q)
