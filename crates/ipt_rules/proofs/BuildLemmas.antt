@@ -1,4 +1,4 @@
--- The first jump to nowhere, found chain by chain; and what holds of chains that are not refused.
+-- The first invalid jump, found chain by chain, and the properties of chains that are not refused.
 use Rattle.std.proofs.Common.{◌≡◌, ℕ, zero, suc, ◌+◌, ◌<◌, ◌≤◌, ◌∙◌, sym, ap, refl, Bool, true, false, cond, not, List, [], ◌∷◌, Option, Some, None, length, get_or, drop, arith}
 use Rattle.std.proofs.Math.Seq.{drop-cons}
 use Rattle.std.proofs.Math.Numerals.{add-one}
@@ -24,18 +24,18 @@ unknown_in : (count i : ℕ) (xs : List Chain) (x : Chain) (rs : List Rule) (o :
 unknown_in count i xs x rs o h is same found =
     ap (first_unknown count i) (chains_at xs i x h is) ∙ ap (λ (p : Option ℕ). unknown_at i p (first_unknown count (i + 1) (drop (i + 1) xs))) (sym (found ∙ ap (place_of_unknown count) same))
 
--- where a chain has a rule that jumps nowhere it is the first that does
+-- If a chain has a rule with an invalid jump, it is the first such rule.
 pub unknown_here : (count i : ℕ) (xs : List Chain) (x : Chain) (rs : List Rule) (k : ℕ) → i < length xs → x ≡ get_or xs i x → rs ≡ x.rules → Some k ≡ place_of_unknown count rs → first_unknown count i (drop i xs) ≡ Some (UnknownChain i k)
 unknown_here count i xs x rs k h is same found = unknown_in count i xs x rs (Some k) h is same found
 
--- where it has none the first stands in a later chain
+-- If a chain has none, the first such rule is in a later chain.
 pub unknown_later : (count i : ℕ) (xs : List Chain) (x : Chain) (rs : List Rule) → i < length xs → x ≡ get_or xs i x → rs ≡ x.rules → None ≡ place_of_unknown count rs → first_unknown count i (drop i xs) ≡ first_unknown count (i + 1) (drop (i + 1) xs)
 unknown_later count i xs x rs h is same found = unknown_in count i xs x rs None h is same found
 
 pub rules_left : (xs : List Chain) (i : ℕ) (x : Chain) → i < length xs → x ≡ get_or xs i x → rule_count (drop i xs) ≡ length x.rules + rule_count (drop (i + 1) xs)
 rules_left xs i x h is = ap rule_count (chains_at xs i x h is)
 
--- one rule more that jumps somewhere
+-- One more rule without an invalid jump.
 pub known_first : (b : Bool) (i : ℕ) (o : Option ℕ) → cond b (Some i) o ≡ None → (b ≡ false) × (o ≡ None)
 known_first true i o h = cc
 known_first false i o h = (refl, h)

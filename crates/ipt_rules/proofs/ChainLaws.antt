@@ -1,11 +1,11 @@
--- Laws of chains: what a change at one chain leaves as it was.
+-- Lemmas on chains: what a change of one chain preserves.
 use Rattle.std.proofs.Common.{◌≡◌, ℕ, zero, suc, ◌+◌, ◌<◌, ◌∙◌, ap, refl, List, [], ◌∷◌, ◌++◌, Some, length, get_or, set, arith, length-append}
 use Rattle.ipt_rules.specs.declared.rule.Rule.{Rule}
 use Rattle.ipt_rules.specs.declared.rule.Policy.{Policy}
 use Rattle.ipt_rules.specs.Chain.{Chain, changed_at, with_policy, with_rule, user_chain}
 use Rattle.ipt_rules.specs.ChainTable.{rule_count}
 
--- a write at a place is a change there
+-- A write at an index is a change there.
 pub set_changed : (xs : List Chain) (c : ℕ) (old new : Chain) (change : Chain → Chain) → c < length xs → old ≡ get_or xs c old → new ≡ change old → set xs c new ≡ changed_at xs c change
 set_changed [] c old new change h was is = absurd (omega arith)
 set_changed (x ∷ xs) zero old new change h was is = ap (λ y. y ∷ xs) (is ∙ ap change was)
@@ -22,7 +22,7 @@ length-changed_at [] c change = refl
 length-changed_at (x ∷ xs) zero change = refl
 length-changed_at (x ∷ xs) (suc c) change = ap suc (length-changed_at xs c change)
 
--- how many chains and rules there are after each change
+-- The number of chains and rules after each change.
 pub length_with_policy : (xs : List Chain) (c : ℕ) (policy : Policy) → length (with_policy xs c policy) ≡ length xs
 unfolding with_policy
 length_with_policy xs c policy = length-changed_at xs c (λ x. record x { policy = Some policy })

@@ -1,4 +1,4 @@
--- A chain that is read at a place is the chain of that number.
+-- A chain that is read at an index is the chain with that number.
 use Rattle.std.proofs.Common.{◌≡◌, ℕ, ◌<◌, ◌∙◌, sym, ap, List, Some, length, get_or}
 use Rattle.std.specs.Prelude.{slice_get}
 use Rattle.std.proofs.lemmas.Option.{slice_get-get_or}

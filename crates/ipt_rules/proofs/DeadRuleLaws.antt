@@ -1,4 +1,4 @@
--- Rules that a packet does not meet can be removed, and its verdict stays the same.
+-- Removing rules that a packet does not meet preserves its verdict.
 use Rattle.std.proofs.Common.{◌≡◌, ◌↔◌, ℕ, zero, suc, ◌+◌, ◌∙◌, sym, ap, refl, Bool, true, false, List, [], ◌∷◌, Option, Some, None, IsTrue, subst, arith}
 use Rattle.std.specs.Prelude.{if◌then◌else◌}
 use Rattle.host_net.specs.declared.packet.Packet.{Packet}
@@ -21,7 +21,7 @@ walked_fits : (b : Bool) (t : Target) (d : ℕ) → step_of b t ≡ Walks d → 
 walked_fits false t d is = cc
 walked_fits true t d is = refl
 
--- ---- the chains that are left
+-- ---- the remaining chains
 
 rules_from : (places : Place → Bool) (n : ℕ) (xs : List Chain) (c : ℕ) → rules_of (without_from places n xs) c ≡ without_rules places (n + c) 0 (rules_of xs c)
 rules_from places n [] c = refl
@@ -36,14 +36,14 @@ policy_left places n [] c = refl
 policy_left places n (x ∷ xs) zero = refl
 policy_left places n (x ∷ xs) (suc c) = policy_left places (n + 1) xs c
 
--- ---- the outcome of the rules that are left
+-- ---- the outcome of the remaining rules
 
--- a rule that goes on is left, or it is not
+-- A rule that continues remains, or it is removed.
 passed_left : (fits : Rule → Bool) (chains : List Chain) (r : Rule) (rs : List Rule) (o : Option Verdict) (b : Bool) → step_of (fits r) r.target ≡ GoesOn → Gives fits chains rs o → Gives fits chains (if b then rs else r ∷ rs) o
 passed_left fits chains r rs o true step g = g
 passed_left fits chains r rs o false step g = goes_on step g
 
--- a rule that is met is left
+-- A rule that is met remains.
 met_left : (fits : Rule → Bool) (chains : List Chain) (r : Rule) (rs : List Rule) (o : Option Verdict) (b : Bool) → (b ≡ true → ⊥) → Gives fits chains (r ∷ rs) o → Gives fits chains (if b then rs else r ∷ rs) o
 met_left fits chains r rs o true off g = absurd (off refl)
 met_left fits chains r rs o false off g = g
@@ -80,7 +80,7 @@ verdict_left places chains p state v none has = record {
   verdict = has.verdict ∙ ap (λ (policy : Option Policy). verdict_by policy has.outcome) (sym (policy_left places 0 chains 1));
 }
 
--- without rules that it does not meet, a packet has the same verdict
+-- A packet has the same verdict without rules that it does not meet.
 pub same_verdicts : (places : Place → Bool) (chains : List Chain) (p : Packet) (state : CtState) → EachGivesOne chains → MeetsNone places chains p state
     → (v : Verdict) → (HasVerdict chains p state v ↔ HasVerdict (without_places places chains) p state v)
 same_verdicts places chains p state each none v = (

@@ -1,4 +1,4 @@
--- What stands at a place of a list after a write and a push; and what it contains.
+-- The element at an index of a list after a write and a push, and membership in it.
 use Rattle.std.proofs.Common.{◌≡◌, ℕ, zero, suc, ◌<◌, ◌∙◌, ◌⊎◌, inl, inr, ap, refl, List, [], ◌∷◌, ◌++◌, Some, length, set, replicate, arith}
 use Rattle.std.specs.Prelude.{slice_get, Contains}
 use Rattle.std.proofs.lemmas.Option.{slice_get-get_or, slice_get_within, get_or_from_slice_get, same_Some}

@@ -1,4 +1,4 @@
--- Chains whose jumps all go to greater numbers have no loop.
+-- Chains whose jumps all go to greater numbers have no cycle.
 use Rattle.std.proofs.Common.{◌≡◌, ℕ, zero, suc, ◌+◌, ◌<◌, refl, subst, Bool, true, ◌&&◌, List, [], ◌∷◌, arith, IsTrue}
 use Rattle.std.specs.Prelude.{Contains, nat_lt}
 use Rattle.std.specs.List.{list_all, cons_option}
@@ -12,12 +12,12 @@ use Rattle.ipt_rules.specs.declared.rule.Target.TheVariants.{Accept, Drop, Rejec
 use Rattle.ipt_rules.specs.Chain.{Chain, rules_of}
 use Rattle.ipt_rules.specs.Loops.{jump_of, jumps_of, jumps_from, LeadsAlong, HasNoLoop}
 
--- a jump of chain c goes to a greater number
+-- A jump of chain c goes to a greater number.
 abbrev pub goes_up : ℕ → Target → Bool
 goes_up c (Jump d) = nat_lt c d
 goes_up c _ = true
 
--- jumps go to greater numbers, where the chains are numbered from c on
+-- Jumps go to greater numbers. The chains are numbered from c on.
 abbrev pub jumps_go_up : ℕ → List Chain → Bool
 jumps_go_up c [] = true
 jumps_go_up c (x ∷ xs) = list_all (λ r. goes_up c r.target) x.rules && jumps_go_up (c + 1) xs

@@ -1,4 +1,5 @@
--- Walks along jumps: they are put together, they stay in what jumps do not leave, and where each chain that is left jumps to one that is left some jumps lead back.
+-- Paths along jumps: their concatenation; they remain in a set that jumps do not leave; and if each chain of a set jumps to a
+-- chain of the set, some chain is on a cycle.
 use Rattle.std.proofs.Common.{◌≡◌, ℕ, zero, suc, ◌+◌, ◌<◌, ◌≤◌, ◌∙◌, inl, inr, sym, ap, refl, Bool, true, false, List, [], ◌∷◌, ◌++◌, Option, Some, None, length, arith, subst, IsTrue, ◌↔◌}
 use Rattle.std.specs.Prelude.{Contains, is_some}
 use Rattle.std.proofs.lemmas.Bool.{cases_lt}
@@ -20,11 +21,11 @@ stays_along : (next : ℕ → List ℕ) (P : ℕ → Type 0) → ((c d : ℕ) �
 stays_along next P step c [] d p here = subst P here p
 stays_along next P step c (x ∷ xs) d p (jump, walk) = stays_along next P step x xs d (step c x p jump) walk
 
--- what holds after each jump of c, and is kept by jumps, holds wherever jumps lead from c
+-- A property that holds after each jump of c, and that jumps preserve, holds wherever jumps lead from c.
 pub stays : (next : ℕ → List ℕ) (P : ℕ → Type 0) → ((c d : ℕ) → P c → Contains (next c) d → P d) → (c d : ℕ) → ((x : ℕ) → Contains (next c) x → P x) → Leads next c d → P d
 stays next P step c d first (x, xs, (jump, walk)) = stays_along next P step x xs d (first x jump) walk
 
--- jumps lead from a chain of an order to chains before it, and so not back
+-- Jumps lead from a chain of an order to chains before it, hence they do not lead back.
 pub leads_before : (next : ℕ → List ℕ) (count : ℕ) (order : List ℕ) (places : List (Option ℕ)) → IsOrder next count order places → (c i d : ℕ) → place_of places c ≡ Some i → Leads next c d → IsBefore places d i
 leads_before next count order places is c i d at walk =
     stays next (λ x. IsBefore places x i)
@@ -39,7 +40,7 @@ not_back next count order places is c i at walk =
     let same : b.place ≡ i = same_Some b.place i (sym b.placed ∙ at) in
     omega (arith, same, b.before)
 
--- of numbers below n each leads to another of them: then some leads back
+-- If each of some numbers below n leads to another of them, one of them leads back to itself.
 pub some_back : (E : ℕ → ℕ → Type 0) → ((a b c : ℕ) → E a b → E b c → E a c) → ((c : ℕ) → E c c → ⊥) → (n : ℕ) (left : ℕ → Type 0) → ((c : ℕ) → left c → c < n) → ((c : ℕ) → left c → (d : ℕ) × left d × E c d) → (c : ℕ) → left c → ⊥
 some_back E then none zero left below goes c is = let b : c < 0 = below c is in omega (arith, b)
 some_back E then none (suc n) left below goes c is =
@@ -75,7 +76,7 @@ some_back E then none (suc n) left below goes c is =
       | inr up ↦ let more = from_last c is up in (more.0, more.1)
     ]
 
--- a test that says whether jumps lead back, of the next number
+-- One more number that a test finds on no cycle.
 pub none_more : (next : ℕ → List ℕ) (n : ℕ) (back : Bool) → ((d : ℕ) → d < n → Leads next d d → ⊥) → IsTrue back ↔ Leads next n n → back ≡ false → (d : ℕ) → d < n + 1 → Leads next d d → ⊥
 none_more next n back none says not_back d low walk = elim (cases_lt d n) [
   | inl lower ↦ none d lower walk
@@ -84,14 +85,14 @@ none_more next n back none says not_back d low walk = elim (cases_lt d n) [
       let yes : back ≡ true = says.1 (subst (λ (x : ℕ). Leads next x x) same walk) in cc
 ]
 
--- of the numbers below n none leads back: then no other than those from n on
+-- If none of the numbers below n leads back to itself, each number that does is at least n.
 pub least_from : (next : ℕ → List ℕ) (n : ℕ) → ((d : ℕ) → d < n → Leads next d d → ⊥) → (d : ℕ) → Leads next d d → n ≤ d
 least_from next n none d walk = elim (cases_lt d n) [
   | inl low ↦ absurd (none d low walk)
   | inr up ↦ up
 ]
 
--- nothing leads from a number past the table
+-- Nothing leads from a number past the table.
 pub none_past : (table : List (List ℕ)) (c d : ℕ) → length table ≤ c → Leads (row_of table) c d → ⊥
 none_past table c d past (x, xs, (jump, walk)) =
     let none : row_of table c ≡ [] = ap row_in (slice_get_past table c past) in

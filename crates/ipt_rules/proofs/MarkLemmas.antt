@@ -1,4 +1,4 @@
--- A mark that is set is set, and no other is.
+-- Setting a mark sets this mark and no other.
 use Rattle.std.proofs.Common.{◌≡◌, ◌⊎◌, inl, inr, ℕ, zero, suc, ◌<◌, ◌∙◌, sym, ap, refl, Bool, true, false, List, [], ◌∷◌, Option, length, get_or, map, set, arith}
 use Rattle.std.specs.Prelude.{slice_get, IsTrue, IfOk, Result, Ok, Err}
 use Rattle.std.specs.Option.{unwrap_or, option_map_or}
@@ -49,7 +49,7 @@ module _ (marks : List (List Bool)) (place : Place) (low : place.rule < length (
   row_other : (c : ℕ) → (c ≡ place.chain → ⊥) → marks_of (with_mark marks place) c ≡ marks_of marks c
   row_other c other = ap row_in (get_set_other marks place.chain c (set (marks_of marks place.chain) place.rule true) other)
 
-  -- as many marks as before
+  -- The number of marks is unchanged.
   long_row : (c : ℕ) → length (marks_of (with_mark marks place) c) ≡ length (marks_of marks c)
   long_row c = elim (cases_eq c place.chain) [
     | inl same ↦
@@ -65,7 +65,7 @@ module _ (marks : List (List Bool)) (place : Place) (low : place.rule < length (
   same_place : (other : Place) → other.chain ≡ place.chain → other.rule ≡ place.rule → other ≡ place
   same_place other chain rule = λ i. record { chain = chain i; rule = rule i }
 
-  -- in the row that has changed
+  -- In the changed row.
   marked_row : (other : Place) → other.chain ≡ place.chain → (other.rule ≡ place.rule → ⊥) → is_marked (with_mark marks place) other ≡ is_marked marks other
   marked_row other same apart =
       ap (λ (c : ℕ). at_in (slice_get (marks_of (with_mark marks place) c) other.rule)) same ∙ ap (λ (row : List Bool). at_in (slice_get row other.rule)) row_same
@@ -89,7 +89,7 @@ module _ (marks : List (List Bool)) (place : Place) (low : place.rule < length (
   pub mark_only : (other : Place) → IsTrue (is_marked (with_mark marks place) other) → IsTrue (is_marked marks other) ⊎ (other ≡ place)
   mark_only other on = elim (marked_by other) [ inl same ↦ inr same | inr equal ↦ inl (sym equal ∙ on) ]
 
--- ---- a mark if the rule fits
+-- ---- a mark if the rule matches
 
 module _ (marks : List (List Bool)) (place : Place) (low : place.rule < length (marks_of marks place.chain)) where
   pub long_if : (b : Bool) (c : ℕ) → length (marks_of (with_mark_if b marks place) c) ≡ length (marks_of marks c)
@@ -108,7 +108,7 @@ module _ (marks : List (List Bool)) (place : Place) (low : place.rule < length (
   only_if false other on = inl on
   only_if true other on = elim (mark_only marks place low other on) [ inl old ↦ inl old | inr same ↦ inr (refl, same) ]
 
--- ---- the rows as the code has them
+-- ---- the rows in the form of the code
 
 row_there_of : {A : Type 0} (rows : List A) (f : A → List Bool) (c n : ℕ) → n < length (marks_of (map f rows) c) → c < length rows
 row_there_of [] f c n low = absurd (omega (arith, low))

@@ -1,4 +1,4 @@
--- A chain gives one outcome at most, from each place, and so a packet has one verdict at most.
+-- A chain has at most one outcome from each index, hence a packet has at most one verdict.
 use Rattle.std.proofs.Common.{◌≡◌, ℕ, List, Bool, refl, sym, ap, ◌∙◌, Option, Some, None, subst}
 use Rattle.host_net.specs.declared.packet.Packet.{Packet}
 use Rattle.host_net.specs.declared.packet.CtState.{CtState}

@@ -1,4 +1,4 @@
--- The walks that wait for a chain, and what they mark.
+-- The stack of traversals for a chain, and the rules that they mark.
 use Rattle.std.proofs.Common.{◌≡◌, inl, inr, ℕ, zero, suc, ◌∙◌, sym, refl, Bool, true, false, List, [], ◌∷◌, ◌++◌, Some, None, length, set, replicate, subst}
 use Rattle.std.specs.Prelude.{slice_get}
 use Rattle.std.proofs.lemmas.Bool.{cases_eq}
@@ -15,7 +15,7 @@ use Rattle.ipt_rules.proofs.Gets.{get_front, get_last, get_pushed}
 use Rattle.ipt_rules.proofs.MeetsLaws.{meets_gives, returns_undecided, some_is}
 use Rattle.ipt_rules.proofs.WalkingLemmas.{none_returns, set_other}
 
--- A walk that waits for the chain of that number, which has its verdict.
+-- A traversal on the stack for the chain with this number, which has its verdict.
 pub record IsMarking (fits : Rule → Bool) (chains : List Chain) (number : ℕ) (marks : List (List Bool)) (w : Walk) : Type 0 where
   pub walk : IsMarkedTo fits chains marks w.chain w.from
   pub meets : MeetsFor fits chains w.chain number
@@ -26,7 +26,7 @@ pub record Marking (fits : Rule → Bool) (chains : List Chain) (number : ℕ) (
   pub returned : MarkReturning fits chains marks returning
   pub each : (i : ℕ) (w : Walk) → slice_get walks i ≡ Some w → IsMarking fits chains number marks w
 
--- the walk of a chain from its first rule
+-- The traversal of a chain from its first rule.
 begun : (fits : Rule → Bool) (chains : List Chain) (marks : List (List Bool)) (c : ℕ) → IsMarkedTo fits chains marks c 0
 begun fits chains marks c = record { meets = λ p m. m; marked = λ p m. inr m }
 
@@ -50,7 +50,7 @@ marking_at fits chains number start marks returning walks rest w same is = subst
 pub last_marking : (fits : Rule → Bool) (chains : List Chain) (number : ℕ) (start marks : List (List Bool)) (returning : List Bool) (rest : List Walk) (w : Walk) → Marking fits chains number start marks returning (rest ++ w ∷ []) → IsMarking fits chains number marks w
 last_marking fits chains number start marks returning rest w is = is.each (length rest) w (get_last rest w)
 
--- marks that were set before and behind others
+-- Marks that were set before and after others.
 pub marks_then : (fits : Rule → Bool) (chains : List Chain) (c : ℕ) (start marks new : List (List Bool)) → MarksOnly fits chains c start marks → MarksOnly fits chains c marks new → MarksOnly fits chains c start new
 marks_then fits chains c start marks new one two = record {
   kept = λ p on. two.kept p (one.kept p on);
@@ -84,7 +84,7 @@ module _ (fits : Rule → Bool) (chains : List Chain) (number : ℕ) (start old 
     only = λ p on. elim (more.only p on) [ inl before ↦ is.only.only p before | inr met ↦ inr (last.meets p met) ];
   }
 
-  -- the chain of the last walk returned
+  -- The chain of the last traversal returned.
   pub marking_ended : AllMarked fits chains new w.chain → Marking fits chains number start new (set returning w.chain true) rest
   marking_ended all = record {
     only = only_more;
@@ -95,14 +95,14 @@ module _ (fits : Rule → Bool) (chains : List Chain) (number : ℕ) (start old 
     each = front_marking;
   }
 
-  -- the last walk decided
+  -- The last traversal decided.
   pub marking_decided : (place : Place) → DecidesWalk fits chains w.chain (Some place) → AllMarked fits chains new w.chain → MarksAll fits chains new number (Some place)
   marking_decided place (met, some) all =
       let (v, has) = some_is some in
       let gives = meets_gives met refl has in
       ((last.meets place met, some), λ p m. elim (last.but v gives p m) [ inl on ↦ more.kept p on | inr inside ↦ all p inside ])
 
-  -- the last walk waits for another chain
+  -- The last traversal requires another chain.
   module _ (d n : ℕ) (asks : AsksToMark fits chains returning new w.chain d n) where
     waiting_marking : IsMarking fits chains number new (record { chain = w.chain; from = n })
     waiting_marking = record { walk = asks.walk; meets = last.meets; but = kept_but w.chain last.but }
@@ -130,7 +130,7 @@ module _ (fits : Rule → Bool) (chains : List Chain) (number : ℕ) (start old 
       ];
     }
 
--- the chain of that number returned
+-- The chain with this number returned.
 pub marking_done : (fits : Rule → Bool) (chains : List Chain) (number : ℕ) (start marks : List (List Bool)) (returning : List Bool) (walks : List Walk) → Marking fits chains number start marks returning walks
     → returns_at returning number ≡ true → Gives fits chains (rules_of chains number) None → MarksAll fits chains marks number None
 marking_done fits chains number start marks returning walks is at gives = (returns_undecided fits chains number gives, is.returned number at)

@@ -1,4 +1,4 @@
--- The walk along a chain that marks the rules that it meets.
+-- The traversal of a chain that marks the rules that it meets.
 use Rattle.std.proofs.Common.{◌≡◌, ◌⊎◌, inl, inr, ℕ, ◌+◌, ◌<◌, ◌≤◌, ◌∙◌, sym, ap, refl, Bool, true, false, List, [], ◌∷◌, Option, Some, None, length, get_or, drop, subst, arith}
 use Rattle.std.specs.Prelude.{IsTrue}
 use Rattle.std.proofs.Math.ListN.{drop_of_length-le}
@@ -18,7 +18,7 @@ use Rattle.ipt_rules.proofs.MeaningLaws.{gives_once}
 use Rattle.ipt_rules.proofs.MeetsLaws.{ended_by, ended_fits, is_some_by, same_walked, verdict_here}
 use Rattle.ipt_rules.proofs.WalkLemmas.{comes_back_here, decides_here, end_gives, ends_here, goes_on_here, jump_at, rules_at, walked_jump}
 
--- ---- what a walk meets, by its first rule
+-- ---- the rules that a traversal meets, by its first rule
 
 met_past : {fits : Rule → Bool} {chains : List Chain} {place : Place} {c n : ℕ} {r : Rule} {rs : List Rule} → step_of (fits r) r.target ≡ GoesOn → MeetsFrom fits chains place c n (r ∷ rs)
     → ((place ≡ record { chain = c; rule = n }) × (fits r ≡ true)) ⊎ MeetsFrom fits chains place c (n + 1) rs
@@ -49,7 +49,7 @@ met_none (meets_behind step back m) none = cc
 
 -- ---- along a chain
 
--- The walk of chain c came to rule n, and marked what it met.
+-- The traversal of chain c reached rule n, and marked the rules that it met.
 pub record Along (fits : Rule → Bool) (chains : List Chain) (c n : ℕ) (start marks : List (List Bool)) : Type 0 where
   pub also : GivesAlso fits chains (drop n (rules_of chains c)) (rules_of chains c)
   pub walk : IsMarkedTo fits chains marks c n
@@ -58,7 +58,7 @@ pub record Along (fits : Rule → Bool) (chains : List Chain) (c n : ℕ) (start
 pub along_first : (fits : Rule → Bool) (chains : List Chain) (c n : ℕ) (marks : List (List Bool)) → GivesAlso fits chains (drop n (rules_of chains c)) (rules_of chains c) → IsMarkedTo fits chains marks c n → Along fits chains c n marks marks
 along_first fits chains c n marks also walk = record { also = also; walk = walk; only = record { kept = λ place on. on; only = λ place on. inl on } }
 
--- The rule at a place of the rules.
+-- The rule at an index of the rules.
 abbrev pub Stands : List Rule → ℕ → Rule → Type 0
 Stands rules n r = (n < length rules) × (r ≡ get_or rules n r)
 
@@ -90,11 +90,11 @@ module _ (fits : Rule → Bool) (chains : List Chain) (c n : ℕ) (r : Rule) (st
       subst (λ (m : List (List Bool)). IsTrue (is_marked m p)) (sym put)
       (subst (λ (q : Place). IsTrue (is_marked (with_mark_if (fits r) old place) q)) (sym same) (marked_if old place low (fits r) on))
 
-  -- what the rules from here on meet, the chain meets
+  -- Each rule that the rules from here on meet is met by the chain.
   from_here : (p : Place) → MeetsFrom fits chains p c n (r ∷ others) → Meets fits chains c p
   from_here p m = so_far.walk.meets p (subst (λ (rs : List Rule). MeetsFrom fits chains p c n rs) (sym cut) m)
 
-  -- what the chain meets is marked, or the rules from here on meet it
+  -- Each rule that the chain meets is marked, or the rules from here on meet it.
   split : (p : Place) → Meets fits chains c p → IsTrue (is_marked new p) ⊎ MeetsFrom fits chains p c n (r ∷ others)
   split p m = elim (so_far.walk.marked p m) [
     | inl on ↦ inl (kept p on)
@@ -110,7 +110,7 @@ module _ (fits : Rule → Bool) (chains : List Chain) (c n : ℕ) (r : Rule) (st
     ];
   }
 
-  -- the rule ends the walk of the chain
+  -- The rule ends the traversal of the chain.
   pub all_at_end : (o : Option Verdict) → Ends o ≡ step_of (fits r) r.target → AllMarked fits chains new c
   all_at_end o step p m = elim (split p m) [
     | inl on ↦ on
@@ -126,7 +126,7 @@ module _ (fits : Rule → Bool) (chains : List Chain) (c n : ℕ) (r : Rule) (st
   pub returns_at_rule : Ends None ≡ step_of (fits r) r.target → Gives fits chains (rules_of chains c) None
   returns_at_rule step = ends_here fits chains (rules_of chains c) n r stands.0 stands.1 so_far.also None step
 
-  -- the walk goes on
+  -- The traversal continues.
   pub along_past : GoesOn ≡ step_of (fits r) r.target → Along fits chains c (n + 1) start new
   along_past step = record {
     also = goes_on_here fits chains (rules_of chains c) n r stands.0 stands.1 so_far.also step;
@@ -140,7 +140,7 @@ module _ (fits : Rule → Bool) (chains : List Chain) (c n : ℕ) (r : Rule) (st
     only = only_next;
   }
 
-  -- the rule jumps to a chain that is known to return, all of whose rules are marked
+  -- The rule jumps to a chain that is known to return, all of whose met rules are marked.
   pub along_behind : (d : ℕ) → Walks d ≡ step_of (fits r) r.target → Gives fits chains (rules_of chains d) None → AllMarked fits chains start d → Along fits chains c (n + 1) start new
   along_behind d step back all = record {
     also = comes_back_here fits chains (rules_of chains c) n r stands.0 stands.1 so_far.also d step back;
@@ -160,7 +160,7 @@ module _ (fits : Rule → Bool) (chains : List Chain) (c n : ℕ) (r : Rule) (st
     only = only_next;
   }
 
-  -- the rule jumps to a chain that is to be walked first
+  -- The rule jumps to a chain that has to be traversed first.
   pub asks_to_mark : (returning : List Bool) (d : ℕ) → Walks d ≡ step_of (fits r) r.target → c < length chains → returns_at returning d ≡ false → AsksToMark fits chains returning new c d n
   asks_to_mark returning d step there unknown = record {
     asks = record {

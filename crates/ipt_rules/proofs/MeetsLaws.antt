@@ -1,4 +1,4 @@
--- The rule that decides gives the verdict, and a packet has one decider.
+-- The verdict is the verdict of the rule that decides, and a packet has exactly one decider.
 use Rattle.std.proofs.Common.{◌≡◌, ◌↔◌, ℕ, zero, suc, ◌+◌, ◌∙◌, sym, ap, refl, Bool, true, false, List, [], ◌∷◌, Option, Some, None, drop, subst}
 use Rattle.std.specs.Prelude.{slice_get, IsSome}
 use Rattle.std.specs.Option.{option_and_then}
@@ -17,7 +17,7 @@ use Rattle.ipt_rules.specs.Meets.{MeetsFrom, meets_here, meets_later, meets_insi
 use Rattle.ipt_rules.specs.inner.OneOutcome.{EachGivesOne, HasVerdict}
 use Rattle.ipt_rules.proofs.MeaningLaws.{gives_once, verdict_once}
 
--- ---- the first of the rules that are left
+-- ---- the first of the remaining rules
 
 pub first_left : (xs : List Rule) (n : ℕ) (r : Rule) (rs : List Rule) → r ∷ rs ≡ drop n xs → slice_get xs n ≡ Some r
 first_left [] zero r rs is = cc
@@ -34,7 +34,7 @@ others_left (x ∷ xs) (suc n) r rs is = others_left xs n r rs is
 pub rest_left : (xs : List Rule) (n : ℕ) (r : Rule) (rs : List Rule) → r ∷ rs ≡ drop n xs → rs ≡ drop (n + 1) xs
 rest_left xs n r rs is = rw (add-one n) (others_left xs n r rs is)
 
--- ---- a rule that fits and has a verdict ends the walk
+-- ---- a rule that matches and has a verdict ends the traversal
 
 pub ends_by : (b : Bool) (t : Target) (v : Verdict) → b ≡ true → target_verdict t ≡ Some v → step_of b t ≡ Ends (Some v)
 ends_by false t v on is = cc
@@ -73,7 +73,7 @@ meets_gives {fits} {chains} (meets_later {c} {n} {r} {rs} step m) is has = goes_
 meets_gives (meets_inside step m) is has = decides step (meets_gives m refl has)
 meets_gives {fits} {chains} (meets_behind {c} {n} {r} {rs} step back m) is has = comes_back step back (meets_gives m (rest_left (rules_of chains c) n r rs is) has)
 
--- ---- a verdict is that of a rule that is met
+-- ---- a verdict is the verdict of a rule that is met
 
 pub record MeetsDecider (fits : Rule → Bool) (chains : List Chain) (c n : ℕ) (rs : List Rule) (v : Verdict) : Type 0 where
   pub place : Place
@@ -102,7 +102,7 @@ decider_met {fits} {chains} (comes_back {r} {rs} step back g) c n v some is =
 pub same_walked : {s : RuleStep} {c d : ℕ} → s ≡ Walks c → s ≡ Walks d → c ≡ d
 same_walked p q = cc
 
--- a chain that returns meets no rule that decides
+-- A chain that returns meets no rule that decides.
 returns_not : {fits : Rule → Bool} {chains : List Chain} {place : Place} {c d : ℕ} {s : RuleStep} {v : Verdict} → s ≡ Walks c → s ≡ Walks d → Meets fits chains c place → verdict_at chains place ≡ Some v
     → Gives fits chains (rules_of chains d) None → ⊥
 returns_not {fits} {chains} step other m has back =
@@ -138,7 +138,7 @@ pub is_some_by : {o : Option Verdict} {v : Verdict} → o ≡ Some v → IsSome 
 is_some_by {o} is = subst (λ (x : Option Verdict). IsSome x) (sym is) refl
 
 module _ (fits : Rule → Bool) (chains : List Chain) (c : ℕ) where
-  -- where a chain returns, the policy decides
+  -- If a chain returns, the policy decides.
   pub returns_undecided : Gives fits chains (rules_of chains c) None → DecidesWalk fits chains c None
   returns_undecided back place m = by (verdict_at chains place) refl
     where
@@ -155,14 +155,14 @@ module _ (fits : Rule → Bool) (chains : List Chain) (c : ℕ) where
       let (w, has') = some_is some' in
       ap (λ (x : Place). Some x) (decider_once m m' refl has has')
 
-  -- the outcome is the verdict of the decider
+  -- The outcome is the verdict of the decider.
   pub outcome_decided : (o : Option Verdict) (d : Option Place) → Gives fits chains (rules_of chains c) o → DecidesWalk fits chains c d → o ≡ option_and_then (verdict_at chains) d
   outcome_decided None None g is = refl
   outcome_decided None (Some p) g (m, some) = let (v, has) = some_is some in let e = gives_once (meets_gives m refl has) g in cc
   outcome_decided (Some v) None g is = let met = decider_met g c 0 v refl refl in let none = is met.place met.meets in let has = met.verdict in cc
   outcome_decided (Some v) (Some p) g (m, some) = let (w, has) = some_is some in gives_once g (meets_gives m refl has) ∙ sym has
 
--- the verdict of a packet is that of its decider
+-- The verdict of a packet is the verdict of its decider.
 pub decider_verdict : (chains : List Chain) (p : Packet) (state : CtState) (d : Option Place) → EachGivesOne chains → IsDecider chains p state d → HasVerdict chains p state (decided chains d)
 decider_verdict chains p state d each is =
     let one = each (matches p state) 1 0 in
@@ -189,7 +189,7 @@ has_one_decider chains p state each =
     let (d, is) = decider_of (matches p state) chains 1 one.outcome one.gives in
     record { decider = d; is = is; only = λ other also. one_decider (matches p state) chains 1 other d also is }
 
--- a packet has a verdict if and only if this is the verdict of its decider
+-- A packet has a verdict if and only if it is the verdict of its decider.
 pub verdict_is_decided : (chains : List Chain) (p : Packet) (state : CtState) → EachGivesOne chains → (v : Verdict) → (HasVerdict chains p state v ↔ ((d : Option Place) × IsDecider chains p state d × (v ≡ decided chains d)))
 verdict_is_decided chains p state each v = (
   λ has.

@@ -1,4 +1,4 @@
--- A legal name has 64 bytes at most.
+-- A legal name has at most 64 bytes.
 use Rattle.std.proofs.Common.{ℕ, ◌≤◌, IsTrue, List, length, arith}
 use Rattle.std.proofs.lemmas.Bool.Decides.{nat_tests}
 use Rattle.ipt_rules.specs.Name.{is_user_name}

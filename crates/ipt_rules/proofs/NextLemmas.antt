@@ -1,4 +1,4 @@
--- Rules that are passed over do not fit, and change nothing.
+-- Rules that are skipped do not match, and do not change the outcome.
 use Rattle.std.proofs.Common.{◌≡◌, ℕ, zero, suc, ◌+◌, ◌-◌, ◌≤◌, ◌<◌, ◌^◌, ◌∙◌, inl, inr, sym, ap, refl, subst, arith, Bool, true, false, cond, List, [], ◌∷◌, ◌++◌, Option, Some, None, length, append_assoc, get_or, drop, slice_get}
 use Rattle.std.proofs.lemmas.Bool.{and_from, and_parts, false_from_ne_true}
 use Rattle.std.proofs.lemmas.List.{drop_more}
@@ -32,7 +32,7 @@ part_fits : (part : Option AddrMatch) (a : ℕ) → address_matches part a ≡ t
 part_fits None a fits = refl
 part_fits (Some part) a fits = turned_covers part.negated part.prefix a fits
 
--- what a rule that fits asks of the addresses is so
+-- If a rule matches, its matches on the addresses hold.
 rule_covers : (packet : Packet) (state : CtState) (r : Rule) → matches packet state r ≡ true → covers_both packet.src packet.dst (ends_of r) ≡ true
 rule_covers packet state r fits =
     let (proto, ports) = and_parts (protocol_matches r.proto packet.proto) _ fits in
@@ -71,7 +71,7 @@ next_small rules from src dst (Some at) few first =
     let low = slice_get_within (all_ends rules) at first.ends first.there in
     omega (arith, all, low, few)
 
--- ---- what is passed over changes nothing
+-- ---- skipped rules do not change the outcome
 
 passes : (fits : Rule → Bool) (r : Rule) → fits r ≡ false → GoesOn ≡ step_of (fits r) r.target
 passes fits r off = sym (ap (λ (b : Bool). step_of b r.target) off)
@@ -105,7 +105,7 @@ ends_more rules all now i r e low is so_far of_r more =
     let here : all_ends (drop i rules) ≡ e ∷ rest = ap all_ends (drop_more rules i r low) ∙ ap (λ (x : Rule). ends_of x ∷ rest) (sym is) ∙ ap (λ (x : Ends). x ∷ rest) (sym of_r) in
     ap (λ (es : List Ends). es ++ rest) more ∙ append_assoc all (e ∷ []) rest ∙ ap (λ (es : List Ends). all ++ es) (sym here) ∙ so_far
 
--- a chain has no more rules than all have
+-- A chain has at most as many rules as all chains.
 pub rules_few : (xs : List Chain) (i : ℕ) (x : Chain) → i < length xs → x ≡ get_or xs i x → length x.rules ≤ rule_count xs
 rules_few [] i x low is = absurd (omega (arith, low))
 rules_few (y ∷ ys) zero x low is = let same = ap (λ (c : Chain). length c.rules) is in omega (arith, same)
@@ -124,13 +124,13 @@ indexes_more chains indexes now i x rules index low is same counted so_far new m
           subst (λ (y : Covers). IsIndexOf (all_ends (rules_of chains c)) y) last (subst (λ (rs : List Rule). IsIndexOf (all_ends rs) index) own_rules new)
     ]
 
--- a chain has no more rules than all have, also one that is not there
+-- A chain has at most as many rules as all chains, also if it does not exist.
 pub chain_few : (chains : List Chain) (c : ℕ) → length (rules_of chains c) ≤ rule_count chains
 chain_few [] c = omega arith
 chain_few (x ∷ chains) zero = omega arith
 chain_few (x ∷ chains) (suc c) = let rest = chain_few chains c in omega (arith, rest)
 
--- without an index for any chain
+-- No chain has an index.
 pub no_indexes : (indexes : List Covers) (chains : List Chain) → indexes ≡ [] → AreIndexes indexes chains
 no_indexes [] chains none = λ c index there. cc
 no_indexes (index ∷ indexes) chains none = cc

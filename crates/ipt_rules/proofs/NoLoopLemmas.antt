@@ -1,4 +1,4 @@
--- Chains that have an order have no loop: jumps lead to ever lower places.
+-- Chains that have an order have no cycle: jumps go to lower and lower positions.
 use Rattle.std.proofs.Common.{◌≡◌, ℕ, ◌∙◌, sym, ap, subst, List, [], ◌∷◌, Option, Some, length, arith, inl, inr}
 use Rattle.std.specs.Prelude.{Contains}
 use Rattle.std.proofs.lemmas.Bool.{cases_lt}

@@ -1,4 +1,4 @@
--- The order of chains as it is put together.
+-- The order of chains during its construction.
 use Rattle.std.proofs.Common.{◌≡◌, ℕ, ◌<◌, ◌≤◌, ◌∙◌, inl, inr, sym, ap, refl, false, cond, List, [], ◌∷◌, ◌++◌, Option, Some, None, length, get_or, set, replicate, arith, subst, length-append, length-set}
 use Rattle.std.specs.Prelude.{slice_get, Contains, is_some, is_none}
 use Rattle.std.proofs.lemmas.Bool.{cases_lt, cases_eq}
@@ -20,7 +20,7 @@ placed_by : (places : List (Option ℕ)) (d n : ℕ) (o : Option ℕ) → ((j : 
 placed_by places d n None low is some = absurd (some is)
 placed_by places d n (Some j) low is some = record { place = j; placed = is; before = low j is }
 
--- what has a place has one within the order
+-- A position is within the order.
 pub placed : (next : ℕ → List ℕ) (count : ℕ) (order : List ℕ) (places : List (Option ℕ)) → IsOrder next count order places → (d : ℕ) → (place_of places d ≡ None → ⊥) → IsBefore places d (length order)
 placed next count order places is d some =
     placed_by places d (length order) (place_of places d) (λ j at. slice_get_within order j d (is.there d j at)) refl some
@@ -63,7 +63,7 @@ looked_at table order places looked is c old at row ps there was same_row same_p
     now_at e k same got =
         same_Some at k (sym (get_set_same looked c at long) ∙ ap (slice_get (set looked c at)) (sym same) ∙ got)
 
--- a place that is given leaves the others theirs
+-- A new position preserves the other positions.
 module _ (places : List (Option ℕ)) (c n : ℕ) (there : c < length places) (none : place_of places c ≡ None) where
   pub own_place : place_of (set places c (Some n)) c ≡ Some n
   own_place = ap place_in (get_set_same places c (Some n) there)
@@ -146,11 +146,11 @@ nothing_yet table count more order places looked few same also no_order no_place
     (subst (λ (p : List (Option ℕ)). IsPartOrder table [] p looked) (sym (no_places ∙ ap (λ (n : ℕ). replicate n None) same))
     (subst (λ (q : List ℕ). IsPartOrder table [] (replicate (length table) None) q) (sym (no_looked ∙ ap (λ (n : ℕ). replicate n 0) also)) (nothing table few)))
 
--- the chains below n that have no place are stuck
+-- The chains below n that have no position are stuck.
 abbrev pub StuckBelow : List (List ℕ) → List (Option ℕ) → ℕ → Type 0
 StuckBelow table places n = (c : ℕ) → c < n → place_of places c ≡ None → IsStuck table places c
 
--- the same with the values of the code
+-- The same in terms of the values of the code.
 pub put_at : (table : List (List ℕ)) (order : List ℕ) (places : List (Option ℕ)) (looked : List ℕ) (c at n : ℕ) (new : List ℕ) → IsPartOrder table order places (set looked c at) → c < length table → place_of places c ≡ None → at ≡ length (row_of table c) → n ≡ length order → new ≡ order ++ c ∷ [] → IsPartOrder table new (set places c (Some n)) (set looked c at)
 put_at table order places looked c at n new is there none all place pushed =
     let got : slice_get (set looked c at) c ≡ Some at = get_set_same looked c at (omega (arith, there, is.all_looked, length-set looked c at)) in

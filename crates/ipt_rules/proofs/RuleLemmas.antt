@@ -1,4 +1,4 @@
--- Where a rule stands among the rules of all chains.
+-- The index of a rule among the rules of all chains.
 use Rattle.std.proofs.Common.{◌≡◌, ℕ, zero, suc, ◌+◌, ◌-◌, ◌<◌, ◌≤◌, ◌∙◌, inl, inr, sym, ap, refl, List, [], ◌∷◌, ◌++◌, Some, length, get_or, take, drop, arith, length-append, take-append-drop}
 use Rattle.std.specs.Prelude.{slice_get}
 use Rattle.std.proofs.lemmas.Bool.{cases_lt}
@@ -17,12 +17,12 @@ pub length-all_rules : (chains : List Chain) → length (all_rules chains) ≡ r
 length-all_rules [] = refl
 length-all_rules (x ∷ xs) = omega (arith, length-append x.rules (all_rules xs), length-all_rules xs)
 
--- the chain of a rule is there
+-- The chain of a rule exists.
 pub some_chain : (chains : List Chain) (number : ℕ) → number < length (all_rules chains) → 0 < length chains
 some_chain [] number there = absurd (omega arith)
 some_chain (x ∷ xs) number there = omega arith
 
--- the rules of the last chain that begins at the number or before it reach beyond it
+-- The rules of the last chain that begins at the number or before it extend beyond the number.
 pub within_chain : (chains : List Chain) (starts : List ℕ) (place number : ℕ) (x : Chain) → starts ≡ starts_from 0 chains → place < length chains
     → x ≡ get_or chains place x → get_or starts place 0 ≤ number → (place + 1 < length chains → number < get_or starts (place + 1) 0)
     → number < length (all_rules chains) → number - get_or starts place 0 < length x.rules
@@ -40,7 +40,7 @@ within_chain chains starts place number x is here at begun last there =
     all_before (y ∷ ys) zero h = absurd (omega arith)
     all_before (y ∷ ys) (suc n) h = ap (λ (m : ℕ). length y.rules + m) (all_before ys n (omega arith))
 
--- it stands so far behind the start of its chain
+-- The rule is at this offset from the start of its chain.
 pub rule_there : (chains : List Chain) (starts : List ℕ) (place number : ℕ) (x : Chain) (rules : List Rule) (r : Rule) → starts ≡ starts_from 0 chains
     → place < length chains → x ≡ get_or chains place x → rules ≡ x.rules → get_or starts place 0 ≤ number
     → number - get_or starts place 0 < length rules → r ≡ get_or rules (number - get_or starts place 0) r → slice_get (all_rules chains) number ≡ Some r

@@ -1,4 +1,4 @@
--- How what rules say composes: along `++` and `flat_map`, and through a jump.
+-- Composition of the outcomes of blocks: along `++` and `flat_map`, and through a jump.
 use Rattle.std.proofs.Common.{◌≡◌, ℕ, ◌∙◌, sym, ap, refl, Bool, true, false, List, [], ◌∷◌, ◌++◌, Option, Some, None, subst, append_assoc, append-nil}
 use Rattle.std.specs.Prelude.{if◌then◌else◌}
 use Rattle.std.specs.List.{flat_map}
@@ -18,11 +18,11 @@ module _ (fits : Rule → Bool) (chains : List Chain) where
   regrouped xs ys rest o g =
       subst (λ (rs : List Rule). Gives fits chains rs o) (sym (append_assoc xs ys rest)) g
 
-  -- no rules leave every packet to what follows
+  -- An empty block leaves every packet to the rules that follow.
   pub says_none : Says fits chains [] None
   says_none rest o g = g
 
-  -- rules after rules: the first that have a verdict give it
+  -- A block after a block: the first block that has a verdict decides.
   pub says_append : (xs ys : List Rule) (a b : Option Verdict) → Says fits chains xs a → Says fits chains ys b → Says fits chains (xs ++ ys) (option_or a b)
   says_append xs ys None None first second =
       λ rest o g. regrouped xs ys rest o (first (ys ++ rest) o (second rest o g))
@@ -38,7 +38,7 @@ module _ (fits : Rule → Bool) (chains : List Chain) where
   one_said r v target true is = λ rest. ends (step_at r true (Ends (Some v)) is target)
   one_said r v target false is = λ rest o g. goes_on (step_at r false GoesOn is refl) g
 
-  -- a rule that ends its chain with a verdict, where it fits
+  -- A rule that ends its chain with a verdict, if it matches.
   pub says_one : (r : Rule) (v : Verdict) → step_of true r.target ≡ Ends (Some v) → Says fits chains (r ∷ []) (if fits r then Some v else None)
   says_one r v target = one_said r v target (fits r) refl
 
@@ -49,7 +49,7 @@ module _ (fits : Rule → Bool) (chains : List Chain) where
       λ rest. decides (step_at r true (Walks c) is (ap (step_of true) target)) walked
   jump_said r c o target walked false is = λ rest p g. goes_on (step_at r false GoesOn is refl) g
 
-  -- a jump says what its chain gives, where it fits
+  -- A jump has the outcome of its chain, if the rule matches.
   pub says_jump : (r : Rule) (c : ℕ) (o : Option Verdict) → r.target ≡ Jump c → Gives fits chains (rules_of chains c) o → Says fits chains (r ∷ []) (if fits r then o else None)
   says_jump r c o target walked = jump_said r c o target walked (fits r) refl
 
@@ -58,14 +58,14 @@ module _ (fits : Rule → Bool) (chains : List Chain) where
   says_flat_map rules said each (x ∷ xs) =
       says_append (rules x) (flat_map rules xs) (said x) (first_said said xs) (each x) (says_flat_map rules said each xs)
 
-  -- a whole chain gives what its rules say
+  -- A whole chain has the outcome of its rules as a block.
   pub gives_said : (rules : List Rule) (o : Option Verdict) → Says fits chains rules o → Gives fits chains rules o
   gives_said rules None said =
       subst (λ (rs : List Rule). Gives fits chains rs None) (append-nil rules) (said [] None at_end)
   gives_said rules (Some v) said =
       subst (λ (rs : List Rule). Gives fits chains rs (Some v)) (append-nil rules) (said [])
 
--- the verdict, where it is known what the rules of the built-in chain say
+-- The verdict, given the outcome of the rules of the built-in chain as a block.
 pub verdict_said : (chains : List Chain) (c : ℕ) (packet : Packet) (state : CtState) (o : Option Verdict) → Says (matches packet state) chains (rules_of chains c) o → HasVerdictIn chains c packet state (verdict_by (policy_of chains c) o)
 verdict_said chains c packet state o said =
     record { outcome = o; gives = gives_said (matches packet state) chains (rules_of chains c) o said; verdict = refl }

@@ -1,4 +1,4 @@
--- The search along jumps: what is marked is what jumps lead to.
+-- The search along jumps: the marked numbers are the numbers that jumps lead to.
 use Rattle.std.proofs.Common.{◌≡◌, ℕ, ◌+◌, ◌<◌, ◌∙◌, ◌⊎◌, inl, inr, sym, ap, refl, Bool, true, false, cond, not, List, [], ◌∷◌, ◌++◌, Some, length, get_or, set, take, replicate, arith, subst, length-append, length-set, IsTrue, ◌↔◌}
 use Rattle.std.specs.Prelude.{slice_get, Contains}
 use Rattle.std.proofs.lemmas.List.{take_more}
@@ -14,7 +14,7 @@ use Rattle.ipt_rules.proofs.LoopLemmas.{leads_once, leads_then, stays}
 pub contains_none : {X : Type 0} (x : X) → Contains [] x → ⊥
 contains_none x (k, low, is) = omega (arith, low)
 
--- a number more that was marked
+-- One more number that was marked.
 pub visits_seen : (row : List ℕ) (seen : List Bool) (left : List ℕ) (now : List Bool) (rest : List ℕ) → Visits row seen left now rest → (x : ℕ) → IsSet now x → Visits (row ++ x ∷ []) seen left now rest
 visits_seen row seen left now rest is x here = record {
   long = is.long;
@@ -29,7 +29,7 @@ visits_seen row seen left now rest is x here = record {
   fresh = λ d h. elim (is.fresh d h) [ inl old ↦ inl old | inr new ↦ inr (Contains-append_left row (x ∷ []) d new) ];
 }
 
--- a number more that was not
+-- One more number that was not marked.
 pub visits_new : (row : List ℕ) (seen : List Bool) (left : List ℕ) (now : List Bool) (rest : List ℕ) → Visits row seen left now rest → (x : ℕ) → x < length now → get_or now x false ≡ false → Visits (row ++ x ∷ []) seen left (set now x true) (rest ++ x ∷ [])
 visits_new row seen left now rest is x there unset = record {
   long = length-set now x true ∙ is.long;
@@ -62,7 +62,8 @@ visits_new row seen left now rest is x there unset = record {
       | inr other ↦ get_set_other now x d true other ∙ h
     ]
 
--- what is marked was reached from the start, and the jumps of what is marked go to what is marked, but where they are still to be gone along
+-- The marked numbers are reachable from the start, and the jumps of a marked number go to marked numbers unless the number is
+-- on the work list.
 pub record IsSearch (next : ℕ → List ℕ) (start : ℕ) (seen : List Bool) (left : List ℕ) : Type 0 where
   pub reached : (d : ℕ) → IsSet seen d → Leads next start d
   pub first : (d : ℕ) → Contains (next start) d → IsSet seen d
@@ -112,14 +113,14 @@ search_done next start seen left empty is d walk =
     ])
     start d is.first walk
 
--- what is marked when the search is over
+-- The marked numbers when the search is over.
 pub search_says : (next : ℕ → List ℕ) (start : ℕ) (seen : List Bool) (left : List ℕ) → left ≡ [] → IsSearch next start seen left → (d : ℕ) (b : Bool) → d < length seen → b ≡ get_or seen d b → IsTrue b ↔ Leads next start d
 search_says next start seen left empty is d b there read = (
   λ yes. is.reached d (slice_get_read seen (length seen) d b refl there read ∙ ap (λ (v : Bool). Some v) yes),
   λ walk. same_Some b true (sym (slice_get_read seen (length seen) d b refl there read) ∙ search_done next start seen left empty is d walk),
 )
 
--- one number more of a row, as the code goes along it
+-- One more number of a row, in the form of the code.
 pub row_new : (row : List ℕ) (i : ℕ) (seen : List Bool) (left : List ℕ) (now : List Bool) (rest : List ℕ) (new : List Bool) (then : List ℕ) (b : Bool) → i < length row → Visits (take i row) seen left now rest → get_or row i 0 < length now → b ≡ get_or now (get_or row i 0) b → b ≡ false → new ≡ set now (get_or row i 0) true → then ≡ rest ++ get_or row i 0 ∷ [] → Visits (take (i + 1) row) seen left new then
 row_new row i seen left now rest new then b low is there read unset set_now pushed =
     let clear : get_or now (get_or row i 0) false ≡ false = sym (subst (λ (v : Bool). v ≡ get_or now (get_or row i 0) v) unset read) in

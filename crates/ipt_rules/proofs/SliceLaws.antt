@@ -1,4 +1,4 @@
--- A slice gives each packet of its box the outcome of the chains that it was made of.
+-- For each packet of its box, a slice has the outcome of the chains that it was made of.
 use Rattle.std.proofs.Common.{◌≡◌, ◌⊎◌, ◌↔◌, inl, inr, ℕ, zero, suc, ◌+◌, ◌<◌, ◌≤◌, Bool, true, false, ◌&&◌, List, [], ◌∷◌, ◌++◌, Option, Some, None, length, drop, get_or, refl, sym, ap, subst, ◌∙◌, arith}
 use Rattle.std.specs.Prelude.{Contains, slice_get}
 use Rattle.std.specs.List.{cons_option, list_all}
@@ -27,7 +27,7 @@ use Rattle.ipt_rules.proofs.BuildLemmas.{chains_at}
 use Rattle.ipt_rules.proofs.MeaningLaws.{verdict_once}
 use Rattle.ipt_rules.proofs.WalkLemmas.{each_gives_one, later_jump, rules_at, walked_jump}
 
--- ---- slices of chains, one by one
+-- ---- slices of single chains
 
 pub slices_long : (b : PacketBox) (marks : List Bool) (n : ℕ) (xs ys : List Chain) → AreSlices b marks n xs ys → length ys ≡ length xs
 slices_long b marks n [] [] are = refl
@@ -60,7 +60,7 @@ no_rules : (b : PacketBox) (marked : Bool) → IsThinned b marked [] []
 no_rules b true = thin_end
 no_rules b false = refl
 
--- the rules of chain c
+-- The rules of chain c.
 pub slice_at : (b : PacketBox) (marks : List Bool) (n : ℕ) (xs ys : List Chain) (c : ℕ) → AreSlices b marks n xs ys → IsThinned b (returns_at marks (n + c)) (rules_of xs c) (rules_of ys c)
 slice_at b marks n [] [] c are = no_rules b (returns_at marks (n + c))
 slice_at b marks n [] (y ∷ ys) c are = absurd are
@@ -180,7 +180,7 @@ module _ (b : PacketBox) (p : Packet) (inside : IsIn b p) (state : CtState) (mar
     verdict = is.verdict ∙ ap (λ (policy : Option Policy). verdict_by policy is.outcome) (slice_policy b marks 0 xs ys 1 are);
   }
 
--- the slice has the verdicts of the chains
+-- The slice has the verdicts of the chains.
 pub same_verdicts : (b : PacketBox) (marks : List Bool) (xs ys : List Chain) → AreSlices b marks 0 xs ys → chains_stay marks ys ≡ true → returns_at marks 1 ≡ true → HasRanking ys
     → HaveSameVerdicts b xs ys
 same_verdicts b marks xs ys are stay there ranking p inside state v = (
@@ -191,7 +191,7 @@ same_verdicts b marks xs ys are stay there ranking p inside state v = (
   (λ is. verdict_slice b p inside state marks xs ys are stay v there is),
 )
 
--- ---- slices as they are made
+-- ---- the construction of slices
 
 append_one : {X : Type 0} (xs : List X) (x : X) (ys : List X) → (xs ++ x ∷ []) ++ ys ≡ xs ++ x ∷ ys
 append_one [] x ys = refl
@@ -201,7 +201,7 @@ append_none : {X : Type 0} (xs : List X) → xs ++ [] ≡ xs
 append_none [] = refl
 append_none (z ∷ xs) = ap (λ zs. z ∷ zs) (append_none xs)
 
--- what is left to thin makes the thinned rules whole
+-- The thinned rules followed by any thinning of the remaining rules are a thinning of all rules.
 abbrev pub ThinsWith : PacketBox → List Rule → ℕ → List Rule → Type 0
 ThinsWith b rules i out = (rest : List Rule) → Thins b (drop i rules) rest → Thins b rules (out ++ rest)
 

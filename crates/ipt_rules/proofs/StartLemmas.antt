@@ -1,4 +1,4 @@
--- Where the rules of each chain begin, and which line stands so far behind.
+-- The number of the first rule of each chain, and the line at an offset from it.
 use Rattle.std.proofs.Common.{◌≡◌, ℕ, zero, suc, ◌+◌, ◌-◌, ◌<◌, ◌≤◌, ◌∙◌, sym, ap, refl, List, [], ◌∷◌, ◌++◌, length, get_or, take, drop, arith, append_assoc, take-append-drop}
 use Rattle.std.specs.Prelude.{slice_get}
 use Rattle.std.specs.List.{flat_map}
@@ -40,7 +40,7 @@ count_suc [] c x h is = absurd (omega arith)
 count_suc (y ∷ ys) zero x h is = let same : length x.rules ≡ length y.rules = ap (λ (z : Chain). length z.rules) is in omega (arith, same)
 count_suc (y ∷ ys) (suc c) x h is = let rest = count_suc ys c x (omega arith) is in omega (arith, rest)
 
--- the rules before a chain, with its own
+-- The rules before a chain, together with its own rules.
 pub count_next : (xs : List Chain) (c : ℕ) (x : Chain) → c < length xs → x ≡ get_or xs c x → rule_count (take (c + 1) xs) ≡ rule_count (take c xs) + length x.rules
 count_next xs c x h is = rw (add-one c) (count_suc xs c x h is)
 
@@ -50,7 +50,7 @@ count_split [] (suc c) = omega arith
 count_split (x ∷ xs) zero = omega arith
 count_split (x ∷ xs) (suc c) = let rest = count_split xs c in omega (arith, rest)
 
--- the line that stands so far behind the start of a chain
+-- The line at an offset from the start of a chain.
 pub rest_from : (chains : List Chain) (c left : ℕ) → slice_get (rest_lines chains 0) (rule_count (take c chains) + left) ≡ slice_get (rest_lines chains c) left
 unfolding rest_lines
 rest_from chains c left =
@@ -70,7 +70,7 @@ begins chains starts c are h =
     let at = start_at 0 chains c 0 h in
     ap (λ (ys : List ℕ). get_or ys c 0) are ∙ omega (arith, at)
 
--- a line after those of the chains, from the chain that begins at its number or before it
+-- A line after the chain lines, counted from a chain that begins at its number or before it.
 pub line_from : (chains : List Chain) (starts : List ℕ) (c number : ℕ) → starts ≡ starts_from 0 chains → c < length chains → get_or starts c 0 ≤ number
     → slice_get (rest_lines chains 0) number ≡ slice_get (rest_lines chains c) (number - get_or starts c 0)
 line_from chains starts c number are h begun =

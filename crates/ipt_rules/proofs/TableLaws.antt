@@ -1,4 +1,4 @@
--- Laws of tables: chains stay a table, and stay counted, while they are put together.
+-- Lemmas on tables: chains remain a table, and remain counted, during their construction.
 use Rattle.std.proofs.Common.{◌≡◌, ℕ, zero, suc, ◌+◌, ◌<◌, ◌≤◌, inl, inr, ◌∙◌, sym, ap, refl, subst, Bool, true, false, cond, ◌&&◌, IsTrue, List, [], ◌∷◌, ◌++◌, Option, Some, None, length, arith}
 use Rattle.std.specs.Prelude.{IsSome, IsNone, slice_get, bytes_eq}
 use Rattle.std.specs.List.{list_all, position_from}
@@ -14,13 +14,13 @@ use Rattle.ipt_rules.specs.inner.RuleParts.{is_rule}
 use Rattle.ipt_rules.specs.inner.ChainTable.{name_in, policy_in, IsTable, IsChainList}
 use Rattle.ipt_rules.proofs.ChainLaws.{length-changed_at, length_added, length_with_policy, length_with_rule, rule_count_added, rule_count_with_policy, rule_count_with_rule}
 
--- a chain with a policy is there
+-- A chain with a policy exists.
 pub has_built_in : (xs : List Chain) (c : ℕ) → IsSome (policy_of xs c) → c < length xs
 has_built_in [] c h = cc
 has_built_in (x ∷ xs) zero h = omega arith
 has_built_in (x ∷ xs) (suc c) h = omega (arith, has_built_in xs c h)
 
--- a change at one chain that leaves it its name
+-- A change of one chain that preserves its name.
 module _ (change : Chain → Chain) (keeps : (x : Chain) → (change x).name ≡ x.name) where
   name_kept : (xs : List Chain) (c d : ℕ) → name_of (changed_at xs c change) d ≡ name_of xs d
   name_kept [] c d = refl
@@ -86,7 +86,7 @@ IsTable-with_rule xs c rule table =
     (λ d low some. subst IsSome (sym (policy_kept change (λ x. refl) xs c d)) some)
     (λ d high. policy_kept change (λ x. refl) xs c d) table
 
--- one chain more at the end
+-- One more chain at the end.
 get_front : (xs ys : List Chain) (d : ℕ) → d < length xs → slice_get (xs ++ ys) d ≡ slice_get xs d
 get_front [] ys d within = absurd (omega arith)
 get_front (x ∷ xs) ys zero within = refl
@@ -157,7 +157,7 @@ IsTable-added xs name legal unused table = record {
     the_last : (d : ℕ) → d < length both → length xs ≤ d → slice_get both d ≡ Some (user_chain name)
     the_last d within new = ap (slice_get both) (place d within new) ∙ get_last xs (user_chain name)
 
--- a test of all chains still holds after a change that keeps it
+-- A test of all chains still holds after a change that preserves it.
 all_changed : (p : Chain → Bool) (xs : List Chain) (c : ℕ) (change : Chain → Chain) → ((x : Chain) → p x ≡ true → p (change x) ≡ true)
     → list_all p xs ≡ true → list_all p (changed_at xs c change) ≡ true
 all_changed p [] c change keeps h = refl
@@ -168,7 +168,7 @@ all_changed p (x ∷ xs) (suc c) change keeps h =
     let parts = and_parts (p x) (list_all p xs) h in
     and_from (p x) (list_all p (changed_at xs c change)) parts.0 (all_changed p xs c change keeps parts.1)
 
--- what a test says of all rules
+-- The meaning of a test of all rules.
 abbrev AllRules : (Rule → Bool) → List Chain → Type 0
 AllRules test xs = IsTrue (list_all (λ x. list_all test x.rules) xs)
 

@@ -1,4 +1,4 @@
--- From the table of jumps to the chains: what the search finds of the one holds of the other.
+-- From the table of jumps to the chains: the result of the search on the table holds for the chains.
 use Rattle.std.proofs.Common.{◌≡◌, ℕ, zero, suc, ◌<◌, ◌≤◌, ◌∙◌, sym, ap, refl, true, not, List, [], ◌∷◌, Option, None, Some, length, arith, subst}
 use Rattle.std.specs.Prelude.{All, IfSome, IfNone}
 use Rattle.std.specs.List.{list_all, cons_option}
@@ -27,7 +27,7 @@ row_jumps (x ∷ chains) (suc c) = row_jumps chains c
 rows_are : (chains : List Chain) (table : List (List ℕ)) → table ≡ jump_table chains → row_of table ≡ jumps_from chains
 rows_are chains table is = ap row_of is ∙ fun_ext (row_jumps chains)
 
--- jumps that are known go to chains that are there
+-- Valid jumps go to existing chains.
 target_inside : (count : ℕ) (t : Target) (xs : List ℕ) → not (jumps_nowhere count t) ≡ true → All (λ d. d < count) xs → All (λ d. d < count) (cons_option (jump_of t) xs)
 target_inside count Accept xs known all = all
 target_inside count Drop xs known all = all
@@ -54,7 +54,7 @@ rows_inside chains table is known c =
     (subst (λ (rows : ℕ → List ℕ). All (λ d. d < length chains) (rows c)) (sym (rows_are chains table is))
     (jumps_inside (length chains) (rules_of chains c) (known.from c)))
 
--- where no jumps lead back every chain has its place
+-- If no chain is on a cycle, every chain has a position.
 no_stuck : (table : List (List ℕ)) (places : List (Option ℕ)) → ((c : ℕ) → All (λ d. d < length table) (row_of table c)) → StuckBelow table places (length table) → ((d : ℕ) → Leads (row_of table) d d → ⊥) → (c : ℕ) → c < length table → place_of places c ≡ None → ⊥
 no_stuck table places inside stuck none c low placeless =
     some_back (Leads (row_of table)) (leads_then (row_of table)) none (length table) (λ d. (d < length table) × (place_of places d ≡ None)) (λ d h. h.0)
@@ -85,7 +85,7 @@ loop_found chains table c is back least = record {
   least = subst (λ (rows : ℕ → List ℕ). (d : ℕ) → Leads rows d d → c ≤ d) (rows_are chains table is) least;
 }
 
--- an order of the chains, or the least to which jumps lead back
+-- An order of the chains, or the least chain that is on a cycle.
 pub loop_said : (chains : List Chain) (table : List (List ℕ)) (order : List ℕ) (places : List (Option ℕ)) (looked : List ℕ) (found : Option ℕ) → table ≡ jump_table chains → JumpsAreKnown chains → IsPartOrder table order places looked → StuckBelow table places (length table)
     → IfSome found (λ c. Leads (row_of table) c c) → IfSome found (λ c. (d : ℕ) → Leads (row_of table) d d → c ≤ d) → IfNone found ((d : ℕ) → Leads (row_of table) d d → ⊥) → IsRanked chains found
 loop_said chains table order places looked None is known part stuck back least none =

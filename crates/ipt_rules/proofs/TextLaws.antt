@@ -1,5 +1,5 @@
--- How long the text of a table is: 8 bytes a line at most, the name of a chain with what its rule asks for, and the name of another chain,
--- so 283 bytes a line for every table.
+-- The length of the text of a table. A line has at most 8 bytes, the name of a chain with the matches of its rule, and the name
+-- of another chain. Hence a line has at most 283 bytes for every table.
 use Rattle.std.proofs.Common.{◌≡◌, ◌⊎◌, ◌==◌, ◌^◌, IsTrue, sym, ℕ, zero, suc, ◌+◌, ◌*◌, ◌<◌, ◌≤◌, ◌∙◌, ap, subst, refl, inl, inr, Bool, true, false, List, [], ◌∷◌, ◌++◌, Option, Some, None, length, map, arith, length-append}
 use Rattle.std.specs.Prelude.{◌&&◌, not, nat_lt, nat_le, if◌then◌else◌, codes, decimal}
 use Rattle.std.specs.List.{flat_map, concat, list_all}
@@ -27,7 +27,7 @@ use Rattle.ipt_rules.specs.RuleParts.{names_ports}
 use Rattle.ipt_rules.specs.inner.RuleParts.{is_protocol, are_ports, is_rule, AreRules}
 use Rattle.ipt_rules.specs.Text.{newline, negation_text, address_text, protocol_part_text, module_text, ports_text, port_text, service_text, state_text, states_text, policy_text, target_text, chain_line, rule_line, rule_lines, table_line, commit_line, text_lines, text}
 
--- 1. The pieces of a line.
+-- 1. The options of a line.
 
 negation_short : (negated : Bool) → length (negation_text negated) ≤ 2
 negation_short true = omega arith
@@ -54,7 +54,7 @@ policy_short None = omega arith
 policy_short (Some Accepting) = omega arith
 policy_short (Some Dropping) = omega arith
 
--- the protocol and the ports that are asked for
+-- The protocol and the ports that a rule matches on.
 by_name : (n : ℕ) (one six other : Bool) → length (decimal n) ≤ 3
     → length (if one then codes "icmp" else if six then codes "tcp" else if other then codes "udp" else decimal n) ≤ 4
 by_name n true six other short = omega arith
@@ -96,7 +96,7 @@ port_part_short a b c d e f g h i named (Some part) fits =
     let whole = length-append (negation_text part.negated) (a ∷ b ∷ c ∷ d ∷ e ∷ f ∷ g ∷ h ∷ i ∷ ports_text part.low part.high) in
     omega (arith, whole, negation_short part.negated, ports_short part.low part.high order.0 order.1)
 
--- beside ports the protocol is named without a mark in front
+-- With ports, the protocol is named without a `!`.
 named_short : (part : ProtoMatch) (sport dport : Option PortMatch) → names_ports (Some part) ≡ true
     → are_ports (names_ports (Some part)) sport ≡ true → are_ports (names_ports (Some part)) dport ≡ true
     → (ports : Bool) → length (protocol_part_text (Some part) ++ (module_text (Some part) ports ++ (port_text (codes " --sport ") sport ++ port_text (codes " --dport ") dport))) ≤ 58
@@ -147,13 +147,13 @@ chain_line_by most chain name = simp length-append (omega (arith, name, policy_s
 pub chain_line_short : (chain : Chain) → length chain.name ≤ 64 → length (chain_line chain) ≤ 283
 chain_line_short chain name = omega (arith, chain_line_by 64 chain name)
 
--- how many bytes it takes what a rule asks for
+-- The number of bytes of the matches of a rule.
 abbrev pub asked : Rule → ℕ
 asked rule =
     length (address_text (codes " -s ") rule.src) + (length (address_text (codes " -d ") rule.dst)
     + (length (service_text rule.proto rule.sport rule.dport) + length (state_text rule.state)))
 
--- with the name of the rule's chain these are no more than so many
+-- With the name of the rule's chain, the matches have at most this number of bytes.
 abbrev pub takes_at_most : ℕ → List ℕ → Rule → Bool
 takes_at_most take name rule = nat_le (length name + asked rule) take
 
@@ -163,7 +163,7 @@ at_most n m h = grind (arith, nat_tests)
 below : (n m : ℕ) → nat_le n m ≡ true → n ≤ m
 below n m h = grind (arith, nat_tests)
 
--- ports are asked for beside a protocol alone
+-- A rule matches on ports only together with a protocol.
 nothing_asked : (proto : Option ProtoMatch) (sport dport : Option PortMatch) → proto ≡ None
     → is_protocol proto && (are_ports (names_ports proto) sport && are_ports (names_ports proto) dport) ≡ true → service_text proto sport dport ≡ []
 nothing_asked None None None none legal = refl
@@ -218,7 +218,7 @@ built_in_short chains (suc zero) table low = omega (arith, ap length table.forwa
 built_in_short chains (suc (suc zero)) table low = omega (arith, ap length table.output)
 built_in_short chains (suc (suc (suc c))) table low = absurd (omega arith)
 
--- behind the last chain there is no name
+-- There is no name after the last chain.
 pub no_name : (chains : List Chain) (c : ℕ) → length chains ≤ c → name_of chains c ≡ []
 no_name [] c past = refl
 no_name (x ∷ xs) zero past = absurd (omega arith)
@@ -233,7 +233,7 @@ name_short chains c table = elim (cases_lt c 3) [
   ]
 ]
 
--- no name in the table is longer, nor are those of the built-in chains
+-- No name in the table is longer, nor are the names of the built-in chains.
 pub record HasNames (most : ℕ) (chains : List Chain) : Type 0 where
   pub built_in : 7 ≤ most
   pub names : (c : ℕ) → length (name_of chains c) ≤ most
@@ -248,7 +248,7 @@ target_by most chains (Jump c) has = omega (arith, has.names c)
 
 -- 4. All lines.
 
--- each is no longer than a line may be
+-- No line is longer than the limit.
 abbrev AreShort : ℕ → List (List ℕ) → Type 0
 AreShort line [] = Unit {0}
 AreShort line (t ∷ ts) = (length t ≤ line) × AreShort line ts
@@ -273,7 +273,7 @@ rules_short take most chains name (r ∷ rs) has takes =
     let parts = and_parts (takes_at_most take name r) (list_all (takes_at_most take name) rs) takes in
     (rule_line_by take most chains name r (target_by most chains r.target has) parts.0, rules_short take most chains name rs has parts.1)
 
--- no rule of the chains takes more
+-- The matches of no rule of the chains have more bytes.
 abbrev pub TakeAtMost : ℕ → List Chain → Type 0
 TakeAtMost take xs = IsTrue (list_all (λ x. list_all (takes_at_most take x.name) x.rules) xs)
 
@@ -300,11 +300,11 @@ rule_line_count chains [] = refl
 rule_line_count chains (x ∷ xs) =
     length-append (rule_lines chains x) (flat_map (rule_lines chains) xs) ∙ omega (arith, length-map x.rules (rule_line chains x.name), rule_line_count chains xs)
 
--- a line for each chain and for each rule, one before them and one after them
+-- A line for each chain and for each rule, one line before them and one after them.
 pub length-text_lines : (chains : List Chain) → length (text_lines chains) ≡ length chains + rule_count chains + 2
 length-text_lines chains = simp length-append (omega (arith, length-map chains chain_line, rule_line_count chains chains))
 
--- with short names, and rules that ask for little, the lines are shorter
+-- With short names, and rules with short matches, the lines are shorter.
 pub text_short_by : (take most : ℕ) (chains : List Chain) → 7 ≤ take → HasNames most chains → TakeAtMost take chains
     → length (text chains) ≤ (8 + take + most) * (length chains + rule_count chains + 2)
 text_short_by take most chains room has takes =

@@ -1,4 +1,4 @@
--- Where a line stands in the text: after the table's line the chains, then their rules.
+-- The index of a line in the text: the chain lines follow the table line, then the rule lines follow.
 use Rattle.std.proofs.Common.{Bool, not, ◌≡◌, ℕ, zero, suc, ◌+◌, ◌-◌, ◌<◌, ◌≤◌, ◌∙◌, sym, ap, refl, true, List, [], ◌∷◌, ◌++◌, Some, length, get_or, drop, arith, append_assoc}
 use Rattle.std.specs.Prelude.{slice_get, map}
 use Rattle.std.specs.List.{flat_map, list_all}
@@ -33,7 +33,7 @@ slice_get_after (x ∷ xs) ys (suc i) h =
     let step : i - length xs ≡ suc i - suc (length xs) = omega arith in
     slice_get_after xs ys i (omega arith) ∙ ap (slice_get ys) step
 
--- the lines from the rules of chain i on
+-- The lines from the rules of chain i on.
 unfoldable pub rest_lines : List Chain → ℕ → List (List ℕ)
 rest_lines chains i = flat_map (rule_lines chains) (drop i chains) ++ commit_line ∷ []
 
@@ -78,7 +78,7 @@ jump_in chains i x rules left r jumps h is same here at =
     let all : list_all (λ s. not (jumps_nowhere (length chains) s.target)) rules ≡ true = rw read (jumps.from i) in
     target_in (length chains) r.target (all_at (λ s. not (jumps_nowhere (length chains) s.target)) rules left r all here at)
 
--- a rule passes a test that all rules pass
+-- A rule passes a test that all rules pass.
 chain_passes : (test : Rule → Bool) (xs : List Chain) (i : ℕ) (x : Chain) → list_all (λ y. list_all test y.rules) xs ≡ true → i < length xs → x ≡ get_or xs i x
     → list_all test x.rules ≡ true
 chain_passes test [] i x all h is = absurd (omega arith)
@@ -93,7 +93,7 @@ pub rule_in : (test : Rule → Bool) (chains : List Chain) (i : ℕ) (x : Chain)
 rule_in test chains i x rules left r all h is same here at =
     all_at test rules left r (ap (list_all test) same ∙ chain_passes test chains i x all h is) here at
 
--- the line of a chain stands after the table's
+-- The line of a chain is after the table line.
 pub chain_there : (chains : List Chain) (i : ℕ) (x : Chain) → i < length chains → x ≡ get_or chains i x → slice_get (text_lines chains) (i + 1) ≡ Some (chain_line x)
 chain_there chains i x h is =
     rw (add-one i)

@@ -1,4 +1,4 @@
--- The walk along a chain: what the rules that are left give, the whole chain gives.
+-- The traversal of a chain: each outcome of the remaining rules is an outcome of the whole chain.
 use Rattle.std.proofs.Common.{◌≡◌, ℕ, zero, suc, ◌+◌, ◌<◌, ◌≤◌, ◌∙◌, sym, ap, refl, Bool, true, false, List, [], ◌∷◌, Option, Some, None, length, get_or, drop, arith, subst, inl, inr}
 use Rattle.std.proofs.Math.ListN.{drop_of_length-le}
 use Rattle.std.proofs.Math.Seq.{drop-cons}
@@ -25,7 +25,7 @@ pub rules_at : (rules : List Rule) (i : ℕ) (r : Rule) → i < length rules →
 rules_at rules i r h is = rw (add-one i) (drop-cons rules i r h ∙ ap (λ y. y ∷ drop (suc i) rules) (sym is))
 
 module _ (fits : Rule → Bool) (chains : List Chain) (rules : List Rule) (i : ℕ) (r : Rule) (h : i < length rules) (is : r ≡ get_or rules i r) (also : GivesAlso fits chains (drop i rules) rules) where
-  -- what the rules from here on give, written with the first of them
+  -- The outcomes of the rules from here on, in terms of their first rule.
   here : (o : Option Verdict) → Gives fits chains (r ∷ drop (i + 1) rules) o → Gives fits chains rules o
   here o g = also.gives o (subst (λ (rs : List Rule). Gives fits chains rs o) (sym (rules_at rules i r h is)) g)
 
@@ -60,7 +60,7 @@ walked_jump true Return d step = cc
 walked_jump true Count d step = cc
 walked_jump true (Jump c) d step = cc
 
--- the rules give an outcome
+-- The rules have an outcome.
 pub record GivesSome (fits : Rule → Bool) (chains : List Chain) (rules : List Rule) : Type 0 where
   pub outcome : Option Verdict
   pub gives : Gives fits chains rules outcome
@@ -71,7 +71,7 @@ walked_gives fits chains r rs d None step walked rest =
 walked_gives fits chains r rs d (Some v) step walked rest =
     record { outcome = Some v; gives = decides step walked }
 
--- jumps of the first rule, and of those after it
+-- Jumps of the first rule, and of the rules after it.
 jump_first : (r : Rule) (rs : List Rule) (d : ℕ) (o : Option ℕ) → jump_of r.target ≡ o → o ≡ Some d → Contains (cons_option o (jumps_of rs)) d
 jump_first r rs d None is some = cc
 jump_first r rs d (Some e) is some =
@@ -92,14 +92,14 @@ dropped_jump zero rs d h = h
 dropped_jump (suc k) [] d h = h
 dropped_jump (suc k) (r ∷ rs) d h = later_jump r rs d (dropped_jump k rs d h)
 
--- a jump of the rule at a place
+-- A jump of the rule at an index.
 pub jump_at : (rules : List Rule) (i : ℕ) (r : Rule) (d : ℕ) → slice_get rules i ≡ Some r → r.target ≡ Jump d → Contains (jumps_of rules) d
 jump_at [] i r d there jump = cc
 jump_at (x ∷ rules) zero r d there jump = first_jump x rules d (ap (λ y. y.target) (same_Some x r there) ∙ jump)
 jump_at (x ∷ rules) (suc i) r d there jump = later_jump x rules d (jump_at rules i r d there jump)
 
 module _ (fits : Rule → Bool) (chains : List Chain) where
-  -- a rule in front of rules that give an outcome
+  -- A rule before rules that have an outcome.
   rule_gives : (r : Rule) (rs : List Rule) (s : RuleStep) → step_of (fits r) r.target ≡ s → ((d : ℕ) → Contains (jumps_of (r ∷ rs)) d → GivesSome fits chains (rules_of chains d)) → GivesSome fits chains rs → GivesSome fits chains (r ∷ rs)
   rule_gives r rs GoesOn step all rest = record { outcome = rest.outcome; gives = goes_on step rest.gives }
   rule_gives r rs (Ends o) step all rest = record { outcome = o; gives = ends step }
@@ -107,13 +107,13 @@ module _ (fits : Rule → Bool) (chains : List Chain) where
       let walked : GivesSome fits chains (rules_of chains d) = all d (first_jump r rs d (walked_jump (fits r) r.target d (sym step))) in
       walked_gives fits chains r rs d walked.outcome step walked.gives rest
 
-  -- rules whose jumps all go to chains that give an outcome
+  -- Rules whose jumps all go to chains that have an outcome.
   rules_give : (rs : List Rule) → ((d : ℕ) → Contains (jumps_of rs) d → GivesSome fits chains (rules_of chains d)) → GivesSome fits chains rs
   rules_give [] all = record { outcome = None; gives = at_end }
   rules_give (r ∷ rs) all =
       rule_gives r rs (step_of (fits r) r.target) refl all (rules_give rs (λ d h. all d (later_jump r rs d h)))
 
--- by the place of the chain in the order
+-- By induction on the position of the chain in the order.
 placed_gives : (fits : Rule → Bool) (chains : List Chain) (count : ℕ) (order : List ℕ) (places : List (Option ℕ)) → IsOrder (jumps_from chains) count order places → (n c i : ℕ) → i < n → place_of places c ≡ Some i → GivesSome fits chains (rules_of chains c)
 placed_gives fits chains count order places is zero c i low at = absurd (omega (arith, low))
 placed_gives fits chains count order places is (suc n) c i low at =

@@ -1,4 +1,4 @@
--- The walks of a packet: those that wait for a chain stand below it, and what is known stays so.
+-- The stack of traversals for a packet, and that known facts are preserved.
 use Rattle.std.proofs.Common.{◌≡◌, ℕ, zero, suc, ◌+◌, ◌<◌, ◌≤◌, ◌∙◌, inl, inr, sym, ap, refl, Bool, true, false, List, [], ◌∷◌, ◌++◌, Option, Some, None, cond, length, length-append, get_or, set, replicate, arith, subst}
 use Rattle.std.specs.Prelude.{slice_get, not, count_by}
 use Rattle.std.specs.Option.{unwrap_or}
@@ -35,16 +35,17 @@ one_more_returns fits chains returning c are gives k at = elim (cases_eq k c) [
 false_there : (returning : List Bool) (c : ℕ) → c < length returning → returns_at returning c ≡ false → get_or returning c false ≡ false
 false_there returning c low off = sym (ap (λ (o : Option Bool). unwrap_or o false) (slice_get-get_or returning c false low)) ∙ off
 
--- one chain more is known
+-- One more chain is known to return.
 pub fewer_unknown : (returning : List Bool) (c : ℕ) → c < length returning → returns_at returning c ≡ false → count_by not (set returning c true) + 1 ≡ count_by not returning
 fewer_unknown returning c low off =
     let step = sum_by-set (λ (b : Bool). cond (not b) 1 0) returning c true false low in
     let one : ◌≡◌ {A = ℕ} (cond (not (get_or returning c false)) 1 0) 1 = ap (λ (b : Bool). cond (not b) 1 0) (false_there returning c low off) in
     omega (arith, step, one)
 
--- ---- the walks that wait
+-- ---- the stack of traversals
 
--- a walk at a place of those that wait: its chain has not returned yet, and so low a place in the order that all waiting ones have room
+-- A traversal at an index of the stack: its chain has not returned yet, and its position in the order is low enough that the
+-- stack has capacity.
 pub record IsOpen (fits : Rule → Bool) (chains : List Chain) (order : List ℕ) (places : List (Option ℕ)) (returning : List Bool) (i : ℕ) (w : Walk) : Type 0 where
   pub walk : IsWalk fits chains w
   pub place : ℕ
@@ -52,7 +53,7 @@ pub record IsOpen (fits : Rule → Bool) (chains : List Chain) (order : List ℕ
   pub low : i + 1 + place ≤ length order
   pub unknown : returns_at returning w.chain ≡ false
 
--- a later one has a lower place in the order
+-- A later traversal has a lower position in the order.
 abbrev pub Falls : List (Option ℕ) → Walk → Walk → Type 0
 Falls places v w = (p q : ℕ) → place_of places v.chain ≡ Some p → place_of places w.chain ≡ Some q → q < p
 
@@ -60,7 +61,7 @@ pub record AreOpen (fits : Rule → Bool) (chains : List Chain) (order : List �
   pub each : (i : ℕ) (w : Walk) → slice_get walks i ≡ Some w → IsOpen fits chains order places returning i w
   pub falls : (i j : ℕ) (v w : Walk) → i < j → slice_get walks i ≡ Some v → slice_get walks j ≡ Some w → Falls places v w
 
--- the first is that of the chain that is asked for, and this has returned once none waits
+-- The first traversal is that of the requested chain, and this chain has returned once the stack is empty.
 pub record Begins (number : ℕ) (returning : List Bool) (walks : List Walk) : Type 0 where
   pub first : (w : Walk) → slice_get walks 0 ≡ Some w → w.chain ≡ number
   pub done : walks ≡ [] → returns_at returning number ≡ true
@@ -105,7 +106,7 @@ module _ (fits : Rule → Bool) (chains : List Chain) (order : List ℕ) (places
     ];
   }
 
-  -- the last one has come to its end
+  -- The last traversal has reached the end of its chain.
   pub ended_open : (rest : List Walk) (w : Walk) → AreOpen fits chains order places returning (rest ++ w ∷ []) → AreOpen fits chains order places (set returning w.chain true) rest
   ended_open rest w are = record {
     each = λ i v there.
@@ -121,9 +122,9 @@ module _ (fits : Rule → Bool) (chains : List Chain) (order : List ℕ) (places
     falls = (front_open rest w are).falls;
   }
 
--- the walk of another chain begins, and this one waits for it
+-- The traversal of another chain starts, and the current traversal remains on the stack.
 module _ (fits : Rule → Bool) (chains : List Chain) (ranking : HasRanking chains) (returning : List Bool) where
-  -- from its first rule a chain gives what it gives
+  -- From its first rule on a chain has its outcomes.
   first_walk : (c : ℕ) → c < length chains → IsWalk fits chains (record { chain = c; from = 0 })
   first_walk c there = record { there = there; within = omega arith; also = record { gives = λ o g. g } }
 
@@ -144,7 +145,7 @@ module _ (fits : Rule → Bool) (chains : List Chain) (ranking : HasRanking chai
     target : IsBefore ranking.places d own.place
     target = ranking.is.ordered.back own.place w.chain d (ranking.is.ordered.there w.chain own.place own.placed) asks.jumps
 
-    -- there is room for two
+    -- There is capacity for two.
     pub room_to_ask : length rest + 2 ≤ length ranking.order
     room_to_ask = omega (arith, own.low, target.before)
 
@@ -182,7 +183,7 @@ module _ (fits : Rule → Bool) (chains : List Chain) (ranking : HasRanking chai
         })
         below_target
 
--- ---- the first walk
+-- ---- the first traversal
 
 pub begun : (number : ℕ) (returning : List Bool) → Begins number returning (record { chain = number; from = 0 } ∷ [])
 begun number returning = record {
@@ -214,9 +215,9 @@ asked_begins number returning rest w v u same is = record {
   done = λ none. absurd (not_empty (rest ++ v ∷ []) u none);
 }
 
--- ---- a verdict is that of all that wait
+-- ---- a verdict is the verdict of the whole stack
 
--- the verdict of each walk that waits is that of the chain that is asked for
+-- The verdict of each traversal on the stack is the verdict of the requested chain.
 abbrev pub Decide : (Rule → Bool) → List Chain → ℕ → List Walk → Type 0
 Decide fits chains number walks = (i : ℕ) (w : Walk) → slice_get walks i ≡ Some w → DecidesFor fits chains w.chain number
 
@@ -242,7 +243,7 @@ module _ (fits : Rule → Bool) (chains : List Chain) (number : ℕ) where
       (pushed_decide rest v (front_decide rest w decide) (subst (λ (c : ℕ). DecidesFor fits chains c number) (sym same) last))
       (λ verdict gives. last verdict (asked verdict gives))
 
--- ---- all that holds between two steps
+-- ---- the invariant between two steps
 
 pub record Waiting (fits : Rule → Bool) (chains : List Chain) (number : ℕ) (returning : List Bool) (walks : List Walk) : Type 0 where
   pub ranking : HasRanking chains
@@ -271,7 +272,7 @@ module _ (fits : Rule → Bool) (chains : List Chain) (number : ℕ) where
     pub last_unknown : returns_at returning w.chain ≡ false
     last_unknown = last.unknown
 
-    -- the chain that is asked for has the verdict of the last walk
+    -- The requested chain has the verdict of the last traversal.
     pub last_decides : DecidesFor fits chains w.chain number
     last_decides = is.decide (length rest) w (get_last rest w)
 

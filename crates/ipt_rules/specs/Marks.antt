@@ -12,6 +12,6 @@ marks_of marks c = option_map_or (λ row. row) (slice_get marks c) []
 abbrev pub is_marked : List (List Bool) → Place → Bool
 is_marked marks place = unwrap_or (slice_get (marks_of marks place.chain) place.rule) false
 
--- The marks are those of the chains: as many for each chain as it has rules.
+-- The marks are those of the chains: each chain has as many marks as rules.
 abbrev pub AreMarksOf : List (List Bool) → List Chain → Type 0
 AreMarksOf marks chains = (c : ℕ) → length (marks_of marks c) ≡ length (rules_of chains c)

@@ -1,4 +1,4 @@
--- Which packets a rule fits (iptables(8), iptables-extensions(8) on conntrack).
+-- Whether a rule matches a packet (iptables(8), iptables-extensions(8) on conntrack).
 use Rattle.std.specs.Prelude.{ℕ, Bool, true, ◌&&◌, ◌==◌, nat_le, not, if◌then◌else◌, Option, Some, None}
 use Rattle.host_net.specs.declared.packet.Packet.{Packet}
 use Rattle.host_net.specs.declared.packet.CtState.{CtState}
@@ -10,36 +10,37 @@ use Rattle.ipt_rules.specs.declared.rule.ProtoMatch.{ProtoMatch}
 use Rattle.ipt_rules.specs.declared.rule.StateMatch.{StateMatch}
 use Rattle.ipt_rules.specs.declared.rule.Rule.{Rule}
 
--- an answer, turned round where a `!` stands before the part
+-- The result of a match, inverted if the match has a `!`.
 abbrev pub turned : Bool → Bool → Bool
 turned negated answer = if negated then not answer else answer
 
--- an address part fits where its prefix covers the address; a part that is not given fits all
+-- An address match holds if its prefix covers the address; `!` inverts it. An absent match always holds.
 abbrev pub address_matches : Option AddrMatch → ℕ → Bool
 address_matches None address = true
 address_matches (Some part) address = turned part.negated (covers part.prefix address)
 
--- a protocol part fits where the protocol is the packet's
+-- A protocol match holds if its protocol is that of the packet; `!` inverts it. An absent match always holds.
 abbrev pub protocol_matches : Option ProtoMatch → ℕ → Bool
 protocol_matches None proto = true
 protocol_matches (Some part) proto = turned part.negated (part.proto == proto)
 
--- a port part fits where the packet's port lies from its low to its high one
+-- A port match holds if the port of the packet is in the range from `low` to `high`; `!` inverts it. An absent match always
+-- holds.
 abbrev pub port_matches : Option PortMatch → ℕ → Bool
 port_matches None port = true
 port_matches (Some part) port = turned part.negated (nat_le part.low port && nat_le port part.high)
 
--- the flag of a state
+-- The flag of a state.
 abbrev pub has_state : StateMatch → CtState → Bool
 has_state part New = part.new
 has_state part Established = part.established
 
--- a state part fits where the flag of the packet's state is set
+-- A state match holds if the flag of the packet's state is set; `!` inverts it. An absent match always holds.
 abbrev pub state_matches : Option StateMatch → CtState → Bool
 state_matches None state = true
 state_matches (Some part) state = turned part.negated (has_state part state)
 
--- a rule fits a packet in a state where each of its parts does
+-- A rule matches a packet in a state if each of its matches holds.
 abbrev pub matches : Packet → CtState → Rule → Bool
 matches packet state rule =
     protocol_matches rule.proto packet.proto

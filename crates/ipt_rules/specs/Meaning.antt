@@ -1,4 +1,4 @@
--- What becomes of a packet: the walk through the chains (iptables(8), "TARGETS").
+-- The verdict on a packet: the traversal of the chains (iptables(8), "TARGETS").
 use Rattle.std.specs.Prelude.{◌≡◌, ℕ, Bool, true, false, List, [], ◌∷◌, Option, Some, None}
 use Rattle.host_net.specs.declared.packet.Packet.{Packet}
 use Rattle.host_net.specs.declared.packet.CtState.{CtState}
@@ -13,14 +13,15 @@ use Rattle.host_net.specs.declared.packet.Verdict.TheVariants.{Forward as Forwar
 use Rattle.ipt_rules.specs.Matching.{matches}
 use Rattle.ipt_rules.specs.Chain.{Chain, rules_of, policy_of}
 
--- what one rule does with a packet: it goes on to the next rule, ends its chain with an outcome, or walks another chain.
--- The outcome of a chain is a verdict, or None where it returns
+-- The step of a rule on a packet: it continues with the next rule, ends its chain with an outcome, or traverses another chain.
+-- The outcome of a chain is a verdict, or `None` if the chain returns.
 pub data RuleStep : Type 0 where
   GoesOn : RuleStep
   Ends : Option Verdict → RuleStep
   Walks : ℕ → RuleStep
 
--- what a rule does, by whether it fits: one that does not goes on, and so does one that only counts
+-- The step of a rule, by whether the rule matches. A rule that does not match continues with the next rule, as does a rule that
+-- only counts.
 abbrev pub step_of : Bool → Target → RuleStep
 step_of false target = GoesOn
 step_of true Accept = Ends (Some Forwarded)
@@ -30,8 +31,8 @@ step_of true Return = Ends None
 step_of true Count = GoesOn
 step_of true (Jump c) = Walks c
 
--- the outcome by the rules that are left: the end of a chain returns; a chain that was walked
--- decides by its verdict, and where it returns the walk goes on after the jump
+-- The outcome of the remaining rules. The end of a chain returns. A traversed chain decides by its verdict; if it returns, the
+-- traversal continues after the jump.
 pub data Gives (fits : Rule → Bool) (chains : List Chain) : List Rule → Option Verdict → Type 0 where
   at_end : Gives fits chains [] None
   goes_on : {r : Rule} {rs : List Rule} {o : Option Verdict} → step_of (fits r) r.target ≡ GoesOn
@@ -42,23 +43,23 @@ pub data Gives (fits : Rule → Bool) (chains : List Chain) : List Rule → Opti
   comes_back : {r : Rule} {rs : List Rule} {o : Option Verdict} {c : ℕ} → step_of (fits r) r.target ≡ Walks c
       → Gives fits chains (rules_of chains c) None → Gives fits chains rs o → Gives fits chains (r ∷ rs) o
 
--- what a policy does with a packet
+-- The verdict of a policy.
 abbrev pub policy_verdict : Option Policy → Verdict
 policy_verdict None = Dropped
 policy_verdict (Some Accepting) = Forwarded
 policy_verdict (Some Dropping) = Dropped
 
--- where a built-in chain returns its policy decides
+-- The verdict of a built-in chain with this outcome: if the chain returns, its policy decides.
 abbrev pub verdict_by : Option Policy → Option Verdict → Verdict
 verdict_by policy None = policy_verdict policy
 verdict_by policy (Some v) = v
 
--- the verdict of the chains on a packet in a state that comes through built-in chain c is that of c from its first rule
+-- The verdict of the chains on a packet in a state that enters built-in chain c is the verdict of c from its first rule.
 pub record HasVerdictIn (chains : List Chain) (c : ℕ) (packet : Packet) (state : CtState) (v : Verdict) : Type 0 where
   pub outcome : Option Verdict
   pub gives : Gives (matches packet state) chains (rules_of chains c) outcome
   pub verdict : v ≡ verdict_by (policy_of chains c) outcome
 
--- the chains as a filter: in that state they let a packet that is forwarded pass, or do not, by FORWARD, chain 1
+-- The chains as a filter: in a state they forward a packet through FORWARD, chain 1, or do not, as `passes` states.
 abbrev pub Passes : List Chain → CtState → Packet → Bool → Type 0
 Passes chains state packet passes = HasVerdictIn chains 1 packet state (verdict_if passes)

@@ -1,4 +1,4 @@
--- Which rules a packet meets on its walk through the chains, and which of them decides it (iptables(8), "TARGETS").
+-- The rules that a packet meets in its traversal of the chains, and the rule that decides (iptables(8), "TARGETS").
 use Rattle.std.specs.Prelude.{◌≡◌, ℕ, ◌+◌, Bool, true, IsSome, List, ◌∷◌, Option, Some, None, slice_get}
 use Rattle.std.specs.Option.{option_and_then}
 use Rattle.host_net.specs.declared.packet.Packet.{Packet}
@@ -13,9 +13,9 @@ use Rattle.ipt_rules.specs.Chain.{Chain, rules_of, policy_of}
 use Rattle.ipt_rules.specs.Matching.{matches}
 use Rattle.ipt_rules.specs.Meaning.{GoesOn, Walks, step_of, Gives, verdict_by}
 
--- The walk through rules, which are those of chain c from rule n on, meets the rule at a place: the walk comes to the
--- rule, and the rule fits. The walk leaves the rules at the first verdict; it comes to the rules of a chain that a
--- fitting rule jumps to, and goes on behind the jump if that chain returns.
+-- The traversal of rules, which are the rules of chain c from rule n on, meets the rule at a place: the traversal reaches the
+-- rule, and the rule matches. The traversal leaves the rules at the first verdict. It enters a chain that a matching rule jumps
+-- to, and continues after the jump if that chain returns.
 pub data MeetsFrom (fits : Rule → Bool) (chains : List Chain) (place : Place) : ℕ → ℕ → List Rule → Type 0 where
   meets_here : {c n : ℕ} {r : Rule} {rs : List Rule} → place ≡ record { chain = c; rule = n } → fits r ≡ true
       → MeetsFrom fits chains place c n (r ∷ rs)
@@ -27,11 +27,11 @@ pub data MeetsFrom (fits : Rule → Bool) (chains : List Chain) (place : Place) 
       → Gives fits chains (rules_of chains d) None
       → MeetsFrom fits chains place c (n + 1) rs → MeetsFrom fits chains place c n (r ∷ rs)
 
--- The walk from the first rule of chain c on meets the rule at a place.
+-- The traversal of chain c from its first rule on meets the rule at a place.
 abbrev pub Meets : (Rule → Bool) → List Chain → ℕ → Place → Type 0
 Meets fits chains c place = MeetsFrom fits chains place c 0 (rules_of chains c)
 
--- A packet that is forwarded meets the rule at a place: its walk through FORWARD, chain 1, does.
+-- A packet that is forwarded meets the rule at a place: its traversal of FORWARD, chain 1, does.
 abbrev pub IsMet : List Chain → Packet → CtState → Place → Type 0
 IsMet chains packet state = Meets (matches packet state) chains 1
 
@@ -39,7 +39,7 @@ IsMet chains packet state = Meets (matches packet state) chains 1
 abbrev pub rule_at : List Chain → Place → Option Rule
 rule_at chains place = slice_get (rules_of chains place.chain) place.rule
 
--- The verdict with which a target ends the walk.
+-- The verdict with which a target ends the traversal.
 abbrev pub target_verdict : Target → Option Verdict
 target_verdict Accept = Some Forwarded
 target_verdict Drop = Some Dropped
@@ -50,16 +50,16 @@ target_verdict _ = None
 abbrev pub verdict_at : List Chain → Place → Option Verdict
 verdict_at chains place = option_and_then (λ r. target_verdict r.target) (rule_at chains place)
 
--- What decides the walk of chain c: the rule at a place that is met and whose target is a verdict, or None, the policy,
--- if no rule that is met has such a target.
+-- The decider of the traversal of chain c: the place of a rule that is met and whose target is a verdict, or `None`, the
+-- policy, if no rule that is met has such a target.
 abbrev pub DecidesWalk : (Rule → Bool) → List Chain → ℕ → Option Place → Type 0
 DecidesWalk fits chains c None = (place : Place) → Meets fits chains c place → verdict_at chains place ≡ None
 DecidesWalk fits chains c (Some place) = Meets fits chains c place × IsSome (verdict_at chains place)
 
--- What decides a packet that is forwarded.
+-- The decider of a packet that is forwarded.
 abbrev pub IsDecider : List Chain → Packet → CtState → Option Place → Type 0
 IsDecider chains packet state = DecidesWalk (matches packet state) chains 1
 
--- The verdict of a decider on a packet that is forwarded: that of the rule, or the policy of FORWARD.
+-- The verdict of a decider on a packet that is forwarded: the verdict of the rule, or the policy of FORWARD.
 abbrev pub decided : List Chain → Option Place → Verdict
 decided chains decider = verdict_by (policy_of chains 1) (option_and_then (verdict_at chains) decider)

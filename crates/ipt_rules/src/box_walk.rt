@@ -1,5 +1,5 @@
-//! What the chains give the packets of a box, by the walk that a packet makes. The box is narrowed at
-//! each rule until this does not tell its packets apart, so that all of them make the same walk.
+//! The outcome of a chain for the packets of a box, by the traversal that a packet makes. Narrows the box at
+//! each rule until the rule no longer distinguishes its packets. Hence all of them make the same traversal.
 
 ghost use Rattle.std.specs.Prelude.{◌≡◌, ◌<◌, ◌≤◌, length, IfOk, IsOk};
 ghost use Rattle.host_net.specs.declared.packet.Packet.{Packet};
@@ -29,7 +29,7 @@ fn step_within(rule: &Rule, within: &mut PacketBox, state: CtState) -> Step
     step_by(fits, rule.target)
 }
 
-/// Goes on with a walk, by which other chains are known to return.
+/// Continues a traversal, given the other chains that are known to return.
 fn walk_within(
     chains: &[Chain],
     walk: Walk,
@@ -60,8 +60,8 @@ fn walk_within(
     Stop::Returns
 }
 
-/// What a chain gives the packets of a box from its first rule, a verdict or None where it returns.
-/// There are at most N chains, and room for D walks.
+/// Returns the outcome of a chain for the packets of a box from its first rule: a verdict, or `None` if it
+/// returns. There are at most N chains, and the stack has capacity D.
 fn outcome_among<const N: usize, const D: usize>(
     chains: &[Chain],
     number: u16,
@@ -102,7 +102,7 @@ fn outcome_among<const N: usize, const D: usize>(
     Ok(None)
 }
 
-/// What a chain gives the packets of a box from its first rule, with room for a few walks.
+/// Returns the outcome of a chain for the packets of a box from its first rule, with a small stack.
 fn outcome_soon(
     chains: &[Chain],
     number: u16,
@@ -124,7 +124,7 @@ fn outcome_soon(
     }
 }
 
-/// What a chain gives the packets of a box from its first rule.
+/// Returns the outcome of a chain for the packets of a box from its first rule.
 pub(crate) fn outcome_within(
     chains: &[Chain],
     number: u16,

@@ -1,5 +1,4 @@
-//! One chain: its head and its rules. A built-in chain has a policy, a user chain a name of its
-//! own.
+//! A chain: its head and its rules. A built-in chain has a policy, a user chain has a name.
 
 ghost use Rattle.std.specs.Prelude.{◌≡◌, ◌≤◌, ◌∷◌, [], ◌++◌, length, OnOk, OnErr, IsSome, IsTrue, Some};
 ghost use Rattle.ipt_rules.specs.inner.Addresses.{addresses_fit};
@@ -10,7 +9,7 @@ use crate::rule::{Policy, Rule};
 use std::alloc::{AllocError, Global};
 use std::marker::Model;
 
-/// What a chain line says of a chain.
+/// The head of a chain: the content of its chain line.
 #[derive(Clone, Copy)]
 pub(crate) enum Head {
     Input(Policy),
@@ -73,7 +72,7 @@ impl Model for Chain {
 }
 
 impl Chain {
-    /// A chain without rules.
+    /// Returns a chain without rules.
     pub(crate) fn new(alloc: Global, head: Head) -> Chain
         ensures { result ≡ record { name = head_name head; policy = head_policy head; rules = [] } }
     {
@@ -83,7 +82,7 @@ impl Chain {
         }
     }
 
-    /// The same chain without rules.
+    /// Returns the same chain without rules.
     pub(crate) fn emptied(&self, alloc: Global) -> Chain
         ensures { result ≡ record { name = self.now.name; policy = self.now.policy; rules = [] } }
     {
@@ -103,7 +102,7 @@ impl Chain {
         self.head.policy()
     }
 
-    /// Gives a built-in chain another policy.
+    /// Sets the policy of a built-in chain.
     pub(crate) fn set_policy(&mut self, policy: Policy)
         requires { IsSome self.old.policy }
         ensures { self.new ≡ record self.old { policy = Some policy } }
@@ -117,7 +116,7 @@ impl Chain {
         &self.rules
     }
 
-    /// Makes room for so many more rules.
+    /// Reserves capacity for additional rules.
     pub(crate) fn reserve(&mut self, rules: usize) -> Result<(), AllocError>
         ensures { self.new ≡ self.old }
     {
@@ -127,7 +126,7 @@ impl Chain {
     pub(crate) fn push(&mut self, rule: Rule) -> Result<(), AllocError>
         ensures ok { OnOk result (self.new ≡ record self.old { rules = self.old.rules ++ rule ∷ [] }) }
         ensures err { OnErr result (self.new ≡ self.old) }
-        // The addresses that it asks for are numbers of 32 bits.
+        // The addresses that the rule matches on have 32 bits.
         ensures fits { IsTrue (addresses_fit rule) }
     {
         self.rules.push(rule)?;

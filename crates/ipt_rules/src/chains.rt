@@ -1,4 +1,4 @@
-//! Chains as they are put together, one rule after another, before they are a rule set.
+//! A builder of chains: it adds rules one by one, before the chains form a rule set.
 
 ghost use Rattle.std.specs.Prelude.{◌≡◌, ◌<◌, ◌≤◌, ◌+◌, ◌^◌, ◌∷◌, [], ◌++◌, length, IfOk, OnOk, OnErr, IsNone, IfSome, IsTrue, bytes_eq};
 ghost use Rattle.std.specs.List.Sorted.{IsSearchInRange};
@@ -13,14 +13,14 @@ use crate::ruleset::{FORWARD, INPUT, OUTPUT};
 use std::alloc::{AllocError, Global};
 use std::marker::Model;
 
-/// Chains with their rules, numbered from 0: INPUT, FORWARD, OUTPUT and then the user chains in the
-/// order in which they came.
+/// Chains with their rules, numbered from 0: INPUT, FORWARD, OUTPUT and then the user chains in order of
+/// insertion.
 #[derive(Drop)]
 pub struct Chains {
     pub(crate) alloc: Global,
     pub(crate) chains: Vec<Chain>,
     pub(crate) rules: u32,
-    /// The numbers of the chains, by their names.
+    /// The numbers of the chains, sorted by name.
     by_name: Vec<u16>,
 }
 
@@ -37,7 +37,7 @@ impl Model for Chains {
 }
 
 impl Chains {
-    /// The three built-in chains, which accept what comes to their end, without rules.
+    /// Returns the three built-in chains with policy `Accept` and without rules.
     pub fn new(alloc: Global) -> Result<Chains, AllocError>
         ensures { IfOk result (λ chains. chains ≡ built_in_chains) }
     {
@@ -54,7 +54,7 @@ impl Chains {
         })
     }
 
-    /// Gives a built-in chain another policy.
+    /// Sets the policy of a built-in chain.
     pub fn set_policy(&mut self, chain: u16, policy: Policy)
         requires { chain < 3 }
         ensures { self.new ≡ with_policy self.old chain policy }
@@ -63,7 +63,7 @@ impl Chains {
         changed.set_policy(policy);
     }
 
-    /// Adds a user chain without rules, and answers its number.
+    /// Adds a user chain without rules, and returns its number.
     pub fn add(&mut self, name: ChainName) -> Result<u16, AllocError>
         requires unused { IsNone (number_of self.old name) }
         requires room { length self.old < 65536 }
@@ -78,19 +78,19 @@ impl Chains {
         Ok(number)
     }
 
-    /// The number of the chain of that name, a built-in one included.
+    /// Returns the number of the chain with this name. Finds built-in chains as well.
     pub fn find(&self, name: &[u8]) -> Option<u16>
         ensures { result ≡ number_of self.now name.now }
     {
         if let Some(number) = looked_up(&self.chains, &self.by_name, name) {
             return Some(number);
         }
-        // That no chain has the name is told by all of them.
+        // Only a comparison with all chains shows that no chain has the name.
         let number = position_of(&self.chains, name)?;
         Some(number as u16)
     }
 
-    /// Makes room for so many more rules of a chain.
+    /// Reserves capacity for `rules` additional rules of a chain.
     pub fn reserve(&mut self, chain: u16, rules: usize) -> Result<(), AllocError>
         requires { chain < length self.old }
         ensures { self.new ≡ self.old }
@@ -99,7 +99,7 @@ impl Chains {
         changed.reserve(rules)
     }
 
-    /// Adds a rule at the end of a chain.
+    /// Appends a rule to a chain.
     pub fn rule(&mut self, chain: u16, rule: Rule) -> Result<(), AllocError>
         requires there { chain < length self.old }
         requires room { rule_count self.old + 1 < 2 ^ 32 }
@@ -122,7 +122,8 @@ fn built_in_by_name(alloc: Global) -> Result<Vec<u16>, AllocError> {
     Ok(by_name)
 }
 
-fn name_at(chains: &[Chain], number: u16) -> &[u8]
+/// Returns the name of the chain with this number, or no bytes if there is none.
+pub(crate) fn name_at(chains: &[Chain], number: u16) -> &[u8]
     ensures { result.now ≡ name_of chains.now number }
 {
     match chains.get(number as usize) {
@@ -131,7 +132,7 @@ fn name_at(chains: &[Chain], number: u16) -> &[u8]
     }
 }
 
-/// Where the name stands among the numbers by name, or where it is to be put.
+/// Returns the position of the name in the sorted numbers, or the position at which to insert it.
 fn place_by_name(chains: &[Chain], by_name: &[u16], name: &[u8]) -> Result<usize, usize>
     ensures { IsSearchInRange result (length by_name.now) }
 {
@@ -147,7 +148,7 @@ fn place_for(chains: &[Chain], by_name: &[u16], name: &[u8]) -> usize
     }
 }
 
-/// The chain that the numbers by name lead to. It is compared: they are but a guide.
+/// Returns the chain that the sorted numbers lead to. Compares its name: the sorted numbers are only a hint.
 fn looked_up(chains: &[Chain], by_name: &[u16], name: &[u8]) -> Option<u16>
     ensures within { IfSome result (λ number. number < length chains.now) }
     ensures named { IfSome result (λ number. IsTrue (bytes_eq (name_of chains.now number) name.now)) }

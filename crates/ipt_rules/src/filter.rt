@@ -1,4 +1,4 @@
-//! A rule set that packets run through: what becomes of each of them.
+//! A filter: a rule set prepared to evaluate packets.
 
 ghost use Rattle.std.specs.Prelude.{◌≡◌, ◌<◌, ◌≤◌, IfOk, Some, None};
 ghost use Rattle.ipt_rules.specs.Meaning.{HasVerdictIn};
@@ -11,14 +11,14 @@ use host_net::{Covers, CtState, Packet, Verdict};
 use std::alloc::{AllocError, Global};
 use std::marker::Model;
 
-/// So many packets are run through before an index of the rules has paid.
+/// An index of the rules pays off for more packets than this number.
 const FEW_PACKETS: usize = 64;
 
-/// A rule set that packets are run through.
+/// A rule set that is prepared to evaluate packets.
 #[derive(Drop)]
 pub struct Filter<'a> {
     rules: &'a Ruleset,
-    /// An index of the addresses that the rules of each chain ask for; or none at all.
+    /// An index of the addresses that the rules of each chain match on, or no indexes at all.
     indexes: Vec<Covers>,
 }
 
@@ -35,7 +35,7 @@ impl<'a> Model for Filter<'a> {
 }
 
 impl<'a> Filter<'a> {
-    /// The filter of these rules, for about so many packets.
+    /// Returns the filter of these rules, for about this number of packets.
     pub fn of(alloc: Global, rules: &'a Ruleset, packets: usize) -> Result<Filter<'a>, AllocError>
         ensures { IfOk result (λ filter. filter ≡ rules.now) }
     {
@@ -47,22 +47,22 @@ impl<'a> Filter<'a> {
         Ok(Filter { rules, indexes })
     }
 
-    /// Its rules.
+    /// Returns its rules.
     pub fn ruleset(&self) -> &'a Ruleset
         ensures { result.now ≡ self.now }
     {
         self.rules
     }
 
-    /// What becomes of a packet that runs through FORWARD in that state.
+    /// Returns the verdict on a packet that traverses `FORWARD` in this state.
     pub fn verdict(&self, packet: &Packet, state: CtState) -> Verdict
         ensures { HasVerdict self.now packet.now state result }
     {
         self.verdict_in(FORWARD, packet, state)
     }
 
-    /// What becomes of a packet that runs through a built-in chain in that state: `INPUT`, `FORWARD`
-    /// or `OUTPUT`.
+    /// Returns the verdict on a packet that traverses a built-in chain in this state: `INPUT`, `FORWARD` or
+    /// `OUTPUT`.
     pub fn verdict_in(&self, chain: u16, packet: &Packet, state: CtState) -> Verdict
         requires { chain < 3 }
         ensures { HasVerdictIn self.now chain packet.now state result }

@@ -1,4 +1,4 @@
-//! The jumps of chains by themselves: for each chain the chains that it jumps to.
+//! The jumps of chains as a table: for each chain the chains that it jumps to.
 
 ghost use Rattle.std.specs.Prelude.{◌≡◌, ◌<◌, length, IfOk};
 ghost use Rattle.ipt_rules.specs.Loops.{jumps_of};
@@ -39,7 +39,7 @@ impl JumpTable {
         self.rows.len()
     }
 
-    /// The chains that the chain of that number jumps to.
+    /// Returns the chains that the chain with this number jumps to.
     pub(crate) fn row(&self, chain: usize) -> &[u16]
         requires { chain < length self.now }
         ensures { result.now ≡ row_of self.now chain }

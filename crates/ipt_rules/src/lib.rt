@@ -1,6 +1,5 @@
-//! Rule sets of a packet filter: chains of rules, what becomes of a packet that runs through them,
-//! and the text that iptables-restore loads. The reader of such texts and the emitter of layouts
-//! stand on this crate.
+//! Rule sets of a packet filter: chains of rules, the verdict on a packet that traverses them, and the text
+//! that iptables-restore loads. The parser of such texts and the emitter of layouts depend on this crate.
 #![tactic(auto)]
 
 mod box_walk;

@@ -1,4 +1,4 @@
-//! Which chain jumps lead back to: a search from each chain in turn.
+//! Detection of cycles of jumps: a search from each chain in order.
 
 ghost use Rattle.std.specs.Prelude.{◌≡◌, ◌<◌, ◌≤◌, ◌↔◌, ℕ, All, length, IsTrue, IfOk, IfSome, IfNone, None};
 ghost use Rattle.ipt_rules.specs.Loops.{Leads};
@@ -11,7 +11,7 @@ use crate::jumps::JumpTable;
 use crate::ranking::{Ranking, place_of, ranking_of};
 use std::alloc::{AllocError, Global};
 
-/// Marks the chains that were not, and keeps them to be gone on from.
+/// Marks the chains that were not marked, and pushes them onto the work list.
 fn visit(row: &[u16], seen: &mut Vec<bool>, left: &mut Vec<u16>) -> Result<(), AllocError>
     requires inside { All (λ d. d < length seen.old.items) row.now }
     ensures { IfOk result (λ _. Visits row.now seen.old.items left.old.items seen.new.items left.new.items) }
@@ -25,7 +25,7 @@ fn visit(row: &[u16], seen: &mut Vec<bool>, left: &mut Vec<u16>) -> Result<(), A
     Ok(())
 }
 
-/// Whether jumps lead from the chain back to it.
+/// Whether the chain is on a cycle.
 fn leads_back(alloc: Global, table: &JumpTable, chain: usize) -> Result<bool, AllocError>
     requires there { chain < length table.now }
     requires inside { (c : ℕ) → All (λ d. d < length table.now) (row_of table.now c) }
@@ -40,7 +40,7 @@ fn leads_back(alloc: Global, table: &JumpTable, chain: usize) -> Result<bool, Al
     Ok(seen[chain])
 }
 
-/// The same; a chain that has a place in the order needs no search.
+/// Whether the chain is on a cycle. A chain that has a position in the order needs no search.
 fn comes_back(
     alloc: Global,
     table: &JumpTable,
@@ -59,7 +59,7 @@ fn comes_back(
     leads_back(alloc, table, chain)
 }
 
-/// The least chain from which jumps lead back to it.
+/// Returns the least chain that is on a cycle.
 fn least_loop(
     alloc: Global,
     table: &JumpTable,
@@ -80,8 +80,8 @@ fn least_loop(
     Ok(None)
 }
 
-/// The least chain to which jumps lead back. Where there is none, the chains have an order in which
-/// each jump goes back.
+/// Returns the least chain that is on a cycle. If there is none, the chains have an order in which each jump
+/// goes to an earlier chain.
 pub(crate) fn loop_among(alloc: Global, chains: &[Chain]) -> Result<Option<u16>, AllocError>
     requires { refusal_of chains.now ≡ None }
     ensures { IfOk result (IsRanked chains.now) }

@@ -10,7 +10,7 @@ use crate::ruleset::Ruleset;
 use std::alloc::{AllocError, Global};
 use std::marker::Model;
 
-/// Where a rule stands: the number of its chain and its own number there, both from 0.
+/// The place of a rule: the number of its chain and its index in the chain, both from 0.
 #[derive(Clone, Copy, Debug, PartialEq, Eq)]
 pub struct Place {
     pub chain: u16,
@@ -32,7 +32,7 @@ impl Model for Marks {
 }
 
 impl Marks {
-    /// Marks for the rules of this rule set, none of which is set. They take a byte for each rule.
+    /// Returns marks for the rules of this rule set, none of which is set. They take a byte for each rule.
     pub fn new(alloc: Global, rules: &Ruleset) -> Result<Marks, AllocError>
         ensures marks { IfOk result (λ marks. AreMarksOf marks rules.now) }
         ensures none { IfOk result (λ marks. (place : Place) → is_marked marks place ≡ false) }
@@ -51,7 +51,7 @@ impl Marks {
         Ok(Marks { rows })
     }
 
-    /// Whether the rule at a place is marked. It is not if there is none.
+    /// Whether the rule at a place is marked. It is not if there is no rule.
     pub fn is_marked(&self, place: Place) -> bool
         ensures { result ≡ is_marked self.now place }
     {
@@ -61,7 +61,7 @@ impl Marks {
         }
     }
 
-    /// Marks a rule if it fits.
+    /// Marks a rule if it matches.
     pub(crate) fn mark_if(&mut self, fits: bool, place: Place)
         requires { place.rule < length (marks_of self.old place.chain) }
         ensures { self.new ≡ with_mark_if fits self.old place }

@@ -1,6 +1,6 @@
-//! Which rules the packets of a box meet, by the walk that a packet makes. Each rule that fits is marked.
-//! The box is narrowed at each rule until this does not tell its packets apart, so that all of them make
-//! the same walk.
+//! Marks the rules that the packets of a box meet, by the traversal that a packet makes. Marks each rule that
+//! matches. Narrows the box at each rule until the rule no longer distinguishes its packets. Hence all of
+//! them make the same traversal.
 
 ghost use Rattle.std.specs.Prelude.{◌≡◌, ◌<◌, ◌≤◌, length, IfOk, IsOk};
 ghost use Rattle.host_net.specs.declared.packet.Packet.{Packet};
@@ -24,8 +24,8 @@ use arrayvec::ArrayVec;
 use header_space::PacketBox;
 use host_net::CtState;
 
-/// Where a walk along a chain stops: at the rule that decides; where the chain returns; or at a rule that
-/// jumps to a chain that is to be walked first.
+/// Where the traversal of a chain stops: at the rule that decides, at a return, or at a rule that jumps to a
+/// chain that has to be traversed first.
 #[derive(Drop)]
 pub(crate) enum MeetStop {
     Decides(Place),
@@ -33,7 +33,7 @@ pub(crate) enum MeetStop {
     Asks { chain: u16, at: usize },
 }
 
-/// Marks a rule if it fits, and returns what it does.
+/// Marks a rule if it matches, and returns its step.
 fn meet_rule(
     rule: &Rule,
     place: Place,
@@ -52,7 +52,7 @@ fn meet_rule(
     step_by(fits, rule.target)
 }
 
-/// Goes on with a walk, by which other chains are known to return.
+/// Continues a traversal, given the other chains that are known to return.
 fn meet_along(
     chains: &[Chain],
     walk: Walk,
@@ -93,8 +93,9 @@ fn meet_along(
     MeetStop::Returns
 }
 
-/// Marks the rules that the packets of a box meet in a chain from its first rule on. Returns the place of
-/// the rule that decides, or None where the chain returns. There are at most N chains, and room for D walks.
+/// Marks the rules that the packets of a box meet in a chain from its first rule on. Returns the place of the
+/// rule that decides, or `None` if the chain returns. There are at most N chains, and the stack has capacity
+/// D.
 fn meet_among<const N: usize, const D: usize>(
     chains: &[Chain],
     number: u16,
@@ -139,8 +140,8 @@ fn meet_among<const N: usize, const D: usize>(
     Ok(None)
 }
 
-/// Marks the rules that the packets of a box meet in a chain, with room for a few walks. Where the room is
-/// too small, only rules are marked that all of them meet.
+/// Marks the rules that the packets of a box meet in a chain, with a small stack. If the stack overflows,
+/// only rules that all of the packets meet are marked.
 fn meet_soon(
     chains: &[Chain],
     number: u16,
@@ -166,7 +167,7 @@ fn meet_soon(
     }
 }
 
-/// Marks the rules that the packets of a box meet in a chain, with room for as many walks as chains.
+/// Marks the rules that the packets of a box meet in a chain, with a stack as large as the number of chains.
 fn meet_fully(
     chains: &[Chain],
     number: u16,
@@ -188,8 +189,8 @@ fn meet_fully(
     meet_among::<CHAIN_LIMIT, CHAIN_LIMIT>(chains, number, met, within, state).unwrap()
 }
 
-/// Marks the rules that the packets of a box meet in a chain from its first rule on. Returns the place of
-/// the rule that decides, or None where the chain returns.
+/// Marks the rules that the packets of a box meet in a chain from its first rule on. Returns the place of the
+/// rule that decides, or `None` if the chain returns.
 pub(crate) fn meet_chain(
     chains: &[Chain],
     number: u16,
@@ -211,6 +212,6 @@ pub(crate) fn meet_chain(
     if let Ok(decider) = meet_soon(chains, number, met, within, state) {
         return decider;
     }
-    // The walk begins anew, and is the same: the box has its least packet still.
+    // The traversal starts again, and is the same: the box still has its least packet.
     meet_fully(chains, number, met, within, state)
 }

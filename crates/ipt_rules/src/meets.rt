@@ -1,4 +1,4 @@
-//! Which rules packets meet that run through a rule set, and which of them decides.
+//! The rules that packets meet in a rule set, and the rule that decides.
 
 ghost use Rattle.std.specs.Prelude.{◌≡◌, ◌⊎◌, ◌↔◌, ◌<◌, ◌≤◌, length, Bool, IsTrue, Option};
 ghost use Rattle.host_net.specs.declared.packet.Packet.{Packet};
@@ -20,9 +20,9 @@ use header_space::PacketBox;
 use host_net::CtState;
 
 impl Ruleset {
-    /// Marks the rules that the least packet of a box meets as it runs through `FORWARD` in that state.
+    /// Marks the rules that the least packet of a box meets in its traversal of `FORWARD` in this state.
     /// Narrows the box until all of its packets meet the same rules. Returns the place of the rule that
-    /// decides, or None if the policy does.
+    /// decides, or `None` if the policy decides.
     pub fn meet_within(
         &self,
         met: &mut Marks,
@@ -35,10 +35,10 @@ impl Ruleset {
         ensures marks { AreMarksOf met.new self.now }
         ensures marked { (p : Packet) → IsIn within.new p → (place : Place) → (IsTrue (is_marked met.new place) ↔ (IsTrue (is_marked met.old place) ⊎ IsMet self.now p state place)) }
         ensures decider { (p : Packet) → IsIn within.new p → IsDecider self.now p state result }
-        // Nothing else decides, and the verdict is that of the decider.
+        // Nothing else decides, and the verdict is the verdict of the decider.
         ensures only { (p : Packet) → IsIn within.new p → (other : Option Place) → IsDecider self.now p state other → other ≡ result }
         ensures verdict { (p : Packet) → IsIn within.new p → HasVerdict self.now p state (decided self.now result) }
-        // Without rules that stay unmarked the verdicts are the same.
+        // The verdicts are unchanged without rules that stay unmarked.
         ensures unmarked { (p : Packet) → IsIn within.new p → (places : Place → Bool) → AreUnmarked met.new places → (v : Verdict) → (HasVerdict self.now p state v ↔ HasVerdict (without_places places self.now) p state v) }
     {
         let chains = self.chains.as_slice();
@@ -46,7 +46,7 @@ impl Ruleset {
     }
 }
 
-/// Marks the rules that the packets of a box meet, and returns what decides them.
+/// Marks the rules that the packets of a box meet, and returns their decider.
 fn meet_forward(
     chains: &[Chain],
     met: &mut Marks,
@@ -65,7 +65,7 @@ fn meet_forward(
     ensures decider { (p : Packet) → IsIn within.new p → IsDecider chains.now p state result }
     ensures only { (p : Packet) → IsIn within.new p → (other : Option Place) → IsDecider chains.now p state other → other ≡ result }
     ensures verdict { (p : Packet) → IsIn within.new p → HasVerdict chains.now p state (decided chains.now result) }
-    // Without rules that stay unmarked the verdicts are the same.
+    // The verdicts are unchanged without rules that stay unmarked.
     ensures unmarked { (p : Packet) → IsIn within.new p → (places : Place → Bool) → AreUnmarked met.new places → (v : Verdict) → (HasVerdict chains.now p state v ↔ HasVerdict (without_places places chains.now) p state v) }
 {
     meet_chain(chains, FORWARD, met, within, state)

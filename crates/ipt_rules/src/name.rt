@@ -1,4 +1,4 @@
-//! The name of a user chain, a small text that is copied like a number.
+//! The name of a user chain: a short string that is `Copy`.
 
 ghost use Rattle.std.specs.Prelude.{◌≡◌, ◌-◌, ◌≤◌, ◌↔◌, ◌++◌, length, replicate, IsTrue, IsSome, IfSome};
 ghost use Rattle.std.specs.List.{list_all};
@@ -10,7 +10,7 @@ use text_core::padded;
 
 const NAME_LIMIT: usize = 64;
 
-/// The text of a legal user chain name: 1 to 64 printing bytes without blanks.
+/// A legal user chain name: 1 to 64 printable bytes without blanks.
 #[derive(Clone, Copy)]
 pub struct ChainName {
     bytes: [u8; 64],
@@ -34,8 +34,8 @@ impl Model for ChainName {
 }
 
 impl ChainName {
-    /// The name, or None where the text is no legal one: a byte outside 33 to 126, a first byte
-    /// `-` or `!`, the name of a built-in chain or of a target, or not 1 to 64 bytes.
+    /// Returns the name, or `None` if the text is not legal: a byte outside 33 to 126, a first byte `-` or
+    /// `!`, the name of a built-in chain or of a target, or not 1 to 64 bytes.
     #[tactic(auto, using(crate::proofs::NameLemmas::user_name_fits))]
     pub fn new(text: &[u8]) -> Option<ChainName>
         ensures legal { IsSome result ↔ IsTrue (is_user_name text.now) }
@@ -50,12 +50,12 @@ impl ChainName {
         })
     }
 
-    /// The head of the user chain of that name.
+    /// Returns the head of the user chain with this name.
     pub(crate) fn head(self) -> Head
         ensures head { result ≡ Head.User self }
         ensures legal { IsTrue (is_user_name self) }
     {
-        // With a field its invariant is seen: the text is legal.
+        // Access to a field makes the invariant available: the name is legal.
         let _ = &self.len;
         Head::User(self)
     }

@@ -1,5 +1,5 @@
-//! Which rule of a chain is the next that may fit a packet, by an index of the addresses that the
-//! rules of each chain ask for.
+//! The next rule of a chain that may match a packet, by an index of the addresses that the rules of each
+//! chain match on.
 
 ghost use Rattle.std.specs.Prelude.{◌≡◌, ◌<◌, ◌≤◌, ◌^◌, length, slice_get, IfOk, IfSome, IsTrue, Some};
 ghost use Rattle.host_net.specs.inner.CoverView.{IsIndexOf};
@@ -14,7 +14,7 @@ use crate::rule::{AddrMatch, Rule, address_matches};
 use host_net::{Covers, Ends, Packet, Prefix};
 use std::alloc::{AllocError, Global};
 
-/// What is asked of an address, where it is that a prefix covers it.
+/// Returns the prefix of an address match that is not negated.
 fn part_of(part: Option<AddrMatch>) -> Option<Prefix>
     ensures { result ≡ part_of part }
 {
@@ -57,7 +57,7 @@ fn index_of(alloc: Global, rules: &[Rule]) -> Result<Covers, AllocError>
     Covers::of(alloc, &all)
 }
 
-/// An index of the rules of each chain.
+/// Builds an index of the rules of each chain.
 pub(crate) fn indexes_of(alloc: Global, chains: &[Chain]) -> Result<Vec<Covers>, AllocError>
     requires { rule_count chains.now ≤ 1000000 }
     ensures { IfOk result (λ indexes. AreIndexes indexes.items chains.now) }
@@ -70,14 +70,14 @@ pub(crate) fn indexes_of(alloc: Global, chains: &[Chain]) -> Result<Vec<Covers>,
     Ok(indexes)
 }
 
-/// The index of the chain of that number, where chains have indexes.
+/// Returns the index of the chain with this number, if chains have indexes.
 pub(crate) fn index_at(indexes: &[Covers], number: u16) -> Option<&Covers>
     ensures { IfSome result (λ index. slice_get indexes.now number ≡ Some index.now) }
 {
     indexes.get(number as usize)
 }
 
-/// Whether there is a rule at that place, and it asks for the addresses of the packet.
+/// Whether there is a rule at this index, and it matches on the addresses of the packet.
 fn asks_at(rules: &[Rule], at: usize, packet: &Packet) -> bool
     ensures { IsTrue result → at < length rules.now }
 {
@@ -89,9 +89,9 @@ fn asks_at(rules: &[Rule], at: usize, packet: &Packet) -> bool
     }
 }
 
-/// The place of the next rule, from one on, that may fit the packet: by an index that whose prefixes
-/// cover its addresses, and without one each. Those that are passed over do not fit it. Within a chain
-/// no search is made where the rule at that place will do, as the one to which a walk comes back.
+/// Returns the position of the next rule, from `from` on, that may match the packet. With an index this is a
+/// rule whose prefixes cover its addresses, without an index any rule. The skipped rules do not match. Within
+/// a chain no search is made if the rule at `from` qualifies, such as the rule to which a traversal returns.
 pub(crate) fn next_rule(
     index: Option<&Covers>,
     rules: &[Rule],

@@ -1,5 +1,5 @@
-//! The pieces of a rule's line: address parts, states and targets, each put after what the buffer
-//! holds.
+//! Writers of the options of a rule line: addresses, states and targets. Each appends to the content of the
+//! buffer.
 
 ghost use Rattle.std.specs.Prelude.{◌≡◌, ◌<◌, ◌≤◌, ◌++◌, length, take};
 ghost use Rattle.text_core.specs.inner.Line.{cut};
@@ -73,7 +73,7 @@ fn put_states(buffer: &mut [u8; 320], at: usize, new: bool, established: bool) -
     }
 }
 
-/// Puts the target of a rule and ends its line.
+/// Appends the target of a rule and ends its line.
 pub(crate) fn put_target(
     buffer: &mut [u8; 320],
     at: usize,

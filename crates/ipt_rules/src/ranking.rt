@@ -1,7 +1,7 @@
-//! The order of chains in which each jump goes back to an earlier chain. It is put together by
-//! rounds: each round goes once through the chains, and puts after the others each chain whose
-//! jumps all go to chains that are in the order already. Of each chain it is kept how many of its
-//! jumps were found to do so, and so no jump is passed twice.
+//! The topological order of chains: each jump goes to an earlier chain. The construction runs in rounds. Each
+//! round iterates over the chains once, and appends each chain whose jumps all go to chains that are already
+//! in the order. A counter for each chain records how many of its jumps were found to do this. Hence no jump
+//! is processed twice.
 
 ghost use Rattle.std.specs.Prelude.{◌≡◌, ◌+◌, ◌<◌, ◌≤◌, ◌⊎◌, ℕ, length, replicate, IfOk, None, Some, slice_get, Contains, false, true};
 ghost use Rattle.ipt_rules.specs.inner.Ranks.{row_of, place_of, IsBefore, IsPartOrder, IsStuck};
@@ -22,8 +22,8 @@ pub(crate) fn place_of(places: &[Option<u16>], chain: u16) -> Option<u16>
     *places.get(chain as usize)?
 }
 
-/// How many jumps of the row go to chains that have places, before the first that does not; the
-/// first `from` are known to.
+/// Returns how many jumps of the row go to chains that have positions, before the first that does not. The
+/// first `from` are known to do this.
 fn passed(row: &[u16], places: &[Option<u16>], from: usize) -> usize
     requires { from ≤ length row.now }
     ensures least { from ≤ result }
@@ -63,8 +63,8 @@ impl Ranking {
         })
     }
 
-    /// Puts the chain after the others where all its jumps go to chains that have places, and
-    /// says whether it did.
+    /// Appends the chain if all its jumps go to chains that have positions. Returns whether it appended the
+    /// chain.
     fn put(&mut self, table: &JumpTable, chain: usize) -> Result<bool, AllocError>
         requires part { IsPartOrder table.now self.old.order.items self.old.places.items self.old.looked.items }
         requires there { chain < length table.now }
@@ -88,7 +88,7 @@ impl Ranking {
         Ok(true)
     }
 
-    /// Goes once through all chains, and says whether one was put after the others.
+    /// Iterates over all chains once. Returns whether it appended a chain.
     fn round(&mut self, table: &JumpTable) -> Result<bool, AllocError>
         requires part { IsPartOrder table.now self.old.order.items self.old.places.items self.old.looked.items }
         ensures part { IfOk result (λ put. IsPartOrder table.now self.new.order.items self.new.places.items self.new.looked.items) }
@@ -105,7 +105,7 @@ impl Ranking {
     }
 }
 
-/// The order of the chains. A chain that is not in it jumps to another that is not.
+/// Returns the order of the chains. A chain that is not in it jumps to another chain that is not in it.
 pub(crate) fn ranking_of(alloc: Global, table: &JumpTable) -> Result<Ranking, AllocError>
     requires few { length table.now ≤ 4096 }
     ensures part { IfOk result (λ ranking. IsPartOrder table.now ranking.order.items ranking.places.items ranking.looked.items) }

@@ -1,5 +1,5 @@
-//! Which chains packets of a box may reach from FORWARD. A slice does not rely on it: what is not marked
-//! here is looked for again.
+//! The chains that packets of a box may reach from FORWARD. A slice does not rely on this result: it checks
+//! jumps to unmarked chains again.
 
 use crate::chain::Chain;
 use crate::rule::{Rule, Target};
@@ -7,7 +7,7 @@ use crate::ruleset::FORWARD;
 use header_space::PacketBox;
 use std::alloc::{AllocError, Global};
 
-/// The chains that packets of a box may reach, and how many of their rules may fit one.
+/// The chains that packets of a box may reach, and how many of their rules may match such a packet.
 #[derive(Drop)]
 pub(crate) struct Reached {
     pub(crate) chains: Vec<bool>,
@@ -34,7 +34,7 @@ pub(crate) fn reached_by(
     Ok(reached)
 }
 
-/// Marks the chains that rules of a chain jump to, of those that may fit a packet of the box.
+/// Marks the chains that rules of a chain jump to, for the rules that may match a packet of the box.
 fn visit(
     chains: &[Chain],
     chain: u16,
@@ -51,7 +51,7 @@ fn visit(
     Ok(())
 }
 
-/// Counts a rule and marks the chain that it jumps to, if it may fit a packet of the box.
+/// Counts a rule and marks the chain that it jumps to, if it may match a packet of the box.
 fn take(
     rule: &Rule,
     within: &PacketBox,
@@ -65,7 +65,7 @@ fn take(
     mark(reached, waiting, rule.target)
 }
 
-/// Marks the chain that a target jumps to, and lets it wait to be visited if it was not marked.
+/// Marks the chain that a target jumps to, and adds it to the work list if it was not marked.
 fn mark(reached: &mut Reached, waiting: &mut Vec<u16>, target: Target) -> Result<(), AllocError> {
     let Target::Jump(chain) = target else {
         return Ok(());

@@ -1,26 +1,26 @@
-//! One rule of a chain: which packets it fits, and what it does with them.
+//! A rule of a chain: the packets that it matches, and what it does with them.
 
 ghost use Rattle.std.specs.Prelude.{◌≡◌, ◌&&◌, nat_le};
 ghost use Rattle.ipt_rules.specs.Matching.{matches, address_matches, port_matches, protocol_matches, state_matches};
 
 use host_net::{CtState, Packet, Prefix};
 
-/// What a rule asks of one address of a packet: that the prefix covers it, or that it does not.
+/// A match on an address of a packet: the prefix covers the address or, if negated, does not.
 #[derive(Clone, Copy, Debug, PartialEq, Eq)]
 pub struct AddrMatch {
     pub prefix: Prefix,
     pub negated: bool,
 }
 
-/// What a rule asks of the protocol of a packet: that it is this one, or that it is another.
+/// A match on the protocol of a packet: the protocol is `proto` or, if negated, another.
 #[derive(Clone, Copy, Debug, PartialEq, Eq)]
 pub struct ProtoMatch {
     pub proto: u8,
     pub negated: bool,
 }
 
-/// What a rule asks of a port of a packet: that it lies from `low` to `high`, both included, or that
-/// it does not.
+/// A match on a port of a packet: the port is in the range from `low` to `high`, both included, or, if
+/// negated, outside it.
 #[derive(Clone, Copy, Debug, PartialEq, Eq)]
 pub struct PortMatch {
     pub low: u16,
@@ -28,8 +28,8 @@ pub struct PortMatch {
     pub negated: bool,
 }
 
-/// What a rule asks of the state of the packet's connection: that its flag is set, or that it is
-/// not. With neither flag no packet has such a state.
+/// A match on the state of the packet's connection: the flag of the state is set or, if negated, is not set.
+/// With neither flag no packet has such a state.
 #[derive(Clone, Copy, Debug, PartialEq, Eq)]
 pub struct StateMatch {
     pub new: bool,
@@ -37,8 +37,8 @@ pub struct StateMatch {
     pub negated: bool,
 }
 
-/// What a rule does with a packet that it fits. `Count` only counts it, and `Jump` goes on in the
-/// chain of that number.
+/// What a rule does with a packet that it matches. `Count` only counts the packet, and `Jump` continues in
+/// the chain with this number.
 #[derive(Clone, Copy, Debug, PartialEq, Eq)]
 pub enum Target {
     Accept,
@@ -49,7 +49,7 @@ pub enum Target {
     Jump(u16),
 }
 
-/// A rule fits a packet where each part that is given does.
+/// A rule matches a packet if each match that is present holds.
 #[derive(Clone, Copy, Debug, PartialEq, Eq)]
 pub struct Rule {
     pub src: Option<AddrMatch>,
@@ -61,7 +61,7 @@ pub struct Rule {
     pub target: Target,
 }
 
-/// What a built-in chain does with a packet that comes to its end.
+/// What a built-in chain does with a packet that reaches its end.
 #[derive(Clone, Copy, Debug, PartialEq, Eq)]
 pub enum Policy {
     Accept,
@@ -105,7 +105,7 @@ fn lies_in(part: PortMatch, port: u16) -> bool
     part.low <= port && port <= part.high
 }
 
-/// Whether a packet with that source or destination fits this part of a rule.
+/// Whether an address of a packet, its source or its destination, satisfies a match of a rule.
 pub fn address_matches(part: Option<AddrMatch>, address: u32) -> bool
     ensures { result ≡ address_matches part address }
 {

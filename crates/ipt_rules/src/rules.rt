@@ -1,12 +1,13 @@
-//! The rules of a rule set one by one or chain by chain, for whoever looks at what they ask for.
+//! Access to the rules of a rule set, by number or by chain.
 
 ghost use Rattle.std.specs.Prelude.{◌≡◌, ◌<◌, ◌≤◌, length, slice_get, Some};
-ghost use Rattle.ipt_rules.specs.Chain.{rules_of};
+ghost use Rattle.ipt_rules.specs.Chain.{name_of, rules_of};
 ghost use Rattle.ipt_rules.specs.inner.OneOutcome.{EachGivesOne};
 ghost use Rattle.ipt_rules.specs.Rules.{all_rules};
 ghost use Rattle.ipt_rules.specs.inner.Starts.{starts_from};
 
 use crate::chain::Chain;
+use crate::chains::name_at;
 use crate::rule::Rule;
 use crate::ruleset::Ruleset;
 use crate::starts::chain_at;
@@ -14,17 +15,17 @@ use crate::walk::rules_of;
 use std::cell::Cell;
 
 impl Ruleset {
-    /// How many rules stand in all chains.
+    /// Returns the number of rules in all chains.
     pub fn rules(&self) -> u32
         ensures count { result ≡ length (all_rules self.now) }
 
-        // Each chain gives every packet one outcome.
+        // Each chain has exactly one outcome for every packet.
         ensures one_outcome { EachGivesOne self.now }
     {
         self.rules
     }
 
-    /// The rule at place `k`, from 0, among those of all chains in their order.
+    /// Returns the rule at index `k`, from 0, among the rules of all chains in order.
     pub fn rule_at(&self, k: u32) -> Rule
         requires { k < length (all_rules self.now) }
         ensures { slice_get (all_rules self.now) k ≡ Some result }
@@ -32,14 +33,21 @@ impl Ruleset {
         rule_among(&self.chains, &self.starts, &self.found_last, k)
     }
 
-    /// How many chains there are, the built-in ones among them.
+    /// Returns the number of chains, including the built-in chains.
     pub fn chains(&self) -> u16
         ensures { result ≡ length self.now }
     {
         self.chains.len() as u16
     }
 
-    /// The rules of a chain, in their order.
+    /// Returns the name of a chain, or no bytes if there is no such chain.
+    pub fn chain_name(&self, chain: u16) -> &[u8]
+        ensures { result.now ≡ name_of self.now chain }
+    {
+        name_at(&self.chains, chain)
+    }
+
+    /// Returns the rules of a chain, in order.
     pub fn rules_in(&self, chain: u16) -> &[Rule]
         requires { chain < length self.now }
         ensures { result.now ≡ rules_of self.now chain }

@@ -1,5 +1,4 @@
-//! A rule set: chains whose jumps all lead somewhere and never back, so that each packet has a
-//! verdict.
+//! A rule set: chains whose jumps all go to user chains and form no cycle. Each packet has a verdict.
 
 ghost use Rattle.std.specs.Prelude.{◌≡◌, ◌<◌, ◌≤◌, ◌⊎◌, length, IfOk, IfErr, OnOk, IsNone, IfSome, Some, None};
 ghost use Rattle.ipt_rules.specs.Chain.{Chain};
@@ -19,37 +18,37 @@ use std::alloc::{AllocError, Global};
 use std::cell::Cell;
 use std::marker::Model;
 
-/// The most chains of a rule set.
+/// The maximum number of chains of a rule set.
 pub const CHAIN_LIMIT: usize = 4096;
-/// The most rules of a rule set, in all its chains.
+/// The maximum number of rules of a rule set, over all its chains.
 pub const RULE_LIMIT: u32 = 1_000_000;
 
 /// The built-in chain of packets to the machine itself.
 pub const INPUT: u16 = 0;
-/// The built-in chain of packets that go through the machine to another.
+/// The built-in chain of packets that are routed through the machine.
 pub const FORWARD: u16 = 1;
 /// The built-in chain of packets from the machine itself.
 pub const OUTPUT: u16 = 2;
 
-/// Why chains make no rule set.
+/// Why chains are refused as a rule set.
 #[derive(Clone, Copy, Debug, PartialEq, Eq)]
 pub enum BuildRefusal {
-    /// More than 4,096 chains or, where these are few enough, more than 1,000,000 rules.
+    /// There are more than 4,096 chains or, otherwise, more than 1,000,000 rules.
     TooMany { count: u32 },
-    /// That rule, from 0, jumps to a built-in chain or to no chain.
+    /// The rule with this number, from 0, jumps to a built-in chain or to a chain that does not exist.
     UnknownChain { chain: u16, rule: u32 },
-    /// From that chain jumps lead back to it.
+    /// This chain is on a cycle of jumps.
     Loop { chain: u16 },
-    /// No memory is left.
+    /// Out of memory.
     Memory,
 }
 
-/// Chains of which each gives every packet one outcome.
+/// Chains of which each has exactly one outcome for every packet.
 #[derive(Drop)]
 pub struct Ruleset {
     pub(crate) chains: Vec<Chain>,
     pub(crate) rules: u32,
-    /// The number of each chain's first rule among the rules of all chains.
+    /// The number of the first rule of each chain among the rules of all chains.
     pub(crate) starts: Vec<u32>,
     /// The chain in which a rule was found last.
     pub(crate) found_last: Cell<usize>,
@@ -69,12 +68,12 @@ impl Model for Ruleset {
 }
 
 impl Ruleset {
-    /// Makes a rule set of the chains, which it consumes in every case.
+    /// Builds a rule set from the chains. Consumes the chains in every case.
     pub fn build(alloc: Global, chains: Chains) -> Result<Ruleset, BuildRefusal>
         ensures ok { IfOk result (λ rules. rules ≡ chains) }
-        // No two chains have one name, and user chains have legal ones.
+        // The names of chains are distinct, and the names of user chains are legal.
         ensures table { IfOk result IsTable }
-        // Each chain gives every packet one outcome, so that the walk of a packet ends.
+        // Each chain has exactly one outcome for every packet, hence the traversal by a packet ends.
         ensures one_outcome { IfOk result EachGivesOne }
         ensures accepted { OnOk result (IsNone (refusal_of chains)) }
         ensures no_loop { IfOk result HasNoLoop }
@@ -95,7 +94,7 @@ impl Ruleset {
         }
     }
 
-    /// The rule set of chains that nothing is wrong with, from none of which jumps lead back to it.
+    /// Builds a rule set from chains that are not refused and form no cycle.
     pub fn new(alloc: Global, chains: Chains) -> Result<Ruleset, AllocError>
         requires accepted { refusal_of chains ≡ None }
         requires ranked { IsRanked chains None }
@@ -115,7 +114,7 @@ impl Ruleset {
 }
 
 impl Chains {
-    /// The first chain from which jumps lead back to it, of chains that nothing else is wrong with.
+    /// Returns the first chain that is on a cycle, of chains that are not refused for another reason.
     pub fn first_loop(&self, alloc: Global) -> Result<Option<u16>, AllocError>
         requires { refusal_of self.now ≡ None }
         ensures { IfOk result (IsRanked self.now) }

@@ -1,4 +1,4 @@
-//! The pieces of a rule's line on protocols and ports, each put after what the buffer holds.
+//! Writers of the options of a rule line for protocols and ports. Each appends to the content of the buffer.
 
 ghost use Rattle.std.specs.Prelude.{◌≡◌, ◌≤◌, ◌++◌, ◌||◌, take, is_some, codes, decimal, if◌then◌else◌, nat_lt, [], IsTrue, Some};
 ghost use Rattle.text_core.specs.inner.Line.{cut};
@@ -10,7 +10,8 @@ use crate::pieces::put_negation;
 use crate::rule::{PortMatch, ProtoMatch, Rule};
 use text_core::{put, put_number};
 
-/// Puts the protocol and the ports that a rule asks for. It asks for ports beside a protocol alone.
+/// Appends the protocol and the ports that a rule matches on. A rule matches on ports only together with a
+/// protocol.
 pub(crate) fn put_service(buffer: &mut [u8; 320], at: usize, rule: &Rule) -> usize
     requires fits { at ≤ 320 }
     requires parts { IsTrue (is_rule rule.now) }

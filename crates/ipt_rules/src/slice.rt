@@ -1,5 +1,5 @@
-//! Slices: the part of a rule set that can decide packets of a box. A chain that no such packet reaches
-//! has no rules in a slice, and the others have those that may fit a packet of the box.
+//! Slices: the part of a rule set that can decide packets of a box. In a slice a chain that no such packet
+//! reaches has no rules. The other chains have the rules that may match a packet of the box.
 
 ghost use Rattle.std.specs.Prelude.{◌≡◌, ◌⊎◌, ◌<◌, ◌≤◌, ◌++◌, ◌∷◌, [], length, IfOk, IfSome, OnOk, IsTrue};
 ghost use Rattle.std.specs.List.{list_all};
@@ -22,10 +22,11 @@ use host_net::{CtState, Verdict};
 use std::alloc::{AllocError, Global};
 use std::marker::Model;
 
-/// No slice is made of so few rules, and of a few more for each chain: all are tested as fast.
+/// The number of rules, plus a few for each chain, up to which no slice is made: testing all rules is as
+/// fast.
 const FEW_RULES: u32 = 32;
 
-/// No slice is made of more rules than this, since slices take as much memory as the rules.
+/// The number of rules above which no slice is made, since slices take as much memory as the rules.
 const MANY_RULES: u32 = 400_000;
 
 /// The part of a rule set that can decide packets of a box.
@@ -48,16 +49,16 @@ impl Model for Slice {
 }
 
 impl Slice {
-    /// Returns about how many rules it has.
+    /// Returns the approximate number of its rules.
     pub fn rules(&self) -> u32
-        // Each chain gives every packet one outcome.
+        // Each chain has exactly one outcome for every packet.
         ensures one_outcome { EachGivesOne self.now }
     {
         self.rules
     }
 
-    /// Returns the verdict on the least packet of a box that runs through `FORWARD` in that state.
-    /// Narrows the box until all of its packets have this verdict.
+    /// Returns the verdict on the least packet of a box that traverses `FORWARD` in this state. Narrows the
+    /// box until all of its packets have this verdict.
     pub fn verdict_within(&self, within: &mut PacketBox, state: CtState) -> Verdict
         requires { IsBox within.old }
         ensures part { Narrows within.old within.new }
@@ -141,7 +142,7 @@ fn closed_slice(
     }))
 }
 
-/// Returns the slices of all chains; a chain that is not marked has no rules.
+/// Returns the slices of all chains. A chain that is not marked has no rules.
 fn sliced(
     alloc: Global,
     chains: &[Chain],
@@ -163,7 +164,7 @@ fn sliced(
     Ok(sliced)
 }
 
-/// Returns a chain with the rules that may fit a packet of the box.
+/// Returns a chain with the rules that may match a packet of the box.
 fn thinned(alloc: Global, chain: &Chain, within: &PacketBox) -> Result<Chain, AllocError>
     ensures policy { IfOk result (λ thinned. thinned.policy ≡ chain.now.policy) }
     ensures rules { IfOk result (λ thinned. Thins within.now chain.now.rules thinned.rules) }
@@ -176,7 +177,7 @@ fn thinned(alloc: Global, chain: &Chain, within: &PacketBox) -> Result<Chain, Al
     Ok(thinned)
 }
 
-/// Appends a rule to a chain if it may fit a packet of the box.
+/// Appends a rule to a chain if it may match a packet of the box.
 fn push_if_fits(chain: &mut Chain, rule: &Rule, within: &PacketBox) -> Result<(), AllocError>
     ensures { OnOk result ((chain.new ≡ record chain.old { rules = chain.old.rules ++ rule.now ∷ [] })
         ⊎ ((chain.new ≡ chain.old) × FitsNone within.now rule.now)) }

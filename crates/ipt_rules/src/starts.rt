@@ -1,5 +1,5 @@
-//! Where the rules of each chain begin among the rules of all chains, so that a rule is found by
-//! its number without going through the chains before it.
+//! The number of the first rule of each chain among the rules of all chains. It locates a rule by its number
+//! without iterating over the chains before it.
 
 ghost use Rattle.std.specs.Prelude.{◌≡◌, ◌+◌, ◌<◌, ◌≤◌, length, slice_index_or, IfOk, IsTrue};
 ghost use Rattle.std.specs.List.Sorted.{IsNonDecreasingBy};
@@ -10,7 +10,7 @@ use crate::chain::Chain;
 use std::alloc::{AllocError, Global};
 use std::cell::Cell;
 
-/// The number of each chain's first rule.
+/// Returns the number of the first rule of each chain.
 pub(crate) fn starts_of(alloc: Global, chains: &[Chain]) -> Result<Vec<u32>, AllocError>
     requires few { rule_count chains.now ≤ 1000000 }
     ensures { IfOk result (λ starts. starts.items ≡ starts_from 0 chains.now) }
@@ -24,8 +24,8 @@ pub(crate) fn starts_of(alloc: Global, chains: &[Chain]) -> Result<Vec<u32>, All
     Ok(starts)
 }
 
-/// The last chain whose rules begin at that number or before it: the one that was found last, since
-/// most often numbers come in their order, or else one that is found by halving.
+/// Returns the last chain whose rules start at or before the number. Tries the chain that was found last,
+/// since numbers mostly come in order, and else uses binary search.
 pub(crate) fn chain_at(starts: &[u32], found_last: &Cell<usize>, number: usize) -> usize
     requires rising { IsNonDecreasingBy (λ n. n) starts.now }
     requires some { 0 < length starts.now }
@@ -43,7 +43,7 @@ pub(crate) fn chain_at(starts: &[u32], found_last: &Cell<usize>, number: usize) 
     place
 }
 
-/// Whether the number is of a rule of that chain, and the chain is not the last.
+/// Whether the number is the number of a rule of this chain, and the chain is not the last.
 fn is_chain_at(starts: &[u32], place: usize, number: usize) -> bool
     requires { 0 < length starts.now }
     ensures there { IsTrue result → place < length starts.now }

@@ -1,4 +1,4 @@
-//! The text of a rule set, written line by line into a buffer and without memory.
+//! Writes the text of a rule set line by line into a buffer, without allocation.
 
 ghost use Rattle.std.specs.Prelude.{◌≡◌, ◌<◌, ◌≤◌, ◌++◌, ◌∷◌, [], length, take, slice_get, IsNone, IsTrue, Some};
 ghost use Rattle.std.specs.List.{flat_map};
@@ -23,26 +23,26 @@ use std::cell::Cell;
 use text_core::put;
 
 impl Ruleset {
-    /// How many lines the text has.
+    /// Returns the number of lines of the text.
     pub fn lines(&self) -> u32
         ensures count { result ≡ length (text_lines self.now) }
 
-        // The names in it tell the chains apart, and its jumps lead to them.
+        // The names of the chains are distinct, and each jump has the name of its chain.
         ensures table { IsTable self.now }
         ensures accepted { IsNone (refusal_of self.now) }
 
-        // No jumps lead back, and each chain gives every packet one outcome.
+        // No chain is on a cycle, and each chain has exactly one outcome for every packet.
         ensures no_loop { HasNoLoop self.now }
         ensures one_outcome { EachGivesOne self.now }
 
-        // What is written of it is read again.
+        // The text can be read back.
         ensures writable { IsWritable self.now }
     {
         self.chains.len() as u32 + self.rules + 2
     }
 
-    /// Writes line `i` of the text, from 0, with its newline to the front of the buffer, and
-    /// answers its length. What the buffer holds after it is left open.
+    /// Writes line `i` of the text, from 0, with its newline to the start of the buffer, and returns its
+    /// length. The content of the buffer after the line is unspecified.
     pub fn write_line(&self, i: u32, buffer: &mut [u8; 320]) -> usize
         requires { i < length (text_lines self.now) }
         ensures line { slice_get (text_lines self.now) i ≡ Some (take result buffer.new) }
@@ -79,8 +79,8 @@ fn write_chain_line(chain: &Chain, buffer: &mut [u8; 320]) -> usize
     put(buffer, policy, b" [0:0]\n")
 }
 
-/// Writes the line of the rule of that number among the rules of all chains, or the last line where
-/// so many rules there are.
+/// Writes the line of the rule with this number among the rules of all chains, or the last line if the number
+/// is the number of rules.
 fn write_rule_or_commit(
     chains: &[Chain],
     starts: &[u32],

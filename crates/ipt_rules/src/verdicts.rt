@@ -1,4 +1,4 @@
-//! What becomes of packets, and of boxes of packets, that run through a rule set.
+//! Verdicts of a rule set on packets and on boxes of packets.
 
 ghost use Rattle.std.specs.Prelude.{◌≡◌, ◌<◌};
 ghost use Rattle.host_net.specs.declared.packet.Packet.{Packet};
@@ -13,16 +13,16 @@ use header_space::PacketBox;
 use host_net::{CtState, Packet, Verdict};
 
 impl Ruleset {
-    /// Returns the verdict on a packet that runs through `FORWARD` in that state. For many packets a
-    /// `Filter` is faster.
+    /// Returns the verdict on a packet that traverses `FORWARD` in this state. For many packets a `Filter` is
+    /// faster.
     pub fn verdict(&self, packet: &Packet, state: CtState) -> Verdict
         ensures { HasVerdict self.now packet.now state result }
     {
         self.verdict_in(FORWARD, packet, state)
     }
 
-    /// Returns the verdict on a packet that runs through a built-in chain in that state: `INPUT`,
-    /// `FORWARD` or `OUTPUT`.
+    /// Returns the verdict on a packet that traverses a built-in chain in this state: `INPUT`, `FORWARD` or
+    /// `OUTPUT`.
     pub fn verdict_in(&self, chain: u16, packet: &Packet, state: CtState) -> Verdict
         requires { chain < 3 }
         ensures { HasVerdictIn self.now chain packet.now state result }
@@ -34,8 +34,8 @@ impl Ruleset {
         }
     }
 
-    /// Returns the verdict on the least packet of a box that runs through `FORWARD` in that state.
-    /// Narrows the box until all of its packets have this verdict.
+    /// Returns the verdict on the least packet of a box that traverses `FORWARD` in this state. Narrows the
+    /// box until all of its packets have this verdict.
     pub fn verdict_within(&self, within: &mut PacketBox, state: CtState) -> Verdict
         requires { IsBox within.old }
         ensures part { Narrows within.old within.new }

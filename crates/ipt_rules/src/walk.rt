@@ -1,9 +1,9 @@
-//! What the chains give a packet. A chain is walked along its rules, and where one of them jumps to a
-//! chain that is not known to return, that one is walked first. A verdict is that of all walks that wait
-//! for it. That a chain returned is kept for the packet, so that no chain is walked twice, however the
-//! jumps are nested, and it takes no memory. Only where more walks wait at once than there is room for
-//! are all walked anew, with room for as many as there are chains. Where chains have indexes, rules
-//! whose prefixes do not cover the packet's addresses are passed over.
+//! The outcome of a chain for a packet. The traversal follows the rules of a chain, and at a jump to a chain
+//! that is not known to return, traverses that chain first. A verdict of a chain is the verdict of all
+//! traversals on the stack. The traversal records for the packet that a chain returned. Hence no chain is
+//! traversed twice, however the jumps are nested, and no memory is allocated. If the stack overflows, the
+//! traversal starts again with a stack as large as the number of chains. If chains have indexes, rules whose
+//! prefixes do not cover the packet's addresses are skipped.
 
 ghost use Rattle.std.specs.Prelude.{◌≡◌, ◌<◌, ◌≤◌, length, IfOk, IfSome, IsOk};
 ghost use Rattle.ipt_rules.specs.Matching.{matches};
@@ -23,15 +23,15 @@ use crate::ruleset::CHAIN_LIMIT;
 use arrayvec::ArrayVec;
 use host_net::{Covers, CtState, Packet, Verdict};
 
-/// The built-in chains and one for each of 256 hosts. For up to so many a packet needs less room, and
-/// less time to clear it.
+/// The built-in chains and one for each of 256 hosts. Up to this number of chains a packet needs less space,
+/// and less time to clear it.
 pub(crate) const FEW_CHAINS: usize = 259;
 
-/// Seldom do more walks than these wait at once. For no more of them a packet needs less room as well.
+/// A stack size that is seldom exceeded. Up to this size a packet needs less space as well.
 pub(crate) const FEW_WALKS: usize = 16;
 
-/// What one rule does with a packet: it goes on to the next rule, decides, returns from its chain, or
-/// walks another chain.
+/// The step of one rule on a packet: it continues with the next rule, decides, returns from its chain, or
+/// traverses another chain.
 #[derive(Drop)]
 pub(crate) enum Step {
     GoesOn,
@@ -40,15 +40,15 @@ pub(crate) enum Step {
     Walks(u16),
 }
 
-/// A chain that is walked, and the place of the next of its rules to be looked at.
+/// A traversal of a chain, and the index of its next rule.
 #[derive(Clone, Copy, Default)]
 pub(crate) struct Walk {
     pub(crate) chain: u16,
     pub(crate) from: usize,
 }
 
-/// Where a walk along a chain stops: at a verdict; where the chain returns; or at a rule that jumps to
-/// a chain that is to be walked first.
+/// Where the traversal of a chain stops: at a verdict, at a return, or at a rule that jumps to a chain that
+/// has to be traversed first.
 #[derive(Drop)]
 pub(crate) enum Stop {
     Decides(Verdict),
@@ -56,7 +56,7 @@ pub(crate) enum Stop {
     Asks { chain: u16, at: usize },
 }
 
-/// More walks would wait at once than there is room for.
+/// The stack overflowed.
 #[derive(Debug, Drop)]
 pub(crate) struct NoRoom;
 
@@ -66,7 +66,7 @@ fn step_at(rule: &Rule, packet: &Packet, state: CtState) -> Step
     step_by(rule.matches(packet, state), rule.target)
 }
 
-/// What a rule does, by whether it fits.
+/// Returns the step of a rule, by whether the rule matches.
 pub(crate) fn step_by(fits: bool, target: Target) -> Step
     ensures { step_view result ≡ step_of fits target }
 {
@@ -90,14 +90,14 @@ pub(crate) fn rules_of(chains: &[Chain], number: u16) -> &[Rule]
     chains[number as usize].rules()
 }
 
-/// Whether it is known that a chain returns.
+/// Whether a chain is known to return.
 pub(crate) fn returns_at(returning: &[bool], chain: u16) -> bool
     ensures { result ≡ returns_at returning.now chain }
 {
     returning.get(chain as usize).copied().unwrap_or(false)
 }
 
-/// Goes on with a walk, by which other chains are known to return.
+/// Continues a traversal, given the other chains that are known to return.
 fn walk_on(
     chains: &[Chain],
     walk: Walk,
@@ -131,8 +131,8 @@ fn walk_on(
     Stop::Returns
 }
 
-/// What a chain gives a packet from its first rule, a verdict or None where it returns. There are at
-/// most N chains, and room for D walks.
+/// Returns the outcome of a chain for a packet from its first rule: a verdict, or `None` if it returns. There
+/// are at most N chains, and the stack has capacity D.
 fn outcome_among<const N: usize, const D: usize>(
     chains: &[Chain],
     indexes: &[Covers],
@@ -174,7 +174,7 @@ fn outcome_among<const N: usize, const D: usize>(
     Ok(None)
 }
 
-/// What a chain gives a packet from its first rule.
+/// Returns the outcome of a chain for a packet from its first rule.
 pub(crate) fn outcome(
     chains: &[Chain],
     indexes: &[Covers],
@@ -204,7 +204,7 @@ pub(crate) fn outcome(
     }
 }
 
-/// The policy of a chain, which a user chain lacks.
+/// Returns the policy of a chain. A user chain has none.
 #[tactic(auto, using(crate::proofs::ChainLemmas::policy_of_read))]
 pub(crate) fn policy_of(chains: &[Chain], number: u16) -> Option<Policy>
     requires { number < length chains.now }

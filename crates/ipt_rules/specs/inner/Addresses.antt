@@ -1,11 +1,11 @@
--- That the addresses which rules ask for have 32 bits.
+-- Whether the addresses that rules match on have 32 bits.
 use Rattle.std.specs.Prelude.{◌^◌, Bool, true, ◌&&◌, nat_lt, IsTrue, List, Option, Some, None}
 use Rattle.std.specs.List.{list_all}
 use Rattle.ipt_rules.specs.declared.rule.AddrMatch.{AddrMatch}
 use Rattle.ipt_rules.specs.declared.rule.Rule.{Rule}
 use Rattle.ipt_rules.specs.Chain.{Chain}
 
--- an address that is asked for has 32 bits
+-- The address of a match has 32 bits.
 abbrev pub address_fits : Option AddrMatch → Bool
 address_fits None = true
 address_fits (Some part) = nat_lt part.prefix.addr (2 ^ 32)

@@ -1,4 +1,4 @@
--- Walks of all packets of a box. Callers see none of it; they have `Meaning`.
+-- Traversals by all packets of a box. These definitions are internal; callers use `Meaning`.
 use Rattle.std.specs.Prelude.{ℕ, List, Bool, Option}
 use Rattle.host_net.specs.declared.packet.Packet.{Packet}
 use Rattle.host_net.specs.declared.packet.CtState.{CtState}
@@ -13,7 +13,7 @@ use Rattle.ipt_rules.specs.Matching.{matches}
 use Rattle.ipt_rules.specs.Meaning.{Gives}
 use Rattle.ipt_rules.specs.inner.Walking.{DoReturn, IsWalk, StopsAt}
 
--- it holds for all packets of a box, by which rules fit them
+-- `Holds` is true for all packets of a box, by the rules that match them.
 abbrev pub ForAll : CtState → PacketBox → ((Rule → Bool) → Type 0) → Type 0
 ForAll state b Holds = (p : Packet) → IsIn b p → Holds (matches p state)
 
@@ -26,6 +26,6 @@ AllReturn state b chains returning = ForAll state b (λ fits. DoReturn fits chai
 abbrev pub AllStopAt : CtState → PacketBox → List Chain → List Bool → ℕ → Stop → Type 0
 AllStopAt state b chains returning c stop = ForAll state b (λ fits. StopsAt fits chains returning c stop)
 
--- the chain gives all packets of the box this outcome
+-- The outcome of chain c on all packets of the box.
 abbrev pub AllGive : CtState → PacketBox → List Chain → ℕ → Option Verdict → Type 0
 AllGive state b chains c outcome = ForAll state b (λ fits. Gives fits chains (rules_of chains c) outcome)

@@ -1,4 +1,4 @@
--- Which chains make a table.
+-- Which chains form a table.
 use Rattle.std.specs.Prelude.{◌≡◌, ◌≤◌, ℕ, ◌<◌, IsSome, IsTrue, List, [], Option, Some, None, length, codes}
 use Rattle.std.specs.Option.{option_map_or, option_and_then}
 use Rattle.ipt_rules.specs.Name.{is_user_name}
@@ -9,7 +9,7 @@ use Rattle.ipt_rules.specs.Chain.{Chain, name_of, number_of, policy_of}
 use Rattle.ipt_rules.specs.inner.RuleParts.{AreRules}
 use Rattle.ipt_rules.specs.ChainTable.{rule_count}
 
--- the parts of a chain that may not be there
+-- The fields of a chain that may not exist.
 abbrev pub rules_in : Option Chain → List Rule
 rules_in chain = option_map_or (λ x. x.rules) chain []
 
@@ -19,8 +19,8 @@ name_in chain = option_map_or (λ x. x.name) chain []
 abbrev pub policy_in : Option Chain → Option Policy
 policy_in chain = option_and_then (λ x. x.policy) chain
 
--- the chains of a table: the built-in ones first, each with a policy, then user chains, each with a legal name
--- and no policy; and each chain is the one that is found by its name, so that no two have the same
+-- The chains of a table: the built-in chains first, each with a policy, then user chains, each with a legal name and no policy.
+-- Looking up the name of a chain finds this chain, hence all names are distinct.
 pub record IsTable (chains : List Chain) : Type 0 where
   pub input : name_of chains 0 ≡ codes "INPUT"
   pub forward : name_of chains 1 ≡ codes "FORWARD"
@@ -29,8 +29,8 @@ pub record IsTable (chains : List Chain) : Type 0 where
   pub user : (c : ℕ) → 3 ≤ c → c < length chains → IsTrue (is_user_name (name_of chains c)) × (policy_of chains c ≡ None)
   pub found : (c : ℕ) → c < length chains → number_of chains (name_of chains c) ≡ Some c
 
--- what holds of chains at all times: they are a table, the numbers fit, the rules are counted, their addresses have 32 bits, and
--- they ask for protocols and ports as rules may
+-- The invariant of chains: they form a table, their numbers are in range, their rules are counted, their addresses have 32 bits, and
+-- their matches on protocols and ports are valid.
 pub record IsChainList (chains : List Chain) (rules : ℕ) : Type 0 where
   pub table : IsTable chains
   pub numbered : length chains ≤ 65536

@@ -1,4 +1,4 @@
--- How the head of a chain is seen: its name and its policy.
+-- The model of the head of a chain: its name and its policy.
 use Rattle.std.specs.Prelude.{ℕ, List, Option, Some, None, codes}
 use Rattle.ipt_rules.specs.declared.rule.Policy.{Policy}
 use Rattle.ipt_rules.specs.declared.chain.Head.{Head}

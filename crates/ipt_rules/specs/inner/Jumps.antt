@@ -1,5 +1,6 @@
--- What holds of a rule set at all times: its jumps go to chains that are there, it keeps where the rules of
--- each chain begin, and its chains have an order in which each jump goes back. Callers see none of it; they have what `build` ensures.
+-- The invariant of a rule set: its jumps go to existing chains, it stores the number of the first rule of each chain, and its
+-- chains have an order in which each jump goes to an earlier chain. These definitions are internal; callers use the
+-- postconditions of `build`.
 use Rattle.std.specs.Prelude.{◌≡◌, ℕ, ◌<◌, ◌≤◌, not, IsNone, IsTrue, List, length}
 use Rattle.std.specs.List.{list_all}
 use Rattle.ipt_rules.specs.declared.rule.Target.{Target}
@@ -11,16 +12,16 @@ use Rattle.ipt_rules.specs.inner.ChainTable.{IsChainList}
 use Rattle.ipt_rules.specs.inner.Ranks.{HasRanking}
 use Rattle.ipt_rules.specs.inner.Starts.{starts_from}
 
--- a jump goes to a chain that is there
+-- A jump goes to an existing chain.
 abbrev pub JumpsIn : ℕ → Target → Type 0
 JumpsIn count (Jump d) = d < count
 JumpsIn count _ = Unit {0}
 
--- each jump goes to a user chain that is there
+-- Each jump goes to an existing user chain.
 pub record JumpsAreKnown (chains : List Chain) : Type 0 where
   pub from : (c : ℕ) → IsTrue (list_all (λ r. not (jumps_nowhere (length chains) r.target)) (rules_of chains c))
 
--- what holds of a rule set at all times
+-- The invariant of a rule set.
 pub record IsRuleset (chains : List Chain) (rules : ℕ) (starts : List ℕ) : Type 0 where
   pub list : IsChainList chains rules
   pub accepted : IsNone (refusal_of chains)

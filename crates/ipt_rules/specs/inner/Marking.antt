@@ -1,4 +1,4 @@
--- How rules are marked. Callers see none of it; they have `Marks`.
+-- Updates of the marks of rules. These definitions are internal; callers use `Marks`.
 use Rattle.std.specs.Prelude.{Bool, true, false, List}
 use Rattle.std.specs.Prelude.{map, replicate, length, slice_set}
 use Rattle.ipt_rules.specs.declared.marks.Place.{Place}
@@ -13,7 +13,7 @@ no_marks chains = map (λ x. replicate (length x.rules) false) chains
 abbrev pub with_mark : List (List Bool) → Place → List (List Bool)
 with_mark marks place = slice_set marks place.chain (slice_set (marks_of marks place.chain) place.rule true)
 
--- The marks with the rule at a place marked if it fits.
+-- The marks with the rule at a place marked if it matches.
 abbrev pub with_mark_if : Bool → List (List Bool) → Place → List (List Bool)
 with_mark_if false marks place = marks
 with_mark_if true marks place = with_mark marks place

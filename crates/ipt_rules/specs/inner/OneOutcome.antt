@@ -1,4 +1,4 @@
--- That each chain gives one outcome, and the verdict of FORWARD.
+-- The uniqueness of the outcome of each chain, and the verdict of FORWARD.
 use Rattle.std.specs.Prelude.{◌≡◌, ℕ, Bool, List, Option, drop}
 use Rattle.ipt_rules.specs.declared.rule.Rule.{Rule}
 use Rattle.host_net.specs.declared.packet.Verdict.{Verdict}
@@ -7,16 +7,16 @@ use Rattle.ipt_rules.specs.Meaning.{Gives, HasVerdictIn}
 use Rattle.host_net.specs.declared.packet.Packet.{Packet}
 use Rattle.host_net.specs.declared.packet.CtState.{CtState}
 
--- the rules give one outcome, and no other
+-- The rules have exactly one outcome.
 pub record GivesOne (fits : Rule → Bool) (chains : List Chain) (rules : List Rule) : Type 0 where
   pub outcome : Option Verdict
   pub gives : Gives fits chains rules outcome
   pub only : (o : Option Verdict) → Gives fits chains rules o → o ≡ outcome
 
--- whatever the rules fit, each chain gives one outcome from each place
+-- Regardless of which rules match, each chain has exactly one outcome from each index on.
 abbrev pub EachGivesOne : List Chain → Type 0
 EachGivesOne chains = (fits : Rule → Bool) (c k : ℕ) → GivesOne fits chains (drop k (rules_of chains c))
 
--- the verdict on a packet that is forwarded: that of FORWARD, chain 1
+-- The verdict on a packet that is forwarded is the verdict of FORWARD, chain 1.
 abbrev pub HasVerdict : List Chain → Packet → CtState → Verdict → Type 0
 HasVerdict chains = HasVerdictIn chains 1

@@ -1,4 +1,4 @@
--- How chains are sliced. Callers see none of it; they have `Slices`.
+-- The construction of slices of chains. These definitions are internal; callers use `Slices`.
 use Rattle.std.specs.Prelude.{◌≡◌, ℕ, ◌+◌, ◌<◌, ◌≤◌, Bool, true, false, List, [], ◌∷◌, length}
 use Rattle.std.specs.List.{list_all}
 use Rattle.host_net.specs.declared.packet.Packet.{Packet}
@@ -14,17 +14,17 @@ use Rattle.ipt_rules.specs.Matching.{matches}
 use Rattle.ipt_rules.specs.inner.Ranks.{HasRanking}
 use Rattle.ipt_rules.specs.inner.Walking.{returns_at}
 
--- A rule fits no packet of the box, in any state.
+-- A rule matches no packet of the box, in any state.
 abbrev pub FitsNone : PacketBox → Rule → Type 0
 FitsNone b r = (p : Packet) → IsIn b p → (state : CtState) → matches p state r ≡ false
 
--- Rules are thinned: those that are left out fit no packet of the box.
+-- Rules are thinned: the rules that are omitted match no packet of the box.
 pub data Thins (b : PacketBox) : List Rule → List Rule → Type 0 where
   thin_end : Thins b [] []
   thin_keeps : {r : Rule} {rs : List Rule} {ts : List Rule} → Thins b rs ts → Thins b (r ∷ rs) (r ∷ ts)
   thin_drops : {r : Rule} {rs : List Rule} {ts : List Rule} → FitsNone b r → Thins b rs ts → Thins b (r ∷ rs) ts
 
--- The rules of a chain are thinned or, unless the chain is marked, left out.
+-- The rules of a chain are thinned or, unless the chain is marked, omitted.
 abbrev pub IsThinned : PacketBox → Bool → List Rule → List Rule → Type 0
 IsThinned b true rs ts = Thins b rs ts
 IsThinned b false rs ts = ts ≡ []
@@ -33,7 +33,7 @@ pub record IsSliceOf (b : PacketBox) (marked : Bool) (x y : Chain) : Type 0 wher
   pub policy : y.policy ≡ x.policy
   pub rules : IsThinned b marked x.rules y.rules
 
--- Chains from number n on, each with its slice.
+-- The chains from number n on, each with its slice.
 abbrev pub AreSlices : PacketBox → List Bool → ℕ → List Chain → List Chain → Type 0
 AreSlices b marks n [] [] = Unit {0}
 AreSlices b marks n [] (y ∷ ys) = ⊥
@@ -51,7 +51,7 @@ all_stay marks rules = list_all (λ r. stays marks r.target) rules
 abbrev pub chains_stay : List Bool → List Chain → Bool
 chains_stay marks chains = list_all (λ x. all_stay marks x.rules) chains
 
--- What holds of a slice at all times.
+-- The invariant of a slice.
 pub record IsSlice (chains : List Chain) : Type 0 where
   pub few_chains : length chains ≤ 4096
   pub forward : 1 < length chains

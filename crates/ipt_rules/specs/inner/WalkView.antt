@@ -1,4 +1,4 @@
--- What a step of the code's walk stands for.
+-- The model of a step of the traversal in code.
 use Rattle.std.specs.Prelude.{Some, None}
 use Rattle.ipt_rules.specs.declared.walk.Step.{Step}
 use Rattle.ipt_rules.specs.declared.walk.Step.TheVariants as code

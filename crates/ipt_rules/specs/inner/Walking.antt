@@ -1,4 +1,4 @@
--- Walks along chains, and which chains are known to return. Callers see none of it.
+-- Traversals of chains, and the chains that are known to return. These definitions are internal.
 use Rattle.std.specs.Prelude.{◌≡◌, ℕ, ◌<◌, ◌≤◌, List, Bool, true, false, Option, Some, None, slice_get, length, drop, Contains}
 use Rattle.std.specs.Option.{unwrap_or}
 use Rattle.ipt_rules.specs.declared.rule.Rule.{Rule}
@@ -10,36 +10,36 @@ use Rattle.ipt_rules.specs.Chain.{Chain, rules_of}
 use Rattle.ipt_rules.specs.Loops.{jumps_from}
 use Rattle.ipt_rules.specs.Meaning.{Gives}
 
--- whether it is known that chain c returns
+-- Whether chain c is known to return.
 abbrev pub returns_at : List Bool → ℕ → Bool
 returns_at returning c = unwrap_or (slice_get returning c) false
 
--- those of which it is known do return
+-- The chains that are known to return do return.
 abbrev pub DoReturn : (Rule → Bool) → List Chain → List Bool → Type 0
 DoReturn fits chains returning = (c : ℕ) → returns_at returning c ≡ true → Gives fits chains (rules_of chains c) None
 
--- where chain d comes to a verdict, chain c does
+-- Each verdict of chain d is a verdict of chain c.
 abbrev pub DecidesFor : (Rule → Bool) → List Chain → ℕ → ℕ → Type 0
 DecidesFor fits chains d c = (v : Verdict) → Gives fits chains (rules_of chains d) (Some v) → Gives fits chains (rules_of chains c) (Some v)
 
--- every outcome that the rules that are left give
+-- Each outcome of the remaining rules is an outcome of the rules.
 pub record GivesAlso (fits : Rule → Bool) (chains : List Chain) (left rules : List Rule) : Type 0 where
   pub gives : (o : Option Verdict) → Gives fits chains left o → Gives fits chains rules o
 
--- what the rules of the chain that are left give, the chain gives
+-- Each outcome of the remaining rules of the chain is an outcome of the chain.
 pub record IsWalk (fits : Rule → Bool) (chains : List Chain) (w : Walk) : Type 0 where
   pub there : w.chain < length chains
   pub within : w.from ≤ length (rules_of chains w.chain)
   pub also : GivesAlso fits chains (drop w.from (rules_of chains w.chain)) (rules_of chains w.chain)
 
--- chain c jumps to chain d, which decides for it or returns; and then it is walked on from there
+-- Chain c jumps to chain d, which decides for chain c or returns. If chain d returns, the traversal continues from `at`.
 pub record AsksFor (fits : Rule → Bool) (chains : List Chain) (returning : List Bool) (c d at : ℕ) : Type 0 where
   pub jumps : Contains (jumps_from chains c) d
   pub unknown : returns_at returning d ≡ false
   pub decides : DecidesFor fits chains d c
   pub walk : IsWalk fits chains (record { chain = c; from = at })
 
--- where a walk along chain c stops
+-- Where the traversal of chain c stops.
 abbrev pub StopsAt : (Rule → Bool) → List Chain → List Bool → ℕ → Stop → Type 0
 StopsAt fits chains returning c (Decides v) = Gives fits chains (rules_of chains c) (Some v)
 StopsAt fits chains returning c Returns = Gives fits chains (rules_of chains c) None

@@ -1,4 +1,4 @@
--- The chains that stand as a text: those of every rule set. What is written of them is read again.
+-- The chains that can be written as text: the chains of every rule set. Their text can be read back.
 use Rattle.std.specs.Prelude.{◌≡◌, List, None}
 use Rattle.ipt_rules.specs.inner.Addresses.{AddressesFit}
 use Rattle.ipt_rules.specs.inner.Build.{refusal_of}
@@ -7,7 +7,7 @@ use Rattle.ipt_rules.specs.inner.ChainTable.{IsTable}
 use Rattle.ipt_rules.specs.Loops.{HasNoLoop}
 use Rattle.ipt_rules.specs.inner.RuleParts.{AreRules}
 
--- a table that `Ruleset::build` does not refuse, whose addresses have 32 bits
+-- A table that `Ruleset::build` does not refuse, whose addresses have 32 bits.
 pub record IsWritable (chains : List Chain) : Type 0 where
   pub table : IsTable chains
   pub accepted : refusal_of chains ≡ None

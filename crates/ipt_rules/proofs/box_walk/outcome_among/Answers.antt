@@ -10,7 +10,7 @@ use Rattle.ipt_rules.specs.inner.Walking.{returns_at}
 use Rattle.ipt_rules.proofs.WalkingLemmas.{Waiting, asked_room, fewer_unknown, last_decides, last_unknown, last_walk, waiting_asked, waiting_ended, waiting_first}
 use Rattle.ipt_rules.proofs.box_walk.outcome_among.Goals as goal
 
--- ---- the first walk
+-- ---- the first traversal
 
 pub loop-walk-init : goal.loop-walk-init
 loop-walk-init g c = record {
@@ -22,7 +22,7 @@ loop-walk-init g c = record {
       (waiting_first (matches p c.args.state) c.args.chains.now c.args.number g.row.N c.requires.ranking c.requires.there);
 }
 
--- ---- a walk goes on
+-- ---- a traversal continues
 
 waiting_at : (fits : Rule → Bool) (chains : List Chain) (number : ℕ) (returning : List Bool) (walks rest : List Walk) (w : Walk) → walks ≡ rest ++ w ∷ [] → Waiting fits chains number returning walks → Waiting fits chains number returning (rest ++ w ∷ [])
 waiting_at fits chains number returning walks rest w same is = subst (λ (ws : List Walk). Waiting fits chains number returning ws) same is
@@ -90,7 +90,7 @@ loop-walk-preserved-in-Returns g c = record {
       (omega (arith, walk.there, c.requires.few_chains, c.loop-walk.invariant.long)) (c.in-Returns.ensures.stops p inside);
 }
 
--- ---- another chain is walked first
+-- ---- another chain is traversed first
 
 full : (n d count used : ℕ) → used + 2 ≤ count → count ≤ n → n ≤ d → d < used + 2 → ⊥
 full n d count used room few enough over = omega (arith, room, few, enough, over)
@@ -137,7 +137,7 @@ loop-walk-preserved g c = record {
       (waiting_asked fits c.args.chains.now c.args.number c.loop-walk.returning c.pop.new.self.items c.in-Some.walk is c.in-Asks.chain c.in-Asks.at (c.in-Asks.ensures.stops p inside));
 }
 
--- ---- no walk waits
+-- ---- the stack is empty
 
 none_left : (walks : List Walk) → (0 < length walks → false ≡ true) → walks ≡ []
 none_left [] none = refl

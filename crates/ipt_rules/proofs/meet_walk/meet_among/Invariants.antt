@@ -8,7 +8,7 @@ use Rattle.ipt_rules.proofs.MeetWaitLemmas.{Marking}
 use Rattle.ipt_rules.proofs.WalkingLemmas.{Waiting}
 use Rattle.ipt_rules.proofs.meet_walk.meet_among.Given as goal
 
--- each step tells of one more chain that it returns, or begins the walk of one
+-- Each step records that one more chain returns, or starts the traversal of a chain.
 abbrev pub decreases-loop-walk : goal.decreases-loop-walk
 decreases-loop-walk g l = 2 * count_by not l.returning + (g.row.N - length l.walks.items)
 

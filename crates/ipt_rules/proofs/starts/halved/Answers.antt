@@ -10,7 +10,7 @@ point c =
     IsPartitionPoint-from_clause (λ y. leb y c.args.number) _ _ c.partition_point.ensures.partitioned
     (IsPartitionedBy-leb (λ y. y) _ c.args.number c.requires.rising) (λ a r q k. search rules)
 
--- the first start is not behind the number
+-- The first start is at most the number.
 pub overflow_sub-result : goal.overflow_sub-result
 overflow_sub-result c = elim (cases_lt 0 c.partition_point.result) [
   | inl some ↦ omega (arith, some)

@@ -52,7 +52,7 @@ returns-then-left-rules-clause-line c =
     ∙ (ap (λ (name : List ℕ). Some (rule_line c.args.chains.now name c.index-rules-left.result)) (sym c.name.ensures.value)
     ∙ ap (λ (l : List ℕ). Some l) (sym c.write_rule_line.ensures.line)))
 
--- after the rules of the chain come those of the next one, or the last line
+-- The rules of the next chain, or the last line, follow the rules of the chain.
 pub returns-clause-line : goal.returns-clause-line
 unfolding rest_lines
 returns-clause-line c =

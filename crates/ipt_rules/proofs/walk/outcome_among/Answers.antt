@@ -13,7 +13,7 @@ use Rattle.ipt_rules.specs.inner.Walking.{returns_at}
 use Rattle.ipt_rules.proofs.WalkingLemmas.{Waiting, fewer_unknown, waiting_first, last_walk, last_unknown, waiting_ended, asked_room, waiting_asked}
 use Rattle.ipt_rules.proofs.walk.outcome_among.Goals as goal
 
--- ---- the room that the walks take
+-- ---- the capacity of the stack
 
 small_room : (n : ℕ) → n ≤ 4096 → up 8 (up 1 (up 8 (0 + up 8 (0 + n * 16)) + 8) + 0) < 9223372036854775808
 small_room n few = omega (arith, few)
@@ -33,7 +33,7 @@ pop-requires g c = small_room g.row.D c.requires.few_walks
 pub shared_whole_as_slice-walk_on : goal.shared_whole_as_slice-walk_on
 shared_whole_as_slice-walk_on g c = omega (arith, c.requires.small)
 
--- ---- the first walk
+-- ---- the first traversal
 
 pub loop-walk-init : goal.loop-walk-init
 loop-walk-init g c = record {
@@ -44,7 +44,7 @@ loop-walk-init g c = record {
       (waiting_first (matches c.args.packet.now c.args.state) c.args.chains.now c.args.number g.row.N c.requires.ranking c.requires.there);
 }
 
--- ---- a walk goes on
+-- ---- a traversal continues
 
 waiting_at : (fits : Rule → Bool) (chains : List Chain) (number : ℕ) (returning : List Bool) (walks rest : List Walk) (w : Walk) → walks ≡ rest ++ w ∷ [] → Waiting fits chains number returning walks → Waiting fits chains number returning (rest ++ w ∷ [])
 waiting_at fits chains number returning walks rest w same is = subst (λ (ws : List Walk). Waiting fits chains number returning ws) same is
@@ -103,7 +103,7 @@ loop-walk-preserved-in-Returns g c =
           (omega (arith, walk.there, c.requires.few_chains, c.loop-walk.invariant.long)) c.in-Returns.ensures;
     }
 
--- ---- another chain is walked first
+-- ---- another chain is traversed first
 
 full : (n d count used : ℕ) → used + 2 ≤ count → count ≤ n → n ≤ d → d < used + 2 → ⊥
 full n d count used room few enough over = omega (arith, room, few, enough, over)

@@ -28,7 +28,7 @@ next_rule-requires-clause-few c =
     let same = ap length c.rules_of-rules.ensures in
     omega (arith, few, same, c.requires.few)
 
--- the rules up to the next that may fit, which do not, change nothing
+-- The rules up to the next that may match do not match, and do not change the outcome.
 also_at : (fits : Rule → Bool) (chains : List Chain) (rules : List Rule) (from at : ℕ) → IsNextAt fits rules from at → GivesAlso fits chains (drop from rules) rules → GivesAlso fits chains (drop at rules) rules
 also_at fits chains rules from at next also =
     let within = next.within in

@@ -4,7 +4,7 @@ use Rattle.std.proofs.lemmas.Slice.Eq.{bytes_eq-Decides}
 use Rattle.ipt_rules.specs.Chain.{Chain, name_of, number_of}
 use Rattle.ipt_rules.proofs.chains.Chains.find.Goals as goal
 
--- a chain of the name is the one that is found by it
+-- A chain with the name is the chain that is found by it.
 found : (xs ys zs : List Chain) (number : ℕ) (name : List ℕ) → xs ≡ ys → ys ≡ zs → number_of ys (name_of ys number) ≡ Some number
     → IsTrue (bytes_eq (name_of xs number) name) → Some number ≡ number_of zs name
 found xs ys zs number name first second is named =

@@ -11,7 +11,7 @@ returns-then-at-row-clause-part c =
     looked_at c.args.table.now c.args.self.now.order.items c.args.self.now.places.items c.args.self.now.looked.items c.requires.part c.args.chain c.index-2.result.now c.passed-at.result c.row-row.result.now c.deref.result.now
     c.requires.there c.index-2.ensures c.row-row.ensures c.deref.ensures.value c.passed-at.ensures.within c.passed-at.ensures.passed
 
--- the first jump that was not passed goes to a chain without a place
+-- The first jump that was not passed goes to a chain without a position.
 stuck_at : (table : List (List ℕ)) (places ps : List (Option ℕ)) (c at : ℕ) (row : List ℕ) → row ≡ row_of table c → ps ≡ places → at < length row → ((d : ℕ) → slice_get row at ≡ Some d → place_of ps d ≡ None) → IsStuck table places c
 stuck_at table places ps c at row same_row same_places low stops =
     let d : ℕ = get_or row at 0 in

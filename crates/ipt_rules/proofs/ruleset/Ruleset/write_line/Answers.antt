@@ -6,7 +6,7 @@ use Rattle.ipt_rules.proofs.TextLaws.{length-text_lines}
 use Rattle.ipt_rules.proofs.TextLemmas.{chain_there, rest_there, rest_lines}
 use Rattle.ipt_rules.proofs.ruleset.Ruleset.write_line.Goals as goal
 
--- a line after the first, found by the number before it
+-- A line after the first, found by the preceding number.
 behind : (chains xs : List Chain) (i : ℕ) (line : List ℕ) → xs ≡ chains → (i ≡ 0 → ⊥) → slice_get (text_lines xs) (i - 1 + 1) ≡ Some line → slice_get (text_lines chains) i ≡ Some line
 behind chains xs i line same later found =
     let number : i - 1 + 1 ≡ i = omega arith in
