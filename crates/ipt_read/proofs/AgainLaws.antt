@@ -1,4 +1,4 @@
--- What is written is read: the text of a rule set has that rule set as its reading.
+-- Round trip: the text of a rule set parses to that rule set.
 use Rattle.std.proofs.Common.{◌≤◌, sym, subst, List, length}
 use Rattle.ipt_rules.specs.Chain.{Chain}
 use Rattle.ipt_rules.specs.Loops.{HasNoLoop}
@@ -8,7 +8,7 @@ use Rattle.ipt_read.proofs.TextAgainLaws.{again}
 use Rattle.ipt_read.proofs.FineRulesLaws.{has_fine_rules}
 use Rattle.ipt_read.specs.TextLines.{IsReading}
 
--- where the text is not too long
+-- For texts within the size limit.
 pub text_read_again : (all : List Chain) → IsWritable all → length (text all) ≤ 67108864 → IsReading (text all) all
 text_read_again all writable short =
     let read = again all (has_fine_rules all writable) in

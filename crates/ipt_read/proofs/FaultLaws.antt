@@ -1,4 +1,4 @@
--- A text has one reading at most and one first fault at most, and not both.
+-- A file has at most one parse result and at most one first error, and not both.
 use Rattle.std.proofs.Common.{◌≡◌, ℕ, ◌≤◌, ◌∙◌, sym, ap, refl, List, arith}
 use Rattle.std.specs.Prelude.{Result, Ok, Err}
 use Rattle.text_core.proofs.TextByLinesLaws.{IsSettled, one_reading as reading_once, one_fault as fault_once, no_reading_with_fault as reading_or_fault_alone}
@@ -25,7 +25,7 @@ good_or_bad : (n : ℕ) (s : SaidSoFar) (l : List ℕ) (t : SaidSoFar) (w : IptW
 good_or_bad n s l t w p q =
     let both : ◌≡◌ {A = Result SaidSoFar IptWhy} (Ok t) (Err w) = sym (read_of_line n s t l p) ∙ step_of_bad_line n s l w q in cc
 
--- 2. The end.
+-- 2. The end of the file.
 
 same_least : (xs : List Chain) (c d : ℕ) → IsLeastLoop xs c → IsLeastLoop xs d → c ≡ d
 same_least xs c d p q = let a : c ≤ d = p.least d q.back in let b : d ≤ c = q.least c p.back in omega arith
@@ -49,7 +49,7 @@ rules_settled = record {
   ends_or_not = λ n s l w p q. ends_or_not n s l w p.0 p.1 q;
 }
 
--- 3. Texts.
+-- 3. Files.
 
 pub one_reading : (bytes : List ℕ) (a b : List Chain) → IsReading bytes a → IsReading bytes b → a ≡ b
 one_reading bytes a b p q =

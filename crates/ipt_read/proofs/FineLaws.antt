@@ -1,4 +1,4 @@
--- What holds between two lines holds after each line.
+-- Each line preserves the invariant of the parser state.
 use Rattle.text_core.specs.Lines.{words}
 use Rattle.std.proofs.Common.{◌≡◌, ℕ, ◌∙◌, sym, refl, subst, List, [], ◌∷◌, ◌++◌, None, length, arith, length-append, length-set}
 use Rattle.std.specs.Prelude.{Ok}
@@ -48,6 +48,6 @@ fine_behind n s t ws (rule {c = c} {r = r} stage line few) fine =
 pub fine_kept : (n : ℕ) (s t : SaidSoFar) (l : List ℕ) → IsFine s → line_step n s l ≡ Ok t → IsFine t
 fine_kept n s t l fine read = fine_behind n s t (words l) (line_of_read n s t l read) fine
 
--- chains that were read are refused for a loop or for want of memory alone
+-- Chains that were parsed are rejected only for a cycle or an allocation failure.
 pub fine_not_refused : (s : SaidSoFar) → IsFine s → refusal_of s.chains ≡ None
 fine_not_refused s fine = not_refused s.chains fine.few_chains (omega (arith, fine.few_rules, fine.counted)) fine.goes

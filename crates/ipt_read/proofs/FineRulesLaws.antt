@@ -1,4 +1,4 @@
--- What the lines of a text need to be read again, from what holds of every rule set.
+-- The requirements for parsing the lines of a text back, from the invariants of every rule set.
 use Rattle.std.proofs.Common.{◌≡◌, ◌<◌, ◌≤◌, ◌^◌, ◌+◌, ℕ, true, false, List, [], ◌∷◌, Option, Some, None, length, arith}
 use Rattle.std.specs.Prelude.{IfSome, IsTrue}
 use Rattle.std.specs.List.{list_all, position_from}
@@ -19,7 +19,7 @@ use Rattle.ipt_rules.specs.inner.Writable.{IsWritable}
 use Rattle.ipt_rules.proofs.BuildLemmas.{known_first, none_at}
 use Rattle.ipt_read.specs.inner.Goes.{Goes}
 
--- an address that a rule asks for is one of 32 bits
+-- An address that a rule matches has 32 bits.
 abbrev pub AddressFits : Option AddrMatch → Type 0
 AddressFits o = IfSome o (λ part. part.prefix.addr < 2 ^ 32)
 
@@ -31,8 +31,7 @@ abbrev pub ChainsAreFine : ℕ → List Chain → Type 0
 ChainsAreFine count [] = Unit {0}
 ChainsAreFine count (x ∷ xs) = RulesAreFine count x.rules × ChainsAreFine count xs
 
--- a table within the limits, whose rules ask for what rules may, whose addresses have 32 bits and whose jumps go to user chains
--- and never back
+-- A table within the limits, whose rules are valid, whose addresses have 32 bits, and whose jumps lead to user chains and form no cycle.
 pub record HasFineRules (all : List Chain) : Type 0 where
   pub named : IsTable all
   pub few_chains : length all ≤ 4096

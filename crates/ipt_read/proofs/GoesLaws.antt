@@ -1,4 +1,4 @@
--- What is read jumps to user chains that are there, so that only a loop or want of memory can keep it from being a rule set.
+-- Parsed rules jump to existing user chains, so only a cycle or an allocation failure can prevent a rule set.
 use Rattle.std.proofs.Common.{◌≡◌, ℕ, zero, suc, ◌+◌, ◌<◌, ◌≤◌, Bool, true, false, sym, refl, subst, inl, inr, List, [], ◌∷◌, ◌++◌, Option, Some, None, length, arith}
 use Rattle.std.specs.Prelude.{codes, bytes_eq, nat_lt, unwrap_or}
 use Rattle.std.specs.List.{position_from}
@@ -16,7 +16,7 @@ use Rattle.ipt_read.specs.Grammar.{IsValue, source, destination, protocol, sourc
 use Rattle.ipt_read.specs.inner.Goes.{Goes, AllGo, EachGoes}
 use Rattle.ipt_read.proofs.WithinLaws.{number_of_within}
 
--- 1. Along changes of the chains.
+-- 1. Changes of the chains.
 
 goes_more : (n m : ℕ) (t : Target) → n ≤ m → Goes n t → Goes m t
 goes_more n m (Jump c) h goes = (goes.0, omega (arith, goes.1))
@@ -51,7 +51,7 @@ pub each_with_rule : (n : ℕ) (xs : List Chain) (c : ℕ) (r : Rule) → Goes n
 unfolding with_rule
 each_with_rule n xs c r goes go = each_changed n xs c (λ x. record x { rules = x.rules ++ r ∷ [] }) (λ x h. all_one_more n x.rules r goes h) go
 
--- 2. Of a rule line that is read.
+-- 2. Parsed rule lines.
 
 abbrev TargetGoes : ℕ → Option Target → Type 0
 TargetGoes n None = Unit {0}
@@ -60,7 +60,7 @@ TargetGoes n (Some t) = Goes n t
 said_goes : (n : ℕ) (t u : Target) → ◌≡◌ {A = Option Target} (Some t) (Some u) → Goes n t → Goes n u
 said_goes n t u h goes = let e : t ≡ u = cc in subst (Goes n) e goes
 
--- no target that has a name of its own is a jump
+-- A target with a name of its own is no jump.
 named_goes : (n : ℕ) (word : List ℕ) (t : Target) → named_target word ≡ Some t → Goes n t
 named_goes n word t h = elim (if_parts (bytes_eq word (codes "ACCEPT")) (Some Accept) _ (Some t) h) [
   | inl is ↦ said_goes n Accept t is.1 tt
@@ -112,7 +112,7 @@ pub line_goes : (chains : List Chain) (ws : List (List ℕ)) (c : ℕ) (r : Rule
 line_goes chains ws c r line =
     subst (λ (q : Rule). Goes (length chains) q.target) (sym line.same) (by_target (length chains) line.given.target (pieces_go chains nothing_given line.given line.pieces line.fit tt))
 
--- 3. So no jump goes nowhere.
+-- 3. So no jump has an unknown target.
 
 goes_somewhere : (n : ℕ) (t : Target) → Goes n t → jumps_nowhere n t ≡ false
 goes_somewhere n (Jump c) goes = let low : 3 ≤ c = goes.0 in let high : c < n = goes.1 in grind (arith, nat_tests)

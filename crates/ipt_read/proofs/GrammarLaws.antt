@@ -1,4 +1,4 @@
--- The values of options, as `Grammar` says them, are those of the steps.
+-- The values of options in `Grammar` agree with the steps of the parser.
 use Rattle.std.proofs.Common.{◌≡◌, ℕ, ◌∙◌, sym, ap, refl, subst, inl, inr, ◌⊎◌, ◌≤◌, Bool, true, false, List, [], ◌∷◌, Option, Some, None, arith}
 use Rattle.std.specs.Prelude.{◌==◌, nat_lt, codes, bytes_eq}
 use Rattle.std.specs.Option.{option_map, option_or}
@@ -31,7 +31,7 @@ use Rattle.ipt_read.specs.inner.ValueSteps.{quoted, text_of, states_of, with_val
 use Rattle.ipt_read.specs.Values.{IsRestOfText, closing, open_still, IsText, bare, in_quotes}
 use Rattle.ipt_read.specs.Grammar.{IsValue, source, destination, protocol, source_port, destination_port, conntrack_module, state_module, comment_module, own_module, states, target, jump, a_text, a_word}
 
--- 1. Texts.
+-- 1. Strings.
 
 quote_is : (b : ℕ) → (b == 34) ≡ true → b ≡ 34
 quote_is b h = grind (arith, nat_tests)
@@ -61,7 +61,7 @@ quoted_step : (w : List ℕ) (place : Place) → quoted false w ≡ Some place �
 unfolding text_of
 quoted_step w place h = h
 
--- 2. Each value that a step takes is one.
+-- 2. Each value that a step accepts is valid.
 
 pair_said : {A : Type 0} (P : Given → Type 0) (f : A → Given × Place) (o : Option A) (now : Given × Place) → ((x : A) → o ≡ Some x → P (f x).0) → option_map f o ≡ Some now → P now.0
 pair_said P f o now each h =
@@ -197,7 +197,7 @@ one_word {chains = chains} {given = given} {now = now} o {negated = negated} {w 
 pub text : {chains : List Chain} {given now : Given} (o : RuleOption) {negated : Bool} {w : List ℕ} {ws : List (List ℕ)} → with_value chains given o negated w ≡ Some (now, InText) → IsRestOfText ws → IsValueOf chains given o negated (w ∷ ws) now
 text {chains = chains} {given = given} {now = now} o {negated = negated} {w = w} {ws = ws} h rest = words_said chains given now o negated w ws h rest
 
--- 3. Each value is taken by steps.
+-- 3. Each valid value is accepted by the steps.
 
 pub data IsTaken (chains : List Chain) (given : Given) (o : RuleOption) (negated : Bool) : List (List ℕ) → Given → Type 0 where
   taken_word : {w : List ℕ} {now : Given} → with_value chains given o negated w ≡ Some (now, AtOption) → IsTaken chains given o negated (w ∷ []) now
@@ -230,7 +230,7 @@ prefix_takes : (chains : List Chain) (given : Given) (negated : Bool) → TakesT
 unfolding with_value
 prefix_takes chains given negated w place h = rw h refl
 
--- the module of a protocol
+-- The module of a protocol.
 abbrev OtherNames : ℕ → Type 0
 OtherNames proto =
     (bytes_eq (protocol_text proto) (codes "conntrack") ≡ false) × (bytes_eq (protocol_text proto) (codes "state") ≡ false) × (bytes_eq (protocol_text proto) (codes "comment") ≡ false)

@@ -1,4 +1,4 @@
--- Why a line cannot stand, said in the format's words, is what the steps find.
+-- The reasons why a line is rejected, in terms of the format, agree with the steps of the parser.
 use Rattle.std.proofs.Common.{◌≡◌, ◌≢◌, ◌⊎◌, inl, inr, ℕ, ◌+◌, ◌<◌, ◌≤◌, Bool, true, false, not, ◌&&◌, ◌||◌, ◌==◌, List, [], ◌∷◌, ◌++◌, Option, Some, None, refl, sym, ap, subst, ◌∙◌, arith, length, drop}
 use Rattle.std.specs.Prelude.{Result, Ok, Err, codes, bytes_eq, nat_lt, nat_le}
 use Rattle.std.proofs.lemmas.Bool.{and_parts, and_from, not-true, not-false}
@@ -335,7 +335,7 @@ pub bad_of_step : (n : ℕ) (s : SaidSoFar) (w : List ℕ) (ws : List (List ℕ)
 unfolding line_of_words
 bad_of_step n s w ws why h = bad_by n s w ws why s.stage refl h
 
--- 4. What is bad is refused.
+-- 4. A bad line is rejected.
 
 at_stage : (n : ℕ) (s : SaidSoFar) (w : List ℕ) (ws : List (List ℕ)) (stage : Stage) (r : Result SaidSoFar IptWhy) → s.stage ≡ stage → line_at stage n s w ws ≡ r → line_of_words n s (w ∷ ws) ≡ r
 unfolding line_of_words
@@ -396,7 +396,7 @@ step_of_bad n s w ws why (other_line stage colon none other) =
     at_stage n s w ws Table (Err BadLine) stage (other_body n s w ws colon (not_begins w none) ∙ commit_refused s w ws other)
 step_of_bad n s w ws why (after_commit stage) = at_stage n s w ws After (Err AfterCommit) stage refl
 
--- 5. The same of a line.
+-- 5. The same for a line.
 
 abbrev pub IsBadLine : SaidSoFar → List (List ℕ) → IptWhy → Type 0
 IsBadLine s ws why = (w : List ℕ) × (vs : List (List ℕ)) × (ws ≡ w ∷ vs) × IsBad s w vs why

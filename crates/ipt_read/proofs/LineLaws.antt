@@ -1,4 +1,4 @@
--- Laws of the lines of a text: a line is read exactly where it is one of the grammar.
+-- Lemmas on the lines of a file: a line is parsed if and only if the grammar derives it.
 use Rattle.std.proofs.Common.{◌≡◌, ℕ, ◌+◌, ◌<◌, Bool, true, false, not, ◌&&◌, ◌||◌, ◌==◌, IsTrue, List, [], ◌∷◌, ◌++◌, Option, Some, None, inl, inr, refl, sym, ap, ◌∙◌, subst, arith, length, drop}
 use Rattle.std.specs.Prelude.{Result, Ok, Err, bytes_eq, codes, nat_lt, nat_le, slice_set}
 use Rattle.std.proofs.lemmas.Bool.{and_parts, not-false}
@@ -136,7 +136,7 @@ pub built_in_read : (p : Policy) → built_in_policy (policy_text (Some p)) ≡ 
 built_in_read Accept = refl
 built_in_read Drop = refl
 
--- a chain line of a built-in chain
+-- A chain line of a built-in chain.
 built_in_line : (n : ℕ) (s t : SaidSoFar) (ws : List (List ℕ)) (name policy : List ℕ) (c : ℕ) (o : Option Policy) → s.stage ≡ Table → IsChainLine ws name policy → number_of s.chains name ≡ Some c → built_in_policy policy ≡ o → with_built_in n s c o ≡ Ok t → IsLine n s ws t
 built_in_line n s t ws name policy c None stage line number said h = cc
 built_in_line n s t ws name policy c (Some p) stage line number said h = elim (if_parts (nat_lt c 3 && (line_of s.declared c == 0)) (Ok (record s { chains = with_policy s.chains c p; declared = slice_set s.declared c n })) (Err BadChain) (Ok t) h) [
@@ -176,7 +176,7 @@ chain_line_by n s t w ws (Some p) stage colon said h =
     declared_line n s t (w ∷ ws) (drop 1 w) p (number_of s.chains (drop 1 w)) stage
     (parts.0, parts.1, ap (λ v. v ∷ ws) (colon_word w colon) ∙ ap (λ vs. (58 ∷ drop 1 w) ∷ vs) parts.2) refl h
 
--- 3. The lines by their stage.
+-- 3. The lines by the position in the file.
 
 rule_line_by : (n : ℕ) (s t : SaidSoFar) (ws : List (List ℕ)) (o : Result (ℕ × Rule) IptWhy) → s.stage ≡ Table → rule_line_of s.chains ws ≡ o → with_read_rule s o ≡ Ok t → IsLine n s ws t
 rule_line_by n s t ws (Err why) stage read h = cc
@@ -192,7 +192,7 @@ pub nothing_behind : (ws : List (List ℕ)) → not (no_words ws) ≡ false → 
 nothing_behind [] h = refl
 nothing_behind (w ∷ ws) h = cc
 
--- a line of one word
+-- A line of one token.
 lone_line : (n : ℕ) (s t : SaidSoFar) (w word : List ℕ) (ws : List (List ℕ)) → bytes_eq w word ≡ true → not (no_words ws) ≡ false
     → IsLine n s (word ∷ []) t → IsLine n s (w ∷ ws) t
 lone_line n s t w word ws is alone line =
@@ -248,11 +248,11 @@ line_by_words n s t (w ∷ ws) h = stage_line n s t w ws s.stage refl h
 abbrev pub IsTextLine : ℕ → SaidSoFar → List ℕ → SaidSoFar → Type 0
 IsTextLine n s l t = IsLine n s (words l) t
 
--- sound: a line that is read is one of the grammar
+-- Sound: the grammar derives a line that is parsed.
 pub line_of_read : (n : ℕ) (s t : SaidSoFar) (l : List ℕ) → line_step n s l ≡ Ok t → IsTextLine n s l t
 line_of_read n s t l h = line_by_words n s t (words l) h
 
--- 4. Complete: a line of the grammar is read.
+-- 4. Complete: a line that the grammar derives is parsed.
 
 pub low_free : (c k : ℕ) → c < 3 → k ≡ 0 → (nat_lt c 3 && (k == 0)) ≡ true
 low_free c k low free = grind (arith, nat_tests)

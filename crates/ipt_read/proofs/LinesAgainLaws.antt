@@ -1,4 +1,4 @@
--- What is written of a rule set is read again as the same chains.
+-- The text of a rule set is parsed back to the same chains.
 use Rattle.std.proofs.Common.{◌≡◌, ℕ, ◌+◌, ◌<◌, ◌≤◌, true, false, IsTrue, List, [], ◌∷◌, ◌++◌, append-nil, append_assoc, Option, Some, None, inr, refl, sym, ap, ◌∙◌, subst, arith, length, map, length-append}
 use Rattle.std.specs.Prelude.{if◌then◌else◌, codes, bytes_eq}
 use Rattle.std.specs.List.{flat_map, concat, position_from}
@@ -25,16 +25,16 @@ use Rattle.ipt_rules.specs.inner.RuleParts.{is_rule}
 use Rattle.ipt_read.proofs.WrittenLaws.{IsFound, rule_words_read}
 use Rattle.ipt_read.proofs.WrittenTextLaws.{rule_line_spaced}
 
--- 1. Lines from a state within the table up to COMMIT.
+-- 1. Lines from a position within the table up to COMMIT.
 
 abbrev pub within : List Chain → List ℕ → ℕ → SaidSoFar
 within chains declared rules = record { stage = Table; chains = chains; declared = declared; rules = rules }
 
--- from these chains and so many rules the lines reach the end of a text of the chains `all`
+-- From these chains and this number of rules the lines lead to the end of a text with the chains `all`.
 abbrev pub Reaches : List (List ℕ) → List Chain → ℕ → List Chain → Type 0
 Reaches ls chains rules all = (n : ℕ) (declared : List ℕ) → (u : SaidSoFar) × Follows IsTextLine n (within chains declared rules) ls u × (u.stage ≡ After) × (u.chains ≡ all)
 
--- a line that is no comment
+-- A line that is no comment.
 pub record IsWritten (l : List ℕ) (ws : List (List ℕ)) : Type 0 where
   pub read : words l ≡ ws
   pub counts : is_comment l ≡ false
@@ -50,7 +50,7 @@ commit_written : IsWritten (codes "COMMIT") (codes "COMMIT" ∷ [])
 unfolding is_comment
 commit_written = record { read = refl; counts = refl; ends = refl }
 
--- the same of lines that are written, each with its end
+-- The same for formatted lines, each with its line end.
 abbrev pub Says : List (List ℕ) → List Chain → ℕ → List Chain → Type 0
 Says ts chains rules all = Reaches (lines (concat ts)) chains rules all
 
@@ -74,7 +74,7 @@ user_words name = (58 ∷ name) ∷ codes "-" ∷ codes "[0:0]" ∷ []
 pub zero_count : IsCount (codes "[0:0]")
 zero_count = record { packets = codes "0"; bytes = codes "0"; are_figures = (refl, refl); written = refl }
 
--- each user chain has a new name, a legal one, and there is room
+-- Each user chain has a new and legal name, and the limit is not reached.
 abbrev pub AreNew : List Chain → List Chain → Type 0
 AreNew front [] = Unit {0}
 AreNew front (x ∷ xs) = (number_of front x.name ≡ None) × IsTrue (is_user_name x.name) × (length front < 4096) × IsWritten (spaced (user_words x.name)) (user_words x.name) × (x.policy ≡ None) × AreNew (front ++ user_chain x.name ∷ []) xs
@@ -113,7 +113,7 @@ unfolding names_of
 position_names w i [] = refl
 position_names w i (x ∷ xs) = ap (λ o. if bytes_eq x.name w then Some i else o) (position_names w (i + 1) xs)
 
--- chains with the same names are found alike
+-- Lookup gives the same results in chains with the same names.
 pub same_numbers : (xs ys : List Chain) (w : List ℕ) → names_of xs ≡ names_of ys → number_of xs w ≡ number_of ys w
 same_numbers xs ys w same =
     position_names w 0 xs ∙ ap (position_from (λ n. bytes_eq n w) 0) same ∙ sym (position_names w 0 ys)
@@ -130,7 +130,7 @@ names_middle (z ∷ done) x y tail same = ap (λ ns. z.name ∷ ns) (names_middl
 abbrev filled : Chain → List Rule → Chain
 filled x rules = record x { rules = rules }
 
--- what a rule needs to be read again
+-- The requirements for parsing a rule back.
 abbrev pub RuleFits : List Chain → Rule → Type 0
 RuleFits all r = AddressFits r.src × AddressFits r.dst × IsFound all all r.target × IsTrue (is_rule r)
 
@@ -162,11 +162,11 @@ fill_reach all done x tail pre (r ∷ rs) k ts names number few fit others =
     (subst (λ (qs : List Rule). Says ts (done ++ filled x qs ∷ tail) (k + 1 + length rs) all) (sym (append_assoc pre (r ∷ []) rs))
     (subst (λ (m : ℕ). Says ts (done ++ filled x (pre ++ r ∷ rs) ∷ tail) m all) (omega arith) others)))
 
--- a chain without its rules
+-- A chain without its rules.
 abbrev pub emptied : Chain → Chain
 emptied x = record x { rules = [] }
 
--- each chain from here on is found under its number, and its rules fit
+-- Each chain from here on is found under its number, and its rules satisfy the requirements.
 abbrev pub EachFits : List Chain → ℕ → List Chain → Type 0
 EachFits all c [] = Unit {0}
 EachFits all c (x ∷ xs) = (number_of all x.name ≡ Some c) × AllFit all x.name x.rules × EachFits all (c + 1) xs

@@ -1,4 +1,4 @@
--- What a rule line gives of protocols and ports is what a rule may ask for.
+-- The protocol and port matches of a parsed rule line are valid.
 use Rattle.std.proofs.Common.{◌≡◌, ℕ, ◌<◌, ◌≤◌, ◌^◌, Bool, true, false, ◌||◌, ◌&&◌, List, Option, Some, None, refl, sym, ap, ◌∙◌, subst, arith}
 use Rattle.std.specs.Prelude.{codes, nat_le, is_some, unwrap_or}
 use Rattle.std.proofs.lemmas.Bool.{and_parts}
@@ -16,16 +16,16 @@ use Rattle.ipt_read.specs.Options.{Given, nothing_given, in_front, Row, row_of, 
 use Rattle.ipt_read.specs.inner.OptionSteps.{row}
 use Rattle.ipt_read.specs.Grammar.{Stands, IsValue, source, destination, protocol, source_port, destination_port, states, conntrack_module, state_module, comment_module, own_module, target, jump, a_text, a_word, IsPiece, plain, turned, ArePieces, none_left, one_more, IsRuleLine}
 
--- 1. The parts of a rule.
+-- 1. The matches of a rule.
 
--- ports are asked for only where their module is named, and that only where the protocol has ports
+-- Ports are matched only if their module is loaded, and it is loaded only if the protocol has ports.
 pub record HasParts (asked : Option ProtoMatch) (ports : Bool) (from to : Option PortMatch) : Type 0 where
   pub proto : is_protocol asked ≡ true
   pub named : ports ≡ true → names_ports asked ≡ true
   pub sport : are_ports (names_ports asked) from ≡ true
   pub dport : are_ports (names_ports asked) to ≡ true
 
--- of a rule, with the module where it asks for ports
+-- The same for a rule, with the module if it matches ports.
 abbrev pub RuleHas : Option ProtoMatch → Option PortMatch → Option PortMatch → Type 0
 RuleHas proto sport dport = HasParts proto (is_some sport || is_some dport) sport dport
 
@@ -41,12 +41,12 @@ rule_has r is =
     let both = and_parts (are_ports (names_ports r.proto) r.sport) (are_ports (names_ports r.proto) r.dport) parts.1 in
     record { proto = parts.0; named = ports_named (names_ports r.proto) r.sport r.dport both.0 both.1; sport = both.0; dport = both.1 }
 
--- 2. Of what is given.
+-- 2. Partial rules.
 
 abbrev GivesParts : Given → Type 0
 GivesParts given = HasParts given.rule.proto given.ports given.rule.sport given.rule.dport
 
--- a protocol more, where none was given: no ports were asked for yet
+-- Adding a protocol to a rule without one: no ports were matched yet.
 no_ports : (o : Option PortMatch) (named : Bool) → are_ports false o ≡ true → are_ports named o ≡ true
 no_ports None named h = refl
 no_ports (Some part) named h = cc
@@ -63,7 +63,7 @@ protocol_more None ports sport dport proto negated none positive fits has = reco
   dport = no_ports dport _ has.dport;
 }
 
--- ports more, where the module is named
+-- Adding ports, if the module is loaded.
 are_ports_by : (named : Bool) (low high : ℕ) (negated : Bool) → named ≡ true → low ≤ high → high ≤ last_port → are_ports named (Some (record { low = low; high = high; negated = negated })) ≡ true
 are_ports_by named low high negated is order fits =
     let first : nat_le low high ≡ true = grind (arith, nat_tests) in
@@ -73,7 +73,7 @@ are_ports_by named low high negated is order fits =
 same_row : (r q : Row) → ◌≡◌ {A = Option Row} (Some r) (Some q) → r ≡ q
 same_row r q h = cc
 
--- what an option that stands says of its row
+-- The facts about the row of an allowed option.
 stands_here : (given : Given) (negated : Bool) (name : List ℕ) (r q : Row) → row_of name ≡ Some r → Stands given negated name q → r.stands given ≡ true
 stands_here given negated name r q is stands = subst (λ (p : Row). p.stands given ≡ true) (same_row q r (sym stands.named ∙ is)) stands.here
 
@@ -128,7 +128,7 @@ nothing_gives = record { proto = refl; named = λ e. cc; sport = refl; dport = r
 given_is : (given : Given) → GivesParts given → is_rule (record given.rule { target = unwrap_or given.target Count }) ≡ true
 given_is given gives = rw (gives.proto, gives.sport, gives.dport) refl
 
--- 3. A rule that is read may ask for what it asks for.
+-- 3. The matches of a parsed rule are valid.
 pub line_is_rule : (chains : List Chain) (ws : List (List ℕ)) (c : ℕ) (r : Rule) → IsRuleLine chains ws c r → is_rule r ≡ true
 line_is_rule chains ws c r line =
     ap is_rule line.same ∙ given_is line.given (pieces_give chains nothing_given line.given line.pieces line.fit nothing_gives)

@@ -1,4 +1,4 @@
--- Laws of rule lines: a line is read exactly where it is one of the grammar.
+-- Lemmas on rule lines: a line is parsed if and only if the grammar derives it.
 use Rattle.std.proofs.Common.{◌≡◌, ℕ, Bool, true, false, not, ◌&&◌, ◌==◌, List, [], ◌∷◌, ◌++◌, Option, Some, None, ◌⊎◌, inl, inr, refl, sym, ap, ◌∙◌, subst}
 use Rattle.std.specs.Prelude.{Result, Ok, Err, bytes_eq, codes, is_some}
 use Rattle.std.specs.Option.{option_map}
@@ -23,12 +23,12 @@ use Rattle.ipt_read.proofs.ValueLaws.{rest_ends, text_ends, ends_text, text_open
 use Rattle.ipt_read.specs.Grammar.{IsPiece, ArePieces, none_left, one_more}
 use Rattle.ipt_read.proofs.GrammarLaws.{one_word, text, IsTaken, taken_word, taken_text, value_taken}
 
--- where the whole gave a value, each step gave one
+-- If the sequence succeeded, each step succeeded.
 pub goes_parts : {A B : Type 0} (r : Result A IptWhy) (f : A → Result B IptWhy) (y : B) → goes_on r f ≡ Ok y → (x : A) × (r ≡ Ok x) × (f x ≡ Ok y)
 goes_parts (Ok x) f y h = (x, refl, h)
 goes_parts (Err why) f y h = cc
 
--- after a word of a text an option stands, or the text goes on
+-- After a token of a string, an option follows or the string continues.
 abbrev pub IsBehindValue : Place → Type 0
 IsBehindValue place = (place ≡ AtOption) ⊎ (place ≡ InText)
 
@@ -91,7 +91,7 @@ value_place chains given now LogLevel negated word place h =
     let e : ◌≡◌ {A = Given × Place} (given, AtOption) (now, place) = cc in
     inl (sym (same_place (given, AtOption) (now, place) e))
 
--- what an option in its place says
+-- The facts about an option at its position.
 pub record IsOptionAt (given : Given) (negated : Bool) (o : RuleOption) (now : Given × Place) : Type 0 where
   pub stands : StandsBy given negated o
   pub behind : now ≡ (given, AtValue o negated)
@@ -111,7 +111,7 @@ option_at given negated (Some o) now h = elim (if_parts (not (may_stand given o)
   ]
 ]
 
--- what is left of the words of a line, by the place of the first
+-- The remaining tokens of a line, by the position of the first.
 abbrev pub IsLeft : List Chain → Given → Place → List (List ℕ) → Given → Type 0
 IsLeft chains given AtOption ws last = ArePieces chains given ws last
 IsLeft chains given AfterBang ws last = given.target ≡ None → ArePieces chains given (codes "!" ∷ ws) last
@@ -138,7 +138,7 @@ bang_parts given w h =
     let parts = and_parts (not (is_some given.target)) (bytes_eq w (codes "!")) h in
     (none_of given.target parts.0, bytes_same w (codes "!") parts.1)
 
--- sound: a line that is read has pieces
+-- Sound: a line that is parsed has options.
 at_step : (chains : List Chain) (given last : Given) (place : Place) (w : List ℕ) (ws : List (List ℕ)) (t : Given × Place) → word_step chains given place w ≡ Ok t → IsLeft chains t.0 t.1 ws last → IsLeft chains given place (w ∷ ws) last
 unfolding word_step
 at_step chains given last AtOption w ws t step left = elim (if_parts (is_bang given w) (Ok (given, AfterBang)) (at_option given false (option_of w)) (Ok t) step) [
@@ -183,7 +183,7 @@ pieces_left chains given last place (w ∷ ws) h =
 pub pieces_of_read : (chains : List Chain) (given last : Given) (ws : List (List ℕ)) → word_by_word chains given AtOption ws ≡ Ok last → ArePieces chains given ws last
 pieces_of_read chains given last ws h = pieces_left chains given last AtOption ws h
 
--- complete: pieces are read
+-- Complete: options are parsed.
 rest_read : (chains : List Chain) (given : Given) (ws vs : List (List ℕ)) → IsRestOfText ws → word_by_word chains given InText (ws ++ vs) ≡ word_by_word chains given AtOption vs
 unfolding word_step
 rest_read chains given ws vs (closing {w = w} inside is written) = rw (ends_text w inside is written) refl

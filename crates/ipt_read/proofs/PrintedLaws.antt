@@ -1,4 +1,4 @@
--- Written words are words of a line: they print, and are not empty.
+-- Formatted tokens are tokens of a line: they are printable and nonempty.
 use Rattle.std.proofs.Common.{◌≡◌, ℕ, ◌<◌, ◌≤◌, ◌^◌, Bool, true, false, ◌&&◌, ◌||◌, not, length, List, [], ◌∷◌, ◌++◌, Option, Some, None, refl, ap, ◌∙◌, arith}
 use Rattle.std.specs.Prelude.{◌==◌, nat_lt, if◌then◌else◌, is_some, codes, decimal}
 use Rattle.std.specs.Char.{is_ascii_digit}
@@ -31,7 +31,7 @@ use Rattle.ipt_read.proofs.PartLaws.{rule_has}
 use Rattle.ipt_read.specs.inner.WrittenWords.{bang_words, address_words, protocol_words, module_words, port_words, service_words, state_words, target_words, rule_pieces, rule_words}
 use Rattle.ipt_read.proofs.LinesAgainLaws.{IsWritten}
 
--- a text of printing bytes that is not empty
+-- A nonempty string of printable bytes.
 abbrev pub is_printed : List ℕ → Bool
 is_printed [] = false
 is_printed (b ∷ bs) = list_all prints (b ∷ bs)
@@ -48,7 +48,7 @@ printed_words (w ∷ ws) h =
     let others = printed_words ws parts.1 in
     (rw (here.0, others.0) refl, rw (here.1, others.1) refl)
 
--- printed words with blanks between them are a line that is no comment
+-- Printable tokens with blanks between them are a line that is no comment.
 pub spaced_written : (w : List ℕ) (ws : List (List ℕ)) → list_all is_printed (w ∷ ws) ≡ true → begins_with 35 w ≡ false → IsWritten (spaced (w ∷ ws)) (w ∷ ws)
 unfolding is_comment
 spaced_written w ws h first =
@@ -56,7 +56,7 @@ spaced_written w ws h first =
     let said = words_spaced (w ∷ ws) parts.0 in
     record { read = said; counts = ap are_comment said ∙ first; ends = lacks_spaced (w ∷ ws) parts.1 }
 
--- names
+-- Names.
 name_byte_prints : (b : ℕ) → is_printing b ≡ true → prints b ≡ true
 name_byte_prints b h = grind (arith, nat_tests)
 
@@ -86,7 +86,7 @@ user_name_free name h =
     let free = and_parts (not (begins_as_option name)) (not (is_reserved name)) bytes.1 in
     not-true (is_reserved name) free.1
 
--- prefixes
+-- Prefixes.
 prints_append : (xs ys : List ℕ) → list_all prints xs ≡ true → list_all prints ys ≡ true → list_all prints (xs ++ ys) ≡ true
 prints_append [] ys f g = g
 prints_append (x ∷ xs) ys f g =
@@ -123,7 +123,7 @@ unfolding prefix_text
 prefix_printed p =
     middle_printed (address_text p.addr) (decimal p.len) (prints_append (address_text p.addr) (47 ∷ decimal p.len) (address_prints p.addr) (digits_print (decimal p.len) (decimal_digits p.len (omega (arith, p.fits)))))
 
--- the words of a rule
+-- The tokens of a rule.
 all_append : (xs ys : List (List ℕ)) → list_all is_printed xs ≡ true → list_all is_printed ys ≡ true → list_all is_printed (xs ++ ys) ≡ true
 all_append [] ys f g = g
 all_append (x ∷ xs) ys f g =
@@ -144,7 +144,7 @@ address_printed : (option : List ℕ) (o : Option AddrMatch) → is_printed opti
 address_printed option None h = refl
 address_printed option (Some part) h = sign_printed part.negated option (prefix_text part.prefix) h (prefix_printed part.prefix)
 
--- protocols and ports
+-- Protocols and ports.
 not_empty : (bs : List ℕ) → 0 < length bs → list_all prints bs ≡ true → is_printed bs ≡ true
 not_empty [] some h = absurd (omega arith)
 not_empty (b ∷ bs) some h = h
@@ -214,7 +214,7 @@ service_printed r is =
     (all_append (module_words r.proto (is_some r.sport || is_some r.dport)) _ (module_words_printed r.proto (is_some r.sport || is_some r.dport) has.proto)
     (all_append (port_words (codes "--sport") r.sport) _ (port_words_printed (codes "--sport") (names_ports r.proto) r.sport refl has.sport) (port_words_printed (codes "--dport") (names_ports r.proto) r.dport refl has.dport)))
 
--- states and targets
+-- States and targets.
 states_printed : (new established : Bool) → is_printed (states_text new established) ≡ true
 states_printed true true = refl
 states_printed true false = refl
@@ -226,7 +226,7 @@ state_printed None = refl
 state_printed (Some part) =
     sign_printed part.negated (codes "--ctstate") (states_text part.new part.established) refl (states_printed part.new part.established)
 
--- the chain of a jump has a printed name
+-- The chain of a jump has a printable name.
 abbrev pub JumpPrints : List Chain → Target → Type 0
 JumpPrints chains (Jump c) = is_printed (name_of chains c) ≡ true
 JumpPrints chains _ = Unit {0}

@@ -1,4 +1,4 @@
--- The options that the reader goes through are those of the table, by their names.
+-- The options of the parser are those of the table, by their names.
 use Rattle.std.proofs.Common.{◌≡◌, ◌⊎◌, inl, inr, ℕ, Bool, true, false, cond, not, ◌&&◌, List, [], ◌∷◌, map, Option, Some, None, refl, sym, ap, subst, ◌∙◌}
 use Rattle.std.specs.Prelude.{codes, bytes_eq}
 use Rattle.std.specs.List.{list_all}
@@ -69,7 +69,7 @@ lookup_mapped {A = A} f test (entry ∷ entries) = by_test (test entry.0) (looku
 row_is : (name : List ℕ) → row_of name ≡ option_map row (lookup (bytes_eq name) named_options)
 row_is name = lookup_mapped row (bytes_eq name) named_options
 
--- an option is a match of an interface, or stands in the table
+-- An option is an interface match, or has a row in the table.
 option_parts : (name : List ℕ) (o : Option RuleOption) → option_of name ≡ o
     → (IsInterface name × (o ≡ Some Interface)) ⊎ (lookup (bytes_eq name) named_options ≡ o)
 unfolding option_of
@@ -110,7 +110,7 @@ unfolding option_of
 interface_is name (inl first) = ap option_of first
 interface_is name (inr second) = ap option_of second
 
--- 3. Where they stand, and their values.
+-- 3. Where they are allowed, and their values.
 
 pub record StandsBy (given : Given) (negated : Bool) (o : RuleOption) : Type 0 where
   pub here : may_stand given o ≡ true
@@ -148,7 +148,7 @@ pub turned_by : {chains : List Chain} {given now : Given} {name : List ℕ} {o :
     → IsValueOf chains given o true value now → IsPiece chains given (codes "!" ∷ name ∷ value) now
 turned_by {given = given} {name = name} {o = o} free named stands is = turned free (stands_by given true name o named stands) (value_named named stands.address is)
 
--- a piece by the option that the reader takes it for
+-- An option with its value, by the option that the parser takes it for.
 pub data IsPieceBy (chains : List Chain) (given : Given) : List (List ℕ) → Given → Type 0 where
   bare_piece : {name : List ℕ} {o : RuleOption} {value : List (List ℕ)} {now : Given} → option_of name ≡ Some o → StandsBy given false o
       → IsValueOf chains given o false value now → IsPieceBy chains given (name ∷ value) now

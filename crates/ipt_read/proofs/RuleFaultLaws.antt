@@ -1,4 +1,4 @@
--- Why words are no rule line, said in the format's words, is what the steps find.
+-- The reasons why tokens are no rule line, in terms of the format, agree with the steps of the parser.
 use Rattle.std.proofs.Common.{◌≡◌, ◌≢◌, ◌⊎◌, inl, inr, ℕ, Bool, true, false, not, List, [], ◌∷◌, ◌++◌, Option, Some, None, refl, sym, ap, subst, ◌∙◌, append_assoc}
 use Rattle.std.specs.Prelude.{Result, Ok, Err, codes, is_none}
 use Rattle.std.specs.Option.{option_map, ok_or}
@@ -24,7 +24,7 @@ use Rattle.ipt_read.proofs.GrammarLaws.{one_word, text, IsTaken, taken_word, tak
 use Rattle.ipt_read.proofs.PieceLaws.{quoted_place, value_place, option_at, bang_parts, pieces_left, stands_at, bang_stands, piece_read}
 use Rattle.ipt_read.specs.LineFault.{IsInterface, IsStuckAt, interface, unknown, barred, value_missing, bad_value, IsStuck, bare_option, bang_option, bang_last}
 
--- 1. Where the words of a rule line get stuck.
+-- 1. The token at which parsing a rule line fails.
 
 abbrev HasNoValue : List Chain → Given → RuleOption → Bool → List (List ℕ) → Type 0
 HasNoValue chains given o negated ws =
@@ -51,7 +51,7 @@ Lost chains given InText ws why =
     ((front : List (List ℕ)) × (rest : List (List ℕ)) × (ws ≡ front ++ rest) × IsRestOfText front × LostAt chains given rest why)
     ⊎ (HasNoRest ws × (why ≡ BadValue))
 
--- what a value or the rest of a text begins with
+-- The first token of a value, or of the rest of a string.
 no_rest_of : (w : List ℕ) (ws : List (List ℕ)) → quoted false w ≡ None → HasNoRest (w ∷ ws)
 no_rest_of w ws none front rest cut (closing {w = v} inside is written) =
     let first : w ≡ v = cc in
@@ -100,7 +100,7 @@ no_value_text chains given then_given o negated w ws value rest now read none cu
 no_value_text chains given then_given o negated w ws value rest now read none cut (taken_text {ws = vs} other others) =
     let behind : ws ≡ vs ++ rest = cc in none vs rest behind others
 
--- only a text goes on in the next word
+-- Only a string continues in the next token.
 text_reason : (chains : List Chain) (given now : Given) (o : RuleOption) (negated : Bool) (w : List ℕ) → with_value chains given o negated w ≡ Some (now, InText) → value_refusal o ≡ BadValue
 unfolding with_value
 text_reason chains given now opt.Module negated w h = absurd (never_open _ (with_module given w) now (λ x. refl) h)
@@ -179,7 +179,7 @@ no_value_stuck chains given negated name o [] named stands none = value_missing 
 no_value_stuck chains given negated name o (w ∷ ws) named stands none =
     bad_value (row o) (stands_by given negated name o named stands) (λ value rest now cut is. none value rest now cut (named_value named stands.address is))
 
--- a word that is refused
+-- A token that is rejected.
 at_refusal : (chains : List Chain) (given : Given) (place : Place) (w : List ℕ) (ws : List (List ℕ)) (why : IptWhy) → word_step chains given place w ≡ Err why → Lost chains given place (w ∷ ws) why
 unfolding word_step
 at_refusal chains given AtOption w ws why h = elim (if_parts (is_bang given w) (Ok (given, AfterBang)) (at_option given false (option_of w)) (Err why) h) [
@@ -199,7 +199,7 @@ at_refusal chains given InText w ws why h = by_place (quoted false w) refl h
     by_place None is e = inr (no_rest_of w ws is, sym (err_same BadValue why e))
     by_place (Some place) is e = cc
 
--- a word that is read, in front of those that get stuck
+-- A token that is accepted, before tokens at which parsing fails.
 option_lost : (chains : List Chain) (given : Given) (o : RuleOption) (w : List ℕ) (ws : List (List ℕ)) (why : IptWhy) → option_of w ≡ Some o → StandsBy given false o → (given.target ≡ None → w ≢ codes "!") → Lost chains given (AtValue o false) ws why → LostAt chains given (w ∷ ws) why
 option_lost chains given o w ws why named stands bare (inl (value, rest, now, cut, is, lost)) =
     (w ∷ (value ++ lost.0), lost.1, lost.2, ap (λ vs. w ∷ vs) (cut ∙ ap (λ vs. value ++ vs) lost.3 ∙ sym (append_assoc value lost.0 lost.1)), one_more (plain_by named stands is) lost.4, lost.5)
@@ -279,7 +279,7 @@ lost chains given place (w ∷ ws) why h = lost_by chains given place w ws why (
 pub stuck_of_read : (chains : List Chain) (given : Given) (ws : List (List ℕ)) (why : IptWhy) → word_by_word chains given AtOption ws ≡ Err why → LostAt chains given ws why
 stuck_of_read chains given ws why h = lost chains given AtOption ws why h
 
--- 2. What gets stuck is refused.
+-- 2. If parsing fails by the format, the parser rejects.
 
 pieces_read : (chains : List Chain) (given last : Given) (read rest : List (List ℕ)) → ArePieces chains given read last → word_by_word chains given AtOption (read ++ rest) ≡ word_by_word chains last AtOption rest
 pieces_read chains given last read rest none_left = refl
@@ -295,7 +295,7 @@ value_refused chains given o negated w ws (Err why) none is = elim (lost chains 
   | inr reason_is ↦ ap (λ e. Err e) reason_is.1
 ]
 
--- where a row is misplaced, so is its option
+-- If a row is misplaced, so is its option.
 misplaced_read : (given : Given) (negated : Bool) (name : List ℕ) (option : Option RuleOption) → option_of name ≡ option → (IsInterface name → given.target ≢ None)
     → ((r : Row) → row_of name ≡ Some r → r.stands given ≡ false) → at_option given negated option ≡ Err UnknownOption
 misplaced_read given negated name None is apart misplaced = refl

@@ -1,4 +1,4 @@
--- Worked rows: rule lines as they are read, and why they are not.
+-- Test vectors: rule lines with their parse results, and rejected rule lines with their reasons.
 use Rattle.std.proofs.Common.{◌≡◌, true, false, List, [], ◌∷◌, ◌++◌, ℕ, Some, None, map, refl}
 use Rattle.std.specs.Prelude.{codes, Result, Ok, Err}
 use Rattle.std.specs.Fmt.{digits}
@@ -16,14 +16,14 @@ use Rattle.ipt_read.specs.inner.ValueSteps.{text_of, states_of, with_value}
 use Rattle.ipt_read.specs.inner.Counts.{is_count}
 use Rattle.ipt_read.specs.inner.RuleLine.{is_bang, word_step, rule_line_of}
 
--- the built-in chains and a chain `x`
+-- The built-in chains and a chain `x`.
 abbrev pub chains : List Chain
 chains = built_in_chains ++ (user_chain (codes "x") ∷ [])
 
 abbrev pub row : List ℕ → Result (ℕ × Rule) IptWhy
 row line = rule_line_of chains (words line)
 
--- rule lines that are refused, and why
+-- Rule lines that are rejected, and the reasons.
 abbrev refused_rows : List (List ℕ × IptWhy)
 refused_rows =
     (codes "-A", BadLine)

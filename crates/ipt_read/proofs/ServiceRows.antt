@@ -1,4 +1,4 @@
--- Worked rows: rule lines with protocols and ports as they are read, and why they are not.
+-- Test vectors: rule lines with protocols and ports, their parse results, and the reasons of rejection.
 use Rattle.std.proofs.Common.{◌≡◌, true, false, ℕ, List, [], ◌∷◌, ◌++◌, Option, Some, None, map, refl}
 use Rattle.std.specs.Prelude.{codes, Result, Ok, Err}
 use Rattle.std.specs.Fmt.{digits}
@@ -18,7 +18,7 @@ use Rattle.ipt_read.specs.inner.Counts.{is_count}
 use Rattle.ipt_read.specs.inner.RuleLine.{is_bang, word_step, rule_line_of}
 use Rattle.ipt_read.proofs.RuleRows.{row}
 
--- the line of FORWARD with these options
+-- The line of FORWARD with these options.
 abbrev forward : List ℕ → Result (ℕ × Rule) IptWhy
 forward options = row (codes "-A FORWARD " ++ options)
 
@@ -28,7 +28,7 @@ protocol proto = Some (record { proto = proto; negated = false })
 abbrev ports : ℕ → ℕ → Option PortMatch
 ports low high = Some (record { low = low; high = high; negated = false })
 
--- a rule that asks for a protocol and ports alone
+-- A rule that matches only on a protocol and ports.
 abbrev asks : Option ProtoMatch → Option PortMatch → Option PortMatch → Result (ℕ × Rule) IptWhy
 asks proto sport dport =
     Ok (1, record { src = None; dst = None; proto = proto; sport = sport; dport = dport; state = None; target = Count })
@@ -48,7 +48,7 @@ row_web : forward (codes "-d 192.168.1.10/32 -p tcp -m tcp --dport 443 -m conntr
 unfolding rule_line_of is_count word_step is_bang option_of with_value states_of is_state target_of with_module asked_protocol asked_ports prefix_of octet address_text prefix_text number digits
 row_web = refl
 
--- options that are refused, and why
+-- Options that are rejected, and the reasons.
 abbrev refused_options : List (List ℕ × IptWhy)
 refused_options =
     (codes "-p tcp -m multiport --dports 80,443 -j ACCEPT", UnknownOption)

@@ -1,4 +1,4 @@
--- The values of protocols and ports are read exactly where they are written as is said.
+-- Values of protocols and ports are parsed if and only if they are in the defined notation.
 use Rattle.std.proofs.Common.{◌≡◌, ◌⊎◌, inl, inr, ℕ, ◌<◌, ◌≤◌, ◌^◌, ◌∙◌, sym, ap, refl, subst, true, false, List, [], ◌∷◌, ◌++◌, Option, Some, None, arith}
 use Rattle.std.specs.Prelude.{◌==◌, ◌&&◌, nat_le, codes, decimal, bytes_eq}
 use Rattle.std.specs.Option.{option_or}
@@ -70,7 +70,7 @@ protocol_by word proto (Some n) p other three h =
 protocol_by word proto None (Some n) other three h = three_named word proto (three ∙ h)
 protocol_by word proto None None other three h = protocol_numbered word proto (number 255 word) refl h
 
--- a word that asks for a protocol is one of those that are written for it
+-- A token that is parsed to a protocol is a notation of it.
 pub protocol_said : (word : List ℕ) (proto : ℕ) → asked_protocol word ≡ Some proto → IsProtocolWord word proto
 unfolding asked_protocol
 protocol_said word proto h = protocol_by word proto (other_protocol word) (protocol_of word) refl refl h
@@ -100,7 +100,7 @@ name_read : (word : List ℕ) (proto : ℕ) → other_protocol word ≡ Some pro
 unfolding asked_protocol
 name_read word proto h = ap (λ o. option_or (option_or o (protocol_of word)) (if_positive (number 255 word))) h
 
--- a protocol has a name, or is written by its number
+-- A protocol has a name, or is written as its number.
 abbrev IsAnyText : ℕ → Type 0
 IsAnyText proto = ((proto ≡ icmp) ⊎ ((proto ≡ tcp) ⊎ (proto ≡ udp))) ⊎ (protocol_text proto ≡ decimal proto)
 
@@ -193,7 +193,7 @@ ports_by word (Some parts) ports cut h = elim (if_parts (is_nothing parts.0 && i
       ]
 ]
 
--- a word that asks for ports is one of those that are written for them
+-- A token that is parsed to ports is a notation of them.
 pub ports_said : (word : List ℕ) (ports : ℕ × ℕ) → asked_ports word ≡ Some ports → ArePortsWord word ports.0 ports.1
 unfolding asked_ports
 ports_said word ports h = ports_by word (split_once 58 word) ports refl h

@@ -1,4 +1,4 @@
--- A list of states is read exactly where it is written as is said.
+-- A list of states is parsed if and only if it is in the defined notation.
 use Rattle.std.proofs.Common.{◌≡◌, ℕ, sym, ap, inl, inr, Bool, List, Some, None}
 use Rattle.std.specs.Prelude.{codes, bytes_eq}
 use Rattle.std.specs.List.{list_all, list_any}

@@ -1,4 +1,4 @@
--- The round trip, line by line: the text of a rule set is read again as the same chains.
+-- Round trip, line by line: the text of a rule set is parsed back to the same chains.
 use Rattle.std.proofs.Common.{◌≡◌, ℕ, suc, ◌+◌, ◌<◌, ◌≤◌, Bool, true, false, cond, List, [], ◌∷◌, ◌++◌, append_assoc, Option, Some, None, inr, refl, sym, ap, ◌∙◌, subst, arith, length, map, length-append}
 use Rattle.std.specs.Prelude.{codes, bytes_eq, IsSome}
 use Rattle.std.specs.List.{position_from, flat_map, concat, list_all}
@@ -25,7 +25,7 @@ use Rattle.ipt_read.proofs.WrittenLaws.{IsFound}
 use Rattle.ipt_read.proofs.PrintedLaws.{is_printed, spaced_written, user_name_printed, user_name_free, JumpPrints, rule_written}
 use Rattle.ipt_read.proofs.LinesAgainLaws.{IsWritten, Says, AreNew, AllFit, EachFits, user_words, users_reach, chains_reach, says_commit, emptied, bare, zero_count, same_numbers, names_of, names_append}
 
--- 1. Places in the list of chains.
+-- 1. Indices in the list of chains.
 
 name_middle : (done : List Chain) (x : Chain) (todo : List Chain) → name_of (done ++ x ∷ todo) (length done) ≡ x.name
 name_middle [] x todo = refl
@@ -42,7 +42,7 @@ found_middle : (all done : List Chain) (x : Chain) (todo : List Chain) → IsTab
 found_middle all done x todo named whole =
     ap (number_of all) (sym (name_middle done x todo) ∙ ap (λ cs. name_of cs (length done)) whole) ∙ named.found (length done) (subst (λ (cs : List Chain). length done < length cs) whole (length_middle done x todo))
 
--- a name that is found after some chains is the name of none of them
+-- A name that is found after some chains is the name of none of them.
 unfound_by : (t : Bool) (i n : ℕ) (o o' : Option ℕ) → (o ≡ Some (i + 1 + n) → o' ≡ None) → cond t (Some i) o ≡ Some (i + suc n) → cond t (Some i) o' ≡ None
 unfound_by true i n o o' others h = let e : i ≡ i + suc n = cc in absurd (omega arith)
 unfound_by false i n o o' others h = others (h ∙ ap (λ k. Some k) (let e : i + suc n ≡ i + 1 + n = omega arith in e))
@@ -56,7 +56,7 @@ unfound : (all done todo : List Chain) (w : List ℕ) → done ++ todo ≡ all �
 unfound all done todo w whole h =
     unfound_from (λ x. bytes_eq x.name w) 0 done todo (ap (λ cs. number_of cs w) whole ∙ h ∙ ap (λ k. Some k) (let e : length done ≡ 0 + length done = omega arith in e))
 
--- 2. User chains are new, and their rules fit.
+-- 2. User chains are new, and their rules satisfy the requirements.
 
 user_at : (all done : List Chain) (x : Chain) (todo : List Chain) → IsTable all → done ++ x ∷ todo ≡ all → 3 ≤ length done → (is_user_name x.name ≡ true) × (x.policy ≡ None)
 user_at all done x todo named whole high =
@@ -99,7 +99,7 @@ all_fit all name (r ∷ rs) named printed fine =
     let found = jump_found all r.target named fine.2 in
     ((fine.0, fine.1, found.0, fine.3), rule_written all name r printed fine.3 found.1, all_fit all name rs named printed fine.4)
 
--- the names print
+-- The names are printable.
 abbrev ArePrinted : List Chain → Type 0
 ArePrinted [] = Unit {0}
 ArePrinted (x ∷ xs) = (is_printed x.name ≡ true) × ArePrinted xs
@@ -128,7 +128,7 @@ built_words name policy = (58 ∷ name) ∷ policy_text (Some policy) ∷ codes 
 built_line : (name : List ℕ) (policy : Policy) → IsChainLine (built_words name policy) name (policy_text (Some policy))
 built_line name policy = (codes "[0:0]" ∷ [], inr (codes "[0:0]", zero_count, refl), refl)
 
--- the three policies in place of the first ones, by their lines
+-- The three policies replace the initial ones, by their lines.
 abbrev three : Policy → Policy → Policy → List Chain
 three p q r = built (codes "INPUT") p ∷ built (codes "FORWARD") q ∷ built (codes "OUTPUT") r ∷ []
 
@@ -152,7 +152,7 @@ built_written : (name : List ℕ) (p : Policy) → list_all prints name ≡ true
 built_written name Accept printed = spaced_written (58 ∷ name) (codes "ACCEPT" ∷ codes "[0:0]" ∷ []) (rw printed refl) refl
 built_written name Drop printed = spaced_written (58 ∷ name) (codes "DROP" ∷ codes "[0:0]" ∷ []) (rw printed refl) refl
 
--- one line of a text in front of others
+-- One line of a text before others.
 off_line : (n : ℕ) (s t u : SaidSoFar) (line l : List ℕ) (ws : List (List ℕ)) (ts : List (List ℕ)) → line ≡ l ++ newline → IsWritten l ws → IsLine n s ws t → Follows IsTextLine (n + 1) t (lines (concat ts)) u → Follows IsTextLine n s (lines (concat (line ∷ ts))) u
 off_line n s t u line l ws ts is written step others =
     subst (λ (ls : List (List ℕ)). Follows IsTextLine n s ls u) (sym (ap (λ v. lines (v ++ concat ts)) is ∙ ap lines (append_assoc l newline (concat ts)) ∙ lines_ended l (concat ts) written.ends))
@@ -178,7 +178,7 @@ head_follows a b c p q r ts all an ap' bn bp cn cp says =
       rest.3,
     )
 
--- 4. The whole text.
+-- 4. The entire text.
 
 some_policy : (o : Option Policy) → IsSome o → (p : Policy) × (o ≡ Some p)
 some_policy None h = cc

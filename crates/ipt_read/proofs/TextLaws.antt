@@ -1,4 +1,4 @@
--- Laws of whole texts: what is built of lines that were read, and why nothing is.
+-- Lemmas on whole files: the result that is built from parsed lines, and the reasons why none is.
 use Rattle.std.proofs.Common.{◌≡◌, ◌≢◌, ℕ, ◌+◌, sym, subst, List, length}
 use Rattle.text_core.specs.Lines.{lines}
 use Rattle.text_core.specs.TextByLines.{IsReadThrough, at_end}
@@ -8,7 +8,7 @@ use Rattle.ipt_read.specs.declared.fault.IptWhy.TheVariants.{NoCommit, Loop as W
 use Rattle.ipt_read.specs.Said.{After, SaidSoFar, line_of}
 use Rattle.ipt_read.specs.TextLines.{EndsBadly, no_commit, loops as at_loop, rules_text, IsReading, HasFault}
 
--- a text that was read to its last line
+-- A file that was parsed to its last line.
 pub reading_of_lines : (bytes : List ℕ) (s : SaidSoFar) (chains : List Chain) → IsReadThrough rules_text bytes s → s.stage ≡ After
     → chains ≡ s.chains → HasNoLoop chains → IsReading bytes chains
 reading_of_lines bytes s chains through whole same none =

@@ -1,4 +1,4 @@
--- The values are read exactly where they are written as is said: counts and quoted texts.
+-- Values are parsed if and only if they are in the defined notation: counters and quoted strings.
 use Rattle.std.proofs.Common.{◌≡◌, ◌≢◌, ℕ, ◌<◌, ◌∙◌, sym, ap, refl, subst, inl, inr, Bool, true, false, not, IsTrue, List, [], ◌∷◌, ◌++◌, Option, Some, None, arith, drop, ◌⊎◌}
 use Rattle.std.specs.Prelude.{if◌then◌else◌, ◌==◌, nat_eq}
 use Rattle.std.specs.Char.{is_ascii_digit}
@@ -14,7 +14,7 @@ use Rattle.ipt_read.specs.inner.Counts.{is_nothing, is_bytes_part, is_packets_pa
 use Rattle.ipt_read.specs.Values.{is_figure}
 use Rattle.ipt_read.specs.Values.{IsCount, IsInside, nothing, taken, plain, IsRestOfText, closing}
 
--- 1. Counts.
+-- 1. Counters.
 
 digits_lack : (mark : ℕ) (bs : List ℕ) → 57 < mark → list_all is_ascii_digit bs ≡ true → lacks mark bs ≡ true
 digits_lack mark [] past digits = refl
@@ -72,15 +72,15 @@ said_count word count =
     let last : is_bytes_part (split_once 93 (bytes ++ (93 ∷ []))) ≡ true = ap is_bytes_part second ∙ and_from _ _ count.are_figures.1 refl in
     ap is_count count.written ∙ ap is_packets_part first ∙ and_from _ _ count.are_figures.0 last
 
--- 2. Quoted texts.
+-- 2. Quoted strings.
 
--- a word that ends a quoted text: the first `"` that no backslash takes is its last byte
+-- A token that ends a quoted string: the first unescaped `"` is its last byte.
 pub record EndsText (word : List ℕ) : Type 0 where
   pub inside : List ℕ
   pub is_inside : IsInside inside
   pub written : word ≡ inside ++ (34 ∷ [])
 
--- a word within a quoted text that does not end it; a backslash at its end takes the blank behind the word
+-- A token within a quoted string that does not end it. A backslash at its end escapes the blank after the token.
 abbrev pub StaysOpen : List ℕ → Type 0
 StaysOpen word = IsInside (word ++ (32 ∷ []))
 
@@ -98,7 +98,7 @@ ends_more : (front word : List ℕ) → ((inside : List ℕ) → IsInside inside
 ends_more front word more joined ends =
     record { inside = front ++ ends.inside; is_inside = more ends.inside ends.is_inside; written = ap (λ (v : List ℕ). front ++ v) ends.written ∙ joined ends.inside }
 
--- a word closes a quoted text exactly where it ends it
+-- A token closes a quoted string if and only if it ends it.
 pub text_ends : (word : List ℕ) → quoted false word ≡ Some AtOption → EndsText word
 text_ends [] h = cc
 text_ends (b ∷ []) h = elim (if_parts (b == 92) (quoted true []) (if b == 34 then closes [] else quoted false []) (Some AtOption) h) [
@@ -132,7 +132,7 @@ inside_quoted inside (plain {b = b} {bs = bs} slash quote is) = rw (other_byte b
 pub ends_text : (word inside : List ℕ) → IsInside inside → word ≡ inside ++ (34 ∷ []) → quoted false word ≡ Some AtOption
 ends_text word inside is written = ap (quoted false) written ∙ inside_quoted inside is
 
--- a word leaves a quoted text open exactly where it stays open
+-- A token leaves a quoted string open if and only if it stays open.
 stays_more : (front word : List ℕ) → ((inside : List ℕ) → IsInside inside → IsInside (front ++ inside)) → ((inside : List ℕ) → front ++ (inside ++ (32 ∷ [])) ≡ (front ++ inside) ++ (32 ∷ [])) → StaysOpen word → StaysOpen (front ++ word)
 stays_more front word more joined is = subst IsInside (joined word) (more (word ++ (32 ∷ [])) is)
 

@@ -1,4 +1,4 @@
--- Chains that are found are there.
+-- Chains that are found exist.
 use Rattle.std.proofs.Common.{◌≡◌, ℕ, ◌+◌, ◌<◌, Bool, true, false, cond, List, [], ◌∷◌, Option, Some, None, length, refl, arith, subst, inl, inr}
 use Rattle.std.specs.Prelude.{Result, Ok, Err, bytes_eq, codes}
 use Rattle.std.specs.List.{position_from}
@@ -59,6 +59,6 @@ rule_line_within chains (w ∷ ws) k rule h = elim (if_parts (begins_with 91 w) 
   ]
 ]
 
--- a rule that is read asks for protocols and ports as rules may
+-- The protocol and port matches of a parsed rule are valid.
 pub rule_line_is : (chains : List Chain) (ws : List (List ℕ)) (k : ℕ) (rule : Rule) → rule_line_of chains ws ≡ Ok (k, rule) → is_rule rule ≡ true
 rule_line_is chains ws k rule h = line_is_rule chains ws k rule (rule_line_of_read chains ws k rule h)

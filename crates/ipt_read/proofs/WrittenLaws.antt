@@ -1,4 +1,4 @@
--- Laws of written rule lines: the words of a line are pieces that make the rule.
+-- Lemmas on formatted rule lines: the tokens of a line are options that yield the rule.
 use Rattle.std.proofs.Common.{◌≡◌, ℕ, ◌<◌, ◌≤◌, ◌^◌, Bool, true, false, ◌||◌, List, [], ◌∷◌, ◌++◌, append-nil, append_assoc, Option, Some, None, inl, inr, refl, sym, subst, arith}
 use Rattle.std.specs.Prelude.{codes, bytes_eq, decimal, nat_lt, is_some, unwrap_or}
 use Rattle.std.proofs.lemmas.Bool.{or_left, or_right, or_parts}
@@ -29,12 +29,12 @@ use Rattle.ipt_read.specs.Grammar.{Stands, IsValue, source, destination, protoco
 use Rattle.ipt_read.proofs.PartLaws.{RuleHas, rule_has}
 use Rattle.ipt_read.specs.inner.WrittenWords.{bang_words, address_words, protocol_words, module_words, port_words, service_words, state_words, target_words, rule_pieces, rule_words}
 
--- a piece with `!` or without it
+-- An option with `!` or without it.
 piece_by_sign : (chains : List Chain) (given now last : Given) (r : Row) (negated : Bool) (name : List ℕ) (value rest : List (List ℕ)) → given.target ≡ None → Stands given negated name r → IsValue chains given negated name value now → ArePieces chains now rest last → ArePieces chains given ((bang_words negated ++ (name ∷ value)) ++ rest) last
 piece_by_sign chains given now last r true name value rest free stands is others = one_more (turned free stands is) others
 piece_by_sign chains given now last r false name value rest free stands is others = one_more (plain stands is) others
 
--- addresses
+-- Addresses.
 abbrev with_source : Given → Option AddrMatch → Given
 with_source given o = record given { rule = record given.rule { src = o }; target = None }
 
@@ -53,7 +53,7 @@ destination_pieces chains given last (Some part) rest fits others =
     piece_by_sign chains (with_destination given None) (with_destination given (Some part)) last (row Destination) part.negated (codes "-d") (prefix_text part.prefix ∷ []) rest refl
     (record { named = refl; here = refl; free = refl }) (destination part.prefix fits (inl refl)) others
 
--- a protocol
+-- A protocol.
 protocol_word : (part : ProtoMatch) → is_protocol (Some part) ≡ true → IsProtocolWord (protocol_text part.proto) part.proto
 protocol_word part is = record { positive = positive; fits = fits; written = inl refl }
   where
@@ -72,7 +72,7 @@ protocol_pieces chains given last (Some part) rest is others =
     piece_by_sign chains (with_protocol given None) (with_protocol given (Some part)) last (row Protocol) part.negated (codes "-p") (protocol_text part.proto ∷ []) rest refl
     (record { named = refl; here = refl; free = refl }) (protocol part.proto (protocol_word part is)) others
 
--- the module of a protocol that has ports
+-- The module of a protocol that has ports.
 abbrev with_module_of : Given → Option ProtoMatch → Bool → Given
 with_module_of given o named = record given { rule = record given.rule { proto = o }; ports = named; target = None }
 
@@ -83,7 +83,7 @@ module_pieces chains given last (Some part) false rest named others = others
 module_pieces chains given last (Some part) true rest named others =
     one_more (plain {row = row Module} (record { named = refl; here = refl; free = refl }) (own_module part refl (named refl))) others
 
--- ports
+-- Ports.
 ports_word : (low high : ℕ) → low ≤ high → high ≤ last_port → ArePortsWord (ports_text low high) low high
 ports_word low high order fits = split_bool (nat_lt low high) several one
   where
@@ -123,7 +123,7 @@ destination_port_pieces chains given last named ports (Some part) rest are there
     piece_by_sign chains (with_destination_port given ports None) (with_destination_port given ports (Some part)) last (row DestinationPort) part.negated (codes "--dport") (ports_text part.low part.high ∷ []) rest refl
     (record { named = refl; here = there refl; free = refl }) (destination_port part.low part.high (ports_fit named part are)) others
 
--- a protocol and its ports
+-- A protocol and its ports.
 abbrev with_service_of : Given → Option ProtoMatch → Bool → Option PortMatch → Option PortMatch → Given
 with_service_of given proto ports sport dport = record given { rule = record given.rule { proto = proto; sport = sport; dport = dport }; ports = ports; target = None }
 
@@ -142,7 +142,7 @@ service_pieces chains given last r rest has others =
     four_joined : (a b c d e : List (List ℕ)) → a ++ (b ++ (c ++ (d ++ e))) ≡ (a ++ (b ++ (c ++ d))) ++ e
     four_joined a b c d e = simp append_assoc
 
--- a state
+-- A state.
 states_listed : (new established : Bool) → IsStateList (states_text new established) new established
 unfolding is_state
 states_listed true true = record { each = refl; has_new = refl; has_established = refl }
@@ -150,7 +150,7 @@ states_listed true false = record { each = refl; has_new = refl; has_established
 states_listed false true = record { each = refl; has_new = refl; has_established = refl }
 states_listed false false = record { each = refl; has_new = refl; has_established = refl }
 
--- the module is named where a state is asked for
+-- The module is loaded if a state is matched.
 abbrev asks : Option StateMatch → Bool
 asks None = false
 asks (Some part) = true
@@ -165,7 +165,7 @@ state_pieces chains given last (Some part) rest others =
     (piece_by_sign chains (with_state_of given true None) (with_state_of given true (Some part)) last (row CtState) part.negated (codes "--ctstate") (states_text part.new part.established ∷ []) rest refl
     (record { named = refl; here = refl; free = refl }) (states part.new part.established (inl refl) (states_listed part.new part.established)) others)
 
--- a target that is written can be read: the chain of a jump is a user chain that is found by its name
+-- A formatted target is parsed back: the chain of a jump is a user chain that is found by its name.
 abbrev pub IsFound : List Chain → List Chain → Target → Type 0
 IsFound said chains (Jump c) = (number_of said (name_of chains c) ≡ Some c) × (3 ≤ c) × (is_reserved (name_of chains c) ≡ false)
 IsFound said chains _ = Unit {0}
@@ -219,7 +219,7 @@ target_back Return = refl
 target_back Count = refl
 target_back (Jump c) = refl
 
--- what is given after each part of a written rule
+-- The partial rule after each part of a formatted rule.
 abbrev with_addresses : Rule → Given
 with_addresses r = with_destination (with_source nothing_given r.src) r.dst
 
@@ -229,7 +229,7 @@ with_service r = with_service_of (with_addresses r) r.proto (is_some r.sport || 
 abbrev with_state : Rule → Given
 with_state r = with_state_of (with_service r) (asks r.state) r.state
 
--- what is written of a rule is a rule line that says the rule
+-- A formatted rule is a rule line that yields the rule.
 pub rule_words_read : (said chains : List Chain) (name : List ℕ) (c : ℕ) (r : Rule) → number_of said name ≡ Some c → AddressFits r.src → AddressFits r.dst → IsFound said chains r.target → is_rule r ≡ true → IsRuleLine said (rule_words chains name r) c r
 rule_words_read said chains name c r number src dst found is = record {
   name = name;

@@ -1,4 +1,4 @@
--- The text of a written rule line is its words, with one blank between two.
+-- The text of a formatted rule line is its tokens, separated by one blank.
 use Rattle.std.proofs.Common.{◌≡◌, ℕ, Bool, true, false, ◌||◌, List, [], ◌∷◌, ◌++◌, append-nil, append_assoc, Option, Some, None, refl, sym, ap, ◌∙◌}
 use Rattle.std.specs.Prelude.{codes, is_some}
 use Rattle.text_core.proofs.SpacedLaws.{behind, spaced, behind-append}
@@ -15,7 +15,7 @@ use Rattle.ipt_rules.specs.Chain.{Chain, name_of}
 use Rattle.ipt_rules.specs.Text.{newline, negation_text, address_text, protocol_part_text, module_text, port_text, ports_text, service_text, state_text, states_text, target_text, rule_line}
 use Rattle.ipt_read.specs.inner.WrittenWords.{bang_words, address_words, protocol_words, module_words, port_words, service_words, state_words, target_words, rule_pieces, rule_words}
 
--- an option and its value, where a blank stands before and behind the option
+-- An option and its value, if a blank precedes and follows the option.
 option_behind : (text option value : List ℕ) → text ≡ 32 ∷ (option ++ (32 ∷ [])) → text ++ value ≡ behind (option ∷ value ∷ [])
 option_behind text option value is =
     ap (λ v. v ++ value) is

@@ -1,4 +1,5 @@
--- The grammar of the lines of a rule set: what each says, and which pieces a rule line has (iptables-save(8), iptables-restore(8)).
+-- The grammar of rulesets in iptables-save format: the meaning of each line, and the options of a rule line (iptables-save(8),
+-- iptables-restore(8)).
 use Rattle.std.specs.Prelude.{◌≡◌, ℕ, ◌+◌, ◌<◌, ◌≤◌, ◌^◌, Bool, true, false, IsTrue, IsFalse, List, [], ◌∷◌, ◌++◌, Some, None, length, codes, slice_set, unwrap_or, ◌⊎◌}
 use Rattle.host_net.specs.declared.prefix.Prefix.{Prefix}
 use Rattle.host_net.specs.PrefixView.{IsSpelling}
@@ -18,13 +19,13 @@ use Rattle.ipt_read.specs.Said.{Front, Table, After, SaidSoFar, line_of}
 use Rattle.ipt_read.specs.ServiceValues.{IsProtocolWord, ArePortsWord}
 use Rattle.ipt_read.specs.Values.{IsCount, IsText, IsStateList}
 
--- an option of that name may stand behind what is given, with `!` before it or not
+-- An option of that name, negated by `!` or not, is allowed after the partial rule.
 pub record Stands (given : Given) (negated : Bool) (name : List ℕ) (row : Row) : Type 0 where
   pub named : row_of name ≡ Some row
   pub here : IsTrue (row.stands given)
   pub free : IsFalse (is_barred given negated row)
 
--- the value of an option of that name, with `!` before it or not, and what is given with it
+-- The value of an option of that name, negated by `!` or not, and the partial rule after it.
 pub data IsValue (chains : List Chain) (given : Given) (negated : Bool) : List ℕ → List (List ℕ) → Given → Type 0 where
   source : {w : List ℕ} (p : Prefix) → p.addr < 2 ^ 32 → IsSpelling w p → IsValue chains given negated (codes "-s") (w ∷ [])
       (record given { rule = record given.rule { src = Some (record { prefix = p; negated = negated }) } })
@@ -41,39 +42,39 @@ pub data IsValue (chains : List Chain) (given : Given) (negated : Bool) : List �
   conntrack_module : IsValue chains given negated (codes "-m") (codes "conntrack" ∷ []) (record given { conntrack = true })
   state_module : IsValue chains given negated (codes "-m") (codes "state" ∷ []) (record given { states = true })
   comment_module : IsValue chains given negated (codes "-m") (codes "comment" ∷ []) (record given { comments = true })
-  -- the module that has the options of ports is named after the protocol, `tcp` or `udp`, that all packets are of
+  -- The module with the port options is named after the protocol, `tcp` or `udp`, that the rule matches on.
   own_module : (part : ProtoMatch) → given.rule.proto ≡ Some part → IsTrue (names_ports (Some part))
       → IsValue chains given negated (codes "-m") (protocol_text part.proto ∷ []) (record given { ports = true })
   target : {w : List ℕ} (t : Target) → named_target w ≡ Some t → IsValue chains given negated (codes "-j") (w ∷ []) (record given { target = Some t })
-  -- a jump to a user chain that was declared
+  -- A jump to a declared user chain.
   jump : {w : List ℕ} (c : ℕ) → named_target w ≡ None → number_of chains w ≡ Some c → 3 ≤ c
       → IsValue chains given negated (codes "-j") (w ∷ []) (record given { target = Some (Jump c) })
-  -- what the rule does not depend on: a text, and how to reject or to log in one word
+  -- Options without effect on the rule: a string; the reject type or the log level, in one token.
   a_text : {name : List ℕ} {ws : List (List ℕ)} → (name ≡ codes "--comment") ⊎ (name ≡ codes "--log-prefix") → IsText ws → IsValue chains given negated name ws given
   a_word : {name w : List ℕ} → (name ≡ codes "--reject-with") ⊎ (name ≡ codes "--log-level") → IsValue chains given negated name (w ∷ []) given
 
--- a piece: an option and its value, maybe after `!`
+-- An option with its value, optionally after `!`.
 pub data IsPiece (chains : List Chain) (given : Given) : List (List ℕ) → Given → Type 0 where
   plain : {name : List ℕ} {row : Row} {value : List (List ℕ)} {now : Given} → Stands given false name row
       → IsValue chains given false name value now → IsPiece chains given (name ∷ value) now
   turned : {name : List ℕ} {row : Row} {value : List (List ℕ)} {now : Given} → given.target ≡ None → Stands given true name row
       → IsValue chains given true name value now → IsPiece chains given (codes "!" ∷ name ∷ value) now
 
--- pieces, each of which fits after those before it
+-- A sequence of options, each of which is allowed after those before it.
 pub data ArePieces (chains : List Chain) : Given → List (List ℕ) → Given → Type 0 where
   none_left : {given : Given} → ArePieces chains given [] given
   one_more : {given now then_given : Given} {ws vs : List (List ℕ)} → IsPiece chains given ws now
       → ArePieces chains now vs then_given → ArePieces chains given (ws ++ vs) then_given
 
--- a count of packets and bytes in front, or nothing
+-- Packet and byte counters at the front of the line, or nothing.
 abbrev pub IsFront : List (List ℕ) → Type 0
 IsFront front = (front ≡ []) ⊎ ((count : List ℕ) × IsCount count × (front ≡ count ∷ []))
 
--- the words of a rule line: maybe a count, then `-A`, the name of a chain, and pieces
+-- The tokens of a rule line: optional counters, then `-A`, the name of a chain, and options.
 abbrev pub IsAppend : List (List ℕ) → (name : List ℕ) → (pieces : List (List ℕ)) → Type 0
 IsAppend ws name pieces = (front : List (List ℕ)) × IsFront front × (ws ≡ front ++ (codes "-A" ∷ name ∷ pieces))
 
--- a rule line: its chain is there, and its pieces make the rule, which only counts where none of them gives a target
+-- A rule line: its chain exists, and its options yield the rule. Without a target the rule only counts packets.
 pub record IsRuleLine (chains : List Chain) (ws : List (List ℕ)) (c : ℕ) (rule : Rule) : Type 0 where
   pub name : List ℕ
   pub pieces : List (List ℕ)
@@ -83,11 +84,11 @@ pub record IsRuleLine (chains : List Chain) (ws : List (List ℕ)) (c : ℕ) (ru
   pub fit : ArePieces chains nothing_given pieces given
   pub same : rule ≡ record given.rule { target = unwrap_or given.target Count }
 
--- the words of a chain line: `:` (58) and the name in one word, the policy, maybe a count
+-- The tokens of a chain line: `:` (58) and the name in one token, the policy, optional counters.
 abbrev pub IsChainLine : List (List ℕ) → (name policy : List ℕ) → Type 0
 IsChainLine ws name policy = (behind : List (List ℕ)) × IsFront behind × (ws ≡ (58 ∷ name) ∷ policy ∷ behind)
 
--- line n, by its words: from what the lines before it said to what they say with it
+-- Line n, by its tokens: a transition from the parser state before the line to the parser state after it.
 pub data IsLine (n : ℕ) (s : SaidSoFar) : List (List ℕ) → SaidSoFar → Type 0 where
   table : s.stage ≡ Front → IsLine n s (codes "*filter" ∷ []) (record s { stage = Table })
   built_in : {ws : List (List ℕ)} {name : List ℕ} {c : ℕ} (policy : Policy) → s.stage ≡ Table

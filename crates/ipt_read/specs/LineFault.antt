@@ -1,4 +1,4 @@
--- Why a line cannot stand where it stands (iptables-restore(8)).
+-- The reasons why a line is rejected at its position (iptables-restore(8)).
 use Rattle.std.specs.Prelude.{◌≡◌, ◌≢◌, ◌<◌, ◌≤◌, ◌⊎◌, ℕ, Bool, true, false, IsTrue, IsFalse, List, [], ◌∷◌, ◌++◌, Some, None, length, codes}
 use Rattle.text_core.specs.Lines.{begins_with}
 use Rattle.ipt_rules.specs.declared.rule.Policy.{Policy}
@@ -15,12 +15,12 @@ use Rattle.ipt_read.specs.Grammar.{Stands, IsValue, ArePieces, IsAppend, IsRuleL
 
 -- 1. Rule lines.
 
--- matches of interfaces, which are not read
+-- Interface matches, which are not supported.
 abbrev pub IsInterface : List ℕ → Type 0
 IsInterface name = (name ≡ codes "-i") ⊎ (name ≡ codes "-o")
 
--- why words in the place of an option and its value give none, with `!` before them or not: a match of an interface may stand there; or else no
--- option of that name may; or it is barred; or no value of it stands behind it
+-- The reason why the tokens at the position of an option, negated by `!` or not, are no option with its value: it is an interface match
+-- before the target; otherwise, no option of that name is allowed; or it is repeated or must not be negated; or no valid value follows it.
 pub data IsStuckAt (chains : List Chain) (given : Given) (negated : Bool) (name : List ℕ) : List (List ℕ) → IptWhy → Type 0 where
   interface : {ws : List (List ℕ)} → IsInterface name → given.target ≡ None → IsStuckAt chains given negated name ws AnInterface
   unknown : {ws : List (List ℕ)} → (IsInterface name → given.target ≢ None) → ((row : Row) → row_of name ≡ Some row → IsFalse (row.stands given))
@@ -32,7 +32,7 @@ pub data IsStuckAt (chains : List Chain) (given : Given) (negated : Bool) (name 
       → ((value rest : List (List ℕ)) (now : Given) → w ∷ ws ≡ value ++ rest → IsValue chains given negated name value now → ⊥)
       → IsStuckAt chains given negated name (w ∷ ws) row.refusal
 
--- why the words behind what is given begin with no piece; `!` stands in front of the target alone
+-- The reason why the tokens after a partial rule do not begin with an option. `!` is allowed only before the target.
 pub data IsStuck (chains : List Chain) (given : Given) : List (List ℕ) → IptWhy → Type 0 where
   bare_option : {name : List ℕ} {ws : List (List ℕ)} {why : IptWhy} → (given.target ≡ None → name ≢ codes "!")
       → IsStuckAt chains given false name ws why → IsStuck chains given (name ∷ ws) why
@@ -40,7 +40,8 @@ pub data IsStuck (chains : List Chain) (given : Given) : List (List ℕ) → Ipt
       → IsStuck chains given (codes "!" ∷ name ∷ ws) why
   bang_last : given.target ≡ None → IsStuck chains given (codes "!" ∷ []) BadLine
 
--- why words are no rule line: they have no `-A` and chain, behind a count or not; or there is no such chain; or the pieces get stuck
+-- The reason why tokens are no rule line: `-A` and a chain are missing, after optional counters; or the chain does not exist; or parsing
+-- the options fails.
 pub data IsBadRule (chains : List Chain) (ws : List (List ℕ)) : IptWhy → Type 0 where
   not_begun : ((name : List ℕ) (pieces : List (List ℕ)) → IsAppend ws name pieces → ⊥) → IsBadRule chains ws BadLine
   no_chain : (name : List ℕ) (pieces : List (List ℕ)) → IsAppend ws name pieces → number_of chains name ≡ None → IsBadRule chains ws UnknownChain
@@ -49,19 +50,19 @@ pub data IsBadRule (chains : List Chain) (ws : List (List ℕ)) : IptWhy → Typ
 
 -- 2. Lines.
 
--- a chain line that may stand, but for how many there are
+-- A chain line that is allowed, apart from the limit on chains.
 pub data MayDeclare (s : SaidSoFar) (ws : List (List ℕ)) : Type 0 where
   a_built_in : (name : List ℕ) (policy : Policy) (c : ℕ) → IsChainLine ws name (policy_text (Some policy))
       → number_of s.chains name ≡ Some c → c < 3 → line_of s.declared c ≡ 0 → MayDeclare s ws
   a_user : (name : List ℕ) → IsChainLine ws name (policy_text None) → number_of s.chains name ≡ None → IsTrue (is_user_name name)
       → MayDeclare s ws
 
--- a rule line begins so
+-- The first token of a rule line.
 abbrev pub BeginsRule : List ℕ → Type 0
 BeginsRule w = (w ≡ codes "-A") ⊎ IsTrue (begins_with 91 w)
 
--- why a line of these words cannot stand behind what was said: in front of the table the line `*filter` alone may; within it a chain
--- line begins with `:` (58), a rule line as is said, and else the line is COMMIT
+-- The reason why a line of these tokens is rejected in this parser state. Before the table only the line `*filter` is allowed. Within the
+-- table a chain line begins with `:` (58), a rule line as defined above, and every other line must be COMMIT.
 pub data IsBad (s : SaidSoFar) (w : List ℕ) (ws : List (List ℕ)) : IptWhy → Type 0 where
   no_table : s.stage ≡ Front → IsFalse (begins_with 42 w) → IsBad s w ws BadLine
   other_table : s.stage ≡ Front → IsTrue (begins_with 42 w) → w ≢ codes "*filter" → IsBad s w ws OtherTable

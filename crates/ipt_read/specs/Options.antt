@@ -1,4 +1,4 @@
--- The options of a rule line, as a table, and what they gave (iptables(8), iptables-extensions(8)).
+-- The options of a rule line, as a table, and the partial rule that they yield (iptables(8), iptables-extensions(8)).
 use Rattle.std.specs.Prelude.{ℕ, Bool, true, false, ◌&&◌, List, [], ◌∷◌, Option, Some, None, is_some, is_none, codes, bytes_eq}
 use Rattle.std.specs.Map.{lookup}
 use Rattle.std.specs.Option.{option_map_or}
@@ -8,9 +8,10 @@ use Rattle.ipt_rules.specs.declared.rule.Target.TheVariants.{Accept, Drop, Rejec
 use Rattle.ipt_read.specs.declared.fault.IptWhy.{IptWhy}
 use Rattle.ipt_read.specs.declared.fault.IptWhy.TheVariants.{UnknownOption, BadValue, UnknownTarget}
 
--- 1. What is given.
+-- 1. The partial rule.
 
--- the rule so far but for its target, the target, and which modules were named, of which `ports` is that of the protocol
+-- A partial rule: the rule so far without its target, the target, and the modules that were loaded; `ports` is set if the module of the
+-- protocol was loaded.
 pub record Given : Type 0 where
   pub rule : Rule
   pub target : Option Target
@@ -19,7 +20,7 @@ pub record Given : Type 0 where
   pub states : Bool
   pub comments : Bool
 
--- a rule that asks for nothing
+-- A rule without matches and without a target.
 abbrev pub nothing_given : Given
 nothing_given = record {
   rule = record { src = None; dst = None; proto = None; sport = None; dport = None; state = None; target = Count };
@@ -32,25 +33,28 @@ nothing_given = record {
 
 -- 2. The options.
 
--- an option: where it may stand; of a match, which may stand once and takes `!`, whether a rule has its part; and why a value is refused
+-- A row of the table of options: where the option is allowed; for a match, which is allowed once and may be negated, whether a rule has
+-- this match; and the reason to reject a value.
 pub record Row : Type 0 where
   pub stands : Given → Bool
   pub part : Option (Rule → Bool)
   pub refusal : IptWhy
 
+-- The partial rule has no target yet.
 abbrev pub in_front : Given → Bool
 in_front given = is_none given.target
 
+-- The target is REJECT.
 abbrev pub rejects : Option Target → Bool
 rejects (Some Reject) = true
 rejects _ = false
 
--- the target is LOG, which only counts
+-- The target is LOG, which only counts packets.
 abbrev pub logs : Option Target → Bool
 logs (Some Count) = true
 logs _ = false
 
--- a match stands in front of the target and behind its module, an option of a target behind that target
+-- A match is allowed before the target and after its module, and an option of a target after that target.
 abbrev pub options : List (List ℕ × Row)
 options =
     (codes "-s", record { stands = in_front; part = Some (λ rule. is_some rule.src); refusal = BadValue }) ∷
@@ -67,14 +71,16 @@ options =
     (codes "--log-prefix", record { stands = λ given. logs given.target; part = None; refusal = BadValue }) ∷
     (codes "--log-level", record { stands = λ given. logs given.target; part = None; refusal = BadValue }) ∷ []
 
+-- The row of an option, by its name.
 abbrev pub row_of : List ℕ → Option Row
 row_of name = lookup (bytes_eq name) options
 
--- the rule has the part of a match already, or `!` stands before what is no match
+-- The option is repeated or must not be negated: the rule already has this match, or `!` precedes an option that is no
+-- match.
 abbrev pub is_barred : Given → Bool → Row → Bool
 is_barred given negated row = option_map_or (λ has_part. has_part given.rule) row.part negated
 
--- the target that has this name of its own
+-- The target with this name, except user chains.
 abbrev pub named_target : List ℕ → Option Target
 named_target word =
     lookup (bytes_eq word) ((codes "ACCEPT", Accept) ∷ (codes "DROP", Drop) ∷ (codes "REJECT", Reject) ∷ (codes "RETURN", Return) ∷ (codes "LOG", Count) ∷ [])

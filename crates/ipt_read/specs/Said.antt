@@ -1,24 +1,25 @@
--- What the lines of a text have said so far.
+-- The state of the parser between two lines.
 use Rattle.std.specs.Prelude.{ℕ, List, [], ◌∷◌}
 use Rattle.std.specs.List.{slice_index_or}
 use Rattle.ipt_rules.specs.Chain.{Chain, built_in_chains}
 
--- how far the text has come: in front of its table, within it, or behind COMMIT
+-- The position in the file: before its table, within the table, or after COMMIT.
 pub data Stage : Type 0 where
   Front : Stage
   Table : Stage
   After : Stage
 
--- how far the text has come, the chains, for each chain the line of its chain line (0 where it has none yet), and how many rules
+-- The parser state: the position, the chains, for each chain the number of its chain line (0 if it has none yet), and the number of rules.
 pub record SaidSoFar : Type 0 where
   pub stage : Stage
   pub chains : List Chain
   pub declared : List ℕ
   pub rules : ℕ
 
+-- The initial parser state: before the table, with the built-in chains, without chain lines and rules.
 abbrev pub nothing_said : SaidSoFar
 nothing_said = record { stage = Front; chains = built_in_chains; declared = 0 ∷ 0 ∷ 0 ∷ []; rules = 0 }
 
--- the line of a chain's chain line
+-- The number of the chain line of a chain.
 abbrev pub line_of : List ℕ → ℕ → ℕ
 line_of declared c = slice_index_or declared c 0

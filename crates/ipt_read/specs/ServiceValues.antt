@@ -1,20 +1,20 @@
--- How the values of `-p`, `--sport` and `--dport` are written (iptables(8), "PARAMETERS"; iptables-extensions(8), "tcp" and "udp").
+-- Notation of the values of `-p`, `--sport` and `--dport` (iptables(8), "PARAMETERS"; iptables-extensions(8), "tcp" and "udp").
 use Rattle.std.specs.Prelude.{◌≡◌, ◌⊎◌, ◌<◌, ◌≤◌, ◌^◌, ℕ, List, [], ◌∷◌, ◌++◌, Option, Some, bytes_eq, codes, decimal}
 use Rattle.std.specs.Map.{lookup}
 use Rattle.host_net.specs.Service.{last_port}
 use Rattle.host_net.specs.ServiceText.{protocol_text}
 
--- the protocol of a name beside `icmp`, `tcp` and `udp` (IANA, Assigned Internet Protocol Numbers)
+-- The protocol with a name other than `icmp`, `tcp` and `udp` (IANA, Assigned Internet Protocol Numbers).
 abbrev pub other_protocol : List ℕ → Option ℕ
 other_protocol word = lookup (bytes_eq word) ((codes "esp", 50) ∷ (codes "ah", 51) ∷ (codes "sctp", 132) ∷ [])
 
--- a protocol, by a name or by its number; 0 is none, since iptables means any protocol by it
+-- A protocol, by its name or by its number. 0 is rejected, since iptables takes it as any protocol.
 pub record IsProtocolWord (word : List ℕ) (proto : ℕ) : Type 0 where
   pub positive : 0 < proto
   pub fits : proto < 2 ^ 8
   pub written : (word ≡ protocol_text proto) ⊎ ((word ≡ decimal proto) ⊎ (other_protocol word ≡ Some proto))
 
--- ports: one, or a colon (58) with the first before it and the last behind it, of which one may be left out
+-- Ports: one port, or a range with a colon (58) between the first and the last port, one of which may be omitted.
 pub record ArePortsWord (word : List ℕ) (low high : ℕ) : Type 0 where
   pub order : low ≤ high
   pub fits : high ≤ last_port

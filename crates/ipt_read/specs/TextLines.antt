@@ -1,4 +1,4 @@
--- The text of a rule set: which chains it says, and why one says none.
+-- The format of a ruleset file: the chains that it defines, and the reasons why a file is rejected.
 use Rattle.std.specs.Prelude.{◌≡◌, ◌≢◌, ℕ, List, ◌∷◌}
 use Rattle.text_core.specs.Lines.{words}
 use Rattle.text_core.specs.TextByLines.{TextByLines, IsReading as IsReadingOf, HasFault as HasFaultOf}
@@ -10,13 +10,13 @@ use Rattle.ipt_read.specs.Grammar.{IsLine}
 use Rattle.ipt_read.specs.LineFault.{IsBad}
 use Rattle.ipt_read.specs.Said.{After, SaidSoFar, nothing_said, line_of}
 
--- why a text ends badly: it ends without COMMIT, at the line after its last; or jumps lead back, at the chain line of the first chain
--- that they lead back to
+-- The reason why a file ends badly: it ends without COMMIT, reported at the line after its last; or jumps form a cycle, reported at the
+-- chain line of the first chain on a cycle.
 pub data EndsBadly (next : ℕ) (s : SaidSoFar) : ℕ → IptWhy → Type 0 where
   no_commit : s.stage ≢ After → EndsBadly next s next NoCommit
   loops : (c : ℕ) → s.stage ≡ After → IsLeastLoop s.chains c → EndsBadly next s (line_of s.declared c) Loop
 
--- a text of rules, line by line: it ends with COMMIT, and no jumps lead back
+-- A ruleset as a line-oriented format: it ends with COMMIT, and its jumps are acyclic.
 abbrev pub rules_text : TextByLines SaidSoFar IptWhy
 rules_text = record {
   byte_limit = 67108864;
@@ -28,9 +28,10 @@ rules_text = record {
   EndsBadly = EndsBadly;
 }
 
--- the reading of a text, and its first fault
+-- The parse result of a file.
 abbrev pub IsReading : List ℕ → List Chain → Type 0
 IsReading bytes chains = (s : SaidSoFar) × IsReadingOf rules_text bytes s × (chains ≡ s.chains)
 
+-- The first error of a file.
 abbrev pub HasFault : List ℕ → ℕ → IptWhy → Type 0
 HasFault = HasFaultOf rules_text

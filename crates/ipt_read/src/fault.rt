@@ -1,60 +1,61 @@
-//! Why a text is no rule set.
+//! The reasons why a file is no ruleset.
 
 ghost use Rattle.std.specs.Prelude.{◌≡◌};
 
 use text_core::{LineFault, TextFault};
 use thiserror::Error;
 
-/// Why a line cannot stand where it stands, or why a text is refused as a whole.
+/// The reason why a line is rejected at its position, or why a file is rejected as a whole.
 #[derive(Clone, Copy, Debug, PartialEq, Eq, Error)]
 pub enum IptWhy {
-    /// The text has more than 67,108,864 bytes. The line is 0.
+    /// The file has more than 67,108,864 bytes. The line is 0.
     #[error("TooLong")]
     TooLong,
-    /// The line is none of the lines that may stand at its place. In a rule line: the count is none, or
-    /// `-A` and a chain do not follow; an option that may stand once stands twice; a `!` is the last word,
-    /// or stands before an option that takes none.
+    /// The line has none of the forms that are allowed at its position. In a rule line: the
+    /// counters are invalid, or `-A` and a chain do not follow; an option that is allowed once is
+    /// repeated; a `!` is the last word, or precedes an option that cannot be negated.
     #[error("BadLine")]
     BadLine,
-    /// A table other than `filter`.
+    /// The table is not `filter`.
     #[error("OtherTable")]
     OtherTable,
-    /// A chain line whose name, policy or count is none, or whose chain has one already.
+    /// A chain line has an invalid name, policy or counters, or its chain already has a chain line.
     #[error("BadChain")]
     BadChain,
-    /// A rule of a user chain that has no chain line before it.
+    /// The rule is of a user chain without a chain line before it.
     #[error("UnknownChain")]
     UnknownChain,
-    /// A match of an interface, which is not read.
+    /// The line has an interface match, which is not supported.
     #[error("Interface")]
     Interface,
-    /// A word that is no option where it stands, or a module that is not read there.
+    /// A word is not an option that is allowed at its position, or it is a module that is not
+    /// supported there.
     #[error("UnknownOption")]
     UnknownOption,
-    /// A value that is none of its option, or none at all.
+    /// A value of an option is invalid or missing.
     #[error("BadValue")]
     BadValue,
-    /// A target that is none, a built-in chain, or a chain that has no chain line before the rule.
+    /// The target is unknown, a built-in chain, or a chain without a chain line before the rule.
     #[error("UnknownTarget")]
     UnknownTarget,
-    /// Jumps lead from a chain back to it. The line is the chain line of the first such chain.
+    /// Jumps form a cycle. The line is the chain line of the first chain on a cycle.
     #[error("Loop")]
     Loop,
-    /// The text ends without `COMMIT`. The line is the one after the last line.
+    /// The file ends without `COMMIT`. The line is the one after the last line.
     #[error("NoCommit")]
     NoCommit,
-    /// A line after `COMMIT`.
+    /// A line follows `COMMIT`.
     #[error("AfterCommit")]
     AfterCommit,
-    /// The 4,097th chain, or the 1,000,001st rule.
+    /// The line has the 4,097th chain, or the 1,000,001st rule.
     #[error("TooMany")]
     TooMany,
 }
 
-/// Why a text is no rule set: the first line that cannot stand where it stands, counted from 1, and the
-/// reason. `TooLong`, `NoCommit` and `Loop` are reasons of the whole text, each with a line of its own: 0,
-/// the number of lines plus 1, and the chain line of the first chain that a loop goes through. `Loop` is
-/// the reason only if the text has no other.
+/// The reason why a file is no ruleset: the first line that is rejected at its position, counted
+/// from 1, and the reason. `TooLong`, `NoCommit` and `Loop` are reasons of the whole file. Their
+/// lines are 0, the number of lines plus 1, and the chain line of the first chain on a cycle.
+/// `Loop` is the reason only if the file has no other.
 pub type IptFault = TextFault<IptWhy>;
 
 pub(crate) fn bad(why: IptWhy) -> LineFault<IptWhy>

@@ -1,4 +1,4 @@
-//! Reading texts of iptables-save as rule sets.
+//! A parser for rulesets in iptables-save format.
 #![tactic(auto)]
 
 mod fault;

@@ -1,4 +1,4 @@
-//! The options of a rule line, and what stands on the line already.
+//! The options of a rule line, and the partial rule.
 
 use ipt_rules::{Rule, Target};
 
@@ -21,8 +21,8 @@ pub(crate) enum RuleOption {
     LogLevel,
 }
 
-/// What the options in front gave: the rule so far but for its target, the target, and the modules that
-/// were named, of which `ports` stands for that of the protocol.
+/// The partial rule that the options so far yield: the rule without its target, the target, and the
+/// modules that were loaded; `ports` is set if the module of the protocol was loaded.
 #[derive(Clone, Copy)]
 pub(crate) struct Given {
     pub(crate) rule: Rule,
@@ -33,7 +33,8 @@ pub(crate) struct Given {
     pub(crate) comments: bool,
 }
 
-/// Where the next word stands: at an option, after `!`, at an option's value, or within a quoted text.
+/// The position of the next token: at an option, after `!`, at an option's value, or within a
+/// quoted string.
 #[derive(Clone, Copy)]
 pub(crate) enum Place {
     AtOption,

@@ -1,4 +1,4 @@
-//! Reading a text line by line.
+//! Parsing a file line by line.
 
 ghost use Rattle.std.specs.Prelude.{◌≡◌, ◌<◌, ◌≤◌, ◌^◌, ◌∷◌, [], ◌++◌, Some, None, Ok, IfOk, IsTrue, length};
 ghost use Rattle.std.specs.Option.{option_map};
@@ -19,10 +19,10 @@ use ipt_rules::{CHAIN_LIMIT, ChainName, Chains, Policy, RULE_LIMIT, Rule};
 use std::alloc::{AllocError, Global};
 use text_core::{LineFault, LineReader, Words, begins_with};
 
-/// The most bytes that a text may have.
+/// The greatest size of a file, in bytes.
 pub const BYTE_LIMIT: usize = 67_108_864;
 
-/// What the lines have said: for each chain the line of its chain line, 0 where it has none yet.
+/// The parser state. For each chain it has the number of its chain line, 0 if there is none yet.
 #[derive(Drop)]
 pub(crate) struct Reader {
     pub(crate) stage: Stage,
@@ -264,7 +264,7 @@ impl LineReader for Reader {
     }
 }
 
-/// The state in front of the first line.
+/// Returns the state before the first line.
 pub(crate) fn nothing_said(alloc: Global) -> Result<Reader, AllocError>
     ensures { IfOk result (λ t. said_of t ≡ nothing_said) }
 {

@@ -1,4 +1,4 @@
-//! Reading a rule line, word by word.
+//! Parsing a rule line, token by token.
 
 ghost use Rattle.std.specs.Prelude.{◌≡◌, ◌<◌, ◌∷◌, [], IfOk, length};
 ghost use Rattle.std.specs.Char.{is_ascii_digit};
@@ -184,7 +184,7 @@ fn append_of(chains: &Chains, first: &[u8], mut line: Words) -> Result<(u16, Rul
     }
 }
 
-/// The rule of a line of these words, and the number of its chain.
+/// Returns the rule of a line with these tokens, and the number of its chain.
 #[tactic(auto, unfolding(crate::specs::inner::RuleLine::rule_line_of))]
 pub(crate) fn rule_line_of(
     chains: &Chains,

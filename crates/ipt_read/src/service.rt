@@ -1,4 +1,4 @@
-//! Reading the values of the options of protocols and ports.
+//! Parsing the values of protocol and port options.
 
 ghost use Rattle.std.specs.Prelude.{◌≡◌, Some, None, if◌then◌else◌, nat_le};
 ghost use Rattle.text_core.specs.inner.Decimal.{number};
@@ -8,7 +8,7 @@ ghost use Rattle.ipt_read.specs.inner.ServiceSteps.{asked_ports, asked_protocol,
 use host_net::{LAST_PORT, read_port, read_protocol};
 use text_core::{read_number, split_once};
 
-/// A protocol by a name, or by its number from 1 to 255.
+/// Parses a protocol, by a name or by its number from 1 to 255.
 #[tactic(auto, unfolding(crate::specs::inner::ServiceSteps::asked_protocol))]
 pub(crate) fn asked_protocol(word: &[u8]) -> Option<u8>
     ensures { result ≡ asked_protocol word.now }
@@ -22,7 +22,7 @@ fn named_protocol(word: &[u8]) -> Option<u8>
     other_protocol(word).or(read_protocol(word))
 }
 
-/// The protocols that have a name in iptables beside the three of `read_protocol`.
+/// Returns the protocol of a name that iptables knows in addition to the three of `read_protocol`.
 fn other_protocol(word: &[u8]) -> Option<u8>
     ensures { result ≡ other_protocol word.now }
 {
@@ -47,7 +47,7 @@ fn numbered_protocol(word: &[u8]) -> Option<u8>
     }
 }
 
-/// The first port and the last, which are the same where there is no colon.
+/// Returns the first port and the last, which are equal if there is no colon.
 #[tactic(auto, unfolding(crate::specs::inner::ServiceSteps::asked_ports))]
 pub(crate) fn asked_ports(word: &[u8]) -> Option<(u16, u16)>
     ensures { result ≡ asked_ports word.now }

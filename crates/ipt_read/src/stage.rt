@@ -1,6 +1,6 @@
-//! How far the lines of a text have come.
+//! The position of a line in the file.
 
-/// In front of the table line, between it and COMMIT, or after COMMIT.
+/// Before the table line, between the table line and COMMIT, or after COMMIT.
 #[derive(Clone, Copy, Debug, PartialEq, Eq)]
 pub(crate) enum Stage {
     Front,

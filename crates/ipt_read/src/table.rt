@@ -1,4 +1,4 @@
-//! The table of options: how each is written, where it may stand, and what its value says.
+//! The table of options: the name of each, where it is allowed, and the meaning of its value.
 
 ghost use Rattle.std.specs.Prelude.{◌≡◌, ◌<◌, ◌==◌, IfSome, Option, List, ℕ, length, false, bytes_eq, slice_index_or};
 ghost use Rattle.std.specs.List.{list_all, list_any};
@@ -113,7 +113,8 @@ pub(crate) fn is_interface(option: RuleOption) -> bool
     matches!(option, RuleOption::Interface)
 }
 
-/// Whether the rule has the part of a match already, or `!` stands before what is no match.
+/// Whether the option is repeated or must not be negated: the rule already has this match, or `!`
+/// precedes an option that is no match.
 pub(crate) fn is_barred(given: Given, negated: bool, option: RuleOption) -> bool
     ensures { result ≡ bars (given_of given) negated option }
 {
@@ -311,7 +312,7 @@ fn with_rule(given: Given, rule: Rule) -> (Given, Place)
     (Given { rule, ..given }, Place::AtOption)
 }
 
-/// What is given after an option's value, and where the next word stands.
+/// Returns the partial rule after an option's value, and the position of the next token.
 #[tactic(auto, unfolding(crate::specs::inner::ValueSteps::with_value))]
 pub(crate) fn with_value(
     chains: &Chains,

@@ -1,4 +1,4 @@
-//! Reading a text of iptables-save as a rule set.
+//! Parsing a file in iptables-save format as a ruleset.
 
 ghost use Rattle.std.specs.Prelude.{◌≡◌, ◌≤◌, ◌^◌, ◌+◌, ℕ, List, Ok, Err, IfOk, IfErr, MatchResult, length};
 ghost use Rattle.text_core.specs.Lines.{lines};
@@ -21,23 +21,23 @@ use ipt_rules::Ruleset;
 use std::alloc::Global;
 use text_core::{TextFault, read_counted_lines};
 
-/// The rule set that a text says.
+/// Parses a ruleset.
 pub fn read(alloc: Global, bytes: &[u8]) -> Result<Ruleset, IptFault>
     ensures found { IfOk result (IsReading bytes.now) }
-    // A text that has a reading is refused for want of memory alone.
+    // A file that has a parse result is rejected only if allocation fails.
     ensures only { (chains : List Chain) → IsReading bytes.now chains →
         MatchResult result (λ rules. rules ≡ chains) (λ fault. fault ≡ TextFault.Memory) }
     ensures refused { IfErr result (HasCause rules_text bytes.now) }
-    // A text has one first fault at most, and none where it has a reading.
+    // A file has at most one first error, and none if it has a parse result.
     ensures faulty { (line : ℕ) (why : IptWhy) → HasFault bytes.now line why →
         MatchResult result (λ rules. ⊥) (IsFault line why) }
-    // The text of a rule set has this rule set as its reading, if it has no more bytes than a text may have.
+    // The text of a rule set parses to this rule set, if it is within the size limit.
     ensures written { (chains : List Chain) → IsWritable chains → bytes.now ≡ text chains → length bytes.now ≤ 67108864 →
         IsReading bytes.now chains }
-    // What is written of a rule set is read again, where it has no more bytes than a text may have.
+    // A formatted rule set is parsed back, if its text is within the size limit.
     ensures again { (chains : List Chain) → IsWritable chains → bytes.now ≡ text chains → length bytes.now ≤ 67108864 →
         MatchResult result (λ rules. rules ≡ chains) (λ fault. fault ≡ TextFault.Memory) }
-    // The rule set that is read is one in which each chain gives every packet one outcome.
+    // In the returned rule set each chain has one outcome for every packet.
     ensures one_outcome { IfOk result EachGivesOne }
 {
     let Ok(start) = nothing_said(alloc) else {
@@ -49,7 +49,7 @@ pub fn read(alloc: Global, bytes: &[u8]) -> Result<Ruleset, IptFault>
     }
 }
 
-/// The rule set of a text that was read to its last line, by how many lines it has.
+/// Returns the rule set of a file that was parsed to its last line. `count` is the number of lines.
 fn end(alloc: Global, reader: Reader, bytes: &[u8], count: u32) -> Result<Ruleset, IptFault>
     requires fine { IsFine (said_of reader) }
     requires through { IsReadThrough rules_text bytes.now (said_of reader) }

@@ -1,4 +1,4 @@
--- Counts of packets and bytes, as the reader reads them. Callers see none of it; they have `Values: IsCount`.
+-- Parsing packet and byte counters. Callers do not see this; they use `Values: IsCount`.
 use Rattle.std.specs.Prelude.{ℕ, Bool, true, false, ◌&&◌, ◌==◌, List, [], ◌∷◌, Option, Some, None}
 use Rattle.text_core.specs.inner.Pieces.{split_once}
 use Rattle.ipt_read.specs.Values.{is_figure}

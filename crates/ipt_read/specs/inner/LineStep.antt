@@ -1,5 +1,5 @@
--- One line of a text as the reader goes through it, from its first word on: what the lines say with it, or why it cannot stand there.
--- Callers see none of it; they have `Grammar` and `LineFault`.
+-- Parsing one line, from its first token on: the parser state after it, or the reason why it is rejected. Callers do not see this; they use
+-- `Grammar` and `LineFault`.
 use Rattle.std.specs.Prelude.{ℕ, ◌+◌, Bool, true, false, ◌&&◌, ◌||◌, not, ◌==◌, nat_lt, nat_le, if◌then◌else◌, List, [], ◌∷◌, ◌++◌, Option, Some, None, Result, Ok, Err, length, drop, codes, bytes_eq, slice_set}
 use Rattle.text_core.specs.Lines.{words, begins_with}
 use Rattle.ipt_rules.specs.declared.rule.Policy.{Policy}
@@ -18,7 +18,7 @@ abbrev pub no_words : List (List ℕ) → Bool
 no_words [] = true
 no_words (w ∷ ws) = false
 
--- in front of the table: the line `*filter`
+-- Before the table: the line `*filter`.
 abbrev pub table_line_of : SaidSoFar → List ℕ → List (List ℕ) → Result SaidSoFar IptWhy
 table_line_of s w ws =
     if not (begins_with 42 w) then Err BadLine
@@ -26,7 +26,7 @@ table_line_of s w ws =
     else if not (no_words ws) then Err BadLine
     else Ok (record s { stage = Table })
 
--- the policy of a chain line: one word, with a count after it or not
+-- The policy of a chain line: one token, with optional counters after it.
 abbrev pub policy_word : List (List ℕ) → Option (List ℕ)
 policy_word (p ∷ []) = Some p
 policy_word (p ∷ count ∷ []) = if is_count count then Some p else None
@@ -43,7 +43,7 @@ with_built_in n s c (Some policy) =
     then Ok (record s { chains = with_policy s.chains c policy; declared = slice_set s.declared c n })
     else Err BadChain
 
--- a chain line: of a built-in chain that has none yet, or of a user chain with a new name
+-- A chain line: of a built-in chain without a chain line so far, or of a user chain with a new name.
 abbrev pub declare : ℕ → SaidSoFar → List ℕ → List ℕ → Option ℕ → Result SaidSoFar IptWhy
 declare n s name policy (Some c) = with_built_in n s c (built_in_policy policy)
 declare n s name policy None =
@@ -58,25 +58,25 @@ declare_by n s name (Some policy) = declare n s name policy (number_of s.chains 
 unfoldable pub chain_line_of : ℕ → SaidSoFar → List ℕ → List (List ℕ) → Result SaidSoFar IptWhy
 chain_line_of n s w ws = declare_by n s (drop 1 w) (policy_word ws)
 
--- one rule more, within the limit
+-- One more rule, within the limit.
 abbrev pub with_read_rule : SaidSoFar → Result (ℕ × Rule) IptWhy → Result SaidSoFar IptWhy
 with_read_rule s (Err why) = Err why
 with_read_rule s (Ok r) =
     if nat_le rule_limit s.rules then Err TooMany else Ok (record s { chains = with_rule s.chains r.0 r.1; rules = s.rules + 1 })
 
--- the line COMMIT
+-- The line COMMIT.
 abbrev pub commit_line_of : SaidSoFar → List ℕ → List (List ℕ) → Result SaidSoFar IptWhy
 commit_line_of s w ws =
     if not (bytes_eq w (codes "COMMIT")) then Err BadLine else if not (no_words ws) then Err BadLine else Ok (record s { stage = After })
 
--- within the table: a chain line begins with `:` (58), a rule line with `-A` or `[` (91), and COMMIT ends it
+-- Within the table: a chain line begins with `:` (58), a rule line with `-A` or `[` (91), and COMMIT ends the table.
 unfoldable pub body_line_of : ℕ → SaidSoFar → List ℕ → List (List ℕ) → Result SaidSoFar IptWhy
 body_line_of n s w ws =
     if begins_with 58 w then chain_line_of n s w ws
     else if bytes_eq w (codes "-A") || begins_with 91 w then with_read_rule s (rule_line_of s.chains (w ∷ ws))
     else commit_line_of s w ws
 
--- a line that is no comment, by where it stands
+-- A line that is no comment, by the position in the file.
 abbrev pub line_at : Stage → ℕ → SaidSoFar → List ℕ → List (List ℕ) → Result SaidSoFar IptWhy
 line_at Front n s w ws = table_line_of s w ws
 line_at Table n s w ws = body_line_of n s w ws

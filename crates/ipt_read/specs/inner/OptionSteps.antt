@@ -1,4 +1,4 @@
--- The options of a rule line as the reader goes through them, one by one. Callers see none of it; they have `Options` and `Grammar`.
+-- Parsing the options of a rule line, one by one. Callers do not see this; they use `Options` and `Grammar`.
 use Rattle.std.specs.Prelude.{ℕ, Bool, true, false, ◌&&◌, nat_lt, if◌then◌else◌, List, [], ◌∷◌, ◌++◌, map, Option, Some, None, codes, bytes_eq, unwrap_or}
 use Rattle.std.specs.Map.{lookup}
 use Rattle.std.specs.Option.{option_or}
@@ -15,7 +15,7 @@ use Rattle.ipt_read.specs.declared.option.RuleOption.{RuleOption}
 use Rattle.ipt_read.specs.declared.option.RuleOption.TheVariants.{Source, Destination, Protocol, SourcePort, DestinationPort, Interface, Module, CtState, State, Comment, Jump, RejectWith, LogPrefix, LogLevel}
 use Rattle.ipt_read.specs.Options.{Given, Row, in_front, row_of, is_barred, named_target}
 
--- the name of an option; a match of an interface has another, too
+-- The name of an option; an interface match also has another name.
 abbrev pub written : RuleOption → List ℕ
 written Source = codes "-s"
 written Destination = codes "-d"
@@ -32,18 +32,18 @@ written RejectWith = codes "--reject-with"
 written LogPrefix = codes "--log-prefix"
 written LogLevel = codes "--log-level"
 
--- an option behind its name
+-- An option with its name.
 abbrev pub named : RuleOption → List ℕ × RuleOption
 named o = (written o, o)
 
--- the options of targets
+-- The options of targets.
 abbrev pub target_options : List (List ℕ × RuleOption)
 target_options = map named (RejectWith ∷ LogPrefix ∷ LogLevel ∷ [])
 
 abbrev pub option_of_target : List ℕ → Option RuleOption
 option_of_target word = lookup (bytes_eq word) target_options
 
--- the options that are read
+-- The supported options.
 abbrev pub named_options : List (List ℕ × RuleOption)
 named_options =
     map named (Source ∷ Destination ∷ Protocol ∷ SourcePort ∷ DestinationPort ∷ CtState ∷ State ∷ Comment ∷ Module ∷ Jump ∷ []) ++ target_options
@@ -54,7 +54,7 @@ option_of word =
     else if bytes_eq word (codes "-o") then Some Interface
     else lookup (bytes_eq word) named_options
 
--- the row of each in the table; a match of an interface has none there, and may stand in front of the target
+-- The row of each option in the table. An interface match has no row there, and is allowed before the target.
 abbrev pub row : RuleOption → Row
 row o = unwrap_or (row_of (written o)) (record { stands = in_front; part = None; refusal = BadValue })
 
@@ -64,7 +64,7 @@ may_stand given o = (row o).stands given
 abbrev pub bars : Given → Bool → RuleOption → Bool
 bars given negated o = is_barred given negated (row o)
 
--- why another value is refused
+-- The reason to reject an invalid value.
 abbrev pub value_refusal : RuleOption → IptWhy
 value_refusal o = (row o).refusal
 
@@ -72,21 +72,21 @@ abbrev pub is_interface : RuleOption → Bool
 is_interface Interface = true
 is_interface _ = false
 
--- a jump to a user chain that was declared
+-- A jump to a declared user chain.
 abbrev pub jump_to : Option ℕ → Option Target
 jump_to None = None
 jump_to (Some c) = if nat_lt c 3 then None else Some (JumpsTo c)
 
--- a target by its own name, or by a chain's
+-- A target by its own name, or by the name of a chain.
 unfoldable pub target_of : List Chain → List ℕ → Option Target
 target_of chains word = option_or (named_target word) (jump_to (number_of chains word))
 
--- the module that has the options of ports is named after the protocol, `tcp` or `udp`, that all packets are of
+-- The module with the port options is named after the protocol, `tcp` or `udp`, that the rule matches on.
 abbrev pub is_own_module : Option ProtoMatch → List ℕ → Bool
 is_own_module None word = false
 is_own_module (Some part) word = names_ports (Some part) && bytes_eq word (protocol_text part.proto)
 
--- the modules: `conntrack`, `state`, `comment`, and that of the protocol
+-- The modules: `conntrack`, `state`, `comment`, and that of the protocol.
 unfoldable pub with_module : Given → List ℕ → Option Given
 with_module given word =
     if bytes_eq word (codes "conntrack") then Some (record given { conntrack = true })
@@ -95,6 +95,6 @@ with_module given word =
     else if is_own_module given.rule.proto word then Some (record given { ports = true })
     else None
 
--- the rule that all options make
+-- The rule that all options yield.
 abbrev pub rule_of : Given → Rule
 rule_of given = record given.rule { target = unwrap_or given.target Count }

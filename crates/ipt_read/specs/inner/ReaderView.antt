@@ -1,4 +1,4 @@
--- What the reader holds of a rule line and of a text, in the words of the grammar. Callers see none of it.
+-- The models of the parser's values, in terms of the grammar. Callers do not see them.
 use Rattle.std.specs.Prelude.{◌≡◌, Result, Ok, Err, MatchResult}
 use Rattle.ipt_read.specs.declared.fault.IptWhy.{IptWhy}
 use Rattle.ipt_read.specs.declared.option.Given.{Given as Held}
@@ -18,7 +18,7 @@ given_of g = record {
   comments = g.comments;
 }
 
--- what is given, and where the next word stands
+-- The partial rule, and the position of the next token.
 abbrev pub next_of : Held × Place → Given × Place
 next_of next = (given_of next.0, next.1)
 
@@ -27,6 +27,6 @@ stage_of held.Front = Front
 stage_of held.Table = Table
 stage_of held.After = After
 
--- an answer in the reader's words against the same in the grammar's
+-- A result of the parser, compared with the result in terms of the grammar.
 abbrev pub AnswersAs : {A B : Type 0} → (A → B) → Result B IptWhy → Result A IptWhy → Type 0
 AnswersAs view said r = MatchResult r (λ x. said ≡ Ok (view x)) (λ why. said ≡ Err why)

@@ -1,5 +1,5 @@
--- A rule line, word by word: what each word gives, or why it cannot stand there. The first such word refuses the line.
--- Callers see none of it; they have `Grammar` and `LineFault`.
+-- Parsing a rule line, token by token: the effect of each token, or the reason why it is rejected. The first such token
+-- determines the reason for the line. Callers do not see this; they use `Grammar` and `LineFault`.
 use Rattle.std.specs.Prelude.{ℕ, Bool, true, false, ◌&&◌, not, if◌then◌else◌, List, [], ◌∷◌, Option, Some, None, Result, Ok, Err, is_some, codes, bytes_eq}
 use Rattle.std.specs.Option.{option_map, ok_or}
 use Rattle.text_core.specs.Lines.{begins_with}
@@ -15,7 +15,7 @@ use Rattle.ipt_read.specs.Options.{Given, nothing_given}
 use Rattle.ipt_read.specs.inner.OptionSteps.{option_of, may_stand, is_interface, bars, value_refusal, rule_of}
 use Rattle.ipt_read.specs.inner.ValueSteps.{quoted, with_value}
 
--- a word in the place of an option, with `!` before it or not
+-- A token at the position of an option, negated by `!` or not.
 abbrev pub at_option : Given → Bool → Option RuleOption → Result (Given × Place) IptWhy
 at_option given negated None = Err UnknownOption
 at_option given negated (Some o) =
@@ -24,11 +24,11 @@ at_option given negated (Some o) =
     else if bars given negated o then Err BadLine
     else Ok (given, AtValue o negated)
 
--- `!` may stand in front of the target
+-- `!` is allowed before the target.
 unfoldable pub is_bang : Given → List ℕ → Bool
 is_bang given word = not (is_some given.target) && bytes_eq word (codes "!")
 
--- one word
+-- One token.
 unfoldable pub word_step : List Chain → Given → Place → List ℕ → Result (Given × Place) IptWhy
 word_step chains given AtOption word =
     if is_bang given word then Ok (given, AfterBang) else at_option given false (option_of word)
@@ -36,35 +36,35 @@ word_step chains given AfterBang word = at_option given true (option_of word)
 word_step chains given (AtValue o negated) word = ok_or (with_value chains given o negated word) (value_refusal o)
 word_step chains given InText word = ok_or (option_map (λ place. (given, place)) (quoted false word)) BadValue
 
--- the end of the line
+-- The end of the line.
 abbrev pub at_end : Given → Place → Result Given IptWhy
 at_end given AtOption = Ok given
 at_end given AfterBang = Err BadLine
 at_end given (AtValue o negated) = Err BadValue
 at_end given InText = Err BadValue
 
--- a step, and what follows where it gave something
+-- A step, and the continuation if the step succeeds.
 abbrev pub goes_on : {A B : Type 0} → Result A IptWhy → (A → Result B IptWhy) → Result B IptWhy
 goes_on (Ok x) f = f x
 goes_on (Err why) f = Err why
 
--- the words that are left
+-- The remaining tokens.
 abbrev pub word_by_word : List Chain → Given → Place → List (List ℕ) → Result Given IptWhy
 word_by_word chains given place [] = at_end given place
 word_by_word chains given place (w ∷ ws) = goes_on (word_step chains given place w) (λ t. word_by_word chains t.0 t.1 ws)
 
--- the chain of that number, and the rule of the options that are left
+-- The chain of that number, and the rule of the remaining options.
 abbrev pub rule_in : List Chain → Option ℕ → List (List ℕ) → Result (ℕ × Rule) IptWhy
 rule_in chains None ws = Err UnknownChain
 rule_in chains (Some c) ws =
     goes_on (word_by_word chains nothing_given AtOption ws) (λ given. Ok (c, rule_of given))
 
--- `-A`, a chain, and options
+-- `-A`, a chain, and options.
 abbrev pub append_of : List Chain → List (List ℕ) → Result (ℕ × Rule) IptWhy
 append_of chains (a ∷ name ∷ ws) = if bytes_eq a (codes "-A") then rule_in chains (number_of chains name) ws else Err BadLine
 append_of chains _ = Err BadLine
 
--- a rule line: the same after a count of packets and bytes, where there is one
+-- A rule line: the same after packet and byte counters, if there are any.
 unfoldable pub rule_line_of : List Chain → List (List ℕ) → Result (ℕ × Rule) IptWhy
 rule_line_of chains [] = Err BadLine
 rule_line_of chains (w ∷ ws) =

@@ -1,4 +1,4 @@
--- What the values of `-p`, `--sport` and `--dport` say, as the reader reads them. Callers see none of it; they have `ServiceValues`.
+-- Parsing the values of `-p`, `--sport` and `--dport`. Callers do not see this; they use `ServiceValues`.
 use Rattle.std.specs.Prelude.{ℕ, ◌&&◌, ◌==◌, nat_le, if◌then◌else◌, List, [], ◌∷◌, Option, Some, None}
 use Rattle.std.specs.Option.{option_or}
 use Rattle.text_core.specs.inner.Decimal.{number}
@@ -9,7 +9,7 @@ use Rattle.host_net.specs.inner.ServiceSteps.{protocol_of}
 use Rattle.ipt_read.specs.ServiceValues.{other_protocol}
 use Rattle.ipt_read.specs.inner.Counts.{is_nothing}
 
--- the protocol of a name
+-- The protocol of a name.
 abbrev pub named_protocol : List ℕ → Option ℕ
 named_protocol word = option_or (other_protocol word) (protocol_of word)
 
@@ -17,23 +17,23 @@ abbrev pub if_positive : Option ℕ → Option ℕ
 if_positive None = None
 if_positive (Some n) = if n == 0 then None else Some n
 
--- the protocol of a name, or else of a number
+-- The protocol of a name, or otherwise of a number.
 unfoldable pub asked_protocol : List ℕ → Option ℕ
 asked_protocol word = option_or (named_protocol word) (if_positive (number 255 word))
 
--- a port, or where none is written another
+-- A port, or the default if none is written.
 abbrev pub port_or : ℕ → List ℕ → Option ℕ
 port_or other [] = Some other
 port_or other (b ∷ bs) = number last_port (b ∷ bs)
 
--- the ports from one to another, where they are in order
+-- The ports from one to another, if they are in order.
 abbrev pub ports_between : List ℕ → List ℕ → Option (ℕ × ℕ)
 ports_between first last = do
   low ← port_or 0 first
   high ← port_or last_port last
   if nat_le low high then Some (low, high) else None
 
--- the ports of a word, given what stands before and behind a colon, or else one port
+-- The ports of a token, given the parts before and after a colon, or otherwise one port.
 abbrev pub ports_of_parts : List ℕ → Option (List ℕ × List ℕ) → Option (ℕ × ℕ)
 ports_of_parts word None = do
   port ← number last_port word

@@ -1,4 +1,4 @@
--- What the reader holds between two lines, as contracts of its private steps say it. Callers see none of it.
+-- The parser state between two lines, for the contracts of private calls. Callers do not see this.
 use Rattle.std.specs.Prelude.{◌≡◌, ◌≤◌, Result, Ok, Err, MatchResult, length}
 use Rattle.text_core.specs.inner.TextAnswers.{HasReason}
 use Rattle.text_core.specs.declared.faults.LineFault.{LineFault}
@@ -12,11 +12,11 @@ use Rattle.ipt_read.specs.inner.ReaderView.{stage_of}
 abbrev pub said_of : Reader → SaidSoFar
 said_of r = record { stage = stage_of r.stage; chains = r.chains; declared = r.declared.items; rules = r.rules }
 
--- an answer to a line against what its step says
+-- The result for a line, compared with the result of its step.
 abbrev pub AnswersTo : Result SaidSoFar IptWhy → Result Reader (LineFault IptWhy) → Type 0
 AnswersTo said r = MatchResult r (λ t. said ≡ Ok (said_of t)) (HasReason (λ why. said ≡ Err why))
 
--- what holds between two lines
+-- The invariant of the parser state.
 pub record IsFine (s : SaidSoFar) : Type 0 where
   pub few_chains : length s.chains ≤ chain_limit
   pub few_rules : s.rules ≤ rule_limit

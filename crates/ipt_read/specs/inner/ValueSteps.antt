@@ -1,4 +1,4 @@
--- What the values of options say, word by word as the reader reads them. Callers see none of it; they have `Grammar`.
+-- Parsing the values of options, token by token. Callers do not see this; they use `Grammar`.
 use Rattle.std.specs.Prelude.{ℕ, Bool, true, false, ◌==◌, if◌then◌else◌, List, [], ◌∷◌, Option, Some, None, codes, bytes_eq}
 use Rattle.std.specs.Option.{option_map}
 use Rattle.std.specs.List.{list_all, list_any}
@@ -18,24 +18,24 @@ use Rattle.ipt_read.specs.Values.{is_state, listed}
 use Rattle.ipt_read.specs.inner.OptionSteps.{target_of, with_module}
 use Rattle.ipt_read.specs.inner.ServiceSteps.{asked_protocol, asked_ports}
 
--- a closing `"` ends the word, and an option may follow
+-- A closing `"` ends the token, and an option may follow.
 abbrev pub closes : List ℕ → Option Place
 closes [] = Some AtOption
 closes (b ∷ bs) = None
 
--- a text that a `"` (34) opened: a backslash (92) takes the next byte as it is, and the first `"` that no
--- backslash takes closes it; where none does in this word the text goes on in the next
+-- A string opened by `"` (34): a backslash (92) escapes the next byte, and the first unescaped `"` closes it. Without
+-- one in this token the string continues in the next token.
 abbrev pub quoted : Bool → List ℕ → Option Place
 quoted taken [] = Some InText
 quoted taken (b ∷ bs) =
     if taken then quoted false bs else if b == 92 then quoted true bs else if b == 34 then closes bs else quoted false bs
 
--- a text: one word that begins otherwise, or a quoted one
+-- A string: one token that does not begin with `"`, or a quoted string.
 unfoldable pub text_of : List ℕ → Option Place
 text_of [] = Some AtOption
 text_of (b ∷ bs) = if b == 34 then quoted false bs else Some AtOption
 
--- whether NEW and whether ESTABLISHED is in a list of states
+-- Whether a list of states contains NEW, and whether it contains ESTABLISHED.
 unfoldable pub states_of : List ℕ → Option (Bool × Bool)
 states_of word =
     if list_all is_state (listed word)
@@ -57,7 +57,7 @@ state_match negated flags = record { new = flags.0; established = flags.1; negat
 abbrev pub then_option : Given → Given × Place
 then_option given = (given, AtOption)
 
--- what is given after an option's value, and where the next word stands
+-- The partial rule after an option's value, and the position of the next token.
 unfoldable pub with_value : List Chain → Given → RuleOption → Bool → List ℕ → Option (Given × Place)
 with_value chains given Source negated word =
     option_map (λ p. (record given { rule = record given.rule { src = Some (address_match negated p) } }, AtOption)) (prefix_of word)

@@ -1,4 +1,4 @@
--- The words of a written rule line.
+-- The tokens of a formatted rule line.
 use Rattle.std.specs.Prelude.{ℕ, Bool, true, false, ◌||◌, if◌then◌else◌, List, [], ◌∷◌, ◌++◌, Option, Some, None, is_some, codes}
 use Rattle.host_net.specs.Prefix.{prefix_text}
 use Rattle.host_net.specs.ServiceText.{protocol_text}
