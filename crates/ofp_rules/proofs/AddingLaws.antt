@@ -1,4 +1,4 @@
--- Entries with one more are accepted where the others are, are fewer than there may be, and do not contradict the new one.
+-- Entries are accepted with one more entry if they are accepted, are below the limit, and do not contradict the new entry.
 use Rattle.std.proofs.Common.{◌≡◌, inl, inr, ℕ, zero, suc, ◌<◌, List, [], ◌∷◌, ◌++◌, Option, Some, length, slice_get, refl, sym, ap, ◌∙◌, subst, arith, length-append}
 use Rattle.std.proofs.lemmas.Bool.{cases_lt}
 use Rattle.std.proofs.lemmas.Option.{slice_get_within}
@@ -18,7 +18,7 @@ get_last (y ∷ xs) x = get_last xs x
 pub some_is : {A : Type 0} (o : Option A) (x y : A) → o ≡ Some x → o ≡ Some y → x ≡ y
 some_is o x y first second = cc
 
--- a pair before the new entry
+-- An ambiguous pair before the new entry.
 old_pair : (entries : List Entry) (e : Entry) (i j : ℕ) → j < length entries → AreAmbiguous (entries ++ e ∷ []) i j
     → AreAmbiguous entries i j
 old_pair entries e i j below pair =
@@ -32,7 +32,7 @@ old_pair entries e i j below pair =
       contradict = pair.contradict;
     }
 
--- a pair with it
+-- There is no ambiguous pair with the new entry.
 new_pair : (entries : List Entry) (e : Entry) (i j : ℕ) → ContradictsNone entries e → j ≡ length entries
     → AreAmbiguous (entries ++ e ∷ []) i j → ⊥
 new_pair entries e i j none last pair =
@@ -54,7 +54,7 @@ pub accepted_more : (entries : List Entry) (e : Entry) → IsAccepted entries �
     → IsAccepted (entries ++ e ∷ [])
 accepted_more entries e accepted few none = (simp length-append (omega arith), unambiguous_more entries e accepted.1 none)
 
--- and back
+-- The converse: if the list with the new entry is unambiguous, no entry contradicts the new entry.
 pub contradicts_none : (entries : List Entry) (e : Entry) → IsUnambiguous (entries ++ e ∷ []) → ContradictsNone entries e
 contradicts_none entries e clear i f there clash =
     let within = slice_get_within entries i f there in

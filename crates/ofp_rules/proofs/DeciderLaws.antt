@@ -1,4 +1,4 @@
--- One entry decides a frame, and the verdict is its action.
+-- The decider of a frame is unique, and the verdict is its verdict.
 use Rattle.std.proofs.Common.{◌≡◌, ◌⊎◌, inl, inr, ℕ, zero, suc, ◌+◌, ◌<◌, ◌≤◌, ◌∙◌, Bool, true, false, ◌&&◌, cond, IsTrue, List, [], ◌∷◌, Option, Some, None, length, get_or, slice_get, refl, sym, ap, subst, arith}
 use Rattle.std.specs.Option.{option_map_or}
 use Rattle.std.proofs.lemmas.Bool.{cases_lt}
@@ -14,10 +14,10 @@ use Rattle.ofp_rules.specs.Meaning.{IsOneOf, HasVerdict, verdict_of}
 use Rattle.ofp_rules.specs.inner.Deciding.{DecidesTo, IsFoundTo, found_with, is_higher, place_of}
 use Rattle.ofp_rules.proofs.HighestLaws.{one_of_at}
 
--- ---- one more entry
+-- ---- One more entry
 
 module _ (entries : List Entry) (frame : Frame) (n : ℕ) (e : Entry) (here : slice_get entries n ≡ Some e) where
-  -- the entry at a place below n + 1 is an earlier one, or this one
+  -- An entry at an index below n + 1 has an index below n, or is e.
   earlier : (j : ℕ) (f : Entry) → j < n + 1 → slice_get entries j ≡ Some f → (j < n) ⊎ (f ≡ e)
   earlier j f low there = elim (cases_lt j n) [
     | inl less ↦ inl less
@@ -26,7 +26,7 @@ module _ (entries : List Entry) (frame : Frame) (n : ℕ) (e : Entry) (here : sl
         inr (same_Some f e (sym there ∙ ap (slice_get entries) same ∙ here))
   ]
 
-  -- the entry changes nothing
+  -- The entry changes nothing.
   none_more : matches frame e ≡ false → IsFoundTo entries frame n None → IsFoundTo entries frame (n + 1) None
   none_more off none j f low there on = elim (earlier j f low there) [
     | inl less ↦ none j f less there on
@@ -51,7 +51,7 @@ module _ (entries : List Entry) (frame : Frame) (n : ℕ) (e : Entry) (here : sl
     first = is.first;
   }
 
-  -- the entry decides
+  -- The entry decides.
   taken : matches frame e ≡ true → ((j : ℕ) (f : Entry) → j < n → slice_get entries j ≡ Some f → IsTrue (matches frame f) → f.priority < e.priority) → DecidesTo entries frame (n + 1) (record { place = n; priority = e.priority })
   taken on lower = record {
     entry = e;
@@ -83,7 +83,7 @@ found_next entries frame n e found next low read same is =
     let here = slice_get_read entries (length entries) n e refl low read in
     subst (IsFoundTo entries frame (n + 1)) (sym same) (more_by entries frame n e here found (matches frame e) (is_higher e.priority found) refl refl is)
 
--- ---- all entries
+-- ---- All entries
 
 pub decider_found : (entries : List Entry) (frame : Frame) (n : ℕ) (found : Option Found) → length entries ≤ n → IsFoundTo entries frame n found → IsDecider entries frame (place_of found)
 decider_found entries frame n None past none = λ j f there on. none j f (let low = slice_get_within entries j f there in omega (arith, low, past)) there on
@@ -99,7 +99,7 @@ decider_found entries frame n (Some found) past is = record {
   first = λ j f low there on. let under = is.first j f low there on in let same = is.priority in omega (arith, under, same);
 }
 
--- ---- one entry decides
+-- ---- Uniqueness of the decider
 
 not_before : (entries : List Entry) (frame : Frame) (k l : ℕ) → DecidesAt entries frame k → DecidesAt entries frame l → k < l → ⊥
 not_before entries frame k l one other low =
@@ -119,7 +119,7 @@ one_decider entries frame (Some k) (Some l) is also = elim (cases_lt k l) [
   ]
 ]
 
--- ---- the verdict
+-- ---- The verdict
 
 at_of_one : (f : Entry) (xs : List Entry) → IsOneOf f xs → (j : ℕ) × (slice_get xs j ≡ Some f)
 at_of_one f [] h = absurd h

@@ -1,4 +1,4 @@
--- Pairs of entries, by their places.
+-- Pairs of entries, by their indices.
 use Rattle.std.proofs.Common.{◌≡◌, inl, inr, ℕ, zero, suc, ◌+◌, ◌<◌, ◌≤◌, List, [], ◌∷◌, Some, length, take, get_or, slice_get, refl, sym, ap, ◌∙◌, subst, arith, length-take}
 use Rattle.std.proofs.lemmas.Bool.{cases_lt}
 use Rattle.std.proofs.lemmas.Option.{slice_get_read, slice_get_within}
@@ -15,7 +15,7 @@ get_front (suc n) [] i h = refl
 get_front (suc n) (x ∷ xs) zero h = refl
 get_front (suc n) (x ∷ xs) (suc i) h = get_front n xs i (omega arith)
 
--- the entry at a place is not contradicted by the one at place i
+-- If no entry before index i contradicts e, and the entry at index i does not, no entry up to index i contradicts e.
 pub not_here : (xs : List Entry) (i : ℕ) (x e : Entry) → i < length xs → x ≡ get_or xs i x → (Contradict x e → ⊥)
     → (j : ℕ) (f : Entry) → ((k : ℕ) (g : Entry) → k < i → slice_get xs k ≡ Some g → Contradict g e → ⊥) → j < i + 1 → slice_get xs j ≡ Some f → Contradict f e → ⊥
 not_here xs i x e within is none j f before below there clash = elim (cases_lt j i) [
@@ -27,7 +27,7 @@ not_here xs i x e within is none j f before below there clash = elim (cases_lt j
       none (subst (λ (g : Entry). Contradict g e) same clash)
 ]
 
--- what the entry at place j is, and the front before it
+-- The entry at index j, and the entries before it.
 module _ (xs : List Entry) (j : ℕ) (x : Entry) (within : j < length xs) (is : x ≡ get_or xs j x) where
   second_is : (i : ℕ) (pair : AreAmbiguous xs i j) → Contradict pair.first x
   second_is i pair =
@@ -37,7 +37,7 @@ module _ (xs : List Entry) (j : ℕ) (x : Entry) (within : j < length xs) (is : 
   in_front : (i : ℕ) (pair : AreAmbiguous xs i j) → slice_get (take j xs) i ≡ Some pair.first
   in_front i pair = let earlier = pair.earlier in get_front j xs i (omega arith) ∙ pair.at_first
 
-  -- the first that contradicts it makes the first ambiguous pair
+  -- The first entry that contradicts x forms the first ambiguous pair with it.
   pub first_pair : (i : ℕ) (f : Entry) → i < j → slice_get (take j xs) i ≡ Some f → Contradict f x
       → ((k : ℕ) (g : Entry) → k < i → slice_get (take j xs) k ≡ Some g → Contradict g x → ⊥)
       → ((k l : ℕ) → l < j → AreAmbiguous xs k l → ⊥) → IsFirstAmbiguity xs i j
@@ -54,7 +54,7 @@ module _ (xs : List Entry) (j : ℕ) (x : Entry) (within : j < length xs) (is : 
     least_first = λ k pair. elim (cases_lt k i) [ inl lower ↦ absurd (first k pair.first lower (in_front k pair) (second_is k pair)) | inr ok ↦ ok ];
   }
 
--- the first entry that contradicts another
+-- The first entry that contradicts another entry.
 pub first_against_is : (entries : List Entry) (e : Entry) (i : ℕ) (f : Entry) → slice_get entries i ≡ Some f → Contradict f e
     → ((j : ℕ) (g : Entry) → j < i → slice_get entries j ≡ Some g → Contradict g e → ⊥) → IsFirstAgainst entries e i
 first_against_is entries e i f there clash first = record {
@@ -64,7 +64,7 @@ first_against_is entries e i f there clash first = record {
   least = λ k g at_k by_k. elim (cases_lt k i) [ inl lower ↦ absurd (first k g lower at_k by_k) | inr ok ↦ ok ];
 }
 
--- a pair within the first entries
+-- An ambiguous pair within the first n entries.
 in_first : (n : ℕ) (xs : List Entry) (i j : ℕ) → j < n → AreAmbiguous xs i j → AreAmbiguous (take n xs) i j
 in_first n xs i j below pair =
     let earlier = pair.earlier in
@@ -77,7 +77,7 @@ in_first n xs i j below pair =
       contradict = pair.contradict;
     }
 
--- why an entry is not added to the first ones is why all make no table
+-- The refusal of an entry after the first entries is the refusal of the whole list.
 pub refused_by : (entries : List Entry) (i : ℕ) (x : Entry) (why : TableRefusal) → i < length entries
     → length entries ≤ most_entries → x ≡ get_or entries i x
     → IsUnambiguous (take i entries) → IsNotAdded (take i entries) x why → IsRefused entries why

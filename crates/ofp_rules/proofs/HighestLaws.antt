@@ -1,4 +1,4 @@
--- Laws of what is found: one more entry, and that every frame has a verdict.
+-- Lemmas on the entry found: the effect of one more entry, and the existence of a verdict for every frame.
 use Rattle.std.proofs.Common.{◌≡◌, ◌⊎◌, inl, inr, ℕ, zero, suc, slice_get, ◌≤◌, ◌<◌, Bool, true, false, ◌&&◌, cond, IsTrue, List, [], ◌∷◌, ◌++◌, Option, Some, None, refl, ap, ◌∙◌, arith}
 use Rattle.std.proofs.lemmas.Bool.Decides.{nat_tests}
 use Rattle.host_net.specs.declared.packet.Verdict.{Verdict}
@@ -8,7 +8,7 @@ use Rattle.ofp_rules.specs.Matching.{matches}
 use Rattle.ofp_rules.specs.Meaning.{IsOneOf, IsHighest, HasVerdict}
 use Rattle.ofp_rules.specs.inner.Highest.{IsFound, is_above, higher, verdict_by}
 
--- ys has the entries of xs and x
+-- ys has the entries of xs, and x.
 pub record IsWith (x : Entry) (xs ys : List Entry) : Type 0 where
   pub new : IsOneOf x ys
   pub old : (f : Entry) → IsOneOf f xs → IsOneOf f ys
@@ -38,7 +38,7 @@ with_last x xs = record {
 pub with_first : (x : Entry) (xs : List Entry) → IsWith x xs (x ∷ xs)
 with_first x xs = record { new = inl refl; old = λ f h. inr h; only = λ f h. h }
 
--- the entry does not match: what was found is found
+-- If the entry does not match, the entry found is unchanged.
 pub skipped : (frame : Frame) (x : Entry) (xs ys : List Entry) (found : Option Entry) → IsWith x xs ys → matches frame x ≡ false → IsFound xs frame found → IsFound ys frame found
 skipped frame x xs ys None more off is = λ f h on. elim (more.only f h) [
   | inl same ↦ let off_f : matches frame f ≡ false = ap (matches frame) same ∙ off in cc
@@ -53,7 +53,7 @@ skipped frame x xs ys (Some e) more off is = record {
   ];
 }
 
--- it matches, and is below what was found
+-- If the priority of the entry is at most that of the entry found, the entry found is unchanged.
 kept : (frame : Frame) (x e : Entry) (xs ys : List Entry) → IsWith x xs ys → x.priority ≤ e.priority → IsHighest xs frame e → IsHighest ys frame e
 kept frame x e xs ys more below is = record {
   listed = more.old e is.listed;
@@ -64,7 +64,7 @@ kept frame x e xs ys more below is = record {
   ];
 }
 
--- it matches, and is above what was found
+-- If the entry matches, and no matching entry before it has a higher priority, it is an entry of the highest priority.
 taken : (frame : Frame) (x : Entry) (xs ys : List Entry) → IsWith x xs ys → matches frame x ≡ true → ((f : Entry) → IsOneOf f xs → IsTrue (matches frame f) → f.priority ≤ x.priority) → IsHighest ys frame x
 taken frame x xs ys more on above = record {
   listed = more.new;
@@ -89,11 +89,11 @@ more_by : (frame : Frame) (x : Entry) (xs ys : List Entry) (found : Option Entry
 more_by frame x xs ys found true on more is = matched_by frame x xs ys found (is_above x.priority found) refl more on is
 more_by frame x xs ys found false off more is = skipped frame x xs ys found more off is
 
--- one more entry is looked at
+-- The result after one more entry.
 pub found_more : (frame : Frame) (x : Entry) (xs ys : List Entry) (found : Option Entry) → IsWith x xs ys → IsFound xs frame found → IsFound ys frame (higher frame found x)
 found_more frame x xs ys found more is = more_by frame x xs ys found (matches frame x) refl more is
 
--- something is found among all entries
+-- A result exists for all entries.
 record Finds (entries : List Entry) (frame : Frame) : Type 0 where
   found : Option Entry
   is : IsFound entries frame found
@@ -108,7 +108,7 @@ pub verdict_found : (entries : List Entry) (frame : Frame) (found : Option Entry
 verdict_found entries frame None is = inr (is, refl)
 verdict_found entries frame (Some e) is = inl (e, is, refl)
 
--- every frame has a verdict, whatever the entries
+-- Every frame has a verdict, for any entries.
 pub record HasSome (entries : List Entry) (frame : Frame) : Type 0 where
   pub verdict : Verdict
   pub has : HasVerdict entries frame verdict
@@ -118,7 +118,7 @@ has_verdict entries frame =
     let all = finds entries frame in
     record { verdict = verdict_by all.found; has = verdict_found entries frame all.found all.is }
 
--- what stands at a place is one of them
+-- The element at an index is an element of the list.
 pub one_of_at : {A : Type 0} (xs : List A) (i : ℕ) (x : A) → slice_get xs i ≡ Some x → IsOneOf x xs
 one_of_at [] i x there = cc
 one_of_at (y ∷ ys) zero x there = inl (cc)

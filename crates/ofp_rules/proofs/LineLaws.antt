@@ -1,4 +1,4 @@
--- How long the line of an entry is.
+-- The length of the line of an entry.
 use Rattle.std.proofs.Common.{Bool, true, false, ◌==◌, ◌||◌, ◌++◌, IsTrue, ℕ, ◌≤◌, ◌<◌, ◌^◌, [], ◌∷◌, Option, Some, None, length, arith, length-append}
 use Rattle.std.specs.Prelude.{if◌then◌else◌, codes, decimal}
 use Rattle.std.proofs.lemmas.Bool.Decides.{nat_tests}

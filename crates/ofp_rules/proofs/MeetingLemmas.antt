@@ -1,4 +1,4 @@
--- Two entries match some one frame exactly where their kinds meet and, for IPv4, what they ask of a packet.
+-- Two entries match a common frame if and only if their kinds are compatible and, for IPv4, their fields are.
 use Rattle.std.proofs.Common.{◌≡◌, ◌↔◌, ◌<◌, ◌^◌, ℕ, Bool, true, ◌&&◌, ◌==◌, IsTrue, Option, Some, None, refl, arith}
 use Rattle.std.proofs.lemmas.Bool.{and_parts, and_from}
 use Rattle.std.proofs.lemmas.Bool.Decides.{nat_tests}
@@ -18,7 +18,7 @@ use Rattle.ofp_rules.specs.inner.Meeting.{parts_meet, numbers_meet, packets_meet
 use Rattle.ofp_rules.specs.inner.Ranges.{address_fits, in_range, number_fits}
 use Rattle.ofp_rules.proofs.RangesLaws.{HasRoom, in_range_parts}
 
--- five tests at once
+-- The conjunction of five tests.
 record AllHold (a b c d e : Bool) : Type 0 where
   one : a ≡ true
   two : b ≡ true
@@ -37,7 +37,7 @@ all_parts a b c d e all =
 all_from : (a b c d e : Bool) → AllHold a b c d e → (a && (b && (c && (d && e)))) ≡ true
 all_from a b c d e all = and_from _ _ all.one (and_from _ _ all.two (and_from _ _ all.three (and_from _ _ all.four all.five)))
 
--- an address that both parts match
+-- An address that both prefixes match.
 record SharedBy (s t : Option Prefix) : Type 0 where
   address : ℕ
   fits : address < 2 ^ 32
@@ -60,7 +60,7 @@ parts_meet_where None t a by_s by_t = refl
 parts_meet_where (Some p) None a by_s by_t = refl
 parts_meet_where (Some p) (Some q) a by_s by_t = covered_by_both p q a by_s by_t
 
--- a number below a limit that both match
+-- A number below the limit that both fields match.
 record SharedNumber (limit : ℕ) (m n : Option ℕ) : Type 0 where
   number : ℕ
   fits : number < limit
@@ -83,7 +83,7 @@ numbers_meet_where None n k by_m by_n = refl
 numbers_meet_where (Some m) None k by_m by_n = refl
 numbers_meet_where (Some m) (Some n) k by_m by_n = grind (arith, nat_tests)
 
--- a packet that is as both entries ask
+-- A packet that both entries match.
 record SharedPacket (e f : Entry) : Type 0 where
   packet : Packet
   is : IsPacket packet
@@ -117,7 +117,7 @@ packets_meet_where e f packet by_e by_f =
       five = parts_meet_where e.dst f.dst packet.dst first.five second.five;
     })
 
--- a packet that is as one entry asks: both ask it who ask nothing more
+-- A packet that one entry matches: the other entry, which has no fields, matches every packet.
 abbrev any_packet : Entry
 any_packet = record { priority = 0; kind = OfIp; src = None; dst = None; proto = None; tp_src = None; tp_dst = None; action = Drop }
 
@@ -140,7 +140,7 @@ own_packet e in_e =
       five = part_meets_none e.dst;
     }))
 
--- a frame that both entries match, by their kinds
+-- A frame that both entries match, by their kinds.
 module _ (e f : Entry) where
   record Shared (k l : FrameKind) : Type 0 where
     frame : Frame

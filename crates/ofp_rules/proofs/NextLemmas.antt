@@ -1,4 +1,4 @@
--- Entries that are passed over do not match, and change nothing.
+-- Skipped entries do not match, and do not change the result.
 use Rattle.std.proofs.Common.{◌≡◌, ℕ, zero, suc, ◌+◌, ◌-◌, ◌^◌, ◌≤◌, ◌<◌, ◌∙◌, inl, inr, sym, ap, refl, subst, arith, true, false, List, [], ◌∷◌, ◌++◌, Option, Some, None, length, get_or, take, slice_get}
 use Rattle.std.proofs.lemmas.Bool.{and_from, and_parts, false_from_ne_true}
 use Rattle.std.proofs.lemmas.List.{take_more}
@@ -21,7 +21,7 @@ part_needs : (part : Option Prefix) (a : ℕ) → part_matches part a ≡ true �
 part_needs None a on = refl
 part_needs (Some p) a on = on
 
--- what an entry that matches asks of the addresses is so
+-- The prefixes of a matching entry cover the addresses of the frame.
 kind_needs : (k : FrameKind) (e : Entry) (frame : Frame) → kind_matches k (packet_matches e) frame ≡ true
     → covers_both (source_of frame) (destination_of frame) (kind_ends k e.src e.dst) ≡ true
 kind_needs OfAny e frame on = refl
@@ -57,14 +57,14 @@ next_is entries frame from (Some at) first = record {
   passed = λ i e low high there. not_covered frame e (first.first i (ends_of e) low high (ends_at entries i e there));
 }
 
--- an entry that an index has stands at a place of 32 bits
+-- Each entry of an index has a 32-bit position.
 pub at_small : (entries : List Entry) (index : Covers) → IsIndexOf (all_ends entries) index → (at : ℕ) → at < length entries → at < 2 ^ 32
 at_small entries index is at within = elim (slice_get_cases entries at).1 [
   | inl (e, low, there, same) ↦ (is.order.small (key_of (ends_of e) at) (is.every at (ends_of e) (ends_at entries at e there))).place
   | inr (past, there) ↦ absurd (omega (arith, past, within))
 ]
 
--- what was found is found where entries are passed over
+-- Skipping entries does not change the entry found.
 passed_some : (frame : Frame) (entries : List Entry) (found : Option Entry) (from n : ℕ) → from + n ≤ length entries → NoneMatches (matches frame) entries from (from + n)
     → IsFound (take from entries) frame found → IsFound (take (from + n) entries) frame found
 passed_some frame entries found from zero within none is = subst (λ (k : ℕ). IsFound (take k entries) frame found) (omega arith) is

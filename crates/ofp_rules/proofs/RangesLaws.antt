@@ -1,4 +1,4 @@
--- What it says of each number of an entry that it has room.
+-- The range of each number of an entry that is in range.
 use Rattle.std.proofs.Common.{◌≡◌, ◌<◌, ◌^◌, true, ◌&&◌, IsTrue, nat_lt, arith}
 use Rattle.std.proofs.lemmas.Bool.{and_parts}
 use Rattle.std.proofs.lemmas.Bool.Decides.{nat_tests}

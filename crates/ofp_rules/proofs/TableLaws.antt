@@ -1,4 +1,4 @@
--- Where no two entries contradict each other each frame has one verdict.
+-- If no two entries contradict each other, each frame has one verdict.
 use Rattle.std.proofs.Common.{◌≡◌, ◌≢◌, inl, inr, ℕ, zero, suc, ◌≤◌, ◌<◌, IsTrue, List, [], ◌∷◌, ◌++◌, Some, length, slice_get, refl, sym, ap, ◌∙◌, arith}
 use Rattle.std.specs.List.{list_all}
 use Rattle.std.proofs.lemmas.Bool.{and_from, cases_lt}
@@ -16,7 +16,7 @@ use Rattle.ofp_rules.specs.Meaning.{IsOneOf, HasVerdict, verdict_of}
 use Rattle.ofp_rules.specs.inner.Ranges.{AreInRange, in_range}
 use Rattle.ofp_rules.proofs.HighestLaws.{has_verdict}
 
--- where an entry stands
+-- The index of an entry.
 record StandsAt (e : Entry) (entries : List Entry) : Type 0 where
   place : ℕ
   there : slice_get entries place ≡ Some e
@@ -33,7 +33,7 @@ contradict_back e f clash = record {
   meet = record { frame = clash.meet.frame; is = clash.meet.is; by_first = clash.meet.by_second; by_second = clash.meet.by_first };
 }
 
--- of one frame and priority two entries do the same
+-- Two entries of equal priority that match the same frame do not have different actions.
 agree : (entries : List Entry) (frame : Frame) (e f : Entry) → IsUnambiguous entries → IsFrame frame → IsOneOf e entries → IsOneOf f entries
     → IsTrue (matches frame e) → IsTrue (matches frame f) → e.priority ≡ f.priority → e.action ≢ f.action → ⊥
 agree entries frame e f clear is in_e in_f by_e by_f equal different =
@@ -80,7 +80,7 @@ table_of entries few clear range asks = record {
       record { verdict = some.verdict; has = some.has; only = λ v has. one_verdict entries frame v some.verdict clear is has some.has };
 }
 
--- a table with one entry more
+-- A table with one more entry.
 pub table_more : (entries : List Entry) (e : Entry) → IsTable entries → length entries < most_entries → ContradictsNone entries e
     → IsTrue (in_range e) → IsTrue (asks_of_ip e)
     → IsTable (entries ++ e ∷ [])

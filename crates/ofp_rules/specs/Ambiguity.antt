@@ -1,4 +1,4 @@
--- Entries that leave open what becomes of a frame: of several matching ones with the highest priority a switch may take any
+-- Entries with an undefined result for a frame: if several matching entries have the highest priority, a switch may choose any of them
 -- (OpenFlow Switch Specification 1.3, section 5.3).
 use Rattle.std.specs.Prelude.{◌≡◌, ◌≢◌, ℕ, IsTrue, List, Some, slice_get}
 use Rattle.host_net.specs.Packet.{IsPacket}
@@ -7,29 +7,29 @@ use Rattle.ofp_rules.specs.declared.entry.Frame.TheVariants.{Arp, Ipv4, Other}
 use Rattle.ofp_rules.specs.declared.entry.Entry.{Entry}
 use Rattle.ofp_rules.specs.Matching.{matches}
 
--- the packet of a frame has numbers that its header has room for
+-- If the frame has a packet, each field of the packet is in the range of its header field.
 abbrev pub IsFrame : Frame → Type 0
 IsFrame Arp = Unit {0}
 IsFrame (Ipv4 packet) = IsPacket packet
 IsFrame Other = Unit {0}
 
--- there is a frame that both entries match
+-- The entries e and f match a common frame.
 pub record MatchOneFrame (e f : Entry) : Type 0 where
   pub frame : Frame
   pub is : IsFrame frame
   pub by_first : IsTrue (matches frame e)
   pub by_second : IsTrue (matches frame f)
 
--- two entries of equal priority and different action that match one frame
+-- The entries e and f contradict each other: they have equal priority and different actions, and match a common frame.
 pub record Contradict (e f : Entry) : Type 0 where
   pub equal : e.priority ≡ f.priority
   pub different : e.action ≢ f.action
   pub meet : MatchOneFrame e f
 
--- how many entries a table may have
+-- The maximum number of entries of a table.
 abbrev pub most_entries : ℕ
 most_entries = 8192
 
--- no entry of the list contradicts the entry
+-- No entry of the list contradicts entry e.
 abbrev pub ContradictsNone : List Entry → Entry → Type 0
 ContradictsNone entries e = (i : ℕ) (f : Entry) → slice_get entries i ≡ Some f → Contradict f e → ⊥

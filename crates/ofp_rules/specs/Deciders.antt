@@ -1,4 +1,4 @@
--- Which entry of a flow table decides a frame (OpenFlow Switch Specification 1.3, sections 5.3 and 5.4).
+-- The entry of a flow table that decides a frame (OpenFlow Switch Specification 1.3, sections 5.3 and 5.4).
 use Rattle.std.specs.Prelude.{◌≡◌, ℕ, ◌<◌, ◌≤◌, IsTrue, List, Option, Some, None, slice_get}
 use Rattle.std.specs.Option.{option_map_or}
 use Rattle.host_net.specs.declared.packet.Verdict.{Verdict}
@@ -8,8 +8,8 @@ use Rattle.ofp_rules.specs.declared.entry.Frame.{Frame}
 use Rattle.ofp_rules.specs.Matching.{matches}
 use Rattle.ofp_rules.specs.Meaning.{verdict_of}
 
--- The entry at place k, from 0, decides the frame: it matches, no entry that matches has a higher priority, and the
--- priority of each earlier entry that matches is lower.
+-- The entry at index k decides the frame: it matches, no matching entry has a higher priority, and each earlier matching entry has a
+-- lower priority.
 pub record DecidesAt (entries : List Entry) (frame : Frame) (k : ℕ) : Type 0 where
   pub entry : Entry
   pub there : slice_get entries k ≡ Some entry
@@ -17,12 +17,12 @@ pub record DecidesAt (entries : List Entry) (frame : Frame) (k : ℕ) : Type 0 w
   pub above : (j : ℕ) (f : Entry) → slice_get entries j ≡ Some f → IsTrue (matches frame f) → f.priority ≤ entry.priority
   pub first : (j : ℕ) (f : Entry) → j < k → slice_get entries j ≡ Some f → IsTrue (matches frame f) → f.priority < entry.priority
 
--- What decides the frame: the entry at a place, or None, the end of the table, if no entry matches.
+-- The decider of the frame is the index of the entry that decides it, or None, the end of the table, if no entry matches.
 abbrev pub IsDecider : List Entry → Frame → Option ℕ → Type 0
 IsDecider entries frame None = (j : ℕ) (f : Entry) → slice_get entries j ≡ Some f → IsTrue (matches frame f) → ⊥
 IsDecider entries frame (Some k) = DecidesAt entries frame k
 
--- The verdict of a decider: the action of the entry, or a drop.
+-- The verdict of a decider: the verdict of the entry's action, or a drop.
 abbrev pub decided : List Entry → Option ℕ → Verdict
 decided entries None = Dropped
 decided entries (Some k) = option_map_or (λ e. verdict_of e.action) (slice_get entries k) Dropped

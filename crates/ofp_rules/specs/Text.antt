@@ -1,4 +1,4 @@
--- The text of a table, line by line (ovs-ofctl(8), "Flow Syntax").
+-- The text of a table in the flow syntax of `ovs-ofctl`, line by line (ovs-ofctl(8), "Flow Syntax").
 use Rattle.std.specs.Prelude.{ℕ, if◌then◌else◌, List, [], ◌∷◌, ◌++◌, Option, Some, None, map, codes, decimal}
 use Rattle.std.specs.List.{concat}
 use Rattle.host_net.specs.Prefix.{prefix_text}
@@ -10,14 +10,14 @@ use Rattle.ofp_rules.specs.declared.entry.Action.{Action}
 use Rattle.ofp_rules.specs.declared.entry.Action.TheVariants.{Normal, Drop}
 use Rattle.ofp_rules.specs.declared.entry.Entry.{Entry}
 
--- the frames that an entry asks for; IPv4 frames of a protocol that has a name are asked for by it alone
+-- The text of the frames that an entry matches on. A protocol that has a name implies IPv4: the text is only the name.
 abbrev pub kind_text : FrameKind → Option ℕ → List ℕ
 kind_text Any proto = []
 kind_text Arp proto = codes "arp,"
 kind_text Ip None = codes "ip,"
 kind_text Ip (Some proto) = if has_name proto then protocol_text proto ++ codes "," else codes "ip,nw_proto=" ++ (decimal proto ++ codes ",")
 
--- a field: its name, and how a value is written that may be given; where none is, nothing stands
+-- The text of a field: its name and its value. A field without a value has no text.
 abbrev pub field_text : {A : Type 0} → (name : List ℕ) → (written : A → List ℕ) → Option A → List ℕ
 field_text name written None = []
 field_text name written (Some value) = name ++ (written value ++ codes ",")
@@ -36,10 +36,10 @@ entry_line e =
     ++ (field_text (codes "nw_dst=") prefix_text e.dst
     ++ (field_text (codes "tp_src=") decimal e.tp_src ++ (field_text (codes "tp_dst=") decimal e.tp_dst ++ (action_text e.action ++ 10 ∷ []))))))))
 
--- one line for each entry, in order
+-- The lines of the text: one line for each entry, in order.
 abbrev pub text_lines : List Entry → List (List ℕ)
 text_lines entries = map entry_line entries
 
--- the text: its lines joined
+-- The text is the concatenation of its lines.
 abbrev pub text : List Entry → List ℕ
 text entries = concat (text_lines entries)

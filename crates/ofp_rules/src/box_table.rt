@@ -1,7 +1,7 @@
-//! What becomes of the packets of a box that come to a switch. The box is narrowed at each entry that
-//! could decide, until this does not tell its packets apart.
+//! The verdict on the packets of a box that arrive at a switch. Each entry that could decide narrows
+//! the box until the entry matches all of its packets or none of them.
 
-ghost use Rattle.std.specs.Prelude.{◌≡◌, ℕ};
+ghost use Rattle.std.specs.Prelude.{◌≡◌, ℕ, false, IfSome, None};
 ghost use Rattle.std.specs.Option.{option_copied};
 ghost use Rattle.host_net.specs.declared.packet.Packet.{Packet};
 ghost use Rattle.header_space.specs.Boxes.{IsBox, IsIn, Narrows};
@@ -13,12 +13,12 @@ ghost use Rattle.ofp_rules.specs.inner.Highest.{IsFound, higher};
 
 use crate::entry::{Entry, FrameKind};
 use crate::table::{Table, is_above, verdict_by};
-use header_space::{FieldMatch, HeaderMatch, PacketBox};
+use header_space::{FieldMatch, HeaderMatch, PacketBox, field_may_fit};
 use host_net::{Prefix, Verdict};
 
 impl Table {
-    /// What becomes of the packets of a box. The box is narrowed, so that this becomes of all packets
-    /// that it has then.
+    /// Returns the verdict on the packets of a box. Narrows the box until the verdict is the same for all
+    /// of its packets.
     pub fn verdict_within(&self, within: &mut PacketBox) -> Verdict
         requires { IsBox within.old }
         ensures part { Narrows within.old within.new }
@@ -28,7 +28,8 @@ impl Table {
     }
 }
 
-/// The entry of the highest priority that matches the packets of a box, the first of several.
+/// Returns the entry of the highest priority that matches the packets of a box, the first if there are
+/// several.
 fn highest_within<'a>(entries: &'a [Entry], within: &mut PacketBox) -> Option<&'a Entry>
     requires { IsBox within.old }
     ensures part { Narrows within.old within.new }
@@ -61,8 +62,8 @@ fn higher_within<'a>(
 }
 
 impl Entry {
-    /// Whether it matches the packets of a box. The box is narrowed, so that this is the answer for all
-    /// packets that it has then.
+    /// Whether the entry matches the packets of a box. Narrows the box until the result is the same for all
+    /// of its packets.
     pub(crate) fn matches_within(&self, within: &mut PacketBox) -> bool
         requires { IsBox within.old }
         ensures part { Narrows within.old within.new }
@@ -71,21 +72,47 @@ impl Entry {
         match self.kind {
             FrameKind::Any => true,
             FrameKind::Arp => false,
-            FrameKind::Ip => within.narrow_by(&self.header()),
+            FrameKind::Ip => match self.header_within(within) {
+                None => false,
+                Some(header) => within.narrow_by(&header),
+            },
         }
     }
 
-    /// What an entry for IPv4 asks of the fields of a header.
-    fn header(&self) -> HeaderMatch
-        ensures { (p : Packet) → packet_matches self.now p ≡ fits result p }
+    /// Returns the header match of an entry for IPv4, or None if the entry matches no packet of the box.
+    /// Stops at the first field that excludes all packets.
+    fn header_within(&self, within: &PacketBox) -> Option<HeaderMatch>
+        ensures none { result ≡ None → (p : Packet) → IsIn within.now p → packet_matches self.now p ≡ false }
+        ensures header { IfSome result (λ asked. (p : Packet) → packet_matches self.now p ≡ fits asked p) }
     {
-        HeaderMatch {
-            src: prefix_field(self.src),
-            dst: prefix_field(self.dst),
-            proto: protocol_field(self.proto),
-            sport: port_field(self.tp_src),
-            dport: port_field(self.tp_dst),
+        let (least, greatest) = (within.least, within.greatest);
+        let src = prefix_field(self.src);
+        if !field_may_fit(src, least.src, greatest.src) {
+            return None;
         }
+        let dst = prefix_field(self.dst);
+        if !field_may_fit(dst, least.dst, greatest.dst) {
+            return None;
+        }
+        let proto = protocol_field(self.proto);
+        if !field_may_fit(proto, least.proto as u32, greatest.proto as u32) {
+            return None;
+        }
+        let sport = port_field(self.tp_src);
+        if !field_may_fit(sport, least.sport as u32, greatest.sport as u32) {
+            return None;
+        }
+        let dport = port_field(self.tp_dst);
+        if !field_may_fit(dport, least.dport as u32, greatest.dport as u32) {
+            return None;
+        }
+        Some(HeaderMatch {
+            src,
+            dst,
+            proto,
+            sport,
+            dport,
+        })
     }
 }
 

@@ -1,5 +1,5 @@
-//! Which entry of a table decides the packets of a box. The box is narrowed at each entry that could
-//! decide, until this does not tell its packets apart.
+//! The entry of a table that decides the packets of a box. Each entry that could decide narrows the box
+//! until the entry matches all of its packets or none of them.
 
 ghost use Rattle.std.specs.Prelude.{◌≡◌, ◌≤◌, length, Option, ℕ};
 ghost use Rattle.host_net.specs.declared.packet.Packet.{Packet};
@@ -13,7 +13,7 @@ use crate::entry::Entry;
 use crate::table::Table;
 use header_space::PacketBox;
 
-/// The entry that decides among those before.
+/// The entry that decides among the entries tested so far.
 #[derive(Clone, Copy)]
 pub(crate) struct Found {
     pub(crate) place: u32,
@@ -21,13 +21,13 @@ pub(crate) struct Found {
 }
 
 impl Table {
-    /// Returns the place of the entry that decides the least packet of a box, from 0, or None if no entry
-    /// matches. Narrows the box until this decides all of its packets.
+    /// Returns the index of the entry that decides the least packet of a box, or None if no entry matches.
+    /// Narrows the box until the result is the same for all of its packets.
     pub fn decider_within(&self, within: &mut PacketBox) -> Option<u32>
         requires { IsBox within.old }
         ensures part { Narrows within.old within.new }
         ensures decider { (p : Packet) → IsIn within.new p → IsDecider self.now (Ipv4 p) result }
-        // Nothing else decides, and the verdict is that of the decider.
+        // The decider is unique, and the verdict of the table is the verdict of the decider.
         ensures only { (p : Packet) → IsIn within.new p → (other : Option ℕ) → IsDecider self.now (Ipv4 p) other → other ≡ result }
         ensures verdict { (p : Packet) → IsIn within.new p → HasVerdict self.now (Ipv4 p) (decided self.now result) }
     {
@@ -36,7 +36,7 @@ impl Table {
     }
 }
 
-/// Returns the place of the entry that decides the packets of a box.
+/// Returns the index of the entry that decides the packets of a box.
 fn decider_among(entries: &[Entry], within: &mut PacketBox) -> Option<u32>
     requires few { length entries.now ≤ 8192 }
     requires is_box { IsBox within.old }

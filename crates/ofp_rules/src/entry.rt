@@ -1,11 +1,11 @@
-//! One entry of a flow table, the frames, and which of them it matches.
+//! An entry of a flow table, the frames, and which frames the entry matches.
 
 ghost use Rattle.std.specs.Prelude.{◌≡◌};
 ghost use Rattle.ofp_rules.specs.Matching.{matches, number_matches, packet_matches, part_matches};
 
 use host_net::{Packet, Prefix};
 
-/// A frame as a switch sees it. What is neither ARP nor IPv4 is told apart no further.
+/// A frame as a switch distinguishes it. All frames that are neither ARP nor IPv4 are `Other`.
 #[derive(Clone, Copy, Debug, PartialEq, Eq)]
 pub enum Frame {
     Arp,
@@ -13,7 +13,7 @@ pub enum Frame {
     Other,
 }
 
-/// The frames that an entry asks for.
+/// The frames that an entry matches on.
 #[derive(Clone, Copy, Debug, PartialEq, Eq)]
 pub enum FrameKind {
     Any,
@@ -21,15 +21,15 @@ pub enum FrameKind {
     Ip,
 }
 
-/// What becomes of a frame: it is forwarded as a switch without rules would, or dropped.
+/// The action on a frame. `Normal` forwards it as a switch without rules does.
 #[derive(Clone, Copy, Debug, PartialEq, Eq)]
 pub enum Action {
     Normal,
     Drop,
 }
 
-/// An entry matches a frame of its kind whose addresses its prefixes cover, and whose protocol and
-/// ports are its own, each where it is given.
+/// A flow entry. It matches a frame of its kind if its prefixes cover the addresses and its protocol and
+/// ports are those of the packet. A field that is `None` matches every value.
 #[derive(Clone, Copy, Debug, PartialEq, Eq)]
 pub struct Entry {
     pub priority: u16,

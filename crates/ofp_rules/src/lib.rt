@@ -1,4 +1,4 @@
-//! Flow tables of OpenFlow: entries, what becomes of a frame, and the text that `ovs-ofctl` loads.
+//! Flow tables of OpenFlow: entries, the verdict on a frame, and the text that `ovs-ofctl` loads.
 #![tactic(auto)]
 
 mod box_table;

@@ -1,4 +1,4 @@
-//! Which two entries contradict each other.
+//! Contradictions between two entries.
 
 ghost use Rattle.std.specs.Prelude.{◌≡◌, ◌↔◌, IsTrue};
 ghost use Rattle.ofp_rules.specs.Ambiguity.{Contradict, MatchOneFrame};
@@ -9,14 +9,14 @@ use crate::entry::{Entry, FrameKind};
 use host_net::Prefix;
 
 impl Entry {
-    /// Whether the two leave open what becomes of some frame.
+    /// Whether the two entries have equal priority and different actions, and match a common frame.
     pub(crate) fn contradicts(&self, other: &Entry) -> bool
         ensures { IsTrue result ↔ Contradict self.now other.now }
     {
         self.priority == other.priority && self.action != other.action && self.meets(other)
     }
 
-    /// Whether both match some one frame.
+    /// Whether both entries match a common frame.
     fn meets(&self, other: &Entry) -> bool
         ensures { IsTrue result ↔ MatchOneFrame self.now other.now }
     {

@@ -1,4 +1,4 @@
-//! Which entry is the next that may match a frame, by an index of the addresses that entries ask for.
+//! The next entry that may match a frame, found in an index of the addresses that entries match on.
 
 ghost use Rattle.std.specs.Prelude.{◌≡◌, List};
 ghost use Rattle.host_net.specs.inner.CoverView.{IsIndexOf};
@@ -10,7 +10,7 @@ use crate::entry::{Entry, Frame, FrameKind};
 use host_net::{Covers, Ends};
 
 impl Entry {
-    /// What it asks of the addresses of a frame.
+    /// Returns the prefixes that the entry matches on.
     pub(crate) fn ends(&self) -> Ends
         ensures { result ≡ ends_of self.now }
     {
@@ -45,8 +45,8 @@ fn destination_of(frame: &Frame) -> u32
     }
 }
 
-/// The place of the next entry, from one on, that may match the frame. Those that are passed over do
-/// not match it.
+/// Returns the index of the first entry from index `from` that may match the frame. The skipped entries
+/// do not match it.
 pub(crate) fn next_entry(index: &Covers, from: usize, frame: &Frame) -> Option<usize>
     ensures { (entries : List Entry) → IsIndexOf (all_ends entries) index.now → IsNext (matches frame.now) entries from result }
 {

@@ -1,4 +1,4 @@
-//! A table: entries of which no two contradict each other, so that each frame has a verdict.
+//! A flow table: entries of which no two contradict each other. Each frame has one verdict.
 
 ghost use Rattle.std.specs.Prelude.{◌≡◌, ◌<◌, ◌^◌, ◌++◌, ◌∷◌, [], ℕ, length, slice_get, IsTrue, IsFalse, IfOk, IfErr, OnOk, OnErr, IfNone, IfSome, Some};
 ghost use Rattle.std.specs.List.{list_all};
@@ -18,20 +18,20 @@ use host_net::{Covers, Verdict};
 use std::alloc::{AllocError, Global};
 use std::marker::Model;
 
-/// How many entries a table may have.
+/// The maximum number of entries of a table.
 pub const ENTRY_LIMIT: u32 = 8192;
 
-// For how many entries a new table has room.
+// The initial capacity of a table, in entries.
 const FIRST_ROOM: usize = 16;
 
-/// Why entries make no table. Places count from 0.
+/// Why entries form no table. Indices are 0-based.
 #[derive(Clone, Copy, Debug, PartialEq, Eq)]
 pub enum TableRefusal {
-    /// More than 8,192 entries.
+    /// There are more than 8,192 entries.
     TooMany { count: u32 },
-    /// These two entries of equal priority do different things with one frame.
+    /// These two entries have equal priority and different actions, and match a common frame.
     Ambiguous { first: u32, second: u32 },
-    /// No memory is left.
+    /// An allocation failed.
     Memory,
 }
 
@@ -46,11 +46,11 @@ impl From<AllocError> for TableRefusal {
     }
 }
 
-/// Entries that give each frame one verdict.
+/// A flow table with exactly one verdict for each frame.
 #[derive(Drop)]
 pub struct Table {
     pub(crate) entries: Vec<Entry>,
-    // Of what the entries ask of the addresses.
+    // The index of the prefixes that the entries match on.
     index: Covers,
 }
 
@@ -70,7 +70,7 @@ impl Model for Table {
 }
 
 impl Table {
-    /// A table of no entries, with room for a few.
+    /// Returns an empty table with capacity for a few entries.
     pub fn new(alloc: Global) -> Result<Table, AllocError>
         ensures empty { IfOk result (λ table. table ≡ []) }
         ensures table { IfOk result IsTable }
@@ -82,10 +82,10 @@ impl Table {
         })
     }
 
-    /// Makes a table of the entries, which it consumes in every case and copies one by one.
+    /// Builds a table from the entries. Always consumes the entries, and copies each of them.
     ///
-    /// The cost is that of a test for each pair of entries: of the priorities, where these are
-    /// equal of the actions, and only where these differ of the prefixes.
+    /// The cost is one test for each pair of entries. The test compares the priorities, if these are
+    /// equal the actions, and only if these differ the prefixes.
     pub fn build(alloc: Global, entries: Vec<Entry>) -> Result<Table, TableRefusal>
         requires asks { IsTrue (list_all asks_of_ip entries.items) }
         requires counted { length entries.items < 2 ^ 32 }
@@ -104,7 +104,7 @@ impl Table {
         Ok(table)
     }
 
-    /// Puts one entry more behind the others. The cost is that of a test for each of them.
+    /// Appends an entry. The cost is one test for each entry of the table.
     pub fn add(&mut self, entry: Entry) -> Result<(), TableRefusal>
         requires asks { IsTrue (asks_of_ip entry) }
         ensures added { OnOk result (self.new ≡ self.old ++ entry ∷ []) }
@@ -126,7 +126,7 @@ impl Table {
         Ok(())
     }
 
-    // The memory is taken first, so that nothing has changed where there is none.
+    // The allocation comes first: the table is unchanged if it fails.
     fn put(&mut self, entry: Entry) -> Result<(), AllocError>
         requires { IsTable (self.old ++ entry ∷ []) }
         ensures added { OnOk result (self.new ≡ self.old ++ entry ∷ []) }
@@ -139,7 +139,7 @@ impl Table {
         Ok(())
     }
 
-    /// How many entries there are.
+    /// Returns the number of entries.
     pub fn len(&self) -> u32
         ensures count { result ≡ length self.now }
         ensures table { IsTable self.now }
@@ -147,7 +147,7 @@ impl Table {
         self.entries.len() as u32
     }
 
-    /// The entry at place `k`, from 0.
+    /// Returns the entry at index `k`.
     pub fn entry(&self, k: u32) -> Entry
         requires { k < length self.now }
         ensures { slice_get self.now k ≡ Some result }
@@ -155,7 +155,7 @@ impl Table {
         self.entries[k as usize]
     }
 
-    /// What becomes of a frame. Only those entries are looked at whose prefixes cover its addresses.
+    /// Returns the verdict on a frame. Tests only the entries whose prefixes cover its addresses.
     pub fn verdict(&self, frame: &Frame) -> Verdict
         ensures { HasVerdict self.now frame.now result }
     {
@@ -163,7 +163,7 @@ impl Table {
     }
 }
 
-/// The first of the earlier entries that contradicts the entry.
+/// Returns the index of the first of the earlier entries that contradicts the entry.
 fn first_against(earlier: &[Entry], entry: &Entry) -> Option<usize>
     ensures found { IfSome result (λ k. (e : Entry) × (k < length earlier.now) × (slice_get earlier.now k ≡ Some e) × Contradict e entry.now) }
     ensures first { IfSome result (λ k. (j : ℕ) (e : Entry) → j < k → slice_get earlier.now j ≡ Some e → Contradict e entry.now → ⊥) }
@@ -177,7 +177,7 @@ fn first_against(earlier: &[Entry], entry: &Entry) -> Option<usize>
     None
 }
 
-/// The matching entry of the highest priority, the first of several.
+/// Returns the matching entry of the highest priority, the first if there are several.
 fn highest<'a>(entries: &'a [Entry], index: &Covers, frame: &Frame) -> Option<&'a Entry>
     requires { IsIndexOf (all_ends entries.now) index.now }
     ensures { IsFound entries.now frame.now (option_copied result) }

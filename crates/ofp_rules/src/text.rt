@@ -1,4 +1,4 @@
-//! The text of a table, written line by line into a buffer and without memory.
+//! The text of a table, written line by line into a buffer, without allocation.
 
 ghost use Rattle.std.specs.Prelude.{◌≡◌, ◌<◌, ◌≤◌, ◌++◌, length, take, slice_get, Some, codes, decimal};
 ghost use Rattle.text_core.specs.inner.Line.{cut};
@@ -13,7 +13,7 @@ use host_net::{Prefix, put_prefix};
 use text_core::{put, put_number};
 
 impl Table {
-    /// How many lines the text has.
+    /// Returns the number of lines of the text.
     pub fn lines(&self) -> u32
         ensures count { result ≡ length (text_lines self.now) }
         ensures table { IsTable self.now }
@@ -21,8 +21,8 @@ impl Table {
         self.entries.len() as u32
     }
 
-    /// Writes line `i` of the text, from 0, with its newline to the front of the buffer, and
-    /// answers its length. What the buffer holds after it is left open.
+    /// Writes line `i` of the text, 0-based, with its newline to the start of the buffer, and returns its
+    /// length. The rest of the buffer is unspecified.
     pub fn write_line(&self, i: u32, buffer: &mut [u8; 256]) -> usize
         requires { i < length (text_lines self.now) }
         ensures line { slice_get (text_lines self.now) i ≡ Some (take result buffer.new) }

@@ -1,16 +1,16 @@
--- The entry that decides, found in one pass. Callers see none of it; they have `Deciders`.
+-- The entry that decides, found in one pass. Not visible to callers, which use `Deciders`.
 use Rattle.std.specs.Prelude.{◌≡◌, ℕ, ◌<◌, ◌≤◌, Bool, true, ◌&&◌, nat_lt, if◌then◌else◌, IsTrue, List, Option, Some, None, slice_get}
 use Rattle.ofp_rules.specs.declared.deciders.Found.{Found}
 use Rattle.ofp_rules.specs.declared.entry.Entry.{Entry}
 use Rattle.ofp_rules.specs.declared.entry.Frame.{Frame}
 use Rattle.ofp_rules.specs.Matching.{matches}
 
--- A priority is above that of the entry that was found.
+-- The priority is higher than the priority of the entry found so far, or no entry is found.
 abbrev pub is_higher : ℕ → Option Found → Bool
 is_higher priority None = true
 is_higher priority (Some found) = nat_lt found.priority priority
 
--- What is found with one more entry, which stands at place k.
+-- The entry found after one more entry, which has index k.
 abbrev pub found_with : Frame → Option Found → Entry → ℕ → Option Found
 found_with frame found e k = if matches frame e && is_higher e.priority found then Some (record { place = k; priority = e.priority }) else found
 
@@ -18,7 +18,7 @@ abbrev pub place_of : Option Found → Option ℕ
 place_of None = None
 place_of (Some found) = Some found.place
 
--- The entry that was found decides among the first n entries.
+-- The entry found decides among the first n entries.
 pub record DecidesTo (entries : List Entry) (frame : Frame) (n : ℕ) (found : Found) : Type 0 where
   pub entry : Entry
   pub there : slice_get entries found.place ≡ Some entry

@@ -1,4 +1,4 @@
--- Whether two entries match some one frame, told by their kinds and prefixes. Callers see none of it; they have `Ambiguity`.
+-- Whether two entries match a common frame, decided from their kinds and fields. Not visible to callers, which use `Ambiguity`.
 use Rattle.std.specs.Prelude.{ℕ, Bool, true, false, ◌&&◌, ◌==◌, Option, Some, None}
 use Rattle.host_net.specs.declared.prefix.Prefix.{Prefix}
 use Rattle.host_net.specs.Prefix.{meets}
@@ -25,7 +25,7 @@ numbers_meet None other = true
 numbers_meet (Some n) None = true
 numbers_meet (Some n) (Some m) = n == m
 
--- one packet may be as both ask
+-- The fields of the entries e and f are compatible: a packet can match both.
 abbrev pub packets_meet : Entry → Entry → Bool
 packets_meet e f =
     numbers_meet e.proto f.proto

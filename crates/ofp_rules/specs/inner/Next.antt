@@ -1,4 +1,4 @@
--- The entries that a search passes over, by the addresses that they ask for. Callers see none of it; they have `Meaning`.
+-- The entries that a search skips, by the addresses that they match on. Not visible to callers, which use `Meaning`.
 use Rattle.std.specs.Prelude.{◌≡◌, ◌≤◌, ◌<◌, ℕ, Bool, false, List, map, length, slice_get, Option, Some, None}
 use Rattle.host_net.specs.declared.cover.Ends.{Ends}
 use Rattle.host_net.specs.declared.prefix.Prefix.{Prefix}
@@ -8,7 +8,7 @@ use Rattle.ofp_rules.specs.declared.entry.Frame.TheVariants.{Arp, Ipv4, Other}
 use Rattle.ofp_rules.specs.declared.entry.FrameKind.{FrameKind}
 use Rattle.ofp_rules.specs.declared.entry.FrameKind.TheVariants.{Any as OfAny, Arp as OfArp, Ip as OfIp}
 
--- only an entry for IPv4 asks for addresses
+-- Only an entry for IPv4 matches on addresses.
 abbrev pub kind_ends : FrameKind → Option Prefix → Option Prefix → Ends
 kind_ends OfAny src dst = record { src = None; dst = None }
 kind_ends OfArp src dst = record { src = None; dst = None }
@@ -20,7 +20,7 @@ ends_of e = kind_ends e.kind e.src e.dst
 abbrev pub all_ends : List Entry → List Ends
 all_ends entries = map ends_of entries
 
--- a frame that has no addresses counts as one of the address 0
+-- A frame without addresses has the address 0.
 abbrev pub source_of : Frame → ℕ
 source_of Arp = 0
 source_of (Ipv4 packet) = packet.src
@@ -31,11 +31,11 @@ destination_of Arp = 0
 destination_of (Ipv4 packet) = packet.dst
 destination_of Other = 0
 
--- from one place on, and before another, no entry matches
+-- No entry with an index of at least `from` and below `to` matches.
 abbrev pub NoneMatches : (Entry → Bool) → List Entry → ℕ → ℕ → Type 0
 NoneMatches by entries from to = (i : ℕ) (e : Entry) → from ≤ i → i < to → slice_get entries i ≡ Some e → by e ≡ false
 
--- all entries from one place on that stand before another do not match
+-- Index `at` is at least `from` and within the list, and no entry with an index of at least `from` and below `at` matches.
 pub record IsNextAt (by : Entry → Bool) (entries : List Entry) (from at : ℕ) : Type 0 where
   pub later : from ≤ at
   pub within : at < length entries

@@ -1,15 +1,15 @@
--- That the numbers of an entry have room: 16 bits for a priority or a port, 32 for an address, 8 for a protocol.
+-- The ranges of the numbers of an entry: 16 bits for a priority or a port, 32 for an address, 8 for a protocol.
 use Rattle.std.specs.Prelude.{ℕ, ◌^◌, Bool, true, ◌&&◌, nat_lt, IsTrue, List, Option, Some, None}
 use Rattle.std.specs.List.{list_all}
 use Rattle.host_net.specs.declared.prefix.Prefix.{Prefix}
 use Rattle.ofp_rules.specs.declared.entry.Entry.{Entry}
 
--- an address that is asked for has 32 bits
+-- The address of a prefix has at most 32 bits.
 abbrev pub address_fits : Option Prefix → Bool
 address_fits None = true
 address_fits (Some prefix) = nat_lt prefix.addr (2 ^ 32)
 
--- a number that is asked for is below a limit
+-- The number of a field, if there is one, is below the limit.
 abbrev pub number_fits : ℕ → Option ℕ → Bool
 number_fits limit None = true
 number_fits limit (Some n) = nat_lt n limit
