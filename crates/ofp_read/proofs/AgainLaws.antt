@@ -1,4 +1,4 @@
--- What is written is read: the text of a table has its entries as its reading.
+-- Round trip: the text of a table parses to its entries.
 use Rattle.std.proofs.Common.{◌≡◌, inr, ℕ, ◌+◌, ◌*◌, ◌<◌, ◌≤◌, List, [], ◌∷◌, ◌++◌, length, map, refl, sym, ap, subst, ◌∙◌, arith, append-nil, append_assoc, length-append}
 use Rattle.std.specs.Prelude.{IsTrue}
 use Rattle.std.specs.List.{list_all}
@@ -19,7 +19,7 @@ use Rattle.ofp_read.specs.Grammar.{AddsEntry}
 use Rattle.ofp_read.specs.TextLines.{IsReading}
 use Rattle.ofp_read.proofs.WrittenLaws.{bare_line, line_is, bare_writes, bare_lacks, bare_flow}
 
--- 1. How long it is.
+-- 1. Its length.
 
 text_short : (entries : List Entry) → AreInRange entries → length (text entries) ≤ 124 * length entries
 text_short [] range = omega arith
@@ -37,7 +37,7 @@ lines_of (e ∷ es) range =
     (text es) (bare_lacks e parts.0)
     ∙ ap (λ ls. bare_line e ∷ ls) (lines_of es parts.1)
 
--- the entries in front of others contradict each other no more than all do
+-- If the entries of a list are free of conflicts, so are the entries of a prefix.
 clear_front : (xs ys : List Entry) → IsUnambiguous (xs ++ ys) → IsUnambiguous xs
 clear_front xs ys clear i j pair =
     let earlier = pair.earlier in

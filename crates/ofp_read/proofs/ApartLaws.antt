@@ -1,4 +1,4 @@
--- Fields in front of the action: no field begins as the action does, and the first that does so begins where the line is cut.
+-- Fields before the action: no field begins like an action, and the first one that does begins at the split of the line.
 use Rattle.std.proofs.Common.{◌≡◌, ℕ, Bool, true, false, ◌&&◌, not, cond, List, [], ◌∷◌, ◌++◌, Option, Some, None, take, drop, refl, sym, ap, subst, ◌∙◌, append_assoc}
 use Rattle.std.specs.Prelude.{codes}
 use Rattle.std.specs.List.{filter, list_all, slice_split, onto_first}
@@ -10,7 +10,7 @@ use Rattle.ofp_read.specs.inner.Cut.{begins_action, cut_action}
 use Rattle.ofp_read.proofs.CutLaws.{shifted, cut_past}
 use Rattle.ofp_read.proofs.LineLaws.{is_field, none_begins, apart_from}
 
--- 1. What begins as the action does.
+-- 1. Texts that begin like an action.
 
 pub action_begins : (text : List ℕ) → begins_action text ≡ true → text ≡ codes "actions=" ++ drop 8 text
 action_begins text begins =
@@ -19,9 +19,9 @@ action_begins text begins =
 begins_longer : (text more : List ℕ) → begins_action text ≡ true → begins_action (text ++ more) ≡ true
 begins_longer text more begins = ap (λ bs. begins_action (bs ++ more)) (action_begins text begins)
 
--- 2. Pieces of a text.
+-- 2. Fields of a text.
 
--- a text has a first piece, with which it begins
+-- A text has a first field, with which it begins.
 record HasFirst (text : List ℕ) : Type 0 where
   first : List ℕ
   others : List (List ℕ)
@@ -50,7 +50,7 @@ has_first : (text : List ℕ) → HasFirst text
 has_first [] = record { first = []; others = []; behind = []; pieces = refl; whole = refl }
 has_first (b ∷ bs) = first_by b bs (is_separator b) refl (has_first bs)
 
--- what begins as the action does has a first field, which does so too
+-- A text that begins like an action has a first field, which does so too.
 pub record HasAction (text : List ℕ) : Type 0 where
   pub action : List ℕ
   pub others : List (List ℕ)
@@ -71,7 +71,7 @@ has_action text begins =
     by_bytes pieces =
         onto_first 97 (onto_first 99 (onto_first 116 (onto_first 105 (onto_first 111 (onto_first 110 (onto_first 115 (onto_first 61 pieces)))))))
 
--- 3. The fields of a text that ends apart, and of what follows.
+-- 3. The fields of a prefix after which a field may begin, and of the rest.
 
 record SplitsApart (front rest : List ℕ) : Type 0 where
   first : List ℕ
@@ -131,7 +131,7 @@ pub fields_apart : (front rest : List ℕ) → apart_from true front ≡ true �
 fields_apart [] rest apart = refl
 fields_apart (b ∷ bs) rest apart = fields_of_split (b ∷ bs) rest (splits_apart (b ∷ bs) rest apart)
 
--- 4. No field in front of the cut begins as the action does.
+-- 4. No field before the split begins like an action.
 
 abbrev pub front_of : List ℕ → Option (List ℕ × List ℕ) → List ℕ
 front_of line None = line
@@ -141,7 +141,7 @@ front_shifted : (b : ℕ) (bs : List ℕ) (o : Option (List ℕ × List ℕ)) �
 front_shifted b bs None = refl
 front_shifted b bs (Some parts) = refl
 
--- the front begins the line
+-- The prefix begins the line.
 whole_by : (b : ℕ) (bs : List ℕ) (o : Option (List ℕ × List ℕ)) → ((more : List ℕ) × (bs ≡ front_of bs o ++ more))
     → (more : List ℕ) × (b ∷ bs ≡ front_of (b ∷ bs) (shifted (b ∷ []) o) ++ more)
 whole_by b bs o rest =
@@ -222,7 +222,7 @@ fields_in_front line o is =
     filter_all pieces (all_of_none pieces
     (ap (λ c. none_begins true (slice_split is_separator (front_of line c))) (sym is) ∙ none_in_front line true))
 
--- 5. The first of some fields that is bad, and no action, stands in front of the action.
+-- 5. The first of some fields that is bad, and no action, precedes the action.
 
 pub is_field_at : (front : List (List ℕ)) (here : List ℕ) (behind : List (List ℕ)) → list_all is_field (front ++ here ∷ behind) ≡ true
     → is_field here ≡ true

@@ -1,4 +1,4 @@
--- Laws of the cut in front of the action.
+-- Lemmas on the split before the action.
 use Rattle.std.proofs.Common.{◌≡◌, ℕ, suc, ◌+◌, ◌<◌, Bool, true, false, ◌&&◌, cond, List, [], ◌∷◌, ◌++◌, Option, Some, None, length, take, drop, get_or, refl, sym, ap, ◌∙◌, arith, append_assoc}
 use Rattle.std.specs.Option.{option_map}
 use Rattle.std.proofs.Math.Seq.{take-suc}
@@ -6,7 +6,7 @@ use Rattle.std.proofs.lemmas.List.{drop_more}
 use Rattle.ofp_read.specs.Grammar.{is_separator}
 use Rattle.ofp_read.specs.inner.Cut.{begins_action, cut_action}
 
--- the same cut of a text that has more in front
+-- The same split of a text with more bytes at the front.
 abbrev pub shifted : List ℕ → Option (List ℕ × List ℕ) → Option (List ℕ × List ℕ)
 shifted front parts = option_map (λ (p : List ℕ × List ℕ). (front ++ p.0, p.1)) parts
 
@@ -14,7 +14,7 @@ shifted_once : (front : List ℕ) (b : ℕ) (o : Option (List ℕ × List ℕ)) 
 shifted_once front b None = refl
 shifted_once front b (Some p) = ap (λ bs. Some (bs, p.1)) (sym (append_assoc front (b ∷ []) p.0))
 
--- where no action begins here
+-- If no action begins here.
 pub cut_past : (begins : Bool) (b : ℕ) (bs : List ℕ) → (begins && begins_action (b ∷ bs)) ≡ false
     → cut_action begins (b ∷ bs) ≡ shifted (b ∷ []) (cut_action (is_separator b) bs)
 cut_past begins b bs none = ap (λ t. cond t (Some ([], b ∷ bs)) (shifted (b ∷ []) (cut_action (is_separator b) bs))) none
@@ -22,7 +22,7 @@ cut_past begins b bs none = ap (λ t. cond t (Some ([], b ∷ bs)) (shifted (b �
 pub cut_here : (b : ℕ) (bs : List ℕ) → begins_action (b ∷ bs) ≡ true → cut_action true (b ∷ bs) ≡ Some ([], b ∷ bs)
 cut_here b bs begins = ap (λ t. cond t (Some ([], b ∷ bs)) (shifted (b ∷ []) (cut_action (is_separator b) bs))) begins
 
--- one byte on
+-- One byte further.
 pub cut_next : (line : List ℕ) (place : ℕ) (begins next : Bool) → place < length line
     → (begins && begins_action (drop place line)) ≡ false → next ≡ is_separator (get_or line place 0)
     → shifted (take place line) (cut_action begins (drop place line)) ≡ shifted (take (place + 1) line)

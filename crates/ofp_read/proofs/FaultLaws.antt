@@ -1,4 +1,4 @@
--- A text has one reading at most and one first fault at most, and not both; and its reading is a table.
+-- A file has at most one parse result and at most one first error, and not both; its parse result is a table.
 use Rattle.std.proofs.Common.{◌≡◌, inl, inr, ℕ, ◌+◌, List, [], ◌∷◌, ◌++◌, refl, sym, ap, subst, ◌∙◌, arith}
 use Rattle.std.specs.Prelude.{Result, Ok, Err}
 use Rattle.text_core.specs.Lines.{lines}
@@ -49,7 +49,7 @@ one_why before l w v (ambiguous d f place other few there clash) (unwritten b) =
 one_why before l w v (ambiguous d f place other few there clash) (too_many e writes many) = absurd (omega (arith, many, few))
 one_why before l w v (ambiguous d f place other few there clash) (ambiguous e g k writes less at_k contra) = refl
 
--- 2. Texts.
+-- 2. Files.
 
 pub flows_settled : IsSettled flows_text
 flows_settled = record {

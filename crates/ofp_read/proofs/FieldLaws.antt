@@ -1,4 +1,4 @@
--- A field is read exactly where it says something of parts of which nothing is given.
+-- A field is parsed if and only if it specifies parts that are not specified yet.
 use Rattle.std.proofs.Common.{◌≡◌, ℕ, ◌+◌, ◌<◌, ◌^◌, true, false, ◌||◌, List, [], ◌∷◌, ◌++◌, Option, Some, None, is_some, refl, sym, ap, subst, ◌∙◌, arith, inl, inr}
 use Rattle.std.specs.Prelude.{IsTrue, Ok, Err, codes, decimal, bytes_eq, if◌then◌else◌}
 use Rattle.std.specs.Option.{option_map, ok_or}
@@ -25,7 +25,7 @@ use Rattle.ofp_read.proofs.KeyLaws.{IsField, field_of_key, key_found}
 use Rattle.ofp_read.proofs.NamedLaws.{named_is, some_same}
 use Rattle.ofp_read.proofs.PartLaws.{Lacks, Has, IsGiven, OfEach, Gives, gives_one, gives_more, with_part}
 
--- 1. What is read says something of parts.
+-- 1. A field that is parsed specifies parts.
 
 pub record IsStep (g h : Given) (text : List ℕ) : Type 0 where
   pub parts : List Part
@@ -33,7 +33,7 @@ pub record IsStep (g h : Given) (text : List ℕ) : Type 0 where
   pub says : (e : Entry) → OfEach (λ p. Has p e h) parts → (ps : List Part) (texts : List (List ℕ)) → EachSays e ps texts
       → EachSays e (parts ++ ps) (text ∷ texts)
 
--- a step that gives one part, as some entry has it
+-- A step that specifies one part, as some entry has it.
 step_one : (p : Part) (e : Entry) (g h : Given) (text : List ℕ) → with_part p e g ≡ h → Lacks p g → IsGiven h p
     → ((f : Entry) → Has p f h → Says p f text) → IsStep g h text
 step_one p e g h text is lacks given says = record {
@@ -42,7 +42,7 @@ step_one p e g h text is lacks given says = record {
   says = λ f has ps texts each. one_part (says f has.0) each;
 }
 
--- an entry with its parts given
+-- An entry with the specified parts.
 abbrev entry_with : ℕ → FrameKind → Option Prefix → Entry
 entry_with n k p =
     record { priority = n; kind = k; src = p; dst = p; proto = Some n; tp_src = Some n; tp_dst = Some n; action = actions.Drop }
@@ -70,7 +70,7 @@ unfolding frame_type
 frame_type_said value k h =
     named_is IsTypeOf value frame_types k h (inr (inl refl), (inr (inr refl), (inr (inl refl), (inr (inr refl), tt))))
 
--- the name of a protocol gives two parts
+-- The name of a protocol specifies two parts.
 step_protocol : (g : Given) (text : List ℕ) (n : ℕ) → IsTrue (has_name n) × (text ≡ protocol_text n) → (is_some g.kind || is_some g.proto) ≡ false
     → IsStep g (of_protocol g n) text
 step_protocol g text n is lacks = record {
@@ -163,9 +163,9 @@ step_by_key g h text (Some (k, value)) is read =
 pub step_of_read : (g h : Given) (text : List ℕ) → with_field g text ≡ Ok h → IsStep g h text
 step_of_read g h text read = step_by_key g h text (key_of text) refl read
 
--- 2. What says something of parts of which nothing is given is read.
+-- 2. A field that specifies new parts is parsed.
 
--- a field with a key of which nothing is given, and one of its values
+-- A field with a key that is not specified yet, and a valid value.
 read_value : (g h : Given) (k : Key) (text value : List ℕ) → key_of text ≡ Some (k, value) → is_given g k ≡ false
     → with_value g k value ≡ Some h → with_field g text ≡ Ok h
 read_value g h k text value is lacks read =

@@ -1,4 +1,4 @@
--- Fields are read from left to right exactly where they are those of an entry.
+-- Fields are parsed from left to right if and only if they are those of an entry.
 use Rattle.std.proofs.Common.{◌≡◌, ◌⊎◌, inl, inr, ℕ, List, [], ◌∷◌, ◌++◌, refl, sym, ap, subst, ◌∙◌}
 use Rattle.std.specs.Prelude.{Option, Result, Ok, Err, unwrap_or}
 use Rattle.ofp_rules.specs.declared.entry.Action.{Action}
@@ -18,9 +18,9 @@ pub goes_on_parts : {A B : Type 0} (r : Result A OfpWhy) (f : A → Result B Ofp
 goes_on_parts (Ok x) f y h = (x, refl, h)
 goes_on_parts (Err why) f y h = cc
 
--- 1. What is read.
+-- 1. Fields that are parsed.
 
--- the entry has whatever is given
+-- The entry agrees with the partial entry.
 abbrev Fits : Entry → Given → Type 0
 Fits e h = (p : Part) → IsGiven h p → Has p e h
 
@@ -60,7 +60,7 @@ fields_of_read texts h a read =
       others = λ p none. unsaid_own p h a (sym (steps.gives.others p none));
     }
 
--- 2. What is said.
+-- 2. Fields of the grammar.
 
 abbrev pub with_parts : List Part → Entry → Given → Given
 with_parts [] e g = g
@@ -86,7 +86,7 @@ read_of_each e (kind ∷ protocol ∷ ps) (text ∷ texts) g (two_parts n ip its
     ∙ read_of_each e ps texts (with_part protocol e (with_part kind e g)) rest once.1.1
     (lack_with ps protocol e (with_part kind e g) once.1.0 first.1)
 
--- a part was given, or it is as it was
+-- A part was specified, or it is unchanged.
 pub part_now : (p : Part) (e : Entry) (parts : List Part) (g : Given)
     → Has p e (with_parts parts e g) ⊎ (IsNoneOf p parts × Same p g (with_parts parts e g))
 part_now p e [] g = inr (tt, refl)
@@ -98,7 +98,7 @@ part_now p e (q ∷ ps) g = elim (part_now p e ps (with_part q e g)) [
   ]
 ]
 
--- nothing was given at first
+-- Initially no part is specified.
 pub all_free : (parts : List Part) → OfEach (λ p. Lacks p nothing_given) parts
 all_free [] = tt
 all_free (p ∷ ps) = (refl, all_free ps)

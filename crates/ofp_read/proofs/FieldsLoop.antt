@@ -7,7 +7,7 @@ use Rattle.ofp_read.specs.declared.given.Given.{Given}
 use Rattle.ofp_read.specs.inner.FieldTable.{with_field}
 use Rattle.ofp_read.specs.inner.FlowLine.{goes_on, with_fields}
 
--- the field at a place, and those after it
+-- The field at an index, and those after it.
 next_field : (given : Given) (texts : List (List ℕ)) (k : ℕ) (text : List ℕ) → k < length texts → text ≡ get_or texts k text
     → with_fields given (drop k texts) ≡ goes_on (with_field given text) (λ now. with_fields now (drop (k + 1) texts))
 next_field given texts k text within is =

@@ -1,4 +1,4 @@
--- How a field is named, and how its name is cut off.
+-- The name of a field, and how it is split off.
 use Rattle.std.proofs.Common.{◌≡◌, ℕ, Bool, true, false, List, [], ◌∷◌, ◌++◌, Option, Some, None, refl, sym, ap, ◌∙◌, append-nil}
 use Rattle.std.specs.Prelude.{codes}
 use Rattle.text_core.specs.inner.Pieces.{split_once}
@@ -10,7 +10,7 @@ use Rattle.ofp_read.specs.inner.FieldTable.{keys_with_value, keys_alone, key_wit
 use Rattle.ofp_read.specs.Grammar.{Part, priority, table, kind, source, destination, protocol, source_port, destination_port, about}
 use Rattle.ofp_read.proofs.NamedLaws.{named_is}
 
--- a field is its name and its value
+-- A field is its name and its value.
 abbrev pub front_of : Key → List ℕ
 front_of key.Priority = codes "priority="
 front_of key.Table = codes "table="
@@ -26,7 +26,7 @@ front_of key.Protocol = codes "nw_proto="
 front_of key.SourcePort = codes "tp_src="
 front_of key.DestinationPort = codes "tp_dst="
 
--- some keys have no value
+-- Some keys have no value.
 abbrev is_alone : Key → Bool
 is_alone key.Ip = true
 is_alone key.Arp = true
@@ -35,7 +35,7 @@ is_alone key.Tcp = true
 is_alone key.Udp = true
 is_alone _ = false
 
--- a text is one field: the key's name, and the value behind it, if the key has values
+-- A text is one field: the key's name, followed by the value if the key has values.
 pub record IsField (text : List ℕ) (k : Key) (value : List ℕ) : Type 0 where
   pub written : text ≡ front_of k ++ value
   pub alone : is_alone k ≡ true → value ≡ []
@@ -81,7 +81,7 @@ pub field_of_key : (text : List ℕ) (k : Key) (value : List ℕ) → key_of tex
 unfolding key_of
 field_of_key text k value h = field_by text (split_once 61 text) k value refl h
 
--- the key of the fields about a part that have a value, which is found in front of every value
+-- The key of the fields with a value for a part, which is found before every value.
 abbrev pub key_about : Part → Key
 key_about priority = key.Priority
 key_about table = key.Table

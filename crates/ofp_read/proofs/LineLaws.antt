@@ -1,4 +1,4 @@
--- A line is read as an entry exactly where it writes it.
+-- A line is parsed to an entry if and only if it encodes it.
 use Rattle.std.proofs.Common.{◌≡◌, inl, inr, ℕ, zero, suc, Bool, true, false, ◌&&◌, not, cond, List, [], ◌∷◌, ◌++◌, Option, Some, None, length, take, drop, get_or, refl, sym, ap, subst, ◌∙◌, arith, append_assoc}
 use Rattle.std.specs.Prelude.{Ok, Err, codes, bytes_eq, if◌then◌else◌}
 use Rattle.std.specs.List.{filter, list_all, slice_split, onto_first}
@@ -22,9 +22,9 @@ use Rattle.ofp_read.specs.inner.Cut.{begins_action, cut_action}
 use Rattle.ofp_read.specs.Grammar.{Part, priority, table, kind, source, destination, protocol, source_port, destination_port, EachSays, no_field, one_part, two_parts, is_separator, has_bytes, fields, IsKindText, IsActionText, ends_apart, HasFlow, Writes}
 use Rattle.ofp_read.proofs.PartWords.{Says, IsNamed, named_one}
 
--- 1. The cut in front of the action.
+-- 1. The split before the action.
 
--- whether what follows the text may begin a field, where a field may begin in front of it or not
+-- Whether the rest after the text may begin with a field, given whether a field may begin before it.
 abbrev pub apart_from : Bool → List ℕ → Bool
 apart_from begins [] = begins
 apart_from begins (b ∷ bs) = apart_from (is_separator b) bs
@@ -37,7 +37,7 @@ pub apart_whole : (front : List ℕ) → ends_apart front ≡ apart_from true fr
 apart_whole [] = refl
 apart_whole (b ∷ bs) = apart_last b bs
 
--- what is cut: the text in front, and the text from the action on
+-- The result of the split: the text before the action, and the text from the action on.
 pub record IsCut (begins : Bool) (line front rest : List ℕ) : Type 0 where
   pub whole : line ≡ front ++ rest
   pub apart : apart_from begins front ≡ true
@@ -96,7 +96,7 @@ blank_words (b ∷ bs) h =
     onto_some b [] h = cc
     onto_some b (w ∷ ws) h = cc
 
--- a text that begins with a word and has no other is the word and blanks
+-- A text that begins with a token and has no other consists of the token and blanks.
 pub record IsOneWord (text word : List ℕ) : Type 0 where
   pub blanks : List ℕ
   pub whole : text ≡ word ++ blanks
@@ -150,9 +150,9 @@ action_said [] a h = cc
 action_said (w ∷ []) a h = (w, refl, named_is (λ text b. IsActionText b text) w actions a h (inl refl, (inr refl, (refl, tt))))
 action_said (w ∷ v ∷ ws) a h = cc
 
--- 3. What is read is written.
+-- 3. A line that is parsed is in the grammar.
 
--- the flow of what the fields and the action give
+-- The flow of the parsed fields and action.
 pub flow_read : (line front rest : List ℕ) (given : Given) (a : Action) → IsCut true line front rest
     → with_fields nothing_given (fields front) ≡ Ok given → action_of (words rest) ≡ Some a → HasFlow line (entry_of given a)
 flow_read line front rest given a cut read action =
@@ -192,7 +192,7 @@ pub written_of_flow : (line : List ℕ) (e : Entry) → flow_of line ≡ Ok e �
 unfolding flow_of
 written_of_flow line e h = written_by line e (cut_action true line) refl h
 
--- 4. What is written is read.
+-- 4. A line of the grammar is parsed.
 
 kind_begins : (k : FrameKind) (text : List ℕ) → IsKindText k text → begins_action text ≡ false
 kind_begins frames.Any text is = absurd is
@@ -208,7 +208,7 @@ named_begins n text (inl (number, e)) = ap begins_action e
 named_begins n text (inr (inl (number, e))) = ap begins_action e
 named_begins n text (inr (inr (number, e))) = ap begins_action e
 
--- no field begins as the action does
+-- No field begins like an action.
 says_begins : (p : Part) (e : Entry) (text : List ℕ) → Says p e text → begins_action text ≡ false
 says_begins priority e text says = ap begins_action says.3
 says_begins table e text says = ap begins_action says
@@ -231,7 +231,7 @@ fields_begin e (p ∷ ps) (text ∷ texts) (one_part says rest) =
 fields_begin e (kind ∷ protocol ∷ ps) (text ∷ texts) (two_parts n ip its says rest) =
     and_from (is_field text) (list_all is_field texts) (ap not (named_begins n text (named_one n text says))) (fields_begin e ps texts rest)
 
--- nor does what has no bytes
+-- Nor does an empty one.
 pub pieces_begin : (pieces : List (List ℕ)) → list_all is_field (filter has_bytes pieces) ≡ true → list_all is_field pieces ≡ true
 pieces_begin [] h = refl
 pieces_begin ([] ∷ pieces) h = pieces_begin pieces h
@@ -239,7 +239,7 @@ pieces_begin ((b ∷ bs) ∷ pieces) h =
     let parts = and_parts (is_field (b ∷ bs)) (list_all is_field (filter has_bytes pieces)) h in
     and_from (is_field (b ∷ bs)) (list_all is_field pieces) parts.0 (pieces_begin pieces parts.1)
 
--- a text that ends apart is its first piece, a separator, and more
+-- A text after which a field may begin is its first field, a separator, and more.
 record IsPiece (text : List ℕ) : Type 0 where
   piece : List ℕ
   separator : ℕ
@@ -274,7 +274,7 @@ first_piece [] apart = cc
 first_piece (b ∷ bs) apart =
     piece_by b bs (is_separator b) refl (λ is. first_piece bs (ap (λ t. apart_from t bs) (sym is) ∙ apart))
 
--- where the text in front of a separator does not begin as the action, nor does the whole
+-- If the text before a separator does not begin like an action, neither does the whole.
 starts_in_piece : (n : ℕ) (mark piece behind : List ℕ) (s : ℕ) → is_separator s ≡ true
     → list_all (λ b. not (is_separator b)) mark ≡ true → length mark ≡ n → take n (piece ++ s ∷ behind) ≡ mark → take n piece ≡ mark
 starts_in_piece zero mark piece behind s separates none fits h = h
@@ -299,7 +299,7 @@ piece_begins piece behind s separates none = split_bool (begins_action (piece ++
     let clash : begins_action piece ≡ true = ap (λ xs. bytes_eq xs (codes "actions=")) same in cc)
     (λ other. other)
 
--- where a field begins in front of pieces it does not begin as the action, nor do the further ones
+-- If a field begins before others, it does not begin like an action, and neither do the others.
 abbrev pub none_begins : Bool → List (List ℕ) → Bool
 none_begins begins [] = true
 none_begins begins (piece ∷ pieces) = not (begins && begins_action piece) && list_all is_field pieces

@@ -1,4 +1,4 @@
--- Readings that were settled, line by line.
+-- Test vectors: lines and their decided parse results.
 use Rattle.std.proofs.Common.{◌≡◌, ℕ, false, List, [], ◌∷◌, Some, None, map, refl}
 use Rattle.std.specs.Prelude.{Ok, Err, codes}
 use Rattle.std.specs.Fmt.{digits}
@@ -12,37 +12,38 @@ use Rattle.ofp_read.specs.declared.fault.OfpWhy.TheVariants.{BadLine, UnknownFie
 use Rattle.ofp_read.specs.inner.FieldTable.{key_with_value, key_alone, key_of, frame_type, with_value}
 use Rattle.ofp_read.specs.inner.FlowLine.{flow_of}
 
--- commas and blanks at the beginning are passed over; blanks behind the action are no part of it
+-- Commas and blanks at the beginning are skipped; blanks after the action are not part of it.
 row_plain : flow_of (codes ", table=0,,actions=drop  ") ≡ Ok (record { priority = 32768; kind = Any; src = None; dst = None; proto = None; tp_src = None; tp_dst = None; action = Drop })
 unfolding flow_of key_of key_with_value with_value
 row_plain = refl
 
--- a line of commas and blanks has words, so it is no comment, and has no action
+-- A line of commas and blanks has tokens, so it is no comment, and it has no action.
 row_commas_no_comment : is_comment (codes " , ") ≡ false
 unfolding is_comment
 row_commas_no_comment = refl
 
--- lines that write no entry, and why
+-- Lines that encode no entry, and the reasons.
 abbrev refused_lines : List (List ℕ × OfpWhy)
 refused_lines =
     (codes " , ", BadLine)
-    -- a mark of comments behind a comma is a field
+    -- A comment mark after a comma is a field.
     ∷ (codes ",# x", UnknownField)
-    -- the action of a field's value is none of the line
+    -- An action in a field's value is not the action of the line.
     ∷ (codes "ip,nw_src=actions=drop,actions=drop", BadValue)
-    -- blanks in front of the action and a comma behind it are parts of it
+    -- Blanks before the action and a comma after it are parts of it.
     ∷ (codes "actions= drop", UnknownAction)
     ∷ (codes "actions=drop,", UnknownAction)
-    -- from left to right: a second frame kind before its value, a value before a second frame kind
+    -- From left to right: a second frame kind takes precedence over its value, a bad value over a later second frame
+    -- kind.
     ∷ (codes "ip,dl_type=x,actions=drop", BadLine)
     ∷ (codes "dl_type=x,ip,actions=drop", BadValue)
-    -- the name before all else of a field, and a second field before its value
+    -- The name takes precedence over everything else of a field, and a repeated field over its value.
     ∷ (codes "ip=,actions=drop", UnknownField)
     ∷ (codes "priority=1,priority=x", BadLine)
-    -- the action before the frames
+    -- The action takes precedence over the check of frames.
     ∷ (codes "nw_src=10.0.0.1,actions=x", UnknownAction)
     ∷ (codes "arp,nw_src=10.0.0.1,actions=drop", NeedsIp)
-    -- one frame kind and one protocol: the second is refused, whatever its value
+    -- One frame kind and one protocol: the second is rejected, regardless of its value.
     ∷ (codes "priority=5,tcp,udp,actions=drop", BadLine)
     ∷ (codes "tcp,ip,actions=drop", BadLine)
     ∷ (codes "dl_type=0x0800,icmp,actions=drop", BadLine)
@@ -51,14 +52,14 @@ refused_lines =
     ∷ (codes "nw_proto=6,tcp,actions=drop", BadLine)
     ∷ (codes "nw_proto=999,tcp,actions=drop", BadValue)
     ∷ (codes "udp,tp_src=1,tp_src=x,actions=drop", BadLine)
-    -- values
+    -- Values.
     ∷ (codes "tcp,tp_dst=65536,actions=drop", BadValue)
     ∷ (codes "tcp,tp_src=080,actions=drop", BadValue)
     ∷ (codes "ip,nw_proto=256,actions=drop", BadValue)
-    -- a name with a value, and a number without one, are no fields
+    -- A protocol name with a value, and a number without one, are no fields.
     ∷ (codes "tcp=,actions=drop", UnknownField)
     ∷ (codes "ip,nw_proto,actions=drop", UnknownField)
-    -- ports are asked of TCP and UDP alone, protocols of IPv4 frames alone
+    -- Ports are matched only for TCP and UDP, protocols only for IPv4 frames.
     ∷ (codes "priority=5,ip,tp_dst=80,actions=drop", NeedsIp)
     ∷ (codes "icmp,tp_dst=1,actions=drop", NeedsIp)
     ∷ (codes "nw_proto=6,actions=drop", NeedsIp)
@@ -71,7 +72,7 @@ lines_refused : map (λ (r : List ℕ × OfpWhy). flow_of r.0) refused_lines ≡
 unfolding flow_of frame_type key_alone key_of key_with_value number prefix_of octet address_text prefix_text with_value digits
 lines_refused = refl
 
--- a protocol by its name, and by its number beside `ip`
+-- A protocol by its name, and by its number together with `ip`.
 row_port : flow_of (codes "priority=5,tcp,tp_dst=80,actions=drop") ≡ Ok (record { priority = 5; kind = Ip; src = None; dst = None; proto = Some 6; tp_src = None; tp_dst = Some 80; action = Drop })
 unfolding flow_of key_of key_with_value key_alone with_value number digits
 row_port = refl
@@ -80,7 +81,7 @@ row_number : flow_of (codes "priority=5,ip,nw_proto=6,tp_src=1,actions=NORMAL") 
 unfolding flow_of key_of key_with_value key_alone with_value number digits
 row_number = refl
 
--- in any order
+-- In any order.
 row_number_first : flow_of (codes "tp_dst=0 nw_proto=17 ip actions=drop") ≡ Ok (record { priority = 32768; kind = Ip; src = None; dst = None; proto = Some 17; tp_src = None; tp_dst = Some 0; action = Drop })
 unfolding flow_of key_of key_with_value key_alone with_value number digits
 row_number_first = refl

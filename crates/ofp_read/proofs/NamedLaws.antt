@@ -1,4 +1,4 @@
--- What a name stands for in a table of names has what every row of the table has.
+-- A value that is found in a table of names has every property that all rows of the table have.
 use Rattle.std.proofs.Common.{◌≡◌, ℕ, inl, inr, List, [], ◌∷◌, Some, sym, subst}
 use Rattle.std.specs.Prelude.{bytes_eq}
 use Rattle.std.specs.Map.{lookup}

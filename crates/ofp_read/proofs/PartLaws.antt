@@ -1,4 +1,4 @@
--- What is given of each part of an entry, and what one field more changes in it.
+-- The specification of each part of an entry, and its change by one more field.
 use Rattle.std.proofs.Common.{◌≡◌, ◌≢◌, ◌⊎◌, inl, inr, ℕ, Bool, true, false, List, [], ◌∷◌, ◌++◌, Option, Some, None, refl, sym, ap, subst, ◌∙◌, arith}
 use Rattle.std.specs.Prelude.{◌==◌, if◌then◌else◌, unwrap_or}
 use Rattle.std.proofs.lemmas.Bool.{true_from_ne_false}
@@ -14,7 +14,7 @@ use Rattle.ofp_read.specs.inner.FlowLine.{nothing_given, entry_of}
 use Rattle.ofp_read.specs.Grammar.{Part, priority, table, kind, source, destination, protocol, source_port, destination_port, IsNoneOf, AreDistinct}
 use Rattle.ofp_read.proofs.PartWords.{IsUnsaid}
 
--- 1. What is given of a part.
+-- 1. The specification of a part.
 
 abbrev pub Value : Part → Type 0
 Value priority = Option ℕ
@@ -46,19 +46,19 @@ own_value protocol e = e.proto
 own_value source_port e = e.tp_src
 own_value destination_port e = e.tp_dst
 
--- nothing is given of the part
+-- The part is not specified.
 abbrev pub Lacks : Part → Given → Type 0
 Lacks p g = value_of p g ≡ value_of p nothing_given
 
--- what is given of it is what the entry has
+-- The part is specified as the entry has it.
 abbrev pub Has : Part → Entry → Given → Type 0
 Has p e g = value_of p g ≡ own_value p e
 
--- both give the same of it
+-- Both specify the same for the part.
 abbrev pub Same : Part → Given → Given → Type 0
 Same p g h = value_of p g ≡ value_of p h
 
--- 2. Parts are told apart by their places.
+-- 2. Parts are distinguished by their indices.
 
 abbrev pub place_of : Part → ℕ
 place_of priority = 0
@@ -84,7 +84,7 @@ at_own_place protocol = refl
 at_own_place source_port = refl
 at_own_place destination_port = refl
 
--- two parts are one or they are not
+-- Two parts are equal or distinct.
 pub one_or_not : (p q : Part) → (p ≡ q) ⊎ (p ≢ q)
 one_or_not p q = split_bool (place_of p == place_of q)
     (λ same. inl (sym (at_own_place p) ∙ ap part_at (one_number (place_of p) (place_of q) same) ∙ at_own_place q))
@@ -96,7 +96,7 @@ one_or_not p q = split_bool (place_of p == place_of q)
     own_number : (n m : ℕ) → n ≡ m → (n == m) ≡ true
     own_number n m h = grind (arith, nat_tests)
 
--- 3. One part is given as the entry has it, and no other changes.
+-- 3. One part is specified as the entry has it, and no other part changes.
 
 abbrev pub with_part : Part → Entry → Given → Given
 with_part p e g =
@@ -140,7 +140,7 @@ same_but p q e g apart = by_part q (λ is. apart (sym (at_own_place q) ∙ ap pa
     by_part source_port other = kept (place_of p) 6 (own_value source_port e) g.tp_src other
     by_part destination_port other = kept (place_of p) 7 (own_value destination_port e) g.tp_dst other
 
--- 4. An entry has what is given, and what nothing is given of is unsaid.
+-- 4. An entry has the specified parts, and the defaults of all others.
 
 is_given_or : {A : Type 0} (o : Option A) (other : A) → (o ≡ None → ⊥) → o ≡ Some (unwrap_or o other)
 is_given_or None other given = absurd (given refl)
@@ -166,7 +166,7 @@ unsaid_own protocol g a lacks = lacks
 unsaid_own source_port g a lacks = lacks
 unsaid_own destination_port g a lacks = lacks
 
--- 5. Some parts are given, and no others change.
+-- 5. Some parts are specified, and no others change.
 
 abbrev pub OfEach : (Part → Type 0) → List Part → Type 0
 OfEach Is [] = Unit {0}
@@ -200,7 +200,7 @@ distinct_both (p ∷ ps) qs first second apart =
 abbrev pub IsGiven : Given → Part → Type 0
 IsGiven g p = Lacks p g → ⊥
 
--- a part of which something is given is none of those of which nothing is, and the other way round
+-- A specified part is not among the unspecified ones, and vice versa.
 pub given_is_none : (p : Part) (ps : List Part) (g : Given) → IsGiven g p → OfEach (λ q. Lacks q g) ps → IsNoneOf p ps
 given_is_none p [] g given lack = tt
 given_is_none p (q ∷ ps) g given lack =
@@ -211,7 +211,7 @@ lacking_is_none p [] g lacks given = tt
 lacking_is_none p (q ∷ ps) g lacks given =
     ((λ is. given.0 (subst (λ (x : Part). Lacks x g) is lacks)), lacking_is_none p ps g lacks given.1)
 
--- from g to h these parts are given, and no others change
+-- From g to h these parts are specified, and no others change.
 pub record Gives (g h : Given) (parts : List Part) : Type 0 where
   pub once : AreDistinct parts
   pub free : OfEach (λ p. Lacks p g) parts

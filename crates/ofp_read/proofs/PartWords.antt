@@ -1,4 +1,4 @@
--- The fields about a part, by the part; and the protocols that have names, one by one.
+-- The fields for a part, by the part; and the named protocols, one by one.
 use Rattle.std.proofs.Common.{◌≡◌, ◌⊎◌, inl, inr, ℕ, true, List, sym, ap, ◌∙◌, arith, IsTrue}
 use Rattle.std.specs.Prelude.{codes}
 use Rattle.std.proofs.lemmas.Bool.Decides.{nat_tests}

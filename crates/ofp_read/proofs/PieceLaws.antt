@@ -1,4 +1,4 @@
--- The pieces of a written line, each of whole fields.
+-- The pieces of a formatted line, each of which consists of complete fields.
 use Rattle.std.proofs.Common.{◌≡◌, ℕ, ◌<◌, ◌≤◌, ◌^◌, Bool, true, false, ◌||◌, not, List, [], ◌∷◌, ◌++◌, Option, Some, None, refl, sym, ap, subst, ◌∙◌, arith, inl, inr, append_assoc}
 use Rattle.std.specs.Prelude.{codes, decimal, nat_lt, ◌==◌, if◌then◌else◌}
 use Rattle.std.specs.Char.{is_ascii_digit}
@@ -22,7 +22,7 @@ use Rattle.ofp_read.specs.Grammar.{Part, kind, protocol, is_separator, has_bytes
 use Rattle.ofp_read.proofs.PartWords.{Says, one_named}
 use Rattle.ofp_read.proofs.LineLaws.{apart_from}
 
--- 1. Texts of figures, dots (46) and slashes (47).
+-- 1. Texts of digits, dots (46) and slashes (47).
 
 octet_fits : (a place : ℕ) → octet a place < 2 ^ 64
 unfolding octet
@@ -34,7 +34,7 @@ all-append p (x ∷ xs) ys f g =
     let parts = and_parts (p x) (list_all p xs) f in
     and_from (p x) (list_all p (xs ++ ys)) parts.0 (all-append p xs ys parts.1 g)
 
--- what is true of these bytes is true of every byte of a number, and of a prefix
+-- A property of these bytes is a property of every byte of a number, and of a prefix.
 module _ (p : ℕ → Bool) (of_digit : (b : ℕ) → is_ascii_digit b ≡ true → p b ≡ true) (of_dot : p 46 ≡ true) (of_slash : p 47 ≡ true) where
   digits_all : (bs : List ℕ) → all_ascii_digits bs ≡ true → list_all p bs ≡ true
   digits_all [] h = refl
@@ -64,7 +64,7 @@ module _ (p : ℕ → Bool) (of_digit : (b : ℕ) → is_ascii_digit b ≡ true 
       all-append p (address_text q.addr) (47 ∷ decimal q.len) (address_all q.addr)
       (and_from (p 47) (list_all p (decimal q.len)) of_slash (decimal_all q.len (omega arith)))
 
--- no byte is a comma, a blank or the end of a line
+-- No byte is a comma, a blank or the end of a line.
 abbrev pub is_whole : List ℕ → Bool
 is_whole text = list_all (λ b. not (is_separator b || (b == 10))) text
 
@@ -99,7 +99,7 @@ no_end (b ∷ bs) h =
 
 -- 2. Pieces.
 
--- a text of whole fields that say of these parts what the entry has, each with a comma behind it
+-- A text of complete fields that specify these parts as the entry has them, each followed by a comma.
 pub record IsPiece (e : Entry) (parts : List Part) (text : List ℕ) : Type 0 where
   pub texts : List (List ℕ)
   pub each : EachSays e parts texts
@@ -132,7 +132,7 @@ joined e ps qs xs ys a b = record {
   one_line = lacks-append 10 xs ys a.one_line b.one_line;
 }
 
--- one field
+-- One field.
 field_piece : (e : Entry) (ps : List Part) (b : ℕ) (bs : List ℕ) → is_whole (b ∷ bs) ≡ true → EachSays e ps ((b ∷ bs) ∷ [])
     → IsPiece e ps ((b ∷ bs) ++ codes ",")
 field_piece e ps b bs whole each = record {
@@ -144,7 +144,7 @@ field_piece e ps b bs whole each = record {
   one_line = lacks-append 10 (b ∷ bs) (codes ",") (no_end (b ∷ bs) whole) refl;
 }
 
--- a field that may be given
+-- An optional field.
 abbrev pub if_given : {A : Type 0} → Part → Option A → List Part
 if_given p None = []
 if_given p (Some x) = p ∷ []

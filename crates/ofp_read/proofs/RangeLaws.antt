@@ -1,4 +1,4 @@
--- The numbers of an entry that a line writes have room in a frame.
+-- The numbers of an entry that a line encodes fit a frame.
 use Rattle.std.proofs.Common.{◌≡◌, ◌<◌, ◌^◌, ◌⊎◌, inl, inr, ℕ, true, List, [], ◌∷◌, Option, Some, sym, ap, subst, ◌∙◌, arith}
 use Rattle.std.specs.Prelude.{nat_lt, IsTrue}
 use Rattle.std.proofs.lemmas.Bool.{and_from}
@@ -10,7 +10,7 @@ use Rattle.ofp_read.specs.Grammar.{Part, priority, table, kind, source, destinat
 use Rattle.ofp_read.proofs.PartWords.{Says, IsUnsaid, name_of, IsNamed, named_one}
 use Rattle.ofp_read.proofs.PartLaws.{one_or_not}
 
--- what the entry has of this part has room
+-- The value of this part of the entry fits.
 abbrev Fits : Part → Entry → Type 0
 Fits priority e = nat_lt e.priority (2 ^ 16) ≡ true
 Fits table e = Unit {0}
@@ -36,7 +36,7 @@ named_fits n text (inl (is, e)) = ap (λ m. nat_lt m (2 ^ 8)) is
 named_fits n text (inr (inl (is, e))) = ap (λ m. nat_lt m (2 ^ 8)) is
 named_fits n text (inr (inr (is, e))) = ap (λ m. nat_lt m (2 ^ 8)) is
 
--- of a part of which something is said, or nothing
+-- For a part that is specified, or not.
 said_fits : (p : Part) (e : Entry) (text : List ℕ) → Says p e text → Fits p e
 said_fits priority e text said = number_said (name_of priority) (2 ^ 16) (Some e.priority) text said
 said_fits table e text said = tt

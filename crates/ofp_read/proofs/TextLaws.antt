@@ -1,4 +1,4 @@
--- Laws of one line.
+-- Lemmas on one line.
 use Rattle.std.proofs.Common.{◌≡◌, ℕ, ◌<◌, List, [], ◌∷◌, ◌++◌, length, sym}
 use Rattle.std.specs.Prelude.{Ok, Err, IsTrue}
 use Rattle.text_core.specs.inner.TextAnswers.{HasReason}

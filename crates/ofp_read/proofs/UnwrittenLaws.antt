@@ -1,4 +1,4 @@
--- Why a line writes no entry, said in the format's words, is what the steps find.
+-- The reasons why a line encodes no entry, in terms of the format, agree with the steps of the parser.
 use Rattle.std.proofs.Common.{◌≡◌, inl, inr, ℕ, Bool, true, false, ◌||◌, not, List, [], ◌∷◌, ◌++◌, Option, Some, None, drop, refl, sym, ap, subst, ◌∙◌, append_assoc}
 use Rattle.std.specs.Prelude.{Result, Ok, Err, codes, is_some, if◌then◌else◌, decimal}
 use Rattle.std.specs.Option.{ok_or}
@@ -30,7 +30,7 @@ use Rattle.ofp_read.proofs.FieldsLaws.{goes_on_parts, fields_of_read, with_parts
 use Rattle.ofp_read.proofs.LineLaws.{apart_whole, cut_parts, flow_read, word_of_text, action_said, action_read, is_field, fields_begin, pieces_begin, all_begin, cut_written}
 use Rattle.ofp_read.specs.Unwritten.{IsAbout, by_name, kind_alone, protocol_alone, AreNew, IsBadField, unknown, twice, valueless, HasBadField, IsUnwritten, bad_field, no_action, unknown_action, needs_ip}
 
--- 1. What a field is about.
+-- 1. The parts of a field.
 
 abbrev parts_of : Key → List Part
 parts_of key.Priority = priority ∷ []
@@ -47,7 +47,7 @@ parts_of key.Protocol = protocol ∷ []
 parts_of key.SourcePort = source_port ∷ []
 parts_of key.DestinationPort = destination_port ∷ []
 
--- a field with a key of these parts
+-- A field with a key of these parts.
 record HasKey (text : List ℕ) (parts : List Part) : Type 0 where
   key : Key
   value : List ℕ
@@ -124,7 +124,7 @@ each_about e (p ∷ q ∷ ps) text (one_part says rest) = elim rest [ ]
 each_about e (kind ∷ protocol ∷ []) text (two_parts n ip its says rest) = protocol_alone n says
 each_about e (kind ∷ protocol ∷ p ∷ ps) text (two_parts n ip its says rest) = elim rest [ ]
 
--- 2. What is given of the parts of a key.
+-- 2. The specification of the parts of a key.
 
 abbrev Lack : Given → List Part → Type 0
 Lack g ps = OfEach (λ p. Lacks p g) ps
@@ -178,9 +178,9 @@ distinct_key key.Protocol = (tt, tt)
 distinct_key key.SourcePort = (tt, tt)
 distinct_key key.DestinationPort = (tt, tt)
 
--- 3. What is said is given, and nothing else.
+-- 3. The parts that are specified are those in the list, and no others.
 
--- the entry has nothing of the part
+-- The entry has no value for the part.
 abbrev HasNone : Part → Entry → Type 0
 HasNone p e = own_value p e ≡ value_of p nothing_given
 
@@ -234,7 +234,7 @@ lack_new : (e : Entry) (said : List Part) (texts : List (List ℕ)) (ps : List P
 lack_new e said texts [] each lack = tt
 lack_new e said texts (p ∷ ps) each lack = (lacks_new e said texts p each lack.0, lack_new e said texts ps each lack.1)
 
--- 4. A field is bad exactly where its step refuses it.
+-- 4. A field is bad if and only if its step rejects it.
 
 some_key : (k j : Key) (v u : List ℕ) → ◌≡◌ {A = Option (Key × List ℕ)} (Some (k, v)) (Some (j, u)) → k ≡ j
 some_key k j v u h = let e : ◌≡◌ {A = Key × List ℕ} (k, v) (j, u) = cc in ap (λ (p : Key × List ℕ). p.0) e
@@ -292,7 +292,7 @@ valued h now text read =
       step.says (entry_of now actions.Drop) (of_each (IsGiven now) (λ p. Has p (entry_of now actions.Drop) now) step.parts (λ p given. has_own p now actions.Drop given) step.gives.given) [] [] no_field,
     )
 
--- what is refused for no value is refused for that
+-- If every value is rejected, the reason is the value.
 by_value : (h : Given) (k : Key) (value : List ℕ) (o : Option Given) → with_value h k value ≡ o → is_given h k ≡ false → (o ≡ None)
     → with_key h (Some (k, value)) ≡ Err BadValue
 by_value h k value o is free none = ap (λ t. if t then Err BadLine else ok_or (with_value h k value) BadValue) free ∙ ap (λ v. ok_or v BadValue) (is ∙ none)
@@ -324,7 +324,7 @@ step_refuses e said texts text why each (valueless parts about new none) =
         let says = valued (with_parts said e nothing_given) now text read in
         absurd (none says.0 says.1 says.2)
 
--- 5. Fields, of which one is bad.
+-- 5. Fields, one of which is bad.
 
 record StopsAt (g : Given) (texts : List (List ℕ)) (why : OfpWhy) : Type 0 where
   front : List (List ℕ)
@@ -370,7 +370,7 @@ given_by : (e : Entry) (texts : List (List ℕ)) (of_fields : AreFieldsOf e text
     → with_fields nothing_given texts ≡ Ok (with_parts of_fields.parts e nothing_given)
 given_by e texts of_fields = read_of_each e of_fields.parts texts nothing_given of_fields.each of_fields.once (all_free of_fields.parts)
 
--- the first of these fields that cannot follow those before it
+-- The first of these fields that cannot follow the fields before it.
 record HasBadOf (texts : List (List ℕ)) (why : OfpWhy) : Type 0 where
   front : List (List ℕ)
   here : List ℕ
@@ -451,7 +451,7 @@ bad_of_line line why bad = record {
   bad = bad.bad;
 }
 
--- the bad field of a line that has an action stands in front of it
+-- The bad field of a line with an action precedes the action.
 bad_in_front : (line front rest : List ℕ) (why : OfpWhy) → cut_action true line ≡ Some (front, rest) → HasBadField line why
     → HasBadOf (fields front) why
 bad_in_front line front rest why cut bad =
@@ -470,7 +470,7 @@ bad_in_front line front rest why cut bad =
       bad = bad.bad;
     }
 
--- a line is cut behind the fields of an entry, where an action begins there
+-- A line is split after the fields of an entry, if an action begins there.
 cut_behind : (e : Entry) (line front rest : List ℕ) → line ≡ front ++ rest → ends_apart front ≡ true → AreFieldsOf e (fields front)
     → begins_action rest ≡ true → cut_action true line ≡ Some (front, rest)
 cut_behind e line front rest whole apart of_fields begins =
@@ -482,7 +482,7 @@ cut_behind e line front rest whole apart of_fields begins =
 some_cut : (p q : List ℕ × List ℕ) → Some p ≡ Some q → p ≡ q
 some_cut p q h = cc
 
--- without an action the line is the flow of no entry
+-- Without an action the line is the flow of no entry.
 no_flow : (line front rest : List ℕ) (e : Entry) → cut_action true line ≡ Some (front, rest) → action_of (words rest) ≡ None → HasFlow line e → ⊥
 no_flow line front rest e cut is flow =
     let read = action_read e.action flow.action flow.blanks flow.of_action flow.blank in
@@ -552,7 +552,7 @@ bad_refused line why (Some (front, rest)) cut bad =
     ap (λ r. goes_on r (λ h. with_action h (action_of (words rest))))
     (refused_fields (fields front) why (bad_in_front line front rest why cut bad))
 
--- a line whose fields are all of an entry has no action
+-- A line that consists only of fields of an entry has no action.
 no_action_refused : (line : List ℕ) (e : Entry) (o : Option (List ℕ × List ℕ)) → cut_action true line ≡ o → AreFieldsOf e (fields line)
     → flow_by line o ≡ Err BadLine
 no_action_refused line e None cut of_fields =

@@ -1,4 +1,4 @@
--- The line that is written of an entry writes it.
+-- The formatted line of an entry encodes it.
 use Rattle.std.proofs.Common.{◌≡◌, ℕ, ◌+◌, ◌<◌, ◌≤◌, ◌^◌, Bool, true, false, ◌||◌, not, List, [], ◌∷◌, ◌++◌, Option, Some, None, is_some, refl, sym, ap, subst, ◌∙◌, arith, inl, append-nil, append_assoc}
 use Rattle.std.specs.Prelude.{codes, decimal, nat_lt, ◌==◌, if◌then◌else◌, IsTrue}
 use Rattle.std.specs.List.{onto_first}
@@ -55,7 +55,7 @@ front_piece e fits =
     small : (n : ℕ) → n < 2 ^ 16 → nat_lt n (2 ^ 16) ≡ true
     small n h = grind (arith, nat_tests)
 
--- 2. No part is given twice: their places ascend.
+-- 2. No part is specified twice: their indices ascend.
 
 abbrev Ascend : ℕ → List Part → Type 0
 Ascend n [] = Unit {0}
@@ -103,7 +103,7 @@ parts_distinct e =
           (ascend_last 7 destination_port e.tp_dst (omega arith))))),
     )
 
--- 3. What is not given is unsaid.
+-- 3. A part without a field has its default.
 
 no_kind : (k : FrameKind) (o : Option ℕ) (rest : List Part) → IsNoneOf kind (kind_parts k o ++ rest) → k ≡ frames.Any
 no_kind frames.Any o rest none = refl
@@ -117,7 +117,7 @@ unasked true b (Some n) h = cc
 unasked false true (Some n) h = cc
 unasked false false (Some n) h = cc
 
--- only entries for IPv4 frames have a protocol
+-- Only entries for IPv4 frames have a protocol.
 no_protocol : (k : FrameKind) (a b : Bool) (o : Option ℕ) (rest : List Part) → kind_asks k (a || (b || is_some o)) ≡ true
     → IsNoneOf protocol (kind_parts k o ++ rest) → o ≡ None
 no_protocol frames.Any a b o rest asks none = unasked a b o asks
@@ -193,7 +193,7 @@ bare_writes e fits asks =
       asks,
     )
 
--- 5. No line ends in it, and it is no comment.
+-- 5. The line contains no line end, and it is no comment.
 
 action_lacks : (a : Action) → lacks 10 (action_text a) ≡ true
 action_lacks Normal = refl

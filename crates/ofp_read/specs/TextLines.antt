@@ -1,4 +1,4 @@
--- The text of a flow table: why a line cannot stand where it stands, and which entries a text has.
+-- The format of a flow file: the entries that it defines, and the reasons why a line is rejected.
 use Rattle.std.specs.Prelude.{◌≡◌, ◌<◌, ◌≤◌, ℕ, List, [], Some, length, slice_get}
 use Rattle.text_core.specs.TextByLines.{TextByLines, IsReading as IsReadingOf, HasFault as HasFaultOf}
 use Rattle.ofp_rules.specs.declared.entry.Entry.{Entry}
@@ -8,14 +8,15 @@ use Rattle.ofp_read.specs.declared.fault.OfpWhy.TheVariants.{TooLong, TooMany, A
 use Rattle.ofp_read.specs.Grammar.{Writes, AddsEntry}
 use Rattle.ofp_read.specs.Unwritten.{IsUnwritten}
 
--- why a line adds no entry to those before it: it writes none, or they are 8,192, or one of them contradicts what it writes
+-- The reason why a line adds no entry to the preceding ones: it encodes none, or there are 8,192 already, or its entry conflicts with one
+-- of them.
 pub data IsBad (before : List Entry) (line : List ℕ) : OfpWhy → Type 0 where
   unwritten : {why : OfpWhy} → IsUnwritten line why → IsBad before line why
   too_many : (e : Entry) → Writes line e → most_entries ≤ length before → IsBad before line TooMany
   ambiguous : (e f : Entry) (place : ℕ) → Writes line e → length before < most_entries → slice_get before place ≡ Some f
       → Contradict f e → IsBad before line Ambiguous
 
--- a text of flows, line by line: it says entries, and may end behind any of them
+-- A flow file as a line-oriented format: it defines entries, and may end after any line.
 abbrev pub flows_text : TextByLines (List Entry) OfpWhy
 flows_text = record {
   byte_limit = 67108864;
@@ -27,9 +28,10 @@ flows_text = record {
   EndsBadly = λ n entries line why. ⊥;
 }
 
--- the reading of a text, and its first fault
+-- The parse result of a file.
 abbrev pub IsReading : List ℕ → List Entry → Type 0
 IsReading = IsReadingOf flows_text
 
+-- The first error of a file.
 abbrev pub HasFault : List ℕ → ℕ → OfpWhy → Type 0
 HasFault = HasFaultOf flows_text

@@ -1,4 +1,4 @@
--- Why a line writes no entry (ovs-ofctl(8), "Flow Syntax").
+-- The reasons why a line encodes no entry (ovs-ofctl(8), "Flow Syntax").
 use Rattle.std.specs.Prelude.{◌≡◌, ◌≢◌, ◌⊎◌, ℕ, IsTrue, IsFalse, List, [], ◌∷◌, ◌++◌, codes}
 use Rattle.std.specs.List.{AllByRecursion}
 use Rattle.host_net.specs.Service.{has_name}
@@ -9,25 +9,26 @@ use Rattle.ofp_read.specs.declared.fault.OfpWhy.{OfpWhy}
 use Rattle.ofp_read.specs.declared.fault.OfpWhy.TheVariants.{BadLine, UnknownField, BadValue, NeedsIp, UnknownAction}
 use Rattle.ofp_read.specs.Grammar.{Part, kind, protocol, about, fields, EachSays, IsNoneOf, AreFieldsOf, ends_apart, HasFlow}
 
--- a field is about these parts, whatever its value: it has their name, or is a name that stands alone
+-- A field specifies these parts, regardless of its value: it begins with their name, or it is a name without a value.
 pub data IsAbout : List Part → List ℕ → Type 0 where
   by_name : {text : List ℕ} (part : Part) (value : List ℕ) → text ≡ (about part).name ++ value → IsAbout (part ∷ []) text
   kind_alone : {text : List ℕ} → (text ≡ codes "ip") ⊎ (text ≡ codes "arp") → IsAbout (kind ∷ []) text
   protocol_alone : {text : List ℕ} (proto : ℕ) → IsTrue (has_name proto) × (text ≡ protocol_text proto) → IsAbout (kind ∷ protocol ∷ []) text
 
--- none of the parts is one of those that are said
+-- None of the parts is specified already.
 abbrev pub AreNew : List Part → List Part → Type 0
 AreNew parts said = AllByRecursion (λ part. IsNoneOf part said) parts
 
--- why a field cannot follow others that say these parts: it is about no part; or about one that is said; or it is about others, and
--- no entry has such a field
+-- The reason why a field cannot follow others that specify the parts `said`: it specifies no part; or a part that is specified already; or
+-- its parts are new, but its value is invalid for every entry.
 pub data IsBadField (said : List Part) (text : List ℕ) : OfpWhy → Type 0 where
   unknown : ((parts : List Part) → IsAbout parts text → ⊥) → IsBadField said text UnknownField
   twice : (parts : List Part) → IsAbout parts text → (AreNew parts said → ⊥) → IsBadField said text BadLine
   valueless : (parts : List Part) → IsAbout parts text → AreNew parts said
       → ((e : Entry) (ps : List Part) → EachSays e ps (text ∷ []) → ⊥) → IsBadField said text BadValue
 
--- the first field of a line that cannot follow those before it: these are fields of an entry, and it is no action
+-- The first field of a line that cannot follow the fields before it: these are fields of an entry, and it is not an
+-- action.
 pub record HasBadField (line : List ℕ) (why : OfpWhy) : Type 0 where
   pub front : List (List ℕ)
   pub here : List ℕ
@@ -38,8 +39,8 @@ pub record HasBadField (line : List ℕ) (why : OfpWhy) : Type 0 where
   pub no_action : (value : List ℕ) → here ≢ codes "actions=" ++ value
   pub bad : IsBadField of_fields.parts here why
 
--- a line writes no entry: a field in front of its action is bad; or none is, and it has no action; or it has one, and is the flow of no
--- entry; or the entry asks of frames what not all of them have
+-- The reason why a line encodes no entry: a field before its action is bad; or no field is bad, and it has no action; or it has an action,
+-- but is the flow of no entry; or the entry matches on fields that not all its frames have.
 pub data IsUnwritten (line : List ℕ) : OfpWhy → Type 0 where
   bad_field : {why : OfpWhy} → HasBadField line why → IsUnwritten line why
   no_action : (e : Entry) → AreFieldsOf e (fields line) → IsUnwritten line BadLine

@@ -63,7 +63,7 @@ fn key_alone(name: &[u8]) -> Option<Key>
     None
 }
 
-/// The key of a field, and its value where it has one.
+/// Returns the key of a field, and its value if it has one.
 #[tactic(auto, unfolding(crate::specs::inner::FieldTable::key_of))]
 fn key_of(text: &[u8]) -> Option<(Key, &[u8])>
     ensures { option_map (λ field. (field.0, field.1.now)) result ≡ key_of text.now }
@@ -125,7 +125,7 @@ fn with_table(given: Given, value: &[u8]) -> Option<Given>
     }
 }
 
-/// What is given with IPv4 frames of a protocol.
+/// Returns the partial entry with IPv4 frames of a protocol.
 fn of_protocol(given: Given, proto: u8) -> Given
     ensures { result ≡ of_protocol given proto }
 {
@@ -136,7 +136,7 @@ fn of_protocol(given: Given, proto: u8) -> Given
     }
 }
 
-/// What is given with the value of a field, or None where it is none of its values.
+/// Returns the partial entry with the value of a field, or `None` if the value is invalid.
 #[tactic(auto, unfolding(crate::specs::inner::FieldTable::with_value))]
 fn with_value(given: Given, key: Key, value: &[u8]) -> Option<Given>
     ensures { result ≡ with_value given key value.now }
@@ -176,7 +176,7 @@ fn with_value(given: Given, key: Key, value: &[u8]) -> Option<Given>
     }
 }
 
-/// One field more: its name is checked first, then whether it stood already, then its value.
+/// Adds a field: its name is checked first, then repetition, then its value.
 pub(crate) fn with_field(given: Given, text: &[u8]) -> Result<Given, OfpWhy>
     ensures { result ≡ with_field given text.now }
 {

@@ -1,9 +1,9 @@
-//! The fields of a flow line, and what they gave.
+//! The fields of a flow line, and the partial entry that they yield.
 
 use host_net::Prefix;
 use ofp_rules::FrameKind;
 
-/// What a field is, by its name.
+/// The key of a field, by its name.
 #[derive(Clone, Copy, Debug, PartialEq, Eq)]
 pub(crate) enum Key {
     Priority,
@@ -21,7 +21,7 @@ pub(crate) enum Key {
     DestinationPort,
 }
 
-/// What the fields in front gave: the parts of the entry, and whether the table was named.
+/// The partial entry that the fields so far yield, and whether the table was specified.
 #[derive(Clone, Copy)]
 pub(crate) struct Given {
     pub(crate) priority: Option<u16>,

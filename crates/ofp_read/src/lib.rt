@@ -1,4 +1,4 @@
-//! Reading texts of flow tables, as `ovs-ofctl` takes them.
+//! A parser for flow files in the syntax of `ovs-ofctl`.
 #![tactic(auto)]
 
 mod fault;

@@ -1,4 +1,4 @@
-//! One flow line: its fields, its action, and the entry that they write.
+//! One flow line: its fields, its action, and the entry that they encode.
 
 ghost use Rattle.std.specs.Prelude.{◌≡◌, true, false, Option, List, ℕ};
 ghost use Rattle.std.specs.Option.{option_map, option_map_or};
@@ -41,7 +41,7 @@ fn has_bytes(text: &[u8]) -> bool
     }
 }
 
-/// What the fields of a text give, from left to right.
+/// Returns the partial entry of the fields of a line, from left to right.
 fn read_fields(text: &[u8]) -> Result<Given, OfpWhy>
     ensures { result ≡ with_fields nothing_given (fields text.now) }
 {
@@ -61,7 +61,7 @@ fn begins_action(text: &[u8]) -> bool
     text.starts_with(b"actions=")
 }
 
-/// The text in front of the first `actions=` that begins a field, and the text from there on.
+/// Returns the text before the first `actions=` that begins a field, and the text from there on.
 fn cut_action(line: &[u8]) -> Option<(&[u8], &[u8])>
     ensures { option_map (λ parts. (parts.0.now, parts.1.now)) result ≡ cut_action true line.now }
 {
@@ -76,7 +76,7 @@ fn cut_action(line: &[u8]) -> Option<(&[u8], &[u8])>
     None
 }
 
-/// The action of a text that is one word of those that begin with `actions=`.
+/// Returns the action of a text that consists of one known token beginning with `actions=`.
 fn read_action(text: &[u8]) -> Option<Action>
     ensures { result ≡ action_of (words text.now) }
 {
@@ -123,8 +123,8 @@ fn with_action(given: Given, action: Option<Action>) -> Result<Entry, OfpWhy>
     }
 }
 
-/// Whether it asks of frames only what they all have: addresses and a protocol of IPv4 frames,
-/// and ports of a protocol that has them.
+/// Whether the entry matches only on fields that its frames have: addresses and a protocol only for
+/// IPv4 frames, and ports only for a protocol with ports.
 fn asks_of_ip(entry: Entry) -> bool
     ensures { result ≡ asks_of_ip entry }
 {
@@ -139,7 +139,7 @@ fn has_ports(proto: Option<u8>) -> bool
     matches!(proto, Some(6 | 17))
 }
 
-/// The entry that a line writes. Its fields are checked from left to right, then its action.
+/// Parses the entry of a line. Its fields are checked from left to right, then its action.
 #[tactic(auto, unfolding(crate::specs::inner::FlowLine::flow_of))]
 pub(crate) fn read_flow(line: &[u8]) -> Result<Entry, OfpWhy>
     ensures { result ≡ flow_of line.now }

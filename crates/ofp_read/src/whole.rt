@@ -1,4 +1,4 @@
-//! Reading a text as a flow table.
+//! Parsing a file as a flow table.
 
 ghost use Rattle.std.specs.Prelude.{◌≡◌, ◌<◌, ◌+◌, ◌∷◌, [], ◌++◌, ℕ, List, Ok, Err, IfOk, IfErr, MatchResult, length, IsTrue};
 ghost use Rattle.text_core.specs.inner.TextAnswers.{HasCause, HasReason, IsFault};
@@ -17,25 +17,25 @@ use ofp_rules::{Entry, Table, TableRefusal};
 use std::alloc::Global;
 use text_core::{LineFault, LineReader, TextFault, read_lines};
 
-/// How many bytes a text may have.
+/// The greatest size of a file, in bytes.
 pub const BYTE_LIMIT: usize = 67_108_864;
 
-/// The flow table that a text writes.
+/// Parses a flow table.
 pub fn read(alloc: Global, bytes: &[u8]) -> Result<Table, OfpFault>
     ensures found { IfOk result (IsReading bytes.now) }
-    // A text that has a reading is refused for want of memory alone.
+    // A file that has a parse result is rejected only if allocation fails.
     ensures only { (entries : List Entry) → IsReading bytes.now entries →
         MatchResult result (λ table. table ≡ entries) (λ fault. fault ≡ TextFault.Memory) }
     ensures refused { IfErr result (HasCause flows_text bytes.now) }
-    // A text has one first fault at most, and none where it has a reading.
+    // A file has at most one first error, and none if it has a parse result.
     ensures faulty { (line : ℕ) (why : OfpWhy) → HasFault bytes.now line why →
         MatchResult result (λ table. ⊥) (IsFault line why) }
-    // The text of a table has its entries as its reading.
+    // The text of a table parses to its entries.
     ensures written { (entries : List Entry) → IsTable entries → bytes.now ≡ text entries → IsReading bytes.now entries }
-    // What is written of a table is read again.
+    // A formatted table is parsed back.
     ensures again { (entries : List Entry) → IsTable entries → bytes.now ≡ text entries →
         MatchResult result (λ table. table ≡ entries) (λ fault. fault ≡ TextFault.Memory) }
-    // The table that is read is one in which each frame has one verdict.
+    // In the returned table each frame has one verdict.
     ensures table { IfOk result IsTable }
 {
     let Ok(table) = Table::new(alloc) else {
@@ -47,7 +47,7 @@ pub fn read(alloc: Global, bytes: &[u8]) -> Result<Table, OfpFault>
     }
 }
 
-/// The entries that the lines so far wrote.
+/// The entries of the lines so far.
 #[derive(Drop)]
 struct FlowReader {
     table: Table,
@@ -77,7 +77,7 @@ impl LineReader for FlowReader {
     }
 }
 
-/// The entries with one more.
+/// Returns the entries with one more.
 #[tactic(auto, using(ofp_rules::proofs::AddingLaws::contradicts_none, ofp_rules::proofs::AddingLaws::fewer_than_most))]
 fn with_entry(mut table: Table, entry: Entry) -> Result<FlowReader, LineFault<OfpWhy>>
     requires { IsTrue (asks_of_ip entry) }

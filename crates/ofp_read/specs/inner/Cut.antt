@@ -1,4 +1,4 @@
--- Where the reader ends the fields of a flow line, and begins its action. Callers see none of it; they have `Grammar` and `Unwritten`.
+-- The position at which the parser splits a flow line into fields and action. Callers do not see this; they use `Grammar` and `Unwritten`.
 use Rattle.std.specs.Prelude.{ℕ, Bool, ◌&&◌, if◌then◌else◌, List, [], ◌∷◌, Option, Some, None, codes, bytes_eq, take}
 use Rattle.std.specs.Option.{option_map}
 use Rattle.ofp_read.specs.Grammar.{is_separator}
@@ -6,7 +6,7 @@ use Rattle.ofp_read.specs.Grammar.{is_separator}
 abbrev pub begins_action : List ℕ → Bool
 begins_action text = bytes_eq (take 8 text) (codes "actions=")
 
--- the text in front of the first `actions=` that begins a field, and the text from there on; whether a field may begin here
+-- The text before the first `actions=` that begins a field, and the text from there on; `begins` states whether a field may begin here.
 abbrev pub cut_action : Bool → List ℕ → Option (List ℕ × List ℕ)
 cut_action begins [] = None
 cut_action begins (b ∷ bs) =

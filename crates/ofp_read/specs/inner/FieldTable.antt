@@ -1,5 +1,5 @@
--- The fields of a flow line, as a table: how each is named, whether it stood already, and what its value says
--- (ovs-ofctl(8), "Flow Syntax"; ovs-fields(7)), as the reader reads them. Callers see none of it; they have `Grammar` and `Unwritten`.
+-- The fields of a flow line, as the table of the parser: their names, whether a field is repeated, and the meaning of a value
+-- (ovs-ofctl(8), "Flow Syntax"; ovs-fields(7)). Callers do not see this; they use `Grammar` and `Unwritten`.
 use Rattle.std.specs.Prelude.{ℕ, Bool, true, if◌then◌else◌, List, [], ◌∷◌, ◌||◌, Option, Some, None, Result, Err, is_some, codes, bytes_eq}
 use Rattle.std.specs.Map.{lookup}
 use Rattle.std.specs.Option.{option_map, ok_or}
@@ -15,7 +15,7 @@ use Rattle.ofp_read.specs.declared.given.Key.{Key}
 use Rattle.ofp_read.specs.declared.given.Key.TheVariants.{Priority, Table, Ip, Arp, Icmp, Tcp, Udp, FrameType, Source, Destination, Protocol, SourcePort, DestinationPort}
 use Rattle.ofp_read.specs.declared.given.Given.{Given}
 
--- 1. How it is named: the name ends at the first `=` (61), and some names stand without one.
+-- 1. Names: a name ends at the first `=` (61), and some names have no value.
 
 abbrev pub keys_with_value : List (List ℕ × Key)
 keys_with_value =
@@ -31,7 +31,7 @@ keys_alone = (codes "ip", Ip) ∷ (codes "arp", Arp) ∷ (codes "icmp", Icmp) �
 unfoldable pub key_alone : List ℕ → Option Key
 key_alone name = lookup (bytes_eq name) keys_alone
 
--- the key of a field and its value, where its first `=` cuts it
+-- The key of a field and its value, split at the first `=`.
 abbrev pub key_by : List ℕ → Option (List ℕ × List ℕ) → Option (Key × List ℕ)
 key_by text None = option_map (λ key. (key, [])) (key_alone text)
 key_by text (Some parts) = option_map (λ key. (key, parts.1)) (key_with_value parts.0)
@@ -39,7 +39,7 @@ key_by text (Some parts) = option_map (λ key. (key, parts.1)) (key_with_value p
 unfoldable pub key_of : List ℕ → Option (Key × List ℕ)
 key_of text = key_by text (split_once 61 text)
 
--- 2. Whether it stood already: there is one frame kind, and one protocol, which some frame kinds give.
+-- 2. Repetition: there is one frame kind, and one protocol, which some frame kinds imply.
 
 abbrev pub is_given : Given → Key → Bool
 is_given given Priority = is_some given.priority
@@ -56,7 +56,7 @@ is_given given Protocol = is_some given.proto
 is_given given SourcePort = is_some given.tp_src
 is_given given DestinationPort = is_some given.tp_dst
 
--- 3. What its value says.
+-- 3. The meaning of a value.
 
 abbrev pub frame_types : List (List ℕ × FrameKind)
 frame_types =
@@ -65,11 +65,11 @@ frame_types =
 unfoldable pub frame_type : List ℕ → Option FrameKind
 frame_type value = lookup (bytes_eq value) frame_types
 
--- there is only table 0
+-- The only table is 0.
 abbrev pub with_table : Given → List ℕ → Option Given
 with_table given value = if bytes_eq value (codes "0") then Some (record given { table = true }) else None
 
--- IPv4 frames of a protocol
+-- IPv4 frames of a protocol.
 abbrev pub of_protocol : Given → ℕ → Given
 of_protocol given proto = record given { kind = Some IpFrames; proto = Some proto }
 
@@ -88,7 +88,7 @@ with_value given Protocol value = option_map (λ n. record given { proto = Some 
 with_value given SourcePort value = option_map (λ n. record given { tp_src = Some n }) (number last_port value)
 with_value given DestinationPort value = option_map (λ n. record given { tp_dst = Some n }) (number last_port value)
 
--- 4. One field more: its name, then whether it stood already, then its value.
+-- 4. Adding a field: its name is checked first, then repetition, then its value.
 
 abbrev pub with_key : Given → Option (Key × List ℕ) → Result Given OfpWhy
 with_key given None = Err UnknownField

@@ -1,5 +1,5 @@
--- A flow line as the reader goes through it, from left to right: the entry that it writes, or why it writes none. Callers see none
--- of it; they have `Grammar` and `Unwritten`.
+-- Parsing a flow line from left to right: the entry that it encodes, or the reason why it encodes none. Callers do not see this; they use
+-- `Grammar` and `Unwritten`.
 use Rattle.std.specs.Prelude.{ℕ, true, false, if◌then◌else◌, List, [], ◌∷◌, Option, Some, None, Result, Ok, Err, codes, bytes_eq, unwrap_or}
 use Rattle.std.specs.Map.{lookup}
 use Rattle.text_core.specs.Lines.{words}
@@ -15,7 +15,7 @@ use Rattle.ofp_read.specs.inner.FieldTable.{with_field}
 use Rattle.ofp_read.specs.inner.Cut.{cut_action}
 use Rattle.ofp_read.specs.Grammar.{fields}
 
--- a step, and what follows where it gave something
+-- A step, and the continuation if the step succeeds.
 abbrev pub goes_on : {A B : Type 0} → Result A OfpWhy → (A → Result B OfpWhy) → Result B OfpWhy
 goes_on (Ok x) f = f x
 goes_on (Err why) f = Err why
@@ -23,7 +23,7 @@ goes_on (Err why) f = Err why
 abbrev pub nothing_given : Given
 nothing_given = record { priority = None; table = false; kind = None; src = None; dst = None; proto = None; tp_src = None; tp_dst = None }
 
--- the fields from left to right
+-- The fields from left to right.
 abbrev pub with_fields : Given → List (List ℕ) → Result Given OfpWhy
 with_fields given [] = Ok given
 with_fields given (text ∷ texts) = goes_on (with_field given text) (λ now. with_fields now texts)
@@ -31,12 +31,12 @@ with_fields given (text ∷ texts) = goes_on (with_field given text) (λ now. wi
 abbrev pub actions : List (List ℕ × Action)
 actions = (codes "actions=NORMAL", Normal) ∷ (codes "actions=normal", Normal) ∷ (codes "actions=drop", Drop) ∷ []
 
--- the action: one word, with nothing but blanks behind it
+-- The action: one token, followed only by blanks.
 abbrev pub action_of : List (List ℕ) → Option Action
 action_of (word ∷ []) = lookup (bytes_eq word) actions
 action_of _ = None
 
--- the entry of what fields give: where none gives a priority it is 32768, and where none gives a kind it is any frame
+-- The entry of the parsed fields. The default priority is 32768, and the default kind is any frame.
 abbrev pub entry_of : Given → Action → Entry
 entry_of given action =
     record {
@@ -59,6 +59,6 @@ flow_by line None = goes_on (with_fields nothing_given (fields line)) (λ given.
 flow_by line (Some parts) =
     goes_on (with_fields nothing_given (fields parts.0)) (λ given. with_action given (action_of (words parts.1)))
 
--- the fields, then the action, then whether what is asked of frames is what they all have
+-- The fields, then the action, then the check that the entry matches only on fields that its frames have.
 unfoldable pub flow_of : List ℕ → Result Entry OfpWhy
 flow_of line = flow_by line (cut_action true line)

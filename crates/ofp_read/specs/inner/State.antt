@@ -1,4 +1,4 @@
--- Why an entry is not added, as contracts of private steps say it. Callers see none of it.
+-- The reasons why an entry is not added, for the contracts of private calls. Callers do not see this.
 use Rattle.std.specs.Prelude.{◌≡◌, ◌<◌, ◌≤◌, ℕ, List, length, slice_get, Some}
 use Rattle.ofp_rules.specs.declared.entry.Entry.{Entry}
 use Rattle.ofp_rules.specs.Ambiguity.{Contradict, most_entries}
