@@ -1,4 +1,4 @@
--- What the rules that let packets of a host pass to another, or from it, say of a packet.
+-- The verdicts of the rules that accept packets from a host to another, or in the reverse direction.
 use Rattle.std.proofs.Common.{◌≡◌, ℕ, Bool, true, false, not, ◌&&◌, ◌||◌, List, [], ◌∷◌, Option, Some, None, map, refl, sym, ap, subst, ◌∙◌}
 use Rattle.std.specs.Prelude.{if◌then◌else◌}
 use Rattle.std.specs.List.{list_any}
@@ -31,9 +31,9 @@ use Rattle.emit_core.specs.Sides.{links, other_side, services_on}
 abbrev pub pass : Bool → Option Verdict
 pass b = if b then Some Forwarded else None
 
--- 1. Rules that say the same of each service.
+-- 1. Rules with the same verdict for each service.
 
--- rules that say nothing, be the address in the prefix or not
+-- Rules without a verdict, regardless of whether the address is in the prefix.
 pub none_within : (w : Bool) → None ≡ (if w then pass false else None)
 none_within true = refl
 none_within false = refl
@@ -104,7 +104,7 @@ both_say true true y = refl
 both_say true false y = refl
 both_say false x y = refl
 
--- the answers that are left out pass anyway
+-- The answers that are omitted pass anyway.
 left_out : (b c z : Bool) (ss : List Service) (packet : Packet)
     → ((b && is_served ss packet) || ((c && not (b && is_whole ss)) && z)) ≡ ((b && is_served ss packet) || (c && z))
 left_out true c z [] packet = refl
@@ -115,7 +115,8 @@ left_out true false z (s ∷ ss) packet = refl
 left_out false true z (s ∷ ss) packet = refl
 left_out false false z (s ∷ ss) packet = refl
 
--- packets of the flow by its services pass, and on established connections those that answer a packet of the reversed flow by its services
+-- The packets that pass: packets of the flow by its services, and on established connections those that answer a packet of the reversed
+-- flow by its services.
 abbrev pub may_link : Side → Site → List Flow → List Flow → Packet → Bool → ℕ → ℕ → Bool
 may_link side site p s packet established i j =
     (links side p i j && is_served (services_on side site.services i j) packet)

@@ -1,4 +1,4 @@
--- How many rules the chains of a layout have: few enough for a number of 32 bits, and counted as the chains come.
+-- The number of rules of the chains of a layout: it fits 32 bits, and it is counted while the chains are added.
 use Rattle.std.proofs.Common.{◌≡◌, ℕ, zero, suc, ◌+◌, ◌*◌, ◌<◌, ◌≤◌, ◌^◌, List, [], ◌∷◌, ◌++◌, None, length, map, ap, sym, ◌∙◌, arith}
 use Rattle.std.specs.List.{range_with_len}
 use Rattle.std.proofs.lemmas.List.FromFn.{map-range_with_len_more}
@@ -16,14 +16,14 @@ use Rattle.emit_core.proofs.FewRulesLaws.{few_host_rules}
 use Rattle.emit_core.proofs.LayoutLaws.{few_forward_rules}
 use Rattle.emit_core.specs.inner.Filling.{AreCounted, chains_up_to}
 
--- 1. Few in all chains.
+-- 1. The number of rules of all chains.
 
 few_host_chains : (site : Site) (p s : List Flow) (k n : ℕ) → IsSite site
     → rule_count (map (host_chain site p s) (range_with_len k n)) ≤ n * 33825
 few_host_chains site p s k zero is = omega arith
 few_host_chains site p s k (suc n) is = omega (arith, few_host_rules Sending site p s k is, few_host_chains site p s (k + 1) n is)
 
--- the chains up to that of the n-th host have so few rules that a number of 32 bits holds their count
+-- The number of rules of the chains up to that of the n-th host fits 32 bits.
 few_rules : (site : Site) (p s : List Flow) (n : ℕ) → IsSite site → n ≤ 256 → rule_count (chains_up_to site p s n) ≤ 8660225
 few_rules site p s n is most =
     let few = is.hosts.few_prefixes in
@@ -31,7 +31,7 @@ few_rules site p s n is most =
 
 -- 2. The count so far.
 
--- the chains up to that of the n-th host, and one more
+-- The chains up to that of the n-th host, and one more.
 next_chain : (site : Site) (p s : List Flow) (n : ℕ) → chains_up_to site p s (n + 1) ≡ chains_up_to site p s n ++ host_chain site p s n ∷ []
 next_chain site p s n =
     ap (λ (x : List Chain). chains_up_to site p s 0 ++ x) (map-range_with_len_more (host_chain site p s) 0 n n (omega arith))
@@ -47,14 +47,14 @@ next_count site p s n count more before all =
       rule_count-append (chains_up_to site p s n) (host_chain site p s n ∷ []),
     )
 
--- the count with the rules of one more host
+-- The count after the rules of one more host.
 pub next_fits : (site : Site) (p s : List Flow) (n count more : ℕ) → IsSite site → n < length site.hosts
     → count ≡ rule_count (chains_up_to site p s n) → more ≡ length (host_rules Sending site p s n) → count + more < 2 ^ 32
 next_fits site p s n count more is below before all =
     let few = is.hosts.few in
     omega (arith, next_count site p s n count more before all, few_rules site p s (n + 1) is (omega (arith, few, below)))
 
--- 3. Chains that are kept while they are few.
+-- 3. Chains that are stored while the count is within the limit.
 
 pub entries_counted : (site : Site) (p s : List Flow) (chains : List Chain) (count : ℕ) → chains ≡ entry_chains site.hosts
     → count ≡ length (forward_rules site.hosts) → AreCounted (chains_up_to site p s 0) chains count

@@ -1,4 +1,4 @@
--- What stands among entries that are written one after another.
+-- Members of lists of entries that are built by concatenation.
 use Rattle.std.proofs.Common.{◌≡◌, inl, inr, ℕ, zero, suc, ◌+◌, Bool, true, List, [], ◌∷◌, Some, refl, ap, subst, ◌∙◌, arith}
 use Rattle.std.specs.Prelude.{slice_get, map}
 use Rattle.std.specs.List.{flat_map, list_all}
@@ -10,7 +10,7 @@ use Rattle.ofp_rules.specs.Meaning.{IsOneOf}
 use Rattle.ofp_rules.proofs.HighestLaws.{one_of_front, one_of_back, one_of_parts}
 use Rattle.emit_core.specs.FlowTable.{for_each_host}
 
--- y is written for one of the xs
+-- y is built for one of the xs.
 pub record WrittenFor {X Y : Type 0} (f : X → List Y) (xs : List X) (y : Y) : Type 0 where
   pub from : X
   pub listed : IsOneOf from xs
@@ -28,7 +28,7 @@ flat_in f [] x y h in_f = absurd h
 flat_in f (z ∷ xs) x y (inl is) in_f = one_of_front y (f z) (flat_map f xs) (subst (λ w. IsOneOf y (f w)) is in_f)
 flat_in f (z ∷ xs) x y (inr later) in_f = one_of_back y (f z) (flat_map f xs) (flat_in f xs x y later in_f)
 
--- y is what is made of one of the xs
+-- y is the image of one of the xs.
 pub record MadeOf {X Y : Type 0} (f : X → Y) (xs : List X) (y : Y) : Type 0 where
   pub from : X
   pub listed : IsOneOf from xs
@@ -44,7 +44,7 @@ map_in f [] x h = absurd h
 map_in f (z ∷ xs) x (inl is) = inl (ap f is)
 map_in f (z ∷ xs) x (inr later) = inr (map_in f xs x later)
 
--- e is written for the host at a place
+-- e is built for the host at an index.
 pub record WrittenAt (written : ℕ → List Prefix → List Entry) (k : ℕ) (hs : List Host) (e : Entry) : Type 0 where
   pub place : ℕ
   pub host : Host
@@ -64,7 +64,7 @@ each_written w k (x ∷ hs) e h = elim (one_of_parts e (w k x.prefixes) (for_eac
       record { place = suc r.place; host = r.host; there = r.there; listed = subst (λ (n : ℕ). IsOneOf e (w n r.host.prefixes)) next r.listed }
 ]
 
--- e is written for host i
+-- e is built for host i.
 pub record WrittenBy (written : ℕ → List Prefix → List Entry) (hs : List Host) (e : Entry) : Type 0 where
   pub place : ℕ
   pub host : Host
@@ -96,7 +96,7 @@ each_in w hs e i h there listed =
     let place : i ≡ 0 + i = omega arith in
     each_in_from w 0 hs e i h there (subst (λ (n : ℕ). IsOneOf e (w n h.prefixes)) place listed)
 
--- a test that each passes
+-- A test that every element passes.
 pub all_pass : {X : Type 0} (f : X → Bool) (xs : List X) → ((x : X) → IsOneOf x xs → f x ≡ true) → list_all f xs ≡ true
 all_pass f [] each = refl
 all_pass f (x ∷ xs) each = and_from (f x) (list_all f xs) (each x (inl refl)) (all_pass f xs (λ y h. each y (inr h)))

@@ -1,4 +1,4 @@
--- Entries that are added one after another: in parts, and what they are in the end.
+-- Entries that are added in sequence: in parts, and their final list.
 use Rattle.std.proofs.Common.{◌≡◌, ℕ, ◌+◌, ◌<◌, ◌≤◌, true, List, [], ◌∷◌, ◌++◌, length, drop, get_or, refl, sym, ap, ◌∙◌, append_assoc, arith}
 use Rattle.std.specs.Prelude.{nat_lt, if◌then◌else◌}
 use Rattle.std.specs.List.{flat_map}
@@ -9,12 +9,13 @@ use Rattle.ofp_rules.specs.declared.entry.Entry.{Entry}
 use Rattle.ofp_rules.specs.Ambiguity.{most_entries}
 use Rattle.emit_core.specs.inner.KeptEntries.{AreCounted, KeptEntries, no_entries, with_entries, with_entry}
 
--- first some, then others
+-- First some entries, then others.
 pub in_parts : (es : KeptEntries) (xs ys : List Entry) → with_entries es (xs ++ ys) ≡ with_entries (with_entries es xs) ys
 in_parts es [] ys = refl
 in_parts es (x ∷ xs) ys = in_parts (with_entry es x) xs ys
 
--- the entries for one prefix more are added: what was left before is added and left now
+-- Adding the entries for one more prefix: the remaining entries before are these entries, followed by the remaining
+-- ones now.
 pub grow_prefix : (written : Prefix → List Entry) (qs : List Prefix) (i : ℕ) (q : Prefix) (old new whole : KeptEntries)
     → i < length qs → q ≡ get_or qs i q
     → with_entries old (flat_map written (drop i qs)) ≡ whole

@@ -1,4 +1,5 @@
--- How many rules the chain of a host has at most: at each prefix one for each service, as many for answers, and a drop.
+-- The greatest number of rules of the chain of a host: at each prefix one for each service, as many for answers, and a
+-- drop.
 use Rattle.std.proofs.Common.{ℕ, ◌*◌, ◌≤◌, Bool, true, false, not, ◌&&◌, List, [], ◌∷◌, ◌++◌, Option, Some, None, length, map, arith, length-append}
 use Rattle.std.specs.Prelude.{if◌then◌else◌}
 use Rattle.std.proofs.lemmas.List.{length-map}
@@ -65,7 +66,7 @@ few_to_hosts side site p s i rest is =
     let few = is.hosts.few_prefixes in
     omega (arith, few, few_for_all 33 (to_prefix side site p s i rest) (few_to_prefix side site p s i rest is.services) 0 site.hosts)
 
--- the chain of a host for what it sends, or for what it receives
+-- The chain of a host for outbound or for inbound packets.
 pub few_host_rules : (side : Side) (site : Site) (p s : List Flow) (i : ℕ) → IsSite site → length (host_rules side site p s i) ≤ 33825
 few_host_rules side site p s i is =
     omega (

@@ -1,4 +1,4 @@
--- Rules that are added at the end of a chain stand behind those that are there.
+-- Rules that are appended to a chain come after the existing ones.
 use Rattle.std.proofs.Common.{◌≡◌, ℕ, zero, suc, List, [], ◌∷◌, ◌++◌, refl, sym, ap, ◌∙◌, append_assoc}
 use Rattle.std.proofs.lemmas.List.{append-nil}
 use Rattle.ipt_rules.specs.declared.rule.Rule.{Rule}

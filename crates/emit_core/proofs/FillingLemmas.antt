@@ -1,4 +1,4 @@
--- What chains are while rules are added to one of them, and when its rules are all there.
+-- Chains while rules are added to one of them, and when all its rules are added.
 use Rattle.std.proofs.Common.{◌≡◌, ℕ, ◌+◌, ◌^◌, ◌<◌, List, [], ◌∷◌, ◌++◌, Option, None, length, drop, get_or, take, refl, sym, ap, subst, ◌∙◌, arith, append_assoc}
 use Rattle.std.specs.Prelude.{IsNone}
 use Rattle.std.proofs.lemmas.List.{append-nil, at_drop_more, take_more}
@@ -15,7 +15,7 @@ use Rattle.emit_core.proofs.LayoutLaws.{name_unused}
 use Rattle.emit_core.specs.inner.Filling.{with_rules, chains_up_to}
 use Rattle.emit_core.proofs.FillingLaws.{with_rules-changed}
 
--- some of the rules are added
+-- Some of the rules are added.
 pub record IsFilling (c : ℕ) (rules : List Rule) (start now : List Chain) (done : ℕ) : Type 0 where
   pub left : with_rules now c (drop done rules) ≡ with_rules start c rules
   pub led : now ≡ with_rules start c (take done rules)
@@ -26,7 +26,7 @@ with_rules-then : (xs : List Chain) (c : ℕ) (rules : List Rule) (r : Rule) →
 with_rules-then xs c [] r = refl
 with_rules-then xs c (x ∷ rules) r = with_rules-then (with_rule xs c x) c rules r
 
--- one rule more is added
+-- One more rule is added.
 pub filling_more : (c : ℕ) (rules : List Rule) (start old new : List Chain) (done : ℕ) (rule : Rule)
     → done < length rules → rule ≡ get_or rules done rule → c < length start → new ≡ with_rule old c rule
     → IsFilling c rules start old done → IsFilling c rules start new (done + 1)
@@ -50,7 +50,7 @@ unfolding with_rule
 with_rule-last [] x rule = refl
 with_rule-last (y ∷ xs) x rule = ap (λ (ys : List Chain). y ∷ ys) (with_rule-last xs x rule)
 
--- the rules stand at the end of the last chain
+-- The rules are at the end of the last chain.
 pub with_rules-last : (xs : List Chain) (x : Chain) (rules : List Rule)
     → with_rules (xs ++ x ∷ []) (length xs) rules ≡ xs ++ record x { rules = x.rules ++ rules } ∷ []
 with_rules-last xs x [] = ap (λ (rs : List Rule). xs ++ record x { rules = rs } ∷ []) (sym (append-nil x.rules))
@@ -59,12 +59,12 @@ with_rules-last xs x (r ∷ rs) =
     ∙ with_rules-last xs (record x { rules = x.rules ++ r ∷ [] }) rs
     ∙ ap (λ (all : List Rule). xs ++ record x { rules = all } ∷ []) (append_assoc x.rules (r ∷ []) rs)
 
--- the built-in chains, of which FORWARD drops, have no rules yet
+-- The built-in chains, of which FORWARD drops, have no rules yet.
 pub no_rules_yet : (start : List Chain) → start ≡ with_policy built_in_chains 1 Dropping → (length start ≡ 3) × (rule_count start ≡ 0)
 unfolding with_policy
 no_rules_yet start started = (ap length started, ap rule_count started)
 
--- the built-in chains, with the rules of FORWARD
+-- The built-in chains, with the rules of FORWARD.
 pub forward_filled : (hosts : List Host) (start : List Chain) (rules : List Rule)
     → start ≡ with_policy built_in_chains 1 Dropping → rules ≡ forward_rules hosts
     → with_rules start 1 rules ≡ entry_chains hosts
@@ -75,7 +75,7 @@ forward_filled hosts start rules started all =
 none_is : {A : Type 0} (o : Option A) → o ≡ None → IsNone o
 none_is o is = rw is refl
 
--- before the chain of a host is added its name is unused
+-- The name of a host's chain is unused before the chain is added.
 pub unused : (site : Site) (p s : List Flow) (i : ℕ) (chains : List Chain)
     → chains ≡ chains_up_to site p s i → i < 2 ^ 16 → IsNone (number_of chains (host_chain_name i))
 unused site p s i chains before fits =

@@ -1,4 +1,5 @@
--- What answers a packet of a stateful flow is of a permitted flow, where answers are covered: so a policy expects the same as one without stateful flows.
+-- If answers are covered, an answer to a packet of a stateful flow belongs to a permitted flow. So the policy expects the same as one
+-- without stateful flows.
 use Rattle.std.proofs.Common.{◌≡◌, inl, inr, ℕ, ◌<◌, ◌^◌, ◌==◌, ◌&&◌, ◌||◌, not, Bool, true, false, List, [], ◌∷◌, Option, Some, None, take, sym, subst, refl, arith, true≢false}
 use Rattle.std.specs.Prelude.{if◌then◌else◌, nat_le}
 use Rattle.std.specs.List.{list_all, list_any}
@@ -21,7 +22,7 @@ use Rattle.emit_core.specs.FlowTableEvents.{AnswersAreCovered, has_all_of}
 use Rattle.emit_core.proofs.FlowTableLaws.{belongs}
 use Rattle.emit_core.proofs.NarrowingLaws.{all_ports}
 
--- a service of all ports serves every packet of its protocol
+-- A service with all ports matches every packet of its protocol.
 serves_all : (u : Service) (packet : Packet) → packet.dport < 2 ^ 16 → (u.proto == packet.proto) ≡ true → has_all_ports u ≡ true → serves u packet ≡ true
 serves_all u packet fits same all = and_from (u.proto == packet.proto) (nat_le u.low packet.dport && nat_le packet.dport u.high) same (all_ports u packet.dport fits all)
 
@@ -54,7 +55,7 @@ answered_by (t ∷ ss) bs packet fits all served =
         (and_parts (t.proto == packet.proto) (nat_le t.low packet.sport && nat_le packet.sport t.high) holds).0
     by false holds later h = later h
 
--- what answers a packet of some services is of the reverse flow's, where these are covered
+-- An answer to a packet of some services matches the services of the reverse flow, if the answers are covered.
 back_served : (ss bs : List Service) (packet : Packet) → packet.dport < 2 ^ 16
     → (is_whole bs || (not (is_whole ss) && list_all (has_all_of bs) ss)) ≡ true → is_served ss (swap_of packet) ≡ true → is_served bs packet ≡ true
 back_served ss [] packet fits covered served = refl
@@ -77,7 +78,7 @@ answer_by false services p s i j packet fits covered h =
     let cover = and_parts (has p g) (is_whole back || (not (is_whole there) && list_all (has_all_of back) there)) (covered f parts.0) in
     and_from (has p g) (is_served back packet) cover.0 (back_served there back packet fits cover.1 parts.1)
 
--- what answers a packet of a stateful flow is of a permitted flow
+-- An answer to a packet of a stateful flow belongs to a permitted flow.
 pub answer_is : (services : List NarrowedFlow) (p s : List Flow) (from to : Option ℕ) (packet : Packet) → packet.dport < 2 ^ 16 → AnswersAreCovered services p s
     → belongs services s (swap_of packet) (flow_of_owners to from) ≡ true
     → belongs services p packet (flow_of_owners from to) ≡ true
@@ -89,7 +90,7 @@ answer_is services p s (Some i) (Some j) packet fits covered h =
     (subst (λ (b : Bool). belongs services s (swap_of packet) (if b then None else Some (record { from = j; to = i })) ≡ true)
     (equal_back i j) h)
 
--- a policy whose answers are covered expects no packet but the permitted ones
+-- A policy whose answers are covered expects only the permitted packets.
 expected_is : (site : Site) (p s : List Flow) (past : List Event) (packet : Packet) → IsPacket packet → AnswersAreCovered site.services p s
     → Expected (is_of site p) (is_of site s) past packet → is_of site p packet ≡ true
 expected_is site p s past packet is covered (inl permitted) = permitted
@@ -99,7 +100,7 @@ expected_is site p s past packet is covered (inr answer) =
 none_covered : (services : List NarrowedFlow) (p : List Flow) → AnswersAreCovered services p []
 none_covered services p = λ f none. absurd (true≢false (sym none))
 
--- so it expects the same as one without stateful flows
+-- So it expects the same as a policy without stateful flows.
 pub same_expected : (site : Site) (p s : List Flow) (events : List Event) (answers : List (Option Bool)) → ArePackets events → AnswersAreCovered site.services p s
     → AreExpected (is_of site p) (is_of site []) events answers → AreExpected (is_of site p) (is_of site s) events answers
 same_expected site p s events answers packets covered all = record {

@@ -1,4 +1,4 @@
--- A flow table does what is expected where answers need no connections.
+-- A flow table forwards what is expected if answers need no connection state.
 use Rattle.std.proofs.Common.{◌≡◌, ◌&&◌, ◌||◌, Bool, true, false, List, [], Option, Some, None, sym, subst, ◌∙◌, refl, true≢false}
 use Rattle.host_net.specs.declared.packet.Packet.{Packet}
 use Rattle.host_net.specs.declared.packet.CtState.{CtState}
@@ -35,7 +35,7 @@ alone false false established none = refl
 lets_pass_alone : (site : Site) (p : List Flow) (packet : Packet) (state : CtState) → is_of site p packet ≡ lets_pass site p [] packet state
 lets_pass_alone site p packet state = alone (is_of site p packet) (is_of site [] (swap_of packet)) (is_established state) (none_of site (swap_of packet))
 
--- as a filter of IPv4 frames a table that forwards some flows enforces them, with no stateful ones
+-- As a filter of IPv4 frames, a table that forwards some flows enforces them, without stateful flows.
 pub flows_enforced : (entries : List Entry) (site : Site) (p : List Flow) → ForwardsFlows entries site p → Enforces (Passes entries) site p []
 flows_enforced entries site p forwards = record {
   given = λ packet state is. subst (λ (b : Bool). Passes entries state packet b) (lets_pass_alone site p packet state) (forwards.given (Ipv4 packet) is);
@@ -45,7 +45,7 @@ flows_enforced entries site p forwards = record {
 no_flows : (p : List Flow) → IsSubset [] p
 no_flows p = record { ordered = tt; within = λ f none. absurd (true≢false (sym none)) }
 
--- it forwards what is expected with stateful flows too, where their answers are covered
+-- It forwards what is expected with stateful flows too, if their answers are covered.
 pub flows_expected : (entries : List Entry) (site : Site) (p s : List Flow) → ForwardsFlows entries site p → AnswersAreCovered site.services p s
     → ForwardsExpected (Passes entries) site p s
 flows_expected entries site p s forwards covered =
@@ -56,7 +56,7 @@ flows_expected entries site p s forwards covered =
       one = alone.one;
     }
 
--- of other frames it forwards ARP alone
+-- Of other frames it forwards only ARP.
 pub arp_alone : (entries : List Entry) (site : Site) (p : List Flow) → ForwardsFlows entries site p → ForwardsArpAlone entries
 arp_alone entries site p forwards = record {
   arp = λ v. (forwards.only Arp v tt, λ is. subst (HasVerdict entries Arp) (sym is) (forwards.given Arp tt));

@@ -1,4 +1,5 @@
--- What is to become of a frame, and that an entry which matches it does what its priority says: so no two entries contradict each other.
+-- The expected verdict on a frame: an entry that matches the frame has the verdict of its priority, so no two entries contradict each
+-- other.
 use Rattle.std.proofs.Common.{◌≡◌, ℕ, ◌==◌, Bool, true, false, not, ◌&&◌, List, Option, Some, None, refl, sym, ap, ◌∙◌, subst, arith}
 use Rattle.std.specs.Prelude.{if◌then◌else◌}
 use Rattle.std.specs.Option.{option_map_or}
@@ -36,18 +37,20 @@ use Rattle.emit_core.proofs.NarrowingLaws.{lets}
 use Rattle.emit_core.specs.PortRanges.{HasNoRange}
 use Rattle.emit_core.specs.Sides.{permits}
 
--- the frame is to pass: an IPv4 frame where its packet is of a permitted flow, an ARP frame always, another never
+-- The frame is to be forwarded: an IPv4 frame if its packet belongs to a permitted flow, an ARP frame always, any other
+-- frame never.
 abbrev pub passes : Site → List Flow → Frame → Bool
 passes site p Arp = true
 passes site p (Ipv4 packet) = is_of site p packet
 passes site p Other = false
 
--- the table forwards the frames that are to pass and drops all others: each frame has this verdict, and no other
+-- The table forwards the frames that are to be forwarded and drops all others: each frame has this verdict and no
+-- other.
 pub record ForwardsFlows (entries : List Entry) (site : Site) (p : List Flow) : Type 0 where
   pub given : (frame : Frame) → IsFrame frame → HasVerdict entries frame (verdict_if (passes site p frame))
   pub only : (frame : Frame) (v : Verdict) → IsFrame frame → HasVerdict entries frame v → v ≡ verdict_if (passes site p frame)
 
--- the packet is of the flow: that is one of these, and its services serve the packet
+-- The packet belongs to the flow: the flow is in the set, and its services match the packet.
 abbrev pub belongs : List NarrowedFlow → List Flow → Packet → Option Flow → Bool
 belongs services flows packet flow = option_map_or (λ f. has flows f && is_served (services_of services f.from f.to) packet) flow false
 
@@ -56,7 +59,7 @@ belongs_by : (same : Bool) (services : List NarrowedFlow) (p : List Flow) (f : F
 belongs_by true services p f packet = refl
 belongs_by false services p f packet = refl
 
--- what is done at a priority with a frame that is to pass, or is not
+-- The action at a priority for a frame that is to be forwarded, or is not.
 abbrev action_at : Bool → ℕ → Action
 action_at goes n = if n == 40 then (if goes then Normal else Drop) else (if n == 35 then Drop else (if n == 0 then Drop else Normal))
 
@@ -68,7 +71,7 @@ never_within p r = let same : (r == r) ≡ true = grind (arith, nat_tests) in by
     by false c h = cc
 
 module _ (site : Site) (p : List Flow) where
-  -- whether a packet is of a permitted flow, by its owners
+  -- Whether a packet belongs to a permitted flow, in terms of the owners of its addresses.
   pub of_owners : (packet : Packet) (i j : ℕ) → owner_of site.hosts packet.src ≡ Some i → owner_of site.hosts packet.dst ≡ Some j
       → is_of site p packet ≡ (permits p i j && is_served (services_of site.services i j) packet)
   of_owners packet i j from to =
@@ -88,7 +91,7 @@ module _ (site : Site) (p : List Flow) where
       ap (λ (o : Option ℕ). belongs site.services p packet (flow_of_owners (owner_of site.hosts packet.src) o)) none
       ∙ no_owner_to (owner_of site.hosts packet.src) packet
 
-  -- a permitted flow whose service an entry asks for
+  -- A permitted flow with a service that an entry matches.
   pub passes_by : (packet : Packet) (i j : ℕ) (n : Option Service) → owner_of site.hosts packet.src ≡ Some i → owner_of site.hosts packet.dst ≡ Some j
       → permits p i j ≡ true → IsOneOf n (narrowings (services_of site.services i j)) → lets packet n ≡ true → is_of site p packet ≡ true
   passes_by packet i j n from to permitted one on =
@@ -98,14 +101,14 @@ module _ (site : Site) (p : List Flow) where
   kind_of_pair e o = pair_kind (permits p o.i o.j) (services_of site.services o.i o.j) (rest_of site.hosts) o.q o.t e o.listed
 
 module _ (site : Site) (p : List Flow) (known : IsSite site) where
-  -- an entry between two prefixes matches packets between their hosts
+  -- An entry between two prefixes matches packets between their hosts.
   between_owners : (packet : Packet) (e : Entry) (o : IsBetween site p e) → (covers o.q packet.src && covers o.t packet.dst) ≡ true
       → (owner_of site.hosts packet.src ≡ Some o.i) × (owner_of site.hosts packet.dst ≡ Some o.j)
   between_owners packet e o on =
       let both = and_parts (covers o.q packet.src) (covers o.t packet.dst) on in
       (owner_is site.hosts known.hosts o.i o.g o.q packet.src o.at_i o.from both.0, owner_is site.hosts known.hosts o.j o.h o.t packet.dst o.at_j o.to both.1)
 
-  -- what one drops of a flow that is not permitted is not to pass
+  -- If an entry drops packets of a flow that is not permitted, they are not to be forwarded.
   pub drop_stays : (frame : Frame) (e : Entry) (o : IsBetween site p e) → permits p o.i o.j ≡ false
       → matches frame (ip_entry 40 (Some o.q) (Some o.t) Drop) ≡ true → passes site p frame ≡ false
   drop_stays Arp e o denied on = cc
@@ -120,7 +123,7 @@ module _ (site : Site) (p : List Flow) (known : IsSite site) (plain : HasNoRange
       askable (services_of site.services i j) n (known.services.valid i j)
       (plain (record { from = i; to = j }) (and_parts (not (i == j)) (has p (record { from = i; to = j })) permitted).1) one
 
-  -- what an entry for a service forwards is to pass
+  -- A frame that an entry for a service forwards is to be forwarded.
   pub service_goes : (frame : Frame) (e : Entry) (o : IsBetween site p e) (n : Option Service) → IsFrame frame → permits p o.i o.j ≡ true
       → IsOneOf n (narrowings (services_of site.services o.i o.j)) → matches frame (service_entry 40 (Some o.q) (Some o.t) n) ≡ true
       → passes site p frame ≡ true
@@ -132,7 +135,7 @@ module _ (site : Site) (p : List Flow) (known : IsSite site) (plain : HasNoRange
       let owners = between_owners site p known packet e o parts.1 in
       passes_by site p packet o.i o.j n owners.0 owners.1 permitted one parts.0
 
-  -- every entry that matches a frame does what its priority says
+  -- Every entry that matches a frame has the verdict of its priority.
   pair_does : (frame : Frame) (e : Entry) (o : IsBetween site p e) → IsFrame frame → matches frame e ≡ true
       → PairKind (permits p o.i o.j) (services_of site.services o.i o.j) o.q o.t e → e.action ≡ action_at (passes site p frame) e.priority
   pair_does frame e o is on (of_service n permitted one e_is) =

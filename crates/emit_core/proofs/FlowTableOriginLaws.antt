@@ -1,4 +1,4 @@
--- Where an entry of a flow table comes from: two hosts and a service, a host and the rest host, or the end of the table.
+-- The origin of an entry of a flow table: two hosts and a service, a host and the rest host, or the end of the table.
 use Rattle.std.proofs.Common.{◌≡◌, inl, inr, ℕ, Bool, true, false, List, [], ◌∷◌, ◌++◌, Option, Some, None, slice_get, map, refl, sym, subst}
 use Rattle.host_net.specs.declared.prefix.Prefix.{Prefix}
 use Rattle.host_net.specs.declared.service.Service.{Service}
@@ -125,7 +125,7 @@ module _ (site : Site) (p : List Flow) where
     ]
   ]
 
-  -- and that those entries stand there
+  -- The converse: the entries of these origins are in the table.
   pub pair_in : (i j : ℕ) (g h : Host) (q t : Prefix) (e : Entry) → slice_get site.hosts i ≡ Some g → slice_get site.hosts j ≡ Some h
       → IsOneOf q g.prefixes → IsOneOf t h.prefixes → IsOneOf e (pair_entries (permits p i j) (services_of site.services i j) (rest_of site.hosts) q t)
       → IsOneOf e (flow_entries site p)

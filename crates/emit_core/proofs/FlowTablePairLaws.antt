@@ -21,7 +21,8 @@ drop_listed None k q t e listed = absurd listed
 drop_listed (Some r) k q t e (inl is) = is
 drop_listed (Some r) k q t e (inr none) = absurd none
 
--- such an entry is for a service of a permitted flow, or drops what its services let through, or drops all of another flow
+-- Such an entry is for a service of a permitted flow, or drops the packets that its services do not match, or drops all packets of another
+-- flow.
 pub data PairKind (permitted : Bool) (ss : List Service) (q t : Prefix) (e : Entry) : Type 0 where
   of_service : (n : Option Service) → permitted ≡ true → IsOneOf n (narrowings ss) → e ≡ service_entry 40 (Some q) (Some t) n → PairKind permitted ss q t e
   of_low : permitted ≡ true → is_whole ss ≡ false → e ≡ ip_entry 35 (Some q) (Some t) Drop → PairKind permitted ss q t e
@@ -43,14 +44,14 @@ pair_kind true ss rest q t e listed =
     ]
 pair_kind false ss rest q t e listed = of_drop refl (drop_listed rest 40 q t e listed)
 
--- each service of a permitted flow has one
+-- Each service of a permitted flow has an entry.
 pub pair_service : (ss : List Service) (rest : Option ℕ) (q t : Prefix) (n : Option Service) → IsOneOf n (narrowings ss)
     → IsOneOf (service_entry 40 (Some q) (Some t) n) (pair_entries true ss rest q t)
 pair_service ss rest q t n one =
     one_of_front (service_entry 40 (Some q) (Some t) n) (map (service_entry 40 (Some q) (Some t)) (narrowings ss)) (if is_whole ss then [] else rest_drop rest 35 q t)
     (map_in (service_entry 40 (Some q) (Some t)) (narrowings ss) n one)
 
--- where there is a rest host, one of them matches every packet between the two
+-- If there is a rest host, one of the entries matches every packet between the two prefixes.
 pub record MatchesAll (es : List Entry) (q t : Prefix) : Type 0 where
   pub entry : Entry
   pub listed : IsOneOf entry es

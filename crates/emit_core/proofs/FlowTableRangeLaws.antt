@@ -1,4 +1,4 @@
--- The numbers of the entries of a policy have room in a frame, and only what has ports asks for one.
+-- The numbers of the entries of a policy fit a frame, and an entry matches a port only for protocols with ports.
 use Rattle.std.proofs.Common.{◌≡◌, ℕ, ◌^◌, zero, suc, Bool, true, false, not, ◌||◌, nat_lt, List, [], ◌∷◌, Option, Some, None, slice_get, refl, sym, ap, subst, ◌∙◌, arith}
 use Rattle.std.specs.Prelude.{is_some, if◌then◌else◌}
 use Rattle.std.specs.List.{list_all}
@@ -30,7 +30,7 @@ use Rattle.emit_core.proofs.FlowTablePairLaws.{PairKind, of_service, of_low, of_
 use Rattle.emit_core.proofs.FlowTableServiceLaws.{narrowed_passes}
 use Rattle.emit_core.specs.Sides.{permits}
 
--- the addresses: a host's prefixes are networks
+-- The addresses: a host's prefixes are networks.
 held_network : (hosts : List Host) (i : ℕ) (h : Host) (q : Prefix) → list_all is_network (all_prefixes hosts) ≡ true
     → slice_get hosts i ≡ Some h → IsOneOf q h.prefixes → is_network q ≡ true
 held_network [] i h q all there here = cc
@@ -46,7 +46,7 @@ held_fits : (hosts : List Host) (i : ℕ) (h : Host) (q : Prefix) → IsHosts ho
     → address_fits (Some q) ≡ true
 held_fits hosts i h q known there here = (and_parts _ _ (held_network hosts i h q known.networks there here)).0
 
--- the protocol and the port of a service
+-- The protocol and the port of a service.
 abbrev IsValid : Option Service → Type 0
 IsValid n = option_map_or is_service n true ≡ true
 
@@ -90,7 +90,7 @@ module _ (site : Site) (p : List Flow) (valid : AreServices site.services) where
   asks_by e (of_arp is) = ap asks_of_ip is
   asks_by e (of_other is) = ap asks_of_ip is
 
-  -- only entries for IPv4 frames ask for addresses or a protocol, and only beside a protocol with ports they ask for one
+  -- Only entries for IPv4 frames match addresses or a protocol, and an entry matches a port only together with a protocol that has ports.
   pub all_ask : list_all asks_of_ip (flow_entries site p) ≡ true
   all_ask = all_pass asks_of_ip (flow_entries site p) (λ e here. asks_by e (origin site p e here))
 

@@ -1,4 +1,4 @@
--- What an entry for a service matches, where the service is no range of ports.
+-- The packets that an entry for a service matches, if the service is no range of ports.
 use Rattle.std.proofs.Common.{◌≡◌, inl, inr, ℕ, ◌<◌, ◌^◌, ◌==◌, Bool, true, false, not, ◌&&◌, ◌||◌, List, [], ◌∷◌, Option, Some, None, refl, sym, ap, ◌∙◌, arith}
 use Rattle.std.specs.Prelude.{if◌then◌else◌, nat_le, nat_lt}
 use Rattle.std.specs.List.{list_all, list_any}
@@ -20,7 +20,7 @@ use Rattle.emit_core.specs.FlowTable.{ip_entry, service_entry, port_of_service}
 use Rattle.emit_core.proofs.NarrowingLaws.{lets, is_served-narrowings, all_ports}
 use Rattle.emit_core.specs.PortRanges.{is_range}
 
--- what each service of a flow passes, each of its narrowings passes
+-- A test that each service of a flow passes is passed by each of its restrictions.
 pub narrowed_passes : (test : Service → Bool) (ss : List Service) (n : Option Service) → list_all test ss ≡ true → IsOneOf n (narrowings ss)
     → option_map_or test n true ≡ true
 narrowed_passes test [] n all (inl is) = ap (λ (o : Option Service). option_map_or test o true) is
@@ -32,7 +32,7 @@ narrowed_passes test (s ∷ ss) n all one =
 abbrev is_no_range : Service → Bool
 is_no_range s = not (is_range s)
 
--- an entry can ask for it: it is a service, and no range of ports; or nothing
+-- An entry can match it: it is a service without a range of ports, or nothing.
 pub record IsAskable (n : Option Service) : Type 0 where
   pub service : option_map_or is_service n true ≡ true
   pub single : option_map_or is_no_range n true ≡ true
@@ -53,7 +53,7 @@ askable ss n valid plain one = record {
   single = narrowed_passes is_no_range ss n (no_ranges ss plain) one;
 }
 
--- a service with one port asks for it
+-- A service with one port matches that port.
 one_between : (l h port : ℕ) → nat_le l h ≡ true → nat_lt l h ≡ false → (l == port) ≡ (nat_le l port && nat_le port h)
 one_between l h port ordered single = grind (arith, nat_tests)
 
@@ -78,7 +78,7 @@ together : (a b c : Bool) → (a && (b && c)) ≡ ((a && b) && c)
 together true b c = refl
 together false b c = refl
 
--- an entry for a service matches what the service serves between its prefixes
+-- An entry for a service matches the packets that the service matches between its prefixes.
 pub entry_matches : (k : ℕ) (q t : Option Prefix) (n : Option Service) (packet : Packet) → IsPacket packet → IsAskable n
     → matches (Ipv4 packet) (service_entry k q t n) ≡ (lets packet n && matches (Ipv4 packet) (ip_entry k q t Normal))
 entry_matches k q t None packet is can = refl

@@ -1,4 +1,5 @@
--- Where no flow is narrowed, services change nothing: between two prefixes stands one entry, or none, and answers are covered where they are permitted.
+-- If all flows are unrestricted, services change nothing: there is at most one entry between two prefixes, and answers are covered if they
+-- are permitted.
 use Rattle.std.proofs.Common.{◌≡◌, ◌↔◌, ℕ, Bool, true, false, List, [], ◌∷◌, ◌++◌, Option, Some, None, map, refl, sym, ap, ◌∙◌}
 use Rattle.std.specs.Prelude.{IsTrue}
 use Rattle.std.specs.List.{flat_map}
@@ -41,7 +42,7 @@ with_rest_same hosts p None = refl
 with_rest_same hosts p (Some r) =
     λ k. for_each_host (λ i qs. to_rest_same (permits p i r) qs k) 0 hosts ++ for_each_host (λ i qs. from_rest_same (permits p r i) qs k) 0 hosts
 
--- the whole table
+-- The entire table.
 pub flow_entries-unnarrowed : (hosts : List Host) (p : List Flow)
     → flow_entries (unnarrowed hosts) p ≡ whole_entries hosts p
 unfolding flow_entries
@@ -50,6 +51,6 @@ flow_entries-unnarrowed hosts p = λ k. between_same hosts p (rest_of hosts) k +
 covered_same : (p : List Flow) (f : Flow) → is_covered [] p f ≡ has p (back_of f)
 covered_same p f = and-true (has p (back_of f))
 
--- the reverse of each stateful flow is permitted itself
+-- The reverse of each stateful flow is permitted itself.
 pub AnswersAreCovered-unnarrowed : (p s : List Flow) → AnswersAreCovered [] p s ↔ ((f : Flow) → IsTrue (has s f) → IsTrue (has p (back_of f)))
 AnswersAreCovered-unnarrowed p s = (λ covered f stateful. sym (covered_same p f) ∙ covered f stateful, λ permitted f stateful. covered_same p f ∙ permitted f stateful)

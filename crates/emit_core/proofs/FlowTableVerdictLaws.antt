@@ -1,4 +1,4 @@
--- The highest entry that matches a frame decides as the policy does.
+-- The matching entry of highest priority has the verdict of the policy.
 use Rattle.std.proofs.Common.{◌≡◌, ◌⊎◌, inl, inr, ℕ, ◌<◌, Bool, true, false, ◌&&◌, List, Option, Some, None, refl, sym, ap, ◌∙◌, subst, arith, true≢false}
 use Rattle.std.proofs.lemmas.Bool.{and_parts, and_from, false_from_ne_true}
 use Rattle.host_net.specs.declared.packet.Packet.{Packet}
@@ -35,7 +35,7 @@ module _ (site : Site) (p : List Flow) (known : IsSite site) (plain : HasNoRange
   abbrev table : List Entry
   table = flow_entries site p
 
-  -- a packet that is matched above a priority
+  -- A packet that is matched above a priority.
   record IsMatchedAbove (packet : Packet) (n : ℕ) : Type 0 where
     entry : Entry
     listed : IsOneOf entry table
@@ -45,7 +45,7 @@ module _ (site : Site) (p : List Flow) (known : IsSite site) (plain : HasNoRange
   owner_of_held : (a : ℕ) (s : IsHeld site.hosts a) → owner_of site.hosts a ≡ Some s.place
   owner_of_held a s = owner_is site.hosts known.hosts s.place s.host s.prefix a s.there s.listed s.covered
 
-  -- a packet of a permitted flow, by its owners: their flow is permitted, and its services serve the packet
+  -- A packet of a permitted flow, by its owners: their flow is permitted, and its services match the packet.
   of_parts : (packet : Packet) (i j : ℕ) → owner_of site.hosts packet.src ≡ Some i → owner_of site.hosts packet.dst ≡ Some j → is_of site p packet ≡ true
       → (permits p i j ≡ true) × (is_served (services_of site.services i j) packet ≡ true)
   of_parts packet i j from to of_flow =
@@ -56,7 +56,7 @@ module _ (site : Site) (p : List Flow) (known : IsSite site) (plain : HasNoRange
       → IsOneOf e table
   listed_between packet s d e listed = pair_in site p s.place d.place s.host d.host s.prefix d.prefix e s.there d.there s.listed d.listed listed
 
-  -- one that is to pass between two hosts that hold its addresses
+  -- A packet that is to be forwarded, between two hosts that own its addresses by prefixes.
   held_service : (packet : Packet) → IsPacket packet → (s : IsHeld site.hosts packet.src) (d : IsHeld site.hosts packet.dst)
       → is_of site p packet ≡ true → IsMatchedAbove packet 35
   held_service packet is s d of_flow =
@@ -74,7 +74,7 @@ module _ (site : Site) (p : List Flow) (known : IsSite site) (plain : HasNoRange
         above = omega arith;
       }
 
-  -- and where there is a rest host, any packet between two that hold its addresses
+  -- If there is a rest host, any packet between two hosts that own its addresses by prefixes.
   held_any : (packet : Packet) (r : ℕ) (s : IsHeld site.hosts packet.src) (d : IsHeld site.hosts packet.dst) → rest_of site.hosts ≡ Some r
       → IsMatchedAbove packet 30
   held_any packet r s d rest =
@@ -122,7 +122,8 @@ module _ (site : Site) (p : List Flow) (known : IsSite site) (plain : HasNoRange
         above = omega arith;
       }
 
-  -- what the entry below the services drops is not to pass: no service serves it, since their entries are above
+  -- A packet that the entry below the services drops is not to be forwarded: no service matches it, since the entries
+  -- of the services have higher priority.
   low_stays : (frame : Frame) (e : Entry) (o : IsBetween site p e) → IsFrame frame → IsHighest table frame e
       → e ≡ ip_entry 35 (Some o.q) (Some o.t) Drop → passes site p frame ≡ false
   low_stays Arp e o is high e_is = let never : false ≡ true = ap (matches Arp) (sym e_is) ∙ high.matched in cc
@@ -138,7 +139,7 @@ module _ (site : Site) (p : List Flow) (known : IsSite site) (plain : HasNoRange
       let below = high.above at.entry at.listed at.matched in
       omega arith)
 
-  -- the highest entry decides as the policy does
+  -- The matching entry of highest priority has the verdict of the policy.
   pair_says : (frame : Frame) (e : Entry) (o : IsBetween site p e) → IsFrame frame → IsHighest table frame e
       → PairKind (permits p o.i o.j) (services_of site.services o.i o.j) o.q o.t e → verdict_by_action e.action ≡ verdict_if (passes site p frame)
   pair_says frame e o is high (of_service n permitted one e_is) =

@@ -41,7 +41,7 @@ use Rattle.emit_core.specs.Sides.{permits}
 
 -- 1. FORWARD.
 
--- the chain of host i stands in the layout at its number
+-- The chain of host i is in the layout at its number.
 host_chain_at : (site : Site) (p s : List Flow) (k n i : ℕ) → i < n
     → slice_get (map (host_chain site p s) (range_with_len k n)) i ≡ Some (host_chain site p s (k + i))
 host_chain_at site p s k zero i below = absurd (omega arith)
@@ -83,7 +83,7 @@ by_owner : (said : ℕ → Verdict) (owner rest : Option ℕ)
 by_owner said None rest = refl
 by_owner said (Some i) rest = refl
 
--- FORWARD says of a packet what the chain of the host says that owns its source
+-- FORWARD has the verdict of the chain of the host that owns the source.
 forward_says : (site : Site) (p s : List Flow) (packet : Packet) (state : CtState) → IsPacket packet
     → IsHeldOnce packet.src site.hosts → IsHeldOnce packet.dst site.hosts
     → Says (matches packet state) (layout site p s) (forward_rules site.hosts) (option_map (said_by Sending site p s packet state) (owner_of site.hosts packet.src))
@@ -115,14 +115,14 @@ answered flows f false served established = together (has flows f) served establ
     together true b c = refl
     together false b c = refl
 
--- the flow that is found is the one that was asked for, with its services
+-- The flow that is found is the requested one, with its services.
 of_found : (services : List NarrowedFlow) (flows : List Flow) (f : Flow) (packet : Packet) (same : Bool)
     → option_map_or (λ g. has flows g && is_served (services_of services f.from f.to) packet) (if same then None else Some f) false
     ≡ option_map_or (λ g. has flows g && is_served (services_of services g.from g.to) packet) (if same then None else Some f) false
 of_found services flows f packet true = refl
 of_found services flows f packet false = refl
 
--- the flow between two owners is one of these and serves the packet
+-- The flow between two owners is in the set and matches the packet.
 to_one : (site : Site) (p : List Flow) (packet : Packet) (i j : ℕ)
     → (permits p i j && is_served (services_of site.services i j) packet)
     ≡ option_map_or (λ f. has p f && is_served (services_of site.services f.from f.to) packet) (flow_of_owners (Some i) (Some j)) false
@@ -138,7 +138,7 @@ back_to_one site s packet established i j =
     answered s f (j == i) (is_served (services_of site.services j i) (swap_of packet)) established
     ∙ ap (λ b. b && established) (of_found site.services s f (swap_of packet) (j == i))
 
--- a policy lets a packet pass where the owner of its source may send to the owner of its destination
+-- A policy allows a packet if and only if the owner of its source may send to the owner of its destination.
 pub owners_send : (site : Site) (p s : List Flow) (packet : Packet) (established : Bool) (from to : Option ℕ)
     → option_map_or (λ i. may_link_owner Sending site p s packet established i to) from false
     ≡ (option_map_or (λ f. has p f && is_served (services_of site.services f.from f.to) packet) (flow_of_owners from to) false
@@ -148,7 +148,7 @@ owners_send site p s packet established None (Some j) = refl
 owners_send site p s packet established (Some i) None = refl
 owners_send site p s packet established (Some i) (Some j) = λ k. to_one site p packet i j k || back_to_one site s packet established i j k
 
--- and where the owner of its destination may receive from the owner of its source
+-- Equivalently, if the owner of its destination may receive from the owner of its source.
 pub owners_receive : (site : Site) (p s : List Flow) (packet : Packet) (established : Bool) (from to : Option ℕ)
     → option_map_or (λ j. may_link_owner Receiving site p s packet established j from) to false
     ≡ (option_map_or (λ f. has p f && is_served (services_of site.services f.from f.to) packet) (flow_of_owners from to) false
@@ -158,13 +158,13 @@ owners_receive site p s packet established None (Some j) = refl
 owners_receive site p s packet established (Some i) None = refl
 owners_receive site p s packet established (Some i) (Some j) = λ k. to_one site p packet i j k || back_to_one site s packet established i j k
 
--- a chain that drops what no rule decides
+-- A chain that drops packets which no rule decides.
 by_default : (sends : ℕ → Bool) (owner : Option ℕ)
     → verdict_if (option_map_or sends owner false) ≡ verdict_by (Some Dropping) (option_map (λ i. verdict_if (sends i)) owner)
 by_default sends None = refl
 by_default sends (Some i) = refl
 
--- each packet has the verdict that the policy asks for
+-- Each packet has the verdict of the policy.
 layout_verdict : (site : Site) (p s : List Flow) (packet : Packet) (state : CtState) → IsPacket packet
     → IsHeldOnce packet.src site.hosts → IsHeldOnce packet.dst site.hosts
     → HasVerdict (layout site p s) packet state (verdict_if (lets_pass site p s packet state))
@@ -177,7 +177,7 @@ layout_verdict site p s packet state is source destination =
     subst (HasVerdict (layout site p s) packet state) same
     (verdict_said (layout site p s) 1 packet state said (forward_says site p s packet state is source destination))
 
--- in every state the chains let exactly the packets pass that the policy lets pass
+-- In every state the chains accept exactly the packets that the policy allows.
 pub layout_enforces : (site : Site) (p s : List Flow) → IsHosts site.hosts → Enforces (Passes (layout site p s)) site p s
 layout_enforces site p s known =
     let once = hosts_hold_once site.hosts known in
@@ -186,6 +186,6 @@ layout_enforces site p s known =
       only = λ packet state passes is has. verdict_if-injective passes _ (verdict_once has (layout_verdict site p s packet state is (once packet.src) (once packet.dst)));
     }
 
--- so they forward what is expected of it
+-- So they forward exactly what is expected.
 pub layout_expected : (site : Site) (p s : List Flow) → IsHosts site.hosts → IsSubset s p → ForwardsExpected (Passes (layout site p s)) site p s
 layout_expected site p s known subset = enforced_expected (Passes (layout site p s)) site p s subset (layout_enforces site p s known)

@@ -1,4 +1,4 @@
--- Who owns an address: a host with a prefix that covers it, else the rest host, where there is one.
+-- The owner of an address: a host with a prefix that covers it, otherwise the rest host, if there is one.
 use Rattle.std.proofs.Common.{◌≡◌, ◌⊎◌, inl, inr, ℕ, ◌+◌, Bool, true, false, ◌||◌, cond, List, [], ◌∷◌, Option, Some, None, slice_get, refl, sym, ap, ◌∙◌}
 use Rattle.std.specs.List.{position_from}
 use Rattle.std.specs.Option.{option_or}
@@ -11,7 +11,7 @@ use Rattle.host_net.specs.inner.Hosts.{IsHosts}
 use Rattle.host_net.proofs.OwnerLaws.{owner_of_covered}
 use Rattle.ofp_rules.specs.Meaning.{IsOneOf}
 
--- who owns an address: a host with a prefix that covers it, else the rest host, where there is one
+-- The owner of an address: a host with a prefix that covers it, otherwise the rest host, if there is one.
 pub record IsHeld (hosts : List Host) (a : ℕ) : Type 0 where
   pub place : ℕ
   pub host : Host

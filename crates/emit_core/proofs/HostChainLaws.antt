@@ -1,4 +1,4 @@
--- What the chain of a host says of a packet.
+-- The verdict of the chain of a host on a packet.
 use Rattle.std.proofs.Common.{◌≡◌, ℕ, ◌+◌, ◌<◌, ◌≤◌, Bool, true, false, not, ◌&&◌, ◌||◌, List, [], ◌∷◌, ◌++◌, Option, Some, None, length, refl, ap, subst, ◌∙◌, arith}
 use Rattle.std.specs.Prelude.{if◌then◌else◌}
 use Rattle.std.specs.List.{flat_map, position_from}
@@ -41,7 +41,7 @@ either true false None = refl
 either true false (Some v) = refl
 either false c o = refl
 
--- rules for each prefix that say the same where their prefix covers the address
+-- Rules for each prefix that have the same verdict if the prefix covers the address.
 pub said_by_any : (a : ℕ) (o : Option Verdict) (qs : List Prefix)
     → first_said (λ q. if covers q a then o else None) qs ≡ (if covers_any qs a then o else None)
 said_by_any a o [] = refl
@@ -58,7 +58,7 @@ found_first : (b : Bool) (k : ℕ) (later : Option ℕ) (said : ℕ → Option V
 found_first true k later said = refl
 found_first false k later said = refl
 
--- rules by host and prefix say what is said of the one host that owns the address
+-- The verdict of rules by host and prefix is that of the host that owns the address.
 pub says_for_each : (fits : Rule → Bool) (chains : List Chain) (a n : ℕ) (said : ℕ → Option Verdict) (written : ℕ → Prefix → List Rule)
     → ((j : ℕ) → j < n → (q : Prefix) → Says fits chains (written j q) (if covers q a then said j else None))
     → (k : ℕ) (hs : List Host) → k + length hs ≤ n → IsHeldOnce a hs
@@ -76,7 +76,7 @@ says_for_each fits chains a n said written each k (h ∷ hs) within once =
     (says_flat_map fits chains (written k) (λ q. if covers q a then said k else None) (each k here) h.prefixes))
     (says_for_each fits chains a n said written each (k + 1) hs later once.1))
 
--- 2. The rules for one prefix, and those for the rest host.
+-- 2. The rules for one prefix, and the rules for the rest host.
 
 abbrev fail : Bool → Option Verdict
 fail b = if b then Some Dropped else None
@@ -96,7 +96,7 @@ said_both : (w : Bool) (x y : Option Verdict) → option_or (if w then x else No
 said_both true x y = refl
 said_both false x y = refl
 
--- what the rules of host i say of packets to host j, in front of the rest host
+-- The verdict of the rules of host i on packets to host j, before those of the rest host.
 abbrev pair_said : Side → Site → List Flow → List Flow → Packet → Bool → ℕ → Option ℕ → ℕ → Option Verdict
 pair_said side site p s packet established i rest j =
     option_or (pass (may_link side site p s packet established i j)) (fail (is_open side p s i rest && not (links_whole side site p i j)))
@@ -112,7 +112,7 @@ pair_says side chains site p s packet state i rest j q is =
     (accepts_say side chains site p s packet state i j (Some q) is)
     (drops_say side chains packet state (Some q) (is_open side p s i rest && not (links_whole side site p i j))))
 
--- what the rules of host i say of packets to the rest host
+-- The verdict of the rules of host i on packets to the rest host.
 abbrev rest_said : Side → Site → List Flow → List Flow → Packet → Bool → ℕ → Option ℕ → Option Verdict
 rest_said side site p s packet established i None = None
 rest_said side site p s packet established i (Some r) = pass (may_link side site p s packet established i r)
@@ -122,9 +122,9 @@ rest_says : (side : Side) (chains : List Chain) (site : Site) (p s : List Flow) 
 rest_says side chains site p s packet state i None is = says_none (matches packet state) chains
 rest_says side chains site p s packet state i (Some r) is = accepts_say side chains site p s packet state i r None is
 
--- 3. The whole chain.
+-- 3. The entire chain.
 
--- a whole flow lets every packet of it pass
+-- An unrestricted flow accepts all its packets.
 whole_serves : (ss : List Service) (packet : Packet) → is_whole ss ≡ true → is_served ss packet ≡ true
 whole_serves [] packet whole = refl
 whole_serves (s ∷ ss) packet whole = cc
@@ -135,7 +135,7 @@ whole_links side site p s packet established i j whole =
     let parts = and_parts (links side p i j) (is_whole (services_on side site.services i j)) whole in
     rw (parts.0, whole_serves (services_on side site.services i j) packet parts.1) refl
 
--- a packet to host j meets the rules of host j, then those of the rest host, then the last one
+-- A packet to host j traverses the rules of host j, then those of the rest host, then the last rule.
 before_rest : (m whole b c x y : Bool) → (whole ≡ true → m ≡ true)
     → option_or (option_or (pass m) (fail ((b || c) && not whole))) (option_or (pass ((b && x) || (c && y))) (Some Dropped)) ≡ Some (verdict_if m)
 before_rest true whole b c x y holds = refl
@@ -152,7 +152,7 @@ of_rest : (m : Bool) → option_or (pass m) (Some Dropped) ≡ Some (verdict_if 
 of_rest true = refl
 of_rest false = refl
 
--- whether packets of host i may pass to the owner of an address, or from it
+-- Whether packets between host i and the owner of an address may pass.
 abbrev pub may_link_owner : Side → Site → List Flow → List Flow → Packet → Bool → ℕ → Option ℕ → Bool
 may_link_owner side site p s packet established i None = false
 may_link_owner side site p s packet established i (Some j) = may_link side site p s packet established i j
@@ -169,11 +169,11 @@ decided side site p s packet established i (Some r) (Some j) =
     (is_served (services_on side site.services i r) packet) (is_served (services_on (other_side side) site.services i r) (swap_of packet) && established)
     (whole_links side site p s packet established i j)
 
--- what becomes of the packet in the chain of host i
+-- The verdict on the packet in the chain of host i.
 abbrev pub said_by : Side → Site → List Flow → List Flow → Packet → CtState → ℕ → Verdict
 said_by side site p s packet state i = verdict_if (may_link_owner side site p s packet (is_established state) i (owner_of site.hosts (other_address side packet)))
 
--- the chain of host i forwards what the host may send, or receive, and drops all else
+-- The chain of host i forwards the packets that the host may send, or receive, and drops all others.
 pub host_says : (side : Side) (chains : List Chain) (site : Site) (p s : List Flow) (packet : Packet) (state : CtState) (i : ℕ) → IsPacket packet
     → IsHeldOnce (other_address side packet) site.hosts
     → Says (matches packet state) chains (host_rules side site p s i) (Some (said_by side site p s packet state i))

@@ -1,4 +1,4 @@
--- One step of a loop over hosts that writes entries: what is left to write before it, and after it.
+-- One step of a loop over hosts that builds entries: the remaining entries before it, and after it.
 use Rattle.std.proofs.Common.{◌≡◌, ℕ, ◌+◌, List, [], ◌∷◌, ◌++◌, Option, Some, drop, length, sym, ap, ◌∙◌, arith}
 use Rattle.std.specs.Prelude.{slice_get, option_map}
 use Rattle.std.proofs.lemmas.List.{drop_all}
@@ -12,12 +12,12 @@ use Rattle.emit_core.specs.FlowTable.{arp_entry, between, flow_entries, for_each
 use Rattle.emit_core.specs.inner.KeptEntries.{KeptEntries, no_entries, with_entries, with_entry}
 use Rattle.emit_core.proofs.EntrySteps.{in_parts}
 
--- after the last host nothing is left
+-- After the last host no entry remains.
 pub for_each_all : (written : ℕ → List Prefix → List Entry) (hosts : List Host) (i : ℕ) → i ≡ length hosts
     → for_each_host written i (drop i hosts) ≡ []
 for_each_all written hosts i is = ap (for_each_host written i) (drop_all i hosts (omega arith))
 
--- what is left for host i and those after it: its entries first
+-- The remaining entries for host i and those after it begin with the entries of host i.
 pub host_left : (written : ℕ → List Prefix → List Entry) (hosts : List Host) (i : ℕ) (qs : List Prefix)
     → option_map (λ h. h.prefixes) (slice_get hosts i) ≡ Some qs
     → for_each_host written i (drop i hosts) ≡ written i qs ++ for_each_host written (i + 1) (drop (i + 1) hosts)
@@ -25,7 +25,7 @@ host_left written hosts i qs here =
     let found = drop_here hosts i qs here in
     ap (for_each_host written i) found.1 ∙ ap (λ (x : List Prefix). written i x ++ for_each_host written (i + 1) (drop (i + 1) hosts)) (sym found.2)
 
--- the entries for host i are added: what was left before is added and left now
+-- Adding the entries for host i: the remaining entries before are these entries, followed by the remaining entries now.
 pub grow_host : (written : ℕ → List Prefix → List Entry) (hosts : List Host) (i : ℕ) (qs : List Prefix) (old new whole : KeptEntries)
     → option_map (λ h. h.prefixes) (slice_get hosts i) ≡ Some qs
     → with_entries old (for_each_host written i (drop i hosts)) ≡ whole
@@ -37,7 +37,7 @@ grow_host written hosts i qs old new whole here before step =
     ∙ ap (with_entries old) (sym (host_left written hosts i qs here))
     ∙ before
 
--- the parts, one after the other
+-- The parts, in order.
 pub put_together : (site : Site) (p : List Flow) (rest : Option ℕ) (none first second third all : KeptEntries) (arp other : Entry)
     → rest ≡ rest_of site.hosts → none ≡ no_entries → first ≡ with_entries none (between site p rest) → second ≡ with_entries first (with_rest site p rest)
     → third ≡ with_entry second arp → all ≡ with_entry third other → arp ≡ arp_entry → other ≡ other_entry

@@ -1,4 +1,4 @@
--- Laws of the layout: how many chains it has and how long FORWARD is, where its rules jump, and that its chains have names of their own.
+-- Lemmas on the layout: the number of its chains and the length of FORWARD, the targets of its jumps, and the distinct names of its chains.
 use Rattle.std.proofs.Common.{◌≡◌, ℕ, ◌+◌, ◌*◌, ◌^◌, ◌%◌, ◌<◌, ◌≤◌, zero, suc, Bool, true, false, ◌&&◌, List, [], ◌∷◌, Option, Some, None, length, map, refl, sym, subst, ◌∙◌, arith, length-append}
 use Rattle.std.specs.Prelude.{nat_le, nat_lt, IsTrue, codes, decimal, bytes_eq}
 use Rattle.std.specs.List.{flat_map, list_all, range_with_len, position_from}
@@ -32,14 +32,14 @@ use Rattle.emit_core.proofs.LayoutRulesLaws.{PassForms, all_anywhere, anywhere, 
 use Rattle.emit_core.specs.Layout.{for_each_prefix, host_rules, forward_rules, rest_jump, jump_from, chain_of, layout, host_chain, host_chain_name}
 use Rattle.emit_core.specs.inner.Filling.{chains_up_to}
 
--- rules for each prefix, at most m for one
+-- Rules for each prefix, at most m for one prefix.
 few_for_each : (m : ℕ) (written : Prefix → List Rule) → ((q : Prefix) → length (written q) ≤ m) → (qs : List Prefix)
     → length (flat_map written qs) ≤ m * length qs
 few_for_each m written few [] = omega arith
 few_for_each m written few (q ∷ qs) =
     omega (arith, few q, few_for_each m written few qs, length-append (written q) (flat_map written qs))
 
--- and for each prefix of each host
+-- Rules for each prefix of each host.
 pub few_for_all : (m : ℕ) (written : ℕ → Prefix → List Rule) → ((j : ℕ) (q : Prefix) → length (written j q) ≤ m) → (k : ℕ) (hs : List Host)
     → length (for_each_prefix written k hs) ≤ m * prefix_count hs
 few_for_all m written few k [] = omega arith
@@ -51,21 +51,21 @@ few_rest_jump : (rest : Option ℕ) → length (rest_jump rest) ≤ 1
 few_rest_jump None = omega arith
 few_rest_jump (Some r) = omega arith
 
--- FORWARD has a jump for each prefix, and one more, at most
+-- FORWARD has at most one jump for each prefix, and one more.
 pub few_forward_rules : (hosts : List Host) → length (forward_rules hosts) ≤ prefix_count hosts + 1
 few_forward_rules hosts =
     omega (arith, few_for_all 1 jump_from (λ j q. omega arith) 0 hosts, few_rest_jump (rest_of hosts), length-append (for_each_prefix jump_from 0 hosts) (rest_jump (rest_of hosts)))
 
--- how many chains there are up to the n-th host
+-- The number of chains up to the n-th host.
 pub length-chains_up_to : (site : Site) (p s : List Flow) (n : ℕ) → length (chains_up_to site p s n) ≡ n + 3
 length-chains_up_to site p s n = omega (arith, length-map-range_with_len (host_chain site p s) 0 n)
 
--- where it jumps, a rule jumps to a chain from the low one on, before the past one
+-- If a rule jumps, its target is a chain from `low` on and before `past`.
 abbrev pub jumps_between : (low past : ℕ) → Target → Bool
 jumps_between low past (Jump c) = nat_le low c && nat_lt c past
 jumps_between low past _ = true
 
--- no rule of a host's chain jumps
+-- No rule of a host's chain jumps.
 pub host_rules_stay : (low : ℕ) (side : Side) (site : Site) (p s : List Flow) (i : ℕ) → AreServices site.services
     → list_all (λ r. jumps_between low 0 r.target) (host_rules side site p s i) ≡ true
 host_rules_stay low side site p s i are =
@@ -76,7 +76,7 @@ host_rules_stay low side site p s i are =
 jump_there : (n i : ℕ) → i < n → jumps_between 3 (n + 3) (Jump (chain_of i)) ≡ true
 jump_there n i below = grind (arith, nat_tests)
 
--- each rule of FORWARD jumps to the chain of a host
+-- Each rule of FORWARD jumps to the chain of a host.
 forward_rules_jump : (hosts : List Host) → list_all (λ r. jumps_between 3 (length hosts + 3) r.target) (forward_rules hosts) ≡ true
 forward_rules_jump hosts =
     forward_rules_pass (λ r. jumps_between 3 (length hosts + 3) r.target) anywhere hosts (λ q i below at. jump_there (length hosts) i below)
@@ -90,7 +90,7 @@ somewhere low past count user room Return is = refl
 somewhere low past count user room Count is = refl
 somewhere low past count user room (Jump c) is = grind (arith, nat_tests)
 
--- rules that jump to user chains that are there do not jump to nowhere
+-- Rules that jump to existing user chains have known targets.
 pub none_nowhere : (low past count : ℕ) → 3 ≤ low → past ≤ count → (i : ℕ) (rules : List Rule)
     → list_all (λ r. jumps_between low past r.target) rules ≡ true → position_from (λ r. jumps_nowhere count r.target) i rules ≡ None
 none_nowhere low past count user room i [] all = refl
@@ -105,7 +105,7 @@ host_chains_known site p s count c k (suc n) are =
     rw (none_nowhere 3 0 count (omega arith) (omega arith) 0 (host_rules Sending site p s k) (host_rules_stay 3 Sending site p s k are))
     (host_chains_known site p s count (c + 1) (k + 1) n are)
 
--- every jump leads to a chain that is there
+-- Every jump leads to an existing chain.
 layout_known : (site : Site) (p s : List Flow) → AreServices site.services → first_unknown (length (layout site p s)) 0 (layout site p s) ≡ None
 layout_known site p s are =
     let count = length (layout site p s) in
@@ -113,7 +113,7 @@ layout_known site p s are =
     rw (none_nowhere 3 (length site.hosts + 3) count (omega arith) room 0 (forward_rules site.hosts) (forward_rules_jump site.hosts))
     (host_chains_known site p s count 3 0 (length site.hosts) are)
 
--- the layout of a policy for no more than 256 hosts, with no more than a million rules, is a rule set
+-- The layout of a policy for at most 256 hosts, with at most a million rules, is a rule set.
 pub layout_accepted : (site : Site) (p s : List Flow) → AreServices site.services → length site.hosts ≤ 256 → rule_count (layout site p s) ≤ 1000000
     → refusal_of (layout site p s) ≡ None
 unfolding refusal_of
@@ -130,7 +130,7 @@ upward low past c below Return is = refl
 upward low past c below Count is = refl
 upward low past c below (Jump d) is = grind (arith, nat_tests)
 
--- rules of a chain below those that they jump to jump up
+-- If the jumps of a chain lead to later chains, they lead upwards.
 pub all_upward : (low past c : ℕ) → c < low → (rules : List Rule) → list_all (λ r. jumps_between low past r.target) rules ≡ true
     → list_all (λ r. goes_up c r.target) rules ≡ true
 all_upward low past c below [] all = refl
@@ -145,7 +145,7 @@ host_chains_up site p s c k (suc n) are =
     and_from _ _ (all_upward (c + 1) 0 c (omega arith) (host_rules Sending site p s k) (host_rules_stay (c + 1) Sending site p s k are))
     (host_chains_up site p s (c + 1) (k + 1) n are)
 
--- jumps lead from FORWARD to the chains of hosts, and from there nowhere
+-- Jumps lead from FORWARD to the chains of hosts, and these have no jumps.
 pub layout_no_loop : (site : Site) (p s : List Flow) → AreServices site.services → HasNoLoop (layout site p s)
 layout_no_loop site p s are =
     no_loop_upward (layout site p s)
@@ -153,7 +153,7 @@ layout_no_loop site p s are =
     (all_upward 3 (length site.hosts + 3) 1 (omega arith) (forward_rules site.hosts) (forward_rules_jump site.hosts))
     (host_chains_up site p s 3 0 (length site.hosts) are))
 
--- hosts with different numbers have chains with different names
+-- Hosts with different numbers have chains with different names.
 host_chain_name_injective : (i j : ℕ) → i < 2 ^ 16 → j < 2 ^ 16 → host_chain_name i ≡ host_chain_name j → i ≡ j
 host_chain_name_injective i j i_fits j_fits same =
     decimal_injective i j (omega arith) (omega arith) (append_cancel_left (codes "H") (decimal i) (decimal j) same)
@@ -173,7 +173,7 @@ host_name_unused site p s at k zero i before fits = refl
 host_name_unused site p s at k (suc n) i before fits =
     rw (other_name k i (omega arith) fits) (host_name_unused site p s (at + 1) (k + 1) n i (omega arith) fits)
 
--- the name of a host's chain is none of the names before it
+-- The name of a host's chain differs from the names before it.
 pub name_unused : (site : Site) (p s : List Flow) (i : ℕ) → i < 2 ^ 16
     → number_of (chains_up_to site p s i) (host_chain_name i) ≡ None
 name_unused site p s i fits = host_name_unused site p s 3 0 i i (omega arith) fits
@@ -187,7 +187,7 @@ digits_in_name n fits =
     (λ m ds large front. list_all-append is_printing ds ((48 + m % 10) ∷ []) ∙ and_from _ _ front (digit_in_name (m % 10) (omega arith)))
     n fits
 
--- the name of a host's chain is one that a user chain may have
+-- The name of a host's chain is a legal name of a user chain.
 pub host_chain_name_legal : (i : ℕ) → i < 2 ^ 16 → IsTrue (is_user_name (host_chain_name i))
 unfolding is_user_name is_reserved
 host_chain_name_legal i fits =

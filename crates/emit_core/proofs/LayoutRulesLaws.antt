@@ -1,4 +1,4 @@
--- What is true of every rule of the forms that a layout has is true of each of its rules.
+-- A property of every rule of the forms that a layout has is a property of each of its rules.
 use Rattle.std.proofs.Common.{◌≡◌, ℕ, ◌+◌, ◌<◌, ◌≤◌, zero, suc, Bool, true, false, not, ◌&&◌, ◌||◌, ◌==◌, IsTrue, List, [], ◌∷◌, ◌++◌, Option, Some, None, length, map, refl, ◌∙◌, arith}
 use Rattle.std.specs.Prelude.{if◌then◌else◌, nat_le}
 use Rattle.std.specs.List.{flat_map, list_all, range_with_len}
@@ -25,11 +25,12 @@ use Rattle.emit_core.specs.Layout.{for_each_prefix, at_other, protocol_part, por
 use Rattle.emit_core.specs.Sides.{links, other_side, services_on, flow_on}
 use Rattle.emit_core.proofs.OwnerLaws.{rest_below}
 
--- a service, or none
+-- A service, or nothing.
 abbrev pub is_narrowing : Option Service → Bool
 is_narrowing n = option_map_or is_service n true
 
--- every rule of the three forms that host chains have passes the test, where its prefix, if it has one, fits, and its service, if it has one, is one
+-- A rule of one of the three forms in host chains passes the test if its prefix, if it has one, satisfies `fits`, and its service, if it
+-- has one, is valid.
 pub record PassForms (test : Rule → Bool) (fits : Prefix → Bool) : Type 0 where
   pub dropping : (side : Side) (q : Option Prefix) → option_map_or fits q true ≡ true → test (at_other side q None Drop) ≡ true
   pub flow : (side : Side) (q : Option Prefix) (n : Option Service) → option_map_or fits q true ≡ true → is_narrowing n ≡ true → test (to_service side q n) ≡ true
@@ -139,7 +140,7 @@ module _ (test : Rule → Bool) (fits : Prefix → Bool) (forms : PassForms test
   layout_passes jump site p s are all =
       and_from _ _ (forward_rules_pass test fits site.hosts (λ q i below at. jump q i at) all) (chains_pass site p s 0 (length site.hosts) are all)
 
--- 3. They ask for protocols and ports as rules may, at every prefix.
+-- 3. Their protocol and port matches are valid, at every prefix.
 
 abbrev pub anywhere : Prefix → Bool
 anywhere q = true
@@ -148,7 +149,7 @@ pub all_anywhere : (qs : List Prefix) → list_all anywhere qs ≡ true
 all_anywhere [] = refl
 all_anywhere (q ∷ qs) = all_anywhere qs
 
--- a service has a protocol, and ports in order where it does not have all
+-- A service has a protocol, and a valid port range unless it has all ports.
 pub record IsAsked (s : Service) : Type 0 where
   pub protocol : is_protocol (protocol_part (Some s)) ≡ true
   pub ports : are_ports (names_ports (protocol_part (Some s))) (port_part (Some s)) ≡ true

@@ -1,4 +1,4 @@
--- The rules by what is asked of a host and another are those of the layout.
+-- The rules that are built from the facts about two hosts are those of the layout.
 use Rattle.std.proofs.Common.{◌≡◌, ℕ, Bool, true, false, not, ◌&&◌, ◌||◌, List, [], ◌∷◌, ◌++◌, Option, Some, None, map, refl}
 use Rattle.std.specs.Prelude.{if◌then◌else◌}
 use Rattle.host_net.specs.declared.prefix.Prefix.{Prefix}

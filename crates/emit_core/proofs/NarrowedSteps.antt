@@ -1,9 +1,9 @@
--- The rules or entries for what services leave of a flow, one for each.
+-- The rules or entries for the restrictions of a flow, one for each.
 use Rattle.std.proofs.Common.{◌≡◌, true, false, List, [], ◌∷◌, Option, Some, None, refl, ap, map}
 use Rattle.host_net.specs.declared.service.Service.{Service}
 use Rattle.host_net.specs.Service.{is_whole, narrowings}
 
--- a narrowed flow is narrowed to each of its services, and a whole one to nothing
+-- A restricted flow has its services as restrictions, and an unrestricted flow has the single restriction `None`.
 pub narrowings_some : (ss : List Service) → is_whole ss ≡ false → narrowings ss ≡ map (λ (t : Service). Some t) ss
 narrowings_some [] some = cc
 narrowings_some (s ∷ ss) some = refl
@@ -12,7 +12,7 @@ pub narrowings_none : (ss : List Service) → is_whole ss ≡ true → narrowing
 narrowings_none [] none = refl
 narrowings_none (s ∷ ss) none = cc
 
--- what is written for a narrowed flow is written for each of its services
+-- The rules for a restricted flow are the rules for each of its services.
 each_some : {Y : Type 0} (f : Option Service → Y) (ss : List Service) → map f (map (λ t. Some t) ss) ≡ map (λ s. f (Some s)) ss
 each_some f [] = refl
 each_some f (s ∷ ss) = ap (λ ys. f (Some s) ∷ ys) (each_some f ss)

@@ -1,4 +1,4 @@
--- A flow's services, one by one: they serve a packet where one of them does.
+-- The services of a flow match a packet if one of them does.
 use Rattle.std.proofs.Common.{◌≡◌, ℕ, ◌<◌, ◌^◌, Bool, true, ◌&&◌, ◌||◌, ◌==◌, List, [], ◌∷◌, Option, Some, map, refl, sym, ap, arith}
 use Rattle.std.specs.Prelude.{nat_le}
 use Rattle.std.specs.List.{list_any}
@@ -9,7 +9,7 @@ use Rattle.host_net.specs.declared.packet.Packet.{Packet}
 use Rattle.host_net.specs.declared.service.Service.{Service}
 use Rattle.host_net.specs.Service.{serves, is_served, narrowings, has_all_ports, last_port}
 
--- the packet is one of a service to which a flow is narrowed, or nothing narrows the flow
+-- The packet matches a service to which the flow is restricted, or the flow is unrestricted.
 abbrev pub lets : Packet → Option Service → Bool
 lets packet n = option_map_or (λ s. serves s packet) n true
 
@@ -17,7 +17,8 @@ any_some : (packet : Packet) (ss : List Service) → list_any (lets packet) (map
 any_some packet [] = refl
 any_some packet (s ∷ ss) = ap (λ b. serves s packet || b) (any_some packet ss)
 
--- the services of a flow serve a packet where one that it is narrowed to lets it pass; a whole flow has one narrowing, to nothing
+-- The services of a flow match a packet if and only if one of its restrictions does. An unrestricted flow has the single restriction
+-- `None`.
 pub is_served-narrowings : (packet : Packet) (ss : List Service) → is_served ss packet ≡ list_any (lets packet) (narrowings ss)
 is_served-narrowings packet [] = refl
 is_served-narrowings packet (s ∷ ss) = sym (any_some packet (s ∷ ss))
@@ -25,7 +26,7 @@ is_served-narrowings packet (s ∷ ss) = sym (any_some packet (s ∷ ss))
 all_between : (l h port : ℕ) → port < 2 ^ 16 → (l == 0) ≡ true → (h == 65535) ≡ true → (nat_le l port && nat_le port h) ≡ true
 all_between l h port fits low high = grind (arith, nat_tests)
 
--- a service with all ports has every port of a packet
+-- A service with all ports matches every port of a packet.
 pub all_ports : (s : Service) (port : ℕ) → port < 2 ^ 16 → has_all_ports s ≡ true → (nat_le s.low port && nat_le port s.high) ≡ true
 all_ports s port fits all =
     let parts = and_parts (s.low == 0) (s.high == last_port) all in

@@ -1,4 +1,4 @@
--- Where owners stand among the hosts.
+-- The position of owners among the hosts.
 use Rattle.std.proofs.Common.{◌≡◌, ℕ, suc, ◌+◌, ◌<◌, Bool, true, false, cond, List, [], ◌∷◌, Some, None, length, refl, arith}
 use Rattle.std.specs.Prelude.{slice_get}
 use Rattle.std.specs.List.{position_from}
@@ -6,12 +6,12 @@ use Rattle.host_net.specs.Host.{Host, covers_any, rest_of}
 use Rattle.host_net.specs.inner.Hosts.{IsHosts}
 use Rattle.host_net.proofs.OwnerLaws.{covered_once}
 
--- two hosts that cover the address are one
+-- Two hosts that cover the address are equal.
 abbrev IsCoveredOnce : ℕ → List Host → Type 0
 IsCoveredOnce a hs =
     (i j : ℕ) (g h : Host) → slice_get hs i ≡ Some g → slice_get hs j ≡ Some h → covers_any g.prefixes a ≡ true → covers_any h.prefixes a ≡ true → i ≡ j
 
--- no later host covers the address that an earlier one does
+-- No later host covers the address that an earlier host covers.
 abbrev pub IsHeldOnce : ℕ → List Host → Type 0
 IsHeldOnce a [] = Unit {0}
 IsHeldOnce a (h ∷ hs) = (covers_any h.prefixes a ≡ true → (k : ℕ) → position_from (λ x. covers_any x.prefixes a) k hs ≡ None) × IsHeldOnce a hs
@@ -33,7 +33,7 @@ held_once a (h ∷ hs) once = (
   held_once a hs (λ i j g x at_i at_j by_g by_x. let same : suc i ≡ suc j = once (suc i) (suc j) g x at_i at_j by_g by_x in omega arith),
 )
 
--- an address is held once
+-- An address is owned once.
 pub hosts_hold_once : (hosts : List Host) → IsHosts hosts → (a : ℕ) → IsHeldOnce a hosts
 hosts_hold_once hosts is a =
     held_once a hosts (λ i j g h at_i at_j by_g by_h. covered_once hosts i j g h a is at_i at_j by_g by_h)
@@ -47,6 +47,6 @@ place_below test k (h ∷ hs) i found = by_test (test h) (place_below test (k + 
     by_test true later found = let same : k ≡ i = cc in omega arith
     by_test false later found = let below = later found in omega arith
 
--- the rest host is one of the hosts
+-- The rest host is one of the hosts.
 pub rest_below : (hosts : List Host) (r : ℕ) → rest_of hosts ≡ Some r → r < length hosts
 rest_below hosts r found = let below = place_below (λ h. h.rest) 0 hosts r found in omega arith

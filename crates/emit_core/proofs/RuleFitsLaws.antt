@@ -1,4 +1,4 @@
--- Which packets the rules of a layout fit.
+-- The packets that the rules of a layout match.
 use Rattle.std.proofs.Common.{◌≡◌, ℕ, ◌<◌, ◌^◌, Bool, true, false, ◌&&◌, ◌==◌, Option, Some, None, refl, sym, ◌∙◌}
 use Rattle.std.specs.Prelude.{if◌then◌else◌, nat_le}
 use Rattle.std.proofs.Math.Bool.{and-true}
@@ -20,7 +20,7 @@ use Rattle.emit_core.specs.Layout.{at_other, answering, from_source, port_part, 
 use Rattle.emit_core.proofs.NarrowingLaws.{lets, all_ports}
 use Rattle.emit_core.specs.OtherAddress.{other_address}
 
--- the address lies in the prefix; without one it lies anywhere
+-- The address is in the prefix. Without a prefix every address is.
 abbrev pub lies_in : Option Prefix → ℕ → Bool
 lies_in None a = true
 lies_in (Some q) a = covers q a
@@ -36,7 +36,7 @@ whole_fits Sending None target packet state = refl
 whole_fits Sending (Some q) target packet state = and-true (covers q packet.dst)
 whole_fits Receiving q target packet state = source_fits q target packet state
 
--- the address part, and that an answer is asked for
+-- The address match, and the state match for answers.
 answer_fits : (side : Side) (q : Option Prefix) (target : Target) (packet : Packet) (state : CtState)
     → matches packet state (at_other side q answering target) ≡ (lies_in q (other_address side packet) && is_established state)
 answer_fits Sending None target packet New = refl
@@ -48,7 +48,7 @@ answer_fits Receiving None target packet Established = refl
 answer_fits Receiving (Some q) target packet New = refl
 answer_fits Receiving (Some q) target packet Established = refl
 
--- the port part of a rule for a service fits the ports of the service; it is not written where these are all
+-- The port match of a rule for a service matches the ports of the service; it is omitted if these are all ports.
 ports_by : (b : Bool) (s : Service) (port : ℕ) → has_all_ports s ≡ b → port < 2 ^ 16
     → port_matches (if b then None else Some (record { low = s.low; high = s.high; negated = false })) port ≡ (nat_le s.low port && nat_le port s.high)
 ports_by true s port is fits = sym (all_ports s port fits is)
@@ -64,7 +64,7 @@ turned_round true false false = refl
 turned_round false b true = refl
 turned_round false b false = refl
 
--- the rule fits what goes to the other host and is of the service
+-- The rule matches packets to the other host that match the service.
 pub to_service_fits : (side : Side) (q : Option Prefix) (n : Option Service) (packet : Packet) (state : CtState) → IsPacket packet
     → matches packet state (to_service side q n) ≡ (lies_in q (other_address side packet) && lets packet n)
 to_service_fits side q None packet state is = whole_fits side q Accept packet state ∙ sym (and-true (lies_in q (other_address side packet)))
@@ -80,7 +80,7 @@ moved true false false e = refl
 moved false b true e = refl
 moved false b false e = refl
 
--- the rule fits what answers a packet of the service
+-- The rule matches answers to packets of the service.
 pub from_service_fits : (side : Side) (q : Option Prefix) (n : Option Service) (packet : Packet) (state : CtState) → IsPacket packet
     → matches packet state (from_service side q n) ≡ (lies_in q (other_address side packet) && (lets (swap_of packet) n && is_established state))
 from_service_fits side q None packet state is = answer_fits side q Accept packet state

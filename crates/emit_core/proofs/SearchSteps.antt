@@ -1,4 +1,4 @@
--- Going over the flows of a set until something does not hold of one.
+-- Iteration over the flows of a set until a property fails for one.
 use Rattle.std.proofs.Common.{◌≡◌, inl, inr, false, List, [], ◌∷◌, ◌++◌, refl, sym, ap, ◌∙◌, subst}
 use Rattle.std.specs.Prelude.{IsTrue}
 use Rattle.std.proofs.lemmas.Bool.{or_cases, both_ways}
@@ -8,7 +8,7 @@ use Rattle.flow_set.specs.FlowSet.{has, IsOrdered}
 use Rattle.flow_set.specs.laws.FlowLaws.{same_flow_self, before_self, before_not_back, front_before, has_nothing, has-append, same_fact}
 use Rattle.flow_set.specs.laws.WalkLaws.{walk_next, walk_member}
 
--- it holds of each of the flows
+-- The property holds for each of the flows.
 abbrev pub HoldsOfEach : (Flow → Type 0) → List Flow → Type 0
 HoldsOfEach Holds xs = (g : Flow) → IsTrue (has xs g) → Holds g
 
@@ -24,7 +24,7 @@ holds_of_more Holds xs f earlier here g there = elim (or_cases (has xs g) (has (
   ]
 ]
 
--- so it holds of each flow of the whole set that is before the next one
+-- So it holds for each flow of the whole set that is before the next one.
 pub holds_before : (Holds : Flow → Type 0) (xs left rest whole : List Flow) (f : Flow) → IsOrdered whole → xs ++ left ≡ whole → left ≡ f ∷ rest
     → HoldsOfEach Holds xs → (g : Flow) → IsTrue (before g f) → IsTrue (has whole g) → Holds g
 holds_before Holds xs left rest whole f ordered walk next each g earlier there =

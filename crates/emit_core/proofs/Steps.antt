@@ -1,4 +1,4 @@
--- One step of a loop over hosts: what is left to write before it, and after it.
+-- One step of a loop over hosts: the remaining rules before it, and after it.
 use Rattle.std.proofs.Common.{◌≡◌, ℕ, ◌+◌, zero, suc, List, [], ◌∷◌, ◌++◌, Some, drop, length, refl, sym, ap, ◌∙◌, append_assoc, arith}
 use Rattle.std.specs.Prelude.{slice_get, option_map}
 use Rattle.std.specs.List.{flat_map}
@@ -17,7 +17,7 @@ drop_here (h ∷ hs) (suc i) qs here =
     let found = drop_here hs i qs here in
     (found.0, found.1 ∙ sym (ap (λ (n : ℕ). found.0 ∷ drop n (h ∷ hs)) step), found.2)
 
--- what is left for host i and those after it: its prefixes first
+-- The remaining rules for host i and those after it begin with its prefixes.
 pub for_each_more : (written : ℕ → Prefix → List Rule) (hosts : List Host) (i : ℕ) (qs : List Prefix)
     → option_map (λ h. h.prefixes) (slice_get hosts i) ≡ Some qs
     → for_each_prefix written i (drop i hosts) ≡ flat_map (written i) qs ++ for_each_prefix written (i + 1) (drop (i + 1) hosts)
@@ -26,12 +26,12 @@ for_each_more written hosts i qs here =
     ap (for_each_prefix written i) found.1
     ∙ ap (λ (x : List Prefix). flat_map (written i) x ++ for_each_prefix written (i + 1) (drop (i + 1) hosts)) (sym found.2)
 
--- after the last host nothing is left
+-- After the last host no entry remains.
 pub for_each_all : (written : ℕ → Prefix → List Rule) (hosts : List Host) (i : ℕ) → i ≡ length hosts
     → for_each_prefix written i (drop i hosts) ≡ []
 for_each_all written hosts i is = ap (for_each_prefix written i) (drop_all i hosts (omega arith))
 
--- the rules for host i are written: what was left before is written and left now
+-- Writing the rules for host i: the remaining rules before are these rules, followed by the remaining rules now.
 pub grow_each : (written : ℕ → Prefix → List Rule) (hosts : List Host) (i : ℕ) (qs : List Prefix) (old new whole : List Rule)
     → option_map (λ h. h.prefixes) (slice_get hosts i) ≡ Some qs
     → old ++ for_each_prefix written i (drop i hosts) ≡ whole

@@ -1,4 +1,5 @@
--- What a flow table of a policy is and does, where it has no range of ports, no more entries than a table may have, and where answers are covered.
+-- The flow table of a policy and its verdicts, if the policy has no range of ports and no more entries than the limit, and if its answers
+-- are covered.
 use Rattle.std.proofs.Common.{◌≡◌, ◌≤◌, ◌&&◌, ◌||◌, Bool, true, false, List, length, refl, subst, ◌∙◌, arith}
 use Rattle.std.specs.Prelude.{IsTrue, IsFalse}
 use Rattle.std.proofs.lemmas.Bool.Decides.{nat_tests}
@@ -29,7 +30,7 @@ use Rattle.emit_core.proofs.FlowTableRangeLaws.{all_ask, flow_entries_in_range}
 use Rattle.emit_core.proofs.FlowTableVerdictLaws.{forwards_flows}
 use Rattle.emit_core.specs.PortRanges.{HasNoRange, IsFirstRange, has_range}
 
--- the entries of a policy are a table
+-- The entries of a policy are a table.
 pub flow_entries_table : (site : Site) (p : List Flow) → IsSite site → HasNoRange site.services p
     → length (flow_entries site p) ≤ 8192 → IsTable (flow_entries site p)
 flow_entries_table site p known plain few =
@@ -46,14 +47,14 @@ answered_by true stateful established answered = refl
 answered_by false true established answered = let now : false ≡ true = answered refl in cc
 answered_by false false established answered = refl
 
--- where answers are covered, a policy lets the packets of its permitted flows pass, and no others
+-- If answers are covered, a policy allows exactly the packets of its permitted flows.
 lets_pass_answered : (site : Site) (p s : List Flow) (packet : Packet) (state : CtState) → IsPacket packet → AnswersAreCovered site.services p s
     → is_of site p packet ≡ lets_pass site p s packet state
 lets_pass_answered site p s packet state is covered =
     answered_by (is_of site p packet) (is_of site s (swap_of packet)) (is_established state)
     (answer_is site.services p s (owner_of site.hosts packet.src) (owner_of site.hosts packet.dst) packet is.4 covered)
 
--- and so the entries of its permitted flows enforce it
+-- So the entries of its permitted flows enforce it.
 pub flow_entries_enforce : (site : Site) (p s : List Flow) → IsSite site → HasNoRange site.services p
     → AnswersAreCovered site.services p s → Enforces (Passes (flow_entries site p)) site p s
 flow_entries_enforce site p s known plain covered =
@@ -65,12 +66,12 @@ flow_entries_enforce site p s known plain covered =
           verdict_if-injective passes _ (forwards.only (Ipv4 packet) (verdict_if passes) is has) ∙ lets_pass_answered site p s packet state is covered;
     }
 
--- of other frames they forward ARP alone
+-- Of other frames they forward only ARP.
 pub flow_entries_arp : (site : Site) (p : List Flow) → IsSite site → HasNoRange site.services p
     → ForwardsArpAlone (flow_entries site p)
 flow_entries_arp site p known plain = arp_alone (flow_entries site p) site p (forwards_flows site p known plain)
 
--- of two flows one is the earlier, or they are the same
+-- Two flows are ordered, or they are equal.
 before_or_same : (f g : Flow) (b c : Bool) → before f g ≡ b → before g f ≡ c → (b ≡ true → ⊥) → (c ≡ true → ⊥) → f ≡ g
 before_or_same f g true c is_before is_behind not_before not_behind = absurd (not_before refl)
 before_or_same f g false true is_before is_behind not_before not_behind = absurd (not_behind refl)
@@ -79,18 +80,18 @@ before_or_same f g false false is_before is_behind not_before not_behind =
     let to : f.to ≡ g.to = grind (arith, nat_tests) in
     λ i. record { from = from i; to = to i }
 
--- where answers are covered, there is no first flow whose answers are not
+-- If answers are covered, no flow is the first whose answers are not covered.
 pub none_barred : (services : List NarrowedFlow) (p s : List Flow) (f : Flow) → AnswersAreCovered services p s → IsFirstBarred services p s f → ⊥
 none_barred services p s f covered barred = let answered : IsTrue (is_covered services p f) = covered f barred.stateful in let off = barred.barred in cc
 
--- there is one at most
+-- Such a flow is unique.
 pub first_barred_once : (services : List NarrowedFlow) (p s : List Flow) (f g : Flow) → IsFirstBarred services p s f → IsFirstBarred services p s g → f ≡ g
 first_barred_once services p s f g is other =
     before_or_same f g (before f g) (before g f) refl refl
     (λ earlier. let answered : IsTrue (is_covered services p f) = other.first f earlier is.stateful in let off = is.barred in cc)
     (λ later. let answered : IsTrue (is_covered services p g) = is.first g later other.stateful in let off = other.barred in cc)
 
--- likewise the first flow with a range of ports
+-- The same for the first flow with a range of ports.
 pub none_ranging : (services : List NarrowedFlow) (p : List Flow) (f : Flow) → HasNoRange services p → IsFirstRange services p f → ⊥
 none_ranging services p f plain ranging = let off : IsFalse (has_range services f) = plain f ranging.permitted in let on = ranging.range in cc
 

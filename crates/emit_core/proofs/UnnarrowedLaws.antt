@@ -1,5 +1,5 @@
--- Where no flow is narrowed, services change nothing: a packet is of a flow by its hosts alone, and a chain lets everything pass to a host
--- by one rule, answers alone by one, or nothing.
+-- If all flows are unrestricted, services change nothing: the flow of a packet depends only on its hosts, and a chain has for a host one
+-- rule that accepts everything, one that accepts only answers, or none.
 use Rattle.std.proofs.Common.{◌≡◌, ℕ, Bool, true, false, not, ◌&&◌, List, [], ◌∷◌, ◌++◌, Option, Some, None, refl, ap}
 use Rattle.std.specs.Prelude.{if◌then◌else◌}
 use Rattle.std.specs.Option.{option_map_or}
@@ -25,7 +25,7 @@ of_flow : (flows : List Flow) (o : Option Flow) (packet : Packet)
 of_flow flows None packet = refl
 of_flow flows (Some f) packet = and-true (has flows f)
 
--- a packet is of a flow by its hosts alone
+-- The flow of a packet depends only on its hosts.
 pub is_of-unnarrowed : (hosts : List Host) (flows : List Flow) (packet : Packet)
     → is_of (unnarrowed hosts) flows packet ≡ option_map_or (λ f. has flows f) (flow_of hosts packet) false
 is_of-unnarrowed hosts flows packet = of_flow flows (flow_of hosts packet) packet
@@ -52,7 +52,7 @@ rest_same : (side : Side) (hosts : List Host) (p s : List Flow) (i : ℕ) (rest 
 rest_same side hosts p s i None = refl
 rest_same side hosts p s i (Some r) = accepts-unnarrowed side hosts p s i r None
 
--- the chain of a host
+-- The chain of a host.
 pub host_rules-unnarrowed : (side : Side) (hosts : List Host) (p s : List Flow) (i : ℕ)
     → host_rules side (unnarrowed hosts) p s i ≡ whole_host_rules side hosts p s i
 host_rules-unnarrowed side hosts p s i =

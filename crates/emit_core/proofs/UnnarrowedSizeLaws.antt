@@ -1,4 +1,4 @@
--- Where no flow is narrowed, the chains of a policy never have too many rules.
+-- If all flows are unrestricted, the chains of a policy never have too many rules.
 use Rattle.std.proofs.Common.{ℕ, zero, suc, ◌+◌, ◌*◌, ◌≤◌, Bool, true, false, not, ◌&&◌, List, [], ◌∷◌, ◌++◌, Option, Some, None, length, map, sym, subst, arith, length-append}
 use Rattle.std.specs.Prelude.{if◌then◌else◌}
 use Rattle.std.specs.List.{range_with_len}
@@ -47,7 +47,7 @@ few_to_rest : (side : Side) (p s : List Flow) (i : ℕ) (rest : Option ℕ) → 
 few_to_rest side p s i None = omega arith
 few_to_rest side p s i (Some r) = few_accepts side p s i r None
 
--- a host's chain has two rules for each prefix, and two more, at most
+-- A host's chain has at most two rules for each prefix, and two more.
 few_host_rules : (side : Side) (hosts : List Host) (p s : List Flow) (i : ℕ)
     → length (host_rules side (unnarrowed hosts) p s i) ≤ 2 * prefix_count hosts + 2
 few_host_rules side hosts p s i =

@@ -1,4 +1,5 @@
--- The layout of a policy that has no more rules than it may is a rule set that is read again, and its text is short enough for it.
+-- If the layout of a policy is within the rule limit, it is a rule set that is parsed back, and its text is within the size limit of the
+-- parser.
 use Rattle.std.proofs.Common.{◌≡◌, ℕ, zero, suc, ◌+◌, ◌^◌, ◌<◌, ◌≤◌, ◌∙◌, ap, sym, subst, refl, inl, inr, Bool, true, false, ◌&&◌, ◌||◌, ◌==◌, IsTrue, List, [], ◌∷◌, ◌++◌, Option, Some, None, length, map, arith, length-append}
 use Rattle.std.specs.Prelude.{if◌then◌else◌, codes, decimal, IsSome, nat_le, nat_lt, slice_get, bytes_eq}
 use Rattle.std.specs.List.{list_all, range_with_len, position_from}
@@ -47,7 +48,7 @@ chain_at site p s k (suc n) zero j place below =
     ap (λ (m : ℕ). Some (host_chain site p s m)) same
 chain_at site p s k (suc n) (suc i) j place below = chain_at site p s (k + 1) n i j (omega (arith, place)) (omega arith)
 
--- a host's chain is the one that is found by its name
+-- A host's chain is the one that is found by its name.
 chain_found : (site : Site) (p s : List Flow) (at k n i j m : ℕ) → k + i ≡ j → at + i ≡ m → i < n → j < 2 ^ 16
     → position_from (λ x. bytes_eq x.name (host_chain_name j)) at (map (host_chain site p s) (range_with_len k n)) ≡ Some m
 chain_found site p s at k zero i j m place number below fits = absurd (omega arith)
@@ -99,7 +100,7 @@ layout_table site p s few = record {
   found = λ c within. layout_found site p s c few within;
 }
 
--- 2. Its addresses have 32 bits, since those of the hosts' prefixes have.
+-- 2. Its addresses have 32 bits, since the addresses of the hosts' prefixes do.
 
 abbrev pub prefix_fits : Prefix → Bool
 prefix_fits q = nat_lt q.addr (2 ^ 32)
@@ -131,12 +132,12 @@ layout_addresses : (site : Site) (p s : List Flow) → IsSite site → Addresses
 layout_addresses site p s is =
     layout_passes addresses_fit prefix_fits forms_fit (λ q i fits. parts_fit Receiving q fits) site p s is.services (network_fits (all_prefixes site.hosts) is.hosts.networks)
 
--- and so have those in the chain of a host, for what it sends or for what it receives
+-- The same for the chain of a host, for outbound or for inbound packets.
 pub host_rules_addresses : (side : Side) (site : Site) (p s : List Flow) (i : ℕ) → IsSite site → list_all addresses_fit (host_rules side site p s i) ≡ true
 host_rules_addresses side site p s i is =
     host_rules_pass addresses_fit prefix_fits forms_fit side site p s i is.services (network_fits (all_prefixes site.hosts) is.hosts.networks)
 
--- 3. What is written of it is read again.
+-- 3. Its text is parsed back.
 
 pub layout_writable : (site : Site) (p s : List Flow) → IsSite site → rule_count (layout site p s) ≤ rule_limit → IsWritable (layout site p s)
 layout_writable site p s is few =
@@ -149,7 +150,8 @@ layout_writable site p s is few =
       parts = layout_rules_are site p s is.services;
     }
 
--- 4. Its text is short enough to be read: its chains have short names, and its rules ask for one address, one service and one state.
+-- 4. Its text is within the size limit of the parser: its chains have short names, and its rules match on one address, one service and one
+-- state.
 
 layout_name_short : (site : Site) (p s : List Flow) (c : ℕ) → length site.hosts ≤ 256 → length (name_of (layout site p s) c) ≤ 7
 layout_name_short site p s zero few = omega arith
@@ -174,13 +176,13 @@ address_short Sending (Some q) = omega (arith, prefix_short q)
 address_short Receiving None = omega arith
 address_short Receiving (Some q) = omega (arith, prefix_short q)
 
--- a service that has not all ports is one of a protocol that has ports
+-- A service without all ports has a protocol with ports.
 chooses_ports : (named only : Bool) → (named || (only && false)) ≡ true → named ≡ true
 chooses_ports true only is = refl
 chooses_ports false true is = cc
 chooses_ports false false is = cc
 
--- what a rule asks of the service of a packet, or of an answer
+-- The matches of a rule for the service of a packet, or of an answer.
 service_parts_short : (proto low high : ℕ) (all : Bool) → proto < 2 ^ 8 → nat_le low high ≡ true → nat_le high last_port ≡ true
     → (has_ports proto || ((proto == icmp) && all)) ≡ true
     → (length (service_text (Some (record { proto = proto; negated = false })) None (if all then None else Some (record { low = low; high = high; negated = false }))) ≤ 34)
@@ -221,7 +223,7 @@ forms_ask = record {
   answer = λ side q n at is. answer_asks side q n is;
 }
 
--- beside a short name
+-- Together with a short name.
 takes : (take ask : ℕ) (name : List ℕ) (rules : List Rule) → length name + ask ≤ take → list_all (asks_at_most ask) rules ≡ true
     → list_all (takes_at_most take name) rules ≡ true
 takes take ask name [] room all = refl
@@ -249,7 +251,7 @@ layout_takes site p s is =
     (forward_rules_pass (asks_at_most 22) anywhere site.hosts (λ q i below at. plain_asks 22 (omega arith) Receiving q (Jump (chain_of i))) (all_anywhere (all_prefixes site.hosts))))
     (chains_take site p s 0 (length site.hosts) is.services (let few : length site.hosts ≤ 256 = is.hosts.few in omega (arith, few)))
 
--- the text has at most the bytes that a text may have which is read: at most 110 a line
+-- The text is within the size limit of the parser: at most 110 bytes per line.
 pub layout_short : (site : Site) (p s : List Flow) → IsSite site → rule_count (layout site p s) ≤ rule_limit → length (text (layout site p s)) ≤ 67108864
 layout_short site p s is few =
     let hosts : length site.hosts ≤ 256 = is.hosts.few in

@@ -1,4 +1,4 @@
--- How many rules a layout may have.
+-- The greatest number of rules of a layout.
 use Rattle.std.specs.Prelude.{ℕ}
 
 abbrev pub rule_limit : ℕ

@@ -1,4 +1,4 @@
--- Which answers a flow table can let pass, since it keeps no connections: those that the reverse flow lets pass in any case.
+-- The answers that a flow table can let pass. It is stateless, so these are the answers that the reverse flow permits in any case.
 use Rattle.std.specs.Prelude.{Bool, not, ◌&&◌, ◌||◌, ◌==◌, IsTrue, IsFalse, List}
 use Rattle.std.specs.List.{list_all, list_any}
 use Rattle.host_net.specs.declared.service.Service.{Service}
@@ -8,22 +8,23 @@ use Rattle.flow_set.specs.declared.flow.Flow.{Flow}
 use Rattle.flow_set.specs.Flow.{back_of, before}
 use Rattle.flow_set.specs.FlowSet.{has}
 
--- one of these services is all of the protocol of that one
+-- One of these services matches all packets of the protocol of the other service.
 abbrev pub has_all_of : List Service → Service → Bool
 has_all_of ss t = list_any (λ u. (t.proto == u.proto) && has_all_ports u) ss
 
--- whatever answers the flow is of its reverse: that is permitted, and it is whole, or it has all ports of each protocol of the flow's services
+-- The answers to a flow are covered: its reverse is permitted, and the reverse is unrestricted; or the flow is restricted, and the
+-- permitted reverse has all ports of each protocol of its services.
 abbrev pub is_covered : List NarrowedFlow → List Flow → Flow → Bool
 is_covered services p f =
     has p (back_of f)
     && (is_whole (services_of services f.to f.from)
     || (not (is_whole (services_of services f.from f.to)) && list_all (has_all_of (services_of services f.to f.from)) (services_of services f.from f.to)))
 
--- so it is with each stateful flow
+-- The answers of each stateful flow are covered.
 abbrev pub AnswersAreCovered : List NarrowedFlow → List Flow → List Flow → Type 0
 AnswersAreCovered services p s = (f : Flow) → IsTrue (has s f) → IsTrue (is_covered services p f)
 
--- the first stateful flow whose answers are not covered
+-- f is the first stateful flow whose answers are not covered.
 pub record IsFirstBarred (services : List NarrowedFlow) (p s : List Flow) (f : Flow) : Type 0 where
   pub stateful : IsTrue (has s f)
   pub barred : IsFalse (is_covered services p f)

@@ -1,4 +1,4 @@
--- Which services a flow table cannot ask for: its entries name one port, or none (ovs-fields(7), tp_dst without a mask).
+-- The services that a flow table cannot match: an entry matches one port, or all ports (ovs-fields(7), tp_dst without a mask).
 use Rattle.std.specs.Prelude.{Bool, not, ◌&&◌, nat_lt, IsTrue, IsFalse, List}
 use Rattle.std.specs.List.{list_any}
 use Rattle.host_net.specs.declared.service.Service.{Service}
@@ -8,18 +8,19 @@ use Rattle.flow_set.specs.declared.flow.Flow.{Flow}
 use Rattle.flow_set.specs.Flow.{before}
 use Rattle.flow_set.specs.FlowSet.{has}
 
--- several ports, and not all
+-- The service has several ports, but not all.
 abbrev pub is_range : Service → Bool
 is_range s = nat_lt s.low s.high && not (has_all_ports s)
 
+-- The flow has a service with a range of ports.
 abbrev pub has_range : List NarrowedFlow → Flow → Bool
 has_range services f = list_any is_range (services_of services f.from f.to)
 
--- none of the flows has such a service
+-- None of the flows has such a service.
 abbrev pub HasNoRange : List NarrowedFlow → List Flow → Type 0
 HasNoRange services p = (f : Flow) → IsTrue (has p f) → IsFalse (has_range services f)
 
--- the first of the flows that has one
+-- f is the first of the flows with such a service.
 pub record IsFirstRange (services : List NarrowedFlow) (p : List Flow) (f : Flow) : Type 0 where
   pub permitted : IsTrue (has p f)
   pub range : IsTrue (has_range services f)

@@ -1,4 +1,4 @@
-//! Which flows have answers that only a firewall with connections can let pass.
+//! The flows whose answers only a stateful firewall can let pass.
 
 ghost use Rattle.std.specs.Prelude.{◌≡◌, ◌<◌, ◌&&◌, ◌||◌, not, length, IfSome, MatchOption};
 ghost use Rattle.std.specs.List.{list_all};
@@ -11,8 +11,8 @@ use flow_set::{Flow, FlowSet};
 use host_net::{Service, Services};
 use pkt_core::FlowPolicy;
 
-/// The first stateful flow whose answers are not all of a permitted flow, or None where those of each
-/// are.
+/// Returns the first stateful flow whose answers do not all belong to a permitted flow, or `None`
+/// if there is none.
 pub fn needs_state(policy: &FlowPolicy<'_>) -> Option<Flow>
     ensures barred { MatchOption result (AnswersAreCovered policy.now.site.services policy.now.permitted policy.now.stateful)
         (IsFirstBarred policy.now.site.services policy.now.permitted policy.now.stateful) }
@@ -35,7 +35,7 @@ fn first_barred(services: &Services, permitted: &FlowSet, stateful: &FlowSet) ->
     None
 }
 
-/// Whether all that answers the flow is of its reverse.
+/// Whether all answers to the flow belong to its reverse.
 fn is_covered(services: &Services, permitted: &FlowSet, flow: Flow) -> bool
     requires { IsFlow permitted.now.size flow }
     ensures { result ≡ is_covered services.now permitted.now.flows flow }
@@ -47,7 +47,7 @@ fn is_covered(services: &Services, permitted: &FlowSet, flow: Flow) -> bool
         )
 }
 
-/// Whether the first services are all, or all of each protocol of the others.
+/// Whether `services` are unrestricted, or have all ports of each protocol of `others`.
 fn are_all_of(services: &[Service], others: &[Service]) -> bool
     ensures { result ≡ (is_whole services.now || (not (is_whole others.now) && list_all (has_all_of services.now) others.now)) }
 {
@@ -60,7 +60,7 @@ fn are_all_of_each(services: &[Service], others: &[Service]) -> bool
     others.iter().all(|other| has_all_of(services, *other))
 }
 
-/// Whether one of the services is all of the protocol of the other.
+/// Whether one of the services has all ports of the protocol of `other`.
 fn has_all_of(services: &[Service], other: Service) -> bool
     ensures { result ≡ has_all_of services.now other }
 {

@@ -1,4 +1,5 @@
-//! The layouts of a policy that a caller has in parts: its hosts and services, and two sets of flows.
+//! The layouts of a policy that a caller has in parts: its hosts and services, and two sets of
+//! flows.
 
 ghost use Rattle.std.specs.Prelude.{◌≡◌, ◌≤◌, List, [], length, IfOk, IfErr, OnOk};
 ghost use Rattle.host_net.specs.Site.{site_with};
@@ -43,10 +44,10 @@ pub fn emit_iptables(
     ensures few { OnOk result (rule_count (layout (site_with hosts.now services.now) p.now.flows s.now.flows) ≤ rule_limit) }
     ensures refused { IfErr result (IsIptablesRefusal (site_with hosts.now services.now) p.now.flows s.now.flows) }
 
-    // Each packet has a verdict, and it is forwarded exactly where the policy lets it pass.
+    // Each packet has a verdict, and it is forwarded if and only if the policy allows it.
     ensures enforces { IfOk result (λ rules. Enforces (ChainsPass rules) (site_with hosts.now services.now) p.now.flows s.now.flows) }
 
-    // Over every list of packets and forgettings, a packet is forwarded exactly where it is expected to be.
+    // For every list of events, a packet is forwarded if and only if it is expected to pass.
     ensures expected { IfOk result (λ rules. ForwardsExpected (ChainsPass rules) (site_with hosts.now services.now) p.now.flows s.now.flows) }
 {
     match iptables_layout(alloc, &FlowPolicy::new(hosts, services, p, s)) {
@@ -56,8 +57,8 @@ pub fn emit_iptables(
     }
 }
 
-/// Emits the flow table of the permitted flows `p`, a set of the size of the hosts. A table keeps no
-/// connections: an answer passes only if it is a packet of a permitted flow itself.
+/// Emits the flow table of the permitted flows `p`, a set of the size of the hosts. A table is
+/// stateless: an answer passes only if it is a packet of a permitted flow itself.
 pub fn emit_openflow(
     alloc: Global,
     hosts: &Hosts,
@@ -70,17 +71,17 @@ pub fn emit_openflow(
     ensures few { OnOk result (length (flow_entries (site_with hosts.now services.now) p.now.flows) ≤ most_entries) }
     ensures refused { IfErr result (IsOpenflowRefusal (site_with hosts.now services.now) p.now.flows) }
 
-    // IPv4 frames are forwarded exactly where their packet is of a permitted flow, in each state of a
-    // connection; of other frames ARP alone is.
+    // An IPv4 frame is forwarded if and only if its packet belongs to a permitted flow, in each
+    // connection state. Of all other frames only ARP is forwarded.
     ensures enforces { IfOk result (λ table. Enforces (EntriesPass table) (site_with hosts.now services.now) p.now.flows []) }
     ensures others { IfOk result (λ table. ForwardsArpAlone table) }
 
-    // If the answers of each flow of `s` are covered, packets are forwarded exactly where they are
-    // expected to be, over every list of packets and forgettings.
+    // If the answers of each flow of `s` are covered, a packet is forwarded if and only if it is
+    // expected to pass, for every list of events.
     ensures expected { IfOk result (λ table. (s : List Flow) → AnswersAreCovered services.now p.now.flows s
         → ForwardsExpected (EntriesPass table) (site_with hosts.now services.now) p.now.flows s) }
 {
-    // The call shows that the set is in order, and so a subset of itself.
+    // The call establishes that the set is sorted, and so a subset of itself.
     let _size = p.size();
     match flow_table_layout(alloc, &FlowPolicy::new(hosts, services, p, p)) {
         Ok(table) => Ok(table),

@@ -1,5 +1,5 @@
-//! The entries of a flow table as they come: they are kept while a table may have so many, and all are
-//! counted.
+//! A growing list of entries. The entries are stored while their number is within the limit of a
+//! table; all are counted.
 
 ghost use Rattle.std.specs.Prelude.{◌≡◌, OnOk};
 ghost use Rattle.emit_core.specs.inner.KeptEntries.{no_entries, with_entry};
@@ -8,7 +8,7 @@ use ofp_rules::{ENTRY_LIMIT, Entry};
 use std::alloc::{AllocError, Global};
 use std::marker::Model;
 
-/// Entries in their order, of which those are kept that a table may have.
+/// Entries in order: stored up to the limit of a table, and counted.
 #[derive(Drop)]
 pub(crate) struct Entries {
     kept: Vec<Entry>,
@@ -33,7 +33,8 @@ impl Entries {
         }
     }
 
-    /// Adds an entry. One that can no longer be counted finds no memory; no layout has so many.
+    /// Adds an entry. Fails with an allocation error if the count overflows; no layout has that
+    /// many entries.
     pub(crate) fn push(&mut self, entry: Entry) -> Result<(), AllocError>
         ensures { OnOk result (self.new ≡ with_entry self.old entry) }
     {
@@ -45,14 +46,14 @@ impl Entries {
         Ok(())
     }
 
-    /// How many entries came.
+    /// Returns the number of entries that were added.
     pub(crate) fn count(&self) -> u32
         ensures { result ≡ self.now.count }
     {
         self.count
     }
 
-    /// Those that are kept.
+    /// Returns the stored entries.
     pub(crate) fn into_kept(self) -> Vec<Entry>
         ensures { result.items ≡ self.kept }
     {

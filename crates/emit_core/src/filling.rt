@@ -1,4 +1,4 @@
-//! Chains that are filled with rules, and made a rule set.
+//! Chains that are filled with rules, and converted to a rule set.
 
 ghost use Rattle.std.specs.Prelude.{◌≡◌, ◌+◌, ◌<◌, ◌^◌, ℕ, length, take, IfOk, OnErr, OnOk, IsTrue, None};
 ghost use Rattle.std.specs.List.{list_all};
@@ -11,8 +11,8 @@ ghost use Rattle.emit_core.specs.inner.Filling.{with_rules};
 use ipt_rules::{Chains, Rule, Ruleset};
 use std::alloc::{AllocError, Global};
 
-/// Adds the rules at the end of a chain. If memory runs out, the chain has some of the rules, from the first
-/// on.
+/// Appends the rules to a chain. If memory runs out, the chain has some of the rules, from the
+/// first on.
 pub fn fill(chains: &mut Chains, chain: u16, rules: &[Rule]) -> Result<(), AllocError>
     requires there { chain < length chains.old }
     requires room { rule_count chains.old + length rules.now < 2 ^ 32 }
@@ -27,13 +27,14 @@ pub fn fill(chains: &mut Chains, chain: u16, rules: &[Rule]) -> Result<(), Alloc
     Ok(())
 }
 
-/// The rule set of chains for whose refusal there is no cause: where none comes, memory ran out.
+/// Returns the rule set of chains that have no cause to be refused. So it fails only if memory
+/// allocation fails.
 pub fn build_accepted(alloc: Global, chains: Chains) -> Result<Ruleset, AllocError>
     requires accepted { refusal_of chains ≡ None }
     requires no_loop { HasNoLoop chains }
     ensures { IfOk result (λ rules. rules ≡ chains) }
 {
-    // The search finds no loop, and so an order in which each jump goes back.
+    // The search finds no cycle, and so an order in which each jump goes back.
     let _none = chains.first_loop(alloc)?;
     Ruleset::new(alloc, chains)
 }

@@ -1,4 +1,4 @@
-//! The few forms of entries that a flow table has.
+//! The forms of entries that a flow table has.
 
 ghost use Rattle.std.specs.Prelude.{◌≡◌, OnOk, Some, map};
 ghost use Rattle.host_net.specs.Service.{narrowings};
@@ -11,8 +11,8 @@ use host_net::{Prefix, Service};
 use ofp_rules::{Action, Entry, FrameKind};
 use std::alloc::AllocError;
 
-/// The entries that forward what services serve, or everything where there are none. Without a
-/// prefix they ask for no source, or no destination.
+/// Adds the entries that forward the packets of the services, or all packets if there are none.
+/// Without a prefix an entry matches every source, or every destination.
 pub(crate) fn push_services(
     entries: &mut Entries,
     priority: u16,
@@ -46,8 +46,8 @@ fn push_each_service(
     Ok(())
 }
 
-/// What drops packets between two prefixes, where there is a rest host from or to which they would
-/// pass else.
+/// Adds the entry that drops packets between two prefixes, if there is a rest host. Without it they
+/// would match the entries of the rest host.
 pub(crate) fn push_rest_drop(
     entries: &mut Entries,
     rest: Option<u16>,
@@ -103,7 +103,7 @@ fn service_entry(
     }
 }
 
-/// The port that an entry for the service asks for.
+/// Returns the port that an entry for the service matches.
 fn port_of(service: Service) -> Option<u16>
     ensures { result ≡ port_of_service service }
 {
@@ -114,7 +114,7 @@ fn port_of(service: Service) -> Option<u16>
     }
 }
 
-/// ARP frames are forwarded.
+/// Returns the entry that forwards ARP frames.
 pub(crate) fn arp_entry() -> Entry
     ensures { result ≡ arp_entry }
 {
@@ -130,7 +130,7 @@ pub(crate) fn arp_entry() -> Entry
     }
 }
 
-/// What no other entry matches is dropped.
+/// Returns the entry that drops all other frames.
 pub(crate) fn other_entry() -> Entry
     ensures { result ≡ other_entry }
 {

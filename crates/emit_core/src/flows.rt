@@ -1,4 +1,4 @@
-//! The entries of a flow table, by the hosts that a frame comes from and goes to.
+//! The entries of a flow table, by source host and destination host of a frame.
 
 ghost use Rattle.std.specs.Prelude.{◌≡◌, ◌<◌, length, OnOk, if◌then◌else◌, []};
 ghost use Rattle.host_net.specs.Service.{is_whole};
@@ -13,7 +13,7 @@ use host_net::{Prefix, Service};
 use pkt_core::FlowPolicy;
 use std::alloc::AllocError;
 
-/// The entries from each host to each host.
+/// Adds the entries from each host to each host.
 #[tactic(auto, using(crate::proofs::HostSteps::for_each_all))]
 pub(crate) fn push_between(
     entries: &mut Entries,
@@ -99,7 +99,8 @@ fn push_pair(
     }
 }
 
-// Below the services of a narrowed flow, what would pass else as if from or to the rest host.
+// Adds, below the services of a restricted flow, the entry that drops packets which would otherwise
+// match an entry of the rest host.
 fn push_low_drop(
     entries: &mut Entries,
     services: &[Service],

@@ -1,4 +1,4 @@
-//! FORWARD: each packet goes to the chain of the host that owns its source.
+//! The chain FORWARD: each packet jumps to the chain of the host that owns its source.
 
 ghost use Rattle.std.specs.Prelude.{◌≡◌, ◌+◌, ◌<◌, ◌≤◌, ◌^◌, ◌++◌, length, IfOk, OnOk};
 ghost use Rattle.std.specs.List.{flat_map};
@@ -9,7 +9,7 @@ use host_net::{Hosts, Prefix};
 use ipt_rules::{Rule, Target};
 use std::alloc::{AllocError, Global};
 
-/// The rules of FORWARD.
+/// Returns the rules of FORWARD.
 pub(crate) fn forward_rules(alloc: Global, hosts: &Hosts) -> Result<Vec<Rule>, AllocError>
     requires { length hosts.now ≤ 256 }
     ensures { IfOk result (λ rules. rules.items ≡ forward_rules hosts.now) }

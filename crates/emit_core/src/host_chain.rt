@@ -1,4 +1,4 @@
-//! The chain of one host: what it may send, by the destination, or what it may receive, by the source.
+//! The chain of one host: its outbound packets by destination, or its inbound packets by source.
 
 ghost use Rattle.std.specs.Prelude.{◌≡◌, ◌≤◌, ◌<◌, ◌++◌, length, IfOk, OnOk};
 ghost use Rattle.std.specs.List.{flat_map};
@@ -17,7 +17,7 @@ use link::Link;
 use pkt_core::FlowPolicy;
 use std::alloc::{AllocError, Global};
 
-/// The rules of the chain of a host for what it sends, or for what it receives.
+/// Returns the rules of the chain of a host for outbound or for inbound packets.
 pub fn host_rules(
     alloc: Global,
     policy: &FlowPolicy<'_>,
@@ -36,7 +36,7 @@ pub fn host_rules(
     chain.rules(alloc)
 }
 
-/// The host whose chain is written, with the policy that it is written for.
+/// The host of the chain, and the policy.
 #[derive(Drop)]
 struct HostChain<'a> {
     policy: &'a FlowPolicy<'a>,
@@ -49,7 +49,7 @@ struct HostChain<'a> {
 }
 
 impl<'a> HostChain<'a> {
-    /// What passes between the host and another.
+    /// Returns the packets that pass between the host and another.
     fn link(&self, other: u16) -> Link<'a>
         requires { other < length self.now.policy.now.site.hosts }
         ensures { result ≡ link_of self.now.side self.now.policy.now.site
@@ -70,7 +70,7 @@ impl<'a> HostChain<'a> {
         }
     }
 
-    /// The rules of the host's chain.
+    /// Returns the rules of the host's chain.
     fn rules(&self, alloc: Global) -> Result<Vec<Rule>, AllocError>
         ensures { IfOk result (λ rules. rules.items ≡ host_rules self.now.side self.now.policy.now.site
             self.now.policy.now.permitted self.now.policy.now.stateful self.now.host) }

@@ -1,4 +1,4 @@
-//! The chains of a policy, put together.
+//! The chains of a policy, assembled.
 
 ghost use Rattle.std.specs.Prelude.{◌≡◌, ◌+◌, ◌<◌, ◌≤◌, ◌^◌, ◌∷◌, [], ◌++◌, None, length, IfOk, IfErr, OnOk, IsNone, IsTrue};
 ghost use Rattle.std.specs.List.{list_all};
@@ -25,21 +25,21 @@ use ipt_rules::{ChainName, Chains, FORWARD, Policy, Rule, Ruleset};
 use pkt_core::FlowPolicy;
 use std::alloc::{AllocError, Global};
 
-/// How many rules the chains of a layout may have.
+/// The greatest number of rules of a layout.
 const RULE_LIMIT: u32 = 600_000;
 
-/// The rules of a policy: permitted flows pass, and the answers of stateful ones where their
-/// connection is established.
+/// Returns the rules of a policy: permitted flows pass, and the answers of stateful flows pass on
+/// established connections.
 pub fn iptables_layout(alloc: Global, policy: &FlowPolicy<'_>) -> Result<Ruleset, NoChains>
     ensures layout { IfOk result (λ rules. rules ≡ layout policy.now.site policy.now.permitted policy.now.stateful) }
     ensures few { OnOk result (rule_count (layout policy.now.site policy.now.permitted policy.now.stateful) ≤ rule_limit) }
     ensures refused { IfErr result (HasNoChains policy.now.site policy.now.permitted policy.now.stateful) }
 
-    // Each packet has a verdict, and it is forwarded exactly where the policy lets it pass.
+    // Each packet has a verdict, and it is forwarded if and only if the policy allows it.
     ensures enforces { IfOk result (λ rules. Enforces (Passes rules) policy.now.site policy.now.permitted policy.now.stateful) }
 
-    // Over every list of packets and forgettings, a packet is forwarded exactly where the policy
-    // and its answers expect it.
+    // For every list of events, a packet is forwarded if and only if the policy and its answers
+    // expect it.
     ensures expected { IfOk result (λ rules. ForwardsExpected (Passes rules) policy.now.site policy.now.permitted policy.now.stateful) }
 {
     let Ok(Layout { chains, count }) = layout_of(alloc, policy) else {
@@ -54,8 +54,8 @@ pub fn iptables_layout(alloc: Global, policy: &FlowPolicy<'_>) -> Result<Ruleset
     }
 }
 
-/// A layout as its chains come: all their rules are counted, and the chains are kept while the rules
-/// are not too many.
+/// A growing layout: all rules are counted, and the chains are stored while the count is within the
+/// limit.
 #[derive(Drop)]
 struct Layout {
     chains: Chains,
@@ -74,7 +74,7 @@ fn layout_of(alloc: Global, policy: &FlowPolicy<'_>) -> Result<Layout, AllocErro
     Ok(made)
 }
 
-/// The built-in chains with their rules.
+/// Returns the built-in chains with their rules.
 fn entry_layout(alloc: Global, hosts: &Hosts) -> Result<Layout, AllocError>
     ensures chains { IfOk result (λ made. made.chains ≡ entry_chains hosts.now) }
     ensures count { IfOk result (λ made. made.count ≡ length (forward_rules hosts.now)) }

@@ -1,4 +1,4 @@
-//! What a policy without services means and how it is written, over the definitions alone.
+//! The meaning and the layout of a policy without services, over the definitions only.
 
 ghost use Rattle.std.specs.Prelude.{◌≡◌, ◌↔◌, ℕ, false, List, [], IsTrue};
 ghost use Rattle.std.specs.Option.{option_map_or};
@@ -16,8 +16,9 @@ ghost use Rattle.emit_core.specs.Layout.{host_rules};
 ghost use Rattle.emit_core.specs.inner.UnnarrowedFlowTable.{whole_entries};
 ghost use Rattle.emit_core.specs.inner.UnnarrowedLayout.{whole_host_rules};
 
-/// Where no flow is narrowed to services, the owners of its addresses alone decide the flow of a packet,
-/// each rule and each entry is about whole flows, and an answer is covered if its flow is permitted.
+/// If all flows are unrestricted, the flow of a packet depends only on the owners of its addresses,
+/// each rule and each entry matches all packets of a flow, and an answer is covered if its flow is
+/// permitted.
 pub fn unnarrowed_flows_are_whole()
     ensures meaning { (hosts : List Host) (flows : List Flow) (packet : Packet) →
         is_of (unnarrowed hosts) flows packet ≡ option_map_or (λ f. has flows f) (flow_of hosts packet) false }

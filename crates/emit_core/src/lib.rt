@@ -1,7 +1,7 @@
-//! The layouts of a policy: chains of a packet filter, and a flow table, that let exactly its packets
-//! pass. They are made here; the crates above print them and follow lists of packets through them. A
-//! host's own rules, on the side where it sends or receives, and what fills chains with rules, are here
-//! for other layouts too.
+//! The layouts of a policy: iptables chains, and a flow table, that forward exactly its packets.
+//! This crate builds them; the crates above print them and evaluate them on lists of packets. The
+//! rules of a single host, outbound or inbound, and the calls that fill chains with rules, are also
+//! here for other layouts.
 #![tactic(auto)]
 
 mod answers;

@@ -1,4 +1,4 @@
-//! The flow table of a policy, put together.
+//! The flow table of a policy, assembled.
 
 ghost use Rattle.std.specs.Prelude.{◌≡◌, List, [], ◌≤◌, length, IfOk, IfErr, OnOk};
 ghost use Rattle.flow_set.specs.declared.flow.Flow.{Flow};
@@ -22,25 +22,25 @@ use ofp_rules::{ENTRY_LIMIT, Table, TableRefusal};
 use pkt_core::FlowPolicy;
 use std::alloc::{AllocError, Global};
 
-/// The flow table of a policy: permitted flows pass, and answers to them only where they are of
-/// permitted flows themselves, since a table keeps no connections.
+/// Returns the flow table of a policy: permitted flows pass. Answers to them pass only if they
+/// belong to permitted flows themselves, since a table is stateless.
 pub fn flow_table_layout(alloc: Global, policy: &FlowPolicy<'_>) -> Result<Table, NoTable>
     ensures layout { IfOk result (λ table. table ≡ flow_entries policy.now.site policy.now.permitted) }
     ensures ports { OnOk result (HasNoRange policy.now.site.services policy.now.permitted) }
     ensures few { OnOk result (length (flow_entries policy.now.site policy.now.permitted) ≤ most_entries) }
     ensures refused { IfErr result (HasNoTable policy.now.site policy.now.permitted) }
 
-    // IPv4 frames are forwarded exactly where their packet is of a permitted flow, whatever the
-    // state of its connection; of other frames ARP alone is.
+    // An IPv4 frame is forwarded if and only if its packet belongs to a permitted flow, regardless
+    // of the connection state. Of all other frames only ARP is forwarded.
     ensures enforces { IfOk result (λ table. Enforces (Passes table) policy.now.site policy.now.permitted []) }
     ensures others { IfOk result (λ table. ForwardsArpAlone table) }
 
-    // So where the answers of each stateful flow are covered, packets are forwarded exactly as
-    // expected, over every list of packets and forgettings.
+    // So if the answers of each stateful flow are covered, packets are forwarded exactly as
+    // expected, for every list of events.
     ensures expected { IfOk result (λ table. (s : List Flow) → AnswersAreCovered policy.now.site.services policy.now.permitted s
         → ForwardsExpected (Passes table) policy.now.site policy.now.permitted s) }
 {
-    // What holds of policies at all times is known by looking at them.
+    // The call establishes the invariants of policies.
     let _count = policy.count();
     if let Some(flow) = first_range(policy) {
         return Err(NoTable::RangeOfPorts { flow });
@@ -58,7 +58,7 @@ pub fn flow_table_layout(alloc: Global, policy: &FlowPolicy<'_>) -> Result<Table
     }
 }
 
-// No layout with so few entries is refused: where no table came, memory ran out.
+// No layout within the entry limit is refused: if no table is returned, memory allocation failed.
 fn out_of_memory(why: TableRefusal) -> NoTable
     requires { why ≡ TableRefusal.Memory }
     ensures { result ≡ NoTable.Memory }

@@ -1,4 +1,4 @@
-//! The few forms of rules that a layout has.
+//! The forms of rules that a layout has.
 
 ghost use Rattle.std.specs.Prelude.{◌≡◌, ◌+◌, ◌<◌, ◌^◌};
 ghost use Rattle.emit_core.specs.Layout.{chain_of, in_prefix, answering, from_source, at_other, protocol_part, port_part, ports_of_service};
@@ -9,7 +9,7 @@ use crate::side::Side;
 use host_net::{Prefix, Service};
 use ipt_rules::{AddrMatch, PortMatch, ProtoMatch, Rule, StateMatch, Target};
 
-/// The number of a host's chain, after the three built-in ones.
+/// Returns the number of a host's chain, after the three built-in ones.
 pub(crate) fn chain_of(host: u16) -> u16
     requires { host + 3 < 2 ^ 16 }
     ensures { result ≡ chain_of host }
@@ -17,14 +17,15 @@ pub(crate) fn chain_of(host: u16) -> u16
     host + 3
 }
 
-/// A rule on the source of a packet; without a prefix it asks for no source.
+/// Returns a rule that matches the source of a packet; without a prefix it matches every source.
 pub(crate) fn from_source(prefix: Option<Prefix>, target: Target) -> Rule
     ensures { result ≡ from_source prefix target }
 {
     at_other(Side::Receiving, prefix, target)
 }
 
-/// A rule on the address of the other host; without a prefix it asks for none.
+/// Returns a rule that matches the address of the other host; without a prefix it matches every
+/// address.
 pub fn at_other(side: Side, prefix: Option<Prefix>, target: Target) -> Rule
     ensures { result ≡ at_other side prefix None target }
 {
@@ -44,15 +45,15 @@ pub fn at_other(side: Side, prefix: Option<Prefix>, target: Target) -> Rule
     }
 }
 
-/// Which packets a rule accepts: those of a flow, or answers to one.
+/// The packets that a rule accepts: those of a flow, or answers to one.
 #[derive(Clone, Copy, Debug, PartialEq, Eq)]
 pub(crate) enum Accepted {
     Flow,
     Answers,
 }
 
-/// A rule that accepts packets to the ports of a service, or answers from them; without a service it
-/// asks for none.
+/// Returns a rule that accepts packets to the ports of a service, or answers from them; without a
+/// service it matches on neither protocol nor port.
 pub(crate) fn accepting(
     accepted: Accepted,
     side: Side,
@@ -78,7 +79,7 @@ pub(crate) fn accepting(
     }
 }
 
-/// What a rule asks of the state of an answer.
+/// Returns the state match for answers.
 fn answering() -> Option<StateMatch>
     ensures { result ≡ answering }
 {
@@ -89,7 +90,7 @@ fn answering() -> Option<StateMatch>
     })
 }
 
-/// What a rule asks of an address: that it lies in the prefix; without a prefix nothing.
+/// Returns the address match for a prefix; without a prefix there is none.
 pub fn in_prefix(prefix: Option<Prefix>) -> Option<AddrMatch>
     ensures { result ≡ in_prefix prefix }
 {
@@ -102,7 +103,7 @@ pub fn in_prefix(prefix: Option<Prefix>) -> Option<AddrMatch>
     }
 }
 
-/// What a rule asks of the protocol: that of the service; without a service nothing.
+/// Returns the protocol match for a service; without a service there is none.
 fn protocol_part(service: Option<Service>) -> Option<ProtoMatch>
     ensures { result ≡ protocol_part service }
 {
@@ -115,7 +116,7 @@ fn protocol_part(service: Option<Service>) -> Option<ProtoMatch>
     }
 }
 
-/// What a rule asks of a port: that it is one of the service; without a service nothing.
+/// Returns the port match for a service; without a service there is none.
 fn port_part(service: Option<Service>) -> Option<PortMatch>
     ensures { result ≡ port_part service }
 {
@@ -125,7 +126,7 @@ fn port_part(service: Option<Service>) -> Option<PortMatch>
     }
 }
 
-/// The ports of a service, where these are not all.
+/// Returns the ports of a service, unless it has all ports.
 fn ports_of_service(service: Service) -> Option<PortMatch>
     ensures { result ≡ ports_of_service service }
 {

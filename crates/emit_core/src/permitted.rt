@@ -1,4 +1,4 @@
-//! Whether the flow from one host to another is one of some flows.
+//! Membership of the flow between two hosts in a set of flows.
 
 ghost use Rattle.std.specs.Prelude.{◌≡◌, ◌<◌};
 ghost use Rattle.emit_core.specs.Sides.{permits};

@@ -1,4 +1,4 @@
-//! One flow of the policy that a flow table is written for.
+//! One flow of the policy of a flow table.
 
 ghost use Rattle.std.specs.Prelude.{◌≡◌, ◌<◌, length};
 ghost use Rattle.host_net.specs.Services.{services_of};
@@ -17,7 +17,7 @@ pub(crate) struct PolicyFlow<'a> {
 }
 
 impl<'a> PolicyFlow<'a> {
-    /// The flow from one host to another.
+    /// Returns the flow from one host to another.
     pub(crate) fn of(policy: &FlowPolicy<'a>, from: u16, to: u16) -> PolicyFlow<'a>
         requires from { from < length policy.now.site.hosts }
         requires to { to < length policy.now.site.hosts }
@@ -30,7 +30,7 @@ impl<'a> PolicyFlow<'a> {
         }
     }
 
-    /// The flow that a host has with another on a side.
+    /// Returns the flow that a host has with another in a direction.
     pub(crate) fn on(policy: &FlowPolicy<'a>, side: Side, host: u16, other: u16) -> PolicyFlow<'a>
         requires host { host < length policy.now.site.hosts }
         requires other { other < length policy.now.site.hosts }

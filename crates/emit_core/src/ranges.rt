@@ -1,4 +1,4 @@
-//! The first permitted flow with a service that a flow table cannot ask for.
+//! The first permitted flow with a service that a flow table cannot match.
 
 ghost use Rattle.std.specs.Prelude.{◌≡◌, MatchOption};
 ghost use Rattle.std.specs.List.{list_any};
@@ -9,7 +9,8 @@ use flow_set::Flow;
 use host_net::{Service, Services};
 use pkt_core::FlowPolicy;
 
-/// The first permitted flow that is narrowed to a range of ports, or None where none is.
+/// Returns the first permitted flow that is restricted to a range of ports, or `None` if there is
+/// none.
 pub(crate) fn first_range(policy: &FlowPolicy<'_>) -> Option<Flow>
     ensures { MatchOption result (HasNoRange policy.now.site.services policy.now.permitted)
         (IsFirstRange policy.now.site.services policy.now.permitted) }
@@ -38,7 +39,7 @@ fn is_one_range(services: &[Service]) -> bool
     services.iter().any(|service| is_range(*service))
 }
 
-/// Whether the service has several ports, and not all.
+/// Whether the service has several ports, but not all.
 fn is_range(service: Service) -> bool
     ensures { result ≡ is_range service }
 {

@@ -1,29 +1,29 @@
-//! Why a policy has no rules.
+//! The reasons why a policy has no rules.
 
 use flow_set::Flow;
 
-/// Why a policy has no chains.
+/// The reason why a policy has no chains.
 #[derive(Clone, Copy, Debug, PartialEq, Eq)]
 pub enum NoChains {
-    /// They would have more than 600,000 rules: so many.
+    /// The chains would have more than 600,000 rules: `count`.
     TooManyRules { count: u32 },
-    /// There was no memory.
+    /// Memory allocation failed.
     Memory,
 }
 
-/// Why a policy has no flow table.
+/// The reason why a policy has no flow table.
 #[derive(Clone, Copy, Debug, PartialEq, Eq)]
 pub enum NoTable {
-    /// A permitted flow is narrowed to a range of ports, and this is the first. An entry asks for one
-    /// port, or for none.
+    /// A permitted flow is restricted to a range of ports; `flow` is the first one. An entry
+    /// matches one port, or every port.
     RangeOfPorts { flow: Flow },
-    /// It would have more than 8,192 entries: so many.
+    /// The table would have more than 8,192 entries: `count`.
     TooManyEntries { count: u32 },
-    /// There was no memory.
+    /// Memory allocation failed.
     Memory,
 }
 
-/// Why `emit_iptables` or `emit_openflow` emits nothing.
+/// The reason why `emit_iptables` or `emit_openflow` emits nothing.
 #[derive(Clone, Copy, Debug, PartialEq, Eq)]
 pub enum EmitRefusal {
     /// A permitted flow has a service with a range of ports, and this flow is the first. Only a flow
@@ -31,6 +31,6 @@ pub enum EmitRefusal {
     RangeOfPorts { flow: Flow },
     /// The layout has more than 600,000 rules, or more than 8,192 entries of a flow table: `count`.
     TooManyRules { count: u32 },
-    /// Memory ran out.
+    /// Memory allocation failed.
     Memory,
 }

@@ -1,4 +1,5 @@
-//! The entries of a flow table from each host to the rest host, and from there to each.
+//! The entries of a flow table from each host to the rest host, and from the rest host to each
+//! host.
 
 ghost use Rattle.std.specs.Prelude.{◌≡◌, ◌<◌, length, OnOk};
 ghost use Rattle.std.specs.Option.{ForSome};
@@ -15,7 +16,7 @@ use host_net::{Prefix, Service};
 use pkt_core::FlowPolicy;
 use std::alloc::AllocError;
 
-/// The entries to and from the rest host, where there is one.
+/// Adds the entries to and from the rest host, if there is one.
 #[tactic(auto, using(crate::proofs::EntrySteps::in_parts))]
 pub(crate) fn push_with_rest(
     entries: &mut Entries,
@@ -33,7 +34,7 @@ pub(crate) fn push_with_rest(
     Ok(())
 }
 
-/// The entries of each host for what it sends to the rest host, or for what it receives from there.
+/// Adds the entries of each host for its packets to the rest host, or for those from the rest host.
 #[tactic(auto, using(crate::proofs::HostSteps::for_each_all))]
 fn push_on_side(
     entries: &mut Entries,

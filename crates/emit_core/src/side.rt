@@ -1,4 +1,4 @@
-//! On which side of a packet a host stands.
+//! The direction of a packet, as seen from a host.
 
 ghost use Rattle.std.specs.Prelude.{◌≡◌};
 ghost use Rattle.emit_core.specs.Sides.{flow_on, other_side};
@@ -13,7 +13,7 @@ pub enum Side {
 }
 
 impl Side {
-    /// The side on which the host meets the answers.
+    /// Returns the direction of the answers, as seen from the host.
     pub fn other(self) -> Side
         ensures { result ≡ other_side self }
     {
@@ -23,7 +23,7 @@ impl Side {
         }
     }
 
-    /// The flow that a host has with another on this side.
+    /// Returns the flow that a host has with another in this direction.
     pub(crate) fn flow(self, host: u16, other: u16) -> Flow
         ensures { result ≡ flow_on self host other }
     {

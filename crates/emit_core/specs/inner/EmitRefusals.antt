@@ -1,4 +1,4 @@
--- Why a policy has no chains, or no flow table, and why nothing is emitted for it.
+-- The reasons why a policy has no chains, or no flow table, and why a call emits nothing.
 use Rattle.std.specs.Prelude.{◌≡◌, ◌<◌, List, length}
 use Rattle.host_net.specs.Site.{Site}
 use Rattle.flow_set.specs.declared.flow.Flow.{Flow}
@@ -15,24 +15,25 @@ use Rattle.emit_core.specs.Layout.{layout}
 use Rattle.emit_core.specs.PortRanges.{HasNoRange, IsFirstRange}
 use Rattle.emit_core.specs.EmitRefusals.{rule_limit}
 
--- why there are no chains: they have too many rules, or there is no memory
+-- The reasons for no chains: there are too many rules, or memory allocation fails.
 abbrev pub HasNoChains : Site → List Flow → List Flow → NoChains → Type 0
 HasNoChains site p s (TooManyRules count) = (rule_limit < rule_count (layout site p s)) × (count ≡ rule_count (layout site p s))
 HasNoChains site p s Memory = Unit {0}
 
--- why there is no table: a permitted flow has a range of ports; where none has, there are too many entries; or there is no memory
+-- The reasons for no table: a permitted flow has a range of ports; or no flow has one, and there are too many entries; or memory allocation
+-- fails.
 abbrev pub HasNoTable : Site → List Flow → NoTable → Type 0
 HasNoTable site p (RangeOfPorts flow) = IsFirstRange site.services p flow
 HasNoTable site p (TooManyEntries count) = HasNoRange site.services p × (most_entries < length (flow_entries site p)) × (count ≡ length (flow_entries site p))
 HasNoTable site p NoMemory = Unit {0}
 
--- An EmitRefusal of iptables rules is the reason why there are no chains. It is no range of ports.
+-- An EmitRefusal of iptables rules is the reason for no chains. It is never a range of ports.
 abbrev pub IsIptablesRefusal : Site → List Flow → List Flow → EmitRefusal → Type 0
 IsIptablesRefusal site p s (emit.RangeOfPorts flow) = ⊥
 IsIptablesRefusal site p s (emit.TooManyRules count) = HasNoChains site p s (TooManyRules count)
 IsIptablesRefusal site p s emit.Memory = HasNoChains site p s Memory
 
--- An EmitRefusal of a flow table is the reason why there is no table.
+-- An EmitRefusal of a flow table is the reason for no table.
 abbrev pub IsOpenflowRefusal : Site → List Flow → EmitRefusal → Type 0
 IsOpenflowRefusal site p (emit.RangeOfPorts flow) = HasNoTable site p (RangeOfPorts flow)
 IsOpenflowRefusal site p (emit.TooManyRules count) = HasNoTable site p (TooManyEntries count)

@@ -1,4 +1,4 @@
--- Chains and rules that are added one after another. The contracts of layouts say none of it; they say the chains.
+-- Chains and rules that are added in sequence. The contracts of layouts mention none of it; they specify the chains.
 use Rattle.std.specs.Prelude.{◌≡◌, ◌≤◌, ℕ, List, [], ◌∷◌, ◌++◌, map}
 use Rattle.std.specs.List.{range_with_len}
 use Rattle.host_net.specs.Site.{Site}
@@ -9,16 +9,16 @@ use Rattle.ipt_rules.specs.ChainTable.{rule_count}
 use Rattle.emit_core.specs.EmitRefusals.{rule_limit}
 use Rattle.emit_core.specs.Layout.{entry_chains, host_chain}
 
--- the chains with more rules at the end of chain c
+-- The chains with more rules at the end of chain c.
 abbrev pub with_rules : List Chain → ℕ → List Rule → List Chain
 with_rules chains c [] = chains
 with_rules chains c (r ∷ rs) = with_rules (with_rule chains c r) c rs
 
--- the layout up to the chain of the n-th host
+-- The layout up to the chain of the n-th host.
 abbrev pub chains_up_to : Site → List Flow → List Flow → ℕ → List Chain
 chains_up_to site p s n = entry_chains site.hosts ++ map (host_chain site p s) (range_with_len 0 n)
 
--- the rules of chains are counted, and where they are not too many the chains are kept
+-- The rules of all chains are counted, and the chains are stored if the count is within the limit.
 pub record AreCounted (all chains : List Chain) (count : ℕ) : Type 0 where
   pub counted : count ≡ rule_count all
   pub kept : count ≤ rule_limit → chains ≡ all

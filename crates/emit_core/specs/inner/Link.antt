@@ -1,4 +1,5 @@
--- What is asked of a host and another once, and the rules for the two by it: those of the layout.
+-- The policy facts about a host and another, computed once, and the rules for the two in terms of them. They are the
+-- rules of the layout.
 use Rattle.std.specs.Prelude.{ℕ, Bool, false, not, ◌&&◌, ◌||◌, is_some, if◌then◌else◌, List, [], ◌∷◌, ◌++◌, Option, Some, None, map}
 use Rattle.std.specs.Option.{option_map_or}
 use Rattle.host_net.specs.declared.prefix.Prefix.{Prefix}
@@ -14,12 +15,12 @@ use Rattle.emit_core.specs.declared.side.Side.{Side}
 use Rattle.emit_core.specs.Layout.{at_other, from_service, to_service}
 use Rattle.emit_core.specs.Sides.{links, other_side, services_on}
 
--- the rule that accepts packets to a service, or answers from it
+-- The rule that accepts packets to a service, or answers from it.
 abbrev pub accepting : Accepted → Side → Option Prefix → Option Service → Rule
 accepting OfFlow side q n = to_service side q n
 accepting Answers side q n = from_service side q n
 
--- the services of the flow on the side, where it is permitted, and those of the flow that is answered, where answers pass
+-- The services of the flow in this direction, if it is permitted, and the services of the answered flow, if answers pass.
 pub record Link : Type 0 where
   pub side : Side
   pub flow : Option (List Service)
@@ -35,11 +36,11 @@ link_of side site p s i j = record {
   answers = served (links (other_side side) s i j) (services_on (other_side side) site.services i j);
 }
 
--- some packet passes
+-- Some packet passes.
 abbrev pub is_open_link : Link → Bool
 is_open_link link = is_some link.flow || is_some link.answers
 
--- every packet passes
+-- Every packet passes.
 abbrev pub is_whole_link : Link → Bool
 is_whole_link link = option_map_or is_whole link.flow false
 
@@ -53,7 +54,7 @@ answer_rules link q =
 abbrev pub accept_rules : Link → Option Prefix → List Rule
 accept_rules link q = flow_rules link q ++ answer_rules link q
 
--- in an open chain
+-- The drop rules of an open chain.
 abbrev pub drop_rules : Link → Bool → Prefix → List Rule
 drop_rules link opened q = if opened && not (is_whole_link link) then at_other link.side (Some q) None Drop ∷ [] else []
 

@@ -1,4 +1,4 @@
--- The entries of hosts for what they send to the rest host, or receive from there: those of the layout, by the side.
+-- The entries of the layout between hosts and the rest host, by direction.
 use Rattle.std.specs.Prelude.{ℕ, Bool, if◌then◌else◌, List, [], Some, None, map}
 use Rattle.std.specs.List.{flat_map}
 use Rattle.host_net.specs.declared.prefix.Prefix.{Prefix}
@@ -12,15 +12,15 @@ use Rattle.emit_core.specs.declared.side.Side.TheVariants.{Sending, Receiving}
 use Rattle.emit_core.specs.FlowTable.{for_each_host, service_entry}
 use Rattle.emit_core.specs.Sides.{links, services_on}
 
--- the entries for a prefix of a host
+-- The entries for one prefix of a host.
 abbrev pub prefix_on : Side → List Service → Prefix → List Entry
 prefix_on Sending ss q = map (service_entry 30 (Some q) None) (narrowings ss)
 prefix_on Receiving ss q = map (service_entry 30 None (Some q)) (narrowings ss)
 
--- for its prefixes
+-- The entries for the prefixes of a host.
 abbrev pub prefixes_on : Side → Bool → List Service → List Prefix → List Entry
 prefixes_on side permitted ss qs = if permitted then flat_map (prefix_on side ss) qs else []
 
--- for all hosts
+-- The entries for all hosts.
 abbrev pub with_rest_on : Side → Site → List Flow → ℕ → List Entry
 with_rest_on side site p r = for_each_host (λ i qs. prefixes_on side (links side p i r) (services_on side site.services i r) qs) 0 site.hosts

@@ -1,4 +1,4 @@
--- The flow table of a policy where no flow is narrowed to services: each entry forwards or drops all packets.
+-- The flow table of a policy with unrestricted flows only: each entry forwards or drops all packets.
 use Rattle.std.specs.Prelude.{ℕ, Bool, true, false, if◌then◌else◌, List, [], ◌∷◌, ◌++◌, Option, Some, None, map}
 use Rattle.std.specs.List.{flat_map}
 use Rattle.host_net.specs.declared.prefix.Prefix.{Prefix}

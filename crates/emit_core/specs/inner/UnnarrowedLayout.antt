@@ -1,4 +1,4 @@
--- The chain of a host where no flow is narrowed to services: each rule accepts or drops all packets at a prefix, or accepts answers alone.
+-- The chain of a host if all flows are unrestricted: each rule accepts or drops all packets at a prefix, or accepts only answers.
 use Rattle.std.specs.Prelude.{ℕ, not, ◌&&◌, if◌then◌else◌, List, [], ◌∷◌, ◌++◌, Option, Some, None}
 use Rattle.host_net.specs.declared.prefix.Prefix.{Prefix}
 use Rattle.host_net.specs.Host.{Host, rest_of}
@@ -9,7 +9,8 @@ use Rattle.emit_core.specs.declared.side.Side.{Side}
 use Rattle.emit_core.specs.Layout.{for_each_prefix, at_other, answering, is_open}
 use Rattle.emit_core.specs.Sides.{links, other_side}
 
--- The rule that accepts at the prefix q of host j: all packets if the flow is permitted, answers alone if its reverse is stateful, else none.
+-- The rule that accepts at the prefix q of host j: all packets if the flow is permitted; only answers if its reverse is stateful; otherwise
+-- there is no rule.
 abbrev pub whole_accepts : Side → List Flow → List Flow → ℕ → ℕ → Option Prefix → List Rule
 whole_accepts side p s i j q =
     if links side p i j then at_other side q None Accept ∷ []

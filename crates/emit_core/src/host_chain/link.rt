@@ -1,4 +1,5 @@
-//! What passes between a host and another on a side: the packets of their flow, then answers.
+//! The packets that pass between a host and another in one direction: the packets of their flow,
+//! then answers.
 
 ghost use Rattle.std.specs.Prelude.{◌≡◌, ◌<◌, ◌++◌, length, map, option_map, OnOk};
 ghost use Rattle.host_net.specs.Service.{narrowings};
@@ -16,13 +17,13 @@ use pkt_core::FlowPolicy;
 use std::alloc::AllocError;
 use std::marker::Model;
 
-/// What passes between a host and another on a side of the host.
+/// The packets that pass between a host and another in one direction.
 #[derive(Drop)]
 pub(super) struct Link<'a> {
     side: Side,
-    /// The services of their flow, where it is permitted.
+    /// The services of their flow, if it is permitted.
     flow: Option<&'a [Service]>,
-    /// The services of the flow that is answered, where answers pass.
+    /// The services of the answered flow, if answers pass.
     answers: Option<&'a [Service]>,
 }
 
@@ -84,8 +85,8 @@ impl<'a> Link<'a> {
         Ok(())
     }
 
-    /// Adds what lets packets pass at a prefix of the other host, or at every address where there is
-    /// none.
+    /// Adds the rules that accept packets at a prefix of the other host, or at every address if
+    /// there is none.
     pub(super) fn push_accepts(
         &self,
         rules: &mut Vec<Rule>,
@@ -107,7 +108,7 @@ impl<'a> Link<'a> {
         Ok(())
     }
 
-    // Where all packets pass, answers do as well.
+    // If all packets pass, so do answers.
     fn push_answers(&self, rules: &mut Vec<Rule>, at: Option<Prefix>) -> Result<(), AllocError>
         ensures { OnOk result (rules.new.items ≡ rules.old.items ++ answer_rules self.now at) }
     {
@@ -120,7 +121,8 @@ impl<'a> Link<'a> {
         Ok(())
     }
 
-    // In front of the rest host, what else would pass as if to it.
+    // Adds, before the rules of the rest host, the rules that drop packets which would otherwise be
+    // accepted as packets of the rest host.
     fn push_drops(&self, rules: &mut Vec<Rule>, opened: bool, at: Prefix) -> Result<(), AllocError>
         ensures { OnOk result (rules.new.items ≡ rules.old.items ++ drop_rules self.now opened at) }
     {
@@ -131,7 +133,8 @@ impl<'a> Link<'a> {
     }
 }
 
-/// The services of the flow that a host has with another on that side, where it is in the set.
+/// Returns the services of the flow that a host has with another in that direction, if it is in the
+/// set.
 fn services_in<'a>(
     flows: &FlowSet,
     services: &'a Services,
@@ -151,7 +154,7 @@ fn services_in<'a>(
     Some(services.of(flow.from, flow.to))
 }
 
-/// Adds a rule for each service, or one for every packet where nothing narrows the flow.
+/// Adds a rule for each service, or one for every packet if the flow is unrestricted.
 #[tactic(auto, using(crate::proofs::NarrowedSteps::narrowings_some, crate::proofs::NarrowedSteps::narrowings_none))]
 fn push_accepted(
     rules: &mut Vec<Rule>,

@@ -4,7 +4,7 @@ use Rattle.ipt_rules.specs.Loops.{HasNoLoop}
 use Rattle.ipt_rules.specs.inner.Ranked.{IsRanked}
 use Rattle.emit_core.proofs.filling.build_accepted.Goals as goal
 
--- where there is no loop an order is found
+-- If there is no cycle, an order is found.
 no_loop_found : (chains : List Chain) (found : Option ℕ) → HasNoLoop chains → IsRanked chains found → IsRanked chains None
 no_loop_found chains None no_loop ranked = ranked
 no_loop_found chains (Some c) no_loop loop = absurd (no_loop c loop.back)

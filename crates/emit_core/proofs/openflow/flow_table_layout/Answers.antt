@@ -20,7 +20,7 @@ pub build-requires-clause-asks : goal.build-requires-clause-asks
 build-requires-clause-asks c =
     ap (list_all asks_of_ip) (c.into_kept.ensures ∙ c.in-Ok.ensures.kept (omega (arith, c.count-count-2.ensures, c.if-count-gt-ENTRY_LIMIT.false))) ∙ all_ask c.args.policy.now.site c.args.policy.now.permitted c.count-count.ensures.policy.site.services
 
--- few entries without a range of ports are refused for want of memory alone
+-- Entries within the limit and without a range of ports are refused only if memory allocation fails.
 memory_alone : (site : Site) (p : List Flow) (entries : List Entry) (count : ℕ) (why : TableRefusal) → IsSite site → HasNoRange site.services p
     → entries ≡ flow_entries site p → count ≡ length (flow_entries site p) → count ≤ 8192 → IsRefused entries why → why ≡ Memory
 memory_alone site p entries count (TooMany n) known plain is all few refused = absurd (omega (arith, refused.0, ap length is))
