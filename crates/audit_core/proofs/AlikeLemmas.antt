@@ -1,4 +1,4 @@
--- Where rules and a policy agree on the short lists at the packet of each class, they agree on every list.
+-- If rules and a policy agree on the short lists at the packet of each class, they agree on every list.
 use Rattle.std.proofs.Common.{◌≡◌, ◌⊎◌, inl, inr, ℕ, ◌<◌, ◌≤◌, ◌^◌, ◌&&◌, ◌||◌, true, false, List, [], ◌∷◌, refl, sym, subst, ◌∙◌, arith}
 use Rattle.std.specs.List.{Contains, flat_map}
 use Rattle.std.proofs.lemmas.Bool.{cases_lt}
@@ -21,7 +21,7 @@ use Rattle.audit_core.specs.inner.Judging.{Right, is_asked, state_in}
 use Rattle.audit_core.proofs.OrderLemmas.{contains_cases, contains_later, contains_none}
 use Rattle.audit_core.specs.Parts.{rules_parts, site_parts}
 use Rattle.audit_core.specs.Classes.{is_among, numbers_where, represents_protocol}
-use Rattle.audit_core.specs.Places.{IsClassPacket, leasts_of}
+use Rattle.audit_core.specs.Places.{IsClassPacket, representatives_of}
 use Rattle.audit_core.proofs.RepresentativeLemmas.{among_has, represents, where_has}
 use Rattle.audit_core.specs.inner.Ranges.{AreTogether}
 use Rattle.audit_core.proofs.RangeLemmas.{is_in, protocol_of}
@@ -36,7 +36,7 @@ use Rattle.audit_core.proofs.PartLemmas.{AreAlikeFor, alike_back, alike_for_part
 use Rattle.audit_core.proofs.RulesLemmas.{filter_alike}
 use Rattle.audit_core.proofs.SiteLemmas.{is_of_alike}
 
--- 1. Packets are answered, and stateful ones are permitted.
+-- 1. Packets have verdicts, and stateful packets are permitted.
 
 pub gives_verdicts : (sides : Sides) → GivesOne (filter_of sides.rules) → GivesVerdicts (filter_of sides.rules) IsPacket
 gives_verdicts sides gives state p is = let one = gives state p is in (one.0, one.1)
@@ -44,7 +44,7 @@ gives_verdicts sides gives state p is = let one = gives state p is in (one.0, on
 pub policy_within : (sides : Sides) → IsSubset sides.stateful sides.permitted → StatefulArePermitted IsPacket (permits sides) (lets_answer sides)
 policy_within sides subset packet is stateful = is_of-within sides.site sides.stateful sides.permitted packet subset stateful
 
--- 2. What is right about a packet is right about those that are alike.
+-- 2. Rules that are right about a packet are right about equivalent packets.
 
 pub right_alike : (sides : Sides) (kind : Kind) (p q : Packet) → AreAlike sides p q → Right sides kind p → Right sides kind q
 right_alike sides kind p q alike right asked b said =
@@ -59,7 +59,7 @@ right_alike sides kind p q alike right asked b said =
     same_policy New = λ i. alike.own i || (alike.answers i && false)
     same_policy Established = λ i. alike.own i || (alike.answers i && true)
 
--- packets that no part parts are alike
+-- Packets that no part separates are equivalent.
 pub alike_by_parts : (sides : Sides) (p q : Packet) → AreAlikeFor (parts_between sides) p q → AreAlike sides p q
 alike_by_parts sides p q alike =
     let there = alike_for_parts (site_parts sides.site) (rules_parts sides.rules) p q alike in
@@ -72,16 +72,16 @@ alike_by_parts sides p q alike =
       answers = is_of_alike sides.site sides.stateful (swap_of p) (swap_of q) swapped.0;
     }
 
--- 3. Each packet is of one class with the packet of a class.
+-- 3. Each packet is in one class with the packet of a class.
 
--- f is the greatest of c and of those cuts that are at most a
+-- The floor f is the greatest of c and of the cuts that are at most a.
 record IsFloor (cuts : List ℕ) (a c f : ℕ) : Type 0 where
   below : f ≤ a
   least : c ≤ f
   greatest : (d : ℕ) → Contains cuts d → d ≤ a → d ≤ f
   among : (c ≡ f) ⊎ Contains cuts f
 
--- one more cut, which is above a or no greater than c
+-- One more cut, which is above a or at most c.
 floor_past : (x : ℕ) (cuts : List ℕ) (a c f : ℕ) → (x ≤ a → x ≤ c) → IsFloor cuts a c f → IsFloor (x ∷ cuts) a c f
 floor_past x cuts a c f past rest = record {
   below = rest.below;
@@ -93,7 +93,7 @@ floor_past x cuts a c f past rest = record {
     here : (d : ℕ) → x ≡ d → d ≤ a → d ≤ f
     here d is at = let low = past (omega (arith, is)) in let least = rest.least in omega (arith, is)
 
--- one more cut, which is greater than c and at most a
+-- One more cut, which is at least c and at most a.
 floor_at : (x : ℕ) (cuts : List ℕ) (a c f : ℕ) → c ≤ x → IsFloor cuts a x f → IsFloor (x ∷ cuts) a c f
 floor_at x cuts a c f more rest = record {
   below = rest.below;
@@ -118,7 +118,7 @@ floor_from (x ∷ cuts) a c low =
       ]
     ]
 
--- where 0 is a cut, each number stands in one class with a cut, which is at most the number
+-- If 0 is a cut, each number is in one class with a cut that is at most the number.
 pub class_of : (cuts : List ℕ) (a : ℕ) → (c : ℕ) × (c ≤ a) × Contains (0 ∷ cuts) c × AreTogether (0 ∷ cuts) c a
 class_of cuts a =
     let found = floor_from cuts a 0 (omega arith) in
@@ -135,9 +135,9 @@ class_of cuts a =
     first : (c d : ℕ) → 0 ≡ d → d ≤ c
     first c d is = omega (arith, is)
 
--- each packet is of one class with the packet of a class, whose numbers are no greater
+-- Each packet is in one class with the packet of a class whose numbers are no greater.
 pub class_of_packet : (sides : Sides) (p : Packet) → IsPacket p
-    → (q : Packet) × IsPacket q × IsClassPacket (leasts_of (cuts_between sides)) q × AreOneClass (cuts_between sides) q p × IsNoHigher q p
+    → (q : Packet) × IsPacket q × IsClassPacket (representatives_of (cuts_between sides)) q × AreOneClass (cuts_between sides) q p × IsNoHigher q p
 class_of_packet sides p known =
     let parts = parts_between sides in
     let addresses = flat_map cut_addresses parts in
@@ -177,14 +177,14 @@ class_of_packet sides p known =
     below : (named : List ℕ) (c : ℕ) → ((d : ℕ) → (Contains named d → ⊥) → c ≤ d) → (d : ℕ) → d < c → Contains named d
     below named c least d less = elim (is_in named d) [ inl there ↦ there | inr none ↦ let high = least d none in absurd (omega arith) ]
 
--- 4. The law of short lists at rules of either kind.
+-- 4. The law of short lists for rules of either kind.
 
 pub short_lists_at : (sides : Sides) → GivesOne (filter_of sides.rules) → IsSubset sides.stateful sides.permitted
     → ((packet : Packet) → IsPacket packet → AgreeShortly sides packet) → AgreeAlways sides
 short_lists_at sides gives subset agree =
     short_lists_suffice (filter_of sides.rules) (permits sides) (lets_answer sides) IsPacket (gives_verdicts sides gives) swaps_known (policy_within sides subset) agree
 
--- at a flow table, which knows no states, the first two
+-- For a flow table, which is stateless, the first two lists suffice.
 pub two_lists_at : (sides : Sides) (entries : List Entry) → sides.rules ≡ Entries entries → GivesOne (filter_of sides.rules)
     → IsSubset sides.stateful sides.permitted
     → ((packet : Packet) → IsPacket packet → Agree sides (alone packet) × Agree sides (behind_swap packet)) → AgreeAlways sides

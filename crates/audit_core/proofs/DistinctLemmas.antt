@@ -1,4 +1,4 @@
--- Whether something is named once or more often makes no difference.
+-- Duplicates among the names do not change the result.
 use Rattle.std.proofs.Common.{◌≡◌, inl, inr, ℕ, ◌^◌, nat_eq, true, List, [], ◌∷◌, refl, sym, subst}
 use Rattle.std.specs.List.{Contains, dedup, flat_map}
 use Rattle.std.specs.List.Sorted.{IsPermutation}
@@ -15,14 +15,14 @@ use Rattle.std.proofs.lemmas.List.Elements.{Contains-append_cases, Contains-appe
 use Rattle.audit_core.specs.declared.named.Found.{Found}
 use Rattle.audit_core.specs.Classes.{is_among, numbers_where, represents_protocol}
 use Rattle.audit_core.specs.inner.Named.{HaveSame, NameSame}
-use Rattle.audit_core.specs.Places.{leasts_of}
+use Rattle.audit_core.specs.Places.{representatives_of}
 use Rattle.audit_core.specs.inner.RangeCuts.{cuts_found, cuts_of_addresses, cuts_of_ports}
 use Rattle.audit_core.proofs.OrderLemmas.{contains_cases, contains_first, contains_later, contains_none}
 use Rattle.audit_core.proofs.RepresentativeLemmas.{among_same, represents_same, where_same}
 
--- 1. Elements of lists that are joined.
+-- 1. Elements of concatenated lists.
 
--- what stands in the lists of elements stands in the list of one of them
+-- An element of the concatenation of the lists of elements is an element of the list of one of them.
 pick : {X Y : Type 0} (f : X → List Y) (xs : List X) (d : Y) → Contains (flat_map f xs) d → (x : X) × Contains xs x × Contains (f x) d
 pick f [] d there = absurd (contains_none d there)
 pick f (x ∷ xs) d there = elim (Contains-append_cases (f x) (flat_map f xs) d there) [
@@ -50,7 +50,7 @@ cons_same x xs ys same d there = elim (contains_cases x xs d there) [
   | inr later ↦ contains_later x ys d (same d later)
 ]
 
--- 2. The same cuts make the same classes.
+-- 2. Equal sets of cuts make equal classes.
 
 cuts_same : {X : Type 0} (f : X → List ℕ) (xs ys : List X) → HaveSame xs ys → HaveSame (0 ∷ flat_map f xs) (0 ∷ flat_map f ys)
 cuts_same f xs ys same d = (
@@ -64,8 +64,8 @@ among_where xs ys limit same = where_same (is_among xs) (is_among ys) limit (amo
 represents_where : (xs ys : List ℕ) (limit : ℕ) → HaveSame xs ys → numbers_where (represents_protocol xs) limit ≡ numbers_where (represents_protocol ys) limit
 represents_where xs ys limit same = where_same (represents_protocol xs) (represents_protocol ys) limit (represents_same xs ys same)
 
-pub leasts_same : (found less : Found) → NameSame found less → leasts_of (cuts_found less) ≡ leasts_of (cuts_found found)
-leasts_same found less same =
+pub representatives_same : (found less : Found) → NameSame found less → representatives_of (cuts_found less) ≡ representatives_of (cuts_found found)
+representatives_same found less same =
     let old = cuts_found found in
     let new = cuts_found less in
     let addresses = among_where old.addresses new.addresses (2 ^ 32) (cuts_same cuts_of_addresses found.addresses.items less.addresses.items same.addresses) in
@@ -73,9 +73,9 @@ leasts_same found less same =
     let ports = among_where old.ports new.ports (2 ^ 16) (cuts_same cuts_of_ports found.ports.items less.ports.items same.ports) in
     sym (λ i. record { addresses = addresses i; protocols = protocols i; ports = ports i })
 
--- 3. What is left of ranges in order where neighbours are the same.
+-- 3. Ranges in order, with equal neighbours removed.
 
--- two ranges by their ends
+-- Two ranges with equal ends are equal.
 ends_same : {X : Type 0} (low high : X → ℕ) → ((x y : X) → low x ≡ low y → high x ≡ high y → x ≡ y) → (x y : X)
     → eq_of_both (on low nat_eq) (on high nat_eq) x y ≡ true → x ≡ y
 ends_same low high by_ends x y is =

@@ -1,5 +1,5 @@
--- Rules agree with a policy on every list of events exactly where they forward what is expected of it. So whatever is written to forward
--- what is expected of a policy is found equal to it.
+-- Rules agree with a policy on every list of events iff they forward as the policy expects. So rules that are written to forward what a
+-- policy expects are found equal to it.
 use Rattle.std.proofs.Common.{◌≡◌, Bool, List, [], ◌∷◌, Option, Some, None, suc, refl}
 use Rattle.pkt_core.specs.declared.event.Event.{Event}
 use Rattle.pkt_core.specs.declared.event.Event.TheVariants.{Seen, Forget}
@@ -18,7 +18,7 @@ use Rattle.audit_core.specs.Verdicts.{GivesOne}
 use Rattle.audit_core.specs.Sides.{ForwardAlike, Sides, lets_answer, permits}
 use Rattle.audit_core.specs.inner.Sides.{AgreeAlways}
 
--- from each state of its connections a filter that answers every packet has a run over packets
+-- From each connection table, a filter that has a verdict on every packet has a run over packets.
 some_run : (filter : Filter) → GivesOne filter → (kept : Kept) (events : List Event) → ArePackets events
     → (answers : List (Option Bool)) × Runs filter kept events answers
 some_run filter gives kept [] packets = ([], tt)
@@ -30,11 +30,11 @@ some_run filter gives kept (Forget p ∷ events) packets =
     let rest = some_run filter gives (after_forget kept p) events (λ k q there. packets (suc k) q there) in
     (None ∷ rest.0, rest.1)
 
--- what forwards as expected agrees on every list of events
+-- Rules that forward as expected agree with the policy on every list of events.
 pub agree_where_expected : (sides : Sides) → ForwardAlike sides → AgreeAlways sides
 agree_where_expected sides are events packets answers run = are.expected events answers packets run
 
--- what agrees on every list of events forwards as expected, since it has one run over each
+-- Rules that agree with the policy on every list of events forward as expected, because they have one run over each list.
 pub expected_where_agree : (sides : Sides) → GivesOne (filter_of sides.rules) → AgreeAlways sides → ForwardAlike sides
 expected_where_agree sides gives agree = record {
   expected = λ events answers packets run. agree events packets answers run;
@@ -43,11 +43,11 @@ expected_where_agree sides gives agree = record {
       expected_once (permits sides) (lets_answer sides) events answers others (agree events packets answers run) (agree events packets others other);
 }
 
--- rules that forward what is expected differ from the policy on no list of events
+-- Rules that forward as expected differ from the policy on no list of events.
 pub no_difference_where_expected : (sides : Sides) → ForwardAlike sides → DifferSomewhere sides → ⊥
 no_difference_where_expected sides are differ =
     agree_not_differ (filter_of sides.rules) (permits sides) (lets_answer sides) differ.0 (agree_where_expected sides are differ.0 differ.1) differ.2
 
--- and whatever an audit finds of them is that they are equal
+-- Any finding of an audit on these rules is `Equal`.
 pub equal_where_expected : (sides : Sides) (finding : Finding) → ForwardAlike sides → IsFinding sides finding → finding ≡ Equal
 equal_where_expected sides finding are found = (equal_exactly sides finding found).1 (no_difference_where_expected sides are)

@@ -1,4 +1,4 @@
--- Faults of packets: what tells that there is one, and that there is none.
+-- Faults of packets: criteria for a fault, and for the absence of faults.
 use Rattle.std.proofs.Common.{◌≡◌, ◌≢◌, ◌↔◌, ℕ, ◌+◌, ◌≤◌, ◌<◌, ◌^◌, Bool, true, false, IsTrue, List, Option, Some, None, refl, sym, subst, ◌∙◌, true≢false, arith}
 use Rattle.std.proofs.Math.Bool.{beq}
 use Rattle.std.specs.Prelude.{not, is_some, IfSome}
@@ -22,7 +22,7 @@ use Rattle.audit_core.specs.inner.Faults.{IsAnyFault, IsExpected, IsFault, SaysO
 use Rattle.audit_core.specs.inner.Judging.{Right, Wrong, is_asked, state_in}
 use Rattle.audit_core.specs.inner.Sought.{AreRight}
 
--- ---- packets are those of the box of all
+-- ---- Packets are the packets of the box of all packets
 
 at_most : (a : ℕ) (n m : ℕ) → n ≡ m + 1 → a < n → a ≤ m
 at_most a n m is less = omega (arith, is, less)
@@ -51,7 +51,7 @@ packet_in_every p inside = (
   less_than p.dport (2 ^ 16) 65535 refl inside.below.dport,
 )
 
--- ---- right and wrong
+-- ---- Right and wrong
 
 same_where_not : (a b : Bool) → (a ≢ b → ⊥) → a ≡ b
 same_where_not true true h = refl
@@ -78,7 +78,7 @@ fault_said sides kind p f gives is said fault =
     let same : fault.0 ≡ f = one.2 fault.0 fault.1.said ∙ sym (one.2 f said) in
     subst (λ (b : Bool). Wrong sides kind p b) same fault.1
 
--- ---- the answer of a box
+-- ---- The result for a box
 
 pub fault_by : (sides : Sides) (kind : Kind) (p : Packet) (expected answer : Bool) → IsTrue (is_asked (permits sides) kind p)
     → IsExpected sides (state_in kind) p expected → IsTrue answer ↔ SaysOther sides (state_in kind) expected p → IsTrue answer ↔ IsFault sides kind p
@@ -87,13 +87,7 @@ fault_by sides kind p expected answer asked is tells = (
   (λ fault. tells.1 (fault.0, fault.1.said, (λ e. fault.1.wrong (e ∙ sym is)))),
 )
 
-pub not_asked : (sides : Sides) (kind : Kind) (p : Packet) → is_asked (permits sides) kind p ≡ false → IsTrue false ↔ IsFault sides kind p
-not_asked sides kind p is = (
-  (λ yes'. absurd (true≢false (sym yes'))),
-  (λ fault. absurd (true≢false (sym fault.1.asked ∙ is))),
-)
-
--- a packet that is at fault by neither of the first two kinds is at fault by some kind exactly if it is by the third
+-- If a packet is not a fault for the first two kinds, it is a fault for some kind iff it is a fault for the third.
 pub any_fault_by : (sides : Sides) (p : Packet) (alone swapped both : Bool)
     → alone ≡ false → IsTrue alone ↔ IsFault sides Alone p → swapped ≡ false → IsTrue swapped ↔ IsFault sides BehindSwap p
     → IsTrue both ↔ IsFault sides BehindBoth p → IsTrue both ↔ IsAnyFault sides p
@@ -127,7 +121,7 @@ trace_forwards Alone p f = refl
 trace_forwards BehindSwap p f = refl
 trace_forwards BehindBoth p f = refl
 
--- ---- rules that say the same of the packets of a box
+-- ---- Rules with the same verdicts on the packets of a box
 
 pub same_chains : (b : PacketBox) (xs ys : List Chain) → HaveSameChainVerdicts b xs ys → HaveSameVerdicts b (Chains xs) (Chains ys)
 same_chains b xs ys same = λ p inside state passes. same p inside state (verdict_if passes)

@@ -1,4 +1,4 @@
--- There is one finding of two sides.
+-- The finding for two sides is unique.
 use Rattle.std.proofs.Common.{◌≡◌, ◌⊎◌, inl, inr, ℕ, ◌<◌, ◌≤◌, Bool, true, false, refl, sym, ap, subst, ◌∙◌, arith, true≢false}
 use Rattle.std.proofs.lemmas.Bool.{cases_lt}
 use Rattle.host_net.specs.declared.packet.Packet.{Packet}
@@ -17,11 +17,11 @@ use Rattle.audit_core.specs.laws.FindingLaws.{trace_packets}
 use Rattle.audit_core.specs.laws.ListLaws.{agree_not_differ, differ_on}
 use Rattle.audit_core.specs.Lists.{front_of, list_of}
 use Rattle.header_space.specs.Order.{ComesBefore, comes_first}
-use Rattle.audit_core.specs.Places.{IsClassPacket, Leasts, leasts_of}
+use Rattle.audit_core.specs.Places.{IsClassPacket, Representatives, representatives_of}
 use Rattle.audit_core.specs.Rules.{filter_of}
 use Rattle.audit_core.specs.Sides.{Agree, Sides, lets_answer, permits}
 
--- 1. Of two packets one comes before the other, or they are the same.
+-- 1. Of two packets, one comes before the other, or they are equal.
 
 abbrev Apart : ℕ → ℕ → Type 0 → Type 0 → Type 0 → Type 0
 Apart a b L M E = comes_first a b L ⊎ (comes_first b a M ⊎ ((a ≡ b) × E))
@@ -43,7 +43,7 @@ by_last a b = elim (cases_lt a b) [
   | inr more ↦ elim (cases_lt b a) [ inl above ↦ inr (inl above) | inr equal ↦ inr (inr (omega arith)) ]
 ]
 
-ordered : (p q : Packet) → ComesBefore p q ⊎ (ComesBefore q p ⊎ (p ≡ q))
+pub ordered : (p q : Packet) → ComesBefore p q ⊎ (ComesBefore q p ⊎ (p ≡ q))
 ordered p q =
     elim (by_first p.src q.src _ _ _ (by_first p.dst q.dst _ _ _ (by_first p.proto q.proto _ _ _ (by_first p.sport q.sport _ _ _ (by_last p.dport q.dport))))) [
       | inl before ↦ inl before
@@ -53,7 +53,7 @@ ordered p q =
       ]
     ]
 
--- 2. What is wrong is wrong in one way.
+-- 2. A wrong verdict is unique.
 
 one_wrong : (b c : Bool) (E : Type 0) → IsWrong b E → IsWrong c E → b ≡ c
 one_wrong true true E first second = refl
@@ -67,15 +67,15 @@ one_wrong false true E first second = elim first [
   | inr f ↦ elim second [ inl s ↦ absurd (s.1 f.1) | inr s ↦ absurd (true≢false s.0) ]
 ]
 
-module _ (sides : Sides) (leasts : Leasts) where
-  -- where they differ they do not agree
-  not_agreed : (kind : Kind) (p : Packet) (b : Bool) → IsFirstClass sides leasts kind p b → Agree sides (list_of kind p) → ⊥
+module _ (sides : Sides) (representatives : Representatives) where
+  -- If the two sides differ on a list, they do not agree on it.
+  not_agreed : (kind : Kind) (p : Packet) (b : Bool) → IsFirstClass sides representatives kind p b → Agree sides (list_of kind p) → ⊥
   not_agreed kind p b first agree =
       agree_not_differ (filter_of sides.rules) (permits sides) (lets_answer sides) (list_of kind p) agree
       (differ_on (filter_of sides.rules) (permits sides) (lets_answer sides) (front_of kind p) p b first.differ)
 
-  -- the packet of one kind and what the rules do there are one
-  one_class : (kind : Kind) (p q : Packet) (b c : Bool) → IsFirstClass sides leasts kind p b → IsFirstClass sides leasts kind q c → (p ≡ q) × (b ≡ c)
+  -- The first packet of one kind, and the verdict of the rules there, are unique.
+  one_class : (kind : Kind) (p q : Packet) (b c : Bool) → IsFirstClass sides representatives kind p b → IsFirstClass sides representatives kind q c → (p ≡ q) × (b ≡ c)
   one_class kind p q b c first second = elim (ordered p q) [
     | inl before ↦ absurd (not_agreed kind p b first (second.first p first.is_class before))
     | inr rest ↦ elim rest [
@@ -87,10 +87,10 @@ module _ (sides : Sides) (leasts : Leasts) where
       wrong_alike : p ≡ q → b ≡ c
       wrong_alike same = one_wrong b c _ (subst (λ (r : Packet). IsWrong b (Expected (permits sides) (lets_answer sides) (front_of kind r) r)) same first.differ.wrong) second.differ.wrong
 
-  -- and so is the kind
-  one_kind : (k l : Kind) (p q : Packet) (b c : Bool) → IsFirstClass sides leasts k p b → IsFirstClass sides leasts l q c
-      → ((m : Kind) → place_of m < place_of k → (r : Packet) → IsClassPacket leasts r → Agree sides (list_of m r))
-      → ((m : Kind) → place_of m < place_of l → (r : Packet) → IsClassPacket leasts r → Agree sides (list_of m r)) → k ≡ l
+  -- The kind is also unique.
+  one_kind : (k l : Kind) (p q : Packet) (b c : Bool) → IsFirstClass sides representatives k p b → IsFirstClass sides representatives l q c
+      → ((m : Kind) → place_of m < place_of k → (r : Packet) → IsClassPacket representatives r → Agree sides (list_of m r))
+      → ((m : Kind) → place_of m < place_of l → (r : Packet) → IsClassPacket representatives r → Agree sides (list_of m r)) → k ≡ l
   one_kind k l p q b c first second before_first before_second = by_places (cases_lt (place_of k) (place_of l)) (cases_lt (place_of l) (place_of k))
     where
       same_place : (k l : Kind) → place_of k ≡ place_of l → k ≡ l
@@ -109,12 +109,12 @@ module _ (sides : Sides) (leasts : Leasts) where
       by_places (inr more) (inl less) = absurd (not_agreed l q c second (before_first l less q second.is_class))
       by_places (inr more) (inr same) = same_place k l (omega arith)
 
-  one_trace : (s t : Trace) → IsFirstTrace sides leasts s → IsFirstTrace sides leasts t → s ≡ t
+  one_trace : (s t : Trace) → IsFirstTrace sides representatives s → IsFirstTrace sides representatives t → s ≡ t
   one_trace s t first second =
       let kinds = one_kind first.kind second.kind first.packet second.packet s.forwards t.forwards first.first second.first first.earlier second.earlier in
       let same =
       one_class second.kind first.packet second.packet s.forwards t.forwards
-      (subst (λ (k : Kind). IsFirstClass sides leasts k first.packet s.forwards) kinds first.first) second.first in
+      (subst (λ (k : Kind). IsFirstClass sides representatives k first.packet s.forwards) kinds first.first) second.first in
       first.is ∙ (λ i. trace_of (kinds i) (same.0 i) (same.1 i)) ∙ sym second.is
 
 equal_not_differ : (sides : Sides) (t : Trace) → IsFinding sides Equal → IsFinding sides (Differing t) → ⊥
@@ -123,10 +123,10 @@ equal_not_differ sides t agree found =
     (agree (events_of t) (subst (λ (u : Trace). ArePackets (events_of u)) (sym found.is) (trace_packets found.kind found.packet t.forwards found.first.packet)))
     found.differ
 
--- what is found of two sides is one
+-- The finding for two sides is unique.
 pub finding_once : (sides : Sides) (f g : Finding) → IsFinding sides f → IsFinding sides g → f ≡ g
 finding_once sides Equal Equal first second = refl
 finding_once sides Equal (Differing t) first second = absurd (equal_not_differ sides t first second)
 finding_once sides (Differing s) Equal first second = absurd (equal_not_differ sides s second first)
 finding_once sides (Differing s) (Differing t) first second =
-    ap (λ (u : Trace). Differing u) (one_trace sides (leasts_of (cuts_between sides)) s t first second)
+    ap (λ (u : Trace). Differing u) (one_trace sides (representatives_of (cuts_between sides)) s t first second)

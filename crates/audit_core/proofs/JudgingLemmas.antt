@@ -1,4 +1,4 @@
--- Where a filter is right about a packet and its swap, it agrees with the policy on the lists at the packet; where it is wrong, they differ.
+-- If a filter is right about a packet and its swap, it agrees with the policy on the lists at the packet. If it is wrong, they differ.
 use Rattle.std.proofs.Common.{◌≡◌, ◌≢◌, ◌↔◌, inl, inr, ℕ, Bool, true, false, ◌&&◌, ◌||◌, IsTrue, List, [], ◌∷◌, Option, Some, refl, sym, ap, subst, ◌∙◌, true≢false}
 use Rattle.std.proofs.lemmas.Bool.{or_cases, or_left, or_right}
 use Rattle.host_net.specs.declared.packet.Packet.{Packet}
@@ -22,11 +22,11 @@ use Rattle.audit_core.specs.laws.ListLaws.{begins_run, differ_more, ends_run, ex
 use Rattle.audit_core.specs.Lists.{DifferBehind, front_of, list_of}
 use Rattle.audit_core.proofs.ShortLaws.{kept_established, swap_established}
 
--- a stateful packet is permitted
+-- A stateful packet is permitted.
 abbrev pub Within : (permitted stateful : Packet → Bool) → Packet → Type 0
 Within permitted stateful p = stateful p ≡ true → permitted p ≡ true
 
--- where its swap is not permitted no answer passes
+-- If the swap of a packet is not permitted, the packet does not pass as an answer.
 no_answer : (permitted stateful : Packet → Bool) (p : Packet) → Within permitted stateful (swap_of p) → permitted (swap_of p) ≡ false
     → stateful (swap_of p) ≡ false
 no_answer permitted stateful p policy barred = by_test (stateful (swap_of p)) refl
@@ -47,14 +47,14 @@ and_false : (b : Bool) → (b && false) ≡ false
 and_false true = refl
 and_false false = refl
 
--- what the policy says in each state
+-- The decision of the policy in each state.
 pub says_new : (permitted stateful : Packet → Bool) (p : Packet) → may_pass permitted stateful New p ≡ permitted p
 says_new permitted stateful p = or_false (permitted p) (stateful (swap_of p) && false) (and_false (stateful (swap_of p)))
 
 pub says_established : (permitted stateful : Packet → Bool) (p : Packet) → may_pass permitted stateful Established p ≡ (permitted p || stateful (swap_of p))
 says_established permitted stateful p = ap (λ (b : Bool). permitted p || b) (and_true (stateful (swap_of p)))
 
--- the answers that are expected on the list of each kind
+-- The expected results for the list of each kind.
 abbrev expected_answers : (permitted stateful : Packet → Bool) → Kind → Packet → List (Option Bool)
 expected_answers permitted stateful Alone p = Some (permitted p) ∷ []
 expected_answers permitted stateful BehindSwap p = Some (permitted (swap_of p)) ∷ Some (permitted p || stateful (swap_of p)) ∷ []
@@ -100,18 +100,18 @@ module _ (filter : Filter) (permitted stateful : Packet → Bool) where
       (expected_second (swap_of p))
       (expected_with permitted stateful (Seen p ∷ Seen (swap_of p) ∷ []) p (WasSeen-now (Seen p ∷ []) (swap_of p) (swap_of p) refl))
 
-  -- runs whose answers are these agree
+  -- The two sides agree on a list if every run over it has the expected results.
   agree_by : (kind : Kind) (p : Packet)
       → ((answers : List (Option Bool)) → Runs filter nothing_kept (list_of kind p) answers → answers ≡ expected_answers permitted stateful kind p)
       → AgreeOn filter permitted stateful (list_of kind p)
   agree_by kind p are answers run =
       subst (λ (xs : List (Option Bool)). AreExpected permitted stateful (list_of kind p) xs) (sym (are answers run)) (expected_on kind p)
 
-  -- the answer in a state in which the filter is right
+  -- The result in a state in which the filter is right.
   pub right_new : (p : Packet) → IsRight filter permitted stateful Alone p → (b : Bool) → filter New p b → b ≡ permitted p
   right_new p right b said = right refl b said ∙ says_new permitted stateful p
 
-  -- a packet behind its swap, whatever stands before them: kept is what this leaves
+  -- A packet after its swap, with any events before them. The table after the swap is `kept`.
   answer_behind : (kept : Kept) (p : Packet) (a b : Bool) → Within permitted stateful (swap_of p) → a ≡ permitted (swap_of p)
       → (a ≡ true → state_of kept p ≡ Established) → (a ≡ false → state_of kept p ≡ New)
       → IsRight filter permitted stateful Alone p → IsRight filter permitted stateful BehindSwap p
@@ -156,7 +156,7 @@ module _ (filter : Filter) (permitted stateful : Packet → Bool) where
           one.are ∙ ap (λ (xs : List (Option Bool)). Some one.passes ∷ xs) two.are
           ∙ (λ i. Some (first i) ∷ Some (second i) ∷ ends_run filter (after_seen kept p two.passes) two.others two.rest i)
 
-  -- the answer to the packet behind itself and its swap
+  -- The result for the packet after itself and its swap.
   last_answer : (p : Packet) (a b c : Bool) → Within permitted stateful (swap_of p) → a ≡ permitted p → (a ≡ false → b ≡ permitted (swap_of p))
       → IsRight filter permitted stateful Alone p → IsRight filter permitted stateful BehindSwap p → IsRight filter permitted stateful BehindBoth p
       → filter (state_of (after_seen (after_seen nothing_kept p a) (swap_of p) b) p) p c → c ≡ (permitted p || stateful (swap_of p))
@@ -167,7 +167,7 @@ module _ (filter : Filter) (permitted stateful : Packet → Bool) where
   last_answer p false b c policy first second right right_behind right_both said =
       answer_behind (after_seen nothing_kept (swap_of p) b) p b c policy (second refl) (behind_swap_state p b) (behind_drop_state p b) right right_behind said
 
-  -- the answer to the swap behind the packet
+  -- The result for the swap after the packet.
   middle_answer : (p : Packet) (a b : Bool) → Within permitted stateful p → a ≡ permitted p → IsRight filter permitted stateful Alone (swap_of p)
       → IsRight filter permitted stateful BehindSwap (swap_of p) → filter (state_of (after_seen nothing_kept p a) (swap_of p)) (swap_of p) b
       → b ≡ (permitted (swap_of p) || stateful p)
@@ -199,7 +199,7 @@ module _ (filter : Filter) (permitted stateful : Packet → Bool) where
           ∙ ap (λ (xs : List (Option Bool)). Some one.passes ∷ Some two.passes ∷ xs) three.are
           ∙ (λ i. Some (first i) ∷ Some (second i) ∷ Some (third i) ∷ ends_run filter (after_seen kept_both p three.passes) three.others three.rest i)
 
-  -- a packet about which it is right in each kind is judged
+  -- If the filter is right about a packet for each kind of list, it has the verdict of the policy on the packet (`IsJudged`).
   pub judged_by : (p : Packet) → IsRight filter permitted stateful Alone p → IsRight filter permitted stateful BehindSwap p
       → IsRight filter permitted stateful BehindBoth p → IsJudged filter permitted stateful p
   judged_by p right right_behind right_both = record {

@@ -5,12 +5,11 @@ pub mod DistinctLemmas
 pub mod ExpectedLaws
 pub mod FaultLaws
 pub mod FindingOnceLaws
+pub mod FlowLaws
 pub mod JudgingLemmas
-pub mod LeastsLemmas
 pub mod ListEndLaws
 pub mod NamedLemmas
 pub mod OrderLemmas
-pub mod OwnedLaws
 pub mod PairLaws
 pub mod PartLemmas
 pub mod RangeLemmas
@@ -24,3 +23,4 @@ pub mod SideLemmas
 pub mod SiteLemmas
 pub mod SoughtLaws
 pub mod SourceLaws
+pub mod TotalLemmas

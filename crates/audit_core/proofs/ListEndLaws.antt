@@ -1,4 +1,5 @@
--- The two sides differ at the end of a list at a packet if and only if the rules do with the packet there what the policy does not expect.
+-- The two sides differ at the end of a list at a packet iff the verdict of the rules on the packet there is not the verdict that the policy
+-- expects.
 use Rattle.std.proofs.Common.{◌≡◌, ◌≢◌, ◌↔◌, inl, inr, Bool, true, false, ◌||◌, IsTrue, List, [], ◌∷◌, ◌++◌, Option, Some, None, length, refl, sym, subst, ap, ◌∙◌, true≢false, arith}
 use Rattle.std.proofs.Math.Bool.{beq}
 use Rattle.std.proofs.lemmas.Bool.{or_cases, or_left, or_right}
@@ -34,7 +35,7 @@ use Rattle.audit_core.specs.Sides.{Sides, lets_answer, permits}
 use Rattle.audit_core.proofs.JudgingLemmas.{says_established, says_new}
 use Rattle.audit_core.proofs.ShortLaws.{kept_established, swap_established}
 
--- 1. What the policy expects.
+-- 1. The expectation of the policy.
 
 wrong_by : {E : Type 0} (b e : Bool) → b ≢ e → (IsTrue e ↔ E) → IsWrong b E
 wrong_by true true other is = absurd (other refl)
@@ -71,7 +72,7 @@ expects sides BehindBoth p =
     says_then _ _ (says_established (permits sides) (lets_answer sides) p)
     (expected_with (permits sides) (lets_answer sides) (Seen p ∷ Seen (swap_of p) ∷ []) p (WasSeen-now (Seen p ∷ []) (swap_of p) (swap_of p) refl))
 
--- 2. What the rules do.
+-- 2. The verdicts of the rules.
 
 behind_swap_state : (p : Packet) (passed : Bool) → state_of (after_seen nothing_kept (swap_of p) passed) p ≡ state_after passed
 behind_swap_state p true = swap_established (swap_of p)
@@ -94,7 +95,7 @@ one_end rules swaps gives others BehindBoth p is b c first second =
     (subst (λ (x : Bool). filter_of rules (state_after (second.0 || x)) p b) other
     (subst (λ (x : Bool). filter_of rules (state_after (x || first.2)) p b) own first.4)) second.4
 
--- 3. The answers of a question.
+-- 3. The results of a question.
 
 pub same_where : (a b : Bool) → (IsTrue (beq a b) → a ≡ b) × (a ≡ b → IsTrue (beq a b))
 same_where true true = ((λ h. refl), (λ e. refl))
@@ -125,11 +126,11 @@ differs_where e gives others kind p is passes expected forwards answer ends expe
   (λ differs. by.1 (one_end e.part.rules e.swaps.rules gives others kind p is passes forwards ends differs.ends)),
 )
 
--- in one kind they differ
+-- The rules differ from the policy for one kind of list.
 pub any_where : (e : Ends) (p : Packet) (kind : Kind) → (forwards : Bool) × DiffersBy e kind p forwards → IsTrue true ↔ HoldsOf e None p
 any_where e p kind differs = ((λ h. (kind, differs.0, differs.1)), (λ h. refl))
 
--- in the first two kinds they do not differ
+-- The rules do not differ from the policy for the first two kinds of list.
 pub any_of : (e : Ends) (p : Packet) (alone behind_swap behind_both : Bool) → (IsTrue alone ↔ ((forwards : Bool) × DiffersBy e Alone p forwards))
     → alone ≡ false → (IsTrue behind_swap ↔ ((forwards : Bool) × DiffersBy e BehindSwap p forwards)) → behind_swap ≡ false
     → (IsTrue behind_both ↔ ((forwards : Bool) × DiffersBy e BehindBoth p forwards)) → IsTrue behind_both ↔ HoldsOf e None p
@@ -141,7 +142,7 @@ any_of e p alone behind_swap behind_both first no_first second no_second third =
     by_kind BehindSwap f d = absurd (true≢false (sym (second.1 (f, d)) ∙ no_second))
     by_kind BehindBoth f d = third.1 (f, d)
 
--- 4. With the same rules for packets and for their swaps it is a difference on a list.
+-- 4. With the same rules for packets and for their swaps, a difference at the end of a list is a difference on the list.
 
 module _ (sides : Sides) (gives : GivesOne (filter_of sides.rules)) where
   differ_by : (kind : Kind) (p : Packet) → IsPacket p → (b : Bool) → EndsBy sides.rules sides.rules kind p b → b ≢ expected_at sides kind p

@@ -1,4 +1,4 @@
--- The parts that are pushed one after another.
+-- The parts that are appended, in order.
 use Rattle.std.proofs.Common.{◌≡◌, ℕ, zero, suc, ◌+◌, ◌^◌, ◌<◌, List, [], ◌∷◌, ◌++◌, Some, length, get_or, map, take, refl, sym, ap, subst, ◌∙◌, arith, append_assoc, append-nil}
 use Rattle.std.specs.Prelude.{slice_get}
 use Rattle.std.specs.List.{flat_map}
@@ -30,11 +30,11 @@ named_more xs ys a b c first second = record {
   ports = joined port_ranges xs ys a.ports.items b.ports.items c.ports.items first.ports second.ports;
 }
 
--- one step of a loop that is to push all of zs
+-- One step of a loop that appends all of zs.
 pub named_step : (xs ys zs : List Part) (a b c : Found) → AreMore xs a b → AreMore ys b c → xs ++ ys ≡ zs → AreMore zs a c
 named_step xs ys zs a b c first second is = subst (λ (ps : List Part). AreMore ps a c) is (named_more xs ys a b c first second)
 
--- where the ranges of parts cut is where the parts cut
+-- The ranges of parts have the cuts of the parts.
 pub address_cuts_are : (parts : List Part) → flat_map cuts_of_addresses (flat_map address_ranges parts) ≡ flat_map cut_addresses parts
 address_cuts_are [] = refl
 address_cuts_are (Addresses p ∷ ps) =
@@ -48,7 +48,7 @@ port_cuts_are (Addresses p ∷ ps) = port_cuts_are ps
 port_cuts_are (Protocol n ∷ ps) = port_cuts_are ps
 port_cuts_are (Ports low high ∷ ps) = ap (λ (l : List ℕ). range_cuts (2 ^ 16) low high ++ l) (port_cuts_are ps)
 
--- 2. Lists that are gone through.
+-- 2. Lists that a loop traverses.
 
 pub take_more : {X : Type 0} (xs : List X) (i : ℕ) (x : X) → slice_get xs i ≡ Some x → take (i + 1) xs ≡ take i xs ++ x ∷ []
 take_more [] i x here = cc
@@ -64,7 +64,7 @@ take_at {X = X} (y ∷ ys) (suc i) x within here =
     let step : suc i + 1 ≡ suc (i + 1) = omega arith in
     ap (λ (n : ℕ). take n (y ∷ ys)) step ∙ ap (λ (l : List X). y ∷ l) (take_at ys i x (omega arith) here)
 
--- what is listed for the elements so far and for the next
+-- The concatenated lists of the elements so far and of the next element.
 pub listed_more : {X Y : Type 0} (f : X → List Y) (xs : List X) (i : ℕ) (x : X) → take (i + 1) xs ≡ take i xs ++ x ∷ []
     → flat_map f (take i xs) ++ f x ≡ flat_map f (take (i + 1) xs)
 listed_more f xs i x more =
@@ -74,7 +74,7 @@ map_append : {X Y : Type 0} (f : X → Y) (xs ys : List X) → map f (xs ++ ys) 
 map_append f [] ys = refl
 map_append f (x ∷ xs) ys = ap (λ l. f x ∷ l) (map_append f xs ys)
 
--- the prefixes of the hosts so far and of the next
+-- The prefixes of the hosts so far and of the next host.
 host_more : (hosts : List Host) (i : ℕ) (qs : List Prefix) → option_map (λ h. h.prefixes) (slice_get hosts i) ≡ Some qs
     → all_prefixes (take (i + 1) hosts) ≡ all_prefixes (take i hosts) ++ qs
 host_more [] i qs here = cc

@@ -1,4 +1,4 @@
--- Laws of ascending lists of numbers. Two ascending lists with the same numbers are equal.
+-- Lemmas on ascending lists of numbers. Two ascending lists with the same numbers are equal.
 use Rattle.std.proofs.Common.{◌≡◌, ◌⊎◌, inl, inr, ℕ, zero, suc, ◌+◌, ◌<◌, ◌≤◌, List, [], ◌∷◌, length, refl, sym, arith}
 use Rattle.std.specs.List.{AllPairs, Contains}
 use Rattle.audit_core.specs.inner.Classes.{Rises}
@@ -45,6 +45,6 @@ long_from (x ∷ xs) low b fits up above below =
     let rest = long_from xs (x + 1) b (omega arith) up.1 (λ y there. let more = up.0 y there in omega arith) (λ y there. below y (contains_later x xs y there)) in
     omega arith
 
--- an ascending list of numbers below a bound is no longer than it
+-- The length of an ascending list of numbers below a bound is at most the bound.
 pub rises_short : (xs : List ℕ) (b : ℕ) → Rises xs → ((y : ℕ) → Contains xs y → y < b) → length xs ≤ b
 rises_short xs b up below = let long = long_from xs 0 b (omega arith) up (λ y there. omega arith) below in omega arith

@@ -1,20 +1,24 @@
--- Differences that are listed for cases, one case after another, and what such a list tells.
-use Rattle.std.proofs.Common.{◌≡◌, ◌⊎◌, inl, inr, ℕ, zero, suc, ◌+◌, ◌<◌, Bool, true, false, List, [], ◌∷◌, ◌++◌, Option, Some, None, length, refl, sym, ap, subst, ◌∙◌, arith, append_assoc, append-nil}
+-- Lists of differences for cases, in order of the cases, and their consequences.
+use Rattle.std.proofs.Common.{◌≡◌, ◌⊎◌, inl, inr, ℕ, zero, suc, ◌+◌, ◌<◌, Bool, true, false, List, [], ◌∷◌, ◌++◌, Option, Some, None, length, map, refl, sym, ap, subst, ◌∙◌, arith, append_assoc, append-nil}
 use Rattle.std.specs.List.{Contains, flat_map}
 use Rattle.std.proofs.lemmas.List.Elements.{Contains-append_left, Contains-append_right}
 use Rattle.host_net.specs.declared.packet.Packet.{Packet}
 use Rattle.host_net.specs.Host.{Host, owner_of}
+use Rattle.header_space.specs.declared.owners.Owned.{Owned}
 use Rattle.audit_core.specs.declared.difference.Difference.{Difference}
 use Rattle.audit_core.specs.declared.kind.Kind.{Kind}
 use Rattle.audit_core.specs.declared.kind.Kind.TheVariants.{Alone, BehindSwap, BehindBoth}
 use Rattle.audit_core.specs.inner.Pairs.{AreAdded, AreSame}
-use Rattle.audit_core.specs.Pairs.{AreDifferences, AreListedFor, Case, DiffersAt, HasDifference, IsComplete, IsDifference, IsListedFor, IsOfPair, all_cases, case_of, cases_between, owners_from, owners_of}
+use Rattle.header_space.specs.Owners.{IsOfPair, owners_from, owners_of}
+use Rattle.audit_core.specs.Pairs.{AreDifferences, AreListedFor, Case, DiffersAt, HasDifference, IsComplete, IsDifference, IsListedFor, all_cases, case_of, cases_between}
+use Rattle.audit_core.specs.Findings.{trace_of}
 use Rattle.audit_core.specs.Sides.{Sides}
+use Rattle.audit_core.proofs.FindingOnceLaws.{ordered}
 use Rattle.audit_core.proofs.OrderLemmas.{contains_cases, contains_first, contains_later, contains_none}
 use Rattle.audit_core.proofs.SiteLemmas.{owner_below}
 
 module _ (sides : Sides) where
-  -- 1. One list after another.
+  -- 1. Concatenated lists.
 
   pub listed_append : (cs es : List Case) (xs ys : List Difference) → AreListedFor sides cs xs → AreListedFor sides es ys
       → AreListedFor sides (cs ++ es) (xs ++ ys)
@@ -27,7 +31,7 @@ module _ (sides : Sides) where
     listed_append cs es first.1 ys first.4 second,
   )
 
-  -- what is listed for one case
+  -- The list for one case.
   pub listed_one : (c : Case) (ds : List Difference) → IsListedFor sides c ds → AreListedFor sides (c ∷ []) ds
   listed_one c ds listed = (ds, [], sym (append-nil ds), listed, refl)
 
@@ -41,7 +45,7 @@ module _ (sides : Sides) where
     listed_append cs es first.0 second.0 first.2 second.2,
   )
 
-  -- what is added for each case of a pair
+  -- The lists that are appended for each case of a pair.
   pub six_added : (from to : Option ℕ) (a b c d e f g : List Difference) → AreAdded sides (case_of from to Alone true ∷ []) a b
       → AreAdded sides (case_of from to Alone false ∷ []) b c → AreAdded sides (case_of from to BehindSwap true ∷ []) c d
       → AreAdded sides (case_of from to BehindSwap false ∷ []) d e → AreAdded sides (case_of from to BehindBoth true ∷ []) e f
@@ -58,7 +62,7 @@ module _ (sides : Sides) where
       let early = added_then (case_of from to Alone false ∷ []) three b c g second middle in
       added_then (case_of from to Alone true ∷ []) two a b g first early
 
-  -- one step of a loop that adds all
+  -- One step of a loop that appends the lists of all cases.
   pub added_step : (cs es all : List Case) (a b c : List Difference) → AreAdded sides cs a b → AreAdded sides es b c → cs ++ es ≡ all → AreAdded sides all a c
   added_step cs es all a b c first second is = subst (λ (l : List Case). AreAdded sides l a c) is (added_then cs es a b c first second)
 
@@ -67,7 +71,7 @@ module _ (sides : Sides) where
       subst (λ (l : List Case). AreListedFor sides l c) is
       (subst (λ (l : List Difference). AreListedFor sides (cs ++ es) l) (sym second.1) (listed_append cs es b second.0 first second.2))
 
-  -- where no packet of a pair differs nothing is listed for the pair
+  -- If no packet of a pair differs, the list for the pair is empty.
   pub listed_nothing : (from to : Option ℕ) → ((c : Case) → c.from ≡ from → c.to ≡ to → IsListedFor sides c []) → AreListedFor sides (cases_between from to) []
   listed_nothing from to none = (
     [],
@@ -101,13 +105,13 @@ module _ (sides : Sides) where
     ),
   )
 
-  -- where no packet differs nothing is listed
+  -- If no packet differs, the list is empty.
   pub listed_same : AreSame sides → (cs : List Case) → AreListedFor sides cs []
   listed_same same [] = refl
   listed_same same (c ∷ cs) =
       ([], [], refl, (λ p of differs. same p of.packet (c.kind, c.forwards, differs)), listed_same same cs)
 
-  -- 2. What is in a list.
+  -- 2. The elements of a list.
 
   has_one : (c : Case) (one rest : List Difference) → IsListedFor sides c one → (p : Packet) → IsOfPair sides.site.hosts c.from c.to p
       → DiffersAt sides c.kind p c.forwards → HasDifference (one ++ rest) c.from c.to c.kind c.forwards
@@ -129,7 +133,7 @@ module _ (sides : Sides) where
         (has.0, Contains-append_right listed.0 listed.1 has.0 has.1, has.2, has.3, has.4, has.5)
   ]
 
-  -- the first difference of a list is one
+  -- The first difference of a list is the difference of its first case, or the list is the list for the rest.
   first_of : (one rest : List Difference) (c : Case) (d : Difference) (ds : List Difference) → IsListedFor sides c one → d ∷ ds ≡ one ++ rest
       → IsDifference sides c d ⊎ (d ∷ ds ≡ rest)
   first_of [] rest c d ds listed is = inr is
@@ -143,7 +147,35 @@ module _ (sides : Sides) where
     | inr rest ↦ first_is cs d ds (subst (λ (l : List Difference). AreListedFor sides cs l) (sym rest) listed.4)
   ]
 
--- 3. All cases are listed.
+  -- 3. The list is unique.
+
+  one_packet : (c : Case) (d e : Difference) → (one : IsDifference sides c d) → (other : IsDifference sides c e) → one.packet ≡ other.packet
+  one_packet c d e one other = elim (ordered one.packet other.packet) [
+    | inl before ↦ absurd (other.first one.packet one.of_pair before one.differs)
+    | inr rest ↦ elim rest [ inl after ↦ absurd (one.first other.packet other.of_pair after other.differs) | inr same ↦ same ]
+  ]
+
+  one_listed : (c : Case) (xs ys : List Difference) → IsListedFor sides c xs → IsListedFor sides c ys → xs ≡ ys
+  one_listed c [] [] one other = refl
+  one_listed c [] (e ∷ []) none is = absurd (none is.packet is.of_pair is.differs)
+  one_listed c (d ∷ []) [] is none = absurd (none is.packet is.of_pair is.differs)
+  one_listed c (d ∷ []) (e ∷ []) one other =
+      let same : d ≡ e =
+      one.is ∙ (λ i. record { from = c.from; to = c.to; trace = trace_of c.kind (one_packet c d e one other i) c.forwards }) ∙ sym other.is in
+      λ i. same i ∷ []
+  one_listed c [] (d ∷ e ∷ ds) one other = absurd other
+  one_listed c (x ∷ []) (d ∷ e ∷ ds) one other = absurd other
+  one_listed c (d ∷ e ∷ ds) ys one other = absurd one
+
+  one_list : (cs : List Case) (xs ys : List Difference) → AreListedFor sides cs xs → AreListedFor sides cs ys → xs ≡ ys
+  one_list [] xs ys one other = one ∙ sym other
+  one_list (c ∷ cs) xs ys one other =
+      one.2 ∙ (λ i. one_listed c one.0 other.0 one.3 other.3 i ++ one_list cs one.1 other.1 one.4 other.4 i) ∙ sym other.2
+
+  pub one_list_of_differences : (xs ys : List Difference) → AreDifferences sides xs → AreDifferences sides ys → xs ≡ ys
+  one_list_of_differences xs ys one other = one_list (all_cases (owners_of sides.site.hosts) (owners_of sides.site.hosts)) xs ys one other
+
+-- 4. The list covers all cases.
 
 place : {X Y : Type 0} (f : X → List Y) (xs : List X) (x : X) (d : Y) → Contains xs x → Contains (f x) d → Contains (flat_map f xs) d
 place f [] x d there here = absurd (contains_none x there)
@@ -185,6 +217,23 @@ owner_among hosts a = by_owner (owner_of hosts a) refl
     by_owner : (o : Option ℕ) → owner_of hosts a ≡ o → Contains (owners_of hosts) o
     by_owner None is = nobody_among 0 hosts
     by_owner (Some k) is = host_among 0 hosts k k (owner_below hosts a k is) (omega arith)
+
+-- The concatenated lists of all owners are the list of all cases.
+flat_map_over : {X Y Z : Type 0} (f : Y → List Z) (g : X → Y) (xs : List X) → flat_map (λ x. f (g x)) xs ≡ flat_map f (map g xs)
+flat_map_over f g [] = refl
+flat_map_over {Z = Z} f g (x ∷ xs) = ap (λ (l : List Z). f (g x) ++ l) (flat_map_over f g xs)
+
+pub cases_are : (hosts : List Host) (sources destinations : List Owned) → map (λ x. x.owner) sources ≡ owners_of hosts
+    → map (λ x. x.owner) destinations ≡ owners_of hosts
+    → flat_map (λ from. flat_map (λ to. cases_between from.owner to.owner) destinations) sources ≡ all_cases (owners_of hosts) (owners_of hosts)
+cases_are hosts sources destinations here there =
+    flat_map_over (λ from. flat_map (λ to. cases_between from to.owner) destinations) (λ x. x.owner) sources
+    ∙ ap (flat_map (λ from. flat_map (λ to. cases_between from to.owner) destinations)) here
+    ∙ ap (λ (f : Option ℕ → List Case). flat_map f (owners_of hosts)) rows
+  where
+    rows : ◌≡◌ {A = Option ℕ → List Case} (λ from. flat_map (λ to. cases_between from to.owner) destinations)
+        (λ from. flat_map (λ to. cases_between from to) (owners_of hosts))
+    rows = λ i from. (flat_map_over (λ to. cases_between from to) (λ x. x.owner) destinations ∙ ap (flat_map (λ to. cases_between from to)) there) i
 
 pub complete_where : (sides : Sides) (ds : List Difference) → AreDifferences sides ds → IsComplete sides ds
 complete_where sides ds listed kind p forwards is differs =

@@ -1,4 +1,4 @@
--- Laws of parts: numbers and packets that no part of a list parts.
+-- Lemmas on parts: numbers and packets that no part of a list separates.
 use Rattle.std.proofs.Common.{◌≡◌, ℕ, ◌^◌, ◌<◌, ◌==◌, List, [], ◌∷◌, ◌++◌, refl, sym, ◌∙◌}
 use Rattle.std.specs.List.{AllByRecursion, flat_map}
 use Rattle.std.proofs.lemmas.List.Elements.{Contains-append_left, Contains-append_right}
@@ -16,7 +16,7 @@ use Rattle.audit_core.specs.inner.Ranges.{AreOneProtocol, AreTogether, within}
 use Rattle.audit_core.proofs.RangeLemmas.{named_alike, same_test, within_alike, within_from, within_parts}
 use Rattle.audit_core.specs.Sides.{Sides}
 
--- a part has both addresses, or neither; likewise for protocols and ports
+-- A part contains both addresses or neither. The same holds for protocols and ports.
 abbrev pub SameAddress : ℕ → ℕ → Part → Type 0
 SameAddress a b (Addresses prefix) = covers prefix a ≡ covers prefix b
 SameAddress a b (Protocol n) = Unit {0}
@@ -106,7 +106,7 @@ alike_for_parts xs ys p q alike =
       record { src = src.1; dst = dst.1; proto = proto.1; sport = sport.1; dport = dport.1 },
     )
 
--- such packets are alike the other way round, and through a third one
+-- Equivalence with respect to a part is symmetric and transitive.
 address_back : (part : Part) (a b : ℕ) → SameAddress a b part → SameAddress b a part
 address_back (Addresses p) a b same = sym same
 address_back (Protocol n) a b same = tt
@@ -155,7 +155,7 @@ alike_back parts p q alike = record {
   dport = each_back (SamePort p.dport q.dport) (SamePort q.dport p.dport) parts (λ x same. port_back x p.dport q.dport same) alike.dport;
 }
 
--- their swaps are alike too
+-- The swaps of equivalent packets are equivalent.
 pub alike_swapped : (parts : List Part) (p q : Packet) → AreAlikeFor parts p q → AreAlikeFor parts (swap_of p) (swap_of q)
 alike_swapped parts p q alike = record { src = alike.dst; dst = alike.src; proto = alike.proto; sport = alike.dport; dport = alike.sport }
 
@@ -171,6 +171,6 @@ one_class_alike sides p q is_p is_q one =
       dport = ports_alike parts p.dport q.dport is_p.4 is_q.4 (behind_first 0 (flat_map cut_ports parts) p.dport q.dport one.dport);
     }
 
--- and so are their swaps
+-- The swaps of packets in one class are in one class.
 pub swaps_alike : (cuts : Cuts) (p q : Packet) → AreOneClass cuts p q → AreOneClass cuts (swap_of p) (swap_of q)
 swaps_alike cuts p q one = record { src = one.dst; dst = one.src; proto = one.proto; sport = one.dport; dport = one.sport }

@@ -1,4 +1,4 @@
--- Laws of ranges: numbers that no cut parts are within alike, and each number is together with a cut.
+-- Lemmas on ranges: a range contains both of two numbers that no cut separates, or neither, and no cut separates a number from some cut.
 use Rattle.std.proofs.Common.{◌≡◌, ◌⊎◌, inl, inr, ℕ, zero, suc, ◌+◌, ◌<◌, ◌≤◌, Bool, true, false, ◌==◌, List, [], ◌∷◌, refl, sym, subst, ◌∙◌, arith, true≢false}
 use Rattle.std.specs.Prelude.{if◌then◌else◌, nat_lt}
 use Rattle.std.specs.List.{Contains}
@@ -22,7 +22,7 @@ within_parts first last a h = (grind (arith, nat_tests), grind (arith, nat_tests
 pub within_from : (first last a : ℕ) → first ≤ a → a ≤ last → within first last a ≡ true
 within_from first last a low high = grind (arith, nat_tests)
 
--- what no cut parts from a number up to the end of a range is within that end too
+-- If no cut separates two numbers and one is at most the end of the range, the other is at most the end too.
 up_to_too : (limit first last a b : ℕ) → b < limit → AreTogether (range_cuts limit first last) a b → a ≤ last → b ≤ last
 up_to_too limit first last a b fits together up_to = by_test (nat_lt (last + 1) limit) refl together
   where
@@ -38,19 +38,19 @@ within_too limit first last a b fits together h =
     let parts = within_parts first last a h in
     within_from first last b ((together first (contains_first first _ first refl)).0 parts.0) (up_to_too limit first last a b fits together parts.1)
 
--- a range has both of two numbers that its cuts do not part, or neither
+-- A range contains both of two numbers that its cuts do not separate, or neither.
 pub within_alike : (limit first last a b : ℕ) → a < limit → b < limit → AreTogether (range_cuts limit first last) a b → within first last a ≡ within first last b
 within_alike limit first last a b at bt together =
     same_test _ _ (within_too limit first last a b bt together) (within_too limit first last b a at (turn (range_cuts limit first last) a b together))
 
--- protocols of one class are the same number, or both another one, whatever is named
+-- Protocols of one class are both equal to a named number, or both different from it.
 pub named_alike : (named : List ℕ) (n a b : ℕ) → Contains named n → AreOneProtocol named a b → (n == a) ≡ (n == b)
 named_alike named n a b there one =
     same_test (n == a) (n == b)
     (λ h. (Decides-eqb n b).1 ((one n there).0 ((Decides-eqb n a).0 h)))
     (λ h. (Decides-eqb n a).1 ((one n there).1 ((Decides-eqb n b).0 h)))
 
--- whether a number is in a list, decided
+-- Membership of a number in a list is decidable.
 pub is_in : (xs : List ℕ) (d : ℕ) → Contains xs d ⊎ (Contains xs d → ⊥)
 is_in [] d = inr (contains_none d)
 is_in (x ∷ xs) d = elim (cases_Bool (x == d)) [
@@ -61,11 +61,11 @@ is_in (x ∷ xs) d = elim (cases_Bool (x == d)) [
   ]
 ]
 
--- the least number of a class of protocols: one that is named, or the least that is not
+-- The least number of a class of protocols: a named number, or the least number that is not named.
 pub record IsLeastProtocol (named : List ℕ) (c : ℕ) : Type 0 where
   pub least : (Contains named c → ⊥) → (d : ℕ) → (Contains named d → ⊥) → c ≤ d
 
--- the least number from c on that is not named, where n is not and all below c are
+-- The least number from c on that is not named, if n is not named and all numbers below c are named.
 least_from : (named : List ℕ) (k c n : ℕ) → c + k ≡ n → (Contains named n → ⊥) → ((d : ℕ) → d < c → Contains named d) → (e : ℕ) × (e ≤ n) × (Contains named e → ⊥) × ((d : ℕ) → d < e → Contains named d)
 least_from named zero c n is none below = (n, omega arith, none, λ d h. below d (omega arith))
 least_from named (suc k) c n is none below =
@@ -75,7 +75,7 @@ least_from named (suc k) c n is none below =
       | inr free ↦ (c, omega arith, free, below)
     ]
 
--- each protocol is of one class with the least of its class, which is no greater
+-- Each protocol is in one class with the least protocol of the class, which is no greater.
 pub protocol_of : (named : List ℕ) (n : ℕ) → (c : ℕ) × (c ≤ n) × AreOneProtocol named c n × IsLeastProtocol named c
 protocol_of named n = elim (is_in named n) [
   | inl there ↦ (n, omega arith, (λ m h. ((λ is. is), (λ is. is))), record { least = λ none. absurd (none there) })

@@ -1,5 +1,5 @@
--- Laws of the numbers below a limit for which a test is true: which numbers they are, that one ascending list has them, and
--- that this list grows at its end. Then the same of cuts and of protocols.
+-- Lemmas on the numbers below a limit for which a test is true: their membership, the uniqueness of their ascending list, and its growth at
+-- its end. The same for cuts and for protocols.
 use Rattle.std.proofs.Common.{◌≡◌, ◌⊎◌, inl, inr, ℕ, zero, suc, ◌+◌, ◌<◌, ◌==◌, ◌&&◌, ◌||◌, Bool, true, false, cond, List, [], ◌∷◌, ◌++◌, get_or, refl, sym, ap, ◌∙◌, arith, true≢false, append-nil}
 use Rattle.std.specs.List.{All, AllPass, Contains, filter, list_all, range_with_len}
 use Rattle.std.specs.List.Sorted.{IsStrictlyIncreasing}
@@ -77,7 +77,7 @@ pub where_same : (f g : ℕ → Bool) (limit : ℕ) → ((n : ℕ) → f n ≡ g
 unfolding numbers_where
 where_same f g limit same = filter_agree f g same (range_with_len 0 limit)
 
--- one number more
+-- One more number.
 range_from : (a n j : ℕ) → a + n ≡ j → range_with_len a (suc n) ≡ range_with_len a n ++ j ∷ []
 range_from a zero j is = let same : a ≡ j = omega arith in ap (λ k. k ∷ []) same
 range_from a (suc n) j is = ap (λ l. a ∷ l) (range_from (a + 1) n j (omega arith))
@@ -141,7 +141,7 @@ represents named c (inr below) = or_right (is_among named c) _ (list_all-from_Al
     all : AllPass (is_among named) (range_with_len 0 c)
     all k d within = among_has named (get_or (range_with_len 0 c) k d) (below (get_or (range_with_len 0 c) k d) (range_below c k d within))
 
--- the protocols below a number that represent their classes, and whether all protocols below it are named
+-- The protocols below a number that represent their classes, and whether all protocols below the number are named.
 pub record ArePushed (named protocols : List ℕ) (number : ℕ) (all_named : Bool) : Type 0 where
   pub protocols_are : protocols ≡ numbers_where (represents_protocol named) number
   pub all_are : all_named ≡ list_all (is_among named) (range_with_len 0 number)

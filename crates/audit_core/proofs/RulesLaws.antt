@@ -1,4 +1,4 @@
--- Rule sets and flow tables give every packet one answer in each state.
+-- Rule sets and flow tables have one verdict on every packet in each state.
 use Rattle.std.proofs.Common.{◌≡◌, Bool, true, false, List, refl, sym, subst, ◌∙◌}
 use Rattle.host_net.specs.declared.packet.Verdict.{Verdict}
 use Rattle.host_net.specs.declared.packet.Verdict.TheVariants.{Forward as Forwarded, Drop as Dropped}
@@ -16,12 +16,12 @@ use Rattle.ofp_rules.specs.Meaning.{HasVerdict}
 use Rattle.audit_core.specs.Rules.{Chains, Entries, filter_of}
 use Rattle.audit_core.specs.Verdicts.{GivesOne}
 
--- every verdict says that the packet passes, or that it does not
+-- Every verdict is that the packet passes, or that it does not pass.
 said_by : (v : Verdict) → (b : Bool) × (v ≡ verdict_if b)
 said_by Forwarded = (true, refl)
 said_by Dropped = (false, refl)
 
--- chains of which each gives one outcome
+-- Chains that each have one outcome.
 pub chains_give : (chains : List Chain) → EachGivesOne chains → GivesOne (filter_of (Chains chains))
 chains_give chains each state p is =
     let one = each (matches p state) 1 0 in
@@ -29,7 +29,7 @@ chains_give chains each state p is =
     let passes : filter_of (Chains chains) state p said.0 = record { outcome = one.outcome; gives = one.gives; verdict = sym said.1 } in
     (said.0, passes, (λ other h. verdict_if-injective other said.0 (verdict_once h passes)))
 
--- entries of which no two contradict each other
+-- Entries of which no two contradict each other.
 pub table_gives : (entries : List Entry) → IsTable entries → GivesOne (filter_of (Entries entries))
 table_gives entries table state p is =
     let one = table.one_verdict (Ipv4 p) is in

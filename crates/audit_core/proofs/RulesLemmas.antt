@@ -1,4 +1,4 @@
--- The law of classes at rules: packets that they do not part get the same verdicts.
+-- The law of classes for rules: packets that the parts of the rules do not separate have the same verdicts.
 use Rattle.std.proofs.Common.{◌≡◌, inl, inr, ℕ, zero, suc, Bool, ◌&&◌, ◌==◌, List, [], ◌∷◌, ◌++◌, Option, Some, None, refl, sym, ap, subst, ◌∙◌, arith}
 use Rattle.std.specs.List.{AllByRecursion, flat_map}
 use Rattle.std.proofs.lemmas.Bool.Decides.{nat_tests}
@@ -40,11 +40,11 @@ port_alike : (part : Option PortMatch) (a b : ℕ) → AllByRecursion (SamePort 
 port_alike None a b alike = refl
 port_alike (Some part) a b alike = ap (turned part.negated) alike.0
 
--- a rule fits both packets, or neither
+-- A rule matches both packets, or neither.
 abbrev pub FitsBoth : Packet → Packet → CtState → Rule → Type 0
 FitsBoth p q state r = matches p state r ≡ matches q state r
 
--- the five lists of parts that a rule or an entry has
+-- The five lists of parts of a rule or an entry.
 abbrev five : {X : Type 0} → List X → List X → List X → List X → List X → List X
 five a b c d e = a ++ (b ++ (c ++ (d ++ e)))
 
@@ -82,7 +82,7 @@ all_in_chain P [] c all = tt
 all_in_chain P (x ∷ xs) zero all = (all_parts P x.rules (all_rules xs) all).0
 all_in_chain P (x ∷ xs) (suc c) all = all_in_chain P xs c (all_parts P x.rules (all_rules xs) all).1
 
--- rules that fit alike give alike
+-- Rule lists with equal matches evaluate to the same outcome.
 pub gives_alike : {fits other : Rule → Bool} {chains : List Chain} → ((c : ℕ) → AllByRecursion (λ r. fits r ≡ other r) (rules_of chains c)) →
     {rs : List Rule} {o : Option Verdict} → AllByRecursion (λ r. fits r ≡ other r) rs → Gives fits chains rs o → Gives other chains rs o
 gives_alike each alike at_end = at_end
@@ -166,7 +166,7 @@ verdict_alike es p q v alike (inr has_none) =
 
 -- 3. Rules of either kind.
 
--- packets of one class get the same verdicts
+-- Packets of one class have the same verdicts.
 pub filter_alike : (rules : Rules) (p q : Packet) (state : CtState) (b : Bool) → AreAlikeFor (rules_parts rules) p q
     → filter_of rules state p b → filter_of rules state q b
 filter_alike (Chains chains) p q state b alike said = chains_alike chains p q state _ alike said

@@ -1,4 +1,4 @@
--- No packet differs at the end of a list exactly where the two sides differ on no list of events.
+-- No packet differs at the end of a list iff the two sides differ on no list of events.
 use Rattle.std.proofs.Common.{◌≡◌, ◌↔◌, Bool, true, List, [], ◌∷◌, refl, sym, subst, ◌∙◌, arith}
 use Rattle.host_net.specs.declared.packet.Packet.{Packet}
 use Rattle.host_net.specs.declared.packet.CtState.TheVariants.{New, Established}
@@ -16,10 +16,12 @@ use Rattle.audit_core.specs.inner.Sought.{AreRight}
 use Rattle.audit_core.specs.laws.FindingLaws.{swaps_known, trace_packets}
 use Rattle.audit_core.specs.laws.ListLaws.{agree_not_differ, differ_on}
 use Rattle.audit_core.specs.Lists.{front_of, list_of}
-use Rattle.audit_core.specs.Pairs.{AreDifferences, Case, DiffersAt, IsComplete, IsDifference, all_cases, owners_of}
+use Rattle.header_space.specs.Owners.{owners_of}
+use Rattle.audit_core.specs.Pairs.{AreDifferences, Case, DiffersAt, IsComplete, IsDifference, all_cases}
 use Rattle.audit_core.specs.Rules.{filter_of}
-use Rattle.audit_core.specs.Sides.{Differ, Sides, lets_answer, permits}
+use Rattle.audit_core.specs.Sides.{Differ, ForwardAlike, Sides, lets_answer, permits}
 use Rattle.audit_core.proofs.AlikeLemmas.{policy_within}
+use Rattle.audit_core.proofs.ExpectedLaws.{expected_where_agree}
 use Rattle.audit_core.proofs.FaultLaws.{right_where}
 use Rattle.audit_core.proofs.JudgingLemmas.{differ_alone, differ_behind_both, differ_behind_swap, judged_by, right_new}
 use Rattle.audit_core.proofs.PairLaws.{complete_where, first_is, listed_same}
@@ -33,7 +35,7 @@ module _ (sides : Sides) (gives : GivesOne (filter_of sides.rules)) (subset : Is
       agree_where_judged (filter_of sides.rules) (permits sides) (lets_answer sides) IsPacket (policy_within sides subset)
       (λ p is. judged_by (filter_of sides.rules) (permits sides) (lets_answer sides) p (right Alone p is) (right BehindSwap p is) (right BehindBoth p is))
 
-  -- a difference at a packet is one on a list of packets
+  -- A difference at a packet is a difference on a list of packets.
   differ_there : (kind : Kind) (p : Packet) (forwards : Bool) → DiffersAt sides kind p forwards → Differ sides (list_of kind p)
   differ_there kind p forwards differs = differ_on (filter_of sides.rules) (permits sides) (lets_answer sides) (front_of kind p) p forwards differs
 
@@ -51,7 +53,7 @@ module _ (sides : Sides) (gives : GivesOne (filter_of sides.rules)) (subset : Is
   pub same_where_right : ((kind : Kind) → AreRight sides kind) → AreSame sides
   same_where_right right p is differs = nowhere (agree_where_right right) (somewhere p is differs)
 
-  -- 2. Where no packet differs the rules are right.
+  -- 2. If no packet differs, the rules are right.
 
   right_alone : AreSame sides → AreRight sides Alone
   right_alone same p is = right_where sides Alone p (λ fault. same p is (
@@ -89,7 +91,7 @@ module _ (sides : Sides) (gives : GivesOne (filter_of sides.rules)) (subset : Is
   are_right same BehindSwap = right_behind_swap same
   are_right same BehindBoth = right_behind_both same
 
-  -- 3. A list of differences is empty exactly where the two sides differ on no list of events.
+  -- 3. A list of differences is empty iff the two sides differ on no list of events.
 
   pub none_exactly : (ds : List Difference) → AreDifferences sides ds → (ds ≡ []) ↔ (DifferSomewhere sides → ⊥)
   none_exactly [] listed = (
@@ -113,7 +115,11 @@ module _ (sides : Sides) (gives : GivesOne (filter_of sides.rules)) (subset : Is
       there : (c : Case) × IsDifference sides c d → DifferSomewhere sides
       there first = somewhere first.1.packet first.1.of_pair.packet (first.0.kind, first.0.forwards, first.1.differs)
 
--- 4. The same of two sides that are built.
+  -- Rules that differ from the policy on no list of events are equivalent to it.
+  pub alike_where_none : (DifferSomewhere sides → ⊥) → ForwardAlike sides
+  alike_where_none none = expected_where_agree sides gives (agree_where_right (are_right (λ p is differs. none (somewhere p is differs))))
+
+-- 4. The same for two sides that are constructed.
 
 pub same_built : (built sides : Sides) → built ≡ sides → GivesOne (filter_of sides.rules) → IsSubset sides.stateful sides.permitted
     → ((kind : Kind) → AreRight built kind) → AreDifferences built []
@@ -122,7 +128,7 @@ same_built built sides same gives subset right =
     (listed_same sides (same_where_right sides gives subset (subst (λ (s : Sides). (kind : Kind) → AreRight s kind) same right))
     (all_cases (owners_of sides.site.hosts) (owners_of sides.site.hosts)))
 
--- what a list of differences tells
+-- The consequences of a list of differences.
 pub compared_built : (built sides : Sides) → built ≡ sides → GivesOne (filter_of sides.rules) → IsSubset sides.stateful sides.permitted
     → (ds : List Difference) → AreDifferences built ds
     → AreDifferences sides ds × IsComplete sides ds × ((ds ≡ []) ↔ (DifferSomewhere sides → ⊥))

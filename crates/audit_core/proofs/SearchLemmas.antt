@@ -1,4 +1,4 @@
--- From the search through classes that stand for all packets to what an audit finds.
+-- From the search through classes that represent all packets to the finding of an audit.
 use Rattle.std.proofs.Common.{◌≡◌, ◌⊎◌, inl, inr, ℕ, ◌<◌, ◌≤◌, Bool, true, refl, sym, subst, ◌∙◌, arith}
 use Rattle.std.proofs.lemmas.Bool.{cases_lt}
 use Rattle.host_net.specs.declared.packet.Packet.{Packet}
@@ -20,7 +20,7 @@ use Rattle.audit_core.proofs.JudgingLemmas.{agree_alone, agree_behind_both, agre
 use Rattle.audit_core.specs.laws.ListLaws.{differ_on}
 use Rattle.audit_core.specs.Lists.{front_of, list_of}
 use Rattle.header_space.specs.Order.{ComesBefore, comes_first}
-use Rattle.audit_core.specs.Places.{IsClassPacket, Leasts, leasts_of}
+use Rattle.audit_core.specs.Places.{IsClassPacket, Representatives, representatives_of}
 use Rattle.audit_core.specs.Rules.{filter_of}
 use Rattle.audit_core.specs.Verdicts.{GivesOne}
 use Rattle.header_space.specs.Boxes.{IsNoHigher}
@@ -29,7 +29,7 @@ use Rattle.audit_core.proofs.ShortLaws.{agree_where_judged}
 use Rattle.audit_core.specs.Sides.{Agree, Differ, DifferThen, Sides, lets_answer, permits}
 use Rattle.audit_core.specs.inner.Sides.{AgreeAlways}
 
--- what comes before with lower numbers
+-- A packet with lower numbers also comes before.
 lower_first : (a b c : ℕ) (L M : Type 0) → a ≤ b → (L → M) → comes_first b c L → comes_first a c M
 lower_first a b c L M low later before = elim before [
   | inl less ↦ inl (omega arith)
@@ -47,22 +47,22 @@ comes_lower r s q low =
     (lower_first r.proto s.proto q.proto _ _ low.proto
     (lower_first r.sport s.sport q.sport _ _ low.sport (λ less. let dport = low.dport in let below : r.dport < q.dport = omega arith in below))))
 
--- classes that stand for all packets, some of those that are counted; and rules and a policy that may be compared
-pub record AreCompared (sides : Sides) (leasts kept : Leasts) : Type 0 where
+-- Classes that represent all packets and that are among the counted classes, and rules and a policy that may be compared.
+pub record AreCompared (sides : Sides) (representatives kept : Representatives) : Type 0 where
   pub gives : GivesOne (filter_of sides.rules)
   pub subset : IsSubset sides.stateful sides.permitted
-  pub packets : ArePacketsAll leasts
-  pub some : (q : Packet) → IsClassPacket kept q → IsClassPacket leasts q
+  pub packets : ArePacketsAll representatives
+  pub some : (q : Packet) → IsClassPacket kept q → IsClassPacket representatives q
   pub represent : Represent sides kept
 
-module _ (sides : Sides) (leasts kept : Leasts) (by : AreCompared sides leasts kept) where
-  -- what is right about the kept classes is right about every packet
+module _ (sides : Sides) (representatives kept : Representatives) (by : AreCompared sides representatives kept) where
+  -- Rules that are right about the kept classes are right about every packet.
   spread : (kind : Kind) → AllRight sides kept kind → (p : Packet) → IsPacket p → Right sides kind p
   spread kind all p is = let stood = by.represent p is in right_alike sides kind stood.by p stood.alike (all stood.by stood.is_class)
 
-  -- and what is right about those before one of them is right about every class before it
+  -- Rules that are right about the kept classes before a packet are right about every class before it.
   spread_before : (kind : Kind) (q : Packet) → ((r : Packet) → IsClassPacket kept r → ComesBefore r q → Right sides kind r)
-      → (r : Packet) → IsClassPacket leasts r → ComesBefore r q → Right sides kind r
+      → (r : Packet) → IsClassPacket representatives r → ComesBefore r q → Right sides kind r
   spread_before kind q all r is before =
       let stood = by.represent r (by.packets r is) in
       right_alike sides kind stood.by r stood.alike (all stood.by stood.is_class (comes_lower stood.by r q stood.low before))
@@ -70,7 +70,7 @@ module _ (sides : Sides) (leasts kept : Leasts) (by : AreCompared sides leasts k
   within : (p : Packet) → IsPacket p → lets_answer sides p ≡ true → permits sides p ≡ true
   within = policy_within sides by.subset
 
-  -- 1. They agree.
+  -- 1. The two sides agree.
 
   alone_at : (p : Packet) → Right sides Alone p → Agree sides (list_of Alone p)
   alone_at p right = agree_alone (filter_of sides.rules) (permits sides) (lets_answer sides) p right
@@ -92,7 +92,7 @@ module _ (sides : Sides) (leasts kept : Leasts) (by : AreCompared sides leasts k
       agree_where_judged (filter_of sides.rules) (permits sides) (lets_answer sides) IsPacket (policy_within sides by.subset)
       (λ p is. judged_by (filter_of sides.rules) (permits sides) (lets_answer sides) p (spread Alone (all Alone) p is) (spread BehindSwap (all BehindSwap) p is) (spread BehindBoth (all BehindBoth) p is))
 
-  -- 2. They differ.
+  -- 2. The two sides differ.
 
   passes_new : AllRight sides kept Alone → (p : Packet) → IsPacket p → permits sides p ≡ true → filter_of sides.rules New p true
   passes_new first p is permitted =
@@ -101,7 +101,7 @@ module _ (sides : Sides) (leasts kept : Leasts) (by : AreCompared sides leasts k
       (right_new (filter_of sides.rules) (permits sides) (lets_answer sides) p (spread Alone first p is) one.0 one.1 ∙ permitted) one.1
 
   first_class : (kind : Kind) (q : Packet) (f : Bool) → IsFirstWrong sides kept kind q f → IsPacket q → DifferThen sides (front_of kind q) q f
-      → ((r : Packet) → IsPacket r → Right sides kind r → Agree sides (list_of kind r)) → IsFirstClass sides leasts kind q f
+      → ((r : Packet) → IsPacket r → Right sides kind r → Agree sides (list_of kind r)) → IsFirstClass sides representatives kind q f
   first_class kind q f found is differ agree = record {
     is_class = by.some q found.is_class;
     packet = is;
@@ -109,25 +109,25 @@ module _ (sides : Sides) (leasts kept : Leasts) (by : AreCompared sides leasts k
     first = λ r is_r before. agree r (by.packets r is_r) (spread_before kind q found.first r is_r before);
   }
 
-  differ_there : (kind : Kind) (q : Packet) (f : Bool) → IsFirstClass sides leasts kind q f → Differ sides (list_of kind q)
+  differ_there : (kind : Kind) (q : Packet) (f : Bool) → IsFirstClass sides representatives kind q f → Differ sides (list_of kind q)
   differ_there kind q f first = differ_on (filter_of sides.rules) (permits sides) (lets_answer sides) (front_of kind q) q f first.differ
 
-  trace_there : (kind : Kind) (q : Packet) (f : Bool) → IsFirstClass sides leasts kind q f → ((k : Kind) → place_of k < place_of kind → AgreeAll sides leasts k)
-      → IsFirstTrace sides leasts (trace_of kind q f)
+  trace_there : (kind : Kind) (q : Packet) (f : Bool) → IsFirstClass sides representatives kind q f → ((k : Kind) → place_of k < place_of kind → AgreeAll sides representatives k)
+      → IsFirstTrace sides representatives (trace_of kind q f)
   trace_there Alone q f first earlier = record { kind = Alone; packet = q; is = refl; first = first; earlier = earlier; differ = differ_there Alone q f first }
   trace_there BehindSwap q f first earlier =
       record { kind = BehindSwap; packet = q; is = refl; first = first; earlier = earlier; differ = differ_there BehindSwap q f first }
   trace_there BehindBoth q f first earlier =
       record { kind = BehindBoth; packet = q; is = refl; first = first; earlier = earlier; differ = differ_there BehindBoth q f first }
 
-  agree_alone_all : AllRight sides kept Alone → AgreeAll sides leasts Alone
+  agree_alone_all : AllRight sides kept Alone → AgreeAll sides representatives Alone
   agree_alone_all first q is = alone_at q (spread Alone first q (by.packets q is))
 
-  agree_swap_all : AllRight sides kept Alone → AllRight sides kept BehindSwap → AgreeAll sides leasts BehindSwap
+  agree_swap_all : AllRight sides kept Alone → AllRight sides kept BehindSwap → AgreeAll sides representatives BehindSwap
   agree_swap_all first second q is = swap_at first q (by.packets q is) (spread BehindSwap second q (by.packets q is))
 
   trace_at : (kind : Kind) (q : Packet) (f : Bool) → IsFirstWrong sides kept kind q f → ((k : Kind) → place_of k < place_of kind → AllRight sides kept k)
-      → IsFirstTrace sides leasts (trace_of kind q f)
+      → IsFirstTrace sides representatives (trace_of kind q f)
   trace_at Alone q f found earlier =
       let is = by.packets q (by.some q found.is_class) in
       trace_there Alone q f
@@ -145,7 +145,7 @@ module _ (sides : Sides) (leasts kept : Leasts) (by : AreCompared sides leasts k
       (swap_at first))
       (one_before first)
     where
-      one_before : AllRight sides kept Alone → (k : Kind) → place_of k < 1 → AgreeAll sides leasts k
+      one_before : AllRight sides kept Alone → (k : Kind) → place_of k < 1 → AgreeAll sides representatives k
       one_before first Alone h = agree_alone_all first
       one_before first BehindSwap h = absurd (omega arith)
       one_before first BehindBoth h = absurd (omega arith)
@@ -160,15 +160,15 @@ module _ (sides : Sides) (leasts kept : Leasts) (by : AreCompared sides leasts k
       (both_at first second))
       (two_before first second)
     where
-      two_before : AllRight sides kept Alone → AllRight sides kept BehindSwap → (k : Kind) → place_of k < 2 → AgreeAll sides leasts k
+      two_before : AllRight sides kept Alone → AllRight sides kept BehindSwap → (k : Kind) → place_of k < 2 → AgreeAll sides representatives k
       two_before first second Alone h = agree_alone_all first
       two_before first second BehindSwap h = agree_swap_all first second
       two_before first second BehindBoth h = absurd (omega arith)
 
--- what the search answers is what is to be found
-pub found_by_search : (sides : Sides) (kept : Leasts) (finding : Finding) → AreCompared sides (leasts_of (cuts_between sides)) kept
+-- The result of the search is the finding of the audit.
+pub found_by_search : (sides : Sides) (kept : Representatives) (finding : Finding) → AreCompared sides (representatives_of (cuts_between sides)) kept
     → IsSearched sides kept finding → IsFinding sides finding
-found_by_search sides kept Equal by all = agree_always sides (leasts_of (cuts_between sides)) kept by all
+found_by_search sides kept Equal by all = agree_always sides (representatives_of (cuts_between sides)) kept by all
 found_by_search sides kept (Differing trace) by fault =
-    subst (λ (t : Trace). IsFirstTrace sides (leasts_of (cuts_between sides)) t) (sym fault.is)
-    (trace_at sides (leasts_of (cuts_between sides)) kept by fault.kind fault.packet trace.forwards fault.wrong fault.earlier)
+    subst (λ (t : Trace). IsFirstTrace sides (representatives_of (cuts_between sides)) t) (sym fault.is)
+    (trace_at sides (representatives_of (cuts_between sides)) kept by fault.kind fault.packet trace.forwards fault.wrong fault.earlier)

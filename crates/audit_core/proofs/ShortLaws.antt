@@ -1,4 +1,4 @@
--- The law of short lists: where a filter and a policy agree on the three lists at each packet, they agree on every list of events.
+-- The law of short lists: if a filter and a policy agree on the three lists at each packet, they agree on every list of events.
 use Rattle.std.proofs.Common.{◌≡◌, inl, inr, ◌↔◌, ℕ, zero, suc, Bool, true, false, not, ◌&&◌, ◌||◌, IsTrue, List, [], ◌∷◌, ◌++◌, take, slice_get, Some, None, refl, sym, ap, subst, ◌∙◌, true≢false}
 use Rattle.std.specs.Prelude.{is_some, if◌then◌else◌, Option}
 use Rattle.std.specs.Option.{unwrap_or}
@@ -32,7 +32,7 @@ is_established-state Established h = refl
 is_established-state New h = absurd (true≢false (sym h))
 
 module _ (filter : Filter) (permitted stateful : Packet → Bool) where
-  -- the answer to a packet at a place of a run on which they agree
+  -- The result for a packet at an index of a run on which they agree.
   answer_at : (events : List Event) → AgreeOn filter permitted stateful events → (answers : List (Option Bool)) → Runs filter nothing_kept events answers →
       (k : ℕ) (p : Packet) (b : Bool) → SeenAt events k p → slice_get answers k ≡ Some (Some b) → IsTrue b ↔ Expected permitted stateful (take k events) p
   answer_at events agree answers run k p b there answer =
@@ -43,7 +43,7 @@ module _ (filter : Filter) (permitted stateful : Packet → Bool) where
       only : (c : Bool) → Some (Some c) ≡ Some (Some b) → c ≡ b
       only c h = cc
 
-  -- what is expected where nothing was seen
+  -- The expectation if nothing was seen.
   expected_first : (p : Packet) (b : Bool) → (IsTrue b ↔ Expected permitted stateful [] p) → b ≡ may_pass permitted stateful New p
   expected_first p b is = same_truth b (permitted p || (stateful (swap_of p) && false)) is to back
     where
@@ -56,7 +56,7 @@ module _ (filter : Filter) (permitted stateful : Packet → Bool) where
         | inr other ↦ absurd (true≢false (sym (and_parts (stateful (swap_of p)) false other).1))
       ]
 
-  -- what is expected where the swap was seen
+  -- The expectation if the swap was seen.
   expected_behind : (past : List Event) (p : Packet) (b : Bool) → WasSeen past (swap_of p) → (IsTrue b ↔ Expected permitted stateful past p) → b ≡ may_pass permitted stateful Established p
   expected_behind past p b was is = same_truth b (permitted p || (stateful (swap_of p) && true)) is to back
     where
@@ -69,11 +69,11 @@ module _ (filter : Filter) (permitted stateful : Packet → Bool) where
         | inr other ↦ inr ((and_parts (stateful (swap_of p)) true other).0, was)
       ]
 
--- behind a packet that was let pass its swap is established
+-- After a packet that passes, its swap is established.
 pub swap_established : (q : Packet) → state_of (after_seen nothing_kept q true) (swap_of q) ≡ Established
 swap_established q = is_established-state _ (answer_is_established (after_seen nothing_kept q true) (swap_of q) (begins_behind_seen nothing_kept q refl refl))
 
--- a packet that was answered is established
+-- A packet whose connection is marked as answered is established.
 marked_established : (kept : Kept) (p : Packet) → kept p ≡ Some true → state_of kept p ≡ Established
 marked_established kept p h = is_established-state _ (by_test (is_some (kept (swap_of p))) (kept p) h)
   where
@@ -81,7 +81,7 @@ marked_established kept p h = is_established-state _ (by_test (is_some (kept (sw
     by_test true o h = refl
     by_test false o h = ap (λ (x : Option Bool). is_established (if unwrap_or x false then Established else New)) h
 
--- a kept packet is established behind its swap
+-- The first packet of a tracked connection is established after its swap.
 pub kept_established : (kept : Kept) (p : Packet) (b : Bool) → is_some (kept p) ≡ true → state_of (after_seen kept (swap_of p) b) p ≡ Established
 kept_established kept p b there = marked_established (after_seen kept (swap_of p) b) p (marked (is_some (kept p)) there)
   where
@@ -90,18 +90,18 @@ kept_established kept p b there = marked_established (after_seen kept (swap_of p
     marked false h = absurd (true≢false (sym h))
 
 module _ (filter : Filter) (permitted stateful : Packet → Bool) where
-  -- agreement on a packet alone judges it in the state New
+  -- Agreement on a packet only determines the verdict in the state New.
   pub judged_new : (p : Packet) → AgreeOn filter permitted stateful (alone p) → (b : Bool) → filter New p b → b ≡ may_pass permitted stateful New p
   judged_new p agree b h =
       expected_first filter permitted stateful p b (answer_at filter permitted stateful (alone p) agree (Some b ∷ []) (h, tt) 0 p b refl refl)
 
-  -- agreement on a packet behind its swap judges it in the state Established, where the swap passes
+  -- Agreement on a packet after its swap determines the verdict in the state Established, if the swap passes.
   pub judged_behind_swap : (p : Packet) → AgreeOn filter permitted stateful (behind_swap p) → filter New (swap_of p) true → (b : Bool) → filter Established p b → b ≡ may_pass permitted stateful Established p
   judged_behind_swap p agree first b h =
       expected_behind filter permitted stateful (alone (swap_of p)) p b (WasSeen-now [] (swap_of p) (swap_of p) refl)
       (answer_at filter permitted stateful (behind_swap p) agree (Some true ∷ Some b ∷ []) (first, (subst (λ (s : CtState). filter s p b) (sym (swap_established (swap_of p))) h, tt)) 1 p b refl refl)
 
-  -- agreement on a packet behind itself and its swap does so where the packet passes first
+  -- Agreement on a packet after itself and its swap determines the verdict in the state Established, if the packet passes first.
   pub judged_behind_both : (p : Packet) → AgreeOn filter permitted stateful (behind_both p) → filter New p true → (c : Bool) → filter Established (swap_of p) c → (b : Bool) → filter Established p b → b ≡ may_pass permitted stateful Established p
   judged_behind_both p agree first c second b h =
       let run : Runs filter nothing_kept (behind_both p) (Some true ∷ Some c ∷ Some b ∷ []) = (
@@ -114,13 +114,13 @@ module _ (filter : Filter) (permitted stateful : Packet → Bool) where
       expected_behind filter permitted stateful (Seen p ∷ Seen (swap_of p) ∷ []) p b (WasSeen-now (alone p) (swap_of p) (swap_of p) refl)
       (answer_at filter permitted stateful (behind_both p) agree (Some true ∷ Some c ∷ Some b ∷ []) run 2 p b refl refl)
 
-  -- a known packet that is permitted and on which they agree passes
+  -- A known packet passes if it is permitted and the filter and the policy agree on it.
   passes_alone : (Known : Packet → Type 0) → GivesVerdicts filter Known → (p : Packet) → Known p → AgreeOn filter permitted stateful (alone p) → permitted p ≡ true → filter New p true
   passes_alone Known gives p known agree allowed =
       let given = gives New p known in
       subst (λ (b : Bool). filter New p b) (judged_new p agree given.0 given.1 ∙ or_left (permitted p) _ allowed) given.1
 
-  -- agreement on the short lists judges a packet
+  -- Agreement on the short lists determines the verdicts on a packet.
   pub judged_at : (Known : Packet → Type 0) → GivesVerdicts filter Known → SwapsKnown Known → (p : Packet) → Known p → AgreeAt filter permitted stateful p → AgreeOn filter permitted stateful (alone (swap_of p)) →
       IsJudged filter permitted stateful p
   judged_at Known gives swaps p known agree other = record {
@@ -133,7 +133,7 @@ module _ (filter : Filter) (permitted stateful : Packet → Bool) where
     ];
   }
 
-  -- a packet in the state that tracking gives it has the verdict of the policy
+  -- A packet in its tracked state has the verdict of the policy.
   judged_in_state : {Known : Packet → Type 0} (past : List Event) (kept : Kept) → Fits Known permitted past kept → (p : Packet) → IsJudged filter permitted stateful p →
       (b : Bool) → filter (state_of kept p) p b → b ≡ may_pass permitted stateful (state_of kept p) p
   judged_in_state past kept fits p judged b h = by_state (state_of kept p) refl h
@@ -148,7 +148,7 @@ module _ (filter : Filter) (permitted stateful : Packet → Bool) where
       by_state New is v = judged.new b v
       by_state Established is v = judged.established (some (ap is_established is)) b v
 
-  -- so each run is one with the verdicts of the policy
+  -- Each run is a run with the verdicts of the policy.
   run_by_policy : {Known : Packet → Type 0} → ((p : Packet) → Known p → IsJudged filter permitted stateful p) →
       (past : List Event) (kept : Kept) → Fits Known permitted past kept → (events : List Event) → AllKnown Known events → (answers : List (Option Bool)) → Runs filter kept events answers →
       RunsBy permitted stateful kept events answers
@@ -168,7 +168,7 @@ module _ (filter : Filter) (permitted stateful : Packet → Bool) where
   run_by_policy judged past kept fits (Forget p ∷ events) known (None ∷ answers) run =
       run_by_policy judged (past ++ Forget p ∷ []) (after_forget kept p) (Fits-forget permitted past kept p fits) events (λ k q there. known (suc k) q there) answers run
 
-  -- where every known packet is judged as the policy says, they agree on every list of known packets
+  -- If the filter has the verdict of the policy on every known packet, they agree on every list of known packets.
   pub agree_where_judged : (Known : Packet → Type 0) → StatefulArePermitted Known permitted stateful → ((p : Packet) → Known p → IsJudged filter permitted stateful p) → (events : List Event) → AllKnown Known events →
       AgreeOn filter permitted stateful events
   agree_where_judged Known policy judged events known answers run =
@@ -176,13 +176,13 @@ module _ (filter : Filter) (permitted stateful : Packet → Bool) where
       (record { given = λ state p is. refl; only = λ state p passes is h. h; policy = policy }) events known answers
       (run_by_policy judged [] nothing_kept (Fits-start permitted) events known answers run)
 
-  -- the law: agreement on the three lists at each known packet is agreement on every list
+  -- The law: agreement on the three lists at each known packet implies agreement on every list.
   pub short_lists_suffice : (Known : Packet → Type 0) → GivesVerdicts filter Known → SwapsKnown Known → StatefulArePermitted Known permitted stateful → ((p : Packet) → Known p → AgreeAt filter permitted stateful p) →
       (events : List Event) → AllKnown Known events → AgreeOn filter permitted stateful events
   short_lists_suffice Known gives swaps policy agree =
       agree_where_judged Known policy (λ p known. judged_at Known gives swaps p known (agree p known) (agree (swap_of p) (swaps p known)).first)
 
-  -- where the state does not matter, two lists judge a packet
+  -- If the state does not matter, agreement on two lists determines the verdicts on a packet.
   pub judged_stateless : (Known : Packet → Type 0) → GivesVerdicts filter Known → SwapsKnown Known → ((q : Packet) (b : Bool) → filter Established q b → filter New q b) → (p : Packet) → Known p →
       AgreeOn filter permitted stateful (alone p) → AgreeOn filter permitted stateful (behind_swap p) → AgreeOn filter permitted stateful (alone (swap_of p)) → IsJudged filter permitted stateful p
   judged_stateless Known gives swaps same p known first second other = record {

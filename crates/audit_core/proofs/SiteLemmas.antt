@@ -1,6 +1,6 @@
--- The law of classes at a description: packets that it does not part are of the same flow, by its services.
+-- The law of classes for a description: packets that its parts do not separate belong to the same flow, by its services.
 use Rattle.std.proofs.Common.{◌≡◌, ◌≢◌, ℕ, suc, ◌+◌, ◌<◌, Bool, true, false, cond, ◌&&◌, ◌||◌, ◌==◌, List, [], ◌∷◌, Option, Some, None, map, length, refl, sym, ap, subst, ◌∙◌, arith, true≢false}
-use Rattle.std.specs.Prelude.{if◌then◌else◌, is_some}
+use Rattle.std.specs.Prelude.{if◌then◌else◌}
 use Rattle.std.specs.List.{AllByRecursion, flat_map, list_any, position_from}
 use Rattle.std.specs.Option.{option_or, option_map_or}
 use Rattle.std.proofs.lemmas.Bool.Decides.{nat_tests}
@@ -37,7 +37,7 @@ holder_alike (h ∷ hosts) k a b alike =
     let parts = all_parts (λ p. covers p a ≡ covers p b) h.prefixes (all_prefixes hosts) alike in
     λ i. cond (any_alike h.prefixes a b parts.0 i) (Some k) (holder_alike hosts (k + 1) a b parts.1 i)
 
--- one host owns both
+-- Both addresses have the same owner.
 owner_alike : (hosts : List Host) (a b : ℕ) → AllByRecursion (SameAddress a b) (map Addresses (all_prefixes hosts)) → owner_of hosts a ≡ owner_of hosts b
 unfolding owner_of
 owner_alike hosts a b all = ap (λ (o : Option ℕ). option_or o (rest_of hosts)) (holder_alike hosts 0 a b (prefixes_alike (all_prefixes hosts) a b all))
@@ -51,7 +51,7 @@ place_below test k (h ∷ hs) i found = by_test (test h) (place_below test (k + 
     by_test true later found = let same : k ≡ i = cc in omega arith
     by_test false later found = let below = later found in omega arith
 
--- an owner is one of the hosts
+-- An owner is one of the hosts.
 pub owner_below : (hosts : List Host) (a i : ℕ) → owner_of hosts a ≡ Some i → i < length hosts
 unfolding owner_of
 owner_below hosts a i owned = by_holder (holder_of hosts a) refl owned
@@ -66,7 +66,7 @@ same_flow_is f g h =
     let to : f.to ≡ g.to = grind (arith, nat_tests) in
     λ i. record { from = from i; to = to i }
 
--- what holds of all that is listed for flows holds of what is listed for one of them
+-- A property of all elements that are listed for flows holds for the elements that are listed for one of the flows.
 all_of_flow : {X : Type 0} (P : X → Type 0) (listed : Flow → List X) (fs : List Flow) (f : Flow) → has fs f ≡ true
     → AllByRecursion P (flat_map listed fs) → AllByRecursion P (listed f)
 all_of_flow P listed [] f there all = absurd (true≢false (sym there))
@@ -99,7 +99,7 @@ served_alike : (ss : List Service) (p q : Packet) → AllByRecursion (SameServic
 served_alike [] p q alike = refl
 served_alike (s ∷ ss) p q alike = any_served (s ∷ ss) p q alike
 
--- packets that a description does not part are of the same owners
+-- Packets that a description does not separate have the same owners.
 site_owners : (site : Site) (p q : Packet) → AreAlikeFor (site_parts site) p q
     → (owner_of site.hosts p.src ≡ owner_of site.hosts q.src) × (owner_of site.hosts p.dst ≡ owner_of site.hosts q.dst)
 site_owners site p q alike =
@@ -109,7 +109,7 @@ site_owners site p q alike =
 pub flow_alike : (site : Site) (p q : Packet) → AreAlikeFor (site_parts site) p q → flow_of site.hosts p ≡ flow_of site.hosts q
 flow_alike site p q alike = let owners = site_owners site p q alike in λ i. flow_of_owners (owners.0 i) (owners.1 i)
 
--- a flow of a packet goes between two hosts
+-- The flow of a packet is between two hosts.
 flow_between : (from to : Option ℕ) (n : ℕ) (f : Flow) → ((i : ℕ) → from ≡ Some i → i < n) → ((j : ℕ) → to ≡ Some j → j < n)
     → flow_of_owners from to ≡ Some f → has (every_flow n) f ≡ true
 flow_between None to n f from_in to_in is = cc
@@ -133,22 +133,10 @@ of_flow_alike site flows p q (Some f) served there =
     (served_alike (services_of site.services f.from f.to) p q
     (all_of_flow (SameService p q) (λ g. services_of site.services g.from g.to) (every_flow (length site.hosts)) f (there f refl) served))
 
--- and so of the same flows by their services
+-- Packets that a description does not separate belong to the same flows by their services.
 pub is_of_alike : (site : Site) (flows : List Flow) (p q : Packet) → AreAlikeFor (site_parts site) p q → is_of site flows p ≡ is_of site flows q
 is_of_alike site flows p q alike =
     let both = alike_for_parts (map Addresses (all_prefixes site.hosts)) (flat_map service_parts (flow_services site)) p q alike in
     of_flow_alike site flows p q (flow_of site.hosts p) (services_alike (flow_services site) p q both.1)
     (λ f is. flow_between (owner_of site.hosts p.src) (owner_of site.hosts p.dst) (length site.hosts) f (owner_below site.hosts p.src) (owner_below site.hosts p.dst) is)
     ∙ ap (λ (o : Option Flow). option_map_or (λ f. has flows f && is_served (services_of site.services f.from f.to) q) o false) (flow_alike site p q alike)
-
--- a packet whose destination nobody owns is of no flow
-pub of_none_without_owner : (site : Site) (flows : List Flow) (p : Packet) (to : Option ℕ) → owner_of site.hosts p.dst ≡ to → is_some to ≡ false
-    → is_of site flows p ≡ false
-of_none_without_owner site flows p (Some n) is none = absurd (true≢false none)
-of_none_without_owner site flows p None is none =
-    ap (λ (f : Option Flow). option_map_or (λ g. has flows g && is_served (services_of site.services g.from g.to) p) f false)
-    (ap (flow_of_owners (owner_of site.hosts p.src)) is ∙ nowhere (owner_of site.hosts p.src))
-  where
-    nowhere : (from : Option ℕ) → flow_of_owners from None ≡ None
-    nowhere None = refl
-    nowhere (Some i) = refl

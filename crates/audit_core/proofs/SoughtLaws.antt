@@ -1,5 +1,5 @@
--- What is found among all packets is what is found among those of classes: the least packet on which the two sides differ is that of its
--- class.
+-- The finding among all packets is the finding among the packets of classes: the least packet on which the two sides differ is the packet
+-- of its class.
 use Rattle.std.proofs.Common.{◌≡◌, ◌⊎◌, inl, inr, subst}
 use Rattle.std.proofs.Math.Nat.{eq-or-lt_of_le}
 use Rattle.host_net.specs.declared.packet.Packet.{Packet}
@@ -10,7 +10,7 @@ use Rattle.audit_core.specs.declared.finding.Trace.{Trace}
 use Rattle.audit_core.specs.declared.kind.Kind.{Kind}
 use Rattle.audit_core.specs.Cuts.{cuts_between}
 use Rattle.header_space.specs.Order.{ComesBefore}
-use Rattle.audit_core.specs.Places.{IsClassPacket, leasts_of}
+use Rattle.audit_core.specs.Places.{IsClassPacket, representatives_of}
 use Rattle.audit_core.specs.Rules.{filter_of}
 use Rattle.audit_core.specs.Sides.{Sides}
 use Rattle.audit_core.specs.inner.Findings.{IsFinding}
@@ -40,8 +40,8 @@ lower_or_same a p low = elim (eq-or-lt_of_le low.src) [
   ]
 ]
 
-module _ (sides : Sides) (packets : ArePacketsAll (leasts_of (cuts_between sides))) where
-  represent : Represent sides (leasts_of (cuts_between sides))
+module _ (sides : Sides) (packets : ArePacketsAll (representatives_of (cuts_between sides))) where
+  represent : Represent sides (representatives_of (cuts_between sides))
   represent p is =
       let class = class_of_packet sides p is in
       record {
@@ -51,18 +51,18 @@ module _ (sides : Sides) (packets : ArePacketsAll (leasts_of (cuts_between sides
         low = class.4;
       }
 
-  -- the packet that represents its class has the same fault, and is no greater
-  class_packet : (kind : Kind) (trace : Trace) (least : IsLeastFault sides kind trace) → IsClassPacket (leasts_of (cuts_between sides)) least.at
+  -- The packet that represents its class has the same fault, and is no greater.
+  class_packet : (kind : Kind) (trace : Trace) (least : IsLeastFault sides kind trace) → IsClassPacket (representatives_of (cuts_between sides)) least.at
   class_packet kind trace least =
-      let stood : IsStoodFor sides (leasts_of (cuts_between sides)) least.at = represent least.at least.packet in
+      let stood : IsStoodFor sides (representatives_of (cuts_between sides)) least.at = represent least.at least.packet in
       elim (lower_or_same stood.by least.at stood.low) [
-        | inl same ↦ subst (λ (q : Packet). IsClassPacket (leasts_of (cuts_between sides)) q) same stood.is_class
+        | inl same ↦ subst (λ (q : Packet). IsClassPacket (representatives_of (cuts_between sides)) q) same stood.is_class
         | inr before ↦
             let right = right_alike sides kind stood.by least.at stood.alike (least.first stood.by (packets stood.by stood.is_class) before) in
             absurd (least.wrong.wrong (right least.wrong.asked trace.forwards least.wrong.said))
       ]
 
-  searched : (finding : Finding) → IsSought sides finding → IsSearched sides (leasts_of (cuts_between sides)) finding
+  searched : (finding : Finding) → IsSought sides finding → IsSearched sides (representatives_of (cuts_between sides)) finding
   searched Equal all = λ kind q is. all kind q (packets q is)
   searched (Differing trace) found = record {
     kind = found.kind;
@@ -79,6 +79,6 @@ module _ (sides : Sides) (packets : ArePacketsAll (leasts_of (cuts_between sides
   pub found_by_sought : (built : Sides) (finding : Finding) → built ≡ sides → GivesOne (filter_of sides.rules) → IsSubset sides.stateful sides.permitted
       → IsSought built finding → IsFinding sides finding
   found_by_sought built finding same gives subset sought =
-      found_by_search sides (leasts_of (cuts_between sides)) finding
+      found_by_search sides (representatives_of (cuts_between sides)) finding
       (record { gives = gives; subset = subset; packets = packets; some = λ q is. is; represent = represent })
       (searched finding (subst (λ (s : Sides). IsSought s finding) same sought))

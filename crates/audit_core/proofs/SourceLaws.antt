@@ -1,5 +1,5 @@
--- Sources of an owner, and the packets of a pair that go from them.
-use Rattle.std.proofs.Common.{◌≡◌, ◌↔◌, inl, inr, ℕ, zero, suc, ◌<◌, ◌≤◌, Bool, true, false, not, IsTrue, List, [], ◌∷◌, ◌++◌, Option, Some, None, is_some, length, get_or, refl, sym, ap, subst, ◌∙◌, true≢false, arith}
+-- Sources of an owner, and the packets of a pair from these sources.
+use Rattle.std.proofs.Common.{◌≡◌, ◌↔◌, inl, inr, ℕ, ◌≤◌, Bool, true, false, not, IsTrue, List, [], ◌∷◌, ◌++◌, Option, Some, None, is_some, refl, sym, ap, subst, ◌∙◌, true≢false, arith}
 use Rattle.std.proofs.lemmas.List.{map-append}
 use Rattle.std.proofs.lemmas.List.Elements.{All-push}
 use Rattle.host_net.specs.declared.packet.Packet.{Packet}
@@ -10,20 +10,21 @@ use Rattle.header_space.specs.Searching.{IsLeastWhere}
 use Rattle.audit_core.specs.declared.difference.Difference.{Difference}
 use Rattle.audit_core.specs.declared.difference.Direction.{Direction}
 use Rattle.audit_core.specs.declared.list_end.Ends.{Ends}
-use Rattle.audit_core.specs.declared.named.AddressRange.{AddressRange}
-use Rattle.audit_core.specs.declared.owners.Owned.{Owned}
+use Rattle.header_space.specs.declared.address_range.AddressRange.{AddressRange}
+use Rattle.header_space.specs.declared.owners.Owned.{Owned}
 use Rattle.audit_core.specs.declared.sources.Sender.{Sender}
 use Rattle.audit_core.specs.declared.sources.Source.{Source}
 use Rattle.audit_core.specs.Findings.{trace_of}
-use Rattle.audit_core.specs.inner.Pairs.{AreSources, DiffersSo, GoesBetween, HaveSameEnds, HoldsOf, IsCovered, IsDifferent, IsFoundBetween, IsOwned, IsRange, IsSender, IsSource, Lies, SaysWhether, every_address, ranges_in}
-use Rattle.audit_core.specs.Pairs.{Case, HasNone, IsDifference, IsOfPair, case_of}
+use Rattle.header_space.specs.Owners.{GoesBetween, IsOfPair, IsOwned, IsRange, LiesIn, LiesInOne}
+use Rattle.audit_core.specs.inner.Pairs.{AreSources, DiffersSo, HaveSameEnds, HoldsOf, IsDifferent, IsFoundBetween, IsSender, IsSource, SaysWhether, every_address, ranges_in}
+use Rattle.audit_core.specs.Pairs.{Case, HasNone, IsDifference, case_of}
 use Rattle.audit_core.specs.Sides.{Sides}
-use Rattle.audit_core.proofs.OwnedLaws.{covered_cases, covered_left, covered_owned, covered_right}
+use Rattle.header_space.proofs.OwnersLaws.{covered_cases, covered_left, covered_owned, covered_right}
 
--- 1. Sources, one after another.
+-- 1. Sources, in order.
 
 module _ (sides : Sides) where
-  -- a range from which no packet differs has no source
+  -- A range from which no packet differs has no source.
   pub sources_same : (ranges all : List AddressRange) (sources : List Source) (range : AddressRange) (s : Source) (answer : Bool)
       → AreSources sides ranges sources → IsSource sides s → s.range ≡ range → SaysWhether s answer → answer ≡ false → all ≡ ranges ++ range ∷ []
       → AreSources sides all sources
@@ -36,13 +37,13 @@ module _ (sides : Sides) where
     ];
   })
     where
-      none : (p : Packet) → IsPacket p → IsCovered (range ∷ []) p.src → IsDifferent sides p → ⊥
+      none : (p : Packet) → IsPacket p → LiesInOne (range ∷ []) p.src → IsDifferent sides p → ⊥
       none p packet (inl lies) differs =
-          let there = subst (λ (r : AddressRange). Lies r p.src) (sym same) lies in
+          let there = subst (λ (r : AddressRange). LiesIn r p.src) (sym same) lies in
           true≢false (sym (says p packet there ((is.same None p packet there).1 differs)) ∙ lacks)
       none p packet (inr other) differs = other
 
-  -- a range from which some packet differs is the range of a source
+  -- A range from which some packet differs is the range of a source.
   pub sources_more : (ranges all : List AddressRange) (sources new : List Source) (range : AddressRange) (s : Source)
       → AreSources sides ranges sources → IsSource sides s → s.range ≡ range → all ≡ ranges ++ range ∷ [] → new ≡ sources ++ s ∷ []
       → AreSources sides all new
@@ -51,23 +52,23 @@ module _ (sides : Sides) where
         each = All-push (IsSource sides) sources s are.each is;
         within = λ a covered. elim (covered_cases (ranges_in sources) (s.range ∷ []) a (split a covered)) [
           | inl left ↦ covered_left ranges (range ∷ []) a (are.within a left)
-          | inr right ↦ covered_right ranges (range ∷ []) a (subst (λ (r : AddressRange). IsCovered (r ∷ []) a) same right)
+          | inr right ↦ covered_right ranges (range ∷ []) a (subst (λ (r : AddressRange). LiesInOne (r ∷ []) a) same right)
         ];
         covered = λ p packet covered differs. elim (covered_cases ranges (range ∷ []) p.src covered) [
           | inl left ↦ joined p.src (covered_left (ranges_in sources) (s.range ∷ []) p.src (are.covered p packet left differs))
           | inr right ↦
-              joined p.src (covered_right (ranges_in sources) (s.range ∷ []) p.src (subst (λ (r : AddressRange). IsCovered (r ∷ []) p.src) (sym same) right))
+              joined p.src (covered_right (ranges_in sources) (s.range ∷ []) p.src (subst (λ (r : AddressRange). LiesInOne (r ∷ []) p.src) (sym same) right))
         ];
       }))
     where
       ranges_are : ranges_in (sources ++ s ∷ []) ≡ ranges_in sources ++ s.range ∷ []
       ranges_are = map-append (λ (x : Source). x.range) sources (s ∷ [])
 
-      split : (a : ℕ) → IsCovered (ranges_in (sources ++ s ∷ [])) a → IsCovered (ranges_in sources ++ s.range ∷ []) a
-      split a covered = subst (λ (l : List AddressRange). IsCovered l a) ranges_are covered
+      split : (a : ℕ) → LiesInOne (ranges_in (sources ++ s ∷ [])) a → LiesInOne (ranges_in sources ++ s.range ∷ []) a
+      split a covered = subst (λ (l : List AddressRange). LiesInOne l a) ranges_are covered
 
-      joined : (a : ℕ) → IsCovered (ranges_in sources ++ s.range ∷ []) a → IsCovered (ranges_in (sources ++ s ∷ [])) a
-      joined a covered = subst (λ (l : List AddressRange). IsCovered l a) (sym ranges_are) covered
+      joined : (a : ℕ) → LiesInOne (ranges_in sources ++ s.range ∷ []) a → LiesInOne (ranges_in (sources ++ s ∷ [])) a
+      joined a covered = subst (λ (l : List AddressRange). LiesInOne l a) (sym ranges_are) covered
 
   pub sender_is : (o : Owned) (s : Sender) → IsOwned sides.site.hosts o → AreSources sides o.ranges.items s.sources.items → s.owner ≡ o.owner
       → IsSender sides s
@@ -77,15 +78,15 @@ module _ (sides : Sides) where
     covered = λ p is of differs. are.covered p is (owned.covered p.src is.0 (of ∙ same)) differs;
   }
 
-lies_every : (every : AddressRange) → every ≡ every_address → (p : Packet) → IsPacket p → Lies every p.dst
+lies_every : (every : AddressRange) → every ≡ every_address → (p : Packet) → IsPacket p → LiesIn every p.dst
 lies_every every is p packet =
     let low = packet.1 in
     let high : p.dst ≤ 4294967295 = omega (arith, low) in
-    subst (λ (r : AddressRange). Lies r p.dst) (sym is) (omega arith, high)
+    subst (λ (r : AddressRange). LiesIn r p.dst) (sym is) (omega arith, high)
 
--- a source with all rules, or with those for the packets of a box
+-- A source with all rules, or with the rules for the packets of a box.
 module _ (sides : Sides) (range every : AddressRange) (some : IsRange range) (is_every : every ≡ every_address) (b : PacketBox)
-    (inside : (p : Packet) → IsPacket p → Lies range p.src → Lies every p.dst → IsIn b p) (whole : Ends)
+    (inside : (p : Packet) → IsPacket p → LiesIn range p.src → LiesIn every p.dst → IsIn b p) (whole : Ends)
     (same : (direction : Option Direction) (p : Packet) → IsPacket p → (HoldsOf whole direction p ↔ DiffersSo sides direction p)) where
   pub source_whole : (ends : Ends) → ends ≡ whole → IsSource sides (record { range = range; ends = ends })
   source_whole ends is = record {
@@ -101,38 +102,19 @@ module _ (sides : Sides) (range every : AddressRange) (some : IsRange range) (is
         let there = same direction p packet in ((λ h. there.0 (here.0 h)), (λ h. here.1 (there.1 h)));
   }
 
--- a search answers whether it holds of some packet of the box
+-- If the property holds for some packet of the box, the search finds a packet.
 pub found_where : (Holds : Packet → Type 0) (b : PacketBox) (found : Option Packet) → IsLeastWhere Holds b found → (p : Packet) → IsIn b p → Holds p
     → IsTrue (is_some found)
 found_where Holds b None none p inside holds = absurd (none p inside holds)
 found_where Holds b (Some q) least p inside holds = refl
 
 pub within_every : (b : PacketBox) (range every : AddressRange) → every ≡ every_address
-    → ((p : Packet) → IsPacket p → Lies range p.src → Lies every p.dst → IsIn b p) → (p : Packet) → IsPacket p → Lies range p.src → IsIn b p
+    → ((p : Packet) → IsPacket p → LiesIn range p.src → LiesIn every p.dst → IsIn b p) → (p : Packet) → IsPacket p → LiesIn range p.src → IsIn b p
 within_every b range every is inside p packet lies = inside p packet lies (lies_every every is p packet)
-
--- what a source finds, in the words of the sides
-pub found_by : (sides : Sides) (s : Source) → IsSource sides s → (direction : Option Direction) (to : List AddressRange) (found : Option Packet)
-    → IsFoundBetween (HoldsOf s.ends direction) (s.range ∷ []) to found → IsFoundBetween (DiffersSo sides direction) (s.range ∷ []) to found
-found_by sides s is direction to None none = λ p goes differs. elim goes.src [
-  | inl lies ↦ none p goes ((is.same direction p goes.packet lies).1 differs)
-  | inr other ↦ absurd other
-]
-found_by sides s is direction to (Some p) found = elim found.0.src [
-  | inl lies ↦ (found.0, (is.same direction p found.0.packet lies).0 found.1)
-  | inr other ↦ absurd other
-]
 
 pub none_when : (found : Option Packet) (none : Bool) → is_some found ≡ not none → none ≡ true → found ≡ None
 none_when None none is yes' = refl
 none_when (Some p) none is yes' = absurd (true≢false (is ∙ ap not yes'))
-
--- what lies in the range of a source lies in the ranges of all sources
-pub source_covered : (sources : List Source) (i : ℕ) (d : Source) (a : ℕ) → i < length sources → Lies (get_or sources i d).range a
-    → IsCovered (ranges_in sources) a
-source_covered [] i d a low lies = absurd (omega (arith, low))
-source_covered (s ∷ ss) zero d a low lies = inl lies
-source_covered (s ∷ ss) (suc i) d a low lies = inr (source_covered ss i d a (omega (arith, low)) lies)
 
 -- 2. Packets of a pair go between the ranges of its owners.
 
@@ -168,4 +150,10 @@ module _ (sides : Sides) (from : Sender) (to : Owned) (sender : IsSender sides f
       → IsFoundBetween (DiffersSo sides (Some direction)) (ranges_in from.sources.items) to.ranges.items (Some p) → (d : Difference)
       → d ≡ record { from = from.owner; to = to.owner; trace = trace_of direction.kind p direction.forwards }
       → IsDifference sides (case_of from.owner to.owner direction.kind direction.forwards) d
-  one_of direction p found d is = record { packet = p; of_pair = pair_of p found.0; differs = found.1; is = is }
+  one_of direction p found d is = record {
+    packet = p;
+    of_pair = pair_of p found.goes;
+    differs = found.holds;
+    first = λ q of before differs. found.first q (goes_where q of (direction.kind, direction.forwards, differs)) before differs;
+    is = is;
+  }

@@ -1,4 +1,4 @@
--- What it is that a filter and a policy agree on a list of events, or differ on it. The filter tracks connections, beginning with none.
+-- Agreement of a filter with a policy on a list of events. The filter tracks connections, from an empty connection table.
 use Rattle.std.specs.Prelude.{◌≡◌, ◌⊎◌, ℕ, Bool, false, IsTrue, List, take, slice_get, Option, Some}
 use Rattle.host_net.specs.declared.packet.Packet.{Packet}
 use Rattle.pkt_core.specs.declared.event.Event.{Event}
@@ -7,16 +7,17 @@ use Rattle.pkt_core.specs.Expected.{AreExpected, Expected}
 use Rattle.pkt_core.specs.Filter.{RunsFromNothing}
 use Rattle.pkt_core.specs.Firewall.{Filter}
 
--- the packet passes and is not expected to, or the other way round
+-- The packet passes and is not expected to pass, or it does not pass and is expected to pass.
 abbrev pub IsWrong : Bool → Type 0 → Type 0
 IsWrong passes Expects = (IsTrue passes × (Expects → ⊥)) ⊎ ((passes ≡ false) × Expects)
 
--- they agree on a list of events: every run over it lets pass exactly what is expected
+-- The filter and the policy agree on a list of events: the results of every run over it are the expected results.
 abbrev pub AgreeOn : Filter → (permitted stateful : Packet → Bool) → List Event → Type 0
 AgreeOn filter permitted stateful events =
     (answers : List (Option Bool)) → RunsFromNothing filter events answers → AreExpected permitted stateful events answers
 
--- they differ on a list of events: at some place of some run over it a packet passes that is not expected to, or the other way round
+-- The filter and the policy differ on a list of events: at some index of some run over it, a packet passes and is not expected to pass, or
+-- it does not pass and is expected to pass.
 pub record DifferOn (filter : Filter) (permitted stateful : Packet → Bool) (events : List Event) : Type 0 where
   pub answers : List (Option Bool)
   pub run : RunsFromNothing filter events answers

@@ -1,5 +1,5 @@
--- Cuts: the numbers at which classes of addresses and of ports begin. Between two neighbouring cuts lies an elementary interval: each range
--- that is named contains all its numbers or none (M. de Berg et al., Computational Geometry, "Segment Trees").
+-- Cuts: the numbers at which classes of addresses and of ports begin. Between two neighbouring cuts is an elementary interval: each range
+-- that is named contains all its numbers or none of them (M. de Berg et al., Computational Geometry, "Segment Trees").
 use Rattle.std.specs.Prelude.{ℕ, ◌^◌, List, [], ◌∷◌, ◌++◌}
 use Rattle.std.specs.List.{flat_map}
 use Rattle.host_net.specs.PrefixView.{first_address, last_address}
@@ -31,7 +31,7 @@ pub record Cuts : Type 0 where
   pub protocols : List ℕ
   pub ports : List ℕ
 
--- The cuts that parts make, with 0 as the first cut, and the protocols that they name.
+-- The cuts of a list of parts, with 0 as the first cut, and the protocols that the parts name.
 abbrev pub cuts_by : List Part → Cuts
 cuts_by parts = record {
   addresses = 0 ∷ flat_map cut_addresses parts;

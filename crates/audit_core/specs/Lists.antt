@@ -1,4 +1,4 @@
--- The three kinds of list at a packet, and that a filter and a policy differ at the end of one.
+-- The three kinds of list at a packet, and a difference of a filter and a policy at the end of a list.
 use Rattle.std.specs.Prelude.{◌≡◌, Bool, List, [], ◌∷◌, ◌++◌, length, Option, Some}
 use Rattle.host_net.specs.declared.packet.Packet.{Packet}
 use Rattle.host_net.specs.Packet.{swap_of}
@@ -11,7 +11,7 @@ use Rattle.audit_core.specs.declared.kind.Kind.{Kind}
 use Rattle.audit_core.specs.declared.kind.Kind.TheVariants.{Alone, BehindSwap, BehindBoth}
 use Rattle.audit_core.specs.Agreement.{IsWrong}
 
--- what stands before the packet
+-- The events before the packet in its list of that kind.
 abbrev pub front_of : Kind → Packet → List Event
 front_of Alone p = []
 front_of BehindSwap p = Seen (swap_of p) ∷ []
@@ -20,7 +20,7 @@ front_of BehindBoth p = Seen p ∷ Seen (swap_of p) ∷ []
 abbrev pub list_of : Kind → Packet → List Event
 list_of kind p = front_of kind p ++ Seen p ∷ []
 
--- behind these events the packet passes, or not, and is not or is expected to
+-- After these events, the packet passes and is not expected to pass, or it does not pass and is expected to pass.
 pub record DifferBehind (filter : Filter) (permitted stateful : Packet → Bool) (past : List Event) (p : Packet) (passes : Bool) : Type 0 where
   pub answers : List (Option Bool)
   pub run : RunsFromNothing filter (past ++ Seen p ∷ []) (answers ++ Some passes ∷ [])

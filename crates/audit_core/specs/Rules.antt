@@ -6,12 +6,12 @@ use Rattle.ipt_rules.specs.Meaning.{Passes as PassesChains}
 use Rattle.ofp_rules.specs.declared.entry.Entry.{Entry}
 use Rattle.ofp_rules.specs.Meaning.{Passes as PassesTable}
 
--- the chains of a packet filter, or the entries of a flow table
+-- The rules of an audit: the chains of a packet filter, or the entries of a flow table.
 pub data Rules : Type 0 where
   Chains : List Chain → Rules
   Entries : List Entry → Rules
 
--- which packets they let pass in which state; a flow table knows no states
+-- The filter of the rules: the packets that they forward in each state. A flow table is stateless.
 abbrev pub filter_of : Rules → Filter
 filter_of (Chains chains) = PassesChains chains
 filter_of (Entries entries) = PassesTable entries

@@ -1,4 +1,4 @@
--- The rules that the two kinds of text stand for.
+-- The rules that the two kinds of input represent.
 use Rattle.audit_core.specs.declared.part.Held.{Held}
 use Rattle.audit_core.specs.declared.part.Held.TheVariants.{Whole, Own, Lent}
 use Rattle.audit_core.specs.declared.text.Text.{Text}
@@ -9,7 +9,7 @@ abbrev pub rules_of : Text → Rules
 rules_of (Ipt rules) = Chains rules.now
 rules_of (Ofp table) = Entries table.now
 
--- The rules of a text, or those of a slice.
+-- The rules of an input, or of a slice.
 abbrev pub part_rules : Held → Rules
 part_rules (Whole text) = rules_of text
 part_rules (Own chains) = Chains chains

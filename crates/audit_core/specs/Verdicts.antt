@@ -13,7 +13,7 @@ abbrev pub GivesOne : Filter → Type 0
 GivesOne filter =
     (state : CtState) (p : Packet) → IsPacket p → (passes : Bool) × filter state p passes × ((other : Bool) → filter state p other → other ≡ passes)
 
--- In each state the rules let the same packets of a box pass.
+-- In each state, both rule sets forward the same packets of the box.
 abbrev pub HaveSameVerdicts : PacketBox → Rules → Rules → Type 0
 HaveSameVerdicts b rules others =
     (p : Packet) → IsIn b p → (state : CtState) (passes : Bool) → (filter_of rules state p passes ↔ filter_of others state p passes)

@@ -1,4 +1,4 @@
-//! The audit: whether rules do what a policy says, over every list of packets and forgettings.
+//! The audit: whether rules implement a policy, for every list of events.
 
 ghost use Rattle.std.specs.Prelude.{◌≡◌, ◌↔◌, ◌≤◌, IfOk, IfErr, OnOk, length};
 ghost use Rattle.host_net.specs.Site.{site_with};
@@ -13,8 +13,8 @@ ghost use Rattle.audit_core.specs.Sides.{sides_of};
 use crate::fault::{are_right, fault_of};
 use crate::finding::{AuditRefusal, Finding};
 use crate::kind::Kind;
-use crate::leasts::Leasts;
 use crate::named::named_between;
+use crate::representatives::Representatives;
 use crate::sides::Sides;
 use crate::text::Text;
 use flow_set::FlowSet;
@@ -24,8 +24,8 @@ use std::alloc::{AllocError, Global};
 
 const MOST_CLASSES: u128 = 4_000_000;
 
-/// Compares rules with the policy of these permitted flows `p` and stateful flows `s` between hosts, as
-/// `audit_policy` does.
+/// Compares rules with the policy of the permitted flows `p` and the stateful flows `s` between hosts, like
+/// `audit_policy`.
 pub fn audit(
     alloc: Global,
     hosts: &Hosts,
@@ -37,7 +37,7 @@ pub fn audit(
     requires permitted { p.now.size ≡ length hosts.now }
     requires stateful { s.now.size ≡ length hosts.now }
     requires within { IsSubset s.now.flows p.now.flows }
-    // They agree on every list of events, or this is the first short list on which they differ.
+    // The two sides agree on every list of events, or this is the first short list on which they differ.
     ensures found { IfOk result (IsFinding (sides_of (site_with hosts.now services.now) p.now.flows s.now.flows (rules_of text.now))) }
     ensures exact { IfOk result (λ finding. (finding ≡ Finding.Equal) ↔
         (DifferSomewhere (sides_of (site_with hosts.now services.now) p.now.flows s.now.flows (rules_of text.now)) → ⊥)) }
@@ -56,7 +56,7 @@ pub fn audit_policy(
     policy: &FlowPolicy<'_>,
     text: &Text<'_>,
 ) -> Result<Finding, AuditRefusal>
-    // They agree on every list of events, or this is the first short list on which they differ.
+    // The two sides agree on every list of events, or this is the first short list on which they differ.
     ensures found { IfOk result (IsFinding (sides_of policy.now.site policy.now.permitted policy.now.stateful (rules_of text.now))) }
     ensures exact { IfOk result (λ finding. (finding ≡ Finding.Equal) ↔
         (DifferSomewhere (sides_of policy.now.site policy.now.permitted policy.now.stateful (rules_of text.now)) → ⊥)) }
@@ -76,7 +76,7 @@ pub fn compare_policy(
     policy: &FlowPolicy<'_>,
     text: &Text<'_>,
 ) -> Result<Finding, AllocError>
-    // They agree on every list of events, or this is the first short list on which they differ.
+    // The two sides agree on every list of events, or this is the first short list on which they differ.
     ensures found { IfOk result (IsFinding (sides_of policy.now.site policy.now.permitted policy.now.stateful (rules_of text.now))) }
     ensures exact { IfOk result (λ finding. (finding ≡ Finding.Equal) ↔
         (DifferSomewhere (sides_of policy.now.site policy.now.permitted policy.now.stateful (rules_of text.now)) → ⊥)) }
@@ -84,7 +84,7 @@ pub fn compare_policy(
     find(alloc, &Sides::new(policy, *text))
 }
 
-/// How many classes of packets there are.
+/// Returns the number of classes of packets.
 fn count_classes(
     alloc: Global,
     policy: &FlowPolicy<'_>,
@@ -94,11 +94,11 @@ fn count_classes(
 {
     let named = named_between(alloc, policy, text)?;
     let found = named.distinct();
-    let leasts = Leasts::of(alloc, &found)?;
-    Ok(leasts.total())
+    let representatives = Representatives::of(alloc, &found)?;
+    Ok(representatives.total())
 }
 
-/// The least fault of the first kind of list that has one.
+/// Returns the least fault of the first kind of list that has a fault.
 fn find(alloc: Global, sides: &Sides<'_>) -> Result<Finding, AllocError>
     ensures { IfOk result (IsSought sides.now) }
 {

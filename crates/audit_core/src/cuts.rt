@@ -1,10 +1,11 @@
-//! Where ranges cut addresses and ports into classes.
+//! The cuts of ranges, which divide addresses and ports into classes.
 
 ghost use Rattle.std.specs.Prelude.{◌≡◌, ◌++◌, ◌^◌, IfOk, OnOk};
 ghost use Rattle.audit_core.specs.Classes.{is_among, numbers_where};
 ghost use Rattle.audit_core.specs.inner.RangeCuts.{address_cuts, cuts_of_addresses, cuts_of_ports, port_cuts};
 
-use crate::named::{AddressRange, PortRange};
+use crate::named::PortRange;
+use header_space::AddressRange;
 use std::alloc::{AllocError, Global};
 
 /// Returns the representatives of the classes of addresses that the ranges cut, in ascending order.

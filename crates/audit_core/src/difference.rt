@@ -1,4 +1,4 @@
-//! Differences between what rules do and what a policy expects, by pairs of owners.
+//! Differences between rules and a policy, by pairs of owners.
 
 use crate::finding::Trace;
 use crate::kind::Kind;

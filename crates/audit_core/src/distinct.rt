@@ -1,12 +1,13 @@
-//! What is named, each once. Rules name the same again and again, and what is gone through for each
-//! class is short so.
+//! Duplicates are removed from the named ranges and protocols. Rules often name the same ones repeatedly. The
+//! lists that are traversed for each class are then short.
 
 ghost use Rattle.audit_core.specs.inner.Named.{HaveSame, NameSame};
 
-use crate::named::{AddressRange, Found, PortRange};
+use crate::named::{Found, PortRange};
+use header_space::AddressRange;
 
 impl Found {
-    /// What is named, each once.
+    /// Returns the named ranges and protocols without duplicates.
     pub(crate) fn distinct(mut self) -> Found
         ensures { NameSame self result }
     {

@@ -1,5 +1,5 @@
-//! Where rules do not do what a policy says: for each kind of list, the packets at the end of whose list
-//! the two differ, found by boxes of packets.
+//! Faults: for each kind of list, the packets at the end of whose list the rules differ from the policy. The
+//! search proceeds by boxes of packets.
 
 ghost use Rattle.std.specs.Prelude.{◌≡◌, IfOk, IsTrue};
 ghost use Rattle.host_net.specs.declared.packet.Packet.{Packet};
@@ -20,7 +20,7 @@ use header_space::{Cut, PacketBox, Question, least_where};
 use host_net::{CtState, Packet};
 use std::alloc::{AllocError, Global};
 
-/// Whether the rules do other than the policy says at the end of the list of that kind.
+/// Whether the rules differ from the policy at the end of the list of that kind.
 #[derive(Drop)]
 pub(crate) struct Fault<'a> {
     part: Part<'a>,
@@ -33,10 +33,11 @@ impl<'a> Question for Fault<'a> {
     ghost holds_of = { λ q p. IsFault q.part q.kind p };
 
     fn ask(&self, within: &mut PacketBox) -> bool {
+        let flow = self.part.flow_within(within);
         match self.kind {
-            Kind::Alone => self.part.is_fault_alone(within),
-            Kind::BehindSwap => self.part.is_fault_behind_swap(within),
-            Kind::BehindBoth => self.part.is_fault_behind_both(within),
+            Kind::Alone => self.part.is_fault_alone(flow, within),
+            Kind::BehindSwap => self.part.is_fault_behind_swap(flow, within),
+            Kind::BehindBoth => self.part.is_fault_behind_both(flow, within),
         }
     }
 
@@ -55,7 +56,7 @@ impl<'a> Question for Fault<'a> {
     }
 }
 
-/// Whether the rules do other than the policy says at the end of the list of some kind.
+/// Whether the rules differ from the policy at the end of the list of some kind.
 #[derive(Drop)]
 struct AnyFault<'a> {
     part: Part<'a>,
@@ -67,13 +68,14 @@ impl<'a> Question for AnyFault<'a> {
     ghost holds_of = { λ q p. IsAnyFault q.part p };
 
     fn ask(&self, within: &mut PacketBox) -> bool {
-        if self.part.is_fault_alone(within) {
+        let flow = self.part.flow_within(within);
+        if self.part.is_fault_alone(flow, within) {
             return true;
         }
-        if self.part.is_fault_behind_swap(within) {
+        if self.part.is_fault_behind_swap(flow, within) {
             return true;
         }
-        self.part.is_fault_behind_both(within)
+        self.part.is_fault_behind_both(flow, within)
     }
 
     fn restrict(
@@ -104,7 +106,7 @@ pub(crate) fn are_right(alloc: Global, sides: &Sides<'_>) -> Result<bool, AllocE
     Ok(found.is_none())
 }
 
-/// The least packet at the end of whose list of that kind the two sides differ.
+/// Returns the least packet at the end of whose list of that kind the two sides differ, if there is one.
 fn least_fault(alloc: Global, sides: &Sides<'_>, kind: Kind) -> Result<Option<Packet>, AllocError>
     ensures { IfOk result (IsLeastWhere (IsFault sides.now kind) every_packet) }
 {
@@ -115,7 +117,8 @@ fn least_fault(alloc: Global, sides: &Sides<'_>, kind: Kind) -> Result<Option<Pa
     least_where(alloc, &fault, PacketBox::every())
 }
 
-/// The list of that kind at that packet, where there is one.
+/// Returns the trace of that kind at the least packet at the end of whose list the two sides differ, if there
+/// is one.
 pub(crate) fn fault_of(
     alloc: Global,
     sides: &Sides<'_>,

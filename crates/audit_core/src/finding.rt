@@ -1,4 +1,4 @@
-//! What an audit finds.
+//! The finding of an audit.
 
 ghost use Rattle.std.specs.Prelude.{◌≡◌};
 ghost use Rattle.audit_core.specs.Findings.{trace_of};
@@ -7,14 +7,14 @@ use crate::kind::Kind;
 use host_net::Packet;
 use std::alloc::AllocError;
 
-/// Whether rules do what a policy says, or the first list of packets on which they do not.
+/// Whether rules implement a policy, or the first list of packets on which they differ from it.
 #[derive(Clone, Copy, Debug, PartialEq, Eq)]
 pub enum Finding {
     Equal,
     Differ(Trace),
 }
 
-/// At most three packets, seen in this order, and what the rules do with the last one.
+/// At most three packets, seen in this order, and whether the rules forward the last one.
 #[derive(Clone, Copy, Debug, PartialEq, Eq)]
 pub struct Trace {
     pub first: Packet,
@@ -23,12 +23,12 @@ pub struct Trace {
     pub forwards: bool,
 }
 
-/// Why there is no finding.
+/// The reason that there is no finding.
 #[derive(Clone, Copy, Debug, PartialEq, Eq)]
 pub enum AuditRefusal {
     /// There are more than 4,000,000 classes of packets.
     TooManyClasses { count: u128 },
-    /// No memory is left.
+    /// An allocation failed.
     Memory,
 }
 
@@ -44,7 +44,7 @@ impl From<AllocError> for AuditRefusal {
 }
 
 impl Trace {
-    /// The list of that kind at a packet.
+    /// Returns the list of that kind at a packet.
     pub(crate) fn of(kind: Kind, packet: Packet, forwards: bool) -> Trace
         ensures { result ≡ trace_of kind packet forwards }
     {

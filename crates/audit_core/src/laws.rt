@@ -1,5 +1,5 @@
-//! The laws that carry the audit, and what its findings say of rules that were written for a policy,
-//! over the definitions alone.
+//! Laws that the audit depends on, and what its findings state about rules that were written for a policy.
+//! They depend on the definitions only.
 
 ghost use Rattle.std.specs.Prelude.{◌≡◌, Bool, List};
 ghost use Rattle.host_net.specs.declared.packet.Packet.{Packet};
@@ -14,14 +14,14 @@ ghost use Rattle.audit_core.specs.inner.Agreement.{alone, behind_swap};
 ghost use Rattle.audit_core.specs.Cuts.{Cuts, cuts_between};
 ghost use Rattle.audit_core.specs.inner.Cuts.{AreOneClass};
 ghost use Rattle.audit_core.specs.inner.Findings.{IsFinding};
-ghost use Rattle.audit_core.specs.Places.{IsClassPacket, leasts_of};
+ghost use Rattle.audit_core.specs.Places.{IsClassPacket, representatives_of};
 ghost use Rattle.audit_core.specs.Rules.{Entries, filter_of};
 ghost use Rattle.audit_core.specs.Verdicts.{GivesOne};
 ghost use Rattle.audit_core.specs.Sides.{Agree, ForwardAlike, Sides, lets_answer, permits};
 ghost use Rattle.audit_core.specs.inner.Sides.{AgreeAlways, AgreeShortly};
 
-/// Rules that agree with a policy on the three short lists at each packet agree with it on every
-/// list of events. At a flow table, which knows no states, the first two suffice.
+/// Rules that agree with a policy on the three short lists at each packet agree with it on every list of
+/// events. For a flow table, which is stateless, the first two lists suffice.
 pub fn short_lists_suffice()
     ensures each { (sides : Sides) → GivesOne (filter_of sides.rules) → IsSubset sides.stateful sides.permitted →
         ((packet : Packet) → IsPacket packet → AgreeShortly sides packet) → AgreeAlways sides }
@@ -30,9 +30,9 @@ pub fn short_lists_suffice()
         ((packet : Packet) → IsPacket packet → Agree sides (alone packet) × Agree sides (behind_swap packet)) → AgreeAlways sides }
 {}
 
-/// Packets of one class are of the same flow by its services or both of none, have the same
-/// verdicts, and have swaps of one class; and each packet is of one class with one that has the
-/// least numbers of its classes.
+/// Two packets of one class belong to the same flow by its services, or both belong to no flow. They have the
+/// same verdicts, and their swaps are in one class. Each packet is in one class with a packet whose fields
+/// are the representatives of its classes.
 pub fn classes_are_uniform()
     ensures flow { (sides : Sides) (p q : Packet) → IsPacket p → IsPacket q → AreOneClass (cuts_between sides) p q →
         flow_of sides.site.hosts p ≡ flow_of sides.site.hosts q }
@@ -44,11 +44,11 @@ pub fn classes_are_uniform()
         filter_of sides.rules state p passes → filter_of sides.rules state q passes }
     ensures swaps { (cuts : Cuts) (p q : Packet) → AreOneClass cuts p q → AreOneClass cuts (swap_of p) (swap_of q) }
     ensures class { (sides : Sides) (p : Packet) → IsPacket p →
-        (q : Packet) × IsPacket q × IsClassPacket (leasts_of (cuts_between sides)) q × AreOneClass (cuts_between sides) q p }
+        (q : Packet) × IsPacket q × IsClassPacket (representatives_of (cuts_between sides)) q × AreOneClass (cuts_between sides) q p }
 {}
 
-/// Whatever is found of rules that forward what is expected of a policy, it is that they are equal;
-/// and rules that are found equal forward what is expected.
+/// Any finding for rules that forward what a policy expects is `Equal`, and rules whose finding is `Equal`
+/// forward what the policy expects.
 pub fn equal_is_expected()
     ensures equal { (sides : Sides) (finding : Finding) → ForwardAlike sides → IsFinding sides finding → finding ≡ Equal }
     ensures expected { (sides : Sides) → GivesOne (filter_of sides.rules) → IsFinding sides Equal → ForwardAlike sides }

@@ -1,4 +1,4 @@
-//! Whether rules do what a policy says.
+//! Audits whether rules implement a policy.
 #![tactic(auto)]
 
 mod between;
@@ -10,14 +10,14 @@ mod fault;
 mod finding;
 mod kind;
 mod laws;
-mod leasts;
 mod list_end;
 mod named;
-mod owners;
+mod order;
 mod pairs;
 mod part;
 mod policy_box;
 mod report;
+mod representatives;
 mod sides;
 mod sources;
 mod text;
@@ -28,5 +28,6 @@ pub use finding::{AuditRefusal, Finding, Trace};
 pub use kind::Kind;
 pub use laws::{classes_are_uniform, equal_is_expected, short_lists_suffice};
 pub use pairs::compare_pairs;
-pub use report::{classes_line, finding_text};
+pub use policy_box::is_of_within;
+pub use report::{classes_line, finding_text, push_address, push_packet_text};
 pub use text::Text;

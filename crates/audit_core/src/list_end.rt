@@ -1,4 +1,5 @@
-//! What rules do with the last packet of a list, and what a policy expects of it, for the packets of a box.
+//! The verdict of rules on the last packet of a list, and the expectation of a policy, for the packets of a
+//! box.
 
 ghost use Rattle.std.specs.Prelude.{◌≡◌, ◌↔◌, Bool, IsTrue, Option, None, IfOk, IfSome};
 ghost use Rattle.host_net.specs.declared.packet.Packet.{Packet};
@@ -9,12 +10,14 @@ ghost use Rattle.header_space.specs.Cuts.{IsCutOf};
 ghost use Rattle.audit_core.specs.Rules.{filter_of};
 ghost use Rattle.audit_core.specs.Sides.{lets_answer, permits};
 ghost use Rattle.audit_core.specs.declared.difference.Direction.{Direction};
+ghost use Rattle.audit_core.specs.inner.Parts.{HaveFlow};
 ghost use Rattle.audit_core.specs.inner.Pairs.{DiffersBy, DiffersSo, EndsBy, HaveSameEnds, HoldsOf, expected_at, state_after};
 
 use crate::difference::Direction;
 use crate::kind::Kind;
 use crate::part::Part;
 use crate::sides::Sides;
+use flow_set::Flow;
 use header_space::{Cut, PacketBox, Question};
 use host_net::CtState;
 use std::alloc::{AllocError, Global};
@@ -26,8 +29,8 @@ pub(crate) struct Ends<'a> {
     swaps: Part<'a>,
 }
 
-/// Whether the two sides differ at the end of a list at a packet, in that direction or, if there is `None`,
-/// in any.
+/// Whether the two sides differ at the end of a list at a packet, in that direction or, for `None`, in any
+/// direction.
 #[derive(Drop)]
 pub(crate) struct ListEnd<'a> {
     pub(crate) ends: Ends<'a>,
@@ -70,7 +73,7 @@ impl<'a> Sides<'a> {
     pub(crate) fn ends(&self) -> Ends<'a>
         ensures { (direction : Option Direction) (p : Packet) → IsPacket p → (HoldsOf result direction p ↔ DiffersSo self.now direction p) }
     {
-        // Each packet has one verdict: this is known by the use of a field.
+        // The use of this field makes known that each packet has one verdict.
         let _policy = &self.policy;
         Ends {
             part: Part::whole(self),
@@ -80,7 +83,7 @@ impl<'a> Sides<'a> {
 }
 
 impl<'a> Ends<'a> {
-    /// Returns the same sides, which borrow the slices of the rules.
+    /// Returns the same sides, with borrowed slices of the rules.
     pub(crate) fn by_ref(&self) -> Ends<'_>
         ensures { (direction : Option Direction) (p : Packet) → (HoldsOf result direction p ↔ HoldsOf self.now direction p) }
     {
@@ -114,25 +117,27 @@ impl<'a> Ends<'a> {
         ensures part { Narrows within.old within.new }
         ensures alike { (p : Packet) → IsIn within.new p → (IsTrue result ↔ HoldsOf self.now None p) }
     {
-        if self.kind_differs(Kind::Alone, within) {
+        let flow = self.part.flow_within(within);
+        if self.kind_differs(Kind::Alone, flow, within) {
             return true;
         }
-        if self.kind_differs(Kind::BehindSwap, within) {
+        if self.kind_differs(Kind::BehindSwap, flow, within) {
             return true;
         }
-        self.kind_differs(Kind::BehindBoth, within)
+        self.kind_differs(Kind::BehindBoth, flow, within)
     }
 
-    fn kind_differs(&self, kind: Kind, within: &mut PacketBox) -> bool
-        requires { IsBox within.old }
+    fn kind_differs(&self, kind: Kind, flow: Option<Flow>, within: &mut PacketBox) -> bool
+        requires is_box { IsBox within.old }
+        requires flow { HaveFlow self.now.part.site.hosts within.old flow }
         ensures part { Narrows within.old within.new }
         ensures alike { (p : Packet) → IsIn within.new p → (IsTrue result ↔ ((forwards : Bool) × DiffersBy self.now kind p forwards)) }
     {
-        // Each packet has one verdict: this is known by these calls.
+        // These calls make known that each packet has one verdict.
         let (_rules, _swaps) = (self.part.rules(), self.swaps.rules());
-        let expected = self.expects(kind, within);
+        let expected = self.expects(kind, flow, within);
         let passes = self.passes(kind, within);
-        // That packets of a box are packets is known by this.
+        // This call makes known that packets of a box are packets.
         let _last = within.last();
         passes != expected
     }
@@ -142,10 +147,11 @@ impl<'a> Ends<'a> {
         ensures part { Narrows within.old within.new }
         ensures alike { (p : Packet) → IsIn within.new p → (IsTrue result ↔ DiffersBy self.now direction.kind p direction.forwards) }
     {
-        // Each packet has one verdict: this is known by these calls.
+        // These calls make known that each packet has one verdict.
         let (_rules, _swaps) = (self.part.rules(), self.swaps.rules());
-        let expected = self.expects(direction.kind, within);
-        // That packets of a box are packets is known by this.
+        let flow = self.part.flow_within(within);
+        let expected = self.expects(direction.kind, flow, within);
+        // This call makes known that packets of a box are packets.
         let _last = within.last();
         if expected == direction.forwards {
             return false;
@@ -154,14 +160,15 @@ impl<'a> Ends<'a> {
     }
 
     /// Whether the policy expects that the packets of a box pass at the end of their lists of that kind.
-    fn expects(&self, kind: Kind, within: &mut PacketBox) -> bool
-        requires { IsBox within.old }
+    fn expects(&self, kind: Kind, flow: Option<Flow>, within: &mut PacketBox) -> bool
+        requires is_box { IsBox within.old }
+        requires flow { HaveFlow self.now.part.site.hosts within.old flow }
         ensures part { Narrows within.old within.new }
         ensures alike { (p : Packet) → IsIn within.new p → expected_at self.now.part kind p ≡ result }
     {
         match kind {
-            Kind::Alone => self.part.permits_within(within),
-            Kind::BehindSwap | Kind::BehindBoth => self.part.lets_pass_within(within),
+            Kind::Alone => self.part.permits_within(flow, within),
+            Kind::BehindSwap | Kind::BehindBoth => self.part.lets_pass_within(flow, within),
         }
     }
 

@@ -1,4 +1,4 @@
-//! What a description and rules name: ranges of addresses and of ports, and protocols.
+//! The ranges of addresses and ports, and the protocols, that a description and rules name.
 
 ghost use Rattle.std.specs.Prelude.{◌≡◌, ◌<◌, ◌++◌, ◌∷◌, [], IfOk, OnOk, map, length};
 ghost use Rattle.std.specs.List.{flat_map};
@@ -11,27 +11,21 @@ ghost use Rattle.audit_core.specs.RulesView.{rules_of};
 
 use crate::text::Text;
 use flow_set::FlowSet;
+use header_space::AddressRange;
 use host_net::{Hosts, Prefix, Service, Services};
 use ipt_rules::{AddrMatch, PortMatch, ProtoMatch, Rule, Ruleset};
 use ofp_rules::{Entry, Table};
 use pkt_core::FlowPolicy;
 use std::alloc::{AllocError, Global};
 
-/// The addresses from the first to the last.
-#[derive(Clone, Copy, PartialEq, Eq, PartialOrd, Ord)]
-pub(crate) struct AddressRange {
-    pub(crate) first: u32,
-    pub(crate) last: u32,
-}
-
-/// The ports from the low to the high one.
+/// The ports from `low` to `high`.
 #[derive(Clone, Copy, PartialEq, Eq, PartialOrd, Ord)]
 pub(crate) struct PortRange {
     pub(crate) low: u16,
     pub(crate) high: u16,
 }
 
-/// What a description and rules name, in no order.
+/// The ranges and protocols that a description and rules name, in no order.
 #[derive(Drop)]
 pub(crate) struct Found {
     pub(crate) addresses: Vec<AddressRange>,
@@ -39,7 +33,7 @@ pub(crate) struct Found {
     pub(crate) ports: Vec<PortRange>,
 }
 
-/// What a description and rules name.
+/// Returns the ranges and protocols that a description and rules name.
 pub(crate) fn named_between(
     alloc: Global,
     policy: &FlowPolicy<'_>,
@@ -82,7 +76,7 @@ fn push_prefixes(found: &mut Found, prefixes: &[Prefix]) -> Result<(), AllocErro
     Ok(())
 }
 
-/// The services of every flow between the hosts.
+/// Appends the services of every flow between the hosts.
 fn push_flows(alloc: Global, found: &mut Found, policy: &FlowPolicy<'_>) -> Result<(), AllocError>
     ensures { OnOk result (AreMore (flat_map service_parts (flow_services policy.now.site)) found.old found.new) }
 {

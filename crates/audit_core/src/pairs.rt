@@ -1,27 +1,31 @@
-//! The comparison by pairs of owners: where rules do not do what a policy expects, and in which direction.
+//! The comparison by pairs of owners: where rules differ from a policy, and in which direction.
 
-ghost use Rattle.std.specs.Prelude.{◌≡◌, ◌↔◌, [], ◌∷◌, true, IfOk, OnOk};
+ghost use Rattle.std.specs.Prelude.{◌≡◌, ◌↔◌, List, [], ◌∷◌, true, IfOk, OnOk};
 ghost use Rattle.std.specs.List.{All, flat_map};
 ghost use Rattle.audit_core.specs.Findings.{DifferSomewhere};
+ghost use Rattle.audit_core.specs.declared.difference.Difference.{Difference};
 ghost use Rattle.audit_core.specs.Pairs.{AreDifferences, IsComplete, case_of, cases_between};
 ghost use Rattle.audit_core.specs.Sides.{Sides, sides_of};
-ghost use Rattle.audit_core.specs.inner.Pairs.{AreAdded, AreOwned, HasRange, HasRanges, IsOwned, IsSender};
+ghost use Rattle.header_space.specs.Owners.{AreOwned, HasRanges, IsOwned};
+ghost use Rattle.audit_core.specs.inner.Pairs.{AreAdded, HasRange, IsSender};
 ghost use Rattle.audit_core.specs.RulesView.{rules_of};
 
 use crate::difference::{Difference, Direction};
 use crate::fault::are_right;
 use crate::finding::Trace;
 use crate::kind::Kind;
-use crate::owners::{Owned, all_owned};
 use crate::sides::Sides;
 use crate::sources::Sender;
 use crate::text::Text;
+use header_space::{Owned, all_owned};
 use pkt_core::FlowPolicy;
 use std::alloc::{AllocError, Global};
 
-/// Compares what rules do with what a policy expects, for each pair of owners. The owners are the hosts in
-/// their order and, last, `None` for the addresses that no host owns. A pair has at most one difference of
-/// each kind of list and direction, and has one if and only if a packet of the pair differs so.
+/// Compares rules with a policy for each pair of owners. The owners are the hosts in their order and, last,
+/// `None` for the addresses that no host owns. A pair has at most one difference of each kind of list and
+/// direction. It has one if and only if a packet of the pair differs in that kind and direction. The trace of
+/// a difference is the list at the first of these packets. Two calls with the same policy and rules return
+/// the same list.
 pub fn compare_pairs(
     alloc: Global,
     policy: &FlowPolicy<'_>,
@@ -29,6 +33,8 @@ pub fn compare_pairs(
 ) -> Result<Vec<Difference>, AllocError>
     ensures differences { IfOk result (λ list. AreDifferences (sides_of policy.now.site policy.now.permitted policy.now.stateful (rules_of text.now)) list.items) }
     ensures complete { IfOk result (λ list. IsComplete (sides_of policy.now.site policy.now.permitted policy.now.stateful (rules_of text.now)) list.items) }
+    ensures one { IfOk result (λ list. (other : List Difference) →
+        AreDifferences (sides_of policy.now.site policy.now.permitted policy.now.stateful (rules_of text.now)) other → other ≡ list.items) }
     // There is no difference if and only if the two sides differ on no list of events.
     ensures exact { IfOk result (λ list. (list.items ≡ []) ↔
         (DifferSomewhere (sides_of policy.now.site policy.now.permitted policy.now.stateful (rules_of text.now)) → ⊥)) }

@@ -1,20 +1,22 @@
-//! The two sides as they are compared for the packets of a box: rules that can decide none of them may be
-//! left out.
+//! The two sides as they are compared for the packets of a box. Rules that decide none of these packets may
+//! be omitted.
 
 ghost use Rattle.std.specs.Prelude.{◌≡◌, ◌↔◌, ◌≤◌, ◌<◌, Bool, IsTrue, IfOk, IfSome};
 ghost use Rattle.host_net.specs.declared.packet.Packet.{Packet};
+ghost use Rattle.host_net.specs.Packet.{swap_of};
 ghost use Rattle.header_space.specs.Boxes.{IsBox, IsIn, Narrows};
 ghost use Rattle.header_space.specs.Cuts.{IsCutOf};
 ghost use Rattle.audit_core.specs.inner.Faults.{IsExpected, IsFault, SaysOther};
 ghost use Rattle.audit_core.specs.Verdicts.{GivesOne, HaveSameVerdicts};
-ghost use Rattle.audit_core.specs.inner.Parts.{HaveSameFaults, IsPartOf};
+ghost use Rattle.audit_core.specs.inner.Parts.{HaveFlow, HaveSameFaults, IsPartOf};
 ghost use Rattle.audit_core.specs.Rules.{Chains, filter_of};
 ghost use Rattle.audit_core.specs.Sides.{permits};
 
 use crate::kind::Kind;
-use crate::policy_box::{answers_are_of_within, is_of_within};
+use crate::policy_box::{answers_are_of_within_flow, flow_within, is_of_within_flow};
 use crate::sides::Sides;
 use crate::text::Text;
+use flow_set::Flow;
 use header_space::{Cut, PacketBox};
 use host_net::CtState;
 use ipt_rules::Slice;
@@ -22,7 +24,7 @@ use pkt_core::FlowPolicy;
 use std::alloc::{AllocError, Global};
 use std::marker::Model;
 
-/// All rules, or those of a slice.
+/// All rules, or the rules of a slice.
 #[derive(Drop)]
 enum Held<'a> {
     Whole(Text<'a>),
@@ -30,7 +32,7 @@ enum Held<'a> {
     Lent(&'a Slice),
 }
 
-/// The two sides, with all rules or with those of a slice.
+/// The two sides, with all rules or with the rules of a slice.
 #[derive(Drop)]
 pub(crate) struct Part<'a> {
     policy: &'a FlowPolicy<'a>,
@@ -51,7 +53,7 @@ impl<'a> Model for Part<'a> {
 }
 
 impl<'a> Part<'a> {
-    /// The sides with all rules.
+    /// Returns the sides with all rules.
     pub(crate) fn whole(sides: &Sides<'a>) -> Part<'a>
         ensures { result ≡ sides.now }
     {
@@ -61,7 +63,7 @@ impl<'a> Part<'a> {
         }
     }
 
-    /// Returns the same sides, which borrow their slice of the rules.
+    /// Returns the same sides, with a borrowed slice of the rules.
     pub(crate) fn by_ref(&self) -> Part<'_>
         ensures { result ≡ self.now }
     {
@@ -75,7 +77,7 @@ impl<'a> Part<'a> {
         }
     }
 
-    /// Returns about how many rules it has. Each packet has one verdict by them.
+    /// Returns the approximate number of rules. The rules have one verdict on each packet.
     pub(crate) fn rules(&self) -> u32
         ensures gives { GivesOne (filter_of self.now.rules) }
     {
@@ -98,7 +100,7 @@ impl<'a> Part<'a> {
         match self.slice(alloc, within)? {
             None => Ok(None),
             Some(slice) => {
-                // This tells that a packet passes by the slice or does not.
+                // This call makes known that a packet passes by the slice or does not.
                 let _rules = slice.rules();
                 Ok(Some(Part {
                     policy: self.policy,
@@ -119,8 +121,8 @@ impl<'a> Part<'a> {
         }
     }
 
-    /// Returns where a box is cut: where the owner changes, of its sources or of its destinations. A box
-    /// whose sources nobody owns is not cut: its packets are of no flow.
+    /// Returns the cut of a box at which the owner of its sources or of its destinations changes. A box whose
+    /// sources no host owns is not cut: its packets belong to no flow.
     pub(crate) fn cut(&self, within: &PacketBox) -> Option<Cut>
         ensures { IfSome result (IsCutOf within.now) }
     {
@@ -133,7 +135,7 @@ impl<'a> Part<'a> {
         longer_cut(within, src, dst)
     }
 
-    /// Whether the rules let the packets of a box pass in a state.
+    /// Whether the rules forward the packets of a box in a state.
     pub(crate) fn passes_within(&self, within: &mut PacketBox, state: CtState) -> bool
         requires { IsBox within.old }
         ensures part { Narrows within.old within.new }
@@ -147,64 +149,88 @@ impl<'a> Part<'a> {
         }
     }
 
-    pub(crate) fn permits_within(&self, within: &mut PacketBox) -> bool
+    /// Returns the flow of the packets of a box.
+    pub(crate) fn flow_within(&self, within: &mut PacketBox) -> Option<Flow>
         requires { IsBox within.old }
+        ensures part { Narrows within.old within.new }
+        ensures flow { HaveFlow self.now.site.hosts within.new result }
+    {
+        flow_within(self.policy.hosts(), within)
+    }
+
+    pub(crate) fn permits_within(&self, flow: Option<Flow>, within: &mut PacketBox) -> bool
+        requires is_box { IsBox within.old }
+        requires flow { HaveFlow self.now.site.hosts within.old flow }
         ensures part { Narrows within.old within.new }
         ensures alike { (p : Packet) → IsIn within.new p → permits self.now p ≡ result }
     {
-        is_of_within(self.policy, self.policy.permitted(), within)
+        is_of_within_flow(self.policy, self.policy.permitted(), flow, within)
     }
 
-    pub(crate) fn is_fault_alone(&self, within: &mut PacketBox) -> bool
-        requires { IsBox within.old }
+    pub(crate) fn is_fault_alone(&self, flow: Option<Flow>, within: &mut PacketBox) -> bool
+        requires is_box { IsBox within.old }
+        requires flow { HaveFlow self.now.site.hosts within.old flow }
         ensures part { Narrows within.old within.new }
         ensures alike { (p : Packet) → IsIn within.new p → (IsTrue result ↔ IsFault self.now Kind.Alone p) }
     {
-        let expected = self.permits_within(within);
+        let expected = self.permits_within(flow, within);
         self.says_other(CtState::New, expected, within)
     }
 
-    pub(crate) fn is_fault_behind_swap(&self, within: &mut PacketBox) -> bool
-        requires { IsBox within.old }
+    pub(crate) fn is_fault_behind_swap(&self, flow: Option<Flow>, within: &mut PacketBox) -> bool
+        requires is_box { IsBox within.old }
+        requires flow { HaveFlow self.now.site.hosts within.old flow }
         ensures part { Narrows within.old within.new }
         ensures alike { (p : Packet) → IsIn within.new p → (IsTrue result ↔ IsFault self.now Kind.BehindSwap p) }
     {
-        if !answers_are_of_within(self.policy, self.policy.permitted(), within) {
+        if !self.permits_answers_within(flow, within) {
             return false;
         }
-        let expected = self.lets_pass_within(within);
+        let expected = self.lets_pass_within(flow, within);
         self.says_other(CtState::Established, expected, within)
     }
 
-    pub(crate) fn is_fault_behind_both(&self, within: &mut PacketBox) -> bool
-        requires { IsBox within.old }
+    pub(crate) fn is_fault_behind_both(&self, flow: Option<Flow>, within: &mut PacketBox) -> bool
+        requires is_box { IsBox within.old }
+        requires flow { HaveFlow self.now.site.hosts within.old flow }
         ensures part { Narrows within.old within.new }
         ensures alike { (p : Packet) → IsIn within.new p → (IsTrue result ↔ IsFault self.now Kind.BehindBoth p) }
     {
-        if !self.permits_within(within) {
+        if !self.permits_within(flow, within) {
             return false;
         }
         self.says_other(CtState::Established, true, within)
     }
 
-    /// Whether the policy lets the packets of a box pass on established connections.
-    pub(crate) fn lets_pass_within(&self, within: &mut PacketBox) -> bool
-        requires { IsBox within.old }
+    /// Whether the policy permits the answers to the packets of a box.
+    fn permits_answers_within(&self, flow: Option<Flow>, within: &mut PacketBox) -> bool
+        requires is_box { IsBox within.old }
+        requires flow { HaveFlow self.now.site.hosts within.old flow }
+        ensures part { Narrows within.old within.new }
+        ensures alike { (p : Packet) → IsIn within.new p → permits self.now (swap_of p) ≡ result }
+    {
+        answers_are_of_within_flow(self.policy, self.policy.permitted(), flow, within)
+    }
+
+    /// Whether the policy allows the packets of a box on established connections.
+    pub(crate) fn lets_pass_within(&self, flow: Option<Flow>, within: &mut PacketBox) -> bool
+        requires is_box { IsBox within.old }
+        requires flow { HaveFlow self.now.site.hosts within.old flow }
         ensures part { Narrows within.old within.new }
         ensures alike { (p : Packet) → IsIn within.new p → IsExpected self.now CtState.Established p result }
     {
-        self.permits_within(within)
-            || answers_are_of_within(self.policy, self.policy.stateful(), within)
+        self.permits_within(flow, within)
+            || answers_are_of_within_flow(self.policy, self.policy.stateful(), flow, within)
     }
 
-    /// Whether the rules do with the packets of a box in a state what is not expected.
+    /// Whether the rules have an unexpected verdict on the packets of a box in a state.
     fn says_other(&self, state: CtState, expected: bool, within: &mut PacketBox) -> bool
         requires { IsBox within.old }
         ensures part { Narrows within.old within.new }
         ensures alike { (p : Packet) → IsIn within.new p → (IsTrue result ↔ SaysOther self.now state expected p) }
     {
         let passes = self.passes_within(within, state);
-        // That packets of a box are packets is known by this.
+        // This call makes known that packets of a box are packets.
         let _last = within.last();
         passes != expected
     }

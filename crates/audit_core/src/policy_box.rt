@@ -1,8 +1,9 @@
-//! What a policy says of the packets of a box. The box is narrowed, so that it says the same of all packets
-//! that it has then.
+//! The decision of a policy on the packets of a box. The box is narrowed to packets with the same decision.
 
 ghost use Rattle.std.specs.Prelude.{◌≡◌, length};
 ghost use Rattle.std.specs.List.{list_any};
+ghost use Rattle.std.specs.Option.{option_map};
+ghost use Rattle.flow_set.specs.Flow.{back_of};
 ghost use Rattle.host_net.specs.declared.packet.Packet.{Packet};
 ghost use Rattle.host_net.specs.Host.{owner_of};
 ghost use Rattle.host_net.specs.Packet.{swap_of};
@@ -10,52 +11,92 @@ ghost use Rattle.host_net.specs.Service.{is_served, serves};
 ghost use Rattle.header_space.specs.Boxes.{IsBox, IsIn, Narrows};
 ghost use Rattle.header_space.specs.Matching.{fits};
 ghost use Rattle.pkt_core.specs.FlowPolicy.{is_of};
+ghost use Rattle.audit_core.specs.inner.Parts.{HaveFlow};
 
 use flow_set::{Flow, FlowSet};
 use header_space::{FieldMatch, HeaderMatch, PacketBox};
 use host_net::{Hosts, Service};
 use pkt_core::FlowPolicy;
 
-/// Whether the packets of a box are of one of the flows.
-pub(crate) fn is_of_within(policy: &FlowPolicy<'_>, flows: &FlowSet, within: &mut PacketBox) -> bool
+/// Whether the packets of a box belong to one of the flows. The box is narrowed to packets with the same
+/// result; it still contains its least packet.
+pub fn is_of_within(policy: &FlowPolicy<'_>, flows: &FlowSet, within: &mut PacketBox) -> bool
     requires size { flows.now.size ≡ length policy.now.site.hosts }
     requires is_box { IsBox within.old }
     ensures part { Narrows within.old within.new }
     ensures alike { (p : Packet) → IsIn within.new p → is_of policy.now.site flows.now.flows p ≡ result }
 {
-    let Some(from) = source_owner(policy.hosts(), within) else {
-        return false;
-    };
-    let Some(to) = destination_owner(policy.hosts(), within) else {
-        return false;
-    };
-    from != to
-        && flows.has(Flow { from, to })
-        && is_served_within(policy.services().of(from, to), within)
+    let flow = flow_within(policy.hosts(), within);
+    is_of_within_flow(policy, flows, flow, within)
 }
 
-/// Whether the answers to the packets of a box are of one of the flows.
-pub(crate) fn answers_are_of_within(
+/// Returns the flow of the packets of a box. A box whose sources no host owns is not narrowed to the owner of
+/// its destinations.
+pub(crate) fn flow_within(hosts: &Hosts, within: &mut PacketBox) -> Option<Flow>
+    requires { IsBox within.old }
+    ensures part { Narrows within.old within.new }
+    ensures flow { HaveFlow hosts.now within.new result }
+{
+    let from = source_owner(hosts, within)?;
+    let to = destination_owner(hosts, within)?;
+    if from == to {
+        None
+    } else {
+        Some(Flow { from, to })
+    }
+}
+
+/// Whether the packets of a box with a known flow belong to one of the flows.
+pub(crate) fn is_of_within_flow(
     policy: &FlowPolicy<'_>,
     flows: &FlowSet,
+    flow: Option<Flow>,
     within: &mut PacketBox,
 ) -> bool
     requires size { flows.now.size ≡ length policy.now.site.hosts }
     requires is_box { IsBox within.old }
+    requires flow { HaveFlow policy.now.site.hosts within.old flow }
+    ensures part { Narrows within.old within.new }
+    ensures alike { (p : Packet) → IsIn within.new p → is_of policy.now.site flows.now.flows p ≡ result }
+{
+    match flow {
+        None => false,
+        Some(flow) => {
+            flows.has(flow) && is_served_within(policy.services().of(flow.from, flow.to), within)
+        }
+    }
+}
+
+/// Whether the answers to the packets of a box with a known flow belong to one of the flows.
+pub(crate) fn answers_are_of_within_flow(
+    policy: &FlowPolicy<'_>,
+    flows: &FlowSet,
+    flow: Option<Flow>,
+    within: &mut PacketBox,
+) -> bool
+    requires size { flows.now.size ≡ length policy.now.site.hosts }
+    requires is_box { IsBox within.old }
+    requires flow { HaveFlow policy.now.site.hosts within.old flow }
     ensures part { Narrows within.old within.new }
     ensures alike { (p : Packet) → IsIn within.new p → is_of policy.now.site flows.now.flows (swap_of p) ≡ result }
 {
-    // With this test first, a box whose sources nobody owns is not narrowed to the owner of its destinations.
-    if source_owner(policy.hosts(), within).is_none() {
-        return false;
-    }
     let mut answers = within.swap();
-    let are = is_of_within(policy, flows, &mut answers);
+    let are = is_of_within_flow(policy, flows, flow_of_answers(flow), &mut answers);
     *within = answers.swap();
     are
 }
 
-/// The owner of the sources of a box.
+/// Returns the flow of the answers.
+fn flow_of_answers(flow: Option<Flow>) -> Option<Flow>
+    ensures { result ≡ option_map back_of flow }
+{
+    match flow {
+        None => None,
+        Some(flow) => Some(flow.back()),
+    }
+}
+
+/// Returns the owner of the sources of a box.
 fn source_owner(hosts: &Hosts, within: &mut PacketBox) -> Option<u16>
     requires { IsBox within.old }
     ensures part { Narrows within.old within.new }
@@ -66,7 +107,7 @@ fn source_owner(hosts: &Hosts, within: &mut PacketBox) -> Option<u16>
     held.host
 }
 
-/// The owner of the destinations of a box.
+/// Returns the owner of the destinations of a box.
 fn destination_owner(hosts: &Hosts, within: &mut PacketBox) -> Option<u16>
     requires { IsBox within.old }
     ensures part { Narrows within.old within.new }
@@ -77,7 +118,7 @@ fn destination_owner(hosts: &Hosts, within: &mut PacketBox) -> Option<u16>
     held.host
 }
 
-/// Whether one of the services serves the packets of a box, or there are none.
+/// Whether one of the services matches the packets of a box, or there are no services.
 fn is_served_within(services: &[Service], within: &mut PacketBox) -> bool
     requires { IsBox within.old }
     ensures part { Narrows within.old within.new }
@@ -99,7 +140,7 @@ fn one_serves_within(services: &[Service], within: &mut PacketBox) -> bool
     false
 }
 
-/// What a service asks of the fields of a header.
+/// Returns the match of a service on the fields of a header.
 fn header_of(service: Service) -> HeaderMatch
     ensures { (p : Packet) → serves service p ≡ fits result p }
 {

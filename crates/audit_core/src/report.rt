@@ -1,16 +1,16 @@
-//! The text of a finding, and the line that says that there are too many classes.
+//! The text of a finding, and the line for too many classes.
 
 ghost use Rattle.std.specs.Prelude.{◌≡◌, ◌<◌, ◌++◌, IfOk, OnOk, codes, decimal};
 ghost use Rattle.host_net.specs.Prefix.{address_text, octet};
-ghost use Rattle.audit_core.specs.FindingText.{addresses_text, classes_line, numbers_text, packet_line, some_line, trace_text, verdict_line};
+ghost use Rattle.audit_core.specs.FindingText.{addresses_text, classes_line, numbers_text, packet_line, packet_text, some_line, trace_text, verdict_line};
 ghost use Rattle.audit_core.specs.inner.FindingText.{finding_text};
 
 use crate::finding::{Finding, Trace};
 use host_net::Packet;
 use std::alloc::{AllocError, Global};
 
-/// `equal`, or `differ`, the packets in the order in which they are seen, and what the rules do with
-/// the last one.
+/// Returns `equal`, or `differ`, the packets in the order in which they are seen, and whether the rules
+/// forward the last one.
 pub fn finding_text(alloc: Global, finding: &Finding) -> Result<Vec<u8>, AllocError>
     ensures { IfOk result (λ text. text.items ≡ finding_text finding.now) }
 {
@@ -19,7 +19,7 @@ pub fn finding_text(alloc: Global, finding: &Finding) -> Result<Vec<u8>, AllocEr
     Ok(text)
 }
 
-/// The line that says how many classes are too many.
+/// Returns the line that states the number of classes if there are too many.
 pub fn classes_line(alloc: Global, count: u128) -> Result<Vec<u8>, AllocError>
     ensures { IfOk result (λ line. line.items ≡ classes_line count) }
 {
@@ -72,10 +72,17 @@ fn push_some(text: &mut Vec<u8>, packet: Option<Packet>) -> Result<(), AllocErro
 fn push_packet(text: &mut Vec<u8>, packet: Packet) -> Result<(), AllocError>
     ensures { OnOk result (text.new.items ≡ text.old.items ++ packet_line packet) }
 {
+    push_packet_text(text, packet)?;
+    text.extend_from_slice(b"\n")
+}
+
+/// Appends a packet as a line of an event file, without a newline.
+pub fn push_packet_text(text: &mut Vec<u8>, packet: Packet) -> Result<(), AllocError>
+    ensures { OnOk result (text.new.items ≡ text.old.items ++ packet_text packet) }
+{
     text.extend_from_slice(b"packet")?;
     push_addresses(text, packet)?;
-    push_numbers(text, packet)?;
-    text.extend_from_slice(b"\n")
+    push_numbers(text, packet)
 }
 
 fn push_addresses(text: &mut Vec<u8>, packet: Packet) -> Result<(), AllocError>
@@ -98,8 +105,9 @@ fn push_numbers(text: &mut Vec<u8>, packet: Packet) -> Result<(), AllocError>
     push_number(text, packet.dport as u32)
 }
 
+/// Appends an address in dotted form.
 #[tactic(auto, unfolding(host_net::specs::Prefix::address_text))]
-fn push_address(text: &mut Vec<u8>, address: u32) -> Result<(), AllocError>
+pub fn push_address(text: &mut Vec<u8>, address: u32) -> Result<(), AllocError>
     ensures { OnOk result (text.new.items ≡ text.old.items ++ address_text address) }
 {
     push_number(text, octet(address, 24))?;

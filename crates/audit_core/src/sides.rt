@@ -1,4 +1,4 @@
-//! The two sides that are compared: what rules do, and what a policy expects.
+//! The two sides that are compared: the verdicts of rules, and the decisions of a policy.
 
 ghost use Rattle.std.specs.Prelude.{◌≡◌};
 ghost use Rattle.pkt_core.specs.inner.FlowPolicy.{IsFlowPolicy};
@@ -11,7 +11,7 @@ use crate::text::Text;
 use pkt_core::FlowPolicy;
 use std::marker::Model;
 
-/// A policy between hosts, and the rules that are to do what it says.
+/// A policy between hosts, and the rules that should implement it.
 #[derive(Drop)]
 pub(crate) struct Sides<'a> {
     pub(crate) policy: &'a FlowPolicy<'a>,
@@ -37,8 +37,7 @@ impl<'a> Sides<'a> {
         ensures policy { IsFlowPolicy policy.now }
         ensures gives { GivesOne (filter_of (rules_of text.entry)) }
     {
-        // What holds of a policy at all times, and that a packet passes or does not, is known by
-        // these calls.
+        // These calls make known the invariant of a policy, and that a packet passes or does not.
         let (_count, _rules) = (policy.count(), text.rules());
         Sides { policy, text }
     }

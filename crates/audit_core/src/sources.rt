@@ -1,21 +1,20 @@
-//! The sources of an owner whose packets differ, with the rules for their packets alone.
+//! The sources of an owner whose packets differ, with the rules for only these packets.
 
 ghost use Rattle.std.specs.Prelude.{◌≡◌, ◌∷◌, [], IfOk, IfSome};
 ghost use Rattle.std.specs.List.{All};
 ghost use Rattle.audit_core.specs.Sides.{Sides};
-ghost use Rattle.audit_core.specs.inner.Pairs.{AreSources, DiffersSo, HoldsOf, IsFoundBetween, IsFoundFrom, IsOwned, IsRange, IsSender, IsSource, HasRange, SaysWhether, every_address, ranges_in};
+ghost use Rattle.header_space.specs.Owners.{IsOwned, IsRange};
+ghost use Rattle.audit_core.specs.inner.Pairs.{AreSources, DiffersSo, HoldsOf, ImprovesBetween, IsFoundBetween, IsSender, IsSource, HasRange, SaysWhether, every_address, ranges_in};
 
-use crate::between::{box_between, find_from};
+use crate::between::find_from;
 use crate::difference::Direction;
 use crate::list_end::{Ends, ListEnd};
-use crate::named::AddressRange;
-use crate::owners::Owned;
 use crate::sides::Sides;
-use header_space::least_where;
+use header_space::{AddressRange, Owned, box_between, least_where};
 use host_net::Packet;
 use std::alloc::{AllocError, Global};
 
-/// A range of sources, and the two sides for their packets.
+/// A range of sources, and the two sides for the packets from it.
 #[derive(Drop)]
 pub(crate) struct Source<'a> {
     pub(crate) range: AddressRange,
@@ -87,27 +86,30 @@ impl<'a> Source<'a> {
         Ok(found.is_some())
     }
 
-    /// Returns a packet from the range to one of the others that differs in that direction, if there is one.
+    /// Returns the first packet from the range to one of the others that differs in that direction, if it
+    /// comes before the one found so far. Otherwise returns the one found so far.
     fn find(
         &self,
         alloc: Global,
         direction: Option<Direction>,
         to: &[AddressRange],
+        found: Option<Packet>,
     ) -> Result<Option<Packet>, AllocError>
         requires from { HasRange self.now }
         requires to { All IsRange to.now }
-        ensures { IfOk result (IsFoundFrom (HoldsOf self.now.ends direction) self.now.range to.now) }
+        ensures { IfOk result (ImprovesBetween (HoldsOf self.now.ends direction) (self.now.range ∷ []) to.now found) }
     {
         let question = ListEnd {
             ends: self.ends.by_ref(),
             direction,
         };
-        find_from(alloc, &question, self.range, to)
+        find_from(alloc, &question, self.range, to, found)
     }
 }
 
 impl<'a> Sender<'a> {
-    /// Returns a packet from the owner to one of the ranges that differs in that direction, if there is one.
+    /// Returns the first packet from the owner to one of the ranges that differs in that direction, if there
+    /// is one.
     pub(crate) fn find(
         &self,
         alloc: Global,
@@ -119,13 +121,11 @@ impl<'a> Sender<'a> {
         ensures { IfOk result (λ found. (sides : Sides) → All (IsSource sides) self.now.sources.items →
             IsFoundBetween (DiffersSo sides direction) (ranges_in self.now.sources.items) to.now found) }
     {
+        let mut found = None;
         for source in &self.sources {
-            let found = source.find(alloc, direction, to)?;
-            if found.is_some() {
-                return Ok(found);
-            }
+            found = source.find(alloc, direction, to, found)?;
         }
-        Ok(None)
+        Ok(found)
     }
 }
 

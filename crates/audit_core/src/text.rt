@@ -1,4 +1,4 @@
-//! The rules that are audited: those of a packet filter, or those of a switch.
+//! The rules that are audited: the rules of a packet filter or of a switch.
 
 ghost use Rattle.std.specs.Prelude.{◌≡◌, IfOk, IfSome};
 ghost use Rattle.host_net.specs.declared.packet.Packet.{Packet};
@@ -14,17 +14,17 @@ use ipt_rules::{Ruleset, Slice};
 use ofp_rules::{Frame, Table};
 use std::alloc::{AllocError, Global};
 
-/// A rules text, as what it says.
+/// The parsed rules of an input.
 #[derive(Clone, Copy)]
 pub enum Text<'a> {
-    /// Chains of iptables. Packets that are forwarded run through FORWARD.
+    /// Chains of iptables. Forwarded packets traverse FORWARD.
     Ipt(&'a Ruleset),
-    /// A flow table of OpenFlow. It looks at no connections.
+    /// A flow table of OpenFlow. It does not track connections.
     Ofp(&'a Table),
 }
 
 impl<'a> Text<'a> {
-    /// Whether it lets a packet pass in a state.
+    /// Whether the rules forward a packet in a state.
     pub fn passes(&self, packet: &Packet, state: CtState) -> bool
         ensures { filter_of (rules_of self.now) state packet.now result }
     {
@@ -34,8 +34,8 @@ impl<'a> Text<'a> {
         }
     }
 
-    /// Whether it lets the packets of a box pass in a state. The box is narrowed, so that this is so for all
-    /// packets that it has then.
+    /// Whether the rules forward the packets of a box in a state. The box is narrowed to packets with the
+    /// same result.
     pub fn passes_within(&self, within: &mut PacketBox, state: CtState) -> bool
         requires { IsBox within.old }
         ensures part { Narrows within.old within.new }
@@ -47,7 +47,7 @@ impl<'a> Text<'a> {
         }
     }
 
-    /// Returns the slice of the rules for the packets of a box, if there is one that is worth its cost.
+    /// Returns the slice of the rules for the packets of a box, if there is a slice that is worth its cost.
     pub fn slice(&self, alloc: Global, within: &PacketBox) -> Result<Option<Slice>, AllocError>
         ensures { IfOk result (λ slice. IfSome slice (λ chains. HaveSameVerdicts within.now (rules_of self.now) (Chains chains))) }
     {
@@ -57,7 +57,7 @@ impl<'a> Text<'a> {
         }
     }
 
-    /// How many rules it has. Whatever they are, a packet passes in a state or does not.
+    /// Returns the number of rules. For any rules, a packet passes in a state or does not.
     pub fn rules(&self) -> u32
         ensures gives { GivesOne (filter_of (rules_of self.now)) }
     {

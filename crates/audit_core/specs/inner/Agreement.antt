@@ -1,5 +1,5 @@
--- The three short lists at a packet, that a filter and a policy agree on them, and what a filter says of a packet for this. Callers see none of
--- it; they have `Agreement`.
+-- The three short lists at a packet, agreement of a filter and a policy on them, and the condition on the verdicts of the filter. Callers
+-- use `Agreement` instead.
 use Rattle.std.specs.Prelude.{◌≡◌, Bool, ◌||◌, IsTrue, List, [], ◌∷◌}
 use Rattle.host_net.specs.declared.packet.Packet.{Packet}
 use Rattle.host_net.specs.declared.packet.CtState.{CtState}
@@ -10,7 +10,7 @@ use Rattle.pkt_core.specs.declared.event.Event.TheVariants.{Seen}
 use Rattle.pkt_core.specs.Firewall.{Filter, may_pass}
 use Rattle.audit_core.specs.Agreement.{AgreeOn}
 
--- the three lists at a packet: it alone, it behind its swap, it behind itself and its swap
+-- The three lists at a packet: the packet only, the packet after its swap, and the packet after itself and its swap.
 abbrev pub alone : Packet → List Event
 alone p = Seen p ∷ []
 
@@ -20,23 +20,23 @@ behind_swap p = Seen (swap_of p) ∷ Seen p ∷ []
 abbrev pub behind_both : Packet → List Event
 behind_both p = Seen p ∷ Seen (swap_of p) ∷ Seen p ∷ []
 
--- they agree on the three lists at a packet
+-- The filter and the policy agree on the three lists at a packet.
 pub record AgreeAt (filter : Filter) (permitted stateful : Packet → Bool) (p : Packet) : Type 0 where
   pub first : AgreeOn filter permitted stateful (alone p)
   pub second : AgreeOn filter permitted stateful (behind_swap p)
   pub third : AgreeOn filter permitted stateful (behind_both p)
 
--- what the filter says of a packet is what the policy says: in the state New always, and in the state Established where the packet or its
--- swap is permitted, since no other packet comes into this state
+-- The filter has the verdict of the policy on the packet: always in the state New, and in the state Established if the packet or its swap
+-- is permitted, because no other packet enters this state.
 pub record IsJudged (filter : Filter) (permitted stateful : Packet → Bool) (p : Packet) : Type 0 where
   pub new : (passes : Bool) → filter New p passes → passes ≡ may_pass permitted stateful New p
   pub established : IsTrue (permitted p || permitted (swap_of p)) → (passes : Bool) → filter Established p passes
       → passes ≡ may_pass permitted stateful Established p
 
--- every known packet passes or does not, in each state
+-- Every known packet passes or does not pass, in each state.
 abbrev pub GivesVerdicts : Filter → (Packet → Type 0) → Type 0
 GivesVerdicts filter Known = (state : CtState) (p : Packet) → Known p → (passes : Bool) × filter state p passes
 
--- the swap of a known packet is known
+-- The swap of a known packet is known.
 abbrev pub SwapsKnown : (Packet → Type 0) → Type 0
 SwapsKnown Known = (p : Packet) → Known p → Known (swap_of p)

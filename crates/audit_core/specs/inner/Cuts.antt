@@ -1,9 +1,9 @@
--- Packets that no cut parts.
+-- Packets that no cut separates.
 use Rattle.host_net.specs.declared.packet.Packet.{Packet}
 use Rattle.audit_core.specs.inner.Ranges.{AreOneProtocol, AreTogether}
 use Rattle.audit_core.specs.Cuts.{Cuts}
 
--- two packets of one class
+-- The two packets belong to one class.
 pub record AreOneClass (cuts : Cuts) (p q : Packet) : Type 0 where
   pub src : AreTogether cuts.addresses p.src q.src
   pub dst : AreTogether cuts.addresses p.dst q.dst

@@ -1,5 +1,4 @@
--- What is asked of one packet: the verdict on it in the state in which it comes at the end of its list of a kind. Callers see none of it;
--- they have `Findings`.
+-- The condition on a packet: the verdict on it in its state at the end of its list of a kind. Callers use `Findings` instead.
 use Rattle.std.specs.Prelude.{◌≡◌, ◌≢◌, Bool, true, IsTrue}
 use Rattle.host_net.specs.declared.packet.Packet.{Packet}
 use Rattle.host_net.specs.declared.packet.CtState.{CtState}
@@ -16,24 +15,25 @@ state_in Alone = New
 state_in BehindSwap = Established
 state_in BehindBoth = Established
 
--- behind its swap the packet is established where its swap is permitted, and behind itself and its swap where it is permitted itself
+-- The condition applies to the packet in the list of that kind. After its swap the packet is established if the swap is permitted; after
+-- itself and its swap, if the packet is permitted.
 abbrev pub is_asked : (Packet → Bool) → Kind → Packet → Bool
 is_asked permitted Alone p = true
 is_asked permitted BehindSwap p = permitted (swap_of p)
 is_asked permitted BehindBoth p = permitted p
 
--- where it is asked, the filter says what the policy says
+-- If the condition applies, the filter has the verdict of the policy.
 abbrev pub IsRight : Filter → (permitted stateful : Packet → Bool) → Kind → Packet → Type 0
 IsRight filter permitted stateful kind p =
     IsTrue (is_asked permitted kind p) → (passes : Bool) → filter (state_in kind) p passes → passes ≡ may_pass permitted stateful (state_in kind) p
 
--- it is asked, and the filter says this, which the policy does not
+-- The condition applies, and the filter has this verdict, which is not the verdict of the policy.
 pub record IsWrongIn (filter : Filter) (permitted stateful : Packet → Bool) (kind : Kind) (p : Packet) (passes : Bool) : Type 0 where
   pub asked : IsTrue (is_asked permitted kind p)
   pub said : filter (state_in kind) p passes
   pub wrong : passes ≢ may_pass permitted stateful (state_in kind) p
 
--- the same of two sides
+-- The same for two sides.
 abbrev pub Right : Sides → Kind → Packet → Type 0
 Right sides = IsRight (filter_of sides.rules) (permits sides) (lets_answer sides)
 

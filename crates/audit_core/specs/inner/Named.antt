@@ -1,10 +1,10 @@
--- What the code's lists have of the parts that are named. Callers see none of it; they have `Cuts`.
+-- The parts in the lists of the code. Callers use `Cuts` instead.
 use Rattle.std.specs.Prelude.{◌≡◌, ◌↔◌, List, [], ◌∷◌, ◌++◌}
 use Rattle.std.specs.List.{Contains, flat_map}
 use Rattle.host_net.specs.PrefixView.{first_address, last_address}
 use Rattle.audit_core.specs.declared.named.Found.{Found}
 use Rattle.audit_core.specs.declared.named.PortRange.{PortRange}
-use Rattle.audit_core.specs.declared.named.AddressRange.{AddressRange}
+use Rattle.header_space.specs.declared.address_range.AddressRange.{AddressRange}
 use Rattle.audit_core.specs.Cuts.{named_protocols}
 use Rattle.audit_core.specs.Parts.{Part, Addresses, Protocol, Ports}
 
@@ -18,23 +18,23 @@ port_ranges (Addresses prefix) = []
 port_ranges (Protocol n) = []
 port_ranges (Ports low high) = record { low = low; high = high } ∷ []
 
--- the lists have these parts, in their order
+-- The lists have these parts, in order.
 pub record IsNamedBy (parts : List Part) (found : Found) : Type 0 where
   pub addresses : found.addresses.items ≡ flat_map address_ranges parts
   pub protocols : found.protocols.items ≡ flat_map named_protocols parts
   pub ports : found.ports.items ≡ flat_map port_ranges parts
 
--- they have these parts behind the others
+-- The new lists are the old lists with these parts appended.
 pub record AreMore (parts : List Part) (old new : Found) : Type 0 where
   pub addresses : new.addresses.items ≡ old.addresses.items ++ flat_map address_ranges parts
   pub protocols : new.protocols.items ≡ old.protocols.items ++ flat_map named_protocols parts
   pub ports : new.ports.items ≡ old.ports.items ++ flat_map port_ranges parts
 
--- two lists have the same elements, be it once or more often
+-- The two lists have the same elements, with any multiplicity.
 abbrev pub HaveSame : {X : Type 0} → List X → List X → Type 0
 HaveSame {X} xs ys = (x : X) → Contains xs x ↔ Contains ys x
 
--- and so they name the same
+-- The two values name the same parts.
 pub record NameSame (found less : Found) : Type 0 where
   pub addresses : HaveSame found.addresses.items less.addresses.items
   pub protocols : HaveSame found.protocols.items less.protocols.items

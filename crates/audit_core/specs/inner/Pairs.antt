@@ -1,26 +1,28 @@
--- Parts of the comparison by pairs: ranges of addresses with one owner, and what rules do at the end of a list. Callers see none of it; they
--- have `Pairs`.
-use Rattle.std.specs.Prelude.{◌≡◌, ◌≢◌, ◌↔◌, ◌⊎◌, ℕ, ◌<◌, ◌≤◌, ◌^◌, Bool, ◌||◌, IsTrue, if◌then◌else◌, ◌++◌, List, [], ◌∷◌, Option, Some, None, map}
+-- Parts of the comparison by pairs: the verdict of the rules at the end of a list, and the search between ranges of addresses. Callers use
+-- `Pairs` instead.
+use Rattle.std.specs.Prelude.{◌≡◌, ◌≢◌, ◌↔◌, ◌⊎◌, ℕ, Bool, ◌||◌, IsTrue, if◌then◌else◌, ◌++◌, List, [], ◌∷◌, Option, Some, None, map}
 use Rattle.std.specs.List.{All}
 use Rattle.host_net.specs.declared.packet.Packet.{Packet}
 use Rattle.host_net.specs.declared.packet.CtState.{CtState}
 use Rattle.host_net.specs.declared.packet.CtState.TheVariants.{New, Established}
-use Rattle.host_net.specs.Host.{Host, owner_of}
+use Rattle.host_net.specs.Host.{owner_of}
 use Rattle.host_net.specs.Packet.{IsPacket, swap_of}
 use Rattle.header_space.specs.declared.packet_box.PacketBox.{PacketBox}
 use Rattle.header_space.specs.Boxes.{IsIn}
+use Rattle.header_space.specs.Order.{ComesBefore}
+use Rattle.header_space.specs.Owners.{GoesBetween, IsRange, LiesIn, LiesInOne}
+use Rattle.header_space.specs.inner.Splitting.{IsEarlier}
 use Rattle.pkt_core.specs.Firewall.{may_pass}
 use Rattle.audit_core.specs.declared.difference.Difference.{Difference}
 use Rattle.audit_core.specs.declared.difference.Direction.{Direction}
 use Rattle.audit_core.specs.declared.kind.Kind.{Kind}
 use Rattle.audit_core.specs.declared.kind.Kind.TheVariants.{Alone, BehindSwap, BehindBoth}
 use Rattle.audit_core.specs.declared.list_end.Ends.{Ends}
-use Rattle.audit_core.specs.declared.named.AddressRange.{AddressRange}
-use Rattle.audit_core.specs.declared.owners.Owned.{Owned}
+use Rattle.header_space.specs.declared.address_range.AddressRange.{AddressRange}
 use Rattle.audit_core.specs.declared.sources.Sender.{Sender}
 use Rattle.audit_core.specs.declared.sources.Source.{Source}
 use Rattle.audit_core.specs.inner.Judging.{state_in}
-use Rattle.audit_core.specs.Pairs.{Case, AreListedFor, DiffersAt, owners_of}
+use Rattle.audit_core.specs.Pairs.{Case, AreListedFor, DiffersAt}
 use Rattle.audit_core.specs.Rules.{Rules, filter_of}
 use Rattle.audit_core.specs.Sides.{Sides, lets_answer, permits}
 
@@ -30,7 +32,7 @@ use Rattle.audit_core.specs.Sides.{Sides, lets_answer, permits}
 abbrev pub state_after : Bool → CtState
 state_after passed = if passed then Established else New
 
--- Rules for packets, with rules for their swaps, forward p at the end of the list of that kind, or drop it.
+-- The rules for packets, together with the rules for their swaps, forward p at the end of the list of that kind, or drop it.
 abbrev pub EndsBy : Rules → Rules → Kind → Packet → Bool → Type 0
 EndsBy rules swaps Alone p passes = filter_of rules New p passes
 EndsBy rules swaps BehindSwap p passes =
@@ -42,12 +44,12 @@ EndsBy rules swaps BehindBoth p passes = (first : Bool) × filter_of rules New p
 abbrev pub expected_at : Sides → Kind → Packet → Bool
 expected_at sides kind p = may_pass (permits sides) (lets_answer sides) (state_in kind) p
 
--- The rules do this with p at the end of the list of that kind, and the policy expects the opposite.
+-- The rules forward or drop p in this way at the end of the list of that kind, and the policy expects the opposite.
 pub record DiffersBy (e : Ends) (kind : Kind) (p : Packet) (forwards : Bool) : Type 0 where
   pub ends : EndsBy e.part.rules e.swaps.rules kind p forwards
   pub other : forwards ≢ expected_at e.part kind p
 
--- The rules differ at p in that direction, or in any.
+-- The rules differ from the policy at p in that direction, or in any direction.
 abbrev pub HoldsOf : Ends → Option Direction → Packet → Type 0
 HoldsOf e None p = (kind : Kind) × (forwards : Bool) × DiffersBy e kind p forwards
 HoldsOf e (Some direction) p = DiffersBy e direction.kind p direction.forwards
@@ -60,7 +62,7 @@ HaveSameEnds b e f = (p : Packet) → IsIn b p → (direction : Option Direction
 abbrev pub IsDifferent : Sides → Packet → Type 0
 IsDifferent sides p = (kind : Kind) × (forwards : Bool) × DiffersAt sides kind p forwards
 
--- The two sides differ at p in that direction, or in any.
+-- The two sides differ at p in that direction, or in any direction.
 abbrev pub DiffersSo : Sides → Option Direction → Packet → Type 0
 DiffersSo sides None p = IsDifferent sides p
 DiffersSo sides (Some direction) p = DiffersAt sides direction.kind p direction.forwards
@@ -69,60 +71,41 @@ DiffersSo sides (Some direction) p = DiffersAt sides direction.kind p direction.
 abbrev pub AreSame : Sides → Type 0
 AreSame sides = (p : Packet) → IsPacket p → IsDifferent sides p → ⊥
 
--- ---- Ranges of addresses
+-- ---- Packets between ranges
 
--- The address lies in the range.
-abbrev pub Lies : AddressRange → ℕ → Type 0
-Lies range a = (range.first ≤ a) × (a ≤ range.last)
-
--- The address lies in one of the ranges.
-abbrev pub IsCovered : List AddressRange → ℕ → Type 0
-IsCovered [] a = ⊥
-IsCovered (range ∷ ranges) a = Lies range a ⊎ IsCovered ranges a
-
--- The range has addresses.
-abbrev pub IsRange : AddressRange → Type 0
-IsRange range = range.first ≤ range.last
-
+-- The range of all addresses.
 abbrev pub every_address : AddressRange
 every_address = record { first = 0; last = 4294967295 }
 
--- All addresses of the range belong to the owner.
-pub record IsRangeOf (hosts : List Host) (owner : Option ℕ) (range : AddressRange) : Type 0 where
-  pub some : IsRange range
-  pub owned : (a : ℕ) → Lies range a → owner_of hosts a ≡ owner
+-- Packet p goes between the ranges and has the property. No packet between the ranges that has it comes before p.
+pub record IsFirstBetween (Holds : Packet → Type 0) (from to : List AddressRange) (p : Packet) : Type 0 where
+  pub goes : GoesBetween from to p
+  pub holds : Holds p
+  pub first : (q : Packet) → GoesBetween from to q → ComesBefore q p → Holds q → ⊥
 
--- The ranges have the addresses of the owner, and no others.
-pub record HaveAddresses (hosts : List Host) (owner : Option ℕ) (ranges : List AddressRange) : Type 0 where
-  pub owned : All (IsRangeOf hosts owner) ranges
-  pub covered : (a : ℕ) → a < 2 ^ 32 → owner_of hosts a ≡ owner → IsCovered ranges a
-
-abbrev pub IsOwned : List Host → Owned → Type 0
-IsOwned hosts x = HaveAddresses hosts x.owner x.ranges.items
-
-abbrev pub HasRanges : Owned → Type 0
-HasRanges x = All IsRange x.ranges.items
-
--- Each owner has its ranges, in the order of the owners.
-pub record AreOwned (hosts : List Host) (owned : List Owned) : Type 0 where
-  pub owners : map (λ x. x.owner) owned ≡ owners_of hosts
-  pub each : All (IsOwned hosts) owned
-
--- ---- Packets between ranges
-
--- The packet goes from one of the ranges to one of the others.
-pub record GoesBetween (from to : List AddressRange) (p : Packet) : Type 0 where
-  pub packet : IsPacket p
-  pub src : IsCovered from p.src
-  pub dst : IsCovered to p.dst
-
--- A packet between the ranges of which it holds; None if it holds of none.
+-- The result is the first packet between the ranges with the property, or `None` if no packet between them has it.
 abbrev pub IsFoundBetween : (Packet → Type 0) → (from to : List AddressRange) → Option Packet → Type 0
 IsFoundBetween Holds from to None = (p : Packet) → GoesBetween from to p → Holds p → ⊥
-IsFoundBetween Holds from to (Some p) = GoesBetween from to p × Holds p
+IsFoundBetween Holds from to (Some p) = IsFirstBetween Holds from to p
 
-abbrev pub IsFoundFrom : (Packet → Type 0) → AddressRange → List AddressRange → Option Packet → Type 0
-IsFoundFrom Holds from to found = IsFoundBetween Holds (from ∷ []) to found
+-- The new result is a packet between the ranges that has the property and comes before the old result.
+pub record FindsBetween (Holds : Packet → Type 0) (from to : List AddressRange) (old new : Option Packet) : Type 0 where
+  pub packet : Packet
+  pub is : new ≡ Some packet
+  pub goes : GoesBetween from to packet
+  pub holds : Holds packet
+  pub earlier : IsEarlier packet old
+
+-- After the search between the ranges, no packet between them that has the property comes before the result.
+pub record ImprovesBetween (Holds : Packet → Type 0) (from to : List AddressRange) (old new : Option Packet) : Type 0 where
+  pub found : (new ≡ old) ⊎ FindsBetween Holds from to old new
+  pub none : (q : Packet) → GoesBetween from to q → Holds q → IsEarlier q new → ⊥
+
+-- The part is a subrange of the range. It contains the sources of all packets from the range that come before the result found so far.
+pub record IsPartBefore (range : AddressRange) (found : Option Packet) (part : AddressRange) : Type 0 where
+  pub some : IsRange part
+  pub within : (a : ℕ) → LiesIn part a → LiesIn range a
+  pub earlier : (q : Packet) → LiesIn range q.src → IsEarlier q found → LiesIn part q.src
 
 -- ---- Sources
 
@@ -132,30 +115,30 @@ ranges_in sources = map (λ s. s.range) sources
 abbrev pub HasRange : Source → Type 0
 HasRange s = IsRange s.range
 
--- The source has addresses, and differs at the packets from them at which the two sides do.
+-- The range of the source is not empty, and the source differs at exactly the packets from it at which the two sides differ.
 pub record IsSource (sides : Sides) (s : Source) : Type 0 where
   pub some : HasRange s
-  pub same : (direction : Option Direction) (p : Packet) → IsPacket p → Lies s.range p.src → (HoldsOf s.ends direction p ↔ DiffersSo sides direction p)
+  pub same : (direction : Option Direction) (p : Packet) → IsPacket p → LiesIn s.range p.src → (HoldsOf s.ends direction p ↔ DiffersSo sides direction p)
 
--- The answer is true if the source differs at some packet from its range.
+-- If the source differs at some packet from its range, the answer is true.
 abbrev pub SaysWhether : Source → Bool → Type 0
-SaysWhether s answer = (p : Packet) → IsPacket p → Lies s.range p.src → HoldsOf s.ends None p → IsTrue answer
+SaysWhether s answer = (p : Packet) → IsPacket p → LiesIn s.range p.src → HoldsOf s.ends None p → IsTrue answer
 
--- The sources lie in the ranges, and have the addresses in them from which some packet differs.
+-- The sources are within the ranges. They contain each address in the ranges from which some packet differs.
 pub record AreSources (sides : Sides) (ranges : List AddressRange) (sources : List Source) : Type 0 where
   pub each : All (IsSource sides) sources
-  pub within : (a : ℕ) → IsCovered (ranges_in sources) a → IsCovered ranges a
-  pub covered : (p : Packet) → IsPacket p → IsCovered ranges p.src → IsDifferent sides p → IsCovered (ranges_in sources) p.src
+  pub within : (a : ℕ) → LiesInOne (ranges_in sources) a → LiesInOne ranges a
+  pub covered : (p : Packet) → IsPacket p → LiesInOne ranges p.src → IsDifferent sides p → LiesInOne (ranges_in sources) p.src
 
--- The sources belong to the owner, and have its addresses from which some packet differs.
+-- The sources belong to the owner. They contain each of its addresses from which some packet differs.
 pub record IsSender (sides : Sides) (s : Sender) : Type 0 where
   pub each : All (IsSource sides) s.sources.items
-  pub owned : (a : ℕ) → IsCovered (ranges_in s.sources.items) a → owner_of sides.site.hosts a ≡ s.owner
+  pub owned : (a : ℕ) → LiesInOne (ranges_in s.sources.items) a → owner_of sides.site.hosts a ≡ s.owner
   pub covered : (p : Packet) → IsPacket p → owner_of sides.site.hosts p.src ≡ s.owner → IsDifferent sides p
-      → IsCovered (ranges_in s.sources.items) p.src
+      → LiesInOne (ranges_in s.sources.items) p.src
 
 -- ---- Lists of differences
 
--- What is listed for the cases is added to the list.
+-- The new list is the old list with the lists for the cases appended.
 abbrev pub AreAdded : Sides → List Case → (old new : List Difference) → Type 0
 AreAdded sides cs old new = (ds : List Difference) × (new ≡ old ++ ds) × AreListedFor sides cs ds

@@ -1,9 +1,9 @@
 -- The representatives of classes ascend.
 use Rattle.audit_core.specs.inner.Classes.{Rises}
-use Rattle.audit_core.specs.Places.{Leasts}
+use Rattle.audit_core.specs.Places.{Representatives}
 
 -- The addresses, the protocols and the ports ascend.
-pub record AreLeasts (l : Leasts) : Type 0 where
+pub record AreRepresentatives (l : Representatives) : Type 0 where
   pub addresses : Rises l.addresses
   pub protocols : Rises l.protocols
   pub ports : Rises l.ports

@@ -1,4 +1,4 @@
--- That the two sides agree on the short lists at a packet, and on every list. Callers see none of it; they have `Sides`.
+-- Agreement of the two sides on the short lists at a packet, and on every list. Callers use `Sides` instead.
 use Rattle.std.specs.Prelude.{List}
 use Rattle.host_net.specs.declared.packet.Packet.{Packet}
 use Rattle.pkt_core.specs.declared.event.Event.{Event}
@@ -7,10 +7,10 @@ use Rattle.audit_core.specs.inner.Agreement.{AgreeAt}
 use Rattle.audit_core.specs.Rules.{filter_of}
 use Rattle.audit_core.specs.Sides.{Agree, Sides, lets_answer, permits}
 
--- they agree on the three short lists at a packet
+-- The two sides agree on the three short lists at a packet.
 abbrev pub AgreeShortly : Sides → Packet → Type 0
 AgreeShortly sides = AgreeAt (filter_of sides.rules) (permits sides) (lets_answer sides)
 
--- they agree on every list of events of packets
+-- The two sides agree on every list of events with valid packets.
 abbrev pub AgreeAlways : Sides → Type 0
 AgreeAlways sides = (events : List Event) → ArePackets events → Agree sides events

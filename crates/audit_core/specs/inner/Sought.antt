@@ -1,4 +1,4 @@
--- What a search through all packets answers. Callers see none of it; they have `Findings`.
+-- The result of a search through all packets. Callers use `Findings` instead.
 use Rattle.std.specs.Prelude.{◌≡◌, ◌<◌, Option, Some, None}
 use Rattle.host_net.specs.declared.packet.Packet.{Packet}
 use Rattle.host_net.specs.Packet.{IsPacket}
@@ -11,11 +11,11 @@ use Rattle.header_space.specs.Order.{ComesBefore}
 use Rattle.audit_core.specs.inner.Judging.{Right, Wrong}
 use Rattle.audit_core.specs.Sides.{Sides}
 
--- the rules are right about all packets
+-- The rules are right about all packets.
 abbrev pub AreRight : Sides → Kind → Type 0
 AreRight sides kind = (p : Packet) → IsPacket p → Right sides kind p
 
--- they are wrong about a packet, and right about all packets before it
+-- The rules are wrong about a packet, and right about all packets before it.
 pub record IsLeastFault (sides : Sides) (kind : Kind) (trace : Trace) : Type 0 where
   pub at : Packet
   pub packet : IsPacket at
@@ -23,7 +23,7 @@ pub record IsLeastFault (sides : Sides) (kind : Kind) (trace : Trace) : Type 0 w
   pub wrong : Wrong sides kind at trace.forwards
   pub first : (p : Packet) → IsPacket p → ComesBefore p at → Right sides kind p
 
--- what is found of one kind
+-- The result is correct for one kind.
 abbrev pub IsFaultOf : Sides → Kind → Option Trace → Type 0
 IsFaultOf sides kind None = AreRight sides kind
 IsFaultOf sides kind (Some trace) = IsLeastFault sides kind trace
@@ -33,7 +33,7 @@ pub record IsFirstKind (sides : Sides) (trace : Trace) : Type 0 where
   pub least : IsLeastFault sides kind trace
   pub earlier : (k : Kind) → place_of k < place_of kind → AreRight sides k
 
--- what is found of all kinds
+-- The finding is correct for all kinds.
 abbrev pub IsSought : Sides → Finding → Type 0
 IsSought sides Equal = (kind : Kind) → AreRight sides kind
 IsSought sides (Differing trace) = IsFirstKind sides trace

@@ -1,4 +1,4 @@
--- What is found is equal exactly where the two sides differ on no list of events.
+-- A finding is `Equal` iff the two sides differ on no list of events.
 use Rattle.std.proofs.Common.{◌≡◌, ◌↔◌, ℕ, zero, suc, Bool, [], Some, refl, sym, subst}
 use Rattle.host_net.specs.declared.packet.Packet.{Packet}
 use Rattle.host_net.specs.Packet.{IsPacket, swap_of}
@@ -17,7 +17,7 @@ use Rattle.audit_core.specs.laws.ListLaws.{agree_not_differ}
 use Rattle.audit_core.specs.Rules.{filter_of}
 use Rattle.audit_core.specs.Sides.{Sides, lets_answer, permits}
 
--- the swap of a packet is one
+-- The swap of a packet is a packet.
 pub swaps_known : SwapsKnown IsPacket
 swaps_known p is = (is.1, is.0, is.2, is.4, is.3)
 
@@ -27,7 +27,7 @@ seen_is q p h = cc
 none_there : (k : ℕ) (p : Packet) → SeenAt [] k p → ⊥
 none_there k p h = cc
 
--- what is seen in the events of a trace are packets
+-- The packets of a trace are valid packets.
 pub trace_packets : (kind : Kind) (q : Packet) (f : Bool) → IsPacket q → ArePackets (events_of (trace_of kind q f))
 trace_packets Alone q f known zero p there = subst IsPacket (seen_is q p there) known
 trace_packets Alone q f known (suc k) p there = absurd (none_there k p there)
@@ -39,7 +39,7 @@ trace_packets BehindBoth q f known (suc zero) p there = subst IsPacket (seen_is 
 trace_packets BehindBoth q f known (suc (suc zero)) p there = subst IsPacket (seen_is q p there) known
 trace_packets BehindBoth q f known (suc (suc (suc k))) p there = absurd (none_there k p there)
 
--- what is found is equal exactly where the two sides differ on no list of events
+-- A finding is `Equal` iff the two sides differ on no list of events.
 pub equal_exactly : (sides : Sides) (finding : Finding) → IsFinding sides finding → (finding ≡ Equal) ↔ (DifferSomewhere sides → ⊥)
 equal_exactly sides Equal agree = (
   (λ is differ. agree_not_differ (filter_of sides.rules) (permits sides) (lets_answer sides) differ.0 (agree differ.0 differ.1) differ.2),

@@ -1,4 +1,4 @@
--- Laws of one more packet behind a list of events.
+-- Lemmas on a list of events with one more packet at its end.
 use Rattle.std.proofs.Common.{◌≡◌, ◌↔◌, inl, inr, ℕ, suc, ◌+◌, ◌<◌, ◌≤◌, Bool, IsTrue, List, [], ◌∷◌, ◌++◌, Option, Some, None, length, take, slice_get, refl, sym, ap, subst, ◌∙◌, arith, true≢false, length-append}
 use Rattle.std.proofs.lemmas.List.{take-append-le}
 use Rattle.std.proofs.Math.Seq.{take-append_seam}
@@ -14,7 +14,7 @@ use Rattle.pkt_core.specs.Tracking.{Kept, Runs, after_forget, after_seen, nothin
 use Rattle.audit_core.specs.Agreement.{AgreeOn, DifferOn, IsWrong}
 use Rattle.audit_core.specs.Lists.{DifferBehind}
 
--- the answers of a run are the answer to its first packet and those of a run over the rest
+-- The results of a run are the result for its first packet and the results of a run over the rest.
 pub record BeginsRun (filter : Filter) (kept : Kept) (p : Packet) (events : List Event) (answers : List (Option Bool)) : Type 0 where
   pub passes : Bool
   pub others : List (Option Bool)
@@ -88,7 +88,7 @@ module _ (filter : Filter) where
         apart : (p q : Packet) → Seen p ≡ Forget q → ⊥
         apart p q h = cc
 
-    -- they differ on one more that is not answered as expected
+    -- The filter and the policy differ on one more packet whose result is not the expected result.
     pub differ_more : (past : List Event) (answers : List (Option Bool)) → Runs filter nothing_kept past answers → (p : Packet) (b : Bool)
         → filter (state_of (kept_after nothing_kept past answers) p) p b → IsWrong b (Expected permitted stateful past p)
         → DifferBehind filter permitted stateful past p b
@@ -99,7 +99,7 @@ module _ (filter : Filter) where
       wrong = wrong;
     }
 
-    -- what differs behind a list differs on the list with the packet
+    -- A difference at the end of a list is a difference on the list with the packet.
     pub differ_on : (past : List Event) (p : Packet) (b : Bool) → DifferBehind filter permitted stateful past p b → DifferOn filter permitted stateful (past ++ Seen p ∷ [])
     differ_on past p b behind = record {
       answers = behind.answers ++ Some b ∷ [];
@@ -112,7 +112,7 @@ module _ (filter : Filter) where
       wrong = subst (λ (es : List Event). IsWrong b (Expected permitted stateful es p)) (sym (take-append_seam past (Seen p ∷ []))) behind.wrong;
     }
 
-    -- what agrees does not differ
+    -- Agreement on a list excludes a difference on it.
     pub agree_not_differ : (events : List Event) → AgreeOn filter permitted stateful events → DifferOn filter permitted stateful events → ⊥
     agree_not_differ events agree differ =
         let at = (agree differ.answers differ.run).seen differ.place differ.packet differ.seen in

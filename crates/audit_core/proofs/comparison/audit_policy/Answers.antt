@@ -8,7 +8,7 @@ use Rattle.audit_core.specs.Sides.{Sides, sides_of}
 use Rattle.audit_core.proofs.SoughtLaws.{found_by_sought}
 use Rattle.audit_core.proofs.comparison.audit_policy.Goals as goal
 
--- the two sides that are compared
+-- The two sides that are compared.
 abbrev compared : FlowPolicy → Text → Sides
 compared policy text = sides_of policy.site policy.permitted policy.stateful (rules_of text)
 

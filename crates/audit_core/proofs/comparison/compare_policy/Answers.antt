@@ -14,7 +14,7 @@ use Rattle.std.proofs.lemmas.Result.{IfOk-weaker}
 use Rattle.audit_core.proofs.SoughtLaws.{found_by_sought}
 use Rattle.audit_core.proofs.comparison.compare_policy.Goals as goal
 
--- the two sides that are compared
+-- The two sides that are compared.
 abbrev compared : FlowPolicy → Text → Sides
 compared policy text = sides_of policy.site policy.permitted policy.stateful (rules_of text)
 

@@ -4,6 +4,6 @@ use Rattle.audit_core.specs.inner.Named.{AreMore}
 use Rattle.audit_core.specs.Parts.{Addresses}
 use Rattle.audit_core.proofs.named.push_hosts.Given as goal
 
--- the prefixes of the hosts so far are pushed
+-- The prefixes of the hosts so far are appended.
 abbrev pub invariant-loop-host : goal.invariant-loop-host
 invariant-loop-host l = AreMore (map Addresses (all_prefixes (take l.host l.hosts))) l.fn.found l.found

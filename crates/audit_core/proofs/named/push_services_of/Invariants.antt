@@ -5,7 +5,7 @@ use Rattle.audit_core.specs.inner.Named.{AreMore}
 use Rattle.audit_core.specs.Parts.{service_parts}
 use Rattle.audit_core.proofs.named.push_services_of.Given as goal
 
--- the services of the flows so far are pushed
+-- The services of the flows so far are appended.
 abbrev pub invariant-loop-flow : goal.invariant-loop-flow
 invariant-loop-flow l = record {
   walk : l.yielded ++ l.flow-iterator ≡ l.flows.flows;

@@ -1,12 +1,13 @@
 use Rattle.std.proofs.Common.{ℕ, ◌+◌, ◌∙◌, Option, List, ap, subst, sym, take}
 use Rattle.std.specs.List.{flat_map}
 use Rattle.std.proofs.lemmas.List.{take_all}
-use Rattle.audit_core.specs.declared.owners.Owned.{Owned}
-use Rattle.audit_core.specs.inner.Pairs.{AreAdded, IsOwned}
+use Rattle.header_space.specs.declared.owners.Owned.{Owned}
+use Rattle.header_space.specs.Owners.{IsOwned}
+use Rattle.audit_core.specs.inner.Pairs.{AreAdded}
 use Rattle.audit_core.specs.Pairs.{AreListedFor, Case, cases_between}
 use Rattle.audit_core.proofs.NamedLemmas.{listed_more, take_at}
-use Rattle.audit_core.proofs.OwnedLaws.{cases_are, owned_ranges}
-use Rattle.audit_core.proofs.PairLaws.{listed_step}
+use Rattle.header_space.proofs.OwnersLaws.{owned_ranges}
+use Rattle.audit_core.proofs.PairLaws.{cases_are, listed_step}
 use Rattle.audit_core.proofs.pairs.differences_between.Goals as goal
 
 pub sender-requires : goal.sender-requires

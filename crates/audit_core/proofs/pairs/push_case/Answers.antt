@@ -1,7 +1,7 @@
 use Rattle.std.proofs.Common.{◌∷◌, [], List, Option, Some, subst}
 use Rattle.host_net.specs.declared.packet.Packet.{Packet}
 use Rattle.audit_core.specs.declared.difference.Direction.{Direction}
-use Rattle.audit_core.specs.declared.named.AddressRange.{AddressRange}
+use Rattle.header_space.specs.declared.address_range.AddressRange.{AddressRange}
 use Rattle.audit_core.specs.inner.Pairs.{DiffersSo, IsFoundBetween, ranges_in}
 use Rattle.audit_core.specs.Pairs.{case_of}
 use Rattle.audit_core.proofs.PairLaws.{added_none, listed_one}

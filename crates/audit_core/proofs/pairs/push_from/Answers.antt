@@ -1,8 +1,9 @@
 use Rattle.std.proofs.Common.{◌+◌, List, subst, sym, take}
 use Rattle.std.specs.List.{flat_map}
 use Rattle.std.proofs.lemmas.List.{take_all}
-use Rattle.audit_core.specs.declared.owners.Owned.{Owned}
-use Rattle.audit_core.specs.inner.Pairs.{AreAdded, IsOwned}
+use Rattle.header_space.specs.declared.owners.Owned.{Owned}
+use Rattle.header_space.specs.Owners.{IsOwned}
+use Rattle.audit_core.specs.inner.Pairs.{AreAdded}
 use Rattle.audit_core.specs.Pairs.{Case, cases_between}
 use Rattle.audit_core.proofs.NamedLemmas.{listed_more, take_at}
 use Rattle.audit_core.proofs.PairLaws.{added_step}

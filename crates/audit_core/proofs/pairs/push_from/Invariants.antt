@@ -1,6 +1,7 @@
 use Rattle.std.proofs.Common.{take}
 use Rattle.std.specs.List.{All, flat_map}
-use Rattle.audit_core.specs.inner.Pairs.{AreAdded, IsOwned, IsSender}
+use Rattle.header_space.specs.Owners.{IsOwned}
+use Rattle.audit_core.specs.inner.Pairs.{AreAdded, IsSender}
 use Rattle.audit_core.specs.Pairs.{cases_between}
 use Rattle.audit_core.specs.Sides.{Sides}
 use Rattle.audit_core.proofs.pairs.push_from.Given as goal

@@ -1,5 +1,5 @@
 use Rattle.std.proofs.Common.{List, None, subst}
-use Rattle.audit_core.specs.declared.named.AddressRange.{AddressRange}
+use Rattle.header_space.specs.declared.address_range.AddressRange.{AddressRange}
 use Rattle.audit_core.specs.inner.Pairs.{DiffersSo, IsFoundBetween, ranges_in}
 use Rattle.audit_core.specs.Pairs.{cases_between}
 use Rattle.audit_core.proofs.PairLaws.{added_none, listed_nothing, six_added}

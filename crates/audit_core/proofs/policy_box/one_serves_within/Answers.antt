@@ -5,7 +5,7 @@ use Rattle.host_net.specs.Service.{serves}
 use Rattle.header_space.proofs.BoxLaws.{narrows_in, narrows_then}
 use Rattle.audit_core.proofs.policy_box.one_serves_within.Goals as goal
 
--- what does not serve may be left out
+-- A service that does not serve a packet may be omitted.
 any_later : (f : Service → Bool) (xs : List Service) (i : ℕ) (d : Service) → i < length xs → f (get_or xs i d) ≡ false
     → list_any f (drop i xs) ≡ list_any f (drop (i + 1) xs)
 any_later f xs i d low off =

@@ -1,5 +1,5 @@
 use Rattle.std.proofs.Common.{List, refl, subst}
-use Rattle.audit_core.specs.declared.named.AddressRange.{AddressRange}
+use Rattle.header_space.specs.declared.address_range.AddressRange.{AddressRange}
 use Rattle.audit_core.specs.inner.Pairs.{AreSources}
 use Rattle.audit_core.proofs.SourceLaws.{sender_is}
 use Rattle.audit_core.proofs.sides.Sides.sender.Goals as goal

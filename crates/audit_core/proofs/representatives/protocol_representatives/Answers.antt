@@ -1,7 +1,7 @@
 use Rattle.std.proofs.Common.{true, refl, ◌∙◌}
 use Rattle.audit_core.proofs.RepresentativeLemmas.{pass_over, push_least, push_named, push_none}
-use Rattle.audit_core.proofs.leasts.protocol_representatives.Goals.{then-contains+in_ok-push, else-contains+then-all_named+in_ok-push-2, else-contains+else-all_named}
-use Rattle.audit_core.proofs.leasts.protocol_representatives.Goals as goal
+use Rattle.audit_core.proofs.representatives.protocol_representatives.Goals.{then-contains+in_ok-push, else-contains+then-all_named+in_ok-push-2, else-contains+else-all_named}
+use Rattle.audit_core.proofs.representatives.protocol_representatives.Goals as goal
 
 pub loop-number-init : goal.loop-number-init
 loop-number-init c = push_none c.args.named.now c.new-protocols.result.items true c.new-protocols.ensures.items refl

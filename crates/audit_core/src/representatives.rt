@@ -2,8 +2,8 @@
 
 ghost use Rattle.std.specs.Prelude.{◌≡◌, ◌^◌, IfOk};
 ghost use Rattle.audit_core.specs.Classes.{numbers_where, represents_protocol};
-ghost use Rattle.audit_core.specs.Places.{class_total, leasts_of};
-ghost use Rattle.audit_core.specs.inner.Places.{AreLeasts};
+ghost use Rattle.audit_core.specs.Places.{class_total, representatives_of};
+ghost use Rattle.audit_core.specs.inner.Places.{AreRepresentatives};
 ghost use Rattle.audit_core.specs.inner.RangeCuts.{cuts_found};
 
 use crate::cuts::{address_representatives, port_representatives};
@@ -13,26 +13,26 @@ use std::marker::Model;
 
 /// The representatives of the classes of addresses, protocols and ports, in ascending order.
 #[derive(Drop)]
-pub(crate) struct Leasts {
+pub(crate) struct Representatives {
     pub(crate) addresses: Vec<u32>,
     pub(crate) protocols: Vec<u8>,
     pub(crate) ports: Vec<u16>,
 }
 
-impl Model for Leasts {
-    ghost use Rattle.audit_core.specs.Places.{Leasts};
+impl Model for Representatives {
+    ghost use Rattle.audit_core.specs.Places.{Representatives};
 
-    ghost Value = { Leasts };
+    ghost Value = { Representatives };
 
     ghost view = { λ l. record { addresses = l.addresses.items; protocols = l.protocols.items; ports = l.ports.items } };
 }
 
-impl Leasts {
+impl Representatives {
     /// Returns the representatives of the classes that the ranges and the protocols make.
-    pub(crate) fn of(alloc: Global, found: &Found) -> Result<Leasts, AllocError>
-        ensures { IfOk result (λ leasts. leasts ≡ leasts_of (cuts_found found.now)) }
+    pub(crate) fn of(alloc: Global, found: &Found) -> Result<Representatives, AllocError>
+        ensures { IfOk result (λ representatives. representatives ≡ representatives_of (cuts_found found.now)) }
     {
-        Ok(Leasts {
+        Ok(Representatives {
             addresses: address_representatives(alloc, &found.addresses)?,
             protocols: protocol_representatives(alloc, &found.protocols)?,
             ports: port_representatives(alloc, &found.ports)?,
@@ -41,7 +41,7 @@ impl Leasts {
 
     /// Returns the number of classes of packets.
     pub(crate) fn total(&self) -> u128
-        requires { AreLeasts self.now }
+        requires { AreRepresentatives self.now }
         ensures { result ≡ class_total self.now }
     {
         total(&self.addresses, &self.protocols, &self.ports)
@@ -49,7 +49,7 @@ impl Leasts {
 }
 
 fn total(addresses: &[u32], protocols: &[u8], ports: &[u16]) -> u128
-    requires { AreLeasts (record { addresses = addresses.now; protocols = protocols.now; ports = ports.now }) }
+    requires { AreRepresentatives (record { addresses = addresses.now; protocols = protocols.now; ports = ports.now }) }
     ensures { result ≡ class_total (record { addresses = addresses.now; protocols = protocols.now; ports = ports.now }) }
 {
     let pairs = addresses.len() as u128 * addresses.len() as u128;

@@ -1,6 +1,6 @@
 use Rattle.std.proofs.Common.{arith, ◌^◌}
-use Rattle.audit_core.proofs.LeastsLemmas.{fits_short, pairs_fit, starts_fit, total_fits}
-use Rattle.audit_core.proofs.leasts.total.Goals as goal
+use Rattle.audit_core.proofs.TotalLemmas.{fits_short, pairs_fit, starts_fit, total_fits}
+use Rattle.audit_core.proofs.representatives.total.Goals as goal
 
 pub overflow_mul-result : goal.overflow_mul-result
 overflow_mul-result c =

@@ -1,4 +1,4 @@
--- How many classes there may be.
+-- The bound on the number of classes.
 use Rattle.std.proofs.Common.{ℕ, ◌*◌, ◌^◌, ◌<◌, ◌≤◌, ◌∙◌, List, length, get_or, subst}
 use Rattle.std.specs.List.{Contains}
 use Rattle.std.proofs.Math.Nat.{mul-le-mul}
@@ -6,11 +6,11 @@ use Rattle.std.proofs.lemmas.List.{get_or_default}
 use Rattle.audit_core.specs.inner.Classes.{Rises}
 use Rattle.audit_core.proofs.OrderLemmas.{rises_short}
 
--- where each place has a number below a bound, all are below it
+-- If the number at each index is below a bound, all numbers are below it.
 pub all_fit : (xs : List ℕ) (b : ℕ) → ((i : ℕ) → get_or xs i 0 < b) → (y : ℕ) → Contains xs y → y < b
 all_fit xs b fits y (k, within, is) = subst (λ (x : ℕ). x < b) (get_or_default xs k 0 y within ∙ is) (fits k)
 
--- an ascending list of numbers of a type is no longer than there are such numbers
+-- The length of an ascending list of numbers of a type is at most the count of these numbers.
 pub fits_short : (xs : List ℕ) (b : ℕ) → Rises xs → ((i : ℕ) → get_or xs i 0 < b) → length xs ≤ b
 fits_short xs b up fits = rises_short xs b up (all_fit xs b fits)
 
