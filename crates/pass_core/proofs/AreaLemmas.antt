@@ -4,16 +4,15 @@ use Rattle.std.specs.List.{All}
 use Rattle.std.proofs.lemmas.List.Elements.{All-append, All-head, All-map, All-nil, All-tail, All-weaker}
 use Rattle.host_net.specs.declared.packet.Packet.{Packet}
 use Rattle.host_net.specs.Packet.{IsPacket}
-use Rattle.pass_core.specs.declared.address_range.AddressRange.{AddressRange}
+use Rattle.header_space.specs.declared.address_range.AddressRange.{AddressRange}
 use Rattle.pass_core.specs.declared.area.Area.{Area}
-use Rattle.pass_core.specs.declared.sliced_area.SlicedArea.{SlicedArea}
-use Rattle.pass_core.specs.Passing.{AreRanges, GoesBetween, IsRange, LiesIn, LiesInOne}
+use Rattle.header_space.specs.Owners.{GoesBetween, IsRange, LiesIn, LiesInOne}
+use Rattle.pass_core.specs.Passing.{AreRanges}
 use Rattle.pass_core.specs.inner.Areas.{IsArea, IsInOne, area_between, areas_between}
-use Rattle.pass_core.specs.inner.Slices.{area_of}
 
 -- ---- packets in areas
 
--- only the addresses of a packet count
+-- Membership in areas depends only on the addresses of a packet.
 pub in_same : (areas : List Area) (p q : Packet) → q.src ≡ p.src → q.dst ≡ p.dst → IsInOne areas p → IsInOne areas q
 in_same [] p q src dst there = there
 in_same (a ∷ areas) p q src dst there = elim there [
@@ -29,7 +28,7 @@ in_second : (xs ys : List Area) (p : Packet) → IsInOne ys p → IsInOne (xs ++
 in_second [] ys p there = there
 in_second (x ∷ xs) ys p there = inr (in_second xs ys p there)
 
-in_either : (xs ys : List Area) (p : Packet) → IsInOne (xs ++ ys) p → IsInOne xs p ⊎ IsInOne ys p
+pub in_either : (xs ys : List Area) (p : Packet) → IsInOne (xs ++ ys) p → IsInOne xs p ⊎ IsInOne ys p
 in_either [] ys p there = inr there
 in_either (x ∷ xs) ys p there = elim there [
   | inl here ↦ inl (inl here)
@@ -71,7 +70,7 @@ goes_between from to areas p same is there =
 pub in_areas : (from to : List AddressRange) (areas : List Area) (p : Packet) → areas ≡ areas_between from to → GoesBetween from to p → IsInOne areas p
 in_areas from to areas p same goes = subst (λ (xs : List Area). IsInOne xs p) (sym same) (to_between from to p goes.src goes.dst)
 
-all_areas : (from to : List AddressRange) → All IsRange from → All IsRange to → All IsArea (areas_between from to)
+pub all_areas : (from to : List AddressRange) → All IsRange from → All IsRange to → All IsArea (areas_between from to)
 all_areas [] to sources targets = All-nil IsArea
 all_areas (s ∷ from) to sources targets =
     All-append IsArea (map (area_between s) to) (areas_between from to)
@@ -86,10 +85,10 @@ some_between [] to sources targets = absurd (omega (arith, sources))
 some_between (s ∷ from) [] sources targets = absurd (omega (arith, targets))
 some_between (s ∷ from) (t ∷ to) sources targets = omega arith
 
-pub some_sliced : (from to : List AddressRange) (sliced : List SlicedArea) → map area_of sliced ≡ areas_between from to → AreRanges from → AreRanges to
-    → 0 < length sliced
-some_sliced from to [] same sources targets =
+pub some_asked : {A : Type 0} (area : A → Area) (from to : List AddressRange) (asked : List A) → map area asked ≡ areas_between from to
+    → AreRanges from → AreRanges to → 0 < length asked
+some_asked area from to [] same sources targets =
     let none : 0 < length (areas_between from to) = some_between from to sources.0 targets.0 in
     let empty : 0 ≡ length (areas_between from to) = ap length same in
     absurd (omega (arith, none, empty))
-some_sliced from to (s ∷ sliced) same sources targets = omega arith
+some_asked area from to (a ∷ asked) same sources targets = omega arith

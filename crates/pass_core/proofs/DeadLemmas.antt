@@ -1,4 +1,4 @@
--- Places without a mark, listed in order, and what this says of dead rules.
+-- Places of unmarked rules, listed in order, and the proof that they are the places of dead rules.
 use Rattle.std.proofs.Common.{◌≡◌, ◌⊎◌, inl, inr, ℕ, zero, suc, ◌+◌, ◌<◌, ◌≤◌, ◌==◌, Bool, true, false, IsTrue, List, [], ◌∷◌, ◌++◌, length, refl, sym, ap, subst, ◌∙◌, arith}
 use Rattle.std.proofs.lemmas.Bool.{and_from, and_parts, cases_Bool, cases_lt, cases_order, eq-eqb, eqb-true, or_cases, or_left, or_right, true≢false}
 use Rattle.host_net.specs.declared.packet.Packet.{Packet}
@@ -48,7 +48,7 @@ listed_either (x ∷ ps) p q on = elim (or_cases (same_place x q) (is_listed (ps
   ]
 ]
 
--- a place that comes after all others is appended
+-- A place after all others is appended.
 ascending_push : (ps : List Place) (p : Place) → AreAscending ps → ((q : Place) → IsTrue (is_listed ps q) → ComesBefore q p) → AreAscending (ps ++ p ∷ [])
 ascending_push [] p are last = (tt, tt)
 ascending_push (x ∷ []) p are last = (last x (or_left (same_place x x) false (same_self x)), (tt, tt))
@@ -96,7 +96,7 @@ module _ (chains : List Chain) (marks : List (List Bool)) where
     exact = λ place. (λ on. cc, λ unmarked. absurd (none_first place unmarked.before));
   })
 
-  -- the limit moves on, and no rule without a mark lies between
+  -- The limit advances past places that have no unmarked rule.
   moves : (old new : Place) (places : List Place) → ((q : Place) → ComesBefore q old → ComesBefore q new)
       → ((q : Place) → HasForwardRule chains q → is_marked marks q ≡ false → ComesBefore q new → ComesBefore q old)
       → AreUnmarkedBefore chains marks old places → AreUnmarkedBefore chains marks new places
@@ -167,7 +167,7 @@ module _ (chains : List Chain) (marks : List (List Bool)) where
     );
   }
 
-  -- one rule more
+  -- The limit advances by one rule.
   pub goes_on : (old new : List Place) (c n : ℕ) (b : Bool) → HasForwardRule chains (at c n) → b ≡ is_marked marks (at c n)
       → new ≡ with_unmarked old (at c n) b → AreUnmarkedBefore chains marks (at c n) old → AreUnmarkedBefore chains marks (at c (n + 1)) new
   goes_on old new c n true rule marked is are =

@@ -1,4 +1,4 @@
--- A visit marks the rules that the packets of a box meet, in both states.
+-- A visit marks the rules that packets of a box meet, in both states.
 use Rattle.std.proofs.Common.{◌≡◌, ◌⊎◌, inl, inr, ◌↔◌, IsTrue, List, subst, ◌∙◌}
 use Rattle.host_net.specs.declared.packet.Packet.{Packet}
 use Rattle.host_net.specs.declared.packet.CtState.{CtState}
@@ -12,7 +12,7 @@ use Rattle.ipt_rules.specs.Meets.{IsMet}
 use Rattle.pass_core.specs.inner.Meeting.{AreMarked, MarksMore, MetRules}
 use Rattle.pass_core.specs.laws.MeetingLaws.{marks_by_both}
 
--- the rules that a packet meets in a state are marked, and no others
+-- The rules that the packet meets in the state are marked, and no others.
 abbrev pub Marks : Packet → CtState → MetRules → MetRules → Type 0
 Marks p state old new = (place : Place) → (IsTrue (is_marked new.marks place) ↔ (IsTrue (is_marked old.marks place) ⊎ IsMet old.chains p state place))
 

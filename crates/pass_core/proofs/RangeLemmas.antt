@@ -1,4 +1,4 @@
--- Ranges to which another one is appended.
+-- Appending a range to a list of ranges.
 use Rattle.std.proofs.Common.{◌≡◌, ◌⊎◌, inl, inr, ℕ, ◌+◌, ◌<◌, ◌≤◌, Bool, true, false, List, [], ◌∷◌, ◌++◌, Some, refl, sym, subst, ◌∙◌, arith}
 use Rattle.std.specs.List.{All}
 use Rattle.std.proofs.lemmas.List.Elements.{All-head, All-nil, All-pop, All-push, All-tail, All-weaker}
@@ -9,7 +9,7 @@ use Rattle.pass_core.specs.declared.passing_range.PassingRange.{PassingRange}
 use Rattle.pass_core.specs.Passing.{AreMaximal, GoesOn, IsExampleOf, IsShown, LiesInRange, is_wholly}
 use Rattle.pass_core.specs.inner.Joining.{Joins, begins, extends, extended, follows}
 
--- ---- where a service lies
+-- ---- the range of a service
 
 lies_first : (xs ys : List PassingRange) (b : Bool) (n : ℕ) → LiesInRange xs b n → LiesInRange (xs ++ ys) b n
 lies_first [] ys b n lies = absurd lies
@@ -26,7 +26,7 @@ lies_either (x ∷ xs) ys b n lies = elim lies [
   | inr later ↦ elim (lies_either xs ys b n later) [ inl first ↦ inl (inr first) | inr second ↦ inr second ]
 ]
 
--- no service from the next one on lies in ranges that end before it
+-- If all ranges end before `next`, they contain no service from `next` on.
 pub lies_below : (rs : List PassingRange) (b : Bool) (next n : ℕ) → All (λ (r : PassingRange). r.high < next) rs → next ≤ n → LiesInRange rs b n → ⊥
 lies_below [] b next n below from lies = lies
 lies_below (r ∷ rs) b next n below from lies = elim lies [
@@ -34,7 +34,7 @@ lies_below (r ∷ rs) b next n below from lies = elim lies [
   | inr later ↦ lies_below rs b next n (All-tail (λ (r : PassingRange). r.high < next) r rs below) from later
 ]
 
--- the service lies in this range
+-- The service is in this range, which is of this kind.
 abbrev pub LiesHere : PassingRange → Bool → ℕ → Type 0
 LiesHere r b n = (is_wholly r ≡ b) × (r.low ≤ n) × (n ≤ r.high)
 
@@ -59,19 +59,19 @@ max_follows (x ∷ y ∷ rest) last r low apart are = (are.0, max_follows (y ∷
 
 -- ---- a range is appended
 
-pub record IsAppended (Lets : Packet → Bool → Type 0) (Between : Packet → Type 0) (old : List PassingRange) (r : PassingRange) (new : List PassingRange) : Type 0 where
+pub record IsAppended (Holds : Packet → Type 0) (Between : Packet → Type 0) (old : List PassingRange) (r : PassingRange) (new : List PassingRange) : Type 0 where
   pub maximal : AreMaximal new
-  pub shown : All (λ x. IsShown Lets Between x) new
+  pub shown : All (λ x. IsShown Holds Between x) new
   pub below : All (λ x. x.high < r.high + 1) new
   pub lies : (b : Bool) (n : ℕ) → LiesInRange new b n → LiesInRange old b n ⊎ LiesHere r b n
   pub old_lies : (b : Bool) (n : ℕ) → LiesInRange old b n → LiesInRange new b n
   pub new_lies : (b : Bool) (n : ℕ) → LiesHere r b n → LiesInRange new b n
 
-module _ (Lets : Packet → Bool → Type 0) (Between : Packet → Type 0) (r : PassingRange) (is : IsShown Lets Between r) where
-  begun : IsAppended Lets Between [] r (r ∷ [])
+module _ (Holds : Packet → Type 0) (Between : Packet → Type 0) (r : PassingRange) (is : IsShown Holds Between r) where
+  begun : IsAppended Holds Between [] r (r ∷ [])
   begun = record {
     maximal = max_one r;
-    shown = All-push (λ (x : PassingRange). IsShown Lets Between x) [] r (All-nil (λ (x : PassingRange). IsShown Lets Between x)) is;
+    shown = All-push (λ (x : PassingRange). IsShown Holds Between x) [] r (All-nil (λ (x : PassingRange). IsShown Holds Between x)) is;
     below = All-push (λ (x : PassingRange). x.high < r.high + 1) [] r (All-nil (λ (x : PassingRange). x.high < r.high + 1)) (omega arith);
     lies = λ b n lies. elim lies [ inl here ↦ inr here | inr none ↦ absurd none ];
     old_lies = λ b n lies. absurd lies;
@@ -79,9 +79,9 @@ module _ (Lets : Packet → Bool → Type 0) (Between : Packet → Type 0) (r : 
   }
 
   module _ (rest : List PassingRange) (last : PassingRange) (are : AreMaximal (rest ++ last ∷ []))
-      (shown : All (λ x. IsShown Lets Between x) (rest ++ last ∷ [])) (below : All (λ x. x.high < r.low) (rest ++ last ∷ [])) where
-    shown_parts : All (λ x. IsShown Lets Between x) rest × IsShown Lets Between last
-    shown_parts = All-pop (λ (x : PassingRange). IsShown Lets Between x) (rest ++ last ∷ []) rest (Some last) refl shown
+      (shown : All (λ x. IsShown Holds Between x) (rest ++ last ∷ [])) (below : All (λ x. x.high < r.low) (rest ++ last ∷ [])) where
+    shown_parts : All (λ x. IsShown Holds Between x) rest × IsShown Holds Between last
+    shown_parts = All-pop (λ (x : PassingRange). IsShown Holds Between x) (rest ++ last ∷ []) rest (Some last) refl shown
 
     below_parts : All (λ x. x.high < r.low) rest × (last.high < r.low)
     below_parts = All-pop (λ (x : PassingRange). x.high < r.low) (rest ++ last ∷ []) rest (Some last) refl below
@@ -89,15 +89,15 @@ module _ (Lets : Packet → Bool → Type 0) (Between : Packet → Type 0) (r : 
     lower : (x : PassingRange) → x.high < r.low → x.high < r.high + 1
     lower x low = let some = is.some in omega (arith, low, some)
 
-    longer : (passes : Bool) (p : Packet) → IsExampleOf Lets Between last passes p → IsExampleOf Lets Between (extended last r) passes p
+    longer : (passes : Bool) (p : Packet) → IsExampleOf Holds Between last passes p → IsExampleOf Holds Between (extended last r) passes p
     longer passes p example = record {
       between = example.between;
       low = example.low;
       high = let high = example.high in let low = below_parts.1 in let some = is.some in omega (arith, high, low, some);
-      lets = example.lets;
+      decided = example.decided;
     }
 
-    shown_extended : IsShown Lets Between (extended last r)
+    shown_extended : IsShown Holds Between (extended last r)
     shown_extended = record {
       some = let first = shown_parts.1.some in let low = below_parts.1 in let some = is.some in omega (arith, first, low, some);
       services = is.services;
@@ -105,10 +105,10 @@ module _ (Lets : Packet → Bool → Type 0) (Between : Packet → Type 0) (r : 
       stays = IfSome_then last.stays shown_parts.1.stays (λ p example. longer false p example);
     }
 
-    went_on : GoesOn last r → IsAppended Lets Between (rest ++ last ∷ []) r (rest ++ extended last r ∷ [])
+    went_on : GoesOn last r → IsAppended Holds Between (rest ++ last ∷ []) r (rest ++ extended last r ∷ [])
     went_on goes = record {
       maximal = max_extended rest last r are;
-      shown = All-push (λ (x : PassingRange). IsShown Lets Between x) rest (extended last r) shown_parts.0 shown_extended;
+      shown = All-push (λ (x : PassingRange). IsShown Holds Between x) rest (extended last r) shown_parts.0 shown_extended;
       below =
           All-push (λ (x : PassingRange). x.high < r.high + 1) rest (extended last r)
           (All-weaker (λ (x : PassingRange). x.high < r.low) (λ (x : PassingRange). x.high < r.high + 1) lower rest below_parts.0) (omega arith);
@@ -136,10 +136,10 @@ module _ (Lets : Packet → Bool → Type 0) (Between : Packet → Type 0) (r : 
           (inl (goes.1 ∙ here.0, (let first = shown_parts.1.some in let low = below_parts.1 in let from = here.1 in omega (arith, first, low, from)), here.2));
     }
 
-    followed : (GoesOn last r → ⊥) → IsAppended Lets Between (rest ++ last ∷ []) r ((rest ++ last ∷ []) ++ r ∷ [])
+    followed : (GoesOn last r → ⊥) → IsAppended Holds Between (rest ++ last ∷ []) r ((rest ++ last ∷ []) ++ r ∷ [])
     followed apart = record {
       maximal = max_follows rest last r below_parts.1 apart are;
-      shown = All-push (λ (x : PassingRange). IsShown Lets Between x) (rest ++ last ∷ []) r shown is;
+      shown = All-push (λ (x : PassingRange). IsShown Holds Between x) (rest ++ last ∷ []) r shown is;
       below =
           All-push (λ (x : PassingRange). x.high < r.high + 1) (rest ++ last ∷ []) r
           (All-weaker (λ (x : PassingRange). x.high < r.low) (λ (x : PassingRange). x.high < r.high + 1) lower (rest ++ last ∷ []) below) (omega arith);
@@ -151,20 +151,20 @@ module _ (Lets : Packet → Bool → Type 0) (Between : Packet → Type 0) (r : 
       new_lies = λ b n here. lies_second (rest ++ last ∷ []) (r ∷ []) b n (inl here);
     }
 
-  pub joined : (old new : List PassingRange) → AreMaximal old → All (λ x. IsShown Lets Between x) old → All (λ x. x.high < r.low) old → Joins old r new
-      → IsAppended Lets Between old r new
+  pub joined : (old new : List PassingRange) → AreMaximal old → All (λ x. IsShown Holds Between x) old → All (λ x. x.high < r.low) old → Joins old r new
+      → IsAppended Holds Between old r new
   joined old new are shown below (begins none one) =
-      subst (λ (xs : List PassingRange). IsAppended Lets Between xs r new) (sym none)
-      (subst (λ (ys : List PassingRange). IsAppended Lets Between [] r ys) (sym one) begun)
+      subst (λ (xs : List PassingRange). IsAppended Holds Between xs r new) (sym none)
+      (subst (λ (ys : List PassingRange). IsAppended Holds Between [] r ys) (sym one) begun)
   joined old new are shown below (extends rest last was goes now) =
-      subst (λ (xs : List PassingRange). IsAppended Lets Between xs r new) (sym was)
-      (subst (λ (ys : List PassingRange). IsAppended Lets Between (rest ++ last ∷ []) r ys) (sym now)
+      subst (λ (xs : List PassingRange). IsAppended Holds Between xs r new) (sym was)
+      (subst (λ (ys : List PassingRange). IsAppended Holds Between (rest ++ last ∷ []) r ys) (sym now)
       (went_on rest last (subst (λ (xs : List PassingRange). AreMaximal xs) was are)
-      (subst (λ (xs : List PassingRange). All (λ x. IsShown Lets Between x) xs) was shown)
+      (subst (λ (xs : List PassingRange). All (λ x. IsShown Holds Between x) xs) was shown)
       (subst (λ (xs : List PassingRange). All (λ x. x.high < r.low) xs) was below) goes))
   joined old new are shown below (follows rest last was apart now) =
-      subst (λ (xs : List PassingRange). IsAppended Lets Between xs r new) (sym was)
-      (subst (λ (ys : List PassingRange). IsAppended Lets Between (rest ++ last ∷ []) r ys) (sym now)
+      subst (λ (xs : List PassingRange). IsAppended Holds Between xs r new) (sym was)
+      (subst (λ (ys : List PassingRange). IsAppended Holds Between (rest ++ last ∷ []) r ys) (sym now)
       (followed rest last (subst (λ (xs : List PassingRange). AreMaximal xs) was are)
-      (subst (λ (xs : List PassingRange). All (λ x. IsShown Lets Between x) xs) was shown)
+      (subst (λ (xs : List PassingRange). All (λ x. IsShown Holds Between x) xs) was shown)
       (subst (λ (xs : List PassingRange). All (λ x. x.high < r.low) xs) was below) apart))

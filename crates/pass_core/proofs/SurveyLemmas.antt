@@ -1,29 +1,28 @@
--- What a visit of a survey tells, and how far a survey of areas has come.
-use Rattle.std.proofs.Common.{◌≡◌, ◌⊎◌, inl, inr, ℕ, zero, suc, ◌+◌, ◌*◌, ◌<◌, ◌≤◌, Bool, true, false, List, [], ◌∷◌, map, drop, drop-cons, get_or, length, add-one, Option, Some, None, refl, sym, ap, subst, ◌∙◌, arith}
+-- The result of a visit of a survey, and the invariant of a survey of areas.
+use Rattle.std.proofs.Common.{◌≡◌, ◌⊎◌, ◌↔◌, inl, inr, ℕ, zero, suc, ◌+◌, ◌*◌, ◌<◌, ◌≤◌, Bool, true, false, List, [], ◌∷◌, map, drop, drop-cons, get_or, length, add-one, Option, Some, None, refl, sym, ap, subst, ◌∙◌, arith}
+use Rattle.std.specs.Prelude.{IfSome}
+use Rattle.std.specs.Bool.{Decides}
 use Rattle.std.specs.List.{All}
+use Rattle.std.proofs.lemmas.Bool.Decides.{not_from_Decides}
 use Rattle.host_net.specs.declared.packet.Packet.{Packet}
-use Rattle.host_net.specs.declared.packet.CtState.TheVariants.{New}
 use Rattle.host_net.specs.Packet.{IsPacket}
 use Rattle.header_space.specs.declared.packet_box.PacketBox.{PacketBox}
 use Rattle.header_space.specs.Boxes.{IsBox, IsIn, Narrows}
 use Rattle.header_space.proofs.BoxLaws.{least_in, own_least}
-use Rattle.audit_core.specs.Rules.{Rules}
 use Rattle.pass_core.specs.declared.area.Area.{Area}
 use Rattle.pass_core.specs.declared.service.Service.{Service}
-use Rattle.pass_core.specs.declared.sliced_area.AreaRules.{AreaRules}
-use Rattle.pass_core.specs.declared.sliced_area.SlicedArea.{SlicedArea}
 use Rattle.pass_core.specs.declared.survey.Survey.{Survey}
-use Rattle.pass_core.specs.Passing.{LiesIn, new_packets}
+use Rattle.header_space.specs.Owners.{LiesIn}
 use Rattle.pass_core.specs.Services.{service_of}
-use Rattle.pass_core.specs.inner.Areas.{IsArea, IsInArea, IsInOne, box_of, every_box_of}
+use Rattle.pass_core.specs.inner.Areas.{IsArea, IsInArea, IsInOne, box_of}
 use Rattle.pass_core.specs.inner.Numbers.{number}
-use Rattle.pass_core.specs.inner.Slices.{IsSliced, area_of, rules_by, rules_or}
-use Rattle.pass_core.specs.inner.Surveying.{AreAlike, AreFellows, Grows, HasFound, HasService, IsFound, IsFoundIf, IsFoundIn, IsKnown, IsRecorded, IsSurvey, IsSurveyed, IsUnderWay, Notes, Raises, noted}
+use Rattle.pass_core.specs.inner.Asking.{IsAsked, part_or}
+use Rattle.pass_core.specs.inner.Surveying.{AreAlike, AreFellows, Grows, GrowsBy, HasFound, HasService, IsFound, IsFoundIf, IsFoundIn, IsKnown, IsRecorded, IsSurvey, IsSurveyed, IsUnderWay, Notes, Raises, noted}
 use Rattle.pass_core.specs.laws.SurveyLaws.{recorded_still}
 
 -- ---- the packets of a part
 
--- the fellows of packets of the narrowed box are in the part that was tested
+-- The fellows of packets of the narrowed box are in the part that was tested.
 pub in_part : (old up part new : PacketBox) (q f : Packet) → Raises old up → Narrows up part → new.least ≡ old.least
     → new.greatest.src ≡ part.greatest.src → new.greatest.dst ≡ part.greatest.dst → new.greatest.sport ≡ part.greatest.sport
     → IsIn new q → AreFellows q f → HasService part f → IsIn part f
@@ -49,43 +48,45 @@ in_part old up part new q f raises narrows least src dst sport inside fellows ha
       };
     }
 
--- ---- an answer is noted
+-- ---- a result is recorded
 
--- the survey up to an earlier service
+-- The survey up to an earlier service.
 abbrev pub up_to : Survey → Service → Survey
 up_to s last = record s { last = last }
 
-grows_noted : (part : PacketBox) (s : Survey) (last : Service) (passes : Bool) (p : Packet) → number last ≤ number s.last
-    → (number s.first ≤ number s.last → number s.first ≤ number last) → IsFoundIn part (up_to s last) passes p → Grows part s (noted (up_to s last) passes p)
-grows_noted part s last true p less some found = record {
-  rules = refl;
-  first = refl;
-  last = less;
-  some = some;
-  passes = inr (p, refl, record { inside = found.inside; service = found.service; alike = found.alike });
-  stays = inl refl;
-}
-grows_noted part s last false p less some found = record {
-  rules = refl;
-  first = refl;
-  last = less;
-  some = some;
-  passes = inl refl;
-  stays = inr (p, refl, record { inside = found.inside; service = found.service; alike = found.alike });
-}
+module _ (Holds : Packet → Type 0) where
+  grows_noted : (part : PacketBox) (s : Survey) (last : Service) (passes : Bool) (p : Packet) → number last ≤ number s.last
+      → (number s.first ≤ number s.last → number s.first ≤ number last) → IsFoundIn Holds part (up_to s last) passes p
+      → Grows Holds part s (noted (up_to s last) passes p)
+  grows_noted part s last true p less some found = record {
+    first = refl;
+    last = less;
+    some = some;
+    passes = inr (p, refl, record { inside = found.inside; service = found.service; alike = found.alike });
+    stays = inl refl;
+  }
+  grows_noted part s last false p less some found = record {
+    first = refl;
+    last = less;
+    some = some;
+    passes = inl refl;
+    stays = inr (p, refl, record { inside = found.inside; service = found.service; alike = found.alike });
+  }
 
-known_noted : (part : PacketBox) (s : Survey) (last : Service) (passes : Bool) (p : Packet)
-    → ((q : Packet) → IsIn part q → AreAlike (new_packets (rules_by s.rules)) (number s.first) (number last) passes q)
-    → (q : Packet) → IsIn part q → IsKnown (noted (up_to s last) passes p) q
-known_noted part s last true p alike q inside = λ service f fellows is between. inl (alike q inside f fellows is between.0 between.1, tt)
-known_noted part s last false p alike q inside = λ service f fellows is between. inr (alike q inside f fellows is between.0 between.1, tt)
+  known_noted : (part : PacketBox) (s : Survey) (last : Service) (passes : Bool) (p : Packet)
+      → ((q : Packet) → IsIn part q → AreAlike Holds (number s.first) (number last) passes q)
+      → (q : Packet) → IsIn part q → IsKnown Holds (noted (up_to s last) passes p) q
+  known_noted part s last true p alike q inside = λ service f fellows is between.
+      inl ((alike q inside f fellows is between.0 between.1).0 refl, tt)
+  known_noted part s last false p alike q inside = λ service f fellows is between.
+      inr (not_from_Decides false (alike q inside f fellows is between.0 between.1) refl, tt)
 
-module _ (within part : PacketBox) (s : Survey) (end last : Service) (passes : Bool) (service : service_of within.least ≡ number s.first)
+module _ (Holds : Packet → Type 0) (within part : PacketBox) (s : Survey) (end last : Service) (passes : Bool) (service : service_of within.least ≡ number s.first)
     (narrows : Narrows within part) (low : service_of within.least ≤ number end)
     (alike : (q f : Packet) → IsIn part q → AreFellows q f → IsPacket f → service_of within.least ≤ service_of f → service_of f ≤ number end
-    → new_packets (rules_by s.rules) f passes)
+    → Decides passes (Holds f))
     (less : number last ≤ number s.last) (fewer : number last ≤ number end) (either : (last ≡ s.last) ⊎ (last ≡ end)) where
-  all_alike : (q : Packet) → IsIn part q → AreAlike (new_packets (rules_by s.rules)) (number s.first) (number last) passes q
+  all_alike : (q : Packet) → IsIn part q → AreAlike Holds (number s.first) (number last) passes q
   all_alike q inside = λ f fellows is from to. alike q f inside fellows is (omega (arith, service, from)) (omega (arith, to, fewer))
 
   some : number s.first ≤ number s.last → number s.first ≤ number last
@@ -94,42 +95,43 @@ module _ (within part : PacketBox) (s : Survey) (end last : Service) (passes : B
     | inr same ↦ subst (λ (t : Service). number s.first ≤ number t) (sym same) (omega (arith, service, low))
   ]
 
-  found_least : IsFoundIn part (up_to s last) passes within.least
+  found_least : IsFoundIn Holds part (up_to s last) passes within.least
   found_least = record { inside = least_in within part narrows; service = service; alike = all_alike within.least (least_in within part narrows) }
 
-  pub answer_grows : Grows part s (noted (up_to s last) passes within.least)
-  answer_grows = grows_noted part s last passes within.least less some found_least
+  pub answer_grows : Grows Holds part s (noted (up_to s last) passes within.least)
+  answer_grows = grows_noted Holds part s last passes within.least less some found_least
 
-  pub answer_known : (q : Packet) → IsIn part q → IsKnown (noted (up_to s last) passes within.least) q
-  answer_known = known_noted part s last passes within.least all_alike
+  pub answer_known : (q : Packet) → IsIn part q → IsKnown Holds (noted (up_to s last) passes within.least) q
+  answer_known = known_noted Holds part s last passes within.least all_alike
 
 -- ---- a packet of another service
 
--- in a box of one other service each packet is known
-pub other_known : (s : Survey) (least p : Packet) → (service_of least ≡ number s.first → ⊥) → p.proto ≡ least.proto → p.dport ≡ least.dport → IsKnown s p
-other_known s least p other proto port = λ service f fellows is between. absurd (other ((λ i. sym proto i * 65536 + sym port i) ∙ service))
+-- Each packet is known in a box of one other service.
+pub other_known : (Holds : Packet → Type 0) (s : Survey) (least p : Packet) → (service_of least ≡ number s.first → ⊥) → p.proto ≡ least.proto
+    → p.dport ≡ least.dport → IsKnown Holds s p
+other_known Holds s least p other proto port = λ service f fellows is between. absurd (other ((λ i. sym proto i * 65536 + sym port i) ∙ service))
 
 -- ---- one area after another
 
-there_known : (Lets : Packet → Bool → Type 0) (s : Survey) (p : Packet) → IsRecorded Lets s p → HasFound s
-there_known Lets s p recorded = elim recorded [ inl passes ↦ inl passes.1 | inr stays ↦ inr stays.1 ]
+there_known : (Holds : Packet → Type 0) (s : Survey) (p : Packet) → IsRecorded Holds s p → HasFound s
+there_known Holds s p recorded = elim recorded [ inl passes ↦ inl passes.1 | inr stays ↦ inr stays.1 ]
 
-fewer_found : (Lets : Packet → Bool → Type 0) (areas : List Area) (first last less : ℕ) (passes : Bool) (o : Option Packet) → less ≤ last
-    → IsFoundIf Lets areas first last passes o → IsFoundIf Lets areas first less passes o
-fewer_found Lets areas first last less passes None low found = tt
-fewer_found Lets areas first last less passes (Some p) low found = record {
+fewer_found : (Holds : Packet → Type 0) (areas : List Area) (first last less : ℕ) (passes : Bool) (o : Option Packet) → less ≤ last
+    → IsFoundIf Holds areas first last passes o → IsFoundIf Holds areas first less passes o
+fewer_found Holds areas first last less passes None low found = tt
+fewer_found Holds areas first last less passes (Some p) low found = record {
   inside = found.inside;
   packet = found.packet;
   service = found.service;
   alike = λ f fellows is from to. found.alike f fellows is from (omega (arith, low, to));
 }
 
-module _ (rules : Rules) (areas : List Area) (first : Service) (a : Area) (rest left : List Area) (x y : Survey) (same : left ≡ a ∷ rest)
+module _ (Holds Part : Packet → Type 0) (areas : List Area) (first : Service) (a : Area) (rest left : List Area) (x y : Survey) (same : left ≡ a ∷ rest)
     (all : (f : Packet) → IsInOne left f → IsInOne areas f) (area : IsArea a) (packets : (p : Packet) → IsIn (box_of a first) p → IsPacket p)
-    (has_first : x.first ≡ first) (grows : Grows (box_of a first) x y)
-    (knows : (p : Packet) → IsIn (box_of a first) p → IsKnown y p)
-    (verdicts : (p : Packet) → IsPacket p → IsInArea a p → (passes : Bool) → new_packets (rules_by y.rules) p passes → new_packets rules p passes)
-    (way : IsUnderWay (new_packets rules) areas left x) where
+    (has_first : x.first ≡ first) (grows : Grows Part (box_of a first) x y)
+    (knows : (p : Packet) → IsIn (box_of a first) p → IsKnown Part y p)
+    (agree : (p : Packet) → IsPacket p → IsInArea a p → (Part p ↔ Holds p))
+    (way : IsUnderWay Holds areas left x) where
   pub next_first : y.first ≡ first
   next_first = grows.first ∙ has_first
 
@@ -139,21 +141,21 @@ module _ (rules : Rules) (areas : List Area) (first : Service) (a : Area) (rest 
   some_left : number y.first ≤ number y.last
   some_left = subst (λ (t : Service). number t ≤ number y.last) (sym grows.first) (grows.some way.some)
 
-  next_found : (passes : Bool) (old new : Option Packet) → Notes (box_of a first) y passes old new
-      → IsFoundIf (new_packets rules) areas (number x.first) (number x.last) passes old
-      → IsFoundIf (new_packets rules) areas (number y.first) (number y.last) passes new
+  next_found : (passes : Bool) (old new : Option Packet) → Notes Part (box_of a first) y passes old new
+      → IsFoundIf Holds areas (number x.first) (number x.last) passes old
+      → IsFoundIf Holds areas (number y.first) (number y.last) passes new
   next_found passes old new notes found = elim notes [
     | inl kept ↦
-        subst (λ (o : Option Packet). IsFoundIf (new_packets rules) areas (number y.first) (number y.last) passes o) (sym kept)
-        (subst (λ (t : Service). IsFoundIf (new_packets rules) areas (number t) (number y.last) passes old) (sym grows.first)
-        (fewer_found (new_packets rules) areas (number x.first) (number x.last) (number y.last) passes old grows.last found))
+        subst (λ (o : Option Packet). IsFoundIf Holds areas (number y.first) (number y.last) passes o) (sym kept)
+        (subst (λ (t : Service). IsFoundIf Holds areas (number t) (number y.last) passes old) (sym grows.first)
+        (fewer_found Holds areas (number x.first) (number x.last) (number y.last) passes old grows.last found))
     | inr one ↦
-        subst (λ (o : Option Packet). IsFoundIf (new_packets rules) areas (number y.first) (number y.last) passes o) (sym one.1)
+        subst (λ (o : Option Packet). IsFoundIf Holds areas (number y.first) (number y.last) passes o) (sym one.1)
         (found_there passes one.0 one.2)
   ]
     where
-      found_there : (passes : Bool) (p : Packet) → IsFoundIn (box_of a first) y passes p
-          → IsFound (new_packets rules) areas (number y.first) (number y.last) passes p
+      found_there : (passes : Bool) (p : Packet) → IsFoundIn Part (box_of a first) y passes p
+          → IsFound Holds areas (number y.first) (number y.last) passes p
       found_there passes p one = record {
         inside =
             all p (subst (λ (xs : List Area). IsInOne xs p) (sym same)
@@ -161,14 +163,16 @@ module _ (rules : Rules) (areas : List Area) (first : Service) (a : Area) (rest 
         packet = packets p one.inside;
         service = one.service;
         alike = λ f fellows is from to.
-            verdicts f is (
+            let agrees = agree f is (
               (subst (λ (n : ℕ). LiesIn a.from n) (sym fellows.src) (one.inside.above.src, one.inside.below.src)),
               (subst (λ (n : ℕ). LiesIn a.to n) (sym fellows.dst) (one.inside.above.dst, one.inside.below.dst)),
-            ) passes (one.alike f fellows is from to);
+            ) in
+            let decided = one.alike f fellows is from to in
+            (λ on. agrees.0 (decided.0 on), λ holds. decided.1 (agrees.1 holds));
       }
 
-  -- what becomes of the packets of the area is recorded
-  recorded_here : (f : Packet) → IsPacket f → IsInArea a f → IsSurveyed y (service_of f) → IsRecorded (new_packets rules) y f
+  -- The results for the packets of the area are recorded.
+  recorded_here : (f : Packet) → IsPacket f → IsInArea a f → IsSurveyed y (service_of f) → IsRecorded Holds y f
   recorded_here f is here between =
       let p : Packet = record { src = f.src; dst = f.dst; proto = first.proto; sport = f.sport; dport = first.port } in
       let fits : f.sport ≤ 65535 = let small = is.3 in omega (arith, small) in
@@ -178,11 +182,11 @@ module _ (rules : Rules) (areas : List Area) (first : Service) (a : Area) (rest 
       } in
       let fellows : AreFellows p f = record { src = refl; dst = refl; sport = refl } in
       elim (knows p inside first_number f fellows is between) [
-        | inl passes ↦ inl (verdicts f is here true passes.0, passes.1)
-        | inr stays ↦ inr (verdicts f is here false stays.0, stays.1)
+        | inl passes ↦ inl ((agree f is here).0 passes.0, passes.1)
+        | inr stays ↦ inr (λ holds. stays.0 ((agree f is here).1 holds), stays.1)
       ]
 
-  pub next_area : IsUnderWay (new_packets rules) areas rest y
+  pub next_area : IsUnderWay Holds areas rest y
   next_area = record {
     some = some_left;
     passes = next_found true x.passes y.passes grows.passes way.passes;
@@ -196,7 +200,7 @@ module _ (rules : Rules) (areas : List Area) (first : Service) (a : Area) (rest 
             | inl here ↦ inr (recorded_here f is here between)
             | inr later ↦ inl later
           ]
-          | inr recorded ↦ inr (recorded_still (new_packets rules) (box_of a first) x y f grows recorded)
+          | inr recorded ↦ inr (recorded_still Part Holds (box_of a first) x y f grows recorded)
         ];
   }
     where
@@ -211,22 +215,44 @@ module _ (rules : Rules) (areas : List Area) (first : Service) (a : Area) (rest 
       let fellows : AreFellows p p = record { src = refl; dst = refl; sport = refl } in
       let low : number y.first ≤ service_of p = let e = first_number in omega (arith, e) in
       let high : service_of p ≤ number y.last = let e = first_number in let h = some_left in omega (arith, e, h) in
-      there_known (new_packets (rules_by y.rules)) y p (knows p inside first_number p fellows (packets p inside) (low, high))
+      there_known Part y p (knows p inside first_number p fellows (packets p inside) (low, high))
+
+-- ---- surveys with an unchanged question
+
+module _ {Q : Type 0} (HoldsOf : Q → Packet → Type 0) where
+  pub known_by : (asked asks : Q) (b whole : PacketBox) (x y : Survey) → whole ≡ b → GrowsBy HoldsOf asked asks whole x y
+      → ((p : Packet) → IsIn whole p → IsKnown (HoldsOf asks) y p) → (p : Packet) → IsIn b p → IsKnown (HoldsOf asked) y p
+  known_by asked asks b whole x y same grows knows p inside =
+      subst (λ (q : Q). IsKnown (HoldsOf q) y p) grows.0 (knows p (subst (λ (c : PacketBox). IsIn c p) (sym same) inside))
+
+  pub grows_at : (t u : Q) (b : PacketBox) (x y : Survey) → t ≡ u → Grows (HoldsOf t) b x y → Grows (HoldsOf u) b x y
+  grows_at t u b x y same grows = subst (λ (q : Q). Grows (HoldsOf q) b x y) same grows
+
+  pub knows_at : (t u : Q) (b : PacketBox) (y : Survey) → t ≡ u → ((p : Packet) → IsIn b p → IsKnown (HoldsOf t) y p)
+      → (p : Packet) → IsIn b p → IsKnown (HoldsOf u) y p
+  knows_at t u b y same knows p inside = subst (λ (q : Q). IsKnown (HoldsOf q) y p) same (knows p inside)
+
+  -- The question restricted to an area.
+  pub asked_part : (q : Q) (a : Area) (b : PacketBox) (part : Option Q) → IsArea a
+      → ((p : Packet) → IsPacket p → LiesIn a.from p.src → LiesIn a.to p.dst → IsIn b p)
+      → IfSome part (λ t. (p : Packet) → IsIn b p → (HoldsOf t p ↔ HoldsOf q p)) → IsAsked (HoldsOf q) a (HoldsOf (part_or q part))
+  asked_part q a b None area inside agree = record { packets = area; same = λ p is here. (λ holds. holds, λ holds. holds) }
+  asked_part q a b (Some t) area inside agree = record { packets = area; same = λ p is here. agree p (inside p is here.0 here.1) }
 
 -- ---- the first area, and the last one
 
-pub first_way : (Lets : Packet → Bool → Type 0) (areas : List Area) (s : Survey) → number s.first ≤ number s.last → s.passes ≡ None → s.stays ≡ None
-    → IsUnderWay Lets areas areas s
-first_way Lets areas s low passes stays = record {
+pub first_way : (Holds : Packet → Type 0) (areas : List Area) (s : Survey) → number s.first ≤ number s.last → s.passes ≡ None → s.stays ≡ None
+    → IsUnderWay Holds areas areas s
+first_way Holds areas s low passes stays = record {
   some = low;
-  passes = subst (λ (o : Option Packet). IsFoundIf Lets areas (number s.first) (number s.last) true o) (sym passes) tt;
-  stays = subst (λ (o : Option Packet). IsFoundIf Lets areas (number s.first) (number s.last) false o) (sym stays) tt;
+  passes = subst (λ (o : Option Packet). IsFoundIf Holds areas (number s.first) (number s.last) true o) (sym passes) tt;
+  stays = subst (λ (o : Option Packet). IsFoundIf Holds areas (number s.first) (number s.last) false o) (sym stays) tt;
   covers = λ f is inside between. inl inside;
 }
 
-pub survey_done : (Lets : Packet → Bool → Type 0) (areas left : List Area) (first : Service) (s : Survey) → left ≡ [] → s.first ≡ first → HasFound s
-    → IsUnderWay Lets areas left s → IsSurvey Lets areas (number first) s
-survey_done Lets areas left first s none has_first found way = record {
+pub survey_done : (Holds : Packet → Type 0) (areas left : List Area) (first : Service) (s : Survey) → left ≡ [] → s.first ≡ first → HasFound s
+    → IsUnderWay Holds areas left s → IsSurvey Holds areas (number first) s
+survey_done Holds areas left first s none has_first found way = record {
   first = ap number has_first;
   some = way.some;
   passes = way.passes;
@@ -240,72 +266,45 @@ survey_done Lets areas left first s none has_first found way = record {
 
 -- ---- the area at an index
 
--- the other rules of an area change nothing that is found
-pub way_by : (Lets : Packet → Bool → Type 0) (areas left : List Area) (s : Survey) (rules : AreaRules) → IsUnderWay Lets areas left s
-    → IsUnderWay Lets areas left (record s { rules = rules })
-way_by Lets areas left s rules way = record {
-  some = way.some;
-  passes = way.passes;
-  stays = way.stays;
-  covers = λ f is inside between. elim (way.covers f is inside between) [ inl there ↦ inl there | inr recorded ↦ inr (still f recorded) ];
-}
-  where
-    still : (f : Packet) → IsRecorded Lets s f → IsRecorded Lets (record s { rules = rules }) f
-    still f recorded = recorded
+module _ {A : Type 0} (area_of : A → Area) (part_of : A → Packet → Type 0) (Holds : Packet → Type 0) (asked : List A) where
+  in_dropped : (i : ℕ) (left : List A) (p : Packet) → IsInOne (map area_of (drop i left)) p → IsInOne (map area_of left) p
+  in_dropped zero left p there = there
+  in_dropped (suc i) [] p there = absurd there
+  in_dropped (suc i) (a ∷ left) p there = inr (in_dropped i left p there)
 
-in_dropped : (i : ℕ) (sliced : List SlicedArea) (p : Packet) → IsInOne (map area_of (drop i sliced)) p → IsInOne (map area_of sliced) p
-in_dropped zero sliced p there = there
-in_dropped (suc i) [] p there = absurd there
-in_dropped (suc i) (a ∷ sliced) p there = inr (in_dropped i sliced p there)
+  module _ (first : Service) (i : ℕ) (e : A) (x y : Survey) (within : i < length asked) (read : e ≡ get_or asked i e)
+      (are : All (λ a. IsAsked Holds (area_of a) (part_of a)) asked) (has_first : x.first ≡ first)
+      (packets : (p : Packet) → IsIn (box_of (area_of e) x.first) p → IsPacket p) (grows : Grows (part_of e) (box_of (area_of e) x.first) x y)
+      (knows : (p : Packet) → IsIn (box_of (area_of e) x.first) p → IsKnown (part_of e) y p)
+      (way : IsUnderWay Holds (map area_of asked) (map area_of (drop i asked)) x) where
+    asked_here : IsAsked Holds (area_of e) (part_of e)
+    asked_here = subst (λ (a : A). IsAsked Holds (area_of a) (part_of a)) (sym read) (are i e within)
 
-in_every_box : (a : Area) (p : Packet) → IsPacket p → IsInArea a p → IsIn (every_box_of a) p
-in_every_box a p is inside = record {
-  above = record { src = inside.0.0; dst = inside.1.0; proto = omega arith; sport = omega arith; dport = omega arith };
-  below = record {
-    src = inside.0.1;
-    dst = inside.1.1;
-    proto = let small = is.2 in omega (arith, small);
-    sport = let small = is.3 in omega (arith, small);
-    dport = let small = is.4 in omega (arith, small);
-  };
-}
+    same_left : map area_of (drop i asked) ≡ area_of e ∷ map area_of (drop (suc i) asked)
+    same_left = ap (map area_of) (drop-cons asked i e within ∙ ap (λ (a : A). a ∷ drop (suc i) asked) (sym read))
 
-module _ (rules : Rules) (sliced : List SlicedArea) (first : Service) (i : ℕ) (e : SlicedArea) (b : PacketBox) (x y : Survey) (within : i < length sliced) (read : e ≡ get_or sliced i e)
-    (value : b ≡ box_of e.area first) (are : All (λ s. IsSliced rules s) sliced) (packets : (p : Packet) → IsIn b p → IsPacket p)
-    (has_rules : rules_by x.rules ≡ rules_or rules e.slice) (has_first : x.first ≡ first) (grows : Grows b x y)
-    (knows : (p : Packet) → IsIn b p → IsKnown y p) (way : IsUnderWay (new_packets rules) (map area_of sliced) (map area_of (drop i sliced)) x) where
-  sliced_here : IsSliced rules e
-  sliced_here = subst (λ (s : SlicedArea). IsSliced rules s) (sym read) (are i e within)
+    here_packets : (p : Packet) → IsIn (box_of (area_of e) first) p → IsPacket p
+    here_packets = subst (λ (s : Service). (p : Packet) → IsIn (box_of (area_of e) s) p → IsPacket p) has_first packets
 
-  same_left : map area_of (drop i sliced) ≡ e.area ∷ map area_of (drop (suc i) sliced)
-  same_left = ap (map area_of) (drop-cons sliced i e within ∙ ap (λ (s : SlicedArea). s ∷ drop (suc i) sliced) (sym read))
+    here_grows : Grows (part_of e) (box_of (area_of e) first) x y
+    here_grows = subst (λ (s : Service). Grows (part_of e) (box_of (area_of e) s) x y) has_first grows
 
-  here_packets : (p : Packet) → IsIn (box_of e.area first) p → IsPacket p
-  here_packets = subst (λ (c : PacketBox). (p : Packet) → IsIn c p → IsPacket p) value packets
+    here_knows : (p : Packet) → IsIn (box_of (area_of e) first) p → IsKnown (part_of e) y p
+    here_knows = subst (λ (s : Service). (p : Packet) → IsIn (box_of (area_of e) s) p → IsKnown (part_of e) y p) has_first knows
 
-  here_grows : Grows (box_of e.area first) x y
-  here_grows = subst (λ (c : PacketBox). Grows c x y) value grows
+    agree : (p : Packet) → IsPacket p → IsInArea (area_of e) p → (part_of e p ↔ Holds p)
+    agree p is inside = asked_here.same p is inside
 
-  here_knows : (p : Packet) → IsIn (box_of e.area first) p → IsKnown y p
-  here_knows = subst (λ (c : PacketBox). (p : Packet) → IsIn c p → IsKnown y p) value knows
+    pub step_first : y.first ≡ first
+    step_first = grows.first ∙ has_first
 
-  here_verdicts : (p : Packet) → IsPacket p → IsInArea e.area p → (passes : Bool) → new_packets (rules_by y.rules) p passes
-      → new_packets rules p passes
-  here_verdicts p is inside passes lets =
-      let same : rules_by y.rules ≡ rules_or rules e.slice = ap rules_by grows.rules ∙ has_rules in
-      (sliced_here.verdicts p (in_every_box e.area p is inside) New passes).1
-      (subst (λ (r : Rules). new_packets r p passes) same lets)
+    pub step_way : IsUnderWay Holds (map area_of asked) (map area_of (drop (i + 1) asked)) y
+    step_way =
+        subst (λ (n : ℕ). IsUnderWay Holds (map area_of asked) (map area_of (drop n asked)) y) (sym (add-one i))
+        (next_area Holds (part_of e) (map area_of asked) first (area_of e) (map area_of (drop (suc i) asked)) (map area_of (drop i asked)) x y same_left
+        (λ f there. in_dropped i asked f there) asked_here.packets here_packets has_first here_grows here_knows agree way)
 
-  pub step_first : y.first ≡ first
-  step_first = grows.first ∙ has_first
-
-  pub step_way : IsUnderWay (new_packets rules) (map area_of sliced) (map area_of (drop (i + 1) sliced)) y
-  step_way =
-      subst (λ (n : ℕ). IsUnderWay (new_packets rules) (map area_of sliced) (map area_of (drop n sliced)) y) (sym (add-one i))
-      (next_area rules (map area_of sliced) first e.area (map area_of (drop (suc i) sliced)) (map area_of (drop i sliced)) x y same_left
-      (λ f there. in_dropped i sliced f there) sliced_here.area here_packets has_first here_grows here_knows here_verdicts way)
-
-  pub step_found : HasFound y
-  step_found =
-      next_has_found rules (map area_of sliced) first e.area (map area_of (drop (suc i) sliced)) (map area_of (drop i sliced)) x y same_left
-      (λ f there. in_dropped i sliced f there) sliced_here.area here_packets has_first here_grows here_knows here_verdicts way
+    pub step_found : HasFound y
+    step_found =
+        next_has_found Holds (part_of e) (map area_of asked) first (area_of e) (map area_of (drop (suc i) asked)) (map area_of (drop i asked)) x y same_left
+        (λ f there. in_dropped i asked f there) asked_here.packets here_packets has_first here_grows here_knows agree way

@@ -1,4 +1,6 @@
 pub mod Dead
+pub mod NewPackets
+pub mod Pairs
 pub mod Passing
 pub mod Services
 pub mod inner

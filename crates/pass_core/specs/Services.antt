@@ -1,11 +1,11 @@
--- Services: a protocol with a destination port. They are ordered by protocol, then by port.
+-- Services: pairs of a protocol and a destination port. They are ordered by protocol, then by port.
 use Rattle.std.specs.Prelude.{ℕ, ◌+◌, ◌*◌}
 use Rattle.host_net.specs.declared.packet.Packet.{Packet}
 
--- The service of a packet is its protocol with its destination port, as one number.
+-- The service of a packet is its protocol and its destination port, encoded as one number.
 abbrev pub service_of : Packet → ℕ
 service_of p = p.proto * 65536 + p.dport
 
--- There are 256 protocols with 65,536 ports each. Each service is a number below this one.
+-- The number of services: 256 protocols with 65,536 ports each. The number of each service is less.
 abbrev pub service_count : ℕ
 service_count = 16777216

@@ -1,7 +1,9 @@
 pub mod Areas
+pub mod Held
+pub mod Asking
 pub mod Joining
+pub mod Listing
 pub mod Meeting
 pub mod Numbers
-pub mod Slices
 pub mod Surveying
 pub mod Sweeping

@@ -4,15 +4,14 @@ ghost use Rattle.std.specs.Prelude.{◌≡◌, ◌++◌, IfOk, OnOk, map};
 ghost use Rattle.host_net.specs.declared.packet.Packet.{Packet};
 ghost use Rattle.host_net.specs.Packet.{IsPacket};
 ghost use Rattle.header_space.specs.Boxes.{IsBox, IsIn};
-ghost use Rattle.pass_core.specs.inner.Areas.{IsArea, area_between, areas_between, box_of, every_box_of};
+ghost use Rattle.pass_core.specs.inner.Areas.{IsArea, area_between, areas_between, box_of};
 
-use crate::address_range::AddressRange;
 use crate::service::Service;
-use header_space::PacketBox;
+use header_space::{AddressRange, PacketBox};
 use host_net::Packet;
 use std::alloc::{AllocError, Global};
 
-/// A range of sources, and a range of destinations.
+/// A range of sources and a range of destinations.
 #[derive(Clone, Copy)]
 pub(crate) struct Area {
     pub(crate) from: AddressRange,
@@ -20,29 +19,7 @@ pub(crate) struct Area {
 }
 
 impl Area {
-    /// All packets in the area.
-    pub(crate) fn packets(&self) -> PacketBox
-        ensures { result ≡ every_box_of self.now }
-    {
-        PacketBox {
-            least: Packet {
-                src: self.from.first,
-                dst: self.to.first,
-                proto: 0,
-                sport: 0,
-                dport: 0,
-            },
-            greatest: Packet {
-                src: self.from.last,
-                dst: self.to.last,
-                proto: u8::MAX,
-                sport: u16::MAX,
-                dport: u16::MAX,
-            },
-        }
-    }
-
-    /// The packets of a service in the area.
+    /// Returns the box of the packets of a service in the area.
     pub(crate) fn packets_of(&self, service: Service) -> PacketBox
         requires { IsArea self.now }
         ensures value { result ≡ box_of self.now service }
@@ -65,7 +42,7 @@ impl Area {
                 dport: service.port,
             },
         };
-        // That packets of a box are packets is known by this.
+        // This call establishes that packets of a box are packets.
         let _last = within.last();
         within
     }

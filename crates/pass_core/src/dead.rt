@@ -9,19 +9,19 @@ use header_space::{PacketBox, visit_all};
 use ipt_rules::{INPUT, Marks, OUTPUT, Place, Ruleset};
 use std::alloc::{AllocError, Global};
 
-/// Returns the places of the dead rules, which no forwarded packet meets, new or established. They are in
+/// Returns the places of the dead rules: no forwarded packet meets them, new or established. They are in
 /// ascending order, by chain and then by rule.
 ///
 /// Only rules of `FORWARD` and of user chains are listed: no forwarded packet meets a rule of `INPUT` or of
-/// `OUTPUT`. A user chain that no jump from `FORWARD` leads to has only dead rules, also if `INPUT` or
-/// `OUTPUT` uses it: its rules may count packets that are not forwarded.
+/// `OUTPUT`. If no jump from `FORWARD` leads to a user chain, all of its rules are dead, even if `INPUT` or
+/// `OUTPUT` uses the chain: its rules may count packets that are not forwarded.
 ///
-/// Takes two walks for each box of packets that the rules tell apart.
+/// Costs two traversals for each box of packets that the rules distinguish.
 pub fn dead_rules(alloc: Global, rules: &Ruleset) -> Result<Vec<Place>, AllocError>
     ensures dead { IfOk result (λ places. AreDead rules.now places.items) }
     ensures removable { IfOk result (λ places. AreRemovable rules.now places.items) }
 {
-    // This tells that each chain gives a packet one outcome.
+    // This call establishes that each chain has one outcome for a packet.
     let _count = rules.rules();
     let mut met = MetRules::none(alloc, rules)?;
     visit_all(alloc, &mut met, PacketBox::every())?;
@@ -29,7 +29,7 @@ pub fn dead_rules(alloc: Global, rules: &Ruleset) -> Result<Vec<Place>, AllocErr
     Ok(places)
 }
 
-/// Returns the places of the rules without a mark, in all chains but `INPUT` and `OUTPUT`.
+/// Returns the places of the unmarked rules, in all chains except `INPUT` and `OUTPUT`.
 fn unmarked(alloc: Global, rules: &Ruleset, marks: &Marks) -> Result<Vec<Place>, AllocError>
     ensures { IfOk result (λ places. AreUnmarkedBefore rules.now marks.now (record { chain = length rules.now; rule = 0 }) places.items) }
 {
@@ -40,7 +40,7 @@ fn unmarked(alloc: Global, rules: &Ruleset, marks: &Marks) -> Result<Vec<Place>,
     Ok(places)
 }
 
-/// Appends the places of the rules of a chain without a mark, unless it is `INPUT` or `OUTPUT`.
+/// Appends the places of the unmarked rules of a chain, unless it is `INPUT` or `OUTPUT`.
 fn push_unmarked(
     places: &mut Vec<Place>,
     rules: &Ruleset,
@@ -54,7 +54,7 @@ fn push_unmarked(
     if chain == INPUT || chain == OUTPUT {
         return Ok(());
     }
-    // This tells that the rules can be counted.
+    // This call establishes that the number of rules fits `u32`.
     let _count = rules.rules();
     let count = rules.rules_in(chain).len();
     for rule in 0..count {

@@ -1,20 +1,23 @@
-//! What rules let pass: the services whose new packets they let pass between two sets of addresses, as
-//! exact and complete ranges. And the dead rules of a rule set, which no forwarded packet meets.
+//! The services that pass between two sets of addresses, or for each pair of owners, as exact and complete
+//! ranges. A packet passes if a question holds for it: for instance, whether rules accept it. Also the dead
+//! rules of a rule set, which no forwarded packet meets.
 #![tactic(auto)]
 
-mod address_range;
 mod area;
+mod asked_area;
 mod dead;
 mod met_rules;
+mod pairs;
+mod passes_new;
 mod passing;
 mod passing_range;
 mod service;
-mod sliced_area;
 mod survey;
 #[cfg(test)]
 mod tests;
 
-pub use address_range::AddressRange;
 pub use dead::dead_rules;
-pub use passing::passing_between;
+pub use pairs::{PairServices, services_by_pairs};
+pub use passes_new::{PassesNew, passing_between, passing_by_pairs};
+pub use passing::services_between;
 pub use passing_range::PassingRange;

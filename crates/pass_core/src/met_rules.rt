@@ -32,7 +32,7 @@ impl<'a> Model for MetRules<'a> {
 }
 
 impl<'a> MetRules<'a> {
-    /// No packet is seen yet.
+    /// Returns the rule set with no rule marked.
     pub(crate) fn none(alloc: Global, rules: &'a Ruleset) -> Result<MetRules<'a>, AllocError>
         ensures chains { IfOk result (λ met. met.chains ≡ rules.now) }
         ensures none { IfOk result (λ met. (place : Place) → is_marked met.marks place ≡ false) }
@@ -41,14 +41,14 @@ impl<'a> MetRules<'a> {
         Ok(MetRules { rules, marks })
     }
 
-    /// The marks of the rules.
+    /// Returns the marks of the rules.
     pub(crate) fn marks(&self) -> &Marks
         ensures { result.now ≡ self.now.marks }
     {
         &self.marks
     }
 
-    /// Marks the rules that the least packet of a box meets in that state. Narrows the box until all of its
+    /// Marks the rules that the least packet of a box meets in the state. Narrows the box until all of its
     /// packets meet the same rules.
     fn meet(&mut self, within: &mut PacketBox, state: CtState)
         requires { IsBox within.old }

@@ -6,7 +6,7 @@ ghost use Rattle.pass_core.specs.inner.Numbers.{number};
 
 use host_net::Packet;
 
-/// A protocol with a destination port.
+/// A protocol and a destination port.
 #[derive(Clone, Copy)]
 pub(crate) struct Service {
     pub(crate) proto: u8,
@@ -14,14 +14,14 @@ pub(crate) struct Service {
 }
 
 impl Service {
-    /// The least service.
+    /// Returns the least service.
     pub(crate) fn first() -> Service
         ensures { number result ≡ 0 }
     {
         Service { proto: 0, port: 0 }
     }
 
-    /// The service of a packet.
+    /// Returns the service of a packet.
     pub(crate) fn of(packet: &Packet) -> Service
         ensures { number result ≡ service_of packet.now }
     {
@@ -31,7 +31,7 @@ impl Service {
         }
     }
 
-    /// Its place in the order.
+    /// Returns the number of the service in this order.
     pub(crate) fn number(self) -> u32
         ensures value { result ≡ number self }
         ensures small { result < service_count }
@@ -39,7 +39,7 @@ impl Service {
         self.proto as u32 * 65536 + self.port as u32
     }
 
-    /// The next service, if there is one.
+    /// Returns the next service, if there is one.
     pub(crate) fn next(self) -> Option<Service>
         ensures next { IfSome result (λ next. number next ≡ number self + 1) }
         ensures last { IfNone result (number self + 1 ≡ service_count) }
@@ -60,8 +60,8 @@ impl Service {
         None
     }
 
-    /// The last service that a box of packets may have beside this one: of its protocol, or of all
-    /// protocols if it has the first port.
+    /// Returns the last service up to which a box of packets can extend from this service: the last service
+    /// of its protocol, or the last of all services if its port is 0.
     pub(crate) fn end(self) -> Service
         ensures { number self ≤ number result }
     {
@@ -78,7 +78,7 @@ impl Service {
         }
     }
 
-    /// The earlier one of two services.
+    /// Returns the earlier of two services.
     pub(crate) fn min(self, other: Service) -> Service
         ensures self_too { number result ≤ number self }
         ensures other_too { number result ≤ number other }
@@ -91,7 +91,7 @@ impl Service {
         }
     }
 
-    /// Whether a packet is of this service.
+    /// Whether a packet has this service.
     pub(crate) fn is_of(self, packet: &Packet) -> bool
         ensures { IsTrue result ↔ (service_of packet.now ≡ number self) }
     {

@@ -1,11 +1,12 @@
-//! Rules for one destination with the services that they let pass, and rules of which one is dead.
+//! Tests: rules for one destination with the services that they accept, and rules of which one is dead.
 
 ghost use Rattle.std.specs.Prelude.{◌≡◌, ◌+◌, ◌<◌, ◌≤◌, ◌⊎◌, length, IsTrue};
 ghost use Rattle.ipt_rules.specs.ChainTable.{rule_count};
 ghost use Rattle.ipt_rules.specs.inner.RuleParts.{is_rule};
 
-use crate::{AddressRange, dead_rules, passing_between};
+use crate::{dead_rules, passing_between};
 use audit_core::Text;
+use header_space::AddressRange;
 use host_net::Prefix;
 use ipt_rules::{
     AddrMatch, Chains, FORWARD, Place, Policy, PortMatch, ProtoMatch, Rule, Ruleset, StateMatch,
@@ -16,7 +17,7 @@ use std::process::Abort;
 
 const SERVER: u32 = 0x0a00_0001;
 
-/// The three built-in chains, of which `FORWARD` drops.
+/// Returns the three built-in chains. The policy of `FORWARD` is to drop.
 #[tactic(auto, using(ipt_rules::proofs::ChainLaws::length_with_policy, ipt_rules::proofs::ChainLaws::rule_count_with_policy))]
 fn dropping(alloc: Global, rt: &impl Abort) -> Chains
     ensures length { length result ≡ 3 }
@@ -38,7 +39,7 @@ fn push(rt: &impl Abort, chains: &mut Chains, rule: Rule)
     chains.rule(1, rule).expect(rt, "memory");
 }
 
-/// Accepts packets with a destination port in a range.
+/// Returns a rule that accepts packets with a destination port in a range.
 fn accepting(dst: Prefix, proto: u8, low: u16, high: u16) -> Rule
     requires ports { (proto ≡ 6) ⊎ (proto ≡ 17) }
     requires order { low ≤ high }
@@ -66,7 +67,8 @@ fn accepting(dst: Prefix, proto: u8, low: u16, high: u16) -> Rule
     }
 }
 
-/// Accepts TCP packets to the server with ports from 22 to 25, and UDP packets with port 53.
+/// Returns rules that accept TCP packets to the server with ports from 22 to 25, and UDP packets with port
+/// 53.
 fn rules(alloc: Global, rt: &impl Abort) -> Ruleset {
     let server = Prefix::new(SERVER, 32).expect(rt, "a prefix");
     let mut chains = dropping(alloc, rt);
@@ -76,7 +78,7 @@ fn rules(alloc: Global, rt: &impl Abort) -> Ruleset {
     Ruleset::build(alloc, chains).expect(rt, "a rule set")
 }
 
-/// Services are in the order of protocols and ports, and ranges without a gap are one range.
+/// Services are ordered by protocol and port, and adjacent ranges are joined.
 #[test]
 fn services_of_one_destination(rt: HostRuntime) {
     let rules = rules(rt.alloc(), &rt);
@@ -98,7 +100,7 @@ fn services_of_one_destination(rt: HostRuntime) {
     assert!(rt; udp.stays.is_none());
 }
 
-/// Services that pass to one of two destinations pass in part.
+/// Services that pass to only one of two destinations pass in part.
 #[test]
 fn services_of_two_destinations(rt: HostRuntime) {
     let rules = rules(rt.alloc(), &rt);
@@ -115,7 +117,7 @@ fn services_of_two_destinations(rt: HostRuntime) {
     assert!(rt; tcp.stays.is_some_and(|packet| packet.dst == SERVER + 1));
 }
 
-/// A rule for all packets.
+/// Returns a rule that matches all packets.
 fn rule_for_all(target: Target) -> Rule
     ensures { IsTrue (is_rule result) }
 {
@@ -130,7 +132,7 @@ fn rule_for_all(target: Target) -> Rule
     }
 }
 
-/// A rule for the packets of a source.
+/// Returns a rule that matches the packets of a source.
 fn rule_for_source(src: Prefix, target: Target) -> Rule
     ensures { IsTrue (is_rule result) }
 {
@@ -143,7 +145,7 @@ fn rule_for_source(src: Prefix, target: Target) -> Rule
     }
 }
 
-/// A rule for established packets.
+/// Returns a rule that matches established packets.
 fn rule_for_established(target: Target) -> Rule
     ensures { IsTrue (is_rule result) }
 {
@@ -157,8 +159,8 @@ fn rule_for_established(target: Target) -> Rule
     }
 }
 
-/// A rule is dead if an earlier one drops the packets of its source. One for established packets is not,
-/// and neither is one for new packets behind it.
+/// A rule is dead if an earlier rule drops the packets of its source. A rule for established packets is not
+/// dead, and a rule for new packets after it is not dead either.
 #[test]
 fn dead_rule_of_a_dropped_source(rt: HostRuntime) {
     let client = Prefix::new(SERVER + 1, 32).expect(&rt, "a prefix");
@@ -177,7 +179,7 @@ fn dead_rule_of_a_dropped_source(rt: HostRuntime) {
     assert_eq!(rt; dead[0], place);
 }
 
-/// The last of the rules is dead behind one for all packets.
+/// The last rule is dead after a rule that matches all packets.
 #[test]
 fn dead_rule_at_the_end(rt: HostRuntime) {
     let mut chains = dropping(rt.alloc(), &rt);

@@ -1,4 +1,4 @@
--- Marks on the rules that packets meet, and the places without a mark. Callers see none of it; they have `Dead`.
+-- Marks on the rules that packets meet, and the places of unmarked rules. Internal: callers use `Dead`.
 use Rattle.std.specs.Prelude.{◌≡◌, ◌⊎◌, ◌↔◌, Bool, true, false, IsTrue, List, [], ◌∷◌, ◌++◌}
 use Rattle.host_net.specs.declared.packet.Packet.{Packet}
 use Rattle.host_net.specs.declared.packet.CtState.{CtState}
@@ -15,35 +15,35 @@ pub record MetRules : Type 0 where
   pub chains : List Chain
   pub marks : List (List Bool)
 
--- Each rule that the packet meets is marked.
+-- Each rule that the packet meets, in any state, is marked.
 abbrev pub AreMarked : MetRules → Packet → Type 0
 AreMarked m p = (state : CtState) (place : Place) → IsMet m.chains p state place → IsTrue (is_marked m.marks place)
 
--- A packet of the box meets the rule at the place.
+-- Some packet of the box meets the rule at the place, in some state.
 pub record IsMetWithin (chains : List Chain) (b : PacketBox) (place : Place) : Type 0 where
   pub packet : Packet
   pub inside : IsIn b packet
   pub state : CtState
   pub met : IsMet chains packet state place
 
--- More rules are marked, of those that packets of the box meet.
+-- The new marks include the old marks, on the same chains. Each additional mark is on a rule that some packet of the box meets.
 pub record MarksMore (b : PacketBox) (old new : MetRules) : Type 0 where
   pub chains : new.chains ≡ old.chains
   pub kept : (place : Place) → IsTrue (is_marked old.marks place) → IsTrue (is_marked new.marks place)
   pub only : (place : Place) → IsTrue (is_marked new.marks place) → IsTrue (is_marked old.marks place) ⊎ IsMetWithin old.chains b place
 
--- There is a rule without a mark at the place, before the limit.
+-- The place precedes the limit, and has an unmarked rule of FORWARD or of a user chain.
 pub record IsUnmarkedBefore (chains : List Chain) (marks : List (List Bool)) (limit place : Place) : Type 0 where
   pub rule : HasForwardRule chains place
   pub before : ComesBefore place limit
   pub unmarked : is_marked marks place ≡ false
 
--- The places are those of the rules without a mark before the limit, in ascending order.
+-- The places are those of the unmarked rules before the limit, in ascending order.
 pub record AreUnmarkedBefore (chains : List Chain) (marks : List (List Bool)) (limit : Place) (places : List Place) : Type 0 where
   pub ascending : AreAscending places
   pub exact : (place : Place) → IsTrue (is_listed places place) ↔ IsUnmarkedBefore chains marks limit place
 
--- The places with one more, unless its rule is marked.
+-- The places with one more place, unless its rule is marked.
 abbrev pub with_unmarked : List Place → Place → Bool → List Place
 with_unmarked places place true = places
 with_unmarked places place false = places ++ place ∷ []

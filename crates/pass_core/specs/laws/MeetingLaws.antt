@@ -1,4 +1,4 @@
--- Laws of marks that are added.
+-- Laws of added marks.
 use Rattle.std.proofs.Common.{inl, inr, ◌∙◌, refl, subst, List}
 use Rattle.host_net.specs.declared.packet.Packet.{Packet}
 use Rattle.header_space.specs.declared.packet_box.PacketBox.{PacketBox}

@@ -1,0 +1,13 @@
+use Rattle.std.proofs.Common.{subst}
+use Rattle.std.specs.Prelude.{IfOk}
+use Rattle.header_space.specs.Owners.{GoesBetween}
+use Rattle.audit_core.specs.Rules.{Rules}
+use Rattle.pass_core.specs.NewPackets.{LetsPass}
+use Rattle.pass_core.specs.Passing.{ArePassing}
+use Rattle.pass_core.proofs.passes_new.passing_between.Goals as goal
+
+pub returns : goal.returns
+returns c =
+    subst
+    (λ (r : Rules). IfOk c.services_between-2.result (λ ranges. ArePassing (LetsPass r) (GoesBetween c.args.from.now c.args.to.now) ranges.items))
+    c.whole.ensures c.services_between-2.ensures
