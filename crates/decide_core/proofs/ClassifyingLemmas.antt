@@ -1,0 +1,134 @@
+-- The results of a classifier, and marks for its rules, none of them set.
+use Rattle.std.proofs.Common.{◌≡◌, ◌↔◌, inl, inr, ℕ, zero, suc, ◌+◌, ◌<◌, ◌≤◌, ◌∙◌, Bool, true, false, IsTrue, List, [], ◌∷◌, ◌++◌, Option, Some, None, length, replicate, slice_get, refl, sym, ap, subst, arith, length-append}
+use Rattle.std.specs.Prelude.{IfSome, IsSome}
+use Rattle.std.specs.Option.{option_and_then, option_map_or, unwrap_or}
+use Rattle.std.proofs.lemmas.Bool.{cases_lt}
+use Rattle.std.proofs.lemmas.List.{length-replicate}
+use Rattle.std.proofs.lemmas.Option.{slice_get_within}
+use Rattle.host_net.specs.declared.packet.Packet.{Packet}
+use Rattle.host_net.specs.declared.packet.CtState.TheVariants.{New}
+use Rattle.host_net.specs.Packet.{IsPacket}
+use Rattle.ipt_rules.specs.declared.marks.Place.{Place}
+use Rattle.ipt_rules.specs.declared.rule.Rule.{Rule}
+use Rattle.ipt_rules.specs.Chain.{Chain, rules_of}
+use Rattle.ipt_rules.specs.Marks.{is_marked}
+use Rattle.ipt_rules.specs.Meets.{target_verdict, IsDecider as IsRuleDecider}
+use Rattle.ipt_rules.proofs.Gets.{get_front, get_last}
+use Rattle.ipt_rules.proofs.WalkingLemmas.{none_returns}
+use Rattle.ofp_rules.specs.declared.entry.Entry.{Entry}
+use Rattle.ofp_rules.specs.declared.entry.Frame.{Frame}
+use Rattle.ofp_rules.specs.declared.entry.Frame.TheVariants.{Ipv4}
+use Rattle.ofp_rules.specs.Deciders.{IsDecider as IsEntryDecider}
+use Rattle.audit_core.specs.Rules.{Rules, Chains, Entries, filter_of}
+use Rattle.audit_core.specs.Verdicts.{GivesOne}
+use Rattle.decide_core.specs.Deciders.{IsDecider}
+use Rattle.decide_core.specs.inner.Classifying.{HasMarks, HasRule, chain_count, count_in, entry_place, unset_marks}
+
+-- ---- whether a packet passes
+
+passes_iff : (rules : Rules) (p : Packet) (b : Bool) → GivesOne (filter_of rules) → IsPacket p → filter_of rules New p b → (IsTrue b ↔ filter_of rules New p true)
+passes_iff rules p b gives packet is = (
+  λ on. subst (λ (x : Bool). filter_of rules New p x) on is,
+  λ passes. let one = gives New p packet in one.2 b is ∙ sym (one.2 true passes),
+)
+
+pub passes_only : (rules others : Rules) (p : Packet) (b : Bool) → rules ≡ others → GivesOne (filter_of rules) → IsPacket p → filter_of rules New p b
+    → (IsTrue b ↔ filter_of others New p true)
+passes_only rules others p b same gives packet is = subst (λ (r : Rules). IsTrue b ↔ filter_of r New p true) same (passes_iff rules p b gives packet is)
+
+-- ---- places of deciders
+
+verdict_there : (rs : List Rule) (n : ℕ) (o : Option Rule) → slice_get rs n ≡ o → IsSome (option_and_then (λ r. target_verdict r.target) o) → n < length rs
+verdict_there rs n None is some = cc
+verdict_there rs n (Some r) is some = slice_get_within rs n r is
+
+pub rule_there : (chains : List Chain) (p : Packet) (d : Option Place) → IsRuleDecider chains p New d → IfSome d (λ place. HasRule (Chains chains) place)
+rule_there chains p None is = tt
+rule_there chains p (Some place) is =
+    verdict_there (rules_of chains place.chain) place.rule (slice_get (rules_of chains place.chain) place.rule) refl is.1
+
+pub entry_there : (entries : List Entry) (frame : Frame) (d : Option ℕ) → IsEntryDecider entries frame d
+    → IfSome (entry_place d) (λ place. HasRule (Entries entries) place)
+entry_there entries frame None is = tt
+entry_there entries frame (Some k) is = slice_get_within entries k is.entry is.there
+
+pub entry_decides : (entries : List Entry) (p : Packet) (d : Option ℕ) → IsEntryDecider entries (Ipv4 p) d → IsDecider (Entries entries) p (entry_place d)
+entry_decides entries p None is = is
+entry_decides entries p (Some k) is = (refl, is)
+
+same_entry : (place : Place) → place.chain ≡ 0 → Some place ≡ entry_place (Some place.rule)
+same_entry place first = λ i. Some (record { chain = first i; rule = place.rule })
+
+pub entry_only : (entries : List Entry) (p : Packet) (d : Option ℕ) → ((other : Option ℕ) → IsEntryDecider entries (Ipv4 p) other → other ≡ d)
+    → (other : Option Place) → IsDecider (Entries entries) p other → other ≡ entry_place d
+entry_only entries p d only None is = ap entry_place (only None is)
+entry_only entries p d only (Some place) is = same_entry place is.0 ∙ ap entry_place (only (Some place.rule) is.1)
+
+-- ---- marks, none of them set
+
+pub unset_next : (rules : Rules) (n : ℕ) → unset_marks rules (n + 1) ≡ unset_marks rules n ++ replicate (count_in rules n) false ∷ []
+unset_next rules n = let next : n + 1 ≡ suc n = omega arith in ap (unset_marks rules) next
+
+unset_length : (rules : Rules) (n : ℕ) → length (unset_marks rules n) ≡ n
+unset_length rules zero = refl
+unset_length rules (suc n) =
+    let before = unset_length rules n in
+    let whole = length-append (unset_marks rules n) (replicate (count_in rules n) false ∷ []) in
+    omega (arith, before, whole)
+
+get_past : {A : Type 0} (xs : List A) (c : ℕ) → length xs ≤ c → slice_get xs c ≡ None
+get_past [] c past = refl
+get_past (x ∷ xs) zero past = absurd (omega (arith, past))
+get_past (x ∷ xs) (suc c) past = get_past xs c (omega (arith, past))
+
+get_row : (rules : Rules) (n c : ℕ) → c < n → slice_get (unset_marks rules n) c ≡ Some (replicate (count_in rules c) false)
+get_row rules zero c low = absurd (omega (arith, low))
+get_row rules (suc n) c low = elim (cases_lt c n) [
+  | inl less ↦
+      get_front (unset_marks rules n) (replicate (count_in rules n) false ∷ []) c (replicate (count_in rules c) false) (get_row rules n c less)
+  | inr more ↦
+      let long = unset_length rules n in
+      let place : c ≡ length (unset_marks rules n) = omega (arith, low, more, long) in
+      let same : n ≡ c = omega (arith, low, more) in
+      ap (slice_get (unset_marks rules n ++ replicate (count_in rules n) false ∷ [])) place
+      ∙ get_last (unset_marks rules n) (replicate (count_in rules n) false) ∙ ap (λ (k : ℕ). Some (replicate (count_in rules k) false)) same
+]
+
+no_rules : (chains : List Chain) (c : ℕ) → length chains ≤ c → length (rules_of chains c) ≡ 0
+no_rules [] c few = refl
+no_rules (x ∷ chains) zero few = absurd (omega (arith, few))
+no_rules (x ∷ chains) (suc c) few = no_rules chains c (omega (arith, few))
+
+pub none_past : (rules : Rules) (c : ℕ) → chain_count rules ≤ c → count_in rules c ≡ 0
+none_past (Chains chains) c past = no_rules chains c past
+none_past (Entries entries) zero past = absurd (omega (arith, past))
+none_past (Entries entries) (suc c) past = refl
+
+abbrev row_in : Option (List Bool) → List Bool
+row_in row = option_map_or (λ (x : List Bool). x) row []
+
+abbrev mark_in : Option (List Bool) → ℕ → Bool
+mark_in row n = unwrap_or (slice_get (row_in row) n) false
+
+unset_has : (rules : Rules) → HasMarks rules (unset_marks rules (chain_count rules))
+unset_has rules c = elim (cases_lt c (chain_count rules)) [
+  | inl low ↦ ap (λ (o : Option (List Bool)). length (row_in o)) (get_row rules (chain_count rules) c low) ∙ length-replicate (count_in rules c) false
+  | inr past ↦
+      let long = unset_length rules (chain_count rules) in
+      ap (λ (o : Option (List Bool)). length (row_in o)) (get_past (unset_marks rules (chain_count rules)) c (omega (arith, long, past)))
+      ∙ sym (none_past rules c past)
+]
+
+unset_none : (rules : Rules) (n : ℕ) (place : Place) → is_marked (unset_marks rules n) place ≡ false
+unset_none rules n place = elim (cases_lt place.chain n) [
+  | inl low ↦ ap (λ (o : Option (List Bool)). mark_in o place.rule) (get_row rules n place.chain low) ∙ none_returns (count_in rules place.chain) place.rule
+  | inr past ↦
+      let long = unset_length rules n in
+      ap (λ (o : Option (List Bool)). mark_in o place.rule) (get_past (unset_marks rules n) place.chain (omega (arith, long, past)))
+]
+
+pub has_marks : (rules : Rules) (marks : List (List Bool)) → marks ≡ unset_marks rules (chain_count rules) → HasMarks rules marks
+has_marks rules marks is = subst (λ (m : List (List Bool)). HasMarks rules m) (sym is) (unset_has rules)
+
+pub none_marked : (rules : Rules) (n : ℕ) (marks : List (List Bool)) → marks ≡ unset_marks rules n → (place : Place) → is_marked marks place ≡ false
+none_marked rules n marks is place = ap (λ (m : List (List Bool)). is_marked m place) is ∙ unset_none rules n place

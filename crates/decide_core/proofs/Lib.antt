@@ -1,0 +1,6 @@
+pub mod ClassifyingLemmas
+mod DeadLemmas
+mod DecidingLemmas
+mod FlowLemmas
+mod MarkedLemmas
+mod ServiceLemmas

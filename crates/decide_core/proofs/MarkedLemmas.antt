@@ -1,0 +1,181 @@
+-- Places of marked rules, listed in order.
+use Rattle.std.proofs.Common.{◌≡◌, ◌⊎◌, inl, inr, ℕ, ◌+◌, ◌<◌, ◌≤◌, ◌==◌, Bool, true, false, IsTrue, List, [], ◌∷◌, ◌++◌, Option, Some, None, length, slice_get, refl, sym, ap, subst, ◌∙◌, arith}
+use Rattle.std.specs.Option.{unwrap_or}
+use Rattle.std.proofs.lemmas.Bool.{and_from, and_parts, cases_lt, cases_order, eq-eqb, eqb-true, or_cases, or_left, or_right, true≢false}
+use Rattle.std.proofs.lemmas.Option.{slice_get_within}
+use Rattle.ipt_rules.specs.declared.marks.Place.{Place}
+use Rattle.ipt_rules.specs.Marks.{is_marked, marks_of}
+use Rattle.audit_core.specs.Rules.{Rules}
+use Rattle.pass_core.specs.Dead.{AreAscending, ComesBefore, is_listed, same_place}
+use Rattle.decide_core.specs.inner.Classifying.{HasMarks, chain_count}
+use Rattle.decide_core.specs.inner.Marked.{AreMarked, AreMarkedBefore, with_marked}
+use Rattle.decide_core.proofs.ClassifyingLemmas.{none_past}
+
+-- ---- lists of places
+
+same_fields : (p q : Place) → p.chain ≡ q.chain → p.rule ≡ q.rule → p ≡ q
+same_fields p q chain rule = λ i. record { chain = chain i; rule = rule i }
+
+is_same : (p q : Place) → same_place p q ≡ true → p ≡ q
+is_same p q on =
+    let (chain, rule) = and_parts (p.chain == q.chain) (p.rule == q.rule) on in
+    same_fields p q (eqb-true p.chain q.chain chain) (eqb-true p.rule q.rule rule)
+
+same_self : (p : Place) → same_place p p ≡ true
+same_self p = and_from (p.chain == p.chain) (p.rule == p.rule) (eq-eqb p.chain p.chain refl) (eq-eqb p.rule p.rule refl)
+
+listed_first : (ps : List Place) (p q : Place) → IsTrue (is_listed ps q) → IsTrue (is_listed (ps ++ p ∷ []) q)
+listed_first [] p q on = cc
+listed_first (x ∷ ps) p q on = elim (or_cases (same_place x q) (is_listed ps q) on) [
+  | inl here ↦ or_left (same_place x q) (is_listed (ps ++ p ∷ []) q) here
+  | inr later ↦ or_right (same_place x q) (is_listed (ps ++ p ∷ []) q) (listed_first ps p q later)
+]
+
+listed_last : (ps : List Place) (p : Place) → IsTrue (is_listed (ps ++ p ∷ []) p)
+listed_last [] p = or_left (same_place p p) false (same_self p)
+listed_last (x ∷ ps) p = or_right (same_place x p) (is_listed (ps ++ p ∷ []) p) (listed_last ps p)
+
+listed_either : (ps : List Place) (p q : Place) → IsTrue (is_listed (ps ++ p ∷ []) q) → IsTrue (is_listed ps q) ⊎ (p ≡ q)
+listed_either [] p q on = elim (or_cases (same_place p q) false on) [ inl here ↦ inr (is_same p q here) | inr none ↦ cc ]
+listed_either (x ∷ ps) p q on = elim (or_cases (same_place x q) (is_listed (ps ++ p ∷ []) q) on) [
+  | inl here ↦ inl (or_left (same_place x q) (is_listed ps q) here)
+  | inr later ↦ elim (listed_either ps p q later) [
+    | inl first ↦ inl (or_right (same_place x q) (is_listed ps q) first)
+    | inr last ↦ inr last
+  ]
+]
+
+-- A place after all others is appended.
+ascending_push : (ps : List Place) (p : Place) → AreAscending ps → ((q : Place) → IsTrue (is_listed ps q) → ComesBefore q p) → AreAscending (ps ++ p ∷ [])
+ascending_push [] p are last = (tt, tt)
+ascending_push (x ∷ []) p are last = (last x (or_left (same_place x x) false (same_self x)), (tt, tt))
+ascending_push (x ∷ y ∷ ps) p are last =
+    (are.0, ascending_push (y ∷ ps) p are.1 (λ q on. last q (or_right (same_place x q) (is_listed (y ∷ ps) q) on)))
+
+-- ---- the order of places
+
+abbrev at : ℕ → ℕ → Place
+at c n = record { chain = c; rule = n }
+
+before_next : (q : Place) (c n : ℕ) → ComesBefore q (at c n) → ComesBefore q (at c (n + 1))
+before_next q c n before = elim before [ inl chain ↦ inl chain | inr rule ↦ inr (rule.0, (let low = rule.1 in omega (arith, low))) ]
+
+itself_next : (q : Place) (c n : ℕ) → at c n ≡ q → ComesBefore q (at c (n + 1))
+itself_next q c n is = subst (λ (p : Place). ComesBefore p (at c (n + 1))) is (inr (refl, omega arith))
+
+next_either : (q : Place) (c n : ℕ) → ComesBefore q (at c (n + 1)) → ComesBefore q (at c n) ⊎ (at c n ≡ q)
+next_either q c n before = elim before [
+  | inl chain ↦ inl (inl chain)
+  | inr rule ↦ elim (cases_lt q.rule n) [
+    | inl low ↦ inl (inr (rule.0, low))
+    | inr high ↦ let low = rule.1 in inr (same_fields (at c n) q (sym rule.0) (omega (arith, low, high)))
+  ]
+]
+
+before_chain : (q : Place) (c n : ℕ) → ComesBefore q (at c n) → ComesBefore q (at (c + 1) 0)
+before_chain q c n before = elim before [ inl chain ↦ inl (omega (arith, chain)) | inr rule ↦ inl (let same = rule.0 in omega (arith, same)) ]
+
+none_first : (q : Place) → ComesBefore q (at 0 0) → ⊥
+none_first q before = elim before [ inl chain ↦ omega (arith, chain) | inr rule ↦ let low = rule.1 in omega (arith, low) ]
+
+not_later : (q : Place) (c : ℕ) → ComesBefore q (at (c + 1) 0) → c < q.chain → ⊥
+not_later q c before more = elim before [ inl chain ↦ omega (arith, chain, more) | inr rule ↦ let low = rule.1 in omega (arith, low) ]
+
+-- ---- marked rules
+
+bit_there : (bs : List Bool) (n : ℕ) (o : Option Bool) → slice_get bs n ≡ o → IsTrue (unwrap_or o false) → n < length bs
+bit_there bs n None is on = cc
+bit_there bs n (Some b) is on = slice_get_within bs n b is
+
+mark_there : (marks : List (List Bool)) (place : Place) → IsTrue (is_marked marks place) → place.rule < length (marks_of marks place.chain)
+mark_there marks place on = bit_there (marks_of marks place.chain) place.rule (slice_get (marks_of marks place.chain) place.rule) refl on
+
+module _ (marks : List (List Bool)) where
+  -- ---- the places before a limit
+
+  pub none_before : (places : List Place) → places ≡ [] → AreMarkedBefore marks (at 0 0) places
+  none_before places none = subst (λ (ps : List Place). AreMarkedBefore marks (at 0 0) ps) (sym none) (record {
+    ascending = tt;
+    exact = λ place. (λ on. cc, λ marked. absurd (none_first place marked.0));
+  })
+
+  -- The limit advances past places that have no marked rule.
+  moves : (old new : Place) (places : List Place) → ((q : Place) → ComesBefore q old → ComesBefore q new)
+      → ((q : Place) → IsTrue (is_marked marks q) → ComesBefore q new → ComesBefore q old) → AreMarkedBefore marks old places
+      → AreMarkedBefore marks new places
+  moves old new places on back are = record {
+    ascending = are.ascending;
+    exact = λ place. (
+      λ listed. let is = (are.exact place).0 listed in (on place is.0, is.1),
+      λ is. (are.exact place).1 (back place is.1 is.0, is.1),
+    );
+  }
+
+  passes_unmarked : (places : List Place) (c n : ℕ) → is_marked marks (at c n) ≡ false → AreMarkedBefore marks (at c n) places
+      → AreMarkedBefore marks (at c (n + 1)) places
+  passes_unmarked places c n off are = moves (at c n) (at c (n + 1)) places (λ q before. before_next q c n before) back are
+    where
+      back : (q : Place) → IsTrue (is_marked marks q) → ComesBefore q (at c (n + 1)) → ComesBefore q (at c n)
+      back q on before = elim (next_either q c n before) [
+        | inl earlier ↦ earlier
+        | inr is ↦ absurd (true≢false (sym on ∙ sym (ap (is_marked marks) is) ∙ off))
+      ]
+
+  pub passes_chain : (places : List Place) (c n : ℕ) → length (marks_of marks c) ≤ n → AreMarkedBefore marks (at c n) places
+      → AreMarkedBefore marks (at (c + 1) 0) places
+  passes_chain places c n long are = moves (at c n) (at (c + 1) 0) places (λ q before. before_chain q c n before) back are
+    where
+      back : (q : Place) → IsTrue (is_marked marks q) → ComesBefore q (at (c + 1) 0) → ComesBefore q (at c n)
+      back q on before = elim (cases_order q.chain c) [
+        | inl same ↦
+            let low = mark_there marks q on in
+            let few = ap (λ (k : ℕ). length (marks_of marks k)) same in
+            inr (same, omega (arith, low, few, long))
+        | inr other ↦ elim other [
+          | inl less ↦ inl less
+          | inr more ↦ absurd (not_later q c before more)
+        ]
+      ]
+
+  pushes : (places : List Place) (c n : ℕ) → IsTrue (is_marked marks (at c n)) → AreMarkedBefore marks (at c n) places
+      → AreMarkedBefore marks (at c (n + 1)) (places ++ at c n ∷ [])
+  pushes places c n on are = record {
+    ascending = ascending_push places (at c n) are.ascending (λ q listed. ((are.exact q).0 listed).0);
+    exact = λ place. (
+      λ listed. elim (listed_either places (at c n) place listed) [
+        | inl first ↦ let is = (are.exact place).0 first in (before_next place c n is.0, is.1)
+        | inr is ↦ (itself_next place c n is, subst (λ (p : Place). IsTrue (is_marked marks p)) is on)
+      ],
+      λ is. elim (next_either place c n is.0) [
+        | inl earlier ↦ listed_first places (at c n) place ((are.exact place).1 (earlier, is.1))
+        | inr same ↦ subst (λ (p : Place). IsTrue (is_listed (places ++ at c n ∷ []) p)) same (listed_last places (at c n))
+      ],
+    );
+  }
+
+  -- The limit advances by one rule.
+  pub goes_on : (old new : List Place) (c n : ℕ) (b : Bool) → b ≡ is_marked marks (at c n) → new ≡ with_marked old (at c n) b
+      → AreMarkedBefore marks (at c n) old → AreMarkedBefore marks (at c (n + 1)) new
+  goes_on old new c n true marked is are =
+      subst (λ (ps : List Place). AreMarkedBefore marks (at c (n + 1)) ps) (sym is) (pushes old c n (sym marked) are)
+  goes_on old new c n false marked is are =
+      subst (λ (ps : List Place). AreMarkedBefore marks (at c (n + 1)) ps) (sym is) (passes_unmarked old c n (sym marked) are)
+
+  -- ---- all places
+
+  module _ (rules : Rules) (has : HasMarks rules marks) where
+    all_before : (n : ℕ) (q : Place) → chain_count rules ≤ n → IsTrue (is_marked marks q) → ComesBefore q (at n 0)
+    all_before n q past on = elim (cases_lt q.chain n) [
+      | inl low ↦ inl low
+      | inr high ↦
+          let none = none_past rules q.chain (omega (arith, past, high)) in
+          let same = has q.chain in
+          let there = mark_there marks q on in
+          absurd (omega (arith, none, same, there))
+    ]
+
+    pub all_marked : (n : ℕ) (places : List Place) → chain_count rules ≤ n → AreMarkedBefore marks (at n 0) places → AreMarked marks places
+    all_marked n places past are = record {
+      ascending = are.ascending;
+      exact = λ place. (λ listed. ((are.exact place).0 listed).1, λ on. (are.exact place).1 (all_before n place past on, on));
+    }

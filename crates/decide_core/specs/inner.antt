@@ -1,0 +1,5 @@
+pub mod Classifying
+pub mod Deciding
+pub mod Flows
+pub mod Marked
+pub mod ServiceBoxes
