@@ -1,0 +1,5 @@
+pub mod Changing
+pub mod Gaining
+pub mod Listing
+pub mod Naming
+pub mod Sharing

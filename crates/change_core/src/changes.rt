@@ -1,0 +1,75 @@
+//! The changes from one policy to another, for each kind of change and each pair of owners.
+
+ghost use Rattle.std.specs.Prelude.{◌≡◌, ◌↔◌, ◌++◌, [], IfOk, OnOk, map};
+ghost use Rattle.change_core.specs.Changes.{AreChanges, AreChangesBy, IsComplete, TreatAlike, policy_with};
+ghost use Rattle.change_core.specs.inner.Changing.{IsAdded, change_of};
+ghost use Rattle.change_core.specs.inner.Naming.{AreNamed};
+
+use crate::change::Change;
+use crate::gained::Gained;
+use crate::kind::ChangeKind;
+use crate::named::all_named;
+use header_space::Owned;
+use pass_core::{PairServices, services_by_pairs};
+use pkt_core::FlowPolicy;
+use std::alloc::{AllocError, Global};
+
+/// Returns the changes from the old policy to the new one: for each kind and each pair of owners, the
+/// services of which packets change by this kind. The list is ordered by kind, then by the owner of the
+/// source, then by the owner of the destination. A pair is listed for a kind only if one of its packets
+/// changes by this kind.
+pub fn changes_between(
+    alloc: Global,
+    old: &FlowPolicy<'_>,
+    new: &FlowPolicy<'_>,
+) -> Result<Vec<Change>, AllocError>
+    ensures changes { IfOk result (λ list.
+        AreChanges (policy_with old.now.site old.now.permitted old.now.stateful) (policy_with new.now.site new.now.permitted new.now.stateful) list.items) }
+    ensures complete { IfOk result (λ list.
+        IsComplete (policy_with old.now.site old.now.permitted old.now.stateful) (policy_with new.now.site new.now.permitted new.now.stateful) list.items) }
+    // There is no change if and only if the policies are equivalent.
+    ensures exact { IfOk result (λ list. (list.items ≡ []) ↔
+        TreatAlike (policy_with old.now.site old.now.permitted old.now.stateful) (policy_with new.now.site new.now.permitted new.now.stateful)) }
+{
+    let named = all_named(alloc, new.hosts(), old.hosts())?;
+    let mut list = Vec::new(alloc);
+    push_kind(alloc, &mut list, ChangeKind::FlowComes, old, new, &named)?;
+    push_kind(alloc, &mut list, ChangeKind::FlowGoes, old, new, &named)?;
+    push_kind(alloc, &mut list, ChangeKind::AnswersCome, old, new, &named)?;
+    push_kind(alloc, &mut list, ChangeKind::AnswersGo, old, new, &named)?;
+    Ok(list)
+}
+
+/// Appends the changes of a kind.
+fn push_kind(
+    alloc: Global,
+    list: &mut Vec<Change>,
+    kind: ChangeKind,
+    old: &FlowPolicy<'_>,
+    new: &FlowPolicy<'_>,
+    named: &[Owned],
+) -> Result<(), AllocError>
+    requires { AreNamed new.now.site.hosts old.now.site.hosts named.now }
+    ensures { OnOk result (IsAdded
+        (AreChangesBy (policy_with old.now.site old.now.permitted old.now.stateful) (policy_with new.now.site new.now.permitted new.now.stateful) kind)
+        list.old.items list.new.items) }
+{
+    let gained = Gained::by(kind, old, new);
+    let pairs = services_by_pairs(alloc, &gained, named)?;
+    push_all(list, pairs, kind, new.count())
+}
+
+/// Appends the change of each pair.
+fn push_all(
+    list: &mut Vec<Change>,
+    pairs: Vec<PairServices>,
+    kind: ChangeKind,
+    count: u16,
+) -> Result<(), AllocError>
+    ensures { OnOk result (list.new.items ≡ list.old.items ++ map (change_of kind count) pairs.items) }
+{
+    for pair in pairs {
+        list.push(Change::of(pair, kind, count))?;
+    }
+    Ok(())
+}

@@ -1,0 +1,22 @@
+//! The changes from an old policy to a new one: the packets that the two policies treat differently, by pair
+//! of owners of their addresses. Also, which flows the invariants of a new network no longer deny, and which of
+//! its gaps an old network does not have. The order and the names of hosts are irrelevant.
+#![tactic(auto)]
+
+mod change;
+mod changes;
+mod gained;
+mod gaps;
+mod kind;
+mod named;
+mod named_owner;
+mod policy_flows;
+mod sharing;
+mod weaker;
+
+pub use change::Change;
+pub use changes::changes_between;
+pub use gaps::new_gaps;
+pub use kind::ChangeKind;
+pub use named_owner::NamedOwner;
+pub use weaker::{Weaker, weaker_flows};
