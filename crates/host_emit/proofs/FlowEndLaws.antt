@@ -1,4 +1,4 @@
--- The ends of a packet's flow, and which packets are a host's own to send or to receive.
+-- The ends of a packet's flow, and the packets that a host sends or receives.
 use Rattle.std.proofs.Common.{◌≡◌, inl, inr, ℕ, Bool, true, false, not, ◌&&◌, ◌==◌, Some, None, refl, ap, subst, ◌∙◌, true≢false, arith}
 use Rattle.std.specs.Prelude.{if◌then◌else◌, List, Option}
 use Rattle.std.specs.Option.{option_map_or}
@@ -41,7 +41,7 @@ between_back None to f is = cc
 between_back (Some i) None f is = cc
 between_back (Some i) (Some j) f is = some_flow i j (i == j) (j == i) f (turned_test i j) is
 
--- the answer to a packet is of the reversed flow
+-- The answer to a packet belongs to the reversed flow.
 flow_back : (hosts : List Host) (p : Packet) (f : Flow) → flow_of hosts p ≡ Some f → flow_of hosts (swap_of p) ≡ Some (back_of f)
 flow_back hosts p f is = between_back (owner_of hosts p.src) (owner_of hosts p.dst) f is
 
@@ -74,11 +74,11 @@ between_apart (Some i) (Some j) f is = by_test (i == j) refl is
     by_test true test is = cc
     by_test false test is = subst (λ (g : Flow). (g.from == g.to) ≡ false) (of_flow (record { from = i; to = j }) is) test
 
--- a flow is between different hosts
+-- A flow is between different hosts.
 pub flow_apart : (hosts : List Host) (p : Packet) (f : Flow) → flow_of hosts p ≡ Some f → (f.from == f.to) ≡ false
 flow_apart hosts p f is = between_apart (owner_of hosts p.src) (owner_of hosts p.dst) f is
 
--- one host alone is not specific
+-- Only one host is not specific.
 pub one_rest : (hosts : List Host) (i j : ℕ) → is_specific hosts i ≡ false → is_specific hosts j ≡ false → (i == j) ≡ true
 one_rest hosts i j first second = by_rest (rest_of hosts) first second
   where
@@ -86,7 +86,7 @@ one_rest hosts i j first second = by_rest (rest_of hosts) first second
     by_rest None first second = absurd (true≢false first)
     by_rest (Some r) first second = grind (arith, nat_tests)
 
--- either end of a flow
+-- Either end of a flow.
 pub end_on : (side : Side) (f : Flow) → is_end (Some f) (host_on side f) ≡ true
 end_on Sending f = or_left (f.from == f.from) _ (same_number f.from)
 end_on Receiving f = or_right (f.from == f.to) _ (same_number f.to)
@@ -94,14 +94,14 @@ end_on Receiving f = or_right (f.from == f.to) _ (same_number f.to)
 end_back : (f : Flow) (h : ℕ) → is_end (Some f) h ≡ true → is_end (Some (back_of f)) h ≡ true
 end_back f h is = elim (or_cases (f.from == h) (f.to == h) is) [ inl a ↦ or_right (f.to == h) _ a | inr b ↦ or_left (f.to == h) _ b ]
 
--- at an end of its flow a packet is the host's
+-- At an end of its flow a packet belongs to the host.
 pub at_end : (hosts : List Host) (test : Packet → Bool) (p : Packet) (f : Flow) (h : ℕ) → flow_of hosts p ≡ Some f → is_end (Some f) h ≡ true → at_host hosts test h p ≡ test p
 at_end hosts test p f h is there = ap (λ (o : Option Flow). is_end o h && test p) is ∙ ap (λ (b : Bool). b && test p) there
 
 pub at_end_back : (hosts : List Host) (test : Packet → Bool) (p : Packet) (f : Flow) (h : ℕ) → flow_of hosts p ≡ Some f → is_end (Some f) h ≡ true → at_host hosts test h (swap_of p) ≡ test (swap_of p)
 at_end_back hosts test p f h is there = at_end hosts test (swap_of p) (back_of f) h (flow_back hosts p f is) (end_back f h there)
 
--- elsewhere it is not
+-- Elsewhere it does not.
 pub off_end : (hosts : List Host) (test : Packet → Bool) (p : Packet) (o : Option Flow) (h : ℕ) → flow_of hosts p ≡ o → is_end o h ≡ false → at_host hosts test h p ≡ false
 off_end hosts test p o h is away = ap (λ (x : Option Flow). is_end x h && test p) is ∙ ap (λ (b : Bool). b && test p) away
 

@@ -1,4 +1,4 @@
--- The layout for the machines of a host guards them by the policy.
+-- The layout for the machines of a host enforces the policy on them.
 use Rattle.std.proofs.Common.{◌≡◌, ℕ, zero, suc, ◌+◌, Bool, true, false, cond, not, ◌==◌, ◌&&◌, ◌||◌, List, [], ◌∷◌, Option, Some, None, refl, sym, ap, subst, ◌∙◌, true≢false, arith}
 use Rattle.std.specs.Prelude.{if◌then◌else◌, slice_get}
 use Rattle.std.specs.List.{flat_map, position_from}
@@ -44,7 +44,7 @@ use Rattle.host_emit.specs.Guarding.{Guards, PassesOn, is_internal, is_own}
 
 -- 1. Who owns an address.
 
--- what is found at a place passes the test
+-- An element that is found at an index passes the test.
 found_at : (test : Host → Bool) (k : ℕ) (hs : List Host) (i : ℕ) → position_from test k hs ≡ Some i
     → (j : ℕ) × (x : Host) × (k + j ≡ i) × (slice_get hs j ≡ Some x) × (test x ≡ true)
 found_at test k [] i found = cc
@@ -59,14 +59,14 @@ found_at test k (x ∷ xs) i found = by_test (test x) refl found (λ later. foun
         let place : k + 1 + rest.0 ≡ i = rest.2 in
         (suc rest.0, rest.1, omega arith, rest.3, rest.4)
 
--- the prefixes of a host that holds an address cover it
+-- The prefixes of a host that is found as holder of an address cover it.
 held_covered : (hosts : List Host) (a h : ℕ) → holder_of hosts a ≡ Some h → covers_any (prefixes_of hosts h) a ≡ true
 held_covered hosts a h held =
     let found = found_at (λ x. covers_any x.prefixes a) 0 hosts h held in
     let place : found.0 ≡ h = let start = found.2 in omega arith in
     subst (λ (i : ℕ). covers_any (prefixes_of hosts i) a ≡ true) place (ap (λ (o : Option Host). covers_any (option_map_or (λ x. x.prefixes) o []) a) found.3 ∙ found.4)
 
--- a specific host that owns an address covers it
+-- A specific host that owns an address covers it.
 pub owned_covered : (hosts : List Host) (a h : ℕ) → is_specific hosts h ≡ true → owner_of hosts a ≡ Some h
     → covers_any (prefixes_of hosts h) a ≡ true
 unfolding owner_of
@@ -82,7 +82,7 @@ owned_covered hosts a h specific owned = by_holder (holder_of hosts a) refl owne
     by_holder None is owned = absurd (not_rest owned)
     by_holder (Some i) is owned = held_covered hosts a h (is ∙ owned)
 
--- a host that covers an address owns it
+-- A host that covers an address owns it.
 covered_owned : (hosts : List Host) (a h : ℕ) → IsHosts hosts → covers_any (prefixes_of hosts h) a ≡ true → owner_of hosts a ≡ Some h
 covered_owned hosts a h known covered = by_host (slice_get hosts h) refl covered
   where
@@ -90,10 +90,10 @@ covered_owned hosts a h known covered = by_host (slice_get hosts h) refl covered
     by_host None there covers = absurd (true≢false (sym covers))
     by_host (Some x) there covers = owner_of_covered hosts h x a known there covers
 
--- 2. What the chains of a machine say.
+-- 2. The verdicts of the chains of a machine.
 
 module _ (site : Site) (p s : List Flow) (h : ℕ) (known : IsHosts site.hosts) where
-  -- what the host's chain says is what the policy says of a packet of the host's own
+  -- The verdict of the host's chain is that of the policy for a packet of the host.
   own_part : (side : Side) (state : CtState) (packet : Packet) → is_own side site.hosts h packet ≡ true
       → may_link_owner side site p s packet (is_established state) h (owner_of site.hosts (other_address side packet)) ≡ lets_pass site p s packet state
   own_part Sending state packet own =
@@ -152,7 +152,7 @@ module _ (site : Site) (p s : List Flow) (h : ℕ) (known : IsHosts site.hosts) 
       (said_by_any a (Some v) own)
       (says_flat_map fits chains (own_jump side) (λ q. if covers q a then Some v else None) (jump_says side state packet is) own))
 
-  -- what the chains say together, where the rest is dropped
+  -- The combined verdict of the chains, with policy DROP.
   entry_verdict : (internal own lets : Bool) (v : Verdict) → (own ≡ true → v ≡ verdict_if lets)
       → verdict_by (Some Dropping) (option_or (if internal then Some Forwarded else None) (if own then Some v else None)) ≡ verdict_if (internal || (own && lets))
   entry_verdict true own lets v is = refl
@@ -177,7 +177,7 @@ module _ (site : Site) (p s : List Flow) (h : ℕ) (known : IsHosts site.hosts) 
       subst (λ (x : Bool). PassesOn (local_layout site p s h) side state packet (x || (is_own side site.hosts h packet && lets_pass site p s packet state)))
       internal (passes_on side state packet is)
 
-  -- the layout guards the machines of its host
+  -- The layout enforces the policy on the machines of its host.
   pub layout_guards : Guards (local_layout site p s h) site p s h
   layout_guards = record {
     given = λ side state packet is. at_internal side state packet false is.0 is.1;

@@ -1,4 +1,4 @@
--- Where hosts are guarded by the policy, exactly what is expected passes, and what goes between two hosts that are not.
+-- If the hosts enforce the policy, exactly the expected packets pass, and those between two hosts that do not enforce.
 use Rattle.std.proofs.Common.{◌≡◌, ℕ, Bool, true, false, ◌==◌, ◌&&◌, List, Option, Some, None, refl, sym, ap, subst, ◌∙◌, true≢false}
 use Rattle.std.specs.Prelude.{if◌then◌else◌, IsSome}
 use Rattle.std.specs.Option.{option_map_or}
@@ -39,7 +39,7 @@ unless b g = if b then None else Some g
 same_flow : (g f : Flow) → Some g ≡ Some f → g ≡ f
 same_flow g f h = cc
 
--- the ends of a flow own the addresses
+-- The ends of a flow own the addresses.
 between_ends : (from to : Option ℕ) (f : Flow) → flow_of_owners from to ≡ Some f → (from ≡ Some f.from) × (to ≡ Some f.to)
 between_ends None to f is = cc
 between_ends (Some i) None f is = cc
@@ -54,13 +54,13 @@ own_end : (hosts : List Host) (packet : Packet) (f : Flow) (side : Side) → flo
 own_end hosts packet f Sending is = (between_ends (owner_of hosts packet.src) (owner_of hosts packet.dst) f is).0
 own_end hosts packet f Receiving is = (between_ends (owner_of hosts packet.src) (owner_of hosts packet.dst) f is).1
 
--- a packet of some flows has a flow
+-- A packet that belongs to one of some flows has a flow.
 of_some : (site : Site) (packet : Packet) (flows : List Flow) (o : Option Flow)
     → option_map_or (λ f. has flows f && is_served (services_of site.services f.from f.to) packet) o false ≡ true → IsSome o
 of_some site packet flows None is = absurd (true≢false (sym is))
 of_some site packet flows (Some f) is = refl
 
--- at its side of a flow the packet is a specific host's own
+-- At its end of a flow the packet belongs to the specific host.
 own_decides : (hosts : List Host) (side : Side) (packet : Packet) (f : Flow) → flow_of hosts packet ≡ Some f → is_specific hosts (host_on side f) ≡ true
     → (b : Bool) → (is_own side hosts (host_on side f) packet && b) ≡ b
 own_decides hosts side packet f is specific b =
@@ -68,7 +68,7 @@ own_decides hosts side packet f is specific b =
 
 module _ (chains : ℕ → List Chain) (site : Site) (p s : List Flow) (subset : IsSubset s p)
     (guarded : (h : ℕ) → is_specific site.hosts h ≡ true → Guards (chains h) site p s h) where
-  -- a host that is guarded by the policy decides as the policy does at its side of a flow
+  -- A host that enforces the policy decides as the policy does at its end of a flow.
   guards_are_firewalls : (enforces : ℕ → Bool) → AreSpecific site.hosts enforces
       → AreFirewallsFor site.hosts enforces (λ h. PassesOn (chains h)) IsExternal (is_of site p) (is_of site s)
   guards_are_firewalls enforces are_specific = record {
@@ -100,7 +100,7 @@ module _ (chains : ℕ → List Chain) (site : Site) (p s : List Flow) (subset :
   firewalls : AreFirewallsFor site.hosts (is_specific site.hosts) (λ h. PassesOn (chains h)) IsExternal (is_of site p) (is_of site s)
   firewalls = guards_are_firewalls (is_specific site.hosts) all_are_specific
 
-  -- exactly what is expected passes
+  -- Exactly the expected packets pass.
   pub guards_expected : PassesExpected chains site p s
   guards_expected = record {
     expected = all_expected;
@@ -112,11 +112,11 @@ module _ (chains : ℕ → List Chain) (site : Site) (p s : List Flow) (subset :
         expected_once (is_of site p) (is_of site s) events answers others (all_expected events answers known run) (all_expected events others known other);
   }
 
--- the layouts of all hosts let exactly what is expected pass
+-- With the layouts of all hosts exactly the expected packets pass.
 pub layouts_expected : (site : Site) (p s : List Flow) → IsHosts site.hosts → IsSubset s p → PassesExpected (local_layout site p s) site p s
 layouts_expected site p s known subset = guards_expected (local_layout site p s) site p s subset (λ h specific. layout_guards site p s h known)
 
--- and a packet passes between the hosts exactly where the chains of a box for the whole network forward it
+-- A packet passes between the hosts if and only if the chains of a firewall for the whole network forward it.
 pub passes_as_forwarded : (site : Site) (p s : List Flow) → IsHosts site.hosts → IsSubset s p → (events : List Event) → AreExternal events
     → (passes forwards : List (Option Bool)) → LocalRuns (local_layout site p s) site.hosts events passes
     → RunsFromNothing (Passes (layout site p s)) events forwards → passes ≡ forwards

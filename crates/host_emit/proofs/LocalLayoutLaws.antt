@@ -1,4 +1,4 @@
--- Laws of the layout for a host's machines: how its chains are filled, how many rules they have, and that they make a rule set.
+-- Lemmas on the layout for a host's machines: how its chains are filled, the number of their rules, and that they form a rule set.
 use Rattle.std.proofs.Common.{◌≡◌, ℕ, ◌+◌, ◌≤◌, zero, suc, true, false, List, [], ◌∷◌, Option, Some, None, length, refl, sym, ap, subst, ◌∙◌, arith}
 use Rattle.std.specs.Prelude.{nat_lt, IsTrue, slice_get, codes, option_map}
 use Rattle.std.specs.List.{flat_map, list_all}
@@ -44,7 +44,7 @@ pub outgoing_legal : IsTrue (is_user_name (codes "OUT"))
 unfolding is_user_name is_reserved
 outgoing_legal = refl
 
--- each chain of a machine is filled once
+-- Each chain of a machine is filled once.
 pub input_filled : (chains : List Chain) (rules : List Rule) → chains ≡ machine_chains [] [] [] [] → with_rules chains 0 rules ≡ machine_chains rules [] [] []
 input_filled chains rules is = ap (λ (x : List Chain). with_rules x 0 rules) is ∙ with_rules-changed (machine_chains [] [] [] []) 0 rules
 
@@ -64,7 +64,7 @@ outgoing_filled chains c input output incoming rules is number =
     ap (λ (x : List Chain). with_rules x c rules) is ∙ ap (λ (n : ℕ). with_rules (machine_chains input output incoming []) n rules) number
     ∙ with_rules-changed (machine_chains input output incoming []) 4 rules
 
--- 2. How many rules there are.
+-- 2. The number of rules.
 
 pub machine_rule_count : (input output incoming outgoing : List Rule)
     → rule_count (machine_chains input output incoming outgoing) ≡ length input + length output + length incoming + length outgoing
@@ -77,7 +77,7 @@ few_entries side (q ∷ qs) = omega (arith, few_entries side qs)
 length-entry_rules : (side : Side) (qs : List Prefix) → length (entry_rules side qs) ≡ length qs + 1
 length-entry_rules side qs = omega (arith, few_entries side qs)
 
--- a host has no more prefixes than all hosts have
+-- A host has at most as many prefixes as all hosts together.
 few_prefixes : (hosts : List Host) (h : ℕ) → length (prefixes_of hosts h) ≤ prefix_count hosts
 few_prefixes [] h = omega arith
 few_prefixes (x ∷ xs) zero =
@@ -86,11 +86,11 @@ few_prefixes (x ∷ xs) (suc h) =
     let rest = few_prefixes xs h in
     subst (λ (n : ℕ). length (prefixes_of xs h) ≤ n) (sym (sum_by-cons (λ (y : Host). length y.prefixes) x xs)) (omega arith)
 
--- INPUT or OUTPUT of a host has few rules
+-- INPUT and OUTPUT of a host have few rules.
 pub few_entry_rules : (side : Side) (hosts : List Host) (h : ℕ) → prefix_count hosts ≤ 1024 → length (entry_rules side (prefixes_of hosts h)) ≤ 1025
 few_entry_rules side hosts h few = omega (arith, length-entry_rules side (prefixes_of hosts h), few_prefixes hosts h)
 
--- the prefixes that are read at a host are its prefixes
+-- The prefixes that are read from a host are its prefixes.
 pub prefixes_read : (hosts : List Host) (h : ℕ) (qs : List Prefix) → option_map (λ x. x.prefixes) (slice_get hosts h) ≡ Some qs → qs ≡ prefixes_of hosts h
 prefixes_read hosts h qs read = by_host (slice_get hosts h) read
   where
@@ -98,7 +98,7 @@ prefixes_read hosts h qs read = by_host (slice_get hosts h) read
     by_host None is = cc
     by_host (Some x) is = cc
 
--- far fewer than a rule set may have, whatever the hosts and the services of flows are
+-- The number of rules is far below the limit of a rule set, for all hosts and services.
 pub few_local_rules : (site : Site) (p s : List Flow) (h : ℕ) → IsSite site → rule_count (local_layout site p s h) ≤ 69700
 few_local_rules site p s h is =
     let few = is.hosts.few_prefixes in
@@ -111,9 +111,9 @@ few_local_rules site p s h is =
       few_host_rules Sending site p s h is,
     )
 
--- 3. They make a rule set.
+-- 3. They form a rule set.
 
--- a rule of INPUT or OUTPUT jumps to one of the two user chains, where it jumps
+-- If a rule of INPUT or OUTPUT jumps, its target is one of the two user chains.
 jumps_enter : (side : Side) (qs : List Prefix) → list_all (λ r. jumps_between 3 5 r.target) (flat_map (own_jump side) qs) ≡ true
 jumps_enter side [] = refl
 jumps_enter Sending (q ∷ qs) = jumps_enter Sending qs
@@ -122,7 +122,7 @@ jumps_enter Receiving (q ∷ qs) = jumps_enter Receiving qs
 entries_enter : (side : Side) (qs : List Prefix) → list_all (λ r. jumps_between 3 5 r.target) (entry_rules side qs) ≡ true
 entries_enter side qs = jumps_enter side qs
 
--- jumps lead from INPUT and OUTPUT to the user chains, and from there nowhere
+-- Jumps lead from INPUT and OUTPUT to the user chains, and these have no jumps.
 pub local_no_loop : (site : Site) (p s : List Flow) (h : ℕ) → IsSite site → HasNoLoop (local_layout site p s h)
 local_no_loop site p s h is =
     let own = prefixes_of site.hosts h in
@@ -132,7 +132,7 @@ local_no_loop site p s h is =
     (and_from _ _ (all_upward 4 0 3 (omega arith) (host_rules Receiving site p s h) (host_rules_stay 4 Receiving site p s h is.services))
     (and_from _ _ (all_upward 5 0 4 (omega arith) (host_rules Sending site p s h) (host_rules_stay 5 Sending site p s h is.services)) refl))))
 
--- no cause is there to refuse them
+-- There is no cause to refuse them.
 pub local_accepted : (site : Site) (p s : List Flow) (h : ℕ) → IsSite site → refusal_of (local_layout site p s h) ≡ None
 unfolding refusal_of
 local_accepted site p s h is =

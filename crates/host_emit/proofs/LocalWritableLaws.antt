@@ -1,4 +1,5 @@
--- The layout for a host's machines is a rule set that is read again, and its text is short enough for it.
+-- The layout for a host's machines is a rule set that is parsed back, and its text is within the size limit of the
+-- parser.
 use Rattle.std.proofs.Common.{◌≡◌, ℕ, zero, suc, ◌<◌, ◌≤◌, ◌∙◌, Bool, true, IsTrue, List, [], ◌∷◌, Some, None, length, refl, sym, arith}
 use Rattle.std.specs.Prelude.{IsSome}
 use Rattle.std.specs.List.{flat_map, list_all}
@@ -65,16 +66,16 @@ machine_table input output incoming outgoing = record {
   found = λ c within. machine_found input output incoming outgoing c within;
 }
 
--- 2. What its rules ask for.
+-- 2. The matches of its rules.
 
--- a test that the rules of all chains pass
+-- A test that the rules of all chains pass.
 machine_passes : (test : Rule → Bool) (input output incoming outgoing : List Rule)
     → list_all test input ≡ true → list_all test output ≡ true → list_all test incoming ≡ true → list_all test outgoing ≡ true
     → list_all (λ x. list_all test x.rules) (machine_chains input output incoming outgoing) ≡ true
 machine_passes test input output incoming outgoing first second third fourth =
     and_from _ _ first (and_from _ _ second (and_from _ _ third (and_from _ _ fourth refl)))
 
--- the jumps ask for addresses alone
+-- The jumps match only on addresses.
 jumps_are : (side : Side) (qs : List Prefix) → list_all is_rule (flat_map (own_jump side) qs) ≡ true
 jumps_are side [] = refl
 jumps_are side (q ∷ qs) = jumps_are side qs
@@ -82,7 +83,7 @@ jumps_are side (q ∷ qs) = jumps_are side qs
 entries_are : (side : Side) (qs : List Prefix) → list_all is_rule (entry_rules side qs) ≡ true
 entries_are side qs = jumps_are side qs
 
--- each chain has few, and they ask for what rules may
+-- Each chain has few rules, and their matches are valid.
 pub entries_few : (side : Side) (site : Site) (h : ℕ) → IsSite site → AreChainRules (entry_rules side (prefixes_of site.hosts h))
 entries_few side site h is =
     let few = few_entry_rules side site.hosts h is.hosts.few_prefixes in
@@ -97,7 +98,7 @@ local_rules_are site p s h is =
     machine_passes is_rule (entry_rules Receiving own) (entry_rules Sending own) (host_rules Receiving site p s h) (host_rules Sending site p s h)
     (entries_are Receiving own) (entries_are Sending own) (host_rules_are Receiving site p s h is.services) (host_rules_are Sending site p s h is.services)
 
--- those of a host's own have 32 bits, since they are among those of all hosts
+-- The addresses of a host have 32 bits, since they are among those of all hosts.
 own_fit : (hosts : List Host) (h : ℕ) → list_all prefix_fits (all_prefixes hosts) ≡ true → list_all prefix_fits (prefixes_of hosts h) ≡ true
 own_fit [] h all = refl
 own_fit (x ∷ xs) zero all = (and_parts (list_all prefix_fits x.prefixes) (list_all prefix_fits (all_prefixes xs)) (sym (list_all-append prefix_fits x.prefixes (all_prefixes xs)) ∙ all)).0
@@ -122,7 +123,7 @@ local_addresses site p s h is =
     machine_passes addresses_fit (entry_rules Receiving own) (entry_rules Sending own) (host_rules Receiving site p s h) (host_rules Sending site p s h)
     (entries_fit Receiving own all) (entries_fit Sending own all) (host_rules_addresses Receiving site p s h is) (host_rules_addresses Sending site p s h is)
 
--- 3. What is written of it is read again, and it is short enough to be read.
+-- 3. Its text is parsed back, and it is within the size limit of the parser.
 
 local_table : (site : Site) (p s : List Flow) (h : ℕ) → IsTable (local_layout site p s h)
 local_table site p s h =

@@ -1,4 +1,4 @@
--- Where hosts have a firewall for one policy, a packet passes exactly where it is expected to, or where neither end of its flow has one.
+-- If hosts have firewalls for one policy, a packet passes if and only if it is expected to, or neither end of its flow has a firewall.
 use Rattle.std.proofs.Common.{◌≡◌, ◌⊎◌, inl, inr, ◌↔◌, ℕ, zero, suc, Bool, true, false, ◌&&◌, ◌||◌, ◌==◌, IsTrue, not, List, [], ◌∷◌, ◌++◌, Some, None, refl, sym, ap, subst, ◌∙◌, append_assoc, append-nil, true≢false}
 use Rattle.std.specs.Prelude.{IsSome, if◌then◌else◌, Option, ⊤}
 use Rattle.std.specs.Option.{option_map_or}
@@ -43,7 +43,7 @@ or_nothing : (b : Bool) → (b || false) ≡ b
 or_nothing true = refl
 or_nothing false = refl
 
--- an end that enforces guards the flow
+-- If one end of a flow enforces the policy, it is false that neither end does.
 guarded_on : (side : Side) (f : Flow) (enforces : ℕ → Bool) → enforces (host_on side f) ≡ true → (not (enforces f.from) && not (enforces f.to)) ≡ false
 guarded_on Sending f enforces there = ap (λ (b : Bool). not b && not (enforces f.to)) there
 guarded_on Receiving f enforces there = ap (λ (b : Bool). not (enforces f.from) && not b) there ∙ by_test (not (enforces f.from))
@@ -52,7 +52,7 @@ guarded_on Receiving f enforces there = ap (λ (b : Bool). not (enforces f.from)
     by_test true = refl
     by_test false = refl
 
--- so such a packet passes the test itself, and so does one without a flow
+-- So such a packet passes the test itself, and so does a packet without a flow.
 guarded : (hosts : List Host) (enforces : ℕ → Bool) (test : Packet → Bool) (p : Packet) (f : Flow) (side : Side) → flow_of hosts p ≡ Some f
     → enforces (host_on side f) ≡ true → or_unguarded hosts enforces test p ≡ test p
 guarded hosts enforces test p f side is there =
@@ -63,14 +63,14 @@ without_flow : (hosts : List Host) (enforces : ℕ → Bool) (test : Packet → 
 without_flow hosts enforces test p is =
     ap (λ (o : Option Flow). test p || option_map_or (λ g. not (enforces g.from) && not (enforces g.to)) o false) is ∙ or_nothing (test p)
 
--- neither end enforces
+-- Neither end enforces.
 unguarded : (hosts : List Host) (enforces : ℕ → Bool) (test : Packet → Bool) (p : Packet) (f : Flow) → flow_of hosts p ≡ Some f
     → enforces f.from ≡ false → enforces f.to ≡ false → or_unguarded hosts enforces test p ≡ true
 unguarded hosts enforces test p f is from to =
     ap (λ (o : Option Flow). test p || option_map_or (λ g. not (enforces g.from) && not (enforces g.to)) o false) is
     ∙ ap (λ (b : Bool). test p || (not b && not (enforces f.to))) from ∙ ap (λ (b : Bool). test p || not b) to ∙ or_right (test p) true refl
 
--- with all specific hosts no packet is unguarded, as there is one rest host at the most
+-- If all specific hosts enforce the policy, every flow has an end that does, because there is at most one rest host.
 pub all_guarded : (hosts : List Host) (test : Packet → Bool) (p : Packet) → or_unguarded hosts (is_specific hosts) test p ≡ test p
 all_guarded hosts test p = by_flow (flow_of hosts p) refl
   where
@@ -89,14 +89,14 @@ module _ (hosts : List Host) (enforces : ℕ → Bool) (firewalls : Firewalls) (
       let parts = and_parts (is_end (flow_of hosts p) h) (stateful p) stated in
       and_from (is_end (flow_of hosts p) h) (permitted p) parts.0 (for_policy.policy p tt parts.1)
 
-  -- at an end of its flow the host's part of the policy says of a packet what the policy says
+  -- At an end of its flow the host's part of the policy has the same verdict as the policy.
   same_part : (p : Packet) (f : Flow) (h : ℕ) → flow_of hosts p ≡ Some f → is_end (Some f) h ≡ true → (established : Bool) →
       (at_host hosts permitted h p || (at_host hosts stateful h (swap_of p) && established)) ≡ (permitted p || (stateful (swap_of p) && established))
   same_part p f h is there established =
       ap (λ (b : Bool). b || (at_host hosts stateful h (swap_of p) && established)) (at_end hosts permitted p f h is there)
       ∙ ap (λ (b : Bool). permitted p || (b && established)) (at_end_back hosts stateful p f h is there)
 
-  -- so a host that takes a packet and tracks it goes on to fit
+  -- So the table of a host that tracks a packet still agrees.
   tracked_fits : (past : List Event) (kept : Kept) (p : Packet) (f : Flow) (h : ℕ) (passes : Bool) → flow_of hosts p ≡ Some f → is_end (Some f) h ≡ true →
       passes ≡ may_pass permitted stateful (state_of kept p) p → HostFits hosts permitted h past kept → HostFits hosts permitted h (past ++ Seen p ∷ []) (after_seen kept p passes)
   tracked_fits past kept p f h passes is there verdict host =
@@ -107,14 +107,14 @@ module _ (hosts : List Host) (enforces : ℕ → Bool) (firewalls : Firewalls) (
         first = KeepsFirst-seen (at_host hosts permitted h) (at_host hosts stateful h) past kept p host.fits host.first;
       })
 
-  -- and so does one that takes no packet, where it is not permitted to the host
+  -- So does the table of a host that does not process the packet, if the packet is not permitted for the host.
   untaken_fits : (past : List Event) (kept : Kept) (p : Packet) (h : ℕ) → at_host hosts permitted h p ≡ false → HostFits hosts permitted h past kept → HostFits hosts permitted h (past ++ Seen p ∷ []) kept
   untaken_fits past kept p h barred host = record {
     fits = Fits-untaken (at_host hosts permitted h) past kept p barred tt host.fits;
     first = KeepsFirst-untaken (at_host hosts permitted h) past kept p barred host.first;
   }
 
-  -- and its verdict is what is expected
+  -- The verdict of the host is the expected one.
   verdict_expected : (past : List Event) (kept : Kept) (p : Packet) (f : Flow) (h : ℕ) (passes : Bool) → flow_of hosts p ≡ Some f → is_end (Some f) h ≡ true →
       passes ≡ may_pass permitted stateful (state_of kept p) p → Fits (λ q. ⊤) (at_host hosts permitted h) past kept → IsTrue passes ↔ Expected permitted stateful past p
   verdict_expected past kept p f h passes is there verdict fits =
@@ -126,20 +126,20 @@ module _ (hosts : List Host) (enforces : ℕ → Bool) (firewalls : Firewalls) (
       ExpectedBy : Bool → Bool → Type 0
       ExpectedBy a b = IsTrue a ⊎ (IsTrue b × WasSeen past (swap_of p))
 
-  -- a specific host that takes a packet gives the verdict of the policy in the state of its table
+  -- A specific host that processes a packet has the verdict of the policy in the state of its table.
   taken : (tables : Tables) (p : Packet) (f : Flow) (side : Side) (passes : Bool) → Known p → flow_of hosts p ≡ Some f → enforces (host_on side f) ≡ true →
       Takes enforces firewalls tables (host_on side f) side p passes → passes ≡ may_pass permitted stateful (state_of (tables (host_on side f)) p) p
   taken tables p f side passes known is specific takes = for_policy.only side (state_of (tables (host_on side f)) p) p f passes known is specific (takes.by_firewall specific)
 
-  -- what is expected where some hosts enforce
+  -- The expected result if only some hosts enforce.
   abbrev Passed : List Event → Packet → Type 0
   Passed past p = Expected (or_unguarded hosts enforces permitted) stateful past p
 
-  -- which is what the policy expects, where this is so
+  -- It is what the policy expects, under this condition.
   passed : (past : List Event) (p : Packet) (passes : Bool) → or_unguarded hosts enforces permitted p ≡ permitted p → IsTrue passes ↔ Expected permitted stateful past p → IsTrue passes ↔ Passed past p
   passed past p passes same is = subst (λ (b : Bool). IsTrue passes ↔ (IsTrue b ⊎ (IsTrue (stateful (swap_of p)) × WasSeen past (swap_of p)))) (sym same) is
 
-  -- a packet without a flow is not expected
+  -- A packet without a flow is not expected.
   none_without_flow : (past : List Event) (p : Packet) → flow_of hosts p ≡ None → Expected permitted stateful past p → ⊥
   none_without_flow past p is expected = elim expected [
     | inl allowed ↦ no_flow (flow_of hosts p) is (for_policy.flows p allowed)
@@ -150,7 +150,7 @@ module _ (hosts : List Host) (enforces : ℕ → Bool) (firewalls : Firewalls) (
       no_flow None is some = absurd (true≢false (sym some))
       no_flow (Some f) is some = cc
 
-  -- no host changes its table: all fit, where the packet is not permitted to any of them
+  -- No host changes its table: all tables still agree if the packet is not permitted for any host.
   all_untaken : (past : List Event) (tables : Tables) (p : Packet) → AllFit hosts enforces permitted past tables → ((h : ℕ) → at_host hosts permitted h p ≡ false) → AllFit hosts enforces permitted (past ++ Seen p ∷ []) tables
   all_untaken past tables p fits barred h specific = untaken_fits past (tables h) p h (barred h) (fits h specific)
 
@@ -158,14 +158,14 @@ module _ (hosts : List Host) (enforces : ℕ → Bool) (firewalls : Firewalls) (
   barred_by state p verdict = (or_parts (permitted p) (stateful (swap_of p) && state) (sym verdict)).0
 
   module _ (past : List Event) (tables : Tables) (fits : AllFit hosts enforces permitted past tables) (p : Packet) (known : Known p) (f : Flow) (is : flow_of hosts p ≡ Some f) where
-    -- the table of a host at one side of the flow, behind the host's verdict
+    -- The table of a host at one end of the flow, after the host's verdict.
     fits_taken : (side : Side) (passes : Bool) (kept : Kept) → enforces (host_on side f) ≡ true → passes ≡ may_pass permitted stateful (state_of (tables (host_on side f)) p) p →
         kept ≡ after_seen (tables (host_on side f)) p passes → HostFits hosts permitted (host_on side f) (past ++ Seen p ∷ []) kept
     fits_taken side passes kept specific verdict table =
         subst (λ (k : Kept). HostFits hosts permitted (host_on side f) (past ++ Seen p ∷ []) k) (sym table)
         (tracked_fits past (tables (host_on side f)) p f (host_on side f) passes is (end_on side f) verdict (fits (host_on side f) specific))
 
-    -- the table of a host that does not take the packet
+    -- The table of a host that does not process the packet.
     fits_untaken : (h : ℕ) (kept : Kept) → enforces h ≡ true → at_host hosts permitted h p ≡ false → kept ≡ tables h → HostFits hosts permitted h (past ++ Seen p ∷ []) kept
     fits_untaken h kept specific barred table =
         subst (λ (k : Kept). HostFits hosts permitted h (past ++ Seen p ∷ []) k) (sym table)
@@ -176,7 +176,7 @@ module _ (hosts : List Host) (enforces : ℕ → Bool) (firewalls : Firewalls) (
         passed past p passes (guarded hosts enforces permitted p f side is specific)
         (verdict_expected past (tables (host_on side f)) p f (host_on side f) passes is (end_on side f) verdict (fits (host_on side f) specific).fits)
 
-    -- the sender drops the packet
+    -- The sender drops the packet.
     stays_expected : Takes enforces firewalls tables f.from Sending p false → (IsTrue false ↔ Passed past p) × AllFit hosts enforces permitted (past ++ Seen p ∷ []) (after_taken enforces tables f.from p false)
     stays_expected takes = elim (cases_Bool (enforces f.from)) [
       | inr other ↦ absurd (true≢false (sym (takes.by_none other)))
@@ -193,7 +193,7 @@ module _ (hosts : List Host) (enforces : ℕ → Bool) (firewalls : Firewalls) (
         at h own verdict specific false away =
             fits_untaken h (after_taken enforces tables f.from p false h) own (at_barred hosts permitted p h (barred_by (is_established (state_of (tables f.from) p)) p verdict)) (other_table enforces tables f.from p false h away)
 
-    -- the sender lets the packet go
+    -- The sender lets the packet pass.
     arrives_expected : (passes : Bool) → Takes enforces firewalls tables f.from Sending p true → Takes enforces firewalls (after_taken enforces tables f.from p true) f.to Receiving p passes →
         (IsTrue passes ↔ Passed past p) × AllFit hosts enforces permitted (past ++ Seen p ∷ []) (after_taken enforces (after_taken enforces tables f.from p true) f.to p passes)
     arrives_expected passes sends receives = (answer (enforces f.to) refl (enforces f.from) refl, (λ h own. at h own (f.to == h) refl (f.from == h) refl))
@@ -232,7 +232,7 @@ module _ (hosts : List Host) (enforces : ℕ → Bool) (firewalls : Firewalls) (
             fits_untaken h (after_taken enforces behind f.to p passes h) own (off_end hosts permitted p (Some f) h is (or_from (f.from == h) (f.to == h) off away))
             (other_table enforces behind f.to p passes h away ∙ other_table enforces tables f.from p true h off)
 
-  -- what becomes of a packet is what is expected, and all tables go on to fit
+  -- The delivery of a packet is as expected, and all tables still agree.
   goes_expected : (past : List Event) (tables : Tables) → AllFit hosts enforces permitted past tables → (p : Packet) → Known p → (passes : Bool) (behind : Tables) → Goes hosts enforces firewalls tables p passes behind →
       (IsTrue passes ↔ Passed past p) × AllFit hosts enforces permitted (past ++ Seen p ∷ []) behind
   goes_expected past tables fits p known passes behind (nowhere is) =
@@ -266,11 +266,11 @@ module _ (hosts : List Host) (enforces : ℕ → Bool) (firewalls : Firewalls) (
       let rest = runs_behind (past ++ Forget p ∷ []) (λ h. after_forget (tables h) p) (all_forget past tables p fits) events (λ k q there. known (suc k) q there) answers behind run in
       (forgotten_expected (or_unguarded hosts enforces permitted) stateful past p events answers rest.0, (λ h specific. subst (λ (es : List Event). HostFits hosts permitted h es (behind h)) (append_assoc past (Forget p ∷ []) events) (rest.1 h specific)))
 
-  -- over every list of events of known packets, a packet passes exactly where it is expected to or where neither end of its flow enforces
+  -- For every list of events with known packets, a packet passes if and only if it is expected to or neither end of its flow enforces.
   pub pass_as_expected : (events : List Event) → AllKnown Known events → (answers : List (Option Bool)) → PassRuns hosts enforces firewalls empty_tables events answers → AreExpected (or_unguarded hosts enforces permitted) stateful events answers
   pass_as_expected events known answers run = all_expected (or_unguarded hosts enforces permitted) stateful events answers (runs_behind [] empty_tables all_start events known answers run.0 run.1).0
 
-  -- and each host that enforces keeps exactly the first packets of its connections
+  -- Each enforcing host tracks exactly the first packets of its connections.
   pub pass_keeps_first : (events : List Event) → AllKnown Known events → (answers : List (Option Bool)) (behind : Tables) → PassRunsTo hosts enforces firewalls empty_tables events answers behind → AllKeepFirst hosts enforces permitted events behind
   pass_keeps_first events known answers behind run h specific = ((runs_behind [] empty_tables all_start events known answers behind run).1 h specific).first
 
@@ -300,7 +300,7 @@ module _ (hosts : List Host) (enforces : ℕ → Bool) (firewalls : Firewalls) (
       by_flow None is = (false, tables, nowhere is)
       by_flow (Some f) is = let sent = some_taken tables p f Sending known is in send f is sent.0 sent.1
 
-  -- and there is a run, whatever the tables
+  -- A run exists, for all tables.
   pub some_pass_run : (tables : Tables) (events : List Event) → AllKnown Known events → (answers : List (Option Bool)) × PassRuns hosts enforces firewalls tables events answers
   some_pass_run tables [] known = ([], (tables, refl))
   some_pass_run tables (Seen p ∷ events) known =

@@ -1,4 +1,4 @@
--- A worked row: what passes between two hosts with firewalls of their own, over packets in both directions and a forgetting.
+-- Test vector: the packets that pass between two hosts with host firewalls, for packets in both directions and a forget event.
 use Rattle.std.proofs.Common.{◌≡◌, ℕ, Bool, true, false, List, [], ◌∷◌, Some, None, refl, true≢false}
 use Rattle.std.specs.Prelude.{codes}
 use Rattle.host_net.specs.declared.packet.Packet.{Packet}
@@ -20,22 +20,22 @@ use Rattle.host_emit.specs.LocalEvents.{LocalRuns}
 use Rattle.host_emit.specs.LocalLayout.{is_specific, local_layout}
 use Rattle.host_emit.specs.Passing.{Goes, stays, arrives, Tables, after_taken, empty_tables}
 
--- host 0 at 10.0.0.1, and host 1 at 10.0.0.2
+-- Host 0 at 10.0.0.1, and host 1 at 10.0.0.2.
 abbrev hosts : List Host
 hosts =
     record { name = codes "a"; prefixes = prefix_with 167772161 32 ∷ []; rest = false }
     ∷ record { name = codes "b"; prefixes = prefix_with 167772162 32 ∷ []; rest = false }
     ∷ []
 
--- the flow from host 0 to host 1 is permitted, and its answers pass
+-- The flow from host 0 to host 1 is permitted, and its answers pass.
 abbrev flows : List Flow
 flows = record { from = 0; to = 1 } ∷ []
 
--- the chains for the machines of a host
+-- The chains for the machines of a host.
 abbrev chains : ℕ → List Chain
 chains = local_layout (site_with hosts []) flows flows
 
--- a packet from host 0 to host 1, and its answer
+-- A packet from host 0 to host 1, and its answer.
 abbrev request : Packet
 request = record { src = 167772161; dst = 167772162; proto = 6; sport = 40000; dport = 80 }
 

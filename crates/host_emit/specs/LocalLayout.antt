@@ -1,6 +1,6 @@
--- The layout for the machines of one host as chains of iptables (docs/TEXTS.md, the rules for the machines of one host). The policy is the
--- flows p that are permitted, each narrowed to its services where it has some, and those of them, s, whose answers pass as well; hosts are
--- known by their numbers.
+-- The layout for the machines of one host as iptables chains (docs/TEXTS.md, the rules for the machines of one host). The policy is given
+-- by its permitted flows p, each restricted to its services if it has any, and the stateful flows s among them, whose answers pass as well;
+-- hosts are identified by their numbers.
 use Rattle.std.specs.Prelude.{ℕ, Bool, true, not, ◌==◌, List, [], ◌∷◌, Some, None, codes, slice_get}
 use Rattle.std.specs.List.{flat_map}
 use Rattle.std.specs.Option.{option_map_or}
@@ -18,18 +18,19 @@ use Rattle.emit_core.specs.declared.side.Side.TheVariants.{Sending, Receiving}
 use Rattle.emit_core.specs.Layout.{at_other, host_rules, in_prefix}
 use Rattle.emit_core.specs.Sides.{other_side}
 
--- every host but the rest host is specific
+-- Every host except the rest host is specific.
 abbrev pub is_specific : List Host → ℕ → Bool
 is_specific hosts h = option_map_or (λ r. not (r == h)) (rest_of hosts) true
 
+-- The prefixes of host h.
 abbrev pub prefixes_of : List Host → ℕ → List Prefix
 prefixes_of hosts h = option_map_or (λ x. x.prefixes) (slice_get hosts h) []
 
--- 127.0.0.0/8, the addresses by which a machine speaks to itself (RFC 1122, section 3.2.1.3)
+-- 127.0.0.0/8, the loopback addresses of a machine (RFC 1122, section 3.2.1.3).
 abbrev pub loopback : Prefix
 loopback = prefix_with 2130706432 8
 
--- what a machine says to itself passes
+-- The rule that accepts loopback packets.
 abbrev pub loopback_rule : Rule
 loopback_rule = record {
   src = in_prefix (Some loopback);
@@ -41,25 +42,25 @@ loopback_rule = record {
   target = Accept;
 }
 
--- a machine sends through OUTPUT, and receives through INPUT
+-- A machine sends through OUTPUT, and receives through INPUT.
 abbrev pub entry_of : Side → ℕ
 entry_of Sending = 2
 entry_of Receiving = 0
 
--- OUT is the user chain for what the host sends, and IN the one for what it receives
+-- OUT is the user chain for outbound packets, and IN the one for inbound packets.
 abbrev pub chain_for : Side → ℕ
 chain_for Sending = 4
 chain_for Receiving = 3
 
--- a jump to the user chain for an address of the host's own
+-- A jump to the user chain for an address of the host itself.
 abbrev pub own_jump : Side → Prefix → List Rule
 own_jump side q = at_other (other_side side) (Some q) None (Jump (chain_for side)) ∷ []
 
--- INPUT or OUTPUT: what the machine says to itself, and what has an address of the host's own
+-- The rules of INPUT or OUTPUT: for loopback packets, and for packets with an address of the host itself.
 abbrev pub entry_rules : Side → List Prefix → List Rule
 entry_rules side prefixes = loopback_rule ∷ flat_map (own_jump side) prefixes
 
--- the chains of a machine by their rules: the built-in ones drop what no rule decides, and FORWARD is empty
+-- The chains of a machine, given their rules: the policy of the built-in chains is DROP, and FORWARD is empty.
 abbrev pub machine_chains : (input output incoming outgoing : List Rule) → List Chain
 machine_chains input output incoming outgoing =
     record { name = codes "INPUT"; policy = Some Dropping; rules = input }
@@ -69,7 +70,8 @@ machine_chains input output incoming outgoing =
     ∷ record { name = codes "OUT"; policy = None; rules = outgoing }
     ∷ []
 
--- the layout for host h: OUT has the rules of its chain on a box, and IN these rules turned round
+-- The layout for host h: OUT has the rules of its chain on a firewall between the hosts, and IN has the rules for the
+-- reverse direction.
 abbrev pub local_layout : Site → List Flow → List Flow → ℕ → List Chain
 local_layout site p s h =
     machine_chains (entry_rules Receiving (prefixes_of site.hosts h)) (entry_rules Sending (prefixes_of site.hosts h))

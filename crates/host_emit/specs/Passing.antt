@@ -1,4 +1,4 @@
--- What becomes of packets where hosts have firewalls of their own, of which each tracks connections by itself.
+-- Delivery of packets between hosts with host firewalls, each of which tracks connections independently.
 use Rattle.std.specs.Prelude.{◌≡◌, ℕ, Bool, true, false, not, ◌==◌, ◌&&◌, ◌||◌, if◌then◌else◌, IsTrue, IsFalse, List, [], ◌∷◌, Option, Some, None}
 use Rattle.std.specs.Option.{option_map_or}
 use Rattle.host_net.specs.declared.packet.Packet.{Packet}
@@ -13,40 +13,43 @@ use Rattle.pkt_core.specs.Tracking.{Kept, after_forget, after_seen, nothing_kept
 use Rattle.emit_core.specs.declared.side.Side.{Side}
 use Rattle.emit_core.specs.declared.side.Side.TheVariants.{Sending, Receiving}
 
--- the firewalls of all hosts: each filters what its host sends, and what it receives
+-- The firewalls of all hosts: each filters the outbound and the inbound packets of its host.
 abbrev pub Firewalls : Type 1
 Firewalls = ℕ → Side → Filter
 
--- the connections that each host keeps
+-- The connection table of each host.
 abbrev pub Tables : Type 0
 Tables = ℕ → Kept
 
+-- The empty connection table for every host.
 abbrev pub empty_tables : Tables
 empty_tables h = nothing_kept
 
--- host h takes a packet: where it enforces the policy by its firewall, in the state of its own table; and else it lets everything pass
+-- Host h decides about a packet: if it enforces the policy, by its firewall in the state of its connection table; otherwise it lets
+-- everything pass.
 pub record Takes (enforces : ℕ → Bool) (firewalls : Firewalls) (tables : Tables) (h : ℕ) (side : Side) (p : Packet) (passes : Bool) : Type 0 where
   pub by_firewall : IsTrue (enforces h) → firewalls h side (state_of (tables h) p) p passes
   pub by_none : IsFalse (enforces h) → passes ≡ true
 
--- after that a host that enforces has tracked the packet in its table; the other tables are as they were
+-- The tables after this decision: an enforcing host has tracked the packet; the other tables are unchanged.
 abbrev pub after_taken : (enforces : ℕ → Bool) → Tables → ℕ → Packet → Bool → Tables
 after_taken enforces tables h p passes i =
     if enforces h then (if h == i then after_seen (tables h) p passes else tables i) else tables i
 
--- what becomes of a packet, and the tables after it
+-- The delivery of a packet, and the tables after it.
 pub data Goes (hosts : List Host) (enforces : ℕ → Bool) (firewalls : Firewalls) (tables : Tables) (p : Packet) : Bool → Tables → Type 0 where
-  -- its owners are not two different hosts: it does not pass, and no host takes it
+  -- The owners of its addresses are not two different hosts: it does not pass, and no host processes it.
   nowhere : flow_of hosts p ≡ None → Goes hosts enforces firewalls tables p false tables
-  -- its sender drops it: no other host takes it
+  -- Its sender drops it: no other host processes it.
   stays : {f : Flow} → flow_of hosts p ≡ Some f → Takes enforces firewalls tables f.from Sending p false
       → Goes hosts enforces firewalls tables p false (after_taken enforces tables f.from p false)
-  -- its sender lets it go, and its receiver decides
+  -- Its sender lets it pass, and its receiver decides.
   arrives : {f : Flow} {passes : Bool} → flow_of hosts p ≡ Some f → Takes enforces firewalls tables f.from Sending p true
       → Takes enforces firewalls (after_taken enforces tables f.from p true) f.to Receiving p passes
       → Goes hosts enforces firewalls tables p passes (after_taken enforces (after_taken enforces tables f.from p true) f.to p passes)
 
--- a run over the events, and the tables after it: each packet seen passes or not, and a forgetting, which has no answer, changes every table
+-- A run over the events, and the tables after it: each packet that is seen passes or not; a forget event, which has no result, changes
+-- every table.
 abbrev pub PassRunsTo : List Host → (enforces : ℕ → Bool) → Firewalls → Tables → List Event → List (Option Bool) → Tables → Type 0
 PassRunsTo hosts enforces firewalls tables [] [] behind = behind ≡ tables
 PassRunsTo hosts enforces firewalls tables (Seen p ∷ events) (Some passes ∷ answers) behind =
@@ -55,27 +58,28 @@ PassRunsTo hosts enforces firewalls tables (Forget p ∷ events) (None ∷ answe
     PassRunsTo hosts enforces firewalls (λ h. after_forget (tables h) p) events answers behind
 PassRunsTo hosts enforces firewalls tables events answers behind = ⊥
 
+-- A run over the events, with some tables after it.
 abbrev pub PassRuns : List Host → (enforces : ℕ → Bool) → Firewalls → Tables → List Event → List (Option Bool) → Type 0
 PassRuns hosts enforces firewalls tables events answers = (behind : Tables) × PassRunsTo hosts enforces firewalls tables events answers behind
 
--- host h sends or receives the packets of the flow
+-- Host h sends or receives the packets of the flow.
 abbrev pub is_end : Option Flow → ℕ → Bool
 is_end None h = false
 is_end (Some f) h = f.from == h || f.to == h
 
--- of the packets that pass a test, those that host h sends or receives
+-- The packets that satisfy a test and that host h sends or receives.
 abbrev pub at_host : List Host → (Packet → Bool) → ℕ → Packet → Bool
 at_host hosts test h p = is_end (flow_of hosts p) h && test p
 
--- each host that enforces keeps exactly the first packets of the connections that it is an end of
+-- Each enforcing host tracks exactly the first packets of the connections that it is an end of.
 abbrev pub AllKeepFirst : List Host → (enforces : ℕ → Bool) → (Packet → Bool) → List Event → Tables → Type 0
 AllKeepFirst hosts enforces permitted past tables =
     (h : ℕ) → IsTrue (enforces h) → KeepsFirst (at_host hosts permitted h) past (tables h)
 
--- the packet is of a flow of which neither end enforces
+-- The packet belongs to a flow of which neither end enforces the policy.
 abbrev pub is_unguarded : List Host → (enforces : ℕ → Bool) → Packet → Bool
 is_unguarded hosts enforces p = option_map_or (λ f. not (enforces f.from) && not (enforces f.to)) (flow_of hosts p) false
 
--- the packets that pass a test, and the unguarded ones
+-- The packet satisfies the test, or belongs to a flow of which neither end enforces the policy.
 abbrev pub or_unguarded : List Host → (enforces : ℕ → Bool) → (Packet → Bool) → Packet → Bool
 or_unguarded hosts enforces test p = test p || is_unguarded hosts enforces p

@@ -1,5 +1,5 @@
-//! The rules for the machines of one host, by a policy that a caller has in parts: its hosts and services,
-//! and two sets of flows.
+//! The rules for the machines of one host, for a policy that a caller has in parts: its hosts and
+//! services, and two sets of flows.
 
 ghost use Rattle.std.specs.Prelude.{◌≡◌, ◌<◌, length, IfOk, OnOk, IsTrue};
 ghost use Rattle.host_net.specs.Site.{site_with};
@@ -33,12 +33,12 @@ pub fn emit_local(
     requires specific { IsTrue (is_specific hosts.now host) }
     ensures layout { IfOk result (λ rules. rules ≡ local_layout (site_with hosts.now services.now) p.now.flows s.now.flows host) }
 
-    // Where it sends, and where it receives, each packet of the host passes exactly where the policy lets
-    // it pass; no other packet passes, except what a machine sends to itself.
+    // In each direction a packet of the host passes if and only if the policy allows it. No other
+    // packet passes, except loopback packets.
     ensures guards { IfOk result (λ rules. Guards rules (site_with hosts.now services.now) p.now.flows s.now.flows host) }
 
-    // If the machines of every specific host have its rules, a packet passes exactly where it is expected
-    // to, over every list of packets and forgettings.
+    // If the machines of every specific host have its rules, a packet passes if and only if it is
+    // expected to, for every list of events.
     ensures passes { OnOk result (PassesExpected (local_layout (site_with hosts.now services.now) p.now.flows s.now.flows)
         (site_with hosts.now services.now) p.now.flows s.now.flows) }
 {

@@ -1,5 +1,4 @@
-//! What the hosts' own firewalls let pass, against a firewall between all hosts, over the definitions
-//! alone.
+//! Host firewalls compared with one firewall between all hosts, over the definitions only.
 
 ghost use Rattle.std.specs.Prelude.{◌≡◌, Bool, List, Option};
 ghost use Rattle.host_net.specs.inner.Hosts.{IsHosts};
@@ -13,8 +12,8 @@ ghost use Rattle.emit_core.specs.Layout.{layout};
 ghost use Rattle.host_emit.specs.LocalEvents.{AreExternal, LocalRuns};
 ghost use Rattle.host_emit.specs.LocalLayout.{local_layout};
 
-/// Over every list of events, if each specific host has the rules of its own layout, the same packets pass
-/// between the hosts as through one firewall with the layout of the whole network.
+/// If each specific host has the rules of its layout, the same packets pass between the hosts as
+/// through one firewall with the layout of the whole network, for every list of events.
 pub fn firewalls_pass_as_one()
     ensures { (site : Site) (p s : List Flow) → IsHosts site.hosts → IsSubset s p → (events : List Event) → AreExternal events →
         (passes forwards : List (Option Bool)) → LocalRuns (local_layout site p s) site.hosts events passes →

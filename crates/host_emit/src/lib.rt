@@ -1,5 +1,5 @@
-//! The hosts' own firewalls: the rules for the machines of one host, and what passes where every
-//! specific host has its own.
+//! Host firewalls: the rules for the machines of one host, and the packets that pass if every
+//! specific host has its rules.
 #![tactic(auto)]
 
 mod emit;

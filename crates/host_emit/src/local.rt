@@ -1,4 +1,4 @@
-//! The chains for the machines of one host, put together.
+//! The chains for the machines of one host, assembled.
 
 ghost use Rattle.std.specs.Prelude.{◌≡◌, ◌<◌, ◌++◌, [], length, IfOk, OnOk, IsTrue};
 ghost use Rattle.std.specs.List.{flat_map};
@@ -17,19 +17,19 @@ use std::alloc::{AllocError, Global};
 /// 127.0.0.0.
 const LOOPBACK: u32 = 0x7f000000;
 
-/// The rules for the machines of one specific host, by a policy: permitted flows pass, and the answers
-/// of stateful ones where their connection is established.
+/// Returns the rules for the machines of one specific host, for a policy: permitted flows pass, and
+/// the answers of stateful flows pass on established connections.
 pub fn local_rules(alloc: Global, policy: &FlowPolicy<'_>, host: u16) -> Result<Ruleset, AllocError>
     requires there { host < length policy.now.site.hosts }
     requires specific { IsTrue (is_specific policy.now.site.hosts host) }
     ensures layout { IfOk result (λ rules. rules ≡ local_layout policy.now.site policy.now.permitted policy.now.stateful host) }
 
-    // Where it sends, and where it receives, each packet of the host's own passes exactly where the
-    // policy lets it pass, and no other passes but what a machine says to itself.
+    // In each direction a packet of the host passes if and only if the policy allows it. No other
+    // packet passes, except loopback packets.
     ensures guards { IfOk result (λ rules. Guards rules policy.now.site policy.now.permitted policy.now.stateful host) }
 
-    // With the rules of every specific host on its machines, over every list of packets and
-    // forgettings, a packet passes exactly where the policy and its answers expect it.
+    // If the machines of every specific host have its rules, a packet passes if and only if the
+    // policy and its answers expect it, for every list of events.
     ensures passes { OnOk result (PassesExpected (local_layout policy.now.site policy.now.permitted policy.now.stateful)
         policy.now.site policy.now.permitted policy.now.stateful) }
 {
@@ -37,7 +37,7 @@ pub fn local_rules(alloc: Global, policy: &FlowPolicy<'_>, host: u16) -> Result<
     build_accepted(alloc, chains)
 }
 
-/// Whether a host is specific: every host but the rest host.
+/// Whether a host is specific: every host except the rest host.
 pub fn is_specific(hosts: &Hosts, host: u16) -> bool
     ensures { result ≡ is_specific hosts.now host }
 {
@@ -52,7 +52,7 @@ fn local_chains(alloc: Global, policy: &FlowPolicy<'_>, host: u16) -> Result<Cha
     ensures layout { IfOk result (λ chains. chains ≡ local_layout policy.now.site policy.now.permitted policy.now.stateful host) }
     ensures policy { IsFlowPolicy policy.now }
 {
-    // What holds of policies at all times is known by looking at them.
+    // The call establishes the invariants of policies.
     let _count = policy.count();
     let input = entry_rules(alloc, Side::Receiving, policy.prefixes(host))?;
     let output = entry_rules(alloc, Side::Sending, policy.prefixes(host))?;
@@ -61,7 +61,7 @@ fn local_chains(alloc: Global, policy: &FlowPolicy<'_>, host: u16) -> Result<Cha
     filled(alloc, &input, &output, &incoming, &outgoing)
 }
 
-/// The chains of a machine by their rules.
+/// Returns the chains of a machine, given their rules.
 fn filled(
     alloc: Global,
     input: &[Rule],
@@ -81,7 +81,7 @@ fn filled(
     Ok(chains)
 }
 
-/// The chains of a machine with the rules of INPUT and OUTPUT alone.
+/// Returns the chains of a machine with only the rules of INPUT and OUTPUT.
 fn entered(alloc: Global, input: &[Rule], output: &[Rule]) -> Result<Chains, AllocError>
     requires input { AreChainRules input.now }
     requires output { AreChainRules output.now }
@@ -102,7 +102,7 @@ fn empty_chains(alloc: Global) -> Result<Chains, AllocError>
     Ok(chains)
 }
 
-/// The built-in chains, which drop what comes to their end.
+/// Returns the built-in chains with policy DROP.
 fn dropping_chains(alloc: Global) -> Result<Chains, AllocError>
     ensures { IfOk result (λ chains. chains ≡ dropping_chains) }
 {
@@ -113,7 +113,7 @@ fn dropping_chains(alloc: Global) -> Result<Chains, AllocError>
     Ok(chains)
 }
 
-/// The number of the user chain for what the host sends, or receives.
+/// Returns the number of the user chain for outbound or inbound packets.
 fn chain_for(side: Side) -> u16
     ensures { result ≡ chain_for side }
 {
@@ -123,7 +123,7 @@ fn chain_for(side: Side) -> u16
     }
 }
 
-/// The rules of INPUT or OUTPUT for a host with these prefixes.
+/// Returns the rules of INPUT or OUTPUT for a host with these prefixes.
 fn entry_rules(alloc: Global, side: Side, prefixes: &[Prefix]) -> Result<Vec<Rule>, AllocError>
     ensures { IfOk result (λ rules. rules.items ≡ entry_rules side prefixes.now) }
 {
@@ -143,7 +143,7 @@ fn push_jumps(rules: &mut Vec<Rule>, side: Side, prefixes: &[Prefix]) -> Result<
     Ok(())
 }
 
-/// What a machine says to itself passes.
+/// Returns the rule that accepts loopback packets.
 fn loopback_rule() -> Rule
     ensures { result ≡ loopback_rule }
 {

@@ -1,4 +1,5 @@
--- Firewalls of hosts that say what a policy says, and tables that fit with what was seen. Callers see none of it; they have what passes.
+-- Host firewalls that decide as a policy does, and tables that agree with the events. Callers do not see these; they use the delivery of
+-- packets.
 use Rattle.std.specs.Prelude.{◌≡◌, ℕ, Bool, true, IsTrue, List, Some, IsSome, ⊤}
 use Rattle.host_net.specs.declared.packet.Packet.{Packet}
 use Rattle.host_net.specs.declared.packet.CtState.{CtState}
@@ -15,7 +16,7 @@ use Rattle.emit_core.specs.declared.side.Side.{Side}
 use Rattle.host_emit.specs.Passing.{Firewalls, Tables, at_host}
 use Rattle.host_emit.specs.inner.Passing.{host_on}
 
--- on known packets the verdict of each host that enforces, at either side of the packet's flow, is that of the policy, and no other
+-- For known packets the verdict of each enforcing host, at either end of the packet's flow, is that of the policy and no other.
 pub record AreFirewallsFor (hosts : List Host) (enforces : ℕ → Bool) (firewalls : Firewalls) (Known : Packet → Type 0) (permitted stateful : Packet → Bool) : Type 0 where
   pub given : (side : Side) (state : CtState) (p : Packet) (f : Flow) → Known p → flow_of hosts p ≡ Some f → IsTrue (enforces (host_on side f))
       → firewalls (host_on side f) side state p (may_pass permitted stateful state p)
@@ -24,12 +25,12 @@ pub record AreFirewallsFor (hosts : List Host) (enforces : ℕ → Bool) (firewa
   pub policy : StatefulArePermitted (λ p. ⊤) permitted stateful
   pub flows : (p : Packet) → IsTrue (permitted p) → IsSome (flow_of hosts p)
 
--- The table of a host fits with its part of the policy: it keeps permitted packets of the host alone, that were seen, and of each such packet
--- that was seen the connection, by its first packet.
+-- The table of a host agrees with its part of the policy: it tracks only permitted packets of the host that were seen, and the connection
+-- of each such packet, stored under its first packet.
 pub record HostFits (hosts : List Host) (permitted : Packet → Bool) (h : ℕ) (past : List Event) (kept : Kept) : Type 0 where
   pub fits : Fits (λ p. ⊤) (at_host hosts permitted h) past kept
   pub first : KeepsFirst (at_host hosts permitted h) past kept
 
--- the tables of all hosts that enforce fit
+-- The tables of all enforcing hosts agree.
 abbrev pub AllFit : List Host → (enforces : ℕ → Bool) → (Packet → Bool) → List Event → Tables → Type 0
 AllFit hosts enforces permitted past tables = (h : ℕ) → enforces h ≡ true → HostFits hosts permitted h past (tables h)

@@ -1,4 +1,4 @@
--- The host at a side of a flow: its sender, or its receiver.
+-- The host at an end of a flow: its sender, or its receiver.
 use Rattle.std.specs.Prelude.{ℕ}
 use Rattle.flow_set.specs.declared.flow.Flow.{Flow}
 use Rattle.emit_core.specs.declared.side.Side.{Side}
